@@ -1,0 +1,7 @@
+-- Laws of fans and groupings. Assumes nothing.
+pub mod Laws
+pub mod Numbering
+pub mod Shared
+pub mod Cases
+pub mod Either
+pub mod Grouped

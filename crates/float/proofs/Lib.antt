@@ -1,0 +1,13 @@
+-- Laws of the numeric leaves. Assumes nothing.
+pub mod Squares
+pub mod Scaling
+pub mod Patterns
+pub mod Picks
+pub mod Values
+pub mod Unique
+pub mod Signs
+pub mod OrderLaws
+pub mod Exact
+pub mod Error
+pub mod Computed
+pub mod Share

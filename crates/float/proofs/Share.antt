@@ -1,0 +1,166 @@
+-- A share of a mass, (mass * weight) / total, each operation rounded. It can exceed the mass, even where the weight is the whole total (`exceeds`).
+-- But rounding never passes a value that the format holds (`not-past`), so a mass of at most 2 ^ 20 in size has no larger share (`share-bounded`).
+-- Assumes nothing.
+use mathlib.Core.Path.{_≡_, refl, sym, ap, _∙_, subst}
+use mathlib.Core.Logic.{_⊎_, inl, inr}
+use Prim.Native.Nat.{ℕ, zero, suc, _+_, _-_, _*_, _^_, _≤_, _<_}
+use native.Mathlib.Nat.{eq-of-mul-eq-mul-right, le-refl, le-trans, le-of-eq, le-of-lt, lt-of-le-of-lt, lt-of-lt-of-le, lt-irrefl, mul-pos, mul-one, one-mul, zero-mul, mul-assoc, mul-comm, mul-left-comm, mul-right-comm, mul-mul-mul-comm, mul-le-mul-left, mul-le-mul-right, le-of-mul-le-mul-right, zero-lt-suc}
+use native.Mathlib.Omega.{arith}
+use mathlib.Core.Bool.{Bool, true, false, not, cond, _&&_, _||_, true≢false}
+use lib.IntN.{ℤ}
+use lib.Dec.{T, ltb, eqb, ltb→lt, eqb→eq, not-T, lit<}
+use lib.Pow.{pow-add, pow-pos, pow-mono}
+use lib.Ieee.{Float, nan, inf, fin, binary32, up, down, unlike, odd, units, round, ofBits, mul, div, lt, le}
+use lib.Ieee.Fits.{up-pos, down-pos, round-is}
+use lib.Ieee.Exact.{HasValue, round-exact, units-val}
+use lib.Ieee.Bits.{cond-no}
+use lib.Ieee.Order.{transfer, round-mono, kept, drop}
+use lib.Ieee.Scale.{grid, round-same}
+use lib.Ieee.Positive.{first-pos}
+use Rattle.float.proofs.Patterns.{lt-or-ge}
+use Rattle.float.specs.Numbers.{shareOf}
+
+-- mass 1/7, rounded, weight and total 29: the share is the next f32 above the mass
+pub exceeds : lt (ofBits binary32 0x3e12_4925) (shareOf (ofBits binary32 0x3e12_4925) (ofBits binary32 0x41e8_0000) (ofBits binary32 0x41e8_0000)) ≡ true
+unfolding ofBits mul div lt
+exceeds = refl
+
+pub by-one : shareOf (ofBits binary32 0x3e12_4925) (ofBits binary32 0x41e8_0000) (ofBits binary32 0x41e8_0000) ≡ ofBits binary32 0x3e12_4926
+unfolding ofBits mul div
+by-one = refl
+
+-- ---- what `round` gives: a number of units, or an infinity
+units-or : (s : Bool) (q k : ℕ) → (q * 2 ^ k < 2 ^ 277) ⊎ (units binary32 s q k ≡ inf s)
+unfolding units
+units-or s q k = go (ltb (q * 2 ^ k) (2 ^ 277)) (ltb→lt (q * 2 ^ k) (2 ^ 277))
+  where
+    go : (b : Bool) → (T b → q * 2 ^ k < 2 ^ 277) → (q * 2 ^ k < 2 ^ 277) ⊎ (cond b (odd 25 s q k 149) (inf s) ≡ inf s)
+    go true h = inl (h tt)
+    go false h = inr refl
+
+round-or : (s : Bool) (a c : ℕ) → (grid binary32 a c < 2 ^ 277) ⊎ (round binary32 s a c ≡ inf s)
+round-or s a c = elim (units-or s (kept 24 (a * 2 ^ 149) c) (drop 24 (a * 2 ^ 149) c)) [ inl h ↦ inl h | inr e ↦ inr (round-is binary32 s a c ∙ e) ]
+
+pub round-sized : (s : Bool) (a c : ℕ) → grid binary32 a c < 2 ^ 277 → HasValue (round binary32 s a c) s (grid binary32 a c) (2 ^ 149)
+round-sized s a c h = subst (λ (z : Float). HasValue z s (grid binary32 a c) (2 ^ 149)) (sym (round-is binary32 s a c)) (units-val binary32 s (kept 24 (a * 2 ^ 149) c) (drop 24 (a * 2 ^ 149) c) h)
+
+-- ---- the order of two values that are not negative
+at-most : (a b : ℕ) → T (ltb a b || (eqb a b && true)) → a ≤ b
+at-most a b h = go (ltb a b) (eqb a b) (ltb→lt a b) (eqb→eq a b) h
+  where
+    go : (x y : Bool) → (T x → a < b) → (T y → a ≡ b) → T (x || (y && true)) → a ≤ b
+    go true y p q t = le-of-lt (p tt)
+    go false true p q t = le-of-eq (q tt)
+    go false false p q t = absurd t
+
+of-le : (x y : Float) (a c b d : ℕ) → 0 < c → 0 < d → HasValue x false a c → HasValue y false b d → T (le x y) → a * d ≤ b * c
+unfolding le
+of-le nan y a c b d C D h k l = absurd h
+of-le (inf s) y a c b d C D h k l = absurd h
+of-le (fin true m e) y a c b d C D h k l = absurd (true≢false (h .0))
+of-le (fin false m e) nan a c b d C D h k l = absurd k
+of-le (fin false m e) (inf t) a c b d C D h k l = absurd k
+of-le (fin false m e) (fin true n g) a c b d C D h k l = absurd (true≢false (k .0))
+of-le (fin false m e) (fin false n g) a c b d C D h k l =
+    transfer a b c d (m * up e) (n * up g) (down e) (down g) (down-pos e) (down-pos g) (sym (h .1)) (sym (k .1)) (at-most (m * up e * down g) (n * up g * down e) l)
+
+no-inf : (y : Float) (b d : ℕ) → HasValue y false b d → T (le (inf false) y) → ⊥
+unfolding le
+no-inf nan b d k l = k
+no-inf (inf t) b d k l = k
+no-inf (fin t n g) b d k l = l
+
+-- rounding does not pass a value X = q * 2 ^ j units that the format holds
+pub not-past : (num den q j : ℕ) → 0 < den → q < 2 ^ 24 → q * 2 ^ j < 2 ^ 277 → num * 2 ^ 149 ≤ q * 2 ^ j * den → grid binary32 num den ≤ q * 2 ^ j
+not-past num den q j p small fine h =
+    let Z = q * 2 ^ j in
+    let Y = round binary32 false Z (2 ^ 149) in
+    let y : HasValue Y false Z (2 ^ 149) = round-exact binary32 false Z (2 ^ 149) q j (pow-pos 149) small fine refl in
+    let l : T (le (round binary32 false num den) Y) = round-mono binary32 num den Z (2 ^ 149) p (pow-pos 149) h in
+    elim (round-or false num den) [
+      | inl g ↦ le-of-mul-le-mul-right (of-le (round binary32 false num den) Y (grid binary32 num den) (2 ^ 149) Z (2 ^ 149) (pow-pos 149) (pow-pos 149) (round-sized false num den g) y l) (pow-pos 149)
+      | inr e ↦ absurd (no-inf Y Z (2 ^ 149) y (subst (λ (z : Float). T (le z Y)) e l))
+    ]
+
+-- ---- products and quotients of two values that are fractions
+opened : (x : Float) (s : Bool) (a c : ℕ) → HasValue x s a c → (m : ℕ) × (e : ℤ) × (x ≡ fin s m e) × (m * up e * c ≡ a * down e)
+opened nan s a c h = absurd h
+opened (inf t) s a c h = absurd h
+opened (fin t m e) s a c h = (m, e, ap (λ (z : Bool). fin z m e) (h .0), h .1)
+
+mul-fin : (s : Bool) (m : ℕ) (e : ℤ) (t : Bool) (n : ℕ) (d : ℤ) → mul binary32 (fin s m e) (fin t n d) ≡ round binary32 (unlike s t) (m * up e * (n * up d)) (down e * down d)
+unfolding mul
+mul-fin s m e t n d = refl
+
+div-fin : (s : Bool) (m : ℕ) (e : ℤ) (t : Bool) (n : ℕ) (d : ℤ) → T (not (eqb n 0)) → div binary32 (fin s m e) (fin t n d) ≡ round binary32 (unlike s t) (m * up e * down d) (n * up d * down e)
+unfolding div
+div-fin s m e t n d z = cond-no (eqb n 0) (cond (eqb m 0) nan (inf (unlike s t))) (round binary32 (unlike s t) (m * up e * down d) (n * up d * down e)) z
+
+across : (x y a b c e d : ℕ) → 0 < c → x * c ≡ a * e → y * c ≡ b * d → x * d * b ≡ a * (y * e)
+across x y a b c e d C p q =
+    let l : x * d * b * c ≡ x * c * (b * d) = simp (mul-assoc, mul-comm, mul-left-comm) in
+    let r : a * e * (y * c) ≡ a * (y * e) * c = simp (mul-assoc, mul-comm, mul-left-comm) in
+    eq-of-mul-eq-mul-right c C (x * d * b) (a * (y * e)) (l ∙ ap (λ (z : ℕ). z * (b * d)) p ∙ ap (λ (z : ℕ). a * e * z) (sym q) ∙ r)
+
+module _ (x y : Float) (s t : Bool) (a b c : ℕ) (C : 0 < c) (h : HasValue x s a c) (k : HasValue y t b c) where
+  pub mul-of : mul binary32 x y ≡ round binary32 (unlike s t) (a * b) (c * c)
+  mul-of =
+      let v = opened x s a c h in
+      let w = opened y t b c k in
+      let m = v .0 in
+      let e = v .1 in
+      let n = w .0 in
+      let d = w .1 in
+      ap (λ (z : Float). mul binary32 z y) (v .2)
+      ∙ ap (λ (z : Float). mul binary32 (fin s m e) z) (w .2)
+      ∙ mul-fin s m e t n d
+      ∙ round-same binary32 (unlike s t) (m * up e * (n * up d)) (down e * down d) (a * b) (c * c) (mul-pos (down-pos e) (down-pos d)) (mul-pos C C)
+      (mul-mul-mul-comm (m * up e) (n * up d) c c ∙ ap (λ (z : ℕ). z * (n * up d * c)) (v .3) ∙ ap (λ (z : ℕ). a * down e * z) (w .3) ∙ mul-mul-mul-comm a (down e) b (down d))
+
+  pub div-of : 0 < b → div binary32 x y ≡ round binary32 (unlike s t) a b
+  div-of p =
+      let v = opened x s a c h in
+      let w = opened y t b c k in
+      let m = v .0 in
+      let e = v .1 in
+      let n = w .0 in
+      let d = w .1 in
+      let np : 0 < n * up d * c = subst (λ (z : ℕ). 0 < z) (sym (w .3)) (mul-pos p (down-pos d)) in
+      let nz : T (not (eqb n 0)) = not-T (eqb n 0) (λ u. lt-irrefl 0 (subst (λ (z : ℕ). 0 < z) (ap (λ (z : ℕ). z * up d * c) (eqb→eq n 0 u) ∙ ap (λ (z : ℕ). z * c) (zero-mul (up d)) ∙ zero-mul c) np)) in
+      let nu : 0 < n * up d = first-pos (n * up d) c np in
+      ap (λ (z : Float). div binary32 z y) (v .2)
+      ∙ ap (λ (z : Float). div binary32 (fin s m e) z) (w .2)
+      ∙ div-fin s m e t n d nz
+      ∙ round-same binary32 (unlike s t) (m * up e * down d) (n * up d * down e) a b (mul-pos nu (down-pos e)) p (across (m * up e) (n * up d) a b c (down e) (down d) C (v .3) (w .3))
+
+-- ---- the share
+scaled-le : (a b k D : ℕ) → a ≤ k * D → a * b * D ≤ b * k * (D * D)
+scaled-le a b k D h =
+    let e : k * D * b * D ≡ b * k * (D * D) = simp (mul-assoc, mul-comm, mul-left-comm) in
+    le-trans (mul-le-mul-right D (mul-le-mul-right b h)) (le-of-eq e)
+
+share-le : (P b g k D : ℕ) → P ≤ b * k → b ≤ g → P * D ≤ 1 * (k * D) * g
+share-le P b g k D h l =
+    let e : g * k * D ≡ 1 * (k * D) * g = ap (λ (z : ℕ). z) (simp (mul-assoc, mul-comm, mul-left-comm)) ∙ ap (λ (z : ℕ). z * g) (sym (one-mul (k * D))) in
+    le-trans (mul-le-mul-right D (le-trans h (mul-le-mul-right k l))) (le-of-eq e)
+
+plain : (s : Bool) → unlike s false ≡ s
+plain true = refl
+plain false = refl
+
+-- m, w and t are a, b and g units. The mass is at most 2 ^ 20 in size (2 ^ 169 units), and the weight, which is q * 2 ^ j, at most the total
+pub share-bounded : (m w t : Float) (s : Bool) (a b g q j : ℕ) → HasValue m s a (2 ^ 149) → HasValue w false b (2 ^ 149) → HasValue t false g (2 ^ 149)
+    → a ≤ 2 ^ 169 → b ≤ g → 0 < g → q < 2 ^ 24 → b ≡ q * 2 ^ j → b * 2 ^ 20 < 2 ^ 277
+    → (u : ℕ) × HasValue (shareOf m w t) s u (2 ^ 149) × (u ≤ 2 ^ 169)
+share-bounded m w t s a b g q j hm hw ht big le pos' small is fine =
+    let D = 2 ^ 149 in
+    let P = grid binary32 (a * b) (D * D) in
+    let e : b * 2 ^ 20 ≡ q * 2 ^ (j + 20) = ap (λ (z : ℕ). z * 2 ^ 20) is ∙ mul-assoc q (2 ^ j) (2 ^ 20) ∙ ap (λ (z : ℕ). q * z) (sym (pow-add 2 j 20)) in
+    let p-le : P ≤ b * 2 ^ 20 = subst (λ (z : ℕ). P ≤ z) (sym e)
+    (not-past (a * b) (D * D) q (j + 20) (mul-pos (pow-pos 149) (pow-pos 149)) small (subst (λ (z : ℕ). z < 2 ^ 277) e fine) (subst (λ (z : ℕ). a * b * D ≤ z * (D * D)) e (scaled-le a b (2 ^ 20) D big))) in
+    let x = mul binary32 m w in
+    let x-is : x ≡ round binary32 s (a * b) (D * D) = mul-of m w s false a b D (pow-pos 149) hm hw ∙ ap (λ (z : Bool). round binary32 z (a * b) (D * D)) (plain s) in
+    let hx : HasValue x s P D = subst (λ (z : Float). HasValue z s P D) (sym x-is) (round-sized s (a * b) (D * D) (lt-of-le-of-lt p-le fine)) in
+    let y-is : shareOf m w t ≡ round binary32 s P g = div-of x t s false P g D (pow-pos 149) hx ht pos' ∙ ap (λ (z : Bool). round binary32 z P g) (plain s) in
+    let u-le : grid binary32 P g ≤ 2 ^ 169 = not-past P g 1 169 pos' (lit< tt) (lit< tt) (share-le P b g (2 ^ 20) D p-le le) in
+    (grid binary32 P g, subst (λ (z : Float). HasValue z s (grid binary32 P g) D) (sym y-is) (round-sized s P g (lt-of-le-of-lt u-le (lit< tt))), u-le)

@@ -1,0 +1,53 @@
+-- A mesh, as document 01 has it. Nothing here speaks of columns. Definitions only.
+use Prim.Native.Nat.{ℕ}
+use mathlib.Core.List.{List}
+use lib.Ieee.{Float}
+use Rattle.float.specs.Numbers.{zero32}
+
+-- position, rest position, mass, inverse mass (0 means pinned), root, damaged flag (0 or 1)
+pub record Particle : Type 0 where
+  pub x : Float
+  pub y : Float
+  pub rest-x : Float
+  pub rest-y : Float
+  pub mass : Float
+  pub inv : Float
+  pub root : ℕ
+  pub damaged : ℕ
+
+-- three particles, rest volume, stress
+pub record Triangle : Type 0 where
+  pub a : ℕ
+  pub b : ℕ
+  pub c : ℕ
+  pub volume : Float
+  pub stress : Float
+
+-- two particles, structural flag, torn flag, rest length, initial rest length, impulse, stress
+pub record Edge : Type 0 where
+  pub a : ℕ
+  pub b : ℕ
+  pub structural : ℕ
+  pub torn : ℕ
+  pub rest : Float
+  pub initial : Float
+  pub impulse : Float
+  pub stress : Float
+
+-- an entry of the boundary: two particles
+pub record Side : Type 0 where
+  pub a : ℕ
+  pub b : ℕ
+
+pub record Mesh : Type 0 where
+  pub particles : List Particle
+  pub triangles : List Triangle
+  pub edges : List Edge
+  pub boundary : List Side
+
+-- the particle that is read past the end of a list: no accepted mesh names one
+abbrev pub blank : Particle
+blank = record { x = zero32; y = zero32; rest-x = zero32; rest-y = zero32; mass = zero32; inv = zero32; root = 0; damaged = 0 }
+
+abbrev pub blankTriangle : Triangle
+blankTriangle = record { a = 0; b = 0; c = 0; volume = zero32; stress = zero32 }
