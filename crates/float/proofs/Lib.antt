@@ -11,3 +11,5 @@ pub mod Exact
 pub mod Error
 pub mod Computed
 pub mod Share
+pub mod Units
+pub mod Limits
