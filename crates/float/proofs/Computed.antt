@@ -4,22 +4,24 @@ use mathlib.Core.Logic.{_⊎_, inl, inr}
 use Prim.Native.Nat.{ℕ, zero, suc, _+_, _-_, _*_, _/_, _%_, _^_, _≤_, _<_}
 use native.Mathlib.Nat.{lt-irrefl, le-trans, le-of-eq, le-of-lt, lt-of-le-of-lt, lt-of-lt-of-le, mul-le-mul-right, mul-lt-mul-of-pos-right, mul-div-cancel, div-lt-iff-lt-mul, zero-lt-suc, pow-suc, zero-mul, eq-or-lt-of-le}
 use native.Mathlib.Omega.{arith}
-use mathlib.Core.Bool.{Bool, true, false, not, cond}
-use lib.Dec.{T, leb, ltb, eqb, leb→le, nleb→lt, ltb→lt, nltb→le, lit≤, lit<}
+use mathlib.Core.Bool.{Bool, true, false, not, cond, _&&_, _||_}
+use lib.Dec.{T, leb, ltb, eqb, eqb→eq, not-T, leb→le, nleb→lt, ltb→lt, nltb→le, lit≤, lit<}
 use lib.Pow.{pow-add, pow-pos, pow-mono, shl-lt}
 use lib.Count.{leadingZeros}
 use lib.Ieee.{Float, nan, inf, fin, binary32, up, down, size, round, odd, ofFields, ofBits, toBits, fits}
 use lib.Ieee.Digits.{size-lt, size-le, size-reaches}
 use lib.Ieee.Fits.{round-fits, down-pos}
 use lib.Ieee.Exact.{HasValue, round-exact, odd-sign}
-use lib.Ieee.Bits.{ofBits-toBits}
+use lib.Ieee.Bits.{is-false, ofBits-toBits}
 use Rattle.float.specs.declared.root.Rooted.{Rooted}
 use Rattle.float.specs.declared.root.Rooted.the-variants.{Value, Refused}
-use Rattle.float.specs.Root.{Nearest, RootOfUnits, RootAt, RootOf, inUnits, floorRoot, nearestRoot, placeOf, rootUnits, rootAt, rootOf}
+use Rattle.float.specs.Root.{Nearest, RootOfUnits, RootAt, RootOf, inUnits, floorRoot, nearestRoot, placeOf, rootUnits, rootAt, rootOf, rootRefusal}
+use Rattle.float.specs.Ranges.{finite?, notBelow0?}
 use Rattle.float.proofs.Squares.{Closest, stays, moves}
 use Rattle.float.proofs.Scaling.{four, Shifted, shifted, spread, assemble, pow-lt-inv}
 use Rattle.float.proofs.Patterns.{read, normal, subnormal}
 use Rattle.float.proofs.Unique.{root-unique}
+use Rattle.float.proofs.Units.{Units, units-of, not-below}
 
 -- ---- the whole part
 abbrev Floor : ℕ → ℕ → Type 0
@@ -207,3 +209,27 @@ root-total x h =
 -- and the only one
 pub root-is : (x : Float) (a : Rooted) → T (fits binary32 x) → RootOf x a → a ≡ rootOf x
 root-is x a h r = root-unique x a (rootOf x) r (root-total x h)
+
+-- ---- which numbers have a root
+refusal-at : (s : Bool) (n : ℕ) (x : Float) → rootRefusal (rootAt s n x) ≡ cond (not s || eqb n 0) 0 4
+refusal-at true zero x = refl
+refusal-at false zero x = refl
+refusal-at true (suc n) x = sym (ap (λ (z : Bool). cond z 0 4) (is-false (eqb (suc n) 0) (not-T (eqb (suc n) 0) (λ t. none n (eqb→eq (suc n) 0 t)))))
+  where
+    none : (n : ℕ) → suc n ≡ 0 → ⊥
+    none n h = omega arith
+refusal-at false (suc n) x = refl
+
+-- The root is refused, with the number 4, exactly where x is a NaN, infinite or below zero. (Minus zero is not below zero.)
+pub root-refused : (x : Float) → T (fits binary32 x) → rootRefusal (rootOf x) ≡ cond (finite? x && notBelow0? x) 0 4
+unfolding finite? notBelow0?
+root-refused nan h = refl
+root-refused (inf s) h = refl
+root-refused (fin s m e) h =
+    let x = fin s m e in
+    let u = units-of x h refl in
+    let n = u .q * 2 ^ u .j in
+    let is : inUnits m e ≡ n = ap (λ (z : ℕ). z / down e) (u .value .1) ∙ mul-div-cancel n (down-pos e) in
+    ap (λ (z : ℕ). rootRefusal (rootAt s z x)) is
+    ∙ refusal-at s n x
+    ∙ ap (λ (z : Bool). cond z 0 4) (sym (not-below x s n (2 ^ 149) (pow-pos 149) (refl, u .value .1)))

@@ -16,27 +16,17 @@ use Rattle.float.specs.Numbers.{zero32, absOf, largest}
 use Rattle.float.specs.Ranges.{finite?}
 use Rattle.float.proofs.Picks.{or-yes-1, or-no}
 use Rattle.float.proofs.Values.{same-value}
-use Rattle.float.proofs.Units.{Units, units-of, abs-value}
+use Rattle.float.proofs.Units.{Units, units-of, agree, with-true, abs-value}
 
 -- ---- tests on numbers
 same-test : (a b : ℕ) → eqb a b ≡ eqb b a
-same-test a b = go (eqb a b) (eqb b a) (λ h. eq→eqb (sym (eqb→eq a b h))) (λ h. eq→eqb (sym (eqb→eq b a h)))
-  where
-    go : (p q : Bool) → (T p → T q) → (T q → T p) → p ≡ q
-    go true true f g = refl
-    go true false f g = absurd (f tt)
-    go false true f g = absurd (g tt)
-    go false false f g = refl
+same-test a b = agree (eqb a b) (eqb b a) (λ h. eq→eqb (sym (eqb→eq a b h))) (λ h. eq→eqb (sym (eqb→eq b a h)))
 
 -- a number that is not above 0 is at most one that is not below 0
 apart : (a b : ℕ) → (ltb 0 (a + b) || (eqb a b && eqb a 0)) ≡ true
 apart zero zero = refl
 apart zero (suc b) = or-yes-1 (eqb 0 (suc b) && true) (is-true (ltb 0 (0 + suc b)) (lt→ltb 0 (0 + suc b) (omega arith)))
 apart (suc a) b = or-yes-1 (eqb (suc a) b && eqb (suc a) 0) (is-true (ltb 0 (suc a + b)) (lt→ltb 0 (suc a + b) (omega arith)))
-
-with-true : (a : Bool) → (a && true) ≡ a
-with-true true = refl
-with-true false = refl
 
 -- ---- the magnitude and a limit
 pub between : (x : Float) (n : ℕ) (d : ℤ) → le (absOf x) (fin false n d) ≡ (le x (fin false n d) && le (fin true n d) x)
@@ -60,6 +50,13 @@ module _ (x : Float) (n : ℕ) (d : ℤ) where
 
   pub above : le x (fin false n d) ≡ false → false ≡ le (absOf x) (fin false n d)
   above h = sym (between x n d ∙ ap (λ (z : Bool). z && le (fin true n d) x) h)
+
+-- what a limit bounds is finite
+pub limit-finite : (x : Float) (n : ℕ) (d : ℤ) → le (absOf x) (fin false n d) ≡ true → finite? x ≡ true
+unfolding le lt eq absOf finite?
+limit-finite nan n d h = absurd (true≢false (sym h))
+limit-finite (inf s) n d h = absurd (true≢false (sym h))
+limit-finite (fin s m e) n d h = refl
 
 -- ---- the largest
 most : (q j : ℕ) → q < 2 ^ 24 → j ≤ 253 → q * 2 ^ j ≤ (2 ^ 24 - 1) * 2 ^ 253
