@@ -1,22 +1,21 @@
 -- The ranges and the size. A magnitude is at most a limit where the value lies between minus the limit and the limit, and no finite f32 is past the largest. Assumes nothing.
 use mathlib.Core.Path.{_≡_, refl, sym, ap, _∙_, subst}
 use Prim.Native.Nat.{ℕ, zero, suc, _+_, _-_, _*_, _^_, _≤_, _<_}
-use native.Mathlib.Nat.{le-trans, le-of-eq, mul-le-mul, mul-le-mul-right}
+use native.Mathlib.Nat.{mul-le-mul, mul-le-mul-right}
 use native.Mathlib.Omega.{arith}
-use mathlib.Core.Bool.{Bool, true, false, not, _&&_, _||_, true≢false}
-use lib.IntN.{ℤ, pos}
+use mathlib.Core.Bool.{Bool, true, false, _&&_, _||_, true≢false}
+use lib.IntN.{ℤ}
 use lib.Dec.{T, ltb, eqb, ltb→lt, lt→ltb, eqb→eq}
 use lib.Pow.{pow-pos, pow-mono}
 use lib.Ieee.{Float, nan, inf, fin, binary32, up, down, fits, neg, lt, le, eq}
 use lib.Ieee.Fits.{eq→eqb, and-l}
 use lib.Ieee.Bits.{is-true}
-use lib.Ieee.Exact.{HasValue}
 use lib.Ieee.Order.{le-of-values}
 use Rattle.float.specs.Numbers.{zero32, absOf, largest}
 use Rattle.float.specs.Ranges.{finite?}
 use Rattle.float.proofs.Picks.{or-yes-1, or-no}
 use Rattle.float.proofs.Values.{same-value}
-use Rattle.float.proofs.Units.{Units, units-of, agree, with-true, abs-value}
+use Rattle.float.proofs.Units.{units-of, agree, with-true, abs-value}
 
 -- ---- tests on numbers
 same-test : (a b : ℕ) → eqb a b ≡ eqb b a

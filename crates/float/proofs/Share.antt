@@ -3,24 +3,23 @@
 -- Assumes nothing.
 use mathlib.Core.Path.{_≡_, refl, sym, ap, _∙_, subst}
 use mathlib.Core.Logic.{_⊎_, inl, inr}
-use Prim.Native.Nat.{ℕ, zero, suc, _+_, _-_, _*_, _^_, _≤_, _<_, zero-le}
-use native.Mathlib.Nat.{eq-of-mul-eq-mul-right, le-refl, le-trans, le-of-eq, le-of-lt, lt-of-le-of-lt, lt-of-lt-of-le, lt-irrefl, mul-pos, mul-one, one-mul, zero-mul, mul-assoc, mul-comm, mul-left-comm, mul-right-comm, mul-mul-mul-comm, mul-le-mul-left, mul-le-mul-right, le-of-mul-le-mul-right, zero-lt-suc}
+use Prim.Native.Nat.{ℕ, _+_, _*_, _^_, _≤_, _<_, zero-le}
+use native.Mathlib.Nat.{eq-of-mul-eq-mul-right, le-trans, le-of-eq, le-of-lt, lt-of-le-of-lt, lt-irrefl, mul-pos, mul-one, one-mul, zero-mul, mul-assoc, mul-comm, mul-left-comm, mul-mul-mul-comm, mul-le-mul-right, le-of-mul-le-mul-right, zero-lt-suc}
 use native.Mathlib.Omega.{arith}
 use mathlib.Core.Bool.{Bool, true, false, not, cond, _&&_, _||_, true≢false}
 use lib.IntN.{ℤ, pos}
 use lib.Dec.{T, ltb, eqb, ltb→lt, eqb→eq, not-T, lit<}
-use lib.Pow.{pow-add, pow-pos, pow-mono}
+use lib.Pow.{pow-add, pow-pos}
 use lib.Ieee.{Float, nan, inf, fin, binary32, up, down, unlike, odd, units, round, ofBits, fits, mul, div, lt, le, eq}
-use lib.Ieee.Fits.{up-pos, down-pos, round-is}
+use lib.Ieee.Fits.{down-pos, round-is}
 use lib.Ieee.Exact.{HasValue, round-exact, units-val}
 use lib.Ieee.Bits.{cond-no, is-true}
 use lib.Ieee.Order.{transfer, le-of-values, round-mono, kept, drop}
 use lib.Ieee.Scale.{grid, round-same}
 use lib.Ieee.Positive.{first-pos}
-use Rattle.float.proofs.Patterns.{lt-or-ge}
 use Rattle.float.specs.Numbers.{zero32, absOf, shareOf}
 use Rattle.float.specs.Ranges.{finite?, number?, notBelow0?}
-use Rattle.float.proofs.Units.{Units, units-of, abs-value, value-finite, not-below}
+use Rattle.float.proofs.Units.{units-of, abs-value, value-finite, not-below}
 use Rattle.float.proofs.Limits.{limit-finite}
 
 -- mass 1/7, rounded, weight and total 29: the share is the next f32 above the mass

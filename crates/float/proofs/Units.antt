@@ -5,7 +5,6 @@ use Prim.Native.Nat.{ℕ, zero, suc, _+_, _*_, _/_, _%_, _^_, _≤_, _<_, zero-l
 use native.Mathlib.Nat.{eq-or-lt-of-le, eq-of-mul-eq-mul-right, le-trans, le-of-eq, mul-one, zero-mul, zero-lt-suc}
 use native.Mathlib.Omega.{arith}
 use mathlib.Core.Bool.{Bool, true, false, not, cond, _&&_, _||_, true≢false}
-use lib.IntN.{ℤ}
 use lib.Dec.{T, leb, eqb, eqb→eq}
 use lib.Ieee.{Float, nan, inf, fin, binary32, up, down, odd, ofFields, toBits, fits, le}
 use lib.Ieee.Fits.{down-pos, eq→eqb}
