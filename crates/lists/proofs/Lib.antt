@@ -1,0 +1,6 @@
+-- Laws of the words on lists: of chains, tables and stores, tests on lists, rows, and labels. Assumes nothing.
+pub mod Chains
+pub mod Stores
+pub mod Sifts
+pub mod Rows
+pub mod Labelled
