@@ -2,15 +2,15 @@
 use mathlib.Core.Path.{_≡_, refl, sym, ap, _∙_, subst}
 use mathlib.Core.Logic.{_⊎_, inl, inr}
 use Prim.Native.Nat.{ℕ, zero, suc, _+_, _-_, _*_, _^_, _≤_, _<_, zero-le}
-use native.Mathlib.Nat.{eq-zero-or-pos, le-add-right, le-of-lt, le-refl, le-trans, le-of-eq, mul-pos, mul-one, one-mul, mul-zero, zero-mul, mul-assoc, mul-comm, mul-right-comm, mul-mul-mul-comm, mul-left-comm, lt-irrefl, zero-lt-suc, add-zero}
+use native.Mathlib.Nat.{eq-zero-or-pos, le-add-right, le-of-lt, le-trans, le-of-eq, mul-pos, mul-one, zero-mul, mul-assoc, mul-comm, mul-mul-mul-comm, mul-left-comm, lt-irrefl, zero-lt-suc, add-zero}
 use native.Mathlib.Omega.{arith}
-use mathlib.Core.Bool.{Bool, true, false, not, cond, Bool·beq, _&&_, _||_, true≢false}
-use lib.IntN.{ℤ, pos, negsuc, negℤ, natAbs, _+ℤ_, _-ℤ_, _*ℤ_, +ℤ-comm, +ℤ-idr, subℕ}
+use mathlib.Core.Bool.{Bool, true, false, not, cond, _&&_, _||_, true≢false}
+use lib.IntN.{ℤ, pos, negsuc, natAbs, _-ℤ_, +ℤ-idr}
 use lib.Signed.{ltZ}
 use lib.Arith.{le→nltb}
-use lib.Dec.{T, ltb, eqb, ltb→lt, lt→ltb, eqb→eq, not-T, eqb-refl}
+use lib.Dec.{T, ltb, eqb, ltb→lt, lt→ltb, eqb→eq, not-T}
 use lib.Ieee.{Float, nan, inf, fin, binary32, up, down, unlike, round, sub, mul, div, lt, le, eq, level}
-use lib.Ieee.Fits.{up-pos, down-pos, eq→eqb}
+use lib.Ieee.Fits.{up-pos, down-pos}
 use lib.Ieee.Exact.{HasValue}
 use lib.Ieee.Bits.{is-true, is-false, cond-no}
 use lib.Ieee.Order.{round-mono}

@@ -1,18 +1,16 @@
 -- With whole coordinates from -1024 to 1024: the fraction of a hit is within 1 / 16,777,216 of the true one, |dp| / (|dp| + |dq|). Assumes nothing.
-use mathlib.Core.Path.{_≡_, refl, sym, ap, _∙_, subst}
-use Prim.Native.Nat.{ℕ, _+_, _^_, _≤_}
+use mathlib.Core.Path.{_≡_, refl, subst}
+use Prim.Native.Nat.{ℕ, _+_, _^_}
 use native.Mathlib.Omega.{arith}
-use native.Mathlib.Nat.{le-trans}
 use mathlib.Core.Bool.{Bool, true, false, cond, _&&_, _||_}
-use lib.IntN.{ℤ, pos, natAbs, _-ℤ_}
+use lib.IntN.{ℤ, natAbs}
 use lib.Ieee.{Float, binary32, sub, mul, div, lt, le, eq}
 use Rattle.blade.specs.declared.Point.{Point}
-use Rattle.blade.specs.declared.Hit.{Hit}
 use Rattle.blade.specs.declared.Hit.the-variants.{Miss, Hit as HitAt}
-use Rattle.float.specs.Numbers.{zero32, one}
+use Rattle.float.specs.Numbers.{zero32}
 use Rattle.blade.specs.Points.{minusOf, dotOf}
 use Rattle.blade.specs.Blade.{offsetAlong, hitPoint, clampLow, clampHigh, bladeHit}
-use Rattle.float.specs.Whole.{Is, Near}
+use Rattle.float.specs.Whole.{Near}
 use Rattle.blade.specs.Whole.{IsPoint, sideOf}
 use Rattle.blade.proofs.Sides.{offset-is, abs-minus}
 use Rattle.blade.proofs.Fraction.{fraction-near}

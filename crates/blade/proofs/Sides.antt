@@ -1,21 +1,20 @@
 -- With whole coordinates from -1024 to 1024 the offsets of the blade test are exact, and their signs are the true sides. Assumes nothing.
 use mathlib.Core.Path.{_≡_, refl, sym, ap, _∙_, subst}
-use mathlib.Core.Logic.{inl, inr}
 use Prim.Native.Nat.{ℕ, zero, suc, _+_, _-_, _*_, _^_, _≤_, _<_, zero-le}
-use native.Mathlib.Nat.{le-refl, le-trans, le-of-eq, mul-le-mul, mul-zero, zero-mul, mul-one, add-zero, mul-pos, zero-lt-suc}
+use native.Mathlib.Nat.{le-refl, le-trans, le-of-eq, mul-le-mul, zero-mul, mul-one, add-zero, mul-pos, zero-lt-suc}
 use native.Mathlib.Omega.{arith}
-use mathlib.Core.Bool.{Bool, true, false, not, cond}
+use mathlib.Core.Bool.{Bool, true, false, cond}
 use lib.IntN.{ℤ, pos, negsuc, negℤ, natAbs, _+ℤ_, _-ℤ_, _*ℤ_, +ℤ-comm, negℤ-negℤ, subℕ}
 use lib.Signed.{ltZ}
 use lib.Dec.{T, ltb, ltb→lt, lt→ltb}
 use lib.Arith.{le→nltb}
 use lib.Ieee.Fits.{down-pos}
 use lib.Ieee.Bits.{is-true, is-false}
-use lib.Ieee.{Float, nan, inf, fin, binary32, up, down, neg, add, sub, mul, lt}
+use lib.Ieee.{Float, fin, binary32, up, down, neg, mul, lt}
 use Rattle.blade.specs.declared.Point.{Point}
 use Rattle.float.specs.Numbers.{zero32}
-use Rattle.blade.specs.Points.{minusOf, dotOf}
-use Rattle.blade.specs.Blade.{normalOf, offsetAlong}
+use Rattle.blade.specs.Points.{minusOf}
+use Rattle.blade.specs.Blade.{offsetAlong}
 use Rattle.float.specs.Whole.{signed, Is}
 use Rattle.blade.specs.Whole.{IsPoint, sideOf}
 use Rattle.float.proofs.Exact.{open-value, neg-is, add-is, sub-is, mul-is}

@@ -1,25 +1,24 @@
 -- The root as a function is the root as it is defined, and so is every answer that the definition allows. Assumes nothing.
 use mathlib.Core.Path.{_≡_, refl, sym, ap, _∙_, subst}
-use mathlib.Core.Logic.{_⊎_, inl, inr}
 use Prim.Native.Nat.{ℕ, zero, suc, _+_, _-_, _*_, _/_, _%_, _^_, _≤_, _<_}
-use native.Mathlib.Nat.{lt-irrefl, le-trans, le-of-eq, le-of-lt, lt-of-le-of-lt, lt-of-lt-of-le, mul-le-mul-right, mul-lt-mul-of-pos-right, mul-div-cancel, div-lt-iff-lt-mul, zero-lt-suc, pow-suc, zero-mul, eq-or-lt-of-le}
+use native.Mathlib.Nat.{lt-irrefl, le-trans, le-of-eq, lt-of-le-of-lt, lt-of-lt-of-le, mul-le-mul-right, mul-div-cancel, zero-lt-suc, pow-suc, zero-mul}
 use native.Mathlib.Omega.{arith}
-use mathlib.Core.Bool.{Bool, true, false, not, cond}
-use lib.Dec.{T, leb, ltb, eqb, leb→le, nleb→lt, ltb→lt, nltb→le, lit≤, lit<}
+use mathlib.Core.Bool.{Bool, true, false, not, cond, _&&_, _||_}
+use lib.Dec.{T, leb, ltb, eqb, eqb→eq, not-T, leb→le, nleb→lt, ltb→lt, nltb→le, lit≤, lit<}
 use lib.Pow.{pow-add, pow-pos, pow-mono, shl-lt}
 use lib.Count.{leadingZeros}
-use lib.Ieee.{Float, nan, inf, fin, binary32, up, down, size, round, odd, ofFields, ofBits, toBits, fits}
-use lib.Ieee.Digits.{size-lt, size-le, size-reaches}
+use lib.Ieee.{Float, nan, inf, fin, binary32, down, size, round, fits}
+use lib.Ieee.Digits.{size-lt, size-le}
 use lib.Ieee.Fits.{round-fits, down-pos}
-use lib.Ieee.Exact.{HasValue, round-exact, odd-sign}
-use lib.Ieee.Bits.{ofBits-toBits}
+use lib.Ieee.Exact.{HasValue, round-exact}
+use lib.Ieee.Bits.{is-false}
 use Rattle.float.specs.declared.root.Rooted.{Rooted}
-use Rattle.float.specs.declared.root.Rooted.the-variants.{Value, Refused}
-use Rattle.float.specs.Root.{Nearest, RootOfUnits, RootAt, RootOf, inUnits, floorRoot, nearestRoot, placeOf, rootUnits, rootAt, rootOf}
+use Rattle.float.specs.Root.{RootOfUnits, RootAt, RootOf, inUnits, floorRoot, nearestRoot, placeOf, rootUnits, rootAt, rootOf, rootRefusal}
+use Rattle.float.specs.Ranges.{finite?, notBelow0?}
 use Rattle.float.proofs.Squares.{Closest, stays, moves}
 use Rattle.float.proofs.Scaling.{four, Shifted, shifted, spread, assemble, pow-lt-inv}
-use Rattle.float.proofs.Patterns.{read, normal, subnormal}
 use Rattle.float.proofs.Unique.{root-unique}
+use Rattle.float.proofs.Units.{units-of, not-below}
 
 -- ---- the whole part
 abbrev Floor : ℕ → ℕ → Type 0
@@ -178,32 +177,40 @@ factor-pos : (q k : ℕ) → 0 < q * 2 ^ k → 0 < q
 factor-pos zero k h = absurd (lt-irrefl 0 (subst (λ (z : ℕ). 0 < z) (zero-mul (2 ^ k)) h))
 factor-pos (suc q) k h = zero-lt-suc q
 
-by-odd : (s : Bool) (q k : ℕ) → q < 2 ^ 24 → k ≤ 253 → RootOf (odd 24 s q k 149) (rootOf (odd 24 s q k 149))
-by-odd s q k h l = by-value (odd 24 s q k 149) s (q * 2 ^ k) (odd-sign 24 s q k 149) (λ p. scaled q k (factor-pos q k p) h l)
-
-topmost : (s : Bool) (t : ℕ) → RootOf (ofFields binary32 s 255 t) (rootOf (ofFields binary32 s 255 t))
-unfolding ofFields
-topmost s t = go (eqb t 0)
-  where
-    go : (z : Bool) → RootOf (cond z (inf s) nan) (rootOf (cond z (inf s) nan))
-    go true = refl
-    go false = refl
-
-by-fields : (s : Bool) (f t : ℕ) → f ≤ 255 → t < 2 ^ 23 → RootOf (ofFields binary32 s f t) (rootOf (ofFields binary32 s f t))
-by-fields s zero t h l = subst (λ (x : Float). RootOf x (rootOf x)) (sym (subnormal s t)) (by-odd s t 0 (omega arith) (omega arith))
-by-fields s (suc f) t h l = go (eq-or-lt-of-le h)
-  where
-    go : (suc f ≡ 255) ⊎ (suc f < 255) → RootOf (ofFields binary32 s (suc f) t) (rootOf (ofFields binary32 s (suc f) t))
-    go (inl e) = subst (λ (z : ℕ). RootOf (ofFields binary32 s z t) (rootOf (ofFields binary32 s z t))) (sym e) (topmost s t)
-    go (inr g) = subst (λ (x : Float). RootOf x (rootOf x)) (sym (normal s f t (omega arith))) (by-odd s (2 ^ 23 + t) f (omega arith) (omega arith))
-
 -- the function's answer is one that the definition allows
 pub root-total : (x : Float) → T (fits binary32 x) → RootOf x (rootOf x)
-root-total x h =
-    let b = toBits binary32 x in
-    subst (λ (y : Float). RootOf y (rootOf y)) (sym (read b (leb (2 ^ 31) b) (b % 2 ^ 31 / 2 ^ 23) (b % 2 ^ 23) refl refl refl) ∙ ofBits-toBits binary32 x h)
-    (by-fields (leb (2 ^ 31) b) (b % 2 ^ 31 / 2 ^ 23) (b % 2 ^ 23) (omega arith) (omega arith))
+unfolding finite?
+root-total nan h = refl
+root-total (inf s) h = refl
+root-total (fin s m e) h =
+    let x = fin s m e in
+    let u = units-of x h refl in
+    by-value x (u .sign) (u .q * 2 ^ u .j) (u .value) (λ p. scaled (u .q) (u .j) (factor-pos (u .q) (u .j) p) (u .small) (u .place))
 
 -- and the only one
 pub root-is : (x : Float) (a : Rooted) → T (fits binary32 x) → RootOf x a → a ≡ rootOf x
 root-is x a h r = root-unique x a (rootOf x) r (root-total x h)
+
+-- ---- which numbers have a root
+refusal-at : (s : Bool) (n : ℕ) (x : Float) → rootRefusal (rootAt s n x) ≡ cond (not s || eqb n 0) 0 4
+refusal-at true zero x = refl
+refusal-at false zero x = refl
+refusal-at true (suc n) x = sym (ap (λ (z : Bool). cond z 0 4) (is-false (eqb (suc n) 0) (not-T (eqb (suc n) 0) (λ t. none n (eqb→eq (suc n) 0 t)))))
+  where
+    none : (n : ℕ) → suc n ≡ 0 → ⊥
+    none n h = omega arith
+refusal-at false (suc n) x = refl
+
+-- The root is refused, with the number 4, exactly where x is a NaN, infinite or below zero. (Minus zero is not below zero.)
+pub root-refused : (x : Float) → T (fits binary32 x) → rootRefusal (rootOf x) ≡ cond (finite? x && notBelow0? x) 0 4
+unfolding finite? notBelow0?
+root-refused nan h = refl
+root-refused (inf s) h = refl
+root-refused (fin s m e) h =
+    let x = fin s m e in
+    let u = units-of x h refl in
+    let n = u .q * 2 ^ u .j in
+    let is : inUnits m e ≡ n = ap (λ (z : ℕ). z / down e) (u .value .1) ∙ mul-div-cancel n (down-pos e) in
+    ap (λ (z : ℕ). rootRefusal (rootAt s z x)) is
+    ∙ refusal-at s n x
+    ∙ ap (λ (z : Bool). cond z 0 4) (sym (not-below x s n (2 ^ 149) (pow-pos 149) (refl, u .value .1)))

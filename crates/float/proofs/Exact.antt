@@ -2,13 +2,13 @@
 use mathlib.Core.Path.{_≡_, refl, sym, ap, _∙_, subst}
 use mathlib.Core.Logic.{inl, inr}
 use Prim.Native.Nat.{ℕ, zero, suc, _+_, _-_, _*_, _^_, _≤_, _<_}
-use native.Mathlib.Nat.{add-mul, mul-sub, mul-comm, mul-assoc, mul-one, le-of-lt, mul-right-comm, mul-mul-mul-comm, mul-pos, mul-zero, zero-mul, add-zero, mul-lt-mul-of-pos-right, mul-le-mul-right}
+use native.Mathlib.Nat.{add-mul, mul-sub, mul-comm, mul-assoc, mul-one, le-of-lt, mul-mul-mul-comm, mul-pos, mul-zero, zero-mul, mul-lt-mul-of-pos-right, mul-le-mul-right}
 use native.Mathlib.Omega.{arith}
-use mathlib.Core.Bool.{Bool, true, false, not, cond, Bool·beq, _&&_}
-use lib.IntN.{ℤ, pos, negsuc, negℤ, natAbs, _+ℤ_, _-ℤ_, _*ℤ_, +ℤ-comm, negℤ-+ℤ, negℤ-negℤ, subℕ}
-use lib.Dec.{T, ltb, ltb→lt, lt→ltb, nltb→le}
+use mathlib.Core.Bool.{Bool, true, false, not, cond}
+use lib.IntN.{ℤ, pos, negsuc, negℤ, natAbs, _+ℤ_, _-ℤ_, _*ℤ_, +ℤ-comm, negℤ-+ℤ, negℤ-negℤ}
+use lib.Dec.{ltb, lt→ltb}
 use lib.Arith.{le→nltb}
-use lib.Ieee.{Float, nan, inf, fin, binary32, up, down, unlike, round, neg, sum, add, sub, mul, ofInt, lt, below}
+use lib.Ieee.{Float, nan, inf, fin, binary32, up, down, unlike, round, neg, sum, add, sub, mul, ofInt}
 use lib.Ieee.Fits.{down-pos}
 use lib.Ieee.Exact.{HasValue}
 use lib.Ieee.Back.{round-whole}

@@ -4,10 +4,12 @@ pub mod Scaling
 pub mod Patterns
 pub mod Picks
 pub mod Values
+pub mod Units
 pub mod Unique
 pub mod Signs
 pub mod OrderLaws
 pub mod Exact
 pub mod Error
 pub mod Computed
+pub mod Limits
 pub mod Share

@@ -1,14 +1,12 @@
 -- The total order tells any two values apart: where it says equal, they are one value. Assumes nothing.
-use mathlib.Core.Path.{_≡_, refl, sym, ap, _∙_, subst}
+use mathlib.Core.Path.{_≡_, refl, sym, ap, subst}
 use Prim.Native.Nat.{ℕ, _*_, _≤_}
-use native.Mathlib.Nat.{le-antisymm, le-of-eq, le-trans}
+use native.Mathlib.Nat.{le-antisymm}
 use native.Mathlib.Omega.{arith}
 use mathlib.Core.Bool.{Bool, true, false, not, cond, _||_, true≢false}
-use lib.IntN.{ℤ}
 use lib.Dec.{T, ltb, nltb→le}
 use lib.Ieee.{Float, nan, inf, fin, binary32, up, down, fits, lt, isNan}
 use lib.Ieee.Fits.{down-pos}
-use lib.Ieee.Exact.{HasValue}
 use Rattle.float.specs.declared.order.Order.{Order}
 use Rattle.float.specs.declared.order.Order.the-variants.{Less, Equal, Greater, Unordered}
 use Rattle.float.specs.Order.{signOf, bySign, totalCmp}

@@ -2,22 +2,21 @@
 use mathlib.Core.Path.{_≡_, refl, sym, ap, _∙_, subst}
 use Prim.Native.Nat.{ℕ, zero, suc, _+_, _-_, _*_, _/_, _%_, _^_, _≤_, _<_}
 use mathlib.Core.Logic.{_⊎_, inl, inr}
-use native.Mathlib.Nat.{eq-or-lt-of-le, lt-irrefl, mul-div-cancel, mul-pos, zero-lt-suc}
+use native.Mathlib.Nat.{eq-or-lt-of-le, lt-irrefl, mul-div-cancel, mul-pos}
 use native.Mathlib.Omega.{arith}
 use mathlib.Core.Bool.{Bool, true, false, not, cond, true≢false}
-use lib.IntN.{ℤ, pos}
+use lib.IntN.{pos}
 use lib.Dec.{T, leb, eqb, ltb, eqb→eq, ltb→lt, nltb→le, not-T, le→leb}
 use lib.Arith.{lt→nleb, le→nltb}
 use lib.Pow.{pow-pos}
-use lib.Ieee.{Float, nan, inf, fin, up, down, binary32, odd, ofFields, ofBits, toBits, nanBits, isNan, fits, ne}
+use lib.Ieee.{Float, nan, inf, fin, down, binary32, odd, ofFields, ofBits, toBits, nanBits, isNan, fits, ne}
 use lib.Ieee.Compare.{differs-from-itself, nan-differs}
 use lib.Ieee.Fits.{down-pos}
-use lib.Ieee.Digits.{odd-val}
 use lib.Ieee.Exact.{HasValue, odd-sign}
 use lib.Ieee.Bits.{is-true, is-false, cond-no, ofBits-fits, ofBits-toBits, nanBits-above}
 use Rattle.float.specs.declared.root.Rooted.{Rooted}
 use Rattle.float.specs.declared.root.Rooted.the-variants.{Value, Refused}
-use Rattle.float.specs.Root.{Nearest, RootBits, RootOfUnits, RootAt, RootOf, inUnits}
+use Rattle.float.specs.Root.{RootBits, RootOfUnits, RootAt, RootOf}
 
 pub lt-or-ge : (a b : ℕ) → (a < b) ⊎ (b ≤ a)
 lt-or-ge a b = go (ltb a b) (ltb→lt a b) (nltb→le a b)

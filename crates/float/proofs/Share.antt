@@ -1,24 +1,26 @@
 -- A share of a mass, (mass * weight) / total, each operation rounded. It can exceed the mass, even where the weight is the whole total (`exceeds`).
--- But rounding never passes a value that the format holds (`not-past`), so a mass of at most 2 ^ 20 in size has no larger share (`share-bounded`).
+-- But rounding never passes a value that the format holds (`not-past`), so a mass of at most 2 ^ 20 in size has no larger share (`share-bounded`, `share-in-range`).
 -- Assumes nothing.
 use mathlib.Core.Path.{_≡_, refl, sym, ap, _∙_, subst}
 use mathlib.Core.Logic.{_⊎_, inl, inr}
-use Prim.Native.Nat.{ℕ, zero, suc, _+_, _-_, _*_, _^_, _≤_, _<_}
-use native.Mathlib.Nat.{eq-of-mul-eq-mul-right, le-refl, le-trans, le-of-eq, le-of-lt, lt-of-le-of-lt, lt-of-lt-of-le, lt-irrefl, mul-pos, mul-one, one-mul, zero-mul, mul-assoc, mul-comm, mul-left-comm, mul-right-comm, mul-mul-mul-comm, mul-le-mul-left, mul-le-mul-right, le-of-mul-le-mul-right, zero-lt-suc}
+use Prim.Native.Nat.{ℕ, _+_, _*_, _^_, _≤_, _<_, zero-le}
+use native.Mathlib.Nat.{eq-of-mul-eq-mul-right, le-trans, le-of-eq, le-of-lt, lt-of-le-of-lt, lt-irrefl, mul-pos, mul-one, one-mul, zero-mul, mul-assoc, mul-comm, mul-left-comm, mul-mul-mul-comm, mul-le-mul-right, le-of-mul-le-mul-right, zero-lt-suc}
 use native.Mathlib.Omega.{arith}
 use mathlib.Core.Bool.{Bool, true, false, not, cond, _&&_, _||_, true≢false}
-use lib.IntN.{ℤ}
+use lib.IntN.{ℤ, pos}
 use lib.Dec.{T, ltb, eqb, ltb→lt, eqb→eq, not-T, lit<}
-use lib.Pow.{pow-add, pow-pos, pow-mono}
-use lib.Ieee.{Float, nan, inf, fin, binary32, up, down, unlike, odd, units, round, ofBits, mul, div, lt, le}
-use lib.Ieee.Fits.{up-pos, down-pos, round-is}
+use lib.Pow.{pow-add, pow-pos}
+use lib.Ieee.{Float, nan, inf, fin, binary32, up, down, unlike, odd, units, round, ofBits, fits, mul, div, lt, le, eq}
+use lib.Ieee.Fits.{down-pos, round-is}
 use lib.Ieee.Exact.{HasValue, round-exact, units-val}
-use lib.Ieee.Bits.{cond-no}
-use lib.Ieee.Order.{transfer, round-mono, kept, drop}
+use lib.Ieee.Bits.{cond-no, is-true}
+use lib.Ieee.Order.{transfer, le-of-values, round-mono, kept, drop}
 use lib.Ieee.Scale.{grid, round-same}
 use lib.Ieee.Positive.{first-pos}
-use Rattle.float.proofs.Patterns.{lt-or-ge}
-use Rattle.float.specs.Numbers.{shareOf}
+use Rattle.float.specs.Numbers.{zero32, absOf, shareOf}
+use Rattle.float.specs.Ranges.{finite?, number?, notBelow0?}
+use Rattle.float.proofs.Units.{units-of, abs-value, value-finite, not-below}
+use Rattle.float.proofs.Limits.{limit-finite}
 
 -- mass 1/7, rounded, weight and total 29: the share is the next f32 above the mass
 pub exceeds : lt (ofBits binary32 0x3e12_4925) (shareOf (ofBits binary32 0x3e12_4925) (ofBits binary32 0x41e8_0000) (ofBits binary32 0x41e8_0000)) ≡ true
@@ -149,18 +151,83 @@ plain true = refl
 plain false = refl
 
 -- m, w and t are a, b and g units. The mass is at most 2 ^ 20 in size (2 ^ 169 units), and the weight, which is q * 2 ^ j, at most the total
-pub share-bounded : (m w t : Float) (s : Bool) (a b g q j : ℕ) → HasValue m s a (2 ^ 149) → HasValue w false b (2 ^ 149) → HasValue t false g (2 ^ 149)
+pub share-bounded : (m w t : Float) (s v : Bool) (a b g q j : ℕ) → HasValue m s a (2 ^ 149) → HasValue w v b (2 ^ 149) → HasValue t false g (2 ^ 149)
     → a ≤ 2 ^ 169 → b ≤ g → 0 < g → q < 2 ^ 24 → b ≡ q * 2 ^ j → b * 2 ^ 20 < 2 ^ 277
-    → (u : ℕ) × HasValue (shareOf m w t) s u (2 ^ 149) × (u ≤ 2 ^ 169)
-share-bounded m w t s a b g q j hm hw ht big le pos' small is fine =
+    → (u : ℕ) × HasValue (shareOf m w t) (unlike s v) u (2 ^ 149) × (u ≤ 2 ^ 169)
+share-bounded m w t s v a b g q j hm hw ht big le pos' small is fine =
     let D = 2 ^ 149 in
     let P = grid binary32 (a * b) (D * D) in
+    let r = unlike s v in
     let e : b * 2 ^ 20 ≡ q * 2 ^ (j + 20) = ap (λ (z : ℕ). z * 2 ^ 20) is ∙ mul-assoc q (2 ^ j) (2 ^ 20) ∙ ap (λ (z : ℕ). q * z) (sym (pow-add 2 j 20)) in
     let p-le : P ≤ b * 2 ^ 20 = subst (λ (z : ℕ). P ≤ z) (sym e)
     (not-past (a * b) (D * D) q (j + 20) (mul-pos (pow-pos 149) (pow-pos 149)) small (subst (λ (z : ℕ). z < 2 ^ 277) e fine) (subst (λ (z : ℕ). a * b * D ≤ z * (D * D)) e (scaled-le a b (2 ^ 20) D big))) in
     let x = mul binary32 m w in
-    let x-is : x ≡ round binary32 s (a * b) (D * D) = mul-of m w s false a b D (pow-pos 149) hm hw ∙ ap (λ (z : Bool). round binary32 z (a * b) (D * D)) (plain s) in
-    let hx : HasValue x s P D = subst (λ (z : Float). HasValue z s P D) (sym x-is) (round-sized s (a * b) (D * D) (lt-of-le-of-lt p-le fine)) in
-    let y-is : shareOf m w t ≡ round binary32 s P g = div-of x t s false P g D (pow-pos 149) hx ht pos' ∙ ap (λ (z : Bool). round binary32 z P g) (plain s) in
+    let hx : HasValue x r P D = subst (λ (z : Float). HasValue z r P D) (sym (mul-of m w s v a b D (pow-pos 149) hm hw)) (round-sized r (a * b) (D * D) (lt-of-le-of-lt p-le fine)) in
+    let y-is : shareOf m w t ≡ round binary32 r P g = div-of x t r false P g D (pow-pos 149) hx ht pos' ∙ ap (λ (z : Bool). round binary32 z P g) (plain r) in
     let u-le : grid binary32 P g ≤ 2 ^ 169 = not-past P g 1 169 pos' (lit< tt) (lit< tt) (share-le P b g (2 ^ 20) D p-le le) in
-    (grid binary32 P g, subst (λ (z : Float). HasValue z s (grid binary32 P g) D) (sym y-is) (round-sized s P g (lt-of-le-of-lt u-le (lit< tt))), u-le)
+    (grid binary32 P g, subst (λ (z : Float). HasValue z r (grid binary32 P g) D) (sym y-is) (round-sized r P g (lt-of-le-of-lt u-le (lit< tt))), u-le)
+
+-- ---- the share of document 01: a total that is above 0 and below an infinity, and a weight from 0 to the total
+total-finite : (t : Float) (n : ℕ) (d : ℤ) → lt zero32 t ≡ true → le t (fin false n d) ≡ true → finite? t ≡ true
+unfolding le lt eq finite?
+total-finite nan n d p l = absurd (true≢false (sym p))
+total-finite (inf true) n d p l = absurd (true≢false (sym p))
+total-finite (inf false) n d p l = absurd (true≢false (sym l))
+total-finite (fin s m e) n d p l = refl
+
+weight-finite : (w t : Float) → le zero32 w ≡ true → le w t ≡ true → finite? t ≡ true → finite? w ≡ true
+unfolding le lt eq finite?
+weight-finite nan t p l f = absurd (true≢false (sym p))
+weight-finite (inf true) t p l f = absurd (true≢false (sym p))
+weight-finite (inf false) nan p l f = absurd (true≢false (sym f))
+weight-finite (inf false) (inf s) p l f = absurd (true≢false (sym f))
+weight-finite (inf false) (fin s m e) p l f = absurd (true≢false (sym l))
+weight-finite (fin s m e) t p l f = refl
+
+above-zero : (t : Float) (s : Bool) (a c : ℕ) → 0 < c → HasValue t s a c → lt zero32 t ≡ true → (s ≡ false) × (0 < a)
+unfolding lt
+above-zero nan s a c C h p = absurd h
+above-zero (inf r) s a c C h p = absurd h
+above-zero (fin true m e) s a c C h p = absurd (true≢false (sym p))
+above-zero (fin false m e) s a c C h p =
+    let g : 0 < m * up e = pos-of (m * up e) (down e) (ltb→lt (0 * down e) (m * up e * 1) (subst T (sym p) tt)) in
+    (sym (h .0), first-pos a (down e) (subst (λ (z : ℕ). 0 < z) (h .1) (mul-pos g C)))
+  where
+    pos-of : (x d : ℕ) → 0 * d < x * 1 → 0 < x
+    pos-of x d h = omega arith
+
+-- a weight that is at least 0 and at most the total has no more units, and minus zero has none
+weight-le : (w t : Float) (v : Bool) (b g : ℕ) → HasValue w v b (2 ^ 149) → HasValue t false g (2 ^ 149) → le zero32 w ≡ true → le w t ≡ true → b ≤ g
+weight-le w t false b g hw ht p l = le-of-mul-le-mul-right (of-le w t b (2 ^ 149) g (2 ^ 149) (pow-pos 149) (pow-pos 149) hw ht (subst T (sym l) tt)) (pow-pos 149)
+weight-le w t true b g hw ht p l = le-trans (le-of-eq (eqb→eq b 0 (subst T (sym (sym (not-below w true b (2 ^ 149) (pow-pos 149) hw) ∙ p)) tt))) zero-le
+
+-- a magnitude of at most 2 ^ k is one of at most 2 ^ k * 2 ^ 149 units
+units-le : (x : Float) (s : Bool) (a k : ℕ) → HasValue x s a (2 ^ 149) → le (absOf x) (fin false 1 (pos k)) ≡ true → a ≤ 2 ^ k * 2 ^ 149
+units-le x s a k h l = le-trans (le-of-eq (sym (mul-one a))) (of-le (absOf x) (fin false 1 (pos k)) a (2 ^ 149) (2 ^ k) 1 (pow-pos 149) (zero-lt-suc 0) (abs-value x s a (2 ^ 149) h) (refl, simp (one-mul, mul-one)) (subst T (sym l) tt))
+
+-- (mass times weight) divided by total is finite and of magnitude at most 1,048,576 where the mass is, for 0 <= weight <= total and a total above 0 and at most 2 ^ 64.
+-- (The total of an accepted mesh is far below that.)
+pub share-in-range : (m w t : Float) → T (fits binary32 m) → T (fits binary32 w) → T (fits binary32 t) → number? m ≡ true → notBelow0? w ≡ true → le w t ≡ true → lt zero32 t ≡ true
+    → le t (fin false 1 (pos 64)) ≡ true → (number? (shareOf m w t) ≡ true) × (finite? (shareOf m w t) ≡ true)
+unfolding number? notBelow0?
+share-in-range m w t fm fw ft nm nw l p top =
+    let D = 2 ^ 149 in
+    let finite-t = total-finite t 1 (pos 64) p top in
+    let um = units-of m fm (limit-finite m 1 (pos 20) nm) in
+    let uw = units-of w fw (weight-finite w t nw l finite-t) in
+    let ut = units-of t ft finite-t in
+    let a = um .q * 2 ^ um .j in
+    let b = uw .q * 2 ^ uw .j in
+    let g = ut .q * 2 ^ ut .j in
+    let pt = above-zero t (ut .sign) g D (pow-pos 149) (ut .value) p in
+    let ht : HasValue t false g D = subst (λ (z : Bool). HasValue t z g D) (pt .0) (ut .value) in
+    let bg : b ≤ g = weight-le w t (uw .sign) b g (uw .value) ht nw l in
+    let g-le : g ≤ 2 ^ 64 * D = le-trans (le-of-eq (sym (mul-one g))) (of-le t (fin false 1 (pos 64)) g D (2 ^ 64) 1 (pow-pos 149) (zero-lt-suc 0) ht (refl, refl) (subst T (sym top) tt)) in
+    let room : b * 2 ^ 20 < 2 ^ 277 = lt-of-le-of-lt (mul-le-mul-right (2 ^ 20) (le-trans bg g-le)) (lit< tt) in
+    let r = share-bounded m w t (um .sign) (uw .sign) a b g (uw .q) (uw .j) (um .value) (uw .value) ht (units-le m (um .sign) a 20 (um .value) nm) bg (pt .1) (uw .small) refl room in
+    let y = shareOf m w t in
+    let sign = unlike (um .sign) (uw .sign) in (
+      is-true (le (absOf y) (fin false 1 (pos 20)))
+          (le-of-values (absOf y) (fin false 1 (pos 20)) (r .0) D (2 ^ 169) D (pow-pos 149) (pow-pos 149) (abs-value y sign (r .0) D (r .1)) (refl, refl) (mul-le-mul-right D (r .2))),
+      value-finite y sign (r .0) D (r .1),
+    )

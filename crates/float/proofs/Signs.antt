@@ -1,9 +1,9 @@
 -- A value's sign is the first bit of its pattern, and only a NaN differs from itself. Two values that compare as equal are one value. Assumes nothing.
 use mathlib.Core.Path.{_≡_, refl, sym, ap, _∙_, subst}
 use Prim.Native.Nat.{ℕ, zero, suc, _+_, _*_, _/_, _%_, _^_}
-use mathlib.Core.Bool.{Bool, true, false, not, cond, Bool·beq, _&&_, _||_, true≢false}
-use lib.Dec.{T, leb, ltb, eqb, eqb-refl, nltb→le}
-use lib.Ieee.{Float, nan, inf, fin, up, down, Format, binary32, odd, ofFields, ofBits, toBits, fits, isNan, ne}
+use mathlib.Core.Bool.{Bool, true, false, not, cond, _&&_}
+use lib.Dec.{T, leb, eqb, eqb-refl}
+use lib.Ieee.{Float, nan, inf, fin, up, down, binary32, odd, ofFields, toBits, fits, isNan, ne}
 use lib.Ieee.Exact.{HasValue, odd-sign}
 use lib.Ieee.Bits.{is-true, ofBits-toBits}
 use Rattle.float.specs.Order.{signOf}

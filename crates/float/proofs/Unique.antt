@@ -2,13 +2,13 @@
 use mathlib.Core.Path.{_≡_, sym, ap, _∙_, subst}
 use mathlib.Core.Bool.{Bool, true, false}
 use Prim.Native.Nat.{ℕ, zero, suc, _+_, _-_, _*_, _^_, _≤_, _<_}
-use native.Mathlib.Nat.{le-antisymm, le-of-eq, lt-trans, le-of-suc-le-suc, lt-of-not-le, not-le-of-lt, lt-of-mul-lt-mul-right, lt-of-le-of-lt, lt-of-lt-of-le, le-trans, mul-le-mul-right, mul-le-mul-left, pow-succ', pow-le-pow-right, zero-lt-suc}
+use native.Mathlib.Nat.{le-antisymm, le-of-eq, lt-trans, le-of-suc-le-suc, lt-of-not-le, lt-of-mul-lt-mul-right, le-trans, mul-le-mul-right, pow-succ', pow-le-pow-right, zero-lt-suc}
 use native.Mathlib.Omega.{arith}
 use lib.Pow.{pow-pos}
 use lib.Ieee.{Float, nan, inf, fin, binary32}
 use lib.Ieee.Exact.{HasValue}
 use Rattle.float.specs.declared.root.Rooted.{Rooted}
-use Rattle.float.specs.declared.root.Rooted.the-variants.{Value, Refused}
+use Rattle.float.specs.declared.root.Rooted.the-variants.{Value}
 use Rattle.float.specs.Root.{Nearest, RootOfUnits, RootAt, RootOf, inUnits}
 use Rattle.float.proofs.Squares.{sq-lt, sq-mono}
 use Rattle.float.proofs.Values.{same-value}
