@@ -1,0 +1,136 @@
+-- The laws of rows: `tab n f` is the view, and each operation on columns has one law here, which holds for any type of row and any number of columns.
+-- A law takes what holds of the row at each index, and gives the equation of the two lists.
+use Prim.Native.Nat.{ℕ, zero, suc, _+_, _≤_, _<_, zero-le, suc-le-suc}
+use native.Mathlib.Nat.{le-of-suc-le-suc, not-suc-le-zero}
+use native.Mathlib.Numerals.{add-one}
+use native.Mathlib.Omega.{arith}
+use mathlib.Core.Path.{_≡_, refl, sym, ap, ap₂, _∙_}
+use mathlib.Core.Bool.{Bool, true, false}
+use mathlib.Core.List.{List, [], _∷_, _++_, map}
+use lib.ListN.{length, getD, take, set}
+use lib.Seq.{ext-getD, getD-take, length-take-le}
+use lib.Dec.{eqb}
+use Rattle.lists.specs.Lists.{upTo, tab, pick, keep, keptOf, nth, mapAt}
+use Rattle.columns.specs.View.{Kept}
+
+module _ {A : Type 0} where
+  -- a view of n rows has n rows
+  pub tab-length : (n : ℕ) (f : ℕ → A) → length (tab n f) ≡ n
+  unfolding tab
+  tab-length zero f = refl
+  tab-length (suc n) f = ap suc (tab-length n (λ k. f (suc k)))
+
+  -- row k of a view is what it was made of
+  pub tab-at : (n : ℕ) (f : ℕ → A) (k : ℕ) (d : A) → k < n → getD (tab n f) k d ≡ f k
+  unfolding tab
+  tab-at zero f k d h = absurd (not-suc-le-zero h)
+  tab-at (suc n) f zero d h = refl
+  tab-at (suc n) f (suc k) d h = tab-at n (λ j. f (suc j)) k d (le-of-suc-le-suc h)
+
+  -- two views are equal where their rows are
+  pub tab-ext : (n : ℕ) (f g : ℕ → A) → ((k : ℕ) → k < n → f k ≡ g k) → tab n f ≡ tab n g
+  unfolding tab
+  tab-ext zero f g h = refl
+  tab-ext (suc n) f g h = ap₂ _∷_ (h 0 (suc-le-suc zero-le)) (tab-ext n (λ k. f (suc k)) (λ k. g (suc k)) (λ k p. h (suc k) (suc-le-suc p)))
+
+  -- a view of one row more has it last
+  pub tab-suc : (n : ℕ) (f : ℕ → A) → tab (suc n) f ≡ tab n f ++ (f n ∷ [])
+  unfolding tab
+  tab-suc zero f = refl
+  tab-suc (suc n) f = ap (λ (l : List A). f 0 ∷ l) (tab-suc n (λ k. f (suc k)))
+
+  -- the view of a list by its own elements
+  pub tab-of : (l : List A) (d : A) → tab (length l) (λ k. getD l k d) ≡ l
+  unfolding tab
+  tab-of [] d = refl
+  tab-of (a ∷ l) d = ap (λ (t : List A). a ∷ t) (tab-of l d)
+
+  -- a store in the columns: row i is a now
+  pub rows-store : (n : ℕ) (f f′ : ℕ → A) (i : ℕ) (a : A) → ((k : ℕ) → k < n → (k ≡ i → ⊥) → f′ k ≡ f k) → f′ i ≡ a → tab n f′ ≡ set (tab n f) i a
+  unfolding tab
+  rows-store zero f f′ i a h e = refl
+  rows-store (suc n) f f′ zero a h e = ap₂ _∷_ e (tab-ext n (λ k. f′ (suc k)) (λ k. f (suc k)) (λ k p. h (suc k) (suc-le-suc p) (λ q. omega arith)))
+  rows-store (suc n) f f′ (suc i) a h e =
+      ap₂ _∷_ (h 0 (suc-le-suc zero-le) (λ q. omega arith))
+      (rows-store n (λ k. f (suc k)) (λ k. f′ (suc k)) i a (λ k p q. h (suc k) (suc-le-suc p) (λ r. q (omega arith))) e)
+
+  -- an append to all columns: the rows are as they were, and a comes last
+  pub rows-push : (n : ℕ) (f f′ : ℕ → A) (a : A) → ((k : ℕ) → k < n → f′ k ≡ f k) → f′ n ≡ a → tab (n + 1) f′ ≡ tab n f ++ (a ∷ [])
+  rows-push n f f′ a h e = rw (add-one, tab-suc, e) (ap (λ (l : List A). l ++ (a ∷ [])) (tab-ext n f′ f h))
+
+-- a function goes under a choice
+pub pick-ap : {A B : Type 0} (g : A → B) (t : Bool) (x y : A) → pick t (g x) (g y) ≡ g (pick t x y)
+pick-ap g true x y = refl
+pick-ap g false x y = refl
+
+module _ {A B : Type 0} where
+  -- a function on each row of a view
+  pub map-tab : (g : A → B) (n : ℕ) (f : ℕ → A) → map g (tab n f) ≡ tab n (λ k. g (f k))
+  unfolding tab
+  map-tab g zero f = refl
+  map-tab g (suc n) f = ap (λ (l : List B). g (f 0) ∷ l) (map-tab g n (λ k. f (suc k)))
+
+  -- a change of each row by its number
+  pub rows-map : (g : ℕ → A → B) (n : ℕ) (f : ℕ → A) → mapAt g (tab n f) ≡ tab n (λ k. g k (f k))
+  unfolding tab mapAt
+  rows-map g zero f = refl
+  rows-map g (suc n) f = ap (λ (l : List B). g 0 (f 0) ∷ l) (rows-map (λ k. g (suc k)) n (λ k. f (suc k)))
+
+  -- a mask and a function on each element can change places
+  keep-map : (g : A → B) (m : List ℕ) (l : List A) → keep m (map g l) ≡ map g (keep m l)
+  unfolding keep
+  keep-map g m [] = refl
+  keep-map g [] (a ∷ l) = ap (λ (t : List B). g a ∷ t) (keep-map g [] l)
+  keep-map g (x ∷ m) (a ∷ l) = rw (keep-map g m l) (pick-ap (map g) (eqb x 1) (keep m l) (a ∷ keep m l))
+
+  -- what a mapped list has at a place
+  map-at : (g : A → B) (l : List A) (k : ℕ) (a : A) (b : B) → k < length l → getD (map g l) k b ≡ g (getD l k a)
+  map-at g [] k a b h = absurd (not-suc-le-zero h)
+  map-at g (x ∷ l) zero a b h = refl
+  map-at g (x ∷ l) (suc k) a b h = map-at g l k a b (le-of-suc-le-suc h)
+
+module _ {A : Type 0} where
+  -- what is kept of a view, by the rows' numbers
+  keep-tab : (m : List ℕ) (n : ℕ) (f : ℕ → A) → keep m (tab n f) ≡ tab (keptOf m n) (λ k. f (nth m n k))
+  unfolding keptOf nth upTo
+  keep-tab m n f =
+      let kept = keep m (tab n (λ k. k)) in
+      ap (keep m) (sym (map-tab f n (λ k. k))) ∙ keep-map f m (tab n (λ k. k)) ∙ ap (map f) (sym (tab-of kept 0)) ∙ map-tab f (length kept) (λ k. getD kept k 0)
+
+  -- a compaction of all columns by one mask
+  pub rows-keep : (m : List ℕ) (n : ℕ) (f f′ : ℕ → A) → ((k : ℕ) → k < keptOf m n → f′ k ≡ f (nth m n k)) → tab (keptOf m n) f′ ≡ keep m (tab n f)
+  rows-keep m n f f′ h = tab-ext (keptOf m n) f′ (λ k. f (nth m n k)) h ∙ sym (keep-tab m n f)
+
+  -- the front of a column is its view
+  pub take-tab : (n : ℕ) (s : List A) (d : A) → n ≤ length s → take n s ≡ tab n (λ k. getD s k d)
+  take-tab n s d h =
+      ext-getD d (take n s) (tab n (λ k. getD s k d)) (length-take-le n s h ∙ sym (tab-length n (λ k. getD s k d)))
+      (λ i p. let q : i < n = rw (length-take-le n s h) at p in getD-take n s i d q ∙ sym (tab-at n (λ k. getD s k d) i d q))
+
+  -- one column of a compaction, at an index
+  pub kept-at : {m : List ℕ} {n : ℕ} {s s′ : List A} {r : ℕ} → Kept m n s s′ r → n ≤ length s → (d : A) (k : ℕ) → k < keptOf m n → getD s′ k d ≡ getD s (nth m n k) d
+  kept-at {m} {n} {s} {s′} {r} c room d k h =
+      sym (getD-take r s′ k d (rw (c .count) h))
+      ∙ ap (λ (l : List A). getD l k d) (c .front ∙ ap (keep m) (take-tab n s d room) ∙ keep-tab m n (λ j. getD s j d))
+      ∙ tab-at (keptOf m n) (λ j. getD s (nth m n j) d) k d h
+
+module _ {A B C : Type 0} where
+  -- two changes by number, one after the other, are one
+  pub mapAt-mapAt : (g : ℕ → B → C) (h : ℕ → A → B) (l : List A) → mapAt g (mapAt h l) ≡ mapAt (λ k a. g k (h k a)) l
+  unfolding mapAt
+  mapAt-mapAt g h [] = refl
+  mapAt-mapAt g h (a ∷ l) = ap (λ (t : List C). g 0 (h 0 a) ∷ t) (mapAt-mapAt (λ k. g (suc k)) (λ k. h (suc k)) l)
+
+module _ {A B : Type 0} where
+  -- changes that agree at each place give the same list
+  pub mapAt-ext : (g h : ℕ → A → B) (l : List A) → ((k : ℕ) (a : A) → g k a ≡ h k a) → mapAt g l ≡ mapAt h l
+  unfolding mapAt
+  mapAt-ext g h [] e = refl
+  mapAt-ext g h (a ∷ l) e = ap₂ _∷_ (e 0 a) (mapAt-ext (λ k. g (suc k)) (λ k. h (suc k)) l (λ k. e (suc k)))
+
+module _ {A : Type 0} where
+  -- a change that changes no element leaves the list
+  pub mapAt-same : (g : ℕ → A → A) (l : List A) → ((k : ℕ) (a : A) → g k a ≡ a) → mapAt g l ≡ l
+  unfolding mapAt
+  mapAt-same g [] e = refl
+  mapAt-same g (a ∷ l) e = ap₂ _∷_ (e 0 a) (mapAt-same (λ k. g (suc k)) l (λ k. e (suc k)))

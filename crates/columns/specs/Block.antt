@@ -1,0 +1,35 @@
+-- A block: columns of R places each, one behind the other. Definitions only; their laws are in proofs/Cells.antt.
+use Prim.Native.Nat.{ℕ, zero, suc, _+_, _*_, _<_}
+use mathlib.Core.Path.{_≡_}
+use mathlib.Core.List.{List, [], _++_}
+use lib.ListN.{getD}
+use Rattle.lists.specs.Lists.{keptOf, nth, padded}
+
+-- what column c of the block s has at place k, or d past the block's end
+unfoldable pub cell : {A : Type 0} → A → ℕ → List A → ℕ → ℕ → A
+cell d R s c k = getD s (c * R + k) d
+
+-- column 0, column 1, .., column w - 1, one behind the other
+unfoldable pub stack : {A : Type 0} → ℕ → (ℕ → List A) → List A
+stack zero f = []
+stack (suc w) f = stack w f ++ f w
+
+-- a block of len places whose column c is f c and z behind it up to R places; what is left over behind the w columns is z
+abbrev pub blockOf : {A : Type 0} → ℕ → ℕ → ℕ → A → (ℕ → List A) → List A
+blockOf len w R z f = padded len z (stack w (λ c. padded R z (f c)))
+
+-- ---- contracts of the functions on a block of w columns
+
+-- of the first n places of each column the mask leaves r, in their order
+pub record BlockKept {A : Type 0} (d : A) (m : List ℕ) (n w R : ℕ) (s s′ : List A) (r : ℕ) : Type 0 where
+  pub count : r ≡ keptOf m n
+  pub cells : (c k : ℕ) → c < w → k < keptOf m n → cell d R s′ c k ≡ cell d R s c (nth m n k)
+
+-- the columns of src, of n places each, stand at the fronts of those of s′, of R places each
+pub record BlockCopied {A : Type 0} (d : A) (n w R : ℕ) (src s′ : List A) : Type 0 where
+  pub cells : (c k : ℕ) → c < w → k < n → cell d R s′ c k ≡ cell d n src c k
+
+-- row i is a copy of row v in each column, and the other rows are as they were
+pub record RowCopied {A : Type 0} (d : A) (v i w R : ℕ) (s s′ : List A) : Type 0 where
+  pub new : (c : ℕ) → c < w → cell d R s′ c i ≡ cell d R s c v
+  pub old : (c k : ℕ) → k < R → (k ≡ i → ⊥) → cell d R s′ c k ≡ cell d R s c k

@@ -1,0 +1,3 @@
+-- Columns and blocks of columns.
+pub mod View
+pub mod Block

@@ -1,0 +1,5 @@
+-- The laws of the blocks of a mesh.
+pub mod Lists
+pub mod Fan
+pub mod Blocks
+pub mod Agree

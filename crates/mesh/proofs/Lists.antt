@@ -1,0 +1,304 @@
+-- What stores in blocks do to the lists that the blocks are read as.
+use Prim.Native.Nat.{ℕ, _+_, _*_, _/_, _≤_, _<_}
+use native.Mathlib.Omega.{arith}
+use native.Mathlib.Decide.{ℕ-discrete}
+use mathlib.Core.Path.{_≡_, refl, sym, ap, _∙_}
+use mathlib.Core.Bool.{Bool, true, false}
+use mathlib.Core.List.{List, [], _∷_, _++_}
+use lib.ListN.{length, getD, set, length-set}
+use lib.Seq.{getD-set-same, getD-set-other}
+use lib.Ieee.{Float, nan}
+use lib.Dec.{eqb}
+use borrow.Author.Tests.{eq-eqb, ne-eqb}
+use Rattle.lists.specs.Lists.{tab, pick}
+use Rattle.lists.specs.Labels.{replaced}
+use Rattle.model.specs.Mesh.{Particle, Triangle, Edge, Side, Mesh, blank}
+use Rattle.mesh.specs.Log.{Words, World, logAt}
+use Rattle.mesh.specs.Workers.{copied, retargeted, onlyAt, edgeOf, Removed, Mapped}
+use Rattle.mesh.specs.At.{particleRow, triangleRow, edgeRow, particlesAt, trianglesAt, edgesAt}
+use Rattle.mesh.specs.declared.EdgeRow.{EdgeRow}
+use Rattle.columns.specs.Block.{cell}
+use Rattle.columns.specs.Block.{BlockKept}
+use Rattle.columns.specs.Block.{RowCopied}
+use Rattle.columns.proofs.Rows.{tab-length, tab-at, tab-ext, rows-push, rows-keep, rows-map}
+use Rattle.columns.proofs.Cells.{store-same, store-row, store-col}
+
+-- ---- an append of a copy
+module _ (v n P R : ℕ) (m w : Float) (S S₁ : List Float) (T T₁ : List ℕ) (here : v < n) (hp : n < P) (hr : n < R) (room : 6 * P ≤ length S₁)
+    (rc : RowCopied nan v n 6 P S S₁) (rt : RowCopied 0 v n 2 R T T₁) where
+  S₂ : List Float
+  S₂ = set S₁ (4 * P + n) m
+
+  S₃ : List Float
+  unfolding S₂
+  S₃ = set S₂ (5 * P + n) w
+
+  old : (c k : ℕ) → k < n → cell nan P S₃ c k ≡ cell nan P S c k
+  unfolding S₃ S₂
+  old c k h =
+      store-row nan P S₂ 5 n w c k (omega arith) hp (λ q. omega arith) ∙ store-row nan P S₁ 4 n m c k (omega arith) hp (λ q. omega arith) ∙ rc .old c k (omega arith) (λ q. omega arith)
+
+  new : (c : ℕ) → c < 4 → cell nan P S₃ c n ≡ cell nan P S c v
+  unfolding S₃ S₂
+  new c h = store-col nan P S₂ 5 n w c n hp hp (λ q. omega arith) ∙ store-col nan P S₁ 4 n m c n hp hp (λ q. omega arith) ∙ rc .new c (omega arith)
+
+  pub pushed-rows : tab (n + 1) (particleRow P R (set (set S₁ (4 * P + n) m) (5 * P + n) w) T₁) ≡ copied v m w (tab n (particleRow P R S T))
+  unfolding copied S₃ S₂
+  pushed-rows =
+      rows-push n _ _ _
+      (λ k h i.
+      record {
+        x = old 0 k h i;
+        y = old 1 k h i;
+        rest-x = old 2 k h i;
+        rest-y = old 3 k h i;
+        mass = old 4 k h i;
+        inv = old 5 k h i;
+        root = rt .old 0 k (omega arith) (λ q. omega arith) i;
+        damaged = rt .old 1 k (omega arith) (λ q. omega arith) i;
+      })
+      (rw (tab-at n (particleRow P R S T) v blank here)
+      (λ i.
+      record {
+        x = new 0 (omega arith) i;
+        y = new 1 (omega arith) i;
+        rest-x = new 2 (omega arith) i;
+        rest-y = new 3 (omega arith) i;
+        mass = (store-col nan P S₂ 5 n w 4 n hp hp (λ q. omega arith) ∙ store-same nan P S₁ 4 n m (omega arith)) i;
+        inv = store-same nan P S₂ 5 n w (rw length-set (omega arith)) i;
+        root = rt .new 0 (omega arith) i;
+        damaged = rt .new 1 (omega arith) i;
+      }))
+
+pub pushed :
+    (v n : ℕ) (m w : Float) (S S₁ : List Float) (T T₁ : List ℕ) → v < n → n + 1 ≤ length S / 6 → n + 1 ≤ length T / 2
+    → RowCopied nan v n 6 (length S / 6) S S₁ → RowCopied 0 v n 2 (length T / 2) T T₁ → length S₁ ≡ length S → length T₁ ≡ length T
+    → particlesAt (n + 1) (set (set S₁ (4 * (length S / 6) + n) m) (5 * (length S / 6) + n) w) T₁ ≡ copied v m w (particlesAt n S T)
+unfolding particlesAt
+pushed v n m w S S₁ T T₁ here hp hr rc rt ls lt =
+    let e : length (set (set S₁ (4 * (length S / 6) + n) m) (5 * (length S / 6) + n) w) ≡ length S = simp length-set ls in
+    rw (e, lt) (pushed-rows v n (length S / 6) (length T / 2) m w S S₁ T T₁ here (omega arith) (omega arith) (omega arith) rc rt)
+
+-- ---- a compaction
+pub removed :
+    (mask : List ℕ) (n : ℕ) (A A′ : List ℕ) (B B′ : List Float) (r₁ r : ℕ) → BlockKept 0 mask n 4 (length A / 4) A A′ r₁ → BlockKept nan mask n 4 (length B / 4) B B′ r
+    → length A′ ≡ length A → length B′ ≡ length B → Removed mask n r (edgesAt n A B) (edgesAt r A′ B′)
+unfolding edgesAt
+removed mask n A A′ B B′ r₁ r a b la lb =
+    record {
+      count = b .count;
+      edges =
+          rw (b .count, la, lb)
+          (rows-keep mask n _ _
+          (λ k h i.
+          record {
+            a = a .cells 0 k (omega arith) h i;
+            b = a .cells 1 k (omega arith) h i;
+            structural = a .cells 2 k (omega arith) h i;
+            torn = a .cells 3 k (omega arith) h i;
+            rest = b .cells 0 k (omega arith) h i;
+            initial = b .cells 1 k (omega arith) h i;
+            impulse = b .cells 2 k (omega arith) h i;
+            stress = b .cells 3 k (omega arith) h i;
+          }));
+    }
+
+-- ---- a row put into four columns
+pub record Put {A : Type 0} (d : A) (R n : ℕ) (s : List A) (a₀ a₁ a₂ a₃ : A) (s′ : List A) : Type 0 where
+  pub old : (c k : ℕ) → k < n → cell d R s′ c k ≡ cell d R s c k
+  pub at0 : cell d R s′ 0 n ≡ a₀
+  pub at1 : cell d R s′ 1 n ≡ a₁
+  pub at2 : cell d R s′ 2 n ≡ a₂
+  pub at3 : cell d R s′ 3 n ≡ a₃
+
+module _ {A : Type 0} (d : A) (R n : ℕ) (s : List A) (a₀ a₁ a₂ a₃ : A) (room : 4 * R ≤ length s) (h : n < R) where
+  s₁ : List A
+  s₁ = set s (0 * R + n) a₀
+
+  s₂ : List A
+  unfolding s₁
+  s₂ = set s₁ (1 * R + n) a₁
+
+  s₃ : List A
+  unfolding s₂ s₁
+  s₃ = set s₂ (2 * R + n) a₂
+
+  put-cols : Put d R n s a₀ a₁ a₂ a₃ (set (set (set (set s (0 * R + n) a₀) (1 * R + n) a₁) (2 * R + n) a₂) (3 * R + n) a₃)
+  unfolding s₁ s₂ s₃
+  put-cols =
+      record {
+        old =
+            λ c k g.
+            store-row d R s₃ 3 n a₃ c k (omega arith) h (λ q. omega arith) ∙ store-row d R s₂ 2 n a₂ c k (omega arith) h (λ q. omega arith)
+            ∙ store-row d R s₁ 1 n a₁ c k (omega arith) h (λ q. omega arith) ∙ store-row d R s 0 n a₀ c k (omega arith) h (λ q. omega arith);
+        at0 =
+            store-col d R s₃ 3 n a₃ 0 n h h (λ q. omega arith) ∙ store-col d R s₂ 2 n a₂ 0 n h h (λ q. omega arith) ∙ store-col d R s₁ 1 n a₁ 0 n h h (λ q. omega arith)
+            ∙ store-same d R s 0 n a₀ (omega arith);
+        at1 =
+            store-col d R s₃ 3 n a₃ 1 n h h (λ q. omega arith) ∙ store-col d R s₂ 2 n a₂ 1 n h h (λ q. omega arith) ∙ store-same d R s₁ 1 n a₁ (simp length-set (omega arith));
+        at2 = store-col d R s₃ 3 n a₃ 2 n h h (λ q. omega arith) ∙ store-same d R s₂ 2 n a₂ (simp length-set (omega arith));
+        at3 = store-same d R s₃ 3 n a₃ (simp length-set (omega arith));
+      }
+
+  -- as the program writes the places
+  pub put : Put d R n s a₀ a₁ a₂ a₃ (set (set (set (set s n a₀) (R + n) a₁) (2 * R + n) a₂) (3 * R + n) a₃)
+  put =
+      let e₀ : 0 * R + n ≡ n = omega arith in
+      let e₁ : 1 * R + n ≡ R + n = omega arith in
+      simp (e₀, e₁) at put-cols
+
+edge-rows :
+    (n E L : ℕ) (r : EdgeRow) (A A′ : List ℕ) (B B′ : List Float) → Put 0 E n A (r .a) (r .b) (r .structural) (r .torn) A′ → Put nan L n B (r .rest) (r .initial) (r .impulse) (r .stress) B′
+    → tab (n + 1) (edgeRow E L A′ B′) ≡ tab n (edgeRow E L A B) ++ (edgeOf r ∷ [])
+edge-rows n E L r A A′ B B′ p q =
+    rows-push n _ _ _
+    (λ k h i.
+    record {
+      a = p .old 0 k h i;
+      b = p .old 1 k h i;
+      structural = p .old 2 k h i;
+      torn = p .old 3 k h i;
+      rest = q .old 0 k h i;
+      initial = q .old 1 k h i;
+      impulse = q .old 2 k h i;
+      stress = q .old 3 k h i;
+    })
+    (λ i. record { a = p .at0 i; b = p .at1 i; structural = p .at2 i; torn = p .at3 i; rest = q .at0 i; initial = q .at1 i; impulse = q .at2 i; stress = q .at3 i })
+
+pub edge-pushed :
+    (n : ℕ) (r : EdgeRow) (A : List ℕ) (B : List Float) → n + 1 ≤ length A / 4 → n + 1 ≤ length B / 4
+    → edgesAt (n + 1) (set (set (set (set A n (r .a)) (length A / 4 + n) (r .b)) (2 * (length A / 4) + n) (r .structural)) (3 * (length A / 4) + n) (r .torn))
+    (set (set (set (set B n (r .rest)) (length B / 4 + n) (r .initial)) (2 * (length B / 4) + n) (r .impulse)) (3 * (length B / 4) + n) (r .stress))
+    ≡ edgesAt n A B ++ (edgeOf r ∷ [])
+unfolding edgesAt
+edge-pushed n r A B ha hb =
+    simp length-set
+    (edge-rows n (length A / 4) (length B / 4) r A _ B _ (put 0 (length A / 4) n A _ _ _ _ (omega arith) (omega arith)) (put nan (length B / 4) n B _ _ _ _ (omega arith) (omega arith)))
+
+-- ---- one corner of a triangle, after a replacement at e in column c
+module _ (R e v w c : ℕ) (s s′ : List ℕ) (he : e < R) (inside : c * R + e < length s) (q : s′ ≡ set s (c * R + e) (replaced v w (getD s (c * R + e) 0))) where
+  pub turned : (k : ℕ) → k < R → cell 0 R s′ c k ≡ pick (eqb k e) (replaced v w (cell 0 R s c k)) (cell 0 R s c k)
+  unfolding cell
+  turned k hk = by (ℕ-discrete k e)
+    where
+      by : Dec (k ≡ e) → getD s′ (c * R + k) 0 ≡ pick (eqb k e) (replaced v w (getD s (c * R + k) 0)) (getD s (c * R + k) 0)
+      by (yes f) = rw (eq-eqb k e f, f, q) (getD-set-same s (c * R + e) _ 0 inside)
+      by (no f) = rw (ne-eqb k e f, q) (getD-set-other s (c * R + e) (c * R + k) _ 0 (λ z. f (omega arith)))
+
+  pub unturned : (b k : ℕ) → k < R → (b ≡ c → ⊥) → cell 0 R s′ b k ≡ cell 0 R s b k
+  unturned b k hk ne = rw q (store-col 0 R s c e _ b k hk he ne)
+
+pub retargeting :
+    (e v w : ℕ) (s s₁ s₂ s₃ : List ℕ) → e < length s / 3 → s₁ ≡ set s e (replaced v w (getD s e 0))
+    → s₂ ≡ set s₁ (length s / 3 + e) (replaced v w (getD s₁ (length s / 3 + e) 0))
+    → s₃ ≡ set s₂ (2 * (length s / 3) + e) (replaced v w (getD s₂ (2 * (length s / 3) + e) 0)) → Mapped (onlyAt e (retargeted v w)) s s₃
+unfolding trianglesAt
+retargeting e v w s s₁ s₂ s₃ he q₁ q₂ q₃ =
+    record {
+      triangles =
+          λ n volumes hn.
+          rw l₃
+          (tab-ext n _ _ (λ k h. at k (length volumes / 2) volumes (omega arith)) ∙ sym (rows-map (onlyAt e (retargeted v w)) n _));
+    }
+  where
+    R : ℕ
+    R = length s / 3
+
+    l₁ : length s₁ ≡ length s
+    l₁ = ap length q₁ ∙ simp length-set
+
+    l₂ : length s₂ ≡ length s
+    l₂ = ap length q₂ ∙ simp length-set l₁
+
+    l₃ : length s₃ ≡ length s
+    l₃ = ap length q₃ ∙ simp length-set l₂
+
+    p₁ : s₁ ≡ set s (0 * (length s / 3) + e) (replaced v w (getD s (0 * (length s / 3) + e) 0))
+    p₁ = let z : 0 * (length s / 3) + e ≡ e = omega arith in rw z q₁
+
+    p₂ : s₂ ≡ set s₁ (1 * (length s / 3) + e) (replaced v w (getD s₁ (1 * (length s / 3) + e) 0))
+    p₂ = let z : 1 * (length s / 3) + e ≡ length s / 3 + e = omega arith in rw z q₂
+
+    both : (t : Bool) (x y z x′ y′ z′ : ℕ) (f g : Float) → _≡_ {A = Triangle} (record { a = pick t x′ x; b = pick t y′ y; c = pick t z′ z; volume = f; stress = g }) (pick t (record { a = x′; b = y′; c = z′; volume = f; stress = g }) (record { a = x; b = y; c = z; volume = f; stress = g }))
+    both true x y z x′ y′ z′ f g = refl
+    both false x y z x′ y′ z′ f g = refl
+
+    at : (k W : ℕ) (volumes : List Float) → k < length s / 3 → triangleRow (length s / 3) W s₃ volumes k ≡ onlyAt e (retargeted v w) k (triangleRow (length s / 3) W s volumes k)
+    at k W volumes hk =
+        let i₁ : 0 * (length s / 3) + e < length s = omega arith in
+        let i₂ : 1 * (length s / 3) + e < length s₁ = omega (arith, l₁) in
+        let i₃ : 2 * (length s / 3) + e < length s₂ = omega (arith, l₂) in
+        let un₃ = unturned (length s / 3) e v w 2 s₂ s₃ he i₃ q₃ in
+        let un₂ = unturned (length s / 3) e v w 1 s₁ s₂ he i₂ p₂ in
+        let un₁ = unturned (length s / 3) e v w 0 s s₁ he i₁ p₁ in
+        let a : cell 0 (length s / 3) s₃ 0 k ≡ _ = un₃ 0 k hk (λ q. omega arith) ∙ un₂ 0 k hk (λ q. omega arith) ∙ turned (length s / 3) e v w 0 s s₁ he i₁ p₁ k hk in
+        let b₁ : cell 0 (length s / 3) s₁ 1 k ≡ cell 0 (length s / 3) s 1 k = un₁ 1 k hk (λ q. omega arith) in
+        let b : cell 0 (length s / 3) s₃ 1 k ≡ _ = un₃ 1 k hk (λ q. omega arith) ∙ turned (length s / 3) e v w 1 s₁ s₂ he i₂ p₂ k hk ∙ ap (λ (x : ℕ). pick (eqb k e) (replaced v w x) x) b₁ in
+        let c₁ : cell 0 (length s / 3) s₂ 2 k ≡ cell 0 (length s / 3) s 2 k = un₂ 2 k hk (λ q. omega arith) ∙ un₁ 2 k hk (λ q. omega arith) in
+        let c : cell 0 (length s / 3) s₃ 2 k ≡ _ = turned (length s / 3) e v w 2 s₂ s₃ he i₃ q₃ k hk ∙ ap (λ (x : ℕ). pick (eqb k e) (replaced v w x) x) c₁ in
+        (λ i. record { a = a i; b = b i; c = c i; volume = cell nan W volumes 0 k; stress = cell nan W volumes 1 k }) ∙ both (eqb k e) _ _ _ _ _ _ _ _
+
+-- ---- an entry of six wordsIn
+module _ (n : ℕ) (s : List ℕ) (x₀ x₁ x₂ x₃ x₄ x₅ : ℕ) (room : n < length s / 6) where
+  abbrev o : ℕ
+  o = 6 * n
+
+  abbrev t₁ : List ℕ
+  t₁ = set s o x₀
+
+  abbrev t₂ : List ℕ
+  t₂ = set t₁ (o + 1) x₁
+
+  abbrev t₃ : List ℕ
+  t₃ = set t₂ (o + 2) x₂
+
+  abbrev t₄ : List ℕ
+  t₄ = set t₃ (o + 3) x₃
+
+  abbrev t₅ : List ℕ
+  t₅ = set t₄ (o + 4) x₄
+
+  pub noted : logAt (n + 1) (set t₅ (o + 5) x₅) ≡ logAt n s ++ (record { kind = x₀; a = x₁; b = x₂; p = x₃; q = x₄; t = x₅ } ∷ [])
+  unfolding logAt
+  noted =
+      rows-push n _ _ _
+      (λ k h i.
+      record { kind = old (6 * k) (omega arith) i; a = old (6 * k + 1) (omega arith) i; b = old (6 * k + 2) (omega arith) i; p = old (6 * k + 3) (omega arith) i; q = old (6 * k + 4) (omega arith) i; t = old (6 * k + 5) (omega arith) i })
+      (λ i.
+      record {
+        kind = (not t₅ 5 x₅ o (λ q. omega arith) ∙ not t₄ 4 x₄ o (λ q. omega arith) ∙ not t₃ 3 x₃ o (λ q. omega arith) ∙ not t₂ 2 x₂ o (λ q. omega arith) ∙ not t₁ 1 x₁ o (λ q. omega arith) ∙ getD-set-same s o x₀ 0 (omega arith)) i;
+        a = (not t₅ 5 x₅ (o + 1) (λ q. omega arith) ∙ not t₄ 4 x₄ (o + 1) (λ q. omega arith) ∙ not t₃ 3 x₃ (o + 1) (λ q. omega arith) ∙ not t₂ 2 x₂ (o + 1) (λ q. omega arith) ∙ getD-set-same t₁ (o + 1) x₁ 0 (simp length-set (omega arith))) i;
+        b = (not t₅ 5 x₅ (o + 2) (λ q. omega arith) ∙ not t₄ 4 x₄ (o + 2) (λ q. omega arith) ∙ not t₃ 3 x₃ (o + 2) (λ q. omega arith) ∙ getD-set-same t₂ (o + 2) x₂ 0 (simp length-set (omega arith))) i;
+        p = (not t₅ 5 x₅ (o + 3) (λ q. omega arith) ∙ not t₄ 4 x₄ (o + 3) (λ q. omega arith) ∙ getD-set-same t₃ (o + 3) x₃ 0 (simp length-set (omega arith))) i;
+        q = (not t₅ 5 x₅ (o + 4) (λ q. omega arith) ∙ getD-set-same t₄ (o + 4) x₄ 0 (simp length-set (omega arith))) i;
+        t = getD-set-same t₅ (o + 5) x₅ 0 (simp length-set (omega arith)) i;
+      })
+    where
+      not : (l : List ℕ) (j x i : ℕ) → (i ≡ 6 * n + j → ⊥) → getD (set l (6 * n + j) x) i 0 ≡ getD l i 0
+      not l j x i ne = getD-set-other l (6 * n + j) i x 0 ne
+
+      old : (i : ℕ) → i < 6 * n → getD (set t₅ (6 * n + 5) x₅) i 0 ≡ getD s i 0
+      old i h =
+          not t₅ 5 x₅ i (λ q. omega arith) ∙ not t₄ 4 x₄ i (λ q. omega arith) ∙ not t₃ 3 x₃ i (λ q. omega arith) ∙ not t₂ 2 x₂ i (λ q. omega arith) ∙ not t₁ 1 x₁ i (λ q. omega arith)
+          ∙ getD-set-other s (6 * n) i x₀ 0 (λ q. omega arith)
+
+-- ---- lengths, and a mesh by its four lists
+pub particles-length : (n : ℕ) (points : List Float) (roots : List ℕ) → length (particlesAt n points roots) ≡ n
+unfolding particlesAt
+particles-length n points roots = tab-length n _
+
+pub edges-length : (n : ℕ) (ends : List ℕ) (lengths : List Float) → length (edgesAt n ends lengths) ≡ n
+unfolding edgesAt
+edges-length n ends lengths = tab-length n _
+
+pub log-length : (n : ℕ) (log : List ℕ) → length (logAt n log) ≡ n
+unfolding logAt
+log-length n log = tab-length n _
+
+pub mesh-path :
+    {ps qs : List Particle} {ts us : List Triangle} {es fs : List Edge} {bs cs : List Side} → ps ≡ qs → ts ≡ us → es ≡ fs → bs ≡ cs
+    → _≡_ {A = Mesh} (record { particles = ps; triangles = ts; edges = es; boundary = bs }) (record { particles = qs; triangles = us; edges = fs; boundary = cs })
+mesh-path p t e b = λ i. record { particles = p i; triangles = t i; edges = e i; boundary = b i }
+
+pub world-path : {M N : Mesh} {l k : List Words} → M ≡ N → l ≡ k → _≡_ {A = World} (record { mesh = M; log = l }) (record { mesh = N; log = k })
+world-path m l = λ i. record { mesh = m i; log = l i }

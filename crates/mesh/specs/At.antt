@@ -1,0 +1,76 @@
+-- How seven blocks are read as a mesh: row k has, of each column, what stands there at place k. The columns of a block are as long as its length by its width. Definitions only.
+use Prim.Native.Nat.{ℕ, _/_}
+use mathlib.Core.List.{List}
+use lib.ListN.{length}
+use lib.Ieee.{Float, nan}
+use Rattle.lists.specs.Lists.{tab}
+use Rattle.columns.specs.Block.{cell}
+use Rattle.model.specs.Mesh.{Particle, Triangle, Edge, Side, Mesh}
+use Rattle.mesh.specs.declared.Counts.{Counts}
+
+-- ---- one row
+
+-- particle k, of columns of P and of R places
+abbrev pub particleRow : ℕ → ℕ → List Float → List ℕ → ℕ → Particle
+particleRow P R points roots k =
+    record {
+      x = cell nan P points 0 k;
+      y = cell nan P points 1 k;
+      rest-x = cell nan P points 2 k;
+      rest-y = cell nan P points 3 k;
+      mass = cell nan P points 4 k;
+      inv = cell nan P points 5 k;
+      root = cell 0 R roots 0 k;
+      damaged = cell 0 R roots 1 k;
+    }
+
+-- triangle k, of columns of C and of W places
+abbrev pub triangleRow : ℕ → ℕ → List ℕ → List Float → ℕ → Triangle
+triangleRow C W corners volumes k =
+    record { a = cell 0 C corners 0 k; b = cell 0 C corners 1 k; c = cell 0 C corners 2 k; volume = cell nan W volumes 0 k; stress = cell nan W volumes 1 k }
+
+-- edge k, of columns of E and of L places
+abbrev pub edgeRow : ℕ → ℕ → List ℕ → List Float → ℕ → Edge
+edgeRow E L ends lengths k =
+    record {
+      a = cell 0 E ends 0 k;
+      b = cell 0 E ends 1 k;
+      structural = cell 0 E ends 2 k;
+      torn = cell 0 E ends 3 k;
+      rest = cell nan L lengths 0 k;
+      initial = cell nan L lengths 1 k;
+      impulse = cell nan L lengths 2 k;
+      stress = cell nan L lengths 3 k;
+    }
+
+-- boundary entry k, of columns of O places
+abbrev pub sideRow : ℕ → List ℕ → ℕ → Side
+sideRow O outline k = record { a = cell 0 O outline 0 k; b = cell 0 O outline 1 k }
+
+-- ---- the first n rows
+
+-- the first n particles
+unfoldable pub particlesAt : ℕ → List Float → List ℕ → List Particle
+particlesAt n points roots = tab n (particleRow (length points / 6) (length roots / 2) points roots)
+
+-- the first n triangles
+unfoldable pub trianglesAt : ℕ → List ℕ → List Float → List Triangle
+trianglesAt n corners volumes = tab n (triangleRow (length corners / 3) (length volumes / 2) corners volumes)
+
+-- the first n edges
+unfoldable pub edgesAt : ℕ → List ℕ → List Float → List Edge
+edgesAt n ends lengths = tab n (edgeRow (length ends / 4) (length lengths / 4) ends lengths)
+
+-- the first n boundary entries
+unfoldable pub boundaryAt : ℕ → List ℕ → List Side
+boundaryAt n outline = tab n (sideRow (length outline / 2) outline)
+
+-- the mesh that the fronts of seven blocks hold
+unfoldable pub meshAt : Counts → List Float → List ℕ → List ℕ → List Float → List ℕ → List Float → List ℕ → Mesh
+meshAt k points roots corners volumes ends lengths outline =
+    record {
+      particles = particlesAt (k .particles) points roots;
+      triangles = trianglesAt (k .triangles) corners volumes;
+      edges = edgesAt (k .edges) ends lengths;
+      boundary = boundaryAt (k .boundary) outline;
+    }

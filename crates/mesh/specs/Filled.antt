@@ -1,0 +1,98 @@
+-- What a call leaves in the lent blocks: a mesh and a log in their fronts, and 0 in every place behind. Definitions only.
+use Prim.Native.Nat.{ℕ, zero, suc, _/_, _≤_}
+use mathlib.Core.Path.{_≡_}
+use mathlib.Core.List.{List, map}
+use lib.ListN.{length}
+use lib.Ieee.{Float}
+use Rattle.lists.specs.Lists.{padded}
+use Rattle.float.specs.Numbers.{zero32}
+use Rattle.columns.specs.Block.{blockOf}
+use Rattle.model.specs.Mesh.{Particle, Triangle, Edge, Side}
+use Rattle.mesh.specs.Log.{World, wordsIn}
+use Rattle.mesh.specs.Given.{Lent}
+use Rattle.mesh.specs.declared.Counts.{Counts}
+
+-- ---- the columns of each block, by their numbers
+
+-- of points
+abbrev pub pointOf : ℕ → Particle → Float
+pointOf zero p = p .x
+pointOf (suc zero) p = p .y
+pointOf (suc (suc zero)) p = p .rest-x
+pointOf (suc (suc (suc zero))) p = p .rest-y
+pointOf (suc (suc (suc (suc zero)))) p = p .mass
+pointOf (suc (suc (suc (suc (suc c))))) p = p .inv
+
+-- of roots
+abbrev pub rootOf : ℕ → Particle → ℕ
+rootOf zero p = p .root
+rootOf (suc c) p = p .damaged
+
+-- of corners
+abbrev pub cornerOf : ℕ → Triangle → ℕ
+cornerOf zero t = t .a
+cornerOf (suc zero) t = t .b
+cornerOf (suc (suc c)) t = t .c
+
+-- of volumes
+abbrev pub volumeOf : ℕ → Triangle → Float
+volumeOf zero t = t .volume
+volumeOf (suc c) t = t .stress
+
+-- of ends
+abbrev pub endOf : ℕ → Edge → ℕ
+endOf zero e = e .a
+endOf (suc zero) e = e .b
+endOf (suc (suc zero)) e = e .structural
+endOf (suc (suc (suc c))) e = e .torn
+
+-- of lengths
+abbrev pub lengthOf : ℕ → Edge → Float
+lengthOf zero e = e .rest
+lengthOf (suc zero) e = e .initial
+lengthOf (suc (suc zero)) e = e .impulse
+lengthOf (suc (suc (suc c))) e = e .stress
+
+-- of the outline
+abbrev pub sideOf : ℕ → Side → ℕ
+sideOf zero s = s .a
+sideOf (suc c) s = s .b
+
+-- ---- lent blocks
+
+-- every place of the lent blocks: the columns of the mesh and the words of the log at the fronts, and 0 in every place behind them
+pub record Filled (W : World) (L : Lent) (p : List Float) (r c : List ℕ) (v : List Float) (e : List ℕ) (l : List Float) (o g : List ℕ) : Type 0 where
+  pub points : p ≡ blockOf (L .points) 6 (L .points / 6) zero32 (λ k. map (pointOf k) (W .mesh .particles))
+  pub roots : r ≡ blockOf (L .roots) 2 (L .roots / 2) 0 (λ k. map (rootOf k) (W .mesh .particles))
+  pub corners : c ≡ blockOf (L .corners) 3 (L .corners / 3) 0 (λ k. map (cornerOf k) (W .mesh .triangles))
+  pub volumes : v ≡ blockOf (L .volumes) 2 (L .volumes / 2) zero32 (λ k. map (volumeOf k) (W .mesh .triangles))
+  pub ends : e ≡ blockOf (L .ends) 4 (L .ends / 4) 0 (λ k. map (endOf k) (W .mesh .edges))
+  pub lengths : l ≡ blockOf (L .lengths) 4 (L .lengths / 4) zero32 (λ k. map (lengthOf k) (W .mesh .edges))
+  pub outline : o ≡ blockOf (L .outline) 2 (L .outline / 2) 0 (λ k. map (sideOf k) (W .mesh .boundary))
+  pub log : g ≡ padded (L .log) 0 (wordsIn (W .log))
+
+-- the counts fit the lent columns
+pub record Fits (k : Counts) (L : Lent) : Type 0 where
+  pub points : k .particles ≤ L .points / 6
+  pub roots : k .particles ≤ L .roots / 2
+  pub corners : k .triangles ≤ L .corners / 3
+  pub volumes : k .triangles ≤ L .volumes / 2
+  pub ends : k .edges ≤ L .ends / 4
+  pub lengths : k .edges ≤ L .lengths / 4
+  pub outline : k .boundary ≤ L .outline / 2
+  pub log : k .log ≤ L .log / 6
+
+-- each block of the input has no longer columns than the one lent for it
+pub record Holds (I L : Lent) : Type 0 where
+  pub points : I .points / 6 ≤ L .points / 6
+  pub roots : I .roots / 2 ≤ L .roots / 2
+  pub corners : I .corners / 3 ≤ L .corners / 3
+  pub volumes : I .volumes / 2 ≤ L .volumes / 2
+  pub ends : I .ends / 4 ≤ L .ends / 4
+  pub lengths : I .lengths / 4 ≤ L .lengths / 4
+  pub outline : I .outline / 2 ≤ L .outline / 2
+
+-- the lengths of eight lent blocks
+abbrev pub lent : List Float → List ℕ → List ℕ → List Float → List ℕ → List Float → List ℕ → List ℕ → Lent
+lent p r c v e l o g =
+    record { points = length p; roots = length r; corners = length c; volumes = length v; ends = length e; lengths = length l; outline = length o; log = length g }

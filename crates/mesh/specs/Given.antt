@@ -1,0 +1,73 @@
+-- An input: seven blocks, their sizes, the mesh that they are; and the rooms of lent blocks. Definitions only.
+use Prim.Native.Nat.{ℕ, _/_, _%_, min}
+use mathlib.Core.Bool.{Bool, _&&_}
+use mathlib.Core.List.{List}
+use lib.ListN.{length}
+use lib.Dec.{eqb, leb}
+use lib.Ieee.{Float}
+use Rattle.model.specs.Mesh.{Mesh}
+use Rattle.mesh.specs.At.{meshAt}
+use Rattle.mesh.specs.declared.Counts.{Counts}
+use Rattle.mesh.specs.declared.Rooms.{Rooms}
+
+-- the blocks of an input
+pub record Given : Type 0 where
+  pub points : List Float
+  pub roots : List ℕ
+  pub corners : List ℕ
+  pub volumes : List Float
+  pub ends : List ℕ
+  pub lengths : List Float
+  pub outline : List ℕ
+
+-- seven blocks as an input
+abbrev pub given : List Float → List ℕ → List ℕ → List Float → List ℕ → List Float → List ℕ → Given
+given p r c v e l o = record { points = p; roots = r; corners = c; volumes = v; ends = e; lengths = l; outline = o }
+
+-- how many rows each list has, by the length of its first block
+abbrev pub sizes : Given → Counts
+sizes G = record { particles = length (G .points) / 6; triangles = length (G .corners) / 3; edges = length (G .ends) / 4; boundary = length (G .outline) / 2; log = 0 }
+
+-- the mesh that an input is
+unfoldable pub meshOf : Given → Mesh
+meshOf G = meshAt (sizes G) (G .points) (G .roots) (G .corners) (G .volumes) (G .ends) (G .lengths) (G .outline)
+
+-- ---- 1: sizes
+
+-- two blocks of one list have columns of a and of b places, with `over` places left over: nothing is left over, and the columns are equally long, at most the limit
+unfoldable pub listFits : ℕ → ℕ → ℕ → ℕ → ℕ → Bool
+listFits limit overA a overB b = eqb overA 0 && eqb overB 0 && eqb a b && leb a limit
+
+-- at most 1,024 particles, 1,024 triangles, 2,048 edges and 2,048 boundary entries, and each list's columns equally long
+unfoldable pub lengthsFit : ℕ → ℕ → ℕ → ℕ → ℕ → ℕ → ℕ → Bool
+lengthsFit lp lr lc lv le ll lo =
+    listFits 1024 (lp % 6) (lp / 6) (lr % 2) (lr / 2) && listFits 1024 (lc % 3) (lc / 3) (lv % 2) (lv / 2) && listFits 2048 (le % 4) (le / 4) (ll % 4) (ll / 4)
+    && listFits 2048 (lo % 2) (lo / 2) 0 (lo / 2)
+
+-- the same of an input's blocks
+abbrev pub sizesFit : Given → Bool
+sizesFit G = lengthsFit (length (G .points)) (length (G .roots)) (length (G .corners)) (length (G .volumes)) (length (G .ends)) (length (G .lengths)) (length (G .outline))
+
+-- ---- the rooms of lent blocks
+
+-- how many places each lent block has
+pub record Lent : Type 0 where
+  pub points : ℕ
+  pub roots : ℕ
+  pub corners : ℕ
+  pub volumes : ℕ
+  pub ends : ℕ
+  pub lengths : ℕ
+  pub outline : ℕ
+  pub log : ℕ
+
+-- a list's room is its shortest lent column, and at most the limit
+abbrev pub roomsOf : Lent → Rooms
+roomsOf L =
+    record {
+      particles = min 1024 (min (L .points / 6) (L .roots / 2));
+      triangles = min 1024 (min (L .corners / 3) (L .volumes / 2));
+      edges = min 2048 (min (L .ends / 4) (L .lengths / 4));
+      boundary = min 2048 (L .outline / 2);
+      log = min 4096 (L .log / 6);
+    }

@@ -1,0 +1,69 @@
+-- Helpers that only the workers' contracts and their proofs need: one row copied, the marked edges gone, corners rewired, and the room for it. Nothing here has to be believed.
+use Prim.Native.Nat.{ℕ, _+_, _-_, _/_, _≤_, _<_}
+use mathlib.Core.Path.{_≡_}
+use mathlib.Core.List.{List, [], _∷_, _++_}
+use lib.ListN.{length, getD}
+use lib.Dec.{eqb}
+use lib.Ieee.{Float}
+use Rattle.lists.specs.Lists.{pick, keep, keptOf, mapAt}
+use Rattle.lists.specs.Labels.{replaced}
+use Rattle.model.specs.Mesh.{Particle, Triangle, Edge, blank}
+use Rattle.mesh.specs.At.{trianglesAt}
+use Rattle.mesh.specs.declared.EdgeRow.{EdgeRow}
+
+-- p with another mass and inverse mass
+abbrev pub weighed : Float → Float → Particle → Particle
+weighed m w p = record { x = p .x; y = p .y; rest-x = p .rest-x; rest-y = p .rest-y; mass = m; inv = w; root = p .root; damaged = p .damaged }
+
+-- the particles with a copy of v behind them, of mass m and inverse mass w
+unfoldable pub copied : ℕ → Float → Float → List Particle → List Particle
+copied v m w ps = ps ++ (weighed m w (getD ps v blank) ∷ [])
+
+-- t with w for each corner v
+abbrev pub retargeted : ℕ → ℕ → Triangle → Triangle
+retargeted v w t = record { a = replaced v w (t .a); b = replaced v w (t .b); c = replaced v w (t .c); volume = t .volume; stress = t .stress }
+
+-- g at place e alone
+abbrev pub onlyAt : {A : Type 0} → ℕ → (A → A) → ℕ → A → A
+onlyAt e g k t = pick (eqb k e) (g t) t
+
+-- the group of triangle k, for a fan of elements with their groups, or 0 where k is none of them
+unfoldable pub groupOf : List ℕ → List ℕ → ℕ → ℕ
+groupOf [] gs k = 0
+groupOf (e ∷ es) [] k = 0
+groupOf (e ∷ es) (g ∷ gs) k = pick (eqb e k) g (groupOf es gs k)
+
+-- group 0 keeps v, and the copy of group g is the particle n - 1 + g, where n particles were there before
+abbrev pub copyFor : ℕ → ℕ → ℕ → ℕ
+copyFor v n g = pick (eqb g 0) v (n + g - 1)
+
+-- a struct of the program as an edge of the mesh
+abbrev pub edgeOf : EdgeRow → Edge
+edgeOf r = record { a = r .a; b = r .b; structural = r .structural; torn = r .torn; rest = r .rest; initial = r .initial; impulse = r .impulse; stress = r .stress }
+
+-- n particles have room in blocks of lp and lr places
+pub record ParticleRoom (n lp lr : ℕ) : Type 0 where
+  pub points : n ≤ lp / 6
+  pub roots : n ≤ lr / 2
+
+-- n edges have room in blocks of le and ll places
+pub record EdgeRoom (n le ll : ℕ) : Type 0 where
+  pub ends : n ≤ le / 4
+  pub lengths : n ≤ ll / 4
+
+-- the marked edges are gone, and r are left
+pub record Removed (mask : List ℕ) (n r : ℕ) (before after : List Edge) : Type 0 where
+  pub count : r ≡ keptOf mask n
+  pub edges : after ≡ keep mask before
+
+-- the corners changed as g changes each triangle by its number, for any number of triangles and whatever stands in the other block
+pub record Mapped (g : ℕ → Triangle → Triangle) (corners corners′ : List ℕ) : Type 0 where
+  pub triangles : (n : ℕ) (volumes : List Float) → n ≤ length corners / 3 → trianglesAt n corners′ volumes ≡ mapAt g (trianglesAt n corners volumes)
+
+-- a fan that the corners hold: its elements are triangles, no two the same, with a group for each
+pub record FanOk (n : ℕ) (elements groups : List ℕ) (lc : ℕ) : Type 0 where
+  pub some : 0 < n
+  pub paired : length elements ≡ length groups
+  pub distinct : (i j : ℕ) → i < j → j < length elements → getD elements i 0 ≡ getD elements j 0 → ⊥
+  pub within : (i : ℕ) → i < length elements → getD elements i 0 < lc / 3
+  pub small : (i : ℕ) → i < length elements → n + getD groups i 0 ≤ 65536

@@ -1,0 +1,34 @@
+// Seven blocks of columns held as a mesh, with the log beside them: its rows changed, the whole copied and finished, its input checked.
+pub mod checks;
+pub mod rows;
+pub mod whole;
+
+// How many of each list's places are in use.
+pub struct Counts {
+    pub particles: usize,
+    pub triangles: usize,
+    pub edges: usize,
+    pub boundary: usize,
+    pub log: usize,
+}
+
+// How many rows each list has room for.
+pub struct Rooms {
+    pub particles: usize,
+    pub triangles: usize,
+    pub edges: usize,
+    pub boundary: usize,
+    pub log: usize,
+}
+
+// One edge.
+pub struct EdgeRow {
+    pub a: usize,
+    pub b: usize,
+    pub structural: usize,
+    pub torn: usize,
+    pub rest: f32,
+    pub initial: f32,
+    pub impulse: f32,
+    pub stress: f32,
+}

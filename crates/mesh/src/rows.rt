@@ -1,0 +1,120 @@
+// Workers on the rows of the blocks: each states the view of what it is lent, and requires the room.
+ghost use mathlib.Core.Path.{_≡_};
+ghost use Prim.Native.Nat.{ℕ, _+_, _-_, _*_, _/_, _<_, _≤_};
+ghost use mathlib.Core.List.{List, [], _∷_, _++_};
+ghost use lib.ListN.{length, getD, set};
+ghost use lib.Ieee.{Float};
+ghost use Rattle.lists.specs.Labels.{replaced};
+ghost use Rattle.mesh.specs.At.{particlesAt, edgesAt};
+ghost use Rattle.mesh.specs.Log.{logAt};
+ghost use Rattle.mesh.specs.Workers.{copied, retargeted, onlyAt, copyFor, groupOf, edgeOf, ParticleRoom, EdgeRoom, Removed, Mapped, FanOk};
+use crate::EdgeRow;
+
+// Appends to the n particles a copy of v, of mass m and inverse mass w.
+pub fn append_copy(v: usize, n: usize, m: f32, w: f32, points: &mut [f32], roots: &mut [usize])
+    requires { ⌜ (v < n) × ParticleRoom (n + 1) (length (now points)) (length (now roots)) ⌝ }
+    ensures { λ _. ⌜ particlesAt (n + 1) (now (points .exit)) (now (roots .exit)) ≡ copied v m w (particlesAt n (now (points .entry)) (now (roots .entry))) ⌝ }
+{
+    let p = points.len() / 6;
+    let r = roots.len() / 2;
+    columns::copy_row_f32(v, n, 6, p, points);
+    points[4 * p + n] = m;
+    points[5 * p + n] = w;
+    columns::copy_row_usize(v, n, 2, r, roots);
+}
+
+// Removes the marked edges from the first n, and returns how many are left.
+pub fn remove_edges(mask: &[usize], n: usize, ends: &mut [usize], lengths: &mut [f32]) -> usize
+    requires { ⌜ (n ≤ length (now mask)) × EdgeRoom n (length (now ends)) (length (now lengths)) ⌝ }
+    ensures { λ r. ⌜ Removed (now (mask .entry)) n r (edgesAt n (now (ends .entry)) (now (lengths .entry))) (edgesAt r (now (ends .exit)) (now (lengths .exit))) ⌝ }
+{
+    let e = ends.len() / 4;
+    let l = lengths.len() / 4;
+    columns::keep_block_usize(mask, n, 4, e, ends);
+    columns::keep_block_f32(mask, n, 4, l, lengths)
+}
+
+// Appends an edge to the n that are there.
+pub fn append_edge(n: usize, row: EdgeRow, ends: &mut [usize], lengths: &mut [f32])
+    requires { ⌜ EdgeRoom (n + 1) (length (now ends)) (length (now lengths)) ⌝ }
+    ensures { λ _. ⌜ edgesAt (n + 1) (now (ends .exit)) (now (lengths .exit)) ≡ edgesAt n (now (ends .entry)) (now (lengths .entry)) ++ (edgeOf row ∷ []) ⌝ }
+{
+    let e = ends.len() / 4;
+    let l = lengths.len() / 4;
+    ends[n] = row.a;
+    ends[e + n] = row.b;
+    ends[2 * e + n] = row.structural;
+    ends[3 * e + n] = row.torn;
+    lengths[n] = row.rest;
+    lengths[l + n] = row.initial;
+    lengths[2 * l + n] = row.impulse;
+    lengths[3 * l + n] = row.stress;
+}
+
+// The number that stands for v in group g, where n particles were there before the copies.
+fn copy_for(v: usize, n: usize, g: usize) -> usize
+    requires { ⌜ (0 < n) × (n + g ≤ 65536) ⌝ }
+    ensures { λ r. ⌜ r ≡ copyFor v n g ⌝ }
+{
+    if g == 0 { v } else { n + g - 1 }
+}
+
+// Puts w for v at place e of a list.
+fn replace_at(s: &mut [usize], e: usize, v: usize, w: usize)
+    requires { ⌜ e < length (now s) ⌝ }
+    ensures { λ _. ⌜ now (s .exit) ≡ set (now (s .entry)) e (replaced v w (getD (now (s .entry)) e 0)) ⌝ }
+{
+    if s[e] == v {
+        s[e] = w;
+    }
+}
+
+// Puts w for v in the corners of triangle e.
+fn retarget(e: usize, v: usize, w: usize, corners: &mut [usize])
+    requires { ⌜ e < length (now corners) / 3 ⌝ }
+    ensures { λ _. ⌜ Mapped (onlyAt e (retargeted v w)) (now (corners .entry)) (now (corners .exit)) ⌝ }
+{
+    let c = corners.len() / 3;
+    let f = c + e;
+    let g = 2 * c + e;
+    replace_at(corners, e, v, w);
+    replace_at(corners, f, v, w);
+    replace_at(corners, g, v, w);
+}
+
+// Puts the copies of the fan's groups for v in the corners of its triangles.
+pub fn rewire(v: usize, n: usize, elements: &[usize], groups: &[usize], corners: &mut [usize])
+    requires { ⌜ FanOk n (now elements) (now groups) (length (now corners)) ⌝ }
+    ensures { λ _. ⌜ Mapped (λ k. retargeted v (copyFor v n (groupOf (now (elements .entry)) (now (groups .entry)) k))) (now (corners .entry)) (now (corners .exit)) ⌝ }
+{
+    let mut i: usize = 0;
+    while i < elements.len() {
+        let e = elements[i];
+        let w = copy_for(v, n, groups[i]);
+        retarget(e, v, w, corners);
+        i += 1;
+    }
+}
+
+// Writes the six words of an entry behind the n that are there.
+pub fn note(
+    n: usize,
+    kind: usize,
+    a: usize,
+    b: usize,
+    p: usize,
+    q: usize,
+    t: usize,
+    log: &mut [usize],
+)
+    requires { ⌜ n < length (now log) / 6 ⌝ }
+    ensures { λ _. ⌜ logAt (n + 1) (now (log .exit)) ≡ logAt n (now (log .entry)) ++ (record { kind = kind; a = a; b = b; p = p; q = q; t = t } ∷ []) ⌝ }
+{
+    let o = 6 * n;
+    log[o] = kind;
+    log[o + 1] = a;
+    log[o + 2] = b;
+    log[o + 3] = p;
+    log[o + 4] = q;
+    log[o + 5] = t;
+}
