@@ -1,0 +1,2 @@
+-- The elements of a mesh in tables.
+pub mod Table
