@@ -1,0 +1,2 @@
+-- A split to be made, in tables.
+pub mod Opened

@@ -1,0 +1,1 @@
+// A split to be made, read off the tables of a fan and its groups: weights, rings, directions.

@@ -1,0 +1,2 @@
+-- What each list of a mesh becomes in a split, as the workers promise it.
+pub mod Stages

@@ -1,0 +1,77 @@
+-- The stages of a split, each the model's equation on one list. Only contracts between workers need this file. Definitions only.
+use Prim.Native.Nat.{ℕ, _+_, _-_, _*_, _/_, _<_, _≤_}
+use mathlib.Core.Path.{_≡_}
+use mathlib.Core.Bool.{Bool, true, false, not}
+use mathlib.Core.List.{List, [], map}
+use lib.ListN.{length, getD, take}
+use lib.Dec.{leb}
+use lib.Ieee.{Float}
+use Rattle.lists.specs.Lists.{pick, upTo, tab, each, keep}
+use Rattle.model.specs.Mesh.{Particle, Triangle, Edge, Side, Mesh}
+use Rattle.model.specs.Elements.{Kind, Triangles, Straps, Nothing}
+use Rattle.model.specs.Split.{Opening, weightOf, totalOf, copied, rewiredTriangles, rewiredStraps, otherEdges, straddles, followed, crackFacets}
+use Rattle.mesh.specs.At.{particlesAt, trianglesAt, edgesAt, boundaryAt}
+use Rattle.opening.specs.Opened.{Ringed, Numbered, RestsIn}
+use Rattle.rewire.specs.declared.Grown.{Grown}
+use Rattle.rewire.specs.declared.Grown.the-variants.{Lacking, Rows}
+
+-- ---- 1: particles
+
+-- an opening at v of so many groups, whose weights and total these are
+pub record WeightedBy (O : Opening) (v count : ℕ) (weights : List Float) (total : Float) : Type 0 where
+  pub at : O .v ≡ v
+  pub groups : O .count ≡ count
+  pub weights-are : take count weights ≡ map (weightOf (O .fan)) (upTo count)
+  pub total-is : total ≡ totalOf O
+
+-- v has the mass of group 0 and the copies stand behind the n particles
+pub record ParticlesCopied (v n count : ℕ) (weights : List Float) (total : Float) (points points′ : List Float) (roots roots′ : List ℕ) : Type 0 where
+  pub particles : (O : Opening) → WeightedBy O v count weights total → particlesAt (n + count - 1) points′ roots′ ≡ copied O (particlesAt n points roots)
+
+-- ---- 2: elements
+
+-- an opening at v with so many particles before it, whose parts' numbers and groups these are
+pub record PartsBy (O : Opening) (v before n : ℕ) (numbers groups : List ℕ) : Type 0 where
+  pub at : O .v ≡ v
+  pub before-is : O .before ≡ before
+  pub numbered : Numbered O n numbers
+  pub size : length (O .fan) ≡ n
+  pub group-is : (i : ℕ) → i < n → getD (map (λ (p : _). p .group) (O .fan)) i 0 ≡ getD groups i 0
+
+-- the triangles of the fan have their groups' copies for v
+pub record TrianglesRewired (v before n : ℕ) (numbers groups corners corners′ : List ℕ) : Type 0 where
+  pub triangles :
+      (O : Opening) (t : ℕ) (volumes : List Float) → PartsBy O v before n numbers groups → t ≤ length corners / 3
+      → trianglesAt t corners′ volumes ≡ rewiredTriangles Triangles O (trianglesAt t corners volumes)
+
+-- the straps of the fan have their groups' copies for v
+pub record StrapsRewired (v before n : ℕ) (numbers groups ends ends′ : List ℕ) : Type 0 where
+  pub straps :
+      (O : Opening) (e : ℕ) (lengths : List Float) → PartsBy O v before n numbers groups → e ≤ length ends / 4
+      → edgesAt e ends′ lengths ≡ rewiredStraps Straps O (edgesAt e ends lengths)
+
+-- ---- 3 to 6: an opening in tables, and a mesh whose first p particles rest as the points say
+
+pub record OpeningIn (O : Opening) (M : Mesh) (v before k n count p : ℕ) (verts groups : List ℕ) (points : List Float) : Type 0 where
+  pub at : O .v ≡ v
+  pub before-is : O .before ≡ before
+  pub count-is : O .count ≡ count
+  pub ringed : Ringed k O n verts groups
+  pub rests : RestsIn M p points
+
+-- rows that grew from e to what the list l is, where `room` is enough for it
+abbrev pub GrownTo : {A : Type 0} → Grown → ℕ → List A → (ℕ → List A) → Type 0
+GrownTo Lacking room l rows = leb (length l) room ≡ false
+GrownTo (Rows r) room l rows = (leb (length l) room ≡ true) × (r ≡ length l) × (rows r ≡ l)
+
+-- the other edges at v stay in the lowest of their groups, and their copies stand behind the edges
+pub record EdgesGrown (K : Kind) (v before k n count p e room : ℕ) (verts groups : List ℕ) (points : List Float) (ends ends′ : List ℕ) (lengths lengths′ : List Float) (r : Grown) : Type 0 where
+  pub edges :
+      (O : Opening) (M : Mesh) → OpeningIn O M v before k n count p verts groups points
+      → GrownTo r room (otherEdges K M O (edgesAt e ends lengths)) (λ m. edgesAt m ends′ lengths′)
+
+-- the boundary entries at v follow, and the crack facets stand behind them
+pub record SidesFollowed (v before k n count p b : ℕ) (verts groups : List ℕ) (points : List Float) (outline outline′ : List ℕ) : Type 0 where
+  pub sides :
+      (O : Opening) (M : Mesh) → OpeningIn O M v before k n count p verts groups points
+      → boundaryAt b outline′ ≡ map (followed M O) (boundaryAt b outline)
