@@ -1,15 +1,18 @@
 -- Where no element names a vertex twice, two elements share as many of the one as of the other: neighbours need no order.
 -- Assumes nothing.
-use mathlib.Core.Path.{_≡_, refl, sym, _∙_, ap}
+use mathlib.Core.Path.{_≡_, refl, sym, _∙_, ap, ap₂}
 use mathlib.Core.Bool.{Bool, true, false}
 use mathlib.Core.List.{List, [], _∷_}
-use Prim.Native.Nat.{ℕ, suc, _+_}
+use Prim.Native.Nat.{ℕ, suc, _+_, _<_}
 use native.Mathlib.Omega.{arith}
-use native.Mathlib.Decide.{ℕ-discrete}
+use native.Mathlib.Decide.{ℕ-discrete, decLt}
 use borrow.Author.Tests.{eq-eqb, ne-eqb}
-use lib.Dec.{eqb}
+use lib.Dec.{eqb, leb}
 use Rattle.lists.specs.Lists.{pick, stands}
-use Rattle.fan.specs.Fan.{sharedOthers, Distinct}
+use Rattle.lists.specs.Chain.{Chain, stay, ahead, back}
+use Rattle.lists.proofs.Chains.{chain-to}
+use Rattle.fan.specs.Fan.{Fan, Near, size, side, element, sharedOthers, nearTest, Distinct}
+use Rattle.fan.proofs.Shared.{near-yes}
 
 -- what one vertex adds
 abbrev hit : ℕ → ℕ → Bool → ℕ
@@ -56,3 +59,23 @@ shared-either v (x ∷ a) b da db =
     let i = shared-either v a b (da .1) db in
     let j = shared-right v x a b (da .0) db in
     omega arith
+
+eqb-either : (a b : ℕ) → eqb a b ≡ eqb b a
+eqb-either a b = elim (ℕ-discrete a b) [ yes e ↦ rw e | no ne ↦ ne-eqb a b ne ∙ sym (ne-eqb b a (λ e. ne (sym e))) ]
+
+-- the test of neighbours needs no order
+pub near-either : (F : Fan) (i j : ℕ) → Distinct (element F i) → Distinct (element F j) → nearTest F i j ≡ nearTest F j i
+near-either F i j di dj =
+    ap₂ (λ (s : Bool) (n : ℕ). pick s (leb (F .needed) n) false) (eqb-either (side F i) (side F j)) (shared-either (F .v) (element F i) (element F j) di dj)
+
+-- so two elements that pass it, in whichever order, are joined
+pub near-joined : (F : Fan) (i j : ℕ) → i < size F → j < size F → Distinct (element F i) → Distinct (element F j) → nearTest F i j ≡ true → Chain (Near F) i j
+near-joined F i j l m di dj t =
+    elim (ℕ-discrete i j) [
+      | yes e ↦ chain-to e stay
+      | no ne ↦
+          elim (decLt i j) [
+            | yes o ↦ ahead (near-yes F i j o m t) stay
+            | no nl ↦ back (near-yes F j i (omega arith) l (sym (near-either F i j di dj) ∙ t)) stay
+          ]
+    ]
