@@ -26,10 +26,10 @@ use Rattle.fan.proofs.Shared.{near-yes, near-test}
 -- ---- labels
 
 -- a chain of pairs that the test joins is one of neighbours, and the other way round
-joins-near : (F : Fan) (i j : ℕ) → Chain (Joins (nearTest F) (size F)) i j → Chain (Near F) i j
+pub joins-near : (F : Fan) (i j : ℕ) → Chain (Joins (nearTest F) (size F)) i j → Chain (Near F) i j
 joins-near F i j c = chain-map (λ a b k. ahead (near-yes F a b (k .order) (k .within) (k .joined)) stay) c
 
-near-joins : (F : Fan) (i j : ℕ) → Chain (Near F) i j → Chain (Joins (nearTest F) (size F)) i j
+pub near-joins : (F : Fan) (i j : ℕ) → Chain (Near F) i j → Chain (Joins (nearTest F) (size F)) i j
 near-joins F i j c = chain-map (λ a b k. ahead (record { order = k .order; within = k .within; joined = near-test F a b k }) stay) c
 
 -- the labels are the first elements
