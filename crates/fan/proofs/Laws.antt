@@ -1,45 +1,20 @@
--- Laws of chains, of parent tables and of groupings.
+-- Laws of groupings, of parent tables and of forests.
 -- Assumes nothing.
-use mathlib.Core.Path.{_≡_, refl, sym, _∙_, ap, subst}
+use mathlib.Core.Path.{_≡_, refl, sym, _∙_}
 use mathlib.Core.Logic.{_⊎_, inl, inr, ⊎-elim}
-use mathlib.Core.List.{List, [], _∷_}
+use mathlib.Core.List.{List}
 use Prim.Native.Nat.{ℕ, zero, suc, _+_, _<_, _≤_}
 use native.Mathlib.Omega.{arith}
 use native.Mathlib.Nat.{not-suc-le-zero}
-use native.Mathlib.Decide.{decLt, decLe, ℕ-discrete}
+use native.Mathlib.Decide.{ℕ-discrete}
 use lib.ListN.{length, getD, set, length-set}
 use lib.Seq.{getD-set-same, getD-set-other, ext-getD, set-getD}
 use Rattle.lists.specs.Chain.{Chain, stay, ahead, back}
+use Rattle.lists.proofs.Chains.{chain-trans, chain-sym, chain-map, chain-to}
+use Rattle.lists.proofs.Stores.{stored, at-eq}
 use Rattle.fan.specs.Fan.{Fan, Near, size, side}
-use Rattle.fan.specs.Grouping.{Passed, Before, Grouping, Firsts}
-use Rattle.fan.specs.Forest.{Up, Down, Kept, Found, UpOr, Joined, Forest}
-
--- Chains.
-
-pub chain-trans : {R : ℕ → ℕ → Type 0} {i j k : ℕ} → Chain R i j → Chain R j k → Chain R i k
-chain-trans stay d = d
-chain-trans (ahead r c) d = ahead r (chain-trans c d)
-chain-trans (back r c) d = back r (chain-trans c d)
-
-pub chain-sym : {R : ℕ → ℕ → Type 0} {i j : ℕ} → Chain R i j → Chain R j i
-chain-sym stay = stay
-chain-sym (ahead r c) = chain-trans (chain-sym c) (back r stay)
-chain-sym (back r c) = chain-trans (chain-sym c) (ahead r stay)
-
--- where each step of R is a chain of S, so is each chain of R
-pub chain-map : {R S : ℕ → ℕ → Type 0} → ((a b : ℕ) → R a b → Chain S a b) → {i j : ℕ} → Chain R i j → Chain S i j
-chain-map f stay = stay
-chain-map f (ahead r c) = chain-trans (f _ _ r) (chain-map f c)
-chain-map f (back r c) = chain-trans (chain-sym (f _ _ r)) (chain-map f c)
-
--- what each step of R keeps, a chain keeps
-pub chain-keeps : {R : ℕ → ℕ → Type 0} (f : ℕ → ℕ) → ((a b : ℕ) → R a b → f a ≡ f b) → {i j : ℕ} → Chain R i j → f i ≡ f j
-chain-keeps f h stay = refl
-chain-keeps f h (ahead r c) = h _ _ r ∙ chain-keeps f h c
-chain-keeps f h (back r c) = sym (h _ _ r) ∙ chain-keeps f h c
-
-pub chain-to : {R : ℕ → ℕ → Type 0} {i j k : ℕ} → j ≡ k → Chain R i j → Chain R i k
-chain-to {R} {i} e c = subst (λ (m : ℕ). Chain R i m) e c
+use Rattle.fan.specs.Grouping.{Before, Grouping}
+use Rattle.fan.specs.Forest.{Up, Down, Kept, UpOr, Joined, Forest}
 
 -- A grouping is the only one.
 
@@ -92,15 +67,6 @@ count-unique F g h m n G H =
     let b : n < m → ⊥ = count-not-below F g n m H′ G in
     omega (arith, a, b)
 
--- One store in a table: at the place, and at every other.
-pub stored : (l : List ℕ) (i x j : ℕ) → i < length l
-    → ((j ≡ i) × (getD (set l i x) j 0 ≡ x)) ⊎ ((j ≡ i → ⊥) × (getD (set l i x) j 0 ≡ getD l j 0))
-stored l i x j h =
-    elim (ℕ-discrete j i) [
-      | yes e ↦ inl (e, rw e (getD-set-same l i x 0 h))
-      | no ne ↦ inr (ne, getD-set-other l i j x 0 ne)
-    ]
-
 -- Parent tables.
 
 pub kept-refl : (p : List ℕ) → Down p → Kept p p
@@ -115,9 +81,6 @@ kept-trans A B =
       only = λ a b u. chain-map (A .only) (B .only a b u);
       tops = λ a e. B .tops a (A .tops a e);
     }
-
-pub at-eq : (l : List ℕ) {a b : ℕ} → a ≡ b → getD l a 0 ≡ getD l b 0
-at-eq l e = ap (λ (m : ℕ). getD l m 0) e
 
 -- an element that is no root is given its parent's parent
 halved : (p : List ℕ) (i : ℕ) → Down p → i < length p → (getD p i 0 ≡ i → ⊥) → Kept p (set p i (getD p (getD p i 0) 0))

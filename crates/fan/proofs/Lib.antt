@@ -2,6 +2,6 @@
 pub mod Laws
 pub mod Numbering
 pub mod Shared
-pub mod Cases
 pub mod Either
 pub mod Grouped
+pub mod Cases

@@ -1,20 +1,22 @@
 -- Laws of the numbering by first appearance, over a table of first elements.
 -- Assumes nothing.
-use mathlib.Core.Path.{_≡_, refl, sym, _∙_, ap, subst}
+use mathlib.Core.Path.{_≡_, refl, sym, _∙_, subst}
 use mathlib.Core.Logic.{_⊎_, inl, inr, ⊎-elim}
-use mathlib.Core.List.{List, [], _∷_}
-use Prim.Native.Nat.{ℕ, zero, suc, _+_, _<_, _≤_}
+use mathlib.Core.List.{List}
+use Prim.Native.Nat.{ℕ, _+_, _<_, _≤_}
 use native.Mathlib.Omega.{arith}
 use native.Mathlib.Nat.{not-suc-le-zero}
-use native.Mathlib.Decide.{ℕ-discrete, decLt}
+use native.Mathlib.Decide.{ℕ-discrete}
 use lib.ListN.{length, getD, set, length-set}
-use lib.Seq.{getD-set-same, getD-set-other, ext-getD}
-use Rattle.lists.specs.Chain.{Chain, stay, ahead, back}
-use Rattle.fan.specs.Fan.{Fan, Near, size, side}
+use lib.Seq.{getD-set-same, getD-set-other}
+use Rattle.lists.specs.Chain.{Chain}
+use Rattle.lists.proofs.Chains.{chain-map, chain-keeps}
+use Rattle.lists.proofs.Stores.{at-eq}
+use Rattle.lists.proofs.Labelled.{lowest-down, lowest-same, lowest-chain, lowest-flat}
+use Rattle.fan.specs.Fan.{Fan, size, side}
 use Rattle.fan.specs.Grouping.{Passed, Before, Grouping, Firsts}
 use Rattle.fan.specs.Parts.{Part, Tops}
-use Rattle.fan.specs.Forest.{Up, Down, Kept, Forest}
-use Rattle.fan.proofs.Laws.{chain-trans, chain-sym, chain-map, chain-keeps, chain-to, stored, at-eq}
+use Rattle.fan.specs.Forest.{Up, Kept, Forest}
 
 -- A flat parent table that joins exactly the neighbours is the table of first elements.
 pub firsts : (F : Fan) (p q : List ℕ) → Forest F (size F) 0 p → Kept p q → ((a : ℕ) → a < size F → getD q (getD q a 0) 0 ≡ getD q a 0) → Firsts F q
@@ -29,26 +31,15 @@ firsts F p q f K flat =
           omega (arith, K .down j (omega arith));
     }
 
-module _ (F : Fan) (p : List ℕ) (T : Firsts F p) where
-  pub firsts-down : (i : ℕ) → i < size F → getD p i 0 ≤ i
-  firsts-down i l = T .least i i l l stay
-
-  pub firsts-same : (i j : ℕ) → i < size F → j < size F → Chain (Near F) i j → getD p i 0 ≡ getD p j 0
-  firsts-same i j l m c =
-      let di : getD p i 0 ≤ i = firsts-down i l in
-      let dj : getD p j 0 ≤ j = firsts-down j m in
-      let a : getD p i 0 ≤ getD p j 0 = T .least i (getD p j 0) l (omega arith) (chain-trans c (T .chain j m)) in
-      let b : getD p j 0 ≤ getD p i 0 = T .least j (getD p i 0) m (omega arith) (chain-trans (chain-sym c) (T .chain i l)) in
-      omega arith
-
-  pub tops : Tops (F .sides) p
-  tops =
-      record {
-        long = T .every;
-        down = firsts-down;
-        flat = λ a l. sym (firsts-same a (getD p a 0) l (let d = firsts-down a l in omega arith) (T .chain a l));
-        alike = λ a l. sym (chain-keeps (λ m. side F m) (λ b c near. near .alike) (T .chain a l));
-      }
+-- The table of first elements is as the numbering needs it.
+pub tops : (F : Fan) (p : List ℕ) → Firsts F p → Tops (F .sides) p
+tops F p T =
+    record {
+      long = T .every;
+      down = lowest-down T;
+      flat = lowest-flat T;
+      alike = λ a l. sym (chain-keeps (λ m. side F m) (λ b c near. near .alike) (T .chain a l));
+    }
 
 -- the same elements passed, said another way
 pub part-same : {sides p groups : List ℕ} {s i t j count : ℕ}
@@ -199,10 +190,9 @@ part-all F p groups count T two P =
     let all : (a : ℕ) → a < size F → Passed (F .sides) 2 0 a = λ a l. (l, inl (two a l)) in
     record {
       every = P .long;
-      joined = λ i j l m e.
-          chain-trans (chain-to (P .apart i j (all i l) (all j m) e) (T .chain i l)) (chain-sym (T .chain j m));
+      joined = λ i j l m e. lowest-chain T i j l m (P .apart i j (all i l) (all j m) e);
       chained = λ i j l m c.
-          P .roots i (all i l) ∙ at-eq groups (firsts-same F p T i j l m c) ∙ sym (P .roots j (all j m));
+          P .roots i (all i l) ∙ at-eq groups (lowest-same T i j l m c) ∙ sym (P .roots j (all j m));
       first = λ i g l m. P .first i g (all i l) m;
       below = λ i l. P .below i (all i l);
       used = λ g m. let u = P .used g m in (u .0, (u .1 .0 .0, u .1 .1));
@@ -210,15 +200,3 @@ part-all F p groups count T two P =
 
 pub part-at : {sides p g h : List ℕ} {s i m n : ℕ} → h ≡ g → n ≡ m → Part sides p s i g m → Part sides p s i h n
 part-at {sides} {p} {g} {h} {s} {i} {m} {n} e f P = rw (e, f) P
-
--- The table of first elements is the only one.
-pub firsts-unique : (F : Fan) (p q : List ℕ) → Firsts F p → Firsts F q → p ≡ q
-firsts-unique F p q T S =
-    ext-getD 0 p q (T .every ∙ sym (S .every))
-    (λ i l′.
-    let l : i < size F = omega (arith, T .every) in
-    let a = firsts-down F p T i l in
-    let b = firsts-down F q S i l in
-    let c = T .least i (getD q i 0) l (omega arith) (S .chain i l) in
-    let d = S .least i (getD p i 0) l (omega arith) (T .chain i l) in
-    omega arith)

@@ -1,4 +1,4 @@
--- A parent table: each element names one that is not above it.
+-- Only proofs need this file: parent tables, in which each element names one that is not above it, and what the private functions that join and flatten promise of them.
 use mathlib.Core.Path.{_≡_}
 use mathlib.Core.Logic.{_⊎_}
 use mathlib.Core.List.{List}
@@ -11,6 +11,7 @@ use Rattle.fan.specs.Fan.{Fan, Near, size}
 abbrev pub Up : List ℕ → ℕ → ℕ → Type 0
 Up p a b = (a < length p) × (getD p a 0 ≡ b)
 
+-- each element's parent is not above it
 abbrev pub Down : List ℕ → Type 0
 Down p = (a : ℕ) → a < length p → getD p a 0 ≤ a
 
@@ -29,6 +30,7 @@ pub record Found (p : List ℕ) (i : ℕ) (q : List ℕ) (r : ℕ) : Type 0 wher
   pub top : getD q r 0 ≡ r
   pub way : Chain (Up q) i r
 
+-- b is a's parent, or the two are i and j
 abbrev pub UpOr : List ℕ → ℕ → ℕ → ℕ → ℕ → Type 0
 UpOr p i j a b = Up p a b ⊎ ((a ≡ i) × (b ≡ j))
 

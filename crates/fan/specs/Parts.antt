@@ -1,4 +1,4 @@
--- Numbering under way: what the functions below assign_groups promise each other. No promise of a public function cites this file.
+-- Only proofs need this file: numbering under way, and what the private functions that number promise each other.
 use mathlib.Core.Path.{_≡_}
 use mathlib.Core.List.{List}
 use Prim.Native.Nat.{ℕ, _<_, _≤_}

@@ -4,7 +4,8 @@ ghost use Prim.Native.Nat.{ℕ, _+_, _*_, _<_, _≤_};
 ghost use lib.ListN.{length, getD};
 ghost use Rattle.lists.specs.Lists.{stands};
 ghost use Rattle.fan.specs.Fan.{fan, sharedOthers, nearTest};
-ghost use Rattle.fan.specs.Grouping.{Grouping, Firsts, Lent, Fits};
+ghost use Rattle.fan.specs.Grouping.{Firsts};
+ghost use Rattle.fan.specs.Calls.{Lent, Fits, Counted, Assigned};
 ghost use Rattle.fan.specs.Parts.{Part, Tops};
 ghost use Rattle.fan.specs.Forest.{Down, Kept, Found, Joined, Forest};
 
@@ -46,7 +47,7 @@ fn near(
     k: usize,
     v: usize,
     needed: usize,
-    sides: &[u8],
+    sides: &[usize],
     i: usize,
     j: usize,
 ) -> bool
@@ -101,7 +102,7 @@ fn join_row(
     k: usize,
     v: usize,
     needed: usize,
-    sides: &[u8],
+    sides: &[usize],
     i: usize,
     parent: &mut [usize],
 )
@@ -131,7 +132,14 @@ fn own_parents(parent: &mut [usize])
 }
 
 // A parent table that joins exactly the neighbours.
-fn join_all(verts: &[usize], k: usize, v: usize, needed: usize, sides: &[u8], parent: &mut [usize])
+fn join_all(
+    verts: &[usize],
+    k: usize,
+    v: usize,
+    needed: usize,
+    sides: &[usize],
+    parent: &mut [usize],
+)
     requires { ⌜ (length (now verts) ≡ length (now sides) * k) × (length (now parent) ≡ length (now sides)) ⌝ }
     ensures { λ _. ⌜ Forest (fan (now (verts .entry)) k v needed (now (sides .entry))) (length (now (sides .entry))) 0 (now (parent .exit)) ⌝ }
 {
@@ -159,7 +167,13 @@ fn flatten(parent: &mut [usize])
 }
 
 // Numbers the elements of one side, from a count, where first has the first element of each one's group.
-fn number_side(first: &[usize], sides: &[u8], side: u8, from: usize, groups: &mut [usize]) -> usize
+fn number_side(
+    first: &[usize],
+    sides: &[usize],
+    side: usize,
+    from: usize,
+    groups: &mut [usize],
+) -> usize
     requires { ⌜ Tops (now sides) (now first) ⌝ }
     requires { ⌜ Part (now sides) (now first) side 0 (now groups) from ⌝ }
     requires { ⌜ from ≤ length (now sides) ⌝ }
@@ -185,7 +199,7 @@ fn number_side(first: &[usize], sides: &[u8], side: u8, from: usize, groups: &mu
 }
 
 // Numbers all elements, those of side 0 first.
-fn number(first: &[usize], sides: &[u8], groups: &mut [usize]) -> usize
+fn number(first: &[usize], sides: &[usize], groups: &mut [usize]) -> usize
     requires { ⌜ Tops (now sides) (now first) × (length (now groups) ≡ length (now sides)) ⌝ }
     ensures { λ r. ⌜ Part (now (sides .entry)) (now (first .entry)) 2 0 (now (groups .exit)) r ⌝ }
 {
@@ -194,7 +208,7 @@ fn number(first: &[usize], sides: &[u8], groups: &mut [usize]) -> usize
 }
 
 // The first element of each one's group, by a parent table.
-fn unite(verts: &[usize], k: usize, v: usize, needed: usize, sides: &[u8], first: &mut [usize])
+fn unite(verts: &[usize], k: usize, v: usize, needed: usize, sides: &[usize], first: &mut [usize])
     requires { ⌜ (length (now verts) ≡ length (now sides) * k) × (length (now first) ≡ length (now sides)) ⌝ }
     ensures { λ _. ⌜ Firsts (fan (now (verts .entry)) k v needed (now (sides .entry))) (now (first .exit)) ⌝ }
 {
@@ -209,31 +223,30 @@ pub fn assign_groups(
     k: usize,
     v: usize,
     needed: usize,
-    sides: &[u8],
+    sides: &[usize],
     first: &mut [usize],
     groups: &mut [usize],
 ) -> usize
     requires { ⌜ Lent (now verts) k (now sides) (now first) (now groups) ⌝ }
-    ensures { λ r. ⌜ Grouping (fan (now (verts .entry)) k v needed (now (sides .entry))) (now (groups .exit)) r ⌝ }
-    ensures { λ _. ⌜ Firsts (fan (now (verts .entry)) k v needed (now (sides .entry))) (now (first .exit)) ⌝ }
+    ensures { λ r. ⌜ Assigned (fan (now (verts .entry)) k v needed (now (sides .entry))) (now (groups .exit)) (now (first .exit)) r ⌝ }
 {
     unite(verts, k, v, needed, sides, first);
     number(first, sides, groups)
 }
 
-// The same with a table of its own, for at most 1,024 elements.
+// The same with a table of its own, for at most 2,048 elements.
 pub fn groups_of(
     verts: &[usize],
     k: usize,
     v: usize,
     needed: usize,
-    sides: &[u8],
+    sides: &[usize],
     groups: &mut [usize],
 ) -> usize
     requires { ⌜ Fits (now verts) k (now sides) (now groups) ⌝ }
-    ensures { λ r. ⌜ Grouping (fan (now (verts .entry)) k v needed (now (sides .entry))) (now (groups .exit)) r ⌝ }
+    ensures { λ r. ⌜ Counted (fan (now (verts .entry)) k v needed (now (sides .entry))) (now (groups .exit)) r ⌝ }
 {
-    let mut first = [0usize; 1024];
+    let mut first = [0usize; 2048];
     let n = sides.len();
     assign_groups(verts, k, v, needed, sides, &mut first[..n], groups)
 }

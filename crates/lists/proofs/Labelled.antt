@@ -10,9 +10,9 @@ use native.Mathlib.Decide.{ℕ-discrete, decLe}
 use lib.ListN.{length, getD, length-map}
 use lib.Seq.{ext-getD}
 use Rattle.lists.specs.Lists.{pick, upTo}
-use Rattle.lists.specs.Chain.{Chain, stay, ahead}
+use Rattle.lists.specs.Chain.{Chain, stay, ahead, back}
 use Rattle.lists.specs.Labels.{Lowest, Joins, replaced, merged, joinPair, joinRow, joinRows, labelled}
-use Rattle.lists.proofs.Chains.{chain-trans, chain-sym, chain-keeps, chain-to, chain-within}
+use Rattle.lists.proofs.Chains.{chain-trans, chain-sym, chain-map, chain-keeps, chain-to, chain-within}
 use Rattle.lists.proofs.Stores.{at-eq, tab-length, tab-at, map-at, replaced-case}
 
 -- ---- what labels are, for any relation
@@ -217,6 +217,31 @@ module _ (near : ℕ → ℕ → Bool) (n : ℕ) where
 
   pub labelled-flat : (i : ℕ) → i < n → getD (labelled near n) (getD (labelled near n) i 0) 0 ≡ getD (labelled near n) i 0
   labelled-flat = lowest-flat labelled-lowest
+
+  -- any labels of the test are these
+  pub labelled-only : (p : List ℕ) → Lowest (Joins near n) n p → p ≡ labelled near n
+  labelled-only p T = lowest-unique p (labelled near n) T labelled-lowest
+
+  -- two places that the test joins in whichever order are joined, where it says the same of both orders
+  pub joins-either : (i j : ℕ) → i < n → j < n → near i j ≡ near j i → near i j ≡ true → Chain (Joins near n) i j
+  joins-either i j l m e t =
+      elim (ℕ-discrete i j) [
+        | yes q ↦ chain-to q stay
+        | no ne ↦
+            elim (decLe i j) [
+              | yes o ↦ let k : Joins near n i j = record { order = omega arith; within = m; joined = t } in ahead k stay
+              | no nl ↦ let k : Joins near n j i = record { order = omega arith; within = l; joined = sym e ∙ t } in back k stay
+            ]
+      ]
+
+-- tests that agree on pairs below n, the earlier first, have the same labels
+pub labelled-ext : (near far : ℕ → ℕ → Bool) (n : ℕ) → ((i j : ℕ) → i < j → j < n → near i j ≡ far i j) → labelled near n ≡ labelled far n
+labelled-ext near far n e =
+    labelled-only far n (labelled near n)
+    (lowest-map
+    (λ i j. chain-map (λ a b k. ahead (record { order = k .order; within = k .within; joined = sym (e a b (k .order) (k .within)) ∙ k .joined }) stay))
+    (λ i j. chain-map (λ a b k. ahead (record { order = k .order; within = k .within; joined = e a b (k .order) (k .within) ∙ k .joined }) stay))
+    (labelled-lowest near n))
 
 -- a chain of pairs below n that starts below n ends there
 pub joins-below : {near : ℕ → ℕ → Bool} {n i j : ℕ} → i < n → Chain (Joins near n) i j → j < n

@@ -59,14 +59,17 @@ unfoldable pub mapAt : {A B : Type 0} → (ℕ → A → B) → List A → List 
 mapAt g [] = []
 mapAt g (a ∷ l) = g 0 a ∷ mapAt (λ k. g (suc k)) l
 
+-- has the list no element
 abbrev pub empty : {A : Type 0} → List A → Bool
 empty [] = true
 empty (a ∷ l) = false
 
+-- the first element, or d where there is none
 abbrev pub headOr : {A : Type 0} → A → List A → A
 headOr d [] = d
 headOr d (a ∷ l) = a
 
+-- all but the first element
 abbrev pub rest : {A : Type 0} → List A → List A
 rest [] = []
 rest (a ∷ l) = l

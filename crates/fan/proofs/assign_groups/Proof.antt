@@ -1,7 +1,7 @@
 -- `fan::assign_groups` meets its contract, by the laws of the numbering. Assumes nothing.
 use borrow.Author.Needs.{needs}
-use native.Mathlib.Omega.{arith}
 use Rattle.fan.proofs.Numbering.{tops, part-all}
+use Rattle.fan.proofs.Grouped.{assigned}
 use Rattle.fan.proofs.assign_groups.Statement.{statement}
 use Rattle.fan.proofs.assign_groups.Tie as tie
 use Rattle.fan.proofs.assign_groups.Reads as reads
@@ -9,28 +9,24 @@ use Rattle.fan.proofs.assign_groups.Lts as lts
 use Rattle.fan.proofs.number.Reads as number-reads
 use Rattle.fan.proofs.unite.Reads as unite-reads
 
--- src/lib.rt:195:5
 unite-requires : tie.Need-unite-requires
 unite-requires c κs = search needs
 
--- src/lib.rt:196:5
 number-requires : tie.Need-number-requires
 number-requires c κs =
     (tops _ _ (c .before .before .before .before .unite .ensures), c .before .before .before .before .before .before .before .before .before .before .pre .places)
 
--- src/lib.rt:190:1
 same-length : tie.Need-same-length
 same-length c = search needs
 
--- src/lib.rt:190:1
 same-length-2 : tie.Need-same-length-2
 same-length-2 c = search needs
 
--- src/lib.rt:190:1
 returns : tie.Need-returns
 returns c =
     let T = c .before .before .before .before .before .before .before .unite .ensures in
-    (part-all _ _ _ _ T (c .before .before .before .before .before .before .before .before .before .before .before .before .before .pre .two) (c .before .before .number .ensures), T)
+    let two = c .before .before .before .before .before .before .before .before .before .before .before .before .before .pre .two in
+    assigned _ _ _ _ two T (part-all _ _ _ _ T two (c .before .before .number .ensures))
 
 pub assign-groups-spec : {M : Type 1} → statement M
 assign-groups-spec =

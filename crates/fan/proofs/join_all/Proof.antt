@@ -1,8 +1,8 @@
 -- `fan::join_all` meets its contract. The invariant: the neighbours (a, b) with a below i are joined. Assumes nothing.
 use borrow.Author.Needs.{needs}
 use native.Mathlib.Omega.{arith}
-use mathlib.Core.Path.{_≡_, refl, sym, _∙_, subst}
-use Prim.Native.Nat.{ℕ, _+_, _*_, _<_, _≤_, _-_}
+use mathlib.Core.Path.{_≡_, sym, _∙_, subst}
+use Prim.Native.Nat.{ℕ, _≤_, _-_}
 use lib.ListN.{length}
 use Rattle.fan.specs.Fan.{fan}
 use Rattle.fan.specs.Forest.{Forest}
@@ -20,41 +20,33 @@ Inv-loop verts k v needed sides parent₀ i₀ parent i = (i ≤ length sides) �
 abbrev μ-loop : tie.MeasureT-loop
 μ-loop verts k v needed sides parent₀ i₀ parent i = length sides - i
 
--- src/lib.rt:120:5
 own-parents-requires : tie.Need-own-parents-requires Inv-loop μ-loop
 own-parents-requires c κs = search needs
 
--- src/lib.rt:122:5
 loop-holds : tie.Need-loop-holds Inv-loop μ-loop
 loop-holds c =
     let O = c .before .before .own-parents in
     (search needs, forest-start _ _ (O .kept .0 ∙ c .before .before .before .before .before .before .before .pre .1) (O .ensures))
 
--- src/lib.rt:123:9
 join-row-requires : tie.Need-join-row-requires Inv-loop μ-loop
 join-row-requires c κs =
     let P = c .before .before .before .before .before .before .before .before .before .before .pre in
     (P .0, (search needs, c .before .before .loop .inv .1))
 
--- src/lib.rt:124:9
 add-i : tie.Need-add-i Inv-loop μ-loop
 add-i c = search needs
 
--- src/lib.rt:122:5
 loop-less : tie.Need-loop-less Inv-loop μ-loop
 loop-less c = search needs
 
--- src/lib.rt:122:5
 loop-again : tie.Need-loop-again Inv-loop μ-loop
 loop-again c =
     (omega arith, c .before .before .join-row .ensures)
 
--- src/lib.rt:116:1
 same-length : tie.Need-same-length Inv-loop μ-loop
 same-length c =
     c .before .loop .inv .1 .long ∙ sym (c .before .before .before .before .before .before .before .before .before .pre .1)
 
--- src/lib.rt:116:1
 returns : tie.Need-returns Inv-loop μ-loop
 returns c =
     let A = c .before .before .before .before .before .before .before .before .before .args in

@@ -1,9 +1,9 @@
 -- `fan::join_row` meets its contract. The invariant: the neighbours of i below j are joined. Assumes nothing.
 use borrow.Author.Needs.{needs}
 use native.Mathlib.Omega.{arith}
-use mathlib.Core.Path.{_≡_, refl, sym, _∙_, subst}
+use mathlib.Core.Path.{_≡_, sym, _∙_, subst}
 use mathlib.Core.Logic.{⊎-elim}
-use Prim.Native.Nat.{ℕ, _+_, _*_, _<_, _≤_, _-_}
+use Prim.Native.Nat.{ℕ, _<_, _≤_, _-_}
 use lib.ListN.{length}
 use Rattle.fan.specs.Fan.{fan}
 use Rattle.fan.specs.Forest.{Forest}
@@ -22,37 +22,30 @@ Inv-loop verts k v needed sides i parent₀ j₀ parent j = (i < j) × (j ≤ le
 abbrev μ-loop : tie.MeasureT-loop
 μ-loop verts k v needed sides i parent₀ j₀ parent j = length sides - j
 
--- src/lib.rt:95:17
 add-j : tie.Need-add-j Inv-loop μ-loop
 add-j c = search needs
 
--- src/lib.rt:96:5
 loop-holds : tie.Need-loop-holds Inv-loop μ-loop
 loop-holds c =
     (omega arith, omega arith, forest-open (c .before .before .before .pre .1 .1))
 
--- src/lib.rt:97:12
 near-requires : tie.Need-near-requires Inv-loop μ-loop
 near-requires c κs =
     let P = c .before .before .before .before .before .pre in
     (P .0, (P .1 .0, search needs))
 
--- src/lib.rt:98:13
 join-requires : tie.Need-join-requires Inv-loop μ-loop
 join-requires c κs =
     let L = c .before .before .before .before .loop in
     let e = L .inv .2 .long in
     (omega arith, omega arith, L .inv .2 .down)
 
--- src/lib.rt:100:9
 add-j-2 : tie.Need-add-j-2 Inv-loop μ-loop
 add-j-2 c = search needs
 
--- src/lib.rt:96:5
 loop-less : tie.Need-loop-less Inv-loop μ-loop
 loop-less c = search needs
 
--- src/lib.rt:96:5
 loop-again : tie.Need-loop-again Inv-loop μ-loop
 loop-again c =
     let L = c .before .before .before .loop in
@@ -66,12 +59,10 @@ loop-again c =
     (λ w. (omega arith, omega arith, forest-at (w .1) (forest-skip (near-no _ _ _ (sym t ∙ w .0 .left)) (L .inv .2))))
     (c .if1 .came)
 
--- src/lib.rt:89:1
 same-length : tie.Need-same-length Inv-loop μ-loop
 same-length c =
     c .before .loop .inv .2 .long ∙ sym (c .before .before .before .before .before .pre .1 .1 .long)
 
--- src/lib.rt:89:1
 returns : tie.Need-returns Inv-loop μ-loop
 returns c =
     let A = c .before .before .before .before .before .args in

@@ -8,23 +8,19 @@ use Rattle.fan.proofs.number.Reads as reads
 use Rattle.fan.proofs.number.Lts as lts
 use Rattle.fan.proofs.number_side.Reads as number-side-reads
 
--- src/lib.rt:175:9
 number-side-requires : tie.Need-number-side-requires
 number-side-requires c κs =
     let P = c .before .before .before .before .pre in
     (P .0, (part-none (P .1), search needs))
 
--- src/lib.rt:176:5
 number-side-requires-2 : tie.Need-number-side-requires-2
 number-side-requires-2 c κs =
     let N = c .before .before .before .number-side .ensures in
     (c .before .before .before .before .before .before .before .before .pre .0, (N .0, omega arith))
 
--- src/lib.rt:171:1
 same-length : tie.Need-same-length
 same-length c = search needs
 
--- src/lib.rt:171:1
 returns : tie.Need-returns
 returns c = search needs
 

@@ -3,9 +3,9 @@ use borrow.Author.Needs.{needs}
 use native.Mathlib.Omega.{arith}
 use mathlib.Core.Path.{_≡_, sym, _∙_, subst}
 use Prim.Native.Nat.{ℕ, _+_, _<_, _≤_, _-_}
-use lib.ListN.{length, getD, length-set}
+use lib.ListN.{length}
 use mathlib.Core.Logic.{⊎-elim}
-use Rattle.fan.specs.Parts.{Part, Tops}
+use Rattle.fan.specs.Parts.{Part}
 use Rattle.fan.proofs.Numbering.{part-skip, part-side, part-new, part-old, part-at}
 use Rattle.fan.proofs.number_side.Statement.{statement}
 use Rattle.fan.proofs.number_side.Tie as tie
@@ -18,43 +18,37 @@ Inv-loop first sides side from groups₀ count₀ i₀ groups count i = (i ≤ l
 abbrev μ-loop : tie.MeasureT-loop
 μ-loop first sides side from groups₀ count₀ i₀ groups count i = length sides - i
 
--- src/lib.rt:153:5
 loop-holds : tie.Need-loop-holds Inv-loop μ-loop
 loop-holds c =
     (search needs, c .pre .1 .0, omega arith)
 
--- src/lib.rt:154:12
+mul-if1 : tie.Need-mul-if1 Inv-loop μ-loop
+mul-if1 c = search needs
+
 shared-slice-read-if1 : tie.Need-shared-slice-read-if1 Inv-loop μ-loop
 shared-slice-read-if1 c = search needs
 
--- src/lib.rt:155:24
 mul-root : tie.Need-mul-root Inv-loop μ-loop
 mul-root c = search needs
 
--- src/lib.rt:155:24
 shared-slice-read-root : tie.Need-shared-slice-read-root Inv-loop μ-loop
 shared-slice-read-root c = search needs
 
--- src/lib.rt:157:17
 mul-groups : tie.Need-mul-groups Inv-loop μ-loop
 mul-groups c = search needs
 
--- src/lib.rt:157:17
 slice-write-groups : tie.Need-slice-write-groups Inv-loop μ-loop
 slice-write-groups c = search needs
 
--- src/lib.rt:158:17
 add-count : tie.Need-add-count Inv-loop μ-loop
 add-count c = search needs
 
--- src/lib.rt:160:25
 mul-g : tie.Need-mul-g Inv-loop μ-loop
 mul-g c =
     let S = c .before .before .before .before .before .before in
     let d = S .pre .0 .down (c .before .before .before .before .before .loop .i) (search needs) in
     omega (arith, S .pre .0 .long)
 
--- src/lib.rt:160:25
 slice-read-g : tie.Need-slice-read-g Inv-loop μ-loop
 slice-read-g c =
     let S = c .before .before .before .before .before .before .before in
@@ -63,23 +57,18 @@ slice-read-g c =
     let e = L .inv .1 .long in
     omega arith
 
--- src/lib.rt:161:17
 mul-groups-2 : tie.Need-mul-groups-2 Inv-loop μ-loop
 mul-groups-2 c = search needs
 
--- src/lib.rt:161:17
 slice-write-groups-2 : tie.Need-slice-write-groups-2 Inv-loop μ-loop
 slice-write-groups-2 c = search needs
 
--- src/lib.rt:164:9
 add-i : tie.Need-add-i Inv-loop μ-loop
 add-i c = search needs
 
--- src/lib.rt:153:5
 loop-less : tie.Need-loop-less Inv-loop μ-loop
 loop-less c = search needs
 
--- src/lib.rt:153:5
 loop-again : tie.Need-loop-again Inv-loop μ-loop
 loop-again c =
     let S = c .before .before .before .before in
@@ -95,12 +84,10 @@ loop-again c =
     (λ w. (omega arith, part-at (w .1) (w .2) (part-skip (w .0 .left) P), omega (arith, w .2))))
     (c .if1 .came)
 
--- src/lib.rt:144:1
 same-length : tie.Need-same-length Inv-loop μ-loop
 same-length c =
     c .before .loop .inv .1 .long ∙ sym (c .before .before .pre .1 .0 .long)
 
--- src/lib.rt:144:1
 returns : tie.Need-returns Inv-loop μ-loop
 returns c =
     let A = c .before .before .args in
@@ -115,6 +102,7 @@ number-side-spec =
     Inv-loop
     μ-loop
     loop-holds
+    mul-if1
     shared-slice-read-if1
     mul-root
     shared-slice-read-root

@@ -9,19 +9,15 @@ use Rattle.fan.proofs.unite.Lts as lts
 use Rattle.fan.proofs.flatten.Reads as flatten-reads
 use Rattle.fan.proofs.join_all.Reads as join-all-reads
 
--- src/lib.rt:184:5
 join-all-requires : tie.Need-join-all-requires
 join-all-requires c κs = search needs
 
--- src/lib.rt:185:5
 flatten-requires : tie.Need-flatten-requires
 flatten-requires c κs = search needs
 
--- src/lib.rt:180:1
 same-length : tie.Need-same-length
 same-length c = search needs
 
--- src/lib.rt:180:1
 returns : tie.Need-returns
 returns c =
     let J = c .before .before .before .before .before .before .join-all .ensures in
