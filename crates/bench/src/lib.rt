@@ -1,0 +1,26 @@
+// The public entries of the bench. Each checks for itself, answers document 01's refusal number, and never touches the mesh it reads.
+use blade::Hit;
+
+// A number, or the number of a refusal.
+pub enum Number {
+    Refused(usize),
+    Value(f32),
+}
+
+// A count, or the number of a refusal.
+pub enum Count {
+    Refused(usize),
+    Counted(usize),
+}
+
+// Whether something holds, or the number of a refusal.
+pub enum Truth {
+    Refused(usize),
+    Holds(bool),
+}
+
+// A miss or a hit, or the number of a refusal.
+pub enum Tested {
+    Refused(usize),
+    Tested(Hit),
+}
