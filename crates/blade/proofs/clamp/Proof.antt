@@ -7,8 +7,6 @@ use Rattle.blade.specs.Blade.{clampLow, clampHigh}
 use Rattle.float.proofs.Picks.{yes, no}
 use Rattle.blade.proofs.clamp.Statement.{statement}
 use Rattle.blade.proofs.clamp.Tie as tie
-use Rattle.blade.proofs.clamp.Reads as reads
-use Rattle.blade.proofs.clamp.Lts as lts
 
 first : (c : tie.Joined1) → c .if1 .u ≡ clampLow (c .before .args .t)
 unfolding ofBits
