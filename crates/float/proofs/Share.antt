@@ -155,6 +155,16 @@ weight-le w t true b g hw ht p l = le-trans (le-of-eq (eqb→eq b 0 (subst T (sy
 units-le : (x : Float) (s : Bool) (a k : ℕ) → HasValue x s a (2 ^ 149) → le (absOf x) (fin false 1 (pos k)) ≡ true → a ≤ 2 ^ k * 2 ^ 149
 units-le x s a k h l = le-trans (le-of-eq (sym (mul-one a))) (of-le (absOf x) (fin false 1 (pos k)) a (2 ^ 149) (2 ^ k) 1 (pow-pos 149) (zero-lt-suc 0) (abs-value x s a (2 ^ 149) h) (refl, simp (one-mul, mul-one)) (subst T (sym l) tt))
 
+-- and at most 2 ^ 169 units are a magnitude of at most 2 ^ 20
+units-in-range : (y : Float) (s : Bool) (u : ℕ) → HasValue y s u (2 ^ 149) → u ≤ 2 ^ 169 → (number? y ≡ true) × (finite? y ≡ true)
+unfolding number?
+units-in-range y s u h l =
+    let limit = fin false 1 (pos 20) in (
+      is-true (le (absOf y) limit)
+          (le-of-values (absOf y) limit u (2 ^ 149) (2 ^ 169) (2 ^ 149) (pow-pos 149) (pow-pos 149) (abs-value y s u (2 ^ 149) h) (refl, refl) (mul-le-mul-right (2 ^ 149) l)),
+      value-finite y s u (2 ^ 149) h,
+    )
+
 room : (b g : ℕ) → b ≤ g → g ≤ 2 ^ 64 * 2 ^ 149 → b * 2 ^ 20 < 2 ^ 277
 room b g h l = lt-of-le-of-lt (mul-le-mul-right (2 ^ 20) (le-trans h l)) (lit< tt)
 
@@ -177,9 +187,4 @@ share-in-range m w t fm fw ft nm nw l p top =
     let bg : b ≤ g = weight-le w t (uw .sign) b g (uw .value) ht nw l in
     let g-le : g ≤ 2 ^ 64 * D = le-trans (le-of-eq (sym (mul-one g))) (of-le t (fin false 1 (pos 64)) g D (2 ^ 64) 1 (pow-pos 149) (zero-lt-suc 0) ht (refl, refl) (subst T (sym top) tt)) in
     let r = share-bounded m w t (um .sign) (uw .sign) a b g (uw .q) (uw .j) (um .value) (uw .value) ht (units-le m (um .sign) a 20 (um .value) nm) bg (pt .1) (uw .small) refl (room b g bg g-le) in
-    let y = shareOf m w t in
-    let sign = unlike (um .sign) (uw .sign) in (
-      is-true (le (absOf y) (fin false 1 (pos 20)))
-          (le-of-values (absOf y) (fin false 1 (pos 20)) (r .0) D (2 ^ 169) D (pow-pos 149) (pow-pos 149) (abs-value y sign (r .0) D (r .1)) (refl, refl) (mul-le-mul-right D (r .2))),
-      value-finite y sign (r .0) D (r .1),
-    )
+    units-in-range (shareOf m w t) (unlike (um .sign) (uw .sign)) (r .0) (r .1) (r .2)

@@ -1,7 +1,7 @@
 -- `blade::clamp` meets its contract. Assumes nothing.
-use mathlib.Core.Path.{_≡_, sym, ap, _∙_}
+use mathlib.Core.Path.{_≡_, ap, _∙_}
 use mathlib.Core.Logic.{⊎-elim}
-use lib.Ieee.{Float, lt, ofBits}
+use lib.Ieee.{lt, ofBits}
 use Rattle.float.specs.Numbers.{zero32, one}
 use Rattle.blade.specs.Blade.{clampLow, clampHigh}
 use Rattle.float.proofs.Picks.{yes, no}

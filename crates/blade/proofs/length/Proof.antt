@@ -1,6 +1,6 @@
 -- `blade::length` meets its contract. Assumes nothing.
 use borrow.Author.Needs.{needs}
-use mathlib.Core.Path.{_≡_, refl, sym, ap, _∙_}
+use mathlib.Core.Path.{_≡_, sym, ap, _∙_}
 use lib.Ieee.{Float, div, ofBits}
 use Rattle.float.specs.Root.{rootOf}
 use Rattle.float.specs.declared.root.Rooted.{Rooted}
