@@ -2,25 +2,25 @@
 use mathlib.Core.Path.{_≡_, refl, sym, ap, _∙_, subst}
 use mathlib.Core.Logic.{_⊎_, inl, inr}
 use Prim.Native.Nat.{ℕ, zero, suc, _+_, _-_, _*_, _^_, _≤_, _<_, zero-le}
-use native.Mathlib.Nat.{eq-zero-or-pos, le-add-right, le-of-lt, le-trans, le-of-eq, mul-pos, mul-one, zero-mul, mul-assoc, mul-comm, mul-mul-mul-comm, mul-left-comm, lt-irrefl, zero-lt-suc, add-zero}
+use native.Mathlib.Nat.{eq-zero-or-pos, le-add-right, le-of-lt, le-trans, le-of-eq, mul-pos, mul-one, zero-mul, zero-lt-suc, add-zero}
 use native.Mathlib.Omega.{arith}
-use mathlib.Core.Bool.{Bool, true, false, not, cond, _&&_, _||_, true≢false}
+use mathlib.Core.Bool.{Bool, true, false, cond, _&&_, _||_, true≢false}
 use lib.IntN.{ℤ, pos, negsuc, natAbs, _-ℤ_, +ℤ-idr}
 use lib.Signed.{ltZ}
 use lib.Arith.{le→nltb}
-use lib.Dec.{T, ltb, eqb, ltb→lt, lt→ltb, eqb→eq, not-T}
+use lib.Dec.{T, ltb, eqb, ltb→lt, lt→ltb, eqb→eq}
 use lib.Ieee.{Float, nan, inf, fin, binary32, up, down, unlike, round, sub, mul, div, lt, le, eq, level}
-use lib.Ieee.Fits.{up-pos, down-pos}
+use lib.Ieee.Fits.{up-pos}
 use lib.Ieee.Exact.{HasValue}
-use lib.Ieee.Bits.{is-true, is-false, cond-no}
+use lib.Ieee.Bits.{is-true, is-false}
 use lib.Ieee.Order.{round-mono}
-use lib.Ieee.Scale.{round-same}
 use lib.Ieee.Positive.{above, above-of-le}
 use Rattle.float.specs.Numbers.{zero32, one}
 use Rattle.blade.specs.Blade.{clampLow, clampHigh}
 use Rattle.float.specs.Whole.{signed, Is, Near}
 use Rattle.float.proofs.Exact.{open-value, size-of, sub-is, minus-lt, round-at}
 use Rattle.blade.proofs.Sides.{is-right}
+use Rattle.float.proofs.Products.{mul-of, div-of}
 use Rattle.float.proofs.Error.{near, close}
 
 -- ---- signs of whole numbers
@@ -79,49 +79,6 @@ quotient-sign (negsuc n) (pos (suc m)) o s t a b h k =
     inl (ap (λ (z : Bool). unlike z t) (e .0) ∙ ap (λ (z : Bool). unlike true z) (g .0))
 quotient-sign (negsuc n) (negsuc m) o s t a b h k = absurd (o .no-right tt tt)
 
--- ---- the product and the quotient of two whole floats, each as one rounding
-module _ (x y : Float) (s t : Bool) (a b : ℕ) (h : HasValue x s a 1) (k : HasValue y t b 1) where
-  mul-fin : (m : ℕ) (e : ℤ) (n : ℕ) (d : ℤ) → mul binary32 (fin s m e) (fin t n d) ≡ round binary32 (unlike s t) (m * up e * (n * up d)) (down e * down d)
-  unfolding mul
-  mul-fin m e n d = refl
-
-  pub mul-at : mul binary32 x y ≡ round binary32 (unlike s t) (a * b) 1
-  mul-at =
-      let v = open-value x s a h in
-      let w = open-value y t b k in
-      let m = v .0 in
-      let e = v .1 in
-      let n = w .0 in
-      let d = w .1 in
-      ap (λ (z : Float). mul binary32 z y) (v .2)
-      ∙ ap (λ (z : Float). mul binary32 (fin s m e) z) (w .2)
-      ∙ mul-fin m e n d
-      ∙ round-same binary32 (unlike s t) (m * up e * (n * up d)) (down e * down d) (a * b) 1 (mul-pos (down-pos e) (down-pos d)) (zero-lt-suc 0)
-      (mul-one (m * up e * (n * up d)) ∙ ap (λ (z : ℕ). z * (n * up d)) (v .3) ∙ ap (λ (z : ℕ). a * down e * z) (w .3) ∙ mul-mul-mul-comm a (down e) b (down d))
-
-  div-fin : (m : ℕ) (e : ℤ) (n : ℕ) (d : ℤ) → T (not (eqb n 0)) → div binary32 (fin s m e) (fin t n d) ≡ round binary32 (unlike s t) (m * up e * down d) (n * up d * down e)
-  unfolding div
-  div-fin m e n d z = cond-no (eqb n 0) (cond (eqb m 0) nan (inf (unlike s t))) (round binary32 (unlike s t) (m * up e * down d) (n * up d * down e)) z
-
-  pub div-at : 0 < b → div binary32 x y ≡ round binary32 (unlike s t) a b
-  div-at p =
-      let v = open-value x s a h in
-      let w = open-value y t b k in
-      let m = v .0 in
-      let e = v .1 in
-      let n = w .0 in
-      let d = w .1 in
-      let np : 0 < n * up d = subst (λ (z : ℕ). 0 < z) (sym (w .3)) (mul-pos p (down-pos d)) in
-      let nz : T (not (eqb n 0)) = not-T (eqb n 0) (λ u. lt-irrefl 0 (subst (λ (z : ℕ). 0 < z) (ap (λ (z : ℕ). z * up d) (eqb→eq n 0 u) ∙ zero-mul (up d)) np)) in
-      ap (λ (z : Float). div binary32 z y) (v .2)
-      ∙ ap (λ (z : Float). div binary32 (fin s m e) z) (w .2)
-      ∙ div-fin m e n d nz
-      ∙ round-same binary32 (unlike s t) (m * up e * down d) (n * up d * down e) a b (mul-pos np (down-pos e)) p
-      (ap (λ (z : ℕ). z * down d * b) (v .3) ∙ across a (down e) (down d) b ∙ ap (λ (z : ℕ). a * (z * down e)) (sym (w .3)))
-    where
-      across : (a e d b : ℕ) → a * e * d * b ≡ a * (b * d * e)
-      across a e d b = simp (mul-assoc, mul-comm, mul-left-comm)
-
 -- ---- two offsets on one side have a product above zero, so the test for a miss sees them
 above-zero : (z : Float) → T (above z) → lt zero32 z ≡ true
 unfolding lt
@@ -160,7 +117,7 @@ opposite x y p q h k m =
     clash s t e g =
         true≢false
         (sym (product-above (h .size * k .size) g)
-        ∙ sym (ap (λ (z : Float). lt zero32 z) (mul-at x y (h .sign) (k .sign) (h .size) (k .size) (h .value) (k .value) ∙ ap (λ (z : Bool). round binary32 z (h .size * k .size) 1) e))
+        ∙ sym (ap (λ (z : Float). lt zero32 z) (mul-of x y (h .sign) (k .sign) (h .size) (k .size) 1 (zero-lt-suc 0) (h .value) (k .value) ∙ ap (λ (z : Bool). round binary32 z (h .size * k .size) 1) e))
         ∙ m)
 
 -- ---- two offsets that are not equal are not both zero
@@ -279,7 +236,7 @@ fraction-near x y p q h k l m e =
     let b-is : D .size ≡ natAbs p + natAbs q = size-from (sub binary32 x y) (p -ℤ q) D ∙ apart p q o in
     let b-pos : 0 < D .size = subst (λ (z : ℕ). 0 < z) (sym b-is) (not-both x y p q h k e) in
     let le : h .size ≤ D .size = le-trans (le-of-eq a-is) (le-trans (le-add-right (natAbs p) (natAbs q)) (le-of-eq (sym b-is))) in
-    let r : div binary32 x (sub binary32 x y) ≡ round binary32 (unlike (h .sign) (D .sign)) (h .size) (D .size) = div-at x (sub binary32 x y) (h .sign) (D .sign) (h .size) (D .size) (h .value) (D .value) b-pos in
+    let r : div binary32 x (sub binary32 x y) ≡ round binary32 (unlike (h .sign) (D .sign)) (h .size) (D .size) = div-of x (sub binary32 x y) (h .sign) (D .sign) (h .size) (D .size) 1 (zero-lt-suc 0) (h .value) (D .value) b-pos in
     subst (λ (z : Float). Near (clampHigh (clampLow z)) (natAbs p) (natAbs p + natAbs q)) (sym r)
     (subst (λ (z : ℕ). Near (clampHigh (clampLow (round binary32 (unlike (h .sign) (D .sign)) (h .size) (D .size)))) (natAbs p) z) b-is
     (subst (λ (z : ℕ). Near (clampHigh (clampLow (round binary32 (unlike (h .sign) (D .sign)) (h .size) (D .size)))) z (D .size)) a-is

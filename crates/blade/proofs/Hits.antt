@@ -28,6 +28,8 @@ by-tests u t false true z h = never t h
 by-tests u t false false true h = (refl, refl, cc)
 by-tests u t false false false h = never t h
 
+-- A hit's fraction t is within 1 / 16,777,216 of the true one, for a blade and an edge whose coordinates are whole numbers from -1,024 to 1,024.
+-- (The true fraction is the distance of p from the blade's line, divided by the sum of the distances of p and q, on its two sides.)
 pub hit-near : (b0 b1 p q : Point) (x0 y0 x1 y1 xp yp xq yq : ℤ) → IsPoint b0 x0 y0 → IsPoint b1 x1 y1 → IsPoint p xp yp → IsPoint q xq yq → (t : Float) → bladeHit b0 b1 p q ≡ HitAt t
     → Near t (natAbs (sideOf x0 y0 x1 y1 xp yp)) (natAbs (sideOf x0 y0 x1 y1 xp yp) + natAbs (sideOf x0 y0 x1 y1 xq yq))
 unfolding bladeHit

@@ -14,7 +14,7 @@ use lib.Ieee.{Float, fin, binary32, up, down, neg, mul, lt}
 use Rattle.blade.specs.declared.Point.{Point}
 use Rattle.float.specs.Numbers.{zero32}
 use Rattle.blade.specs.Points.{minusOf}
-use Rattle.blade.specs.Blade.{offsetAlong}
+use Rattle.blade.specs.Blade.{offsetAlong, offsetOf}
 use Rattle.float.specs.Whole.{signed, Is}
 use Rattle.blade.specs.Whole.{IsPoint, sideOf}
 use Rattle.float.proofs.Exact.{open-value, neg-is, add-is, sub-is, mul-is}
@@ -119,3 +119,13 @@ pub is-right : (x : Float) (z : ℤ) → Is x z → lt x zero32 ≡ ltZ z (pos 0
 is-right x z h =
     let v = open-value x (h .sign) (h .size) (h .value) in
     ap (λ (f : Float). lt f zero32) (v .2) ∙ right-at (h .sign) (v .0) (v .1) (h .size) (v .3) ∙ ap (λ (i : ℤ). ltZ i (pos 0)) (h .is)
+
+-- ---- for the reader
+module _ (b0 b1 v : Point) (x0 y0 x1 y1 x y : ℤ) (p0 : IsPoint b0 x0 y0) (p1 : IsPoint b1 x1 y1) (pv : IsPoint v x y) where
+  -- with whole coordinates from -1,024 to 1,024 no rounding changes the offset: it is the whole number `sideOf`
+  pub offset-exact : Is (offsetOf b0 b1 v) (sideOf x0 y0 x1 y1 x y)
+  offset-exact = offset-is b0 b1 v x0 y0 x1 y1 x y p0 p1 pv .0
+
+  -- so it is above 0 exactly where v lies to the left of the blade's line, and below 0 exactly where v lies to its right
+  pub offset-side : (lt zero32 (offsetOf b0 b1 v) ≡ ltZ (pos 0) (sideOf x0 y0 x1 y1 x y)) × (lt (offsetOf b0 b1 v) zero32 ≡ ltZ (sideOf x0 y0 x1 y1 x y) (pos 0))
+  offset-side = (is-left (offsetOf b0 b1 v) (sideOf x0 y0 x1 y1 x y) offset-exact, is-right (offsetOf b0 b1 v) (sideOf x0 y0 x1 y1 x y) offset-exact)

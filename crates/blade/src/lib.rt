@@ -3,6 +3,7 @@ ghost use mathlib.Core.Path.{_≡_};
 ghost use mathlib.Core.List.{[], _∷_};
 ghost use Rattle.blade.specs.Points.{plusOf, minusOf, timesOf, overOf, dotOf, centroidOf, lerpOf, lengthOf};
 ghost use Rattle.blade.specs.Blade.{offsetOf, clampHigh, clampLow, hitAt, crossAt, bladeHit};
+use float::root::Rooted;
 
 pub struct Point {
     pub x: f32,
@@ -55,6 +56,49 @@ pub fn dot(a: Point, b: Point) -> f32
     ensures { λ r. ⌜ r ≡ dotOf a b ⌝ }
 {
     a.x * b.x + a.y * b.y
+}
+
+// The rounded root of v's dot product with itself. A NaN where that is not finite: no accepted mesh has such a v.
+pub fn length(v: Point) -> f32
+    ensures { λ r. ⌜ r ≡ lengthOf v ⌝ }
+{
+    let r = float::root::root(dot(v, v));
+    match r {
+        Rooted::Value(x) => x,
+        Rooted::Refused => 0.0 / 0.0,
+    }
+}
+
+// p times (1 - t), plus q times t.
+pub fn lerp(p: Point, q: Point, t: f32) -> Point
+    ensures { λ r. ⌜ r ≡ lerpOf p q t ⌝ }
+{
+    plus(times(p, 1.0 - t), times(q, t))
+}
+
+// The middle of a strap: its ends added, from 0, and divided by 2.
+pub fn centroid_of_two(a: Point, b: Point) -> Point
+    ensures { λ r. ⌜ r ≡ centroidOf (a ∷ b ∷ []) ⌝ }
+{
+    let start = Point { x: 0.0, y: 0.0 };
+    over(plus(plus(start, a), b), 2.0)
+}
+
+// The middle of a triangle: its corners added, from 0, and divided by 3.
+pub fn centroid_of_three(a: Point, b: Point, c: Point) -> Point
+    ensures { λ r. ⌜ r ≡ centroidOf (a ∷ b ∷ c ∷ []) ⌝ }
+{
+    let start = Point { x: 0.0, y: 0.0 };
+    over(plus(plus(plus(start, a), b), c), 3.0)
+}
+
+// The offset of v from the blade's line: above 0 to the left of it.
+pub fn offset(b0: Point, b1: Point, v: Point) -> f32
+    ensures { λ r. ⌜ r ≡ offsetOf b0 b1 v ⌝ }
+{
+    let d = minus(b1, b0);
+    let n = Point { x: -d.y, y: d.x };
+    dot(n, minus(v, b0))
 }
 
 fn clamp(t: f32) -> f32

@@ -2,7 +2,7 @@
 use mathlib.Core.Path.{_≡_, refl, sym, ap, _∙_, subst}
 use mathlib.Core.Logic.{inl, inr}
 use Prim.Native.Nat.{ℕ, zero, suc, _+_, _-_, _*_, _^_, _≤_, _<_}
-use native.Mathlib.Nat.{add-mul, mul-sub, mul-comm, mul-assoc, mul-one, le-of-lt, mul-mul-mul-comm, mul-pos, mul-zero, zero-mul, mul-lt-mul-of-pos-right, mul-le-mul-right}
+use native.Mathlib.Nat.{zero-lt-suc, add-mul, mul-sub, mul-comm, mul-assoc, mul-one, le-of-lt, mul-pos, mul-zero, zero-mul, mul-lt-mul-of-pos-right, mul-le-mul-right}
 use native.Mathlib.Omega.{arith}
 use mathlib.Core.Bool.{Bool, true, false, not, cond}
 use lib.IntN.{ℤ, pos, negsuc, negℤ, natAbs, _+ℤ_, _-ℤ_, _*ℤ_, +ℤ-comm, negℤ-+ℤ, negℤ-negℤ}
@@ -16,6 +16,7 @@ use lib.Ieee.Scale.{round-same}
 use lib.Ieee.Bits.{is-true, is-false}
 use Rattle.float.specs.Whole.{signed, Is}
 use Rattle.float.proofs.Patterns.{lt-or-ge}
+use Rattle.float.proofs.Products.{mul-of}
 
 -- ---- the whole numbers
 pub size-of : (s : Bool) (n : ℕ) → natAbs (signed s n) ≡ n
@@ -167,31 +168,17 @@ sub-opened x y = refl
 pub sub-is : (x y : Float) (a b : ℤ) → Is x a → Is y b → natAbs (a -ℤ b) ≤ 2 ^ 24 → Is (sub binary32 x y) (a -ℤ b)
 sub-is x y a b h k l = subst (λ (f : Float). Is f (a -ℤ b)) (sym (sub-opened x y)) (add-is x (neg y) a (negℤ b) h (neg-is y b k) l)
 
-mul-fin : (s : Bool) (m : ℕ) (e : ℤ) (t : Bool) (n : ℕ) (d : ℤ) → mul binary32 (fin s m e) (fin t n d) ≡ round binary32 (unlike s t) (m * up e * (n * up d)) (down e * down d)
-unfolding mul
-mul-fin s m e t n d = refl
-
 pub mul-is : (x y : Float) (a b : ℤ) → Is x a → Is y b → natAbs a * natAbs b ≤ 2 ^ 24 → Is (mul binary32 x y) (a *ℤ b)
 mul-is x y a b h k l =
-    let v = open-value x (h .sign) (h .size) (h .value) in
-    let w = open-value y (k .sign) (k .size) (k .value) in
-    let m = v .0 in
-    let e = v .1 in
-    let n = w .0 in
-    let d = w .1 in
-    let C = down e * down d in
-    let p : m * up e * (n * up d) ≡ h .size * k .size * C = ap (λ (z : ℕ). z * (n * up d)) (v .3) ∙ ap (λ (z : ℕ). h .size * down e * z) (w .3) ∙ mul-mul-mul-comm (h .size) (down e) (k .size) (down d) in
-    let r : mul binary32 x y ≡ round binary32 (unlike (h .sign) (k .sign)) (h .size * k .size * C) C =
-    ap (λ (z : Float). mul binary32 z y) (v .2)
-    ∙ ap (λ (z : Float). mul binary32 (fin (h .sign) m e) z) (w .2)
-    ∙ mul-fin (h .sign) m e (k .sign) n d
-    ∙ ap (λ (z : ℕ). round binary32 (unlike (h .sign) (k .sign)) z C) p in
+    let s = unlike (h .sign) (k .sign) in
+    let n = h .size * k .size in
+    let r : mul binary32 x y ≡ round binary32 s (n * 1) 1 = mul-of x y (h .sign) (k .sign) (h .size) (k .size) 1 (zero-lt-suc 0) (h .value) (k .value) ∙ ap (λ (z : ℕ). round binary32 s z 1) (sym (mul-one n)) in
     let sa : natAbs a ≡ h .size = ap natAbs (sym (h .is)) ∙ size-of (h .sign) (h .size) in
     let sb : natAbs b ≡ k .size = ap natAbs (sym (k .is)) ∙ size-of (k .sign) (k .size) in
     subst (λ (f : Float). Is f (a *ℤ b)) (sym r)
     record {
-      sign = unlike (h .sign) (k .sign);
-      size = h .size * k .size;
-      value = round-at (unlike (h .sign) (k .sign)) (h .size * k .size) C (mul-pos (down-pos e) (down-pos d)) (subst (λ (z : ℕ). z ≤ 2 ^ 24) (ap (λ (z : ℕ). z * natAbs b) sa ∙ ap (λ (z : ℕ). h .size * z) sb) l);
+      sign = s;
+      size = n;
+      value = round-at s n 1 (zero-lt-suc 0) (subst (λ (z : ℕ). z ≤ 2 ^ 24) (ap (λ (z : ℕ). z * natAbs b) sa ∙ ap (λ (z : ℕ). h .size * z) sb) l);
       is = signed-mul (h .sign) (k .sign) (h .size) (k .size) ∙ ap (λ (i : ℤ). i *ℤ signed (k .sign) (k .size)) (h .is) ∙ ap (λ (i : ℤ). a *ℤ i) (k .is);
     }

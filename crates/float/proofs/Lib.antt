@@ -8,6 +8,7 @@ pub mod Units
 pub mod Unique
 pub mod Signs
 pub mod OrderLaws
+pub mod Products
 pub mod Exact
 pub mod Error
 pub mod Computed

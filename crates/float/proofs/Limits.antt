@@ -7,12 +7,12 @@ use mathlib.Core.Bool.{Bool, true, false, _&&_, _||_, true≢false}
 use lib.IntN.{ℤ}
 use lib.Dec.{T, ltb, eqb, ltb→lt, lt→ltb, eqb→eq}
 use lib.Pow.{pow-pos, pow-mono}
-use lib.Ieee.{Float, nan, inf, fin, binary32, up, down, fits, neg, lt, le, eq}
+use lib.Ieee.{Float, nan, inf, fin, binary32, up, down, ofBits, fits, neg, lt, le, eq}
 use lib.Ieee.Fits.{eq→eqb, and-l}
 use lib.Ieee.Bits.{is-true}
 use lib.Ieee.Order.{le-of-values}
 use Rattle.float.specs.Numbers.{zero32, absOf, largest}
-use Rattle.float.specs.Ranges.{finite?}
+use Rattle.float.specs.Ranges.{finite?, number?, notBelow0?}
 use Rattle.float.proofs.Picks.{or-yes-1, or-no}
 use Rattle.float.proofs.Values.{same-value}
 use Rattle.float.proofs.Units.{units-of, agree, with-true, abs-value}
@@ -107,3 +107,16 @@ above-size (inf true) y z = absurd (true≢false z)
 above-size (inf false) y z = refl
 above-size (fin true m e) y z = absurd (true≢false (sym (apart (m * up e * 1) (0 * down e)) ∙ or-no z y))
 above-size (fin false m e) y z = refl
+
+-- ---- worked cases: 1,048,576 and its negative are in range, the next f32 is not, and minus zero is not below 0
+pub at-limit : (number? (ofBits binary32 0x4980_0000) ≡ true) × (number? (ofBits binary32 0xc980_0000) ≡ true)
+unfolding number? absOf ofBits le
+at-limit = (refl, refl)
+
+pub past-limit : (number? (ofBits binary32 0x4980_0001) ≡ false) × (number? (ofBits binary32 0xc980_0001) ≡ false)
+unfolding number? absOf ofBits le
+past-limit = (refl, refl)
+
+pub minus-zero : notBelow0? (ofBits binary32 0x8000_0000) ≡ true
+unfolding notBelow0? ofBits le
+minus-zero = refl

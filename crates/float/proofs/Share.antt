@@ -4,21 +4,22 @@
 use mathlib.Core.Path.{_≡_, refl, sym, ap, _∙_, subst}
 use mathlib.Core.Logic.{_⊎_, inl, inr}
 use Prim.Native.Nat.{ℕ, _+_, _*_, _^_, _≤_, _<_, zero-le}
-use native.Mathlib.Nat.{eq-of-mul-eq-mul-right, le-trans, le-of-eq, le-of-lt, lt-of-le-of-lt, lt-irrefl, mul-pos, mul-one, one-mul, zero-mul, mul-assoc, mul-comm, mul-left-comm, mul-mul-mul-comm, mul-le-mul-right, le-of-mul-le-mul-right, zero-lt-suc}
+use native.Mathlib.Nat.{le-trans, le-of-eq, le-of-lt, lt-of-le-of-lt, mul-pos, mul-one, one-mul, mul-assoc, mul-comm, mul-left-comm, mul-le-mul-right, le-of-mul-le-mul-right, zero-lt-suc}
 use native.Mathlib.Omega.{arith}
-use mathlib.Core.Bool.{Bool, true, false, not, cond, _&&_, _||_, true≢false}
+use mathlib.Core.Bool.{Bool, true, false, cond, _&&_, _||_, true≢false}
 use lib.IntN.{ℤ, pos}
-use lib.Dec.{T, ltb, eqb, ltb→lt, eqb→eq, not-T, lit<}
+use lib.Dec.{T, ltb, eqb, ltb→lt, eqb→eq, lit<}
 use lib.Pow.{pow-add, pow-pos}
 use lib.Ieee.{Float, nan, inf, fin, binary32, up, down, unlike, odd, units, round, ofBits, fits, mul, div, lt, le, eq}
 use lib.Ieee.Fits.{down-pos, round-is}
 use lib.Ieee.Exact.{HasValue, round-exact, units-val}
-use lib.Ieee.Bits.{cond-no, is-true}
+use lib.Ieee.Bits.{is-true}
 use lib.Ieee.Order.{transfer, le-of-values, round-mono, kept, drop}
-use lib.Ieee.Scale.{grid, round-same}
+use lib.Ieee.Scale.{grid}
 use lib.Ieee.Positive.{first-pos}
 use Rattle.float.specs.Numbers.{zero32, absOf, shareOf}
 use Rattle.float.specs.Ranges.{finite?, number?, notBelow0?}
+use Rattle.float.proofs.Products.{mul-of, div-of}
 use Rattle.float.proofs.Units.{units-of, abs-value, value-finite, not-below}
 use Rattle.float.proofs.Limits.{limit-finite}
 
@@ -83,57 +84,6 @@ not-past num den q j p small fine h =
       | inl g ↦ le-of-mul-le-mul-right (of-le (round binary32 false num den) Y (grid binary32 num den) (2 ^ 149) Z (2 ^ 149) (pow-pos 149) (pow-pos 149) (round-sized false num den g) y l) (pow-pos 149)
       | inr e ↦ absurd (no-inf Y Z (2 ^ 149) y (subst (λ (z : Float). T (le z Y)) e l))
     ]
-
--- ---- products and quotients of two values that are fractions
-opened : (x : Float) (s : Bool) (a c : ℕ) → HasValue x s a c → (m : ℕ) × (e : ℤ) × (x ≡ fin s m e) × (m * up e * c ≡ a * down e)
-opened nan s a c h = absurd h
-opened (inf t) s a c h = absurd h
-opened (fin t m e) s a c h = (m, e, ap (λ (z : Bool). fin z m e) (h .0), h .1)
-
-mul-fin : (s : Bool) (m : ℕ) (e : ℤ) (t : Bool) (n : ℕ) (d : ℤ) → mul binary32 (fin s m e) (fin t n d) ≡ round binary32 (unlike s t) (m * up e * (n * up d)) (down e * down d)
-unfolding mul
-mul-fin s m e t n d = refl
-
-div-fin : (s : Bool) (m : ℕ) (e : ℤ) (t : Bool) (n : ℕ) (d : ℤ) → T (not (eqb n 0)) → div binary32 (fin s m e) (fin t n d) ≡ round binary32 (unlike s t) (m * up e * down d) (n * up d * down e)
-unfolding div
-div-fin s m e t n d z = cond-no (eqb n 0) (cond (eqb m 0) nan (inf (unlike s t))) (round binary32 (unlike s t) (m * up e * down d) (n * up d * down e)) z
-
-across : (x y a b c e d : ℕ) → 0 < c → x * c ≡ a * e → y * c ≡ b * d → x * d * b ≡ a * (y * e)
-across x y a b c e d C p q =
-    let l : x * d * b * c ≡ x * c * (b * d) = simp (mul-assoc, mul-comm, mul-left-comm) in
-    let r : a * e * (y * c) ≡ a * (y * e) * c = simp (mul-assoc, mul-comm, mul-left-comm) in
-    eq-of-mul-eq-mul-right c C (x * d * b) (a * (y * e)) (l ∙ ap (λ (z : ℕ). z * (b * d)) p ∙ ap (λ (z : ℕ). a * e * z) (sym q) ∙ r)
-
-module _ (x y : Float) (s t : Bool) (a b c : ℕ) (C : 0 < c) (h : HasValue x s a c) (k : HasValue y t b c) where
-  pub mul-of : mul binary32 x y ≡ round binary32 (unlike s t) (a * b) (c * c)
-  mul-of =
-      let v = opened x s a c h in
-      let w = opened y t b c k in
-      let m = v .0 in
-      let e = v .1 in
-      let n = w .0 in
-      let d = w .1 in
-      ap (λ (z : Float). mul binary32 z y) (v .2)
-      ∙ ap (λ (z : Float). mul binary32 (fin s m e) z) (w .2)
-      ∙ mul-fin s m e t n d
-      ∙ round-same binary32 (unlike s t) (m * up e * (n * up d)) (down e * down d) (a * b) (c * c) (mul-pos (down-pos e) (down-pos d)) (mul-pos C C)
-      (mul-mul-mul-comm (m * up e) (n * up d) c c ∙ ap (λ (z : ℕ). z * (n * up d * c)) (v .3) ∙ ap (λ (z : ℕ). a * down e * z) (w .3) ∙ mul-mul-mul-comm a (down e) b (down d))
-
-  pub div-of : 0 < b → div binary32 x y ≡ round binary32 (unlike s t) a b
-  div-of p =
-      let v = opened x s a c h in
-      let w = opened y t b c k in
-      let m = v .0 in
-      let e = v .1 in
-      let n = w .0 in
-      let d = w .1 in
-      let np : 0 < n * up d * c = subst (λ (z : ℕ). 0 < z) (sym (w .3)) (mul-pos p (down-pos d)) in
-      let nz : T (not (eqb n 0)) = not-T (eqb n 0) (λ u. lt-irrefl 0 (subst (λ (z : ℕ). 0 < z) (ap (λ (z : ℕ). z * up d * c) (eqb→eq n 0 u) ∙ ap (λ (z : ℕ). z * c) (zero-mul (up d)) ∙ zero-mul c) np)) in
-      let nu : 0 < n * up d = first-pos (n * up d) c np in
-      ap (λ (z : Float). div binary32 z y) (v .2)
-      ∙ ap (λ (z : Float). div binary32 (fin s m e) z) (w .2)
-      ∙ div-fin s m e t n d nz
-      ∙ round-same binary32 (unlike s t) (m * up e * down d) (n * up d * down e) a b (mul-pos nu (down-pos e)) p (across (m * up e) (n * up d) a b c (down e) (down d) C (v .3) (w .3))
 
 -- ---- the share
 scaled-le : (a b k D : ℕ) → a ≤ k * D → a * b * D ≤ b * k * (D * D)
@@ -205,6 +155,19 @@ weight-le w t true b g hw ht p l = le-trans (le-of-eq (eqb→eq b 0 (subst T (sy
 units-le : (x : Float) (s : Bool) (a k : ℕ) → HasValue x s a (2 ^ 149) → le (absOf x) (fin false 1 (pos k)) ≡ true → a ≤ 2 ^ k * 2 ^ 149
 units-le x s a k h l = le-trans (le-of-eq (sym (mul-one a))) (of-le (absOf x) (fin false 1 (pos k)) a (2 ^ 149) (2 ^ k) 1 (pow-pos 149) (zero-lt-suc 0) (abs-value x s a (2 ^ 149) h) (refl, simp (one-mul, mul-one)) (subst T (sym l) tt))
 
+-- and at most 2 ^ 169 units are a magnitude of at most 2 ^ 20
+units-in-range : (y : Float) (s : Bool) (u : ℕ) → HasValue y s u (2 ^ 149) → u ≤ 2 ^ 169 → (number? y ≡ true) × (finite? y ≡ true)
+unfolding number?
+units-in-range y s u h l =
+    let limit = fin false 1 (pos 20) in (
+      is-true (le (absOf y) limit)
+          (le-of-values (absOf y) limit u (2 ^ 149) (2 ^ 169) (2 ^ 149) (pow-pos 149) (pow-pos 149) (abs-value y s u (2 ^ 149) h) (refl, refl) (mul-le-mul-right (2 ^ 149) l)),
+      value-finite y s u (2 ^ 149) h,
+    )
+
+room : (b g : ℕ) → b ≤ g → g ≤ 2 ^ 64 * 2 ^ 149 → b * 2 ^ 20 < 2 ^ 277
+room b g h l = lt-of-le-of-lt (mul-le-mul-right (2 ^ 20) (le-trans h l)) (lit< tt)
+
 -- (mass times weight) divided by total is finite and of magnitude at most 1,048,576 where the mass is, for 0 <= weight <= total and a total above 0 and at most 2 ^ 64.
 -- (The total of an accepted mesh is far below that.)
 pub share-in-range : (m w t : Float) → T (fits binary32 m) → T (fits binary32 w) → T (fits binary32 t) → number? m ≡ true → notBelow0? w ≡ true → le w t ≡ true → lt zero32 t ≡ true
@@ -223,11 +186,5 @@ share-in-range m w t fm fw ft nm nw l p top =
     let ht : HasValue t false g D = subst (λ (z : Bool). HasValue t z g D) (pt .0) (ut .value) in
     let bg : b ≤ g = weight-le w t (uw .sign) b g (uw .value) ht nw l in
     let g-le : g ≤ 2 ^ 64 * D = le-trans (le-of-eq (sym (mul-one g))) (of-le t (fin false 1 (pos 64)) g D (2 ^ 64) 1 (pow-pos 149) (zero-lt-suc 0) ht (refl, refl) (subst T (sym top) tt)) in
-    let room : b * 2 ^ 20 < 2 ^ 277 = lt-of-le-of-lt (mul-le-mul-right (2 ^ 20) (le-trans bg g-le)) (lit< tt) in
-    let r = share-bounded m w t (um .sign) (uw .sign) a b g (uw .q) (uw .j) (um .value) (uw .value) ht (units-le m (um .sign) a 20 (um .value) nm) bg (pt .1) (uw .small) refl room in
-    let y = shareOf m w t in
-    let sign = unlike (um .sign) (uw .sign) in (
-      is-true (le (absOf y) (fin false 1 (pos 20)))
-          (le-of-values (absOf y) (fin false 1 (pos 20)) (r .0) D (2 ^ 169) D (pow-pos 149) (pow-pos 149) (abs-value y sign (r .0) D (r .1)) (refl, refl) (mul-le-mul-right D (r .2))),
-      value-finite y sign (r .0) D (r .1),
-    )
+    let r = share-bounded m w t (um .sign) (uw .sign) a b g (uw .q) (uw .j) (um .value) (uw .value) ht (units-le m (um .sign) a 20 (um .value) nm) bg (pt .1) (uw .small) refl (room b g bg g-le) in
+    units-in-range (shareOf m w t) (unlike (um .sign) (uw .sign)) (r .0) (r .1) (r .2)

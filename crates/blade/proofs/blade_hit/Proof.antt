@@ -1,3 +1,4 @@
+-- `blade::blade_hit` meets its contract. Assumes nothing.
 use borrow.Author.Needs.{needs}
 use mathlib.Core.Path.{_≡_, ap, _∙_}
 use lib.Ieee.{Float}
@@ -7,41 +8,28 @@ use Rattle.blade.specs.Points.{minusOf, dotOf}
 use Rattle.blade.specs.Blade.{normalOf, offsetAlong, crossAt, bladeHit}
 use Rattle.blade.proofs.blade_hit.Statement.{statement}
 use Rattle.blade.proofs.blade_hit.Tie as tie
-use Rattle.blade.proofs.blade_hit.Reads as reads
-use Rattle.blade.proofs.blade_hit.Lts as lts
-use Rattle.blade.proofs.cross_at.Reads as cross-at-reads
-use Rattle.blade.proofs.dot.Reads as dot-reads
-use Rattle.blade.proofs.minus.Reads as minus-reads
 
--- src/blade.rt:70:9
 minus-requires : tie.Need-minus-requires
 minus-requires c κs = search needs
 
--- src/blade.rt:72:21
 minus-requires-2 : tie.Need-minus-requires-2
 minus-requires-2 c κs = search needs
 
--- src/blade.rt:72:9
 dot-requires : tie.Need-dot-requires
 dot-requires c κs = search needs
 
--- src/blade.rt:73:21
 minus-requires-3 : tie.Need-minus-requires-3
 minus-requires-3 c κs = search needs
 
--- src/blade.rt:73:9
 dot-requires-2 : tie.Need-dot-requires-2
 dot-requires-2 c κs = search needs
 
--- src/blade.rt:74:24
 minus-requires-4 : tie.Need-minus-requires-4
 minus-requires-4 c κs = search needs
 
--- src/blade.rt:74:5
 cross-at-requires : tie.Need-cross-at-requires
 cross-at-requires c κs = search needs
 
--- src/blade.rt:67:1
 -- each call's answer put in the next one's place
 glue : (b0 b1 p q d w mp mq : Point) (dp dq : Float) (r : Hit) → d ≡ minusOf b1 b0 → mp ≡ minusOf p b0 → dp ≡ dotOf (normalOf d) mp → mq ≡ minusOf q b0 → dq ≡ dotOf (normalOf d) mq
     → w ≡ minusOf q p → r ≡ crossAt d b0 p w dp dq → r ≡ bladeHit b0 b1 p q

@@ -1,14 +1,12 @@
 -- `blade::clamp` meets its contract. Assumes nothing.
-use mathlib.Core.Path.{_≡_, sym, ap, _∙_}
+use mathlib.Core.Path.{_≡_, ap, _∙_}
 use mathlib.Core.Logic.{⊎-elim}
-use lib.Ieee.{Float, lt, ofBits}
+use lib.Ieee.{lt, ofBits}
 use Rattle.float.specs.Numbers.{zero32, one}
 use Rattle.blade.specs.Blade.{clampLow, clampHigh}
 use Rattle.float.proofs.Picks.{yes, no}
 use Rattle.blade.proofs.clamp.Statement.{statement}
 use Rattle.blade.proofs.clamp.Tie as tie
-use Rattle.blade.proofs.clamp.Reads as reads
-use Rattle.blade.proofs.clamp.Lts as lts
 
 first : (c : tie.Joined1) → c .if1 .u ≡ clampLow (c .before .args .t)
 unfolding ofBits

@@ -1,6 +1,6 @@
 -- `blade::cross_at` meets its contract. Assumes nothing.
-use mathlib.Core.Path.{_≡_, sym, ap, _∙_}
-use mathlib.Core.Bool.{Bool, true, false, _||_}
+use mathlib.Core.Path.{ap, _∙_}
+use mathlib.Core.Bool.{Bool, _||_}
 use mathlib.Core.Logic.{⊎-elim}
 use borrow.Author.Needs.{needs}
 use lib.Ieee.{Float, binary32, lt, eq, mul, sub, div, ofBits}
@@ -11,10 +11,6 @@ use Rattle.blade.specs.Blade.{hitAt, clampLow, clampHigh}
 use Rattle.float.proofs.Picks.{yes, no, or-yes-1, or-yes-2, or-no}
 use Rattle.blade.proofs.cross_at.Statement.{statement}
 use Rattle.blade.proofs.cross_at.Tie as tie
-use Rattle.blade.proofs.cross_at.Reads as reads
-use Rattle.blade.proofs.cross_at.Lts as lts
-use Rattle.blade.proofs.clamp.Reads as clamp-reads
-use Rattle.blade.proofs.hit_at.Reads as hit-at-reads
 
 -- the test, and the answer where it fails
 abbrev test : tie.Start → Bool

@@ -1,6 +1,6 @@
 -- `blade::hit_at` meets its contract. Assumes nothing.
 use mathlib.Core.Path.{_≡_, sym, ap, _∙_}
-use mathlib.Core.Bool.{Bool, true, false, _&&_}
+use mathlib.Core.Bool.{_&&_}
 use mathlib.Core.Logic.{⊎-elim}
 use borrow.Author.Needs.{needs}
 use lib.Ieee.{Float, le, ofBits}
@@ -12,10 +12,6 @@ use Rattle.blade.specs.Blade.{hitPoint}
 use Rattle.float.proofs.Picks.{yes, no, and-yes, and-no-1, and-no-2}
 use Rattle.blade.proofs.hit_at.Statement.{statement}
 use Rattle.blade.proofs.hit_at.Tie as tie
-use Rattle.blade.proofs.hit_at.Reads as reads
-use Rattle.blade.proofs.hit_at.Lts as lts
-use Rattle.blade.proofs.dot.Reads as dot-reads
-use Rattle.blade.proofs.minus.Reads as minus-reads
 
 minus-requires : tie.Need-minus-requires
 minus-requires c κs = search needs

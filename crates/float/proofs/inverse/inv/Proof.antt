@@ -1,8 +1,7 @@
 -- `float::inverse::inv` meets its contract. Assumes nothing.
-use mathlib.Core.Path.{sym, ap, _∙_}
 use mathlib.Core.Bool.{_&&_}
 use mathlib.Core.Logic.{⊎-elim}
-use lib.Ieee.{Float, binary32, le, neg, div, ofBits}
+use lib.Ieee.{binary32, le, neg, div, ofBits}
 use Rattle.float.specs.Numbers.{zero32, one, tiny, invOf}
 use Rattle.float.proofs.Picks.{yes, no, and-yes, and-no-1, and-no-2}
 use Rattle.float.proofs.inverse.inv.Statement.{statement}

@@ -1,9 +1,8 @@
 -- `float::order::total_cmp` meets its contract. Each return's tests pick its case of the definition. Assumes nothing.
 use mathlib.Core.Path.{_≡_, sym, _∙_}
-use mathlib.Core.Bool.{Bool, true, false}
+use mathlib.Core.Bool.{false}
 use mathlib.Core.Logic.{⊎-elim}
 use lib.Ieee.{isNan}
-use Rattle.float.specs.Order.{signOf}
 use Rattle.float.proofs.Signs.{nan-test, not-a-nan}
 use Rattle.float.proofs.order.total_cmp.Statement.{statement}
 use Rattle.float.proofs.order.total_cmp.Tie as tie

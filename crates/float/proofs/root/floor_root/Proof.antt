@@ -1,7 +1,7 @@
 -- `float::root::floor_root` meets its contract. The invariant: the root lies from r up to, and not at, r + b. The measure is b.
 -- Assumes nothing.
 use mathlib.Core.Path.{_≡_}
-use Prim.Native.Nat.{ℕ, _+_, _*_, _/_, _^_, _≤_, _<_}
+use Prim.Native.Nat.{_+_, _*_, _/_, _^_, _≤_, _<_}
 use native.Mathlib.Omega.{arith}
 use Rattle.float.proofs.Squares.{root-lt, sq-fits, covers}
 use Rattle.float.proofs.root.floor_root.Statement.{statement}

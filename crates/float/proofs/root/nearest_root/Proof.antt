@@ -1,5 +1,4 @@
 -- `float::root::nearest_root` meets its contract. Assumes nothing.
-use Prim.Native.Nat.{_+_, _*_}
 use native.Mathlib.Omega.{arith}
 use borrow.Author.Needs.{needs}
 use Rattle.float.proofs.Squares.{root-lt, stays, moves}

@@ -1,7 +1,5 @@
 -- `float::root::root` meets its contract. Each case of the bit pattern is a fact of `proofs/Patterns.antt`. Assumes nothing.
 use mathlib.Core.Path.{_≡_, sym, subst}
-use native.Mathlib.Omega.{arith}
-use Prim.Native.Nat.{_^_, _<_}
 use borrow.Author.Needs.{needs}
 use lib.Dec.{T}
 use lib.Ieee.{Float, binary32, fits, toBits, ofBits}
