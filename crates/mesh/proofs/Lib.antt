@@ -3,3 +3,4 @@ pub mod Lists
 pub mod Fan
 pub mod Blocks
 pub mod Agree
+pub mod Joined
