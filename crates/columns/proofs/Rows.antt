@@ -175,3 +175,18 @@ module _ {A : Type 0} (p : A → Bool) where
   all-stops zero i row h g = absurd (not-suc-le-zero h)
   all-stops (suc n) zero row h g = rw g refl
   all-stops (suc n) (suc i) row h g = rw (all-stops n i (λ k. row (suc k)) (le-of-suc-le-suc h) g) (and-false (p (row 0)))
+
+-- at the loop's end every row has passed
+pub all-end : {A : Type 0} (p : A → Bool) (n i : ℕ) (row : ℕ → A) → all p (tab i row) ≡ true → i ≤ n → n ≤ i → true ≡ all p (tab n row)
+all-end p n i row h g k = let e : i ≡ n = omega arith in sym (ap (λ (j : ℕ). all p (tab j row)) (sym e) ∙ h)
+
+-- a test of the rows that f names is a test of their numbers
+all-along : {A : Type 0} (p : A → Bool) (n : ℕ) (row : ℕ → A) (f : ℕ → ℕ) → all p (tab n (λ k. row (f k))) ≡ all (λ k. p (row k)) (tab n f)
+unfolding all tab
+all-along p zero row f = refl
+all-along p (suc n) row f = ap (λ (b : Bool). p (row (f 0)) && b) (all-along p n row (λ k. f (suc k)))
+
+-- a test of the rows is a test of their numbers
+pub all-tab : {A : Type 0} (p : A → Bool) (n : ℕ) (row : ℕ → A) → all p (tab n row) ≡ all (λ k. p (row k)) (upTo n)
+unfolding upTo
+all-tab p n row = all-along p n row (λ k. k)

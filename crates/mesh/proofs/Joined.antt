@@ -1,11 +1,10 @@
 -- Tests joined one by one: a conjunction, the first refusal, and the names of two and of three particles.
 use Prim.Native.Nat.{ℕ, _/_, _≤_}
-use native.Mathlib.Omega.{arith}
 use mathlib.Core.Path.{_≡_, refl, sym, ap, _∙_}
 use mathlib.Core.Bool.{Bool, true, false, not, _&&_}
 use mathlib.Core.List.{[], _∷_}
 use lib.Dec.{eqb, leb, ltb}
-use borrow.Author.Tests.{eq-eqb, ne-eqb, eqb-true, leb-true}
+use borrow.Author.Tests.{eq-eqb, eqb-true, leb-true}
 use Rattle.lists.specs.Lists.{pick}
 use Rattle.columns.proofs.Rows.{no, both-true}
 use Rattle.model.specs.Valid.{named}

@@ -1,14 +1,17 @@
--- Helpers that only the workers' contracts and their proofs need: one row copied, the marked edges gone, corners rewired, and the room for it. Nothing here has to be believed.
+-- Helpers that only the contracts of inner functions and their proofs need: a row copied, marked edges gone, corners rewired, a row's ends, and the room for it. No entry's statement names them.
 use Prim.Native.Nat.{ℕ, _+_, _-_, _/_, _≤_, _<_}
 use mathlib.Core.Path.{_≡_}
+use mathlib.Core.Bool.{Bool}
 use mathlib.Core.List.{List, [], _∷_, _++_}
 use lib.ListN.{length, getD}
 use lib.Dec.{eqb}
 use lib.Ieee.{Float}
-use Rattle.lists.specs.Lists.{pick, keep, keptOf, mapAt}
+use Rattle.lists.specs.Lists.{pick, keep, keptOf, mapAt, all}
 use Rattle.lists.specs.Labels.{replaced}
+use Rattle.columns.specs.Block.{cell}
 use Rattle.model.specs.Mesh.{Particle, Triangle, Edge, blank}
-use Rattle.mesh.specs.At.{trianglesAt}
+use Rattle.model.specs.Valid.{named, rootOk, cornersOk, triangleOk}
+use Rattle.mesh.specs.At.{particlesAt, trianglesAt}
 use Rattle.mesh.specs.declared.EdgeRow.{EdgeRow}
 
 -- p with another mass and inverse mass
@@ -40,6 +43,22 @@ copyFor v n g = pick (eqb g 0) v (n + g - 1)
 -- a struct of the program as an edge of the mesh
 abbrev pub edgeOf : EdgeRow → Edge
 edgeOf r = record { a = r .a; b = r .b; structural = r .structural; torn = r .torn; rest = r .rest; initial = r .initial; impulse = r .impulse; stress = r .stress }
+
+-- the ends in row k of a block with columns of R places name two different ones of n particles
+unfoldable pub pairOk : ℕ → ℕ → List ℕ → ℕ → Bool
+pairOk n R s k = named n (cell 0 R s 0 k ∷ cell 0 R s 1 k ∷ [])
+
+-- r tells whether the roots of n particles fit, whatever stands in their other block
+abbrev pub RootsTold : ℕ → List ℕ → Bool → Type 0
+RootsTold n roots r = (points : List Float) → r ≡ all (rootOk n) (particlesAt n points roots)
+
+-- r tells whether the corners of t triangles fit, whatever stands in their other block
+abbrev pub CornersTold : ℕ → ℕ → List ℕ → Bool → Type 0
+CornersTold n t corners r = (volumes : List Float) → r ≡ all (cornersOk n) (trianglesAt t corners volumes)
+
+-- r tells whether the numbers of t triangles fit, whatever stands in their other block
+abbrev pub VolumesTold : ℕ → List Float → Bool → Type 0
+VolumesTold t volumes r = (corners : List ℕ) → r ≡ all triangleOk (trianglesAt t corners volumes)
 
 -- n particles have room in blocks of lp and lr places
 pub record ParticleRoom (n lp lr : ℕ) : Type 0 where

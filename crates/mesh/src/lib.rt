@@ -1,4 +1,5 @@
 // Seven blocks of columns held as a mesh, with the log beside them: its rows changed, the whole copied and finished, its input checked.
+pub mod checks;
 pub mod rows;
 pub mod tests;
 pub mod whole;

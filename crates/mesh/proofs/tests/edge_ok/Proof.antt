@@ -1,15 +1,9 @@
 -- `mesh::tests::edge_ok` meets its contract: the tests are joined one by one. Assumes nothing.
-use mathlib.Core.Path.{refl, _∙_}
 use Rattle.model.specs.Valid.{edgeOk}
-use Rattle.mesh.proofs.Joined.{and-next, two-named, three-named}
+use Rattle.mesh.proofs.Joined.{and-next}
 use borrow.Author.Needs.{needs}
 use Rattle.mesh.proofs.tests.edge_ok.Statement.{statement}
 use Rattle.mesh.proofs.tests.edge_ok.Tie as tie
-use Rattle.mesh.proofs.tests.edge_ok.Reads as reads
-use Rattle.mesh.proofs.tests.edge_ok.Lts as lts
-use Rattle.float.proofs.range.in_range.Reads as in-range-reads
-use Rattle.float.proofs.range.not_below_zero.Reads as not-below-zero-reads
-use Rattle.mesh.proofs.tests.both.Reads as both-reads
 
 both-requires : tie.Need-both-requires
 both-requires c κs = search needs

@@ -1,13 +1,10 @@
 -- `mesh::tests::list_fits` meets its contract: the tests are joined one by one. Assumes nothing.
-use mathlib.Core.Path.{refl, _∙_}
+use mathlib.Core.Path.{refl}
 use Rattle.mesh.specs.Given.{listFits}
-use Rattle.mesh.proofs.Joined.{and-next, two-named, three-named}
+use Rattle.mesh.proofs.Joined.{and-next}
 use borrow.Author.Needs.{needs}
 use Rattle.mesh.proofs.tests.list_fits.Statement.{statement}
 use Rattle.mesh.proofs.tests.list_fits.Tie as tie
-use Rattle.mesh.proofs.tests.list_fits.Reads as reads
-use Rattle.mesh.proofs.tests.list_fits.Lts as lts
-use Rattle.mesh.proofs.tests.both.Reads as both-reads
 
 both-requires : tie.Need-both-requires
 both-requires c κs = search needs

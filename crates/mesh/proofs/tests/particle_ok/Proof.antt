@@ -1,15 +1,10 @@
 -- `mesh::tests::particle_ok` meets its contract: the tests are joined one by one. Assumes nothing.
-use mathlib.Core.Path.{refl, _∙_}
+use mathlib.Core.Path.{refl}
 use Rattle.model.specs.Valid.{particleOk}
-use Rattle.mesh.proofs.Joined.{and-next, two-named, three-named}
+use Rattle.mesh.proofs.Joined.{and-next}
 use borrow.Author.Needs.{needs}
 use Rattle.mesh.proofs.tests.particle_ok.Statement.{statement}
 use Rattle.mesh.proofs.tests.particle_ok.Tie as tie
-use Rattle.mesh.proofs.tests.particle_ok.Reads as reads
-use Rattle.mesh.proofs.tests.particle_ok.Lts as lts
-use Rattle.float.proofs.range.finite.Reads as finite-reads
-use Rattle.float.proofs.range.in_range.Reads as in-range-reads
-use Rattle.mesh.proofs.tests.both.Reads as both-reads
 
 in-range-requires : tie.Need-in-range-requires
 in-range-requires c κs = search needs

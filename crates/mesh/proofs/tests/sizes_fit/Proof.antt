@@ -1,14 +1,9 @@
 -- `mesh::tests::sizes_fit` meets its contract: four lists. Assumes nothing.
-use mathlib.Core.Path.{refl, _∙_}
 use Rattle.mesh.specs.Given.{lengthsFit}
-use Rattle.mesh.proofs.Joined.{and-next, two-named, three-named}
+use Rattle.mesh.proofs.Joined.{and-next}
 use borrow.Author.Needs.{needs}
 use Rattle.mesh.proofs.tests.sizes_fit.Statement.{statement}
 use Rattle.mesh.proofs.tests.sizes_fit.Tie as tie
-use Rattle.mesh.proofs.tests.sizes_fit.Reads as reads
-use Rattle.mesh.proofs.tests.sizes_fit.Lts as lts
-use Rattle.mesh.proofs.tests.both.Reads as both-reads
-use Rattle.mesh.proofs.tests.list_fits.Reads as list-fits-reads
 
 list-fits-requires : tie.Need-list-fits-requires
 list-fits-requires c κs = search needs

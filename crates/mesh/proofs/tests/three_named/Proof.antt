@@ -4,10 +4,6 @@ use Rattle.mesh.proofs.Joined.{and-next, two-named, three-named}
 use borrow.Author.Needs.{needs}
 use Rattle.mesh.proofs.tests.three_named.Statement.{statement}
 use Rattle.mesh.proofs.tests.three_named.Tie as tie
-use Rattle.mesh.proofs.tests.three_named.Reads as reads
-use Rattle.mesh.proofs.tests.three_named.Lts as lts
-use Rattle.mesh.proofs.tests.both.Reads as both-reads
-use Rattle.mesh.proofs.tests.two_named.Reads as two-named-reads
 
 both-requires : tie.Need-both-requires
 both-requires c κs = search needs

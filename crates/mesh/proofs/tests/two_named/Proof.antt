@@ -1,12 +1,9 @@
 -- `mesh::tests::two_named` meets its contract: three tests, as the definition has them. Assumes nothing.
 use mathlib.Core.Path.{refl, _∙_}
-use Rattle.mesh.proofs.Joined.{and-next, two-named, three-named}
+use Rattle.mesh.proofs.Joined.{and-next, two-named}
 use borrow.Author.Needs.{needs}
 use Rattle.mesh.proofs.tests.two_named.Statement.{statement}
 use Rattle.mesh.proofs.tests.two_named.Tie as tie
-use Rattle.mesh.proofs.tests.two_named.Reads as reads
-use Rattle.mesh.proofs.tests.two_named.Lts as lts
-use Rattle.mesh.proofs.tests.both.Reads as both-reads
 
 both-requires : tie.Need-both-requires
 both-requires c κs = search needs
