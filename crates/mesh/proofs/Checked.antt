@@ -1,15 +1,20 @@
--- The test of a row, by the places that the program reads, is the definition's test of that row.
-use Prim.Native.Nat.{ℕ, _+_, _*_}
-use mathlib.Core.Path.{_≡_, refl, sym}
+-- The test of a row, by the places that the program reads, is the definition's test of that row; and the tests of the lists make up those of the mesh.
+use Prim.Native.Nat.{ℕ, _+_, _*_, _/_}
+use mathlib.Core.Path.{_≡_, refl, sym, ap₂, _∙_}
+use mathlib.Core.Bool.{Bool, _&&_}
 use mathlib.Core.List.{List, [], _∷_}
-use lib.ListN.{getD}
+use lib.ListN.{length, getD}
 use lib.Dec.{ltb}
 use lib.Ieee.{Float, nan}
+use Rattle.lists.specs.Lists.{all, upTo}
 use Rattle.columns.specs.Block.{cell}
+use Rattle.columns.proofs.Rows.{all-tab}
 use Rattle.columns.proofs.Cells.{col-0, col-1}
-use Rattle.model.specs.Valid.{particleOk, triangleOk, edgeOk, cornersOk, rootOk, named}
-use Rattle.mesh.specs.At.{particleRow, triangleRow, edgeRow}
-use Rattle.mesh.specs.Workers.{pairOk}
+use Rattle.model.specs.Valid.{particleOk, triangleOk, edgeOk, cornersOk, rootOk, endsOk, sideOk, named, numbersFit, indicesFit}
+use Rattle.mesh.specs.At.{particleRow, triangleRow, edgeRow, sideRow, particlesAt, trianglesAt, edgesAt, boundaryAt, meshAt}
+use Rattle.mesh.specs.Given.{Given, sizes, meshOf}
+use Rattle.mesh.specs.Workers.{pairOk, RootsTold, CornersTold, VolumesTold}
+use Rattle.mesh.proofs.Lists.{particles-length}
 
 -- a particle's numbers
 pub particle-tested :
@@ -70,3 +75,38 @@ pair-tested n R s k = rw (col-0 0 R s k, col-1 0 R s k) refl
 pub root-tested : (n P R : ℕ) (points : List Float) (roots : List ℕ) (k : ℕ) → ltb (getD roots k 0) n ≡ rootOk n (particleRow P R points roots k)
 unfolding rootOk
 root-tested n P R points roots k = rw (col-0 0 R roots k) refl
+
+-- ---- the whole mesh
+
+module _ (G : Given) where
+  -- its numbers, list by list
+  pub numbers-told :
+      (x y z : Bool) → x ≡ all particleOk (particlesAt (sizes G .particles) (G .points) (G .roots)) → VolumesTold (sizes G .triangles) (G .volumes) y → z ≡ all edgeOk (edgesAt (sizes G .edges) (G .ends) (G .lengths))
+      → ((x && y) && z) ≡ numbersFit (meshOf G)
+  unfolding numbersFit meshOf meshAt
+  numbers-told x y z p q r = ap₂ (λ (s t : Bool). s && t) (ap₂ (λ (s t : Bool). s && t) p (q (G .corners))) r
+
+  -- the ends of its edges, and of its boundary
+  ends-told : (n : ℕ) → all (pairOk n (length (G .ends) / 4) (G .ends)) (upTo (sizes G .edges)) ≡ all (endsOk n) (edgesAt (sizes G .edges) (G .ends) (G .lengths))
+  unfolding edgesAt endsOk pairOk
+  ends-told n = sym (all-tab (endsOk n) (sizes G .edges) (edgeRow (length (G .ends) / 4) (length (G .lengths) / 4) (G .ends) (G .lengths)))
+
+  sides-told : (n : ℕ) → all (pairOk n (length (G .outline) / 2) (G .outline)) (upTo (sizes G .boundary)) ≡ all (sideOk n) (boundaryAt (sizes G .boundary) (G .outline))
+  unfolding boundaryAt sideOk pairOk
+  sides-told n = sym (all-tab (sideOk n) (sizes G .boundary) (sideRow (length (G .outline) / 2) (G .outline)))
+
+  -- its indices, list by list, once the number of its particles is known
+  four : (n m : ℕ) → m ≡ n
+      → (x y z w : Bool) → RootsTold n (G .roots) x → CornersTold n (sizes G .triangles) (G .corners) y → z ≡ all (pairOk n (length (G .ends) / 4) (G .ends)) (upTo (sizes G .edges))
+      → w ≡ all (pairOk n (length (G .outline) / 2) (G .outline)) (upTo (sizes G .boundary))
+      → (((x && y) && z) && w)
+      ≡ (all (rootOk m) (particlesAt n (G .points) (G .roots)) && all (cornersOk m) (trianglesAt (sizes G .triangles) (G .corners) (G .volumes)) && all (endsOk m) (edgesAt (sizes G .edges) (G .ends) (G .lengths)) && all (sideOk m) (boundaryAt (sizes G .boundary) (G .outline)))
+  four n m e x y z w p q r s =
+      rw e (ap₂ (λ (s t : Bool). s && t) (ap₂ (λ (s t : Bool). s && t) (ap₂ (λ (s t : Bool). s && t) (p (G .points)) (q (G .volumes))) (r ∙ ends-told n)) (s ∙ sides-told n))
+
+  pub indices-told :
+      (x y z w : Bool) → RootsTold (sizes G .particles) (G .roots) x → CornersTold (sizes G .particles) (sizes G .triangles) (G .corners) y
+      → z ≡ all (pairOk (sizes G .particles) (length (G .ends) / 4) (G .ends)) (upTo (sizes G .edges)) → w ≡ all (pairOk (sizes G .particles) (length (G .outline) / 2) (G .outline)) (upTo (sizes G .boundary))
+      → (((x && y) && z) && w) ≡ indicesFit (meshOf G)
+  unfolding indicesFit meshOf meshAt
+  indices-told x y z w p q r s = four (sizes G .particles) _ (particles-length (sizes G .particles) (G .points) (G .roots)) x y z w p q r s

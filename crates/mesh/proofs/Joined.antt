@@ -1,10 +1,11 @@
 -- Tests joined one by one: a conjunction, the first refusal, and the names of two and of three particles.
+use native.Mathlib.Omega.{arith}
 use Prim.Native.Nat.{ℕ, _/_, _≤_}
 use mathlib.Core.Path.{_≡_, refl, sym, ap, _∙_}
 use mathlib.Core.Bool.{Bool, true, false, not, _&&_}
 use mathlib.Core.List.{[], _∷_}
 use lib.Dec.{eqb, leb, ltb}
-use borrow.Author.Tests.{eq-eqb, eqb-true, leb-true}
+use borrow.Author.Tests.{ne-eqb, eq-eqb, eqb-true, leb-true}
 use Rattle.lists.specs.Lists.{pick}
 use Rattle.columns.proofs.Rows.{no, both-true}
 use Rattle.model.specs.Valid.{named}
@@ -19,6 +20,11 @@ and-next z y x t u e p q = e ∙ ap (λ (b : Bool). b && t) p ∙ ap (λ (b : Bo
 pub then-next : (z y x : ℕ) (t u : Bool) (n : ℕ) → z ≡ thenCheck y t n → y ≡ x → t ≡ u → z ≡ thenCheck x u n
 then-next z y x t u n e p q = e ∙ ap (λ (k : ℕ). thenCheck k t n) p ∙ ap (λ (b : Bool). thenCheck x b n) q
 
+-- a refusal that is there stays
+pub then-stays : (code : ℕ) (t : Bool) (n : ℕ) → (code ≡ 0 → ⊥) → code ≡ thenCheck code t n
+unfolding thenCheck
+then-stays code t n h = rw (ne-eqb code 0 h) refl
+
 -- where nothing refuses, this test holds, and nothing refused before
 pub then-zero : (code : ℕ) (t : Bool) (n : ℕ) → (n ≡ 0 → ⊥) → thenCheck code t n ≡ 0 → (code ≡ 0) × (t ≡ true)
 unfolding thenCheck
@@ -28,6 +34,10 @@ then-zero code t n ne e = by (eqb code 0) t refl e
     by true true f g = (eqb-true code 0 f, refl)
     by true false f g = absurd (ne g)
     by false u f g = no (sym f ∙ eq-eqb code 0 g)
+
+-- sizes that were tested first fit, where nothing refuses
+pub sizes-held : (z : ℕ) (t u : Bool) → z ≡ thenCheck 0 t 1 → t ≡ u → z ≡ 0 → u ≡ true
+sizes-held z t u p q e = sym q ∙ then-zero 0 t 1 (λ x. omega arith) (sym p ∙ e) .1
 
 -- two names, as they are tested
 names-two : (p q e : Bool) → ((p && not e) && q) ≡ (p && not (pick e true false) && (q && not false && true))

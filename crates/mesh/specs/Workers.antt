@@ -1,7 +1,7 @@
 -- Helpers that only the contracts of inner functions and their proofs need: a row copied, marked edges gone, corners rewired, a row's ends, and the room for it. No entry's statement names them.
 use Prim.Native.Nat.{ℕ, _+_, _-_, _/_, _≤_, _<_}
 use mathlib.Core.Path.{_≡_}
-use mathlib.Core.Bool.{Bool}
+use mathlib.Core.Bool.{Bool, true}
 use mathlib.Core.List.{List, [], _∷_, _++_}
 use lib.ListN.{length, getD}
 use lib.Dec.{eqb}
@@ -12,6 +12,7 @@ use Rattle.columns.specs.Block.{cell}
 use Rattle.model.specs.Mesh.{Particle, Triangle, Edge, blank}
 use Rattle.model.specs.Valid.{named, rootOk, cornersOk, triangleOk}
 use Rattle.mesh.specs.At.{particlesAt, trianglesAt}
+use Rattle.mesh.specs.Given.{Given, sizesFit}
 use Rattle.mesh.specs.declared.EdgeRow.{EdgeRow}
 
 -- p with another mass and inverse mass
@@ -59,6 +60,10 @@ CornersTold n t corners r = (volumes : List Float) → r ≡ all (cornersOk n) (
 -- r tells whether the numbers of t triangles fit, whatever stands in their other block
 abbrev pub VolumesTold : ℕ → List Float → Bool → Type 0
 VolumesTold t volumes r = (corners : List ℕ) → r ≡ all triangleOk (trianglesAt t corners volumes)
+
+-- the sizes of an input fit, where nothing has refused it
+abbrev pub SizedUnless : ℕ → Given → Type 0
+SizedUnless code G = code ≡ 0 → sizesFit G ≡ true
 
 -- n particles have room in blocks of lp and lr places
 pub record ParticleRoom (n lp lr : ℕ) : Type 0 where

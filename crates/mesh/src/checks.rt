@@ -8,7 +8,7 @@ ghost use Rattle.model.specs.Valid.{particleOk, edgeOk, numbersFit, indicesFit}
 ghost use Rattle.mesh.specs.At.{particlesAt, edgesAt};
 ghost use Rattle.mesh.specs.Given.{given, meshOf, sizesFit};
 ghost use Rattle.mesh.specs.Checks.{thenCheck, faultOf};
-ghost use Rattle.mesh.specs.Workers.{ParticleRoom, EdgeRoom, RootsTold, CornersTold, VolumesTold, pairOk};
+ghost use Rattle.mesh.specs.Workers.{ParticleRoom, EdgeRoom, RootsTold, CornersTold, VolumesTold, SizedUnless, pairOk};
 use crate::tests;
 
 // The numbers of the first n particles.
@@ -125,4 +125,112 @@ fn pairs_fit(n: usize, t: usize, stride: usize, s: &[usize]) -> bool
         i += 1;
     }
     true
+}
+
+// The numbers and flags of an input whose sizes fit.
+pub fn numbers_fit(
+    points: &[f32],
+    roots: &[usize],
+    corners: &[usize],
+    volumes: &[f32],
+    ends: &[usize],
+    lengths: &[f32],
+    outline: &[usize],
+) -> bool
+    requires { ⌜ sizesFit (given (now points) (now roots) (now corners) (now volumes) (now ends) (now lengths) (now outline)) ≡ true ⌝ }
+    ensures { λ r. ⌜ r ≡ numbersFit (meshOf (given (now (points .entry)) (now (roots .entry)) (now (corners .entry)) (now (volumes .entry)) (now (ends .entry)) (now (lengths .entry)) (now (outline .entry)))) ⌝ }
+{
+    let z = particles_fit(points.len() / 6, points, roots);
+    let z = tests::both(z, triangles_fit(corners.len() / 3, volumes));
+    tests::both(z, edges_fit(ends.len() / 4, ends, lengths))
+}
+
+// The indices and roots of an input whose sizes fit.
+pub fn indices_fit(
+    points: &[f32],
+    roots: &[usize],
+    corners: &[usize],
+    volumes: &[f32],
+    ends: &[usize],
+    lengths: &[f32],
+    outline: &[usize],
+) -> bool
+    requires { ⌜ sizesFit (given (now points) (now roots) (now corners) (now volumes) (now ends) (now lengths) (now outline)) ≡ true ⌝ }
+    ensures { λ r. ⌜ r ≡ indicesFit (meshOf (given (now (points .entry)) (now (roots .entry)) (now (corners .entry)) (now (volumes .entry)) (now (ends .entry)) (now (lengths .entry)) (now (outline .entry)))) ⌝ }
+{
+    let n = points.len() / 6;
+    let e = ends.len() / 4;
+    let b = outline.len() / 2;
+    let z = roots_fit(n, roots);
+    let z = tests::both(z, corners_fit(n, corners.len() / 3, corners));
+    let z = tests::both(z, pairs_fit(n, e, e, ends));
+    tests::both(z, pairs_fit(n, b, b, outline))
+}
+
+// Refusal 2, behind an earlier refusal: the numbers of a mesh are asked for only where its sizes fit.
+pub fn judge_numbers(
+    code: usize,
+    points: &[f32],
+    roots: &[usize],
+    corners: &[usize],
+    volumes: &[f32],
+    ends: &[usize],
+    lengths: &[f32],
+    outline: &[usize],
+) -> usize
+    requires { ⌜ SizedUnless code (given (now points) (now roots) (now corners) (now volumes) (now ends) (now lengths) (now outline)) ⌝ }
+    ensures { λ r. ⌜ r ≡ thenCheck code (numbersFit (meshOf (given (now (points .entry)) (now (roots .entry)) (now (corners .entry)) (now (volumes .entry)) (now (ends .entry)) (now (lengths .entry)) (now (outline .entry))))) 2 ⌝ }
+{
+    if code != 0 {
+        return code;
+    }
+    let ok = numbers_fit(points, roots, corners, volumes, ends, lengths, outline);
+    tests::first(code, ok, 2)
+}
+
+// Refusal 3, behind an earlier refusal.
+pub fn judge_indices(
+    code: usize,
+    points: &[f32],
+    roots: &[usize],
+    corners: &[usize],
+    volumes: &[f32],
+    ends: &[usize],
+    lengths: &[f32],
+    outline: &[usize],
+) -> usize
+    requires { ⌜ SizedUnless code (given (now points) (now roots) (now corners) (now volumes) (now ends) (now lengths) (now outline)) ⌝ }
+    ensures { λ r. ⌜ r ≡ thenCheck code (indicesFit (meshOf (given (now (points .entry)) (now (roots .entry)) (now (corners .entry)) (now (volumes .entry)) (now (ends .entry)) (now (lengths .entry)) (now (outline .entry))))) 3 ⌝ }
+{
+    if code != 0 {
+        return code;
+    }
+    let ok = indices_fit(points, roots, corners, volumes, ends, lengths, outline);
+    tests::first(code, ok, 3)
+}
+
+// The refusals 1 to 3 of any seven blocks, 0 for none.
+pub fn judge(
+    points: &[f32],
+    roots: &[usize],
+    corners: &[usize],
+    volumes: &[f32],
+    ends: &[usize],
+    lengths: &[f32],
+    outline: &[usize],
+) -> usize
+    ensures { λ r. ⌜ r ≡ faultOf (given (now (points .entry)) (now (roots .entry)) (now (corners .entry)) (now (volumes .entry)) (now (ends .entry)) (now (lengths .entry)) (now (outline .entry))) ⌝ }
+{
+    let fit = tests::sizes_fit(
+        points.len(),
+        roots.len(),
+        corners.len(),
+        volumes.len(),
+        ends.len(),
+        lengths.len(),
+        outline.len(),
+    );
+    let z = tests::first(0, fit, 1);
+    let z = judge_numbers(z, points, roots, corners, volumes, ends, lengths, outline);
+    judge_indices(z, points, roots, corners, volumes, ends, lengths, outline)
 }
