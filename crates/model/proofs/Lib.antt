@@ -1,0 +1,13 @@
+-- Computed cases.
+pub mod Asked
+pub mod CaseGroups
+pub mod CaseSplits
+pub mod CaseCuts
+pub mod CaseGrid
+pub mod CaseStraps
+pub mod CaseCracks
+pub mod CaseTriangleCracks
+pub mod CaseLoads
+pub mod CaseReads
+pub mod CaseRefusals
+pub mod CaseRooms
