@@ -1,4 +1,6 @@
--- Computed cases.
+-- Theorems on triangles, and computed cases.
+pub mod Traced
+pub mod Holding
 pub mod Asked
 pub mod CaseGroups
 pub mod CaseSplits

@@ -20,3 +20,5 @@ pub mod Run
 pub mod Calls
 -- the calls that only read
 pub mod Reads
+-- the words of the theorems on triangles: traced back, and every copy held
+pub mod Trace
