@@ -13,3 +13,4 @@ pub mod CaseLoads
 pub mod CaseReads
 pub mod CaseRefusals
 pub mod CaseRooms
+pub mod Splitting

@@ -258,7 +258,7 @@ module _ (O : Opening) (gone : Edge → Bool) (es : List Edge) (log more : List 
         append-nil {A = ℕ × ℕ} (map (λ g. (O .before + g, O .v)) (upTo (O .count - 1))),
       )
 
-and-true : (a b : Bool) → (a && b) ≡ true → (a ≡ true) × (b ≡ true)
+pub and-true : (a b : Bool) → (a && b) ≡ true → (a ≡ true) × (b ≡ true)
 and-true true b e = (refl, e)
 and-true false b e = absurd (let z : _≡_ {A = Bool} false true = e in let y : _≡_ {A = ℕ} 0 1 = cc in omega arith)
 
@@ -277,7 +277,7 @@ splits-here O M e =
       ],
     )
 
-copied-length : (O : Opening) (ps : List Particle) → length (copied O ps) ≡ length ps + (O .count - 1)
+pub copied-length : (O : Opening) (ps : List Particle) → length (copied O ps) ≡ length ps + (O .count - 1)
 unfolding copied upTo
 copied-length O ps =
     length-append (mapAt _ ps) (map _ (tab (O .count - 1) (λ k. k)))
