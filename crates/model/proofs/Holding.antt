@@ -273,7 +273,7 @@ cut-held B R H =
 
 -- ---- the crack
 
-straddlers-held : (R : Run) → Held R → Held (removeStraddlers Triangles R)
+pub straddlers-held : (R : Run) → Held R → Held (removeStraddlers Triangles R)
 unfolding removeStraddlers straddlersGone withoutStraddlers stepTo
 straddlers-held R H =
     record { copies = rw (no-splits (R .log) (across? Triangles (elementsOf Triangles (R .mesh)) (pieceLabels (elementsOf Triangles (R .mesh)))) (R .mesh .edges)) (H .copies) }

@@ -14,3 +14,4 @@ pub mod CaseReads
 pub mod CaseRefusals
 pub mod CaseRooms
 pub mod Splitting
+pub mod Kept

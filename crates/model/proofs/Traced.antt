@@ -262,7 +262,7 @@ pub and-true : (a b : Bool) → (a && b) ≡ true → (a ≡ true) × (b ≡ tru
 and-true true b e = (refl, e)
 and-true false b e = absurd (let z : _≡_ {A = Bool} false true = e in let y : _≡_ {A = ℕ} 0 1 = cc in omega arith)
 
-false-true : _≡_ {A = Bool} false true → ⊥
+pub false-true : _≡_ {A = Bool} false true → ⊥
 false-true e = let y : _≡_ {A = ℕ} 0 1 = cc in omega arith
 
 -- what splits is a particle that is there
@@ -377,7 +377,7 @@ pub no-splits : (log : List Entry) (p : Edge → Bool) (es : List Edge) → spli
 unfolding splitsOf goneEntries
 no-splits log p es = each-append splitOf log (goneEntries p es) ∙ ap (λ (l : List (ℕ × ℕ)). each splitOf log ++ l) (gone-entries (sift p es)) ∙ append-nil (each splitOf log)
 
-straddlers-traced : (M₀ : Mesh) (R : Run) → Traced M₀ R → Traced M₀ (removeStraddlers Triangles R)
+pub straddlers-traced : (M₀ : Mesh) (R : Run) → Traced M₀ R → Traced M₀ (removeStraddlers Triangles R)
 unfolding removeStraddlers straddlersGone withoutStraddlers stepTo
 straddlers-traced M₀ R T =
     record {

@@ -8,7 +8,7 @@ use lib.Dec.{eqb}
 use Rattle.lists.specs.Lists.{pick, stands}
 use Rattle.model.specs.Mesh.{Triangle, Mesh, blankTriangle}
 use Rattle.model.specs.Elements.{cornersOf}
-use Rattle.model.specs.Run.{Run, splitsOf}
+use Rattle.model.specs.Run.{Entry, Run, splitsOf}
 
 -- P holds of every element
 abbrev pub All : {A : Type 0} → (A → Type 0) → List A → Type 0
@@ -45,3 +45,9 @@ Hold x ts = (i : ℕ) × ((i < length ts) × (stands x (cornersOf (getD ts i bla
 -- every copy of the log belongs to a triangle
 pub record Held (R : Run) : Type 0 where
   pub copies : All (λ (cs : ℕ × ℕ). Hold (cs .0) (R .mesh .triangles)) (splitsOf (R .log))
+
+-- the same of a call that was given M and gives M′ with a log
+pub record Kept (M M′ : Mesh) (log : List Entry) : Type 0 where
+  pub sound : All (Sound (length (M′ .particles))) (M′ .triangles)
+  pub back : map (tracedBack (splitsOf log)) (M′ .triangles) ≡ map cornersOf (M .triangles)
+  pub copies : All (λ (cs : ℕ × ℕ). Hold (cs .0) (M′ .triangles)) (splitsOf log)
