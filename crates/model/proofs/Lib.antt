@@ -15,3 +15,4 @@ pub mod CaseRefusals
 pub mod CaseRooms
 pub mod Splitting
 pub mod Kept
+pub mod Steps
