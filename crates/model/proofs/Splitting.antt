@@ -61,12 +61,16 @@ not-and false b e = refl
 -- a pinned particle: unchanged
 pub pinned-stays : (k : Kind) (v : ℕ) (sides : List ℕ) (R : Run) → eq (particle (R .mesh) v .inv) zero32 ≡ true → splitBySides k v sides R ≡ R
 unfolding splitBySides splitStep splits? openingOf ne
-pinned-stays k v sides R e = step-not _ _ R (and-not _ _ (ap not e))
+pinned-stays k v sides R e =
+    let O = openingOf k (R .mesh) v sides in
+    step-not (splits? O (R .mesh)) (splitMade [] (λ M. M) k O R) R (and-not (leb 2 (O .count)) (ne (particle (R .mesh) v .inv) zero32) (ap not e))
 
 -- fewer than two groups: unchanged
 pub one-group-stays : (k : Kind) (v : ℕ) (sides : List ℕ) (R : Run) → countOf (gridOf k v (fanOf k (R .mesh) v) sides) < 2 → splitBySides k v sides R ≡ R
 unfolding splitBySides splitStep splits? openingOf
-one-group-stays k v sides R l = step-not _ _ R (not-and _ _ (lt-leb 2 _ l))
+one-group-stays k v sides R l =
+    let O = openingOf k (R .mesh) v sides in
+    step-not (splits? O (R .mesh)) (splitMade [] (λ M. M) k O R) R (not-and (leb 2 (O .count)) (ne (particle (R .mesh) v .inv) zero32) (lt-leb 2 (O .count) l))
 
 -- one element, or none, has fewer than two groups
 few-groups : (F : Fan) → ((a : ℕ) → a < size F → side F a < 2) → size F ≤ 1 → countOf F < 2
