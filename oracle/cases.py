@@ -147,9 +147,7 @@ def opened():
         for m in mods:
             text = open(os.path.join(CRATES, crate, 'specs', m + '.antt')).read()
             names = re.findall(r'^unfoldable pub (\S+)', text, re.M)
             own = 'Rattle.model.specs' if crate == 'model' else 'Rattle.%s.specs' % crate
-            if crate == 'model':
-                own = 'Rattle.model.specs'
             if names:
                 out.append(('%s.%s' % (own, m), names))
     return out
@@ -167,7 +165,8 @@ use Rattle.model.specs.Pieces.{defaultMinPiece}
 use Rattle.model.specs.Run.{split, edge as removed, insert, opened}
 use Rattle.model.specs.Calls.{refused, done}
 use Rattle.model.specs.Reads.{refused as denied, value}
-use Rattle.model.proofs.Asked.{Case, bits, point, blade, rooms, mesh, particle, triangle, edge, side, meshes, groups, flag, number, float, hit}
+use Rattle.model.specs.Starred.{Case, meshes, groups, flag, number, float, hit}
+use Rattle.model.proofs.Asked.{bits, point, blade, rooms, mesh, particle, triangle, edge, side}
 '''
 
 
@@ -195,6 +194,16 @@ def write(path, title, cases, names):
     open(path, 'w').write(text)
 
 
+def starred(path):
+    """Brings the names to unfold in proofs/Starred.antt up to date."""
+    text = open(path).read()
+    mods = opened()
+    uses = '-- opened\n' + ''.join('use %s.{%s}\n' % (mod, ', '.join(ns)) for mod, ns in mods) + '-- end\n'
+    text = re.sub(r'-- opened\n.*?-- end\n', lambda m: uses, text, flags=re.S)
+    line = 'unfolding ' + ' '.join(sum([ns for _, ns in mods], []) + IEEE) + '\n'
+    open(path, 'w').write(re.sub(r'(?m)^unfolding .*\n', lambda m: line, text))
+
+
 def main():
     if len(sys.argv) == 1:
         names = dict((int(l.split(' ', 1)[0]), l.split(' ', 1)[1].strip()) for l in open(os.path.join(HERE, 'cases.names')))
@@ -203,6 +212,7 @@ def main():
             part = [c for c in cases if c['no'] // 100 == n]
             write(os.path.join(CRATES, 'model', 'proofs', 'Case%s.antt' % title), title, part, names)
             print('Case%s' % title, len(part))
+        starred(os.path.join(CRATES, 'model', 'proofs', 'Starred.antt'))
     else:
         path, folder, per = sys.argv[1], sys.argv[2], int(sys.argv[3])
         cases = read(path)

@@ -1,28 +1,11 @@
--- What a computed case asks and what it wants. Meshes, points and rooms are written by their numbers, each f32 by its bits. Assumes nothing.
+-- How the computed cases write meshes, points and rooms: by their numbers, each f32 by its bits. Assumes nothing.
 use Prim.Native.Nat.{ℕ}
-use mathlib.Core.Bool.{Bool}
 use mathlib.Core.List.{List}
 use lib.Ieee.{Float, binary32, ofBits}
 use Rattle.blade.specs.declared.Point.{Point}
-use Rattle.blade.specs.declared.Hit.{Hit}
 use Rattle.model.specs.Mesh.{Particle, Triangle, Edge, Side, Mesh}
 use Rattle.model.specs.Run.{Rooms}
 use Rattle.model.specs.Cut.{Blade}
-use Rattle.model.specs.Calls.{Outcome}
-use Rattle.model.specs.Reads.{Read}
-
--- an answer of any call
-pub data Answer : Type 0 where
-  meshes : Outcome → Answer
-  groups : Read (List ℕ × ℕ) → Answer
-  flag : Read Bool → Answer
-  number : Read ℕ → Answer
-  float : Read Float → Answer
-  hit : Read Hit → Answer
-
-pub record Case : Type 0 where
-  pub asked : Answer
-  pub wanted : Answer
 
 abbrev pub bits : ℕ → Float
 bits b = ofBits binary32 b

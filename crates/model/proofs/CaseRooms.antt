@@ -10,7 +10,8 @@ use Rattle.model.specs.Pieces.{defaultMinPiece}
 use Rattle.model.specs.Run.{split, edge as removed, insert, opened}
 use Rattle.model.specs.Calls.{refused, done}
 use Rattle.model.specs.Reads.{refused as denied, value}
-use Rattle.model.proofs.Asked.{Case, bits, point, blade, rooms, mesh, particle, triangle, edge, side, meshes, groups, flag, number, float, hit}
+use Rattle.model.specs.Starred.{Case, meshes, groups, flag, number, float, hit}
+use Rattle.model.proofs.Asked.{bits, point, blade, rooms, mesh, particle, triangle, edge, side}
 use Rattle.lists.specs.Lists.{any, all, sift, siftAt, find, fold, each, pairs, mapAt, tab, upTo, rising, distinct, disjoint, padded, keep, keptOf, nth}
 use Rattle.lists.specs.Labels.{merged, joinPair, joinRow, joinRows, labelled}
 use Rattle.float.specs.Numbers.{absOf, maxOf, invOf}

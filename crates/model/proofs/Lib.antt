@@ -1,6 +1,7 @@
 -- Theorems on triangles, and computed cases.
 pub mod Traced
 pub mod Holding
+pub mod Starred
 pub mod Asked
 pub mod CaseGroups
 pub mod CaseSplits
