@@ -25,7 +25,7 @@ use Rattle.model.specs.Pieces.{pieceLabels, across?, withoutStraddlers, 
 use Rattle.model.specs.Cut.{Blade, leftOf, keptSide, splitByBlade, splitFree, splitPinched, pinched, candidates, cutFacets, bladeSides}
 use Rattle.model.specs.Crack.{Way, beyond, farSide, twoSided, meanLoad, torn, crackBy, crackPair, crackEdge, currentPair, waysOf, wayAt, loadsOf, tornEnds, crack}
 use Rattle.model.specs.Trace.{All, Hold, Held}
-use Rattle.model.proofs.Traced.{all-at, length-mapAt, copiesFrom, step-splits, splits-here, no-splits, opening-fits, Still, Found, find-fits, order-fits, still-torn, pick-one}
+use Rattle.model.proofs.Traced.{all-at, false-true, length-mapAt, copiesFrom, step-splits, splits-here, no-splits, opening-fits, Still, Found, find-fits, order-fits, still-torn, pick-one}
 
 -- ---- corners
 
@@ -39,8 +39,15 @@ pick-true false c e = e
 stands-tail : (x y : ℕ) (l : List ℕ) → stands x l ≡ true → stands x (y ∷ l) ≡ true
 stands-tail x y l e = pick-true (eqb y x) (stands x l) e
 
-stands-case : (x y : ℕ) (l : List ℕ) → stands x (y ∷ l) ≡ true → (y ≡ x) ⊎ (stands x l ≡ true)
+pub stands-case : (x y : ℕ) (l : List ℕ) → stands x (y ∷ l) ≡ true → (y ≡ x) ⊎ (stands x l ≡ true)
 stands-case x y l e = elim (ℕ-discrete y x) [ yes d ↦ inl d | no n ↦ inr (rw (ne-eqb y x n) at e) ]
+
+pub stands-not : (x y : ℕ) (l : List ℕ) → stands x (y ∷ l) ≡ false → (y ≡ x → ⊥) × (stands x l ≡ false)
+stands-not x y l e =
+    elim (ℕ-discrete y x) [
+      | yes d ↦ absurd (false-true (sym e ∙ rw (eq-eqb y x d)))
+      | no n ↦ (n, rw (ne-eqb y x n) at e)
+    ]
 
 -- where v stood, w stands; and what else stood still stands
 stands-moved : (v w : ℕ) (l : List ℕ) → stands v l ≡ true → stands w (map (replaced v w) l) ≡ true

@@ -2,12 +2,10 @@
 -- Assumes nothing.
 use mathlib.Core.Path.{_≡_, refl, sym, _∙_, ap, subst}
 use mathlib.Core.Bool.{Bool, true, false, not, _&&_}
-use mathlib.Core.Logic.{_⊎_, inl, inr, ⊎-elim}
 use mathlib.Core.List.{List, [], _∷_}
 use Prim.Native.Nat.{ℕ, zero, suc, _<_}
 use native.Mathlib.Omega.{arith}
-use native.Mathlib.Decide.{ℕ-discrete}
-use borrow.Author.Tests.{ltb-true, not-true, eq-eqb, ne-eqb}
+use borrow.Author.Tests.{ltb-true, not-true}
 use lib.Dec.{eqb, ltb}
 use lib.ListN.{length}
 use lib.Ieee.{Float}
@@ -23,17 +21,10 @@ use Rattle.model.specs.Crack.{crack}
 use Rattle.model.specs.Calls.{bladeOk, fractionOk, sidesOk, trianglesLent, refusal, firstFault, Outcome, refused, done, fitted, outcome, unless, cutCall, crackCall, splitCall, straddlersCall}
 use Rattle.model.specs.Trace.{All, Sound, Traced, Held, Kept}
 use Rattle.model.proofs.Traced.{and-true, false-true, start-traced, sides-traced, cut-traced, crack-traced, straddlers-traced}
-use Rattle.model.proofs.Holding.{start-held, sides-held, cut-held, crack-held, straddlers-held}
+use Rattle.model.proofs.Holding.{stands-not, start-held, sides-held, cut-held, crack-held, straddlers-held}
 use Rattle.model.proofs.Splitting.{Sided, sides-accepted}
 
 -- ---- an accepted mesh
-
-stands-not : (x y : ℕ) (l : List ℕ) → stands x (y ∷ l) ≡ false → (y ≡ x → ⊥) × (stands x l ≡ false)
-stands-not x y l e =
-    elim (ℕ-discrete y x) [
-      | yes d ↦ absurd (false-true (sym e ∙ rw (eq-eqb y x d)))
-      | no n ↦ (n, rw (ne-eqb y x n) at e)
-    ]
 
 named-first : (n x : ℕ) (l : List ℕ) → named n (x ∷ l) ≡ true → (x < n) × (stands x l ≡ false) × (named n l ≡ true)
 unfolding named

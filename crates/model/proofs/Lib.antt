@@ -17,3 +17,4 @@ pub mod CaseRooms
 pub mod Splitting
 pub mod Kept
 pub mod Steps
+pub mod Toward
