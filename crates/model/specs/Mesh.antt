@@ -45,9 +45,12 @@ pub record Mesh : Type 0 where
   pub edges : List Edge
   pub boundary : List Side
 
--- the particle that is read past the end of a list: no accepted mesh names one
+-- the particle, triangle and edge that are read past the end of a list: no accepted mesh names one
 abbrev pub blank : Particle
 blank = record { x = zero32; y = zero32; rest-x = zero32; rest-y = zero32; mass = zero32; inv = zero32; root = 0; damaged = 0 }
 
 abbrev pub blankTriangle : Triangle
 blankTriangle = record { a = 0; b = 0; c = 0; volume = zero32; stress = zero32 }
+
+abbrev pub blankEdge : Edge
+blankEdge = record { a = 0; b = 0; structural = 0; torn = 0; rest = zero32; initial = zero32; impulse = zero32; stress = zero32 }

@@ -1,4 +1,4 @@
--- A call at work: the mesh so far, the log so far, and what room each step needed.
+-- A call at work: the mesh so far, the log so far, and what room each step needed. Definitions only.
 use Prim.Native.Nat.{ℕ}
 use mathlib.Core.Bool.{Bool, true, false}
 use mathlib.Core.List.{List, [], _∷_, _++_}
@@ -21,6 +21,15 @@ pub record Need : Type 0 where
   pub boundary : ℕ
   pub log : ℕ
 
+-- the room for each list: the shortest lent column, and no more than the limit
+pub record Rooms : Type 0 where
+  pub particles : ℕ
+  pub triangles : ℕ
+  pub edges : ℕ
+  pub boundary : ℕ
+  pub log : ℕ
+
+-- the mesh, the log and the needs so far
 pub record Run : Type 0 where
   pub mesh : Mesh
   pub log : List Entry

@@ -1,0 +1,114 @@
+-- Pieces, the straddlers across them, and the reach of a group. Definitions only.
+use Prim.Native.Nat.{ℕ, _-_, max}
+use mathlib.Core.Bool.{Bool, true, false, not, _&&_}
+use mathlib.Core.List.{List, [], _∷_, map}
+use mathlib.Core.Option.{Option, none, some}
+use lib.ListN.{length, getD}
+use lib.Dec.{eqb, leb}
+use Rattle.lists.specs.Lists.{pick, stands, any, all, sift, upTo, distinct}
+use Rattle.lists.specs.Labels.{labelled}
+use Rattle.fan.specs.Fan.{sharedOthers}
+use Rattle.model.specs.Mesh.{Edge, Side, Mesh}
+use Rattle.model.specs.Elements.{Kind, Triangles, Straps, Nothing, Element, kindOf, elementsOf, element?, cornersPer}
+use Rattle.model.specs.Run.{Run, stepTo}
+use Rattle.model.specs.Split.{Part, Opening, goneEntries}
+
+-- ---- pieces
+
+-- the corners of the ith element of a list
+abbrev pub cornersAt : List Element → ℕ → List ℕ
+cornersAt es i = getD (map (λ (e : Element). e .corners) es) i []
+
+-- some particle is in both
+abbrev pub touch : List ℕ → List ℕ → Bool
+touch a b = any (λ x. stands x b) a
+
+-- two elements that share a particle lie in one piece, and so on along chains: each element's piece, named by the first element in it
+unfoldable pub pieceLabels : List Element → List ℕ
+pieceLabels es = labelled (λ i j. touch (cornersAt es i) (cornersAt es j)) (length es)
+
+-- the count is the number of such sets
+unfoldable pub pieces : Mesh → ℕ
+pieces M = length (distinct (pieceLabels (elementsOf (kindOf M) M)))
+
+-- ---- `remove_straddlers_across_pieces`
+
+-- the piece of particle w, by the elements and their labels: that of the first element that holds it, or none
+unfoldable pub pieceOf : List Element → List ℕ → ℕ → Option ℕ
+pieceOf [] ls w = none
+pieceOf (e ∷ es) [] w = none
+pieceOf (e ∷ es) (l ∷ ls) w = pick (stands w (e .corners)) (some l) (pieceOf es ls w)
+
+-- two pieces, and not the same
+abbrev pub apart : Option ℕ → Option ℕ → Bool
+apart none q = false
+apart (some i) none = false
+apart (some i) (some j) = not (eqb i j)
+
+-- x and y lie in different pieces
+unfoldable pub spans : List Element → List ℕ → ℕ → ℕ → Bool
+spans es ls x y = apart (pieceOf es ls x) (pieceOf es ls y)
+
+-- an edge, no element, that joins two pieces
+unfoldable pub across? : Kind → List Element → List ℕ → Edge → Bool
+across? k es ls e = not (element? k e) && spans es ls (e .a) (e .b)
+
+-- such edges go, and boundary entries that join two pieces; what touches a particle of no element stays
+unfoldable pub withoutStraddlers : Kind → List Element → List ℕ → Mesh → Mesh
+withoutStraddlers k es ls M =
+    record {
+      particles = M .particles;
+      triangles = M .triangles;
+      edges = sift (λ (e : Edge). not (across? k es ls e)) (M .edges);
+      boundary = sift (λ (s : Side). not (spans es ls (s .a) (s .b))) (M .boundary);
+    }
+
+-- the removal as one step, in which the edges are logged and the boundary entries are not
+unfoldable pub straddlersGone : Kind → List Element → Run → Run
+straddlersGone k es R =
+    let ls = pieceLabels es in
+    stepTo R (withoutStraddlers k es ls (R .mesh)) (goneEntries (across? k es ls) (R .mesh .edges)) (length (R .mesh .edges)) (length (R .mesh .boundary))
+
+-- a mesh of nothing stays as it is
+unfoldable pub removeStraddlers : Kind → Run → Run
+removeStraddlers Triangles R = straddlersGone Triangles (elementsOf Triangles (R .mesh)) R
+removeStraddlers Straps R = straddlersGone Straps (elementsOf Straps (R .mesh)) R
+removeStraddlers Nothing R = R
+
+-- ---- `opens_without_confetti`
+
+-- two elements share a facet without v: all corners but one, and none of them v
+abbrev pub facetBetween : Kind → ℕ → List ℕ → List ℕ → Bool
+facetBetween k v a b = leb (cornersPer k - 1) (sharedOthers v a b)
+
+-- each element of the whole body, labelled by the first that it reaches across such facets
+unfoldable pub reachLabels : Kind → ℕ → List Element → List ℕ
+reachLabels k v es = labelled (λ i j. facetBetween k v (cornersAt es i) (cornersAt es j)) (length es)
+
+-- the labels of the elements with these numbers
+unfoldable pub labelsAt : List ℕ → List Element → List ℕ → List ℕ
+labelsAt ns [] ls = []
+labelsAt ns (e ∷ es) [] = []
+labelsAt ns (e ∷ es) (l ∷ ls) = pick (stands (e .number) ns) (l ∷ labelsAt ns es ls) (labelsAt ns es ls)
+
+-- the numbers of the fan elements of group g
+unfoldable pub membersOf : Opening → ℕ → List ℕ
+membersOf O g = map (λ (p : Part). p .number) (sift (λ (p : Part). eqb (p .group) g) (O .fan))
+
+-- how many elements group g reaches
+unfoldable pub reachOf : List Element → List ℕ → Opening → ℕ → ℕ
+reachOf es ls O g = let seeds = labelsAt (membersOf O g) es ls in length (sift (λ l. stands l seeds) ls)
+
+-- the minimum piece is 3; a setting of 0 counts as 1
+abbrev pub defaultMinPiece : ℕ
+defaultMinPiece = 3
+
+abbrev pub minPiece : ℕ → ℕ
+minPiece n = max n 1
+
+-- each group reaches at least the minimum piece
+unfoldable pub opensWithoutConfetti : Kind → Mesh → ℕ → Opening → Bool
+opensWithoutConfetti k M min O =
+    let es = elementsOf k M in
+    let ls = reachLabels k (O .v) es in
+    all (λ g. leb (minPiece min) (reachOf es ls O g)) (upTo (O .count))
