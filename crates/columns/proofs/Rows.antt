@@ -5,12 +5,12 @@ use native.Mathlib.Nat.{le-of-suc-le-suc, not-suc-le-zero}
 use native.Mathlib.Numerals.{add-one}
 use native.Mathlib.Omega.{arith}
 use mathlib.Core.Path.{_≡_, refl, sym, ap, ap₂, _∙_}
-use mathlib.Core.Bool.{Bool, true, false, _&&_}
+use mathlib.Core.Bool.{Bool, true, false, _&&_, _||_}
 use mathlib.Core.List.{List, [], _∷_, _++_, map}
 use lib.ListN.{length, getD, take, set}
 use lib.Seq.{ext-getD, getD-take, length-take-le}
 use lib.Dec.{eqb}
-use Rattle.lists.specs.Lists.{all, upTo, tab, pick, keep, keptOf, nth, mapAt}
+use Rattle.lists.specs.Lists.{any, all, upTo, tab, pick, keep, keptOf, nth, mapAt}
 use Rattle.columns.specs.View.{Kept}
 
 module _ {A : Type 0} where
@@ -146,6 +146,16 @@ pub both-true : (t u : Bool) → (t && u) ≡ true → (t ≡ true) × (u ≡ tr
 both-true true u e = (refl, e)
 both-true false u e = no e
 
+-- neither of a disjunction that fails
+pub either-false : (t u : Bool) → (t || u) ≡ false → (t ≡ false) × (u ≡ false)
+either-false true u e = no (sym e)
+either-false false u e = (refl, e)
+
+-- a disjunction with true
+pub or-true : (t : Bool) → (t || true) ≡ true
+or-true true = refl
+or-true false = refl
+
 -- a conjunction with false
 pub and-false : (t : Bool) → (t && false) ≡ false
 and-false true = refl
@@ -190,3 +200,34 @@ all-along p (suc n) row f = ap (λ (b : Bool). p (row (f 0)) && b) (all-along p 
 pub all-tab : {A : Type 0} (p : A → Bool) (n : ℕ) (row : ℕ → A) → all p (tab n row) ≡ all (λ k. p (row k)) (upTo n)
 unfolding upTo
 all-tab p n row = all-along p n row (λ k. k)
+
+-- ---- a test on some row, asked row by row
+
+module _ {A : Type 0} (p : A → Bool) where
+  -- no row passes where there is none
+  pub any-none : (row : ℕ → A) → any p (tab 0 row) ≡ false
+  unfolding any tab
+  any-none row = refl
+
+  -- one row more that fails
+  any-suc : (i : ℕ) (row : ℕ → A) → any p (tab i row) ≡ false → p (row i) ≡ false → any p (tab (suc i) row) ≡ false
+  unfolding any tab
+  any-suc zero row h g = rw g refl
+  any-suc (suc i) row h g =
+      let q = either-false (p (row 0)) (any p (tab i (λ k. row (suc k)))) h in
+      rw (q .0) (any-suc i (λ k. row (suc k)) (q .1) g)
+
+  -- the same, as a loop counts
+  pub any-more : (i : ℕ) (row : ℕ → A) → any p (tab i row) ≡ false → p (row i) ≡ false → any p (tab (i + 1) row) ≡ false
+  any-more i row h g = rw (add-one i) (any-suc i row h g)
+
+  -- a row that passes decides
+  pub any-stops : (n i : ℕ) (row : ℕ → A) → i < n → p (row i) ≡ true → any p (tab n row) ≡ true
+  unfolding any tab
+  any-stops zero i row h g = absurd (not-suc-le-zero h)
+  any-stops (suc n) zero row h g = rw g refl
+  any-stops (suc n) (suc i) row h g = rw (any-stops n i (λ k. row (suc k)) (le-of-suc-le-suc h) g) (or-true (p (row 0)))
+
+-- at the loop's end no row has passed
+pub any-end : {A : Type 0} (p : A → Bool) (n i : ℕ) (row : ℕ → A) → any p (tab i row) ≡ false → i ≤ n → n ≤ i → false ≡ any p (tab n row)
+any-end p n i row h g k = let e : i ≡ n = omega arith in sym (ap (λ (j : ℕ). any p (tab j row)) (sym e) ∙ h)

@@ -12,7 +12,8 @@ use borrow.Author.Tests.{eq-eqb, ne-eqb}
 use Rattle.lists.specs.Lists.{pick, mapAt}
 use Rattle.lists.specs.Labels.{replaced}
 use Rattle.model.specs.Mesh.{Triangle}
-use Rattle.mesh.specs.Workers.{retargeted, onlyAt, copyFor, groupOf, Mapped}
+use Rattle.model.specs.Split.{retargeted, onlyAt, copyFor}
+use Rattle.mesh.specs.Workers.{groupOf, Mapped}
 use Rattle.mesh.specs.At.{trianglesAt}
 use Rattle.columns.proofs.Rows.{mapAt-mapAt, mapAt-ext, mapAt-same}
 

@@ -14,7 +14,8 @@ use Rattle.lists.specs.Lists.{tab, pick}
 use Rattle.lists.specs.Labels.{replaced}
 use Rattle.model.specs.Mesh.{Particle, Triangle, Edge, Side, Mesh, blank}
 use Rattle.mesh.specs.Log.{Words, World, logAt}
-use Rattle.mesh.specs.Workers.{copied, retargeted, onlyAt, edgeOf, Removed, Mapped}
+use Rattle.model.specs.Split.{retargeted, onlyAt}
+use Rattle.mesh.specs.Workers.{withCopy, edgeOf, Removed, Mapped}
 use Rattle.mesh.specs.At.{particleRow, triangleRow, edgeRow, particlesAt, trianglesAt, edgesAt}
 use Rattle.mesh.specs.declared.EdgeRow.{EdgeRow}
 use Rattle.columns.specs.Block.{cell}
@@ -42,8 +43,8 @@ module _ (v n P R : ℕ) (m w : Float) (S S₁ : List Float) (T T₁ : List ℕ)
   unfolding S₃ S₂
   new c h = store-col nan P S₂ 5 n w c n hp hp (λ q. omega arith) ∙ store-col nan P S₁ 4 n m c n hp hp (λ q. omega arith) ∙ rc .new c (omega arith)
 
-  pub pushed-rows : tab (n + 1) (particleRow P R (set (set S₁ (4 * P + n) m) (5 * P + n) w) T₁) ≡ copied v m w (tab n (particleRow P R S T))
-  unfolding copied S₃ S₂
+  pub pushed-rows : tab (n + 1) (particleRow P R (set (set S₁ (4 * P + n) m) (5 * P + n) w) T₁) ≡ withCopy v m w (tab n (particleRow P R S T))
+  unfolding withCopy S₃ S₂
   pushed-rows =
       rows-push n _ _ _
       (λ k h i.
@@ -73,7 +74,7 @@ module _ (v n P R : ℕ) (m w : Float) (S S₁ : List Float) (T T₁ : List ℕ)
 pub pushed :
     (v n : ℕ) (m w : Float) (S S₁ : List Float) (T T₁ : List ℕ) → v < n → n + 1 ≤ length S / 6 → n + 1 ≤ length T / 2
     → RowCopied nan v n 6 (length S / 6) S S₁ → RowCopied 0 v n 2 (length T / 2) T T₁ → length S₁ ≡ length S → length T₁ ≡ length T
-    → particlesAt (n + 1) (set (set S₁ (4 * (length S / 6) + n) m) (5 * (length S / 6) + n) w) T₁ ≡ copied v m w (particlesAt n S T)
+    → particlesAt (n + 1) (set (set S₁ (4 * (length S / 6) + n) m) (5 * (length S / 6) + n) w) T₁ ≡ withCopy v m w (particlesAt n S T)
 unfolding particlesAt
 pushed v n m w S S₁ T T₁ here hp hr rc rt ls lt =
     let e : length (set (set S₁ (4 * (length S / 6) + n) m) (5 * (length S / 6) + n) w) ≡ length S = simp length-set ls in
