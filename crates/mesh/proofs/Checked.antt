@@ -89,11 +89,12 @@ module _ (G : Given) where
   unfolding numbersFit meshOf meshAt
   numbers-told x y z p q r = ap₂ (λ (s t : Bool). s && t) (ap₂ (λ (s t : Bool). s && t) p (q (G .corners))) r
 
-  -- the ends of its edges, and of its boundary
+  -- the ends of its edges
   ends-told : (n : ℕ) → all (pairOk n (length (G .ends) / 4) (G .ends)) (upTo (sizes G .edges)) ≡ all (endsOk n) (edgesAt (sizes G .edges) (G .ends) (G .lengths))
   unfolding edgesAt endsOk pairOk
   ends-told n = sym (all-tab (endsOk n) (sizes G .edges) (edgeRow (length (G .ends) / 4) (length (G .lengths) / 4) (G .ends) (G .lengths)))
 
+  -- the ends of its boundary entries
   sides-told : (n : ℕ) → all (pairOk n (length (G .outline) / 2) (G .outline)) (upTo (sizes G .boundary)) ≡ all (sideOk n) (boundaryAt (sizes G .boundary) (G .outline))
   unfolding boundaryAt sideOk pairOk
   sides-told n = sym (all-tab (sideOk n) (sizes G .boundary) (sideRow (length (G .outline) / 2) (G .outline)))
@@ -107,6 +108,7 @@ module _ (G : Given) where
   four n m e x y z w p q r s =
       rw e (ap₂ (λ (s t : Bool). s && t) (ap₂ (λ (s t : Bool). s && t) (ap₂ (λ (s t : Bool). s && t) (p (G .points)) (q (G .volumes))) (r ∙ ends-told n)) (s ∙ sides-told n))
 
+  -- its indices, list by list
   pub indices-told :
       (x y z w : Bool) → RootsTold (sizes G .particles) (G .roots) x → CornersTold (sizes G .particles) (sizes G .triangles) (G .corners) y
       → z ≡ all (pairOk (sizes G .particles) (length (G .ends) / 4) (G .ends)) (upTo (sizes G .edges)) → w ≡ all (pairOk (sizes G .particles) (length (G .outline) / 2) (G .outline)) (upTo (sizes G .boundary))
@@ -127,6 +129,7 @@ unfolding kindBy
 by-some [] s h = absurd (h refl)
 by-some (t ∷ ts) s h = refl
 
+-- so is every such mesh
 pub kind-triangles : (N : Mesh) → (length (N .triangles) ≡ 0 → ⊥) → Triangles ≡ kindOf N
 unfolding kindOf
 kind-triangles N h = by-some (N .triangles) (any structural? (N .edges)) h
@@ -137,15 +140,18 @@ unfolding kindBy
 by-straps [] s h e = subst (λ (b : Bool). Straps ≡ kindBy [] b) e refl
 by-straps (t ∷ ts) s h e = absurd (omega arith)
 
+-- nothing, where no edge is structural
 by-nothing : (ts : List Triangle) (s : Bool) → length ts ≡ 0 → false ≡ s → Nothing ≡ kindBy ts s
 unfolding kindBy
 by-nothing [] s h e = subst (λ (b : Bool). Nothing ≡ kindBy [] b) e refl
 by-nothing (t ∷ ts) s h e = absurd (omega arith)
 
+-- the same of a mesh
 pub kind-straps : (N : Mesh) → length (N .triangles) ≡ 0 → true ≡ any structural? (N .edges) → Straps ≡ kindOf N
 unfolding kindOf
 kind-straps N h e = by-straps (N .triangles) (any structural? (N .edges)) h e
 
+-- the same of a mesh
 pub kind-nothing : (N : Mesh) → length (N .triangles) ≡ 0 → false ≡ any structural? (N .edges) → Nothing ≡ kindOf N
 unfolding kindOf
 kind-nothing N h e = by-nothing (N .triangles) (any structural? (N .edges)) h e

@@ -47,6 +47,7 @@ names-two true false true = refl
 names-two true false false = refl
 names-two false q e = refl
 
+-- the same, as the definition names two
 pub two-named : (n a b : ℕ) → ((ltb a n && not (eqb b a)) && ltb b n) ≡ named n (a ∷ b ∷ [])
 unfolding named
 two-named n a b = names-two (ltb a n) (ltb b n) (eqb b a)
@@ -58,6 +59,7 @@ names-three true m false true = refl
 names-three true m false false = refl
 names-three false m e f = refl
 
+-- the same, as the definition names three
 pub three-named : (n a b c : ℕ) → (((ltb a n && not (eqb b a)) && not (eqb c a)) && named n (b ∷ c ∷ [])) ≡ named n (a ∷ b ∷ c ∷ [])
 unfolding named
 three-named n a b c = names-three (ltb a n) (named n (b ∷ c ∷ [])) (eqb b a) (eqb c a)

@@ -5,3 +5,4 @@ pub mod Blocks
 pub mod Agree
 pub mod Joined
 pub mod Checked
+pub mod Refusals
