@@ -95,3 +95,12 @@ module _ {A : Type 0} (d : A) (s p : List A) (o R : ℕ) (fits : o + R ≤ lengt
 -- what a lent part has at a place
 pub mid-at : {A : Type 0} (d : A) (s : List A) (o R k : ℕ) → k < R → getD (midOf o (o + R - o) s) k d ≡ getD s (o + k) d
 mid-at d s o R k h = getD-take (o + R - o) (drop o s) k d (omega arith) ∙ getD-drop o s k d
+
+-- the first two columns, as a program writes their places
+pub col-0 : {A : Type 0} (d : A) (R : ℕ) (s : List A) (k : ℕ) → cell d R s 0 k ≡ getD s k d
+unfolding cell
+col-0 d R s k = let e : 0 * R + k ≡ k = omega arith in ap (λ (j : ℕ). getD s j d) e
+
+pub col-1 : {A : Type 0} (d : A) (R : ℕ) (s : List A) (k : ℕ) → cell d R s 1 k ≡ getD s (R + k) d
+unfolding cell
+col-1 d R s k = let e : 1 * R + k ≡ R + k = omega arith in ap (λ (j : ℕ). getD s j d) e

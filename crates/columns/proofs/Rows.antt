@@ -5,12 +5,12 @@ use native.Mathlib.Nat.{le-of-suc-le-suc, not-suc-le-zero}
 use native.Mathlib.Numerals.{add-one}
 use native.Mathlib.Omega.{arith}
 use mathlib.Core.Path.{_≡_, refl, sym, ap, ap₂, _∙_}
-use mathlib.Core.Bool.{Bool, true, false}
+use mathlib.Core.Bool.{Bool, true, false, _&&_, _||_}
 use mathlib.Core.List.{List, [], _∷_, _++_, map}
 use lib.ListN.{length, getD, take, set}
 use lib.Seq.{ext-getD, getD-take, length-take-le}
 use lib.Dec.{eqb}
-use Rattle.lists.specs.Lists.{upTo, tab, pick, keep, keptOf, nth, mapAt}
+use Rattle.lists.specs.Lists.{any, all, upTo, tab, pick, keep, keptOf, nth, mapAt}
 use Rattle.columns.specs.View.{Kept}
 
 module _ {A : Type 0} where
@@ -134,3 +134,100 @@ module _ {A : Type 0} where
   unfolding mapAt
   mapAt-same g [] e = refl
   mapAt-same g (a ∷ l) e = ap₂ _∷_ (e 0 a) (mapAt-same (λ k. g (suc k)) l (λ k. e (suc k)))
+
+-- ---- a test on every row, asked row by row
+
+-- false is not true
+pub no : {P : Type 0} → _≡_ {A = Bool} false true → P
+no e = absurd (let z : _≡_ {A = ℕ} 0 1 = cc in omega arith)
+
+-- both of a conjunction that holds
+pub both-true : (t u : Bool) → (t && u) ≡ true → (t ≡ true) × (u ≡ true)
+both-true true u e = (refl, e)
+both-true false u e = no e
+
+-- neither of a disjunction that fails
+pub either-false : (t u : Bool) → (t || u) ≡ false → (t ≡ false) × (u ≡ false)
+either-false true u e = no (sym e)
+either-false false u e = (refl, e)
+
+-- a disjunction with true
+pub or-true : (t : Bool) → (t || true) ≡ true
+or-true true = refl
+or-true false = refl
+
+-- a conjunction with false
+pub and-false : (t : Bool) → (t && false) ≡ false
+and-false true = refl
+and-false false = refl
+
+module _ {A : Type 0} (p : A → Bool) where
+  -- no row fails where there is none
+  pub all-none : (row : ℕ → A) → all p (tab 0 row) ≡ true
+  unfolding all tab
+  all-none row = refl
+
+  -- one row more that passes
+  all-suc : (i : ℕ) (row : ℕ → A) → all p (tab i row) ≡ true → p (row i) ≡ true → all p (tab (suc i) row) ≡ true
+  unfolding all tab
+  all-suc zero row h g = rw g refl
+  all-suc (suc i) row h g =
+      let q = both-true (p (row 0)) (all p (tab i (λ k. row (suc k)))) h in
+      rw (q .0) (all-suc i (λ k. row (suc k)) (q .1) g)
+
+  -- the same, as a loop counts
+  pub all-more : (i : ℕ) (row : ℕ → A) → all p (tab i row) ≡ true → p (row i) ≡ true → all p (tab (i + 1) row) ≡ true
+  all-more i row h g = rw (add-one i) (all-suc i row h g)
+
+  -- a row that fails decides
+  pub all-stops : (n i : ℕ) (row : ℕ → A) → i < n → p (row i) ≡ false → all p (tab n row) ≡ false
+  unfolding all tab
+  all-stops zero i row h g = absurd (not-suc-le-zero h)
+  all-stops (suc n) zero row h g = rw g refl
+  all-stops (suc n) (suc i) row h g = rw (all-stops n i (λ k. row (suc k)) (le-of-suc-le-suc h) g) (and-false (p (row 0)))
+
+-- at the loop's end every row has passed
+pub all-end : {A : Type 0} (p : A → Bool) (n i : ℕ) (row : ℕ → A) → all p (tab i row) ≡ true → i ≤ n → n ≤ i → true ≡ all p (tab n row)
+all-end p n i row h g k = let e : i ≡ n = omega arith in sym (ap (λ (j : ℕ). all p (tab j row)) (sym e) ∙ h)
+
+-- a test of the rows that f names is a test of their numbers
+all-along : {A : Type 0} (p : A → Bool) (n : ℕ) (row : ℕ → A) (f : ℕ → ℕ) → all p (tab n (λ k. row (f k))) ≡ all (λ k. p (row k)) (tab n f)
+unfolding all tab
+all-along p zero row f = refl
+all-along p (suc n) row f = ap (λ (b : Bool). p (row (f 0)) && b) (all-along p n row (λ k. f (suc k)))
+
+-- a test of the rows is a test of their numbers
+pub all-tab : {A : Type 0} (p : A → Bool) (n : ℕ) (row : ℕ → A) → all p (tab n row) ≡ all (λ k. p (row k)) (upTo n)
+unfolding upTo
+all-tab p n row = all-along p n row (λ k. k)
+
+-- ---- a test on some row, asked row by row
+
+module _ {A : Type 0} (p : A → Bool) where
+  -- no row passes where there is none
+  pub any-none : (row : ℕ → A) → any p (tab 0 row) ≡ false
+  unfolding any tab
+  any-none row = refl
+
+  -- one row more that fails
+  any-suc : (i : ℕ) (row : ℕ → A) → any p (tab i row) ≡ false → p (row i) ≡ false → any p (tab (suc i) row) ≡ false
+  unfolding any tab
+  any-suc zero row h g = rw g refl
+  any-suc (suc i) row h g =
+      let q = either-false (p (row 0)) (any p (tab i (λ k. row (suc k)))) h in
+      rw (q .0) (any-suc i (λ k. row (suc k)) (q .1) g)
+
+  -- the same, as a loop counts
+  pub any-more : (i : ℕ) (row : ℕ → A) → any p (tab i row) ≡ false → p (row i) ≡ false → any p (tab (i + 1) row) ≡ false
+  any-more i row h g = rw (add-one i) (any-suc i row h g)
+
+  -- a row that passes decides
+  pub any-stops : (n i : ℕ) (row : ℕ → A) → i < n → p (row i) ≡ true → any p (tab n row) ≡ true
+  unfolding any tab
+  any-stops zero i row h g = absurd (not-suc-le-zero h)
+  any-stops (suc n) zero row h g = rw g refl
+  any-stops (suc n) (suc i) row h g = rw (any-stops n i (λ k. row (suc k)) (le-of-suc-le-suc h) g) (or-true (p (row 0)))
+
+-- at the loop's end no row has passed
+pub any-end : {A : Type 0} (p : A → Bool) (n i : ℕ) (row : ℕ → A) → any p (tab i row) ≡ false → i ≤ n → n ≤ i → false ≡ any p (tab n row)
+any-end p n i row h g k = let e : i ≡ n = omega arith in sym (ap (λ (j : ℕ). any p (tab j row)) (sym e) ∙ h)

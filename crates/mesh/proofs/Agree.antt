@@ -4,7 +4,7 @@ use native.Mathlib.Nat.{suc-mul, zero-mul}
 use native.Mathlib.Omega.{arith}
 use mathlib.Core.Path.{_≡_, sym, ap, ap₂, _∙_, subst}
 use mathlib.Core.List.{List, [], _++_}
-use lib.ListN.{length, replicate, length-replicate, replicate-append-replicate}
+use lib.ListN.{replicate, length-replicate, replicate-append-replicate}
 use lib.Ieee.{Float}
 use Rattle.lists.specs.Lists.{padded, each}
 use Rattle.float.specs.Numbers.{zero32}

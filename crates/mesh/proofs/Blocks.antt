@@ -17,6 +17,7 @@ use Rattle.columns.specs.Block.{BlockCopied}
 use Rattle.columns.proofs.Rows.{tab-ext, tab-suc, take-tab, map-tab}
 use Rattle.columns.proofs.Cells.{col-fits}
 
+-- stacks of equal columns are equal
 stack-ext : {A : Type 0} (w : ℕ) (f g : ℕ → List A) → ((c : ℕ) → c < w → f c ≡ g c) → stack w f ≡ stack w g
 unfolding stack
 stack-ext zero f g h = refl
@@ -38,6 +39,7 @@ block-filled {Row} {A} field w n R z d s s′ row few room same e =
         ∙ sym (map-tab (field c) n row)
 
 module _ (P R : ℕ) (points : List Float) (roots : List ℕ) where
+  -- each column of points is a field of the particles
   pub point-at : (c k : ℕ) → c < 6 → cell nan P points c k ≡ pointOf c (particleRow P R points roots k)
   point-at zero k h = refl
   point-at (suc zero) k h = refl
@@ -47,24 +49,28 @@ module _ (P R : ℕ) (points : List Float) (roots : List ℕ) where
   point-at (suc (suc (suc (suc (suc zero))))) k h = refl
   point-at (suc (suc (suc (suc (suc (suc c)))))) k h = absurd (omega arith)
 
+  -- each column of roots is a field of the particles
   pub root-at : (c k : ℕ) → c < 2 → cell 0 R roots c k ≡ rootOf c (particleRow P R points roots k)
   root-at zero k h = refl
   root-at (suc zero) k h = refl
   root-at (suc (suc c)) k h = absurd (omega arith)
 
 module _ (C W : ℕ) (corners : List ℕ) (volumes : List Float) where
+  -- each column of corners is a field of the triangles
   pub corner-at : (c k : ℕ) → c < 3 → cell 0 C corners c k ≡ cornerOf c (triangleRow C W corners volumes k)
   corner-at zero k h = refl
   corner-at (suc zero) k h = refl
   corner-at (suc (suc zero)) k h = refl
   corner-at (suc (suc (suc c))) k h = absurd (omega arith)
 
+  -- each column of volumes is a field of the triangles
   pub volume-at : (c k : ℕ) → c < 2 → cell nan W volumes c k ≡ volumeOf c (triangleRow C W corners volumes k)
   volume-at zero k h = refl
   volume-at (suc zero) k h = refl
   volume-at (suc (suc c)) k h = absurd (omega arith)
 
 module _ (E L : ℕ) (ends : List ℕ) (lengths : List Float) where
+  -- each column of ends is a field of the edges
   pub end-at : (c k : ℕ) → c < 4 → cell 0 E ends c k ≡ endOf c (edgeRow E L ends lengths k)
   end-at zero k h = refl
   end-at (suc zero) k h = refl
@@ -72,6 +78,7 @@ module _ (E L : ℕ) (ends : List ℕ) (lengths : List Float) where
   end-at (suc (suc (suc zero))) k h = refl
   end-at (suc (suc (suc (suc c)))) k h = absurd (omega arith)
 
+  -- each column of lengths is a field of the edges
   pub length-at : (c k : ℕ) → c < 4 → cell nan L lengths c k ≡ lengthOf c (edgeRow E L ends lengths k)
   length-at zero k h = refl
   length-at (suc zero) k h = refl
@@ -79,16 +86,19 @@ module _ (E L : ℕ) (ends : List ℕ) (lengths : List Float) where
   length-at (suc (suc (suc zero))) k h = refl
   length-at (suc (suc (suc (suc c)))) k h = absurd (omega arith)
 
+-- each column of the outline is a field of the boundary
 pub side-at : (O : ℕ) (outline : List ℕ) (c k : ℕ) → c < 2 → cell 0 O outline c k ≡ sideOf c (sideRow O outline k)
 side-at O outline zero k h = refl
 side-at O outline (suc zero) k h = refl
 side-at O outline (suc (suc c)) k h = absurd (omega arith)
 
+-- the words of a log with one more entry
 words-snoc : (l : List Words) (e : Words) → wordsIn (l ++ (e ∷ [])) ≡ wordsIn l ++ (e .kind ∷ e .a ∷ e .b ∷ e .p ∷ e .q ∷ e .t ∷ [])
 unfolding each
 words-snoc [] e = refl
 words-snoc (x ∷ l) e = ap (λ (t : List ℕ). x .kind ∷ x .a ∷ x .b ∷ x .p ∷ x .q ∷ x .t ∷ t) (words-snoc l e)
 
+-- the first six of a list
 front-six : (l : List ℕ) → 6 ≤ length l → take 6 l ≡ getD l 0 0 ∷ getD l 1 0 ∷ getD l 2 0 ∷ getD l 3 0 ∷ getD l 4 0 ∷ getD l 5 0 ∷ []
 front-six [] h = absurd (omega arith)
 front-six (a ∷ []) h = absurd (omega arith)
@@ -98,6 +108,7 @@ front-six (a ∷ b ∷ c ∷ d ∷ []) h = absurd (omega arith)
 front-six (a ∷ b ∷ c ∷ d ∷ e ∷ []) h = absurd (omega arith)
 front-six (a ∷ b ∷ c ∷ d ∷ e ∷ f ∷ l) h = refl
 
+-- six more of a list's front
 six : (j : ℕ) (l : List ℕ) → j + 6 ≤ length l → take (j + 6) l ≡ take j l ++ (getD l j 0 ∷ getD l (j + 1) 0 ∷ getD l (j + 2) 0 ∷ getD l (j + 3) 0 ∷ getD l (j + 4) 0 ∷ getD l (j + 5) 0 ∷ [])
 six j l h =
     let z : j + 0 ≡ j = omega arith in
@@ -106,6 +117,7 @@ six j l h =
     (front-six (drop j l) (rw length-drop (omega arith))
     ∙ (λ i. (getD-drop j l 0 0 ∙ ap (λ (k : ℕ). getD l k 0) z) i ∷ getD-drop j l 1 0 i ∷ getD-drop j l 2 0 i ∷ getD-drop j l 3 0 i ∷ getD-drop j l 4 0 i ∷ getD-drop j l 5 0 i ∷ []))
 
+-- no entry, no words
 no-words : (log : List ℕ) → take (6 * 0) log ≡ wordsIn (tab 0 (entryRow log))
 unfolding each tab
 no-words log = refl
@@ -121,6 +133,7 @@ words-of (suc n) log h =
 
 -- ---- a copy of each list
 module _ (n : ℕ) where
+  -- the particles of copied blocks
   pub copied-particles :
       (P P′ : List Float) (R R′ : List ℕ) (lp lr : ℕ) → n ≤ length P / 6 → n ≤ length R / 2 → BlockCopied nan (length P / 6) 6 (lp / 6) P P′ → BlockCopied 0 (length R / 2) 2 (lr / 2) R R′
       → length P′ ≡ lp → length R′ ≡ lr → particlesAt n P′ R′ ≡ particlesAt n P R
@@ -140,6 +153,7 @@ module _ (n : ℕ) where
         damaged = r .cells 1 k (omega arith) (omega arith) i;
       }))
 
+  -- the triangles of copied blocks
   pub copied-triangles :
       (C C′ : List ℕ) (F F′ : List Float) (lc lf : ℕ) → n ≤ length C / 3 → n ≤ length F / 2 → BlockCopied 0 (length C / 3) 3 (lc / 3) C C′ → BlockCopied nan (length F / 2) 2 (lf / 2) F F′
       → length C′ ≡ lc → length F′ ≡ lf → trianglesAt n C′ F′ ≡ trianglesAt n C F
@@ -156,6 +170,7 @@ module _ (n : ℕ) where
         stress = f .cells 1 k (omega arith) (omega arith) i;
       }))
 
+  -- the edges of copied blocks
   pub copied-edges :
       (E E′ : List ℕ) (L L′ : List Float) (le ll : ℕ) → n ≤ length E / 4 → n ≤ length L / 4 → BlockCopied 0 (length E / 4) 4 (le / 4) E E′ → BlockCopied nan (length L / 4) 4 (ll / 4) L L′
       → length E′ ≡ le → length L′ ≡ ll → edgesAt n E′ L′ ≡ edgesAt n E L
@@ -175,6 +190,7 @@ module _ (n : ℕ) where
         stress = l .cells 3 k (omega arith) (omega arith) i;
       }))
 
+  -- the boundary of a copied block
   pub copied-boundary :
       (O O′ : List ℕ) (lo : ℕ) → n ≤ length O / 2 → BlockCopied 0 (length O / 2) 2 (lo / 2) O O′ → length O′ ≡ lo → boundaryAt n O′ ≡ boundaryAt n O
   unfolding boundaryAt

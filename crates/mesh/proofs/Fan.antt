@@ -12,7 +12,8 @@ use borrow.Author.Tests.{eq-eqb, ne-eqb}
 use Rattle.lists.specs.Lists.{pick, mapAt}
 use Rattle.lists.specs.Labels.{replaced}
 use Rattle.model.specs.Mesh.{Triangle}
-use Rattle.mesh.specs.Workers.{retargeted, onlyAt, copyFor, groupOf, Mapped}
+use Rattle.model.specs.Split.{retargeted, onlyAt, copyFor}
+use Rattle.mesh.specs.Workers.{groupOf, Mapped}
 use Rattle.mesh.specs.At.{trianglesAt}
 use Rattle.columns.proofs.Rows.{mapAt-mapAt, mapAt-ext, mapAt-same}
 
@@ -31,6 +32,7 @@ group-new [] (x ∷ gs) e g q h = absurd (omega arith)
 group-new (x ∷ es) [] e g q h = absurd (omega arith)
 group-new (x ∷ es) (y ∷ gs) e g q h = rw (ne-eqb x e (h 0 (suc-le-suc zero-le))) (group-new es gs e g (omega arith) (λ j p. h (suc j) (suc-le-suc p)))
 
+-- one more entry leaves the others' groups
 group-old : (es gs : List ℕ) (e g k : ℕ) → length es ≡ length gs → (e ≡ k → ⊥) → groupOf (es ++ (e ∷ [])) (gs ++ (g ∷ [])) k ≡ groupOf es gs k
 unfolding groupOf
 group-old [] [] e g k q h = rw (ne-eqb e k h)
@@ -38,6 +40,7 @@ group-old [] (x ∷ gs) e g k q h = absurd (omega arith)
 group-old (x ∷ es) [] e g k q h = absurd (omega arith)
 group-old (x ∷ es) (y ∷ gs) e g k q h = ap (pick (eqb x k) y) (group-old es gs e g k (omega arith) h)
 
+-- v for v changes nothing
 replaced-self : (v p : ℕ) → replaced v v p ≡ p
 replaced-self v p = by (ℕ-discrete p v)
   where
@@ -45,17 +48,21 @@ replaced-self v p = by (ℕ-discrete p v)
     by (yes q) = rw (eq-eqb p v q) (sym q)
     by (no q) = rw (ne-eqb p v q)
 
+-- nor in a triangle
 retargeted-self : (v : ℕ) (t : Triangle) → retargeted v v t ≡ t
 retargeted-self v t = λ i. record { a = replaced-self v (t .a) i; b = replaced-self v (t .b) i; c = replaced-self v (t .c) i; volume = t .volume; stress = t .stress }
 
+-- what the fan's first elements do to triangle k
 abbrev turn : ℕ → ℕ → List ℕ → List ℕ → ℕ → Triangle → Triangle
 turn v n es gs k = retargeted v (copyFor v n (groupOf es gs k))
 
+-- at the head of the loop: the first i elements are rewired
 pub record Rewiring (v n : ℕ) (es gs s₀ s : List ℕ) (i : ℕ) : Type 0 where
   pub mapped : Mapped (λ k. retargeted v (copyFor v n (groupOf (take i es) (take i gs) k))) s₀ s
   pub long : length s ≡ length s₀
   pub below : i ≤ length es
 
+-- before the first turn nothing is rewired
 pub rewiring-start : (v n : ℕ) (es gs s : List ℕ) → Rewiring v n es gs s s 0
 unfolding groupOf
 rewiring-start v n es gs s =
@@ -86,6 +93,7 @@ module _ (v n : ℕ) (es gs : List ℕ) (i : ℕ) (paired : length es ≡ length
       by (yes q) = rw (eq-eqb k (getD es i 0) q, q, absent (take i es) (take i gs) (getD es i 0) fresh, group-new (take i es) (take i gs) (getD es i 0) (getD gs i 0) eq fresh) (ap (retargeted v (copyFor v n (getD gs i 0))) (retargeted-self v t))
       by (no q) = rw (ne-eqb k (getD es i 0) q, group-old (take i es) (take i gs) (getD es i 0) (getD gs i 0) k eq (λ r. q (sym r)))
 
+  -- a turn rewires one element more
   pub rewiring-more :
       (s₀ s s′ : List ℕ) → Rewiring v n es gs s₀ s i → Mapped (onlyAt (getD es i 0) (retargeted v (copyFor v n (getD gs i 0)))) s s′ → length s′ ≡ length s → Rewiring v n es gs s₀ s′ (i + 1)
   rewiring-more s₀ s s′ r m l =
@@ -102,6 +110,7 @@ module _ (v n : ℕ) (es gs : List ℕ) (i : ℕ) (paired : length es ≡ length
         below = omega arith;
       }
 
+-- after the last turn the whole fan is rewired
 pub rewiring-done :
     (v n : ℕ) (es gs s₀ s : List ℕ) (i : ℕ) → Rewiring v n es gs s₀ s i → length es ≤ i → length es ≡ length gs
     → Mapped (λ k. retargeted v (copyFor v n (groupOf es gs k))) s₀ s

@@ -14,7 +14,8 @@ use Rattle.lists.specs.Lists.{tab, pick}
 use Rattle.lists.specs.Labels.{replaced}
 use Rattle.model.specs.Mesh.{Particle, Triangle, Edge, Side, Mesh, blank}
 use Rattle.mesh.specs.Log.{Words, World, logAt}
-use Rattle.mesh.specs.Workers.{copied, retargeted, onlyAt, edgeOf, Removed, Mapped}
+use Rattle.model.specs.Split.{retargeted, onlyAt}
+use Rattle.mesh.specs.Workers.{withCopy, edgeOf, Removed, Mapped}
 use Rattle.mesh.specs.At.{particleRow, triangleRow, edgeRow, particlesAt, trianglesAt, edgesAt}
 use Rattle.mesh.specs.declared.EdgeRow.{EdgeRow}
 use Rattle.columns.specs.Block.{cell}
@@ -26,24 +27,29 @@ use Rattle.columns.proofs.Cells.{store-same, store-row, store-col}
 -- ---- an append of a copy
 module _ (v n P R : ℕ) (m w : Float) (S S₁ : List Float) (T T₁ : List ℕ) (here : v < n) (hp : n < P) (hr : n < R) (room : 6 * P ≤ length S₁)
     (rc : RowCopied nan v n 6 P S S₁) (rt : RowCopied 0 v n 2 R T T₁) where
+  -- with the mass stored
   S₂ : List Float
   S₂ = set S₁ (4 * P + n) m
 
+  -- with the inverse mass stored too
   S₃ : List Float
   unfolding S₂
   S₃ = set S₂ (5 * P + n) w
 
+  -- the rows before are as they were
   old : (c k : ℕ) → k < n → cell nan P S₃ c k ≡ cell nan P S c k
   unfolding S₃ S₂
   old c k h =
       store-row nan P S₂ 5 n w c k (omega arith) hp (λ q. omega arith) ∙ store-row nan P S₁ 4 n m c k (omega arith) hp (λ q. omega arith) ∙ rc .old c k (omega arith) (λ q. omega arith)
 
+  -- the new row is v's, but for the two
   new : (c : ℕ) → c < 4 → cell nan P S₃ c n ≡ cell nan P S c v
   unfolding S₃ S₂
   new c h = store-col nan P S₂ 5 n w c n hp hp (λ q. omega arith) ∙ store-col nan P S₁ 4 n m c n hp hp (λ q. omega arith) ∙ rc .new c (omega arith)
 
-  pub pushed-rows : tab (n + 1) (particleRow P R (set (set S₁ (4 * P + n) m) (5 * P + n) w) T₁) ≡ copied v m w (tab n (particleRow P R S T))
-  unfolding copied S₃ S₂
+  -- the rows with the copy behind them
+  pub pushed-rows : tab (n + 1) (particleRow P R (set (set S₁ (4 * P + n) m) (5 * P + n) w) T₁) ≡ withCopy v m w (tab n (particleRow P R S T))
+  unfolding withCopy S₃ S₂
   pushed-rows =
       rows-push n _ _ _
       (λ k h i.
@@ -70,16 +76,18 @@ module _ (v n P R : ℕ) (m w : Float) (S S₁ : List Float) (T T₁ : List ℕ)
         damaged = rt .new 1 (omega arith) i;
       }))
 
+-- the particles with the copy behind them
 pub pushed :
     (v n : ℕ) (m w : Float) (S S₁ : List Float) (T T₁ : List ℕ) → v < n → n + 1 ≤ length S / 6 → n + 1 ≤ length T / 2
     → RowCopied nan v n 6 (length S / 6) S S₁ → RowCopied 0 v n 2 (length T / 2) T T₁ → length S₁ ≡ length S → length T₁ ≡ length T
-    → particlesAt (n + 1) (set (set S₁ (4 * (length S / 6) + n) m) (5 * (length S / 6) + n) w) T₁ ≡ copied v m w (particlesAt n S T)
+    → particlesAt (n + 1) (set (set S₁ (4 * (length S / 6) + n) m) (5 * (length S / 6) + n) w) T₁ ≡ withCopy v m w (particlesAt n S T)
 unfolding particlesAt
 pushed v n m w S S₁ T T₁ here hp hr rc rt ls lt =
     let e : length (set (set S₁ (4 * (length S / 6) + n) m) (5 * (length S / 6) + n) w) ≡ length S = simp length-set ls in
     rw (e, lt) (pushed-rows v n (length S / 6) (length T / 2) m w S S₁ T T₁ here (omega arith) (omega arith) (omega arith) rc rt)
 
 -- ---- a compaction
+-- the edges that the mask leaves
 pub removed :
     (mask : List ℕ) (n : ℕ) (A A′ : List ℕ) (B B′ : List Float) (r₁ r : ℕ) → BlockKept 0 mask n 4 (length A / 4) A A′ r₁ → BlockKept nan mask n 4 (length B / 4) B B′ r
     → length A′ ≡ length A → length B′ ≡ length B → Removed mask n r (edgesAt n A B) (edgesAt r A′ B′)
@@ -104,6 +112,7 @@ removed mask n A A′ B B′ r₁ r a b la lb =
     }
 
 -- ---- a row put into four columns
+-- a row was put into four columns at place n
 pub record Put {A : Type 0} (d : A) (R n : ℕ) (s : List A) (a₀ a₁ a₂ a₃ : A) (s′ : List A) : Type 0 where
   pub old : (c k : ℕ) → k < n → cell d R s′ c k ≡ cell d R s c k
   pub at0 : cell d R s′ 0 n ≡ a₀
@@ -112,17 +121,21 @@ pub record Put {A : Type 0} (d : A) (R n : ℕ) (s : List A) (a₀ a₁ a₂ a�
   pub at3 : cell d R s′ 3 n ≡ a₃
 
 module _ {A : Type 0} (d : A) (R n : ℕ) (s : List A) (a₀ a₁ a₂ a₃ : A) (room : 4 * R ≤ length s) (h : n < R) where
+  -- the first of four stores
   s₁ : List A
   s₁ = set s (0 * R + n) a₀
 
+  -- the second
   s₂ : List A
   unfolding s₁
   s₂ = set s₁ (1 * R + n) a₁
 
+  -- the third
   s₃ : List A
   unfolding s₂ s₁
   s₃ = set s₂ (2 * R + n) a₂
 
+  -- four stores put a row
   put-cols : Put d R n s a₀ a₁ a₂ a₃ (set (set (set (set s (0 * R + n) a₀) (1 * R + n) a₁) (2 * R + n) a₂) (3 * R + n) a₃)
   unfolding s₁ s₂ s₃
   put-cols =
@@ -147,6 +160,7 @@ module _ {A : Type 0} (d : A) (R n : ℕ) (s : List A) (a₀ a₁ a₂ a₃ : A)
       let e₁ : 1 * R + n ≡ R + n = omega arith in
       simp (e₀, e₁) at put-cols
 
+-- the rows with one more behind them
 edge-rows :
     (n E L : ℕ) (r : EdgeRow) (A A′ : List ℕ) (B B′ : List Float) → Put 0 E n A (r .a) (r .b) (r .structural) (r .torn) A′ → Put nan L n B (r .rest) (r .initial) (r .impulse) (r .stress) B′
     → tab (n + 1) (edgeRow E L A′ B′) ≡ tab n (edgeRow E L A B) ++ (edgeOf r ∷ [])
@@ -165,6 +179,7 @@ edge-rows n E L r A A′ B B′ p q =
     })
     (λ i. record { a = p .at0 i; b = p .at1 i; structural = p .at2 i; torn = p .at3 i; rest = q .at0 i; initial = q .at1 i; impulse = q .at2 i; stress = q .at3 i })
 
+-- the edges with one more behind them
 pub edge-pushed :
     (n : ℕ) (r : EdgeRow) (A : List ℕ) (B : List Float) → n + 1 ≤ length A / 4 → n + 1 ≤ length B / 4
     → edgesAt (n + 1) (set (set (set (set A n (r .a)) (length A / 4 + n) (r .b)) (2 * (length A / 4) + n) (r .structural)) (3 * (length A / 4) + n) (r .torn))
@@ -177,6 +192,7 @@ edge-pushed n r A B ha hb =
 
 -- ---- one corner of a triangle, after a replacement at e in column c
 module _ (R e v w c : ℕ) (s s′ : List ℕ) (he : e < R) (inside : c * R + e < length s) (q : s′ ≡ set s (c * R + e) (replaced v w (getD s (c * R + e) 0))) where
+  -- at e the corner is replaced
   pub turned : (k : ℕ) → k < R → cell 0 R s′ c k ≡ pick (eqb k e) (replaced v w (cell 0 R s c k)) (cell 0 R s c k)
   unfolding cell
   turned k hk = by (ℕ-discrete k e)
@@ -185,9 +201,11 @@ module _ (R e v w c : ℕ) (s s′ : List ℕ) (he : e < R) (inside : c * R + e 
       by (yes f) = rw (eq-eqb k e f, f, q) (getD-set-same s (c * R + e) _ 0 inside)
       by (no f) = rw (ne-eqb k e f, q) (getD-set-other s (c * R + e) (c * R + k) _ 0 (λ z. f (omega arith)))
 
+  -- other columns are as they were
   pub unturned : (b k : ℕ) → k < R → (b ≡ c → ⊥) → cell 0 R s′ b k ≡ cell 0 R s b k
   unturned b k hk ne = rw q (store-col 0 R s c e _ b k hk he ne)
 
+-- three replacements retarget one triangle
 pub retargeting :
     (e v w : ℕ) (s s₁ s₂ s₃ : List ℕ) → e < length s / 3 → s₁ ≡ set s e (replaced v w (getD s e 0))
     → s₂ ≡ set s₁ (length s / 3 + e) (replaced v w (getD s₁ (length s / 3 + e) 0))
@@ -258,6 +276,7 @@ module _ (n : ℕ) (s : List ℕ) (x₀ x₁ x₂ x₃ x₄ x₅ : ℕ) (room : 
   abbrev t₅ : List ℕ
   t₅ = set t₄ (o + 4) x₄
 
+  -- six stores put an entry behind the log
   pub noted : logAt (n + 1) (set t₅ (o + 5) x₅) ≡ logAt n s ++ (record { kind = x₀; a = x₁; b = x₂; p = x₃; q = x₄; t = x₅ } ∷ [])
   unfolding logAt
   noted =
@@ -283,22 +302,27 @@ module _ (n : ℕ) (s : List ℕ) (x₀ x₁ x₂ x₃ x₄ x₅ : ℕ) (room : 
           ∙ getD-set-other s (6 * n) i x₀ 0 (λ q. omega arith)
 
 -- ---- lengths, and a mesh by its four lists
+-- as many particles as rows
 pub particles-length : (n : ℕ) (points : List Float) (roots : List ℕ) → length (particlesAt n points roots) ≡ n
 unfolding particlesAt
 particles-length n points roots = tab-length n _
 
+-- as many edges as rows
 pub edges-length : (n : ℕ) (ends : List ℕ) (lengths : List Float) → length (edgesAt n ends lengths) ≡ n
 unfolding edgesAt
 edges-length n ends lengths = tab-length n _
 
+-- as many entries as rows
 pub log-length : (n : ℕ) (log : List ℕ) → length (logAt n log) ≡ n
 unfolding logAt
 log-length n log = tab-length n _
 
+-- meshes with equal lists are equal
 pub mesh-path :
     {ps qs : List Particle} {ts us : List Triangle} {es fs : List Edge} {bs cs : List Side} → ps ≡ qs → ts ≡ us → es ≡ fs → bs ≡ cs
     → _≡_ {A = Mesh} (record { particles = ps; triangles = ts; edges = es; boundary = bs }) (record { particles = qs; triangles = us; edges = fs; boundary = cs })
 mesh-path p t e b = λ i. record { particles = p i; triangles = t i; edges = e i; boundary = b i }
 
+-- worlds with equal meshes and logs are equal
 pub world-path : {M N : Mesh} {l k : List Words} → M ≡ N → l ≡ k → _≡_ {A = World} (record { mesh = M; log = l }) (record { mesh = N; log = k })
 world-path m l = λ i. record { mesh = m i; log = l i }

@@ -6,6 +6,7 @@ use lib.ListN.{length}
 use lib.Dec.{eqb, leb}
 use lib.Ieee.{Float}
 use Rattle.model.specs.Mesh.{Mesh}
+use Rattle.model.specs.Run as M
 use Rattle.mesh.specs.At.{meshAt}
 use Rattle.mesh.specs.declared.Counts.{Counts}
 use Rattle.mesh.specs.declared.Rooms.{Rooms}
@@ -71,3 +72,7 @@ roomsOf L =
       boundary = min 2048 (L .outline / 2);
       log = min 4096 (L .log / 6);
     }
+
+-- the rooms of the program as the definitions name them
+abbrev pub asRooms : Rooms → M.Rooms
+asRooms r = record { particles = r .particles; triangles = r .triangles; edges = r .edges; boundary = r .boundary; log = r .log }

@@ -1,31 +1,27 @@
--- Helpers that only the workers' contracts and their proofs need: one row copied, the marked edges gone, corners rewired, and the room for it. Nothing here has to be believed.
-use Prim.Native.Nat.{ℕ, _+_, _-_, _/_, _≤_, _<_}
+-- Helpers that only the contracts of inner functions and their proofs need: a row copied, marked edges gone, corners rewired, a row's ends, and the room for it. No entry's statement names them.
+use Prim.Native.Nat.{ℕ, _+_, _/_, _≤_, _<_}
 use mathlib.Core.Path.{_≡_}
+use mathlib.Core.Bool.{Bool, true}
 use mathlib.Core.List.{List, [], _∷_, _++_}
 use lib.ListN.{length, getD}
 use lib.Dec.{eqb}
 use lib.Ieee.{Float}
-use Rattle.lists.specs.Lists.{pick, keep, keptOf, mapAt}
-use Rattle.lists.specs.Labels.{replaced}
-use Rattle.model.specs.Mesh.{Particle, Triangle, Edge, blank}
-use Rattle.mesh.specs.At.{trianglesAt}
+use Rattle.lists.specs.Lists.{pick, keep, keptOf, mapAt, all, any}
+use Rattle.columns.specs.Block.{cell}
+use Rattle.model.specs.Mesh.{Particle, Triangle, Edge, Mesh, blank}
+use Rattle.model.specs.Split.{weighed}
+use Rattle.model.specs.Valid.{named, rootOk, cornersOk, triangleOk}
+use Rattle.mesh.specs.At.{particlesAt, trianglesAt, edgesAt}
+use Rattle.mesh.specs.Given.{Given, sizesFit}
 use Rattle.mesh.specs.declared.EdgeRow.{EdgeRow}
-
--- p with another mass and inverse mass
-abbrev pub weighed : Float → Float → Particle → Particle
-weighed m w p = record { x = p .x; y = p .y; rest-x = p .rest-x; rest-y = p .rest-y; mass = m; inv = w; root = p .root; damaged = p .damaged }
+use Rattle.mesh.specs.declared.Kind.{Kind}
+use Rattle.mesh.specs.declared.Kind.the-variants.{Triangles, Straps, Nothing}
+use Rattle.model.specs.Elements.{structural?, kindOf}
+use Rattle.model.specs.Elements as M
 
 -- the particles with a copy of v behind them, of mass m and inverse mass w
-unfoldable pub copied : ℕ → Float → Float → List Particle → List Particle
-copied v m w ps = ps ++ (weighed m w (getD ps v blank) ∷ [])
-
--- t with w for each corner v
-abbrev pub retargeted : ℕ → ℕ → Triangle → Triangle
-retargeted v w t = record { a = replaced v w (t .a); b = replaced v w (t .b); c = replaced v w (t .c); volume = t .volume; stress = t .stress }
-
--- g at place e alone
-abbrev pub onlyAt : {A : Type 0} → ℕ → (A → A) → ℕ → A → A
-onlyAt e g k t = pick (eqb k e) (g t) t
+unfoldable pub withCopy : ℕ → Float → Float → List Particle → List Particle
+withCopy v m w ps = ps ++ (weighed m w (getD ps v blank) ∷ [])
 
 -- the group of triangle k, for a fan of elements with their groups, or 0 where k is none of them
 unfoldable pub groupOf : List ℕ → List ℕ → ℕ → ℕ
@@ -33,13 +29,29 @@ groupOf [] gs k = 0
 groupOf (e ∷ es) [] k = 0
 groupOf (e ∷ es) (g ∷ gs) k = pick (eqb e k) g (groupOf es gs k)
 
--- group 0 keeps v, and the copy of group g is the particle n - 1 + g, where n particles were there before
-abbrev pub copyFor : ℕ → ℕ → ℕ → ℕ
-copyFor v n g = pick (eqb g 0) v (n + g - 1)
-
 -- a struct of the program as an edge of the mesh
 abbrev pub edgeOf : EdgeRow → Edge
 edgeOf r = record { a = r .a; b = r .b; structural = r .structural; torn = r .torn; rest = r .rest; initial = r .initial; impulse = r .impulse; stress = r .stress }
+
+-- the ends in row k of a block with columns of R places name two different ones of n particles
+unfoldable pub pairOk : ℕ → ℕ → List ℕ → ℕ → Bool
+pairOk n R s k = named n (cell 0 R s 0 k ∷ cell 0 R s 1 k ∷ [])
+
+-- r tells whether the roots of n particles fit, whatever stands in their other block
+abbrev pub RootsTold : ℕ → List ℕ → Bool → Type 0
+RootsTold n roots r = (points : List Float) → r ≡ all (rootOk n) (particlesAt n points roots)
+
+-- r tells whether the corners of t triangles fit, whatever stands in their other block
+abbrev pub CornersTold : ℕ → ℕ → List ℕ → Bool → Type 0
+CornersTold n t corners r = (volumes : List Float) → r ≡ all (cornersOk n) (trianglesAt t corners volumes)
+
+-- r tells whether the numbers of t triangles fit, whatever stands in their other block
+abbrev pub VolumesTold : ℕ → List Float → Bool → Type 0
+VolumesTold t volumes r = (corners : List ℕ) → r ≡ all triangleOk (trianglesAt t corners volumes)
+
+-- the sizes of an input fit, where nothing has refused it
+abbrev pub SizedUnless : ℕ → Given → Type 0
+SizedUnless code G = code ≡ 0 → sizesFit G ≡ true
 
 -- n particles have room in blocks of lp and lr places
 pub record ParticleRoom (n lp lr : ℕ) : Type 0 where
@@ -67,3 +79,19 @@ pub record FanOk (n : ℕ) (elements groups : List ℕ) (lc : ℕ) : Type 0 wher
   pub distinct : (i j : ℕ) → i < j → j < length elements → getD elements i 0 ≡ getD elements j 0 → ⊥
   pub within : (i : ℕ) → i < length elements → getD elements i 0 < lc / 3
   pub small : (i : ℕ) → i < length elements → n + getD groups i 0 ≤ 65536
+
+-- ---- kinds
+
+-- the kind of the program as the definitions name it
+abbrev pub kindNamed : Kind → M.Kind
+kindNamed Triangles = M.Triangles
+kindNamed Straps = M.Straps
+kindNamed Nothing = M.Nothing
+
+-- r tells whether one of the first n edges is structural, whatever stands in their other block
+abbrev pub StructuralTold : ℕ → List ℕ → Bool → Type 0
+StructuralTold n ends r = (lengths : List Float) → r ≡ any structural? (edgesAt n ends lengths)
+
+-- r is the kind of every mesh that has t triangles and, with some other block, these edges
+abbrev pub KindTold : ℕ → ℕ → List ℕ → Kind → Type 0
+KindTold t e ends r = (N : Mesh) (lengths : List Float) → length (N .triangles) ≡ t → N .edges ≡ edgesAt e ends lengths → kindNamed r ≡ kindOf N

@@ -7,13 +7,14 @@ ghost use lib.Ieee.{Float};
 ghost use Rattle.lists.specs.Labels.{replaced};
 ghost use Rattle.mesh.specs.At.{particlesAt, edgesAt};
 ghost use Rattle.mesh.specs.Log.{logAt};
-ghost use Rattle.mesh.specs.Workers.{copied, retargeted, onlyAt, copyFor, groupOf, edgeOf, ParticleRoom, EdgeRoom, Removed, Mapped, FanOk};
+ghost use Rattle.model.specs.Split.{retargeted, onlyAt, copyFor};
+ghost use Rattle.mesh.specs.Workers.{withCopy, groupOf, edgeOf, ParticleRoom, EdgeRoom, Removed, Mapped, FanOk};
 use crate::EdgeRow;
 
 // Appends to the n particles a copy of v, of mass m and inverse mass w.
 pub fn append_copy(v: usize, n: usize, m: f32, w: f32, points: &mut [f32], roots: &mut [usize])
     requires { ⌜ (v < n) × ParticleRoom (n + 1) (length (now points)) (length (now roots)) ⌝ }
-    ensures { λ _. ⌜ particlesAt (n + 1) (now (points .exit)) (now (roots .exit)) ≡ copied v m w (particlesAt n (now (points .entry)) (now (roots .entry))) ⌝ }
+    ensures { λ _. ⌜ particlesAt (n + 1) (now (points .exit)) (now (roots .exit)) ≡ withCopy v m w (particlesAt n (now (points .entry)) (now (roots .entry))) ⌝ }
 {
     let p = points.len() / 6;
     let r = roots.len() / 2;

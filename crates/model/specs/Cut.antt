@@ -151,7 +151,7 @@ insertionOf f M c =
       before = length (M .particles);
     }
 
--- the fraction on b's side; the segment's mass; and the half of each part of it, which goes to the new particle there and stays at the end
+-- the fraction on b's side; the segment's mass; and half the mass of a's part and of b's: the end keeps that much, and the new particle beside it gets as much
 abbrev pub left-over : Insertion → Float
 left-over I = minus one (I .t)
 

@@ -20,3 +20,7 @@ pub mod Run
 pub mod Calls
 -- the calls that only read
 pub mod Reads
+-- the words of the theorems on triangles: traced back, and every copy held
+pub mod Trace
+-- the starred cases of document 01, and its worked meshes
+pub mod Starred

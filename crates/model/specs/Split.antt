@@ -19,7 +19,7 @@ use Rattle.model.specs.Run.{Entry, split, edge, Run, stepTo}
 
 -- ---- the split to be made
 
--- an element of the fan with its group
+-- an element of the fan with its group; and the fan's elements with their groups
 pub record Part : Type 0 where
   pub number : ℕ
   pub corners : List ℕ
@@ -93,7 +93,7 @@ copied O ps = mapAt (onlyAt (O .v) (portion O 0)) ps ++ map (λ g. portion O (su
 
 -- ---- 2: the fan's elements have their groups' copies for v
 
--- the group of element number i. (0 if it is none of the fan's: it does not hold v, so nothing moves.)
+-- the group of element number i, or 0 if it is none of the fan's: then v stays v
 unfoldable pub groupAt : List Part → ℕ → ℕ
 groupAt [] i = 0
 groupAt (p ∷ ps) i = pick (eqb (p .number) i) (p .group) (groupAt ps i)
@@ -268,7 +268,7 @@ splitEntries O = map (λ c. split c (O .v)) (made O)
 unfoldable pub goneEntries : (Edge → Bool) → List Edge → List Entry
 goneEntries gone es = map (λ (e : Edge). edge (e .a) (e .b)) (sift gone es)
 
--- the split as one step: f is done to the mesh behind it, and `more` logged
+-- the split as one step (`stepTo`, in Run): f is done to the mesh behind it, and `more` logged
 unfoldable pub splitMade : List Entry → (Mesh → Mesh) → Kind → Opening → Run → Run
 splitMade more f k O R =
     let M = atLongest k O (R .mesh) in

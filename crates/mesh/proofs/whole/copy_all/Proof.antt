@@ -52,12 +52,20 @@ same-length-7 c = search needs
 returns : tie.Need-returns
 unfolding meshAt
 returns c =
-    let pre = c .before .before .before .before .before .before .before .before .before .before .before .before .before .before .before .before .before .before .before .before .before .before .before .before .before .before .before .before .before .before .before .before .before .before .before .before .before .before .before .before .before .before .pre .0 in
+    let at-outline = c .before .before in
+    let at-lengths = at-outline .before .before .before .before in
+    let at-ends = at-lengths .before .before .before .before in
+    let at-volumes = at-ends .before .before .before .before in
+    let at-corners = at-volumes .before .before .before .before in
+    let at-roots = at-corners .before .before .before .before in
+    let at-points = at-roots .before .before .before .before in
+    let start = at-points .before .before .before .before .before .before .before .before .before .before .before .before .before .before .before .before in
+    let pre = start .pre .0 in
     mesh-path
-    (copied-particles _ _ _ _ _ _ _ (pre .points) (pre .roots) (c .before .before .before .before .before .before .before .before .before .before .before .before .before .before .before .before .before .before .before .before .before .before .before .before .before .before .copy-block-f32 .ensures) (c .before .before .before .before .before .before .before .before .before .before .before .before .before .before .before .before .before .before .before .before .before .before .copy-block-usize .ensures) (c .before .before .before .before .before .before .before .before .before .before .before .before .before .before .before .before .before .before .before .before .before .before .before .before .before .before .copy-block-f32 .kept .1 .1 .1 .1 .0) (c .before .before .before .before .before .before .before .before .before .before .before .before .before .before .before .before .before .before .before .before .before .before .copy-block-usize .kept .1 .1 .1 .1 .0))
-    (copied-triangles _ _ _ _ _ _ _ (pre .corners) (pre .volumes) (c .before .before .before .before .before .before .before .before .before .before .before .before .before .before .before .before .before .before .copy-block-usize2 .ensures) (c .before .before .before .before .before .before .before .before .before .before .before .before .before .before .copy-block-f322 .ensures) (c .before .before .before .before .before .before .before .before .before .before .before .before .before .before .before .before .before .before .copy-block-usize2 .kept .1 .1 .1 .1 .0) (c .before .before .before .before .before .before .before .before .before .before .before .before .before .before .copy-block-f322 .kept .1 .1 .1 .1 .0))
-    (copied-edges _ _ _ _ _ _ _ (pre .ends) (pre .lengths) (c .before .before .before .before .before .before .before .before .before .before .copy-block-usize3 .ensures) (c .before .before .before .before .before .before .copy-block-f323 .ensures) (c .before .before .before .before .before .before .before .before .before .before .copy-block-usize3 .kept .1 .1 .1 .1 .0) (c .before .before .before .before .before .before .copy-block-f323 .kept .1 .1 .1 .1 .0))
-    (copied-boundary _ _ _ _ (pre .outline) (c .before .before .copy-block-usize4 .ensures) (c .before .before .copy-block-usize4 .kept .1 .1 .1 .1 .0))
+    (copied-particles _ _ _ _ _ _ _ (pre .points) (pre .roots) (at-points .copy-block-f32 .ensures) (at-roots .copy-block-usize .ensures) (at-points .copy-block-f32 .kept .1 .1 .1 .1 .0) (at-roots .copy-block-usize .kept .1 .1 .1 .1 .0))
+    (copied-triangles _ _ _ _ _ _ _ (pre .corners) (pre .volumes) (at-corners .copy-block-usize2 .ensures) (at-volumes .copy-block-f322 .ensures) (at-corners .copy-block-usize2 .kept .1 .1 .1 .1 .0) (at-volumes .copy-block-f322 .kept .1 .1 .1 .1 .0))
+    (copied-edges _ _ _ _ _ _ _ (pre .ends) (pre .lengths) (at-ends .copy-block-usize3 .ensures) (at-lengths .copy-block-f323 .ensures) (at-ends .copy-block-usize3 .kept .1 .1 .1 .1 .0) (at-lengths .copy-block-f323 .kept .1 .1 .1 .1 .0))
+    (copied-boundary _ _ _ _ (pre .outline) (at-outline .copy-block-usize4 .ensures) (at-outline .copy-block-usize4 .kept .1 .1 .1 .1 .0))
 
 pub copy-all-spec : {M : Type 1} → statement M
 copy-all-spec =

@@ -66,16 +66,25 @@ same-length-8 c = search needs
 returns : tie.Need-returns
 unfolding worldAt meshAt particlesAt trianglesAt edgesAt boundaryAt logAt
 returns c =
-    let pre = c .before .before .before .before .before .before .before .before .before .before .before .before .before .before .before .before .before .before .before .before .before .before .before .before .before .before .before .before .before .before .before .before .before .before .before .before .before .before .before .before .before .pre in
+    let at-log = c .before .before in
+    let at-outline = at-log .before .before .before .before .before in
+    let at-lengths = at-outline .before .before .before .before in
+    let at-ends = at-lengths .before .before .before .before in
+    let at-volumes = at-ends .before .before .before .before in
+    let at-corners = at-volumes .before .before .before .before in
+    let at-roots = at-corners .before .before .before .before in
+    let at-points = at-roots .before .before .before .before in
+    let start = at-points .before .before .before .before .before .before .before .before .before .before in
+    let pre = start .pre in
     record {
-      points = block-filled pointOf 6 _ _ zero32 nan _ _ _ (pre .points) (omega arith) (point-at _ _ (c .before .before .before .before .before .before .before .before .before .before .before .before .before .before .before .before .before .before .before .before .before .before .before .before .before .before .before .before .before .before .before .before .before .before .before .before .before .before .before .before .before .args .points .now) (c .before .before .before .before .before .before .before .before .before .before .before .before .before .before .before .before .before .before .before .before .before .before .before .before .before .before .before .before .before .before .before .before .before .before .before .before .before .before .before .before .before .args .roots .now)) (c .before .before .before .before .before .before .before .before .before .before .before .before .before .before .before .before .before .before .before .before .before .before .before .before .before .before .before .before .before .before .before .clear-block-f32 .ensures);
-      roots = block-filled rootOf 2 _ _ 0 0 _ _ _ (pre .roots) (omega arith) (root-at _ _ (c .before .before .before .before .before .before .before .before .before .before .before .before .before .before .before .before .before .before .before .before .before .before .before .before .before .before .before .before .before .before .before .before .before .before .before .before .before .before .before .before .before .args .points .now) (c .before .before .before .before .before .before .before .before .before .before .before .before .before .before .before .before .before .before .before .before .before .before .before .before .before .before .before .before .before .before .before .before .before .before .before .before .before .before .before .before .before .args .roots .now)) (c .before .before .before .before .before .before .before .before .before .before .before .before .before .before .before .before .before .before .before .before .before .before .before .before .before .before .before .clear-block-usize .ensures);
-      corners = block-filled cornerOf 3 _ _ 0 0 _ _ _ (pre .corners) (omega arith) (corner-at _ _ (c .before .before .before .before .before .before .before .before .before .before .before .before .before .before .before .before .before .before .before .before .before .before .before .before .before .before .before .before .before .before .before .before .before .before .before .before .before .before .before .before .before .args .corners .now) (c .before .before .before .before .before .before .before .before .before .before .before .before .before .before .before .before .before .before .before .before .before .before .before .before .before .before .before .before .before .before .before .before .before .before .before .before .before .before .before .before .before .args .volumes .now)) (c .before .before .before .before .before .before .before .before .before .before .before .before .before .before .before .before .before .before .before .before .before .before .before .clear-block-usize2 .ensures);
-      volumes = block-filled volumeOf 2 _ _ zero32 nan _ _ _ (pre .volumes) (omega arith) (volume-at _ _ (c .before .before .before .before .before .before .before .before .before .before .before .before .before .before .before .before .before .before .before .before .before .before .before .before .before .before .before .before .before .before .before .before .before .before .before .before .before .before .before .before .before .args .corners .now) (c .before .before .before .before .before .before .before .before .before .before .before .before .before .before .before .before .before .before .before .before .before .before .before .before .before .before .before .before .before .before .before .before .before .before .before .before .before .before .before .before .before .args .volumes .now)) (c .before .before .before .before .before .before .before .before .before .before .before .before .before .before .before .before .before .before .before .clear-block-f322 .ensures);
-      ends = block-filled endOf 4 _ _ 0 0 _ _ _ (pre .ends) (omega arith) (end-at _ _ (c .before .before .before .before .before .before .before .before .before .before .before .before .before .before .before .before .before .before .before .before .before .before .before .before .before .before .before .before .before .before .before .before .before .before .before .before .before .before .before .before .before .args .ends .now) (c .before .before .before .before .before .before .before .before .before .before .before .before .before .before .before .before .before .before .before .before .before .before .before .before .before .before .before .before .before .before .before .before .before .before .before .before .before .before .before .before .before .args .lengths .now)) (c .before .before .before .before .before .before .before .before .before .before .before .before .before .before .before .clear-block-usize3 .ensures);
-      lengths = block-filled lengthOf 4 _ _ zero32 nan _ _ _ (pre .lengths) (omega arith) (length-at _ _ (c .before .before .before .before .before .before .before .before .before .before .before .before .before .before .before .before .before .before .before .before .before .before .before .before .before .before .before .before .before .before .before .before .before .before .before .before .before .before .before .before .before .args .ends .now) (c .before .before .before .before .before .before .before .before .before .before .before .before .before .before .before .before .before .before .before .before .before .before .before .before .before .before .before .before .before .before .before .before .before .before .before .before .before .before .before .before .before .args .lengths .now)) (c .before .before .before .before .before .before .before .before .before .before .before .clear-block-f323 .ensures);
-      outline = block-filled sideOf 2 _ _ 0 0 _ _ _ (pre .outline) (omega arith) (side-at _ (c .before .before .before .before .before .before .before .before .before .before .before .before .before .before .before .before .before .before .before .before .before .before .before .before .before .before .before .before .before .before .before .before .before .before .before .before .before .before .before .before .before .args .outline .now)) (c .before .before .before .before .before .before .before .clear-block-usize4 .ensures);
-      log = c .before .before .clear-usize .ensures ∙ ap (padded _ 0) (words-of _ _ (omega (arith, pre .log)));
+      points = block-filled pointOf 6 _ _ zero32 nan _ _ _ (pre .points) (omega arith) (point-at _ _ (start .args .points .now) (start .args .roots .now)) (at-points .clear-block-f32 .ensures);
+      roots = block-filled rootOf 2 _ _ 0 0 _ _ _ (pre .roots) (omega arith) (root-at _ _ (start .args .points .now) (start .args .roots .now)) (at-roots .clear-block-usize .ensures);
+      corners = block-filled cornerOf 3 _ _ 0 0 _ _ _ (pre .corners) (omega arith) (corner-at _ _ (start .args .corners .now) (start .args .volumes .now)) (at-corners .clear-block-usize2 .ensures);
+      volumes = block-filled volumeOf 2 _ _ zero32 nan _ _ _ (pre .volumes) (omega arith) (volume-at _ _ (start .args .corners .now) (start .args .volumes .now)) (at-volumes .clear-block-f322 .ensures);
+      ends = block-filled endOf 4 _ _ 0 0 _ _ _ (pre .ends) (omega arith) (end-at _ _ (start .args .ends .now) (start .args .lengths .now)) (at-ends .clear-block-usize3 .ensures);
+      lengths = block-filled lengthOf 4 _ _ zero32 nan _ _ _ (pre .lengths) (omega arith) (length-at _ _ (start .args .ends .now) (start .args .lengths .now)) (at-lengths .clear-block-f323 .ensures);
+      outline = block-filled sideOf 2 _ _ 0 0 _ _ _ (pre .outline) (omega arith) (side-at _ (start .args .outline .now)) (at-outline .clear-block-usize4 .ensures);
+      log = at-log .clear-usize .ensures ∙ ap (padded _ 0) (words-of _ _ (omega (arith, pre .log)));
     }
 
 pub finish-all-spec : {M : Type 1} → statement M

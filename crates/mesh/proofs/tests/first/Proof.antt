@@ -1,8 +1,8 @@
--- `mesh::checks::first` meets its contract: by cases of the code and the test. Assumes nothing.
+-- `mesh::tests::first` meets its contract: by cases of the code and the test. Assumes nothing.
 use Rattle.mesh.specs.Checks.{thenCheck}
 use borrow.Author.Tests.{eq-eqb, ne-eqb}
-use Rattle.mesh.proofs.checks.first.Statement.{statement}
-use Rattle.mesh.proofs.checks.first.Tie as tie
+use Rattle.mesh.proofs.tests.first.Statement.{statement}
+use Rattle.mesh.proofs.tests.first.Tie as tie
 
 returns : tie.Need-returns
 unfolding thenCheck
