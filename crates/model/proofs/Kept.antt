@@ -1,28 +1,28 @@
 -- Every call that gives a mesh of triangles keeps them: three different particles each, traced back the triangle that it was, and every copy in one of them.
 -- Assumes nothing.
-use mathlib.Core.Path.{_≡_, refl, sym, _∙_, ap, subst}
+use mathlib.Core.Path.{_≡_, refl, sym, ap, subst}
 use mathlib.Core.Bool.{Bool, true, false, not, _&&_}
 use mathlib.Core.List.{List, [], _∷_}
 use Prim.Native.Nat.{ℕ, zero, suc, _<_}
 use native.Mathlib.Omega.{arith}
 use borrow.Author.Tests.{ltb-true, not-true}
-use lib.Dec.{eqb, ltb}
 use lib.ListN.{length}
 use lib.Ieee.{Float}
 use Rattle.lists.specs.Lists.{pick, stands, all}
 use Rattle.model.specs.Mesh.{Triangle, Mesh}
 use Rattle.model.specs.Valid.{numbersFit, named, rootOk, cornersOk, endsOk, sideOk, indicesFit}
 use Rattle.model.specs.Elements.{Kind, Triangles, kindOf}
-use Rattle.model.specs.Run.{Entry, Rooms, Run, start, changed}
+use Rattle.model.specs.Run.{Entry, Rooms, Run, start}
 use Rattle.model.specs.Split.{splitBySides}
 use Rattle.model.specs.Pieces.{removeStraddlers}
 use Rattle.model.specs.Cut.{Blade, cutFacets, cut}
 use Rattle.model.specs.Crack.{crack}
 use Rattle.model.specs.Calls.{bladeOk, fractionOk, sidesOk, trianglesLent, refusal, firstFault, Outcome, refused, done, fitted, outcome, unless, cutCall, crackCall, splitCall, straddlersCall}
 use Rattle.model.specs.Trace.{All, Sound, Traced, Held, Kept}
-use Rattle.model.proofs.Traced.{and-true, false-true, start-traced, sides-traced, cut-traced, crack-traced, straddlers-traced}
-use Rattle.model.proofs.Holding.{stands-not, start-held, sides-held, cut-held, crack-held, straddlers-held}
+use Rattle.model.proofs.Traced.{start-traced, sides-traced, cut-traced, crack-traced, straddlers-traced}
+use Rattle.model.proofs.Holding.{start-held, sides-held, cut-held, crack-held, straddlers-held}
 use Rattle.model.proofs.Splitting.{Sided, sides-accepted}
+use Rattle.model.proofs.Laws.{and-true, false-true, stands-not}
 
 -- ---- an accepted mesh
 

@@ -1,4 +1,5 @@
 -- Theorems on triangles, and computed cases.
+pub mod Laws
 pub mod Traced
 pub mod Holding
 pub mod Starred

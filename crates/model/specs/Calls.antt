@@ -1,6 +1,6 @@
 -- What a call that gives a mesh answers: the checks 1 to 4, then the rooms 5 to 8 of its steps, then the mesh and the log. Definitions only.
 use Prim.Native.Nat.{ℕ, zero, suc}
-use mathlib.Core.Bool.{Bool, true, false, not, _&&_}
+use mathlib.Core.Bool.{Bool, true, not, _&&_}
 use mathlib.Core.List.{List, [], _∷_}
 use lib.ListN.{length}
 use lib.Dec.{eqb, leb, ltb}

@@ -14,7 +14,7 @@ use Rattle.blade.specs.Points.{centroidOf, lerpOf}
 use Rattle.blade.specs.Blade.{offsetOf, bladeHit}
 use Rattle.model.specs.Mesh.{Particle, Edge, Side, Mesh}
 use Rattle.model.specs.Elements.{Kind, Triangles, Straps, Nothing, Element, particle, edgeAt, placeOf, restOf, endsOf, farEnd, besides, sum, structural?, elementsOf, fanOf}
-use Rattle.model.specs.Run.{Entry, edge, insert, Run, stepTo, splitsOf}
+use Rattle.model.specs.Run.{edge, insert, Run, stepTo, splitsOf}
 use Rattle.model.specs.Split.{Opening, openingOf, made, weighed, onlyAt, splitStep, splitBySides}
 
 -- a blade from `from` to `to`

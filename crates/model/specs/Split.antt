@@ -1,6 +1,6 @@
 -- The split of a particle by the groups of its fan: `split_fan` and `split_vertex`, part by part in their order. Definitions only.
 use Prim.Native.Nat.{ℕ, suc, _+_, _-_}
-use mathlib.Core.Bool.{Bool, true, false, not, _&&_, _||_}
+use mathlib.Core.Bool.{Bool, not, _&&_, _||_}
 use mathlib.Core.List.{List, [], _∷_, _++_, map}
 use mathlib.Core.Option.{Option, none, some}
 use lib.ListN.{length, getD}
@@ -14,7 +14,7 @@ use Rattle.blade.specs.Points.{minusOf, dotOf, sumOf, lengthOf}
 use Rattle.fan.specs.Fan.{sharedOthers}
 use Rattle.fan.specs.Groups.{groupsOf, countOf}
 use Rattle.model.specs.Mesh.{Particle, Triangle, Edge, Side, Mesh, blank, blankTriangle}
-use Rattle.model.specs.Elements.{Kind, Triangles, Straps, Nothing, Element, particle, restOf, cornersOf, endsOf, sideEnds, farEnd, besides, sum, element?, held, fanOf, gridOf}
+use Rattle.model.specs.Elements.{Kind, Triangles, Straps, Nothing, Element, particle, restOf, endsOf, sideEnds, farEnd, besides, sum, element?, held, fanOf, gridOf}
 use Rattle.model.specs.Run.{Entry, split, edge, Run, stepTo}
 
 -- ---- the split to be made
