@@ -12,7 +12,7 @@ use Rattle.lists.specs.Lists.{pick, stands, all}
 use Rattle.model.specs.Mesh.{Triangle, Mesh}
 use Rattle.model.specs.Valid.{numbersFit, named, rootOk, cornersOk, endsOk, sideOk, indicesFit}
 use Rattle.model.specs.Elements.{Kind, Triangles, kindOf}
-use Rattle.model.specs.Run.{Entry, Rooms, Run, start}
+use Rattle.model.specs.Run.{Entry, Rooms, Run, start, changed}
 use Rattle.model.specs.Split.{splitBySides}
 use Rattle.model.specs.Pieces.{removeStraddlers}
 use Rattle.model.specs.Cut.{Blade, cutFacets, cut}
@@ -69,16 +69,20 @@ logIn : Outcome → List Entry
 logIn (refused n) = []
 logIn (done M l c) = l
 
+saysIn : Outcome → Bool
+saysIn (refused n) = false
+saysIn (done M l c) = c
+
 done? : Outcome → Bool
 done? (refused n) = false
 done? (done M l c) = true
 
-pub outcome-done : (L : Rooms) (R : Run) (M : Mesh) (l : List Entry) (c : Bool) → outcome L R ≡ done M l c → (R .mesh ≡ M) × (R .log ≡ l)
-unfolding outcome meshIn logIn done?
+pub outcome-done : (L : Rooms) (R : Run) (M : Mesh) (l : List Entry) (c : Bool) → outcome L R ≡ done M l c → (R .mesh ≡ M) × (R .log ≡ l) × (changed R ≡ c)
+unfolding outcome meshIn logIn saysIn done?
 outcome-done L R M l c e = by (firstFault L (R .needs)) e
   where
-    by : (n : ℕ) → fitted n R ≡ done M l c → (R .mesh ≡ M) × (R .log ≡ l)
-    by zero e = (ap (meshIn M) e, ap logIn e)
+    by : (n : ℕ) → fitted n R ≡ done M l c → (R .mesh ≡ M) × (R .log ≡ l) × (changed R ≡ c)
+    by zero e = (ap (meshIn M) e, ap logIn e, ap saysIn e)
     by (suc n) e = absurd (false-true (ap done? e))
 
 pub unless-done : (n : ℕ) (o : Outcome) (M : Mesh) (l : List Entry) (c : Bool) → unless n o ≡ done M l c → (n ≡ 0) × (o ≡ done M l c)

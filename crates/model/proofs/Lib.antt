@@ -17,5 +17,6 @@ pub mod CaseRefusals
 pub mod CaseRooms
 pub mod Splitting
 pub mod Kept
+pub mod Nothing
 pub mod Steps
 pub mod Toward
