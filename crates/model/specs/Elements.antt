@@ -64,14 +64,17 @@ pub data Kind : Type 0 where
   Straps : Kind
   Nothing : Kind
 
+-- is the structural flag set
 abbrev pub structural? : Edge → Bool
 structural? e = eqb (e .structural) 1
 
+-- by the triangles, and by whether some edge is structural
 unfoldable pub kindBy : List Triangle → Bool → Kind
 kindBy (t ∷ ts) s = Triangles
 kindBy [] true = Straps
 kindBy [] false = Nothing
 
+-- the kind of a mesh
 unfoldable pub kindOf : Mesh → Kind
 kindOf M = kindBy (M .triangles) (any structural? (M .edges))
 
