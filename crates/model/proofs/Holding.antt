@@ -1,53 +1,33 @@
 -- Every copy that a run of splits makes belongs to a triangle. Assumes nothing.
 use mathlib.Core.Path.{_≡_, refl, sym, _∙_, ap, subst}
 use mathlib.Core.Bool.{Bool, true, false, Bool·beq}
-use mathlib.Core.Logic.{_⊎_, inl, inr, ⊎-elim}
+use mathlib.Core.Logic.{_⊎_, ⊎-elim}
 use mathlib.Core.List.{List, [], _∷_, _++_, map}
-use Prim.Native.Nat.{ℕ, zero, suc, _+_, _-_, _<_, _≤_, max}
+use Prim.Native.Nat.{ℕ, zero, suc, _+_, _-_, _<_, _≤_}
 use native.Mathlib.Omega.{arith}
-use native.Mathlib.Nat.{not-suc-le-zero, le-of-suc-le-suc}
+use native.Mathlib.Nat.{not-suc-le-zero}
 use native.Mathlib.Decide.{ℕ-discrete}
-use borrow.Author.Tests.{eq-eqb, ne-eqb, eqb-true}
-use lib.Dec.{eqb}
+use borrow.Author.Tests.{eq-eqb, ne-eqb}
 use lib.ListN.{length, getD, length-map}
 use mathlib.Core.Option.{Option, none as nothing, some}
 use lib.Ieee.{Float}
-use Rattle.lists.specs.Lists.{tab, pick, stands, mapAt, sift, upTo, each, fold, empty}
+use Rattle.lists.specs.Lists.{pick, stands, mapAt, sift, upTo, each, fold, empty}
 use Rattle.lists.specs.Labels.{replaced}
-use Rattle.fan.specs.Fan.{Fan, size, side}
-use Rattle.fan.specs.Groups.{groupsOf, countOf}
+use Rattle.fan.specs.Fan.{Fan, side}
+use Rattle.fan.specs.Groups.{groupsOf}
 use Rattle.fan.proofs.Grouped.{grouped}
 use Rattle.model.specs.Mesh.{Triangle, Edge, Mesh, blankTriangle}
-use Rattle.model.specs.Elements.{Kind, Triangles, Element, cornersOf, triangleElement, trianglesFrom, elementsOf, fanOf, gridOf}
+use Rattle.model.specs.Elements.{Triangles, Element, cornersOf, triangleElement, trianglesFrom, elementsOf, fanOf, gridOf}
 use Rattle.model.specs.Run.{Entry, Run, start, stepTo, splitsOf}
-use Rattle.model.specs.Split.{Part, partsOf, Opening, openingOf, copyOf, groupAt, retargeted, splits?, rewiredTriangles, atLongest, settled, splitEntries, goneEntries, splitMade, splitStep, splitBySides}
+use Rattle.model.specs.Split.{partsOf, Opening, openingOf, copyOf, groupAt, retargeted, splits?, rewiredTriangles, atLongest, settled, splitEntries, goneEntries, splitMade, splitStep, splitBySides}
 use Rattle.model.specs.Pieces.{pieceLabels, across?, withoutStraddlers, straddlersGone, removeStraddlers}
 use Rattle.model.specs.Cut.{Blade, leftOf, keptSide, splitByBlade, splitFree, splitPinched, pinched, candidates, cutFacets, bladeSides}
 use Rattle.model.specs.Crack.{Way, beyond, farSide, twoSided, meanLoad, torn, crackBy, crackPair, crackEdge, currentPair, waysOf, wayAt, loadsOf, tornEnds, crack}
 use Rattle.model.specs.Trace.{All, Hold, Held}
-use Rattle.model.proofs.Traced.{all-at, false-true, length-mapAt, copiesFrom, step-splits, splits-here, no-splits, opening-fits, Still, Found, find-fits, order-fits, still-torn, pick-one}
+use Rattle.model.proofs.Traced.{copiesFrom, step-splits, splits-here, no-splits, opening-fits, Still, order-fits, still-torn}
+use Rattle.model.proofs.Laws.{all-at, all-over, all-append, all-below, pick-one, length-mapAt, getD-mapAt, Found, find-fits, stands-head, stands-tail, stands-case}
 
 -- ---- corners
-
-stands-head : (x y : ℕ) (l : List ℕ) → y ≡ x → stands x (y ∷ l) ≡ true
-stands-head x y l e = rw (eq-eqb y x e)
-
-pick-true : (b c : Bool) → c ≡ true → pick b true c ≡ true
-pick-true true c e = refl
-pick-true false c e = e
-
-stands-tail : (x y : ℕ) (l : List ℕ) → stands x l ≡ true → stands x (y ∷ l) ≡ true
-stands-tail x y l e = pick-true (eqb y x) (stands x l) e
-
-pub stands-case : (x y : ℕ) (l : List ℕ) → stands x (y ∷ l) ≡ true → (y ≡ x) ⊎ (stands x l ≡ true)
-stands-case x y l e = elim (ℕ-discrete y x) [ yes d ↦ inl d | no n ↦ inr (rw (ne-eqb y x n) at e) ]
-
-pub stands-not : (x y : ℕ) (l : List ℕ) → stands x (y ∷ l) ≡ false → (y ≡ x → ⊥) × (stands x l ≡ false)
-stands-not x y l e =
-    elim (ℕ-discrete y x) [
-      | yes d ↦ absurd (false-true (sym e ∙ rw (eq-eqb y x d)))
-      | no n ↦ (n, rw (ne-eqb y x n) at e)
-    ]
 
 -- where v stood, w stands; and what else stood still stands
 stands-moved : (v w : ℕ) (l : List ℕ) → stands v l ≡ true → stands w (map (replaced v w) l) ≡ true
@@ -145,12 +125,6 @@ opening-full M v sides e two g l =
 
 -- ---- one split
 
-getD-mapAt : {A B : Type 0} (g : ℕ → A → B) (l : List A) (i : ℕ) (d : A) (z : B) → i < length l → getD (mapAt g l) i z ≡ g i (getD l i d)
-unfolding mapAt
-getD-mapAt g [] i d z l = absurd (not-suc-le-zero l)
-getD-mapAt g (a ∷ l) zero d z h = refl
-getD-mapAt g (a ∷ l) (suc i) d z h = getD-mapAt (λ k. g (suc k)) l i d z (le-of-suc-le-suc h)
-
 module _ (O : Opening) (ts : List Triangle) (U : Full O ts) where
   turned : ℕ → Triangle → Triangle
   turned i = retargeted (O .v) (copyOf O (groupAt (O .fan) i))
@@ -181,19 +155,6 @@ module _ (O : Opening) (ts : List Triangle) (U : Full O ts) where
   -- so what some triangle held, some triangle holds
   hold-any : 2 ≤ O .count → (x : ℕ) → Hold x ts → Hold x (mapAt turned ts)
   hold-any c x H = elim (ℕ-discrete x (O .v)) [ yes e ↦ subst (λ (y : ℕ). Hold y (mapAt turned ts)) (sym e) (hold-copy 0 (omega arith)) | no n ↦ hold-other x n H ]
-
-all-append : {A : Type 0} (P : A → Type 0) (a b : List A) → All P a → All P b → All P (a ++ b)
-all-append P [] b u w = w
-all-append P (x ∷ a) b u w = (u .0, all-append P a b (u .1) w)
-
-all-over : {A : Type 0} (P Q : A → Type 0) → ((a : A) → P a → Q a) → (l : List A) → All P l → All Q l
-all-over P Q f [] h = tt
-all-over P Q f (a ∷ l) h = (f a (h .0), all-over P Q f l (h .1))
-
-all-below : {A : Type 0} (P : A → Type 0) (h : ℕ → A) (k : ℕ) (f : ℕ → ℕ) → ((i : ℕ) → i < k → P (h (f i))) → All P (map h (tab k f))
-unfolding tab
-all-below P h zero f p = tt
-all-below P h (suc k) f p = (p 0 (omega arith), all-below P h k (λ i. f (suc i)) (λ i l. p (suc i) (omega arith)))
 
 module _ (R : Run) (H : Held R) (O : Opening) (before : O .before ≡ length (R .mesh .particles)) (U : Full O (R .mesh .triangles)) (more : List Entry) (none : splitsOf more ≡ []) (f : Mesh → Mesh) (still : Still f) where
   after : Mesh

@@ -1,12 +1,11 @@
 -- Every call that gives a mesh of triangles keeps them: three different particles each, traced back the triangle that it was, and every copy in one of them.
 -- Assumes nothing.
-use mathlib.Core.Path.{_≡_, refl, sym, _∙_, ap, subst}
+use mathlib.Core.Path.{_≡_, refl, sym, ap, subst}
 use mathlib.Core.Bool.{Bool, true, false, not, _&&_}
 use mathlib.Core.List.{List, [], _∷_}
 use Prim.Native.Nat.{ℕ, zero, suc, _<_}
 use native.Mathlib.Omega.{arith}
 use borrow.Author.Tests.{ltb-true, not-true}
-use lib.Dec.{eqb, ltb}
 use lib.ListN.{length}
 use lib.Ieee.{Float}
 use Rattle.lists.specs.Lists.{pick, stands, all}
@@ -20,9 +19,10 @@ use Rattle.model.specs.Cut.{Blade, cutFacets, cut}
 use Rattle.model.specs.Crack.{crack}
 use Rattle.model.specs.Calls.{bladeOk, fractionOk, sidesOk, trianglesLent, refusal, firstFault, Outcome, refused, done, fitted, outcome, unless, cutCall, crackCall, splitCall, straddlersCall}
 use Rattle.model.specs.Trace.{All, Sound, Traced, Held, Kept}
-use Rattle.model.proofs.Traced.{and-true, false-true, start-traced, sides-traced, cut-traced, crack-traced, straddlers-traced}
-use Rattle.model.proofs.Holding.{stands-not, start-held, sides-held, cut-held, crack-held, straddlers-held}
+use Rattle.model.proofs.Traced.{start-traced, sides-traced, cut-traced, crack-traced, straddlers-traced}
+use Rattle.model.proofs.Holding.{start-held, sides-held, cut-held, crack-held, straddlers-held}
 use Rattle.model.proofs.Splitting.{Sided, sides-accepted}
+use Rattle.model.proofs.Laws.{and-true, false-true, stands-not}
 
 -- ---- an accepted mesh
 
@@ -69,16 +69,20 @@ logIn : Outcome → List Entry
 logIn (refused n) = []
 logIn (done M l c) = l
 
+saysIn : Outcome → Bool
+saysIn (refused n) = false
+saysIn (done M l c) = c
+
 done? : Outcome → Bool
 done? (refused n) = false
 done? (done M l c) = true
 
-pub outcome-done : (L : Rooms) (R : Run) (M : Mesh) (l : List Entry) (c : Bool) → outcome L R ≡ done M l c → (R .mesh ≡ M) × (R .log ≡ l)
-unfolding outcome meshIn logIn done?
+pub outcome-done : (L : Rooms) (R : Run) (M : Mesh) (l : List Entry) (c : Bool) → outcome L R ≡ done M l c → (R .mesh ≡ M) × (R .log ≡ l) × (changed R ≡ c)
+unfolding outcome meshIn logIn saysIn done?
 outcome-done L R M l c e = by (firstFault L (R .needs)) e
   where
-    by : (n : ℕ) → fitted n R ≡ done M l c → (R .mesh ≡ M) × (R .log ≡ l)
-    by zero e = (ap (meshIn M) e, ap logIn e)
+    by : (n : ℕ) → fitted n R ≡ done M l c → (R .mesh ≡ M) × (R .log ≡ l) × (changed R ≡ c)
+    by zero e = (ap (meshIn M) e, ap logIn e, ap saysIn e)
     by (suc n) e = absurd (false-true (ap done? e))
 
 pub unless-done : (n : ℕ) (o : Outcome) (M : Mesh) (l : List Entry) (c : Bool) → unless n o ≡ done M l c → (n ≡ 0) × (o ≡ done M l c)

@@ -1,4 +1,5 @@
 -- Theorems on triangles, and computed cases.
+pub mod Laws
 pub mod Traced
 pub mod Holding
 pub mod Starred
@@ -16,5 +17,6 @@ pub mod CaseRefusals
 pub mod CaseRooms
 pub mod Splitting
 pub mod Kept
+pub mod Nothing
 pub mod Steps
 pub mod Toward

@@ -2,14 +2,13 @@
 use mathlib.Core.Path.{_≡_, refl, sym, _∙_, ap, subst}
 use mathlib.Core.Bool.{Bool, true, false, not, _&&_, _||_}
 use mathlib.Core.List.{List, [], _∷_, _++_, map}
-use Prim.Native.Nat.{ℕ, zero, suc, _+_, _-_, _<_, _≤_}
+use Prim.Native.Nat.{ℕ, suc, _+_, _-_, _<_, _≤_}
 use native.Mathlib.Omega.{arith}
-use native.Mathlib.Nat.{not-suc-le-zero}
-use native.Mathlib.Decide.{ℕ-discrete, decLe}
+use native.Mathlib.Decide.{decLe}
 use borrow.Author.Tests.{ltb-true, eqb-true, le-leb, lt-leb}
-use lib.Dec.{eqb, leb, ltb}
+use lib.Dec.{leb, ltb}
 use lib.ListN.{length, getD}
-use lib.Ieee.{Float, eq, ne}
+use lib.Ieee.{eq, ne}
 use Rattle.lists.specs.Lists.{pick, any, all, tab, upTo}
 use Rattle.lists.specs.Chain.{Chain}
 use Rattle.float.specs.Numbers.{zero32}
@@ -19,10 +18,11 @@ use Rattle.fan.proofs.Grouped.{grouped}
 use Rattle.model.specs.Mesh.{Mesh}
 use Rattle.model.specs.Elements.{Kind, particle, kindOf, fanOf, gridOf}
 use Rattle.model.specs.Run.{Entry, split as splitEntry, Run, stepTo, changes, changed}
-use Rattle.model.specs.Split.{Opening, openingOf, splits?, made, atLongest, settled, splitEntries, goneEntries, splitMade, splitStep, splitBySides}
-use Rattle.model.specs.Calls.{present, sidesOk}
+use Rattle.model.specs.Split.{Opening, openingOf, splits?, made, atLongest, settled, splitEntries, splitMade, splitStep, splitBySides}
+use Rattle.model.specs.Calls.{sidesOk}
 use Rattle.model.specs.Trace.{All}
-use Rattle.model.proofs.Traced.{all-at, and-true, copied-length, Still}
+use Rattle.model.proofs.Traced.{copied-length, Still}
+use Rattle.model.proofs.Laws.{and-true, all-at}
 
 -- ---- the sides that a call accepts
 

@@ -1,5 +1,5 @@
 -- A run only goes on: each operation appends to the needs and to the log. So a step that doesn't fit decides the answer, whatever comes behind it. Assumes nothing.
-use mathlib.Core.Path.{_≡_, refl, sym, _∙_, ap, subst}
+use mathlib.Core.Path.{_≡_, refl, sym, _∙_, ap}
 use mathlib.Core.Bool.{Bool, true, false}
 use mathlib.Core.List.{List, [], _∷_, _++_, append-assoc, append-nil}
 use mathlib.Core.Option.{Option, none as nothing, some}
@@ -10,13 +10,13 @@ use lib.Dec.{eqb}
 use lib.Ieee.{Float}
 use Rattle.lists.specs.Lists.{pick, fold, empty, rising}
 use Rattle.model.specs.Mesh.{Mesh}
-use Rattle.model.specs.Elements.{Kind, Triangles, Straps, Nothing, elementsOf}
+use Rattle.model.specs.Elements.{Kind, Triangles, Straps, Nothing}
 use Rattle.model.specs.Run.{Entry, Need, Rooms, Run, stepTo, splitsOf}
 use Rattle.model.specs.Split.{Opening, openingOf, splits?, splitMade, splitStep, splitBySides}
 use Rattle.model.specs.Pieces.{straddlersGone, removeStraddlers}
 use Rattle.model.specs.Cut.{Blade, splitByBlade, splitFree, pinched, splitPinched, candidates, cutFacets, Crossing, crossings, insertable, insertStep, Strapping, strapping, insertedAt, snappedAt, crossed, unbent, splitSnapped, afterCrossings, cutSegments, cut}
 use Rattle.model.specs.Crack.{Way, crackBy, crackPair, crackEdge, currentPair, loadsOf, tornEnds, crack}
-use Rattle.model.specs.Calls.{tooSmall, firstFault, Outcome, refused, fitted, outcome}
+use Rattle.model.specs.Calls.{tooSmall, firstFault, refused, fitted, outcome}
 
 -- S is R with needs and log entries behind its own
 pub record Onward (R S : Run) : Type 0 where

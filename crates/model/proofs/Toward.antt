@@ -1,19 +1,17 @@
 -- `toward` is the source's `group_toward` wherever a split asks for it: the source's first choice, the lowest group of a fan element that shares a particle besides v,
 -- finds none there. Assumes nothing.
-use mathlib.Core.Path.{_≡_, refl, sym, _∙_, ap}
-use mathlib.Core.Bool.{Bool, true, false, not, _&&_, _||_}
+use mathlib.Core.Path.{_≡_, refl, sym}
+use mathlib.Core.Bool.{Bool, true, false, not, _&&_}
 use mathlib.Core.Logic.{⊎-elim}
 use mathlib.Core.List.{List, [], _∷_, map}
-use mathlib.Core.Option.{Option, none as nothing, some}
-use Prim.Native.Nat.{ℕ, zero, suc, _<_}
+use mathlib.Core.Option.{none as nothing}
+use Prim.Native.Nat.{ℕ, _<_}
 use native.Mathlib.Omega.{arith}
-use native.Mathlib.Nat.{not-suc-le-zero, le-of-suc-le-suc}
 use native.Mathlib.Decide.{ℕ-discrete}
 use borrow.Author.Tests.{eq-eqb, ne-eqb}
 use lib.Dec.{eqb}
-use lib.ListN.{length, getD}
 use lib.Ieee.{neg}
-use Rattle.lists.specs.Lists.{pick, stands, any, all, sift, find, fold, headOr, tab, upTo, rising}
+use Rattle.lists.specs.Lists.{stands, any, all, sift, find, fold, headOr, rising}
 use Rattle.float.specs.Numbers.{largest}
 use Rattle.blade.specs.Points.{minusOf, sumOf}
 use Rattle.fan.specs.Fan.{Fan}
@@ -21,11 +19,10 @@ use Rattle.fan.specs.Groups.{groupsOf, countOf}
 use Rattle.fan.proofs.Grouped.{grouped}
 use Rattle.model.specs.Mesh.{Mesh}
 use Rattle.model.specs.Elements.{Kind, Element, restOf, besides, elementsOf, fanOf, gridOf}
-use Rattle.model.specs.Split.{Part, partsOf, Opening, openingOf, ring, Best, scored, toward}
+use Rattle.model.specs.Split.{Part, partsOf, Opening, openingOf, ring, scored, toward}
 use Rattle.model.specs.Trace.{All}
-use Rattle.model.proofs.Traced.{all-at, false-true}
-use Rattle.model.proofs.Holding.{stands-not, stands-case}
 use Rattle.model.proofs.Splitting.{Sided}
+use Rattle.model.proofs.Laws.{false-true, all-at, all-each, all-over, all-sifted, sifted-all, map-none, sift-none, none-sifted, rising-none, none-rising, find-none, stands-case, stands-not}
 
 -- the source's words: the lowest group of the fan elements that hold one of the particles besides v, else the group whose fan points their way
 unfoldable pub groupToward : Mesh → Opening → List ℕ → ℕ
@@ -33,61 +30,6 @@ groupToward M O ws =
     let dir = sumOf (map (λ w. minusOf (restOf M w) (restOf M (O .v))) (besides (O .v) ws)) in
     headOr (fold (scored M (O .v) dir) (record { score = neg largest; group = 0 }) (O .fan) .group)
     (rising (O .count) (map (λ (p : Part). p .group) (sift (λ (p : Part). any (λ y. not (eqb y (O .v)) && stands y ws) (p .corners)) (O .fan))))
-
--- ---- lists
-
-sift-none : {A : Type 0} (p : A → Bool) (l : List A) → All (λ a. p a ≡ false) l → sift p l ≡ []
-unfolding sift
-sift-none p [] h = refl
-sift-none p (a ∷ l) h = rw (h .0) (sift-none p l (h .1))
-
-none-sifted : {A : Type 0} (p : A → Bool) (l : List A) → sift p l ≡ [] → All (λ a. p a ≡ false) l
-unfolding sift
-none-sifted p [] e = tt
-none-sifted p (a ∷ l) e = by (p a) refl e (none-sifted p l)
-  where
-    by : (b : Bool) → p a ≡ b → pick b (a ∷ sift p l) (sift p l) ≡ [] → (sift p l ≡ [] → All (λ x. p x ≡ false) l) → (p a ≡ false) × All (λ x. p x ≡ false) l
-    by true q d h = absurd (let z : _≡_ {A = ℕ} (suc (length (sift p l))) 0 = ap length d in omega arith)
-    by false q d h = (q, h d)
-
-tab-at : (P : ℕ → Type 0) (n : ℕ) (f : ℕ → ℕ) → All P (tab n f) → (i : ℕ) → i < n → P (f i)
-unfolding tab
-tab-at P zero f h i l = absurd (not-suc-le-zero l)
-tab-at P (suc n) f h zero l = h .0
-tab-at P (suc n) f h (suc i) l = tab-at P n (λ k. f (suc k)) (h .1) i (le-of-suc-le-suc l)
-
--- numbers below n of which none is left are none
-rising-none : (n : ℕ) (l : List ℕ) → All (λ g. g < n) l → rising n l ≡ [] → l ≡ []
-unfolding rising upTo
-rising-none n [] h e = refl
-rising-none n (g ∷ l) h e =
-    let q = tab-at (λ k. stands k (g ∷ l) ≡ false) n (λ k. k) (none-sifted (λ k. stands k (g ∷ l)) (tab n (λ k. k)) e) g (h .0) in
-    absurd (false-true (sym q ∙ rw (eq-eqb g g refl)))
-
-none-rising : (n : ℕ) → rising n [] ≡ []
-unfolding rising upTo tab
-none-rising n = sift-none (λ k. false) (tab n (λ k. k)) (all-false n (λ k. k))
-  where
-    all-false : (n : ℕ) (f : ℕ → ℕ) → All (λ k. _≡_ {A = Bool} false false) (tab n f)
-    all-false zero f = tt
-    all-false (suc n) f = (refl, all-false n (λ k. f (suc k)))
-
-map-none : {A : Type 0} (f : A → ℕ) (l : List A) → map f l ≡ [] → l ≡ []
-map-none f [] e = refl
-map-none f (a ∷ l) e = absurd (let z : _≡_ {A = ℕ} (suc (length (map f l))) 0 = ap length e in omega arith)
-
-all-sifted : {A : Type 0} (P : A → Type 0) (f : A → ℕ) (Q : ℕ → Type 0) → ((a : A) → P a → Q (f a)) → (p : A → Bool) (l : List A) → All P l → All Q (map f (sift p l))
-unfolding sift
-all-sifted P f Q k p [] h = tt
-all-sifted P f Q k p (a ∷ l) h = by (p a) (all-sifted P f Q k p l (h .1))
-  where
-    by : (b : Bool) → All Q (map f (sift p l)) → All Q (map f (pick b (a ∷ sift p l) (sift p l)))
-    by true u = (k a (h .0), u)
-    by false u = u
-
-all-over : {A : Type 0} (P Q : A → Type 0) → ((a : A) → P a → Q a) → (l : List A) → All P l → All Q l
-all-over P Q f [] h = tt
-all-over P Q f (a ∷ l) h = (f a (h .0), all-over P Q f l (h .1))
 
 -- ---- no fan element holds x
 
@@ -149,19 +91,6 @@ pub toward-edge : (M : Mesh) (O : Opening) (x : ℕ) → (x ≡ O .v → ⊥) �
 toward-edge M O x n below e = both-without M O x n (ring-none O x below e)
 
 -- for a boundary entry where no fan element, all of which hold v, holds both ends
-find-none : {A : Type 0} (p : A → Bool) (l : List A) → find p l ≡ nothing → All (λ a. p a ≡ false) l
-unfolding find
-find-none p [] e = tt
-find-none p (a ∷ l) e = by (p a) refl e (find-none p l)
-  where
-    found : {A : Type 0} → Option A → Bool
-    found nothing = false
-    found (some a) = true
-
-    by : (b : Bool) → p a ≡ b → pick b (some a) (find p l) ≡ nothing → (find p l ≡ nothing → All (λ x. p x ≡ false) l) → (p a ≡ false) × All (λ x. p x ≡ false) l
-    by true q d h = absurd (false-true (sym (ap found d)))
-    by false q d h = (q, h d)
-
 without-both : (v x : ℕ) (l : List Part) → All (λ (p : Part). stands v (p .corners) ≡ true) l
     → All (λ (p : Part). all (λ y. stands y (p .corners)) (v ∷ x ∷ []) ≡ false) l → All (λ (p : Part). stands x (p .corners) ≡ false) l
 unfolding all
@@ -178,19 +107,6 @@ pub toward-side : (M : Mesh) (O : Opening) (x : ℕ) → (x ≡ O .v → ⊥) �
 toward-side M O x n holds e = both-without M O x n (without-both (O .v) x (O .fan) holds (find-none (λ (p : Part). all (λ y. stands y (p .corners)) (O .v ∷ x ∷ [])) (O .fan) e))
 
 -- ---- an opening is such a fan
-
-all-each : (P : ℕ → Type 0) (l : List ℕ) → ((i : ℕ) → i < length l → P (getD l i 0)) → All P l
-all-each P [] h = tt
-all-each P (a ∷ l) h = (h 0 (omega arith), all-each P l (λ i u. h (suc i) (omega arith)))
-
-sifted-all : {A : Type 0} (p : A → Bool) (l : List A) → All (λ a. p a ≡ true) (sift p l)
-unfolding sift
-sifted-all p [] = tt
-sifted-all p (a ∷ l) = by (p a) refl (sifted-all p l)
-  where
-    by : (b : Bool) → p a ≡ b → All (λ x. p x ≡ true) (sift p l) → All (λ x. p x ≡ true) (pick b (a ∷ sift p l) (sift p l))
-    by true e h = (e, h)
-    by false e h = h
 
 parts-below : (n : ℕ) (es : List Element) (gs : List ℕ) → All (λ g. g < n) gs → All (λ (p : Part). p .group < n) (partsOf es gs)
 unfolding partsOf

@@ -1,22 +1,21 @@
 -- A run of splits keeps the triangles: three different particles each, and traced back through the copies each is what it was.
 -- Assumes nothing.
 use mathlib.Core.Path.{_≡_, refl, sym, _∙_, ap, ap₂, subst}
-use mathlib.Core.Bool.{Bool, true, false, _&&_}
+use mathlib.Core.Bool.{Bool, true, false}
 use mathlib.Core.Logic.{_⊎_, inl, inr, ⊎-elim}
-use mathlib.Core.List.{List, [], _∷_, _++_, map, append-assoc, append-nil}
+use mathlib.Core.List.{List, [], _∷_, _++_, map, append-nil}
 use Prim.Native.Nat.{ℕ, zero, suc, _+_, _-_, _<_, _≤_, max}
 use native.Mathlib.Omega.{arith}
-use native.Mathlib.Nat.{not-suc-le-zero, le-of-suc-le-suc}
 use native.Mathlib.Decide.{ℕ-discrete, decLt}
-use borrow.Author.Tests.{eq-eqb, ne-eqb, eqb-true, leb-true}
-use lib.Dec.{eqb, leb}
-use lib.ListN.{length, getD, set, replicate, length-append, length-map, List·getD-eq-default}
+use borrow.Author.Tests.{eq-eqb, ne-eqb, leb-true}
+use lib.Dec.{eqb}
+use lib.ListN.{length, getD, set, length-append, length-map, List·getD-eq-default}
 use lib.Ieee.{Float, eq, ne}
-use Rattle.lists.specs.Lists.{tab, pick, mapAt, each, upTo, fold, sift, find, empty}
+use Rattle.lists.specs.Lists.{tab, pick, mapAt, each, upTo, fold, sift, empty}
 use Rattle.lists.specs.Labels.{replaced}
 use Rattle.float.specs.Numbers.{zero32}
 use Rattle.fan.specs.Fan.{Fan, size}
-use Rattle.fan.specs.Groups.{Numbered, numberOne, numberSide, numbered, groupsOf, countOf, labelsOf}
+use Rattle.fan.specs.Groups.{Numbered, numberOne, numberSide, numbered, groupsOf, countOf}
 use Rattle.fan.proofs.Grouped.{tab-length, replaced-case}
 use Rattle.model.specs.Mesh.{Particle, Triangle, Edge, Mesh, blank}
 use Rattle.model.specs.Elements.{Kind, Triangles, Element, cornersOf, fanOf, elementsOf}
@@ -27,41 +26,9 @@ use Rattle.model.specs.Cut.{Blade, splitByBlade, splitFree, splitPinched
 use Rattle.model.specs.Crack.{Way, farSide, twoSided, meanLoad, damagedAt, torn, crackBy, crackPair, crackEdge, currentPair, waysOf, wayAt, inOrder, before?, loadsOf, tornEnds, crack}
 use mathlib.Core.Option.{Option, none as nothing, some}
 use Rattle.model.specs.Trace.{All, originOf, Sound, tracedBack, Traced}
+use Rattle.model.proofs.Laws.{and-true, false-true, all-at, all-set, all-replicate, all-over, all-mapAt, all-tab, tab-all, pick-one, length-mapAt, map-mapAt, each-append, Found, find-fits}
 
 -- ---- lists
-
-pub all-at : {A : Type 0} (P : A → Type 0) (l : List A) (i : ℕ) (d : A) → P d → All P l → P (getD l i d)
-all-at P [] i d p h = p
-all-at P (a ∷ l) zero d p h = h .0
-all-at P (a ∷ l) (suc i) d p h = all-at P l i d p (h .1)
-
-all-set : {A : Type 0} (P : A → Type 0) (l : List A) (i : ℕ) (x : A) → P x → All P l → All P (set l i x)
-all-set P [] i x p h = tt
-all-set P (a ∷ l) zero x p h = (p, h .1)
-all-set P (a ∷ l) (suc i) x p h = (h .0, all-set P l i x p (h .1))
-
-pub all-replicate : {A : Type 0} (P : A → Type 0) (n : ℕ) (x : A) → P x → All P (replicate n x)
-all-replicate P zero x p = tt
-all-replicate P (suc n) x p = (p, all-replicate P n x p)
-
-all-weaken : {A : Type 0} (P Q : A → Type 0) → ((a : A) → P a → Q a) → (l : List A) → All P l → All Q l
-all-weaken P Q f [] h = tt
-all-weaken P Q f (a ∷ l) h = (f a (h .0), all-weaken P Q f l (h .1))
-
-pub length-mapAt : {A B : Type 0} (g : ℕ → A → B) (l : List A) → length (mapAt g l) ≡ length l
-unfolding mapAt
-length-mapAt g [] = refl
-length-mapAt g (a ∷ l) = ap suc (length-mapAt (λ k. g (suc k)) l)
-
-all-mapAt : {A B : Type 0} (P : A → Type 0) (Q : B → Type 0) (g : ℕ → A → B) → ((i : ℕ) (a : A) → P a → Q (g i a)) → (l : List A) → All P l → All Q (mapAt g l)
-unfolding mapAt
-all-mapAt P Q g f [] h = tt
-all-mapAt P Q g f (a ∷ l) h = (f 0 a (h .0), all-mapAt P Q (λ k. g (suc k)) (λ i. f (suc i)) l (h .1))
-
-map-mapAt : {A B C : Type 0} (P : A → Type 0) (g : ℕ → A → B) (h : B → C) (k : A → C) → ((i : ℕ) (a : A) → P a → h (g i a) ≡ k a) → (l : List A) → All P l → map h (mapAt g l) ≡ map k l
-unfolding mapAt
-map-mapAt P g h k f [] u = refl
-map-mapAt P g h k f (a ∷ l) u = ap₂ {C = List _} (λ x y. x ∷ y) (f 0 a (u .0)) (map-mapAt P (λ i. g (suc i)) h k (λ i. f (suc i)) l (u .1))
 
 -- ---- origins
 
@@ -70,28 +37,12 @@ unfolding originOf
 origin-append [] b x = refl
 origin-append (cs ∷ a) b x = rw (origin-append a b x)
 
-each-append : {A B : Type 0} (f : A → List B) (a b : List A) → each f (a ++ b) ≡ each f a ++ each f b
-unfolding each
-each-append f [] b = refl
-each-append f (x ∷ a) b = rw (each-append f a b, append-assoc (f x) (each f a) (each f b))
-
 -- the copies that a split at v makes: k of them, from n on
 unfoldable pub copiesFrom : ℕ → ℕ → ℕ → List (ℕ × ℕ)
 copiesFrom n v k = map (λ g. (n + g, v)) (upTo k)
 
 abbrev CopyOf : ℕ → ℕ → ℕ × ℕ → Type 0
 CopyOf n v cs = (n ≤ cs .0) × (cs .1 ≡ v)
-
-pub all-tab : {A : Type 0} (P : A → Type 0) (h : ℕ → A) (k : ℕ) (f : ℕ → ℕ) → ((i : ℕ) → P (h (f i))) → All P (map h (tab k f))
-unfolding tab
-all-tab P h zero f p = tt
-all-tab P h (suc k) f p = (p 0, all-tab P h k (λ i. f (suc i)) (λ i. p (suc i)))
-
-tab-all : {A : Type 0} (P : A → Type 0) (h : ℕ → A) (k : ℕ) (f : ℕ → ℕ) → All P (map h (tab k f)) → (i : ℕ) → i < k → P (h (f i))
-unfolding tab
-tab-all P h zero f u i l = absurd (not-suc-le-zero l)
-tab-all P h (suc k) f u zero l = u .0
-tab-all P h (suc k) f u (suc i) l = tab-all P h k (λ i. f (suc i)) (u .1) i (le-of-suc-le-suc l)
 
 copies-are : (n v k : ℕ) → All (CopyOf n v) (copiesFrom n v k)
 unfolding copiesFrom upTo
@@ -184,7 +135,7 @@ Below n g = g < max n 1
 one-below : (p : List ℕ) (i : ℕ) (N : Numbered) (b : Bool) → All (Below (N .count)) (N .groups)
     → let N′ : Numbered = pick {A = Numbered} b (record { groups = set (N .groups) i (N .count); count = N .count + 1 }) (record { groups = set (N .groups) i (getD (N .groups) (getD p i 0) 0); count = N .count }) in
     All (Below (N′ .count)) (N′ .groups)
-one-below p i N true h = all-set (Below (N .count + 1)) (N .groups) i (N .count) (omega arith) (all-weaken (Below (N .count)) (Below (N .count + 1)) (λ g u. omega arith) (N .groups) h)
+one-below p i N true h = all-set (Below (N .count + 1)) (N .groups) i (N .count) (omega arith) (all-over (Below (N .count)) (Below (N .count + 1)) (λ g u. omega arith) (N .groups) h)
 one-below p i N false h = all-set (Below (N .count)) (N .groups) i (getD (N .groups) (getD p i 0) 0) (all-at (Below (N .count)) (N .groups) (getD p i 0) 0 (omega arith) h) h
 
 visit-below : (p : List ℕ) (i : ℕ) (N : Numbered) (b : Bool) → All (Below (N .count)) (N .groups)
@@ -257,13 +208,6 @@ module _ (O : Opening) (gone : Edge → Bool) (es : List Edge) (log more : List 
         append-nil {A = ℕ × ℕ} (map (λ g. (O .before + g, O .v)) (upTo (O .count - 1))),
         append-nil {A = ℕ × ℕ} (map (λ g. (O .before + g, O .v)) (upTo (O .count - 1))),
       )
-
-pub and-true : (a b : Bool) → (a && b) ≡ true → (a ≡ true) × (b ≡ true)
-and-true true b e = (refl, e)
-and-true false b e = absurd (let z : _≡_ {A = Bool} false true = e in let y : _≡_ {A = ℕ} 0 1 = cc in omega arith)
-
-pub false-true : _≡_ {A = Bool} false true → ⊥
-false-true e = let y : _≡_ {A = ℕ} 0 1 = cc in omega arith
 
 -- what splits is a particle that is there
 pub splits-here : (O : Opening) (M : Mesh) → splits? O M ≡ true → (2 ≤ O .count) × (O .v < length (M .particles))
@@ -389,10 +333,6 @@ straddlers-traced M₀ R T =
 abbrev FitWay : Mesh → Way → Type 0
 FitWay M w = Fitting (w .opening) M
 
-pub pick-one : {A : Type 0} (P : A → Type 0) (b : Bool) (a : A) → P a → All P (pick b (a ∷ []) [])
-pick-one P true a h = (h, tt)
-pick-one P false a h = tt
-
 way-fits : (loads : List Float) (M : Mesh) (v u : ℕ) → All (FitWay M) (wayAt Triangles loads M v u)
 unfolding wayAt
 way-fits loads M v u =
@@ -407,19 +347,6 @@ order-fits P (p ∷ ps) (q ∷ qs) u w = both (before? q p)
     both : (b : Bool) → All P (pick b (q ∷ p ∷ []) (p ∷ q ∷ []))
     both true = (w .0, (u .0, tt))
     both false = (u .0, (w .0, tt))
-
-abbrev pub Found : {A : Type 0} → (A → Type 0) → Option A → Type 0
-Found P nothing = Unit {0}
-Found P (some a) = P a
-
-pub find-fits : {A : Type 0} (P : A → Type 0) (p : A → Bool) (l : List A) → All P l → Found P (find p l)
-unfolding find
-find-fits P p [] h = tt
-find-fits P p (a ∷ l) h = one (p a) (find p l) (h .0) (find-fits P p l (h .1))
-  where
-    one : (b : Bool) (o : Option _) → P a → Found P o → Found P (pick b (some a) o)
-    one true o x y = x
-    one false o x y = y
 
 by-traced : (M₀ : Mesh) (R : Run) → Traced M₀ R → (o : Option Way) → Found (FitWay (R .mesh)) o → (ab xy : ℕ × ℕ) → Traced M₀ (crackBy Triangles o ab xy R)
 unfolding crackBy splitsOf each

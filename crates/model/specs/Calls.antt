@@ -1,6 +1,6 @@
 -- What a call that gives a mesh answers: the checks 1 to 4, then the rooms 5 to 8 of its steps, then the mesh and the log. Definitions only.
 use Prim.Native.Nat.{ℕ, zero, suc}
-use mathlib.Core.Bool.{Bool, true, false, not, _&&_}
+use mathlib.Core.Bool.{Bool, true, not, _&&_}
 use mathlib.Core.List.{List, [], _∷_}
 use lib.ListN.{length}
 use lib.Dec.{eqb, leb, ltb}
@@ -39,12 +39,13 @@ present M v = ltb v (length (M .particles))
 unfoldable pub sidesOk : Mesh → ℕ → List ℕ → Bool
 sidesOk M v sides = present M v && all (λ s. ltb s 2) sides && eqb (length sides) (length (fanOf (kindOf M) M v))
 
--- a particle list is strictly rising, and each is there
+-- each number of a list is above the one before it
 unfoldable pub strictly : List ℕ → Bool
 strictly [] = true
 strictly (x ∷ []) = true
 strictly (x ∷ y ∷ l) = ltb x y && strictly (y ∷ l)
 
+-- a particle list is strictly rising, and each particle is there
 unfoldable pub particlesOk : Mesh → List ℕ → Bool
 particlesOk M ps = strictly ps && all (present M) ps
 
@@ -83,6 +84,7 @@ abbrev pub fitted : ℕ → Run → Outcome
 fitted zero R = done (R .mesh) (R .log) (changed R)
 fitted (suc n) R = refused (suc n)
 
+-- the answer of a run
 unfoldable pub outcome : Rooms → Run → Outcome
 outcome L R = fitted (firstFault L (R .needs)) R
 

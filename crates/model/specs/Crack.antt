@@ -1,6 +1,6 @@
 -- Cracks across torn edges: `crack_body` with no torn cells. Definitions only.
 use Prim.Native.Nat.{ℕ}
-use mathlib.Core.Bool.{Bool, true, false, not, _&&_, _||_}
+use mathlib.Core.Bool.{Bool, true, false, _&&_, _||_}
 use mathlib.Core.List.{List, [], _∷_, _++_, map}
 use mathlib.Core.Option.{Option, none, some}
 use lib.ListN.{length, getD}
@@ -52,12 +52,15 @@ loadAt Nothing loads M i = zero32
 unfoldable pub family : List (ℕ × ℕ) → ℕ → List ℕ
 family splits a = fold (λ (f : List ℕ) (cs : ℕ × ℕ). pick (stands (cs .1) f) (f ++ (cs .0 ∷ [])) f) (a ∷ []) splits
 
+-- each of the one list with each of the other
 unfoldable pub crossPairs : List ℕ → List ℕ → List (ℕ × ℕ)
 crossPairs xs ys = each (λ x. map (λ y. (x, y)) ys) xs
 
+-- is the edge between the two, either way round
 abbrev pub joins : ℕ × ℕ → Edge → Bool
 joins xy e = (eqb (e .a) (xy .0) && eqb (e .b) (xy .1)) || (eqb (e .a) (xy .1) && eqb (e .b) (xy .0))
 
+-- the first answer, or else the second
 abbrev pub firstOf : {A : Type 0} → Option A → Option A → Option A
 firstOf none b = b
 firstOf (some a) b = some a
@@ -66,6 +69,7 @@ firstOf (some a) b = some a
 unfoldable pub currentOf : Kind → Mesh → List (ℕ × ℕ) → Option (ℕ × ℕ)
 currentOf k M ps = firstOf (find (λ (xy : ℕ × ℕ). held k M (xy .0) (xy .1)) ps) (find (λ (xy : ℕ × ℕ). any (joins xy) (M .edges)) ps)
 
+-- the pair for the torn edge (a, b) of the input
 unfoldable pub currentPair : Kind → Run → ℕ × ℕ → Option (ℕ × ℕ)
 currentPair k R ab = let s = splitsOf (R .log) in currentOf k (R .mesh) (crossPairs (family s (ab .0)) (family s (ab .1)))
 
@@ -107,9 +111,11 @@ ahead Equal lower = lower
 ahead Greater lower = true
 ahead Unordered lower = lower
 
+-- does p go before q
 abbrev pub before? : Way → Way → Bool
 before? p q = ahead (totalCmp (p .load) (q .load)) (ltb (p .opening .v) (q .opening .v))
 
+-- at most one way from each end, in that order
 abbrev pub inOrder : List Way → List Way → List Way
 inOrder [] qs = qs
 inOrder (p ∷ ps) [] = p ∷ ps
@@ -125,6 +131,7 @@ waysOf k loads M xy = inOrder (wayAt k loads M (xy .0) (xy .1)) (wayAt k loads M
 abbrev pub hurt : Particle → Particle
 hurt p = record { x = p .x; y = p .y; rest-x = p .rest-x; rest-y = p .rest-y; mass = p .mass; inv = p .inv; root = p .root; damaged = 1 }
 
+-- the particles of a list, marked
 unfoldable pub damagedAt : List ℕ → Mesh → Mesh
 damagedAt vs M =
     record { particles = mapAt (λ i p. pick (stands i vs) (hurt p) p) (M .particles); triangles = M .triangles; edges = M .edges; boundary = M .boundary }
@@ -150,6 +157,7 @@ crackPair k loads min ab none R = R
 crackPair k loads min ab (some xy) R =
     crackBy k (find (λ (w : Way). opensWithoutConfetti k (R .mesh) min (w .opening)) (waysOf k loads (R .mesh) xy)) ab xy R
 
+-- one torn edge of the input in turn
 unfoldable pub crackEdge : Kind → List Float → ℕ → Run → ℕ × ℕ → Run
 crackEdge k loads min R ab = crackPair k loads min ab (currentPair k R ab) R
 

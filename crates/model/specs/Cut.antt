@@ -14,7 +14,7 @@ use Rattle.blade.specs.Points.{centroidOf, lerpOf}
 use Rattle.blade.specs.Blade.{offsetOf, bladeHit}
 use Rattle.model.specs.Mesh.{Particle, Edge, Side, Mesh}
 use Rattle.model.specs.Elements.{Kind, Triangles, Straps, Nothing, Element, particle, edgeAt, placeOf, restOf, endsOf, farEnd, besides, sum, structural?, elementsOf, fanOf}
-use Rattle.model.specs.Run.{Entry, edge, insert, Run, stepTo, splitsOf}
+use Rattle.model.specs.Run.{edge, insert, Run, stepTo, splitsOf}
 use Rattle.model.specs.Split.{Opening, openingOf, made, weighed, onlyAt, splitStep, splitBySides}
 
 -- a blade from `from` to `to`
@@ -26,6 +26,7 @@ pub record Blade : Type 0 where
 unfoldable pub meets : Blade → Mesh → ℕ → ℕ → Hit
 meets B M x y = bladeHit (B .from) (B .to) (placeOf M x) (placeOf M y)
 
+-- is it a hit
 abbrev pub hit? : Hit → Bool
 hit? Miss = false
 hit? (HitAt t) = true
@@ -50,6 +51,7 @@ bladeSides k B M v =
     let raw = map (leftOf B M) (fanOf k M v) in
     map (λ r. pick (Bool·beq r (keptSide B M v raw)) 0 1) raw
 
+-- v split by those sides
 unfoldable pub splitByBlade : Kind → Blade → Run → ℕ → Run
 splitByBlade k B R v = splitBySides k v (bladeSides k B (R .mesh) v) R
 
@@ -190,6 +192,7 @@ bends sa sb e = not (structural? e) && ((only sa sb (e .a) && only sb sa (e .b))
 unfoldable pub numbersOf : (Edge → Bool) → List Edge → List ℕ
 numbersOf p es = each (λ (l : List ℕ). l) (mapAt (λ i e. pick (p e) (i ∷ []) []) es)
 
+-- the bend edges over the segment (a, b), by number
 unfoldable pub bendsOver : Mesh → ℕ → ℕ → List ℕ
 bendsOver M a b = numbersOf (bends (sideAlong M a b) (sideAlong M b a)) (M .edges)
 
@@ -232,6 +235,7 @@ insertedEdges I es =
     mapAt (onlyAt (I .number) (λ e. halfOf (I .edge) (I .edge .a) (I .before) (I .t))) es
     ++ (halfOf (I .edge) (I .before + 1) (I .edge .b) (left-over I) ∷ [])
 
+-- is the boundary entry (a, b)
 abbrev pub same : Side → ℕ → ℕ → Bool
 same s a b = eqb (s .a) a && eqb (s .b) b
 
@@ -243,11 +247,13 @@ shortened a b p q s = pick (same s a b) (record { a = a; b = p }) (pick (same s 
 unfoldable pub appended : ℕ → ℕ → ℕ → ℕ → Side → List Side
 appended a b p q s = pick (same s a b) (record { a = q; b = b } ∷ []) (pick (same s b a) (record { a = p; b = a } ∷ []) [])
 
+-- the whole boundary
 unfoldable pub insertedSides : Insertion → List Side → List Side
 insertedSides I ss =
     map (shortened (I .edge .a) (I .edge .b) (I .before) (I .before + 1)) ss
     ++ each (appended (I .edge .a) (I .edge .b) (I .before) (I .before + 1)) ss
 
+-- the mesh behind an insertion
 unfoldable pub insertedMesh : Insertion → Mesh → Mesh
 insertedMesh I M =
     record {
@@ -279,9 +285,11 @@ insertedAt f R marked snapped c =
 unfoldable pub snappedAt : Run → List ℕ → List ℕ → Crossing → Strapping
 snappedAt R marked snapped c = strapping R marked (snapped ++ (nearEnd (R .mesh) c ∷ []))
 
+-- each crossing in turn
 unfoldable pub crossed : Float → Strapping → Crossing → Strapping
 crossed f (strapping R marked snapped) c = pick (insertable f (R .mesh) c) (insertedAt f R marked snapped c) (snappedAt R marked snapped c)
 
+-- M with other edges
 abbrev pub withEdges : Mesh → List Edge → Mesh
 withEdges M es = record { particles = M .particles; triangles = M .triangles; edges = es; boundary = M .boundary }
 
@@ -299,6 +307,7 @@ unbent (i ∷ is) R =
 abbrev pub slack : Edge → Edge
 slack e = record { a = e .a; b = e .b; structural = e .structural; torn = e .torn; rest = e .rest; initial = e .initial; impulse = zero32; stress = zero32 }
 
+-- the edges that pass are slack
 unfoldable pub slackened : (Edge → Bool) → Mesh → Mesh
 slackened p M = withEdges M (map (λ (e : Edge). pick (p e) (slack e) e) (M .edges))
 

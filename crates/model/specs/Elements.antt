@@ -2,7 +2,7 @@
 use Prim.Native.Nat.{ℕ, suc}
 use mathlib.Core.Bool.{Bool, true, false, not, _&&_}
 use mathlib.Core.List.{List, [], _∷_, map}
-use lib.ListN.{length, getD}
+use lib.ListN.{getD}
 use lib.Dec.{eqb}
 use lib.Ieee.{Float}
 use Rattle.lists.specs.Lists.{pick, stands, any, all, sift, fold, each}
@@ -64,14 +64,17 @@ pub data Kind : Type 0 where
   Straps : Kind
   Nothing : Kind
 
+-- is the structural flag set
 abbrev pub structural? : Edge → Bool
 structural? e = eqb (e .structural) 1
 
+-- by the triangles, and by whether some edge is structural
 unfoldable pub kindBy : List Triangle → Bool → Kind
 kindBy (t ∷ ts) s = Triangles
 kindBy [] true = Straps
 kindBy [] false = Nothing
 
+-- the kind of a mesh
 unfoldable pub kindOf : Mesh → Kind
 kindOf M = kindBy (M .triangles) (any structural? (M .edges))
 

@@ -39,6 +39,7 @@ pub record Side : Type 0 where
   pub a : ℕ
   pub b : ℕ
 
+-- the four lists of a mesh
 pub record Mesh : Type 0 where
   pub particles : List Particle
   pub triangles : List Triangle

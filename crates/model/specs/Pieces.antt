@@ -1,6 +1,6 @@
 -- Pieces, the straddlers across them, and the reach of a group. Definitions only.
 use Prim.Native.Nat.{ℕ, _-_, max}
-use mathlib.Core.Bool.{Bool, true, false, not, _&&_}
+use mathlib.Core.Bool.{Bool, false, not, _&&_}
 use mathlib.Core.List.{List, [], _∷_, map}
 use mathlib.Core.Option.{Option, none, some}
 use lib.ListN.{length, getD}

@@ -1,6 +1,6 @@
 -- What a call that only reads answers: a refusal's number, or a value. Definitions only.
 use Prim.Native.Nat.{ℕ, zero, suc}
-use mathlib.Core.Bool.{Bool, true, false, _&&_}
+use mathlib.Core.Bool.{Bool, true, _&&_}
 use mathlib.Core.List.{List}
 use lib.Ieee.{Float}
 use Rattle.lists.specs.Lists.{pick}
@@ -19,6 +19,7 @@ use Rattle.model.specs.Pieces.{pieces, opensWithoutConfetti}
 use Rattle.model.specs.Cut.{Blade}
 use Rattle.model.specs.Calls.{pointOk, bladeOk, sidesOk, particlesOk, refusal}
 
+-- a refusal's number, or a value
 pub data Read (A : Type 0) : Type 0 where
   refused : ℕ → Read A
   value : A → Read A
@@ -33,6 +34,7 @@ abbrev pub rooted : Rooted → Read Float
 rooted (Value r) = value r
 rooted Refused = refused 4
 
+-- the root of x
 abbrev pub rootCall : Float → Read Float
 rootCall x = rooted (rootOf x)
 
@@ -44,12 +46,15 @@ bladeCall B p q = orRefused (pick (bladeOk B && pointOk p && pointOk q) 0 2) (bl
 abbrev pub grouped : Fan → List ℕ × ℕ
 grouped F = (groupsOf F, countOf F)
 
+-- at v with these sides
 unfoldable pub groupsCall : Bool → Mesh → ℕ → List ℕ → Read (List ℕ × ℕ)
 groupsCall sized M v sides = orRefused (refusal sized M true (sidesOk M v sides)) (grouped (gridOf (kindOf M) v (fanOf (kindOf M) M v) sides))
 
+-- `rest_measure`
 unfoldable pub restMeasureCall : Bool → Mesh → Read Float
 restMeasureCall sized M = orRefused (refusal sized M true true) (restMeasure M)
 
+-- `rest_measure_of` for a particle list
 unfoldable pub restMeasureOfCall : Bool → Mesh → List ℕ → Read Float
 restMeasureOfCall sized M ps = orRefused (refusal sized M true (particlesOk M ps)) (restMeasureOf M ps)
 
@@ -57,5 +62,6 @@ restMeasureOfCall sized M ps = orRefused (refusal sized M true (particlesOk M ps
 unfoldable pub opensCall : Bool → Mesh → ℕ → List ℕ → ℕ → Read Bool
 opensCall sized M v sides min = orRefused (refusal sized M true (sidesOk M v sides)) (opensWithoutConfetti (kindOf M) M min (openingOf (kindOf M) M v sides))
 
+-- how many pieces a mesh has
 unfoldable pub piecesCall : Bool → Mesh → Read ℕ
 piecesCall sized M = orRefused (refusal sized M true true) (pieces M)

@@ -64,15 +64,17 @@ splitOf (edge a b) = []
 splitOf (insert a b p q t) = []
 splitOf (opened a b) = []
 
+-- of the whole log
 unfoldable pub splitsOf : List Entry → List (ℕ × ℕ)
 splitsOf l = each splitOf l
 
--- was anything split or inserted
+-- does an entry tell of something split or inserted
 abbrev pub changes : Entry → Bool
 changes (split c v) = true
 changes (edge a b) = false
 changes (insert a b p q t) = true
 changes (opened a b) = false
 
+-- in the whole log
 unfoldable pub changed : Run → Bool
 changed R = any changes (R .log)

@@ -1,6 +1,6 @@
 -- The split of a particle by the groups of its fan: `split_fan` and `split_vertex`, part by part in their order. Definitions only.
 use Prim.Native.Nat.{ℕ, suc, _+_, _-_}
-use mathlib.Core.Bool.{Bool, true, false, not, _&&_, _||_}
+use mathlib.Core.Bool.{Bool, not, _&&_, _||_}
 use mathlib.Core.List.{List, [], _∷_, _++_, map}
 use mathlib.Core.Option.{Option, none, some}
 use lib.ListN.{length, getD}
@@ -14,7 +14,7 @@ use Rattle.blade.specs.Points.{minusOf, dotOf, sumOf, lengthOf}
 use Rattle.fan.specs.Fan.{sharedOthers}
 use Rattle.fan.specs.Groups.{groupsOf, countOf}
 use Rattle.model.specs.Mesh.{Particle, Triangle, Edge, Side, Mesh, blank, blankTriangle}
-use Rattle.model.specs.Elements.{Kind, Triangles, Straps, Nothing, Element, particle, restOf, cornersOf, endsOf, sideEnds, farEnd, besides, sum, element?, held, fanOf, gridOf}
+use Rattle.model.specs.Elements.{Kind, Triangles, Straps, Nothing, Element, particle, restOf, endsOf, sideEnds, farEnd, besides, sum, element?, held, fanOf, gridOf}
 use Rattle.model.specs.Run.{Entry, split, edge, Run, stepTo}
 
 -- ---- the split to be made
@@ -115,11 +115,13 @@ moved v w e =
       stress = e .stress;
     }
 
+-- triangle by triangle, where the elements are triangles
 unfoldable pub rewiredTriangles : Kind → Opening → List Triangle → List Triangle
 rewiredTriangles Triangles O ts = mapAt (λ i. retargeted (O .v) (copyOf O (groupAt (O .fan) i))) ts
 rewiredTriangles Straps O ts = ts
 rewiredTriangles Nothing O ts = ts
 
+-- edge by edge, where the elements are straps
 unfoldable pub rewiredStraps : Kind → Opening → List Edge → List Edge
 rewiredStraps Triangles O es = es
 rewiredStraps Straps O es = mapAt (λ i. moved (O .v) (copyOf O (groupAt (O .fan) i))) es
@@ -136,6 +138,7 @@ pub record Best : Type 0 where
   pub score : Float
   pub group : ℕ
 
+-- a score s of group g in turn
 abbrev pub better : Best → Float → ℕ → Best
 better b s g = pick (lt (b .score) s) (record { score = s; group = g }) b
 
@@ -195,6 +198,7 @@ abbrev pub partGroup : Option Part → ℕ → ℕ
 partGroup none g = g
 partGroup (some p) g = p .group
 
+-- for the boundary entry s
 unfoldable pub sideGroup : Mesh → Opening → Side → ℕ
 sideGroup M O s =
     partGroup (find (λ (p : Part). all (λ x. stands x (p .corners)) (sideEnds s)) (O .fan))
@@ -214,6 +218,7 @@ followed M O s = pick (stands (O .v) (sideEnds s)) (turned (O .v) (copyOf O (sid
 abbrev pub facesOf : Triangle → List Side
 facesOf t = record { a = t .a; b = t .b } ∷ record { a = t .b; b = t .c } ∷ record { a = t .c; b = t .a } ∷ []
 
+-- what is found, as a list
 abbrev pub oneOrNone : {A : Type 0} → Option A → List A
 oneOrNone none = []
 oneOrNone (some a) = a ∷ []
@@ -230,6 +235,7 @@ faceOn M O p q r = oneOrNone (find (λ (s : Side). all (onFacet O p q r) (sideEn
 abbrev pub opens? : ℕ → Part → Part → Bool
 opens? v p q = not (eqb (p .group) (q .group)) && eqb (sharedOthers v (p .corners) (q .corners)) 1
 
+-- the two faces that open there
 unfoldable pub facetsAt : Mesh → Opening → Part × Part → List Side
 facetsAt M O pq = pick (opens? (O .v) (pq .0) (pq .1)) (faceOn M O (pq .0) (pq .1) (pq .0) ++ faceOn M O (pq .0) (pq .1) (pq .1)) []
 

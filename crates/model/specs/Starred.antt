@@ -41,7 +41,7 @@ quarter = fin false 1 (negsuc 1)
 abbrev pub tenth : Float
 tenth = fin false 13421773 (negsuc 26)
 
--- a free particle of mass 1 that rests where it is, with its own number as root; a triangle; an edge with equal rest lengths
+-- a free particle of mass 1 that rests where it is, with its own number as root; a triangle without stress; an edge with equal rest lengths
 abbrev pub free : ℕ → Point → Particle
 free n p = record { x = p .x; y = p .y; rest-x = p .x; rest-y = p .y; mass = one; inv = one; root = n; damaged = 0 }
 
@@ -51,6 +51,7 @@ triangle a b c v = record { a = a; b = b; c = c; volume = v; stress = zero32 }
 abbrev pub edge : ℕ → ℕ → ℕ → Float → Edge
 edge a b s l = record { a = a; b = b; structural = s; torn = 0; rest = l; initial = l; impulse = zero32; stress = zero32 }
 
+-- a boundary entry
 abbrev pub side : ℕ → ℕ → Side
 side a b = record { a = a; b = b }
 
@@ -73,6 +74,7 @@ fanWith p =
       boundary = [];
     }
 
+-- with particle 0 free
 abbrev pub fanMesh : Mesh
 fanMesh = fanWith (free 0 (point (pos 0) (pos 0)))
 
@@ -118,6 +120,7 @@ blade x0 y0 x1 y1 = record { from = point x0 y0; to = point x1 y1 }
 
 -- ---- the starred cases
 
+-- all twelve, in the order of document 01
 abbrev pub starred : List Case
 starred =
     -- sides 0,0,0 give groups 0,0,1; sides 1,0,0 give 2,0,1; strap sides 0,1,0 at a shared end give 0,1,0

@@ -1,6 +1,6 @@
 -- Which meshes are accepted: document 01, 'What a mesh holds', and the refusals 2 and 3. Definitions only.
 use Prim.Native.Nat.{ℕ}
-use mathlib.Core.Bool.{Bool, true, false, not, _&&_}
+use mathlib.Core.Bool.{Bool, true, not, _&&_}
 use mathlib.Core.List.{List, [], _∷_}
 use lib.ListN.{length}
 use lib.Dec.{ltb}
@@ -28,6 +28,7 @@ edgeOk e =
     flag? (e .structural) && flag? (e .torn) && number? (e .rest) && number? (e .initial) && notBelow0? (e .rest) && notBelow0? (e .initial) && number? (e .impulse)
     && number? (e .stress)
 
+-- every number and flag of a mesh is in its range
 unfoldable pub numbersFit : Mesh → Bool
 numbersFit M = all particleOk (M .particles) && all triangleOk (M .triangles) && all edgeOk (M .edges)
 
@@ -51,6 +52,7 @@ endsOk n e = named n (e .a ∷ e .b ∷ [])
 unfoldable pub sideOk : ℕ → Side → Bool
 sideOk n s = named n (s .a ∷ s .b ∷ [])
 
+-- every index and root of a mesh
 unfoldable pub indicesFit : Mesh → Bool
 indicesFit M =
     let n = length (M .particles) in
