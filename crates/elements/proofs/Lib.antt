@@ -1,0 +1,3 @@
+-- The laws of elements in tables. Assumes nothing.
+pub mod Found
+pub mod Tables
