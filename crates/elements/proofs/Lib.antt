@@ -1,3 +1,4 @@
 -- The laws of elements in tables. Assumes nothing.
 pub mod Found
 pub mod Tables
+pub mod Filling
