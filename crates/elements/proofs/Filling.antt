@@ -2,7 +2,7 @@
 use mathlib.Core.Path.{_≡_, refl, sym, _∙_, ap}
 use mathlib.Core.Bool.{Bool, true, false}
 use mathlib.Core.List.{List, [], _∷_, _++_, append-nil, append-assoc}
-use Prim.Native.Nat.{ℕ, zero, suc, _+_, _*_, _/_, _<_, _≤_}
+use Prim.Native.Nat.{ℕ, zero, suc, _+_, _*_, _/_, _<_, _≤_, suc-le-suc}
 use native.Mathlib.Numerals.{add-one}
 use native.Mathlib.Omega.{arith}
 use borrow.Author.Tests.{eq-eqb, ne-eqb}
@@ -11,14 +11,17 @@ use lib.ListN.{length, getD, take, set, length-set}
 use lib.Ieee.{Float, nan}
 use Rattle.lists.specs.Lists.{pick, tab}
 use Rattle.lists.proofs.Stores.{tab-length}
-use Rattle.lists.proofs.Sifts.{pick-ap, tab-suc}
+use Rattle.lists.proofs.Sifts.{pick-by, pick-ap, tab-suc}
 use Rattle.float.specs.Numbers.{absOf}
 use Rattle.columns.specs.Block.{cell}
 use Rattle.columns.proofs.Sweep.{front-grows}
 use Rattle.model.specs.Mesh.{Triangle, Edge}
-use Rattle.model.specs.Elements.{Element, structural?, triangleElement, strapElement, trianglesFrom, strapsFrom}
+use Rattle.model.specs.Elements.{Kind, Triangles, Straps, Nothing, Element, structural?, triangleElement, strapElement, trianglesFrom, strapsFrom, cornersPer}
 use Rattle.mesh.specs.At.{triangleRow, edgeRow, trianglesAt, edgesAt}
-use Rattle.elements.specs.Table.{Tabled}
+use Rattle.elements.specs.Table.{Tabled, kindIs, elementsIn}
+use Rattle.elements.specs.declared.Kind.{Kind as KindCase}
+use Rattle.elements.specs.declared.Kind.the-variants.{Triangles as TrianglesCase, Straps as StrapsCase, Nothing as NothingCase}
+use Rattle.mesh.proofs.Lists.{edges-length}
 use Rattle.elements.proofs.Tables.{tabled-none, tabled-push}
 
 -- at the head of a loop: the tables of n elements, whose corners end at o; the tables keep their lengths
@@ -181,3 +184,40 @@ pub triangling-done :
     (C : List ℕ) (W : List Float) (i o t : ℕ) (N₀ K₀ : List ℕ) (M₀ : List Float) (N K : List ℕ) (M : List Float)
     → Triangling C W i o N₀ K₀ M₀ N K M → i ≤ t → t ≤ i → Tabled 3 (trianglesFrom 0 (trianglesAt t C W)) t N K M
 triangling-done C W i o t N₀ K₀ M₀ N K M F g h = let q : t ≡ i = omega arith in rw q (F .tabled)
+
+-- ---- whichever the kind is
+
+module _ (kind : KindCase) (ts : List Triangle) (es : List Edge) (n : ℕ) (N K : List ℕ) (M : List Float) where
+  pub table-triangles : kind ≡ TrianglesCase → Tabled 3 (trianglesFrom 0 ts) n N K M → Tabled (cornersPer (kindIs kind)) (elementsIn (kindIs kind) ts es) n N K M
+  unfolding elementsIn
+  table-triangles e T = rw e T
+
+  pub table-straps : kind ≡ StrapsCase → Tabled 2 (strapsFrom 0 es) n N K M → Tabled (cornersPer (kindIs kind)) (elementsIn (kindIs kind) ts es) n N K M
+  unfolding elementsIn
+  table-straps e T = rw e T
+
+  pub table-nothing : kind ≡ NothingCase → n ≡ 0 → Tabled (cornersPer (kindIs kind)) (elementsIn (kindIs kind) ts es) n N K M
+  unfolding elementsIn
+  table-nothing e z = rw (e, z) (tabled-none 2 N K M)
+
+-- ---- how many they are
+
+pub triangles-length : (i : ℕ) (ts : List Triangle) → length (trianglesFrom i ts) ≡ length ts
+unfolding trianglesFrom
+triangles-length i [] = refl
+triangles-length i (t ∷ ts) = ap suc (triangles-length (suc i) ts)
+
+pub straps-length : (i : ℕ) (es : List Edge) → length (strapsFrom i es) ≤ length es
+unfolding strapsFrom
+straps-length i [] = omega arith
+straps-length i (e ∷ es) =
+    let h = straps-length (suc i) es in
+    pick-by (λ (l : List Element). length l ≤ suc (length es)) (structural? e) (suc-le-suc h) (omega arith)
+
+-- a table of a mesh within the limits has at most 2048 rows
+pub table-few : (kind : Kind) (t e : ℕ) (C : List ℕ) (W : List Float) (E : List ℕ) (L : List Float) (k n : ℕ) (N K : List ℕ) (M : List Float)
+    → t ≤ 1024 → e ≤ 2048 → Tabled k (elementsIn kind (trianglesAt t C W) (edgesAt e E L)) n N K M → n ≤ 2048
+unfolding elementsIn trianglesAt
+table-few Triangles t e C W E L k n N K M ht he T = omega (arith, T .cornered .count, triangles-length 0 (trianglesAt t C W), tab-length t (triangleRow (length C / 3) (length W / 2) C W))
+table-few Straps t e C W E L k n N K M ht he T = omega (arith, T .cornered .count, straps-length 0 (edgesAt e E L), edges-length e E L)
+table-few Nothing t e C W E L k n N K M ht he T = omega (arith, T .cornered .count)

@@ -2,3 +2,5 @@
 pub mod Found
 pub mod Tables
 pub mod Filling
+pub mod Fans
+pub mod Measures
