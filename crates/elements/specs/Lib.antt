@@ -1,2 +1,3 @@
 -- The elements of a mesh in tables.
 pub mod Table
+pub mod Workers

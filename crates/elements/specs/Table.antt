@@ -4,9 +4,9 @@ use mathlib.Core.Path.{_≡_}
 use mathlib.Core.List.{List, [], map}
 use lib.ListN.{length, getD, take}
 use lib.Ieee.{Float}
-use Rattle.lists.specs.Lists.{stands, any, sift, each}
+use Rattle.lists.specs.Lists.{stands, any, all, sift, each}
 use Rattle.model.specs.Mesh.{Triangle, Edge}
-use Rattle.model.specs.Elements.{Kind, Triangles, Straps, Nothing, Element, structural?, kindBy, trianglesFrom, strapsFrom}
+use Rattle.model.specs.Elements.{Kind, Triangles, Straps, Nothing, Element, structural?, kindBy, trianglesFrom, strapsFrom, sum}
 use Rattle.mesh.specs.At.{trianglesAt, edgesAt}
 use Rattle.elements.specs.declared.Kind.{Kind as KindCase}
 use Rattle.elements.specs.declared.Kind.the-variants.{Triangles as TrianglesCase, Straps as StrapsCase, Nothing as NothingCase}
@@ -57,3 +57,28 @@ pub record TableRoom (t e lc lv le ll ln lk lm : ℕ) : Type 0 where
 -- the rows of the elements that hold v stand in the other tables, whichever elements the tables are of
 pub record FanTabled (v k n : ℕ) (numbers verts : List ℕ) (measures : List Float) (r : ℕ) (numbers′ verts′ : List ℕ) (measures′ : List Float) : Type 0 where
   pub tabled : (es : List Element) → Tabled k es n numbers verts measures → Tabled k (holding v es) r numbers′ verts′ measures′
+
+-- what is asked of the tables of n elements, k corners to each, and of the tables of a fan
+pub record FanRoom (k n ln lk lm fan-ln fan-lk fan-lm : ℕ) : Type 0 where
+  pub numbers : n ≤ ln
+  pub verts : n * k ≤ lk
+  pub measures : n ≤ lm
+  pub fan-numbers : n ≤ fan-ln
+  pub fan-verts : n * k ≤ fan-lk
+  pub fan-measures : n ≤ fan-lm
+
+-- the elements of a list with all corners among the listed
+abbrev pub within : List ℕ → List Element → List Element
+within listed es = sift (λ (e : Element). all (λ w. stands w listed) (e .corners)) es
+
+-- r is the sum of the measures of the elements with all corners among the listed, whichever elements the tables are of
+pub record MeasuredWithin (k n : ℕ) (verts : List ℕ) (measures : List Float) (listed : List ℕ) (r : Float) : Type 0 where
+  pub is : (es : List Element) → Cornered k es n verts → take n measures ≡ map (λ (e : Element). e .measure) es
+      → r ≡ sum (map (λ (e : Element). e .measure) (within listed es))
+
+-- the tables have n elements, and their corners and the listed stand below the length of the marks
+pub record MarkRoom (k n : ℕ) (verts : List ℕ) (lm : ℕ) (listed : List ℕ) (marks : ℕ) : Type 0 where
+  pub verts-long : n * k ≤ length verts
+  pub measures-long : n ≤ lm
+  pub verts-below : (j : ℕ) → j < n * k → getD verts j 0 < marks
+  pub listed-below : (j : ℕ) → j < length listed → getD listed j 0 < marks
