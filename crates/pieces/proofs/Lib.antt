@@ -1,0 +1,5 @@
+-- Laws of distinct numbers, of tables of corners, of parent tables, and of pieces. Assumes nothing.
+pub mod Distinct
+pub mod Corners
+pub mod Trees
+pub mod Laws
