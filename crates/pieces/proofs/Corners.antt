@@ -16,6 +16,7 @@ use Rattle.model.specs.Elements.{Element}
 use Rattle.model.specs.Pieces.{cornersAt}
 use Rattle.elements.specs.Table.{Cornered}
 use Rattle.pieces.specs.Classes.{Holds, Together}
+use Rattle.pieces.specs.Counted.{Corners}
 use Rattle.pieces.specs.Tables.{Link}
 
 -- ---- rows of k
@@ -49,6 +50,17 @@ each-at f k (a ∷ l) w (suc i) c h g =
     let s : length (f a) ≡ k = w 0 (suc-le-suc zero-le) in
     let e : suc i * k + c ≡ length (f a) + (i * k + c) = omega arith in
     at-eq (f a ++ each f l) e ∙ getD-append-add (f a) (each f l) (i * k + c) 0 ∙ each-at f k l (λ j m. w (suc j) (suc-le-suc m)) i c (le-of-suc-le-suc h) g
+
+-- where the corners of element i stand, and that they are particles
+module _ {n k : ℕ} {verts : List ℕ} {m : ℕ} (C : Corners n k verts m) where
+  pub corners-room : (i : ℕ) → i < n → i * k + k ≤ length verts
+  corners-room i l = omega (arith, row-before k i n l, C .room)
+
+  pub corner-below : (i c : ℕ) → i < n → c < k → getD verts (i * k + c) 0 < m
+  corner-below i c l g = C .below (i * k + c) (omega (arith, row-before k i n l))
+
+  pub first-below : (i : ℕ) → i < n → getD verts (i * k) 0 < m
+  first-below i l = C .below (i * k) (omega (arith, row-before k i n l, C .width .0))
 
 -- ---- corners of elements
 
