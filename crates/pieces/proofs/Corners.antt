@@ -1,5 +1,5 @@
 -- Laws of tables of corners: where each corner of an element stands, and that links between corners join what elements hold together. Assumes nothing.
-use mathlib.Core.Path.{_≡_, refl, sym, _∙_, ap}
+use mathlib.Core.Path.{_≡_, refl, sym, _∙_, ap, subst}
 use mathlib.Core.List.{List, [], _∷_, _++_, map}
 use Prim.Native.Nat.{ℕ, zero, suc, _+_, _*_, _<_, _≤_, zero-le, suc-le-suc}
 use native.Mathlib.Omega.{arith}
@@ -50,6 +50,10 @@ each-at f k (a ∷ l) w (suc i) c h g =
     let s : length (f a) ≡ k = w 0 (suc-le-suc zero-le) in
     let e : suc i * k + c ≡ length (f a) + (i * k + c) = omega arith in
     at-eq (f a ++ each f l) e ∙ getD-append-add (f a) (each f l) (i * k + c) 0 ∙ each-at f k l (λ j m. w (suc j) (suc-le-suc m)) i c (le-of-suc-le-suc h) g
+
+-- the same corners, where the count of particles is said another way
+pub corners-for : {n k : ℕ} {verts : List ℕ} {l m : ℕ} → l ≡ m → Corners n k verts l → Corners n k verts m
+corners-for {n} {k} {verts} e C = subst (λ (m : ℕ). Corners n k verts m) e C
 
 -- where the corners of element i stand, and that they are particles
 module _ {n k : ℕ} {verts : List ℕ} {m : ℕ} (C : Corners n k verts m) where

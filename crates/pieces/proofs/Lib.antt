@@ -2,4 +2,5 @@
 pub mod Distinct
 pub mod Corners
 pub mod Trees
+pub mod Marks
 pub mod Laws
