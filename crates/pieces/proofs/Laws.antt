@@ -23,7 +23,8 @@ use Rattle.model.specs.Elements.{Element, kindOf, elementsOf}
 use Rattle.model.specs.Pieces.{cornersAt, touch, pieceLabels, pieces, pieceOf, apart, spans}
 use Rattle.elements.specs.Table.{Cornered}
 use Rattle.pieces.specs.Classes.{Holds, heldBy, Share, Together, Classes}
-use Rattle.pieces.specs.Counted.{elementRoots}
+use Rattle.pieces.specs.Counted.{Corners, PieceRoots, elementRoots, PiecesCounted}
+use Rattle.pieces.specs.Tables.{RootsCounted}
 use Rattle.pieces.proofs.Distinct.{Follows, same-distinct, distinct-stands, distinct-once, once-same}
 use Rattle.pieces.proofs.Corners.{row-before, holds-corner}
 
@@ -217,6 +218,16 @@ roots-counted {n} {k} {verts} es roots C one below T =
     (λ i j l m e. label-root es roots T i j _ _ (holds i l) (holds j m) (near i l) (near j m) e)
     ∙ ap (λ (m : ℕ). length (distinct (tab m (λ i. getD (pieceLabels es) i 0)))) len
     ∙ ap (λ (l : List ℕ). length (distinct l)) (tab-of (pieceLabels es) 0)
+
+-- so the count of different roots is the count of pieces
+pub pieces-counted : {n k : ℕ} {verts roots seen : List ℕ} {r : ℕ} → Corners n k verts (length roots) → PieceRoots n k verts roots → RootsCounted n k verts roots seen r
+    → PiecesCounted n k verts roots seen r
+pieces-counted {roots = roots} B R C =
+    record {
+      counted = λ es T. C .count ∙ roots-counted es roots T (B .width .0) (B .below) (R .lowest es T);
+      rooted = R;
+      marks = C .marked .mark;
+    }
 
 -- ---- classes
 

@@ -17,9 +17,11 @@ pub record Corners (n k : ℕ) (verts : List ℕ) (particles : ℕ) : Type 0 whe
   pub room : n * k ≤ length verts
   pub below : (t : ℕ) → t < n * k → getD verts t 0 < particles
 
--- Each particle has the lowest particle of its piece, whichever elements the table is of.
+-- Each particle has the lowest particle of its piece, whichever elements the table is of. A root is not above its particle, and is its own.
 pub record PieceRoots (n k : ℕ) (verts roots : List ℕ) : Type 0 where
   pub lowest : (es : List Element) → Cornered k es n verts → Lowest (Together es) (length roots) roots
+  pub down : (x : ℕ) → x < length roots → getD roots x 0 ≤ x
+  pub flat : (x : ℕ) → x < length roots → getD roots (getD roots x 0) 0 ≡ getD roots x 0
 
 -- the root of each element's first corner
 unfoldable pub elementRoots : ℕ → ℕ → List ℕ → List ℕ → List ℕ

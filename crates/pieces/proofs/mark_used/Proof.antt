@@ -72,8 +72,7 @@ loop-again c =
     let P = c .before .before .before .before .before .before .before .before .before .pre in
     let L = c .before .before .loop in
     let K = c .before .before .before .before .before .clear in
-    let h : getD (A .verts .now) (L .t) 0 < length (L .used) = omega (arith, P .below (L .t) (search needs), L .inv .1, K .kept .0) in
-    (
+    let h : getD (A .verts .now) (L .t) 0 < length (L .used) = omega (arith, P .below (L .t) (search needs), L .inv .1, K .kept .0) in (
       omega arith,
       length-set (L .used) (getD (A .verts .now) (L .t) 0) 1 ∙ L .inv .1,
       marked-corner (L .t) (A .verts .now) (L .used) (omega (arith, P .room)) h (L .inv .2),
