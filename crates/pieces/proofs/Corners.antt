@@ -5,11 +5,10 @@ use Prim.Native.Nat.{ℕ, zero, suc, _+_, _*_, _<_, _≤_, zero-le, suc-le-suc}
 use native.Mathlib.Omega.{arith}
 use native.Mathlib.Nat.{not-suc-le-zero, le-of-suc-le-suc, mul-le-mul-right}
 use native.Mathlib.Decide.{decLt}
-use lib.ListN.{length, getD, take, List·getD-append}
+use lib.ListN.{length, getD, List·getD-append}
 use lib.Seq.{getD-append-add, getD-take}
-use Rattle.lists.specs.Lists.{stands, each}
+use Rattle.lists.specs.Lists.{each}
 use Rattle.lists.specs.Chain.{Chain, stay, ahead, back}
-use Rattle.lists.proofs.Chains.{chain-map}
 use Rattle.lists.proofs.Stores.{at-eq}
 use Rattle.lists.proofs.Sifts.{stands-get, stands-made}
 use Rattle.model.specs.Elements.{Element}

@@ -2,7 +2,7 @@
 use mathlib.Core.Path.{_≡_, refl, sym, _∙_, ap}
 use mathlib.Core.Bool.{Bool, true, false, not, _&&_, false≢true}
 use mathlib.Core.List.{List, [], _∷_, _++_}
-use Prim.Native.Nat.{ℕ, zero, suc, _+_, _<_, zero-le, suc-le-suc}
+use Prim.Native.Nat.{ℕ, zero, suc, _+_, _<_, _≤_, zero-le, suc-le-suc}
 use native.Mathlib.Omega.{arith}
 use native.Mathlib.Nat.{not-suc-le-zero, le-of-suc-le-suc}
 use native.Mathlib.Decide.{ℕ-discrete}
@@ -11,7 +11,7 @@ use lib.Dec.{eqb}
 use lib.ListN.{length, getD, length-append}
 use Rattle.lists.specs.Lists.{pick, stands, sift, tab, distinct}
 use Rattle.lists.proofs.Stores.{tab-length, tab-at}
-use Rattle.lists.proofs.Sifts.{sift-append, sift-stands, stands-get, stands-made, tab-suc}
+use Rattle.lists.proofs.Sifts.{true-and, sift-append, sift-stands, stands-get, stands-made, tab-suc}
 
 -- ---- one more number at the end
 
@@ -125,3 +125,50 @@ once-same (x ∷ l) o zero zero la lb e = refl
 once-same (x ∷ l) o zero (suc b) la lb e = absurd (false≢true (sym (o .0) ∙ stands-made x l b (le-of-suc-le-suc lb) (sym e)))
 once-same (x ∷ l) o (suc a) zero la lb e = absurd (false≢true (sym (o .0) ∙ stands-made x l a (le-of-suc-le-suc la) e))
 once-same (x ∷ l) o (suc a) (suc b) la lb e = ap suc (once-same l (o .1) a b (le-of-suc-le-suc la) (le-of-suc-le-suc lb) e)
+
+-- ---- lists without repeats
+
+without-none : (x : ℕ) (l : List ℕ) → stands x l ≡ false → sift (λ z. not (eqb z x)) l ≡ l
+unfolding sift
+without-none x [] s = refl
+without-none x (y ∷ l) s = by (ℕ-discrete y x) s (without-none x l)
+  where
+    by : Dec (y ≡ x) → pick (eqb y x) true (stands x l) ≡ false → (stands x l ≡ false → sift (λ z. not (eqb z x)) l ≡ l)
+        → pick (not (eqb y x)) (y ∷ sift (λ z. not (eqb z x)) l) (sift (λ z. not (eqb z x)) l) ≡ y ∷ l
+    by (yes e) t f = absurd (false≢true (sym t ∙ ap (λ (b : Bool). pick b true (stands x l)) (eq-eqb y x e)))
+    by (no n) t f = rw (ne-eqb y x n) (ap (λ (m : List ℕ). y ∷ m) (f (sym (ap (λ (b : Bool). pick b true (stands x l)) (ne-eqb y x n)) ∙ t)))
+
+-- what stands once leaves the list one shorter
+without-one : (x : ℕ) (l : List ℕ) → Once l → stands x l ≡ true → suc (length (sift (λ z. not (eqb z x)) l)) ≡ length l
+unfolding sift
+without-one x [] o s = absurd (false≢true s)
+without-one x (y ∷ l) o s = by (ℕ-discrete y x) s (without-one x l (o .1))
+  where
+    by : Dec (y ≡ x) → pick (eqb y x) true (stands x l) ≡ true → (stands x l ≡ true → suc (length (sift (λ z. not (eqb z x)) l)) ≡ length l)
+        → suc (length (pick (not (eqb y x)) (y ∷ sift (λ z. not (eqb z x)) l) (sift (λ z. not (eqb z x)) l))) ≡ suc (length l)
+    by (yes e) t f = rw (eq-eqb y x e) (ap (λ (m : List ℕ). suc (length m)) (without-none x l (ap (λ (z : ℕ). stands z l) (sym e) ∙ o .0)))
+    by (no n) t f = rw (ne-eqb y x n) (ap suc (f (sym (ap (λ (b : Bool). pick b true (stands x l)) (ne-eqb y x n)) ∙ t)))
+
+-- a list without repeats is no longer than one that holds all of it
+pub once-within : (l m : List ℕ) → Once l → Once m → ((x : ℕ) → stands x l ≡ true → stands x m ≡ true) → length l ≤ length m
+once-within [] m o p h = zero-le
+once-within (x ∷ l) m o p h =
+    let here : stands x m ≡ true = h x (rw (eq-eqb x x refl)) in
+    let rest : (y : ℕ) → stands y l ≡ true → stands y (sift (λ z. not (eqb z x)) m) ≡ true = λ y t.
+    let other : y ≡ x → ⊥ = λ e. false≢true (sym (o .0) ∙ ap (λ (z : ℕ). stands z l) (sym e) ∙ t) in
+    sift-stands (λ z. not (eqb z x)) y m ∙ true-and (ap not (ne-eqb y x other)) (h y (rw (ne-eqb x y (λ e. other (sym e))) t)) in
+    let r = once-within l (sift (λ z. not (eqb z x)) m) (o .1) (sift-once (λ z. not (eqb z x)) m p) rest in
+    omega (arith, without-one x m p here)
+
+-- a table of values that differ
+pub tab-once : (n : ℕ) (f : ℕ → ℕ) → ((a b : ℕ) → a < n → b < n → f a ≡ f b → a ≡ b) → Once (tab n f)
+unfolding tab
+tab-once zero f h = tt
+tab-once (suc n) f h = (by (stands (f 0) (tab n (λ k. f (suc k)))) refl, tab-once n (λ k. f (suc k)) (λ a b l m e. let q = h (suc a) (suc b) (suc-le-suc l) (suc-le-suc m) e in omega arith))
+  where
+    by : (b : Bool) → stands (f 0) (tab n (λ k. f (suc k))) ≡ b → b ≡ false
+    by true s =
+        let w = stands-tab n (λ k. f (suc k)) (f 0) s in
+        let q = h (suc (w .0)) 0 (suc-le-suc (w .1 .0)) (suc-le-suc zero-le) (w .1 .1) in
+        absurd (omega arith)
+    by false s = refl

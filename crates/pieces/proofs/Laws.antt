@@ -2,9 +2,9 @@
 -- The count of pieces is the number of classes of elements. Assumes nothing.
 use mathlib.Core.Path.{_≡_, refl, sym, _∙_, ap}
 use mathlib.Core.Bool.{Bool, true, false, not, _&&_, _||_, false≢true}
-use mathlib.Core.Option.{Option, none, some}
-use mathlib.Core.List.{List, [], _∷_, map}
-use Prim.Native.Nat.{ℕ, zero, suc, _+_, _*_, _<_, _≤_, zero-le, suc-le-suc}
+use mathlib.Core.Option.{none, some}
+use mathlib.Core.List.{List, [], _∷_}
+use Prim.Native.Nat.{ℕ, zero, suc, _*_, _<_, _≤_, zero-le, suc-le-suc}
 use native.Mathlib.Omega.{arith}
 use native.Mathlib.Nat.{not-suc-le-zero, le-of-suc-le-suc}
 use native.Mathlib.Decide.{ℕ-discrete, decLt}
@@ -14,9 +14,9 @@ use lib.ListN.{length, getD}
 use Rattle.lists.specs.Lists.{pick, stands, any, tab, distinct}
 use Rattle.lists.specs.Chain.{Chain, stay, ahead, back}
 use Rattle.lists.specs.Labels.{Lowest, Joins}
-use Rattle.lists.proofs.Chains.{chain-map, chain-keeps, chain-sym}
+use Rattle.lists.proofs.Chains.{chain-map, chain-keeps}
 use Rattle.lists.proofs.Labelled.{lowest-same, lowest-chain, labelled-joined, labelled-length, labelled-down, labelled-flat}
-use Rattle.lists.proofs.Stores.{at-eq}
+use Rattle.lists.proofs.Stores.{at-eq, tab-length}
 use Rattle.lists.proofs.Sifts.{any-get, any-made, or-true, stands-get, stands-made, tab-of}
 use Rattle.model.specs.Mesh.{Mesh}
 use Rattle.model.specs.Elements.{Element, kindOf, elementsOf}
@@ -25,7 +25,7 @@ use Rattle.elements.specs.Table.{Cornered}
 use Rattle.pieces.specs.Classes.{Holds, heldBy, Share, Together, Classes}
 use Rattle.pieces.specs.Counted.{Corners, PieceRoots, elementRoots, PiecesCounted}
 use Rattle.pieces.specs.Tables.{RootsCounted}
-use Rattle.pieces.proofs.Distinct.{Follows, same-distinct, distinct-stands, distinct-once, once-same}
+use Rattle.pieces.proofs.Distinct.{same-distinct, tab-stands, stands-tab, distinct-stands, Once, distinct-once, once-same, once-within, tab-once}
 use Rattle.pieces.proofs.Corners.{row-before, holds-corner}
 
 -- ---- elements that touch
@@ -263,3 +263,25 @@ labels-stand es =
 pub pieces-are-classes : (M : Mesh) → (reps : List ℕ) × ((length reps ≡ pieces M) × Classes (elementsOf (kindOf M) M) reps)
 unfolding pieces
 pieces-are-classes M = let es = elementsOf (kindOf M) M in (distinct (pieceLabels es), (refl, labels-stand es))
+
+-- any two choices of such elements have equally many
+classes-within : (es : List Element) (r s : List ℕ) → Classes es r → Classes es s → length r ≤ length s
+classes-within es r s R S =
+    let label : List ℕ → ℕ → ℕ = λ l a. getD (pieceLabels es) (getD l a 0) 0 in
+    let once : (l : List ℕ) → Classes es l → Once (tab (length l) (label l)) = λ l C. tab-once (length l) (label l)
+    (λ a b h g e. C .apart a b h g (chain-map (touch-shares es) (label-chain es (getD l a 0) (getD l b 0) (C .within a h) (C .within b g) e))) in
+    let held : (x : ℕ) → stands x (tab (length r) (label r)) ≡ true → stands x (tab (length s) (label s)) ≡ true = λ x t.
+    let w = stands-tab (length r) (label r) x t in
+    let v = S .every (getD r (w .0) 0) (R .within (w .0) (w .1 .0)) in
+    let e : label s (v .0) ≡ x = sym (chain-label es (getD r (w .0) 0) (getD s (v .0) 0) (R .within (w .0) (w .1 .0)) (S .within (v .0) (v .1 .0)) (chain-map (share-touches es) (v .1 .1)))
+    ∙ w .1 .1 in
+    ap (λ (z : ℕ). stands z (tab (length s) (label s))) (sym e) ∙ tab-stands (length s) (label s) (v .0) (v .1 .0) in
+    let h = once-within (tab (length r) (label r)) (tab (length s) (label s)) (once r R) (once s S) held in
+    omega (arith, tab-length (length r) (label r), tab-length (length s) (label s))
+
+pub classes-agree : (es : List Element) (r s : List ℕ) → Classes es r → Classes es s → length r ≡ length s
+classes-agree es r s R S = let a = classes-within es r s R S in let b = classes-within es s r S R in omega arith
+
+-- So the piece count is no other number: however elements are chosen that stand for the pieces, there are so many.
+pub pieces-only : (M : Mesh) (reps : List ℕ) → Classes (elementsOf (kindOf M) M) reps → length reps ≡ pieces M
+pieces-only M reps C = let w = pieces-are-classes M in classes-agree (elementsOf (kindOf M) M) reps (w .0) C (w .1 .1) ∙ w .1 .0

@@ -3,7 +3,7 @@ use mathlib.Core.Path.{_≡_, refl, sym, _∙_, ap, subst}
 use mathlib.Core.Bool.{Bool, true, false, _||_}
 use mathlib.Core.Logic.{⊎-elim}
 use mathlib.Core.List.{List, [], _∷_, _++_}
-use Prim.Native.Nat.{ℕ, _+_, _*_, _<_, _≤_}
+use Prim.Native.Nat.{ℕ, _+_, _*_, _<_}
 use native.Mathlib.Omega.{arith}
 use native.Mathlib.Numerals.{add-one}
 use native.Mathlib.Decide.{ℕ-discrete}
@@ -14,7 +14,6 @@ use Rattle.lists.specs.Lists.{pick, stands, any, each, tab, distinct}
 use Rattle.lists.proofs.Stores.{stored}
 use Rattle.lists.proofs.Sifts.{or-true, stands-append, tab-suc}
 use Rattle.model.specs.Elements.{Element}
-use Rattle.elements.specs.Table.{Cornered}
 use Rattle.pieces.specs.Classes.{heldBy}
 use Rattle.pieces.specs.Counted.{elementRoots, UsedMarked}
 use Rattle.pieces.specs.Tables.{Marked, RootsCounted}

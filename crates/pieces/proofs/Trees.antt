@@ -12,10 +12,7 @@ use Rattle.lists.specs.Labels.{Lowest}
 use Rattle.lists.proofs.Chains.{chain-map, chain-keeps, chain-to}
 use Rattle.lists.proofs.Stores.{at-eq}
 use Rattle.lists.proofs.Labelled.{lowest-map}
-use Rattle.fan.specs.Forest.{Up, Down, Kept, Joined}
-use Rattle.model.specs.Elements.{Element}
-use Rattle.elements.specs.Table.{Cornered}
-use Rattle.pieces.specs.Classes.{Together}
+use Rattle.fan.specs.Forest.{Up, Kept, Joined}
 use Rattle.pieces.specs.Counted.{PieceRoots}
 use Rattle.pieces.specs.Tables.{Link, Tied, Rooted}
 use Rattle.pieces.proofs.Corners.{row-same, link-together, together-links}

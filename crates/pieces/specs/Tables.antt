@@ -1,5 +1,5 @@
 -- Only proofs need this file: the links between the corners of a table, parent tables that join them, marks, and counts under way. Definitions only.
-use Prim.Native.Nat.{ℕ, _+_, _*_, _<_, _≤_}
+use Prim.Native.Nat.{ℕ, _+_, _*_, _<_}
 use mathlib.Core.Path.{_≡_}
 use mathlib.Core.List.{List}
 use lib.ListN.{length, getD}

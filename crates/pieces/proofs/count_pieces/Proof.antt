@@ -8,10 +8,6 @@ use Rattle.pieces.proofs.Trees.{roots-within}
 use Rattle.pieces.proofs.Laws.{pieces-counted}
 use Rattle.pieces.proofs.count_pieces.Statement.{statement}
 use Rattle.pieces.proofs.count_pieces.Tie as tie
-use Rattle.pieces.proofs.count_pieces.Reads as reads
-use Rattle.pieces.proofs.count_pieces.Lts as lts
-use Rattle.pieces.proofs.count_roots.Reads as count-roots-reads
-use Rattle.pieces.proofs.join_elements.Reads as join-elements-reads
 
 join-elements-requires : tie.Need-join-elements-requires
 join-elements-requires c κs = search needs

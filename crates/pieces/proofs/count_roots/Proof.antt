@@ -4,16 +4,13 @@ use native.Mathlib.Omega.{arith}
 use mathlib.Core.Path.{_≡_, refl, _∙_, ap, subst}
 use mathlib.Core.List.{List}
 use mathlib.Core.Logic.{⊎-elim}
-use Prim.Native.Nat.{ℕ, _+_, _*_, _<_, _≤_, _-_}
-use lib.ListN.{length, getD, take, set, length-set}
+use Prim.Native.Nat.{ℕ, _*_, _<_, _≤_, _-_}
+use lib.ListN.{length, getD, length-set}
 use Rattle.pieces.specs.Tables.{RootsCounted}
 use Rattle.pieces.proofs.Corners.{corners-room, first-below}
 use Rattle.pieces.proofs.Marks.{rootAt, counted-none, counted-new, counted-old, counted-at}
 use Rattle.pieces.proofs.count_roots.Statement.{statement}
 use Rattle.pieces.proofs.count_roots.Tie as tie
-use Rattle.pieces.proofs.count_roots.Reads as reads
-use Rattle.pieces.proofs.count_roots.Lts as lts
-use Rattle.pieces.proofs.clear.Reads as clear-reads
 
 abbrev Inv-loop : tie.InvT-loop
 Inv-loop n k verts roots seen₀ count₀ i₀ seen count i = (i ≤ n) × (length seen ≡ length seen₀) × (count ≤ i) × RootsCounted i k verts roots seen count

@@ -1,17 +1,14 @@
 -- `pieces::join_corners` meets its contract. The invariant: the first j corners of element i are joined to the first. Assumes nothing.
 use borrow.Author.Needs.{needs}
 use native.Mathlib.Omega.{arith}
-use mathlib.Core.Path.{_≡_, refl, sym, _∙_}
-use Prim.Native.Nat.{ℕ, _+_, _*_, _<_, _≤_, _-_}
+use mathlib.Core.Path.{_≡_, refl, _∙_}
+use Prim.Native.Nat.{_+_, _*_, _<_, _≤_, _-_}
 use lib.ListN.{length, getD}
 use Rattle.pieces.specs.Tables.{Link, Tied}
 use Rattle.pieces.proofs.Corners.{corners-room, first-below, corner-below}
 use Rattle.pieces.proofs.Trees.{tied-join, tied-at, link-more, link-here, link-split}
 use Rattle.pieces.proofs.join_corners.Statement.{statement}
 use Rattle.pieces.proofs.join_corners.Tie as tie
-use Rattle.pieces.proofs.join_corners.Reads as reads
-use Rattle.pieces.proofs.join_corners.Lts as lts
-use Rattle.fan.proofs.join.Reads as join-reads
 
 abbrev Inv-loop : tie.InvT-loop
 Inv-loop n k i verts parent₀ at first j₀ parent j = (j ≤ k) × (length parent ≡ length parent₀) × Tied (Link k verts (i * k + j)) parent

@@ -2,18 +2,13 @@
 use borrow.Author.Needs.{needs}
 use native.Mathlib.Omega.{arith}
 use mathlib.Core.Path.{_≡_, refl, sym, _∙_, ap}
-use mathlib.Core.Logic.{⊎-elim}
-use Prim.Native.Nat.{ℕ, _+_, _*_, _<_, _≤_, _-_}
-use lib.ListN.{length, getD, take, set, length-set}
+use Prim.Native.Nat.{ℕ, _*_, _≤_, _-_}
+use lib.ListN.{length}
 use Rattle.pieces.specs.Tables.{Link, Tied}
 use Rattle.pieces.proofs.Corners.{corners-for}
 use Rattle.pieces.proofs.Trees.{tied-start, tied-at, link-none}
 use Rattle.pieces.proofs.join_each.Statement.{statement}
 use Rattle.pieces.proofs.join_each.Tie as tie
-use Rattle.pieces.proofs.join_each.Reads as reads
-use Rattle.pieces.proofs.join_each.Lts as lts
-use Rattle.fan.proofs.own_parents.Reads as own-parents-reads
-use Rattle.pieces.proofs.join_corners.Reads as join-corners-reads
 
 abbrev Inv-loop : tie.InvT-loop
 Inv-loop n k verts parent₀ i₀ parent i = (i ≤ n) × (length parent ≡ length parent₀) × Tied (Link k verts (i * k)) parent

@@ -3,10 +3,6 @@ use borrow.Author.Needs.{needs}
 use Rattle.pieces.proofs.Trees.{piece-roots}
 use Rattle.pieces.proofs.join_elements.Statement.{statement}
 use Rattle.pieces.proofs.join_elements.Tie as tie
-use Rattle.pieces.proofs.join_elements.Reads as reads
-use Rattle.pieces.proofs.join_elements.Lts as lts
-use Rattle.fan.proofs.flatten.Reads as flatten-reads
-use Rattle.pieces.proofs.join_each.Reads as join-each-reads
 
 join-each-requires : tie.Need-join-each-requires
 join-each-requires c κs = search needs

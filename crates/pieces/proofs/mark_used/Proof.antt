@@ -2,16 +2,12 @@
 use borrow.Author.Needs.{needs}
 use native.Mathlib.Omega.{arith}
 use mathlib.Core.Path.{_≡_, refl, _∙_, subst}
-use mathlib.Core.Logic.{⊎-elim}
-use Prim.Native.Nat.{ℕ, _+_, _*_, _<_, _≤_, _-_}
-use lib.ListN.{length, getD, take, set, length-set}
+use Prim.Native.Nat.{ℕ, _*_, _<_, _≤_, _-_}
+use lib.ListN.{length, getD, take, length-set}
 use Rattle.pieces.specs.Tables.{Marked}
 use Rattle.pieces.proofs.Marks.{marked-none, marked-corner, used-marked}
 use Rattle.pieces.proofs.mark_used.Statement.{statement}
 use Rattle.pieces.proofs.mark_used.Tie as tie
-use Rattle.pieces.proofs.mark_used.Reads as reads
-use Rattle.pieces.proofs.mark_used.Lts as lts
-use Rattle.pieces.proofs.clear.Reads as clear-reads
 
 abbrev Inv-loop : tie.InvT-loop
 Inv-loop n k verts used₀ total t₀ used t = (t ≤ n * k) × (length used ≡ length used₀) × Marked (take t verts) used
