@@ -66,7 +66,7 @@ fn near(
 }
 
 // The root of start. Each element on the way is given its parent's parent.
-fn find(parent: &mut [usize], start: usize) -> usize
+pub fn find(parent: &mut [usize], start: usize) -> usize
     requires { ⌜ (start < length (now parent)) × Down (now parent) ⌝ }
     ensures { λ r. ⌜ Found (now (parent .entry)) start (now (parent .exit)) r ⌝ }
 {
@@ -83,7 +83,7 @@ fn find(parent: &mut [usize], start: usize) -> usize
 }
 
 // i and j get one root, the smaller of their two.
-fn join(parent: &mut [usize], i: usize, j: usize)
+pub fn join(parent: &mut [usize], i: usize, j: usize)
     requires { ⌜ (i < length (now parent)) × (j < length (now parent)) × Down (now parent) ⌝ }
     ensures { λ _. ⌜ Joined (now (parent .entry)) i j (now (parent .exit)) ⌝ }
 {
@@ -121,7 +121,7 @@ fn join_row(
 }
 
 // Each element its own parent.
-fn own_parents(parent: &mut [usize])
+pub fn own_parents(parent: &mut [usize])
     ensures { λ _. ⌜ ((a : ℕ) → a < length (now (parent .exit)) → getD (now (parent .exit)) a 0 ≡ a) ⌝ }
 {
     let mut i = 0;
@@ -152,7 +152,7 @@ fn join_all(
 }
 
 // Each element is given its root.
-fn flatten(parent: &mut [usize])
+pub fn flatten(parent: &mut [usize])
     requires { ⌜ Down (now parent) ⌝ }
     ensures { λ _. ⌜ Kept (now (parent .entry)) (now (parent .exit)) ⌝ }
     ensures { λ _. ⌜ ((a : ℕ) → a < length (now (parent .entry)) → getD (now (parent .exit)) (getD (now (parent .exit)) a 0) 0 ≡ getD (now (parent .exit)) a 0) ⌝ }

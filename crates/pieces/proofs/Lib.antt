@@ -1,0 +1,6 @@
+-- Laws of distinct numbers, of tables of corners, of parent tables, and of pieces. Assumes nothing.
+pub mod Distinct
+pub mod Corners
+pub mod Trees
+pub mod Marks
+pub mod Laws

@@ -1,0 +1,4 @@
+-- The crate's definitions: what a reader must believe is in Classes and Counted; Tables only proofs need.
+pub mod Classes
+pub mod Counted
+pub mod Tables

@@ -1,0 +1,107 @@
+// Pieces: the lowest particle of each particle's piece, how many pieces the elements of a table have, and which particles they hold.
+ghost use mathlib.Core.Path.{_≡_};
+ghost use Prim.Native.Nat.{ℕ, _+_, _*_, _<_, _≤_};
+ghost use lib.ListN.{length, getD, take};
+ghost use Rattle.pieces.specs.Counted.{Corners, PieceRoots, PiecesCounted, UsedMarked};
+ghost use Rattle.pieces.specs.Tables.{Link, Tied, CornerStep, Rooted, RootsCounted};
+
+// Joins each corner of element i to the first.
+fn join_corners(n: usize, k: usize, i: usize, verts: &[usize], parent: &mut [usize])
+    requires { ⌜ Corners n k (now verts) (length (now parent)) ⌝ }
+    requires { ⌜ CornerStep n k i (now verts) (now parent) ⌝ }
+    ensures { λ _. ⌜ Tied (Link k (now (verts .entry)) ((i + 1) * k)) (now (parent .exit)) ⌝ }
+{
+    let at = i * k;
+    let first = verts[at];
+    let mut j = 0;
+    while j < k {
+        let place = at + j;
+        fan::join(parent, first, verts[place]);
+        j += 1;
+    }
+}
+
+// Joins the corners of each element, and no more.
+fn join_each(n: usize, k: usize, verts: &[usize], parent: &mut [usize])
+    requires { ⌜ Corners n k (now verts) (length (now parent)) ⌝ }
+    ensures { λ _. ⌜ Tied (Link k (now (verts .entry)) (n * k)) (now (parent .exit)) ⌝ }
+{
+    fan::own_parents(parent);
+    let mut i = 0;
+    while i < n {
+        join_corners(n, k, i, verts, parent);
+        i += 1;
+    }
+}
+
+// Gives each particle the lowest particle of its piece. The element i has the corners verts[i * k .. i * k + k].
+pub fn join_elements(n: usize, k: usize, verts: &[usize], parent: &mut [usize])
+    requires { ⌜ Corners n k (now verts) (length (now parent)) ⌝ }
+    ensures { λ _. ⌜ PieceRoots n k (now (verts .entry)) (now (parent .exit)) ⌝ }
+{
+    join_each(n, k, verts, parent);
+    fan::flatten(parent);
+}
+
+// Takes all marks away.
+fn clear(marks: &mut [usize])
+    ensures { λ _. ⌜ ((x : ℕ) → x < length (now (marks .exit)) → getD (now (marks .exit)) x 0 ≡ 0) ⌝ }
+{
+    let mut i = 0;
+    while i < marks.len() {
+        marks[i] = 0;
+        i += 1;
+    }
+}
+
+// How many different roots the first corners of the elements have. seen ends with a mark at each.
+fn count_roots(n: usize, k: usize, verts: &[usize], roots: &[usize], seen: &mut [usize]) -> usize
+    requires { ⌜ Corners n k (now verts) (length (now roots)) ⌝ }
+    requires { ⌜ Rooted (now roots) (length (now seen)) ⌝ }
+    ensures { λ r. ⌜ RootsCounted n k (now (verts .entry)) (now (roots .entry)) (now (seen .exit)) r ⌝ }
+{
+    clear(seen);
+    let mut count: usize = 0;
+    let mut i = 0;
+    while i < n {
+        let at = i * k;
+        let first = verts[at];
+        let root = roots[first];
+        if seen[root] == 0 {
+            seen[root] = 1;
+            count += 1;
+        }
+        i += 1;
+    }
+    count
+}
+
+// How many pieces the elements have. parent ends as join_elements leaves it.
+pub fn count_pieces(
+    n: usize,
+    k: usize,
+    verts: &[usize],
+    parent: &mut [usize],
+    seen: &mut [usize],
+) -> usize
+    requires { ⌜ Corners n k (now verts) (length (now parent)) × (length (now parent) ≤ length (now seen)) ⌝ }
+    ensures { λ r. ⌜ PiecesCounted n k (now (verts .entry)) (now (parent .exit)) (now (seen .exit)) r ⌝ }
+{
+    join_elements(n, k, verts, parent);
+    count_roots(n, k, verts, parent, seen)
+}
+
+// Marks each particle that some element holds, and no other.
+pub fn mark_used(n: usize, k: usize, verts: &[usize], used: &mut [usize])
+    requires { ⌜ Corners n k (now verts) (length (now used)) ⌝ }
+    ensures { λ _. ⌜ UsedMarked n k (now (verts .entry)) (now (used .exit)) ⌝ }
+{
+    clear(used);
+    let total = n * k;
+    let mut t = 0;
+    while t < total {
+        let x = verts[t];
+        used[x] = 1;
+        t += 1;
+    }
+}
