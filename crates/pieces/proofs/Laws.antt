@@ -1,6 +1,6 @@
 -- Laws of pieces: the chains of elements that touch and the chains of particles that lie together say the same, so labels of elements and roots of particles do too.
 -- The count of pieces is the number of classes of elements. Assumes nothing.
-use mathlib.Core.Path.{_≡_, refl, sym, _∙_, ap}
+use mathlib.Core.Path.{_≡_, refl, sym, _∙_, ap, ap₂}
 use mathlib.Core.Bool.{Bool, true, false, not, _&&_, _||_, false≢true}
 use mathlib.Core.Option.{none, some}
 use mathlib.Core.List.{List, [], _∷_}
@@ -23,7 +23,7 @@ use Rattle.model.specs.Elements.{Element, kindOf, elementsOf}
 use Rattle.model.specs.Pieces.{cornersAt, touch, pieceLabels, pieces, pieceOf, apart, spans}
 use Rattle.elements.specs.Table.{Cornered}
 use Rattle.pieces.specs.Classes.{Holds, heldBy, Share, Together, Classes}
-use Rattle.pieces.specs.Counted.{Corners, PieceRoots, elementRoots, PiecesCounted}
+use Rattle.pieces.specs.Counted.{Corners, PieceRoots, elementRoots, PiecesCounted, UsedMarked}
 use Rattle.pieces.specs.Tables.{RootsCounted}
 use Rattle.pieces.proofs.Distinct.{same-distinct, tab-stands, stands-tab, distinct-stands, Once, distinct-once, once-same, once-within, tab-once}
 use Rattle.pieces.proofs.Corners.{row-before, holds-corner}
@@ -201,6 +201,19 @@ module _ (es : List Element) where
         → spans es (pieceLabels es) x y ≡ heldBy es x && (heldBy es y && not (eqb (getD roots x 0) (getD roots y 0)))
     unfolding spans
     spans-by-root x y l m = spans-by x y l m (heldBy es x) (heldBy es y) refl refl
+
+-- the same by the tables that `join_elements` and `mark_used` fill
+mark-eqb : (b : Bool) → eqb (pick b 1 0) 1 ≡ b
+mark-eqb true = refl
+mark-eqb false = refl
+
+pub spans-by-tables : {n k : ℕ} {verts roots used : List ℕ} (es : List Element) → Cornered k es n verts → PieceRoots n k verts roots → UsedMarked n k verts used
+    → length roots ≤ length used → (x y : ℕ) → x < length roots → y < length roots
+    → spans es (pieceLabels es) x y ≡ eqb (getD used x 0) 1 && (eqb (getD used y 0) 1 && not (eqb (getD roots x 0) (getD roots y 0)))
+spans-by-tables {roots = roots} {used} es C R U h x y l m =
+    let held : (z : ℕ) → z < length roots → eqb (getD used z 0) 1 ≡ heldBy es z = λ z g. ap (λ (a : ℕ). eqb a 1) (U .marks es C z (omega arith)) ∙ mark-eqb (heldBy es z) in
+    spans-by-root es roots (R .lowest es C) x y l m
+    ∙ ap₂ (λ (s t : Bool). s && (t && not (eqb (getD roots x 0) (getD roots y 0)))) (sym (held x l)) (sym (held y m))
 
 -- ---- the count
 

@@ -1,7 +1,7 @@
 // Pieces: the lowest particle of each particle's piece, how many pieces the elements of a table have, and which particles they hold.
 ghost use mathlib.Core.Path.{_≡_};
 ghost use Prim.Native.Nat.{ℕ, _+_, _*_, _<_, _≤_};
-ghost use lib.ListN.{length, getD, take};
+ghost use lib.ListN.{length, getD};
 ghost use Rattle.pieces.specs.Counted.{Corners, PieceRoots, PiecesCounted, UsedMarked};
 ghost use Rattle.pieces.specs.Tables.{Link, Tied, CornerStep, Rooted, RootsCounted};
 
