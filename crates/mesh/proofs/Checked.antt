@@ -12,7 +12,6 @@ use Rattle.columns.specs.Block.{cell}
 use Rattle.columns.proofs.Rows.{all-tab}
 use Rattle.columns.proofs.Cells.{col-0, col-1}
 use Rattle.model.specs.Mesh.{Triangle, Mesh}
-use Rattle.model.specs.Elements.{Triangles, Straps, Nothing, structural?, kindBy, kindOf}
 use Rattle.model.specs.Valid.{particleOk, triangleOk, edgeOk, cornersOk, rootOk, endsOk, sideOk, named, numbersFit, indicesFit}
 use Rattle.mesh.specs.At.{particleRow, triangleRow, edgeRow, sideRow, particlesAt, trianglesAt, edgesAt, boundaryAt, meshAt}
 use Rattle.mesh.specs.Given.{Given, sizes, meshOf}
@@ -115,43 +114,3 @@ module _ (G : Given) where
       → (((x && y) && z) && w) ≡ indicesFit (meshOf G)
   unfolding indicesFit meshOf meshAt
   indices-told x y z w p q r s = four (sizes G .particles) _ (particles-length (sizes G .particles) (G .points) (G .roots)) x y z w p q r s
-
--- ---- kinds
-
--- an edge's structural flag
-pub structural-tested : (E L : ℕ) (ends : List ℕ) (lengths : List Float) (k : ℕ) → eqb (getD ends (2 * E + k) 0) 1 ≡ structural? (edgeRow E L ends lengths k)
-unfolding cell
-structural-tested E L ends lengths k = refl
-
--- a mesh with a triangle is triangles
-by-some : (ts : List Triangle) (s : Bool) → (length ts ≡ 0 → ⊥) → Triangles ≡ kindBy ts s
-unfolding kindBy
-by-some [] s h = absurd (h refl)
-by-some (t ∷ ts) s h = refl
-
--- so is every such mesh
-pub kind-triangles : (N : Mesh) → (length (N .triangles) ≡ 0 → ⊥) → Triangles ≡ kindOf N
-unfolding kindOf
-kind-triangles N h = by-some (N .triangles) (any structural? (N .edges)) h
-
--- one without is straps if an edge is structural, else nothing
-by-straps : (ts : List Triangle) (s : Bool) → length ts ≡ 0 → true ≡ s → Straps ≡ kindBy ts s
-unfolding kindBy
-by-straps [] s h e = subst (λ (b : Bool). Straps ≡ kindBy [] b) e refl
-by-straps (t ∷ ts) s h e = absurd (omega arith)
-
--- nothing, where no edge is structural
-by-nothing : (ts : List Triangle) (s : Bool) → length ts ≡ 0 → false ≡ s → Nothing ≡ kindBy ts s
-unfolding kindBy
-by-nothing [] s h e = subst (λ (b : Bool). Nothing ≡ kindBy [] b) e refl
-by-nothing (t ∷ ts) s h e = absurd (omega arith)
-
--- the same of a mesh
-pub kind-straps : (N : Mesh) → length (N .triangles) ≡ 0 → true ≡ any structural? (N .edges) → Straps ≡ kindOf N
-unfolding kindOf
-kind-straps N h e = by-straps (N .triangles) (any structural? (N .edges)) h e
-
--- the same of a mesh
-pub kind-nothing : (N : Mesh) → length (N .triangles) ≡ 0 → false ≡ any structural? (N .edges) → Nothing ≡ kindOf N
-unfolding kindOf
-kind-nothing N h e = by-nothing (N .triangles) (any structural? (N .edges)) h e

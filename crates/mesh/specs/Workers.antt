@@ -14,10 +14,6 @@ use Rattle.model.specs.Valid.{named, rootOk, cornersOk, triangleOk}
 use Rattle.mesh.specs.At.{particlesAt, trianglesAt, edgesAt}
 use Rattle.mesh.specs.Given.{Given, sizesFit}
 use Rattle.mesh.specs.declared.EdgeRow.{EdgeRow}
-use Rattle.mesh.specs.declared.Kind.{Kind}
-use Rattle.mesh.specs.declared.Kind.the-variants.{Triangles, Straps, Nothing}
-use Rattle.model.specs.Elements.{structural?, kindOf}
-use Rattle.model.specs.Elements as M
 
 -- the particles with a copy of v behind them, of mass m and inverse mass w
 unfoldable pub withCopy : ℕ → Float → Float → List Particle → List Particle
@@ -79,19 +75,3 @@ pub record FanOk (n : ℕ) (elements groups : List ℕ) (lc : ℕ) : Type 0 wher
   pub distinct : (i j : ℕ) → i < j → j < length elements → getD elements i 0 ≡ getD elements j 0 → ⊥
   pub within : (i : ℕ) → i < length elements → getD elements i 0 < lc / 3
   pub small : (i : ℕ) → i < length elements → n + getD groups i 0 ≤ 65536
-
--- ---- kinds
-
--- the kind of the program as the definitions name it
-abbrev pub kindNamed : Kind → M.Kind
-kindNamed Triangles = M.Triangles
-kindNamed Straps = M.Straps
-kindNamed Nothing = M.Nothing
-
--- r tells whether one of the first n edges is structural, whatever stands in their other block
-abbrev pub StructuralTold : ℕ → List ℕ → Bool → Type 0
-StructuralTold n ends r = (lengths : List Float) → r ≡ any structural? (edgesAt n ends lengths)
-
--- r is the kind of every mesh that has t triangles and, with some other block, these edges
-abbrev pub KindTold : ℕ → ℕ → List ℕ → Kind → Type 0
-KindTold t e ends r = (N : Mesh) (lengths : List Float) → length (N .triangles) ≡ t → N .edges ≡ edgesAt e ends lengths → kindNamed r ≡ kindOf N

@@ -1,16 +1,8 @@
 // Seven blocks of columns held as a mesh, with the log beside them: its rows changed, the whole copied and finished, its input checked.
 pub mod checks;
-pub mod kinds;
 pub mod rows;
 pub mod tests;
 pub mod whole;
-
-// What a mesh is made of: triangles if it has any, else straps if it has a structural edge, else nothing.
-pub enum Kind {
-    Triangles,
-    Straps,
-    Nothing,
-}
 
 // How many of each list's places are in use.
 pub struct Counts {
