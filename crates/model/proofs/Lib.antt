@@ -20,3 +20,4 @@ pub mod Kept
 pub mod Nothing
 pub mod Steps
 pub mod Toward
+pub mod Indexed

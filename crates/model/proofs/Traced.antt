@@ -78,7 +78,7 @@ origin-copy n v k g o l =
 
 -- the particle that group g has, of k + 1 groups
 module _ (n v k g : ℕ) (o : v < n) (l : g < suc k) where
-  new : (copyFor v n g ≡ v) ⊎ (n ≤ copyFor v n g)
+  pub new : (copyFor v n g ≡ v) ⊎ (n ≤ copyFor v n g)
   new = elim (ℕ-discrete g 0) [ yes e ↦ inl (rw (eq-eqb g 0 e)) | no m ↦ inr (rw (ne-eqb g 0 m) (omega arith)) ]
 
   there : copyFor v n g < n + k
@@ -91,14 +91,14 @@ module _ (n v k g : ℕ) (o : v < n) (l : g < suc k) where
         | no m ↦ let d : n + g - 1 ≡ n + (g - 1) = omega arith in rw (ne-eqb g 0 m, d) (origin-copy n v k (g - 1) o (omega arith))
       ]
 
-  apart : (c d : ℕ) → c < n → d < n → (c ≡ d → ⊥) → replaced v (copyFor v n g) c ≡ replaced v (copyFor v n g) d → ⊥
+  pub apart : (c d : ℕ) → c < n → d < n → (c ≡ d → ⊥) → replaced v (copyFor v n g) c ≡ replaced v (copyFor v n g) d → ⊥
   apart c d p q m e =
       ⊎-elim
       (λ a. ⊎-elim (λ b. m (a .0 ∙ sym (b .0))) (λ b. let f : copyFor v n g ≡ d = sym (a .1) ∙ e ∙ b .1 in ⊎-elim (λ h. b .0 (sym f ∙ h)) (λ h. omega arith) new) (replaced-case v (copyFor v n g) d))
       (λ a. ⊎-elim (λ b. let f : copyFor v n g ≡ c = sym (b .1) ∙ sym e ∙ a .1 in ⊎-elim (λ h. a .0 (sym f ∙ h)) (λ h. omega arith) new) (λ b. m (sym (a .1) ∙ e ∙ b .1)) (replaced-case v (copyFor v n g) d))
       (replaced-case v (copyFor v n g) c)
 
-  inside : (c : ℕ) → c < n → replaced v (copyFor v n g) c < n + k
+  pub inside : (c : ℕ) → c < n → replaced v (copyFor v n g) c < n + k
   inside c p = ⊎-elim (λ a. let h = there in omega (arith, a .1)) (λ a. omega (arith, a .1)) (replaced-case v (copyFor v n g) c)
 
   undone : (c : ℕ) → c < n → originOf (copiesFrom n v k) (replaced v (copyFor v n g) c) ≡ c
@@ -107,7 +107,7 @@ module _ (n v k g : ℕ) (o : v < n) (l : g < suc k) where
       (λ a. ap (originOf (copiesFrom n v k)) (a .1) ∙ origin-low n v (copiesFrom n v k) (copies-are n v k) c p)
       (replaced-case v (copyFor v n g) c)
 
-  sound-step : (t : Triangle) → Sound n t → Sound (n + k) (retargeted v (copyFor v n g) t)
+  pub sound-step : (t : Triangle) → Sound n t → Sound (n + k) (retargeted v (copyFor v n g) t)
   sound-step t S =
       record {
         a = inside (t .a) (S .a);
@@ -164,7 +164,7 @@ pick-below : (n : ℕ) (b : Bool) (x y : ℕ) → Below n x → Below n y → Be
 pick-below n true x y p q = p
 pick-below n false x y p q = q
 
-at-below : (n : ℕ) (ps : List Part) (i : ℕ) → All (λ (p : Part). Below n (p .group)) ps → Below n (groupAt ps i)
+pub at-below : (n : ℕ) (ps : List Part) (i : ℕ) → All (λ (p : Part). Below n (p .group)) ps → Below n (groupAt ps i)
 unfolding groupAt
 at-below n [] i h = omega arith
 at-below n (p ∷ ps) i h = pick-below n (eqb (p .number) i) (p .group) (groupAt ps i) (h .0) (at-below n ps i (h .1))
