@@ -23,9 +23,10 @@ use Rattle.model.specs.Run.{Entry, Run, start, stepTo, splitsOf}
 use Rattle.model.specs.Split.{Part, partsOf, Opening, openingOf, splits?, copyFor, copyOf, portion, onlyAt, copied, groupAt, retargeted, moved, rewiredTriangles, rewiredStraps, ring, Best, better, scoreOf, scored, toward, edgeGroups, other?, calm, stayed, doubled, otherEdges, straddles, partGroup, sideGroup, turned, followed, facesOf, oneOrNone, onFacet, faceOn, opens?, facetsAt, crackFacets, atLongest, settled, splitMade, splitStep, splitBySides}
 use Rattle.model.specs.Pieces.{straddlersGone, withoutStraddlers, removeStraddlers}
 use Rattle.model.specs.Cut.{Blade, bladeSides, splitByBlade, splitFree, pinched, splitPinched, candidates, cutFacets, slack, slackened, atCopy, splitSnapped}
+use Rattle.model.specs.Crack.{Way, farSide, twoSided, meanLoad, wayAt, waysOf, hurt, damagedAt, torn, crackBy, crackPair, crackEdge, currentPair, loadsOf, tornEnds, crack}
 use Rattle.model.specs.Trace.{All, Sound}
-use Rattle.model.proofs.Laws.{and-true, false-true, all-at, all-over, all-append, all-mapAt, length-mapAt, Found, find-fits, stands-case, stands-not}
-use Rattle.model.proofs.Traced.{Fitting, opening-fits, splits-here, copied-length, at-below, new, apart, inside, sound-step}
+use Rattle.model.proofs.Laws.{and-true, false-true, all-at, all-over, all-append, all-mapAt, length-mapAt, pick-one, Found, find-fits, stands-case, stands-not}
+use Rattle.model.proofs.Traced.{Fitting, opening-fits, order-fits, splits-here, copied-length, at-below, new, apart, inside, sound-step}
 
 -- ---- what refusal 3 checks
 
@@ -459,3 +460,56 @@ snapped-indexed B R v X =
     let sides = bladeSides Straps B (R .mesh) v in
     let O = openingOf Straps (R .mesh) v sides in
     step-indexed [] (slackened (atCopy O)) (slack-keeps (atCopy O)) Straps O R (opening-fits Straps (R .mesh) v sides) (opening-inside Straps (R .mesh) v sides) X
+
+-- ---- the crack
+
+hurt-indexed : (M : Mesh) → Indexed M → (vs : List ℕ) → Indexed (damagedAt vs M)
+unfolding damagedAt
+hurt-indexed M X vs =
+    let e = sym (length-mapAt (λ i p. pick (stands i vs) (hurt p) p) (M .particles)) in
+    let n = length (M .particles) in
+    record {
+      roots = subst (λ (m : ℕ). All (λ (p : Particle). p .root < m) (mapAt (λ i p. pick (stands i vs) (hurt p) p) (M .particles))) e
+          (all-mapAt (λ (p : Particle). p .root < n) (λ (p : Particle). p .root < n) (λ i p. pick (stands i vs) (hurt p) p) (λ i p u. pick-both (λ (q : Particle). q .root < n) (stands i vs) (hurt p) p u u) (M .particles) (X .roots));
+      triangles = subst (λ (m : ℕ). All (Sound m) (M .triangles)) e (X .triangles);
+      edges = subst (λ (m : ℕ). All (Ends m) (M .edges)) e (X .edges);
+      boundary = subst (λ (m : ℕ). All (Sides m) (M .boundary)) e (X .boundary);
+    }
+
+pub torn-keeps : (O : Opening) (xy : ℕ × ℕ) → Keeps (torn O xy)
+unfolding torn
+torn-keeps O xy M X = hurt-indexed _ (slack-keeps _ M X) _
+
+abbrev FitWay : Kind → Mesh → Way → Type 0
+FitWay k M w = Fitting (w .opening) M × Inside k (w .opening) M
+
+way-fits : (k : Kind) (loads : List Float) (M : Mesh) (v u : ℕ) → All (FitWay k M) (wayAt k loads M v u)
+unfolding wayAt
+way-fits k loads M v u =
+    let sides = map (farSide M v u) (fanOf k M v) in
+    pick-one (FitWay k M) (twoSided M v sides) (record { load = meanLoad k loads M v u; opening = openingOf k M v sides }) (opening-fits k M v sides, opening-inside k M v sides)
+
+by-indexed : (k : Kind) (R : Run) → Indexed (R .mesh) → (o : Option Way) → Found (FitWay k (R .mesh)) o → (ab xy : ℕ × ℕ) → Indexed (crackBy k o ab xy R .mesh)
+unfolding crackBy
+by-indexed k R X nothing H ab xy = X
+by-indexed k R X (some w) H ab xy = step-indexed _ (torn (w .opening) xy) (torn-keeps (w .opening) xy) k (w .opening) R (H .0) (H .1) X
+
+pair-indexed : (k : Kind) (loads : List Float) (min : ℕ) (ab : ℕ × ℕ) (o : Option (ℕ × ℕ)) (R : Run) → Indexed (R .mesh) → Indexed (crackPair k loads min ab o R .mesh)
+unfolding crackPair waysOf
+pair-indexed k loads min ab nothing R X = X
+pair-indexed k loads min ab (some xy) R X =
+    by-indexed k R X _
+    (find-fits (FitWay k (R .mesh)) _ (waysOf k loads (R .mesh) xy)
+    (order-fits (FitWay k (R .mesh)) (wayAt k loads (R .mesh) (xy .0) (xy .1)) (wayAt k loads (R .mesh) (xy .1) (xy .0)) (way-fits k loads (R .mesh) (xy .0) (xy .1)) (way-fits k loads (R .mesh) (xy .1) (xy .0))))
+    ab xy
+
+pub edge-indexed : (k : Kind) (loads : List Float) (min : ℕ) (R : Run) (ab : ℕ × ℕ) → Indexed (R .mesh) → Indexed (crackEdge k loads min R ab .mesh)
+unfolding crackEdge
+edge-indexed k loads min R ab X = pair-indexed k loads min ab (currentPair k R ab) R X
+
+pub crack-indexed : (k : Kind) (min : ℕ) (is : List ℕ) (R : Run) → Indexed (R .mesh) → Indexed (crack k min is R .mesh)
+unfolding crack
+crack-indexed k min is R X =
+    let S = fold (crackEdge k (loadsOf k (R .mesh)) min) R (tornEnds (R .mesh) is) in
+    let Y = fold-indexed (crackEdge k (loadsOf k (R .mesh)) min) (edge-indexed k (loadsOf k (R .mesh)) min) R (tornEnds (R .mesh) is) X in
+    pick-indexed (empty (splitsOf (S .log))) S (removeStraddlers k (splitPinched k S)) Y (straddlers-indexed k (splitPinched k S) (pinched-indexed k S Y))
