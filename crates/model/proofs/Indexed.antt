@@ -44,11 +44,11 @@ pub record Indexed (M : Mesh) : Type 0 where
 
 -- ---- lists
 
-all-map : {A B : Type 0} (P : A → Type 0) (Q : B → Type 0) (f : A → B) → ((a : A) → P a → Q (f a)) → (l : List A) → All P l → All Q (map f l)
+pub all-map : {A B : Type 0} (P : A → Type 0) (Q : B → Type 0) (f : A → B) → ((a : A) → P a → Q (f a)) → (l : List A) → All P l → All Q (map f l)
 all-map P Q f k [] h = tt
 all-map P Q f k (a ∷ l) h = (k a (h .0), all-map P Q f k l (h .1))
 
-all-eachOf : {A B : Type 0} (P : A → Type 0) (Q : B → Type 0) (f : A → List B) → ((a : A) → P a → All Q (f a)) → (l : List A) → All P l → All Q (each f l)
+pub all-eachOf : {A B : Type 0} (P : A → Type 0) (Q : B → Type 0) (f : A → List B) → ((a : A) → P a → All Q (f a)) → (l : List A) → All P l → All Q (each f l)
 unfolding each
 all-eachOf P Q f k [] h = tt
 all-eachOf P Q f k (a ∷ l) h = all-append Q (f a) (each f l) (k a (h .0)) (all-eachOf P Q f k l (h .1))
@@ -88,7 +88,7 @@ unfolding pairs
 all-pairs P [] h = tt
 all-pairs P (a ∷ l) h = all-append _ (map (λ b. (a, b)) l) (pairs l) (all-map P _ (λ b. (a, b)) (λ b u. (h .0, u)) l (h .1)) (all-pairs P l (h .1))
 
-pick-both : {A : Type 0} (P : A → Type 0) (b : Bool) (x y : A) → P x → P y → P (pick b x y)
+pub pick-both : {A : Type 0} (P : A → Type 0) (b : Bool) (x y : A) → P x → P y → P (pick b x y)
 pick-both P true x y p q = p
 pick-both P false x y p q = q
 
@@ -137,21 +137,21 @@ replaced-same v x = ⊎-elim (λ d. d .1 ∙ sym (d .0)) (λ d. d .1) (replaced-
 replaced-not : (v w x : ℕ) → (w ≡ v → ⊥) → replaced v w x ≡ v → ⊥
 replaced-not v w x n e = ⊎-elim (λ d. n (sym (d .1) ∙ e)) (λ d. d .0 (sym (d .1) ∙ e)) (replaced-case v w x)
 
-abbrev Ends : ℕ → Edge → Type 0
+abbrev pub Ends : ℕ → Edge → Type 0
 Ends n e = Pair n (e .a) (e .b)
 
-abbrev Sides : ℕ → Side → Type 0
+abbrev pub Sides : ℕ → Side → Type 0
 Sides n s = Pair n (s .a) (s .b)
 
-wide : (n k a b : ℕ) → Pair n a b → Pair (n + k) a b
+pub wide : (n k a b : ℕ) → Pair n a b → Pair (n + k) a b
 wide n k a b P = record { first = let h = P .first in omega arith; second = let h = P .second in omega arith; differ = P .differ }
 
-all-in : {A : Type 0} (P : A → Type 0) (l : List A) (i : ℕ) (d : A) → i < length l → All P l → P (getD l i d)
+pub all-in : {A : Type 0} (P : A → Type 0) (l : List A) (i : ℕ) (d : A) → i < length l → All P l → P (getD l i d)
 all-in P [] i d u h = absurd (let z : i < 0 = u in omega arith)
 all-in P (a ∷ l) zero d u h = h .0
 all-in P (a ∷ l) (suc i) d u h = all-in P l i d (omega arith) (h .1)
 
-sound-wide : (n k : ℕ) (t : Triangle) → Sound n t → Sound (n + k) t
+pub sound-wide : (n k : ℕ) (t : Triangle) → Sound n t → Sound (n + k) t
 sound-wide n k t S = let a = S .a in let b = S .b in let c = S .c in record { a = omega arith; b = omega arith; c = omega arith; ab = S .ab; bc = S .bc; ca = S .ca }
 
 -- ---- one split

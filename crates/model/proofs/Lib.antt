@@ -21,3 +21,5 @@ pub mod Nothing
 pub mod Steps
 pub mod Toward
 pub mod Indexed
+pub mod Inserted
+pub mod Accepted
