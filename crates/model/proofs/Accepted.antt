@@ -1,14 +1,13 @@
 -- Every call gives a mesh that refusal 3 lets pass: indices and roots name particles, and no triangle, edge or boundary entry names one twice. Assumes nothing.
-use mathlib.Core.Path.{_≡_, refl, sym, _∙_, ap, subst}
+use mathlib.Core.Path.{_≡_, refl, sym, ap, subst}
 use mathlib.Core.Bool.{Bool, true, false, not, _&&_}
 use mathlib.Core.List.{List, [], _∷_}
-use Prim.Native.Nat.{ℕ, zero, suc, _<_}
-use native.Mathlib.Omega.{arith}
-use borrow.Author.Tests.{ltb-true, lt-ltb, not-true, eq-eqb, ne-eqb}
-use lib.Dec.{eqb, ltb}
+use Prim.Native.Nat.{ℕ, _<_}
+use borrow.Author.Tests.{ltb-true, lt-ltb, ne-eqb}
+use lib.Dec.{ltb}
 use lib.ListN.{length}
 use lib.Ieee.{Float}
-use Rattle.lists.specs.Lists.{pick, stands, all}
+use Rattle.lists.specs.Lists.{stands, all}
 use Rattle.model.specs.Mesh.{Particle, Triangle, Edge, Side, Mesh}
 use Rattle.model.specs.Valid.{named, rootOk, cornersOk, endsOk, sideOk, indicesFit}
 use Rattle.model.specs.Elements.{kindOf}
@@ -17,28 +16,14 @@ use Rattle.model.specs.Split.{splitBySides}
 use Rattle.model.specs.Pieces.{removeStraddlers}
 use Rattle.model.specs.Cut.{Blade, cut}
 use Rattle.model.specs.Crack.{crack}
-use Rattle.model.specs.Calls.{bladeOk, fractionOk, sidesOk, trianglesLent, refusal, Outcome, done, outcome, cutCall, crackCall, splitCall, straddlersCall}
-use Rattle.model.specs.Trace.{All, Sound}
-use Rattle.model.proofs.Laws.{and-true, stands-not}
+use Rattle.model.specs.Calls.{bladeOk, fractionOk, sidesOk, trianglesLent, refusal, done, outcome, cutCall, crackCall, splitCall, straddlersCall}
+use Rattle.model.specs.Trace.{Sound}
 use Rattle.model.proofs.Kept.{corners-sound, named-first, no-refusal, unless-done, outcome-done}
 use Rattle.model.proofs.Indexed.{Pair, Indexed, sides-indexed, straddlers-indexed, crack-indexed}
 use Rattle.model.proofs.Inserted.{cut-indexed}
+use Rattle.model.proofs.Laws.{and-true, both, all-from, all-to, stands-not}
 
 -- ---- the test and what it says
-
-both : (a b : Bool) → a ≡ true → b ≡ true → (a && b) ≡ true
-both true b p q = q
-both false b p q = p
-
-all-from : {A : Type 0} (p : A → Bool) (P : A → Type 0) → ((a : A) → p a ≡ true → P a) → (l : List A) → all p l ≡ true → All P l
-unfolding all
-all-from p P k [] e = tt
-all-from p P k (a ∷ l) e = let d = and-true (p a) (all p l) e in (k a (d .0), all-from p P k l (d .1))
-
-all-to : {A : Type 0} (p : A → Bool) (P : A → Type 0) → ((a : A) → P a → p a ≡ true) → (l : List A) → All P l → all p l ≡ true
-unfolding all
-all-to p P k [] h = refl
-all-to p P k (a ∷ l) h = both (p a) (all p l) (k a (h .0)) (all-to p P k l (h .1))
 
 pair-from : (n a b : ℕ) → named n (a ∷ b ∷ []) ≡ true → Pair n a b
 pair-from n a b e =

@@ -1,32 +1,33 @@
 -- Splits, cuts of triangles, cracks and the removal of straddlers keep every index and root: what refusal 3 checks holds of their results. Assumes nothing.
 use mathlib.Core.Path.{_≡_, refl, sym, _∙_, ap, subst}
-use mathlib.Core.Bool.{Bool, true, false, not, _&&_, _||_}
-use mathlib.Core.Logic.{_⊎_, inl, inr, ⊎-elim}
+use mathlib.Core.Bool.{Bool, true, false, not}
+use mathlib.Core.Logic.{_⊎_, ⊎-elim}
 use mathlib.Core.List.{List, [], _∷_, _++_, map}
 use mathlib.Core.Option.{Option, none as nothing, some}
-use Prim.Native.Nat.{ℕ, zero, suc, _+_, _-_, _<_, _≤_, max}
+use Prim.Native.Nat.{ℕ, suc, _+_, _-_, _<_, _≤_, max}
 use native.Mathlib.Omega.{arith}
 use native.Mathlib.Decide.{ℕ-discrete}
-use borrow.Author.Tests.{eq-eqb, ne-eqb, ltb-true, not-true, lt-ltb}
-use lib.Dec.{eqb, ltb}
+use borrow.Author.Tests.{eq-eqb, ne-eqb}
+use lib.Dec.{eqb}
 use lib.ListN.{length, getD}
 use lib.Ieee.{Float, neg, lt}
-use Rattle.lists.specs.Lists.{pick, stands, any, all, sift, find, fold, each, pairs, mapAt, tab, upTo, rising, orElse, headOr, rest, empty}
+use Rattle.lists.specs.Lists.{pick, stands, all, sift, find, fold, each, pairs, mapAt, tab, upTo, rising, headOr, rest, empty}
 use Rattle.lists.specs.Labels.{replaced}
 use Rattle.float.specs.Numbers.{largest}
 use Rattle.blade.specs.declared.Point.{Point}
 use Rattle.fan.proofs.Grouped.{replaced-case}
+use Rattle.fan.specs.Groups.{groupsOf}
 use Rattle.model.specs.Mesh.{Particle, Triangle, Edge, Side, Mesh, blank, blankTriangle}
-use Rattle.model.specs.Valid.{named, rootOk, cornersOk, endsOk, sideOk, indicesFit}
-use Rattle.model.specs.Elements.{Kind, Triangles, Straps, Nothing, Element, endsOf, sideEnds, farEnd, besides, trianglesFrom, triangleElement, element?, elementsOf, fanOf}
-use Rattle.model.specs.Run.{Entry, Run, start, stepTo, splitsOf}
-use Rattle.model.specs.Split.{Part, partsOf, Opening, openingOf, splits?, copyFor, copyOf, portion, onlyAt, copied, groupAt, retargeted, moved, rewiredTriangles, rewiredStraps, ring, Best, better, scoreOf, scored, toward, edgeGroups, other?, calm, stayed, doubled, otherEdges, straddles, partGroup, sideGroup, turned, followed, facesOf, oneOrNone, onFacet, faceOn, opens?, facetsAt, crackFacets, atLongest, settled, splitMade, splitStep, splitBySides}
+use Rattle.model.specs.Elements.{Kind, Triangles, Straps, Nothing, Element, endsOf, sideEnds, farEnd, besides, trianglesFrom, element?, elementsOf, fanOf, gridOf}
+use Rattle.model.specs.Run.{Entry, Run, stepTo, splitsOf}
+use Rattle.model.specs.Split.{Part, Opening, openingOf, splits?, copyOf, portion, onlyAt, copied, groupAt, retargeted, moved, rewiredTriangles, rewiredStraps, ring, Best, better, scoreOf, scored, toward, edgeGroups, other?, calm, stayed, doubled, otherEdges, straddles, partGroup, sideGroup, turned, followed, facesOf, oneOrNone, onFacet, faceOn, opens?, facetsAt, crackFacets, atLongest, settled, splitMade, splitStep, splitBySides}
 use Rattle.model.specs.Pieces.{straddlersGone, withoutStraddlers, removeStraddlers}
 use Rattle.model.specs.Cut.{Blade, bladeSides, splitByBlade, splitFree, pinched, splitPinched, candidates, cutFacets, slack, slackened, atCopy, splitSnapped}
 use Rattle.model.specs.Crack.{Way, farSide, twoSided, meanLoad, wayAt, waysOf, hurt, damagedAt, torn, crackBy, crackPair, crackEdge, currentPair, loadsOf, tornEnds, crack}
 use Rattle.model.specs.Trace.{All, Sound}
-use Rattle.model.proofs.Laws.{and-true, false-true, all-at, all-over, all-append, all-mapAt, length-mapAt, pick-one, Found, find-fits, stands-case, stands-not}
-use Rattle.model.proofs.Traced.{Fitting, opening-fits, order-fits, splits-here, copied-length, at-below, new, apart, inside, sound-step}
+use Rattle.model.proofs.Traced.{Fitting, opening-fits, order-fits, splits-here, copied-length, at-below, apart, inside, sound-step}
+use Rattle.model.proofs.Laws.{and-true, false-true, pick-both, all-at, all-over, all-append, all-mapAt, pick-one, all-in, all-yes, all-map, all-eachOf, all-sift, all-upTo, all-pairs, all-rest, all-head, all-else, length-mapAt, Found, find-fits, stands-case}
+use Rattle.model.proofs.Traced.{parts-all, Any, all-any}
 
 -- ---- what refusal 3 checks
 
@@ -43,54 +44,6 @@ pub record Indexed (M : Mesh) : Type 0 where
   pub boundary : All (λ (s : Side). Pair (length (M .particles)) (s .a) (s .b)) (M .boundary)
 
 -- ---- lists
-
-pub all-map : {A B : Type 0} (P : A → Type 0) (Q : B → Type 0) (f : A → B) → ((a : A) → P a → Q (f a)) → (l : List A) → All P l → All Q (map f l)
-all-map P Q f k [] h = tt
-all-map P Q f k (a ∷ l) h = (k a (h .0), all-map P Q f k l (h .1))
-
-pub all-eachOf : {A B : Type 0} (P : A → Type 0) (Q : B → Type 0) (f : A → List B) → ((a : A) → P a → All Q (f a)) → (l : List A) → All P l → All Q (each f l)
-unfolding each
-all-eachOf P Q f k [] h = tt
-all-eachOf P Q f k (a ∷ l) h = all-append Q (f a) (each f l) (k a (h .0)) (all-eachOf P Q f k l (h .1))
-
-pub all-sift : {A : Type 0} (P : A → Type 0) (p : A → Bool) (l : List A) → All P l → All P (sift p l)
-unfolding sift
-all-sift P p [] h = tt
-all-sift P p (a ∷ l) h = by (p a) (all-sift P p l (h .1))
-  where
-    by : (b : Bool) → All P (sift p l) → All P (pick b (a ∷ sift p l) (sift p l))
-    by true u = (h .0, u)
-    by false u = u
-
-all-upTo : (n k : ℕ) (f : ℕ → ℕ) → ((i : ℕ) → i < k → f i < n) → All (λ g. g < n) (tab k f)
-unfolding tab
-all-upTo n zero f h = tt
-all-upTo n (suc k) f h = (h 0 (omega arith), all-upTo n k (λ i. f (suc i)) (λ i u. h (suc i) (omega arith)))
-
-all-rest : {A : Type 0} (P : A → Type 0) (l : List A) → All P l → All P (rest l)
-all-rest P [] h = tt
-all-rest P (a ∷ l) h = h .1
-
-all-head : {A : Type 0} (P : A → Type 0) (d : A) (l : List A) → P d → All P l → P (headOr d l)
-all-head P d [] p h = p
-all-head P d (a ∷ l) p h = h .0
-
-all-else : {A : Type 0} (P : A → Type 0) (l m : List A) → All P l → All P m → All P (orElse l m)
-all-else P [] m h u = u
-all-else P (a ∷ l) m h u = h
-
-all-yes : {A : Type 0} (P : A → Type 0) → ((a : A) → P a) → (l : List A) → All P l
-all-yes P k [] = tt
-all-yes P k (a ∷ l) = (k a, all-yes P k l)
-
-all-pairs : {A : Type 0} (P : A → Type 0) (l : List A) → All P l → All (λ (pq : A × A). P (pq .0) × P (pq .1)) (pairs l)
-unfolding pairs
-all-pairs P [] h = tt
-all-pairs P (a ∷ l) h = all-append _ (map (λ b. (a, b)) l) (pairs l) (all-map P _ (λ b. (a, b)) (λ b u. (h .0, u)) l (h .1)) (all-pairs P l (h .1))
-
-pub pick-both : {A : Type 0} (P : A → Type 0) (b : Bool) (x y : A) → P x → P y → P (pick b x y)
-pick-both P true x y p q = p
-pick-both P false x y p q = q
 
 -- ---- groups lie below the count
 
@@ -145,11 +98,6 @@ Sides n s = Pair n (s .a) (s .b)
 
 pub wide : (n k a b : ℕ) → Pair n a b → Pair (n + k) a b
 wide n k a b P = record { first = let h = P .first in omega arith; second = let h = P .second in omega arith; differ = P .differ }
-
-pub all-in : {A : Type 0} (P : A → Type 0) (l : List A) (i : ℕ) (d : A) → i < length l → All P l → P (getD l i d)
-all-in P [] i d u h = absurd (let z : i < 0 = u in omega arith)
-all-in P (a ∷ l) zero d u h = h .0
-all-in P (a ∷ l) (suc i) d u h = all-in P l i d (omega arith) (h .1)
 
 pub sound-wide : (n k : ℕ) (t : Triangle) → Sound n t → Sound (n + k) t
 sound-wide n k t S = let a = S .a in let b = S .b in let c = S .c in record { a = omega arith; b = omega arith; c = omega arith; ab = S .ab; bc = S .bc; ca = S .ca }
@@ -298,18 +246,14 @@ numbers-from i (t ∷ ts) = (
   all-over (λ (e : Element). e .number < suc i + length ts) (λ (e : Element). e .number < i + suc (length ts)) (λ e u. omega arith) (trianglesFrom (suc i) ts) (numbers-from (suc i) ts),
 )
 
-parts-inside : (n : ℕ) (es : List Element) (gs : List ℕ) → All (λ (e : Element). e .number < n) es → All (λ (p : Part). p .number < n) (partsOf es gs)
-unfolding partsOf
-parts-inside n [] gs h = tt
-parts-inside n (e ∷ es) [] h = tt
-parts-inside n (e ∷ es) (g ∷ gs) h = (h .0, parts-inside n es gs (h .1))
-
 pub opening-inside : (k : Kind) (M : Mesh) (v : ℕ) (sides : List ℕ) → Inside k (openingOf k M v sides) M
 unfolding openingOf fanOf elementsOf
 opening-inside Triangles M v sides =
-    parts-inside (length (M .triangles)) (fanOf Triangles M v) _
+    let F = gridOf Triangles v (fanOf Triangles M v) sides in
+    parts-all (λ (e : Element). e .number < length (M .triangles)) Any (λ (p : Part). p .number < length (M .triangles)) (λ e g h u. h) (fanOf Triangles M v) (groupsOf F)
     (all-sift (λ (e : Element). e .number < length (M .triangles)) (λ (e : Element). stands v (e .corners)) (trianglesFrom 0 (M .triangles))
     (all-over (λ (e : Element). e .number < 0 + length (M .triangles)) (λ (e : Element). e .number < length (M .triangles)) (λ e u. omega arith) (trianglesFrom 0 (M .triangles)) (numbers-from 0 (M .triangles))))
+    (all-any (groupsOf F))
 opening-inside Straps M v sides = tt
 opening-inside Nothing M v sides = tt
 

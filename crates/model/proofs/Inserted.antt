@@ -1,24 +1,24 @@
 -- The cut of straps keeps every index and root; and so every call gives a mesh that refusal 3 lets pass. Assumes nothing.
-use mathlib.Core.Path.{_≡_, refl, sym, _∙_, ap, ap₂, subst}
-use mathlib.Core.Bool.{Bool, true, false, not, _&&_}
-use mathlib.Core.List.{List, [], _∷_, _++_, map}
-use Prim.Native.Nat.{ℕ, zero, suc, _+_, _<_, _≤_}
+use mathlib.Core.Path.{_≡_, refl, sym, _∙_, ap, subst}
+use mathlib.Core.Bool.{Bool, true, false, not}
+use mathlib.Core.List.{List, [], _∷_, map}
+use Prim.Native.Nat.{ℕ, suc, _+_, _<_, _≤_}
 use native.Mathlib.Omega.{arith}
 use lib.Dec.{eqb}
-use lib.ListN.{length, getD, length-append}
+use lib.ListN.{length, length-append}
 use lib.Ieee.{Float}
 use Rattle.blade.specs.declared.Hit.{Hit}
 use Rattle.blade.specs.declared.Hit.the-variants.{Miss, Hit as HitAt}
-use Rattle.lists.specs.Lists.{pick, stands, sift, siftAt, fold, each, mapAt, rising}
-use Rattle.model.specs.Mesh.{Particle, Triangle, Edge, Side, Mesh, blankEdge}
-use Rattle.model.specs.Elements.{Kind, Triangles, Straps, Nothing, Element, particle, edgeAt, structural?, strapElement, strapsFrom, elementsOf}
+use Rattle.lists.specs.Lists.{pick, stands, fold, each, mapAt, rising}
+use Rattle.model.specs.Mesh.{Particle, Edge, Side, Mesh, blankEdge}
+use Rattle.model.specs.Elements.{Kind, Triangles, Straps, Nothing, Element, edgeAt, structural?, strapElement, strapsFrom, elementsOf}
 use Rattle.model.specs.Run.{Run, stepTo}
 use Rattle.model.specs.Split.{onlyAt}
 use Rattle.model.specs.Cut.{Blade, meets, Crossing, crossingAt, crossings, Insertion, insertionOf, half-a, half-b, left-over, insertable, lightened, between, insertedParticles, halfOf, insertedEdges, same, shortened, appended, insertedSides, insertedMesh, insertStep, Strapping, strapping, insertedAt, snappedAt, crossed, unbent, splitSnapped, afterCrossings, cutSegments, cut}
 use Rattle.model.specs.Trace.{All, Sound}
-use Rattle.model.proofs.Laws.{all-over, all-append, all-mapAt, length-mapAt}
-use Rattle.model.proofs.Indexed.{Pair, Indexed, Ends, Sides, wide, sound-wide, all-map, all-eachOf, all-in, all-sift, pick-both, fold-indexed, facets-indexed, snapped-indexed}
+use Rattle.model.proofs.Indexed.{Pair, Indexed, Ends, Sides, wide, sound-wide, fold-indexed, facets-indexed, snapped-indexed}
 use Rattle.model.proofs.Steps.{runOf}
+use Rattle.model.proofs.Laws.{pick-both, all-over, all-append, all-mapAt, all-in, all-map, all-eachOf, all-siftAt, length-mapAt}
 
 -- ---- one insertion
 
@@ -167,11 +167,6 @@ unfolding crossings elementsOf
 crossings-inside B M =
     all-eachOf (λ (e : Element). e .number < 0 + length (M .edges)) (λ (c : Crossing). c .number < length (M .edges)) _ (λ e u. hit-inside (length (M .edges)) (e .number) (omega arith) (meets B M (edgeAt M (e .number) .a) (edgeAt M (e .number) .b))) (strapsFrom 0 (M .edges))
     (straps-inside 0 (M .edges))
-
-all-siftAt : {A : Type 0} (P : A → Type 0) (p : ℕ → A → Bool) (l : List A) → All P l → All P (siftAt p l)
-unfolding siftAt
-all-siftAt P p [] h = tt
-all-siftAt P p (a ∷ l) h = pick-both (All P) (p 0 a) (a ∷ siftAt (λ k. p (suc k)) l) (siftAt (λ k. p (suc k)) l) (h .0, all-siftAt P (λ k. p (suc k)) l (h .1)) (all-siftAt P (λ k. p (suc k)) l (h .1))
 
 pub unbent-indexed : (is : List ℕ) (R : Run) → Indexed (R .mesh) → Indexed (unbent is R .mesh)
 unfolding unbent stepTo
