@@ -13,7 +13,7 @@ use mathlib.Core.Option.{Option, none as nothing, some}
 use lib.Ieee.{Float}
 use Rattle.lists.specs.Lists.{pick, stands, mapAt, sift, upTo, each, fold, empty}
 use Rattle.lists.specs.Labels.{replaced}
-use Rattle.fan.specs.Fan.{Fan, side}
+use Rattle.fan.specs.Fan.{Fan}
 use Rattle.fan.specs.Groups.{groupsOf}
 use Rattle.fan.proofs.Grouped.{grouped}
 use Rattle.model.specs.Mesh.{Triangle, Edge, Mesh, blankTriangle}

@@ -26,14 +26,14 @@ use Rattle.model.proofs.Laws.{and-true, false-true, stands-not}
 
 -- ---- an accepted mesh
 
-named-first : (n x : ℕ) (l : List ℕ) → named n (x ∷ l) ≡ true → (x < n) × (stands x l ≡ false) × (named n l ≡ true)
+pub named-first : (n x : ℕ) (l : List ℕ) → named n (x ∷ l) ≡ true → (x < n) × (stands x l ≡ false) × (named n l ≡ true)
 unfolding named
 named-first n x l e =
     let p = and-true _ _ e in
     let q = and-true _ _ (p .0) in
     (ltb-true x n (q .0), not-true _ (q .1), p .1)
 
-corners-sound : (n : ℕ) (t : Triangle) → cornersOk n t ≡ true → Sound n t
+pub corners-sound : (n : ℕ) (t : Triangle) → cornersOk n t ≡ true → Sound n t
 unfolding cornersOk
 corners-sound n t e =
     let p = named-first n (t .a) (t .b ∷ t .c ∷ []) e in

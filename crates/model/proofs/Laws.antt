@@ -11,7 +11,7 @@ use native.Mathlib.Decide.{ℕ-discrete}
 use borrow.Author.Tests.{eq-eqb, ne-eqb}
 use lib.Dec.{eqb}
 use lib.ListN.{length, getD, set, replicate}
-use Rattle.lists.specs.Lists.{pick, stands, mapAt, each, sift, find, tab, upTo, rising}
+use Rattle.lists.specs.Lists.{pick, stands, all, mapAt, each, sift, siftAt, find, pairs, tab, upTo, rising, headOr, rest, orElse}
 use Rattle.model.specs.Trace.{All}
 
 -- ---- Booleans
@@ -22,6 +22,14 @@ and-true false b e = absurd (let z : _≡_ {A = Bool} false true = e in let y : 
 
 pub false-true : _≡_ {A = Bool} false true → ⊥
 false-true e = let y : _≡_ {A = ℕ} 0 1 = cc in omega arith
+
+pub both : (a b : Bool) → a ≡ true → b ≡ true → (a && b) ≡ true
+both true b p q = q
+both false b p q = p
+
+pub pick-both : {A : Type 0} (P : A → Type 0) (b : Bool) (x y : A) → P x → P y → P (pick b x y)
+pick-both P true x y p q = p
+pick-both P false x y p q = q
 
 -- ---- every element
 
@@ -99,6 +107,70 @@ sifted-all p (a ∷ l) = by (p a) refl (sifted-all p l)
 pub pick-one : {A : Type 0} (P : A → Type 0) (b : Bool) (a : A) → P a → All P (pick b (a ∷ []) [])
 pick-one P true a h = (h, tt)
 pick-one P false a h = tt
+
+pub all-in : {A : Type 0} (P : A → Type 0) (l : List A) (i : ℕ) (d : A) → i < length l → All P l → P (getD l i d)
+all-in P [] i d u h = absurd (let z : i < 0 = u in omega arith)
+all-in P (a ∷ l) zero d u h = h .0
+all-in P (a ∷ l) (suc i) d u h = all-in P l i d (omega arith) (h .1)
+
+pub all-yes : {A : Type 0} (P : A → Type 0) → ((a : A) → P a) → (l : List A) → All P l
+all-yes P k [] = tt
+all-yes P k (a ∷ l) = (k a, all-yes P k l)
+
+pub all-map : {A B : Type 0} (P : A → Type 0) (Q : B → Type 0) (f : A → B) → ((a : A) → P a → Q (f a)) → (l : List A) → All P l → All Q (map f l)
+all-map P Q f k [] h = tt
+all-map P Q f k (a ∷ l) h = (k a (h .0), all-map P Q f k l (h .1))
+
+pub all-eachOf : {A B : Type 0} (P : A → Type 0) (Q : B → Type 0) (f : A → List B) → ((a : A) → P a → All Q (f a)) → (l : List A) → All P l → All Q (each f l)
+unfolding each
+all-eachOf P Q f k [] h = tt
+all-eachOf P Q f k (a ∷ l) h = all-append Q (f a) (each f l) (k a (h .0)) (all-eachOf P Q f k l (h .1))
+
+pub all-sift : {A : Type 0} (P : A → Type 0) (p : A → Bool) (l : List A) → All P l → All P (sift p l)
+unfolding sift
+all-sift P p [] h = tt
+all-sift P p (a ∷ l) h = by (p a) (all-sift P p l (h .1))
+  where
+    by : (b : Bool) → All P (sift p l) → All P (pick b (a ∷ sift p l) (sift p l))
+    by true u = (h .0, u)
+    by false u = u
+
+pub all-siftAt : {A : Type 0} (P : A → Type 0) (p : ℕ → A → Bool) (l : List A) → All P l → All P (siftAt p l)
+unfolding siftAt
+all-siftAt P p [] h = tt
+all-siftAt P p (a ∷ l) h = pick-both (All P) (p 0 a) (a ∷ siftAt (λ k. p (suc k)) l) (siftAt (λ k. p (suc k)) l) (h .0, all-siftAt P (λ k. p (suc k)) l (h .1)) (all-siftAt P (λ k. p (suc k)) l (h .1))
+
+pub all-upTo : (n k : ℕ) (f : ℕ → ℕ) → ((i : ℕ) → i < k → f i < n) → All (λ g. g < n) (tab k f)
+unfolding tab
+all-upTo n zero f h = tt
+all-upTo n (suc k) f h = (h 0 (omega arith), all-upTo n k (λ i. f (suc i)) (λ i u. h (suc i) (omega arith)))
+
+pub all-pairs : {A : Type 0} (P : A → Type 0) (l : List A) → All P l → All (λ (pq : A × A). P (pq .0) × P (pq .1)) (pairs l)
+unfolding pairs
+all-pairs P [] h = tt
+all-pairs P (a ∷ l) h = all-append _ (map (λ b. (a, b)) l) (pairs l) (all-map P _ (λ b. (a, b)) (λ b u. (h .0, u)) l (h .1)) (all-pairs P l (h .1))
+
+pub all-rest : {A : Type 0} (P : A → Type 0) (l : List A) → All P l → All P (rest l)
+all-rest P [] h = tt
+all-rest P (a ∷ l) h = h .1
+
+pub all-head : {A : Type 0} (P : A → Type 0) (d : A) (l : List A) → P d → All P l → P (headOr d l)
+all-head P d [] p h = p
+all-head P d (a ∷ l) p h = h .0
+
+pub all-else : {A : Type 0} (P : A → Type 0) (l m : List A) → All P l → All P m → All P (orElse l m)
+all-else P [] m h u = u
+all-else P (a ∷ l) m h u = h
+
+pub all-from : {A : Type 0} (p : A → Bool) (P : A → Type 0) → ((a : A) → p a ≡ true → P a) → (l : List A) → all p l ≡ true → All P l
+unfolding all
+all-from p P k [] e = tt
+all-from p P k (a ∷ l) e = let d = and-true (p a) (all p l) e in (k a (d .0), all-from p P k l (d .1))
+
+pub all-to : {A : Type 0} (p : A → Bool) (P : A → Type 0) → ((a : A) → P a → p a ≡ true) → (l : List A) → All P l → all p l ≡ true
+unfolding all
+all-to p P k [] h = refl
+all-to p P k (a ∷ l) h = both (p a) (all p l) (k a (h .0)) (all-to p P k l (h .1))
 
 -- ---- each element with its number
 

@@ -1,8 +1,26 @@
--- Theorems on triangles, and computed cases.
+-- Theorems on the definitions, and the cases they are computed on.
+
+-- laws of lists
 pub mod Laws
+-- a run of splits keeps the triangles: sound, and traced back the same; and every copy belongs to one
 pub mod Traced
 pub mod Holding
+-- when a particle splits: pinned and single elements stay, two groups at a free particle do split
+pub mod Splitting
+-- the same for every call; a mesh of nothing stays unchanged
+pub mod Kept
+pub mod Nothing
+-- the first step that lacks room decides
+pub mod Steps
+-- `toward` is the source's `group_toward`
+pub mod Toward
+-- every call gives a mesh whose indices and roots are accepted again
+pub mod Indexed
+pub mod Inserted
+pub mod Accepted
+-- the starred cases in one statement, and the worked meshes
 pub mod Starred
+-- the published Rust's answers, computed
 pub mod Asked
 pub mod CaseGroups
 pub mod CaseSplits
@@ -15,8 +33,3 @@ pub mod CaseLoads
 pub mod CaseReads
 pub mod CaseRefusals
 pub mod CaseRooms
-pub mod Splitting
-pub mod Kept
-pub mod Nothing
-pub mod Steps
-pub mod Toward

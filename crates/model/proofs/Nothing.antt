@@ -1,13 +1,12 @@
 -- A mesh of nothing, where fans are empty: a call that no refusal number stops leaves it unchanged. Assumes nothing.
 use mathlib.Core.Path.{_≡_, refl, sym, _∙_, ap, subst}
 use mathlib.Core.Bool.{Bool, true, false, _&&_}
-use mathlib.Core.List.{List, [], _∷_, map}
+use mathlib.Core.List.{List, [], _∷_}
 use mathlib.Core.Option.{Option, none as nothing, some}
-use Prim.Native.Nat.{ℕ, _≤_}
+use Prim.Native.Nat.{ℕ}
 use native.Mathlib.Omega.{arith}
-use lib.ListN.{length}
 use lib.Ieee.{Float, ne}
-use Rattle.lists.specs.Lists.{pick, stands, any, sift, find, fold, each, empty}
+use Rattle.lists.specs.Lists.{pick, any, sift, find, fold, each, empty}
 use Rattle.float.specs.Numbers.{zero32}
 use Rattle.model.specs.Mesh.{Mesh}
 use Rattle.model.specs.Elements.{Kind, Nothing, particle, kindOf, elementsOf, fanOf}
@@ -15,11 +14,11 @@ use Rattle.model.specs.Run.{Entry, Rooms, Run, start, splitsOf, changed}
 use Rattle.model.specs.Split.{openingOf, splitBySides}
 use Rattle.model.specs.Pieces.{removeStraddlers}
 use Rattle.model.specs.Cut.{Blade, cut, splitPinched}
-use Rattle.model.specs.Crack.{Way, farSide, meanLoad, twoSided, wayAt, waysOf, crackBy, crackPair, crackEdge, currentPair, loadsOf, tornEnds, crack}
-use Rattle.model.specs.Calls.{bladeOk, fractionOk, sidesOk, trianglesLent, refusal, Outcome, done, outcome, cutCall, crackCall, splitCall, straddlersCall}
-use Rattle.model.proofs.Laws.{and-true}
+use Rattle.model.specs.Crack.{meanLoad, twoSided, wayAt, waysOf, crackBy, crackPair, crackEdge, currentPair, loadsOf, tornEnds, crack}
+use Rattle.model.specs.Calls.{bladeOk, fractionOk, sidesOk, trianglesLent, refusal, done, outcome, cutCall, crackCall, splitCall, straddlersCall}
 use Rattle.model.proofs.Splitting.{Sided, sides-accepted, one-element-stays}
-use Rattle.model.proofs.Kept.{Passed, no-refusal, unless-done, outcome-done}
+use Rattle.model.proofs.Kept.{no-refusal, unless-done, outcome-done}
+use Rattle.model.proofs.Laws.{and-true}
 
 -- ---- no crack and no split
 

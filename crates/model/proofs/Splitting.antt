@@ -22,7 +22,7 @@ use Rattle.model.specs.Split.{Opening, openingOf, splits?, made, atLonge
 use Rattle.model.specs.Calls.{sidesOk}
 use Rattle.model.specs.Trace.{All}
 use Rattle.model.proofs.Traced.{copied-length, Still}
-use Rattle.model.proofs.Laws.{and-true, all-at}
+use Rattle.model.proofs.Laws.{and-true, both, all-at}
 
 -- ---- the sides that a call accepts
 
@@ -163,10 +163,6 @@ module _ (k : Kind) (O : Opening) (R : Run) (before : O .before ≡ length (R .m
   pub step-grown : Grown (O .v) R (splitMade more f k O R)
   unfolding splitMade next
   step-grown = made-grown _ _ _
-
-both : (a b : Bool) → a ≡ true → b ≡ true → (a && b) ≡ true
-both true b p q = q
-both false b p q = p
 
 step-yes : (b : Bool) (S R : Run) → b ≡ true → pick b S R ≡ S
 step-yes true S R e = refl

@@ -104,7 +104,7 @@ facets-onward B R =
     onward-pick (empty (splitsOf (S .log))) R S (splitPinched Triangles S) G (onward-then G (pinched-onward Triangles S))
 
 -- the run of a strap cut at work
-pub runOf : Strapping → Run
+unfoldable pub runOf : Strapping → Run
 runOf (strapping R marked snapped) = R
 
 pub crossed-onward : (f : Float) (S : Strapping) (c : Crossing) → Onward (runOf S) (runOf (crossed f S c))

@@ -19,10 +19,11 @@ use Rattle.fan.specs.Groups.{groupsOf, countOf}
 use Rattle.fan.proofs.Grouped.{grouped}
 use Rattle.model.specs.Mesh.{Mesh}
 use Rattle.model.specs.Elements.{Kind, Element, restOf, besides, elementsOf, fanOf, gridOf}
-use Rattle.model.specs.Split.{Part, partsOf, Opening, openingOf, ring, scored, toward}
+use Rattle.model.specs.Split.{Part, Opening, openingOf, ring, scored, toward}
 use Rattle.model.specs.Trace.{All}
 use Rattle.model.proofs.Splitting.{Sided}
 use Rattle.model.proofs.Laws.{false-true, all-at, all-each, all-over, all-sifted, sifted-all, map-none, sift-none, none-sifted, rising-none, none-rising, find-none, stands-case, stands-not}
+use Rattle.model.proofs.Traced.{parts-all, Any, all-any}
 
 -- the source's words: the lowest group of the fan elements that hold one of the particles besides v, else the group whose fan points their way
 unfoldable pub groupToward : Mesh → Opening → List ℕ → ℕ
@@ -108,25 +109,15 @@ toward-side M O x n holds e = both-without M O x n (without-both (O .v) x (O .fa
 
 -- ---- an opening is such a fan
 
-parts-below : (n : ℕ) (es : List Element) (gs : List ℕ) → All (λ g. g < n) gs → All (λ (p : Part). p .group < n) (partsOf es gs)
-unfolding partsOf
-parts-below n [] gs h = tt
-parts-below n (e ∷ es) [] h = tt
-parts-below n (e ∷ es) (g ∷ gs) h = (h .0, parts-below n es gs (h .1))
-
-parts-hold : (v : ℕ) (es : List Element) (gs : List ℕ) → All (λ (e : Element). stands v (e .corners) ≡ true) es → All (λ (p : Part). stands v (p .corners) ≡ true) (partsOf es gs)
-unfolding partsOf
-parts-hold v [] gs h = tt
-parts-hold v (e ∷ es) [] h = tt
-parts-hold v (e ∷ es) (g ∷ gs) h = (h .0, parts-hold v es gs (h .1))
-
 pub opening-below : (k : Kind) (M : Mesh) (v : ℕ) (sides : List ℕ) → Sided k M v sides → Below (openingOf k M v sides)
 unfolding openingOf gridOf
 opening-below k M v sides S =
     let F : Fan = gridOf k v (fanOf k M v) sides in
     let G = grouped F (λ a h. all-at (λ s. s < 2) sides a 0 (omega arith) (S .two)) in
-    parts-below (countOf F) (fanOf k M v) (groupsOf F) (all-each (λ g. g < countOf F) (groupsOf F) (λ i u. G .below i (omega (arith, G .every))))
+    parts-all Any (λ g. g < countOf F) (λ (p : Part). p .group < countOf F) (λ e g h u. u) (fanOf k M v) (groupsOf F) (all-any (fanOf k M v)) (all-each (λ g. g < countOf F) (groupsOf F) (λ i u. G .below i (omega (arith, G .every))))
 
 pub opening-holds : (k : Kind) (M : Mesh) (v : ℕ) (sides : List ℕ) → All (λ (p : Part). stands v (p .corners) ≡ true) (openingOf k M v sides .fan)
 unfolding openingOf fanOf
-opening-holds k M v sides = parts-hold v (fanOf k M v) _ (sifted-all (λ (e : Element). stands v (e .corners)) (elementsOf k M))
+opening-holds k M v sides =
+    let F : Fan = gridOf k v (fanOf k M v) sides in
+    parts-all (λ (e : Element). stands v (e .corners) ≡ true) Any (λ (p : Part). stands v (p .corners) ≡ true) (λ e g h u. h) (fanOf k M v) (groupsOf F) (sifted-all (λ (e : Element). stands v (e .corners)) (elementsOf k M)) (all-any (groupsOf F))

@@ -18,7 +18,7 @@ use Rattle.fan.specs.Fan.{Fan, size}
 use Rattle.fan.specs.Groups.{Numbered, numberOne, numberSide, numbered, groupsOf, countOf}
 use Rattle.fan.proofs.Grouped.{tab-length, replaced-case}
 use Rattle.model.specs.Mesh.{Particle, Triangle, Edge, Mesh, blank}
-use Rattle.model.specs.Elements.{Kind, Triangles, Element, cornersOf, fanOf, elementsOf}
+use Rattle.model.specs.Elements.{Kind, Triangles, Element, cornersOf, fanOf, elementsOf, gridOf}
 use Rattle.model.specs.Run.{Entry, split as splitEntry, edge as edgeEntry, Run, start, stepTo, splitOf, splitsOf}
 use Rattle.model.specs.Split.{Part, partsOf, Opening, openingOf, splits?, retargeted, copyFor, copyOf, made, copied, groupAt, rewiredTriangles, atLongest, settled, splitEntries, goneEntries, splitMade, splitStep, splitBySides}
 use Rattle.model.specs.Pieces.{pieceLabels, across?, withoutStraddlers, straddlersGone, removeStraddlers}
@@ -26,7 +26,7 @@ use Rattle.model.specs.Cut.{Blade, splitByBlade, splitFree, splitPinched
 use Rattle.model.specs.Crack.{Way, farSide, twoSided, meanLoad, damagedAt, torn, crackBy, crackPair, crackEdge, currentPair, waysOf, wayAt, inOrder, before?, loadsOf, tornEnds, crack}
 use mathlib.Core.Option.{Option, none as nothing, some}
 use Rattle.model.specs.Trace.{All, originOf, Sound, tracedBack, Traced}
-use Rattle.model.proofs.Laws.{and-true, false-true, all-at, all-set, all-replicate, all-over, all-mapAt, all-tab, tab-all, pick-one, length-mapAt, map-mapAt, each-append, Found, find-fits}
+use Rattle.model.proofs.Laws.{and-true, false-true, all-at, all-set, all-replicate, all-over, all-mapAt, all-tab, tab-all, pick-one, all-yes, length-mapAt, map-mapAt, each-append, Found, find-fits}
 
 -- ---- lists
 
@@ -78,7 +78,7 @@ origin-copy n v k g o l =
 
 -- the particle that group g has, of k + 1 groups
 module _ (n v k g : ℕ) (o : v < n) (l : g < suc k) where
-  new : (copyFor v n g ≡ v) ⊎ (n ≤ copyFor v n g)
+  pub new : (copyFor v n g ≡ v) ⊎ (n ≤ copyFor v n g)
   new = elim (ℕ-discrete g 0) [ yes e ↦ inl (rw (eq-eqb g 0 e)) | no m ↦ inr (rw (ne-eqb g 0 m) (omega arith)) ]
 
   there : copyFor v n g < n + k
@@ -91,14 +91,14 @@ module _ (n v k g : ℕ) (o : v < n) (l : g < suc k) where
         | no m ↦ let d : n + g - 1 ≡ n + (g - 1) = omega arith in rw (ne-eqb g 0 m, d) (origin-copy n v k (g - 1) o (omega arith))
       ]
 
-  apart : (c d : ℕ) → c < n → d < n → (c ≡ d → ⊥) → replaced v (copyFor v n g) c ≡ replaced v (copyFor v n g) d → ⊥
+  pub apart : (c d : ℕ) → c < n → d < n → (c ≡ d → ⊥) → replaced v (copyFor v n g) c ≡ replaced v (copyFor v n g) d → ⊥
   apart c d p q m e =
       ⊎-elim
       (λ a. ⊎-elim (λ b. m (a .0 ∙ sym (b .0))) (λ b. let f : copyFor v n g ≡ d = sym (a .1) ∙ e ∙ b .1 in ⊎-elim (λ h. b .0 (sym f ∙ h)) (λ h. omega arith) new) (replaced-case v (copyFor v n g) d))
       (λ a. ⊎-elim (λ b. let f : copyFor v n g ≡ c = sym (b .1) ∙ sym e ∙ a .1 in ⊎-elim (λ h. a .0 (sym f ∙ h)) (λ h. omega arith) new) (λ b. m (sym (a .1) ∙ e ∙ b .1)) (replaced-case v (copyFor v n g) d))
       (replaced-case v (copyFor v n g) c)
 
-  inside : (c : ℕ) → c < n → replaced v (copyFor v n g) c < n + k
+  pub inside : (c : ℕ) → c < n → replaced v (copyFor v n g) c < n + k
   inside c p = ⊎-elim (λ a. let h = there in omega (arith, a .1)) (λ a. omega (arith, a .1)) (replaced-case v (copyFor v n g) c)
 
   undone : (c : ℕ) → c < n → originOf (copiesFrom n v k) (replaced v (copyFor v n g) c) ≡ c
@@ -107,7 +107,7 @@ module _ (n v k g : ℕ) (o : v < n) (l : g < suc k) where
       (λ a. ap (originOf (copiesFrom n v k)) (a .1) ∙ origin-low n v (copiesFrom n v k) (copies-are n v k) c p)
       (replaced-case v (copyFor v n g) c)
 
-  sound-step : (t : Triangle) → Sound n t → Sound (n + k) (retargeted v (copyFor v n g) t)
+  pub sound-step : (t : Triangle) → Sound n t → Sound (n + k) (retargeted v (copyFor v n g) t)
   sound-step t S =
       record {
         a = inside (t .a) (S .a);
@@ -154,17 +154,25 @@ pub groups-below : (F : Fan) → All (Below (countOf F)) (groupsOf F)
 unfolding groupsOf countOf numbered
 groups-below F = side-below _ _ 1 _ 0 _ (side-below _ _ 0 _ 0 _ (all-replicate (Below 0) (size F) 0 (omega arith)))
 
-parts-below : (n : ℕ) (es : List Element) (gs : List ℕ) → All (Below n) gs → All (λ (p : Part). Below n (p .group)) (partsOf es gs)
+-- what holds of each element and of each group holds of the parts
+pub parts-all : (P : Element → Type 0) (G : ℕ → Type 0) (Q : Part → Type 0)
+    → ((e : Element) (g : ℕ) → P e → G g → Q (record { number = e .number; corners = e .corners; measure = e .measure; group = g })) → (es : List Element) (gs : List ℕ) → All P es → All G gs → All Q (partsOf es gs)
 unfolding partsOf
-parts-below n [] gs h = tt
-parts-below n (e ∷ es) [] h = tt
-parts-below n (e ∷ es) (g ∷ gs) h = (h .0, parts-below n es gs (h .1))
+parts-all P G Q k [] gs h u = tt
+parts-all P G Q k (e ∷ es) [] h u = tt
+parts-all P G Q k (e ∷ es) (g ∷ gs) h u = (k e g (h .0) (u .0), parts-all P G Q k es gs (h .1) (u .1))
+
+abbrev pub Any : {A : Type 0} → A → Type 0
+Any a = Unit {0}
+
+pub all-any : {A : Type 0} (l : List A) → All Any l
+all-any l = all-yes Any (λ a. tt) l
 
 pick-below : (n : ℕ) (b : Bool) (x y : ℕ) → Below n x → Below n y → Below n (pick b x y)
 pick-below n true x y p q = p
 pick-below n false x y p q = q
 
-at-below : (n : ℕ) (ps : List Part) (i : ℕ) → All (λ (p : Part). Below n (p .group)) ps → Below n (groupAt ps i)
+pub at-below : (n : ℕ) (ps : List Part) (i : ℕ) → All (λ (p : Part). Below n (p .group)) ps → Below n (groupAt ps i)
 unfolding groupAt
 at-below n [] i h = omega arith
 at-below n (p ∷ ps) i h = pick-below n (eqb (p .number) i) (p .group) (groupAt ps i) (h .0) (at-below n ps i (h .1))
@@ -178,7 +186,9 @@ pub record Fitting (O : Opening) (M : Mesh) : Type 0 where
 
 pub opening-fits : (k : Kind) (M : Mesh) (v : ℕ) (sides : List ℕ) → Fitting (openingOf k M v sides) M
 unfolding openingOf
-opening-fits k M v sides = record { before = refl; below = parts-below _ _ _ (groups-below _) }
+opening-fits k M v sides =
+    let F = gridOf k v (fanOf k M v) sides in
+    record { before = refl; below = parts-all Any (Below (countOf F)) (λ (p : Part). Below (countOf F) (p .group)) (λ e g h u. u) (fanOf k M v) (groupsOf F) (all-any (fanOf k M v)) (groups-below F) }
 
 -- a change of the mesh that leaves the triangles, and the number of particles
 abbrev pub Still : (Mesh → Mesh) → Type 0

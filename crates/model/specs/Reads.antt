@@ -2,7 +2,9 @@
 use Prim.Native.Nat.{ℕ, zero, suc}
 use mathlib.Core.Bool.{Bool, true, _&&_}
 use mathlib.Core.List.{List}
-use lib.Ieee.{Float}
+use lib.Dec.{eqb, ltb}
+use lib.ListN.{length, getD}
+use lib.Ieee.{Float, eq}
 use Rattle.lists.specs.Lists.{pick}
 use Rattle.float.specs.declared.root.Rooted.{Rooted}
 use Rattle.float.specs.declared.root.Rooted.the-variants.{Value, Refused}
@@ -12,7 +14,8 @@ use Rattle.blade.specs.declared.Hit.{Hit}
 use Rattle.blade.specs.Blade.{bladeHit}
 use Rattle.fan.specs.Fan.{Fan}
 use Rattle.fan.specs.Groups.{groupsOf, countOf}
-use Rattle.model.specs.Mesh.{Mesh}
+use Rattle.float.specs.Numbers.{zero32}
+use Rattle.model.specs.Mesh.{Particle, Mesh, blank}
 use Rattle.model.specs.Elements.{kindOf, fanOf, gridOf, restMeasure, restMeasureOf}
 use Rattle.model.specs.Split.{openingOf}
 use Rattle.model.specs.Pieces.{pieces, opensWithoutConfetti}
@@ -65,3 +68,7 @@ opensCall sized M v sides min = orRefused (refusal sized M true (sidesOk M v sid
 -- how many pieces a mesh has
 unfoldable pub piecesCall : Bool → Mesh → Read ℕ
 piecesCall sized M = orRefused (refusal sized M true true) (pieces M)
+
+-- the entry on a run of records: is particle v pinned, and is it damaged; particle absent: 4
+unfoldable pub stateCall : List Particle → ℕ → Read (Bool × Bool)
+stateCall ps v = orRefused (pick (ltb v (length ps)) 0 4) (eq (getD ps v blank .inv) zero32, eqb (getD ps v blank .damaged) 1)
