@@ -15,7 +15,7 @@ use Rattle.lists.specs.Lists.{pick, stands, all, sift, find, fold, each, pairs,
 use Rattle.lists.specs.Labels.{replaced}
 use Rattle.float.specs.Numbers.{largest}
 use Rattle.blade.specs.declared.Point.{Point}
-use Rattle.fan.proofs.Grouped.{replaced-case}
+use Rattle.lists.proofs.Stores.{replaced-case}
 use Rattle.fan.specs.Groups.{groupsOf}
 use Rattle.model.specs.Mesh.{Particle, Triangle, Edge, Side, Mesh, blank, blankTriangle}
 use Rattle.model.specs.Elements.{Kind, Triangles, Straps, Nothing, Element, endsOf, sideEnds, farEnd, besides, trianglesFrom, element?, elementsOf, fanOf, gridOf}

@@ -16,7 +16,7 @@ use Rattle.lists.specs.Labels.{replaced}
 use Rattle.float.specs.Numbers.{zero32}
 use Rattle.fan.specs.Fan.{Fan, size}
 use Rattle.fan.specs.Groups.{Numbered, numberOne, numberSide, numbered, groupsOf, countOf}
-use Rattle.fan.proofs.Grouped.{tab-length, replaced-case}
+use Rattle.lists.proofs.Stores.{tab-length, replaced-case}
 use Rattle.model.specs.Mesh.{Particle, Triangle, Edge, Mesh, blank}
 use Rattle.model.specs.Elements.{Kind, Triangles, Element, cornersOf, fanOf, elementsOf, gridOf}
 use Rattle.model.specs.Run.{Entry, split as splitEntry, edge as edgeEntry, Run, start, stepTo, splitOf, splitsOf}
