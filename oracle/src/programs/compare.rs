@@ -1,0 +1,107 @@
+//! compare [--self] SEED RANDOM LARGE LIMIT DAMAGED: each C function that is there, on so many
+//! inputs of each kind, against document 01's checks and the published Rust.
+//! faults SEED: plants each fault in the second writing; every one must be found.
+use crate::entries::{ENTRIES, Entry, Input, Table, archive, call};
+use crate::expect::{Expected, expected, fault};
+use crate::inputs::{KINDS, Kind, input};
+use crate::shrink::shrink;
+use crate::vectors::write_input;
+use crate::wrapped::{FAULTS, Fault, plant, table};
+
+/// What is wrong with the answer to an input, if anything.
+fn wrong(t: &Table, i: &Input) -> Option<String> {
+    let got = call(t, i)?;
+    fault(&expected(i), &got)
+}
+/// The first input of a kind that fails, and the tally of expected answers (0 to 4).
+fn search(t: &Table, e: Entry, k: Kind, seed: u64, count: u64) -> (Option<(u64, Input)>, [u64; 5]) {
+    let mut tally = [0; 5];
+    for s in seed..seed + count {
+        let i = input(e, k, s);
+        let want = expected(&i);
+        tally[match want {
+            Expected::Words(_) => 0,
+            Expected::Refused(n) | Expected::Either(_, n) => n as usize,
+        }] += 1;
+        let got = call(t, &i).expect("an entry that is there");
+        if fault(&want, &got).is_some() {
+            return (Some((s, i)), tally);
+        }
+    }
+    (None, tally)
+}
+/// The smallest input found, as text.
+fn report(t: &Table, e: Entry, k: Kind, seed: u64, i: Input) -> String {
+    let small = shrink(i, &|i| wrong(t, i).is_some());
+    let why = wrong(t, &small).unwrap_or_default();
+    let mut text = format!("{} fails on {k:?} input, seed {seed}: {why}\n", e.name());
+    write_input(&mut text, seed, &small, &expected(&small));
+    text
+}
+
+fn numbers(words: &[String]) -> Vec<u64> {
+    words.iter().map(|w| w.parse().expect("a number")).collect()
+}
+
+pub fn run(words: &[String]) -> i32 {
+    let own = words.first().is_some_and(|w| w == "--self");
+    let n = numbers(&words[own as usize..]);
+    let [seed, counts @ ..] = n.as_slice() else { return 2 };
+    if counts.len() != 4 {
+        eprintln!("compare [--self] SEED RANDOM LARGE LIMIT DAMAGED");
+        return 2;
+    }
+    plant(Fault::Nothing);
+    let t = if own { table() } else { archive() };
+    let mut failures = 0;
+    println!("compare: {}, seed {seed}", if own { "the second writing behind the C functions" } else { "the archive" });
+    for e in ENTRIES {
+        if !t.has(e) {
+            println!("  {:29} not compared: it is not in the archive", e.name());
+            continue;
+        }
+        for (k, &count) in KINDS.into_iter().zip(counts) {
+            let (failed, tally) = search(&t, e, k, *seed, count);
+            let [accepted, one, two, three, four] = tally;
+            println!(
+                "  {:29} {:8} {:7} inputs: {accepted} accepted, refused 1: {one}, 2: {two}, 3: {three}, 4: {four}",
+                e.name(),
+                format!("{k:?}").to_lowercase(),
+                tally.iter().sum::<u64>()
+            );
+            if let Some((s, i)) = failed {
+                failures += 1;
+                print!("{}", report(&t, e, k, s, i));
+            }
+        }
+    }
+    println!("compare: {failures} differ");
+    (failures > 0) as i32
+}
+
+/// Inputs tried of each kind until a planted fault shows.
+const TRIES: u64 = 3_000;
+
+pub fn faults(words: &[String]) -> i32 {
+    let seed = numbers(words).first().copied().unwrap_or(1);
+    let mut missed = 0;
+    for f in FAULTS {
+        plant(f);
+        let t = table();
+        let found = ENTRIES.into_iter().find_map(|e| {
+            [Kind::Random, Kind::Damaged, Kind::Limit]
+                .into_iter()
+                .find_map(|k| search(&t, e, k, seed, TRIES).0.map(|(s, i)| report(&t, e, k, s, i)))
+        });
+        match found {
+            Some(text) => print!("planted {f:?}: {text}"),
+            None => {
+                missed += 1;
+                println!("planted {f:?}: NOT FOUND");
+            }
+        }
+    }
+    plant(Fault::Nothing);
+    println!("faults: {} planted, {missed} not found", FAULTS.len());
+    (missed > 0) as i32
+}
