@@ -134,16 +134,39 @@ impl Input {
             Args::Pieces => Entry::Pieces,
         }
     }
-    /// The two lent byte slices: the image (or the blade's words), and the sides or the list.
-    pub fn slices(&self) -> (Vec<u8>, Vec<u8>) {
-        match &self.args {
+    /// The call as the C function gets it.
+    pub fn raw(&self) -> Raw {
+        let image = |second: Vec<u8>| (self.image.bytes(), second);
+        let (first, second) = match &self.args {
             Args::Root { .. } => (vec![], vec![]),
             Args::BladeHit { words, length } => (bytes_of(words, *length), vec![]),
-            Args::Groups { sides, .. } | Args::Opens { sides, .. } => (self.image.bytes(), sides.clone()),
-            Args::RestMeasureOf { list, length } => (self.image.bytes(), bytes_of(list, *length)),
-            Args::RestMeasure | Args::Pieces => (self.image.bytes(), vec![]),
-        }
+            Args::Groups { sides, .. } | Args::Opens { sides, .. } => image(sides.clone()),
+            Args::RestMeasureOf { list, length } => image(bytes_of(list, *length)),
+            Args::RestMeasure | Args::Pieces => image(vec![]),
+        };
+        let (number, minimum) = match self.args {
+            Args::Root { bits } => (bits, 0),
+            Args::Groups { v, .. } => (v, 0),
+            Args::Opens { v, minimum, .. } => (v, minimum),
+            _ => (0, 0),
+        };
+        Raw { entry: self.entry(), first, second, number, minimum, out: self.out }
     }
+}
+
+/// A call as bytes and numbers; what an entry has no use for is empty or 0.
+#[derive(Clone, Debug, PartialEq)]
+pub struct Raw {
+    pub entry: Entry,
+    /// The image, or the blade's words.
+    pub first: Vec<u8>,
+    /// The sides, or the list.
+    pub second: Vec<u8>,
+    /// The particle, or the bits of the number.
+    pub number: u32,
+    pub minimum: u32,
+    /// Number of result bytes lent.
+    pub out: usize,
 }
 
 /// What a call did: its answer, the result bytes, and whether it wrote where it must not.
@@ -155,7 +178,7 @@ pub struct Got {
 }
 
 /// Bytes that every lent place holds before a call, and that stand around it.
-const FILL: u8 = 0xa5;
+pub const FILL: u8 = 0xa5;
 const GUARD: usize = 64;
 /// A slice between guards, at any alignment.
 struct Lent {
@@ -177,33 +200,37 @@ impl Lent {
         let (front, back) = (&self.bytes[..self.at], &self.bytes[self.at + self.len..]);
         front.iter().chain(back).all(|&b| b == FILL)
     }
-    fn ptr(&mut self) -> *mut u8 {
-        self.bytes[self.at..].as_mut_ptr()
+    fn content_mut(&mut self) -> &mut [u8] {
+        &mut self.bytes[self.at..self.at + self.len]
     }
 }
 
-/// Calls the entry; `None` if the table lacks it.
-pub fn call(t: &Table, i: &Input) -> Option<Got> {
-    let (first, second) = i.slices();
-    let mut a = Lent::new(&first, first.len() / 4 + i.out);
-    let mut b = Lent::new(&second, second.len() + 3 * i.out + 1);
-    let mut o = Lent::new(&vec![FILL; i.out], i.out + 5);
-    let (pa, pb, po) = (a.ptr().cast_const(), b.ptr().cast_const(), o.ptr());
-    let (na, nb, no) = (first.len(), second.len(), i.out);
-    // SAFETY: every pointer comes with the length of the bytes that stand there; the three places
-    // are apart from each other and outlive the call.
-    let refusal = unsafe {
-        match &i.args {
-            Args::Root { bits } => t.root?(*bits, po, no),
-            Args::BladeHit { .. } => t.blade_hit?(pa, na, po, no),
-            Args::Groups { v, .. } => t.groups?(pa, na, *v, pb, nb, po, no),
-            Args::RestMeasure => t.rest_measure?(pa, na, po, no),
-            Args::RestMeasureOf { .. } => t.rest_measure_of?(pa, na, pb, nb, po, no),
-            Args::Opens { v, minimum, .. } => t.opens?(pa, na, *v, pb, nb, *minimum, po, no),
-            Args::Pieces => t.pieces?(pa, na, po, no),
+/// Calls the entry on these bytes; `None` if the table lacks it.
+pub fn invoke(t: &Table, c: &Raw, first: &[u8], second: &[u8], out: &mut [u8]) -> Option<u32> {
+    let (pa, pb, po) = (first.as_ptr(), second.as_ptr(), out.as_mut_ptr());
+    let (na, nb, no) = (first.len(), second.len(), out.len());
+    // SAFETY: every pointer comes with the length of the bytes that stand there; the result bytes
+    // are borrowed alone.
+    Some(unsafe {
+        match c.entry {
+            Entry::Root => t.root?(c.number, po, no),
+            Entry::BladeHit => t.blade_hit?(pa, na, po, no),
+            Entry::Groups => t.groups?(pa, na, c.number, pb, nb, po, no),
+            Entry::RestMeasure => t.rest_measure?(pa, na, po, no),
+            Entry::RestMeasureOf => t.rest_measure_of?(pa, na, pb, nb, po, no),
+            Entry::Opens => t.opens?(pa, na, c.number, pb, nb, c.minimum, po, no),
+            Entry::Pieces => t.pieces?(pa, na, po, no),
         }
-    };
-    let stray = if a.content() != first || b.content() != second {
+    })
+}
+
+/// Calls the entry between guards; `None` if the table lacks it.
+pub fn call(t: &Table, c: &Raw) -> Option<Got> {
+    let a = Lent::new(&c.first, c.first.len() / 4 + c.out);
+    let b = Lent::new(&c.second, c.second.len() + 3 * c.out + 1);
+    let mut o = Lent::new(&vec![FILL; c.out], c.out + 5);
+    let refusal = invoke(t, c, a.content(), b.content(), o.content_mut())?;
+    let stray = if a.content() != c.first || b.content() != c.second {
         Some("it changed its input")
     } else if !a.guarded() || !b.guarded() || !o.guarded() {
         Some("it wrote beside what it was lent")

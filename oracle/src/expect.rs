@@ -1,7 +1,7 @@
 //! What a C function must answer: the refusal by a plain reading of document 01's checks 1 to 4
 //! (the source checks nothing), the words by the published Rust.
 use crate::api;
-use crate::entries::{Args, Got, Input};
+use crate::entries::{Entry, Got, Raw};
 use crate::image::{bytes_of, read, words_of};
 use crate::second;
 
@@ -48,45 +48,45 @@ fn sides_ok(m: &api::Mesh, v: u32, sides: &[u8]) -> bool {
         && sides.len() == second::fan(m, second::kind(m), v).len()
 }
 
-pub fn expected(i: &Input) -> Expected {
-    let (first, second) = i.slices();
-    match i.args {
-        Args::Root { bits } => return root(bits, i.out),
-        Args::BladeHit { .. } => return blade_hit(&first, i.out),
+pub fn expected(c: &Raw) -> Expected {
+    match c.entry {
+        Entry::Root => return root(c.number, c.out),
+        Entry::BladeHit => return blade_hit(&c.first, c.out),
         _ => {}
     }
-    let Some(m) = read(&first) else { return Refused(1) };
+    let Some(m) = read(&c.first) else { return Refused(1) };
     let no = api::check_mesh(&m);
-    if let (Args::RestMeasureOf { .. }, true) = (&i.args, second.len() % 4 != 0) {
+    if c.entry == Entry::RestMeasureOf && c.second.len() % 4 != 0 {
         return Either(1, if no == 0 { 4 } else { no });
     }
     if no != 0 {
         return Refused(no);
     }
-    let sides: Vec<u32> = second.iter().map(|&s| s as u32).collect();
-    let words = match &i.args {
-        Args::Groups { v, .. } if sides_ok(&m, *v, &second) => {
-            let (groups, count) = api::groups(&m, *v, &sides);
+    let v = c.number;
+    let sides: Vec<u32> = c.second.iter().map(|&s| s as u32).collect();
+    let words = match c.entry {
+        Entry::Groups if sides_ok(&m, v, &c.second) => {
+            let (groups, count) = api::groups(&m, v, &sides);
             [vec![count], groups].concat()
         }
-        Args::Opens { v, minimum, .. } if sides_ok(&m, *v, &second) => {
+        Entry::Opens if sides_ok(&m, v, &c.second) => {
             // The source has no fan to ask about on a mesh of neither kind: no group, so all reach.
-            let opens = api::opens_without_confetti(&m, *v, &sides, Some(*minimum)).unwrap_or(true);
+            let opens = api::opens_without_confetti(&m, v, &sides, Some(c.minimum)).unwrap_or(true);
             vec![opens as u32]
         }
-        Args::RestMeasureOf { .. } => {
-            let list = words_of(&second);
+        Entry::RestMeasureOf => {
+            let list = words_of(&c.second);
             let rising = list.windows(2).all(|w| w[0] < w[1]);
             if !rising || list.iter().any(|&p| p as usize >= m.px.len()) {
                 return Refused(4);
             }
             vec![api::rest_measure_of(&m, &list).to_bits()]
         }
-        Args::RestMeasure => vec![api::rest_measure(&m).to_bits()],
-        Args::Pieces => vec![api::pieces(&m)],
+        Entry::RestMeasure => vec![api::rest_measure(&m).to_bits()],
+        Entry::Pieces => vec![api::pieces(&m)],
         _ => return Refused(4),
     };
-    fitting(words, i.out)
+    fitting(words, c.out)
 }
 
 /// What is wrong with an answer; `None` if it is the expected one, to the last byte.

@@ -10,20 +10,21 @@ use crate::wrapped::{FAULTS, Fault, plant, table};
 
 /// What is wrong with the answer to an input, if anything.
 fn wrong(t: &Table, i: &Input) -> Option<String> {
-    let got = call(t, i)?;
-    fault(&expected(i), &got)
+    let c = i.raw();
+    fault(&expected(&c), &call(t, &c)?)
 }
 /// The first input of a kind that fails, and the tally of expected answers (0 to 4).
 fn search(t: &Table, e: Entry, k: Kind, seed: u64, count: u64) -> (Option<(u64, Input)>, [u64; 5]) {
     let mut tally = [0; 5];
     for s in seed..seed + count {
         let i = input(e, k, s);
-        let want = expected(&i);
+        let c = i.raw();
+        let want = expected(&c);
         tally[match want {
             Expected::Words(_) => 0,
             Expected::Refused(n) | Expected::Either(_, n) => n as usize,
         }] += 1;
-        let got = call(t, &i).expect("an entry that is there");
+        let got = call(t, &c).expect("an entry that is there");
         if fault(&want, &got).is_some() {
             return (Some((s, i)), tally);
         }
@@ -35,7 +36,7 @@ fn report(t: &Table, e: Entry, k: Kind, seed: u64, i: Input) -> String {
     let small = shrink(i, &|i| wrong(t, i).is_some());
     let why = wrong(t, &small).unwrap_or_default();
     let mut text = format!("{} fails on {k:?} input, seed {seed}: {why}\n", e.name());
-    write_input(&mut text, seed, &small, &expected(&small));
+    write_input(&mut text, seed, &small, &expected(&small.raw()));
     text
 }
 

@@ -19,7 +19,7 @@ pub fn start(words: &[String]) -> i32 {
         "compare" => compare::run(rest),
         "faults" => compare::faults(rest),
         "replay" => replay::run(rest),
-        "bench" => bench::run(),
+        "bench" => bench::run(rest),
         "vectors" => vectors::run(rest),
         "cutlist" => cutlist::run(rest),
         _ => {
