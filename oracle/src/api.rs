@@ -47,44 +47,75 @@ pub struct Mesh {
 
 /// Two f32 count as equal if their bits are, or if both are NaN.
 fn same(a: &[f32], b: &[f32]) -> bool {
-    a.len() == b.len()
-        && a.iter()
-            .zip(b)
-            .all(|(x, y)| x.to_bits() == y.to_bits() || (x.is_nan() && y.is_nan()))
+    a.len() == b.len() && a.iter().zip(b).all(|(x, y)| x.to_bits() == y.to_bits() || (x.is_nan() && y.is_nan()))
 }
 impl PartialEq for Mesh {
     fn eq(&self, o: &Self) -> bool {
-        self.floats()
-            .iter()
-            .zip(o.floats().iter())
-            .all(|(a, b)| same(a, b))
-            && self.numbers() == o.numbers()
+        self.floats().iter().zip(o.floats().iter()).all(|(a, b)| same(a, b)) && self.numbers() == o.numbers()
     }
 }
 
 impl Mesh {
     pub fn floats(&self) -> [&Vec<f32>; 12] {
         [
-            &self.px, &self.py, &self.rx, &self.ry, &self.mass, &self.inv, &self.volume,
-            &self.tstress, &self.rest, &self.initial, &self.impulse, &self.estress,
+            &self.px,
+            &self.py,
+            &self.rx,
+            &self.ry,
+            &self.mass,
+            &self.inv,
+            &self.volume,
+            &self.tstress,
+            &self.rest,
+            &self.initial,
+            &self.impulse,
+            &self.estress,
         ]
     }
     pub fn numbers(&self) -> [&Vec<u32>; 11] {
         [
-            &self.root, &self.damaged, &self.ta, &self.tb, &self.tc, &self.ea, &self.eb,
-            &self.structural, &self.torn, &self.ba, &self.bb,
+            &self.root,
+            &self.damaged,
+            &self.ta,
+            &self.tb,
+            &self.tc,
+            &self.ea,
+            &self.eb,
+            &self.structural,
+            &self.torn,
+            &self.ba,
+            &self.bb,
         ]
     }
     pub fn floats_mut(&mut self) -> [&mut Vec<f32>; 12] {
         [
-            &mut self.px, &mut self.py, &mut self.rx, &mut self.ry, &mut self.mass, &mut self.inv, &mut self.volume,
-            &mut self.tstress, &mut self.rest, &mut self.initial, &mut self.impulse, &mut self.estress,
+            &mut self.px,
+            &mut self.py,
+            &mut self.rx,
+            &mut self.ry,
+            &mut self.mass,
+            &mut self.inv,
+            &mut self.volume,
+            &mut self.tstress,
+            &mut self.rest,
+            &mut self.initial,
+            &mut self.impulse,
+            &mut self.estress,
         ]
     }
     pub fn numbers_mut(&mut self) -> [&mut Vec<u32>; 11] {
         [
-            &mut self.root, &mut self.damaged, &mut self.ta, &mut self.tb, &mut self.tc, &mut self.ea, &mut self.eb,
-            &mut self.structural, &mut self.torn, &mut self.ba, &mut self.bb,
+            &mut self.root,
+            &mut self.damaged,
+            &mut self.ta,
+            &mut self.tb,
+            &mut self.tc,
+            &mut self.ea,
+            &mut self.eb,
+            &mut self.structural,
+            &mut self.torn,
+            &mut self.ba,
+            &mut self.bb,
         ]
     }
     /// Position = rest position, mass as given, inverse by `inv` unless pinned, own root.
@@ -161,16 +192,9 @@ impl Mesh {
         b.edges.0 = (0..self.ea.len())
             .map(|i| SoftBodyEdge {
                 vertices: [self.ea[i], self.eb[i]],
-                kind: if self.structural[i] == 1 {
-                    SoftBodyEdgeKind::Structural
-                } else {
-                    SoftBodyEdgeKind::Other
-                },
+                kind: if self.structural[i] == 1 { SoftBodyEdgeKind::Structural } else { SoftBodyEdgeKind::Other },
                 torn: self.torn[i] == 1,
-                rest_length: RestLength {
-                    rest: self.rest[i],
-                    initial: self.initial[i],
-                },
+                rest_length: RestLength { rest: self.rest[i], initial: self.initial[i] },
                 impulse: self.impulse[i],
                 stress: self.estress[i],
                 tear_resistance: 1.0,
@@ -273,12 +297,8 @@ pub struct Rooms {
     pub log: usize,
 }
 impl Rooms {
-    pub const LIMITS: Rooms = Rooms {
-        particles: MAX_PARTICLES,
-        edges: MAX_EDGES,
-        boundary: MAX_BOUNDARY,
-        log: MAX_LOG,
-    };
+    pub const LIMITS: Rooms =
+        Rooms { particles: MAX_PARTICLES, edges: MAX_EDGES, boundary: MAX_BOUNDARY, log: MAX_LOG };
 }
 impl Outcome {
     /// Document 01: the first step that does not fit refuses, with 5 before 6, 7, 8. 0 if all fit.
@@ -379,13 +399,7 @@ fn derive(start: &Mesh, ops: Vec<Op>, log: PlainLog, body: &SoftBody) -> (Vec<En
                     }
                     let &[a, b, p, q] = inserted.next().unwrap();
                     out.push(Entry::Insert { a, b, p, q, t });
-                    steps.push(Step {
-                        kind: StepKind::Insert,
-                        particles: np,
-                        edges: ne,
-                        boundary: nb,
-                        log: out.len(),
-                    });
+                    steps.push(Step { kind: StepKind::Insert, particles: np, edges: ne, boundary: nb, log: out.len() });
                 }
             }
             Op::Retain(EDGES, _) | Op::AskParticles => {
@@ -403,9 +417,7 @@ fn derive(start: &Mesh, ops: Vec<Op>, log: PlainLog, body: &SoftBody) -> (Vec<En
                     i += 1;
                 }
                 if catch_all {
-                    let Op::Retain(BOUNDARY, k) = ops[i] else {
-                        panic!("journal: {:?} at {i}", ops[i])
-                    };
+                    let Op::Retain(BOUNDARY, k) = ops[i] else { panic!("journal: {:?} at {i}", ops[i]) };
                     nb -= k;
                     i += 1;
                 }
@@ -422,22 +434,14 @@ fn derive(start: &Mesh, ops: Vec<Op>, log: PlainLog, body: &SoftBody) -> (Vec<En
     }
     assert!(splits.next().is_none() && removed.next().is_none());
     assert!(inserted.next().is_none() && opened.next().is_none());
-    assert_eq!(
-        (np, ne, nb),
-        (body.particles.0.len(), body.edges.0.len(), body.boundary.0.len())
-    );
+    assert_eq!((np, ne, nb), (body.particles.0.len(), body.edges.0.len(), body.boundary.0.len()));
     (out, steps)
 }
 
 fn finish(start: &Mesh, body: SoftBody, log: PlainLog) -> Outcome {
     let changed = !log.splits.is_empty() || !log.inserted.is_empty();
     let (log, steps) = derive(start, journal::take(), log, &body);
-    Outcome {
-        changed,
-        mesh: Mesh::from_body(&body),
-        log,
-        steps,
-    }
+    Outcome { changed, mesh: Mesh::from_body(&body), log, steps }
 }
 
 #[derive(Copy, Clone, Debug)]
@@ -496,23 +500,10 @@ pub fn cut_whole(m: &Mesh, blade: Blade, fraction: f32) -> Outcome {
             _ => None,
         })
         .collect();
-    assert_eq!(
-        inserted.iter().flat_map(|&[_, _, p, q]| [p, q]).collect::<Vec<_>>(),
-        event.inserted_particles
-    );
-    let log = PlainLog {
-        splits: event.split_particles,
-        removed: event.removed_edges,
-        inserted,
-        opened: vec![],
-    };
+    assert_eq!(inserted.iter().flat_map(|&[_, _, p, q]| [p, q]).collect::<Vec<_>>(), event.inserted_particles);
+    let log = PlainLog { splits: event.split_particles, removed: event.removed_edges, inserted, opened: vec![] };
     let (log, steps) = derive(m, ops, log, &b);
-    Outcome {
-        changed: true,
-        mesh: Mesh::from_body(&b),
-        log,
-        steps,
-    }
+    Outcome { changed: true, mesh: Mesh::from_body(&b), log, steps }
 }
 
 pub fn crack(m: &Mesh, torn: &[u32], min_piece: Option<u32>) -> Outcome {
@@ -548,12 +539,7 @@ pub fn split_fan(m: &Mesh, v: u32, sides: &[u32]) -> Outcome {
 }
 
 /// `None` on a mesh that is neither triangles nor straps (the source has no fan to ask about).
-pub fn opens_without_confetti(
-    m: &Mesh,
-    v: u32,
-    sides: &[u32],
-    min_piece: Option<u32>,
-) -> Option<bool> {
+pub fn opens_without_confetti(m: &Mesh, v: u32, sides: &[u32], min_piece: Option<u32>) -> Option<bool> {
     access::opens_without_confetti(&m.to_body(min_piece), v, &sides_of(sides))
 }
 
@@ -588,12 +574,7 @@ pub fn pieces(m: &Mesh) -> u32 {
 /// Checks 1 to 3 of document 01 on a mesh.
 pub fn check_mesh(m: &Mesh) -> u32 {
     let (np, nt, ne, nb) = (m.px.len(), m.ta.len(), m.ea.len(), m.ba.len());
-    let lengths = [
-        (np, MAX_PARTICLES),
-        (nt, MAX_TRIANGLES),
-        (ne, MAX_EDGES),
-        (nb, MAX_BOUNDARY),
-    ];
+    let lengths = [(np, MAX_PARTICLES), (nt, MAX_TRIANGLES), (ne, MAX_EDGES), (nb, MAX_BOUNDARY)];
     if lengths.iter().any(|&(n, max)| n > max)
         || [&m.py, &m.rx, &m.ry, &m.mass, &m.inv].iter().any(|c| c.len() != np)
         || [&m.root, &m.damaged].iter().any(|c| c.len() != np)

@@ -39,10 +39,7 @@ pub fn archive() -> Table {
     Table {
         root: linked!("bench_root", bench_root(u32, *mut u8, usize)),
         blade_hit: linked!("bench_blade_hit", bench_blade_hit(*const u8, usize, *mut u8, usize)),
-        groups: linked!(
-            "bench_groups",
-            bench_groups(*const u8, usize, u32, *const u8, usize, *mut u8, usize)
-        ),
+        groups: linked!("bench_groups", bench_groups(*const u8, usize, u32, *const u8, usize, *mut u8, usize)),
         rest_measure: linked!("bench_rest_measure", bench_rest_measure(*const u8, usize, *mut u8, usize)),
         rest_measure_of: linked!(
             "bench_rest_measure_of",

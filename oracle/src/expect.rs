@@ -43,9 +43,7 @@ fn blade_hit(bytes: &[u8], out: usize) -> Expected {
 
 /// Check 4 on a particle and its sides.
 fn sides_ok(m: &api::Mesh, v: u32, sides: &[u8]) -> bool {
-    (v as usize) < m.px.len()
-        && sides.iter().all(|&s| s < 2)
-        && sides.len() == second::fan(m, second::kind(m), v).len()
+    (v as usize) < m.px.len() && sides.iter().all(|&s| s < 2) && sides.len() == second::fan(m, second::kind(m), v).len()
 }
 
 pub fn expected(c: &Raw) -> Expected {

@@ -87,7 +87,8 @@ fn busiest(m: &Mesh) -> u32 {
 }
 
 fn root_bits(r: &mut Rng, kind: Kind) -> u32 {
-    let edges = [0, 1, 2, 0x7f_ffff, 0x80_0000, 0x80_0001, 0x3f7f_ffff, 0x3f80_0000, 0x3f80_0001, 0x4080_0000, 0x7f7f_ffff];
+    let edges =
+        [0, 1, 2, 0x7f_ffff, 0x80_0000, 0x80_0001, 0x3f7f_ffff, 0x3f80_0000, 0x3f80_0001, 0x4080_0000, 0x7f7f_ffff];
     let bad = [0x8000_0000, 0x8000_0001, 0xbf80_0000, 0x7f80_0000, 0xff80_0000, 0x7fc0_0000, 0x7f80_0001, 0xffff_ffff];
     match kind {
         Kind::Random => match r.below(4) {
@@ -226,7 +227,8 @@ fn at_limit(r: &mut Rng) -> Mesh {
         0 => (m.px.len()..MAX_PARTICLES + more).for_each(|_| {
             m.particle(1.0, 2.0, 1.0, false);
         }),
-        1 => (m.ta.len()..MAX_TRIANGLES + more).for_each(|k| m.triangle(k as u32 % n, (k as u32 + 1) % n, (k as u32 + 2) % n, 0.25)),
+        1 => (m.ta.len()..MAX_TRIANGLES + more)
+            .for_each(|k| m.triangle(k as u32 % n, (k as u32 + 1) % n, (k as u32 + 2) % n, 0.25)),
         2 => (m.ea.len()..MAX_EDGES + more).for_each(|k| m.edge(k as u32 % n, (k as u32 + 1) % n, k % 40 == 0, 0.25)),
         3 => (m.ba.len()..MAX_BOUNDARY + more).for_each(|k| m.bound(k as u32 % n, (k as u32 + 1) % n)),
         4 => {
@@ -236,7 +238,11 @@ fn at_limit(r: &mut Rng) -> Mesh {
         }
         5 if !m.ta.is_empty() => {
             let i = at(r, m.ta.len());
-            if r.chance(2) { m.volume[i] = limit_number(r, MAX_VOLUME) } else { m.tstress[i] = limit_number(r, MAX_NUMBER) }
+            if r.chance(2) {
+                m.volume[i] = limit_number(r, MAX_VOLUME)
+            } else {
+                m.tstress[i] = limit_number(r, MAX_NUMBER)
+            }
         }
         6 if !m.ea.is_empty() => {
             let (i, x) = (at(r, m.ea.len()), limit_number(r, MAX_NUMBER));
@@ -258,8 +264,18 @@ fn at_limit(r: &mut Rng) -> Mesh {
 }
 
 const BAD_NUMBERS: [u32; 12] = [
-    0x7fc0_0000, 0x7f80_0001, 0xffc0_0001, 0x7f80_0000, 0xff80_0000, 0x7f7f_ffff, 0x4980_0001, 0xc980_0001, 0x4a80_0001,
-    0xca80_0001, 0x8000_0001, 0xbf80_0000,
+    0x7fc0_0000,
+    0x7f80_0001,
+    0xffc0_0001,
+    0x7f80_0000,
+    0xff80_0000,
+    0x7f7f_ffff,
+    0x4980_0001,
+    0xc980_0001,
+    0x4a80_0001,
+    0xca80_0001,
+    0x8000_0001,
+    0xbf80_0000,
 ];
 /// One fault of those that checks 1 to 4 look for (now and then it misses).
 fn damage(r: &mut Rng, i: &mut Input) {
@@ -281,7 +297,8 @@ fn damage(r: &mut Rng, i: &mut Input) {
             let mut c = i.image.counts();
             let k = r.below(4) as usize;
             // The last two ask for the same length in 32 bits.
-            c[k] = r.pick(&[c[k] + 1, c[k].saturating_sub(1), 1025, 2049, u32::MAX, c[k] + (1 << 29), c[k] + (1 << 31)]);
+            c[k] =
+                r.pick(&[c[k] + 1, c[k].saturating_sub(1), 1025, 2049, u32::MAX, c[k] + (1 << 29), c[k] + (1 << 31)]);
             i.image.counts = Some(c);
         }
         2 | 3 => {

@@ -43,9 +43,8 @@ use std::io::Write;
 /// The C runtime hands over `argc` strings.
 #[unsafe(no_mangle)]
 pub unsafe extern "C" fn main(argc: c_int, argv: *const *const c_char) -> c_int {
-    let words: Vec<String> = (1..argc as usize)
-        .map(|i| unsafe { CStr::from_ptr(*argv.add(i)) }.to_string_lossy().into_owned())
-        .collect();
+    let words: Vec<String> =
+        (1..argc as usize).map(|i| unsafe { CStr::from_ptr(*argv.add(i)) }.to_string_lossy().into_owned()).collect();
     // A panic must not leave a C function; its message is printed by then.
     let code = std::panic::catch_unwind(|| programs::start(&words)).unwrap_or(101);
     let _ = std::io::stdout().flush();

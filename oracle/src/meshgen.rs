@@ -109,7 +109,10 @@ pub fn mesh(r: &mut Rng) -> Mesh {
                 let n = 1 + r.below(4);
                 let first = m.px.len() as u32;
                 for i in 0..=n {
-                    let (x, y) = (coordinate(r, mood, r.clone().below(5) as f32), coordinate(r, mood, (i + r.clone().below(3)) as f32));
+                    let (x, y) = (
+                        coordinate(r, mood, r.clone().below(5) as f32),
+                        coordinate(r, mood, (i + r.clone().below(3)) as f32),
+                    );
                     r.next();
                     m.particle(x, y, 1.0, false);
                 }
@@ -246,7 +249,8 @@ pub fn mesh(r: &mut Rng) -> Mesh {
             if outline {
                 for &(a, b, c) in &ts {
                     for (x, y) in [(a, b), (b, c), (c, a)] {
-                        let held = ts.iter().filter(|t| [t.0, t.1, t.2].contains(&x) && [t.0, t.1, t.2].contains(&y)).count();
+                        let held =
+                            ts.iter().filter(|t| [t.0, t.1, t.2].contains(&x) && [t.0, t.1, t.2].contains(&y)).count();
                         if held == 1 {
                             m.bound(x, y);
                         }
@@ -543,8 +547,17 @@ pub fn bad_case(seed: u64) -> Case {
     let r = &mut r;
     for _ in 0..1 + r.below(3) {
         let number = r.pick(&[
-            f32::NAN, f32::INFINITY, -f32::INFINITY, f32::MAX, 1_048_576.1, -1_048_576.1,
-            4_194_304.5, 1_048_576.0, -1.0e-45, -0.0, 0.5,
+            f32::NAN,
+            f32::INFINITY,
+            -f32::INFINITY,
+            f32::MAX,
+            1_048_576.1,
+            -1_048_576.1,
+            4_194_304.5,
+            1_048_576.0,
+            -1.0e-45,
+            -0.0,
+            0.5,
         ]);
         let m = &mut c.mesh;
         let n = m.px.len() as u32;
@@ -587,32 +600,47 @@ pub fn bad_case(seed: u64) -> Case {
                 let (more, of) = (r.below(2) as usize, r.below(3));
                 if n > 1 {
                     match of {
-                        0 => while m.px.len() < 1024 + more { m.particle(0.0, 0.0, 1.0, false); },
-                        1 => while m.ea.len() < 2048 + more { m.edge(0, 1, false, 1.0); },
-                        _ => while m.ba.len() < 2048 + more { m.bound(0, 1); },
+                        0 => {
+                            while m.px.len() < 1024 + more {
+                                m.particle(0.0, 0.0, 1.0, false);
+                            }
+                        }
+                        1 => {
+                            while m.ea.len() < 2048 + more {
+                                m.edge(0, 1, false, 1.0);
+                            }
+                        }
+                        _ => {
+                            while m.ba.len() < 2048 + more {
+                                m.bound(0, 1);
+                            }
+                        }
                     }
                 }
             }
             _ => match &mut c.call {
                 Call::Cut { blade, fraction } => {
                     if r.chance(2) {
-                        *fraction = r.pick(&[0.5, f32::from_bits(0x3f00_0001), -1.0e-45, -0.0, f32::NAN, 1.0, f32::INFINITY]);
+                        *fraction =
+                            r.pick(&[0.5, f32::from_bits(0x3f00_0001), -1.0e-45, -0.0, f32::NAN, 1.0, f32::INFINITY]);
                     } else {
                         blade.y0 = number;
                     }
                 }
-                Call::SplitFan { v, sides } | Call::Groups { v, sides } | Call::Opens { v, sides, .. } => match r.below(4) {
-                    0 => *v = index,
-                    1 => sides.push(0),
-                    2 => {
-                        sides.pop();
-                    }
-                    _ => {
-                        if let Some(s) = sides.last_mut() {
-                            *s = 2;
+                Call::SplitFan { v, sides } | Call::Groups { v, sides } | Call::Opens { v, sides, .. } => {
+                    match r.below(4) {
+                        0 => *v = index,
+                        1 => sides.push(0),
+                        2 => {
+                            sides.pop();
+                        }
+                        _ => {
+                            if let Some(s) = sides.last_mut() {
+                                *s = 2;
+                            }
                         }
                     }
-                },
+                }
                 Call::RestMeasureOf { list } => {
                     if list.len() > 1 {
                         if r.chance(2) { list.swap(0, 1) } else { list[0] = list[1] }

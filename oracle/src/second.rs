@@ -123,10 +123,7 @@ pub fn groups_of(needed: usize, fans: &[Vec<u32>], sides: &[u32], v: u32) -> (Ve
         let mut moved = false;
         for i in 0..n {
             for j in 0..n {
-                if sides[i] == sides[j]
-                    && shared_others(&fans[i], &fans[j], v) >= needed
-                    && label[j] < label[i]
-                {
+                if sides[i] == sides[j] && shared_others(&fans[i], &fans[j], v) >= needed && label[j] < label[i] {
                     label[i] = label[j];
                     moved = true;
                 }
@@ -254,10 +251,7 @@ impl Run {
         self.steps.push(Step { kind, particles, edges, boundary, log });
     }
     fn done(self) -> Outcome {
-        let changed = self
-            .log
-            .iter()
-            .any(|e| matches!(e, Entry::Split { .. } | Entry::Insert { .. }));
+        let changed = self.log.iter().any(|e| matches!(e, Entry::Split { .. } | Entry::Insert { .. }));
         Outcome { changed, mesh: self.m, log: self.log, steps: self.steps }
     }
     fn splits(&self) -> Vec<(u32, u32)> {
@@ -356,11 +350,7 @@ impl Run {
         let source_mass = self.m.mass[v as usize];
         let mut copies = vec![];
         for g in 0..count as usize {
-            let mass = if total > 0.0 {
-                source_mass * weights[g] / total
-            } else {
-                source_mass / count as f32
-            };
+            let mass = if total > 0.0 { source_mass * weights[g] / total } else { source_mass / count as f32 };
             let at = if g == 0 { v as usize } else { self.push_particle_like(v as usize) };
             self.m.mass[at] = mass;
             self.m.inv[at] = inv(mass);
@@ -554,10 +544,7 @@ impl Run {
     fn cut_segments(&mut self, blade: Blade, fraction: f32) {
         let crossings: Vec<(usize, f32)> = (0..self.m.ea.len())
             .filter(|&i| self.m.structural[i] == 1)
-            .filter_map(|i| {
-                blade_hit(blade, pos(&self.m, self.m.ea[i]), pos(&self.m, self.m.eb[i]))
-                    .map(|t| (i, t))
-            })
+            .filter_map(|i| blade_hit(blade, pos(&self.m, self.m.ea[i]), pos(&self.m, self.m.eb[i])).map(|t| (i, t)))
             .collect();
         let mut marked = vec![false; self.m.ea.len()];
         let mut snapped = vec![false; self.m.px.len()];
@@ -624,8 +611,7 @@ impl Run {
             w == v
                 || (w != other
                     && (0..m.ea.len()).any(|j| {
-                        m.structural[j] == 1
-                            && ((m.ea[j] == v && m.eb[j] == w) || (m.eb[j] == v && m.ea[j] == w))
+                        m.structural[j] == 1 && ((m.ea[j] == v && m.eb[j] == w) || (m.eb[j] == v && m.ea[j] == w))
                     }))
         };
         for j in 0..marked.len() {
@@ -726,14 +712,10 @@ impl Run {
         };
         let (edges, boundary) = (self.m.ea.len(), self.m.ba.len());
         let gone: Vec<bool> = (0..edges)
-            .map(|i| {
-                !(k == Kind::Straps && self.m.structural[i] == 1)
-                    && spans(self.m.ea[i], self.m.eb[i])
-            })
+            .map(|i| !(k == Kind::Straps && self.m.structural[i] == 1) && spans(self.m.ea[i], self.m.eb[i]))
             .collect();
         self.drop_edges(&gone);
-        let keep: Vec<(u32, u32)> =
-            self.m.boundary().into_iter().filter(|&(a, b)| !spans(a, b)).collect();
+        let keep: Vec<(u32, u32)> = self.m.boundary().into_iter().filter(|&(a, b)| !spans(a, b)).collect();
         self.m.ba = keep.iter().map(|s| s.0).collect();
         self.m.bb = keep.iter().map(|s| s.1).collect();
         self.step(StepKind::Remove, edges, boundary);
@@ -874,9 +856,8 @@ impl Run {
                 options.swap(0, 1);
             }
         }
-        let Some((_, v, f, g, count)) = options
-            .into_iter()
-            .find(|(_, v, f, g, count)| opens(&self.m, k, *v, f, g, *count, min))
+        let Some((_, v, f, g, count)) =
+            options.into_iter().find(|(_, v, f, g, count)| opens(&self.m, k, *v, f, g, *count, min))
         else {
             return false;
         };

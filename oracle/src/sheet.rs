@@ -105,9 +105,7 @@ pub fn write(s: &Sheet) -> Vec<u8> {
     for k in s.blade {
         put(k as u32 & 2047, 11);
     }
-    bits.chunks(8)
-        .map(|c| c.iter().enumerate().fold(0, |x, (i, b)| x | b << (7 - i)))
-        .collect()
+    bits.chunks(8).map(|c| c.iter().enumerate().fold(0, |x, (i, b)| x | b << (7 - i))).collect()
 }
 
 pub fn mesh(s: &Sheet) -> (Mesh, Blade) {

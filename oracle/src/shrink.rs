@@ -125,7 +125,15 @@ fn without(i: &Input, list: usize, from: usize, to: usize) -> Option<Input> {
         drop_rows(&mut i.image.mesh, l, &rows[l]);
     }
     // A number at or beyond `to` moves down, so that "one past the end" stays that.
-    let renumber = |x: u32| if x as usize >= to { x - (to - from) as u32 } else if dropped(x) { 0 } else { x };
+    let renumber = |x: u32| {
+        if x as usize >= to {
+            x - (to - from) as u32
+        } else if dropped(x) {
+            0
+        } else {
+            x
+        }
+    };
     if list == 0 {
         for k in [0, 2, 3, 4, 5, 6, 9, 10] {
             i.image.mesh.numbers_mut()[k].iter_mut().for_each(|x| *x = renumber(*x));
@@ -237,10 +245,7 @@ fn simpler(x: f32) -> Vec<f32> {
         _ if x.fract() == 0.0 && x.abs() < 100.0 => 2,
         _ => 3,
     };
-    [0.0, 1.0, 2.0, -1.0, x.round(), (x * 4.0).round() / 4.0]
-        .into_iter()
-        .filter(|y| rank(*y) < rank(x))
-        .collect()
+    [0.0, 1.0, 2.0, -1.0, x.round(), (x * 4.0).round() / 4.0].into_iter().filter(|y| rank(*y) < rank(x)).collect()
 }
 /// Whole columns first, then each number.
 fn values(s: &mut Search) {

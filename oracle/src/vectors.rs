@@ -53,15 +53,11 @@ pub fn oracle(c: &Case) -> Answer {
             let (g, n) = groups(m, *v, sides);
             Answer::Groups(g, n)
         }
-        Call::Opens { v, sides, min_piece } => {
-            Answer::Flag(opens_without_confetti(m, *v, sides, *min_piece))
-        }
+        Call::Opens { v, sides, min_piece } => Answer::Flag(opens_without_confetti(m, *v, sides, *min_piece)),
         Call::RestMeasure => Answer::Float(rest_measure(m).to_bits()),
         Call::RestMeasureOf { list } => Answer::Float(rest_measure_of(m, list).to_bits()),
         Call::Pieces => Answer::Number(pieces(m)),
-        Call::BladeHit { blade, p, q } => {
-            Answer::Hit(blade_hit(*blade, p[0], p[1], q[0], q[1]).map(f32::to_bits))
-        }
+        Call::BladeHit { blade, p, q } => Answer::Hit(blade_hit(*blade, p[0], p[1], q[0], q[1]).map(f32::to_bits)),
     }
 }
 pub fn second(c: &Case) -> Answer {
@@ -80,9 +76,7 @@ pub fn second(c: &Case) -> Answer {
             let (g, n) = x::groups(m, *v, sides);
             Answer::Groups(g, n)
         }
-        Call::Opens { v, sides, min_piece } => {
-            Answer::Flag(x::opens_without_confetti(m, *v, sides, *min_piece))
-        }
+        Call::Opens { v, sides, min_piece } => Answer::Flag(x::opens_without_confetti(m, *v, sides, *min_piece)),
         Call::RestMeasure => Answer::Float(x::rest_measure(m).to_bits()),
         Call::RestMeasureOf { list } => Answer::Float(x::rest_measure_of(m, list).to_bits()),
         Call::Pieces => Answer::Number(x::pieces(m)),
@@ -112,9 +106,7 @@ pub fn check_call(c: &Case) -> u32 {
         return 3;
     }
     let n = c.mesh.px.len() as u32;
-    let sides_ok = |v: u32, s: &[u32]| {
-        v < n && s.iter().all(|&x| x < 2) && fan(&c.mesh, v).len() == s.len()
-    };
+    let sides_ok = |v: u32, s: &[u32]| v < n && s.iter().all(|&x| x < 2) && fan(&c.mesh, v).len() == s.len();
     let fine = match &c.call {
         Call::Cut { fraction, .. } => fraction_ok(*fraction),
         Call::SplitFan { v, sides } | Call::Groups { v, sides } | Call::Opens { v, sides, .. } => sides_ok(*v, sides),
@@ -153,7 +145,14 @@ pub fn write_mesh(out: &mut String, m: &Mesh) {
         writeln!(
             out,
             "p {} {} {} {} {} {} {} {}",
-            h(m.px[i]), h(m.py[i]), h(m.rx[i]), h(m.ry[i]), h(m.mass[i]), h(m.inv[i]), m.root[i], m.damaged[i]
+            h(m.px[i]),
+            h(m.py[i]),
+            h(m.rx[i]),
+            h(m.ry[i]),
+            h(m.mass[i]),
+            h(m.inv[i]),
+            m.root[i],
+            m.damaged[i]
         )
         .unwrap();
     }
@@ -164,7 +163,14 @@ pub fn write_mesh(out: &mut String, m: &Mesh) {
         writeln!(
             out,
             "e {} {} {} {} {} {} {} {}",
-            m.ea[i], m.eb[i], m.structural[i], m.torn[i], h(m.rest[i]), h(m.initial[i]), h(m.impulse[i]), h(m.estress[i])
+            m.ea[i],
+            m.eb[i],
+            m.structural[i],
+            m.torn[i],
+            h(m.rest[i]),
+            h(m.initial[i]),
+            h(m.impulse[i]),
+            h(m.estress[i])
         )
         .unwrap();
     }
@@ -190,11 +196,9 @@ pub fn write_case(out: &mut String, c: &Case, a: &Answer) {
         Call::RestMeasure => writeln!(out, "rest_measure"),
         Call::RestMeasureOf { list: l } => writeln!(out, "rest_measure_of {}", list(l)),
         Call::Pieces => writeln!(out, "pieces"),
-        Call::BladeHit { blade, p, q } => writeln!(
-            out,
-            "blade_hit {} {} {} {} {}",
-            blade_text(blade), h(p[0]), h(p[1]), h(q[0]), h(q[1])
-        ),
+        Call::BladeHit { blade, p, q } => {
+            writeln!(out, "blade_hit {} {} {} {} {}", blade_text(blade), h(p[0]), h(p[1]), h(q[0]), h(q[1]))
+        }
     }
     .unwrap();
     match a {

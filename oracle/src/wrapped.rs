@@ -60,9 +60,29 @@ pub enum Fault {
 }
 use Fault::*;
 pub const FAULTS: [Fault; 23] = [
-    UnionRoot, SidesMixed, CornerGroups, CornerReach, ReachInFan, ReachThroughV, MinimumLess, PiecesByEdges,
-    PiecesByFacets, BladeOpenEnd, BladeZero, BladeSigns, SignedVolume, PresentLength, AnyCorner, RootCut, DirtyTail,
-    DirtyRefusal, ThreeBeforeTwo, NanPasses, ListTwice, ShortLength, WritesPast,
+    UnionRoot,
+    SidesMixed,
+    CornerGroups,
+    CornerReach,
+    ReachInFan,
+    ReachThroughV,
+    MinimumLess,
+    PiecesByEdges,
+    PiecesByFacets,
+    BladeOpenEnd,
+    BladeZero,
+    BladeSigns,
+    SignedVolume,
+    PresentLength,
+    AnyCorner,
+    RootCut,
+    DirtyTail,
+    DirtyRefusal,
+    ThreeBeforeTwo,
+    NanPasses,
+    ListTwice,
+    ShortLength,
+    WritesPast,
 ];
 static PLANTED: AtomicUsize = AtomicUsize::new(0);
 /// Plants a fault in all functions of `table()`.

@@ -140,10 +140,14 @@ pub fn run(words: &[String]) -> i32 {
         false => println!("It ran on the machine itself."),
     }
     println!();
-    println!("\"Rust alone\": the published function on a body that stands ready. \"Rust from the image\": the same work");
+    println!(
+        "\"Rust alone\": the published function on a body that stands ready. \"Rust from the image\": the same work"
+    );
     println!("as ours, that is decoding, checks 1 to 4, building the body, the published function.");
     println!();
-    println!("| function | mesh | Rust alone | Rust from the image | ours | ours / Rust alone | ours / Rust from the image |");
+    println!(
+        "| function | mesh | Rust alone | Rust from the image | ours | ours / Rust alone | ours / Rust from the image |"
+    );
     println!("|---|---|---|---|---|---|---|");
     for e in ENTRIES {
         for (k, (name, m)) in meshes().iter().enumerate() {
@@ -153,9 +157,12 @@ pub fn run(words: &[String]) -> i32 {
             }
             let c = input(e, m).raw();
             let alone = rust_alone(&c, m);
-            let whole = median(|| {}, || {
-                black_box(expected(black_box(&c)));
-            });
+            let whole = median(
+                || {},
+                || {
+                    black_box(expected(black_box(&c)));
+                },
+            );
             let name = if meshless { "-" } else { *name };
             print!("| `{}` | {name} | {} | {} |", e.name(), time(alone), time(whole));
             match ours(&t, &c) {

@@ -52,7 +52,11 @@ pub fn run() -> i32 {
         let mut pinned = f.clone();
         pinned.inv[0] = z;
         let o = split_fan(&pinned, 0, &[1, 0, 0]);
-        t.is(&format!("pinned v (inverse mass {name}): unchanged"), (o.changed, o.mesh == pinned, o.log.len()), (false, true, 0));
+        t.is(
+            &format!("pinned v (inverse mass {name}): unchanged"),
+            (o.changed, o.mesh == pinned, o.log.len()),
+            (false, true, 0),
+        );
     }
     let one = {
         let mut m = f.clone();
@@ -114,7 +118,12 @@ pub fn run() -> i32 {
             vec![(0, 1), (1, 2), (5, 3), (3, 4), (2, 0), (4, 5)],
         );
         println!("         note: its log in order of happening: {:?}", o.log);
-        println!("         note: triangles {:?}, masses {:?}, damaged {:?}", o.mesh.triangles(), o.mesh.mass, o.mesh.damaged);
+        println!(
+            "         note: triangles {:?}, masses {:?}, damaged {:?}",
+            o.mesh.triangles(),
+            o.mesh.mass,
+            o.mesh.damaged
+        );
     }
     print!("         note: the sheet's bytes:");
     for b in &bytes {

@@ -55,7 +55,7 @@ pub fn run(words: &[String]) -> i32 {
     plant(Fault::Nothing);
     let t = if own { table() } else { archive() };
     let mut failures = 0;
-    println!("compare: {}, seed {seed}", if own { "the second writing behind the C functions" } else { "the archive" });
+    println!("{}, cases from {seed} on", if own { "the second writing behind the C functions" } else { "the archive" });
     for e in ENTRIES {
         if !t.has(e) {
             println!("  {:29} not compared: it is not in the archive", e.name());
@@ -76,7 +76,8 @@ pub fn run(words: &[String]) -> i32 {
             }
         }
     }
-    println!("compare: {failures} differ");
+    let there = ENTRIES.iter().filter(|&&e| t.has(e)).count();
+    println!("{there} functions compared, {} not there; {failures} failures", ENTRIES.len() - there);
     (failures > 0) as i32
 }
 
@@ -103,6 +104,6 @@ pub fn faults(words: &[String]) -> i32 {
         }
     }
     plant(Fault::Nothing);
-    println!("faults: {} planted, {missed} not found", FAULTS.len());
+    println!("{} planted, {missed} not found", FAULTS.len());
     (missed > 0) as i32
 }

@@ -1,10 +1,10 @@
 //! fuzz [big] FIRST COUNT: the random calls FIRST.. by the published Rust and by the second writing,
 //! with a tally of what they met.
-use std::collections::BTreeMap;
-use std::panic::catch_unwind;
 use crate::api::*;
 use crate::vectors::*;
 use crate::{meshgen, second as plain};
+use std::collections::BTreeMap;
+use std::panic::catch_unwind;
 
 pub fn run(words: &[String]) -> i32 {
     let big = words.first().is_some_and(|w| w == "big");
@@ -105,10 +105,15 @@ pub fn run(words: &[String]) -> i32 {
                 hit("a split after a removed edge (order of happening)");
             }
         }
-        if o.steps.iter().zip(o.steps.iter().skip(1)).any(|(a, b)| b.kind == StepKind::Split && b.particles > a.particles + 1) {
+        if o.steps
+            .iter()
+            .zip(o.steps.iter().skip(1))
+            .any(|(a, b)| b.kind == StepKind::Split && b.particles > a.particles + 1)
+        {
             hit("a split into 3 or more");
         }
-        if o.mesh.mass.iter().skip(c.mesh.px.len()).zip(o.mesh.inv.iter().skip(c.mesh.px.len())).any(|(_, i)| *i == 0.0) {
+        if o.mesh.mass.iter().skip(c.mesh.px.len()).zip(o.mesh.inv.iter().skip(c.mesh.px.len())).any(|(_, i)| *i == 0.0)
+        {
             hit("a new particle that is pinned");
         }
         let no = o.refusal(c.rooms);
@@ -138,10 +143,12 @@ pub fn run(words: &[String]) -> i32 {
                 bad += 1;
             }
             if w.mesh.ea.len() != o.mesh.ea.len() {
-                hit(["", "cut_topology: further edges go, triangles", "cut_topology: further edges go, straps"][k as usize]);
+                hit(["", "cut_topology: further edges go, triangles", "cut_topology: further edges go, straps"]
+                    [k as usize]);
             }
             if w.mesh.ba.len() != o.mesh.ba.len() {
-                hit(["", "cut_topology: boundary entries go, triangles", "cut_topology: boundary entries go, straps"][k as usize]);
+                hit(["", "cut_topology: boundary entries go, triangles", "cut_topology: boundary entries go, straps"]
+                    [k as usize]);
             }
             if w.mesh.damaged != o.mesh.damaged {
                 hit("cut_topology: damaged flags differ");

@@ -175,10 +175,10 @@ fn read(file: &str) -> i32 {
     let text = std::fs::read_to_string(file).expect("the list");
     let list: Vec<(Raw, Expected)> = text.lines().filter(|l| !l.starts_with('#')).map(parse).collect();
     let rust = list.iter().filter(|(c, want)| expected(c) != *want).count();
-    println!("replay: {} calls; the Rust answers {rust} otherwise", list.len());
+    println!("{} calls; the Rust answers {rust} otherwise", list.len());
     plant(Fault::Nothing);
     let own = differ(&table(), &list).unwrap_or(0);
-    println!("replay: the second writing answers {own} otherwise");
+    println!("the second writing answers {own} otherwise");
     let missed: Vec<Fault> = FAULTS
         .into_iter()
         .filter(|&f| {
@@ -187,11 +187,11 @@ fn read(file: &str) -> i32 {
         })
         .collect();
     plant(Fault::Nothing);
-    println!("replay: {} of {} wrong variants fail; {missed:?} do not", FAULTS.len() - missed.len(), FAULTS.len());
+    println!("{} of {} wrong variants fail; {missed:?} do not", FAULTS.len() - missed.len(), FAULTS.len());
     let bench = differ(&archive(), &list);
     match bench {
-        Some(n) => println!("replay: the archive answers {n} otherwise (entries that it lacks are left out)"),
-        None => println!("replay: no archive, so nothing of it is compared"),
+        Some(n) => println!("the archive answers {n} otherwise (entries that it lacks are left out)"),
+        None => println!("no archive, so nothing of it is compared"),
     }
     (rust + own + missed.len() + bench.unwrap_or(0) > 0) as i32
 }

@@ -57,7 +57,13 @@ pub fn run(a: &[String]) -> i32 {
             for l in s.lines() {
                 let w: Vec<String> = l
                     .split(' ')
-                    .map(|w| if w.len() == 8 && u32::from_str_radix(w, 16).is_ok() { format!("{:?}", f32::from_bits(u32::from_str_radix(w, 16).unwrap())) } else { w.into() })
+                    .map(|w| {
+                        if w.len() == 8 && u32::from_str_radix(w, 16).is_ok() {
+                            format!("{:?}", f32::from_bits(u32::from_str_radix(w, 16).unwrap()))
+                        } else {
+                            w.into()
+                        }
+                    })
                     .collect();
                 println!("{}", w.join(" "));
             }
