@@ -224,13 +224,9 @@ fn at_limit(r: &mut Rng) -> Mesh {
     let n = m.px.len() as u32;
     let at = |r: &mut Rng, k: usize| r.below(k as u32) as usize;
     match r.below(12) {
-        0 => (m.px.len()..MAX_PARTICLES + more).for_each(|_| {
-            m.particle(1.0, 2.0, 1.0, false);
-        }),
-        1 => (m.ta.len()..MAX_TRIANGLES + more)
-            .for_each(|k| m.triangle(k as u32 % n, (k as u32 + 1) % n, (k as u32 + 2) % n, 0.25)),
-        2 => (m.ea.len()..MAX_EDGES + more).for_each(|k| m.edge(k as u32 % n, (k as u32 + 1) % n, k % 40 == 0, 0.25)),
-        3 => (m.ba.len()..MAX_BOUNDARY + more).for_each(|k| m.bound(k as u32 % n, (k as u32 + 1) % n)),
+        k @ 0..=3 => fill(&mut m, k, more),
+        // Every list is full.
+        10 => (0..4).for_each(|k| fill(&mut m, k, 0)),
         4 => {
             let (i, x) = (at(r, n as usize), limit_number(r, MAX_NUMBER));
             let k = r.below(6) as usize;
@@ -263,6 +259,21 @@ fn at_limit(r: &mut Rng) -> Mesh {
     m
 }
 
+/// Fills list `k` up to its limit, or `more` beyond.
+fn fill(m: &mut Mesh, k: u32, more: usize) {
+    let n = m.px.len() as u32;
+    let near = |i: usize, step: u32| (i as u32 + step) % n;
+    match k {
+        0 => (m.px.len()..MAX_PARTICLES + more).for_each(|_| {
+            m.particle(1.0, 2.0, 1.0, false);
+        }),
+        1 => (m.ta.len()..MAX_TRIANGLES + more).for_each(|i| m.triangle(near(i, 0), near(i, 1), near(i, 2), 0.25)),
+        2 => (m.ea.len()..MAX_EDGES + more).for_each(|i| m.edge(near(i, 0), near(i, 1), i % 40 == 0, 0.25)),
+        _ => (m.ba.len()..MAX_BOUNDARY + more).for_each(|i| m.bound(near(i, 0), near(i, 1))),
+    }
+}
+
+/// Patterns out of range in one column or another.
 const BAD_NUMBERS: [u32; 12] = [
     0x7fc0_0000,
     0x7f80_0001,

@@ -46,198 +46,211 @@ pub fn mesh(r: &mut Rng) -> Mesh {
     let mut outline = true;
     let shape = r.below(13);
     match shape {
-        0..=3 => {
-            // Grid of triangles with holes.
-            let (w, h) = (1 + r.below(5), 1 + r.below(5));
-            for y in 0..=h {
-                for x in 0..=w {
-                    let (px, py) = (coordinate(r, mood, x as f32), coordinate(r, mood, y as f32));
-                    m.particle(px, py, 1.0, false);
-                }
-            }
-            let holes = r.pick(&[0, 0, 5, 3]);
-            let diagonal = r.below(3);
-            for y in 0..h {
-                for x in 0..w {
-                    let a = y * (w + 1) + x;
-                    let (b, c, d) = (a + 1, a + w + 2, a + w + 1);
-                    let other = match diagonal {
-                        0 => false,
-                        1 => true,
-                        _ => r.chance(2),
-                    };
-                    let (t, u, e, f) = if other {
-                        ([a, b, d], [b, c, d], (b, d), (a, c))
-                    } else {
-                        ([a, b, c], [a, c, d], (a, c), (b, d))
-                    };
-                    for t in [t, u] {
-                        if holes == 0 || !r.chance(holes) {
-                            let k = r.below(3) as usize;
-                            m.triangle(t[k], t[(k + 1) % 3], t[(k + 2) % 3], 0.0);
-                        }
-                    }
-                    m.edge(e.0, e.1, true, 0.0);
-                    if r.chance(2) {
-                        m.edge(f.0, f.1, false, 0.0);
-                    }
-                    m.edge(a, b, true, 0.0);
-                    m.edge(d, a, true, 0.0);
-                }
-            }
-        }
-        4 => {
-            // Strip.
-            let n = 3 + r.below(10);
-            for i in 0..n {
-                let (x, y) = (coordinate(r, mood, (i / 2) as f32), coordinate(r, mood, (i % 2) as f32));
-                m.particle(x, y, 1.0, false);
-            }
-            for i in 0..n - 2 {
-                m.triangle(i, i + 1, i + 2, 0.0);
-                m.edge(i, i + 1, true, 0.0);
-                if r.chance(2) {
-                    m.edge(i, i + 2, r.chance(2), 0.0);
-                }
-            }
-        }
-        5 => {
-            // Fans pinched at particle 0.
-            m.particle(coordinate(r, mood, 2.0), coordinate(r, mood, 2.0), 1.0, false);
-            let fans = 1 + r.below(4);
-            for _ in 0..fans {
-                let n = 1 + r.below(4);
-                let first = m.px.len() as u32;
-                for i in 0..=n {
-                    let (x, y) = (
-                        coordinate(r, mood, r.clone().below(5) as f32),
-                        coordinate(r, mood, (i + r.clone().below(3)) as f32),
-                    );
-                    r.next();
-                    m.particle(x, y, 1.0, false);
-                }
-                for i in 0..n {
-                    let t = [0, first + i, first + i + 1];
-                    let k = r.below(3) as usize;
-                    m.triangle(t[k], t[(k + 1) % 3], t[(k + 2) % 3], 0.0);
-                    m.edge(0, first + i, true, 0.0);
-                }
-                m.edge(first, first + n, false, 0.0);
-            }
-        }
+        0..=3 => holed_grid(r, mood, &mut m),
+        4 => strip(r, mood, &mut m),
+        5 => pinched(r, mood, &mut m),
         6 | 7 => {
-            // Soup, with shared corners, doubles and edges held by three.
-            let n = 3 + r.below(if shape == 6 { 4 } else { 9 });
-            for _ in 0..n {
-                let (b, c) = (r.below(5) as f32, r.below(5) as f32);
-                let (x, y) = (coordinate(r, mood, b), coordinate(r, mood, c));
-                m.particle(x, y, 1.0, false);
-            }
-            for _ in 0..1 + r.below(12) {
-                let a = r.below(n);
-                let b = (a + 1 + r.below(n - 1)) % n;
-                let mut c = r.below(n);
-                while c == a || c == b {
-                    c = (c + 1) % n;
-                }
-                m.triangle(a, b, c, 0.0);
-            }
+            triangles_at_random(r, mood, &mut m, if shape == 6 { 4 } else { 9 });
             outline = r.chance(2);
         }
-        8 => {
-            // Rope with bend edges, perhaps closed.
-            let n = 2 + r.below(12);
-            for i in 0..n {
-                let (x, y) = (coordinate(r, mood, i as f32 * 0.5), coordinate(r, mood, (i % 2) as f32));
-                m.particle(x, y, 1.0, false);
-            }
-            for i in 0..n - 1 {
-                if r.chance(2) { m.edge(i, i + 1, true, 0.0) } else { m.edge(i + 1, i, true, 0.0) }
-            }
-            if n > 2 && r.chance(2) {
-                m.edge(n - 1, 0, true, 0.0);
-            }
-            for i in 0..n.saturating_sub(2) {
-                if !r.chance(3) {
-                    m.edge(i, i + 2, false, 0.0);
+        8 => short_rope(r, mood, &mut m),
+        9 => net(r, mood, &mut m),
+        10 => straps_at_random(r, mood, &mut m),
+        11 => nothing(r, mood, &mut m),
+        _ => touching(r, mood, &mut m),
+    }
+    further(r, &mut m, outline);
+    values(r, &mut m);
+    assert_eq!(check_mesh(&m), 0);
+    m
+}
+
+/// Grid of triangles with holes.
+fn holed_grid(r: &mut Rng, mood: u32, m: &mut Mesh) {
+    let (w, h) = (1 + r.below(5), 1 + r.below(5));
+    for y in 0..=h {
+        for x in 0..=w {
+            let (px, py) = (coordinate(r, mood, x as f32), coordinate(r, mood, y as f32));
+            m.particle(px, py, 1.0, false);
+        }
+    }
+    let holes = r.pick(&[0, 0, 5, 3]);
+    let diagonal = r.below(3);
+    for y in 0..h {
+        for x in 0..w {
+            let a = y * (w + 1) + x;
+            let (b, c, d) = (a + 1, a + w + 2, a + w + 1);
+            let other = match diagonal {
+                0 => false,
+                1 => true,
+                _ => r.chance(2),
+            };
+            let (t, u, e, f) =
+                if other { ([a, b, d], [b, c, d], (b, d), (a, c)) } else { ([a, b, c], [a, c, d], (a, c), (b, d)) };
+            for t in [t, u] {
+                if holes == 0 || !r.chance(holes) {
+                    let k = r.below(3) as usize;
+                    m.triangle(t[k], t[(k + 1) % 3], t[(k + 2) % 3], 0.0);
                 }
             }
+            m.edge(e.0, e.1, true, 0.0);
+            if r.chance(2) {
+                m.edge(f.0, f.1, false, 0.0);
+            }
+            m.edge(a, b, true, 0.0);
+            m.edge(d, a, true, 0.0);
         }
-        9 => {
-            // Net of straps.
-            let (w, h) = (1 + r.below(4), 1 + r.below(4));
-            for y in 0..=h {
-                for x in 0..=w {
-                    let (px, py) = (coordinate(r, mood, x as f32), coordinate(r, mood, y as f32));
-                    m.particle(px, py, 1.0, false);
-                }
-            }
-            for y in 0..=h {
-                for x in 0..=w {
-                    let a = y * (w + 1) + x;
-                    if x < w && !r.chance(6) {
-                        m.edge(a, a + 1, true, 0.0);
-                    }
-                    if y < h && !r.chance(6) {
-                        m.edge(a, a + w + 1, true, 0.0);
-                    }
-                    if x < w && y < h && r.chance(2) {
-                        m.edge(a, a + w + 2, r.chance(3), 0.0);
-                    }
-                    if x + 1 < w && r.chance(2) {
-                        m.edge(a, a + 2, false, 0.0);
-                    }
-                }
-            }
+    }
+}
+/// Strip.
+fn strip(r: &mut Rng, mood: u32, m: &mut Mesh) {
+    let n = 3 + r.below(10);
+    for i in 0..n {
+        let (x, y) = (coordinate(r, mood, (i / 2) as f32), coordinate(r, mood, (i % 2) as f32));
+        m.particle(x, y, 1.0, false);
+    }
+    for i in 0..n - 2 {
+        m.triangle(i, i + 1, i + 2, 0.0);
+        m.edge(i, i + 1, true, 0.0);
+        if r.chance(2) {
+            m.edge(i, i + 2, r.chance(2), 0.0);
         }
-        10 => {
-            // Star and soup of straps, with parallel ones.
-            let n = 2 + r.below(6);
-            for i in 0..n {
-                let (x, y) = (coordinate(r, mood, i as f32), coordinate(r, mood, ((i * i) % 5) as f32));
-                m.particle(x, y, 1.0, false);
-            }
-            for _ in 0..1 + r.below(10) {
-                let a = r.below(n);
-                let b = (a + 1 + r.below(n - 1)) % n;
-                m.edge(a, b, !r.chance(4), 0.0);
-            }
+    }
+}
+/// Fans pinched at particle 0.
+fn pinched(r: &mut Rng, mood: u32, m: &mut Mesh) {
+    m.particle(coordinate(r, mood, 2.0), coordinate(r, mood, 2.0), 1.0, false);
+    let fans = 1 + r.below(4);
+    for _ in 0..fans {
+        let n = 1 + r.below(4);
+        let first = m.px.len() as u32;
+        for i in 0..=n {
+            let (x, y) =
+                (coordinate(r, mood, r.clone().below(5) as f32), coordinate(r, mood, (i + r.clone().below(3)) as f32));
+            r.next();
+            m.particle(x, y, 1.0, false);
         }
-        11 => {
-            // Nothing: no triangles, no structural edge; perhaps no particle.
-            let n = r.below(5);
-            for i in 0..n {
-                let x = coordinate(r, mood, i as f32);
-                m.particle(x, 0.0, 1.0, false);
-            }
-            if n > 1 {
-                for _ in 0..r.below(4) {
-                    let a = r.below(n);
-                    m.edge(a, (a + 1 + r.below(n - 1)) % n, r.chance(4), 0.0);
-                }
-            }
+        for i in 0..n {
+            let t = [0, first + i, first + i + 1];
+            let k = r.below(3) as usize;
+            m.triangle(t[k], t[(k + 1) % 3], t[(k + 2) % 3], 0.0);
+            m.edge(0, first + i, true, 0.0);
         }
-        _ => {
-            // Two blocks that touch in one corner, and a lone particle.
-            for i in 0..8 {
-                let (b, c) = ([0., 1., 0., 1., 2., 1., 2., 3.][i], [0., 0., 1., 1., 1., 2., 2., 3.][i]);
-                let (x, y) = (coordinate(r, mood, b), coordinate(r, mood, c));
-                m.particle(x, y, 1.0, false);
+        m.edge(first, first + n, false, 0.0);
+    }
+}
+/// Soup, with shared corners, doubles and edges held by three.
+fn triangles_at_random(r: &mut Rng, mood: u32, m: &mut Mesh, most: u32) {
+    let n = 3 + r.below(most);
+    for _ in 0..n {
+        let (b, c) = (r.below(5) as f32, r.below(5) as f32);
+        let (x, y) = (coordinate(r, mood, b), coordinate(r, mood, c));
+        m.particle(x, y, 1.0, false);
+    }
+    for _ in 0..1 + r.below(12) {
+        let a = r.below(n);
+        let b = (a + 1 + r.below(n - 1)) % n;
+        let mut c = r.below(n);
+        while c == a || c == b {
+            c = (c + 1) % n;
+        }
+        m.triangle(a, b, c, 0.0);
+    }
+}
+/// Rope with bend edges, perhaps closed.
+fn short_rope(r: &mut Rng, mood: u32, m: &mut Mesh) {
+    let n = 2 + r.below(12);
+    for i in 0..n {
+        let (x, y) = (coordinate(r, mood, i as f32 * 0.5), coordinate(r, mood, (i % 2) as f32));
+        m.particle(x, y, 1.0, false);
+    }
+    for i in 0..n - 1 {
+        if r.chance(2) { m.edge(i, i + 1, true, 0.0) } else { m.edge(i + 1, i, true, 0.0) }
+    }
+    if n > 2 && r.chance(2) {
+        m.edge(n - 1, 0, true, 0.0);
+    }
+    for i in 0..n.saturating_sub(2) {
+        if !r.chance(3) {
+            m.edge(i, i + 2, false, 0.0);
+        }
+    }
+}
+/// Net of straps.
+fn net(r: &mut Rng, mood: u32, m: &mut Mesh) {
+    let (w, h) = (1 + r.below(4), 1 + r.below(4));
+    for y in 0..=h {
+        for x in 0..=w {
+            let (px, py) = (coordinate(r, mood, x as f32), coordinate(r, mood, y as f32));
+            m.particle(px, py, 1.0, false);
+        }
+    }
+    for y in 0..=h {
+        for x in 0..=w {
+            let a = y * (w + 1) + x;
+            if x < w && !r.chance(6) {
+                m.edge(a, a + 1, true, 0.0);
             }
-            for t in [[0, 1, 3], [0, 3, 2], [3, 4, 6], [3, 6, 5]] {
-                m.triangle(t[0], t[1], t[2], 0.0);
+            if y < h && !r.chance(6) {
+                m.edge(a, a + w + 1, true, 0.0);
             }
-            for (a, b) in [(0, 3), (3, 6), (2, 5), (1, 4)] {
-                m.edge(a, b, r.chance(2), 0.0);
+            if x < w && y < h && r.chance(2) {
+                m.edge(a, a + w + 2, r.chance(3), 0.0);
             }
-            for _ in 0..r.below(4) {
-                let a = r.below(8);
-                m.edge(a, (a + 1 + r.below(7)) % 8, r.chance(2), 0.0);
+            if x + 1 < w && r.chance(2) {
+                m.edge(a, a + 2, false, 0.0);
             }
         }
     }
+}
+/// Star and soup of straps, with parallel ones.
+fn straps_at_random(r: &mut Rng, mood: u32, m: &mut Mesh) {
+    let n = 2 + r.below(6);
+    for i in 0..n {
+        let (x, y) = (coordinate(r, mood, i as f32), coordinate(r, mood, ((i * i) % 5) as f32));
+        m.particle(x, y, 1.0, false);
+    }
+    for _ in 0..1 + r.below(10) {
+        let a = r.below(n);
+        let b = (a + 1 + r.below(n - 1)) % n;
+        m.edge(a, b, !r.chance(4), 0.0);
+    }
+}
+/// Nothing: no triangles, no structural edge; perhaps no particle.
+fn nothing(r: &mut Rng, mood: u32, m: &mut Mesh) {
+    let n = r.below(5);
+    for i in 0..n {
+        let x = coordinate(r, mood, i as f32);
+        m.particle(x, 0.0, 1.0, false);
+    }
+    if n > 1 {
+        for _ in 0..r.below(4) {
+            let a = r.below(n);
+            m.edge(a, (a + 1 + r.below(n - 1)) % n, r.chance(4), 0.0);
+        }
+    }
+}
+/// Two blocks that touch in one corner, and a lone particle.
+fn touching(r: &mut Rng, mood: u32, m: &mut Mesh) {
+    for i in 0..8 {
+        let (b, c) = ([0., 1., 0., 1., 2., 1., 2., 3.][i], [0., 0., 1., 1., 1., 2., 2., 3.][i]);
+        let (x, y) = (coordinate(r, mood, b), coordinate(r, mood, c));
+        m.particle(x, y, 1.0, false);
+    }
+    for t in [[0, 1, 3], [0, 3, 2], [3, 4, 6], [3, 6, 5]] {
+        m.triangle(t[0], t[1], t[2], 0.0);
+    }
+    for (a, b) in [(0, 3), (3, 6), (2, 5), (1, 4)] {
+        m.edge(a, b, r.chance(2), 0.0);
+    }
+    for _ in 0..r.below(4) {
+        let a = r.below(8);
+        m.edge(a, (a + 1 + r.below(7)) % 8, r.chance(2), 0.0);
+    }
+}
+/// Further edges and boundary entries, right and wrong.
+fn further(r: &mut Rng, m: &mut Mesh, outline: bool) {
     let n = m.px.len() as u32;
-    // Further edges and boundary entries, right and wrong.
     if n > 1 {
         for _ in 0..r.pick(&[0, 0, 0, 1, 2, 6]) {
             let a = r.below(n);
@@ -270,11 +283,13 @@ pub fn mesh(r: &mut Rng) -> Mesh {
             m.bound(a, (a + 1 + r.below(n - 1)) % n);
         }
     }
-    // Values.
+}
+/// Numbers of every column.
+fn values(r: &mut Rng, m: &mut Mesh) {
     let deformed = r.chance(3);
     let strange = r.chance(3);
     let stresses = r.below(7);
-    for i in 0..n as usize {
+    for i in 0..m.px.len() {
         if deformed {
             m.px[i] += r.span(-0.4, 0.4);
             m.px[i] = m.px[i].clamp(-MAX_NUMBER, MAX_NUMBER);
@@ -291,7 +306,7 @@ pub fn mesh(r: &mut Rng) -> Mesh {
         } else if strange && r.chance(5) {
             m.inv[i] = r.pick(&[1.0, -1.0, f32::MAX, 1.0e-45, 3.0]);
         }
-        m.root[i] = if r.chance(4) { r.below(n) } else { i as u32 };
+        m.root[i] = if r.chance(4) { r.below(m.px.len() as u32) } else { i as u32 };
         m.damaged[i] = r.chance(5) as u32;
     }
     for i in 0..m.ta.len() {
@@ -299,13 +314,13 @@ pub fn mesh(r: &mut Rng) -> Mesh {
             0 => 0.0,
             1 => r.pick(&[MAX_VOLUME, -MAX_VOLUME, -0.0, 1.0e-45, 1.0e-20]),
             2 => r.span(-3.0, 3.0),
-            _ => area(&m, m.ta[i], m.tb[i], m.tc[i]),
+            _ => area(m, m.ta[i], m.tb[i], m.tc[i]),
         };
         m.tstress[i] = stress(r, stresses);
     }
     let zero_rest = strange && r.chance(4);
     for i in 0..m.ea.len() {
-        let d = dist(&m, m.ea[i], m.eb[i]);
+        let d = dist(m, m.ea[i], m.eb[i]);
         m.rest[i] = match r.below(if strange { 6 } else { 20 }) {
             0 => 0.0,
             1 => r.pick(&[-0.0, 1.0e-45, MAX_NUMBER, 1.0e-20]),
@@ -320,8 +335,6 @@ pub fn mesh(r: &mut Rng) -> Mesh {
         m.impulse[i] = r.span(-2.0, 2.0);
         m.estress[i] = stress(r, stresses);
     }
-    assert_eq!(check_mesh(&m), 0);
-    m
 }
 
 pub fn blade(r: &mut Rng, m: &Mesh) -> Blade {

@@ -7,6 +7,7 @@ use crate::inputs::{KINDS, Kind, input};
 use crate::shrink::shrink;
 use crate::vectors::write_input;
 use crate::wrapped::{FAULTS, Fault, plant, table};
+use std::io::Write;
 
 /// What is wrong with the answer to an input, if anything.
 fn wrong(t: &Table, i: &Input) -> Option<String> {
@@ -62,14 +63,13 @@ pub fn run(words: &[String]) -> i32 {
             continue;
         }
         for (k, &count) in KINDS.into_iter().zip(counts) {
+            // Said first, so that a call that does not come back is known.
+            print!("  {:29} {:8}", e.name(), format!("{k:?}").to_lowercase());
+            let _ = std::io::stdout().flush();
             let (failed, tally) = search(&t, e, k, *seed, count);
             let [accepted, one, two, three, four] = tally;
-            println!(
-                "  {:29} {:8} {:7} inputs: {accepted} accepted, refused 1: {one}, 2: {two}, 3: {three}, 4: {four}",
-                e.name(),
-                format!("{k:?}").to_lowercase(),
-                tally.iter().sum::<u64>()
-            );
+            let all = tally.iter().sum::<u64>();
+            println!("{all:7} inputs: {accepted} accepted, refused 1: {one}, 2: {two}, 3: {three}, 4: {four}");
             if let Some((s, i)) = failed {
                 failures += 1;
                 print!("{}", report(&t, e, k, s, i));
