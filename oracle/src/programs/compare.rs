@@ -7,6 +7,7 @@ use crate::inputs::{KINDS, Kind, input};
 use crate::shrink::shrink;
 use crate::vectors::write_input;
 use crate::wrapped::{FAULTS, Fault, plant, table};
+use std::collections::HashSet;
 use std::io::Write;
 
 /// What is wrong with the answer to an input, if anything.
@@ -14,17 +15,26 @@ fn wrong(t: &Table, i: &Input) -> Option<String> {
     let c = i.raw();
     fault(&expected(&c), &call(t, &c)?)
 }
-/// The first input of a kind that fails, and the tally of expected answers (0 to 4).
-fn search(t: &Table, e: Entry, k: Kind, seed: u64, count: u64) -> (Option<(u64, Input)>, [u64; 5]) {
-    let mut tally = [0; 5];
+/// What was expected: how often each number from 0 to 4, and the different accepted answers.
+#[derive(Default)]
+struct Tally {
+    numbers: [u64; 5],
+    answers: HashSet<Vec<u32>>,
+}
+/// The first input of a kind that fails, and the tally up to it.
+fn search(t: &Table, e: Entry, k: Kind, seed: u64, count: u64) -> (Option<(u64, Input)>, Tally) {
+    let mut tally = Tally::default();
     for s in seed..seed + count {
         let i = input(e, k, s);
         let c = i.raw();
         let want = expected(&c);
-        tally[match want {
-            Expected::Words(_) => 0,
-            Expected::Refused(n) | Expected::Either(_, n) => n as usize,
-        }] += 1;
+        match &want {
+            Expected::Words(w) => {
+                tally.numbers[0] += 1;
+                tally.answers.insert(w.clone());
+            }
+            Expected::Refused(n) | Expected::Either(_, n) => tally.numbers[*n as usize] += 1,
+        }
         let got = call(t, &c).expect("an entry that is there");
         if fault(&want, &got).is_some() {
             return (Some((s, i)), tally);
@@ -67,9 +77,10 @@ pub fn run(words: &[String]) -> i32 {
             print!("  {:29} {:8}", e.name(), format!("{k:?}").to_lowercase());
             let _ = std::io::stdout().flush();
             let (failed, tally) = search(&t, e, k, *seed, count);
-            let [accepted, one, two, three, four] = tally;
-            let all = tally.iter().sum::<u64>();
-            println!("{all:7} inputs: {accepted} accepted, refused 1: {one}, 2: {two}, 3: {three}, 4: {four}");
+            let [accepted, one, two, three, four] = tally.numbers;
+            let (all, answers) = (tally.numbers.iter().sum::<u64>(), tally.answers.len());
+            print!("{all:7} inputs: {accepted} accepted ({answers} different answers), ");
+            println!("refused 1: {one}, 2: {two}, 3: {three}, 4: {four}");
             if let Some((s, i)) = failed {
                 failures += 1;
                 print!("{}", report(&t, e, k, s, i));
