@@ -1,0 +1,238 @@
+//! The C functions of docs/C-FUNCTIONS.md: declarations, tables of those that are there, and the
+//! one safe way to call them.
+use crate::image::{Image, bytes_of};
+
+type Root = unsafe extern "C" fn(u32, *mut u8, usize) -> u32;
+type Slice = unsafe extern "C" fn(*const u8, usize, *mut u8, usize) -> u32;
+type Sides = unsafe extern "C" fn(*const u8, usize, u32, *const u8, usize, *mut u8, usize) -> u32;
+type List = unsafe extern "C" fn(*const u8, usize, *const u8, usize, *mut u8, usize) -> u32;
+type Opens = unsafe extern "C" fn(*const u8, usize, u32, *const u8, usize, u32, *mut u8, usize) -> u32;
+
+/// One side of a comparison: the C functions that it has.
+#[derive(Clone, Copy)]
+pub struct Table {
+    pub root: Option<Root>,
+    pub blade_hit: Option<Slice>,
+    pub groups: Option<Sides>,
+    pub rest_measure: Option<Slice>,
+    pub rest_measure_of: Option<List>,
+    pub opens: Option<Opens>,
+    pub pieces: Option<Slice>,
+}
+
+/// `Some` of an archive's function if `run` found its name there (`--cfg have="NAME"`).
+macro_rules! linked {
+    ($have:tt, $name:ident($($t:ty),*)) => {{
+        #[cfg(have = $have)]
+        {
+            unsafe extern "C" {
+                fn $name($(_: $t),*) -> u32;
+            }
+            Some($name as unsafe extern "C" fn($($t),*) -> u32)
+        }
+        #[cfg(not(have = $have))]
+        None
+    }};
+}
+/// The Rattle archive's functions.
+pub fn archive() -> Table {
+    Table {
+        root: linked!("bench_root", bench_root(u32, *mut u8, usize)),
+        blade_hit: linked!("bench_blade_hit", bench_blade_hit(*const u8, usize, *mut u8, usize)),
+        groups: linked!("bench_groups", bench_groups(*const u8, usize, u32, *const u8, usize, *mut u8, usize)),
+        rest_measure: linked!("bench_rest_measure", bench_rest_measure(*const u8, usize, *mut u8, usize)),
+        rest_measure_of: linked!(
+            "bench_rest_measure_of",
+            bench_rest_measure_of(*const u8, usize, *const u8, usize, *mut u8, usize)
+        ),
+        opens: linked!(
+            "bench_opens_without_confetti",
+            bench_opens_without_confetti(*const u8, usize, u32, *const u8, usize, u32, *mut u8, usize)
+        ),
+        pieces: linked!("bench_pieces", bench_pieces(*const u8, usize, *mut u8, usize)),
+    }
+}
+
+#[derive(Clone, Copy, Debug, PartialEq, Eq, PartialOrd, Ord)]
+pub enum Entry {
+    Root,
+    BladeHit,
+    Groups,
+    RestMeasure,
+    RestMeasureOf,
+    Opens,
+    Pieces,
+}
+pub const ENTRIES: [Entry; 7] = [
+    Entry::Root,
+    Entry::BladeHit,
+    Entry::Groups,
+    Entry::RestMeasure,
+    Entry::RestMeasureOf,
+    Entry::Opens,
+    Entry::Pieces,
+];
+impl Entry {
+    pub fn name(self) -> &'static str {
+        match self {
+            Entry::Root => "bench_root",
+            Entry::BladeHit => "bench_blade_hit",
+            Entry::Groups => "bench_groups",
+            Entry::RestMeasure => "bench_rest_measure",
+            Entry::RestMeasureOf => "bench_rest_measure_of",
+            Entry::Opens => "bench_opens_without_confetti",
+            Entry::Pieces => "bench_pieces",
+        }
+    }
+}
+impl Table {
+    pub fn has(&self, e: Entry) -> bool {
+        match e {
+            Entry::Root => self.root.is_some(),
+            Entry::BladeHit => self.blade_hit.is_some(),
+            Entry::Groups => self.groups.is_some(),
+            Entry::RestMeasure => self.rest_measure.is_some(),
+            Entry::RestMeasureOf => self.rest_measure_of.is_some(),
+            Entry::Opens => self.opens.is_some(),
+            Entry::Pieces => self.pieces.is_some(),
+        }
+    }
+}
+
+/// The arguments besides the image and the result bytes. A `length` is that of the bytes where it
+/// is another than the words'.
+#[derive(Clone, Debug)]
+pub enum Args {
+    Root { bits: u32 },
+    BladeHit { words: [u32; 8], length: Option<usize> },
+    Groups { v: u32, sides: Vec<u8> },
+    RestMeasure,
+    RestMeasureOf { list: Vec<u32>, length: Option<usize> },
+    Opens { v: u32, sides: Vec<u8>, minimum: u32 },
+    Pieces,
+}
+/// One call. Entries without a mesh have the empty image.
+#[derive(Clone, Debug)]
+pub struct Input {
+    pub image: Image,
+    pub args: Args,
+    /// Number of result bytes lent.
+    pub out: usize,
+}
+impl Input {
+    pub fn entry(&self) -> Entry {
+        match self.args {
+            Args::Root { .. } => Entry::Root,
+            Args::BladeHit { .. } => Entry::BladeHit,
+            Args::Groups { .. } => Entry::Groups,
+            Args::RestMeasure => Entry::RestMeasure,
+            Args::RestMeasureOf { .. } => Entry::RestMeasureOf,
+            Args::Opens { .. } => Entry::Opens,
+            Args::Pieces => Entry::Pieces,
+        }
+    }
+    /// The call as the C function gets it.
+    pub fn raw(&self) -> Raw {
+        let image = |second: Vec<u8>| (self.image.bytes(), second);
+        let (first, second) = match &self.args {
+            Args::Root { .. } => (vec![], vec![]),
+            Args::BladeHit { words, length } => (bytes_of(words, *length), vec![]),
+            Args::Groups { sides, .. } | Args::Opens { sides, .. } => image(sides.clone()),
+            Args::RestMeasureOf { list, length } => image(bytes_of(list, *length)),
+            Args::RestMeasure | Args::Pieces => image(vec![]),
+        };
+        let (number, minimum) = match self.args {
+            Args::Root { bits } => (bits, 0),
+            Args::Groups { v, .. } => (v, 0),
+            Args::Opens { v, minimum, .. } => (v, minimum),
+            _ => (0, 0),
+        };
+        Raw { entry: self.entry(), first, second, number, minimum, out: self.out }
+    }
+}
+
+/// A call as bytes and numbers; what an entry has no use for is empty or 0.
+#[derive(Clone, Debug, PartialEq)]
+pub struct Raw {
+    pub entry: Entry,
+    /// The image, or the blade's words.
+    pub first: Vec<u8>,
+    /// The sides, or the list.
+    pub second: Vec<u8>,
+    /// The particle, or the bits of the number.
+    pub number: u32,
+    pub minimum: u32,
+    /// Number of result bytes lent.
+    pub out: usize,
+}
+
+/// What a call did: its answer, the result bytes, and whether it wrote where it must not.
+#[derive(Clone, Debug, PartialEq)]
+pub struct Got {
+    pub refusal: u32,
+    pub out: Vec<u8>,
+    pub stray: Option<&'static str>,
+}
+
+/// Bytes that every lent place holds before a call, and that stand around it.
+pub const FILL: u8 = 0xa5;
+const GUARD: usize = 64;
+/// A slice between guards, at any alignment.
+struct Lent {
+    bytes: Vec<u8>,
+    at: usize,
+    len: usize,
+}
+impl Lent {
+    fn new(content: &[u8], shift: usize) -> Lent {
+        let at = GUARD + shift % 8;
+        let mut bytes = vec![FILL; at + content.len() + GUARD];
+        bytes[at..at + content.len()].copy_from_slice(content);
+        Lent { bytes, at, len: content.len() }
+    }
+    fn content(&self) -> &[u8] {
+        &self.bytes[self.at..self.at + self.len]
+    }
+    fn guarded(&self) -> bool {
+        let (front, back) = (&self.bytes[..self.at], &self.bytes[self.at + self.len..]);
+        front.iter().chain(back).all(|&b| b == FILL)
+    }
+    fn content_mut(&mut self) -> &mut [u8] {
+        &mut self.bytes[self.at..self.at + self.len]
+    }
+}
+
+/// Calls the entry on these bytes; `None` if the table lacks it.
+pub fn invoke(t: &Table, c: &Raw, first: &[u8], second: &[u8], out: &mut [u8]) -> Option<u32> {
+    let (pa, pb, po) = (first.as_ptr(), second.as_ptr(), out.as_mut_ptr());
+    let (na, nb, no) = (first.len(), second.len(), out.len());
+    // SAFETY: every pointer comes with the length of the bytes that stand there; the result bytes
+    // are borrowed alone.
+    Some(unsafe {
+        match c.entry {
+            Entry::Root => t.root?(c.number, po, no),
+            Entry::BladeHit => t.blade_hit?(pa, na, po, no),
+            Entry::Groups => t.groups?(pa, na, c.number, pb, nb, po, no),
+            Entry::RestMeasure => t.rest_measure?(pa, na, po, no),
+            Entry::RestMeasureOf => t.rest_measure_of?(pa, na, pb, nb, po, no),
+            Entry::Opens => t.opens?(pa, na, c.number, pb, nb, c.minimum, po, no),
+            Entry::Pieces => t.pieces?(pa, na, po, no),
+        }
+    })
+}
+
+/// Calls the entry between guards; `None` if the table lacks it.
+pub fn call(t: &Table, c: &Raw) -> Option<Got> {
+    let a = Lent::new(&c.first, c.first.len() / 4 + c.out);
+    let b = Lent::new(&c.second, c.second.len() + 3 * c.out + 1);
+    let mut o = Lent::new(&vec![FILL; c.out], c.out + 5);
+    let refusal = invoke(t, c, a.content(), b.content(), o.content_mut())?;
+    let stray = if a.content() != c.first || b.content() != c.second {
+        Some("it changed its input")
+    } else if !a.guarded() || !b.guarded() || !o.guarded() {
+        Some("it wrote beside what it was lent")
+    } else {
+        None
+    };
+    Some(Got { refusal, out: o.content().to_vec(), stray })
+}

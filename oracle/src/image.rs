@@ -1,0 +1,94 @@
+//! A mesh image (docs/C-FUNCTIONS.md): four counts, then the columns, little-endian words.
+use crate::api::*;
+
+/// A mesh and what is wrong with its image: other counts in front, another length.
+#[derive(Clone, Debug, Default)]
+pub struct Image {
+    pub mesh: Mesh,
+    pub counts: Option<[u32; 4]>,
+    pub length: Option<usize>,
+}
+
+/// The words as bytes, cut or padded with 0 to `length` where one is given.
+pub fn bytes_of(words: &[u32], length: Option<usize>) -> Vec<u8> {
+    let mut out: Vec<u8> = words.iter().flat_map(|w| w.to_le_bytes()).collect();
+    if let Some(n) = length {
+        out.resize(n, 0);
+    }
+    out
+}
+/// The whole words at the front of some bytes.
+pub fn words_of(bytes: &[u8]) -> Vec<u32> {
+    bytes.chunks_exact(4).map(|c| u32::from_le_bytes([c[0], c[1], c[2], c[3]])).collect()
+}
+
+impl Image {
+    pub fn new(mesh: Mesh) -> Image {
+        Image { mesh, counts: None, length: None }
+    }
+    pub fn counts(&self) -> [u32; 4] {
+        let m = &self.mesh;
+        self.counts.unwrap_or([m.px.len(), m.ta.len(), m.ea.len(), m.ba.len()].map(|n| n as u32))
+    }
+    pub fn bytes(&self) -> Vec<u8> {
+        let m = &self.mesh;
+        let mut w: Vec<u32> = self.counts().to_vec();
+        let f = |w: &mut Vec<u32>, c: &[&Vec<f32>]| w.extend(c.iter().flat_map(|c| c.iter().map(|x| x.to_bits())));
+        let n = |w: &mut Vec<u32>, c: &[&Vec<u32>]| w.extend(c.iter().flat_map(|c| c.iter()));
+        f(&mut w, &[&m.px, &m.py, &m.rx, &m.ry, &m.mass, &m.inv]);
+        n(&mut w, &[&m.root, &m.damaged]);
+        n(&mut w, &[&m.ta, &m.tb, &m.tc]);
+        f(&mut w, &[&m.volume, &m.tstress]);
+        n(&mut w, &[&m.ea, &m.eb, &m.structural, &m.torn]);
+        f(&mut w, &[&m.rest, &m.initial, &m.impulse, &m.estress]);
+        n(&mut w, &[&m.ba, &m.bb]);
+        bytes_of(&w, self.length)
+    }
+}
+
+/// The mesh of an image; `None` if its length is another than its counts ask for, or a count is
+/// above its limit (both are refusal 1).
+pub fn read(bytes: &[u8]) -> Option<Mesh> {
+    let w = words_of(bytes);
+    if bytes.len() < 16 {
+        return None;
+    }
+    let [np, nt, ne, nb] = [w[0] as usize, w[1] as usize, w[2] as usize, w[3] as usize];
+    if np > MAX_PARTICLES || nt > MAX_TRIANGLES || ne > MAX_EDGES || nb > MAX_BOUNDARY {
+        return None;
+    }
+    if bytes.len() != 4 * (4 + 8 * np + 5 * nt + 8 * ne + 2 * nb) {
+        return None;
+    }
+    let mut at = 4;
+    let mut take = |n: usize| {
+        at += n;
+        w[at - n..at].to_vec()
+    };
+    let f = |c: Vec<u32>| c.into_iter().map(f32::from_bits).collect();
+    Some(Mesh {
+        px: f(take(np)),
+        py: f(take(np)),
+        rx: f(take(np)),
+        ry: f(take(np)),
+        mass: f(take(np)),
+        inv: f(take(np)),
+        root: take(np),
+        damaged: take(np),
+        ta: take(nt),
+        tb: take(nt),
+        tc: take(nt),
+        volume: f(take(nt)),
+        tstress: f(take(nt)),
+        ea: take(ne),
+        eb: take(ne),
+        structural: take(ne),
+        torn: take(ne),
+        rest: f(take(ne)),
+        initial: f(take(ne)),
+        impulse: f(take(ne)),
+        estress: f(take(ne)),
+        ba: take(nb),
+        bb: take(nb),
+    })
+}

@@ -1,0 +1,399 @@
+//! Inputs for the C functions: random ones, large ones, ones at a limit, damaged ones.
+use crate::api::*;
+use crate::entries::{Args, Entry, Input};
+use crate::image::Image;
+use crate::meshgen;
+use crate::rng::Rng;
+use crate::second;
+
+#[derive(Clone, Copy, Debug, PartialEq, Eq)]
+pub enum Kind {
+    Random,
+    Large,
+    Limit,
+    Damaged,
+}
+pub const KINDS: [Kind; 4] = [Kind::Random, Kind::Large, Kind::Limit, Kind::Damaged];
+
+/// The call of this seed; the same on every machine.
+pub fn input(entry: Entry, kind: Kind, seed: u64) -> Input {
+    let mut r = Rng::new(seed ^ (entry as u64) << 56 ^ (kind as u64) << 48);
+    let r = &mut r;
+    let mesh = match (entry, kind) {
+        (Entry::Root | Entry::BladeHit, _) => Mesh::default(),
+        (_, Kind::Large) => large(r),
+        (_, Kind::Limit) => at_limit(r),
+        _ => meshgen::mesh(r),
+    };
+    let args = args(r, entry, kind, &mesh);
+    let mut i = Input { image: Image::new(mesh), args, out: 0 };
+    let need = need(&i);
+    i.out = match kind {
+        Kind::Limit => r.pick(&[need, need, need, need + 1, need - 1, 0]),
+        _ => need + r.pick(&[0, 0, 1, 3, 4, 17, 200]),
+    };
+    if kind == Kind::Damaged {
+        for _ in 0..1 + r.below(2) {
+            damage(r, &mut i);
+        }
+    }
+    i
+}
+
+/// Bytes of the answer.
+pub fn need(i: &Input) -> usize {
+    match &i.args {
+        Args::Groups { sides, .. } => 4 + 4 * sides.len(),
+        Args::BladeHit { .. } => 8,
+        _ => 4,
+    }
+}
+
+fn args(r: &mut Rng, entry: Entry, kind: Kind, m: &Mesh) -> Args {
+    let n = m.px.len() as u32;
+    let v = if n == 0 { 0 } else { r.below(n) };
+    // A large mesh is also asked at its busiest particle.
+    let v = if kind == Kind::Large && r.chance(2) { busiest(m) } else { v };
+    match entry {
+        Entry::Root => Args::Root { bits: root_bits(r, kind) },
+        Entry::BladeHit => Args::BladeHit { words: blade_words(r, kind), length: None },
+        Entry::Groups => Args::Groups { v, sides: sides(r, m, v) },
+        Entry::RestMeasure => Args::RestMeasure,
+        Entry::RestMeasureOf => {
+            let keep = r.pick(&[1, 2, 8, 100]);
+            let list = (0..n).filter(|_| keep == 1 || !r.chance(keep)).collect();
+            Args::RestMeasureOf { list, length: None }
+        }
+        Entry::Opens => {
+            let minimum = r.pick(&[0, 1, 1, 2, 3, 3, 4, 5, 8, 20, 500, u32::MAX]);
+            Args::Opens { v, sides: sides(r, m, v), minimum }
+        }
+        Entry::Pieces => Args::Pieces,
+    }
+}
+fn sides(r: &mut Rng, m: &Mesh, v: u32) -> Vec<u8> {
+    meshgen::sides(r, m, v).into_iter().map(|s| s as u8).collect()
+}
+/// A particle that most elements hold.
+fn busiest(m: &Mesh) -> u32 {
+    let k = second::kind(m);
+    let mut held = vec![0; m.px.len()];
+    for e in second::elements(m, k) {
+        for w in second::corners(m, k, e) {
+            held[w as usize] += 1;
+        }
+    }
+    (0..m.px.len()).max_by_key(|&v| held[v]).unwrap_or(0) as u32
+}
+
+fn root_bits(r: &mut Rng, kind: Kind) -> u32 {
+    let edges =
+        [0, 1, 2, 0x7f_ffff, 0x80_0000, 0x80_0001, 0x3f7f_ffff, 0x3f80_0000, 0x3f80_0001, 0x4080_0000, 0x7f7f_ffff];
+    let bad = [0x8000_0000, 0x8000_0001, 0xbf80_0000, 0x7f80_0000, 0xff80_0000, 0x7fc0_0000, 0x7f80_0001, 0xffff_ffff];
+    match kind {
+        Kind::Random => match r.below(4) {
+            0 => (r.below(1 << 24) as f32).to_bits(),
+            1 => {
+                // Squares and their neighbours, where rounding turns.
+                let x = r.below(1 << 12) as f32 + 0.5 * r.below(2) as f32;
+                ((x * x).to_bits() + r.below(3)).saturating_sub(1)
+            }
+            2 => r.below(1 << 23),
+            _ => r.below(0x7f80_0000),
+        },
+        Kind::Large => 0x7f7f_ffff - r.below(1 << 24),
+        Kind::Limit => r.pick(&edges),
+        Kind::Damaged => r.pick(&bad),
+    }
+}
+fn blade_words(r: &mut Rng, kind: Kind) -> [u32; 8] {
+    let m = meshgen::mesh(r);
+    let b = meshgen::blade(r, &m);
+    let mood = if kind == Kind::Large { r.pick(&[4, 7, 8]) } else { r.below(9) };
+    let mut w = [b.x0, b.y0, b.x1, b.y1, 0.0, 0.0, 0.0, 0.0];
+    for k in 4..8 {
+        let base = r.below(6) as f32;
+        w[k] = meshgen::coordinate(r, mood, base);
+    }
+    if r.chance(2) && !m.px.is_empty() {
+        for (k, i) in [(4, r.below(m.px.len() as u32)), (6, r.below(m.px.len() as u32))] {
+            (w[k], w[k + 1]) = (m.px[i as usize], m.py[i as usize]);
+        }
+    }
+    if kind == Kind::Large && r.chance(2) {
+        let scale = r.pick(&[1.0, 1000.0, 150_000.0]);
+        w = w.map(|x| (x * scale).clamp(-MAX_NUMBER, MAX_NUMBER));
+    }
+    if kind == Kind::Limit {
+        let k = r.below(8) as usize;
+        w[k] = limit_number(r, MAX_NUMBER);
+    }
+    w.map(f32::to_bits)
+}
+/// The largest magnitude that passes, the next one, and zeros of both signs.
+fn limit_number(r: &mut Rng, most: f32) -> f32 {
+    let over = f32::from_bits(most.to_bits() + 1);
+    r.pick(&[most, -most, over, -over, -0.0, 1.0e-45, -1.0e-45])
+}
+
+/// Grids, nets, ropes, stars and soups up to the limits.
+pub fn large(r: &mut Rng) -> Mesh {
+    let mut m = match r.below(5) {
+        0 | 1 => {
+            let (w, h) = (8 + r.below(15), 8 + r.below(15));
+            let jitter = r.pick(&[0.0, 0.2]);
+            meshgen::grid(w, h, r, jitter)
+        }
+        2 => rope(2 + r.below(1023)),
+        3 => {
+            let n = 100 + r.below(400);
+            star(r, n)
+        }
+        _ => {
+            let (p, t, e) = (200 + r.below(825), 100 + r.below(900), r.below(1000));
+            soup(r, p, t, e)
+        }
+    };
+    if r.chance(4) && !m.ta.is_empty() && !m.ea.is_empty() {
+        (m.ta, m.tb, m.tc) = (vec![], vec![], vec![]);
+        (m.volume, m.tstress) = (vec![], vec![]);
+    }
+    m
+}
+/// n particles in a row, joined by straps, with bend edges over each.
+pub fn rope(n: u32) -> Mesh {
+    let mut m = Mesh::default();
+    for i in 0..n {
+        m.particle(i as f32 * 0.5, (i % 2) as f32, 1.0, i == 0);
+    }
+    for i in 0..n - 1 {
+        m.edge(i, i + 1, true, 0.5);
+        m.bound(i, i + 1);
+    }
+    for i in 0..n.saturating_sub(2) {
+        m.edge(i, i + 2, false, 1.0);
+    }
+    m
+}
+/// Many triangles around particle 0, in runs that touch each other in 0 alone.
+fn star(r: &mut Rng, n: u32) -> Mesh {
+    let mut m = Mesh::default();
+    m.particle(0.0, 0.0, 1.0, false);
+    for i in 0..=n {
+        let a = i as f32 * 0.05;
+        m.particle(a.cos() * 9.0, a.sin() * 9.0, 1.0, false);
+        m.edge(0, i + 1, r.chance(2), 9.0);
+    }
+    for i in 1..=n {
+        if !r.chance(20) {
+            m.triangle(0, i, i + 1, r.span(-2.0, 2.0));
+        }
+    }
+    m
+}
+/// Triangles and edges between any particles.
+pub fn soup(r: &mut Rng, particles: u32, triangles: u32, edges: u32) -> Mesh {
+    let mut m = Mesh::default();
+    for _ in 0..particles {
+        let (x, y) = (r.span(-9.0, 9.0), r.span(-9.0, 9.0));
+        m.particle(x, y, 1.0, false);
+    }
+    let near = |r: &mut Rng, a: u32| (a + 1 + r.below(3.min(particles - 1))) % particles;
+    for _ in 0..triangles {
+        let a = r.below(particles);
+        let b = near(r, a);
+        let c = near(r, b);
+        if c != a {
+            m.triangle(a, b, c, r.span(-3.0, 3.0));
+        }
+    }
+    for _ in 0..edges {
+        let a = r.below(particles);
+        m.edge(a, near(r, a), r.chance(2), r.span(0.0, 3.0));
+    }
+    m
+}
+
+/// A small mesh with one list filled up to its limit or one beyond, or one number at its limit.
+fn at_limit(r: &mut Rng) -> Mesh {
+    let mut m = meshgen::mesh(r);
+    while m.px.len() < 3 {
+        m.particle(0.0, 1.0, 1.0, false);
+    }
+    let more = r.below(2) as usize;
+    let n = m.px.len() as u32;
+    let at = |r: &mut Rng, k: usize| r.below(k as u32) as usize;
+    match r.below(12) {
+        k @ 0..=3 => fill(&mut m, k, more),
+        // Every list is full.
+        10 => (0..4).for_each(|k| fill(&mut m, k, 0)),
+        4 => {
+            let (i, x) = (at(r, n as usize), limit_number(r, MAX_NUMBER));
+            let k = r.below(6) as usize;
+            [&mut m.px, &mut m.py, &mut m.rx, &mut m.ry, &mut m.mass, &mut m.inv][k][i] = x;
+        }
+        5 if !m.ta.is_empty() => {
+            let i = at(r, m.ta.len());
+            if r.chance(2) {
+                m.volume[i] = limit_number(r, MAX_VOLUME)
+            } else {
+                m.tstress[i] = limit_number(r, MAX_NUMBER)
+            }
+        }
+        6 if !m.ea.is_empty() => {
+            let (i, x) = (at(r, m.ea.len()), limit_number(r, MAX_NUMBER));
+            let k = r.below(4) as usize;
+            [&mut m.rest, &mut m.initial, &mut m.impulse, &mut m.estress][k][i] = x;
+        }
+        7 => {
+            let i = at(r, n as usize);
+            m.inv[i] = r.pick(&[f32::MAX, -f32::MAX, 1.0e-45]);
+        }
+        8 => {
+            let i = at(r, n as usize);
+            m.root[i] = n - 1 + more as u32;
+        }
+        9 => m = Mesh::default(),
+        _ => {}
+    }
+    m
+}
+
+/// Fills list `k` up to its limit, or `more` beyond.
+fn fill(m: &mut Mesh, k: u32, more: usize) {
+    let n = m.px.len() as u32;
+    let near = |i: usize, step: u32| (i as u32 + step) % n;
+    match k {
+        0 => (m.px.len()..MAX_PARTICLES + more).for_each(|_| {
+            m.particle(1.0, 2.0, 1.0, false);
+        }),
+        1 => (m.ta.len()..MAX_TRIANGLES + more).for_each(|i| m.triangle(near(i, 0), near(i, 1), near(i, 2), 0.25)),
+        2 => (m.ea.len()..MAX_EDGES + more).for_each(|i| m.edge(near(i, 0), near(i, 1), i % 40 == 0, 0.25)),
+        _ => (m.ba.len()..MAX_BOUNDARY + more).for_each(|i| m.bound(near(i, 0), near(i, 1))),
+    }
+}
+
+/// Patterns out of range in one column or another.
+const BAD_NUMBERS: [u32; 12] = [
+    0x7fc0_0000,
+    0x7f80_0001,
+    0xffc0_0001,
+    0x7f80_0000,
+    0xff80_0000,
+    0x7f7f_ffff,
+    0x4980_0001,
+    0xc980_0001,
+    0x4a80_0001,
+    0xca80_0001,
+    0x8000_0001,
+    0xbf80_0000,
+];
+/// One fault of those that checks 1 to 4 look for (now and then it misses).
+fn damage(r: &mut Rng, i: &mut Input) {
+    let arguments = matches!(i.entry(), Entry::Root | Entry::BladeHit) || r.chance(3);
+    if arguments {
+        return damage_arguments(r, i);
+    }
+    let m = &mut i.image.mesh;
+    let n = m.px.len() as u32;
+    match r.below(6) {
+        0 => {
+            i.image.length = None;
+            let len = i.image.bytes().len();
+            let other = [len + 1, len - 1, len + 4, len - 4, len - 16, 0, 3, 4, 12, 15, 16, len / 2, len / 2 & !3];
+            i.image.length = Some(r.pick(&other));
+        }
+        1 => {
+            i.image.counts = None;
+            let mut c = i.image.counts();
+            let k = r.below(4) as usize;
+            // The last two ask for the same length in 32 bits.
+            c[k] =
+                r.pick(&[c[k] + 1, c[k].saturating_sub(1), 1025, 2049, u32::MAX, c[k] + (1 << 29), c[k] + (1 << 31)]);
+            i.image.counts = Some(c);
+        }
+        2 | 3 => {
+            let k = r.below(12) as usize;
+            let column = &mut *m.floats_mut()[k];
+            if !column.is_empty() {
+                let at = r.below(column.len() as u32) as usize;
+                column[at] = f32::from_bits(r.pick(&BAD_NUMBERS));
+            }
+        }
+        4 => {
+            // Flags (1, 7, 8) and indices (the rest).
+            let k = r.below(11) as usize;
+            let column = &mut *m.numbers_mut()[k];
+            if !column.is_empty() {
+                let at = r.below(column.len() as u32) as usize;
+                column[at] = match k {
+                    1 | 7 | 8 => r.pick(&[2, 3, 256, 0x1_0000, u32::MAX]),
+                    _ => r.pick(&[n, n + 1, 1024, 1 << 31, u32::MAX]),
+                };
+            }
+        }
+        _ => double(r, m),
+    }
+}
+/// One particle named twice.
+fn double(r: &mut Rng, m: &mut Mesh) {
+    let which = r.below(5);
+    let at = |r: &mut Rng, k: usize| r.below(k as u32) as usize;
+    match which {
+        0..=2 if !m.ta.is_empty() => {
+            let i = at(r, m.ta.len());
+            match which {
+                0 => m.ta[i] = m.tb[i],
+                1 => m.tb[i] = m.tc[i],
+                _ => m.tc[i] = m.ta[i],
+            }
+        }
+        3 if !m.ea.is_empty() => {
+            let i = at(r, m.ea.len());
+            m.ea[i] = m.eb[i];
+        }
+        _ if !m.ba.is_empty() => {
+            let i = at(r, m.ba.len());
+            m.ba[i] = m.bb[i];
+        }
+        _ => {}
+    }
+}
+fn damage_arguments(r: &mut Rng, i: &mut Input) {
+    let n = i.image.mesh.px.len() as u32;
+    let need = need(i);
+    match &mut i.args {
+        _ if r.chance(4) => i.out = r.pick(&[0, 1, need - 1, need - 4, need / 2]),
+        Args::BladeHit { words, length } => match r.below(3) {
+            0 => *length = Some(r.pick(&[0, 1, 4, 28, 31, 33, 36, 64])),
+            _ => words[r.below(8) as usize] = r.pick(&BAD_NUMBERS),
+        },
+        Args::Groups { v, sides } | Args::Opens { v, sides, .. } => match r.below(4) {
+            0 => *v = r.pick(&[n, n + 1, 1024, 1 << 31, u32::MAX]),
+            1 => sides.push(r.below(2) as u8),
+            2 => {
+                sides.pop();
+            }
+            _ => {
+                let k = sides.len() as u32;
+                if k > 0 {
+                    sides[r.below(k) as usize] = r.pick(&[2, 3, 128, 255]);
+                }
+            }
+        },
+        Args::RestMeasureOf { list, length } => {
+            let k = list.len() as u32;
+            match r.below(5) {
+                0 if k > 1 => list.swap(0, 1),
+                1 if k > 1 => {
+                    let at = 1 + r.below(k - 1) as usize;
+                    list[at] = list[at - 1];
+                }
+                2 if k > 1 => list.reverse(),
+                3 => *length = Some(4 * list.len() + r.pick(&[1, 2, 3])),
+                _ => list.push(r.pick(&[n, n + 1, u32::MAX])),
+            }
+        }
+        _ => {}
+    }
+}

@@ -1,0 +1,30 @@
+//! The programs; the first word names one.
+mod bench;
+mod check;
+mod compare;
+mod cutlist;
+mod fuzz;
+mod replay;
+mod vectors;
+
+/// Runs the program and gives its exit code.
+pub fn start(words: &[String]) -> i32 {
+    let Some((name, rest)) = words.split_first() else {
+        eprintln!("oracle check | fuzz | compare | faults | replay | bench | vectors | cutlist (see oracle/README.md)");
+        return 2;
+    };
+    match name.as_str() {
+        "check" => check::run(),
+        "fuzz" => fuzz::run(rest),
+        "compare" => compare::run(rest),
+        "faults" => compare::faults(rest),
+        "replay" => replay::run(rest),
+        "bench" => bench::run(rest),
+        "vectors" => vectors::run(rest),
+        "cutlist" => cutlist::run(rest),
+        _ => {
+            eprintln!("oracle: no program {name}");
+            2
+        }
+    }
+}

@@ -1,0 +1,945 @@
+//! A second, independent writing of the kept functions: plain columns, index loops, no maps, no
+//! closures over the body, no early exits that a definition would not have. It fixes the order of
+//! the effects that can be seen; `fuzz` compares it with the oracle.
+use crate::api::{Blade, Entry, Mesh, Outcome, Step, StepKind};
+
+type V2 = (f32, f32);
+fn sub(a: V2, b: V2) -> V2 {
+    (a.0 - b.0, a.1 - b.1)
+}
+fn add(a: V2, b: V2) -> V2 {
+    (a.0 + b.0, a.1 + b.1)
+}
+fn dot(a: V2, b: V2) -> f32 {
+    a.0 * b.0 + a.1 * b.1
+}
+fn length(a: V2) -> f32 {
+    dot(a, a).sqrt()
+}
+fn lerp(p: V2, q: V2, t: f32) -> V2 {
+    let s = 1.0 - t;
+    (p.0 * s + q.0 * t, p.1 * s + q.1 * t)
+}
+pub fn inv(x: f32) -> f32 {
+    if x >= -1.0e-20 && x <= 1.0e-20 { 0.0 } else { 1.0 / x }
+}
+fn pos(m: &Mesh, i: u32) -> V2 {
+    (m.px[i as usize], m.py[i as usize])
+}
+fn rest(m: &Mesh, i: u32) -> V2 {
+    (m.rx[i as usize], m.ry[i as usize])
+}
+
+// ---- leaves -------------------------------------------------------------------------------
+
+fn normal(b: Blade) -> V2 {
+    let d = sub((b.x1, b.y1), (b.x0, b.y0));
+    (-d.1, d.0)
+}
+pub fn offset(b: Blade, p: V2) -> f32 {
+    dot(normal(b), sub(p, (b.x0, b.y0)))
+}
+pub fn blade_hit(b: Blade, p: V2, q: V2) -> Option<f32> {
+    let (dp, dq) = (offset(b, p), offset(b, q));
+    if dp * dq > 0.0 || dp == dq {
+        return None;
+    }
+    let mut t = dp / (dp - dq);
+    if t < 0.0 {
+        t = 0.0;
+    }
+    if t > 1.0 {
+        t = 1.0;
+    }
+    let (s, end) = along(b, p, q, t);
+    if s >= 0.0 && s <= end { Some(t) } else { None }
+}
+/// How far along the blade the hit point lies, and where the blade ends.
+fn along(b: Blade, p: V2, q: V2, t: f32) -> (f32, f32) {
+    let step = sub(q, p);
+    let hit = add(p, (step.0 * t, step.1 * t));
+    let d = sub((b.x1, b.y1), (b.x0, b.y0));
+    (dot(sub(hit, (b.x0, b.y0)), d), dot(d, d))
+}
+/// Whether the hit point lies strictly between the blade's ends (a mistake to rule out).
+pub fn blade_inside(b: Blade, p: V2, q: V2, t: f32) -> bool {
+    let (s, end) = along(b, p, q, t);
+    s > 0.0 && s < end
+}
+
+// ---- elements, fans, groups ---------------------------------------------------------------
+
+#[derive(Copy, Clone, PartialEq, Eq, Debug)]
+pub enum Kind {
+    Nothing,
+    Triangles,
+    Straps,
+}
+pub fn kind(m: &Mesh) -> Kind {
+    if !m.ta.is_empty() {
+        Kind::Triangles
+    } else if m.structural.contains(&1) {
+        Kind::Straps
+    } else {
+        Kind::Nothing
+    }
+}
+/// The elements: their numbers, rising.
+pub fn elements(m: &Mesh, k: Kind) -> Vec<u32> {
+    match k {
+        Kind::Nothing => vec![],
+        Kind::Triangles => (0..m.ta.len() as u32).collect(),
+        Kind::Straps => (0..m.ea.len() as u32).filter(|&i| m.structural[i as usize] == 1).collect(),
+    }
+}
+pub fn corners(m: &Mesh, k: Kind, e: u32) -> Vec<u32> {
+    let e = e as usize;
+    match k {
+        Kind::Triangles => vec![m.ta[e], m.tb[e], m.tc[e]],
+        _ => vec![m.ea[e], m.eb[e]],
+    }
+}
+pub fn measure(m: &Mesh, k: Kind, e: u32) -> f32 {
+    match k {
+        Kind::Triangles => m.volume[e as usize].abs(),
+        _ => m.initial[e as usize],
+    }
+}
+pub fn fan(m: &Mesh, k: Kind, v: u32) -> Vec<u32> {
+    elements(m, k).into_iter().filter(|&e| corners(m, k, e).contains(&v)).collect()
+}
+fn shared_others(a: &[u32], b: &[u32], v: u32) -> usize {
+    a.iter().filter(|x| **x != v && b.contains(x)).count()
+}
+/// Shared particles besides v that make two fan elements neighbours (`facet_others`).
+fn facet_others(k: Kind) -> usize {
+    (k == Kind::Triangles) as usize
+}
+/// Labels: the least fan place joined to each place by a chain of neighbours.
+pub fn groups_of(needed: usize, fans: &[Vec<u32>], sides: &[u32], v: u32) -> (Vec<u32>, u32) {
+    let n = fans.len();
+    let mut label: Vec<usize> = (0..n).collect();
+    loop {
+        let mut moved = false;
+        for i in 0..n {
+            for j in 0..n {
+                if sides[i] == sides[j] && shared_others(&fans[i], &fans[j], v) >= needed && label[j] < label[i] {
+                    label[i] = label[j];
+                    moved = true;
+                }
+            }
+        }
+        if !moved {
+            break;
+        }
+    }
+    // First appearance: a place whose label is itself. Side 0 before side 1.
+    let mut number = vec![0u32; n];
+    let mut count = 0;
+    for side in 0..2 {
+        for i in 0..n {
+            if sides[i] == side && label[i] == i {
+                number[i] = count;
+                count += 1;
+            }
+        }
+    }
+    ((0..n).map(|i| number[label[i]]).collect(), count)
+}
+
+pub fn rest_measure(m: &Mesh) -> f32 {
+    let k = kind(m);
+    let mut total = 0.0;
+    for e in elements(m, k) {
+        total += measure(m, k, e);
+    }
+    total
+}
+pub fn rest_measure_of(m: &Mesh, list: &[u32]) -> f32 {
+    let k = kind(m);
+    let mut total = 0.0;
+    for e in elements(m, k) {
+        if corners(m, k, e).iter().all(|w| list.contains(w)) {
+            total += measure(m, k, e);
+        }
+    }
+    total
+}
+
+/// The elements reached from the marked ones: `near` says which two touch.
+fn reached(n: usize, start: Vec<bool>, near: impl Fn(usize, usize) -> bool) -> Vec<bool> {
+    let mut list: Vec<usize> = (0..n).filter(|&i| start[i]).collect();
+    let mut marked = start;
+    let mut next = 0;
+    while next < list.len() {
+        let j = list[next];
+        next += 1;
+        for i in 0..n {
+            if !marked[i] && near(i, j) {
+                marked[i] = true;
+                list.push(i);
+            }
+        }
+    }
+    marked
+}
+/// Every group reaches at least `min` elements across facets without `v`, through the whole body.
+pub fn opens(m: &Mesh, k: Kind, v: u32, fan: &[u32], groups: &[u32], count: u32, min: u32) -> bool {
+    let facet = if k == Kind::Triangles { 2 } else { 1 };
+    opens_within(m, k, &elements(m, k), v, facet, fan, groups, count, min)
+}
+/// The same among the elements `within`, where `facet` shared particles besides `v` touch.
+pub fn opens_within(
+    m: &Mesh,
+    k: Kind,
+    within: &[u32],
+    v: u32,
+    facet: usize,
+    fan: &[u32],
+    groups: &[u32],
+    count: u32,
+    min: u32,
+) -> bool {
+    let all: Vec<Vec<u32>> = within.iter().map(|&e| corners(m, k, e)).collect();
+    (0..count).all(|g| {
+        let start = within.iter().map(|e| fan.iter().zip(groups).any(|(f, h)| f == e && *h == g)).collect();
+        let marked = reached(all.len(), start, |i, j| shared_others(&all[i], &all[j], v) >= facet);
+        marked.iter().filter(|&&r| r).count() >= min as usize
+    })
+}
+
+/// Document 01's pieces: sets of elements that chains of shared particles join.
+pub fn pieces(m: &Mesh) -> u32 {
+    let k = kind(m);
+    let all: Vec<Vec<u32>> = elements(m, k).iter().map(|&e| corners(m, k, e)).collect();
+    pieces_of(&all, all.len(), 1)
+}
+/// The number of sets with one of the first `count` members, where `joins` shared particles join.
+pub fn pieces_of(all: &[Vec<u32>], count: usize, joins: usize) -> u32 {
+    let mut done = vec![false; all.len()];
+    let mut sets = 0;
+    for i in 0..count {
+        if done[i] {
+            continue;
+        }
+        sets += 1;
+        let start = (0..all.len()).map(|j| j == i).collect();
+        // No particle has this number, so all shared ones count.
+        let marked = reached(all.len(), start, |i, j| shared_others(&all[i], &all[j], u32::MAX) >= joins);
+        for j in 0..all.len() {
+            done[j] |= marked[j];
+        }
+    }
+    sets
+}
+
+// ---- the run ------------------------------------------------------------------------------
+
+struct Run {
+    m: Mesh,
+    log: Vec<Entry>,
+    steps: Vec<Step>,
+}
+impl Run {
+    fn new(m: &Mesh) -> Run {
+        let mut r = Run { m: m.clone(), log: vec![], steps: vec![] };
+        r.step(StepKind::Copy, m.ea.len(), m.ba.len());
+        r
+    }
+    fn step(&mut self, kind: StepKind, edges: usize, boundary: usize) {
+        let (particles, log) = (self.m.px.len(), self.log.len());
+        self.steps.push(Step { kind, particles, edges, boundary, log });
+    }
+    fn done(self) -> Outcome {
+        let changed = self.log.iter().any(|e| matches!(e, Entry::Split { .. } | Entry::Insert { .. }));
+        Outcome { changed, mesh: self.m, log: self.log, steps: self.steps }
+    }
+    fn splits(&self) -> Vec<(u32, u32)> {
+        self.log
+            .iter()
+            .filter_map(|e| match *e {
+                Entry::Split { copy, source } => Some((copy, source)),
+                _ => None,
+            })
+            .collect()
+    }
+    fn drop_edges(&mut self, gone: &[bool]) {
+        let m = &mut self.m;
+        for i in 0..gone.len() {
+            if gone[i] {
+                self.log.push(Entry::Removed { a: m.ea[i], b: m.eb[i] });
+            }
+        }
+        fn keep<T: Copy>(c: &mut Vec<T>, gone: &[bool]) {
+            *c = (0..gone.len()).filter(|&i| !gone[i]).map(|i| c[i]).collect();
+        }
+        keep(&mut m.ea, gone);
+        keep(&mut m.eb, gone);
+        keep(&mut m.structural, gone);
+        keep(&mut m.torn, gone);
+        keep(&mut m.rest, gone);
+        keep(&mut m.initial, gone);
+        keep(&mut m.impulse, gone);
+        keep(&mut m.estress, gone);
+    }
+    fn push_edge_like(&mut self, i: usize, a: u32, b: u32) -> usize {
+        let m = &mut self.m;
+        m.ea.push(a);
+        m.eb.push(b);
+        m.structural.push(m.structural[i]);
+        m.torn.push(m.torn[i]);
+        m.rest.push(m.rest[i]);
+        m.initial.push(m.initial[i]);
+        m.impulse.push(m.impulse[i]);
+        m.estress.push(m.estress[i]);
+        m.ea.len() - 1
+    }
+    fn push_particle_like(&mut self, i: usize) -> usize {
+        let m = &mut self.m;
+        m.px.push(m.px[i]);
+        m.py.push(m.py[i]);
+        m.rx.push(m.rx[i]);
+        m.ry.push(m.ry[i]);
+        m.mass.push(m.mass[i]);
+        m.inv.push(m.inv[i]);
+        m.root.push(m.root[i]);
+        m.damaged.push(m.damaged[i]);
+        m.px.len() - 1
+    }
+
+    /// The group whose fan points toward particle `x` (which no fan element holds).
+    fn toward(&self, v: u32, fans: &[Vec<u32>], groups: &[u32], x: u32) -> u32 {
+        // 0 + d: the source adds to a zero vector (-0 becomes +0).
+        let dir = add((0.0, 0.0), sub(rest(&self.m, x), rest(&self.m, v)));
+        let mut best = -f32::MAX;
+        let mut group = 0;
+        for i in 0..fans.len() {
+            for &w in &fans[i] {
+                if w == v {
+                    continue;
+                }
+                let d = sub(rest(&self.m, w), rest(&self.m, v));
+                let size = length(d) * length(dir);
+                let size = if size < 1.0e-12 { 1.0e-12 } else { size };
+                let score = dot(d, dir) / size;
+                if score > best {
+                    best = score;
+                    group = groups[i];
+                }
+            }
+        }
+        group
+    }
+
+    /// One split step. `false`, and nothing changed, with fewer than two groups or a pinned `v`.
+    fn split(&mut self, k: Kind, v: u32, fan: &[u32], groups: &[u32], count: u32) -> bool {
+        if count < 2 || self.m.inv[v as usize] == 0.0 {
+            return false;
+        }
+        let n = fan.len();
+        let old: Vec<Vec<u32>> = fan.iter().map(|&e| corners(&self.m, k, e)).collect();
+        // 1. masses and copies
+        let mut weights = vec![0.0f32; count as usize];
+        for i in 0..n {
+            weights[groups[i] as usize] += measure(&self.m, k, fan[i]);
+        }
+        let mut total = 0.0f32;
+        for w in &weights {
+            total += w;
+        }
+        let source_mass = self.m.mass[v as usize];
+        let mut copies = vec![];
+        for g in 0..count as usize {
+            let mass = if total > 0.0 { source_mass * weights[g] / total } else { source_mass / count as f32 };
+            let at = if g == 0 { v as usize } else { self.push_particle_like(v as usize) };
+            self.m.mass[at] = mass;
+            self.m.inv[at] = inv(mass);
+            if g != 0 {
+                self.log.push(Entry::Split { copy: at as u32, source: v });
+            }
+            copies.push(at as u32);
+        }
+        // 2. ring: the groups of the fan elements that hold w, rising
+        let ring = |w: u32| -> Vec<u32> {
+            (0..count).filter(|&g| (0..n).any(|i| groups[i] == g && old[i].contains(&w))).collect()
+        };
+        // 3. elements
+        for i in 0..n {
+            if groups[i] == 0 {
+                continue;
+            }
+            let to = copies[groups[i] as usize];
+            let e = fan[i] as usize;
+            let m = &mut self.m;
+            let columns: Vec<&mut Vec<u32>> = match k {
+                Kind::Triangles => vec![&mut m.ta, &mut m.tb, &mut m.tc],
+                _ => vec![&mut m.ea, &mut m.eb],
+            };
+            for c in columns {
+                if c[e] == v {
+                    c[e] = to;
+                }
+            }
+        }
+        // 4. the other edges at v, in list order; copies appended at the end in that order
+        let is_element = |m: &Mesh, i: usize| k == Kind::Straps && m.structural[i] == 1;
+        let before = self.m.ea.len();
+        for i in 0..before {
+            if is_element(&self.m, i) || (self.m.ea[i] != v && self.m.eb[i] != v) {
+                continue;
+            }
+            let first = self.m.ea[i] == v;
+            let x = if first { self.m.eb[i] } else { self.m.ea[i] };
+            let gs = ring(x);
+            let g = match gs.first() {
+                Some(&g) => g,
+                None => self.toward(v, &old, groups, x),
+            };
+            let ends = |c: u32| if first { (c, x) } else { (x, c) };
+            (self.m.ea[i], self.m.eb[i]) = ends(copies[g as usize]);
+            for &other in gs.iter().skip(1) {
+                let (a, b) = ends(copies[other as usize]);
+                let at = self.push_edge_like(i, a, b);
+                self.m.impulse[at] = 0.0;
+            }
+        }
+        let longest = self.m.ea.len();
+        // 5. straddlers, in list order
+        let all = elements(&self.m, k);
+        let gone: Vec<bool> = (0..longest)
+            .map(|i| {
+                let (x, y) = (self.m.ea[i], self.m.eb[i]);
+                if is_element(&self.m, i) || copies.contains(&x) || copies.contains(&y) {
+                    return false;
+                }
+                let (gx, gy) = (ring(x), ring(y));
+                !gx.is_empty()
+                    && !gy.is_empty()
+                    && !gx.iter().any(|g| gy.contains(g))
+                    && !all.iter().any(|&e| {
+                        let c = corners(&self.m, k, e);
+                        c.contains(&x) && c.contains(&y)
+                    })
+            })
+            .collect();
+        self.drop_edges(&gone);
+        // 6. boundary at v, in list order: the first fan element that holds both ends
+        for i in 0..self.m.ba.len() {
+            let (a, b) = (self.m.ba[i], self.m.bb[i]);
+            if a != v && b != v {
+                continue;
+            }
+            let x = if a == v { b } else { a };
+            let g = match (0..n).find(|&i| old[i].contains(&x)) {
+                Some(i) => groups[i],
+                None => self.toward(v, &old, groups, x),
+            };
+            if a == v {
+                self.m.ba[i] = copies[g as usize];
+            } else {
+                self.m.bb[i] = copies[g as usize];
+            }
+        }
+        // 7. crack facets: pairs of fan triangles in different groups that share exactly one more
+        if k == Kind::Triangles {
+            for i in 0..n {
+                for j in i + 1..n {
+                    if groups[i] == groups[j] || shared_others(&old[i], &old[j], v) != 1 {
+                        continue;
+                    }
+                    let w = *old[i].iter().find(|x| **x != v && old[j].contains(x)).unwrap();
+                    for t in [i, j] {
+                        let c = corners(&self.m, k, fan[t]);
+                        let copy = copies[groups[t] as usize];
+                        for (p, q) in [(c[0], c[1]), (c[1], c[2]), (c[2], c[0])] {
+                            if (p == copy && q == w) || (p == w && q == copy) {
+                                self.m.bound(p, q);
+                                break;
+                            }
+                        }
+                    }
+                }
+            }
+        }
+        self.step(StepKind::Split, longest, self.m.ba.len());
+        true
+    }
+
+    fn split_by_sides(&mut self, k: Kind, v: u32, sides: &[u32]) -> bool {
+        let f = fan(&self.m, k, v);
+        let fans: Vec<Vec<u32>> = f.iter().map(|&e| corners(&self.m, k, e)).collect();
+        let (g, count) = groups_of(facet_others(k), &fans, sides, v);
+        self.split(k, v, &f, &g, count)
+    }
+
+    fn split_by_blade(&mut self, k: Kind, v: u32, blade: Blade) -> bool {
+        let f = fan(&self.m, k, v);
+        if f.len() < 2 {
+            return false;
+        }
+        let raw: Vec<bool> = f
+            .iter()
+            .map(|&e| {
+                let c = corners(&self.m, k, e);
+                let mut sum = (0.0, 0.0);
+                for &w in &c {
+                    sum = add(sum, pos(&self.m, w));
+                }
+                let n = c.len() as f32;
+                offset(blade, (sum.0 / n, sum.1 / n)) > 0.0
+            })
+            .collect();
+        let own = offset(blade, pos(&self.m, v));
+        let kept = if own != 0.0 { own > 0.0 } else { raw[0] };
+        let sides: Vec<u32> = raw.iter().map(|&r| (r != kept) as u32).collect();
+        self.split_by_sides(k, v, &sides)
+    }
+
+    fn split_pinched(&mut self, k: Kind) {
+        if k == Kind::Straps {
+            return;
+        }
+        let splits = self.splits();
+        let near = |v: u32| splits.iter().any(|&(c, s)| c == v || s == v);
+        let mut candidates = vec![false; self.m.px.len()];
+        for e in elements(&self.m, k) {
+            let c = corners(&self.m, k, e);
+            if c.iter().any(|&w| near(w)) {
+                for w in c {
+                    candidates[w as usize] = true;
+                }
+            }
+        }
+        for v in 0..candidates.len() {
+            if candidates[v] {
+                let n = fan(&self.m, k, v as u32).len();
+                self.split_by_sides(k, v as u32, &vec![0; n]);
+            }
+        }
+    }
+
+    fn cut_facets(&mut self, blade: Blade) {
+        let k = Kind::Triangles;
+        let n = self.m.px.len();
+        let mut candidate = vec![false; n];
+        for e in elements(&self.m, k) {
+            let c = corners(&self.m, k, e);
+            for (x, y) in [(c[0], c[1]), (c[0], c[2]), (c[1], c[2])] {
+                if blade_hit(blade, pos(&self.m, x), pos(&self.m, y)).is_some() {
+                    candidate[x as usize] = true;
+                    candidate[y as usize] = true;
+                }
+            }
+        }
+        for v in 0..n {
+            if candidate[v] {
+                self.split_by_blade(k, v as u32, blade);
+            }
+        }
+        if !self.splits().is_empty() {
+            self.split_pinched(k);
+        }
+    }
+
+    fn cut_segments(&mut self, blade: Blade, fraction: f32) {
+        let crossings: Vec<(usize, f32)> = (0..self.m.ea.len())
+            .filter(|&i| self.m.structural[i] == 1)
+            .filter_map(|i| blade_hit(blade, pos(&self.m, self.m.ea[i]), pos(&self.m, self.m.eb[i])).map(|t| (i, t)))
+            .collect();
+        let mut marked = vec![false; self.m.ea.len()];
+        let mut snapped = vec![false; self.m.px.len()];
+        for (i, t) in crossings {
+            let near = if t < 0.5 { self.m.ea[i] } else { self.m.eb[i] };
+            let force = self.m.inv[near as usize] == 0.0;
+            if !self.insert(i, t, force, fraction, &mut marked) {
+                snapped[near as usize] = true;
+            }
+        }
+        if marked.contains(&true) {
+            marked.resize(self.m.ea.len(), false);
+            let (edges, boundary) = (self.m.ea.len(), self.m.ba.len());
+            self.drop_edges(&marked);
+            self.step(StepKind::Remove, edges, boundary);
+        }
+        for v in 0..snapped.len() {
+            if !snapped[v] {
+                continue;
+            }
+            let first = self.m.px.len() as u32;
+            if self.split_by_blade(Kind::Straps, v as u32, blade) {
+                for i in 0..self.m.ea.len() {
+                    if self.m.ea[i] >= first || self.m.eb[i] >= first {
+                        self.m.impulse[i] = 0.0;
+                        self.m.estress[i] = 0.0;
+                    }
+                }
+            }
+        }
+    }
+
+    fn insert(&mut self, i: usize, t: f32, force: bool, f: f32, marked: &mut [bool]) -> bool {
+        let (lo, hi) = (f, 1.0 - f);
+        if !force && !(t >= lo && t <= hi) {
+            return false;
+        }
+        let mut t = t;
+        if t < lo {
+            t = lo;
+        }
+        if t > hi {
+            t = hi;
+        }
+        let (a, b) = (self.m.ea[i], self.m.eb[i]);
+        let len = self.m.initial[i];
+        let share = |m: &Mesh, v: u32| -> f32 {
+            let mut total = 0.0;
+            for j in 0..m.ea.len() {
+                if m.structural[j] == 1 && (m.ea[j] == v || m.eb[j] == v) {
+                    total += m.initial[j];
+                }
+            }
+            if total > 0.0 { m.mass[v as usize] * len / total } else { 0.0 }
+        };
+        let (sa, sb) = (share(&self.m, a), share(&self.m, b));
+        let mass = sa + sb;
+        if !(mass > 0.0) || !(len > 0.0) {
+            return false;
+        }
+        // Bending edges over the segment: one end on a's side only, the other on b's only.
+        let m = &self.m;
+        let on = |w: u32, v: u32, other: u32| -> bool {
+            w == v
+                || (w != other
+                    && (0..m.ea.len()).any(|j| {
+                        m.structural[j] == 1 && ((m.ea[j] == v && m.eb[j] == w) || (m.eb[j] == v && m.ea[j] == w))
+                    }))
+        };
+        for j in 0..marked.len() {
+            if m.structural[j] == 1 {
+                continue;
+            }
+            let (x, y) = (m.ea[j], m.eb[j]);
+            let only_a = |w: u32| on(w, a, b) && !on(w, b, a);
+            let only_b = |w: u32| on(w, b, a) && !on(w, a, b);
+            if (only_a(x) && only_b(y)) || (only_b(x) && only_a(y)) {
+                marked[j] = true;
+            }
+        }
+        let (ia, ib) = (a as usize, b as usize);
+        let pa = (pos(m, a), rest(m, a), m.damaged[ia]);
+        let pb = (pos(m, b), rest(m, b), m.damaged[ib]);
+        let u = 1.0 - t;
+        for (v, share, kept) in [(ia, sa, t), (ib, sb, u)] {
+            self.m.mass[v] -= share - mass * kept * 0.5;
+            if self.m.inv[v] != 0.0 {
+                self.m.inv[v] = inv(self.m.mass[v]);
+            }
+        }
+        let at = lerp(pa.0, pb.0, t);
+        let rest_at = lerp(pa.1, pb.1, t);
+        let p = self.m.px.len() as u32;
+        let q = p + 1;
+        for (kept, damaged) in [(t, pa.2), (u, pb.2)] {
+            let own = mass * kept * 0.5;
+            let m = &mut self.m;
+            m.px.push(at.0);
+            m.py.push(at.1);
+            m.rx.push(rest_at.0);
+            m.ry.push(rest_at.1);
+            m.mass.push(own);
+            m.inv.push(inv(own));
+            m.root.push(m.root.len() as u32);
+            m.damaged.push(damaged);
+        }
+        let j = self.push_edge_like(i, q, b);
+        let m = &mut self.m;
+        m.eb[i] = p;
+        m.rest[j] = m.rest[i] * u;
+        m.initial[j] = m.initial[i] * u;
+        m.rest[i] = m.rest[i] * t;
+        m.initial[i] = m.initial[i] * t;
+        for e in [i, j] {
+            m.impulse[e] = 0.0;
+            m.estress[e] = 0.0;
+            m.torn[e] = 0;
+        }
+        for s in 0..m.ba.len() {
+            if (m.ba[s], m.bb[s]) == (a, b) {
+                m.bb[s] = p;
+                m.bound(q, b);
+            } else if (m.ba[s], m.bb[s]) == (b, a) {
+                m.bb[s] = q;
+                m.bound(p, a);
+            }
+        }
+        self.log.push(Entry::Insert { a, b, p, q, t });
+        self.step(StepKind::Insert, self.m.ea.len(), self.m.ba.len());
+        true
+    }
+
+    fn straddlers(&mut self) {
+        let k = kind(&self.m);
+        if k == Kind::Nothing {
+            return;
+        }
+        // Least particle of each piece; u32::MAX where no element is.
+        let mut piece = vec![u32::MAX; self.m.px.len()];
+        let all = elements(&self.m, k);
+        for &e in &all {
+            for w in corners(&self.m, k, e) {
+                piece[w as usize] = w;
+            }
+        }
+        loop {
+            let mut moved = false;
+            for &e in &all {
+                let c = corners(&self.m, k, e);
+                let least = c.iter().map(|&w| piece[w as usize]).min().unwrap();
+                for w in c {
+                    if piece[w as usize] != least {
+                        piece[w as usize] = least;
+                        moved = true;
+                    }
+                }
+            }
+            if !moved {
+                break;
+            }
+        }
+        let spans = |a: u32, b: u32| {
+            let (x, y) = (piece[a as usize], piece[b as usize]);
+            x != u32::MAX && y != u32::MAX && x != y
+        };
+        let (edges, boundary) = (self.m.ea.len(), self.m.ba.len());
+        let gone: Vec<bool> = (0..edges)
+            .map(|i| !(k == Kind::Straps && self.m.structural[i] == 1) && spans(self.m.ea[i], self.m.eb[i]))
+            .collect();
+        self.drop_edges(&gone);
+        let keep: Vec<(u32, u32)> = self.m.boundary().into_iter().filter(|&(a, b)| !spans(a, b)).collect();
+        self.m.ba = keep.iter().map(|s| s.0).collect();
+        self.m.bb = keep.iter().map(|s| s.1).collect();
+        self.step(StepKind::Remove, edges, boundary);
+    }
+
+    fn crack(&mut self, torn: &[u32], min: u32) {
+        let k = kind(&self.m);
+        if k == Kind::Nothing {
+            return;
+        }
+        let input = self.m.edges();
+        // Triangle loads, read once.
+        let loads: Vec<f32> = if k == Kind::Triangles {
+            elements(&self.m, k)
+                .iter()
+                .map(|&e| {
+                    let c = corners(&self.m, k, e);
+                    let mut load = self.m.tstress[e as usize];
+                    for i in 0..input.len() {
+                        if c.contains(&input[i].0) && c.contains(&input[i].1) {
+                            // the source starts each pair's stress at 0
+                            for s in [0.0, self.m.estress[i]] {
+                                if s > load {
+                                    load = s;
+                                }
+                            }
+                        }
+                    }
+                    load
+                })
+                .collect()
+        } else {
+            vec![]
+        };
+        for &e in torn {
+            if e as usize >= input.len() {
+                continue;
+            }
+            let (a, b) = input[e as usize];
+            let Some((x, y)) = self.current_pair(k, a, b) else {
+                continue;
+            };
+            let first = self.m.px.len();
+            if self.crack_across(k, x, y, &loads, min) {
+                self.log.push(Entry::Opened { a, b });
+                self.steps.last_mut().unwrap().log = self.log.len();
+                self.m.damaged[x as usize] = 1;
+                self.m.damaged[y as usize] = 1;
+                for c in first..self.m.px.len() {
+                    self.m.damaged[c] = 1;
+                }
+            }
+        }
+        if self.splits().is_empty() {
+            return;
+        }
+        self.split_pinched(k);
+        self.straddlers();
+    }
+
+    fn current_pair(&self, k: Kind, a: u32, b: u32) -> Option<(u32, u32)> {
+        let family = |root: u32| {
+            let mut f = vec![root];
+            for (c, s) in self.splits() {
+                if f.contains(&s) {
+                    f.push(c);
+                }
+            }
+            f
+        };
+        let (fa, fb) = (family(a), family(b));
+        let all = elements(&self.m, k);
+        for &x in &fa {
+            for &y in &fb {
+                if all.iter().any(|&e| {
+                    let c = corners(&self.m, k, e);
+                    c.contains(&x) && c.contains(&y)
+                }) {
+                    return Some((x, y));
+                }
+            }
+        }
+        let edges = self.m.edges();
+        for &x in &fa {
+            for &y in &fb {
+                if edges.iter().any(|&e| e == (x, y) || e == (y, x)) {
+                    return Some((x, y));
+                }
+            }
+        }
+        None
+    }
+
+    /// The two options of a torn edge: (load, v, fan, groups, count), where both sides are there.
+    fn option(&self, k: Kind, v: u32, other: u32, loads: &[f32]) -> Option<(f32, u32, Vec<u32>, Vec<u32>, u32)> {
+        if self.m.inv[v as usize] == 0.0 {
+            return None;
+        }
+        let origin = rest(&self.m, v);
+        let normal = sub(rest(&self.m, other), origin);
+        let f = fan(&self.m, k, v);
+        let fans: Vec<Vec<u32>> = f.iter().map(|&e| corners(&self.m, k, e)).collect();
+        let sides: Vec<u32> = fans
+            .iter()
+            .map(|c| {
+                let mut sum = (0.0, 0.0);
+                for &w in c {
+                    sum = add(sum, sub(rest(&self.m, w), origin));
+                }
+                (dot(sum, normal) > 0.0) as u32
+            })
+            .collect();
+        if !sides.contains(&0) || !sides.contains(&1) {
+            return None;
+        }
+        let (mut sum, mut number) = (0.0f32, 0u32);
+        for i in 0..f.len() {
+            if sides[i] == 1 {
+                let e = f[i] as usize;
+                sum += if k == Kind::Straps { self.m.estress[e] } else { loads[e] };
+                number += 1;
+            }
+        }
+        let (g, count) = groups_of(facet_others(k), &fans, &sides, v);
+        Some((sum / number as f32, v, f, g, count))
+    }
+
+    fn crack_across(&mut self, k: Kind, a: u32, b: u32, loads: &[f32], min: u32) -> bool {
+        let mut options = vec![];
+        for (v, other) in [(a, b), (b, a)] {
+            if let Some(o) = self.option(k, v, other, loads) {
+                options.push(o);
+            }
+        }
+        if options.len() == 2 {
+            let order = options[1].0.total_cmp(&options[0].0);
+            if order.is_gt() || (order.is_eq() && options[1].1 < options[0].1) {
+                options.swap(0, 1);
+            }
+        }
+        let Some((_, v, f, g, count)) =
+            options.into_iter().find(|(_, v, f, g, count)| opens(&self.m, k, *v, f, g, *count, min))
+        else {
+            return false;
+        };
+        let first = self.m.px.len() as u32;
+        if !self.split(k, v, &f, &g, count) {
+            return false;
+        }
+        let other = if v == a { b } else { a };
+        for i in 0..self.m.ea.len() {
+            let (x, y) = (self.m.ea[i], self.m.eb[i]);
+            let opened = |w: u32| w == v || w >= first;
+            if (x == other || y == other) && (opened(x) || opened(y)) {
+                self.m.impulse[i] = 0.0;
+                self.m.estress[i] = 0.0;
+            }
+        }
+        true
+    }
+}
+
+// ---- entries ------------------------------------------------------------------------------
+
+pub fn cut(m: &Mesh, blade: Blade, fraction: f32) -> Outcome {
+    let mut r = Run::new(m);
+    match kind(m) {
+        Kind::Triangles => r.cut_facets(blade),
+        Kind::Straps => r.cut_segments(blade, fraction),
+        Kind::Nothing => {}
+    }
+    r.done()
+}
+/// `cut_topology`'s further steps.
+pub fn cut_whole(m: &Mesh, blade: Blade, fraction: f32) -> Outcome {
+    let o = cut(m, blade, fraction);
+    if !o.changed {
+        return o;
+    }
+    let mut r = Run { m: o.mesh, log: o.log, steps: o.steps };
+    for e in r.log.clone() {
+        match e {
+            Entry::Split { copy, source } => {
+                r.m.damaged[copy as usize] = 1;
+                r.m.damaged[source as usize] = 1;
+            }
+            Entry::Insert { a, b, p, q, .. } => {
+                for v in [a, b, p, q] {
+                    r.m.damaged[v as usize] = 1;
+                }
+            }
+            _ => {}
+        }
+    }
+    r.straddlers();
+    r.done()
+}
+pub fn crack(m: &Mesh, torn: &[u32], min_piece: Option<u32>) -> Outcome {
+    let mut r = Run::new(m);
+    r.crack(torn, min_piece.map_or(3, |n| n.max(1)));
+    r.done()
+}
+pub fn straddlers(m: &Mesh) -> Outcome {
+    let mut r = Run::new(m);
+    r.straddlers();
+    r.done()
+}
+pub fn split_fan(m: &Mesh, v: u32, sides: &[u32]) -> Outcome {
+    let mut r = Run::new(m);
+    if kind(m) != Kind::Nothing {
+        r.split_by_sides(kind(m), v, sides);
+    }
+    r.done()
+}
+pub fn groups(m: &Mesh, v: u32, sides: &[u32]) -> (Vec<u32>, u32) {
+    let k = kind(m);
+    let fans: Vec<Vec<u32>> = fan(m, k, v).iter().map(|&e| corners(m, k, e)).collect();
+    groups_of(facet_others(k), &fans, sides, v)
+}
+pub fn opens_without_confetti(m: &Mesh, v: u32, sides: &[u32], min_piece: Option<u32>) -> Option<bool> {
+    let k = kind(m);
+    if k == Kind::Nothing {
+        return None;
+    }
+    let (g, count) = groups(m, v, sides);
+    Some(opens(m, k, v, &fan(m, k, v), &g, count, min_piece.map_or(3, |n| n.max(1))))
+}

@@ -1,0 +1,169 @@
+//! Document 01's sheet and listing, from bytes to text. Ours, not the crate's.
+use crate::api::*;
+
+pub struct Limits {
+    pub particles: usize,
+    pub triangles: usize,
+    pub edges: usize,
+    pub boundary: usize,
+}
+pub const CUTLIST: Limits = Limits { particles: 128, triangles: 128, edges: 256, boundary: 256 };
+
+#[derive(Clone, Debug, Default, PartialEq)]
+pub struct Sheet {
+    pub particles: Vec<(i32, i32, u32)>,
+    pub triangles: Vec<[u32; 3]>,
+    pub edges: Vec<(u32, u32, u32)>,
+    pub boundary: Vec<(u32, u32)>,
+    pub blade: [i32; 4],
+}
+
+struct Bits<'a> {
+    bytes: &'a [u8],
+    at: usize,
+}
+impl Bits<'_> {
+    fn take(&mut self, n: usize) -> u32 {
+        let mut x = 0;
+        for _ in 0..n {
+            x = x << 1 | (self.bytes[self.at / 8] >> (7 - self.at % 8) & 1) as u32;
+            self.at += 1;
+        }
+        x
+    }
+    fn signed(&mut self) -> i32 {
+        let x = self.take(11) as i32;
+        if x >= 1024 { x - 2048 } else { x }
+    }
+}
+
+pub fn read(bytes: &[u8], l: &Limits) -> Result<Sheet, u32> {
+    if bytes.len() * 8 < 46 {
+        return Err(9);
+    }
+    let mut b = Bits { bytes, at: 0 };
+    let (np, nt, ne, nb) = (b.take(11), b.take(11), b.take(12), b.take(12));
+    if np as usize > l.particles || nt as usize > l.triangles || ne as usize > l.edges || nb as usize > l.boundary {
+        return Err(1);
+    }
+    let bits = (46 + np * 23 + nt * 30 + ne * 21 + nb * 20 + 44) as usize;
+    if bytes.len() != bits.div_ceil(8) {
+        return Err(9);
+    }
+    let mut s = Sheet::default();
+    for _ in 0..np {
+        s.particles.push((b.signed(), b.signed(), b.take(1)));
+    }
+    for _ in 0..nt {
+        s.triangles.push([b.take(10), b.take(10), b.take(10)]);
+    }
+    for _ in 0..ne {
+        s.edges.push((b.take(10), b.take(10), b.take(1)));
+    }
+    for _ in 0..nb {
+        s.boundary.push((b.take(10), b.take(10)));
+    }
+    for k in 0..4 {
+        s.blade[k] = b.signed();
+    }
+    if b.take(bytes.len() * 8 - bits) != 0 {
+        return Err(9);
+    }
+    Ok(s)
+}
+
+pub fn write(s: &Sheet) -> Vec<u8> {
+    let mut bits: Vec<u8> = vec![];
+    let mut put = |x: u32, n: usize| {
+        for k in (0..n).rev() {
+            bits.push((x >> k & 1) as u8);
+        }
+    };
+    put(s.particles.len() as u32, 11);
+    put(s.triangles.len() as u32, 11);
+    put(s.edges.len() as u32, 12);
+    put(s.boundary.len() as u32, 12);
+    for &(x, y, p) in &s.particles {
+        put(x as u32 & 2047, 11);
+        put(y as u32 & 2047, 11);
+        put(p, 1);
+    }
+    for t in &s.triangles {
+        for &v in t {
+            put(v, 10);
+        }
+    }
+    for &(a, b, k) in &s.edges {
+        put(a, 10);
+        put(b, 10);
+        put(k, 1);
+    }
+    for &(a, b) in &s.boundary {
+        put(a, 10);
+        put(b, 10);
+    }
+    for k in s.blade {
+        put(k as u32 & 2047, 11);
+    }
+    bits.chunks(8).map(|c| c.iter().enumerate().fold(0, |x, (i, b)| x | b << (7 - i))).collect()
+}
+
+pub fn mesh(s: &Sheet) -> (Mesh, Blade) {
+    let mut m = Mesh::default();
+    for &(x, y, pinned) in &s.particles {
+        m.particle(x as f32, y as f32, 1.0, pinned == 1);
+    }
+    let p = |i: u32| s.particles.get(i as usize).copied().unwrap_or((0, 0, 0));
+    for &[a, b, c] in &s.triangles {
+        let (a_, b_, c_) = (p(a), p(b), p(c));
+        let cross = (b_.0 - a_.0) * (c_.1 - a_.1) - (b_.1 - a_.1) * (c_.0 - a_.0);
+        m.triangle(a, b, c, cross.abs() as f32 * 0.5);
+    }
+    for &(a, b, k) in &s.edges {
+        let (a_, b_) = (p(a), p(b));
+        let (dx, dy) = (b_.0 - a_.0, b_.1 - a_.1);
+        m.edge(a, b, k == 1, ((dx * dx + dy * dy) as f32).sqrt());
+    }
+    for &(a, b) in &s.boundary {
+        m.bound(a, b);
+    }
+    let [x0, y0, x1, y1] = s.blade.map(|k| k as f32);
+    (m, Blade::new(x0, y0, x1, y1))
+}
+
+/// The whole of `cutlist`, with the cut entry read word for word (`whole` false) or as the crate's
+/// `cut_topology` (`whole` true).
+pub fn cutlist(bytes: &[u8], whole: bool) -> String {
+    let refused = |n: u32| format!("refused {n}\n");
+    let s = match read(bytes, &CUTLIST) {
+        Ok(s) => s,
+        Err(n) => return refused(n),
+    };
+    let (m, blade) = mesh(&s);
+    let n = check_mesh(&m);
+    if n != 0 {
+        return refused(n);
+    }
+    let o = if whole { cut_whole(&m, blade, 0.1) } else { cut(&m, blade, 0.1) };
+    let n = o.refusal(Rooms { particles: 256, edges: 512, boundary: 512, log: 256 });
+    if n != 0 {
+        return refused(n);
+    }
+    let mut out = String::from("tear 1\n");
+    for e in &o.log {
+        if let Entry::Split { copy, source } = e {
+            out += &format!("split {copy} {source}\n");
+        }
+    }
+    for e in &o.log {
+        if let Entry::Removed { a, b } = e {
+            out += &format!("edge {a} {b}\n");
+        }
+    }
+    for e in &o.log {
+        if let Entry::Insert { a, b, p, q, .. } = e {
+            out += &format!("insert {a} {b} {p} {q}\n");
+        }
+    }
+    out + &format!("particles {}\npieces {}\n", o.mesh.px.len(), pieces(&o.mesh))
+}

@@ -1,0 +1,280 @@
+//! Makes a failing input small: drops what is wrong with the image, elements and particles, and
+//! then simplifies the numbers, as long as the input still fails.
+use crate::api::Mesh;
+use crate::entries::{Args, Input};
+use crate::inputs::need;
+use crate::second;
+use std::time::{Duration, Instant};
+
+const PATIENCE: Duration = Duration::from_secs(20);
+
+struct Search<'a> {
+    best: Input,
+    fails: &'a dyn Fn(&Input) -> bool,
+    end: Instant,
+    moved: bool,
+}
+impl Search<'_> {
+    fn attempt(&mut self, i: Input) -> bool {
+        let better = Instant::now() < self.end && (self.fails)(&i);
+        if better {
+            self.best = i;
+            self.moved = true;
+        }
+        better
+    }
+    /// The best input with one change.
+    fn with(&mut self, change: impl FnOnce(&mut Input)) -> bool {
+        let mut i = self.best.clone();
+        change(&mut i);
+        self.attempt(i)
+    }
+}
+
+pub fn shrink(input: Input, fails: &dyn Fn(&Input) -> bool) -> Input {
+    let mut s = Search { best: input, fails, end: Instant::now() + PATIENCE, moved: true };
+    while s.moved && Instant::now() < s.end {
+        s.moved = false;
+        form(&mut s);
+        for list in [1, 2, 3, 0] {
+            rows(&mut s, list);
+        }
+        arguments(&mut s);
+        values(&mut s);
+    }
+    s.best
+}
+
+/// Counts, lengths and the result's length as they should be.
+fn form(s: &mut Search) {
+    if s.best.image.counts.is_some() {
+        s.with(|i| i.image.counts = None);
+    }
+    if let Some(n) = s.best.image.length {
+        let _ = s.with(|i| i.image.length = None) || n > 0 && s.with(|i| i.image.length = Some(0));
+    }
+    let plain = need(&s.best);
+    if s.best.out != plain {
+        s.with(|i| i.out = plain);
+    }
+}
+
+fn count(m: &Mesh, list: usize) -> usize {
+    [m.px.len(), m.ta.len(), m.ea.len(), m.ba.len()][list]
+}
+/// Drops rows of one list, many at a time first.
+fn rows(s: &mut Search, list: usize) {
+    let mut step = count(&s.best.image.mesh, list).max(1);
+    loop {
+        let mut at = 0;
+        while at < count(&s.best.image.mesh, list) {
+            let end = (at + step).min(count(&s.best.image.mesh, list));
+            let smaller = without(&s.best, list, at, end).is_some_and(|i| s.attempt(i));
+            if !smaller {
+                at += step;
+            }
+        }
+        if step == 1 {
+            break;
+        }
+        step /= 2;
+    }
+}
+
+fn sift<T: Copy>(c: &mut Vec<T>, gone: &[bool]) {
+    let mut k = 0;
+    c.retain(|_| {
+        k += 1;
+        !gone[k - 1]
+    });
+}
+fn drop_rows(m: &mut Mesh, list: usize, gone: &[bool]) {
+    let (f, n) = match list {
+        0 => (0..6, 0..2),
+        1 => (6..8, 2..5),
+        2 => (8..12, 5..9),
+        _ => (0..0, 9..11),
+    };
+    m.floats_mut().into_iter().enumerate().filter(|(k, _)| f.contains(k)).for_each(|(_, c)| sift(c, gone));
+    m.numbers_mut().into_iter().enumerate().filter(|(k, _)| n.contains(k)).for_each(|(_, c)| sift(c, gone));
+}
+
+/// The input without rows `from..to` of a list; the sides of dropped fan elements go too. A
+/// dropped particle takes with it what names it. `None` if the asked particle is one of them.
+fn without(i: &Input, list: usize, from: usize, to: usize) -> Option<Input> {
+    let mut i = i.clone();
+    let m = &i.image.mesh;
+    let dropped = |x: u32| (from..to).contains(&(x as usize));
+    let fan = match &i.args {
+        Args::Groups { v, .. } | Args::Opens { v, .. } => second::fan(m, second::kind(m), *v),
+        _ => vec![],
+    };
+    let straps = second::kind(m) == second::Kind::Straps;
+    let mask = |n: usize, f: &dyn Fn(usize) -> bool| -> Vec<bool> { (0..n).map(f).collect() };
+    let rows: Vec<Vec<bool>> = (0..4)
+        .map(|l| match (l, list) {
+            (l, k) if l == k => mask(count(m, l), &|x| dropped(x as u32)),
+            (1, 0) => mask(m.ta.len(), &|x| dropped(m.ta[x]) || dropped(m.tb[x]) || dropped(m.tc[x])),
+            (2, 0) => mask(m.ea.len(), &|x| dropped(m.ea[x]) || dropped(m.eb[x])),
+            (3, 0) => mask(m.ba.len(), &|x| dropped(m.ba[x]) || dropped(m.bb[x])),
+            _ => mask(count(m, l), &|_| false),
+        })
+        .collect();
+    let lost: Vec<bool> = fan.iter().map(|&e| rows[if straps { 2 } else { 1 }][e as usize]).collect();
+    for l in 0..4 {
+        drop_rows(&mut i.image.mesh, l, &rows[l]);
+    }
+    // A number at or beyond `to` moves down, so that "one past the end" stays that.
+    let renumber = |x: u32| {
+        if x as usize >= to {
+            x - (to - from) as u32
+        } else if dropped(x) {
+            0
+        } else {
+            x
+        }
+    };
+    if list == 0 {
+        for k in [0, 2, 3, 4, 5, 6, 9, 10] {
+            i.image.mesh.numbers_mut()[k].iter_mut().for_each(|x| *x = renumber(*x));
+        }
+    }
+    match &mut i.args {
+        Args::Groups { v, sides } | Args::Opens { v, sides, .. } => {
+            if list == 0 {
+                if dropped(*v) {
+                    return None;
+                }
+                *v = renumber(*v);
+            }
+            let mut k = 0;
+            sides.retain(|_| {
+                k += 1;
+                !lost.get(k - 1).copied().unwrap_or(false)
+            });
+        }
+        Args::RestMeasureOf { list: l, length } if list == 0 && length.is_none() => {
+            l.retain(|&p| !dropped(p));
+            l.iter_mut().for_each(|p| *p = renumber(*p));
+        }
+        _ => {}
+    }
+    let plain = need(&i);
+    i.out = i.out.max(plain);
+    Some(i)
+}
+
+fn arguments(s: &mut Search) {
+    match s.best.args.clone() {
+        Args::Root { bits } => {
+            for k in 0..32 {
+                if bits >> k & 1 == 1 {
+                    s.with(|i| {
+                        if let Args::Root { bits } = &mut i.args {
+                            *bits &= !(1 << k);
+                        }
+                    });
+                }
+            }
+        }
+        Args::BladeHit { words, length } => {
+            if length.is_some() {
+                s.with(|i| i.args = Args::BladeHit { words, length: None });
+            }
+            for k in 0..8 {
+                for x in simpler(f32::from_bits(words[k])) {
+                    if s.with(|i| {
+                        if let Args::BladeHit { words, .. } = &mut i.args {
+                            words[k] = x.to_bits();
+                        }
+                    }) {
+                        break;
+                    }
+                }
+            }
+        }
+        Args::Groups { sides, .. } | Args::Opens { sides, .. } => {
+            for k in 0..sides.len() {
+                if sides[k] != 0 {
+                    s.with(|i| {
+                        if let Args::Groups { sides, .. } | Args::Opens { sides, .. } = &mut i.args {
+                            sides[k] = 0;
+                        }
+                    });
+                }
+            }
+            let (Args::Groups { sides, .. } | Args::Opens { sides, .. }) = &s.best.args else { return };
+            for k in (0..sides.len()).rev() {
+                s.with(|i| {
+                    if let Args::Groups { sides, .. } | Args::Opens { sides, .. } = &mut i.args {
+                        sides.remove(k);
+                    }
+                });
+            }
+            for least in [1, 2, 3] {
+                if matches!(s.best.args, Args::Opens { minimum, .. } if minimum > least) {
+                    s.with(|i| {
+                        if let Args::Opens { minimum, .. } = &mut i.args {
+                            *minimum = least;
+                        }
+                    });
+                }
+            }
+        }
+        Args::RestMeasureOf { list, length } => {
+            if length.is_some() {
+                s.with(|i| i.args = Args::RestMeasureOf { list: list.clone(), length: None });
+            }
+            for k in (0..list.len()).rev() {
+                s.with(|i| {
+                    if let Args::RestMeasureOf { list, .. } = &mut i.args {
+                        list.remove(k);
+                    }
+                });
+            }
+        }
+        Args::RestMeasure | Args::Pieces => {}
+    }
+}
+
+/// Plainer numbers than this one, the plainest first.
+fn simpler(x: f32) -> Vec<f32> {
+    let rank = |x: f32| match x {
+        _ if x.to_bits() == 0 => 0,
+        1.0 => 1,
+        _ if x.fract() == 0.0 && x.abs() < 100.0 => 2,
+        _ => 3,
+    };
+    [0.0, 1.0, 2.0, -1.0, x.round(), (x * 4.0).round() / 4.0].into_iter().filter(|y| rank(*y) < rank(x)).collect()
+}
+/// Whole columns first, then each number.
+fn values(s: &mut Search) {
+    for k in 0..12 {
+        let column = s.best.image.mesh.floats()[k].clone();
+        if column.iter().all(|x| x.to_bits() == 0) || s.with(|i| i.image.mesh.floats_mut()[k].fill(0.0)) {
+            continue;
+        }
+        if column.iter().all(|x| *x == 1.0) || s.with(|i| i.image.mesh.floats_mut()[k].fill(1.0)) {
+            continue;
+        }
+        for (at, &x) in column.iter().enumerate() {
+            for y in simpler(x) {
+                if s.with(|i| i.image.mesh.floats_mut()[k][at] = y) {
+                    break;
+                }
+            }
+        }
+    }
+    // Roots and flags.
+    for k in [0, 1, 7, 8] {
+        let column = s.best.image.mesh.numbers()[k].clone();
+        if column.iter().all(|x| *x == 0) || s.with(|i| i.image.mesh.numbers_mut()[k].fill(0)) {
+            continue;
+        }
+        for (at, &x) in column.iter().enumerate() {
+            if x != 0 {
+                s.with(|i| i.image.mesh.numbers_mut()[k][at] = 0);
+            }
+        }
+    }
+}
