@@ -2,7 +2,7 @@
 use mathlib.Core.Path.{_≡_, refl, sym, _∙_, ap}
 use mathlib.Core.Bool.{Bool, true, false}
 use mathlib.Core.List.{List, [], _∷_, _++_, append-nil}
-use Prim.Native.Nat.{ℕ, suc, _+_, _*_, _-_, _<_, _≤_}
+use Prim.Native.Nat.{ℕ, _+_, _*_, _-_, _<_, _≤_}
 use native.Mathlib.Numerals.{add-one}
 use native.Mathlib.Omega.{arith}
 use lib.ListN.{length, getD, take, drop, set, length-set, length-drop}
@@ -36,6 +36,7 @@ pub record Fanning (v k n : ℕ) (N K : List ℕ) (M : List Float) (i a r o : �
   pub verts-long : length K′ ≡ length K₀
   pub measures-long : length M′ ≡ length M₀
 
+-- before the first turn
 pub fanning-start : (v k n : ℕ) (N K : List ℕ) (M : List Float) (N′ K′ : List ℕ) (M′ : List Float) → Fanning v k n N K M 0 0 0 0 N′ K′ M′ N′ K′ M′
 unfolding sift
 fanning-start v k n N K M N′ K′ M′ =
@@ -103,6 +104,7 @@ module _ (v k n : ℕ) (N K : List ℕ) (M : List Float) (i a r o : ℕ) (N₀ K
     -- a turn at one that does: its row comes back from the copy as p
     module _ (p : List ℕ) (fits : o + k ≤ length K′) (reads : a + k ≤ length K) (long : length p ≡ length (midOf o (o + k - o) K′))
         (copied : take (length (take (a + k - a) (drop a K))) p ≡ take (a + k - a) (drop a K)) where
+      -- the row has k corners, and p is the row
       row-long : length (take (a + k - a) (drop a K)) ≡ k
       row-long =
           let q : a + k - a ≡ k = omega arith in

@@ -1,8 +1,7 @@
 -- Tables that a loop fills, a row a turn: the triangles of a block, and its straps. Assumes nothing.
-use mathlib.Core.Path.{_≡_, refl, sym, _∙_, ap}
-use mathlib.Core.Bool.{Bool, true, false}
+use mathlib.Core.Path.{_≡_, refl, _∙_, ap}
 use mathlib.Core.List.{List, [], _∷_, _++_, append-nil, append-assoc}
-use Prim.Native.Nat.{ℕ, zero, suc, _+_, _*_, _/_, _<_, _≤_, suc-le-suc}
+use Prim.Native.Nat.{ℕ, suc, _+_, _*_, _/_, _<_, _≤_, suc-le-suc}
 use native.Mathlib.Numerals.{add-one}
 use native.Mathlib.Omega.{arith}
 use borrow.Author.Tests.{eq-eqb, ne-eqb}
@@ -32,6 +31,7 @@ pub record Filling (k : ℕ) (es : List Element) (n o : ℕ) (N₀ K₀ : List �
   pub verts-long : length K ≡ length K₀
   pub measures-long : length M ≡ length M₀
 
+-- before the first turn the tables are of nothing
 pub filling-start : (k : ℕ) (N K : List ℕ) (M : List Float) → Filling k [] 0 0 N K M N K M
 filling-start k N K M = record { tabled = tabled-none k N K M; at = omega arith; numbers-long = refl; verts-long = refl; measures-long = refl }
 
@@ -67,6 +67,7 @@ module _ {A : Type 0} (l : List A) (o : ℕ) (a b : A) where
 
 -- ---- triangles
 
+-- one triangle more
 pub triangles-push : (i : ℕ) (ts : List Triangle) (t : Triangle) → trianglesFrom i (ts ++ (t ∷ [])) ≡ trianglesFrom i ts ++ (triangleElement (i + length ts) t ∷ [])
 unfolding trianglesFrom
 triangles-push i [] t = let e : i ≡ i + 0 = omega arith in ap (λ (j : ℕ). triangleElement j t ∷ []) e
@@ -79,9 +80,11 @@ abbrev pub triangleAt : List ℕ → List Float → ℕ → Element
 triangleAt C W i =
     record { number = i; corners = getD C i 0 ∷ getD C (length C / 3 + i) 0 ∷ getD C (2 * (length C / 3) + i) 0 ∷ []; measure = absOf (getD W i nan) }
 
+-- elements are equal where their parts are
 element-path : {i j : ℕ} {l k : List ℕ} {x y : Float} → i ≡ j → l ≡ k → x ≡ y → _≡_ {A = Element} (record { number = i; corners = l; measure = x }) (record { number = j; corners = k; measure = y })
 element-path p q r = λ s. record { number = p s; corners = q s; measure = r s }
 
+-- it is the element of row i
 triangle-read : (C : List ℕ) (W : List Float) (i : ℕ) → triangleElement i (triangleRow (length C / 3) (length W / 2) C W i) ≡ triangleAt C W i
 unfolding cell
 triangle-read C W i =
@@ -90,6 +93,7 @@ triangle-read C W i =
     let v : 0 * (length W / 2) + i ≡ i = omega arith in
     element-path refl (rw (a, b) refl) (ap (λ (j : ℕ). absOf (getD W j nan)) v)
 
+-- the elements of one row more
 pub triangles-more : (C : List ℕ) (W : List Float) (i : ℕ) → trianglesFrom 0 (trianglesAt (i + 1) C W) ≡ trianglesFrom 0 (trianglesAt i C W) ++ (triangleAt C W i ∷ [])
 unfolding trianglesAt
 triangles-more C W i =
@@ -103,6 +107,7 @@ triangles-more C W i =
 abbrev pub Triangling : List ℕ → List Float → ℕ → ℕ → List ℕ → List ℕ → List Float → List ℕ → List ℕ → List Float → Type 0
 Triangling C W i o N₀ K₀ M₀ N K M = Filling 3 (trianglesFrom 0 (trianglesAt i C W)) i o N₀ K₀ M₀ N K M
 
+-- before the first turn, and at each
 pub triangling-start : (C : List ℕ) (W : List Float) (N K : List ℕ) (M : List Float) → Triangling C W 0 0 N K M N K M
 unfolding trianglesFrom trianglesAt tab
 triangling-start C W N K M = filling-start 3 N K M
@@ -117,6 +122,7 @@ triangling-more C W i o N₀ K₀ M₀ N K M x F hn hm hk e =
 
 -- ---- straps
 
+-- one edge more: an element where it is structural
 pub straps-push : (i : ℕ) (es : List Edge) (e : Edge) → strapsFrom i (es ++ (e ∷ [])) ≡ strapsFrom i es ++ pick (structural? e) (strapElement (i + length es) e ∷ []) []
 unfolding strapsFrom
 straps-push i [] e = let q : i ≡ i + 0 = omega arith in ap (λ (j : ℕ). pick (structural? e) (strapElement j e ∷ []) []) q
@@ -131,6 +137,7 @@ straps-push i (x ∷ es) e =
 abbrev pub strapAt : List ℕ → List Float → ℕ → Element
 strapAt E L i = record { number = i; corners = getD E i 0 ∷ getD E (length E / 4 + i) 0 ∷ []; measure = getD L (length L / 4 + i) nan }
 
+-- it is the element of row i
 strap-read : (E : List ℕ) (L : List Float) (i : ℕ) → strapElement i (edgeRow (length E / 4) (length L / 4) E L i) ≡ strapAt E L i
 unfolding cell
 strap-read E L i =
@@ -139,6 +146,7 @@ strap-read E L i =
     let v : 1 * (length L / 4) + i ≡ length L / 4 + i = omega arith in
     element-path refl (rw (a, b) refl) (ap (λ (j : ℕ). getD L j nan) v)
 
+-- the elements of one row more
 straps-on : (E : List ℕ) (L : List Float) (i : ℕ)
     → strapsFrom 0 (edgesAt (i + 1) E L) ≡ strapsFrom 0 (edgesAt i E L) ++ pick (eqb (getD E (2 * (length E / 4) + i) 0) 1) (strapAt E L i ∷ []) []
 unfolding edgesAt cell
@@ -154,6 +162,7 @@ pub record Strapping (E : List ℕ) (L : List Float) (i n o : ℕ) (N₀ K₀ : 
   pub filling : Filling 2 (strapsFrom 0 (edgesAt i E L)) n o N₀ K₀ M₀ N K M
   pub below : n ≤ i
 
+-- before the first turn
 pub strapping-start : (E : List ℕ) (L : List Float) (N K : List ℕ) (M : List Float) → Strapping E L 0 0 0 N K M N K M
 unfolding strapsFrom edgesAt tab
 strapping-start E L N K M = record { filling = filling-start 2 N K M; below = omega arith }
@@ -202,6 +211,7 @@ module _ (kind : KindCase) (ts : List Triangle) (es : List Edge) (n : ℕ) (N K 
 
 -- ---- how many they are
 
+-- as many as there are triangles; no more than there are edges
 pub triangles-length : (i : ℕ) (ts : List Triangle) → length (trianglesFrom i ts) ≡ length ts
 unfolding trianglesFrom
 triangles-length i [] = refl

@@ -1,13 +1,12 @@
 -- The kind of a mesh, as a loop over the structural column finds it. Assumes nothing.
 use mathlib.Core.Path.{_≡_, refl, sym, _∙_, ap}
-use mathlib.Core.Bool.{Bool, true, false}
 use mathlib.Core.List.{List, []}
 use Prim.Native.Nat.{ℕ, zero, suc, _+_, _*_, _/_, _<_}
 use native.Mathlib.Omega.{arith}
 use borrow.Author.Tests.{eq-eqb, ne-eqb}
 use lib.ListN.{length, getD}
 use lib.Ieee.{Float}
-use Rattle.lists.specs.Lists.{any, tab}
+use Rattle.lists.specs.Lists.{tab}
 use Rattle.lists.proofs.Stores.{tab-at}
 use Rattle.lists.proofs.Sifts.{any-made, none-any}
 use Rattle.columns.specs.Block.{cell}

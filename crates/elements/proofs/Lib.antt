@@ -4,3 +4,4 @@ pub mod Tables
 pub mod Filling
 pub mod Fans
 pub mod Measures
+pub mod Held

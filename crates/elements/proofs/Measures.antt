@@ -2,14 +2,14 @@
 use mathlib.Core.Path.{_≡_, refl, sym, _∙_, ap, ap₂}
 use mathlib.Core.Bool.{Bool, true, false, _&&_, _||_}
 use mathlib.Core.List.{List, [], _∷_, _++_, map, map-append, append-nil}
-use Prim.Native.Nat.{ℕ, zero, suc, _+_, _*_, _-_, _<_, _≤_, min, zero-le, suc-le-suc}
+use Prim.Native.Nat.{ℕ, suc, _+_, _*_, _-_, _<_, _≤_, zero-le, suc-le-suc}
 use native.Mathlib.Numerals.{add-one}
 use native.Mathlib.Omega.{arith}
 use native.Mathlib.Decide.{ℕ-discrete}
 use borrow.Author.Tests.{eq-eqb, ne-eqb}
 use lib.Dec.{eqb}
-use lib.ListN.{length, getD, take, drop, set, replicate, length-set, length-take, length-drop, length-replicate, getD-replicate, drop-of-length-le}
-use lib.Seq.{take-suc, take-all, take-length, drop-cons, getD-take, getD-drop, getD-set-same, getD-set-other, length-take-le}
+use lib.ListN.{length, getD, take, drop, set, length-set, length-take, length-replicate, getD-replicate, drop-of-length-le}
+use lib.Seq.{take-suc, take-all, drop-cons, getD-take, getD-drop, getD-set-same, getD-set-other}
 use lib.Ieee.{Float, nan}
 use Rattle.lists.specs.Lists.{pick, stands, all, sift, fold, padded}
 use Rattle.lists.proofs.Sifts.{fold-append, stands-append, or-true}
@@ -17,13 +17,14 @@ use Rattle.float.specs.Numbers.{plus, zero32}
 use Rattle.columns.proofs.Cells.{next-col, col-fits}
 use Rattle.model.specs.Mesh.{Mesh}
 use Rattle.model.specs.Elements.{Element, sum, kindOf, elementsOf, restMeasure, restMeasureOf}
-use Rattle.elements.specs.Table.{Cornered, Tabled, MeasuredWithin, within}
+use Rattle.elements.specs.Table.{Cornered, Tabled, MeasuredWithin}
 use Rattle.elements.specs.Workers.{marked, Marked, MeasuredMarked}
 use Rattle.elements.proofs.Tables.{noElement, row-is, part-is}
 use Rattle.elements.proofs.Fans.{sift-more, row-at}
 
 -- ---- sums
 
+-- one number more, and none
 pub sum-push : (l : List Float) (x : Float) → sum (l ++ (x ∷ [])) ≡ plus (sum l) x
 unfolding sum fold
 sum-push l x = fold-append plus zero32 l (x ∷ [])
@@ -50,6 +51,7 @@ rest-measure-of M k n N K L listed r T W = W .is (elementsOf (kindOf M) M) (T .c
 -- ---- tests that agree where they are asked
 
 module _ {A : Type 0} (p q : A → Bool) where
+  -- so do `all` and `sift`
   pub all-agree : (l : List A) (d : A) → ((i : ℕ) → i < length l → p (getD l i d) ≡ q (getD l i d)) → all p l ≡ all q l
   unfolding all
   all-agree [] d h = refl
@@ -97,10 +99,12 @@ marking-start listed n m e =
           ne-eqb (getD m w 0) 1 (λ q. omega arith);
     }
 
+-- nothing more stands there
 or-none : (s : Bool) → s || false ≡ s
 or-none true = refl
 or-none false = refl
 
+-- a turn marks one more
 pub marking-more : (listed : List ℕ) (i : ℕ) (m₀ m : List ℕ) → Marking listed i m₀ m → i < length listed → getD listed i 0 < length m → Marking listed (i + 1) m₀ (set m (getD listed i 0) 1)
 marking-more listed i m₀ m F h g =
     record {
@@ -117,6 +121,7 @@ marking-more listed i m₀ m F h g =
           ];
     }
 
+-- after the last turn
 pub marking-done : (listed : List ℕ) (i : ℕ) (m₀ m : List ℕ) → Marking listed i m₀ m → length listed ≤ i → Marked listed m
 marking-done listed i m₀ m F h = record { same = λ w l. F .same w l ∙ ap (stands w) (take-all i listed h) }
 
@@ -136,11 +141,13 @@ pub record Passing (k n : ℕ) (verts : List ℕ) (measures : List Float) (marks
   pub from : a ≡ i * k
   pub inside : i ≤ n
 
+-- before the first turn
 pub passing-start : (k n : ℕ) (verts : List ℕ) (measures : List Float) (marks : List ℕ) (s : Float) → s ≡ zero32 → Passing k n verts measures marks 0 0 s
 unfolding sift
 passing-start k n verts measures marks s z = record { is = λ es C m. z ∙ sym sum-none; from = omega arith; inside = omega arith }
 
 module _ (k n : ℕ) (verts : List ℕ) (measures : List Float) (marks : List ℕ) (i a : ℕ) (s : Float) (F : Passing k n verts measures marks i a s) where
+  -- after the last turn
   pub passing-done : n ≤ i → MeasuredMarked k n verts measures marks s
   passing-done h =
       record {
@@ -152,12 +159,15 @@ module _ (k n : ℕ) (verts : List ℕ) (measures : List Float) (marks : List �
       }
 
   module _ (h : i < n) where
+    -- the row that is read lies in the corners
     pub passing-reads : n * k ≤ length verts → a + k ≤ length verts
     passing-reads room = let f : a ≡ i * k = F .from in omega (arith, col-fits i n k h)
 
+    -- where the next row begins
     from-next : a + k ≡ (i + 1) * k
     from-next = let f : a ≡ i * k = F .from in omega (arith, next-col i k)
 
+    -- the next element passes as its row does
     passed : (t : Bool) → all (marked marks) (take (a + k - a) (drop a verts)) ≡ t → (es : List Element) → Cornered k es n verts
         → sift (λ (e : Element). all (marked marks) (e .corners)) (take (i + 1) es) ≡ sift (λ (e : Element). all (marked marks) (e .corners)) (take i es) ++ pick t (getD es i noElement ∷ []) []
     passed t q es C =

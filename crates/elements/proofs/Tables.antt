@@ -1,11 +1,10 @@
 -- Elements in tables: what a row more does, and where the rows stand. Assumes nothing.
-use mathlib.Core.Path.{_≡_, refl, sym, _∙_, ap, ap₂}
-use mathlib.Core.List.{List, [], _∷_, _++_, map, map-append, append-nil, append-assoc}
+use mathlib.Core.Path.{_≡_, refl, sym, _∙_, ap}
+use mathlib.Core.List.{List, [], _∷_, _++_, map, map-append, append-nil}
 use Prim.Native.Nat.{ℕ, zero, suc, _+_, _*_, _<_, _≤_, zero-le, suc-le-suc}
 use native.Mathlib.Nat.{not-suc-le-zero, le-of-suc-le-suc, suc-mul}
-use native.Mathlib.Numerals.{add-one}
 use native.Mathlib.Omega.{arith}
-use lib.ListN.{length, getD, take, drop, set, length-append, length-set, length-map}
+use lib.ListN.{length, getD, take, drop, set, length-append}
 use lib.Seq.{take-at, drop-append-add, take-take, getD-take}
 use lib.Ieee.{Float, nan}
 use Rattle.lists.specs.Lists.{each}
@@ -59,6 +58,7 @@ part-is {B} f d es n l i e c h = sym (getD-take n l i d h) ∙ ap (λ (t : List 
 
 -- ---- one more element
 
+-- it has k corners as well
 pub whole-push : (k : ℕ) (es : List Element) (e : Element) → Whole k es → length (e .corners) ≡ k → Whole k (es ++ (e ∷ []))
 whole-push k [] e w l zero h = l
 whole-push k [] e w l (suc i) h = absurd (not-suc-le-zero (le-of-suc-le-suc h))

@@ -1,6 +1,7 @@
 -- Elements in tables: a number for each, k corners for each in one list, a measure for each. Only contracts between workers need this file. Definitions only.
 use Prim.Native.Nat.{ℕ, _*_, _/_, _<_, _≤_}
 use mathlib.Core.Path.{_≡_}
+use mathlib.Core.Bool.{Bool, _&&_}
 use mathlib.Core.List.{List, [], map}
 use lib.ListN.{length, getD, take}
 use lib.Ieee.{Float}
@@ -82,3 +83,7 @@ pub record MarkRoom (k n : ℕ) (verts : List ℕ) (lm : ℕ) (listed : List ℕ
   pub measures-long : n ≤ lm
   pub verts-below : (j : ℕ) → j < n * k → getD verts j 0 < marks
   pub listed-below : (j : ℕ) → j < length listed → getD listed j 0 < marks
+
+-- r says whether some element holds both x and y, whichever elements the table is of
+pub record HeldBoth (x y k n : ℕ) (verts : List ℕ) (r : Bool) : Type 0 where
+  pub is : (es : List Element) → Cornered k es n verts → r ≡ any (λ (e : Element). stands x (e .corners) && stands y (e .corners)) es

@@ -1,11 +1,12 @@
 // The elements of a mesh in tables: kinds, all elements, the fan of a particle, measures.
 ghost use mathlib.Core.Path.{_≡_};
-ghost use Prim.Native.Nat.{ℕ, _/_, _<_, _≤_};
-ghost use lib.ListN.{length, getD, take};
+ghost use mathlib.Core.Bool.{_&&_};
+ghost use Prim.Native.Nat.{ℕ, _+_, _*_, _/_, _<_, _≤_};
+ghost use lib.ListN.{length, getD, take, drop};
 ghost use Rattle.lists.specs.Lists.{stands, all};
 ghost use Rattle.model.specs.Elements.{cornersPer, facetOthers, trianglesFrom, strapsFrom, sum};
 ghost use Rattle.mesh.specs.At.{trianglesAt, edgesAt};
-ghost use Rattle.elements.specs.Table.{kindIs, elementsIn, KindFound, Tabled, TableRoom, FanTabled, FanRoom, MeasuredWithin, MarkRoom};
+ghost use Rattle.elements.specs.Table.{kindIs, elementsIn, KindFound, Tabled, TableRoom, FanTabled, FanRoom, MeasuredWithin, MarkRoom, HeldBoth};
 ghost use Rattle.elements.specs.Workers.{TriangleRoom, StrapRoom, marked, Marked, MeasuredMarked, PassRoom};
 
 // A mesh is triangles, or straps, or nothing.
@@ -266,4 +267,42 @@ pub fn measure_within(
 {
     mark_listed(listed, marks);
     measure_marked(n, k, verts, measures, marks)
+}
+
+// Does element i of a table hold v?
+pub fn holds(v: usize, k: usize, i: usize, verts: &[usize]) -> bool
+    requires { ⌜ i * k + k ≤ length (now verts) ⌝ }
+    ensures { λ r. ⌜ r ≡ stands v (take k (drop (i * k) (now (verts .entry)))) ⌝ }
+{
+    let a = i * k;
+    let b = a + k;
+    stands_in(v, &verts[a..b])
+}
+
+// Do both x and y stand in b?
+fn both_in(x: usize, y: usize, b: &[usize]) -> bool
+    ensures { λ r. ⌜ r ≡ stands x (now (b .entry)) && stands y (now (b .entry)) ⌝ }
+{
+    if stands_in(x, b) {
+        return stands_in(y, b);
+    }
+    false
+}
+
+// Does one of the n elements of a table hold both x and y?
+pub fn holds_both(x: usize, y: usize, k: usize, n: usize, verts: &[usize]) -> bool
+    requires { ⌜ n * k ≤ length (now verts) ⌝ }
+    ensures { λ r. ⌜ HeldBoth x y k n (now (verts .entry)) r ⌝ }
+{
+    let mut i: usize = 0;
+    let mut a: usize = 0;
+    while i < n {
+        let b = a + k;
+        if both_in(x, y, &verts[a..b]) {
+            return true;
+        }
+        a = b;
+        i += 1;
+    }
+    false
 }

@@ -1,7 +1,7 @@
 -- `elements::fan_table` meets its contract: the invariant is the table of the rows among those passed that hold v. The laws are in proofs/Fans.antt.
 use Prim.Native.Nat.{_+_, _-_, _≤_}
 use native.Mathlib.Omega.{arith}
-use mathlib.Core.Path.{_≡_, sym, _∙_}
+use mathlib.Core.Path.{sym, _∙_}
 use mathlib.Core.Logic.{⊎-elim}
 use lib.ListN.{length}
 use Rattle.elements.proofs.Fans.{Fanning, fanning-start, fanning-reads, fanning-writes, fanning-skip, fanning-take, fanning-done}

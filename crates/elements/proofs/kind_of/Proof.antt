@@ -1,8 +1,8 @@
 -- `elements::kind_of` meets its contract. The invariant: no edge that was passed is structural. Assumes nothing.
-use Prim.Native.Nat.{ℕ, _+_, _*_, _/_, _-_, _≤_, _<_}
+use Prim.Native.Nat.{ℕ, _+_, _*_, _-_, _≤_, _<_}
 use native.Mathlib.Omega.{arith}
 use mathlib.Core.Path.{_≡_}
-use lib.ListN.{length, getD}
+use lib.ListN.{getD}
 use borrow.Author.Count.{below-more}
 use Rattle.elements.proofs.Found.{kind-triangles, kind-straps, kind-nothing}
 use Rattle.elements.proofs.kind_of.Statement.{statement}

@@ -1,7 +1,7 @@
 -- `elements::mark_listed` meets its contract. The invariant: exactly the listed that were passed are marked. Assumes nothing.
 use Prim.Native.Nat.{_≤_, _-_}
 use native.Mathlib.Omega.{arith}
-use mathlib.Core.Path.{_≡_, _∙_}
+use mathlib.Core.Path.{_∙_}
 use lib.ListN.{length}
 use Rattle.elements.proofs.Measures.{Marking, cleared-long, marking-start, marking-more, marking-done}
 use Rattle.elements.proofs.mark_listed.Statement.{statement}

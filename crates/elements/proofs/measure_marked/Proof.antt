@@ -1,7 +1,7 @@
 -- `elements::measure_marked` meets its contract: the invariant is the sum over the elements that were passed. The laws are in proofs/Measures.antt.
 use Prim.Native.Nat.{_+_, _-_, _≤_}
 use native.Mathlib.Omega.{arith}
-use mathlib.Core.Path.{_≡_, refl, sym, _∙_}
+use mathlib.Core.Path.{refl, sym, _∙_}
 use mathlib.Core.Logic.{⊎-elim}
 use lib.ListN.{length}
 use lib.Ieee.{ofBits}

@@ -1,8 +1,7 @@
 -- `elements::strap_table` meets its contract: the invariant is the table of the straps among the edges that were passed. The laws are in proofs/Filling.antt.
-use Prim.Native.Nat.{_*_, _-_, _≤_}
+use Prim.Native.Nat.{_-_, _≤_}
 use native.Mathlib.Omega.{arith}
 use lib.ListN.{length-set}
-use mathlib.Core.Path.{_≡_}
 use mathlib.Core.Logic.{⊎-elim}
 use Rattle.elements.proofs.Filling.{Strapping, strapping-start, strapping-skip, strapping-take, strapping-done}
 use Rattle.elements.proofs.strap_table.Statement.{statement}

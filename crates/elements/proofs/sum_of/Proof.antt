@@ -1,7 +1,7 @@
 -- `elements::sum_of` meets its contract. The invariant: s is the sum of the numbers that were passed. Assumes nothing.
 use Prim.Native.Nat.{_≤_, _-_, ℕ}
 use native.Mathlib.Omega.{arith}
-use mathlib.Core.Path.{_≡_, refl, sym, _∙_, ap}
+use mathlib.Core.Path.{_≡_, sym, _∙_, ap}
 use lib.ListN.{take, getD}
 use lib.Ieee.{Float, ofBits, nan}
 use Rattle.float.specs.Numbers.{plus}

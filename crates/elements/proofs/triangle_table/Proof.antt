@@ -1,8 +1,7 @@
 -- `elements::triangle_table` meets its contract: the invariant is the table of the triangles that were passed. The laws are in proofs/Filling.antt.
-use Prim.Native.Nat.{_*_, _-_, _≤_}
+use Prim.Native.Nat.{_-_, _≤_}
 use native.Mathlib.Omega.{arith}
 use lib.ListN.{length-set}
-use mathlib.Core.Path.{_≡_}
 use Rattle.elements.proofs.Filling.{Triangling, triangling-start, triangling-more, triangling-done}
 use Rattle.elements.proofs.triangle_table.Statement.{statement}
 use Rattle.elements.proofs.triangle_table.Tie as tie
