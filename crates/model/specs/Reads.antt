@@ -45,19 +45,19 @@ rootCall x = rooted (rootOf x)
 unfoldable pub bladeCall : Blade → Point → Point → Read Hit
 bladeCall B p q = orRefused (pick (bladeOk B && pointOk p && pointOk q) 0 2) (bladeHit (B .from) (B .to) p q)
 
--- `assign_groups`: the groups of v's fan with these sides, and how many they are
+-- the groups of a fan, and how many they are
 abbrev pub grouped : Fan → List ℕ × ℕ
 grouped F = (groupsOf F, countOf F)
 
--- at v with these sides
+-- `assign_groups`: the groups of v's fan with these sides
 unfoldable pub groupsCall : Bool → Mesh → ℕ → List ℕ → Read (List ℕ × ℕ)
 groupsCall sized M v sides = orRefused (refusal sized M true (sidesOk M v sides)) (grouped (gridOf (kindOf M) v (fanOf (kindOf M) M v) sides))
 
--- `rest_measure`
+-- `rest_measure`: the measure of the whole mesh
 unfoldable pub restMeasureCall : Bool → Mesh → Read Float
 restMeasureCall sized M = orRefused (refusal sized M true true) (restMeasure M)
 
--- `rest_measure_of` for a particle list
+-- `rest_measure_of`: the measure of what lies in a particle list
 unfoldable pub restMeasureOfCall : Bool → Mesh → List ℕ → Read Float
 restMeasureOfCall sized M ps = orRefused (refusal sized M true (particlesOk M ps)) (restMeasureOf M ps)
 

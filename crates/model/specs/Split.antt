@@ -152,7 +152,7 @@ scoreOf M v dir w =
 unfoldable pub scored : Mesh → ℕ → Point → Best → Part → Best
 scored M v dir b p = fold (λ (c : Best) w. better c (scoreOf M v dir w) (p .group)) b (besides v (p .corners))
 
--- `group_toward`: the group whose fan points best to x in the rest shape. (It is only asked for an x that no fan element holds.)
+-- `group_toward`: the group whose fan points best to x in the rest shape. (It is only asked for an x that no fan element holds: see proofs/Toward.antt.)
 unfoldable pub toward : Mesh → Opening → ℕ → ℕ
 toward M O x =
     let dir = sumOf (minusOf (restOf M x) (restOf M (O .v)) ∷ []) in
@@ -193,12 +193,12 @@ straddles k M O e = not (element? k e) && not (any (λ w. stands w (copies O)) (
 
 -- ---- 5: boundary
 
--- the group of the first fan element that holds a boundary entry at v, or else the one that points to its other end
+-- a boundary entry at v follows the first fan element that holds it, or else the group that points to its other end
 abbrev pub partGroup : Option Part → ℕ → ℕ
 partGroup none g = g
 partGroup (some p) g = p .group
 
--- for the boundary entry s
+-- the group that the boundary entry s follows
 unfoldable pub sideGroup : Mesh → Opening → Side → ℕ
 sideGroup M O s =
     partGroup (find (λ (p : Part). all (λ x. stands x (p .corners)) (sideEnds s)) (O .fan))
