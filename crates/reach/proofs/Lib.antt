@@ -1,0 +1,5 @@
+-- Laws of counts, of the walk, and of the table that it goes through. Assumes nothing.
+pub mod Tallies
+pub mod Rowing
+pub mod Queues
+pub mod Walks
