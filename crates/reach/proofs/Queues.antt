@@ -13,7 +13,7 @@ use lib.ListN.{length, getD, set, length-set}
 use Rattle.lists.specs.Lists.{pick}
 use Rattle.lists.proofs.Stores.{stored}
 use Rattle.reach.specs.Walk.{tally, marked, Queued, Spread, Seeded}
-use Rattle.reach.proofs.Tallies.{tally-ext, tally-more, tally-room, tally-none}
+use Rattle.reach.proofs.Tallies.{tally-ext, tally-more, tally-room, tally-none, tally-le}
 
 -- x or no more
 pub or-off : (s t : Bool) → t ≡ false → s || t ≡ s
@@ -68,6 +68,10 @@ module _ {n : ℕ} {seen queue : List ℕ} {end : ℕ} (Q : Queued n seen queue 
             ];
       }
 
+-- no more rows are queued than there are
+pub queued-le : {n : ℕ} {seen queue : List ℕ} {tail : ℕ} → Queued n seen queue tail → tail ≤ n
+queued-le {n} {seen} Q = let h = tally-le (marked seen) n in omega (arith, Q .counted)
+
 -- ---- from an empty queue
 
 pub queued-none : (n : ℕ) (seen queue : List ℕ) → n ≤ length seen → n ≤ length queue → ((j : ℕ) → j < n → getD seen j 0 ≡ 0) → Queued n seen queue 0
@@ -121,6 +125,10 @@ module _ (p : ℕ → Bool) {n : ℕ} {seen₀ queue₀ : List ℕ} {tail : ℕ}
 
     here : upto p (i + 1) i ≡ p i
     here = upto-in p (i + 1) i (omega arith)
+
+    -- a row that was not marked at first is not marked before its turn
+    pub spread-fresh : getD seen₀ i 0 ≡ 0 → marked seen i ≡ false
+    spread-fresh z = before ∙ ne-eqb (getD seen₀ i 0) 1 (λ e. omega arith)
 
     -- the row is marked, or does not pass
     pub spread-skip : (marked seen i ≡ true) ⊎ (p i ≡ false) → Spread n (upto p (i + 1)) seen₀ queue₀ tail seen queue end

@@ -7,11 +7,13 @@ use native.Mathlib.Omega.{arith}
 use native.Mathlib.Nat.{le-trans, suc-mul, mul-le-mul-right}
 use native.Mathlib.Decide.{ℕ-discrete, decLe}
 use borrow.Author.Tests.{lt-ltb, le-ltb}
-use lib.Dec.{leb}
-use lib.ListN.{length, take, drop}
+use native.Mathlib.Numerals.{add-one}
+use lib.Dec.{leb, eqb}
+use lib.ListN.{length, getD, take, drop}
 use Rattle.lists.specs.Lists.{stands}
 use Rattle.fan.specs.Fan.{sharedOthers}
-use Rattle.reach.specs.Walk.{facetShared, touching, holdsRow, Rows}
+use Rattle.reach.specs.Walk.{facetShared, touching, holdsRow, tally, seeds, Rows, Lent}
+use Rattle.reach.proofs.Tallies.{tally-in}
 
 -- a row ends within the table
 pub row-end : {n k long : ℕ} → Rows n k long → (i : ℕ) → i < n → i * k + k ≤ long
@@ -47,3 +49,31 @@ module _ (k v : ℕ) (verts : List ℕ) where
       by : Dec (i ≤ j) → (i ≡ j → ⊥) → touching k v verts i j ≡ touching k v verts j i
       by (yes h) d = touch-low i j (omega arith) ∙ sym (touch-high j i h)
       by (no h) d = touch-high i j (omega arith) ∙ sym (touch-low j i (omega arith))
+
+-- ---- the rows of a group
+
+-- before the first row; one row further
+pub tally-zero : (p : ℕ → Bool) → 0 ≡ tally p 0
+unfolding tally
+tally-zero p = refl
+
+pub tally-yes : (p : ℕ → Bool) (j f : ℕ) → f ≡ tally p j → p j ≡ true → f + 1 ≡ tally p (j + 1)
+unfolding tally
+tally-yes p j f e y = rw (add-one j, y) (omega arith)
+
+pub tally-no : (p : ℕ → Bool) (j f : ℕ) → f ≡ tally p j → p j ≡ false → f ≡ tally p (j + 1)
+unfolding tally
+tally-no p j f e y = rw (add-one j, y) e
+
+module _ (k v : ℕ) (verts groups : List ℕ) (g j f : ℕ) where
+  pub seed-in : f ≡ tally (holdsRow k v verts) j → holdsRow k v verts j ≡ true → seeds k v verts groups g j ≡ eqb (getD groups f 0) g
+  unfolding seeds
+  seed-in e y = rw (y, e)
+
+  pub seed-out : holdsRow k v verts j ≡ false → seeds k v verts groups g j ≡ false
+  unfolding seeds
+  seed-out y = rw y
+
+  -- the fan's place of a row that holds v has a group
+  pub place-in : (n s q : ℕ) → Lent n k v verts groups s q → j < n → f ≡ tally (holdsRow k v verts) j → holdsRow k v verts j ≡ true → f < length groups
+  place-in n s q L l e y = let h = tally-in (holdsRow k v verts) n j l y in omega (arith, L .grouped)

@@ -68,8 +68,8 @@ fn clear(n: usize, seen: &mut [usize])
     }
 }
 
-// Marks and queues the rows of the fan's group g: the fth row that holds v is the fan's fth element. Returns how many they are.
-fn seed(
+// With no row marked, marks and queues the rows of the fan's group g: the fth row that holds v is the fan's fth element. Returns how many they are.
+fn queue_group(
     n: usize,
     k: usize,
     v: usize,
@@ -79,10 +79,9 @@ fn seed(
     seen: &mut [usize],
     queue: &mut [usize],
 ) -> usize
-    requires { ⌜ Lent n k v (now verts) (now groups) (length (now seen)) (length (now queue)) ⌝ }
+    requires { ⌜ Lent n k v (now verts) (now groups) (length (now seen)) (length (now queue)) × ((j : ℕ) → j < n → getD (now seen) j 0 ≡ 0) ⌝ }
     ensures { λ r. ⌜ Seeded n (seeds k v (now (verts .entry)) (now (groups .entry)) g) (now (seen .exit)) (now (queue .exit)) r ⌝ }
 {
-    clear(n, seen);
     let mut end = 0;
     let mut f = 0;
     let mut j = 0;
@@ -98,6 +97,24 @@ fn seed(
         j += 1;
     }
     end
+}
+
+// The queue of the fan's group g alone. Returns how many rows it has.
+fn seed(
+    n: usize,
+    k: usize,
+    v: usize,
+    verts: &[usize],
+    g: usize,
+    groups: &[usize],
+    seen: &mut [usize],
+    queue: &mut [usize],
+) -> usize
+    requires { ⌜ Lent n k v (now verts) (now groups) (length (now seen)) (length (now queue)) ⌝ }
+    ensures { λ r. ⌜ Seeded n (seeds k v (now (verts .entry)) (now (groups .entry)) g) (now (seen .exit)) (now (queue .exit)) r ⌝ }
+{
+    clear(n, seen);
+    queue_group(n, k, v, verts, g, groups, seen, queue)
 }
 
 // Marks and queues every row not yet marked that touches row i. Returns the queue's new end.
