@@ -3,3 +3,4 @@ pub mod Tallies
 pub mod Rowing
 pub mod Queues
 pub mod Walks
+pub mod Tables

@@ -1,7 +1,7 @@
 -- Laws of `tally`: how many of the first n numbers pass. They hold of any test; crate lists might have them. Assumes nothing.
 use mathlib.Core.Path.{_≡_, refl, sym, _∙_, ap}
 use mathlib.Core.Bool.{Bool, true, false, false≢true}
-use mathlib.Core.List.{List, [], _∷_}
+use mathlib.Core.List.{List, [], _∷_, map}
 use Prim.Native.Nat.{ℕ, zero, suc, _+_, _<_, _≤_, zero-le, suc-le-suc}
 use native.Mathlib.Omega.{arith}
 use native.Mathlib.Nat.{not-suc-le-zero}
@@ -104,11 +104,12 @@ module _ (p : ℕ → Bool) where
       by false = refl
 
 -- what is sifted, counted by place
-sift-by : (q : ℕ → Bool) (a : ℕ) (l : List ℕ) (m : ℕ) (t : Bool) → length (sift q l) ≡ m → length (pick t (a ∷ sift q l) (sift q l)) ≡ pick t 1 0 + m
-sift-by q a l m true h = omega arith
-sift-by q a l m false h = omega arith
+module _ {A : Type 0} (q : A → Bool) where
+  sift-by : (a : A) (l : List A) (m : ℕ) (t : Bool) → length (sift q l) ≡ m → length (pick t (a ∷ sift q l) (sift q l)) ≡ pick t 1 0 + m
+  sift-by a l m true h = omega arith
+  sift-by a l m false h = omega arith
 
-pub sift-tally : (q : ℕ → Bool) (l : List ℕ) → length (sift q l) ≡ tally (λ j. q (getD l j 0)) (length l)
-unfolding sift
-sift-tally q [] = sym (tally-none (λ j. q (getD [] j 0)) 0 (λ j l. absurd (not-suc-le-zero l)))
-sift-tally q (a ∷ l) = sift-by q a l (tally (λ j. q (getD l j 0)) (length l)) (q a) (sift-tally q l) ∙ sym (tally-first (λ j. q (getD (a ∷ l) j 0)) (length l))
+  pub sift-tally : (l : List A) → length (sift q l) ≡ tally (λ j. getD (map q l) j false) (length l)
+  unfolding sift
+  sift-tally [] = sym (tally-none (λ j. getD (map q []) j false) 0 (λ j l. absurd (not-suc-le-zero l)))
+  sift-tally (a ∷ l) = sift-by a l (tally (λ j. getD (map q l) j false) (length l)) (q a) (sift-tally l) ∙ sym (tally-first (λ j. getD (map q (a ∷ l)) j false) (length l))
