@@ -4,3 +4,4 @@ pub mod Rowing
 pub mod Queues
 pub mod Walks
 pub mod Tables
+pub mod Opening
