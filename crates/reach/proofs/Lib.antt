@@ -5,3 +5,4 @@ pub mod Queues
 pub mod Walks
 pub mod Tables
 pub mod Opening
+pub mod Reached

@@ -24,6 +24,7 @@ use Rattle.model.specs.Split.{Part, Opening, partsOf}
 use Rattle.model.specs.Pieces.{cornersAt, facetBetween, reachLabels, labelsAt, membersOf, reachOf}
 use Rattle.elements.specs.Table.{Cornered, holding}
 use Rattle.reach.specs.Opens.{Numbered, openingAt}
+use Rattle.reach.specs.Reached.{numberAt}
 use Rattle.reach.specs.Walk.{row, facetShared, touching, holdsRow, tally, seeds, seedLabels, reachFrom, tableReach}
 use Rattle.reach.proofs.Tallies.{both, tally-ext, tally-first, sift-tally}
 use Rattle.reach.proofs.Rowing.{tally-zero, touch-low}
@@ -87,9 +88,6 @@ module _ {k n : ℕ} {es : List Element} {verts : List ℕ} (C : Cornered k es n
       ∙ ap (labelled (λ i j. facetBetween K v (cornersAt es i) (cornersAt es j))) (C .count)
 
 -- ---- seeds
-
-abbrev pub numberAt : List Element → ℕ → ℕ
-numberAt es j = getD (map (λ (e : Element). e .number) es) j 0
 
 module _ (v g : ℕ) where
   -- the numbers of the fan elements of group g
