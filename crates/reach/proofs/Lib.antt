@@ -5,4 +5,5 @@ pub mod Queues
 pub mod Walks
 pub mod Tables
 pub mod Opening
+pub mod Lent
 pub mod Reached

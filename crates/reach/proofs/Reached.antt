@@ -2,13 +2,13 @@
 use mathlib.Core.Path.{_≡_, refl, sym, _∙_, ap}
 use mathlib.Core.Bool.{Bool, true, false, not, _&&_, false≢true}
 use mathlib.Core.List.{List, [], _∷_, map}
-use Prim.Native.Nat.{ℕ, zero, suc, _-_, _<_, _≤_}
+use Prim.Native.Nat.{ℕ, zero, suc, _+_, _-_, _<_, _≤_}
 use native.Mathlib.Omega.{arith}
 use native.Mathlib.Nat.{not-suc-le-zero, le-of-suc-le-suc}
 use native.Mathlib.Decide.{ℕ-discrete, decLe}
 use borrow.Author.Tests.{leb-true, le-leb, eqb-true, eq-eqb, not-true}
 use lib.Dec.{leb, eqb, ltb}
-use lib.ListN.{length, getD}
+use lib.ListN.{length, getD, take}
 use Rattle.lists.specs.Lists.{pick, stands, sift, all, upTo}
 use Rattle.lists.specs.Chain.{Chain, stay, ahead, back}
 use Rattle.lists.specs.Labels.{Joins, labelled}
@@ -18,14 +18,17 @@ use Rattle.lists.proofs.Stores.{map-at}
 use Rattle.lists.proofs.Sifts.{pick-true, and-true}
 use Rattle.fan.specs.Fan.{sharedOthers, Distinct}
 use Rattle.fan.proofs.Either.{shared-either}
-use Rattle.model.specs.Elements.{Kind, Element, cornersPer}
+use Rattle.model.specs.Mesh.{Triangle, Edge, Mesh}
+use Rattle.model.specs.Elements.{Kind, Triangles, Straps, Nothing, Element, cornersPer, cornersOf, endsOf, structural?, strapElement, trianglesFrom, strapsFrom, elementsOf}
+use Rattle.model.specs.Valid.{named, rootOk, cornersOk, endsOk, sideOk, indicesFit}
 use Rattle.model.specs.Split.{Opening}
 use Rattle.model.specs.Pieces.{cornersAt, facetBetween, reachLabels, labelsAt, membersOf, reachOf}
 use Rattle.elements.specs.Table.{holding}
 use Rattle.reach.specs.Opens.{Numbered, openingAt}
-use Rattle.reach.specs.Reached.{Plain, Across, numberAt, Reached, InFan}
+use Rattle.reach.specs.Reached.{Plain, Across, numberAt, Reached, InGroup}
 use Rattle.reach.specs.Walk.{tally}
-use Rattle.reach.proofs.Tallies.{tally-ext, sift-tally}
+use Rattle.reach.proofs.Tallies.{tally-ext, tally-first, tally-sift, sift-tally}
+use Rattle.reach.proofs.Rowing.{tally-zero}
 use Rattle.reach.proofs.Tables.{labels-long, label-get, label-made, chosen-is}
 
 module _ (K : Kind) (v : ℕ) (es : List Element) (plain : Plain es) where
@@ -69,24 +72,89 @@ module _ (K : Kind) (v : ℕ) (es : List Element) (plain : Plain es) where
             (labelled-joined near (length es) (R .start) j (R .within) l .1 (chain-map from-across (R .chain))),
       )
 
--- the reach of a group is the count of those elements
+-- the reach of a group is the number of those elements
 pub reach-counts : (K : Kind) (v : ℕ) (es : List Element) (O : Opening) (g : ℕ)
-    → reachOf es (reachLabels K v es) O g ≡ tally (λ j. stands (getD (reachLabels K v es) j 0) (labelsAt (membersOf O g) es (reachLabels K v es))) (length es)
+    → reachOf es (reachLabels K v es) O g
+    ≡ length (sift (λ j. stands (getD (reachLabels K v es) j 0) (labelsAt (membersOf O g) es (reachLabels K v es))) (upTo (length es)))
 unfolding reachOf
 reach-counts K v es O g =
     let ls = reachLabels K v es in
     let q : ℕ → Bool = λ l. stands l (labelsAt (membersOf O g) es ls) in
     sift-tally q ls ∙ ap (tally (λ j. getD (map q ls) j false)) (labels-long K v es)
     ∙ tally-ext (λ j. getD (map q ls) j false) (λ j. q (getD ls j 0)) (length es) (λ j l. map-at q ls j 0 false (omega (arith, labels-long K v es)))
+    ∙ sym (tally-sift (λ j. q (getD ls j 0)) (length es))
 
--- the members are the elements that hold v and whose group is g: the fan's place of an element is how many before it hold v
+-- the fan's place of an element
+place-by : (e : Element) (l : List Element) (m : ℕ) (t : Bool) → length l ≡ m → length (pick t (e ∷ l) l) ≡ pick t 1 0 + m
+place-by e l m true h = omega arith
+place-by e l m false h = omega arith
+
+place-is : (v : ℕ) (es : List Element) (i : ℕ) → i ≤ length es → length (holding v (take i es)) ≡ tally (λ j. stands v (cornersAt es j)) i
+unfolding sift
+place-is v es zero l = tally-zero (λ j. stands v (cornersAt es j))
+place-is v [] (suc i) l = absurd (not-suc-le-zero l)
+place-is v (e ∷ es) (suc i) l =
+    place-by e (holding v (take i es)) (tally (λ j. stands v (cornersAt es j)) i) (stands v (e .corners)) (place-is v es i (le-of-suc-le-suc l))
+    ∙ sym (tally-first (λ j. stands v (cornersAt (e ∷ es) j)) i)
+
+-- the members of a group are its elements in the fan
 pub member-is : (v before count g : ℕ) (es : List Element) (groups : List ℕ) → length groups ≡ length (holding v es) → Numbered es → (i : ℕ) → i < length es
-    → (stands (numberAt es i) (membersOf (openingAt v before es groups count) g) ≡ true → InFan v es groups (tally (λ j. stands v (cornersAt es j))) g i)
-    × (InFan v es groups (tally (λ j. stands v (cornersAt es j))) g i → stands (numberAt es i) (membersOf (openingAt v before es groups count) g) ≡ true)
+    → (stands (numberAt es i) (membersOf (openingAt v before es groups count) g) ≡ true → InGroup v es groups g i)
+    × (InGroup v es groups g i → stands (numberAt es i) (membersOf (openingAt v before es groups count) g) ≡ true)
 unfolding membersOf
 member-is v before count g es groups n N i l =
     let h : ℕ → Bool = λ j. stands v (cornersAt es j) in
-    let e = chosen-is v g es groups h n N (λ j b. refl) i l in (
-      λ m. let w = pick-true (h i) (eqb (getD groups (tally h i) 0) g) (e ∙ m) in record { holds = w .0; group = eqb-true _ _ (w .1) },
-      λ F. sym e ∙ rw (F .holds) (eq-eqb _ _ (F .group)),
+    let e = chosen-is v g es groups h n N (λ j b. refl) i l in
+    let f : length (holding v (take i es)) ≡ tally h i = place-is v es i (omega arith) in (
+      λ m.
+          let w = pick-true (h i) (eqb (getD groups (tally h i) 0) g) (e ∙ m) in
+          record { holds = w .0; group = ap (λ (a : ℕ). getD groups a 0) f ∙ eqb-true _ _ (w .1) },
+      λ F. sym e ∙ rw (F .holds) (eq-eqb _ _ (sym (ap (λ (a : ℕ). getD groups a 0) f) ∙ F .group)),
     )
+
+-- ---- the elements of an accepted mesh name no particle twice
+
+named-distinct : (n : ℕ) (l : List ℕ) → named n l ≡ true → Distinct l
+unfolding named
+named-distinct n [] e = tt
+named-distinct n (x ∷ l) e =
+    let a = and-true (ltb x n && not (stands x l)) (named n l) e in
+    (not-true _ (and-true (ltb x n) (not (stands x l)) (a .0) .1), named-distinct n l (a .1))
+
+triangles-plain : (n i : ℕ) (ts : List Triangle) → all (cornersOk n) ts ≡ true → (j : ℕ) → j < length (trianglesFrom i ts) → Distinct (cornersAt (trianglesFrom i ts) j)
+unfolding trianglesFrom all cornersOk
+triangles-plain n i [] e j l = absurd (not-suc-le-zero l)
+triangles-plain n i (t ∷ ts) e zero l = named-distinct n (cornersOf t) (and-true _ _ e .0)
+triangles-plain n i (t ∷ ts) e (suc j) l = triangles-plain n (suc i) ts (and-true (cornersOk n t) (all (cornersOk n) ts) e .1) j (le-of-suc-le-suc l)
+
+straps-by : (i : ℕ) (a : Edge) (es : List Edge) (t : Bool) → Distinct (endsOf a) → ((j : ℕ) → j < length (strapsFrom (suc i) es) → Distinct (cornersAt (strapsFrom (suc i) es) j))
+    → (j : ℕ) → j < length (pick t (strapElement i a ∷ strapsFrom (suc i) es) (strapsFrom (suc i) es))
+    → Distinct (cornersAt (pick t (strapElement i a ∷ strapsFrom (suc i) es) (strapsFrom (suc i) es)) j)
+straps-by i a es true d f zero l = d
+straps-by i a es true d f (suc j) l = f j (le-of-suc-le-suc l)
+straps-by i a es false d f j l = f j l
+
+straps-plain : (n i : ℕ) (es : List Edge) → all (endsOk n) es ≡ true → (j : ℕ) → j < length (strapsFrom i es) → Distinct (cornersAt (strapsFrom i es) j)
+unfolding strapsFrom all endsOk
+straps-plain n i [] e j l = absurd (not-suc-le-zero l)
+straps-plain n i (a ∷ es) e j l =
+    straps-by i a es (structural? a) (named-distinct n (endsOf a) (and-true _ _ e .0)) (straps-plain n (suc i) es (and-true (endsOk n a) (all (endsOk n) es) e .1)) j l
+
+-- the parts of the test that speak of triangles and edges
+parts : (M : Mesh) → indicesFit M ≡ true → (all (cornersOk (length (M .particles))) (M .triangles) ≡ true) × (all (endsOk (length (M .particles))) (M .edges) ≡ true)
+unfolding indicesFit
+parts M e =
+    let n = length (M .particles) in
+    by (all (rootOk n) (M .particles)) (all (cornersOk n) (M .triangles)) (all (endsOk n) (M .edges)) (all (sideOk n) (M .boundary)) e
+  where
+    by : (a b c d : Bool) → a && b && c && d ≡ true → (b ≡ true) × (c ≡ true)
+    by true true true d z = (refl, refl)
+    by true true false d z = absurd (false≢true z)
+    by true false c d z = absurd (false≢true z)
+    by false b c d z = absurd (false≢true z)
+
+pub plain-elements : (K : Kind) (M : Mesh) → indicesFit M ≡ true → Plain (elementsOf K M)
+unfolding elementsOf indicesFit
+plain-elements Triangles M e = record { distinct = triangles-plain (length (M .particles)) 0 (M .triangles) (parts M e .0) }
+plain-elements Straps M e = record { distinct = straps-plain (length (M .particles)) 0 (M .edges) (parts M e .1) }
+plain-elements Nothing M e = record { distinct = λ i l. absurd (not-suc-le-zero l) }

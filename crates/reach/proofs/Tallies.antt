@@ -7,8 +7,9 @@ use native.Mathlib.Omega.{arith}
 use native.Mathlib.Nat.{not-suc-le-zero}
 use native.Mathlib.Decide.{ℕ-discrete}
 use lib.ListN.{length, getD}
-use Rattle.lists.specs.Lists.{pick, sift}
-use Rattle.lists.proofs.Sifts.{pick-by, pick-ap}
+use Rattle.lists.specs.Lists.{pick, sift, upTo}
+use Rattle.lists.proofs.Sifts.{pick-by, pick-ap, upTo-length, upTo-at}
+use Rattle.lists.proofs.Stores.{map-at}
 use Rattle.reach.specs.Walk.{tally}
 
 -- two tests that hold of the same are equal
@@ -113,3 +114,10 @@ module _ {A : Type 0} (q : A → Bool) where
   unfolding sift
   sift-tally [] = sym (tally-none (λ j. getD (map q []) j false) 0 (λ j l. absurd (not-suc-le-zero l)))
   sift-tally (a ∷ l) = sift-by a l (tally (λ j. getD (map q l) j false) (length l)) (q a) (sift-tally l) ∙ sym (tally-first (λ j. getD (map q (a ∷ l)) j false) (length l))
+
+-- a count as a list's length
+pub tally-sift : (p : ℕ → Bool) (n : ℕ) → length (sift p (upTo n)) ≡ tally p n
+tally-sift p n =
+    sift-tally p (upTo n) ∙ ap (tally (λ j. getD (map p (upTo n)) j false)) (upTo-length n)
+    ∙ tally-ext (λ j. getD (map p (upTo n)) j false) p n
+    (λ j l. map-at p (upTo n) j 0 false (omega (arith, upTo-length n)) ∙ ap p (upTo-at n j l))

@@ -4,12 +4,13 @@ use Prim.Native.Nat.{ℕ, _-_, _<_, _≤_}
 use mathlib.Core.Path.{_≡_}
 use mathlib.Core.Bool.{true}
 use mathlib.Core.List.{List, map}
-use lib.ListN.{length, getD}
+use lib.ListN.{length, getD, take}
 use Rattle.lists.specs.Lists.{stands}
 use Rattle.lists.specs.Chain.{Chain}
 use Rattle.fan.specs.Fan.{sharedOthers, Distinct}
 use Rattle.model.specs.Elements.{Kind, Element, cornersPer}
 use Rattle.model.specs.Pieces.{cornersAt}
+use Rattle.elements.specs.Table.{holding}
 
 -- no element names a particle twice
 pub record Plain (es : List Element) : Type 0 where
@@ -32,7 +33,7 @@ pub record Reached (K : Kind) (v : ℕ) (es : List Element) (ns : List ℕ) (j :
   pub member : stands (numberAt es start) ns ≡ true
   pub chain : Chain (Across K v es) start j
 
--- the element at place i of the body is the fan's element at place f, where f elements before it hold v
-pub record InFan (v : ℕ) (es : List Element) (groups : List ℕ) (place : ℕ → ℕ) (g i : ℕ) : Type 0 where
+-- the ith element is of the fan and of group g: it holds v, and its place in the fan is how many before it hold v
+pub record InGroup (v : ℕ) (es : List Element) (groups : List ℕ) (g i : ℕ) : Type 0 where
   pub holds : stands v (cornersAt es i) ≡ true
-  pub group : getD groups (place i) 0 ≡ g
+  pub group : getD groups (length (holding v (take i es))) 0 ≡ g
