@@ -1,7 +1,7 @@
 -- What a call asks, from what callers know of any elements that a table holds: every table of whole rows holds some. Assumes nothing.
 use mathlib.Core.Path.{_≡_, refl, sym, _∙_, ap, ap₂}
-use mathlib.Core.List.{List, [], _∷_, _++_, map}
-use Prim.Native.Nat.{ℕ, zero, suc, _+_, _-_, _*_, _<_, _≤_, min}
+use mathlib.Core.List.{List, [], _++_}
+use Prim.Native.Nat.{ℕ, zero, suc, _+_, _*_, _<_, _≤_}
 use native.Mathlib.Omega.{arith}
 use native.Mathlib.Nat.{zero-mul, suc-mul}
 use lib.Ieee.{Float}
@@ -9,9 +9,8 @@ use lib.ListN.{length, getD, take, drop, length-take, length-drop}
 use lib.Seq.{take-add, drop-drop}
 use Rattle.lists.specs.Lists.{each, tab}
 use Rattle.lists.proofs.Stores.{tab-length, tab-at}
-use Rattle.lists.proofs.Sifts.{tab-ext, map-tab}
+use Rattle.lists.proofs.Sifts.{map-tab}
 use Rattle.model.specs.Elements.{Element}
-use Rattle.model.specs.Pieces.{cornersAt}
 use Rattle.elements.specs.Table.{Cornered, holding}
 use Rattle.reach.specs.Walk.{row, Rows, Lent}
 use Rattle.reach.proofs.Rowing.{row-end}

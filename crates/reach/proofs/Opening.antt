@@ -1,24 +1,22 @@
 -- The answer for all groups, and that it is `opensWithoutConfetti` of the mesh whose elements the table holds. Assumes nothing.
-use mathlib.Core.Path.{_≡_, refl, sym, _∙_, ap, subst}
-use mathlib.Core.Bool.{Bool, true, false, _&&_, false≢true}
+use mathlib.Core.Path.{_≡_, refl, sym, _∙_, ap}
+use mathlib.Core.Bool.{Bool, true, false, false≢true}
 use mathlib.Core.Logic.{_⊎_, inl, inr, ⊎-elim}
 use mathlib.Core.List.{List, [], _∷_, map}
-use Prim.Native.Nat.{ℕ, zero, suc, _<_, _≤_}
+use Prim.Native.Nat.{ℕ, suc, _<_, _≤_}
 use native.Mathlib.Omega.{arith}
-use native.Mathlib.Decide.{ℕ-discrete}
-use borrow.Author.Tests.{ne-eqb, eqb-true}
+use borrow.Author.Tests.{eqb-true}
 use lib.Dec.{leb, eqb}
 use lib.ListN.{length}
 use Rattle.lists.specs.Lists.{pick, stands, all, upTo}
 use Rattle.lists.specs.Labels.{labelled}
 use Rattle.lists.proofs.Sifts.{tab-all, all-tab}
-use Rattle.fan.specs.Fan.{Distinct}
 use Rattle.fan.specs.Groups.{groupsOf, countOf}
 use Rattle.model.specs.Mesh.{Triangle, Edge, Mesh}
-use Rattle.model.specs.Elements.{Kind, Triangles, Straps, Nothing, Element, cornersPer, structural?, triangleElement, strapElement, trianglesFrom, strapsFrom, elementsOf, fanOf, gridOf}
-use Rattle.model.specs.Split.{Opening, partsOf, openingOf}
+use Rattle.model.specs.Elements.{Kind, Triangles, Straps, Nothing, Element, cornersPer, structural?, strapElement, trianglesFrom, strapsFrom, elementsOf, fanOf, gridOf}
+use Rattle.model.specs.Split.{openingOf}
 use Rattle.model.specs.Pieces.{reachLabels, reachOf, minPiece, opensWithoutConfetti}
-use Rattle.elements.specs.Table.{Cornered, holding}
+use Rattle.elements.specs.Table.{elementsIn, Cornered, holding}
 use Rattle.reach.specs.Opens.{Numbered, openingAt, Opens}
 use Rattle.reach.specs.Walk.{touching, holdsRow, tally, seeds, reachFrom, tableReach, Rows, Lent, marked, Seeded}
 use Rattle.reach.proofs.Walks.{reach-ext}
@@ -120,6 +118,12 @@ straps-numbered i [] = tt
 straps-numbered i (a ∷ es) = straps-numbered-by i a es (structural? a) (straps-numbered (suc i) es)
 
 -- no two elements of a mesh have one number
+pub numbered-in : (K : Kind) (ts : List Triangle) (es : List Edge) → Numbered (elementsIn K ts es)
+unfolding elementsIn
+numbered-in Triangles ts es = triangles-numbered 0 ts
+numbered-in Straps ts es = straps-numbered 0 es
+numbered-in Nothing ts es = tt
+
 pub numbered-elements : (K : Kind) (M : Mesh) → Numbered (elementsOf K M)
 unfolding elementsOf
 numbered-elements Triangles M = triangles-numbered 0 (M .triangles)

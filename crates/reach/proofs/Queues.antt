@@ -3,17 +3,17 @@ use mathlib.Core.Path.{_≡_, refl, sym, _∙_, ap, subst}
 use mathlib.Core.Bool.{Bool, true, false, _||_, false≢true}
 use mathlib.Core.Logic.{_⊎_, inl, inr, ⊎-elim}
 use mathlib.Core.List.{List}
-use Prim.Native.Nat.{ℕ, zero, suc, _+_, _<_, _≤_, zero-le}
+use Prim.Native.Nat.{ℕ, _+_, _<_, _≤_, zero-le}
 use native.Mathlib.Omega.{arith}
 use native.Mathlib.Nat.{not-suc-le-zero}
 use native.Mathlib.Decide.{ℕ-discrete}
-use borrow.Author.Tests.{eq-eqb, ne-eqb, eqb-true, lt-ltb, le-ltb, ltb-true, ltb-false}
+use borrow.Author.Tests.{eq-eqb, ne-eqb, lt-ltb, le-ltb, ltb-true, ltb-false}
 use lib.Dec.{eqb, ltb}
 use lib.ListN.{length, getD, set, length-set}
 use Rattle.lists.specs.Lists.{pick}
 use Rattle.lists.proofs.Stores.{stored}
-use Rattle.reach.specs.Walk.{tally, marked, Queued, Spread, Seeded}
-use Rattle.reach.proofs.Tallies.{tally-ext, tally-more, tally-room, tally-none, tally-le}
+use Rattle.reach.specs.Walk.{marked, Queued, Spread, Seeded}
+use Rattle.reach.proofs.Tallies.{tally-more, tally-room, tally-none, tally-le}
 
 -- x or no more
 pub or-off : (s t : Bool) → t ≡ false → s || t ≡ s

@@ -6,19 +6,17 @@ use mathlib.Core.List.{List, [], _∷_, _++_, map}
 use Prim.Native.Nat.{ℕ, zero, suc, _+_, _-_, _*_, _<_, _≤_, zero-le, suc-le-suc}
 use native.Mathlib.Omega.{arith}
 use native.Mathlib.Nat.{not-suc-le-zero, le-of-suc-le-suc, zero-mul, suc-mul, mul-le-mul-right}
-use native.Mathlib.Decide.{ℕ-discrete}
 use borrow.Author.Tests.{eq-eqb, ne-eqb, eqb-true}
-use lib.Dec.{eqb, leb}
+use lib.Dec.{eqb}
 use lib.ListN.{length, getD, take, drop, length-map}
-use lib.Seq.{take-at, drop-at, take-nil, drop-nil, take-take, drop-drop}
+use lib.Seq.{take-at, drop-at, take-nil, take-take, drop-drop}
 use Rattle.lists.specs.Lists.{pick, stands, sift, each}
-use Rattle.lists.specs.Chain.{Chain, stay, ahead}
+use Rattle.lists.specs.Chain.{stay, ahead}
 use Rattle.lists.specs.Labels.{Joins, labelled}
 use Rattle.lists.proofs.Chains.{chain-map}
 use Rattle.lists.proofs.Labelled.{lowest-unique, lowest-map, labelled-lowest, labelled-length}
 use Rattle.lists.proofs.Stores.{map-at}
 use Rattle.lists.proofs.Sifts.{pick-by, stands-made}
-use Rattle.fan.specs.Fan.{sharedOthers, Distinct}
 use Rattle.model.specs.Elements.{Kind, Element, cornersPer}
 use Rattle.model.specs.Split.{Part, Opening, partsOf}
 use Rattle.model.specs.Pieces.{cornersAt, facetBetween, reachLabels, labelsAt, membersOf, reachOf}
@@ -27,7 +25,7 @@ use Rattle.reach.specs.Opens.{Numbered, openingAt}
 use Rattle.reach.specs.Reached.{numberAt}
 use Rattle.reach.specs.Walk.{row, facetShared, touching, holdsRow, tally, seeds, seedLabels, reachFrom, tableReach}
 use Rattle.reach.proofs.Tallies.{both, tally-ext, tally-first, sift-tally}
-use Rattle.reach.proofs.Rowing.{tally-zero, touch-low}
+use Rattle.reach.proofs.Rowing.{touch-low}
 use Rattle.reach.proofs.Walks.{seed-get, seed-made, reach-ext}
 
 -- ---- rows
@@ -47,7 +45,7 @@ each-row k (e ∷ es) w zero h = rw (zero-mul k) (take-at (e .corners) (each (λ
 each-row k (e ∷ es) w (suc j) h =
     let m : suc j * k ≡ k + j * k = suc-mul j k ∙ omega arith in
     let d : drop (k + j * k) (e .corners ++ each (λ (e : Element). e .corners) es) ≡ drop (j * k) (each (λ (e : Element). e .corners) es)
-          = sym (drop-drop (j * k) k (e .corners ++ each (λ (e : Element). e .corners) es)) ∙ ap (drop (j * k)) (drop-at (e .corners) (each (λ (e : Element). e .corners) es) k (w 0 (suc-le-suc zero-le))) in
+    = sym (drop-drop (j * k) k (e .corners ++ each (λ (e : Element). e .corners) es)) ∙ ap (drop (j * k)) (drop-at (e .corners) (each (λ (e : Element). e .corners) es) k (w 0 (suc-le-suc zero-le))) in
     rw (m, d) (each-row k es (λ i l. w (suc i) (suc-le-suc l)) j (le-of-suc-le-suc h))
 
 module _ {k n : ℕ} {es : List Element} {verts : List ℕ} (C : Cornered k es n verts) where
@@ -105,10 +103,10 @@ module _ (v g : ℕ) where
   put-other x p l false a = refl
 
   -- members of the list with one element more, where that has another number than x
-  other : (x : ℕ) (e : Element) (es : List Element) (t : Bool) (y : ℕ) (gs : List ℕ) → eqb (e .number) x ≡ false
+  other : (x : ℕ) (e : Element) (es : List Element) (y : ℕ) (gs : List ℕ) → eqb (e .number) x ≡ false
       → stands x (map (λ (p : Part). p .number) (sift (λ (p : Part). eqb (p .group) g) (partsOf (e ∷ holding v es) (y ∷ gs)))) ≡ stands x (members es gs)
   unfolding sift partsOf
-  other x e es t y gs a =
+  other x e es y gs a =
       put-other x (record { number = e .number; corners = e .corners; measure = e .measure; group = y }) (sift (λ (p : Part). eqb (p .group) g) (partsOf (holding v es) gs)) (eqb y g) a
 
   -- a number that no element has is no member's
@@ -116,7 +114,7 @@ module _ (v g : ℕ) where
       → stands x (map (λ (p : Part). p .number) (sift (λ (p : Part). eqb (p .group) g) (partsOf (pick t (e ∷ holding v es) (holding v es)) gs))) ≡ false
   unfolding sift partsOf
   absent-by x e es true [] a f = refl
-  absent-by x e es true (y ∷ gs) a f = other x e es true y gs a ∙ f gs
+  absent-by x e es true (y ∷ gs) a f = other x e es y gs a ∙ f gs
   absent-by x e es false gs a f = f gs
 
   absent : (x : ℕ) (es : List Element) (gs : List ℕ) → stands x (map (λ (e : Element). e .number) es) ≡ false → stands x (members es gs) ≡ false
@@ -162,7 +160,7 @@ module _ (v g : ℕ) where
   chosen-by e es true (y ∷ gs) h q n d a f zero l =
       rw a (head-in (e .number) (record { number = e .number; corners = e .corners; measure = e .measure; group = y }) (sift (λ (p : Part). eqb (p .group) g) (partsOf (holding v es) gs)) (eqb y g) refl (absent (e .number) es gs (d .0)))
   chosen-by e es true (y ∷ gs) h q n d a f (suc j) l =
-      chosen-on h y gs j a ∙ f gs (omega arith) j (le-of-suc-le-suc l) ∙ sym (other (numberAt es j) e es true y gs (different e es d j (le-of-suc-le-suc l)))
+      chosen-on h y gs j a ∙ f gs (omega arith) j (le-of-suc-le-suc l) ∙ sym (other (numberAt es j) e es y gs (different e es d j (le-of-suc-le-suc l)))
   chosen-by e es false gs h q n d a f zero l = rw a (sym (absent (e .number) es gs (d .0)))
   chosen-by e es false gs h q n d a f (suc j) l = chosen-off h gs j a ∙ f gs n j (le-of-suc-le-suc l)
 

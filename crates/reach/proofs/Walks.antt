@@ -1,23 +1,21 @@
 -- The walk: breadth first from the marked rows. At its end the marked rows are those with the label of a row that was marked first. Assumes nothing.
-use mathlib.Core.Path.{_≡_, refl, sym, _∙_, ap, subst}
-use mathlib.Core.Bool.{Bool, true, false, _&&_, _||_, false≢true}
+use mathlib.Core.Path.{_≡_, refl, sym, _∙_, ap}
+use mathlib.Core.Bool.{Bool, true, false, _||_, false≢true}
 use mathlib.Core.Logic.{_⊎_, inl, inr, ⊎-elim}
-use mathlib.Core.List.{List, [], _∷_, map}
-use Prim.Native.Nat.{ℕ, zero, suc, _+_, _<_, _≤_, zero-le}
+use mathlib.Core.List.{List, map}
+use Prim.Native.Nat.{ℕ, _+_, _<_, _≤_, zero-le}
 use native.Mathlib.Omega.{arith}
 use native.Mathlib.Nat.{not-suc-le-zero}
 use native.Mathlib.Decide.{ℕ-discrete, decLe}
-use borrow.Author.Tests.{le-leb, lt-leb}
-use lib.Dec.{leb}
 use lib.ListN.{length, getD, length-map}
 use Rattle.lists.specs.Lists.{stands, sift, upTo}
 use Rattle.lists.specs.Chain.{Chain, stay, ahead, back}
 use Rattle.lists.specs.Labels.{Joins, labelled}
-use Rattle.lists.proofs.Chains.{chain-trans, chain-sym, chain-keeps, chain-to}
+use Rattle.lists.proofs.Chains.{chain-trans, chain-keeps, chain-to}
 use Rattle.lists.proofs.Labelled.{labelled-joined}
 use Rattle.lists.proofs.Stores.{map-at}
 use Rattle.lists.proofs.Sifts.{stands-get, stands-made, sift-stands, upTo-stands, upTo-below, and-true, true-and}
-use Rattle.reach.specs.Walk.{tally, seedLabels, reachFrom, marked, Queued, Spread, Walk}
+use Rattle.reach.specs.Walk.{seedLabels, reachFrom, marked, Queued, Spread, Walk}
 use Rattle.reach.proofs.Tallies.{both, tally-ext, tally-mono}
 
 -- ---- labels of the rows that pass

@@ -1,7 +1,7 @@
 -- `reach::clear` meets its contract. The invariant: the places below i are 0. Assumes nothing.
 use borrow.Author.Needs.{needs}
 use native.Mathlib.Omega.{arith}
-use mathlib.Core.Path.{_≡_, sym, _∙_, refl}
+use mathlib.Core.Path.{_≡_, _∙_, refl}
 use mathlib.Core.Logic.{⊎-elim}
 use Prim.Native.Nat.{ℕ, _<_, _≤_, _-_}
 use native.Mathlib.Nat.{not-suc-le-zero}
@@ -9,8 +9,6 @@ use lib.ListN.{length, getD, length-set}
 use Rattle.lists.proofs.Stores.{stored}
 use Rattle.reach.proofs.clear.Statement.{statement}
 use Rattle.reach.proofs.clear.Tie as tie
-use Rattle.reach.proofs.clear.Reads as reads
-use Rattle.reach.proofs.clear.Lts as lts
 
 abbrev Inv-loop : tie.InvT-loop
 Inv-loop n seen₀ i₀ seen i = (i ≤ n) × (n ≤ length seen) × (length seen ≡ length seen₀) × ((a : ℕ) → a < i → getD seen a 0 ≡ 0)

@@ -3,20 +3,15 @@ use borrow.Author.Needs.{needs}
 use borrow.Author.Count.{below-none, below-more}
 use borrow.Author.Tests.{not-true, not-false}
 use native.Mathlib.Omega.{arith}
-use mathlib.Core.Path.{_≡_, refl, sym, _∙_, ap}
-use mathlib.Core.Bool.{true, false}
-use Prim.Native.Nat.{ℕ, _+_, _<_, _≤_, _-_}
+use mathlib.Core.Path.{_≡_, refl, sym, _∙_}
+use mathlib.Core.Bool.{true}
+use Prim.Native.Nat.{ℕ, _<_, _≤_, _-_}
 use lib.Dec.{leb}
 use lib.ListN.{length}
-use Rattle.reach.specs.Walk.{tableReach, Lent}
+use Rattle.reach.specs.Walk.{tableReach}
 use Rattle.reach.proofs.Opening.{group-tested, lent-at, opens-yes, opens-no}
 use Rattle.reach.proofs.opens_without_confetti.Statement.{statement}
 use Rattle.reach.proofs.opens_without_confetti.Tie as tie
-use Rattle.reach.proofs.opens_without_confetti.Reads as reads
-use Rattle.reach.proofs.opens_without_confetti.Lts as lts
-use Rattle.reach.proofs.min_piece.Reads as min-piece-reads
-use Rattle.reach.proofs.reaches.Reads as reaches-reads
-use Rattle.reach.proofs.seed.Reads as seed-reads
 
 abbrev Inv-loop : tie.InvT-loop
 Inv-loop n k v verts groups count minimum seen₀ queue₀ least g₀ seen queue g =
@@ -25,50 +20,40 @@ Inv-loop n k v verts groups count minimum seen₀ queue₀ least g₀ seen queue
 abbrev μ-loop : tie.MeasureT-loop
 μ-loop n k v verts groups count minimum seen₀ queue₀ least g₀ seen queue g = count - g
 
--- src/lib.rt:202:9
 min-piece-requires : tie.Need-min-piece-requires Inv-loop μ-loop
 min-piece-requires c κs = search needs
 
--- src/lib.rt:204:5
 loop-holds : tie.Need-loop-holds Inv-loop μ-loop
 loop-holds c = (search needs, refl, refl, below-none _)
 
--- src/lib.rt:205:13
 seed-requires : tie.Need-seed-requires Inv-loop μ-loop
 seed-requires c κs = let L = c .before .before .before .loop in lent-at (L .inv .1) (L .inv .2) (c .before .before .before .before .before .before .before .before .before .pre)
 
--- src/lib.rt:206:13
 reaches-requires : tie.Need-reaches-requires Inv-loop μ-loop
 reaches-requires c κs = (c .before .before .before .before .before .before .before .before .before .before .before .before .before .before .before .before .pre .rows, c .before .before .before .before .before .before .seed .ensures .queued)
 
--- src/lib.rt:207:13
 same-length : tie.Need-same-length Inv-loop μ-loop
 same-length c = c .before .before .before .before .before .reaches .kept .1 .1 .1 .1 .1 .1 .0 ∙ c .before .before .before .before .before .before .before .before .before .before .before .before .seed .kept .1 .1 .1 .1 .1 .1 .0 ∙ c .before .before .before .before .before .before .before .before .before .before .before .before .before .before .before .before .loop .inv .1
 
--- src/lib.rt:207:13
 same-length-2 : tie.Need-same-length-2 Inv-loop μ-loop
 same-length-2 c = c .before .before .before .before .before .reaches .kept .1 .1 .1 .1 .1 .1 .1 .0 ∙ c .before .before .before .before .before .before .before .before .before .before .before .before .seed .kept .1 .1 .1 .1 .1 .1 .1 .0 ∙ c .before .before .before .before .before .before .before .before .before .before .before .before .before .before .before .before .loop .inv .2
 
--- src/lib.rt:207:13
 returns : tie.Need-returns Inv-loop μ-loop
-returns c = 
+returns c =
     let A = c .before .before .before .before .before .before .before .before .before .before .before .before .before .before .before .before .before .before .before .before .before .before .args in
     let L = c .before .before .before .before .before .before .before .before .before .before .before .before .before .before .before .before .loop in
     let t = group-tested (A .n) (A .k) (A .v) (A .verts .now) (A .groups .now) (L .g) (c .before .before .before .before .before .before .before .before .before .before .before .before .before .before .before .before .before .min-piece .result) (c .before .before .before .before .before .before .before .before .before .before .before .before .seed .ensures) (c .before .before .before .before .before .reaches .ensures) in
     opens-no (A .n) (A .k) (A .v) (A .verts .now) (A .groups .now) (A .count) (A .minimum) (c .before .before .before .before .before .before .before .before .before .before .before .before .before .before .before .before .before .min-piece .result) (c .before .before .before .before .before .before .before .before .before .before .before .before .before .before .before .before .before .before .before .before .before .before .pre .grouped) (c .before .before .before .before .before .before .before .before .before .before .before .before .before .before .before .before .before .min-piece .ensures) (L .g) (search needs)
     (sym t ∙ not-true _ (c .if1 .taken))
 
--- src/lib.rt:209:9
 add-g : tie.Need-add-g Inv-loop μ-loop
 add-g c = search needs
 
--- src/lib.rt:204:5
 loop-less : tie.Need-loop-less Inv-loop μ-loop
 loop-less c = search needs
 
--- src/lib.rt:204:5
 loop-again : tie.Need-loop-again Inv-loop μ-loop
-loop-again c = 
+loop-again c =
     let A = c .before .before .before .before .before .before .before .before .before .before .before .before .before .before .before .before .before .before .before .before .before .before .args in
     let L = c .before .before .before .before .before .before .before .before .before .before .before .before .before .before .before .before .loop in
     let t = group-tested (A .n) (A .k) (A .v) (A .verts .now) (A .groups .now) (L .g) (c .before .before .before .before .before .before .before .before .before .before .before .before .before .before .before .before .before .min-piece .result) (c .before .before .before .before .before .before .before .before .before .before .before .before .seed .ensures) (c .before .before .before .before .before .reaches .ensures) in (
@@ -78,17 +63,14 @@ loop-again c =
       below-more _ (L .g) (L .inv .3) (sym t ∙ not-false _ (c .if1 .left)),
     )
 
--- src/lib.rt:188:1
 same-length-3 : tie.Need-same-length-3 Inv-loop μ-loop
 same-length-3 c = search needs
 
--- src/lib.rt:188:1
 same-length-4 : tie.Need-same-length-4 Inv-loop μ-loop
 same-length-4 c = search needs
 
--- src/lib.rt:188:1
 returns-2 : tie.Need-returns-2 Inv-loop μ-loop
-returns-2 c = 
+returns-2 c =
     let A = c .before .before .before .before .before .before .before .args in
     let L = c .before .loop in
     opens-yes (A .n) (A .k) (A .v) (A .verts .now) (A .groups .now) (A .count) (A .minimum) _ (c .before .before .before .before .before .before .before .pre .grouped) (c .before .before .min-piece .ensures) (λ g l. L .inv .3 g (omega arith))

@@ -3,19 +3,15 @@ use borrow.Author.Needs.{needs}
 use native.Mathlib.Omega.{arith}
 use mathlib.Core.Bool.{true, false}
 use mathlib.Core.Path.{_≡_, refl, sym, _∙_, ap}
-use mathlib.Core.Logic.{⊎-elim, inl, inr}
-use Prim.Native.Nat.{ℕ, _+_, _<_, _≤_, _-_}
+use mathlib.Core.Logic.{⊎-elim, inr}
+use Prim.Native.Nat.{_<_, _≤_, _-_}
 use borrow.Author.Tests.{eq-eqb, ne-eqb}
-use lib.ListN.{length, getD, length-set}
+use lib.ListN.{length, length-set}
 use Rattle.reach.specs.Walk.{holdsRow, tally, seeds, Spread}
-use Rattle.reach.proofs.Tallies.{tally-le}
 use Rattle.reach.proofs.Rowing.{tally-zero, tally-yes, tally-no, seed-in, seed-out, place-in}
 use Rattle.reach.proofs.Queues.{upto, queue-end, queued-none, spread-start, spread-fresh, spread-skip, spread-mark, spread-done, spread-at, seeded}
 use Rattle.reach.proofs.queue_group.Statement.{statement}
 use Rattle.reach.proofs.queue_group.Tie as tie
-use Rattle.reach.proofs.queue_group.Reads as reads
-use Rattle.reach.proofs.queue_group.Lts as lts
-use Rattle.reach.proofs.holds.Reads as holds-reads
 
 abbrev Inv-loop : tie.InvT-loop
 Inv-loop n k v verts g groups seen₀ queue₀ end₀ f₀ j₀ seen queue end f j =
@@ -25,44 +21,37 @@ Inv-loop n k v verts g groups seen₀ queue₀ end₀ f₀ j₀ seen queue end f
 abbrev μ-loop : tie.MeasureT-loop
 μ-loop n k v verts g groups seen₀ queue₀ end₀ f₀ j₀ seen queue end f j = n - j
 
--- src/lib.rt:88:5
 loop-holds : tie.Need-loop-holds Inv-loop μ-loop
-loop-holds c = 
+loop-holds c =
     let A = c .before .before .before .before .args in
     let P = c .before .before .before .before .pre in
     (search needs, tally-zero (holdsRow (A .k) (A .v) (A .verts .now)), refl, refl, spread-start (seeds (A .k) (A .v) (A .verts .now) (A .groups .now) (A .g)) (queued-none (A .n) (A .seen .now) (A .queue .now) (P .0 .seen-room) (P .0 .queue-room) (P .1)))
 
--- src/lib.rt:89:12
 holds-requires : tie.Need-holds-requires Inv-loop μ-loop
 holds-requires c κs = (c .before .before .before .before .before .before .pre .0 .rows, search needs)
 
--- src/lib.rt:90:16
 mul-if2 : tie.Need-mul-if2 Inv-loop μ-loop
-mul-if2 c = 
+mul-if2 c =
     let A = c .before .before .before .before .before .before .before .before .args in
     let L = c .before .before .before .loop in
     let h : L .f < length (A .groups .now) = place-in (A .k) (A .v) (A .verts .now) (A .groups .now) (A .g) (L .j) (L .f) (A .n) _ _ (c .before .before .before .before .before .before .before .before .pre .0) (search needs) (L .inv .1) (sym (c .before .holds .ensures) ∙ c .if1 .taken) in
     search needs
 
--- src/lib.rt:90:16
 shared-slice-read-if2 : tie.Need-shared-slice-read-if2 Inv-loop μ-loop
-shared-slice-read-if2 c = 
+shared-slice-read-if2 c =
     let A = c .before .before .before .before .before .before .before .before .before .args in
     let L = c .before .before .before .before .loop in
     let h : L .f < length (A .groups .now) = place-in (A .k) (A .v) (A .verts .now) (A .groups .now) (A .g) (L .j) (L .f) (A .n) _ _ (c .before .before .before .before .before .before .before .before .before .pre .0) (search needs) (L .inv .1) (sym (c .before .before .holds .ensures) ∙ c .before .if1 .taken) in
     search needs
 
--- src/lib.rt:91:17
 mul-seen : tie.Need-mul-seen Inv-loop μ-loop
 mul-seen c = let h = c .before .before .before .before .before .loop .inv .4 .queued .seen-room in search needs
 
--- src/lib.rt:91:17
 slice-write-seen : tie.Need-slice-write-seen Inv-loop μ-loop
 slice-write-seen c = let h = c .before .before .before .before .before .loop .inv .4 .queued .seen-room in search needs
 
--- src/lib.rt:92:17
 mul-queue : tie.Need-mul-queue Inv-loop μ-loop
-mul-queue c = 
+mul-queue c =
     let A = c .before .before .before .before .before .before .before .before .before .before .args in
     let L = c .before .before .before .before .before .loop in
     let l : L .j < A .n = search needs in
@@ -70,9 +59,8 @@ mul-queue c =
     let h = L .inv .4 .queued .queue-room in
     search needs
 
--- src/lib.rt:92:17
 slice-write-queue : tie.Need-slice-write-queue Inv-loop μ-loop
-slice-write-queue c = 
+slice-write-queue c =
     let A = c .before .before .before .before .before .before .before .before .before .before .args in
     let L = c .before .before .before .before .before .loop in
     let l : L .j < A .n = search needs in
@@ -80,9 +68,8 @@ slice-write-queue c =
     let h = L .inv .4 .queued .queue-room in
     search needs
 
--- src/lib.rt:93:17
 add-end : tie.Need-add-end Inv-loop μ-loop
-add-end c = 
+add-end c =
     let A = c .before .before .before .before .before .before .before .before .before .before .args in
     let L = c .before .before .before .before .before .loop in
     let l : L .j < A .n = search needs in
@@ -90,23 +77,19 @@ add-end c =
     let h = L .inv .4 .queued .queue-room in
     search needs
 
--- src/lib.rt:95:13
 add-f : tie.Need-add-f Inv-loop μ-loop
-add-f c = 
+add-f c =
     let A = c .before .before .before .before .before .before .before .before .before .before .args in
     let L = c .before .before .before .before .before .loop in
     let h : L .f < length (A .groups .now) = place-in (A .k) (A .v) (A .verts .now) (A .groups .now) (A .g) (L .j) (L .f) (A .n) _ _ (c .before .before .before .before .before .before .before .before .before .before .pre .0) (search needs) (L .inv .1) (sym (c .before .before .before .holds .ensures) ∙ c .before .before .if1 .taken) in
     search needs
 
--- src/lib.rt:97:9
 add-j : tie.Need-add-j Inv-loop μ-loop
 add-j c = search needs
 
--- src/lib.rt:88:5
 loop-less : tie.Need-loop-less Inv-loop μ-loop
 loop-less c = search needs
 
--- src/lib.rt:88:5
 loop-again : tie.Need-loop-again Inv-loop μ-loop
 loop-again c =
     let A = c .before .before .before .before .before .before .before .before .args in
@@ -126,7 +109,7 @@ loop-again c =
       ap length (w .3 ∙ u .1) ∙ length-set (L .seen) (L .j) 1 ∙ L .inv .2,
       ap length (w .4 ∙ u .2) ∙ length-set (L .queue) (L .end) (L .j) ∙ L .inv .3,
       spread-at (w .3 ∙ u .1) (w .4 ∙ u .2) (w .5 ∙ u .3)
-      (spread-mark p (L .inv .4) l (spread-fresh p (L .inv .4) l (c .before .before .before .before .before .before .before .before .pre .1 (L .j) l)) (e ∙ eq-eqb _ _ (u .0 .taken))),
+          (spread-mark p (L .inv .4) l (spread-fresh p (L .inv .4) l (c .before .before .before .before .before .before .before .before .pre .1 (L .j) l)) (e ∙ eq-eqb _ _ (u .0 .taken))),
     ))
     (λ u. (
       omega arith,
@@ -146,17 +129,14 @@ loop-again c =
     ))
     (c .if1 .came)
 
--- src/lib.rt:72:1
 same-length : tie.Need-same-length Inv-loop μ-loop
 same-length c = search needs
 
--- src/lib.rt:72:1
 same-length-2 : tie.Need-same-length-2 Inv-loop μ-loop
 same-length-2 c = search needs
 
--- src/lib.rt:72:1
 returns : tie.Need-returns Inv-loop μ-loop
-returns c = 
+returns c =
     let A = c .before .before .before .before .before .before .args in
     seeded (c .before .before .before .before .before .before .pre .1) (spread-done (seeds (A .k) (A .v) (A .verts .now) (A .groups .now) (A .g)) (c .before .loop .inv .4) (search needs))
 

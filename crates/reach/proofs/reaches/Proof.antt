@@ -2,20 +2,17 @@
 use borrow.Author.Needs.{needs}
 use native.Mathlib.Omega.{arith}
 use mathlib.Core.Path.{_≡_, refl, sym, _∙_, ap}
-use Prim.Native.Nat.{ℕ, _+_, _<_, _≤_, _-_}
+use Prim.Native.Nat.{_-_}
 use native.Mathlib.Nat.{le-trans}
 use borrow.Author.Tests.{le-leb}
 use lib.Dec.{leb}
-use lib.ListN.{length, getD}
+use lib.ListN.{length}
 use Rattle.reach.specs.Walk.{touching, Walk}
 use Rattle.reach.proofs.Rowing.{touch-either}
 use Rattle.reach.proofs.Queues.{queued-le}
 use Rattle.reach.proofs.Walks.{walk-start, walk-step, walk-least, walk-done}
 use Rattle.reach.proofs.reaches.Statement.{statement}
 use Rattle.reach.proofs.reaches.Tie as tie
-use Rattle.reach.proofs.reaches.Reads as reads
-use Rattle.reach.proofs.reaches.Lts as lts
-use Rattle.reach.proofs.spread.Reads as spread-reads
 
 abbrev Inv-loop : tie.InvT-loop
 Inv-loop n k v verts tail minimum seen₀ queue₀ end₀ head₀ seen queue end head = (length seen ≡ length seen₀) × (length queue ≡ length queue₀) × Walk (touching k v verts) n seen₀ seen queue head end
@@ -23,48 +20,38 @@ Inv-loop n k v verts tail minimum seen₀ queue₀ end₀ head₀ seen queue end
 abbrev μ-loop : tie.MeasureT-loop
 μ-loop n k v verts tail minimum seen₀ queue₀ end₀ head₀ seen queue end head = n - head
 
--- src/lib.rt:148:5
 loop-holds : tie.Need-loop-holds Inv-loop μ-loop
 loop-holds c = let A = c .before .before .before .args in (refl, refl, walk-start (touching (A .k) (A .v) (A .verts .now)) (A .n) (touch-either (A .k) (A .v) (A .verts .now)) _ _ _ (c .before .before .before .pre .1))
 
--- src/lib.rt:150:13
 same-length : tie.Need-same-length Inv-loop μ-loop
 same-length c = search needs
 
--- src/lib.rt:150:13
 same-length-2 : tie.Need-same-length-2 Inv-loop μ-loop
 same-length-2 c = search needs
 
--- src/lib.rt:150:13
 returns : tie.Need-returns Inv-loop μ-loop
-returns c = 
+returns c =
     let A = c .before .before .before .before .before .before .args in
     let W = walk-least (touching (A .k) (A .v) (A .verts .now)) (A .n) (touch-either (A .k) (A .v) (A .verts .now)) (c .before .before .loop .inv .2) in
     sym (le-leb _ _ (le-trans (c .if1 .taken) W))
 
--- src/lib.rt:152:17
 mul-i : tie.Need-mul-i Inv-loop μ-loop
 mul-i c = let W = c .before .before .loop .inv .2 .queued in let h = W .queue-room in let l = queued-le W in search needs
 
--- src/lib.rt:152:17
 slice-read-i : tie.Need-slice-read-i Inv-loop μ-loop
 slice-read-i c = let W = c .before .before .before .loop .inv .2 .queued in let h = W .queue-room in let l = queued-le W in search needs
 
--- src/lib.rt:153:9
 spread-requires : tie.Need-spread-requires Inv-loop μ-loop
 spread-requires c κs = let W = c .before .before .before .before .before .loop .inv .2 .queued in (c .before .before .before .before .before .before .before .before .before .pre .0, W .within (c .before .before .before .before .before .loop .head) (search needs) .0, W)
 
--- src/lib.rt:154:9
 add-head : tie.Need-add-head Inv-loop μ-loop
 add-head c = let l = queued-le (c .before .before .before .before .before .before .before .before .before .before .loop .inv .2 .queued) in search needs
 
--- src/lib.rt:148:5
 loop-less : tie.Need-loop-less Inv-loop μ-loop
 loop-less c = let l = queued-le (c .before .before .before .before .before .before .before .before .before .before .loop .inv .2 .queued) in search needs
 
--- src/lib.rt:148:5
 loop-again : tie.Need-loop-again Inv-loop μ-loop
-loop-again c = 
+loop-again c =
     let A = c .before .before .before .before .before .before .before .before .before .before .before .before .before .before .args in
     let L = c .before .before .before .before .before .before .before .before .before .before .loop in
     let S = c .before .before .before .before .spread in (
@@ -73,17 +60,14 @@ loop-again c =
       walk-step (touching (A .k) (A .v) (A .verts .now)) (A .n) (touch-either (A .k) (A .v) (A .verts .now)) (L .inv .2) (c .before .before .before .before .before .before .before .before .before .loop-test .taken) (S .ensures),
     )
 
--- src/lib.rt:133:1
 same-length-3 : tie.Need-same-length-3 Inv-loop μ-loop
 same-length-3 c = search needs
 
--- src/lib.rt:133:1
 same-length-4 : tie.Need-same-length-4 Inv-loop μ-loop
 same-length-4 c = search needs
 
--- src/lib.rt:133:1
 returns-2 : tie.Need-returns-2 Inv-loop μ-loop
-returns-2 c = 
+returns-2 c =
     let A = c .before .before .before .before .before .args in
     let W = walk-done (touching (A .k) (A .v) (A .verts .now)) (A .n) (touch-either (A .k) (A .v) (A .verts .now)) (c .before .loop .inv .2) (search needs) in
     ap (leb (A .minimum)) W

@@ -5,67 +5,49 @@ use Prim.Native.Nat.{_+_, _*_, _-_}
 use Rattle.reach.proofs.Rowing.{row-end, rows-share}
 use Rattle.reach.proofs.shares_facet.Statement.{statement}
 use Rattle.reach.proofs.shares_facet.Tie as tie
-use Rattle.reach.proofs.shares_facet.Reads as reads
-use Rattle.reach.proofs.shares_facet.Lts as lts
-use Rattle.fan.proofs.shared_others.Reads as shared-others-reads
 
--- src/lib.rt:41:13
 mul-a : tie.Need-mul-a
 mul-a c = let P = c .before .pre in omega (arith, row-end (P .0) _ (P .1), row-end (P .0) _ (P .2))
 
--- src/lib.rt:42:14
 add-ae : tie.Need-add-ae
 add-ae c = let P = c .before .pre in omega (arith, row-end (P .0) _ (P .1), row-end (P .0) _ (P .2))
 
--- src/lib.rt:43:13
 mul-b : tie.Need-mul-b
 mul-b c = let P = c .before .pre in omega (arith, row-end (P .0) _ (P .1), row-end (P .0) _ (P .2))
 
--- src/lib.rt:44:14
 add-be : tie.Need-add-be
 add-be c = let P = c .before .pre in omega (arith, row-end (P .0) _ (P .1), row-end (P .0) _ (P .2))
 
--- src/lib.rt:45:5
 sub-result : tie.Need-sub-result
 sub-result c = search needs
 
--- src/lib.rt:45:33
 mul-shared-others : tie.Need-mul-shared-others
 mul-shared-others c = let P = c .before .pre in omega (arith, row-end (P .0) _ (P .1), row-end (P .0) _ (P .2))
 
--- src/lib.rt:45:33
 sub-shared-others : tie.Need-sub-shared-others
 sub-shared-others c = search needs
 
--- src/lib.rt:45:33
 part-shared-others-start : tie.Need-part-shared-others-start
 part-shared-others-start c = search needs
 
--- src/lib.rt:45:33
 part-shared-others-end : tie.Need-part-shared-others-end
 part-shared-others-end c = let P = c .before .pre in omega (arith, row-end (P .0) _ (P .1), row-end (P .0) _ (P .2))
 
--- src/lib.rt:45:48
 mul-shared-others-2 : tie.Need-mul-shared-others-2
 mul-shared-others-2 c = let P = c .before .before .pre in omega (arith, row-end (P .0) _ (P .1), row-end (P .0) _ (P .2))
 
--- src/lib.rt:45:48
 sub-shared-others-2 : tie.Need-sub-shared-others-2
 sub-shared-others-2 c = search needs
 
--- src/lib.rt:45:48
 part-shared-others-start-2 : tie.Need-part-shared-others-start-2
 part-shared-others-start-2 c = search needs
 
--- src/lib.rt:45:48
 part-shared-others-end-2 : tie.Need-part-shared-others-end-2
 part-shared-others-end-2 c = let P = c .before .before .pre in omega (arith, row-end (P .0) _ (P .1), row-end (P .0) _ (P .2))
 
--- src/lib.rt:45:14
 shared-others-requires : tie.Need-shared-others-requires
 shared-others-requires c κs = search needs
 
--- src/lib.rt:37:1
 returns : tie.Need-returns
 returns c =
     let A = c .before .before .before .before .args in

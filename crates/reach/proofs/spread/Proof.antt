@@ -3,16 +3,13 @@ use borrow.Author.Needs.{needs}
 use native.Mathlib.Omega.{arith}
 use mathlib.Core.Path.{_≡_, refl, sym, _∙_, ap}
 use mathlib.Core.Logic.{⊎-elim, inl, inr}
-use Prim.Native.Nat.{ℕ, _+_, _<_, _≤_, _-_}
+use Prim.Native.Nat.{_<_, _≤_, _-_}
 use borrow.Author.Tests.{eq-eqb, ne-eqb}
-use lib.ListN.{length, getD, length-set}
-use Rattle.reach.specs.Walk.{touching, Spread, Queued}
+use lib.ListN.{length, length-set}
+use Rattle.reach.specs.Walk.{touching, Spread}
 use Rattle.reach.proofs.Queues.{upto, queue-end, spread-start, spread-skip, spread-mark, spread-done, spread-at}
 use Rattle.reach.proofs.spread.Statement.{statement}
 use Rattle.reach.proofs.spread.Tie as tie
-use Rattle.reach.proofs.spread.Reads as reads
-use Rattle.reach.proofs.spread.Lts as lts
-use Rattle.reach.proofs.touches.Reads as touches-reads
 
 abbrev Inv-loop : tie.InvT-loop
 Inv-loop n k v verts i tail seen₀ queue₀ end₀ j₀ seen queue end j =
@@ -21,33 +18,26 @@ Inv-loop n k v verts i tail seen₀ queue₀ end₀ j₀ seen queue end j =
 abbrev μ-loop : tie.MeasureT-loop
 μ-loop n k v verts i tail seen₀ queue₀ end₀ j₀ seen queue end j = n - j
 
--- src/lib.rt:119:5
 loop-holds : tie.Need-loop-holds Inv-loop μ-loop
 loop-holds c =
     let A = c .before .before .before .args in
     (search needs, refl, refl, spread-start (touching (A .k) (A .v) (A .verts .now) (A .i)) (c .before .before .before .pre .2))
 
--- src/lib.rt:120:12
 mul-if1 : tie.Need-mul-if1 Inv-loop μ-loop
 mul-if1 c = let h = c .before .loop .inv .3 .queued .seen-room in search needs
 
--- src/lib.rt:120:12
 slice-read-if1 : tie.Need-slice-read-if1 Inv-loop μ-loop
 slice-read-if1 c = let h = c .before .before .loop .inv .3 .queued .seen-room in search needs
 
--- src/lib.rt:121:16
 touches-requires : tie.Need-touches-requires Inv-loop μ-loop
 touches-requires c κs = let P = c .before .before .before .before .before .before .before .pre in (P .0, P .1, search needs)
 
--- src/lib.rt:122:17
 mul-seen : tie.Need-mul-seen Inv-loop μ-loop
 mul-seen c = let h = c .before .before .before .before .before .loop .inv .3 .queued .seen-room in search needs
 
--- src/lib.rt:122:17
 slice-write-seen : tie.Need-slice-write-seen Inv-loop μ-loop
 slice-write-seen c = let h = c .before .before .before .before .before .loop .inv .3 .queued .seen-room in search needs
 
--- src/lib.rt:123:17
 mul-queue : tie.Need-mul-queue Inv-loop μ-loop
 mul-queue c =
     let L = c .before .before .before .before .before .loop in
@@ -55,7 +45,6 @@ mul-queue c =
     let h = L .inv .3 .queued .queue-room in
     search needs
 
--- src/lib.rt:123:17
 slice-write-queue : tie.Need-slice-write-queue Inv-loop μ-loop
 slice-write-queue c =
     let L = c .before .before .before .before .before .loop in
@@ -63,7 +52,6 @@ slice-write-queue c =
     let h = L .inv .3 .queued .queue-room in
     search needs
 
--- src/lib.rt:124:17
 add-end : tie.Need-add-end Inv-loop μ-loop
 add-end c =
     let L = c .before .before .before .before .before .loop in
@@ -71,15 +59,12 @@ add-end c =
     let h = L .inv .3 .queued .queue-room in
     search needs
 
--- src/lib.rt:127:9
 add-j : tie.Need-add-j Inv-loop μ-loop
 add-j c = search needs
 
--- src/lib.rt:119:5
 loop-less : tie.Need-loop-less Inv-loop μ-loop
 loop-less c = search needs
 
--- src/lib.rt:119:5
 loop-again : tie.Need-loop-again Inv-loop μ-loop
 loop-again c =
     let A = c .before .before .before .before .before .before .before .args in
@@ -110,15 +95,12 @@ loop-again c =
     z)
     (c .if1 .came)
 
--- src/lib.rt:104:1
 same-length : tie.Need-same-length Inv-loop μ-loop
 same-length c = search needs
 
--- src/lib.rt:104:1
 same-length-2 : tie.Need-same-length-2 Inv-loop μ-loop
 same-length-2 c = search needs
 
--- src/lib.rt:104:1
 returns : tie.Need-returns Inv-loop μ-loop
 returns c =
     let A = c .before .before .before .before .before .args in

@@ -8,8 +8,6 @@ use Rattle.lists.specs.Lists.{stands}
 use Rattle.lists.proofs.Sifts.{stands-here, stands-on, stands-end}
 use Rattle.reach.proofs.stands_in.Statement.{statement}
 use Rattle.reach.proofs.stands_in.Tie as tie
-use Rattle.reach.proofs.stands_in.Reads as reads
-use Rattle.reach.proofs.stands_in.Lts as lts
 
 abbrev Inv-loop : tie.InvT-loop
 Inv-loop x b i₀ i = (i ≤ length b) × (stands x (drop i b) ≡ stands x b)
@@ -17,42 +15,34 @@ Inv-loop x b i₀ i = (i ≤ length b) × (stands x (drop i b) ≡ stands x b)
 abbrev μ-loop : tie.MeasureT-loop
 μ-loop x b i₀ i = length b - i
 
--- src/lib.rt:14:5
 loop-holds : tie.Need-loop-holds Inv-loop μ-loop
 loop-holds c =
     (search needs, refl)
 
--- src/lib.rt:15:12
 mul-if1 : tie.Need-mul-if1 Inv-loop μ-loop
 mul-if1 c = search needs
 
--- src/lib.rt:15:12
 shared-slice-read-if1 : tie.Need-shared-slice-read-if1 Inv-loop μ-loop
 shared-slice-read-if1 c = search needs
 
--- src/lib.rt:16:13
 returns : tie.Need-returns Inv-loop μ-loop
 returns c =
     let L = c .before .before .before .loop in
     let A = c .before .before .before .before .args in
     sym (stands-here (A .x) (A .b .now) (L .i) (search needs) (c .if1 .taken)) ∙ L .inv .1
 
--- src/lib.rt:18:9
 add-i : tie.Need-add-i Inv-loop μ-loop
 add-i c = search needs
 
--- src/lib.rt:14:5
 loop-less : tie.Need-loop-less Inv-loop μ-loop
 loop-less c = search needs
 
--- src/lib.rt:14:5
 loop-again : tie.Need-loop-again Inv-loop μ-loop
 loop-again c =
     let L = c .before .before .before .loop in
     let A = c .before .before .before .before .args in
     (search needs, stands-on (A .x) (A .b .now) (L .i) (search needs) (c .if1 .left) ∙ L .inv .1)
 
--- src/lib.rt:10:1
 returns-2 : tie.Need-returns-2 Inv-loop μ-loop
 returns-2 c =
     let L = c .before .loop in

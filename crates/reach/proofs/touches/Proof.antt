@@ -4,9 +4,6 @@ use mathlib.Core.Path.{sym, _∙_}
 use Rattle.reach.proofs.Rowing.{touch-low, touch-high}
 use Rattle.reach.proofs.touches.Statement.{statement}
 use Rattle.reach.proofs.touches.Tie as tie
-use Rattle.reach.proofs.touches.Reads as reads
-use Rattle.reach.proofs.touches.Lts as lts
-use Rattle.reach.proofs.shares_facet.Reads as shares-facet-reads
 
 shares-facet-requires : tie.Need-shares-facet-requires
 shares-facet-requires c κs = search needs
