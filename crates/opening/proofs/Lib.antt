@@ -1,0 +1,3 @@
+-- Laws of openings in tables.
+pub mod Walks
+pub mod Rings
