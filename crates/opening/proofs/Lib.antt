@@ -1,3 +1,5 @@
 -- Laws of openings in tables.
 pub mod Walks
 pub mod Rings
+pub mod Weights
+pub mod Towards

@@ -1,23 +1,29 @@
 -- Laws of rings: which rows of the tables give the groups of `ring O x`. Assumes nothing.
 use mathlib.Core.Path.{_≡_, refl, sym, _∙_, ap, subst}
 use mathlib.Core.Logic.{_⊎_, inl, inr, ⊎-elim}
-use mathlib.Core.Bool.{Bool, true, false, not, _&&_}
+use mathlib.Core.Bool.{Bool, true, false, not, _&&_, false≢true}
 use mathlib.Core.List.{List, [], _∷_, map}
 use Prim.Native.Nat.{ℕ, suc, _+_, _*_, _<_, _≤_, zero-le}
 use native.Mathlib.Omega.{arith}
+use native.Mathlib.Nat.{le-trans}
 use borrow.Author.Count.{below-more}
 use borrow.Author.Tests.{eq-eqb, eqb-true, le-leb, leb-true}
 use lib.Dec.{eqb, leb}
 use lib.ListN.{length, getD, take, drop}
-use Rattle.lists.specs.Lists.{stands, any, sift, empty, headOr, rest, upTo, tab, rising}
+use Rattle.lists.specs.Lists.{stands, any, sift, empty, headOr, rest, upTo, tab, rising, disjoint}
 use Rattle.lists.proofs.Sifts.{and-true, true-and, sift-ext, any-get, any-made, upTo-stands, rising-stands}
-use Rattle.model.specs.Split.{Part, Opening, ring}
-use Rattle.opening.specs.Opened.{partAt, blankPart, Ringed, ringFrom}
+use Rattle.fan.proofs.Shared.{row-end}
+use Rattle.model.specs.Split.{Part, Opening, ring, parted}
+use Rattle.opening.specs.Opened.{partAt, blankPart, Ringed, RingRoom, ringFrom}
 use Rattle.opening.proofs.Walks.{not-so, sift-sift, sift-every, least-none, least-some, head-passes, behind-upTo, not-empty, some-stands, any-stands, any-one, stands-made-of}
 
 -- the corners of row i
 abbrev pub rowOf : ℕ → List ℕ → ℕ → List ℕ
 rowOf k verts i = take k (drop (i * k) verts)
+
+-- a row lies within its table
+pub row-fits : {n k lv lg : ℕ} → RingRoom n k lv lg → (i : ℕ) → i < n → i * k + k ≤ lv
+row-fits {n} {k} R i l = le-trans (row-end i n k l) (R .verts)
 
 -- row i has group g and holds x
 pub record Holds (x g k : ℕ) (verts groups : List ℕ) (i : ℕ) : Type 0 where
@@ -45,8 +51,8 @@ module _ {k n : ℕ} {verts groups : List ℕ} (O : Opening) (R : Ringed k O n v
   group-from g e =
       let s = R .size in
       let w =
-          any-get (λ (p : Part). stands x (p .corners) && eqb (p .group) g) (O .fan) blankPart
-          (sym (stands-made-of (λ (p : Part). p .group) (λ (p : Part). stands x (p .corners)) g (O .fan)) ∙ e) in
+      any-get (λ (p : Part). stands x (p .corners) && eqb (p .group) g) (O .fan) blankPart
+      (sym (stands-made-of (λ (p : Part). p .group) (λ (p : Part). stands x (p .corners)) g (O .fan)) ∙ e) in
       let l : w .0 < n = omega (arith, w .1 .0) in
       let b = and-true (stands x (partAt O (w .0) .corners)) (eqb (partAt O (w .0) .group) g) (w .1 .1) in
       (w .0, (l, record { of = sym (R .group-is (w .0) l) ∙ eqb-true (partAt O (w .0) .group) g (b .1); holds = sym (ap (stands x) (R .corners-are (w .0) l)) ∙ b .0 }))
@@ -83,9 +89,9 @@ module _ {k n : ℕ} {verts groups : List ℕ} (O : Opening) (R : Ringed k O n v
   ring-not-any p h =
       not-so (any p (ring O x))
       (λ e.
-        let g = any-one p (ring O x) e in
-        let w = ring-from (g .0) (g .1 .0) in
-        h (w .0) (w .1 .0) (w .1 .1 .holds) (ap p (w .1 .1 .of) ∙ g .1 .1))
+      let g = any-one p (ring O x) e in
+      let w = ring-from (g .0) (g .1 .0) in
+      h (w .0) (w .1 .0) (w .1 .1 .holds) (ap p (w .1 .1 .of) ∙ g .1 .1))
 
 -- ---- the walk along a ring
 
@@ -103,9 +109,9 @@ module _ {x from count k : ℕ} {verts groups : List ℕ} {i best : ℕ} (P : Le
   least-take g e f l c h =
       record {
         lowest =
-          below-more (λ (j : ℕ). from ≤ getD groups j 0 → stands x (rowOf k verts j) ≡ true → g ≤ getD groups j 0) i
-          (λ j m a b. omega (arith, P .lowest j m a b))
-          (λ a b. omega arith);
+            below-more (λ (j : ℕ). from ≤ getD groups j 0 → stands x (rowOf k verts j) ≡ true → g ≤ getD groups j 0) i
+            (λ j m a b. omega (arith, P .lowest j m a b))
+            (λ a b. omega arith);
         comes = inr (i, (omega arith, record { of = e; holds = h }, f, omega arith));
       }
 
@@ -141,16 +147,21 @@ least-head {x} {from} {k} {n} {best} {verts} {groups} O R P =
         sym
         (not-so (inRing O from x g)
         (λ e.
-          let b = and-true (stands g (groupsAt O x)) (leb from g) e in
-          let w = group-from O R x g (b .0) in
-          let f = leb-true from g (b .1) in
-          let q = w .1 .1 .of in
-          omega (arith, P .lowest (w .0) (w .1 .0) (omega arith) (w .1 .1 .holds))))
+        let b = and-true (stands g (groupsAt O x)) (leb from g) e in
+        let w = group-from O R x g (b .0) in
+        let f = leb-true from g (b .1) in
+        let q = w .1 .1 .of in
+        omega (arith, P .lowest (w .0) (w .1 .0) (omega arith) (w .1 .1 .holds))))
+
     by : (best ≡ O .count) ⊎ ((j : ℕ) × ((j < n) × Holds x best k verts groups j × (from ≤ best) × (best < O .count))) → headOr (O .count) (sift (inRing O from x) (upTo (O .count))) ≡ best
     by (inl e) = least-none (inRing O from x) best (O .count) low e ∙ sym e
     by (inr w) =
         least-some (inRing O from x) best (O .count) low (w .1 .3)
         (true-and (group-made O R x best (w .0) (w .1 .0) (w .1 .1)) (le-leb from best (w .1 .2)))
+
+pub least-count : {x from count k n best : ℕ} {verts groups : List ℕ} (O : Opening) → Ringed k O n verts groups → O .count ≡ count → Least x from count k verts groups n best → best ≡ headOr count (ringFrom O from x)
+least-count {x} {from} {count} {k} {n} {best} {verts} {groups} O R q P =
+    subst (λ (m : ℕ). best ≡ headOr m (ringFrom O from x)) q (least-head O R (subst (λ (m : ℕ). Least x from m k verts groups n best) (sym q) P))
 
 -- a test from a higher number on asks the lower too
 agree : (t : Bool) (a b g : ℕ) → a ≤ b → t && leb b g ≡ (t && leb a g) && leb b g
@@ -179,3 +190,33 @@ ring-next O from x r e l =
 pub ring-first : (O : Opening) (x : ℕ) → ringFrom O 0 x ≡ ring O x
 unfolding ringFrom
 ring-first O x = sift-every (λ g. leb 0 g) (ring O x) (λ g. le-leb 0 g zero-le)
+
+-- ---- neighbours with no common group
+
+and-first : (a b c : Bool) → a ≡ false → false ≡ a && b && c
+and-first true b c e = absurd (false≢true (sym e))
+and-first false b c e = refl
+
+and-second : (a b c : Bool) → a ≡ true → b ≡ false → false ≡ a && b && c
+and-second true true c d e = absurd (false≢true (sym e))
+and-second true false c d e = refl
+and-second false b c d e = absurd (false≢true d)
+
+and-third : (a b c : Bool) → a ≡ true → b ≡ true → c ≡ a && b && c
+and-third true true c d e = refl
+and-third true false c d e = absurd (false≢true e)
+and-third false b c d e = absurd (false≢true d)
+
+module _ (O : Opening) (x y : ℕ) where
+  pub parted-first : (r : Bool) → r ≡ not (empty (ring O x)) → r ≡ false → false ≡ parted O x y
+  unfolding parted
+  parted-first r q e = and-first (not (empty (ring O x))) (not (empty (ring O y))) (disjoint (ring O x) (ring O y)) (sym q ∙ e)
+
+  pub parted-second : (r s : Bool) → r ≡ not (empty (ring O x)) → r ≡ true → s ≡ not (empty (ring O y)) → s ≡ false → false ≡ parted O x y
+  unfolding parted
+  parted-second r s q e q′ e′ = and-second (not (empty (ring O x))) (not (empty (ring O y))) (disjoint (ring O x) (ring O y)) (sym q ∙ e) (sym q′ ∙ e′)
+
+  pub parted-third : (r s t : Bool) → r ≡ not (empty (ring O x)) → r ≡ true → s ≡ not (empty (ring O y)) → s ≡ true → t ≡ any (λ g. stands g (ring O y)) (ring O x) → not t ≡ parted O x y
+  unfolding parted disjoint
+  parted-third r s t q e q′ e′ d =
+      ap not d ∙ and-third (not (empty (ring O x))) (not (empty (ring O y))) (not (any (λ g. stands g (ring O y)) (ring O x))) (sym q ∙ e) (sym q′ ∙ e′)

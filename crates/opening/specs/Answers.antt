@@ -69,7 +69,7 @@ pub record RowRoom (v : ℕ) (home : Point) (row : List ℕ) (points : List Floa
 -- the best score after the corners of one part of group g
 pub record BestIn (b : BestCase) (dir : Point) (g v : ℕ) (row : List ℕ) (points : List Float) (r : BestCase) : Type 0 where
   pub is : (M : Mesh) (p : ℕ) → RestsIn M p points → v < p → ((j : ℕ) → j < length row → getD row j 0 < p)
-    → bestIs r ≡ fold (λ (c : Best) w. better c (scoreOf M v dir w) g) (bestIs b) (besides v row)
+      → bestIs r ≡ fold (λ (c : Best) w. better c (scoreOf M v dir w) g) (bestIs b) (besides v row)
 
 -- v and the corners of all parts rest in the block
 pub record FanRoom (v : ℕ) (home : Point) (n k : ℕ) (verts groups : List ℕ) (points : List Float) : Type 0 where
@@ -80,7 +80,7 @@ pub record FanRoom (v : ℕ) (home : Point) (n k : ℕ) (verts groups : List ℕ
 -- the best score after all parts
 pub record FanBest (b : BestCase) (dir : Point) (v n k : ℕ) (verts groups : List ℕ) (points : List Float) (r : BestCase) : Type 0 where
   pub is : (O : Opening) (M : Mesh) (p : ℕ) → Ringed k O n verts groups → RestsIn M p points → v < p → CornersBelow p n k verts
-    → bestIs r ≡ fold (scored M v dir) (bestIs b) (O .fan)
+      → bestIs r ≡ fold (scored M v dir) (bestIs b) (O .fan)
 
 -- x, v and the corners of all parts rest in the block
 pub record TowardRoom (x v n k : ℕ) (verts groups : List ℕ) (points : List Float) : Type 0 where
@@ -92,4 +92,4 @@ pub record TowardRoom (x v n k : ℕ) (verts groups : List ℕ) (points : List F
 -- the group that points best to x
 pub record TowardIs (x v n k : ℕ) (verts groups : List ℕ) (points : List Float) (r : ℕ) : Type 0 where
   pub is : (O : Opening) (M : Mesh) (p : ℕ) → Ringed k O n verts groups → O .v ≡ v → RestsIn M p points → p ≤ length points / 6 → x < p → v < p → CornersBelow p n k verts
-    → r ≡ toward M O x
+      → r ≡ toward M O x
