@@ -2,15 +2,15 @@
 use mathlib.Core.Path.{_≡_, refl, sym, _∙_, ap, subst}
 use mathlib.Core.Logic.{_⊎_, inl, inr, ⊎-elim}
 use mathlib.Core.Bool.{Bool, true, false, not, _&&_, false≢true}
-use mathlib.Core.List.{List, [], _∷_, map}
-use Prim.Native.Nat.{ℕ, suc, _+_, _*_, _<_, _≤_, zero-le}
+use mathlib.Core.List.{List, map}
+use Prim.Native.Nat.{ℕ, _+_, _*_, _<_, _≤_, zero-le}
 use native.Mathlib.Omega.{arith}
 use native.Mathlib.Nat.{le-trans}
 use borrow.Author.Count.{below-more}
 use borrow.Author.Tests.{eq-eqb, eqb-true, le-leb, leb-true}
 use lib.Dec.{eqb, leb}
-use lib.ListN.{length, getD, take, drop}
-use Rattle.lists.specs.Lists.{stands, any, sift, empty, headOr, rest, upTo, tab, rising, disjoint}
+use lib.ListN.{getD, take, drop}
+use Rattle.lists.specs.Lists.{stands, any, sift, empty, headOr, rest, upTo, rising, disjoint}
 use Rattle.lists.proofs.Sifts.{and-true, true-and, sift-ext, any-get, any-made, upTo-stands, rising-stands}
 use Rattle.fan.proofs.Shared.{row-end}
 use Rattle.model.specs.Split.{Part, Opening, ring, parted}

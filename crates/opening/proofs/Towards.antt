@@ -1,8 +1,8 @@
 -- Laws of directions: a score by the block of points, the corners of a part, the parts of a fan. Assumes nothing.
 use mathlib.Core.Path.{_≡_, refl, sym, _∙_, ap, ap₂, subst}
-use mathlib.Core.Bool.{Bool, true, false, not}
-use mathlib.Core.List.{List, [], _∷_}
-use Prim.Native.Nat.{ℕ, suc, _+_, _*_, _/_, _<_, _≤_}
+use mathlib.Core.Bool.{Bool, not}
+use mathlib.Core.List.{List, _∷_}
+use Prim.Native.Nat.{ℕ, _+_, _*_, _<_, _≤_}
 use native.Mathlib.Omega.{arith}
 use borrow.Author.Tests.{eq-eqb, ne-eqb}
 use lib.Dec.{eqb}
@@ -11,13 +11,13 @@ use lib.Seq.{getD-take, getD-drop}
 use lib.Ieee.{Float, neg}
 use Rattle.lists.specs.Lists.{pick, sift, fold, tab}
 use Rattle.lists.proofs.Steps.{sift-drop, fold-step}
-use Rattle.float.specs.Numbers.{zero32, largest}
+use Rattle.float.specs.Numbers.{largest}
 use Rattle.blade.specs.declared.Point.{Point}
 use Rattle.blade.specs.Points.{origin, plusOf, minusOf, sumOf}
 use Rattle.fan.proofs.Shared.{row-end}
 use Rattle.model.specs.Mesh.{Mesh}
 use Rattle.model.specs.Elements.{besides, restOf}
-use Rattle.model.specs.Split.{Part, Opening, Best, better, scoreOf, scored, toward}
+use Rattle.model.specs.Split.{Opening, Best, better, scoreOf, scored, toward}
 use Rattle.opening.specs.Opened.{partAt, Ringed, restIn, RestsIn, CornersBelow}
 use Rattle.opening.specs.Answers.{scoreBy}
 use Rattle.opening.proofs.Weights.{fan-tab}
@@ -101,5 +101,5 @@ pub toward-is : (O : Opening) (M : Mesh) (p : ℕ) (points : List Float) → Res
 unfolding toward sumOf fold
 toward-is O M p points rs x v q lx lv dir to home away r h t a d e =
     let dir-is : dir ≡ plusOf origin (minusOf (restOf M x) (restOf M (O .v))) =
-        d ∙ ap (plusOf origin) (a ∙ ap₂ minusOf (t ∙ sym (rs x lx)) (h ∙ sym (rs v lv) ∙ ap (restOf M) (sym q))) in
+    d ∙ ap (plusOf origin) (a ∙ ap₂ minusOf (t ∙ sym (rs x lx)) (h ∙ sym (rs v lv) ∙ ap (restOf M) (sym q))) in
     ap (λ (b : Best). b .group) (e ∙ ap₂ (λ (u : ℕ) (z : Point). fold (scored M u z) (record { score = neg largest; group = 0 }) (O .fan)) (sym q) dir-is)

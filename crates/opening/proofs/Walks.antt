@@ -1,12 +1,12 @@
 -- Laws of lists that a walk needs: a sift of a sift, the least number that passes and those behind it, some element of a list. Assumes nothing.
-use mathlib.Core.Path.{_≡_, refl, sym, _∙_, ap, ap₂, subst}
+use mathlib.Core.Path.{_≡_, refl, sym, _∙_, ap, ap₂}
 use mathlib.Core.Bool.{Bool, true, false, not, _&&_, _||_, false≢true}
-use mathlib.Core.List.{List, [], _∷_, _++_, map, append-nil}
+use mathlib.Core.List.{List, [], _∷_, _++_, map}
 use Prim.Native.Nat.{ℕ, zero, suc, _+_, _-_, _<_, _≤_, zero-le, suc-le-suc}
 use native.Mathlib.Omega.{arith}
 use borrow.Author.Tests.{eq-eqb, le-leb, lt-leb}
 use lib.Dec.{eqb, leb}
-use lib.ListN.{length, getD, take, drop, take-append-drop}
+use lib.ListN.{getD, take-append-drop}
 use Rattle.lists.specs.Lists.{pick, stands, any, all, sift, empty, headOr, rest, tab, upTo}
 use Rattle.lists.proofs.Sifts.{and-true, sift-all, any-get, any-made, stands-get, stands-made, sift-append, tab-ext, tab-suc, tab-take, tab-drop}
 

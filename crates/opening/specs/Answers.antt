@@ -1,5 +1,5 @@
 -- What the readers of an opening ask and answer, for every opening that their tables hold. Only contracts between workers need this file. Definitions only.
-use Prim.Native.Nat.{ℕ, _+_, _*_, _/_, _<_, _≤_}
+use Prim.Native.Nat.{ℕ, _/_, _<_, _≤_}
 use mathlib.Core.Path.{_≡_}
 use mathlib.Core.Bool.{Bool, not}
 use mathlib.Core.List.{List, map}
@@ -11,7 +11,7 @@ use Rattle.blade.specs.declared.Point.{Point}
 use Rattle.blade.specs.Points.{dotOf, lengthOf}
 use Rattle.model.specs.Mesh.{Mesh}
 use Rattle.model.specs.Elements.{besides}
-use Rattle.model.specs.Split.{Part, Opening, Best, better, scoreOf, scored, weightOf, totalOf, ring, parted, toward}
+use Rattle.model.specs.Split.{Opening, Best, better, scoreOf, scored, weightOf, totalOf, ring, parted, toward}
 use Rattle.opening.specs.Opened.{partAt, Ringed, Weighted, RingRoom, ringFrom, restIn, RestsIn, CornersBelow}
 use Rattle.opening.specs.declared.Best.{Best as BestCase}
 

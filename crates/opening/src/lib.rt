@@ -1,8 +1,7 @@
 // A split to be made, read off the tables of a fan and its groups: weights, rings, directions.
 ghost use mathlib.Core.Path.{_≡_};
-ghost use Prim.Native.Nat.{ℕ, _+_, _*_, _/_, _<_, _≤_};
-ghost use lib.ListN.{length, getD, take, drop};
-ghost use lib.Ieee.{Float};
+ghost use Prim.Native.Nat.{_+_, _*_, _/_, _<_, _≤_};
+ghost use lib.ListN.{length, take, drop};
 ghost use Rattle.lists.specs.Lists.{stands};
 ghost use Rattle.opening.specs.Opened.{RingRoom, massBy, restIn};
 ghost use Rattle.blade.specs.Points.{lengthOf};

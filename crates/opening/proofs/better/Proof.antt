@@ -1,20 +1,17 @@
-use Rattle.opening.specs.Answers.{bestIs}
-use Rattle.model.specs.Split.{Best}
-use Rattle.lists.specs.Lists.{pick}
+-- `opening::better` meets its contract. By the test of the scores. Assumes nothing.
 use mathlib.Core.Bool.{Bool}
 use mathlib.Core.Path.{sym, ap}
+use Rattle.model.specs.Split.{Best}
+use Rattle.lists.specs.Lists.{pick}
+use Rattle.opening.specs.Answers.{bestIs}
 use Rattle.opening.proofs.better.Statement.{statement}
 use Rattle.opening.proofs.better.Tie as tie
-use Rattle.opening.proofs.better.Reads as reads
-use Rattle.opening.proofs.better.Lts as lts
 
--- src/lib.rt:223:9
 returns : tie.Need-returns
 returns c = let A = c .before .before .args in
     let new : Best = record { score = A .s; group = A .g } in
     sym (ap (λ (t : Bool). pick t new (bestIs (A .b))) (c .if1 .taken))
 
--- src/lib.rt:219:1
 returns-2 : tie.Need-returns-2
 returns-2 c = let A = c .before .before .args in
     let new : Best = record { score = A .s; group = A .g } in

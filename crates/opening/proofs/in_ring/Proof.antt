@@ -1,16 +1,14 @@
-use Rattle.opening.proofs.Rings.{rowOf, ring-some, ring-empty, row-fits}
-use Rattle.lists.specs.Lists.{stands}
-use borrow.Author.Count.{below-more}
-use Prim.Native.Nat.{ℕ, _+_, _*_, _-_, _≤_, _<_}
+-- `opening::in_ring` meets its contract. The invariant: no row so far holds x. Assumes nothing.
 use mathlib.Core.Bool.{true, false≢true}
 use mathlib.Core.Path.{_≡_, sym, _∙_}
+use Prim.Native.Nat.{ℕ, _-_, _≤_, _<_}
 use native.Mathlib.Omega.{arith}
+use borrow.Author.Count.{below-more}
 use borrow.Author.Needs.{needs}
+use Rattle.lists.specs.Lists.{stands}
+use Rattle.opening.proofs.Rings.{rowOf, ring-some, ring-empty, row-fits}
 use Rattle.opening.proofs.in_ring.Statement.{statement}
 use Rattle.opening.proofs.in_ring.Tie as tie
-use Rattle.opening.proofs.in_ring.Reads as reads
-use Rattle.opening.proofs.in_ring.Lts as lts
-use Rattle.opening.proofs.row_has.Reads as row-has-reads
 
 abbrev Inv-loop : tie.InvT-loop
 Inv-loop x n k verts i₀ i = (i ≤ n) × ((j : ℕ) → j < i → stands x (rowOf k verts j) ≡ true → ⊥)
@@ -18,27 +16,21 @@ Inv-loop x n k verts i₀ i = (i ≤ n) × ((j : ℕ) → j < i → stands x (ro
 abbrev μ-loop : tie.MeasureT-loop
 μ-loop x n k verts i₀ i = n - i
 
--- src/lib.rt:91:5
 loop-holds : tie.Need-loop-holds Inv-loop μ-loop
 loop-holds c = (search needs, λ j l. absurd (omega arith))
 
--- src/lib.rt:92:12
 row-has-requires : tie.Need-row-has-requires Inv-loop μ-loop
 row-has-requires c κs = row-fits (c .before .before .before .pre) (c .before .loop .i) (search needs)
 
--- src/lib.rt:93:13
 returns : tie.Need-returns Inv-loop μ-loop
 returns c = record { is = λ O gs R. ring-some O R (c .before .before .before .before .before .args .x) (c .before .before .before .loop .i) (search needs) (sym (c .before .row-has .ensures) ∙ c .if1 .taken) }
 
--- src/lib.rt:95:9
 add-i : tie.Need-add-i Inv-loop μ-loop
 add-i c = omega (arith, c .before .before .before .before .before .pre .few)
 
--- src/lib.rt:91:5
 loop-less : tie.Need-loop-less Inv-loop μ-loop
 loop-less c = search needs
 
--- src/lib.rt:91:5
 loop-again : tie.Need-loop-again Inv-loop μ-loop
 loop-again c = let A = c .before .before .before .before .before .args in
     let L = c .before .before .before .loop in (
@@ -47,7 +39,6 @@ loop-again c = let A = c .before .before .before .before .before .args in
           (λ h. false≢true (sym (c .if1 .left) ∙ c .before .row-has .ensures ∙ h)),
     )
 
--- src/lib.rt:86:1
 returns-2 : tie.Need-returns-2 Inv-loop μ-loop
 returns-2 c = record { is = λ O gs R. ring-empty O R (c .before .before .before .args .x) (λ i m. c .before .loop .inv .1 i (omega arith)) }
 

@@ -1,21 +1,18 @@
-use Rattle.opening.proofs.Rings.{rowOf, ring-any, ring-not-any, row-fits}
-use Rattle.opening.specs.Opened.{Ringed}
-use Rattle.model.specs.Split.{Opening, ring}
-use Rattle.lists.specs.Lists.{stands}
-use lib.ListN.{getD}
-use borrow.Author.Count.{below-more}
-use Prim.Native.Nat.{ℕ, _+_, _*_, _-_, _≤_, _<_}
+-- `opening::meets` meets its contract. The invariant: no row so far holds x and has a group that holds y. Assumes nothing.
 use mathlib.Core.Logic.{⊎-elim}
 use mathlib.Core.Bool.{true, false≢true}
 use mathlib.Core.Path.{_≡_, sym, _∙_}
+use Prim.Native.Nat.{ℕ, _-_, _≤_, _<_}
 use native.Mathlib.Omega.{arith}
+use borrow.Author.Count.{below-more}
 use borrow.Author.Needs.{needs}
+use lib.ListN.{getD}
+use Rattle.model.specs.Split.{Opening, ring}
+use Rattle.lists.specs.Lists.{stands}
+use Rattle.opening.specs.Opened.{Ringed}
+use Rattle.opening.proofs.Rings.{rowOf, ring-any, ring-not-any, row-fits}
 use Rattle.opening.proofs.meets.Statement.{statement}
 use Rattle.opening.proofs.meets.Tie as tie
-use Rattle.opening.proofs.meets.Reads as reads
-use Rattle.opening.proofs.meets.Lts as lts
-use Rattle.opening.proofs.ring_has.Reads as ring-has-reads
-use Rattle.opening.proofs.row_has.Reads as row-has-reads
 
 abbrev Inv-loop : tie.InvT-loop
 Inv-loop x y n k verts groups i₀ i = (i ≤ n) × ((O : Opening) → Ringed k O n verts groups → (j : ℕ) → j < i → stands x (rowOf k verts j) ≡ true → stands (getD groups j 0) (ring O y) ≡ true → ⊥)
@@ -23,42 +20,33 @@ Inv-loop x y n k verts groups i₀ i = (i ≤ n) × ((O : Opening) → Ringed k 
 abbrev μ-loop : tie.MeasureT-loop
 μ-loop x y n k verts groups i₀ i = n - i
 
--- src/lib.rt:106:5
 loop-holds : tie.Need-loop-holds Inv-loop μ-loop
 loop-holds c = (search needs, λ O R j l. absurd (omega arith))
 
--- src/lib.rt:107:12
 row-has-requires : tie.Need-row-has-requires Inv-loop μ-loop
 row-has-requires c κs = row-fits (c .before .before .before .before .pre) (c .before .loop .i) (search needs)
 
--- src/lib.rt:108:28
 mul-ring-has : tie.Need-mul-ring-has Inv-loop μ-loop
 mul-ring-has c = search needs
 
--- src/lib.rt:108:28
 shared-slice-read-ring-has : tie.Need-shared-slice-read-ring-has Inv-loop μ-loop
 shared-slice-read-ring-has c = omega (arith, c .before .before .before .before .before .before .before .pre .groups)
 
--- src/lib.rt:108:16
 ring-has-requires : tie.Need-ring-has-requires Inv-loop μ-loop
 ring-has-requires c κs = c .before .before .before .before .before .before .before .pre
 
--- src/lib.rt:109:17
 returns : tie.Need-returns Inv-loop μ-loop
 returns c = let A = c .before .before .before .before .before .before .before .before .before .args in
     let L = c .before .before .before .before .before .before .loop in
     let l : L .i < A .n = search needs in
     record { is = λ O R. ring-any O R (A .x) (λ g. stands g (ring O (A .y))) (L .i) l (sym (c .before .before .before .before .row-has .ensures) ∙ c .before .before .before .if1 .taken) (sym (c .before .ring-has .ensures .is O R (R .below (L .i) l)) ∙ c .if2 .taken) }
 
--- src/lib.rt:112:9
 add-i : tie.Need-add-i Inv-loop μ-loop
 add-i c = omega (arith, c .before .before .before .before .before .before .pre .few)
 
--- src/lib.rt:106:5
 loop-less : tie.Need-loop-less Inv-loop μ-loop
 loop-less c = search needs
 
--- src/lib.rt:106:5
 loop-again : tie.Need-loop-again Inv-loop μ-loop
 loop-again c = let A = c .before .before .before .before .before .before .args in
     let L = c .before .before .before .loop in
@@ -73,7 +61,6 @@ loop-again c = let A = c .before .before .before .before .before .before .args i
           (c .if1 .came)),
     )
 
--- src/lib.rt:101:1
 returns-2 : tie.Need-returns-2 Inv-loop μ-loop
 returns-2 c = let A = c .before .before .before .before .args in
     let L = c .before .loop in

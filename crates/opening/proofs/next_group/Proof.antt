@@ -1,15 +1,13 @@
-use Rattle.opening.proofs.Rings.{Least, least-start, least-take, least-keep, least-within, least-onward, least-count, row-fits}
-use Prim.Native.Nat.{ℕ, _+_, _*_, _-_, _≤_, _<_}
+-- `opening::next_group` meets its contract. The invariant: best is the least group so far from `from` on that holds x, else count. Assumes nothing.
 use mathlib.Core.Logic.{⊎-elim}
-use mathlib.Core.Bool.{true, false≢true}
-use mathlib.Core.Path.{_≡_, refl, sym, _∙_, ap, subst}
+use mathlib.Core.Bool.{false≢true}
+use mathlib.Core.Path.{_≡_, refl, sym, _∙_, subst}
+use Prim.Native.Nat.{ℕ, _+_, _-_, _≤_}
 use native.Mathlib.Omega.{arith}
 use borrow.Author.Needs.{needs}
+use Rattle.opening.proofs.Rings.{Least, least-start, least-take, least-keep, least-within, least-onward, least-count, row-fits}
 use Rattle.opening.proofs.next_group.Statement.{statement}
 use Rattle.opening.proofs.next_group.Tie as tie
-use Rattle.opening.proofs.next_group.Reads as reads
-use Rattle.opening.proofs.next_group.Lts as lts
-use Rattle.opening.proofs.row_has.Reads as row-has-reads
 
 abbrev Inv-loop : tie.InvT-loop
 Inv-loop x from count n k verts groups best₀ i₀ best i = (i ≤ n) × Least x from count k verts groups i best
@@ -17,31 +15,24 @@ Inv-loop x from count n k verts groups best₀ i₀ best i = (i ≤ n) × Least 
 abbrev μ-loop : tie.MeasureT-loop
 μ-loop x from count n k verts groups best₀ i₀ best i = n - i
 
--- src/lib.rt:71:5
 loop-holds : tie.Need-loop-holds Inv-loop μ-loop
 loop-holds c = (search needs, least-start _ _ _ _ _ _)
 
--- src/lib.rt:72:17
 mul-g : tie.Need-mul-g Inv-loop μ-loop
 mul-g c = search needs
 
--- src/lib.rt:72:17
 shared-slice-read-g : tie.Need-shared-slice-read-g Inv-loop μ-loop
 shared-slice-read-g c = omega (arith, c .before .before .before .before .before .pre .groups)
 
--- src/lib.rt:75:20
 row-has-requires : tie.Need-row-has-requires Inv-loop μ-loop
 row-has-requires c κs = row-fits (c .before .before .before .before .before .before .before .pre) (c .before .before .before .before .loop .i) (search needs)
 
--- src/lib.rt:80:9
 add-i : tie.Need-add-i Inv-loop μ-loop
 add-i c = omega (arith, c .before .before .before .before .before .before .pre .few)
 
--- src/lib.rt:71:5
 loop-less : tie.Need-loop-less Inv-loop μ-loop
 loop-less c = search needs
 
--- src/lib.rt:71:5
 loop-again : tie.Need-loop-again Inv-loop μ-loop
 loop-again c = let A = c .before .before .before .before .before .before .args in
     let L = c .before .before .before .loop in
@@ -58,7 +49,6 @@ loop-again c = let A = c .before .before .before .before .before .before .args i
           (c .if1 .came),
     )
 
--- src/lib.rt:57:1
 returns : tie.Need-returns Inv-loop μ-loop
 returns c = let L = c .before .loop in
     let A = c .before .before .before .before .args in

@@ -1,7 +1,7 @@
 -- `opening::stands_in` meets its contract. The invariant: whether x stands in the rest is whether it stands in the whole. Assumes nothing.
-use borrow.Author.Needs.{needs}
 use mathlib.Core.Path.{_≡_, refl, sym, _∙_}
 use Prim.Native.Nat.{_≤_, _-_}
+use borrow.Author.Needs.{needs}
 use lib.ListN.{length, drop}
 use Rattle.lists.specs.Lists.{stands}
 use Rattle.lists.proofs.Sifts.{stands-here, stands-on, stands-end}

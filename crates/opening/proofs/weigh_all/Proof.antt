@@ -1,19 +1,17 @@
-use Rattle.opening.proofs.Weights.{totalTo, total-none, total-more, weights-none, weights-more, weights-map, total-all}
-use Rattle.opening.specs.Answers.{Grouped}
-use Rattle.opening.specs.Opened.{Weighted}
-use Rattle.model.specs.Split.{Opening, weightOf}
-use Rattle.lists.specs.Lists.{tab}
-use lib.Ieee.{Float, ofBits}
-use lib.ListN.{length, take, length-set}
-use Prim.Native.Nat.{ℕ, _+_, _*_, _-_, _≤_, _<_}
-use mathlib.Core.Path.{_≡_, refl, sym, _∙_, ap, subst}
+-- `opening::weigh_all` meets its contract. The invariant: the first g weights stand in the table, and total is their sum. Assumes nothing.
+use mathlib.Core.Path.{_≡_, refl, sym, _∙_, ap}
+use Prim.Native.Nat.{ℕ, _-_, _≤_, _<_}
 use native.Mathlib.Omega.{arith}
 use borrow.Author.Needs.{needs}
+use lib.Ieee.{ofBits}
+use lib.ListN.{length, take, length-set}
+use Rattle.model.specs.Split.{Opening, weightOf}
+use Rattle.lists.specs.Lists.{tab}
+use Rattle.opening.specs.Answers.{Grouped}
+use Rattle.opening.specs.Opened.{Weighted}
+use Rattle.opening.proofs.Weights.{totalTo, total-none, total-more, weights-none, weights-more, weights-map, total-all}
 use Rattle.opening.proofs.weigh_all.Statement.{statement}
 use Rattle.opening.proofs.weigh_all.Tie as tie
-use Rattle.opening.proofs.weigh_all.Reads as reads
-use Rattle.opening.proofs.weigh_all.Lts as lts
-use Rattle.opening.proofs.weight_of.Reads as weight-of-reads
 
 abbrev Inv-loop : tie.InvT-loop
 Inv-loop n count groups measures weights₀ total₀ g₀ weights total g = (g ≤ count) × (length weights ≡ length weights₀) × ((O : Opening) → Grouped O n groups → Weighted O n measures → (take g weights ≡ tab g (weightOf (O .fan))) × (total ≡ totalTo (weightOf (O .fan)) g))
@@ -21,47 +19,40 @@ Inv-loop n count groups measures weights₀ total₀ g₀ weights total g = (g �
 abbrev μ-loop : tie.MeasureT-loop
 μ-loop n count groups measures weights₀ total₀ g₀ weights total g = count - g
 
--- src/lib.rt:166:5
 loop-holds : tie.Need-loop-holds Inv-loop μ-loop
 unfolding ofBits
 loop-holds c = (search needs, refl, λ O G W. (weights-none (weightOf (O .fan)) (c .before .before .before .args .weights .now), total-none (weightOf (O .fan))))
 
--- src/lib.rt:167:13
 weight-of-requires : tie.Need-weight-of-requires Inv-loop μ-loop
 weight-of-requires c κs = search needs
 
--- src/lib.rt:168:9
 mul-weights : tie.Need-mul-weights Inv-loop μ-loop
 mul-weights c = omega (arith, c .before .before .before .before .before .before .pre .2)
 
--- src/lib.rt:168:9
 slice-write-weights : tie.Need-slice-write-weights Inv-loop μ-loop
 slice-write-weights c = omega (arith, c .before .before .before .before .before .before .pre .2)
 
--- src/lib.rt:170:9
 add-g : tie.Need-add-g Inv-loop μ-loop
 add-g c = omega (arith, c .before .before .before .before .before .before .pre .2)
 
--- src/lib.rt:166:5
 loop-less : tie.Need-loop-less Inv-loop μ-loop
 loop-less c = search needs
 
--- src/lib.rt:166:5
 loop-again : tie.Need-loop-again Inv-loop μ-loop
 loop-again c = let A = c .before .before .before .before .before .before .args in
     let L = c .before .before .loop in
-    let l : L .g < length (L .weights) = omega (arith, c .before .before .before .before .before .before .pre .2) in
-    (search needs, length-set (L .weights) (L .g) (c .weight-of .result) ∙ L .inv .1,
-    λ O G W.
-      let h = L .inv .2 O G W in
-      let w = c .weight-of .ensures .is O G W in
-      (weights-more (weightOf (O .fan)) (L .g) (L .weights) (c .weight-of .result) l (h .0) w, total-more (weightOf (O .fan)) (L .g) (L .total) (c .weight-of .result) (h .1) w))
+    let l : L .g < length (L .weights) = omega (arith, c .before .before .before .before .before .before .pre .2) in (
+      search needs,
+      length-set (L .weights) (L .g) (c .weight-of .result) ∙ L .inv .1,
+      λ O G W.
+          let h = L .inv .2 O G W in
+          let w = c .weight-of .ensures .is O G W in
+          (weights-more (weightOf (O .fan)) (L .g) (L .weights) (c .weight-of .result) l (h .0) w, total-more (weightOf (O .fan)) (L .g) (L .total) (c .weight-of .result) (h .1) w),
+    )
 
--- src/lib.rt:154:1
 same-length : tie.Need-same-length Inv-loop μ-loop
 same-length c = search needs
 
--- src/lib.rt:154:1
 returns : tie.Need-returns Inv-loop μ-loop
 returns c = let A = c .before .before .before .before .before .args in
     let L = c .before .loop in
