@@ -1,2 +1,3 @@
 -- A split to be made, in tables.
 pub mod Opened
+pub mod Answers
