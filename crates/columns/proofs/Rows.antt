@@ -5,12 +5,12 @@ use native.Mathlib.Nat.{le-of-suc-le-suc, not-suc-le-zero}
 use native.Mathlib.Numerals.{add-one}
 use native.Mathlib.Omega.{arith}
 use mathlib.Core.Path.{_≡_, refl, sym, ap, ap₂, _∙_}
-use mathlib.Core.Bool.{Bool, true, false, _&&_, _||_}
+use mathlib.Core.Bool.{Bool, true, false, not, _&&_, _||_}
 use mathlib.Core.List.{List, [], _∷_, _++_, map}
 use lib.ListN.{length, getD, take, set}
 use lib.Seq.{ext-getD, getD-take, length-take-le}
 use lib.Dec.{eqb}
-use Rattle.lists.specs.Lists.{any, all, upTo, tab, pick, keep, keptOf, nth, mapAt}
+use Rattle.lists.specs.Lists.{sift, any, all, upTo, tab, pick, keep, keptOf, nth, mapAt}
 use Rattle.columns.specs.View.{Kept}
 
 module _ {A : Type 0} where
@@ -231,3 +231,17 @@ module _ {A : Type 0} (p : A → Bool) where
 -- at the loop's end no row has passed
 pub any-end : {A : Type 0} (p : A → Bool) (n i : ℕ) (row : ℕ → A) → any p (tab i row) ≡ false → i ≤ n → n ≤ i → false ≡ any p (tab n row)
 any-end p n i row h g k = let e : i ≡ n = omega arith in sym (ap (λ (j : ℕ). any p (tab j row)) (sym e) ∙ h)
+
+-- ---- a mask that marks what a test refuses
+
+-- a choice by the opposite of a test is the choice the other way round
+pick-not : {A : Type 0} (s t : Bool) (x y : A) → s ≡ not t → pick s x y ≡ pick t y x
+pick-not s true x y e = rw e refl
+pick-not s false x y e = rw e refl
+
+-- what the mask leaves is what passes
+pub keep-sift : {A : Type 0} (p : A → Bool) (d : A) (m : List ℕ) (l : List A) → ((k : ℕ) → k < length l → eqb (getD m k 0) 1 ≡ not (p (getD l k d))) → keep m l ≡ sift p l
+unfolding keep sift
+keep-sift p d m [] h = refl
+keep-sift p d [] (a ∷ l) h = rw (keep-sift p d [] l (λ k q. h (suc k) (suc-le-suc q))) (pick-not false (p a) (sift p l) (a ∷ sift p l) (h 0 (suc-le-suc zero-le)))
+keep-sift p d (b ∷ m) (a ∷ l) h = rw (keep-sift p d m l (λ k q. h (suc k) (suc-le-suc q))) (pick-not (eqb b 1) (p a) (sift p l) (a ∷ sift p l) (h 0 (suc-le-suc zero-le)))

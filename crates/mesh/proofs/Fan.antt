@@ -1,10 +1,10 @@
 -- The loop over a fan: after i elements, the triangles hold the copies of the first i elements' groups.
-use Prim.Native.Nat.{ℕ, suc, _+_, _≤_, _<_, zero-le, suc-le-suc}
+use Prim.Native.Nat.{ℕ, suc, _+_, _≤_, _<_, zero-le, suc-le-suc, _/_}
 use native.Mathlib.Numerals.{add-one}
 use native.Mathlib.Decide.{ℕ-discrete}
 use native.Mathlib.Omega.{arith}
-use mathlib.Core.Path.{_≡_, refl, sym, ap, _∙_}
-use mathlib.Core.List.{List, [], _∷_, _++_}
+use mathlib.Core.Path.{_≡_, refl, sym, ap, _∙_, ap₂}
+use mathlib.Core.List.{List, [], _∷_, _++_, map}
 use lib.ListN.{length, getD, take}
 use lib.Seq.{take-suc, length-take-le, getD-take, take-length}
 use lib.Dec.{eqb}
@@ -12,10 +12,12 @@ use borrow.Author.Tests.{eq-eqb, ne-eqb}
 use Rattle.lists.specs.Lists.{pick, mapAt}
 use Rattle.lists.specs.Labels.{replaced}
 use Rattle.model.specs.Mesh.{Triangle}
-use Rattle.model.specs.Split.{retargeted, onlyAt, copyFor}
+use Rattle.model.specs.Elements.{Triangles}
+use Rattle.model.specs.Split.{Part, Opening, groupAt, rewiredTriangles, retargeted, onlyAt, copyFor}
 use Rattle.mesh.specs.Workers.{groupOf, Mapped}
 use Rattle.mesh.specs.At.{trianglesAt}
 use Rattle.columns.proofs.Rows.{mapAt-mapAt, mapAt-ext, mapAt-same}
+use lib.Ieee.{Float}
 
 -- an element that no entry names has group 0
 absent : (es gs : List ℕ) (k : ℕ) → ((j : ℕ) → j < length es → getD es j 0 ≡ k → ⊥) → groupOf es gs k ≡ 0
@@ -120,3 +122,22 @@ rewiring-done v n es gs s₀ s i r h p =
     let te : take i es ≡ es = ap (λ (k : ℕ). take k es) e ∙ take-length es in
     let tg : take i gs ≡ gs = ap (λ (k : ℕ). take k gs) f ∙ take-length gs in
     simp (te, tg) at (r .mapped)
+
+-- ---- as the definitions of a split have it
+
+-- the group of an element, by the numbers and the groups of the fan's parts
+group-at : (ps : List Part) (k : ℕ) → groupOf (map (λ (p : Part). p .number) ps) (map (λ (p : Part). p .group) ps) k ≡ groupAt ps k
+unfolding groupOf groupAt
+group-at [] k = refl
+group-at (p ∷ ps) k = ap (pick (eqb (p .number) k) (p .group)) (group-at ps k)
+
+-- corners rewired by a fan's numbers and groups are the triangles of its opening
+pub rewired-as :
+    (O : Opening) (es gs corners corners′ : List ℕ) → es ≡ map (λ (p : Part). p .number) (O .fan) → gs ≡ map (λ (p : Part). p .group) (O .fan)
+    → Mapped (λ k. retargeted (O .v) (copyFor (O .v) (O .before) (groupOf es gs k))) corners corners′
+    → (n : ℕ) (volumes : List Float) → n ≤ length corners / 3 → trianglesAt n corners′ volumes ≡ rewiredTriangles Triangles O (trianglesAt n corners volumes)
+unfolding rewiredTriangles
+rewired-as O es gs corners corners′ e g m n volumes h =
+    m .triangles n volumes h
+    ∙ mapAt-ext _ _ (trianglesAt n corners volumes)
+    (λ k t. ap (λ (j : ℕ). retargeted (O .v) (copyFor (O .v) (O .before) j) t) (ap₂ (λ (x y : List ℕ). groupOf x y k) e g ∙ group-at (O .fan) k))

@@ -6,3 +6,4 @@ pub mod Agree
 pub mod Joined
 pub mod Checked
 pub mod Refusals
+pub mod Accepted

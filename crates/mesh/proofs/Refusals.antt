@@ -1,6 +1,5 @@
 -- The refusals asked one behind the other are those of the definitions: the first check that fails.
-use Prim.Native.Nat.{ℕ}
-use mathlib.Core.Path.{_≡_, refl, _∙_}
+use mathlib.Core.Path.{_≡_, refl}
 use mathlib.Core.Bool.{Bool, true, false, not, _&&_}
 use Rattle.lists.specs.Lists.{pick}
 use Rattle.model.specs.Mesh.{Mesh}
