@@ -140,20 +140,6 @@ pub fn element_table(
     }
 }
 
-// Does x stand in b?
-pub fn stands_in(x: usize, b: &[usize]) -> bool
-    ensures { λ r. ⌜ r ≡ stands x (now (b .entry)) ⌝ }
-{
-    let mut i: usize = 0;
-    while i < b.len() {
-        if b[i] == x {
-            return true;
-        }
-        i += 1;
-    }
-    false
-}
-
 // The table of the elements that hold v, and how many they are.
 pub fn fan_table(
     v: usize,
@@ -176,7 +162,7 @@ pub fn fan_table(
     let mut o: usize = 0;
     while i < n {
         let b = a + k;
-        if stands_in(v, &verts[a..b]) {
+        if fan::stands_in(v, &verts[a..b]) {
             let e = o + k;
             columns::copy_usize(&verts[a..b], &mut fan_verts[o..e]);
             fan_numbers[r] = numbers[i];
@@ -276,15 +262,15 @@ pub fn holds(v: usize, k: usize, i: usize, verts: &[usize]) -> bool
 {
     let a = i * k;
     let b = a + k;
-    stands_in(v, &verts[a..b])
+    fan::stands_in(v, &verts[a..b])
 }
 
 // Do both x and y stand in b?
 fn both_in(x: usize, y: usize, b: &[usize]) -> bool
     ensures { λ r. ⌜ r ≡ stands x (now (b .entry)) && stands y (now (b .entry)) ⌝ }
 {
-    if stands_in(x, b) {
-        return stands_in(y, b);
+    if fan::stands_in(x, b) {
+        return fan::stands_in(y, b);
     }
     false
 }

@@ -10,7 +10,7 @@ ghost use Rattle.fan.specs.Parts.{Part, Tops};
 ghost use Rattle.fan.specs.Forest.{Down, Kept, Found, Joined, Forest};
 
 // Does x stand in b?
-fn stands_in(x: usize, b: &[usize]) -> bool
+pub fn stands_in(x: usize, b: &[usize]) -> bool
     ensures { λ r. ⌜ r ≡ stands x (now (b .entry)) ⌝ }
 {
     let mut i = 0;

@@ -16,20 +16,6 @@ pub struct Best {
     pub group: usize,
 }
 
-// Does x stand in b?
-fn stands_in(x: usize, b: &[usize]) -> bool
-    ensures { λ r. ⌜ r ≡ stands x (now (b .entry)) ⌝ }
-{
-    let mut i = 0;
-    while i < b.len() {
-        if b[i] == x {
-            return true;
-        }
-        i += 1;
-    }
-    false
-}
-
 // Is x a corner of row i, of k corners?
 fn row_has(x: usize, i: usize, k: usize, verts: &[usize]) -> bool
     requires { ⌜ i * k + k ≤ length (now verts) ⌝ }
@@ -37,7 +23,7 @@ fn row_has(x: usize, i: usize, k: usize, verts: &[usize]) -> bool
 {
     let at = i * k;
     let end = at + k;
-    stands_in(x, &verts[at..end])
+    fan::stands_in(x, &verts[at..end])
 }
 
 // Does some part of group g hold x?

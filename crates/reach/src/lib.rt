@@ -9,20 +9,6 @@ ghost use Rattle.model.specs.Pieces.{minPiece};
 ghost use Rattle.reach.specs.Opens.{Opens};
 ghost use Rattle.reach.specs.Walk.{facetShared, touching, holdsRow, seeds, reachFrom, Rows, Lent, marked, Queued, Spread, Seeded};
 
-// Does x stand in b?
-fn stands_in(x: usize, b: &[usize]) -> bool
-    ensures { λ r. ⌜ r ≡ stands x (now (b .entry)) ⌝ }
-{
-    let mut i = 0;
-    while i < b.len() {
-        if b[i] == x {
-            return true;
-        }
-        i += 1;
-    }
-    false
-}
-
 // Does row j hold v?
 fn holds(n: usize, k: usize, v: usize, verts: &[usize], j: usize) -> bool
     requires { ⌜ Rows n k (length (now verts)) × (j < n) ⌝ }
@@ -30,7 +16,7 @@ fn holds(n: usize, k: usize, v: usize, verts: &[usize], j: usize) -> bool
 {
     let a = j * k;
     let e = a + k;
-    stands_in(v, &verts[a..e])
+    fan::stands_in(v, &verts[a..e])
 }
 
 // Do all corners of row i but one, and none of them v, stand in row j?
