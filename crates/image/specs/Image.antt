@@ -1,0 +1,26 @@
+-- A mesh image, as docs/C-FUNCTIONS.md has it: the four counts, then the columns of the seven blocks. Definitions only.
+use Prim.Native.Nat.{ℕ, _+_, _*_}
+use mathlib.Core.Bool.{Bool, _&&_}
+use mathlib.Core.List.{List}
+use lib.ListN.{length}
+use lib.Dec.{eqb, leb}
+use Rattle.mesh.specs.Given.{Given, given}
+use Rattle.image.specs.Words.{wordAt, wordsFrom, numbersFrom}
+
+-- how many words an image of so many particles, triangles, edges and boundary entries has
+abbrev pub imageWords : ℕ → ℕ → ℕ → ℕ → ℕ
+imageWords p t e b = 4 + 8 * p + 5 * t + 8 * e + 2 * b
+
+-- the counts are there, and the bytes are as many as they say
+unfoldable pub imageFits : List ℕ → Bool
+imageFits s = leb 16 (length s) && eqb (length s) (4 * imageWords (wordAt s 0) (wordAt s 1) (wordAt s 2) (wordAt s 3))
+
+-- the blocks of p particles, t triangles, e edges and b boundary entries, one behind the other from word 4 on
+unfoldable pub blocksIn : List ℕ → ℕ → ℕ → ℕ → ℕ → Given
+blocksIn s p t e b =
+    given (numbersFrom s 4 (6 * p)) (wordsFrom s (4 + 6 * p) (2 * p)) (wordsFrom s (4 + 8 * p) (3 * t)) (numbersFrom s (4 + 8 * p + 3 * t) (2 * t))
+    (wordsFrom s (4 + 8 * p + 5 * t) (4 * e)) (numbersFrom s (4 + 8 * p + 5 * t + 4 * e) (4 * e)) (wordsFrom s (4 + 8 * p + 5 * t + 8 * e) (2 * b))
+
+-- the input that an image is
+unfoldable pub imageOf : List ℕ → Given
+imageOf s = blocksIn s (wordAt s 0) (wordAt s 1) (wordAt s 2) (wordAt s 3)

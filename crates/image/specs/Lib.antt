@@ -1,0 +1,3 @@
+-- A mesh as one run of bytes.
+pub mod Words
+pub mod Image

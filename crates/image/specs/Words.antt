@@ -1,0 +1,30 @@
+-- Bytes as little-endian words of 4 bytes, and words as bytes. Definitions only.
+use Prim.Native.Nat.{ℕ, _+_, _*_, _/_, _%_}
+use mathlib.Core.List.{List, [], _∷_}
+use lib.ListN.{length, getD}
+use lib.Ieee.{Float, inf, binary32, ofBits, nanBits}
+use mathlib.Core.Bool.{Bool, false}
+use Rattle.lists.specs.Lists.{pick, tab, each, padded}
+
+-- word i of the bytes; bytes past the end count as 0
+unfoldable pub wordAt : List ℕ → ℕ → ℕ
+wordAt b i = getD b (4 * i) 0 + 256 * getD b (4 * i + 1) 0 + 65536 * getD b (4 * i + 2) 0 + 16777216 * getD b (4 * i + 3) 0
+
+-- the number that a word is the bit pattern of; a NaN pattern is read as an infinity
+unfoldable pub numberOf : ℕ → Float
+numberOf w = pick (nanBits binary32 w) (inf false) (ofBits binary32 w)
+
+-- n words from word `at` on; and n numbers
+unfoldable pub wordsFrom : List ℕ → ℕ → ℕ → List ℕ
+wordsFrom b at n = tab n (λ k. wordAt b (at + k))
+
+unfoldable pub numbersFrom : List ℕ → ℕ → ℕ → List Float
+numbersFrom b at n = tab n (λ k. numberOf (wordAt b (at + k)))
+
+-- the four bytes of a word
+abbrev pub bytesOf : ℕ → List ℕ
+bytesOf w = w % 256 ∷ w / 256 % 256 ∷ w / 65536 % 256 ∷ w / 16777216 % 256 ∷ []
+
+-- what lent bytes hold after words were written: their bytes, and 0 behind them
+unfoldable pub written : ℕ → List ℕ → List ℕ
+written lent ws = padded lent 0 (each bytesOf ws)
