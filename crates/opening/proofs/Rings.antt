@@ -35,10 +35,12 @@ groupsAt : Opening → ℕ → List ℕ
 groupsAt O x = map (λ (p : Part). p .group) (sift (λ (p : Part). stands x (p .corners)) (O .fan))
 
 module _ {k n : ℕ} {verts groups : List ℕ} (O : Opening) (R : Ringed k O n verts groups) (x : ℕ) where
+  -- a row that holds x, as a test of its part
   part-test : (g i : ℕ) → i < n → Holds x g k verts groups i → stands x (partAt O i .corners) && eqb (partAt O i .group) g ≡ true
   part-test g i l w =
       true-and (ap (stands x) (R .corners-are i l) ∙ w .holds) (eq-eqb (partAt O i .group) g (R .group-is i l ∙ w .of))
 
+  -- such a row gives its group
   group-made : (g i : ℕ) → i < n → Holds x g k verts groups i → stands g (groupsAt O x) ≡ true
   unfolding groupsAt
   group-made g i l w =
@@ -46,6 +48,7 @@ module _ {k n : ℕ} {verts groups : List ℕ} (O : Opening) (R : Ringed k O n v
       stands-made-of (λ (p : Part). p .group) (λ (p : Part). stands x (p .corners)) g (O .fan)
       ∙ any-made (λ (p : Part). stands x (p .corners) && eqb (p .group) g) (O .fan) i blankPart (omega arith) (part-test g i l w)
 
+  -- each group comes from such a row
   group-from : (g : ℕ) → stands g (groupsAt O x) ≡ true → (i : ℕ) × ((i < n) × Holds x g k verts groups i)
   unfolding groupsAt
   group-from g e =
@@ -65,11 +68,13 @@ module _ {k n : ℕ} {verts groups : List ℕ} (O : Opening) (R : Ringed k O n v
       let q = w .of in
       rising-stands (O .count) (groupsAt O x) g ∙ true-and (group-made g i l w) (upTo-stands (O .count) g (omega arith))
 
+  -- each group of the ring comes from a row that holds x
   pub ring-from : (g : ℕ) → stands g (ring O x) ≡ true → (i : ℕ) × ((i < n) × Holds x g k verts groups i)
   unfolding ring groupsAt
   ring-from g e =
       group-from g (and-true (stands g (groupsAt O x)) (stands g (upTo (O .count))) (sym (rising-stands (O .count) (groupsAt O x) g) ∙ e) .0)
 
+  -- no row has group g and holds x
   pub ring-none : (g : ℕ) → ((i : ℕ) → i < n → Holds x g k verts groups i → ⊥) → false ≡ stands g (ring O x)
   ring-none g h = not-so (stands g (ring O x)) (λ e. let w = ring-from g e in h (w .0) (w .1 .0) (w .1 .1))
 
@@ -77,6 +82,7 @@ module _ {k n : ℕ} {verts groups : List ℕ} (O : Opening) (R : Ringed k O n v
   pub ring-some : (i : ℕ) → i < n → stands x (rowOf k verts i) ≡ true → true ≡ not (empty (ring O x))
   ring-some i l e = sym (not-empty (getD groups i 0) (ring O x) (ring-made (getD groups i 0) i l (record { of = refl; holds = e })))
 
+  -- no row holds x
   pub ring-empty : ((i : ℕ) → i < n → stands x (rowOf k verts i) ≡ true → ⊥) → false ≡ not (empty (ring O x))
   ring-empty h =
       not-so (not (empty (ring O x))) (λ e. let g = some-stands (ring O x) e in let w = ring-from (g .0) (g .1) in h (w .0) (w .1 .0) (w .1 .1 .holds))
@@ -85,6 +91,7 @@ module _ {k n : ℕ} {verts groups : List ℕ} (O : Opening) (R : Ringed k O n v
   pub ring-any : (p : ℕ → Bool) (i : ℕ) → i < n → stands x (rowOf k verts i) ≡ true → p (getD groups i 0) ≡ true → true ≡ any p (ring O x)
   ring-any p i l e h = sym (any-stands p (getD groups i 0) (ring O x) (ring-made (getD groups i 0) i l (record { of = refl; holds = e })) h)
 
+  -- no group of the ring passes
   pub ring-not-any : (p : ℕ → Bool) → ((i : ℕ) → i < n → stands x (rowOf k verts i) ≡ true → p (getD groups i 0) ≡ true → ⊥) → false ≡ any p (ring O x)
   ring-not-any p h =
       not-so (any p (ring O x))
@@ -100,6 +107,7 @@ pub record Least (x from count k : ℕ) (verts groups : List ℕ) (i best : ℕ)
   pub lowest : (j : ℕ) → j < i → from ≤ getD groups j 0 → stands x (rowOf k verts j) ≡ true → best ≤ getD groups j 0
   pub comes : (best ≡ count) ⊎ ((j : ℕ) × ((j < i) × Holds x best k verts groups j × (from ≤ best) × (best < count)))
 
+-- before the first row
 pub least-start : (x from count k : ℕ) (verts groups : List ℕ) → Least x from count k verts groups 0 count
 least-start x from count k verts groups = record { lowest = λ j l. absurd (omega arith); comes = inl refl }
 
@@ -123,9 +131,11 @@ module _ {x from count k : ℕ} {verts groups : List ℕ} {i best : ℕ} (P : Le
         comes = ⊎-elim (λ e. inl e) (λ w. inr (w .0, (omega (arith, w .1 .0), w .1 .1, w .1 .2, w .1 .3))) (P .comes);
       }
 
+  -- best is count at most
   pub least-within : best ≤ count
   least-within = ⊎-elim (λ e. omega arith) (λ w. omega (arith, w .1 .3)) (P .comes)
 
+  -- best is `from` at least
   pub least-onward : from ≤ count → from ≤ best
   least-onward l = ⊎-elim (λ e. omega arith) (λ w. w .1 .2) (P .comes)
 
@@ -133,6 +143,7 @@ module _ {x from count k : ℕ} {verts groups : List ℕ} {i best : ℕ} (P : Le
 abbrev inRing : Opening → ℕ → ℕ → ℕ → Bool
 inRing O from x g = stands g (groupsAt O x) && leb from g
 
+-- the ring from `from` on as one sift
 ringFrom-is : (O : Opening) (from x : ℕ) → ringFrom O from x ≡ sift (inRing O from x) (upTo (O .count))
 unfolding ringFrom ring rising groupsAt
 ringFrom-is O from x = sift-sift (λ g. leb from g) (λ g. stands g (groupsAt O x)) (upTo (O .count))
@@ -159,6 +170,7 @@ least-head {x} {from} {k} {n} {best} {verts} {groups} O R P =
         least-some (inRing O from x) best (O .count) low (w .1 .3)
         (true-and (group-made O R x best (w .0) (w .1 .0) (w .1 .1)) (le-leb from best (w .1 .2)))
 
+-- the same where count is given
 pub least-count : {x from count k n best : ℕ} {verts groups : List ℕ} (O : Opening) → Ringed k O n verts groups → O .count ≡ count → Least x from count k verts groups n best → best ≡ headOr count (ringFrom O from x)
 least-count {x} {from} {count} {k} {n} {best} {verts} {groups} O R q P =
     subst (λ (m : ℕ). best ≡ headOr m (ringFrom O from x)) q (least-head O R (subst (λ (m : ℕ). Least x from m k verts groups n best) (sym q) P))
@@ -187,12 +199,14 @@ ring-next O from x r e l =
     ringFrom-is O (r + 1) x ∙ sift-ext (inRing O (r + 1) x) (λ g. p g && leb (r + 1) g) (upTo c) (λ g. agree (stands g (groupsAt O x)) from (r + 1) g (omega arith))
     ∙ behind-upTo p c c r e′ ∙ sym (ap (rest {A = ℕ}) s)
 
+-- the ring from 0 on is the ring
 pub ring-first : (O : Opening) (x : ℕ) → ringFrom O 0 x ≡ ring O x
 unfolding ringFrom
 ring-first O x = sift-every (λ g. leb 0 g) (ring O x) (λ g. le-leb 0 g zero-le)
 
 -- ---- neighbours with no common group
 
+-- three tests: the first fails, the second fails, the third decides
 and-first : (a b c : Bool) → a ≡ false → false ≡ a && b && c
 and-first true b c e = absurd (false≢true (sym e))
 and-first false b c e = refl
@@ -208,14 +222,17 @@ and-third true false c d e = absurd (false≢true e)
 and-third false b c d e = absurd (false≢true d)
 
 module _ (O : Opening) (x y : ℕ) where
+  -- x is no neighbour
   pub parted-first : (r : Bool) → r ≡ not (empty (ring O x)) → r ≡ false → false ≡ parted O x y
   unfolding parted
   parted-first r q e = and-first (not (empty (ring O x))) (not (empty (ring O y))) (disjoint (ring O x) (ring O y)) (sym q ∙ e)
 
+  -- y is no neighbour
   pub parted-second : (r s : Bool) → r ≡ not (empty (ring O x)) → r ≡ true → s ≡ not (empty (ring O y)) → s ≡ false → false ≡ parted O x y
   unfolding parted
   parted-second r s q e q′ e′ = and-second (not (empty (ring O x))) (not (empty (ring O y))) (disjoint (ring O x) (ring O y)) (sym q ∙ e) (sym q′ ∙ e′)
 
+  -- both are: a common group decides
   pub parted-third : (r s t : Bool) → r ≡ not (empty (ring O x)) → r ≡ true → s ≡ not (empty (ring O y)) → s ≡ true → t ≡ any (λ g. stands g (ring O y)) (ring O x) → not t ≡ parted O x y
   unfolding parted disjoint
   parted-third r s t q e q′ e′ d =

@@ -28,18 +28,21 @@ scoring M v dir g c w = better c (scoreOf M v dir w) g
 
 -- the corners besides v, as a loop goes through them
 module _ {B : Type 0} (f : B → ℕ → B) (b : B) (v : ℕ) (row : List ℕ) (i : ℕ) where
+  -- a corner that is not v
   pub besides-in : i < length row → (getD row i 0 ≡ v → ⊥) → fold f b (besides v (drop i row)) ≡ fold f (f b (getD row i 0)) (besides v (drop (i + 1) row))
   unfolding besides fold
   besides-in l n =
       let S = sift (λ w. not (eqb w v)) (drop (i + 1) row) in
       ap (fold f b) (sift-drop (λ w. not (eqb w v)) row i 0 l) ∙ ap (λ (t : Bool). fold f b (pick (not t) (getD row i 0 ∷ S) S)) (ne-eqb (getD row i 0) v n)
 
+  -- a corner that is v
   pub besides-out : i < length row → getD row i 0 ≡ v → fold f b (besides v (drop i row)) ≡ fold f b (besides v (drop (i + 1) row))
   unfolding besides
   besides-out l e =
       let S = sift (λ w. not (eqb w v)) (drop (i + 1) row) in
       ap (fold f b) (sift-drop (λ w. not (eqb w v)) row i 0 l) ∙ ap (λ (t : Bool). fold f b (pick (not t) (getD row i 0 ∷ S) S)) (eq-eqb (getD row i 0) v e)
 
+  -- no corner is left
   pub besides-end : length row ≤ i → fold f b (besides v (drop i row)) ≡ b
   unfolding besides fold sift
   besides-end l = ap (λ (s : List ℕ). fold f b (besides v s)) (drop-of-length-le row l)
@@ -49,6 +52,7 @@ score-is : (M : Mesh) (v : ℕ) (dir : Point) (w : ℕ) → scoreBy (minusOf (re
 unfolding scoreBy scoreOf
 score-is M v dir w = refl
 
+-- the score that is worked out from the block is the score of the mesh
 pub score-in : (M : Mesh) (p : ℕ) (points : List Float) → RestsIn M p points → (v w : ℕ) → v < p → w < p → (home q d dir : Point) (s : Float)
     → home ≡ restIn points v → q ≡ restIn points w → d ≡ minusOf q home → s ≡ scoreBy d dir → s ≡ scoreOf M v dir w
 score-in M p points r v w lv lw home q d dir s h e m t =
@@ -86,10 +90,12 @@ fan-step {k} {n} {verts} {groups} O R M v dir start old new i m l q e d =
     ∙ ap (λ (b : Best). scored M v dir b (partAt O i)) e
     ∙ sym (fold-step (scored M v dir) start (partAt O) i)
 
+-- before the first part
 pub fan-none : (O : Opening) (M : Mesh) (v : ℕ) (dir : Point) (start : Best) → start ≡ fold (scored M v dir) start (tab 0 (partAt O))
 unfolding fold tab
 fan-none O M v dir start = refl
 
+-- after the last part
 pub fan-all : {k n : ℕ} {verts groups : List ℕ} (O : Opening) → Ringed k O n verts groups → (M : Mesh) (v : ℕ) (dir : Point) (start : Best)
     → fold (scored M v dir) start (tab n (partAt O)) ≡ fold (scored M v dir) start (O .fan)
 fan-all {k} {n} O R M v dir start = ap (fold (scored M v dir) start) (sym (fan-tab O n (R .size)))

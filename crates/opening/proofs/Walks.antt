@@ -82,6 +82,7 @@ behind-here p n a r e =
     and-end true = refl
     and-end false = refl
 
+-- one more number: it passes, or not
 behind-by : (p : ℕ → Bool) (n a d r : ℕ) (t : Bool) → p a ≡ t
     → (headOr d (sift p (tab n (λ k. suc a + k))) ≡ r → sift (λ g. p g && leb (r + 1) g) (tab n (λ k. suc a + k)) ≡ rest (sift p (tab n (λ k. suc a + k))))
     → headOr d (pick t (a ∷ sift p (tab n (λ k. suc a + k))) (sift p (tab n (λ k. suc a + k)))) ≡ r
@@ -99,14 +100,17 @@ from-on n a =
     let e : a + 0 ≡ a = omega arith in
     ap₂ _∷_ e (tab-ext n (λ k. a + suc k) (λ k. suc a + k) (λ k l. omega arith))
 
+-- a sift of one more
 sift-cons : (p : ℕ → Bool) (a : ℕ) (l : List ℕ) → sift p (a ∷ l) ≡ pick (p a) (a ∷ sift p l) (sift p l)
 unfolding sift
 sift-cons p a l = refl
 
+-- behind nothing
 behind-none : (p : ℕ → Bool) (a r : ℕ) → sift (λ g. p g && leb (r + 1) g) (tab 0 (λ k. a + k)) ≡ rest (sift p (tab 0 (λ k. a + k)))
 unfolding sift tab
 behind-none p a r = refl
 
+-- the same from a on
 behind : (p : ℕ → Bool) (n a d r : ℕ) → headOr d (sift p (tab n (λ k. a + k))) ≡ r → sift (λ g. p g && leb (r + 1) g) (tab n (λ k. a + k)) ≡ rest (sift p (tab n (λ k. a + k)))
 behind p zero a d r h = behind-none p a r
 behind p (suc n) a d r h =
@@ -115,6 +119,7 @@ behind p (suc n) a d r h =
     let s : sift p (tab (suc n) (λ k. a + k)) ≡ pick (p a) (a ∷ sift p T) (sift p T) = ap (sift p) (from-on n a) ∙ sift-cons p a T in
     ap (sift q) (from-on n a) ∙ sift-cons q a T ∙ behind-by p n a d r (p a) refl (behind p n (suc a) d r) (sym (ap (headOr d) s) ∙ h) ∙ sym (ap (rest {A = ℕ}) s)
 
+-- behind the least number that passes stand those that pass above it
 pub behind-upTo : (p : ℕ → Bool) (c d r : ℕ) → headOr d (sift p (upTo c)) ≡ r → sift (λ g. p g && leb (r + 1) g) (upTo c) ≡ rest (sift p (upTo c))
 unfolding upTo
 behind-upTo p c d r h =
@@ -127,22 +132,27 @@ unfolding all
 head-of p [] d r a e n = absurd (n (sym e))
 head-of p (x ∷ s) d r a e n = sym (ap p e) ∙ and-true (p x) (all p s) a .0
 
+-- the first of what is sifted passes
 pub head-passes : (p : ℕ → Bool) (l : List ℕ) (d r : ℕ) → headOr d (sift p l) ≡ r → (r ≡ d → ⊥) → p r ≡ true
 head-passes p l d r e n = head-of p (sift p l) d r (sift-all p l) e n
 
 -- ---- some element
 
+-- a list in which a number stands is not empty
 pub not-empty : (g : ℕ) (l : List ℕ) → stands g l ≡ true → not (empty l) ≡ true
 not-empty g [] e = absurd (false≢true e)
 not-empty g (a ∷ l) e = refl
 
+-- in a list that is not empty some number stands
 pub some-stands : (l : List ℕ) → not (empty l) ≡ true → (g : ℕ) × (stands g l ≡ true)
 some-stands [] e = absurd (false≢true e)
 some-stands (a ∷ l) e = (a, rw (eq-eqb a a refl))
 
+-- a number that stands in the list and passes
 pub any-stands : (p : ℕ → Bool) (g : ℕ) (l : List ℕ) → stands g l ≡ true → p g ≡ true → any p l ≡ true
 any-stands p g l e h = let w = stands-get g l e in any-made p l (w .0) 0 (w .1 .0) (ap p (w .1 .1) ∙ h)
 
+-- where some element passes, one that stands in the list and passes
 pub any-one : (p : ℕ → Bool) (l : List ℕ) → any p l ≡ true → (g : ℕ) × ((stands g l ≡ true) × (p g ≡ true))
 any-one p l e = let w = any-get p l 0 e in (getD l (w .0) 0, (stands-made (getD l (w .0) 0) l (w .0) (w .1 .0) refl, w .1 .1))
 

@@ -28,6 +28,7 @@ ringed-grouped O R = record { size = R .size; group-is = R .group-is }
 
 -- a sum of those that pass, as one fold
 module _ {A : Type 0} (q : A → Bool) (m : A → Float) where
+  -- an element that passes adds its measure
   abbrev addIf : Float → A → Float
   addIf w a = pick (q a) (plus w (m a)) w
 
@@ -50,6 +51,7 @@ added g w p = pick (eqb (p .group) g) (plus w (p .measure)) w
 abbrev pub weightTo : Opening → ℕ → ℕ → Float
 weightTo O g i = fold (added g) zero32 (tab i (partAt O))
 
+-- no part weighs nothing
 pub weight-none : (O : Opening) (g : ℕ) → zero32 ≡ weightTo O g 0
 unfolding fold tab
 weight-none O g = refl
@@ -63,6 +65,7 @@ module _ (O : Opening) {n : ℕ} {groups : List ℕ} {measures : List Float} (G 
       ∙ ap (λ (t : Bool). pick t (plus (weightTo O g i) (partAt O i .measure)) (weightTo O g i)) (eq-eqb (partAt O i .group) g (G .group-is i l ∙ q))
       ∙ ap₂ plus (sym e) (W .measure-is i l))
 
+  -- a part of another group
   pub weight-out : (i : ℕ) → i < n → (w : Float) → w ≡ weightTo O g i → (getD groups i 0 ≡ g → ⊥) → w ≡ weightTo O g (i + 1)
   weight-out i l w e q =
       e
@@ -70,6 +73,7 @@ module _ (O : Opening) {n : ℕ} {groups : List ℕ} {measures : List Float} (G 
       (fold-step (added g) zero32 (partAt O) i
       ∙ ap (λ (t : Bool). pick t (plus (weightTo O g i) (partAt O i .measure)) (weightTo O g i)) (ne-eqb (partAt O i .group) g (λ d. q (sym (G .group-is i l) ∙ d))))
 
+  -- all parts
   pub weight-all : weightTo O g n ≡ weightOf (O .fan) g
   unfolding weightOf sum
   weight-all =
@@ -82,25 +86,31 @@ module _ (O : Opening) {n : ℕ} {groups : List ℕ} {measures : List Float} (G 
 abbrev pub totalTo : (ℕ → Float) → ℕ → Float
 totalTo f c = fold plus zero32 (tab c f)
 
+-- no weights
 pub total-none : (f : ℕ → Float) → zero32 ≡ totalTo f 0
 unfolding fold tab
 total-none f = refl
 
+-- one more weight in the total
 pub total-more : (f : ℕ → Float) (c : ℕ) (t w : Float) → t ≡ totalTo f c → w ≡ f c → plus t w ≡ totalTo f (c + 1)
 total-more f c t w e d = ap₂ plus e d ∙ sym (fold-step plus zero32 f c)
 
+-- no weights in the table
 pub weights-none : (f : ℕ → Float) (l : List Float) → take 0 l ≡ tab 0 f
 unfolding tab
 weights-none f l = refl
 
+-- one more weight in the table
 pub weights-more : (f : ℕ → Float) (c : ℕ) (l : List Float) (w : Float) → c < length l → take c l ≡ tab c f → w ≡ f c → take (c + 1) (set l c w) ≡ tab (c + 1) f
 weights-more f c l w h e d =
     ap (λ (m : ℕ). take m (set l c w)) (add-one c) ∙ take-suc-set l c w h ∙ ap₂ (λ (s : List Float) (x : Float). s ++ (x ∷ [])) e d ∙ sym (tab-step f c)
 
+-- the table of all weights, as the model writes it
 pub weights-map : (f : ℕ → Float) (c : ℕ) → tab c f ≡ map f (upTo c)
 unfolding upTo
 weights-map f c = sym (map-tab f c (λ k. k))
 
+-- the total of all weights
 pub total-all : (O : Opening) (c : ℕ) → O .count ≡ c → totalTo (weightOf (O .fan)) c ≡ totalOf O
 unfolding totalOf sum
 total-all O c e =

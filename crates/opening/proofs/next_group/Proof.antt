@@ -40,7 +40,7 @@ loop-again c = let A = c .before .before .before .before .before .before .args i
     let here : ℕ → Type 0 = λ b. Least (A .x) (A .from) (A .count) (A .k) (A .verts .now) (A .groups .now) (L .i + 1) b in (
       search needs,
       ⊎-elim
-          (λ w. subst here (sym (w .4)) (least-take P _ refl (w .0 .taken) (w .1 .taken) (least-within P) (sym (w .2 .ensures) ∙ w .3 .taken)))
+          (λ w. subst here (sym (w .4)) (least-take P _ refl (omega (arith, w .0 .taken)) (w .1 .taken) (least-within P) (sym (w .2 .ensures) ∙ w .3 .taken)))
           (⊎-elim
           (λ w. subst here (sym (w .4)) (least-keep P (λ a b. absurd (false≢true (sym (w .3 .left) ∙ w .2 .ensures ∙ b)))))
           (⊎-elim
