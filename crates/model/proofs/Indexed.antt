@@ -449,7 +449,7 @@ pair-indexed k loads min ab (some xy) R X =
 
 pub edge-indexed : (k : Kind) (loads : List Float) (min : ℕ) (R : Run) (ab : ℕ × ℕ) → Indexed (R .mesh) → Indexed (crackEdge k loads min R ab .mesh)
 unfolding crackEdge
-edge-indexed k loads min R ab X = pair-indexed k loads min ab (currentPair k R ab) R X
+edge-indexed k loads min R ab X = pair-indexed k _ min ab (currentPair k R ab) R X
 
 pub crack-indexed : (k : Kind) (min : ℕ) (is : List ℕ) (R : Run) → Indexed (R .mesh) → Indexed (crack k min is R .mesh)
 unfolding crack

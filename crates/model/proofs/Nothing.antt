@@ -53,7 +53,7 @@ unfolding crack crackEdge
 crack-stays M min is =
     let R = start M in
     pick-empty (fold (crackEdge Nothing (loadsOf Nothing (R .mesh)) min) R (tornEnds (R .mesh) is)) (λ S. removeStraddlers Nothing (splitPinched Nothing S)) M
-    (fold-stays (crackEdge Nothing (loadsOf Nothing (R .mesh)) min) (λ S ab. pair-stays (loadsOf Nothing (R .mesh)) min ab (currentPair Nothing S ab) S) R (tornEnds (R .mesh) is))
+    (fold-stays (crackEdge Nothing (loadsOf Nothing (R .mesh)) min) (λ S ab. pair-stays _ min ab (currentPair Nothing S ab) S) R (tornEnds (R .mesh) is))
 
 split-stays : (M : Mesh) (v : ℕ) (sides : List ℕ) → Sided Nothing M v sides → splitBySides Nothing v sides (start M) ≡ start M
 unfolding start fanOf elementsOf sift

@@ -151,7 +151,7 @@ pair-onward k loads min ab (some xy) R = by-onward k _ ab xy R
 
 pub edge-onward : (k : Kind) (loads : List Float) (min : ℕ) (R : Run) (ab : ℕ × ℕ) → Onward R (crackEdge k loads min R ab)
 unfolding crackEdge
-edge-onward k loads min R ab = pair-onward k loads min ab (currentPair k R ab) R
+edge-onward k loads min R ab = pair-onward k _ min ab (currentPair k R ab) R
 
 pub crack-onward : (k : Kind) (min : ℕ) (is : List ℕ) (R : Run) → Onward R (crack k min is R)
 unfolding crack
