@@ -4,11 +4,9 @@ ghost use Prim.Native.Nat.{_+_, _*_, _/_, _<_, _≤_};
 ghost use lib.ListN.{length, take, drop};
 ghost use Rattle.lists.specs.Lists.{stands};
 ghost use Rattle.opening.specs.Opened.{RingRoom, massBy, restIn};
-ghost use Rattle.blade.specs.Points.{lengthOf};
 ghost use Rattle.model.specs.Split.{better as betterOf};
 ghost use Rattle.opening.specs.Answers.{RingHas, NextGroup, InRing, Meets, Parted, WeightIs, WeightsAre, scoreBy, bestIs, RowRoom, BestIn, FanRoom, FanBest, TowardRoom, TowardIs};
 use blade::Point;
-use float::root::Rooted;
 
 // The best score so far, and its group.
 pub struct Best {
@@ -182,21 +180,11 @@ pub fn rest_point(w: usize, points: &[f32]) -> Point
     }
 }
 
-// The length of p. (A NaN where the root is refused.)
-fn length_of(p: Point) -> f32
-    ensures { λ r. ⌜ r ≡ lengthOf p ⌝ }
-{
-    match float::root::root(blade::dot(p, p)) {
-        Rooted::Value(x) => x,
-        Rooted::Refused => 0.0 / 0.0,
-    }
-}
-
 // How well d lies in the direction dir.
 fn score(d: Point, dir: Point) -> f32
     ensures { λ r. ⌜ r ≡ scoreBy d dir ⌝ }
 {
-    let size = length_of(d) * length_of(dir);
+    let size = blade::length(d) * blade::length(dir);
     blade::dot(d, dir) / float::larger::larger(size, 1e-12)
 }
 

@@ -7,11 +7,11 @@ use Rattle.opening.specs.Answers.{scoreBy}
 use Rattle.opening.proofs.score.Statement.{statement}
 use Rattle.opening.proofs.score.Tie as tie
 
-length-of-requires : tie.Need-length-of-requires
-length-of-requires c κs = search needs
+length-requires : tie.Need-length-requires
+length-requires c κs = search needs
 
-length-of-requires-2 : tie.Need-length-of-requires-2
-length-of-requires-2 c κs = search needs
+length-requires-2 : tie.Need-length-requires-2
+length-requires-2 c κs = search needs
 
 dot-requires : tie.Need-dot-requires
 dot-requires c κs = search needs
@@ -21,9 +21,9 @@ larger-requires c κs = search needs
 
 returns : tie.Need-returns
 unfolding scoreBy ofBits
-returns c = ap₂ over (c .before .dot .ensures) (c .larger .ensures ∙ ap (λ (t : Float). maxOf t small) (ap₂ times (c .before .before .before .length-of .ensures) (c .before .before .length-of2 .ensures)))
+returns c = ap₂ over (c .before .dot .ensures) (c .larger .ensures ∙ ap (λ (t : Float). maxOf t small) (ap₂ times (c .before .before .before .length .ensures) (c .before .before .length2 .ensures)))
 
 pub score-spec : {M : Type 1} → statement M
 score-spec =
     tie.close
-    (tie.spec length-of-requires length-of-requires-2 dot-requires larger-requires returns)
+    (tie.spec length-requires length-requires-2 dot-requires larger-requires returns)
