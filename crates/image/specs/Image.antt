@@ -4,7 +4,7 @@ use mathlib.Core.Bool.{Bool, _&&_}
 use mathlib.Core.List.{List}
 use lib.ListN.{length}
 use lib.Dec.{eqb, leb}
-use Rattle.mesh.specs.Given.{Given, given}
+use Rattle.mesh.specs.Given.{Given, given, sizesFit}
 use Rattle.image.specs.Words.{wordAt, wordsFrom, numbersFrom}
 
 -- how many words an image of so many particles, triangles, edges and boundary entries has
@@ -24,3 +24,11 @@ blocksIn s p t e b =
 -- the input that an image is
 unfoldable pub imageOf : List ℕ → Given
 imageOf s = blocksIn s (wordAt s 0) (wordAt s 1) (wordAt s 2) (wordAt s 3)
+
+-- at most 1,024 particles, 1,024 triangles, 2,048 edges and 2,048 boundary entries, by the counts of an image
+unfoldable pub countsWithin : List ℕ → Bool
+countsWithin s = leb (wordAt s 0) 1024 && leb (wordAt s 1) 1024 && leb (wordAt s 2) 2048 && leb (wordAt s 3) 2048
+
+-- the image has as many bytes as its counts say, and the input that it is has the sizes of a mesh
+unfoldable pub imageSized : List ℕ → Bool
+imageSized s = imageFits s && sizesFit (imageOf s)

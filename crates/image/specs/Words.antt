@@ -1,7 +1,7 @@
 -- Bytes as little-endian words of 4 bytes, and words as bytes. Definitions only.
 use Prim.Native.Nat.{ℕ, _+_, _*_, _/_, _%_}
-use mathlib.Core.List.{List, [], _∷_}
-use lib.ListN.{length, getD}
+use mathlib.Core.List.{List, [], _∷_, _++_}
+use lib.ListN.{length, getD, take, drop}
 use lib.Ieee.{Float, inf, binary32, ofBits, nanBits}
 use mathlib.Core.Bool.{Bool, false}
 use Rattle.lists.specs.Lists.{pick, tab, each, padded}
@@ -28,3 +28,7 @@ bytesOf w = w % 256 ∷ w / 256 % 256 ∷ w / 65536 % 256 ∷ w / 16777216 % 256
 -- what lent bytes hold after words were written: their bytes, and 0 behind them
 unfoldable pub written : ℕ → List ℕ → List ℕ
 written lent ws = padded lent 0 (each bytesOf ws)
+
+-- the bytes with the word w in the place of word i
+abbrev pub putWord : List ℕ → ℕ → ℕ → List ℕ
+putWord s i w = take (4 * i) s ++ (bytesOf w ++ drop (4 * i + 4) s)

@@ -1,1 +1,191 @@
 // A mesh as one run of bytes: read into blocks, and the words of an answer written.
+ghost use mathlib.Core.Path.{_≡_};
+ghost use Prim.Native.Nat.{ℕ, _+_, _*_, _%_, _≤_, _<_};
+ghost use mathlib.Core.List.{[], _∷_};
+ghost use lib.ListN.{length, take, replicate};
+ghost use Rattle.image.specs.Words.{wordAt, numberOf, wordsFrom, numbersFrom, written, putWord};
+ghost use Rattle.image.specs.Image.{imageFits, countsWithin, imageSized};
+ghost use Rattle.image.specs.Loads.{Loadable, Loaded};
+
+// A byte as a number.
+fn wide(x: u8) -> usize
+    ensures { λ r. ⌜ (r ≡ x) × (r < 256) ⌝ }
+{
+    x as usize
+}
+
+// Word i of the bytes.
+pub fn word_at(bytes: &[u8], i: usize) -> usize
+    requires { ⌜ 4 * i + 4 ≤ length (now bytes) ⌝ }
+    ensures { λ r. ⌜ (r ≡ wordAt (now (bytes .entry)) i) × (r < 4294967296) ⌝ }
+{
+    let at = 4 * i;
+    let a = wide(bytes[at]);
+    let b = wide(bytes[at + 1]);
+    let c = wide(bytes[at + 2]);
+    let d = wide(bytes[at + 3]);
+    a + 256 * b + 65536 * c + 16777216 * d
+}
+
+// The number that a word is the bit pattern of: an infinity for a NaN pattern.
+pub fn number_of(word: usize) -> f32
+    requires { ⌜ word < 4294967296 ⌝ }
+    ensures { λ r. ⌜ r ≡ numberOf word ⌝ }
+{
+    if 2139095040 < word % 2147483648 {
+        return f32::from_bits(2139095040);
+    }
+    f32::from_bits(word as u32)
+}
+
+// Writes n words, from word `at` on, to the front of out.
+pub fn words_into(bytes: &[u8], at: usize, n: usize, out: &mut [usize])
+    requires { ⌜ (4 * (at + n) ≤ length (now bytes)) × (n ≤ length (now out)) ⌝ }
+    ensures { λ _. ⌜ take n (now (out .exit)) ≡ wordsFrom (now (bytes .entry)) at n ⌝ }
+{
+    let mut i: usize = 0;
+    while i < n {
+        out[i] = word_at(bytes, at + i);
+        i += 1;
+    }
+}
+
+// Writes n numbers, from word `at` on, to the front of out.
+pub fn numbers_into(bytes: &[u8], at: usize, n: usize, out: &mut [f32])
+    requires { ⌜ (4 * (at + n) ≤ length (now bytes)) × (n ≤ length (now out)) ⌝ }
+    ensures { λ _. ⌜ take n (now (out .exit)) ≡ numbersFrom (now (bytes .entry)) at n ⌝ }
+{
+    let mut i: usize = 0;
+    while i < n {
+        out[i] = number_of(word_at(bytes, at + i));
+        i += 1;
+    }
+}
+
+// Puts 0 into every byte.
+pub fn clear_bytes(out: &mut [u8])
+    ensures { λ _. ⌜ now (out .exit) ≡ written (length (now (out .entry))) [] ⌝ }
+{
+    let mut i: usize = 0;
+    while i < out.len() {
+        out[i] = 0;
+        i += 1;
+    }
+}
+
+// The low byte of a number.
+fn low(w: usize) -> u8
+    ensures { λ r. ⌜ r ≡ w % 256 ⌝ }
+{
+    (w % 256) as u8
+}
+
+// Writes the four bytes of w as word i.
+pub fn put_word(out: &mut [u8], i: usize, w: usize)
+    requires { ⌜ 4 * i + 4 ≤ length (now out) ⌝ }
+    ensures { λ _. ⌜ now (out .exit) ≡ putWord (now (out .entry)) i w ⌝ }
+{
+    let at = 4 * i;
+    out[at] = low(w);
+    out[at + 1] = low(w / 256);
+    out[at + 2] = low(w / 65536);
+    out[at + 3] = low(w / 16777216);
+}
+
+// Writes one word, and 0 behind it.
+pub fn write_one(out: &mut [u8], w: usize)
+    requires { ⌜ 4 ≤ length (now out) ⌝ }
+    ensures { λ _. ⌜ now (out .exit) ≡ written (length (now (out .entry))) (w ∷ []) ⌝ }
+{
+    clear_bytes(out);
+    put_word(out, 0, w);
+}
+
+// Writes two words, and 0 behind them.
+pub fn write_two(out: &mut [u8], w: usize, v: usize)
+    requires { ⌜ 8 ≤ length (now out) ⌝ }
+    ensures { λ _. ⌜ now (out .exit) ≡ written (length (now (out .entry))) (w ∷ v ∷ []) ⌝ }
+{
+    write_one(out, w);
+    put_word(out, 1, v);
+}
+
+// Writes one word, then the first n of a table, and 0 behind them.
+pub fn words_out(out: &mut [u8], first: usize, table: &[usize], n: usize)
+    requires { ⌜ (4 * n + 4 ≤ length (now out)) × (n ≤ length (now table)) ⌝ }
+    ensures { λ _. ⌜ now (out .exit) ≡ written (length (now (out .entry))) (first ∷ take n (now (table .entry))) ⌝ }
+{
+    write_one(out, first);
+    let mut i: usize = 0;
+    while i < n {
+        put_word(out, i + 1, table[i]);
+        i += 1;
+    }
+}
+
+// The bytes are as many as the four counts say.
+pub fn image_fits(image: &[u8]) -> bool
+    ensures { λ r. ⌜ r ≡ imageFits (now (image .entry)) ⌝ }
+{
+    if image.len() < 16 {
+        return false;
+    }
+    let p = word_at(image, 0);
+    let t = word_at(image, 1);
+    let e = word_at(image, 2);
+    let b = word_at(image, 3);
+    image.len() == 4 * (4 + 8 * p + 5 * t + 8 * e + 2 * b)
+}
+
+// The counts are within the limits.
+pub fn counts_within(image: &[u8]) -> bool
+    requires { ⌜ 16 ≤ length (now image) ⌝ }
+    ensures { λ r. ⌜ r ≡ countsWithin (now (image .entry)) ⌝ }
+{
+    let p = word_at(image, 0);
+    let t = word_at(image, 1);
+    let e = word_at(image, 2);
+    let b = word_at(image, 3);
+    let z = mesh::tests::both(p <= 1024, t <= 1024);
+    let z = mesh::tests::both(z, e <= 2048);
+    mesh::tests::both(z, b <= 2048)
+}
+
+// The image has the sizes of a mesh.
+pub fn image_sized(image: &[u8]) -> bool
+    ensures { λ r. ⌜ r ≡ imageSized (now (image .entry)) ⌝ }
+{
+    if image_fits(image) {
+        return counts_within(image);
+    }
+    false
+}
+
+// Reads the blocks of an image into the fronts of seven blocks.
+pub fn load(
+    image: &[u8],
+    points: &mut [f32],
+    roots: &mut [usize],
+    corners: &mut [usize],
+    volumes: &mut [f32],
+    ends: &mut [usize],
+    lengths: &mut [f32],
+    outline: &mut [usize],
+)
+    requires { ⌜ Loadable (now image) (length (now points)) (length (now roots)) (length (now corners)) (length (now volumes)) (length (now ends)) (length (now lengths)) (length (now outline)) ⌝ }
+    ensures { λ _. ⌜ Loaded (now (image .entry)) (now (points .exit)) (now (roots .exit)) (now (corners .exit)) (now (volumes .exit)) (now (ends .exit)) (now (lengths .exit)) (now (outline .exit)) ⌝ }
+{
+    let p = word_at(image, 0);
+    let t = word_at(image, 1);
+    let e = word_at(image, 2);
+    let b = word_at(image, 3);
+    let triangles = 4 + 8 * p;
+    let edges = triangles + 5 * t;
+    numbers_into(image, 4, 6 * p, points);
+    words_into(image, 4 + 6 * p, 2 * p, roots);
+    words_into(image, triangles, 3 * t, corners);
+    numbers_into(image, triangles + 3 * t, 2 * t, volumes);
+    words_into(image, edges, 4 * e, ends);
+    numbers_into(image, edges + 4 * e, 4 * e, lengths);
+    words_into(image, edges + 8 * e, 2 * b, outline);
+}

@@ -1,0 +1,4 @@
+-- The laws of words in bytes, and of an image's sizes.
+pub mod Words
+pub mod Sizes
+pub mod Fronts
