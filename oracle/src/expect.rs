@@ -9,8 +9,6 @@ use crate::second;
 pub enum Expected {
     Words(Vec<u32>),
     Refused(u32),
-    /// docs/C-FUNCTIONS.md does not say which: a list or a blade whose bytes are no whole words.
-    Either(u32, u32),
 }
 use Expected::*;
 
@@ -29,8 +27,7 @@ fn root(bits: u32, out: usize) -> Expected {
 
 fn blade_hit(bytes: &[u8], out: usize) -> Expected {
     if bytes.len() != 32 {
-        let numbers = words_of(bytes).into_iter().take(8).all(|w| api::number_ok(f32::from_bits(w)));
-        return Either(1, if numbers { 4 } else { 2 });
+        return Refused(4);
     }
     let w: Vec<f32> = words_of(bytes).into_iter().map(f32::from_bits).collect();
     if !w.iter().all(|&x| api::number_ok(x)) {
@@ -54,11 +51,11 @@ pub fn expected(c: &Raw) -> Expected {
     }
     let Some(m) = read(&c.first) else { return Refused(1) };
     let no = api::check_mesh(&m);
-    if c.entry == Entry::RestMeasureOf && c.second.len() % 4 != 0 {
-        return Either(1, if no == 0 { 4 } else { no });
-    }
     if no != 0 {
         return Refused(no);
+    }
+    if c.entry == Entry::RestMeasureOf && c.second.len() % 4 != 0 {
+        return Refused(4);
     }
     let v = c.number;
     let sides: Vec<u32> = c.second.iter().map(|&s| s as u32).collect();
@@ -95,7 +92,6 @@ pub fn fault(want: &Expected, got: &Got) -> Option<String> {
     let allowed = match want {
         Words(_) => got.refusal == 0,
         Refused(n) => got.refusal == *n,
-        Either(a, b) => got.refusal == *a || got.refusal == *b,
     };
     if !allowed {
         return Some(format!("it answered {}, expected {}", got.refusal, text(want)));
@@ -114,7 +110,6 @@ pub fn fault(want: &Expected, got: &Got) -> Option<String> {
 pub fn text(e: &Expected) -> String {
     match e {
         Refused(n) => format!("refusal {n}"),
-        Either(a, b) => format!("refusal {a} or {b}"),
         Words(w) => {
             let w: Vec<String> = w.iter().map(|w| format!("{w:08x}")).collect();
             format!("0 and {}", w.join(" "))

@@ -266,7 +266,6 @@ pub fn write_input(out: &mut String, seed: u64, i: &Input, want: &Expected) {
     writeln!(out, "out {}", i.out).unwrap();
     match want {
         Expected::Refused(n) => writeln!(out, "answer {n}"),
-        Expected::Either(a, b) => writeln!(out, "answer {a} or {b}"),
         Expected::Words(w) => {
             let w: Vec<String> = w.iter().map(|w| format!("{w:08x}")).collect();
             writeln!(out, "answer 0 words {}", w.join(" "))

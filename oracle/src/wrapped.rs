@@ -258,7 +258,7 @@ unsafe extern "C" fn blade_hit(words: *const u8, len: usize, out: *mut u8, n: us
     let bytes = unsafe { lent(words, len) };
     let w = words_of(bytes);
     let answer = if len != 32 {
-        Err(1)
+        Err(4)
     } else if !w.iter().all(|&x| sized(x, 1_048_576.0)) {
         Err(2)
     } else {

@@ -33,7 +33,7 @@ fn search(t: &Table, e: Entry, k: Kind, seed: u64, count: u64) -> (Option<(u64, 
                 tally.numbers[0] += 1;
                 tally.answers.insert(w.clone());
             }
-            Expected::Refused(n) | Expected::Either(_, n) => tally.numbers[*n as usize] += 1,
+            Expected::Refused(n) => tally.numbers[*n as usize] += 1,
         }
         let got = call(t, &c).expect("an entry that is there");
         if fault(&want, &got).is_some() {
