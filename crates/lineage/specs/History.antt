@@ -1,0 +1,62 @@
+-- A history of a mesh of triangles: accepted calls, one behind the other, with the host at work between them. Definitions only.
+-- It says nothing of straps, nor of a host that changes the triangles, the roots or the number of anything: such a mesh starts a history of its own.
+use Prim.Native.Nat.{ℕ, _+_, _-_, _*_, _<_}
+use mathlib.Core.Path.{_≡_}
+use mathlib.Core.Bool.{Bool, true}
+use mathlib.Core.List.{List, [], _∷_, _++_, map}
+use lib.ListN.{length}
+use lib.Ieee.{Float}
+use Rattle.lists.specs.Lists.{each, upTo, rising}
+use Rattle.model.specs.Mesh.{Particle, Triangle, Edge, Mesh}
+use Rattle.model.specs.Valid.{numbersFit, indicesFit}
+use Rattle.model.specs.Elements.{particle, cornersOf, endsOf}
+use Rattle.model.specs.Run.{Entry, Rooms, splitsOf}
+use Rattle.model.specs.Cut.{Blade}
+use Rattle.model.specs.Calls.{done, cutCall, crackCall, splitCall, straddlersCall}
+use Rattle.model.specs.Trace.{All, Sound, tracedBack, Hold}
+
+-- the first mesh: it has a triangle, it is accepted, and each particle is its own root
+pub record Begins (M : Mesh) : Type 0 where
+  pub some : 0 < length (M .triangles)
+  pub numbers : numbersFit M ≡ true
+  pub indices : indicesFit M ≡ true
+  pub roots : map (λ (p : Particle). p .root) (M .particles) ≡ upTo (length (M .particles))
+
+-- The host has changed M to M′: points, masses, inverse masses, rest positions, damage, volumes, stresses, lengths, impulses and torn flags have any accepted values.
+-- Triangles hold the particles that they held, and so do edges and boundary entries; roots, structural flags, and the number of everything are as they were.
+pub record Moved (M M′ : Mesh) : Type 0 where
+  pub roots : map (λ (p : Particle). p .root) (M′ .particles) ≡ map (λ (p : Particle). p .root) (M .particles)
+  pub corners : map cornersOf (M′ .triangles) ≡ map cornersOf (M .triangles)
+  pub ends : map endsOf (M′ .edges) ≡ map endsOf (M .edges)
+  pub structural : map (λ (e : Edge). e .structural) (M′ .edges) ≡ map (λ (e : Edge). e .structural) (M .edges)
+  pub boundary : M′ .boundary ≡ M .boundary
+  pub numbers : numbersFit M′ ≡ true
+
+-- The mesh M₀, through a history, is now this mesh, and the logs of its calls, one behind the other, are this log.
+-- A call goes on from its result if it is done, with any arguments and any rooms; a refused call is no step, as it gives no mesh.
+pub data History (M₀ : Mesh) : Mesh → List Entry → Type 0 where
+  first : Begins M₀ → History M₀ M₀ []
+  cutting : {M M′ : Mesh} {log more : List Entry} {c : Bool} (B : Blade) (f : Float) (L : Rooms) → History M₀ M log → cutCall true M B f L ≡ done M′ more c → History M₀ M′ (log ++ more)
+  cracking : {M M′ : Mesh} {log more : List Entry} {c : Bool} (is : List ℕ) (min : ℕ) (L : Rooms) → History M₀ M log → crackCall true M is min L ≡ done M′ more c → History M₀ M′ (log ++ more)
+  splitting : {M M′ : Mesh} {log more : List Entry} {c : Bool} (v : ℕ) (sides : List ℕ) (L : Rooms) → History M₀ M log → splitCall true M v sides L ≡ done M′ more c → History M₀ M′ (log ++ more)
+  removing : {M M′ : Mesh} {log more : List Entry} {c : Bool} (L : Rooms) → History M₀ M log → straddlersCall true M L ≡ done M′ more c → History M₀ M′ (log ++ more)
+  moving : {M M′ : Mesh} {log : List Entry} → History M₀ M log → Moved M M′ → History M₀ M′ log
+
+-- the roots of a triangle's particles
+abbrev pub rootsOf : Mesh → Triangle → List ℕ
+rootsOf M t = map (λ x. particle M x .root) (cornersOf t)
+
+-- Every triangle of M has three different particles; it stands in its old place, and traced back through the log's copies it is the triangle of M₀ that it was;
+-- and the roots of its particles are the particles that it had in M₀.
+pub record Lasting (M₀ M : Mesh) (log : List Entry) : Type 0 where
+  pub sound : All (Sound (length (M .particles))) (M .triangles)
+  pub back : map (tracedBack (splitsOf log)) (M .triangles) ≡ map cornersOf (M₀ .triangles)
+  pub roots : map (rootsOf M) (M .triangles) ≡ map cornersOf (M₀ .triangles)
+
+-- how many particles the triangles of M hold: each is counted once
+unfoldable pub inUse : Mesh → ℕ
+inUse M = length (rising (length (M .particles)) (each cornersOf (M .triangles)))
+
+-- the most particles that a history from M₀ can have: the first number, plus three per triangle, less those in use at first
+unfoldable pub mostParticles : Mesh → ℕ
+mostParticles M₀ = length (M₀ .particles) + 3 * length (M₀ .triangles) - inUse M₀
