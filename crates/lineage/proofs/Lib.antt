@@ -2,3 +2,10 @@
 
 -- what every step of a run keeps, the calls keep
 pub mod Induction
+-- how many numbers below n stand in a list
+pub mod Counting
+-- what a split, a removal and the host do to a mesh
+pub mod Grown
+pub mod Moves
+-- the theorems
+pub mod Histories

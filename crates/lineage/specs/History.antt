@@ -1,6 +1,6 @@
 -- A history of a mesh of triangles: accepted calls, one behind the other, with the host at work between them. Definitions only.
 -- It says nothing of straps, nor of a host that changes the triangles, the roots or the number of anything: such a mesh starts a history of its own.
-use Prim.Native.Nat.{ℕ, _+_, _-_, _*_, _<_}
+use Prim.Native.Nat.{ℕ, _+_, _-_, _*_, _<_, _≤_}
 use mathlib.Core.Path.{_≡_}
 use mathlib.Core.Bool.{Bool, true}
 use mathlib.Core.List.{List, [], _∷_, _++_, map}
@@ -9,10 +9,13 @@ use lib.Ieee.{Float}
 use Rattle.lists.specs.Lists.{each, upTo, rising}
 use Rattle.model.specs.Mesh.{Particle, Triangle, Edge, Mesh}
 use Rattle.model.specs.Valid.{numbersFit, indicesFit}
-use Rattle.model.specs.Elements.{particle, cornersOf, endsOf}
-use Rattle.model.specs.Run.{Entry, Rooms, splitsOf}
-use Rattle.model.specs.Cut.{Blade}
-use Rattle.model.specs.Calls.{done, cutCall, crackCall, splitCall, straddlersCall}
+use Rattle.model.specs.Elements.{kindOf, particle, cornersOf, endsOf}
+use Rattle.model.specs.Run.{Entry, Need, Rooms, Run, start, splitsOf}
+use Rattle.model.specs.Split.{splitBySides}
+use Rattle.model.specs.Pieces.{removeStraddlers}
+use Rattle.model.specs.Cut.{Blade, cut}
+use Rattle.model.specs.Crack.{crack}
+use Rattle.model.specs.Calls.{sidesOk, refused, done, cutCall, crackCall, splitCall, straddlersCall}
 use Rattle.model.specs.Trace.{All, Sound, tracedBack, Hold}
 
 -- the first mesh: it has a triangle, it is accepted, and each particle is its own root
@@ -60,3 +63,22 @@ inUse M = length (rising (length (M .particles)) (each cornersOf (M .triangles))
 -- the most particles that a history from M₀ can have: the first number, plus three per triangle, less those in use at first
 unfoldable pub mostParticles : Mesh → ℕ
 mostParticles M₀ = length (M₀ .particles) + 3 * length (M₀ .triangles) - inUse M₀
+
+-- a run on triangles has, and needed in any of its steps, at most n particles
+pub record Within (n : ℕ) (R : Run) : Type 0 where
+  pub particles : length (R .mesh .particles) ≤ n
+  pub needs : All (λ (N : Need). N .particles ≤ n) (R .needs)
+
+-- the same of the run of every call on M, whether the call is then done or refused for another room
+pub record AllWithin (n : ℕ) (M : Mesh) : Type 0 where
+  pub cuts : (B : Blade) (f : Float) → Within n (cut (kindOf M) B f (start M))
+  pub cracks : (is : List ℕ) (min : ℕ) → Within n (crack (kindOf M) min is (start M))
+  pub splits : (v : ℕ) (sides : List ℕ) → sidesOk M v sides ≡ true → Within n (splitBySides (kindOf M) v sides (start M))
+  pub straddlers : Within n (removeStraddlers (kindOf M) (start M))
+
+-- no call on M with the rooms L is refused for the room for particles
+pub record Roomy (L : Rooms) (M : Mesh) : Type 0 where
+  pub cuts : (sized : Bool) (B : Blade) (f : Float) → cutCall sized M B f L ≡ refused 5 → ⊥
+  pub cracks : (sized : Bool) (is : List ℕ) (min : ℕ) → crackCall sized M is min L ≡ refused 5 → ⊥
+  pub splits : (sized : Bool) (v : ℕ) (sides : List ℕ) → splitCall sized M v sides L ≡ refused 5 → ⊥
+  pub straddlers : (sized : Bool) → straddlersCall sized M L ≡ refused 5 → ⊥
