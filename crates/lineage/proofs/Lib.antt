@@ -9,3 +9,5 @@ pub mod Grown
 pub mod Moves
 -- the theorems
 pub mod Histories
+-- rounded sums, shares and inverses in range
+pub mod Sums
