@@ -11,3 +11,4 @@ pub mod Moves
 pub mod Histories
 -- rounded sums, shares and inverses in range
 pub mod Sums
+pub mod Masses

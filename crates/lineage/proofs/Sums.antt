@@ -145,7 +145,7 @@ fine q j h l =
     let k : q ≤ 2 ^ 24 - 1 = omega arith in
     lt-of-le-of-lt (mul-le-mul k (pow-mono l)) (lit< tt)
 
-pub totalled : (j : ℕ) → j ≤ 253 → (l : List Float) → All (UpTo (2 ^ j)) l → (acc : Float) (A : Amount acc) (k : ℕ) → A .a ≤ k * 2 ^ j → k + length l < 2 ^ 24 → Totalled acc l (A .a) ((k + length l) * 2 ^ j)
+totalled : (j : ℕ) → j ≤ 253 → (l : List Float) → All (UpTo (2 ^ j)) l → (acc : Float) (A : Amount acc) (k : ℕ) → A .a ≤ k * 2 ^ j → k + length l < 2 ^ 24 → Totalled acc l (A .a) ((k + length l) * 2 ^ j)
 unfolding fold
 totalled j J [] h acc A k u w = record { amount = A; start = omega arith; each = tt; top = subst (λ (m : ℕ). A .a ≤ m * 2 ^ j) (let e : k ≡ k + 0 = omega arith in e) u }
 totalled j J (x ∷ l) h acc A k u w =
@@ -163,9 +163,15 @@ totalled j J (x ∷ l) h acc A k u w =
       top = subst (λ (m : ℕ). R .amount .a ≤ m * 2 ^ j) (let e : suc k + length l ≡ k + suc (length l) = omega arith in e) (R .top);
     }
 
-pub no-amount : Amount zero32
+no-amount : Amount zero32
 unfolding fits
 no-amount = record { fit = tt; a = 0; value = (refl, refl) }
+
+pub totalled-up : (j : ℕ) → j ≤ 253 → (l : List Float) → All (UpTo (2 ^ j)) l → length l < 2 ^ 24 → Totalled zero32 l 0 (length l * 2 ^ j)
+unfolding no-amount
+totalled-up j J l h w =
+    let e : 0 + length l ≡ length l = omega arith in
+    subst (λ (m : ℕ). Totalled zero32 l 0 (m * 2 ^ j)) e (totalled j J l h zero32 no-amount 0 zero-le (omega arith))
 
 -- ---- ranges by units
 

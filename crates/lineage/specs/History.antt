@@ -5,7 +5,8 @@ use mathlib.Core.Path.{_≡_}
 use mathlib.Core.Bool.{Bool, true}
 use mathlib.Core.List.{List, [], _∷_, _++_, map}
 use lib.ListN.{length}
-use lib.Ieee.{Float}
+use lib.Dec.{T}
+use lib.Ieee.{Float, binary32, fits}
 use Rattle.lists.specs.Lists.{each, upTo, rising}
 use Rattle.model.specs.Mesh.{Particle, Triangle, Edge, Mesh}
 use Rattle.model.specs.Valid.{numbersFit, indicesFit}
@@ -82,3 +83,18 @@ pub record Roomy (L : Rooms) (M : Mesh) : Type 0 where
   pub cracks : (sized : Bool) (is : List ℕ) (min : ℕ) → crackCall sized M is min L ≡ refused 5 → ⊥
   pub splits : (sized : Bool) (v : ℕ) (sides : List ℕ) → splitCall sized M v sides L ≡ refused 5 → ⊥
   pub straddlers : (sized : Bool) → straddlersCall sized M L ≡ refused 5 → ⊥
+
+-- every mass and every rest volume is a number that f32 holds, as the columns of a mesh can have no other
+pub record Stored (M : Mesh) : Type 0 where
+  pub masses : All (λ (p : Particle). T (fits binary32 (p .mass))) (M .particles)
+  pub volumes : All (λ (t : Triangle). T (fits binary32 (t .volume))) (M .triangles)
+
+-- a mesh of triangles that refusals 2 and 3 let pass, no longer than the rooms: as the rooms are within the limits, refusal 1 lets it pass too
+pub record Again (L : Rooms) (M : Mesh) : Type 0 where
+  pub numbers : numbersFit M ≡ true
+  pub indices : indicesFit M ≡ true
+  pub stored : Stored M
+  pub particles : length (M .particles) ≤ L .particles
+  pub triangles : length (M .triangles) ≤ L .triangles
+  pub edges : length (M .edges) ≤ L .edges
+  pub boundary : length (M .boundary) ≤ L .boundary
