@@ -12,3 +12,5 @@ pub mod Histories
 -- rounded sums, shares and inverses in range
 pub mod Sums
 pub mod Masses
+-- what a call gives is accepted again
+pub mod Again
