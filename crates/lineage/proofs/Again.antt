@@ -18,23 +18,25 @@ use Rattle.float.specs.Ranges.{finite?, number?, volume?, notBelow0?}
 use Rattle.float.proofs.Limits.{limit-finite}
 use Rattle.model.specs.Mesh.{Particle, Triangle, Edge, Side, Mesh, blank}
 use Rattle.model.specs.Valid.{flag?, particleOk, triangleOk, edgeOk, numbersFit, indicesFit}
-use Rattle.model.specs.Elements.{Kind, Triangles, kindOf, elementsOf, farEnd, fanOf}
+use Rattle.model.specs.Elements.{Kind, Triangles, kindOf, elementsOf, farEnd, endsOf, fanOf}
 use Rattle.model.specs.Run.{Entry, Need, Rooms, Run, start, stepTo, splitsOf}
 use Rattle.model.specs.Split.{Opening, openingOf, splits?, made, weighed, massOf, portion, onlyAt, copied, groupAt, copyOf, retargeted, moved, rewiredTriangles, rewiredStraps, edgeGroups, other?, calm, stayed, doubled, otherEdges, straddles, atLongest, settled, splitMade, splitBySides}
 use Rattle.model.specs.Pieces.{across?, spans, pieceLabels, withoutStraddlers, straddlersGone, removeStraddlers}
 use Rattle.model.specs.Cut.{Blade, slack, slackened, cut}
 use Rattle.model.specs.Crack.{hurt, damagedAt, bridges, torn, crack}
 use Rattle.model.specs.Calls.{bladeOk, fractionOk, sidesOk, trianglesLent, refusal, tooSmall, firstFault, Outcome, refused, done, fitted, outcome, unless, cutCall, crackCall, splitCall, straddlersCall}
-use Rattle.model.specs.Trace.{All}
+use Rattle.model.specs.Trace.{All, Sound}
 use Rattle.model.proofs.Traced.{splits-here}
 use Rattle.model.proofs.Steps.{fault-front}
 use Rattle.model.proofs.Kept.{accepted-sound, outcome-done, unless-done, no-refusal, Passed}
-use Rattle.model.proofs.Accepted.{cut-accepted, crack-accepted, split-accepted, straddlers-accepted}
+use Rattle.model.proofs.Accepted.{accepted-indexed, indexed-accepted, cut-accepted, crack-accepted, split-accepted, straddlers-accepted}
+use Rattle.model.proofs.Indexed.{Pair, Indexed, Ends, Sides}
 use Rattle.model.proofs.Laws.{and-true, both, false-true, pick-both, all-in, all-over, all-append, all-map, all-mapAt, all-eachOf, all-sift, all-below, all-from, all-to, all-yes, length-mapAt}
-use Rattle.lineage.specs.History.{Stored, Again}
+use Rattle.lineage.specs.History.{Stored, Called, cutting, cracking, splitting, removing, Moved, History, first, calling, moving, Accepted, Again}
 use Rattle.lineage.proofs.Induction.{Sided, Behind, nothing-more, tearing, Kept}
-use Rattle.lineage.proofs.Grown.{Growing, growing-start, growing-kept}
-use Rattle.lineage.proofs.Histories.{kind-of, cut-run, crack-run, split-run, straddlers-run}
+use Rattle.lineage.proofs.Grown.{Grown, Growing, growing-start, growing-kept}
+use Rattle.lineage.proofs.Histories.{kind-of, called-run, line-of}
+use Rattle.lineage.proofs.Moves.{as-many, all-column, sound-moved}
 use Rattle.lineage.proofs.Sums.{inverse-finite}
 use Rattle.lineage.proofs.Masses.{VolumeOk, mass-ok}
 
@@ -333,3 +335,70 @@ covered-kept =
           let ls = pieceLabels es in
           covered-step R _ _ _ _ (sift-length (λ (e : Edge). not (across? Triangles es ls e)) (R .mesh .edges)) (sift-length (λ (s : Side). not (spans es ls (s .a) (s .b))) (R .mesh .boundary));
     }
+
+-- ---- the calls
+
+-- a call that is done has passed the checks
+pub record Checked (L : Rooms) (M M′ : Mesh) : Type 0 where
+  pub numbers : numbersFit M ≡ true
+  pub before : indicesFit M ≡ true
+  pub lent : trianglesLent L M ≡ true
+  pub after : indicesFit M′ ≡ true
+
+passed : (L : Rooms) (M M′ : Mesh) (numbers arguments : Bool) → Passed true M numbers (arguments && trianglesLent L M) → indicesFit M′ ≡ true → Checked L M M′
+passed L M M′ numbers arguments P i =
+    record { numbers = and-true (numbersFit M) numbers (P .values) .0; before = P .indices; lent = and-true arguments (trianglesLent L M) (P .given) .1; after = i }
+
+pub called-checked : (L : Rooms) (M : Mesh) {M′ : Mesh} {more : List Entry} → Called L M M′ more → Checked L M M′
+unfolding cutCall crackCall splitCall straddlersCall
+called-checked L M (cutting {M′} {more} {c} B f e) =
+    passed L M M′ (bladeOk B) (fractionOk f) (no-refusal true M (bladeOk B) (fractionOk f && trianglesLent L M) (unless-done _ (outcome L (cut (kindOf M) B f (start M))) M′ more c e .0)) (cut-accepted true M B f L M′ more c e)
+called-checked L M (cracking {M′} {more} {c} is min e) =
+    passed L M M′ true true (no-refusal true M true (trianglesLent L M) (unless-done _ (outcome L (crack (kindOf M) min is (start M))) M′ more c e .0)) (crack-accepted true M is min L M′ more c e)
+called-checked L M (splitting {M′} {more} {c} v sides e) =
+    passed L M M′ true (sidesOk M v sides) (no-refusal true M true (sidesOk M v sides && trianglesLent L M) (unless-done _ (outcome L (splitBySides (kindOf M) v sides (start M))) M′ more c e .0)) (split-accepted true M v sides L M′ more c e)
+called-checked L M (removing {M′} {more} {c} e) =
+    passed L M M′ true true (no-refusal true M true (trianglesLent L M) (unless-done _ (outcome L (removeStraddlers (kindOf M) (start M))) M′ more c e .0)) (straddlers-accepted true M L M′ more c e)
+
+-- What a done call gives of a mesh of at most 1,024 triangles is accepted as input again: its numbers and indices pass, and it is no longer than the rooms.
+pub accepted-again : (L : Rooms) (M : Mesh) {M′ : Mesh} {more : List Entry} → 0 < length (M .triangles) → length (M .triangles) ≤ 1024 → Stored M → Called L M M′ more → Again L M′
+unfolding start
+accepted-again L M {M′} some few S C =
+    let k = kind-of M some in
+    let H = called-checked L M C in
+    let F : Fine M′ = called-run (λ R. Fine (R .mesh)) fine-kept M (fine-of M (H .numbers) S few) k L Fine (λ R F z. F) C in
+    let fits : Fits L M′ = called-run Covered covered-kept M (covered-start M) k L (Fits L) (λ R Y z. Y .rooms L z) C in
+    let G : Grown M M′ = called-run (Growing M) (growing-kept M) M (growing-start M (accepted-sound M (H .before))) k L (Grown M) (λ R G z. G .grown) C in
+    let N = of-fine M′ F in
+    record {
+      accepted = record { numbers = N .0; stored = N .1; indices = H .after };
+      particles = fits .particles;
+      triangles = le-trans (le-of-eq (G .count)) (leb-true (length (M .triangles)) (L .triangles) (H .lent));
+      edges = fits .edges;
+      boundary = fits .boundary;
+    }
+
+-- ---- after any history
+
+moved-indices : (M M′ : Mesh) → Moved M M′ → indicesFit M ≡ true → indicesFit M′ ≡ true
+moved-indices M M′ W e =
+    let X = accepted-indexed M e in
+    let n = length (M .particles) in
+    let same : length (M .particles) ≡ length (M′ .particles) = sym (as-many (λ (p : Particle). p .root) (M .particles) (M′ .particles) (W .roots)) in
+    let Y : Indexed M′ = record {
+      roots = subst (λ (m : ℕ). All (λ (p : Particle). p .root < m) (M′ .particles)) same (all-column (λ (p : Particle). p .root) (λ r. r < n) (M .particles) (M′ .particles) (W .roots) (X .roots));
+      triangles = subst (λ (m : ℕ). All (Sound m) (M′ .triangles)) same (sound-moved n (M .triangles) (M′ .triangles) (W .corners) (X .triangles));
+      edges = subst (λ (m : ℕ). All (Ends m) (M′ .edges)) same (all-column endsOf (λ (l : List ℕ). Pair n (getD l 0 0) (getD l 1 0)) (M .edges) (M′ .edges) (W .ends) (X .edges));
+      boundary = subst (λ (m : ℕ). All (Sides m) (M′ .boundary)) same (subst (λ (l : List Side). All (Sides n) l) (sym (W .boundary)) (X .boundary));
+    } in
+    indexed-accepted M′ Y
+
+-- After any history from a mesh of at most 1,024 triangles the mesh is accepted.
+pub accepted-always : {M₀ M : Mesh} {log : List Entry} → History M₀ M log → length (M₀ .triangles) ≤ 1024 → Accepted M
+accepted-always (first b) few = record { numbers = b .numbers; stored = b .stored; indices = b .indices }
+accepted-always {M₀} (calling {M = M} L h C) few =
+    let I = line-of h in
+    let c = I .grown .count in
+    let u = I .begins .some in
+    accepted-again L M (omega arith) (omega arith) (accepted-always h few .stored) C .accepted
+accepted-always (moving {M = M} {M′ = M′} h W) few = record { numbers = W .numbers; stored = W .stored; indices = moved-indices M M′ W (accepted-always h few .indices) }

@@ -25,7 +25,7 @@ use Rattle.model.proofs.Traced.{origin-append}
 use Rattle.model.proofs.Kept.{accepted-sound, outcome-done, unless-done, no-refusal, cut-keeps, crack-keeps, split-keeps, straddlers-keep}
 use Rattle.model.proofs.Splitting.{Sided, sides-accepted}
 use Rattle.model.proofs.Laws.{and-true, false-true, all-over, all-append, each-append, stands-case}
-use Rattle.lineage.specs.History.{Begins, Moved, History, first, cutting, cracking, splitting, removing, moving, rootsOf, Lasting, inUse, mostParticles, Within, AllWithin, Roomy}
+use Rattle.lineage.specs.History.{Begins, Moved, History, Called, cutting, cracking, splitting, removing, first, calling, moving, rootsOf, Lasting, inUse, mostParticles, Within, AllWithin, Roomy}
 use Rattle.lineage.proofs.Induction.{sides-kept, cut-kept, crack-kept, Kept as KeptBySteps}
 use Rattle.lineage.proofs.Counting.{among, among-room, among-most}
 use Rattle.lineage.proofs.Grown.{Grown, grown-same, grown-then, column, rootsBy, roots-by, map-ext, Growing, growing-start, growing-kept}
@@ -59,6 +59,41 @@ module _ (P : Run → Type 0) (K : KeptBySteps P) (M : Mesh) (p : P (start M)) (
   pub straddlers-run : P (removeStraddlers (kindOf M) (start M))
   straddlers-run = subst (λ (q : Kind). P (removeStraddlers q (start M))) (sym k) (K .straddlers (start M) p)
 
+numbered : Outcome → ℕ
+numbered (refused n) = n
+numbered (done M l c) = 0
+
+-- a run that is done lacks no room
+outcome-room : (L : Rooms) (R : Run) (M : Mesh) (l : List Entry) (c : Bool) → outcome L R ≡ done M l c → firstFault L (R .needs) ≡ 0
+unfolding outcome numbered
+outcome-room L R M l c e = by (firstFault L (R .needs)) e
+  where
+    by : (n : ℕ) → fitted n R ≡ done M l c → n ≡ 0
+    by zero d = refl
+    by (suc n) d = ap numbered d
+
+-- what a run that lacks no room has, by what each step keeps, the mesh of a call that is done has
+module _ (P : Run → Type 0) (K : KeptBySteps P) (M : Mesh) (p : P (start M)) (k : kindOf M ≡ Triangles) (L : Rooms) (Q : Mesh → Type 0) (has : (R : Run) → P R → firstFault L (R .needs) ≡ 0 → Q (R .mesh)) where
+  run-has : (R : Run) (M′ : Mesh) (l : List Entry) (c : Bool) → P R → outcome L R ≡ done M′ l c → Q M′
+  run-has R M′ l c r e = subst Q (outcome-done L R M′ l c e .0) (has R r (outcome-room L R M′ l c e))
+
+  pub called-run : {M′ : Mesh} {more : List Entry} → Called L M M′ more → Q M′
+  unfolding cutCall crackCall splitCall straddlersCall
+  called-run (cutting {M′} {more} {c} B f e) = run-has _ M′ more c (cut-run P K M p k B f) (unless-done (refusal true M (bladeOk B) (fractionOk f && trianglesLent L M)) _ M′ more c e .1)
+  called-run (cracking {M′} {more} {c} is min e) = run-has _ M′ more c (crack-run P K M p k is min) (unless-done (refusal true M true (trianglesLent L M)) _ M′ more c e .1)
+  called-run (splitting {M′} {more} {c} v sides e) =
+      let u = unless-done (refusal true M true (sidesOk M v sides && trianglesLent L M)) _ M′ more c e in
+      let A = no-refusal true M true (sidesOk M v sides && trianglesLent L M) (u .0) in
+      run-has _ M′ more c (split-run P K M p k v sides (and-true (sidesOk M v sides) (trianglesLent L M) (A .given) .0)) (u .1)
+  called-run (removing {M′} {more} {c} e) = run-has _ M′ more c (straddlers-run P K M p k) (unless-done (refusal true M true (trianglesLent L M)) _ M′ more c e .1)
+
+-- a call that is done keeps the triangles
+called-keeps : (L : Rooms) (M : Mesh) → kindOf M ≡ Triangles → {M′ : Mesh} {more : List Entry} → Called L M M′ more → Kept M M′ more
+called-keeps L M k (cutting {M′} {more} {c} B f e) = cut-keeps true M B f L M′ more c k e
+called-keeps L M k (cracking {M′} {more} {c} is min e) = crack-keeps true M is min L M′ more c k e
+called-keeps L M k (splitting {M′} {more} {c} v sides e) = split-keeps true M v sides L M′ more c k e
+called-keeps L M k (removing {M′} {more} {c} e) = straddlers-keep true M L M′ more c k e
+
 -- ---- what a history keeps
 
 pub record Line (M₀ M : Mesh) (log : List Entry) : Type 0 where
@@ -73,10 +108,6 @@ module _ {M₀ M : Mesh} {log : List Entry} (I : Line M₀ M log) where
 
   started : Growing M (start M)
   started = growing-start M (I .grown .sound)
-
-  -- the mesh that a done run gives has grown from M
-  run-grown : (L : Rooms) (R : Run) (M′ : Mesh) (l : List Entry) (c : Bool) → Growing M R → outcome L R ≡ done M′ l c → Grown M M′
-  run-grown L R M′ l c G e = subst (λ (N : Mesh). Grown M N) (outcome-done L R M′ l c e .0) (G .grown)
 
   traced-then : (S S′ : List (ℕ × ℕ)) (t : Triangle) → tracedBack (S ++ S′) t ≡ map (originOf S) (tracedBack S′ t)
   traced-then S S′ t = rw (origin-append S S′ (t .a), origin-append S S′ (t .b), origin-append S S′ (t .c))
@@ -103,27 +134,8 @@ module _ {M₀ M : Mesh} {log : List Entry} (I : Line M₀ M log) where
             (K .copies));
       }
 
-  line-cut : (M′ : Mesh) (more : List Entry) (c : Bool) (B : Blade) (f : Float) (L : Rooms) → cutCall true M B f L ≡ done M′ more c → Line M₀ M′ (log ++ more)
-  unfolding cutCall
-  line-cut M′ more c B f L e =
-      line-call M′ more (cut-keeps true M B f L M′ more c kind-now e) (run-grown L _ M′ more c (cut-run (Growing M) (growing-kept M) M started kind-now B f) (unless-done (refusal true M (bladeOk B) (fractionOk f && trianglesLent L M)) _ M′ more c e .1))
-
-  line-crack : (M′ : Mesh) (more : List Entry) (c : Bool) (is : List ℕ) (min : ℕ) (L : Rooms) → crackCall true M is min L ≡ done M′ more c → Line M₀ M′ (log ++ more)
-  unfolding crackCall
-  line-crack M′ more c is min L e =
-      line-call M′ more (crack-keeps true M is min L M′ more c kind-now e) (run-grown L _ M′ more c (crack-run (Growing M) (growing-kept M) M started kind-now is min) (unless-done (refusal true M true (trianglesLent L M)) _ M′ more c e .1))
-
-  line-split : (M′ : Mesh) (more : List Entry) (c : Bool) (v : ℕ) (sides : List ℕ) (L : Rooms) → splitCall true M v sides L ≡ done M′ more c → Line M₀ M′ (log ++ more)
-  unfolding splitCall
-  line-split M′ more c v sides L e =
-      let u = unless-done _ _ M′ more c e in
-      let P = no-refusal true M true (sidesOk M v sides && trianglesLent L M) (u .0) in
-      line-call M′ more (split-keeps true M v sides L M′ more c kind-now e) (run-grown L _ M′ more c (split-run (Growing M) (growing-kept M) M started kind-now v sides (and-true _ _ (P .given) .0)) (u .1))
-
-  line-straddlers : (M′ : Mesh) (more : List Entry) (c : Bool) (L : Rooms) → straddlersCall true M L ≡ done M′ more c → Line M₀ M′ (log ++ more)
-  unfolding straddlersCall
-  line-straddlers M′ more c L e =
-      line-call M′ more (straddlers-keep true M L M′ more c kind-now e) (run-grown L _ M′ more c (straddlers-run (Growing M) (growing-kept M) M started kind-now) (unless-done (refusal true M true (trianglesLent L M)) _ M′ more c e .1))
+  line-called : (L : Rooms) (M′ : Mesh) (more : List Entry) → Called L M M′ more → Line M₀ M′ (log ++ more)
+  line-called L M′ more C = let k = kind-now in line-call M′ more (called-keeps L M k C) (called-run (Growing M) (growing-kept M) M started k L (λ N. Grown M N) (λ R G z. G .grown) C)
 
   line-moved : (M′ : Mesh) → Moved M M′ → Line M₀ M′ log
   line-moved M′ W =
@@ -141,10 +153,7 @@ line-first M b = record { begins = b; grown = grown-same M (accepted-sound M (b 
 
 pub line-of : {M₀ M : Mesh} {log : List Entry} → History M₀ M log → Line M₀ M log
 line-of (first b) = line-first _ b
-line-of (cutting B f L h e) = line-cut (line-of h) _ _ _ B f L e
-line-of (cracking is min L h e) = line-crack (line-of h) _ _ _ is min L e
-line-of (splitting v sides L h e) = line-split (line-of h) _ _ _ v sides L e
-line-of (removing L h e) = line-straddlers (line-of h) _ _ _ L e
+line-of (calling L h C) = line-called (line-of h) L _ _ C
 line-of (moving h W) = line-moved (line-of h) _ W
 
 -- ---- traced and held
@@ -286,22 +295,18 @@ refusal-not sized M numbers arguments = by sized (numbersFit M && numbers) (indi
     by true true true false = omega arith
     by true true true true = omega arith
 
-numberIn : Outcome → ℕ
-numberIn (refused n) = n
-numberIn (done M l c) = 0
-
 unless-refused : (n : ℕ) (o : Outcome) → n ≤ 4 → unless n o ≡ refused 5 → (n ≡ 0) × (o ≡ refused 5)
-unfolding numberIn
+unfolding numbered
 unless-refused zero o u e = (refl, e)
-unless-refused (suc n) o u e = let d : suc n ≡ 5 = ap numberIn e in absurd (omega arith)
+unless-refused (suc n) o u e = let d : suc n ≡ 5 = ap numbered e in absurd (omega arith)
 
 outcome-refused : (L : Rooms) (R : Run) → outcome L R ≡ refused 5 → firstFault L (R .needs) ≡ 5
-unfolding outcome numberIn
+unfolding outcome numbered
 outcome-refused L R e = by (firstFault L (R .needs)) e
   where
     by : (n : ℕ) → fitted n R ≡ refused 5 → n ≡ 5
-    by zero d = let z : _≡_ {A = ℕ} 0 5 = ap numberIn d in absurd (omega arith)
-    by (suc n) d = ap numberIn d
+    by zero d = let z : _≡_ {A = ℕ} 0 5 = ap numbered d in absurd (omega arith)
+    by (suc n) d = ap numbered d
 
 within-not : (L : Rooms) (m : ℕ) (R : Run) → Within m R → m ≤ L .particles → outcome L R ≡ refused 5 → ⊥
 within-not L m R W u e = fault-not L (R .needs) (all-over (λ (N : Need). N .particles ≤ m) (λ (N : Need). N .particles ≤ L .particles) (λ N w. omega arith) (R .needs) (W .needs)) (outcome-refused L R e)

@@ -10,13 +10,21 @@ use Rattle.float.specs.Numbers.{zero32}
 use Rattle.model.specs.Mesh.{Particle, Triangle, Mesh, blankTriangle}
 use Rattle.model.specs.Elements.{cornersOf}
 use Rattle.model.specs.Trace.{All, Sound, Hold}
-use Rattle.model.proofs.Laws.{all-map}
+use Rattle.model.proofs.Laws.{all-map, all-over}
 use Rattle.lineage.specs.History.{Moved, rootsOf}
 use Rattle.lineage.proofs.Grown.{Grown, column, rootsBy, roots-by, map-ext}
 
 -- how many, by a column
 pub as-many : {A B : Type 0} (f : A → B) (l l′ : List A) → map f l′ ≡ map f l → length l′ ≡ length l
 as-many f l l′ e = sym (length-map l′ f) ∙ ap length e ∙ length-map l f
+
+-- what holds of each element's column value holds where the column is the same
+unmapped : {A B : Type 0} (f : A → B) (P : B → Type 0) (l : List A) → All P (map f l) → All (λ a. P (f a)) l
+unmapped f P [] h = tt
+unmapped f P (a ∷ l) h = (h .0, unmapped f P l (h .1))
+
+pub all-column : {A B : Type 0} (f : A → B) (P : B → Type 0) (l l′ : List A) → map f l′ ≡ map f l → All (λ a. P (f a)) l → All (λ a. P (f a)) l′
+all-column {B = B} f P l l′ e h = unmapped f P l′ (subst (λ (m : List B). All P m) (sym e) (all-map (λ a. P (f a)) P f (λ a u. u) l h))
 
 -- ---- triangles by their corners
 
@@ -44,12 +52,12 @@ SoundOn n l = Sound n (triangleOn l)
 sound-on : (n : ℕ) (t : Triangle) → Sound n t → SoundOn n (cornersOf t)
 sound-on n t S = record { a = S .a; b = S .b; c = S .c; ab = S .ab; bc = S .bc; ca = S .ca }
 
-on-sound : (n : ℕ) (ts : List Triangle) → All (SoundOn n) (map cornersOf ts) → All (Sound n) ts
-on-sound n [] h = tt
-on-sound n (t ∷ ts) h = let S = h .0 in (record { a = S .a; b = S .b; c = S .c; ab = S .ab; bc = S .bc; ca = S .ca }, on-sound n ts (h .1))
+on-sound : (n : ℕ) (t : Triangle) → SoundOn n (cornersOf t) → Sound n t
+on-sound n t S = record { a = S .a; b = S .b; c = S .c; ab = S .ab; bc = S .bc; ca = S .ca }
 
 pub sound-moved : (n : ℕ) (ts ts′ : List Triangle) → map cornersOf ts′ ≡ map cornersOf ts → All (Sound n) ts → All (Sound n) ts′
-sound-moved n ts ts′ e S = on-sound n ts′ (subst (λ (l : List (List ℕ)). All (SoundOn n) l) (sym e) (all-map (Sound n) (SoundOn n) cornersOf (sound-on n) ts S))
+sound-moved n ts ts′ e S =
+    all-over (λ t. SoundOn n (cornersOf t)) (Sound n) (on-sound n) ts′ (all-column cornersOf (SoundOn n) ts ts′ e (all-over (Sound n) (λ t. SoundOn n (cornersOf t)) (sound-on n) ts S))
 
 -- what is read off the corners alone is the same
 pub by-corners : {A : Type 0} (g : List ℕ → A) (ts ts′ : List Triangle) → map cornersOf ts′ ≡ map cornersOf ts → map (λ t. g (cornersOf t)) ts′ ≡ map (λ t. g (cornersOf t)) ts

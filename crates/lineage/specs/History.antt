@@ -19,12 +19,25 @@ use Rattle.model.specs.Crack.{crack}
 use Rattle.model.specs.Calls.{sidesOk, refused, done, cutCall, crackCall, splitCall, straddlersCall}
 use Rattle.model.specs.Trace.{All, Sound, tracedBack, Hold}
 
+-- every mass and every rest volume is a number that f32 holds, as the columns of a mesh can have no other
+pub record Stored (M : Mesh) : Type 0 where
+  pub masses : All (λ (p : Particle). T (fits binary32 (p .mass))) (M .particles)
+  pub volumes : All (λ (t : Triangle). T (fits binary32 (t .volume))) (M .triangles)
+
 -- the first mesh: it has a triangle, it is accepted, and each particle is its own root
 pub record Begins (M : Mesh) : Type 0 where
   pub some : 0 < length (M .triangles)
   pub numbers : numbersFit M ≡ true
+  pub stored : Stored M
   pub indices : indicesFit M ≡ true
   pub roots : map (λ (p : Particle). p .root) (M .particles) ≡ upTo (length (M .particles))
+
+-- A call on M with the rooms L, of any arguments, is done: it gives M′ and logs `more`.
+pub data Called (L : Rooms) (M : Mesh) : Mesh → List Entry → Type 0 where
+  cutting : {M′ : Mesh} {more : List Entry} {c : Bool} (B : Blade) (f : Float) → cutCall true M B f L ≡ done M′ more c → Called L M M′ more
+  cracking : {M′ : Mesh} {more : List Entry} {c : Bool} (is : List ℕ) (min : ℕ) → crackCall true M is min L ≡ done M′ more c → Called L M M′ more
+  splitting : {M′ : Mesh} {more : List Entry} {c : Bool} (v : ℕ) (sides : List ℕ) → splitCall true M v sides L ≡ done M′ more c → Called L M M′ more
+  removing : {M′ : Mesh} {more : List Entry} {c : Bool} → straddlersCall true M L ≡ done M′ more c → Called L M M′ more
 
 -- The host has changed M to M′: points, masses, inverse masses, rest positions, damage, volumes, stresses, lengths, impulses and torn flags have any accepted values.
 -- Triangles hold the particles that they held, and so do edges and boundary entries; roots, structural flags, and the number of everything are as they were.
@@ -35,15 +48,13 @@ pub record Moved (M M′ : Mesh) : Type 0 where
   pub structural : map (λ (e : Edge). e .structural) (M′ .edges) ≡ map (λ (e : Edge). e .structural) (M .edges)
   pub boundary : M′ .boundary ≡ M .boundary
   pub numbers : numbersFit M′ ≡ true
+  pub stored : Stored M′
 
 -- The mesh M₀, through a history, is now this mesh, and the logs of its calls, one behind the other, are this log.
--- A call goes on from its result if it is done, with any arguments and any rooms; a refused call is no step, as it gives no mesh.
+-- A call goes on from its result if it is done, with any rooms; a refused call is no step, as it gives no mesh.
 pub data History (M₀ : Mesh) : Mesh → List Entry → Type 0 where
   first : Begins M₀ → History M₀ M₀ []
-  cutting : {M M′ : Mesh} {log more : List Entry} {c : Bool} (B : Blade) (f : Float) (L : Rooms) → History M₀ M log → cutCall true M B f L ≡ done M′ more c → History M₀ M′ (log ++ more)
-  cracking : {M M′ : Mesh} {log more : List Entry} {c : Bool} (is : List ℕ) (min : ℕ) (L : Rooms) → History M₀ M log → crackCall true M is min L ≡ done M′ more c → History M₀ M′ (log ++ more)
-  splitting : {M M′ : Mesh} {log more : List Entry} {c : Bool} (v : ℕ) (sides : List ℕ) (L : Rooms) → History M₀ M log → splitCall true M v sides L ≡ done M′ more c → History M₀ M′ (log ++ more)
-  removing : {M M′ : Mesh} {log more : List Entry} {c : Bool} (L : Rooms) → History M₀ M log → straddlersCall true M L ≡ done M′ more c → History M₀ M′ (log ++ more)
+  calling : {M M′ : Mesh} {log more : List Entry} (L : Rooms) → History M₀ M log → Called L M M′ more → History M₀ M′ (log ++ more)
   moving : {M M′ : Mesh} {log : List Entry} → History M₀ M log → Moved M M′ → History M₀ M′ log
 
 -- the roots of a triangle's particles
@@ -84,16 +95,15 @@ pub record Roomy (L : Rooms) (M : Mesh) : Type 0 where
   pub splits : (sized : Bool) (v : ℕ) (sides : List ℕ) → splitCall sized M v sides L ≡ refused 5 → ⊥
   pub straddlers : (sized : Bool) → straddlersCall sized M L ≡ refused 5 → ⊥
 
--- every mass and every rest volume is a number that f32 holds, as the columns of a mesh can have no other
-pub record Stored (M : Mesh) : Type 0 where
-  pub masses : All (λ (p : Particle). T (fits binary32 (p .mass))) (M .particles)
-  pub volumes : All (λ (t : Triangle). T (fits binary32 (t .volume))) (M .triangles)
-
--- a mesh of triangles that refusals 2 and 3 let pass, no longer than the rooms: as the rooms are within the limits, refusal 1 lets it pass too
-pub record Again (L : Rooms) (M : Mesh) : Type 0 where
+-- a mesh that refusals 2 and 3 let pass
+pub record Accepted (M : Mesh) : Type 0 where
   pub numbers : numbersFit M ≡ true
-  pub indices : indicesFit M ≡ true
   pub stored : Stored M
+  pub indices : indicesFit M ≡ true
+
+-- and that is no longer than the rooms: as rooms are within the limits, refusal 1 lets it pass too
+pub record Again (L : Rooms) (M : Mesh) : Type 0 where
+  pub accepted : Accepted M
   pub particles : length (M .particles) ≤ L .particles
   pub triangles : length (M .triangles) ≤ L .triangles
   pub edges : length (M .edges) ≤ L .edges
