@@ -25,7 +25,7 @@ use Rattle.model.proofs.Traced.{origin-append}
 use Rattle.model.proofs.Kept.{accepted-sound, outcome-done, unless-done, no-refusal, cut-keeps, crack-keeps, split-keeps, straddlers-keep}
 use Rattle.model.proofs.Splitting.{Sided, sides-accepted}
 use Rattle.model.proofs.Laws.{and-true, false-true, all-over, all-append, each-append, stands-case}
-use Rattle.lineage.specs.History.{Begins, Moved, History, Called, cutting, cracking, splitting, removing, first, calling, moving, rootsOf, Lasting, inUse, mostParticles, Within, AllWithin, Roomy}
+use Rattle.lineage.specs.History.{Begins, Moved, History, Called, cutting, cracking, splitting, removing, first, calling, moving, rootsOf, Lasting, inUse, mostParticles, EveryRun, Within, Unrefused, Roomy}
 use Rattle.lineage.proofs.Induction.{sides-kept, cut-kept, crack-kept, Kept as KeptBySteps}
 use Rattle.lineage.proofs.Counting.{among, among-room, among-most}
 use Rattle.lineage.proofs.Grown.{Grown, grown-same, grown-then, column, rootsBy, roots-by, map-ext, Growing, growing-start, growing-kept}
@@ -41,23 +41,23 @@ kind-of M u = by (M .triangles) u _
     by [] u s = absurd (let z : 0 < 0 = u in omega arith)
     by (t ∷ ts) u s = refl
 
--- any property that each step keeps, of the run of each call
-module _ (P : Run → Type 0) (K : KeptBySteps P) (M : Mesh) (p : P (start M)) (k : kindOf M ≡ Triangles) where
-  pub cut-run : (B : Blade) (f : Float) → P (cut (kindOf M) B f (start M))
-  unfolding cut
-  cut-run B f = subst (λ (q : Kind). P (cut q B f (start M))) (sym k) (cut-kept P K B (start M) p)
+-- any property that each step keeps holds of the run of each call
+every-run : (P : Run → Type 0) → KeptBySteps P → (M : Mesh) → P (start M) → kindOf M ≡ Triangles → EveryRun P M
+unfolding cut start
+every-run P K M p k =
+    record {
+      cuts = λ B f. subst (λ (q : Kind). P (cut q B f (start M))) (sym k) (cut-kept P K B (start M) p);
+      cracks = λ is min. subst (λ (q : Kind). P (crack q min is (start M))) (sym k) (crack-kept P K min is (start M) p);
+      splits =
+          λ v sides e.
+          let S = subst (λ (q : Kind). Sided q M v sides) k (sides-accepted M v sides e) in
+          subst (λ (q : Kind). P (splitBySides q v sides (start M))) (sym k) (sides-kept P K (start M) p v sides (S .every) (S .two));
+      straddlers = subst (λ (q : Kind). P (removeStraddlers q (start M))) (sym k) (K .straddlers (start M) p);
+    }
 
-  pub crack-run : (is : List ℕ) (min : ℕ) → P (crack (kindOf M) min is (start M))
-  crack-run is min = subst (λ (q : Kind). P (crack q min is (start M))) (sym k) (crack-kept P K min is (start M) p)
-
-  pub split-run : (v : ℕ) (sides : List ℕ) → sidesOk M v sides ≡ true → P (splitBySides (kindOf M) v sides (start M))
-  unfolding start
-  split-run v sides e =
-      let S = subst (λ (q : Kind). Sided q M v sides) k (sides-accepted M v sides e) in
-      subst (λ (q : Kind). P (splitBySides q v sides (start M))) (sym k) (sides-kept P K (start M) p v sides (S .every) (S .two))
-
-  pub straddlers-run : P (removeStraddlers (kindOf M) (start M))
-  straddlers-run = subst (λ (q : Kind). P (removeStraddlers q (start M))) (sym k) (K .straddlers (start M) p)
+-- and so does what follows from it
+run-over : (P Q : Run → Type 0) (M : Mesh) → ((R : Run) → P R → Q R) → EveryRun P M → EveryRun Q M
+run-over P Q M f E = record { cuts = λ B g. f _ (E .cuts B g); cracks = λ is min. f _ (E .cracks is min); splits = λ v sides e. f _ (E .splits v sides e); straddlers = f _ (E .straddlers) }
 
 numbered : Outcome → ℕ
 numbered (refused n) = n
@@ -79,13 +79,14 @@ module _ (P : Run → Type 0) (K : KeptBySteps P) (M : Mesh) (p : P (start M)) (
 
   pub called-run : {M′ : Mesh} {more : List Entry} → Called L M M′ more → Q M′
   unfolding cutCall crackCall splitCall straddlersCall
-  called-run (cutting {M′} {more} {c} B f e) = run-has _ M′ more c (cut-run P K M p k B f) (unless-done (refusal true M (bladeOk B) (fractionOk f && trianglesLent L M)) _ M′ more c e .1)
-  called-run (cracking {M′} {more} {c} is min e) = run-has _ M′ more c (crack-run P K M p k is min) (unless-done (refusal true M true (trianglesLent L M)) _ M′ more c e .1)
+  called-run (cutting {M′} {more} {c} B f e) =
+      run-has _ M′ more c (every-run P K M p k .cuts B f) (unless-done (refusal true M (bladeOk B) (fractionOk f && trianglesLent L M)) _ M′ more c e .1)
+  called-run (cracking {M′} {more} {c} is min e) = run-has _ M′ more c (every-run P K M p k .cracks is min) (unless-done (refusal true M true (trianglesLent L M)) _ M′ more c e .1)
   called-run (splitting {M′} {more} {c} v sides e) =
       let u = unless-done (refusal true M true (sidesOk M v sides && trianglesLent L M)) _ M′ more c e in
       let A = no-refusal true M true (sidesOk M v sides && trianglesLent L M) (u .0) in
-      run-has _ M′ more c (split-run P K M p k v sides (and-true (sidesOk M v sides) (trianglesLent L M) (A .given) .0)) (u .1)
-  called-run (removing {M′} {more} {c} e) = run-has _ M′ more c (straddlers-run P K M p k) (unless-done (refusal true M true (trianglesLent L M)) _ M′ more c e .1)
+      run-has _ M′ more c (every-run P K M p k .splits v sides (and-true (sidesOk M v sides) (trianglesLent L M) (A .given) .0)) (u .1)
+  called-run (removing {M′} {more} {c} e) = run-has _ M′ more c (every-run P K M p k .straddlers) (unless-done (refusal true M true (trianglesLent L M)) _ M′ more c e .1)
 
 -- a call that is done keeps the triangles
 called-keeps : (L : Rooms) (M : Mesh) → kindOf M ≡ Triangles → {M′ : Mesh} {more : List Entry} → Called L M M′ more → Kept M M′ more
@@ -248,17 +249,10 @@ growing-within M₀ M R G H =
     record { particles = u; needs = all-over (λ (N : Need). N .particles ≤ length (R .mesh .particles)) (λ (N : Need). N .particles ≤ m) (λ N w. omega arith) (R .needs) (H .needs) }
 
 -- The run of any call on the mesh that a history has come to has, and needs in any step, no more particles than that, even if the call is refused for another room.
-pub runs-bounded : {M₀ M : Mesh} {log : List Entry} → History M₀ M log → AllWithin (mostParticles M₀) M
+pub runs-bounded : {M₀ M : Mesh} {log : List Entry} → History M₀ M log → EveryRun (Within (mostParticles M₀)) M
 runs-bounded {M₀} {M} h =
     let I = line-of h in
-    let s = started I in
-    let k = kind-now I in
-    record {
-      cuts = λ B f. growing-within M₀ M _ (I .grown) (cut-run (Growing M) (growing-kept M) M s k B f);
-      cracks = λ is min. growing-within M₀ M _ (I .grown) (crack-run (Growing M) (growing-kept M) M s k is min);
-      splits = λ v sides e. growing-within M₀ M _ (I .grown) (split-run (Growing M) (growing-kept M) M s k v sides e);
-      straddlers = growing-within M₀ M _ (I .grown) (straddlers-run (Growing M) (growing-kept M) M s k);
-    }
+    run-over (Growing M) (Within (mostParticles M₀)) M (λ R G. growing-within M₀ M R (I .grown) G) (every-run (Growing M) (growing-kept M) M (started I) (kind-now I))
 
 -- a step that has room for its particles isn't refused for it
 small-not : (L : Rooms) (N : Need) → N .particles ≤ L .particles → tooSmall L N ≡ 5 → ⊥
@@ -308,22 +302,24 @@ outcome-refused L R e = by (firstFault L (R .needs)) e
     by zero d = let z : _≡_ {A = ℕ} 0 5 = ap numbered d in absurd (omega arith)
     by (suc n) d = ap numbered d
 
-within-not : (L : Rooms) (m : ℕ) (R : Run) → Within m R → m ≤ L .particles → outcome L R ≡ refused 5 → ⊥
-within-not L m R W u e = fault-not L (R .needs) (all-over (λ (N : Need). N .particles ≤ m) (λ (N : Need). N .particles ≤ L .particles) (λ N w. omega arith) (R .needs) (W .needs)) (outcome-refused L R e)
+within-not : (L : Rooms) (m : ℕ) (R : Run) → m ≤ L .particles → Within m R → Unrefused L R
+within-not L m R u W = fault-not L (R .needs) (all-over (λ (N : Need). N .particles ≤ m) (λ (N : Need). N .particles ≤ L .particles) (λ N w. omega arith) (R .needs) (W .needs))
 
 -- With room for that many particles, within the limit as `Rooms` has it, no call of a history is refused for particle room, in any of its steps.
 pub room-suffices : {M₀ M : Mesh} {log : List Entry} → History M₀ M log → (L : Rooms) → mostParticles M₀ ≤ L .particles → Roomy L M
 unfolding cutCall crackCall splitCall straddlersCall
 room-suffices {M₀} {M} h L u =
-    let W = runs-bounded h in
-    let m = mostParticles M₀ in
+    let W = run-over (Within (mostParticles M₀)) (Unrefused L) M (λ R w. within-not L (mostParticles M₀) R u w) (runs-bounded h) in
     record {
-      cuts = λ sized B f e. within-not L m _ (W .cuts B f) u (unless-refused (refusal sized M (bladeOk B) (fractionOk f && trianglesLent L M)) _ (refusal-not sized M (bladeOk B) (fractionOk f && trianglesLent L M)) e .1);
-      cracks = λ sized is min e. within-not L m _ (W .cracks is min) u (unless-refused (refusal sized M true (trianglesLent L M)) _ (refusal-not sized M true (trianglesLent L M)) e .1);
-      splits =
-          λ sized v sides e.
-          let d = unless-refused (refusal sized M true (sidesOk M v sides && trianglesLent L M)) _ (refusal-not sized M true (sidesOk M v sides && trianglesLent L M)) e in
-          let P = no-refusal sized M true (sidesOk M v sides && trianglesLent L M) (d .0) in
-          within-not L m _ (W .splits v sides (and-true _ _ (P .given) .0)) u (d .1);
-      straddlers = λ sized e. within-not L m _ (W .straddlers) u (unless-refused (refusal sized M true (trianglesLent L M)) _ (refusal-not sized M true (trianglesLent L M)) e .1);
+      runs = W;
+      cuts = λ sized B f e.
+          let given = fractionOk f && trianglesLent L M in
+          W .cuts B f (outcome-refused L _ (unless-refused (refusal sized M (bladeOk B) given) _ (refusal-not sized M (bladeOk B) given) e .1));
+      cracks = λ sized is min e. W .cracks is min (outcome-refused L _ (unless-refused (refusal sized M true (trianglesLent L M)) _ (refusal-not sized M true (trianglesLent L M)) e .1));
+      splits = λ sized v sides e.
+          let given = sidesOk M v sides && trianglesLent L M in
+          let d = unless-refused (refusal sized M true given) _ (refusal-not sized M true given) e in
+          let P = no-refusal sized M true given (d .0) in
+          W .splits v sides (and-true (sidesOk M v sides) (trianglesLent L M) (P .given) .0) (outcome-refused L _ (d .1));
+      straddlers = λ sized e. W .straddlers (outcome-refused L _ (unless-refused (refusal sized M true (trianglesLent L M)) _ (refusal-not sized M true (trianglesLent L M)) e .1));
     }

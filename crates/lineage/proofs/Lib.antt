@@ -14,3 +14,5 @@ pub mod Sums
 pub mod Masses
 -- what a call gives is accepted again
 pub mod Again
+-- a history, computed, in which the bound is reached
+pub mod Worked

@@ -16,7 +16,7 @@ use Rattle.model.specs.Split.{splitBySides}
 use Rattle.model.specs.Pieces.{removeStraddlers}
 use Rattle.model.specs.Cut.{Blade, cut}
 use Rattle.model.specs.Crack.{crack}
-use Rattle.model.specs.Calls.{sidesOk, refused, done, cutCall, crackCall, splitCall, straddlersCall}
+use Rattle.model.specs.Calls.{sidesOk, firstFault, refused, done, cutCall, crackCall, splitCall, straddlersCall}
 use Rattle.model.specs.Trace.{All, Sound, tracedBack, Hold}
 
 -- every mass and every rest volume is a number that f32 holds, as the columns of a mesh can have no other
@@ -76,20 +76,25 @@ inUse M = length (rising (length (M .particles)) (each cornersOf (M .triangles))
 unfoldable pub mostParticles : Mesh → ℕ
 mostParticles M₀ = length (M₀ .particles) + 3 * length (M₀ .triangles) - inUse M₀
 
--- a run on triangles has, and needed in any of its steps, at most n particles
+-- P of the run of every call on M, with any arguments that are accepted: whether the call is then done, or refused for any room
+pub record EveryRun (P : Run → Type 0) (M : Mesh) : Type 0 where
+  pub cuts : (B : Blade) (f : Float) → P (cut (kindOf M) B f (start M))
+  pub cracks : (is : List ℕ) (min : ℕ) → P (crack (kindOf M) min is (start M))
+  pub splits : (v : ℕ) (sides : List ℕ) → sidesOk M v sides ≡ true → P (splitBySides (kindOf M) v sides (start M))
+  pub straddlers : P (removeStraddlers (kindOf M) (start M))
+
+-- a run has, and needed in any of its steps, at most n particles
 pub record Within (n : ℕ) (R : Run) : Type 0 where
   pub particles : length (R .mesh .particles) ≤ n
   pub needs : All (λ (N : Need). N .particles ≤ n) (R .needs)
 
--- the same of the run of every call on M, whether the call is then done or refused for another room
-pub record AllWithin (n : ℕ) (M : Mesh) : Type 0 where
-  pub cuts : (B : Blade) (f : Float) → Within n (cut (kindOf M) B f (start M))
-  pub cracks : (is : List ℕ) (min : ℕ) → Within n (crack (kindOf M) min is (start M))
-  pub splits : (v : ℕ) (sides : List ℕ) → sidesOk M v sides ≡ true → Within n (splitBySides (kindOf M) v sides (start M))
-  pub straddlers : Within n (removeStraddlers (kindOf M) (start M))
+-- a run is not refused for the room for particles
+abbrev pub Unrefused : Rooms → Run → Type 0
+Unrefused L R = firstFault L (R .needs) ≡ 5 → ⊥
 
 -- no call on M with the rooms L is refused for the room for particles
 pub record Roomy (L : Rooms) (M : Mesh) : Type 0 where
+  pub runs : EveryRun (Unrefused L) M
   pub cuts : (sized : Bool) (B : Blade) (f : Float) → cutCall sized M B f L ≡ refused 5 → ⊥
   pub cracks : (sized : Bool) (is : List ℕ) (min : ℕ) → crackCall sized M is min L ≡ refused 5 → ⊥
   pub splits : (sized : Bool) (v : ℕ) (sides : List ℕ) → splitCall sized M v sides L ≡ refused 5 → ⊥
