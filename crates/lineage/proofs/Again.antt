@@ -32,7 +32,7 @@ use Rattle.model.proofs.Kept.{accepted-sound, outcome-done, unless-done, no-ref
 use Rattle.model.proofs.Accepted.{accepted-indexed, indexed-accepted, cut-accepted, crack-accepted, split-accepted, straddlers-accepted}
 use Rattle.model.proofs.Indexed.{Pair, Indexed, Ends, Sides}
 use Rattle.model.proofs.Laws.{and-true, both, false-true, pick-both, all-in, all-over, all-append, all-map, all-mapAt, all-eachOf, all-sift, all-below, all-from, all-to, all-yes, length-mapAt}
-use Rattle.lineage.specs.History.{Stored, Called, cutting, cracking, splitting, removing, Moved, History, first, calling, moving, Accepted, Again}
+use Rattle.lineage.specs.History.{Stored, Called, cutting, cracking, splitting, removing, Moved, History, first, calling, moving, HostStores, Accepted, Again}
 use Rattle.lineage.proofs.Induction.{Sided, Behind, nothing-more, tearing, Kept}
 use Rattle.lineage.proofs.Grown.{Grown, Growing, growing-start, growing-kept}
 use Rattle.lineage.proofs.Histories.{kind-of, called-run, line-of}
@@ -393,12 +393,12 @@ moved-indices M M′ W e =
     } in
     indexed-accepted M′ Y
 
--- After any history from a mesh of at most 1,024 triangles the mesh is accepted.
-pub accepted-always : {M₀ M : Mesh} {log : List Entry} → History M₀ M log → length (M₀ .triangles) ≤ 1024 → Accepted M
-accepted-always (first b) few = record { numbers = b .numbers; stored = b .stored; indices = b .indices }
-accepted-always {M₀} (calling {M = M} L h C) few =
+-- After any history from a mesh of at most 1,024 triangles, where the host puts in f32 numbers, the mesh is accepted.
+pub accepted-always : {M₀ M : Mesh} {log : List Entry} (h : History M₀ M log) → length (M₀ .triangles) ≤ 1024 → HostStores h → Accepted M
+accepted-always (first b) few S = record { numbers = b .numbers; stored = S; indices = b .indices }
+accepted-always (calling {M = M} L h C) few S =
     let I = line-of h in
     let c = I .grown .count in
     let u = I .begins .some in
-    accepted-again L M (omega arith) (omega arith) (accepted-always h few .stored) C .accepted
-accepted-always (moving {M = M} {M′ = M′} h W) few = record { numbers = W .numbers; stored = W .stored; indices = moved-indices M M′ W (accepted-always h few .indices) }
+    accepted-again L M (omega arith) (omega arith) (accepted-always h few S .stored) C .accepted
+accepted-always (moving {M = M} {M′ = M′} h W) few S = record { numbers = W .numbers; stored = S .1; indices = moved-indices M M′ W (accepted-always h few (S .0) .indices) }

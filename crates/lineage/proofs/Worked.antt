@@ -3,7 +3,7 @@ use mathlib.Core.Path.{_≡_, refl}
 use mathlib.Core.Bool.{true, false}
 use mathlib.Core.List.{List, [], _∷_, map}
 use lib.IntN.{pos, negsuc}
-use lib.Dec.{lit<}
+use lib.Dec.{lit<, lit≤}
 use lib.ListN.{length}
 use lib.Ieee.{Float, fin, neg, add, sub, mul, div, lt, le, eq, ne, ofInt, fits}
 use Rattle.lists.specs.Lists.{any, all, sift, siftAt, find, fold, each, pairs, mapAt, tab, upTo, rising, distinct, disjoint}
@@ -18,7 +18,8 @@ use Rattle.model.specs.Split.{partsOf, openingOf, splits?, made, weightOf, tota
 use Rattle.model.specs.Run.{Entry, split, start, stepTo, splitsOf, changed}
 use Rattle.model.specs.Calls.{sidesOk, refusal, tooSmall, firstFault, done, outcome, splitCall}
 use Rattle.model.specs.Starred.{point, free, triangle, limits}
-use Rattle.lineage.specs.History.{Begins, splitting, History, first, calling, inUse, mostParticles}
+use Rattle.lineage.specs.History.{Stored, Accepted, Begins, splitting, History, first, calling, inUse, mostParticles}
+use Rattle.lineage.proofs.Again.{accepted-always}
 
 -- two triangles with particle 0 alone in common
 abbrev pub joined : Mesh
@@ -46,11 +47,15 @@ apart =
 
 joined-begins : Begins joined
 unfolding numbersFit indicesFit particleOk triangleOk named rootOk cornersOk number? finite? volume? absOf le lt eq all upTo tab ofInt fits
-joined-begins = record { some = lit< tt; numbers = refl; stored = record { masses = (tt, (tt, (tt, (tt, (tt, tt))))); volumes = (tt, (tt, tt)) }; indices = refl; roots = refl }
+joined-begins = record { some = lit< tt; numbers = refl; indices = refl; roots = refl }
 
 split-there : splitCall true joined 0 (0 ∷ 0 ∷ []) limits ≡ done apart (split 5 0 ∷ []) true
 unfolding neg add sub mul div lt le eq ne ofInt any all sift siftAt find fold each pairs mapAt tab upTo rising distinct disjoint merged joinPair joinRow joinRows labelled absOf maxOf invOf finite? number? volume? notBelow0? labelsOf numberOne numberSide numbered groupsOf countOf particleOk triangleOk edgeOk numbersFit named rootOk cornersOk endsOk sideOk indicesFit sum kindBy kindOf trianglesFrom elementsOf held fanOf gridOf partsOf openingOf splits? made weightOf totalOf massOf portion copied groupAt rewiredTriangles rewiredStraps ring edgeGroups stayed doubled otherEdges parted straddles sideGroup followed faceOn facetsAt crackFacets atLongest settled splitEntries goneEntries splitMade splitStep splitBySides start stepTo splitsOf changed sidesOk refusal tooSmall firstFault outcome splitCall
 split-there = refl
+
+joined-stored : Stored joined
+unfolding fits ofInt
+joined-stored = record { masses = (tt, (tt, (tt, (tt, (tt, tt))))); volumes = (tt, (tt, tt)) }
 
 -- a history of one split
 pub one-split : History joined apart (split 5 0 ∷ [])
@@ -60,3 +65,8 @@ one-split = calling limits (first joined-begins) (splitting 0 (0 ∷ 0 ∷ []) s
 pub bound-reached : length (apart .particles) ≡ mostParticles joined
 unfolding mostParticles inUse rising upTo tab sift each
 bound-reached = refl
+
+-- and the mesh then is accepted
+pub apart-accepted : Accepted apart
+unfolding one-split
+apart-accepted = accepted-always one-split (lit≤ tt) joined-stored

@@ -19,16 +19,10 @@ use Rattle.model.specs.Crack.{crack}
 use Rattle.model.specs.Calls.{sidesOk, firstFault, refused, done, cutCall, crackCall, splitCall, straddlersCall}
 use Rattle.model.specs.Trace.{All, Sound, tracedBack, Hold}
 
--- every mass and every rest volume is a number that f32 holds, as the columns of a mesh can have no other
-pub record Stored (M : Mesh) : Type 0 where
-  pub masses : All (λ (p : Particle). T (fits binary32 (p .mass))) (M .particles)
-  pub volumes : All (λ (t : Triangle). T (fits binary32 (t .volume))) (M .triangles)
-
 -- the first mesh: it has a triangle, it is accepted, and each particle is its own root
 pub record Begins (M : Mesh) : Type 0 where
   pub some : 0 < length (M .triangles)
   pub numbers : numbersFit M ≡ true
-  pub stored : Stored M
   pub indices : indicesFit M ≡ true
   pub roots : map (λ (p : Particle). p .root) (M .particles) ≡ upTo (length (M .particles))
 
@@ -48,7 +42,6 @@ pub record Moved (M M′ : Mesh) : Type 0 where
   pub structural : map (λ (e : Edge). e .structural) (M′ .edges) ≡ map (λ (e : Edge). e .structural) (M .edges)
   pub boundary : M′ .boundary ≡ M .boundary
   pub numbers : numbersFit M′ ≡ true
-  pub stored : Stored M′
 
 -- The mesh M₀, through a history, is now this mesh, and the logs of its calls, one behind the other, are this log.
 -- A call goes on from its result if it is done, with any rooms; a refused call is no step, as it gives no mesh.
@@ -76,7 +69,7 @@ inUse M = length (rising (length (M .particles)) (each cornersOf (M .triangles))
 unfoldable pub mostParticles : Mesh → ℕ
 mostParticles M₀ = length (M₀ .particles) + 3 * length (M₀ .triangles) - inUse M₀
 
--- P of the run of every call on M, with any arguments that are accepted: whether the call is then done, or refused for any room
+-- P of the run of every call on M: whether the call is then done, or refused for any room. (A split has a side, 0 or 1, for each triangle at v: others are refused before.)
 pub record EveryRun (P : Run → Type 0) (M : Mesh) : Type 0 where
   pub cuts : (B : Blade) (f : Float) → P (cut (kindOf M) B f (start M))
   pub cracks : (is : List ℕ) (min : ℕ) → P (crack (kindOf M) min is (start M))
@@ -99,6 +92,17 @@ pub record Roomy (L : Rooms) (M : Mesh) : Type 0 where
   pub cracks : (sized : Bool) (is : List ℕ) (min : ℕ) → crackCall sized M is min L ≡ refused 5 → ⊥
   pub splits : (sized : Bool) (v : ℕ) (sides : List ℕ) → splitCall sized M v sides L ≡ refused 5 → ⊥
   pub straddlers : (sized : Bool) → straddlersCall sized M L ≡ refused 5 → ⊥
+
+-- every mass and every rest volume is a number that f32 holds, as the columns of a mesh can have no other
+pub record Stored (M : Mesh) : Type 0 where
+  pub masses : All (λ (p : Particle). T (fits binary32 (p .mass))) (M .particles)
+  pub volumes : All (λ (t : Triangle). T (fits binary32 (t .volume))) (M .triangles)
+
+-- the host puts such numbers into the mesh, at first and in each move
+abbrev pub HostStores : {M₀ M : Mesh} {log : List Entry} → History M₀ M log → Type 0
+HostStores {M₀} (first b) = Stored M₀
+HostStores (calling L h C) = HostStores h
+HostStores (moving {M′ = M′} h W) = HostStores h × Stored M′
 
 -- a mesh that refusals 2 and 3 let pass
 pub record Accepted (M : Mesh) : Type 0 where
