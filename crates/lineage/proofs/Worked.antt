@@ -1,0 +1,72 @@
+-- A worked history: two triangles that hang together by one particle are split there, and the bound on particles is reached. Assumes nothing.
+use mathlib.Core.Path.{_≡_, refl}
+use mathlib.Core.Bool.{true, false}
+use mathlib.Core.List.{List, [], _∷_, map}
+use lib.IntN.{pos, negsuc}
+use lib.Dec.{lit<, lit≤}
+use lib.ListN.{length}
+use lib.Ieee.{Float, fin, neg, add, sub, mul, div, lt, le, eq, ne, ofInt, fits}
+use Rattle.lists.specs.Lists.{any, all, sift, siftAt, find, fold, each, pairs, mapAt, tab, upTo, rising, distinct, disjoint}
+use Rattle.lists.specs.Labels.{merged, joinPair, joinRow, joinRows, labelled}
+use Rattle.float.specs.Numbers.{zero32, one, half, absOf, maxOf, invOf}
+use Rattle.float.specs.Ranges.{finite?, number?, volume?, notBelow0?}
+use Rattle.fan.specs.Groups.{labelsOf, numberOne, numberSide, numbered, groupsOf, countOf}
+use Rattle.model.specs.Mesh.{Particle, Mesh}
+use Rattle.model.specs.Valid.{particleOk, triangleOk, edgeOk, numbersFit, named, rootOk, cornersOk, endsOk, sideOk, indicesFit}
+use Rattle.model.specs.Elements.{sum, kindBy, kindOf, trianglesFrom, elementsOf, held, fanOf, gridOf}
+use Rattle.model.specs.Split.{partsOf, openingOf, splits?, made, weightOf, totalOf, massOf, portion, copied, groupAt, rewiredTriangles, rewiredStraps, ring, edgeGroups, stayed, doubled, otherEdges, parted, straddles, sideGroup, followed, faceOn, facetsAt, crackFacets, atLongest, settled, splitEntries, goneEntries, splitMade, splitStep, splitBySides}
+use Rattle.model.specs.Run.{Entry, split, start, stepTo, splitsOf, changed}
+use Rattle.model.specs.Calls.{sidesOk, refusal, tooSmall, firstFault, done, outcome, splitCall}
+use Rattle.model.specs.Starred.{point, free, triangle, limits}
+use Rattle.lineage.specs.History.{Stored, Accepted, Begins, splitting, History, first, calling, inUse, mostParticles}
+use Rattle.lineage.proofs.Again.{accepted-always}
+
+-- two triangles with particle 0 alone in common
+abbrev pub joined : Mesh
+joined =
+    record {
+      particles = free 0 (point (pos 0) (pos 0)) ∷ free 1 (point (pos 1) (pos 0)) ∷ free 2 (point (pos 1) (pos 1)) ∷ free 3 (point (negsuc 0) (pos 0)) ∷ free 4 (point (negsuc 0) (negsuc 0)) ∷ [];
+      triangles = triangle 0 1 2 half ∷ triangle 0 3 4 half ∷ [];
+      edges = [];
+      boundary = [];
+    }
+
+-- particle 0 with half its mass
+abbrev halved : Particle
+halved = record { x = zero32; y = zero32; rest-x = zero32; rest-y = zero32; mass = half; inv = fin false 1 (pos 1); root = 0; damaged = 0 }
+
+-- the two apart, each with a particle of its own there
+abbrev pub apart : Mesh
+apart =
+    record {
+      particles = halved ∷ free 1 (point (pos 1) (pos 0)) ∷ free 2 (point (pos 1) (pos 1)) ∷ free 3 (point (negsuc 0) (pos 0)) ∷ free 4 (point (negsuc 0) (negsuc 0)) ∷ halved ∷ [];
+      triangles = triangle 0 1 2 half ∷ triangle 5 3 4 half ∷ [];
+      edges = [];
+      boundary = [];
+    }
+
+joined-begins : Begins joined
+unfolding numbersFit indicesFit particleOk triangleOk named rootOk cornersOk number? finite? volume? absOf le lt eq all upTo tab ofInt fits
+joined-begins = record { some = lit< tt; numbers = refl; indices = refl; roots = refl }
+
+split-there : splitCall true joined 0 (0 ∷ 0 ∷ []) limits ≡ done apart (split 5 0 ∷ []) true
+unfolding neg add sub mul div lt le eq ne ofInt any all sift siftAt find fold each pairs mapAt tab upTo rising distinct disjoint merged joinPair joinRow joinRows labelled absOf maxOf invOf finite? number? volume? notBelow0? labelsOf numberOne numberSide numbered groupsOf countOf particleOk triangleOk edgeOk numbersFit named rootOk cornersOk endsOk sideOk indicesFit sum kindBy kindOf trianglesFrom elementsOf held fanOf gridOf partsOf openingOf splits? made weightOf totalOf massOf portion copied groupAt rewiredTriangles rewiredStraps ring edgeGroups stayed doubled otherEdges parted straddles sideGroup followed faceOn facetsAt crackFacets atLongest settled splitEntries goneEntries splitMade splitStep splitBySides start stepTo splitsOf changed sidesOk refusal tooSmall firstFault outcome splitCall
+split-there = refl
+
+joined-stored : Stored joined
+unfolding fits ofInt
+joined-stored = record { masses = (tt, (tt, (tt, (tt, (tt, tt))))); volumes = (tt, (tt, tt)) }
+
+-- a history of one split
+pub one-split : History joined apart (split 5 0 ∷ [])
+one-split = calling limits (first joined-begins) (splitting 0 (0 ∷ 0 ∷ []) split-there)
+
+-- after it there are as many particles as can be: 6, which is 5 and three for each of two triangles, less the 5 in use at first
+pub bound-reached : length (apart .particles) ≡ mostParticles joined
+unfolding mostParticles inUse rising upTo tab sift each
+bound-reached = refl
+
+-- and the mesh then is accepted
+pub apart-accepted : Accepted apart
+unfolding one-split
+apart-accepted = accepted-always one-split (lit≤ tt) joined-stored

@@ -1,0 +1,119 @@
+-- A history of a mesh of triangles: accepted calls, one behind the other, with the host at work between them. Definitions only.
+-- It says nothing of straps, nor of a host that changes the triangles, the roots or the number of anything: such a mesh starts a history of its own.
+use Prim.Native.Nat.{ℕ, _+_, _-_, _*_, _<_, _≤_}
+use mathlib.Core.Path.{_≡_}
+use mathlib.Core.Bool.{Bool, true}
+use mathlib.Core.List.{List, [], _∷_, _++_, map}
+use lib.ListN.{length}
+use lib.Dec.{T}
+use lib.Ieee.{Float, binary32, fits}
+use Rattle.lists.specs.Lists.{each, upTo, rising}
+use Rattle.model.specs.Mesh.{Particle, Triangle, Edge, Mesh}
+use Rattle.model.specs.Valid.{numbersFit, indicesFit}
+use Rattle.model.specs.Elements.{kindOf, particle, cornersOf, endsOf}
+use Rattle.model.specs.Run.{Entry, Need, Rooms, Run, start, splitsOf}
+use Rattle.model.specs.Split.{splitBySides}
+use Rattle.model.specs.Pieces.{removeStraddlers}
+use Rattle.model.specs.Cut.{Blade, cut}
+use Rattle.model.specs.Crack.{crack}
+use Rattle.model.specs.Calls.{sidesOk, firstFault, refused, done, cutCall, crackCall, splitCall, straddlersCall}
+use Rattle.model.specs.Trace.{All, Sound, tracedBack, Hold}
+
+-- the first mesh: it has a triangle, it is accepted, and each particle is its own root
+pub record Begins (M : Mesh) : Type 0 where
+  pub some : 0 < length (M .triangles)
+  pub numbers : numbersFit M ≡ true
+  pub indices : indicesFit M ≡ true
+  pub roots : map (λ (p : Particle). p .root) (M .particles) ≡ upTo (length (M .particles))
+
+-- A call on M with the rooms L, of any arguments, is done: it gives M′ and logs `more`.
+pub data Called (L : Rooms) (M : Mesh) : Mesh → List Entry → Type 0 where
+  cutting : {M′ : Mesh} {more : List Entry} {c : Bool} (B : Blade) (f : Float) → cutCall true M B f L ≡ done M′ more c → Called L M M′ more
+  cracking : {M′ : Mesh} {more : List Entry} {c : Bool} (is : List ℕ) (min : ℕ) → crackCall true M is min L ≡ done M′ more c → Called L M M′ more
+  splitting : {M′ : Mesh} {more : List Entry} {c : Bool} (v : ℕ) (sides : List ℕ) → splitCall true M v sides L ≡ done M′ more c → Called L M M′ more
+  removing : {M′ : Mesh} {more : List Entry} {c : Bool} → straddlersCall true M L ≡ done M′ more c → Called L M M′ more
+
+-- The host has changed M to M′: points, masses, inverse masses, rest positions, damage, volumes, stresses, lengths, impulses and torn flags have any accepted values.
+-- Triangles hold the particles that they held, and so do edges and boundary entries; roots, structural flags, and the number of everything are as they were.
+pub record Moved (M M′ : Mesh) : Type 0 where
+  pub roots : map (λ (p : Particle). p .root) (M′ .particles) ≡ map (λ (p : Particle). p .root) (M .particles)
+  pub corners : map cornersOf (M′ .triangles) ≡ map cornersOf (M .triangles)
+  pub ends : map endsOf (M′ .edges) ≡ map endsOf (M .edges)
+  pub structural : map (λ (e : Edge). e .structural) (M′ .edges) ≡ map (λ (e : Edge). e .structural) (M .edges)
+  pub boundary : M′ .boundary ≡ M .boundary
+  pub numbers : numbersFit M′ ≡ true
+
+-- The mesh M₀, through a history, is now this mesh, and the logs of its calls, one behind the other, are this log.
+-- A call goes on from its result if it is done, with any rooms; a refused call is no step, as it gives no mesh.
+pub data History (M₀ : Mesh) : Mesh → List Entry → Type 0 where
+  first : Begins M₀ → History M₀ M₀ []
+  calling : {M M′ : Mesh} {log more : List Entry} (L : Rooms) → History M₀ M log → Called L M M′ more → History M₀ M′ (log ++ more)
+  moving : {M M′ : Mesh} {log : List Entry} → History M₀ M log → Moved M M′ → History M₀ M′ log
+
+-- the roots of a triangle's particles
+abbrev pub rootsOf : Mesh → Triangle → List ℕ
+rootsOf M t = map (λ x. particle M x .root) (cornersOf t)
+
+-- Every triangle of M has three different particles; it stands in its old place, and traced back through the log's copies it is the triangle of M₀ that it was;
+-- and the roots of its particles are the particles that it had in M₀.
+pub record Lasting (M₀ M : Mesh) (log : List Entry) : Type 0 where
+  pub sound : All (Sound (length (M .particles))) (M .triangles)
+  pub back : map (tracedBack (splitsOf log)) (M .triangles) ≡ map cornersOf (M₀ .triangles)
+  pub roots : map (rootsOf M) (M .triangles) ≡ map cornersOf (M₀ .triangles)
+
+-- how many particles the triangles of M hold: each is counted once
+unfoldable pub inUse : Mesh → ℕ
+inUse M = length (rising (length (M .particles)) (each cornersOf (M .triangles)))
+
+-- the most particles that a history from M₀ can have: the first number, plus three per triangle, less those in use at first
+unfoldable pub mostParticles : Mesh → ℕ
+mostParticles M₀ = length (M₀ .particles) + 3 * length (M₀ .triangles) - inUse M₀
+
+-- P of the run of every call on M: whether the call is then done, or refused for any room. (A split has a side, 0 or 1, for each triangle at v: others are refused before.)
+pub record EveryRun (P : Run → Type 0) (M : Mesh) : Type 0 where
+  pub cuts : (B : Blade) (f : Float) → P (cut (kindOf M) B f (start M))
+  pub cracks : (is : List ℕ) (min : ℕ) → P (crack (kindOf M) min is (start M))
+  pub splits : (v : ℕ) (sides : List ℕ) → sidesOk M v sides ≡ true → P (splitBySides (kindOf M) v sides (start M))
+  pub straddlers : P (removeStraddlers (kindOf M) (start M))
+
+-- a run has, and needed in any of its steps, at most n particles
+pub record Within (n : ℕ) (R : Run) : Type 0 where
+  pub particles : length (R .mesh .particles) ≤ n
+  pub needs : All (λ (N : Need). N .particles ≤ n) (R .needs)
+
+-- a run is not refused for the room for particles
+abbrev pub Unrefused : Rooms → Run → Type 0
+Unrefused L R = firstFault L (R .needs) ≡ 5 → ⊥
+
+-- no call on M with the rooms L is refused for the room for particles
+pub record Roomy (L : Rooms) (M : Mesh) : Type 0 where
+  pub runs : EveryRun (Unrefused L) M
+  pub cuts : (sized : Bool) (B : Blade) (f : Float) → cutCall sized M B f L ≡ refused 5 → ⊥
+  pub cracks : (sized : Bool) (is : List ℕ) (min : ℕ) → crackCall sized M is min L ≡ refused 5 → ⊥
+  pub splits : (sized : Bool) (v : ℕ) (sides : List ℕ) → splitCall sized M v sides L ≡ refused 5 → ⊥
+  pub straddlers : (sized : Bool) → straddlersCall sized M L ≡ refused 5 → ⊥
+
+-- every mass and every rest volume is a number that f32 holds, as the columns of a mesh can have no other
+pub record Stored (M : Mesh) : Type 0 where
+  pub masses : All (λ (p : Particle). T (fits binary32 (p .mass))) (M .particles)
+  pub volumes : All (λ (t : Triangle). T (fits binary32 (t .volume))) (M .triangles)
+
+-- the host puts such numbers into the mesh, at first and in each move
+abbrev pub HostStores : {M₀ M : Mesh} {log : List Entry} → History M₀ M log → Type 0
+HostStores {M₀} (first b) = Stored M₀
+HostStores (calling L h C) = HostStores h
+HostStores (moving {M′ = M′} h W) = HostStores h × Stored M′
+
+-- a mesh that refusals 2 and 3 let pass
+pub record Accepted (M : Mesh) : Type 0 where
+  pub numbers : numbersFit M ≡ true
+  pub stored : Stored M
+  pub indices : indicesFit M ≡ true
+
+-- and that is no longer than the rooms: as rooms are within the limits, refusal 1 lets it pass too
+pub record Again (L : Rooms) (M : Mesh) : Type 0 where
+  pub accepted : Accepted M
+  pub particles : length (M .particles) ≤ L .particles
+  pub triangles : length (M .triangles) ≤ L .triangles
+  pub edges : length (M .edges) ≤ L .edges
+  pub boundary : length (M .boundary) ≤ L .boundary
