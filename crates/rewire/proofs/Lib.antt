@@ -1,0 +1,2 @@
+-- The laws of what each list of a mesh becomes in a split.
+pub mod ParticleLaws
