@@ -1,2 +1,3 @@
 -- The laws of what each list of a mesh becomes in a split.
 pub mod ParticleLaws
+pub mod FanLaws
