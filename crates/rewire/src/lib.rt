@@ -1,5 +1,6 @@
 // What each list of a mesh becomes in a split: particles copied, elements rewired, other edges, straddlers, boundary, crack facets.
 
+pub mod boundary;
 pub mod fans;
 pub mod particles;
 
