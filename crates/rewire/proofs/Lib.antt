@@ -1,0 +1,4 @@
+-- The laws of what each list of a mesh becomes in a split.
+pub mod ParticleLaws
+pub mod FanLaws
+pub mod BoundaryLaws
