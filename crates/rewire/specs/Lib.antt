@@ -1,2 +1,3 @@
 -- What each list of a mesh becomes in a split, as the workers promise it.
 pub mod Stages
+pub mod RoomsB

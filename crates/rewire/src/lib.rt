@@ -1,4 +1,5 @@
 // What each list of a mesh becomes in a split: particles copied, elements rewired, other edges, straddlers, boundary, crack facets.
+pub mod edges;
 
 // How many rows a list has after rows were appended, or that there is no room for them.
 pub enum Grown {

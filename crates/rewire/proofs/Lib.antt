@@ -1,0 +1,2 @@
+-- Laws of what each list of a mesh becomes in a split.
+pub mod EdgeLaws
