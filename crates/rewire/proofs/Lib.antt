@@ -1,2 +1,3 @@
 -- Laws of what each list of a mesh becomes in a split.
 pub mod EdgeLaws
+pub mod StraddlerLaws

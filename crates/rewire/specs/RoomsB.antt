@@ -1,14 +1,16 @@
 -- What the workers on other edges, straddlers and crack facets ask and give: helper records that only proofs and contracts between workers need. Definitions only.
-use Prim.Native.Nat.{ℕ, _+_, _/_, _<_, _≤_}
+use Prim.Native.Nat.{ℕ, _+_, _-_, _*_, _/_, _<_, _≤_}
 use mathlib.Core.Path.{_≡_}
 use mathlib.Core.Logic.{_⊎_}
-use mathlib.Core.Bool.{Bool, false}
-use mathlib.Core.List.{List, map, _++_}
+use mathlib.Core.Bool.{Bool, false, not}
+use mathlib.Core.List.{List, _∷_, map, _++_}
 use lib.ListN.{length, getD, set}
 use lib.Ieee.{Float}
 use Rattle.model.specs.Mesh.{Edge, Mesh}
-use Rattle.model.specs.Elements.{Kind, element?}
-use Rattle.model.specs.Split.{Opening, copyFor, moved, calm, stayed, doubled}
+use Rattle.lists.specs.Lists.{pick, upTo, sift, keep}
+use Rattle.model.specs.Elements.{Kind, element?, elementsOf}
+use Rattle.elements.specs.Table.{Cornered}
+use Rattle.model.specs.Split.{Opening, copyFor, moved, calm, stayed, doubled, straddles}
 use Rattle.mesh.specs.At.{edgeRow, edgesAt}
 use Rattle.mesh.specs.Workers.{EdgeRoom}
 use Rattle.opening.specs.Opened.{Ringed, RingRoom, CornersBelow, ringFrom}
@@ -26,6 +28,10 @@ rowAt ends lengths j = edgeRow (length ends / 4) (length lengths / 4) ends lengt
 abbrev pub Between : ℕ → ℕ → Grown → Type 0
 Between m room Lacking = 0 ≤ m
 Between m room (Rows r) = (m ≤ r) × (r ≤ room)
+
+-- r tells whether an edge with this flag is an element, whatever else it has
+pub record ElementIs (K : Kind) (structural : ℕ) (r : Bool) : Type 0 where
+  pub is : (e : Edge) → e .structural ≡ structural → r ≡ element? K e
 
 -- the number that stands for v in group g, of so many groups
 pub record CopyIs (v before count g r : ℕ) : Type 0 where
@@ -79,3 +85,40 @@ pub record EdgesRoom (K : Kind) (v before k n count p e room : ℕ) (verts group
   pub v-in : v < p
   pub corners-in : CornersBelow p n k verts
   pub ends-in : (j : ℕ) → j < e → element? K (rowAt ends lengths j) ≡ false → (rowAt ends lengths j .a < p) × (rowAt ends lengths j .b < p)
+
+-- ---- straddlers
+
+-- v and its copies: `copies` of an opening at v, with so many particles before it, of so many groups
+abbrev pub copiesBy : ℕ → ℕ → ℕ → List ℕ
+copiesBy v before count = v ∷ map (λ g. before + g) (upTo (count - 1))
+
+-- an opening in tables, and a mesh whose elements stand in a table
+pub record Straddling (K : Kind) (O : Opening) (M : Mesh) (v before k n count : ℕ) (verts groups : List ℕ) (body-n body-k : ℕ) (body : List ℕ) : Type 0 where
+  pub at : O .v ≡ v
+  pub before-is : O .before ≡ before
+  pub count-is : O .count ≡ count
+  pub ringed : Ringed k O n verts groups
+  pub cornered : Cornered body-k (elementsOf K M) body-n body
+
+-- what a straddler test asks
+pub record StraddleRoom (k n lv lg body-n body-k lb : ℕ) : Type 0 where
+  pub ring : RingRoom n k lv lg
+  pub body : body-n * body-k ≤ lb
+
+-- r tells whether edge i straddles
+pub record StraddleTold (K : Kind) (i v before k n count : ℕ) (verts groups : List ℕ) (body-n body-k : ℕ) (body ends : List ℕ) (r : Bool) : Type 0 where
+  pub is :
+      (O : Opening) (M : Mesh) (lengths : List Float) → Straddling K O M v before k n count verts groups body-n body-k body
+      → r ≡ straddles K M O (rowAt ends lengths i)
+
+-- the mask marks the straddlers among the first e edges, and r of them are marked
+pub record StraddlersMarked (K : Kind) (v before k n count e : ℕ) (verts groups : List ℕ) (body-n body-k : ℕ) (body ends mask′ : List ℕ) (r : ℕ) : Type 0 where
+  pub marks :
+      (O : Opening) (M : Mesh) (lengths : List Float) → Straddling K O M v before k n count verts groups body-n body-k body
+      → (i : ℕ) → i < e → getD mask′ i 0 ≡ pick (straddles K M O (rowAt ends lengths i)) 1 0
+  pub kept :
+      (O : Opening) (M : Mesh) (lengths : List Float) → Straddling K O M v before k n count verts groups body-n body-k body
+      → keep mask′ (edgesAt e ends lengths) ≡ sift (λ (a : Edge). not (straddles K M O a)) (edgesAt e ends lengths)
+  pub counted :
+      (O : Opening) (M : Mesh) (lengths : List Float) → Straddling K O M v before k n count verts groups body-n body-k body
+      → r ≡ length (sift (straddles K M O) (edgesAt e ends lengths))

@@ -10,7 +10,7 @@ ghost use Rattle.model.specs.Split.{moved as movedOf, calm as calmOf};
 ghost use Rattle.elements.specs.Table.{kindIs};
 ghost use Rattle.mesh.specs.Workers.{EdgeRoom, edgeOf};
 ghost use Rattle.rewire.specs.Stages.{EdgesGrown};
-ghost use Rattle.rewire.specs.RoomsB.{rowAt, CopyIs, EndsMoved, CopyRoom, CopiesGrown, SettleRoom, EdgeSettled, EdgesRoom};
+ghost use Rattle.rewire.specs.RoomsB.{rowAt, ElementIs, CopyIs, EndsMoved, CopyRoom, CopiesGrown, SettleRoom, EdgeSettled, EdgesRoom};
 use crate::Grown;
 use elements::Kind;
 use mesh::EdgeRow;
@@ -58,13 +58,13 @@ pub fn edge_at(i: usize, ends: &[usize], lengths: &[f32]) -> EdgeRow
     }
 }
 
-// Is an edge an element?
-pub fn is_element(kind: Kind, row: EdgeRow) -> bool
-    ensures { λ r. ⌜ r ≡ element? (kindIs kind) (edgeOf row) ⌝ }
+// Is an edge with this flag an element?
+pub fn is_element(kind: Kind, structural: usize) -> bool
+    ensures { λ r. ⌜ ElementIs (kindIs kind) structural r ⌝ }
 {
     match kind {
         Kind::Triangles => false,
-        Kind::Straps => row.structural == 1,
+        Kind::Straps => structural == 1,
         Kind::Nothing => false,
     }
 }
@@ -73,7 +73,7 @@ pub fn is_element(kind: Kind, row: EdgeRow) -> bool
 fn is_other(kind: Kind, v: usize, row: EdgeRow) -> bool
     ensures { λ r. ⌜ r ≡ (not (element? (kindIs kind) (edgeOf row)) && stands v (endsOf (edgeOf row))) ⌝ }
 {
-    if is_element(kind, row) {
+    if is_element(kind, row.structural) {
         return false;
     }
     if row.a == v {

@@ -13,13 +13,13 @@ enum-told-3 : tie.Need-enum-told-3
 enum-told-3 c = search needs
 
 returns : tie.Need-returns
-returns c = search needs
+returns c = record { is = λ e q. rw (c .enum-told .given .1) }
 
 returns-2 : tie.Need-returns-2
-returns-2 c = rw (c .before .enum-told2 .given .1)
+returns-2 c = record { is = λ e q. rw (c .enum-told2 .given .1, q) }
 
 returns-3 : tie.Need-returns-3
-returns-3 c = search needs
+returns-3 c = record { is = λ e q. rw (c .enum-told3 .given .1) }
 
 pub is-element-spec : {M : Type 1} → statement M
 is-element-spec =
