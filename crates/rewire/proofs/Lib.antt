@@ -1,4 +1,6 @@
--- The laws of what each list of a mesh becomes in a split.
+-- Laws of what each list of a mesh becomes in a split.
 pub mod ParticleLaws
 pub mod FanLaws
 pub mod BoundaryLaws
+pub mod EdgeLaws
+pub mod StraddlerLaws

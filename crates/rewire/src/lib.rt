@@ -1,8 +1,9 @@
 // What each list of a mesh becomes in a split: particles copied, elements rewired, other edges, straddlers, boundary, crack facets.
-
 pub mod boundary;
+pub mod edges;
 pub mod fans;
 pub mod particles;
+pub mod straddlers;
 
 // How many rows a list has after rows were appended, or that there is no room for them.
 pub enum Grown {

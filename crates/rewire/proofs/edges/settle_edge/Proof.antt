@@ -1,0 +1,121 @@
+-- `rewire::edges::settle_edge` meets its contract: no other edge, one with groups, or one that goes where it points. Assumes nothing.
+use Rattle.rewire.proofs.EdgeLaws.{test-at, far-below, settled-none, settled-some, settled-toward}
+use Rattle.rewire.specs.RoomsB.{rowAt}
+use Rattle.elements.specs.Table.{kindIs}
+use Rattle.model.specs.Elements.{farEnd}
+use Rattle.mesh.specs.Workers.{edgeOf}
+use borrow.Author.Tests.{not-true, not-false}
+use mathlib.Core.Bool.{true, false}
+use mathlib.Core.Path.{_∙_, sym, ap}
+use native.Mathlib.Omega.{arith}
+use Prim.Native.Nat.{_≤_, _<_}
+use borrow.Author.Needs.{needs}
+use Rattle.rewire.proofs.edges.settle_edge.Statement.{statement}
+use Rattle.rewire.proofs.edges.settle_edge.Tie as tie
+
+edge-at-requires : tie.Need-edge-at-requires
+edge-at-requires c κs = let P = c .before .before .before .before .before .before .before .pre in record { ends = omega (arith, P .i-in, P .copy .rows, P .copy .columns .ends); lengths = omega (arith, P .i-in, P .copy .rows, P .copy .columns .lengths) }
+
+is-other-requires : tie.Need-is-other-requires
+is-other-requires c κs = search needs
+
+same-length : tie.Need-same-length
+same-length c = search needs
+
+same-length-2 : tie.Need-same-length-2
+same-length-2 c = search needs
+
+returns : tie.Need-returns
+returns c = let A = c .before .before .before .before .before .before .before .before .before .before .args in
+    let P = c .before .before .before .before .before .before .before .before .before .before .pre in
+    settled-none _ _ _ _ _ _ _ _ _ _ _ _ _ _ _ (P .i-in) (P .copy .rows) (P .copy .columns .ends)
+    (test-at (kindIs (A .kind)) (A .v) (edgeOf (c .before .before .edge-at .result)) _ (c .before .is-other .result) false (c .before .before .edge-at .ensures) (c .before .is-other .ensures) (not-true _ (c .if1 .taken)))
+
+far-end-requires : tie.Need-far-end-requires
+far-end-requires c κs = search needs
+
+next-group-requires : tie.Need-next-group-requires
+next-group-requires c κs = search needs
+
+copy-number-requires : tie.Need-copy-number-requires
+copy-number-requires c κs = search needs
+
+move-ends-requires : tie.Need-move-ends-requires
+move-ends-requires c κs = let P = c .before .before .before .before .before .before .before .before .before .before .before .before .before .before .before .pre in omega (arith, P .i-in, P .copy .rows, P .copy .columns .ends)
+
+add-append-copies : tie.Need-add-append-copies
+add-append-copies c = omega (arith, c .before .before .before .before .before .if2 .taken, c .before .before .before .before .before .before .before .before .before .before .before .before .before .before .before .before .before .before .pre .copy .small)
+
+append-copies-requires : tie.Need-append-copies-requires
+append-copies-requires c κs = let P = c .before .before .before .before .before .before .before .before .before .before .before .before .before .before .before .before .before .before .before .before .pre in
+    (record { ring = P .copy .ring; small = P .copy .small; rows = P .copy .rows; columns = record { ends = omega (arith, c .before .before .before .before .move-ends .kept .1 .1 .1 .0, P .copy .columns .ends); lengths = P .copy .columns .lengths } }, omega (arith, c .before .before .before .before .before .before .before .if2 .taken))
+
+same-length-3 : tie.Need-same-length-3
+same-length-3 c = search needs
+
+same-length-4 : tie.Need-same-length-4
+same-length-4 c = search needs
+
+returns-2 : tie.Need-returns-2
+returns-2 c = let A = c .before .before .before .before .before .before .before .before .before .before .before .before .before .before .before .before .before .before .before .before .before .before .before .before .before .args in
+    let P = c .before .before .before .before .before .before .before .before .before .before .before .before .before .before .before .before .before .before .before .before .before .before .before .before .before .pre in
+    let at-row = c .before .before .before .before .before .before .before .before .before .before .before .before .before .before .before .before .before .edge-at .ensures in
+    settled-some _ _ _ _ _ _ _ _ _ _ _ _ _ _ _ (P .i-in) (P .copy .rows) (P .copy .columns .ends) (c .before .before .before .before .before .before .before .before .before .before .before .before .before .before .far-end .result) (c .before .before .before .before .before .before .before .before .before .before .before .before .before .before .far-end .ensures ∙ ap (farEnd (A .v)) at-row)
+    (test-at (kindIs (A .kind)) (A .v) (edgeOf (c .before .before .before .before .before .before .before .before .before .before .before .before .before .before .before .before .before .edge-at .result)) _ (c .before .before .before .before .before .before .before .before .before .before .before .before .before .before .before .before .is-other .result) true at-row (c .before .before .before .before .before .before .before .before .before .before .before .before .before .before .before .before .is-other .ensures) (not-false _ (c .before .before .before .before .before .before .before .before .before .before .before .before .before .before .before .if1 .left)))
+    (c .before .before .before .before .before .before .before .before .before .before .before .copy-number .result) _ (c .before .before .before .before .before .before .before .before .before .move-ends .ensures) (c .before .before .before .before .before .before .before .before .before .before .before .before .before .next-group .result) _ _ _ (edgeOf (c .before .before .before .before .before .before .before .before .before .before .before .before .before .before .before .before .before .edge-at .result)) at-row (c .before .before .before .before .before .before .before .before .before .before .before .before .before .next-group .ensures) (c .before .before .before .before .before .before .before .before .before .before .before .before .if2 .taken) (c .before .before .before .before .before .before .before .before .before .before .before .copy-number .ensures) (c .before .before .before .before .append-copies .ensures)
+
+group-toward-requires : tie.Need-group-toward-requires
+group-toward-requires c κs = let A = c .before .before .before .before .before .before .before .before .before .before .before .before .before .args in
+    let P = c .before .before .before .before .before .before .before .before .before .before .before .before .before .pre in
+    let at-row = c .before .before .before .before .before .edge-at .ensures in
+    let other = test-at (kindIs (A .kind)) (A .v) (edgeOf (c .before .before .before .before .before .edge-at .result)) (rowAt (A .ends .now) (A .lengths .now) (A .i)) (c .before .before .before .before .is-other .result) true at-row (c .before .before .before .before .is-other .ensures) (not-false _ (c .before .before .before .if1 .left)) in
+    let x-in = far-below (kindIs (A .kind)) (A .v) (A .p) (c .before .before .far-end .result) (rowAt (A .ends .now) (A .lengths .now) (A .i)) other (P .ends-in) (c .before .before .far-end .ensures ∙ ap (farEnd (A .v)) at-row) in
+    record { room = P .copy .ring; x-in = omega (arith, x-in, P .rests); v-in = omega (arith, P .v-in, P .rests); corners-in = λ i l. omega (arith, P .corners-in i l, P .rests) }
+
+copy-number-requires-2 : tie.Need-copy-number-requires-2
+copy-number-requires-2 c κs = search needs
+
+move-ends-requires-2 : tie.Need-move-ends-requires-2
+move-ends-requires-2 c κs = let P = c .before .before .before .before .before .before .before .before .before .before .before .before .before .before .before .before .pre in omega (arith, P .i-in, P .copy .rows, P .copy .columns .ends)
+
+same-length-5 : tie.Need-same-length-5
+same-length-5 c = search needs
+
+same-length-6 : tie.Need-same-length-6
+same-length-6 c = search needs
+
+returns-3 : tie.Need-returns-3
+returns-3 c = let A = c .before .before .before .before .before .before .before .before .before .before .before .before .before .before .before .before .before .before .before .args in
+    let P = c .before .before .before .before .before .before .before .before .before .before .before .before .before .before .before .before .before .before .before .pre in
+    let at-row = c .before .before .before .before .before .before .before .before .before .before .before .edge-at .ensures in
+    let other = test-at (kindIs (A .kind)) (A .v) (edgeOf (c .before .before .before .before .before .before .before .before .before .before .before .edge-at .result)) (rowAt (A .ends .now) (A .lengths .now) (A .i)) (c .before .before .before .before .before .before .before .before .before .before .is-other .result) true at-row (c .before .before .before .before .before .before .before .before .before .before .is-other .ensures) (not-false _ (c .before .before .before .before .before .before .before .before .before .if1 .left)) in
+    let far = c .before .before .before .before .before .before .before .before .far-end .ensures ∙ ap (farEnd (A .v)) at-row in
+    let x-in = far-below (kindIs (A .kind)) (A .v) (A .p) (c .before .before .before .before .before .before .before .before .far-end .result) (rowAt (A .ends .now) (A .lengths .now) (A .i)) other (P .ends-in) far in
+    settled-toward _ _ _ _ _ _ _ _ _ _ _ _ _ _ _ (P .i-in) (P .copy .rows) (P .copy .columns .ends) (c .before .before .before .before .before .before .before .before .far-end .result) far other
+    (c .before .before .before .before .copy-number2 .result) _ (c .before .before .move-ends2 .ensures) (c .before .before .before .before .before .before .before .next-group .result) (c .before .before .before .before .before .group-toward .result) (c .before .before .before .before .before .before .before .next-group .ensures) (c .before .before .before .before .before .before .if2 .left) (c .before .before .before .before .copy-number2 .ensures)
+    (λ O M I. c .before .before .before .before .before .group-toward .ensures .is O M (A .p) (I .ringed) (I .at) (I .rests) (P .rests) x-in (P .v-in) (P .corners-in))
+
+pub settle-edge-spec : {M : Type 1} → statement M
+settle-edge-spec =
+    tie.close
+    (tie.spec
+    edge-at-requires
+    is-other-requires
+    same-length
+    same-length-2
+    returns
+    far-end-requires
+    next-group-requires
+    copy-number-requires
+    move-ends-requires
+    add-append-copies
+    append-copies-requires
+    same-length-3
+    same-length-4
+    returns-2
+    group-toward-requires
+    copy-number-requires-2
+    move-ends-requires-2
+    same-length-5
+    same-length-6
+    returns-3)

@@ -1,0 +1,124 @@
+-- What the workers on other edges, straddlers and crack facets ask and give: helper records that only proofs and contracts between workers need. Definitions only.
+use Prim.Native.Nat.{ℕ, _+_, _-_, _*_, _/_, _<_, _≤_}
+use mathlib.Core.Path.{_≡_}
+use mathlib.Core.Logic.{_⊎_}
+use mathlib.Core.Bool.{Bool, false, not}
+use mathlib.Core.List.{List, _∷_, map, _++_}
+use lib.ListN.{length, getD, set}
+use lib.Ieee.{Float}
+use Rattle.model.specs.Mesh.{Edge, Mesh}
+use Rattle.lists.specs.Lists.{pick, upTo, sift, keep}
+use Rattle.model.specs.Elements.{Kind, element?, elementsOf}
+use Rattle.elements.specs.Table.{Cornered}
+use Rattle.model.specs.Split.{Opening, copyFor, moved, calm, stayed, doubled, straddles}
+use Rattle.mesh.specs.At.{edgeRow, edgesAt}
+use Rattle.mesh.specs.Workers.{EdgeRoom}
+use Rattle.opening.specs.Opened.{Ringed, RingRoom, CornersBelow, ringFrom}
+use Rattle.rewire.specs.Stages.{OpeningIn, GrownTo}
+use Rattle.rewire.specs.declared.Grown.{Grown}
+use Rattle.rewire.specs.declared.Grown.the-variants.{Lacking, Rows}
+
+-- ---- other edges
+
+-- row j of the edges
+abbrev pub rowAt : List ℕ → List Float → ℕ → Edge
+rowAt ends lengths j = edgeRow (length ends / 4) (length lengths / 4) ends lengths j
+
+-- if there was room, there are m rows at least and no more than the room
+abbrev pub Between : ℕ → ℕ → Grown → Type 0
+Between m room Lacking = 0 ≤ m
+Between m room (Rows r) = (m ≤ r) × (r ≤ room)
+
+-- r tells whether an edge with this flag is an element, whatever else it has
+pub record ElementIs (K : Kind) (structural : ℕ) (r : Bool) : Type 0 where
+  pub is : (e : Edge) → e .structural ≡ structural → r ≡ element? K e
+
+-- the number that stands for v in group g, of so many groups
+pub record CopyIs (v before count g r : ℕ) : Type 0 where
+  pub is : (g ≡ 0) ⊎ (g < count) → r ≡ copyFor v before g
+
+-- edge i has w for v, and no other row changed
+pub record EndsMoved (i v w : ℕ) (ends ends′ : List ℕ) : Type 0 where
+  pub here : (lengths : List Float) → rowAt ends′ lengths i ≡ moved v w (rowAt ends lengths i)
+  pub others : (lengths : List Float) (j : ℕ) → j < length ends / 4 → (j ≡ i → ⊥) → rowAt ends′ lengths j ≡ rowAt ends lengths j
+
+-- rows below m are as they were
+abbrev pub SameRows : ℕ → List ℕ → List ℕ → List Float → List Float → Type 0
+SameRows m ends ends′ lengths lengths′ = (j : ℕ) → j < m → rowAt ends′ lengths′ j ≡ rowAt ends lengths j
+
+-- what copies of an edge ask
+pub record CopyRoom (before k n count m room lv lg le ll : ℕ) : Type 0 where
+  pub ring : RingRoom n k lv lg
+  pub small : before + count ≤ 65536
+  pub rows : m ≤ room
+  pub columns : EdgeRoom room le ll
+
+-- a copy of e for each group of the ring of x from `from` on stands behind the m edges
+pub record CopiesGrown (e : Edge) (x from v before k n count m room : ℕ) (verts groups ends ends′ : List ℕ) (lengths lengths′ : List Float) (r : Grown) : Type 0 where
+  pub copies :
+      (O : Opening) → Ringed k O n verts groups → O .count ≡ count
+      → GrownTo r room (edgesAt m ends lengths ++ map (λ g. calm (moved v (copyFor v before g) e)) (ringFrom O from x)) (λ q. edgesAt q ends′ lengths′)
+  pub same : SameRows m ends ends′ lengths lengths′
+  pub between : Between m room r
+
+-- what edge i of m asks: one that is no element names particles that rest in the block
+pub record SettleRoom (K : Kind) (i v before k n count p m room : ℕ) (verts groups : List ℕ) (lp : ℕ) (ends : List ℕ) (lengths : List Float) : Type 0 where
+  pub copy : CopyRoom before k n count m room (length verts) (length groups) (length ends) (length lengths)
+  pub rests : p ≤ lp / 6
+  pub v-in : v < p
+  pub corners-in : CornersBelow p n k verts
+  pub i-in : i < m
+  pub ends-in : element? K (rowAt ends lengths i) ≡ false → (rowAt ends lengths i .a < p) × (rowAt ends lengths i .b < p)
+
+-- edge i of m stays in the lowest of its groups, and its copies stand behind the m edges
+pub record EdgeSettled (K : Kind) (i v before k n count p m room : ℕ) (verts groups : List ℕ) (points : List Float) (ends ends′ : List ℕ) (lengths lengths′ : List Float) (r : Grown) : Type 0 where
+  pub settled :
+      (O : Opening) (M : Mesh) → OpeningIn O M v before k n count p verts groups points
+      → GrownTo r room (set (edgesAt m ends lengths) i (stayed K M O (rowAt ends lengths i)) ++ doubled K M O (rowAt ends lengths i)) (λ q. edgesAt q ends′ lengths′)
+  pub others : (j : ℕ) → j < m → (j ≡ i → ⊥) → rowAt ends′ lengths′ j ≡ rowAt ends lengths j
+  pub between : Between m room r
+
+-- what the first e edges ask: those that are no element name particles that rest in the block
+pub record EdgesRoom (K : Kind) (v before k n count p e room : ℕ) (verts groups : List ℕ) (lp : ℕ) (ends : List ℕ) (lengths : List Float) : Type 0 where
+  pub copy : CopyRoom before k n count e room (length verts) (length groups) (length ends) (length lengths)
+  pub rests : p ≤ lp / 6
+  pub v-in : v < p
+  pub corners-in : CornersBelow p n k verts
+  pub ends-in : (j : ℕ) → j < e → element? K (rowAt ends lengths j) ≡ false → (rowAt ends lengths j .a < p) × (rowAt ends lengths j .b < p)
+
+-- ---- straddlers
+
+-- v and its copies: `copies` of an opening at v, with so many particles before it, of so many groups
+abbrev pub copiesBy : ℕ → ℕ → ℕ → List ℕ
+copiesBy v before count = v ∷ map (λ g. before + g) (upTo (count - 1))
+
+-- an opening in tables, and a mesh whose elements stand in a table
+pub record Straddling (K : Kind) (O : Opening) (M : Mesh) (v before k n count : ℕ) (verts groups : List ℕ) (body-n body-k : ℕ) (body : List ℕ) : Type 0 where
+  pub at : O .v ≡ v
+  pub before-is : O .before ≡ before
+  pub count-is : O .count ≡ count
+  pub ringed : Ringed k O n verts groups
+  pub cornered : Cornered body-k (elementsOf K M) body-n body
+
+-- what a straddler test asks
+pub record StraddleRoom (k n lv lg body-n body-k lb : ℕ) : Type 0 where
+  pub ring : RingRoom n k lv lg
+  pub body : body-n * body-k ≤ lb
+
+-- r tells whether edge i straddles
+pub record StraddleTold (K : Kind) (i v before k n count : ℕ) (verts groups : List ℕ) (body-n body-k : ℕ) (body ends : List ℕ) (r : Bool) : Type 0 where
+  pub is :
+      (O : Opening) (M : Mesh) (lengths : List Float) → Straddling K O M v before k n count verts groups body-n body-k body
+      → r ≡ straddles K M O (rowAt ends lengths i)
+
+-- the mask marks the straddlers among the first e edges, and r of them are marked
+pub record StraddlersMarked (K : Kind) (v before k n count e : ℕ) (verts groups : List ℕ) (body-n body-k : ℕ) (body ends mask′ : List ℕ) (r : ℕ) : Type 0 where
+  pub marks :
+      (O : Opening) (M : Mesh) (lengths : List Float) → Straddling K O M v before k n count verts groups body-n body-k body
+      → (i : ℕ) → i < e → getD mask′ i 0 ≡ pick (straddles K M O (rowAt ends lengths i)) 1 0
+  pub kept :
+      (O : Opening) (M : Mesh) (lengths : List Float) → Straddling K O M v before k n count verts groups body-n body-k body
+      → keep mask′ (edgesAt e ends lengths) ≡ sift (λ (a : Edge). not (straddles K M O a)) (edgesAt e ends lengths)
+  pub counted :
+      (O : Opening) (M : Mesh) (lengths : List Float) → Straddling K O M v before k n count verts groups body-n body-k body
+      → r ≡ length (sift (straddles K M O) (edgesAt e ends lengths))
