@@ -2,7 +2,7 @@
 use mathlib.Core.Path.{_≡_, refl, sym, _∙_, ap, subst}
 use mathlib.Core.Bool.{Bool, true, false, not, _&&_}
 use mathlib.Core.List.{List, [], _∷_, _++_, map}
-use Prim.Native.Nat.{ℕ, zero, suc, _+_, _-_, _<_, _≤_}
+use Prim.Native.Nat.{ℕ, suc, _+_, _-_, _<_, _≤_}
 use native.Mathlib.Omega.{arith}
 use native.Mathlib.Nat.{le-trans, le-of-eq}
 use native.Mathlib.Decide.{ℕ-discrete}
@@ -11,27 +11,27 @@ use lib.IntN.{pos}
 use lib.Dec.{T, eqb, ltb}
 use lib.ListN.{length, getD, length-map}
 use lib.Ieee.{Float, binary32, fits, le}
-use Rattle.lists.specs.Lists.{pick, stands, all, sift, mapAt, each, upTo, tab, rest}
+use Rattle.lists.specs.Lists.{pick, stands, all, mapAt, each, upTo, rest}
 use Rattle.lists.proofs.Sifts.{sift-length}
 use Rattle.float.specs.Numbers.{zero32, absOf, invOf}
 use Rattle.float.specs.Ranges.{finite?, number?, volume?, notBelow0?}
 use Rattle.float.proofs.Limits.{limit-finite}
 use Rattle.model.specs.Mesh.{Particle, Triangle, Edge, Side, Mesh, blank}
 use Rattle.model.specs.Valid.{flag?, particleOk, triangleOk, edgeOk, numbersFit, indicesFit}
-use Rattle.model.specs.Elements.{Kind, Triangles, kindOf, elementsOf, farEnd, endsOf, fanOf}
-use Rattle.model.specs.Run.{Entry, Need, Rooms, Run, start, stepTo, splitsOf}
+use Rattle.model.specs.Elements.{Triangles, kindOf, elementsOf, farEnd, endsOf, fanOf}
+use Rattle.model.specs.Run.{Entry, Need, Rooms, Run, start, stepTo}
 use Rattle.model.specs.Split.{Opening, openingOf, splits?, made, weighed, massOf, portion, onlyAt, copied, groupAt, copyOf, retargeted, moved, rewiredTriangles, rewiredStraps, edgeGroups, other?, calm, stayed, doubled, otherEdges, straddles, atLongest, settled, splitMade, splitBySides}
 use Rattle.model.specs.Pieces.{across?, spans, pieceLabels, withoutStraddlers, straddlersGone, removeStraddlers}
-use Rattle.model.specs.Cut.{Blade, slack, slackened, cut}
+use Rattle.model.specs.Cut.{slack, slackened, cut}
 use Rattle.model.specs.Crack.{hurt, damagedAt, bridges, torn, crack}
-use Rattle.model.specs.Calls.{bladeOk, fractionOk, sidesOk, trianglesLent, refusal, tooSmall, firstFault, Outcome, refused, done, fitted, outcome, unless, cutCall, crackCall, splitCall, straddlersCall}
+use Rattle.model.specs.Calls.{bladeOk, fractionOk, sidesOk, trianglesLent, tooSmall, firstFault, outcome, cutCall, crackCall, splitCall, straddlersCall}
 use Rattle.model.specs.Trace.{All, Sound}
 use Rattle.model.proofs.Traced.{splits-here}
 use Rattle.model.proofs.Steps.{fault-front}
-use Rattle.model.proofs.Kept.{accepted-sound, outcome-done, unless-done, no-refusal, Passed}
+use Rattle.model.proofs.Kept.{accepted-sound, unless-done, no-refusal, Passed}
 use Rattle.model.proofs.Accepted.{accepted-indexed, indexed-accepted, cut-accepted, crack-accepted, split-accepted, straddlers-accepted}
 use Rattle.model.proofs.Indexed.{Pair, Indexed, Ends, Sides}
-use Rattle.model.proofs.Laws.{and-true, both, false-true, pick-both, all-in, all-over, all-append, all-map, all-mapAt, all-eachOf, all-sift, all-below, all-from, all-to, all-yes, length-mapAt}
+use Rattle.model.proofs.Laws.{and-true, both, pick-both, all-in, all-over, all-append, all-map, all-mapAt, all-eachOf, all-sift, all-below, all-from, all-to, all-yes, length-mapAt}
 use Rattle.lineage.specs.History.{Stored, Called, cutting, cracking, splitting, removing, Moved, History, first, calling, moving, HostStores, Accepted, Again}
 use Rattle.lineage.proofs.Induction.{Sided, Behind, nothing-more, tearing, Kept}
 use Rattle.lineage.proofs.Grown.{Grown, Growing, growing-start, growing-kept}
@@ -42,6 +42,7 @@ use Rattle.lineage.proofs.Masses.{VolumeOk, mass-ok}
 
 -- ---- a mesh whose numbers are in range and stored
 
+-- a particle, a triangle, an edge whose numbers are in range, with a mass and a volume that f32 holds
 abbrev FineParticle : Particle → Type 0
 FineParticle p = (particleOk p ≡ true) × T (fits binary32 (p .mass))
 
@@ -51,6 +52,7 @@ FineTriangle t = (triangleOk t ≡ true) × T (fits binary32 (t .volume))
 abbrev FineEdge : Edge → Type 0
 FineEdge e = edgeOk e ≡ true
 
+-- all of a mesh, of at most 1,024 triangles
 pub record Fine (M : Mesh) : Type 0 where
   pub particles : All FineParticle (M .particles)
   pub triangles : All FineTriangle (M .triangles)
@@ -256,6 +258,7 @@ fine-kept =
 
 -- ---- a run that is done fits the rooms
 
+-- a mesh has room
 pub record Fits (L : Rooms) (M : Mesh) : Type 0 where
   pub particles : length (M .particles) ≤ L .particles
   pub edges : length (M .edges) ≤ L .edges

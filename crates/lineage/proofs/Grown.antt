@@ -1,8 +1,8 @@
 -- What a split, a removal of straddlers and the host do to a mesh of triangles: what triangles hold stays held, new particles are held, and the roots of each triangle stay.
 -- Assumes nothing.
 use mathlib.Core.Path.{_≡_, refl, sym, _∙_, ap, ap₂, subst}
-use mathlib.Core.Bool.{Bool, true, false}
-use mathlib.Core.Logic.{_⊎_, inl, inr, ⊎-elim}
+use mathlib.Core.Bool.{Bool, true}
+use mathlib.Core.Logic.{_⊎_, ⊎-elim}
 use mathlib.Core.List.{List, [], _∷_, _++_, map, map-map, map-append}
 use Prim.Native.Nat.{ℕ, zero, suc, _+_, _-_, _<_, _≤_}
 use native.Mathlib.Omega.{arith}
@@ -11,23 +11,22 @@ use borrow.Author.Tests.{eq-eqb, ne-eqb}
 use lib.Dec.{eqb}
 use lib.ListN.{length, getD, length-map, List·getD-append}
 use lib.Seq.{getD-append-add}
-use Rattle.lists.specs.Lists.{pick, stands, mapAt, each, upTo, tab}
+use Rattle.lists.specs.Lists.{pick, stands, mapAt, each, upTo}
 use Rattle.lists.specs.Labels.{replaced}
 use Rattle.lists.proofs.Stores.{replaced-case, map-at}
 use Rattle.lists.proofs.Sifts.{upTo-length}
-use Rattle.float.specs.Numbers.{zero32}
-use Rattle.model.specs.Mesh.{Particle, Triangle, Edge, Mesh, blank, blankTriangle}
-use Rattle.model.specs.Elements.{Triangles, particle, cornersOf, elementsOf}
-use Rattle.model.specs.Run.{Entry, Need, Run, start, stepTo, splitOf, splitsOf, split as splitEntry}
-use Rattle.model.specs.Split.{Opening, openingOf, splits?, made, copyFor, copyOf, portion, onlyAt, copied, groupAt, retargeted, rewiredTriangles, atLongest, settled, splitEntries, goneEntries, straddles, splitMade, splitStep}
+use Rattle.model.specs.Mesh.{Particle, Triangle, Mesh, blank, blankTriangle}
+use Rattle.model.specs.Elements.{Triangles, particle, cornersOf}
+use Rattle.model.specs.Run.{Entry, Need, Run, start, stepTo, splitsOf, split as splitEntry}
+use Rattle.model.specs.Split.{Opening, splits?, made, copyFor, copyOf, portion, onlyAt, copied, groupAt, retargeted, rewiredTriangles, atLongest, settled, straddles, splitMade, splitStep}
 use Rattle.model.specs.Pieces.{withoutStraddlers, straddlersGone, removeStraddlers}
 use Rattle.model.specs.Cut.{slackened}
 use Rattle.model.specs.Crack.{hurt, damagedAt, torn}
 use Rattle.model.specs.Trace.{All, Sound, Hold, Held}
 use Rattle.model.proofs.Traced.{Fitting, opening-fits, copiesFrom, step-splits, splits-here, copied-length, at-below, sound-step, Still, still-torn, all-any, Any}
 use Rattle.model.proofs.Holding.{opening-full, split-held}
-use Rattle.model.proofs.Laws.{all-map, all-mapAt, all-over, all-append, tab-all, map-mapAt, length-mapAt, pick-both}
-use Rattle.lineage.specs.History.{Moved, rootsOf}
+use Rattle.model.proofs.Laws.{all-mapAt, all-over, all-append, tab-all, map-mapAt, length-mapAt, pick-both}
+use Rattle.lineage.specs.History.{rootsOf}
 use Rattle.lineage.proofs.Induction.{Sided, Behind, nothing-more, tearing, Kept}
 
 -- M′ has come from M: as many triangles, of three different particles each; what a triangle held some triangle holds, and each new particle too; roots stay
@@ -55,6 +54,7 @@ grown-then {M} {M′} {M″} G H =
 
 -- ---- the column of roots
 
+-- the roots of all particles, and the roots of a triangle's particles read off such a column
 abbrev pub column : Mesh → List ℕ
 column M = map (λ (p : Particle). p .root) (M .particles)
 
@@ -69,9 +69,13 @@ rootsBy col t = map (λ x. getD col x 0) (cornersOf t)
 pub roots-by : (M : Mesh) (t : Triangle) → rootsOf M t ≡ rootsBy (column M) t
 roots-by M t = rw (root-at (M .particles) (t .a), root-at (M .particles) (t .b), root-at (M .particles) (t .c))
 
+-- functions that agree on every element
+pub map-all : {A B : Type 0} (P : A → Type 0) (f g : A → B) → ((a : A) → P a → f a ≡ g a) → (l : List A) → All P l → map f l ≡ map g l
+map-all P f g h [] u = refl
+map-all {B = B} P f g h (a ∷ l) u = ap₂ {C = List B} (λ x y. x ∷ y) (h a (u .0)) (map-all P f g h l (u .1))
+
 pub map-ext : {A B : Type 0} (f g : A → B) → ((a : A) → f a ≡ g a) → (l : List A) → map f l ≡ map g l
-map-ext f g h [] = refl
-map-ext {B = B} f g h (a ∷ l) = ap₂ {C = List B} (λ x y. x ∷ y) (h a) (map-ext f g h l)
+map-ext f g h l = map-all Any f g (λ a u. h a) l (all-any l)
 
 portion-root : (O : Opening) (g : ℕ) (p : Particle) → portion O g p .root ≡ p .root
 unfolding portion
@@ -92,6 +96,7 @@ copied-column O ps =
 
 -- behind a split at v, with w of group g for v, each particle's root is what it was
 module _ (col : List ℕ) (n v k r : ℕ) (long : length col ≡ n) (is : getD col v 0 ≡ r) (low : v < n) where
+  -- the column with k copies of v behind it
   pub wide : List ℕ
   wide = col ++ map (λ g. r) (upTo k)
 
@@ -121,6 +126,7 @@ module _ (col : List ℕ) (n v k r : ℕ) (long : length col ≡ n) (is : getD c
 
 -- ---- what is done behind a split
 
+-- it leaves the triangles, the number of particles, and the roots
 pub record Steady (f : Mesh → Mesh) : Type 0 where
   pub still : Still f
   pub column : (M : Mesh) → map (λ (p : Particle). p .root) (f M .particles) ≡ map (λ (p : Particle). p .root) (M .particles)
@@ -138,9 +144,11 @@ behind-steady O f (tearing xy) = record { still = still-torn O xy; column = torn
 -- ---- one split
 
 module _ (R : Run) (S : All (Sound (length (R .mesh .particles))) (R .mesh .triangles)) (O : Opening) (D : Sided (R .mesh) O) (yes? : splits? O (R .mesh) ≡ true) (f : Mesh → Mesh) (Y : Steady f) where
+  -- the mesh behind the split
   pub after : Mesh
   after = f (settled Triangles O (atLongest Triangles O (R .mesh)))
 
+  -- triangle i with its group's copy for v
   abbrev turned : ℕ → Triangle → Triangle
   turned i = retargeted (O .v) (copyOf O (groupAt (O .fan) i))
 

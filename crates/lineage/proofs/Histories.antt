@@ -1,34 +1,34 @@
 -- The theorems on histories of triangle meshes: `traced-always`, `held-always`, `particles-bounded`, `runs-bounded`, `room-suffices`. Assumes nothing.
-use mathlib.Core.Path.{_≡_, refl, sym, _∙_, ap, ap₂, subst}
+use mathlib.Core.Path.{_≡_, refl, sym, _∙_, ap, subst}
 use mathlib.Core.Bool.{Bool, true, false, not, _&&_, _||_}
 use mathlib.Core.Logic.{_⊎_, inl, inr, ⊎-elim}
 use mathlib.Core.List.{List, [], _∷_, _++_, map, map-map}
 use Prim.Native.Nat.{ℕ, zero, suc, _+_, _-_, _*_, _<_, _≤_}
 use native.Mathlib.Omega.{arith}
 use borrow.Author.Tests.{le-ltb}
-use lib.Dec.{eqb, ltb, leb}
-use lib.ListN.{length, getD, length-append}
-use lib.Ieee.{Float}
-use Rattle.lists.specs.Lists.{pick, stands, each, upTo, rising}
+use lib.Dec.{eqb, ltb}
+use lib.ListN.{length, getD}
+use Rattle.lists.specs.Lists.{pick, stands, each, upTo}
 use Rattle.lists.proofs.Sifts.{stands-append, upTo-at, or-true}
-use Rattle.model.specs.Mesh.{Particle, Triangle, Mesh, blankTriangle}
+use Rattle.float.proofs.Picks.{or-yes-1}
+use Rattle.model.specs.Mesh.{Triangle, Mesh, blankTriangle}
 use Rattle.model.specs.Valid.{numbersFit, indicesFit}
 use Rattle.model.specs.Elements.{Kind, Triangles, kindBy, kindOf, cornersOf}
 use Rattle.model.specs.Run.{Entry, Need, Rooms, Run, start, splitOf, splitsOf}
 use Rattle.model.specs.Split.{splitBySides}
 use Rattle.model.specs.Pieces.{removeStraddlers}
-use Rattle.model.specs.Cut.{Blade, cutFacets, cut}
+use Rattle.model.specs.Cut.{cut}
 use Rattle.model.specs.Crack.{crack}
 use Rattle.model.specs.Calls.{bladeOk, fractionOk, sidesOk, trianglesLent, refusal, tooSmall, firstFault, Outcome, refused, done, fitted, outcome, unless, cutCall, crackCall, splitCall, straddlersCall}
 use Rattle.model.specs.Trace.{All, originOf, Sound, tracedBack, Hold, Kept}
 use Rattle.model.proofs.Traced.{origin-append}
 use Rattle.model.proofs.Kept.{accepted-sound, outcome-done, unless-done, no-refusal, cut-keeps, crack-keeps, split-keeps, straddlers-keep}
 use Rattle.model.proofs.Splitting.{Sided, sides-accepted}
-use Rattle.model.proofs.Laws.{and-true, false-true, all-over, all-append, each-append, stands-case}
+use Rattle.model.proofs.Laws.{and-true, false-true, all-over, all-append, each-append}
 use Rattle.lineage.specs.History.{Begins, Moved, History, Called, cutting, cracking, splitting, removing, first, calling, moving, rootsOf, Lasting, inUse, mostParticles, EveryRun, Within, Unrefused, Roomy}
 use Rattle.lineage.proofs.Induction.{sides-kept, cut-kept, crack-kept, Kept as KeptBySteps}
 use Rattle.lineage.proofs.Counting.{among, among-room, among-most}
-use Rattle.lineage.proofs.Grown.{Grown, grown-same, grown-then, column, rootsBy, roots-by, map-ext, Growing, growing-start, growing-kept}
+use Rattle.lineage.proofs.Grown.{Grown, grown-same, grown-then, column, rootsBy, roots-by, map-all, map-ext, Growing, growing-start, growing-kept}
 use Rattle.lineage.proofs.Moves.{moved-grown, by-corners}
 
 -- ---- the runs of the calls on triangles
@@ -59,6 +59,7 @@ every-run P K M p k =
 run-over : (P Q : Run → Type 0) (M : Mesh) → ((R : Run) → P R → Q R) → EveryRun P M → EveryRun Q M
 run-over P Q M f E = record { cuts = λ B g. f _ (E .cuts B g); cracks = λ is min. f _ (E .cracks is min); splits = λ v sides e. f _ (E .splits v sides e); straddlers = f _ (E .straddlers) }
 
+-- the number of a refusal
 numbered : Outcome → ℕ
 numbered (refused n) = n
 numbered (done M l c) = 0
@@ -97,6 +98,7 @@ called-keeps L M k (removing {M′} {more} {c} e) = straddlers-keep true M L M�
 
 -- ---- what a history keeps
 
+-- from M₀ to the mesh now
 pub record Line (M₀ M : Mesh) (log : List Entry) : Type 0 where
   pub begins : Begins M₀
   pub grown : Grown M₀ M
@@ -164,10 +166,6 @@ root-own col n e t S =
     let r : (x : ℕ) → x < n → getD col x 0 ≡ x = λ x u. ap (λ (l : List ℕ). getD l x 0) e ∙ upTo-at n x u in
     rw (r (t .a) (S .a), r (t .b) (S .b), r (t .c) (S .c))
 
-map-all : {A B : Type 0} (P : A → Type 0) (f g : A → B) → ((a : A) → P a → f a ≡ g a) → (l : List A) → All P l → map f l ≡ map g l
-map-all P f g h [] u = refl
-map-all {B = B} P f g h (a ∷ l) u = ap₂ {C = List B} (λ x y. x ∷ y) (h a (u .0)) (map-all P f g h l (u .1))
-
 -- After any history every triangle has three different particles, stands in its place, and is the triangle that it was: traced back through the logs, and by the roots.
 pub traced-always : {M₀ M : Mesh} {log : List Entry} → History M₀ M log → Lasting M₀ M log
 traced-always {M₀} {M} h =
@@ -187,10 +185,6 @@ held-always h = line-of h .copies
 
 -- ---- the number of particles
 
-or-first : (s t : Bool) → s ≡ true → s || t ≡ true
-or-first true t e = refl
-or-first false t e = absurd (false-true e)
-
 or-case : (s t : Bool) → s || t ≡ true → (s ≡ true) ⊎ (t ≡ true)
 or-case true t e = inl refl
 or-case false t e = inr e
@@ -199,7 +193,7 @@ or-case false t e = inr e
 hold-stands : (x : ℕ) (ts : List Triangle) (i : ℕ) → i < length ts → stands x (cornersOf (getD ts i blankTriangle)) ≡ true → stands x (each cornersOf ts) ≡ true
 unfolding each
 hold-stands x [] i u e = absurd (let z : i < 0 = u in omega arith)
-hold-stands x (t ∷ ts) zero u e = stands-append x (cornersOf t) (each cornersOf ts) ∙ or-first (stands x (cornersOf t)) (stands x (each cornersOf ts)) e
+hold-stands x (t ∷ ts) zero u e = stands-append x (cornersOf t) (each cornersOf ts) ∙ or-yes-1 (stands x (each cornersOf ts)) e
 hold-stands x (t ∷ ts) (suc i) u e = stands-append x (cornersOf t) (each cornersOf ts) ∙ or-true (stands x (cornersOf t)) (stands x (each cornersOf ts)) (hold-stands x ts i (omega arith) e)
 
 stands-hold : (x : ℕ) (ts : List Triangle) → stands x (each cornersOf ts) ≡ true → Hold x ts

@@ -8,7 +8,7 @@ use native.Mathlib.Omega.{arith}
 use lib.ListN.{length, length-map}
 use lib.Ieee.{Float}
 use Rattle.lists.specs.Lists.{pick, fold, each, empty}
-use Rattle.model.specs.Mesh.{Particle, Mesh}
+use Rattle.model.specs.Mesh.{Mesh}
 use Rattle.model.specs.Elements.{Triangles, Element, fanOf}
 use Rattle.model.specs.Run.{Entry, Run, splitsOf}
 use Rattle.model.specs.Split.{Opening, openingOf, splits?, splitMade, splitStep, splitBySides}

@@ -1,22 +1,21 @@
 -- The masses that a split of triangles gives are in range: the weights of the groups are at least 0 and at most their total, which is below 2 ^ 64. Assumes nothing.
-use mathlib.Core.Path.{_≡_, refl, sym, ap, _∙_, subst}
-use mathlib.Core.Bool.{Bool, true, false, not, _||_, _&&_}
+use mathlib.Core.Path.{_≡_, refl, ap, _∙_}
+use mathlib.Core.Bool.{Bool, true, false}
 use mathlib.Core.List.{List, [], _∷_, map}
-use Prim.Native.Nat.{ℕ, zero, suc, _+_, _-_, _*_, _^_, _≤_, _<_, zero-le, suc-le-suc}
+use Prim.Native.Nat.{ℕ, zero, suc, _+_, _-_, _*_, _^_, _≤_, _<_, suc-le-suc}
 use native.Mathlib.Nat.{le-trans, le-of-eq, mul-one, mul-le-mul-right}
 use native.Mathlib.Omega.{arith}
-use lib.IntN.{ℤ, pos}
+use lib.IntN.{pos}
 use lib.Dec.{T, eqb, lit≤}
 use lib.ListN.{length, getD, length-map}
 use lib.Pow.{pow-pos}
 use lib.Ieee.{Float, nan, inf, fin, binary32, fits, lt, le}
 use lib.Ieee.Fits.{div-fits}
-use lib.Ieee.Exact.{HasValue}
 use lib.Ieee.Bits.{is-true}
 use lib.Ieee.Order.{le-of-values}
-use Rattle.lists.specs.Lists.{pick, stands, sift, fold, tab, upTo}
+use Rattle.lists.specs.Lists.{pick, stands, sift, upTo}
 use Rattle.lists.proofs.Sifts.{sift-length, upTo-length}
-use Rattle.float.specs.Numbers.{plus, over, zero32, count32, absOf, shareOf}
+use Rattle.float.specs.Numbers.{over, zero32, count32, absOf, shareOf}
 use Rattle.float.specs.Ranges.{number?, volume?, notBelow0?}
 use Rattle.float.proofs.Units.{units-of, abs-value, not-below}
 use Rattle.float.proofs.Limits.{limit-finite}
@@ -29,7 +28,7 @@ use Rattle.model.specs.Split.{Part, partsOf, Opening, openingOf, weightOf, tota
 use Rattle.model.specs.Trace.{All}
 use Rattle.model.proofs.Traced.{parts-all, Any, all-any}
 use Rattle.model.proofs.Laws.{pick-both, all-map, all-sift, all-below, tab-all}
-use Rattle.lineage.proofs.Sums.{Amount, UpTo, NoMore, Totalled, totalled-up, limit-units, equal-in-range}
+use Rattle.lineage.proofs.Sums.{UpTo, NoMore, Totalled, totalled-up, limit-units, equal-in-range}
 
 -- ---- how many groups
 

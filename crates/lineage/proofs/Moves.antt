@@ -1,8 +1,7 @@
 -- What the host leaves as it was: a mesh that was moved has grown from the mesh before it. Assumes nothing.
-use mathlib.Core.Path.{_≡_, refl, sym, _∙_, ap, ap₂, subst}
-use mathlib.Core.Bool.{Bool, true, false}
+use mathlib.Core.Path.{_≡_, refl, sym, _∙_, ap, subst}
 use mathlib.Core.List.{List, [], _∷_, map, map-map}
-use Prim.Native.Nat.{ℕ, zero, suc, _<_, _≤_}
+use Prim.Native.Nat.{ℕ, zero, suc}
 use native.Mathlib.Omega.{arith}
 use lib.ListN.{length, getD, length-map}
 use Rattle.lists.specs.Lists.{stands}
@@ -46,6 +45,7 @@ hold-moved ts ts′ e x h = (
 abbrev triangleOn : List ℕ → Triangle
 triangleOn l = record { a = getD l 0 0; b = getD l 1 0; c = getD l 2 0; volume = zero32; stress = zero32 }
 
+-- it is sound
 abbrev SoundOn : ℕ → List ℕ → Type 0
 SoundOn n l = Sound n (triangleOn l)
 

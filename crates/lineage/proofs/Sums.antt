@@ -1,18 +1,18 @@
 -- Sums of f32 numbers that are not below 0, each addition rounded: a sum is at least each of its numbers, and n numbers of at most 2 ^ j have a sum of at most n * 2 ^ j.
 -- With them: a mass divided by a count stays in range, and an inverse is finite. Assumes nothing.
 use mathlib.Core.Path.{_≡_, refl, sym, ap, ap₂, _∙_, subst}
-use mathlib.Core.Logic.{_⊎_, inl, inr}
-use mathlib.Core.Bool.{Bool, true, false, not, cond, _&&_, true≢false}
+use mathlib.Core.Logic.{inl, inr}
+use mathlib.Core.Bool.{Bool, true, false, cond, _&&_, true≢false}
 use mathlib.Core.List.{List, [], _∷_}
-use Prim.Native.Nat.{ℕ, zero, suc, _+_, _-_, _*_, _^_, _≤_, _<_, zero-le}
-use native.Mathlib.Nat.{le-trans, le-of-eq, le-of-lt, lt-of-le-of-lt, mul-one, one-mul, zero-mul, mul-assoc, mul-right-comm, add-mul, suc-mul, mul-le-mul, mul-le-mul-right, le-of-mul-le-mul-right, eq-of-mul-eq-mul-right, eq-zero-or-pos, zero-lt-suc, mul-pos, lt-of-lt-of-le, mul-le-mul-left}
+use Prim.Native.Nat.{ℕ, suc, _+_, _-_, _*_, _^_, _≤_, _<_, zero-le}
+use native.Mathlib.Nat.{le-trans, le-of-eq, le-of-lt, lt-of-le-of-lt, mul-one, one-mul, mul-assoc, mul-right-comm, add-mul, suc-mul, mul-le-mul, mul-le-mul-right, le-of-mul-le-mul-right, eq-of-mul-eq-mul-right, eq-zero-or-pos, zero-lt-suc, mul-pos, lt-of-lt-of-le, mul-le-mul-left}
 use native.Mathlib.Omega.{arith}
 use native.Mathlib.Decide.{decLt}
-use lib.IntN.{ℤ, pos, negsuc}
+use lib.IntN.{pos, negsuc}
 use lib.Dec.{T, lit<, lit≤}
 use lib.ListN.{length}
 use lib.Pow.{pow-pos, pow-mono}
-use lib.Ieee.{Float, nan, inf, fin, binary32, up, down, unlike, round, sum as sumOf, fits, add, div, ofInt, neg, lt, le}
+use lib.Ieee.{Float, nan, inf, fin, binary32, up, down, unlike, round, sum as sumOf, fits, add, ofInt, neg, le}
 use lib.Ieee.Fits.{down-pos, add-fits}
 use lib.Ieee.Exact.{HasValue, round-exact}
 use lib.Ieee.Bits.{is-true}
@@ -21,8 +21,8 @@ use lib.Ieee.Scale.{grid, round-same}
 use lib.Ieee.Positive.{positive, positive-of-value, above, above-of-le, values-of-le}
 use Rattle.lists.specs.Lists.{fold}
 use Rattle.float.specs.Numbers.{plus, over, zero32, one, tiny, count32, absOf, invOf}
-use Rattle.float.specs.Ranges.{finite?, number?, notBelow0?}
-use Rattle.float.proofs.Units.{units-of, abs-value, value-finite, not-below}
+use Rattle.float.specs.Ranges.{finite?, number?}
+use Rattle.float.proofs.Units.{units-of, abs-value, value-finite}
 use Rattle.float.proofs.Products.{div-of}
 use Rattle.float.proofs.Limits.{between, limit-finite}
 use Rattle.float.proofs.Share.{not-past, round-sized}

@@ -1,21 +1,21 @@
 -- A worked history: two triangles that hang together by one particle are split there, and the bound on particles is reached. Assumes nothing.
 use mathlib.Core.Path.{_≡_, refl}
 use mathlib.Core.Bool.{true, false}
-use mathlib.Core.List.{List, [], _∷_, map}
+use mathlib.Core.List.{[], _∷_}
 use lib.IntN.{pos, negsuc}
 use lib.Dec.{lit<, lit≤}
 use lib.ListN.{length}
-use lib.Ieee.{Float, fin, neg, add, sub, mul, div, lt, le, eq, ne, ofInt, fits}
+use lib.Ieee.{fin, neg, add, sub, mul, div, lt, le, eq, ne, ofInt, fits}
 use Rattle.lists.specs.Lists.{any, all, sift, siftAt, find, fold, each, pairs, mapAt, tab, upTo, rising, distinct, disjoint}
 use Rattle.lists.specs.Labels.{merged, joinPair, joinRow, joinRows, labelled}
-use Rattle.float.specs.Numbers.{zero32, one, half, absOf, maxOf, invOf}
+use Rattle.float.specs.Numbers.{zero32, half, absOf, maxOf, invOf}
 use Rattle.float.specs.Ranges.{finite?, number?, volume?, notBelow0?}
 use Rattle.fan.specs.Groups.{labelsOf, numberOne, numberSide, numbered, groupsOf, countOf}
 use Rattle.model.specs.Mesh.{Particle, Mesh}
 use Rattle.model.specs.Valid.{particleOk, triangleOk, edgeOk, numbersFit, named, rootOk, cornersOk, endsOk, sideOk, indicesFit}
 use Rattle.model.specs.Elements.{sum, kindBy, kindOf, trianglesFrom, elementsOf, held, fanOf, gridOf}
 use Rattle.model.specs.Split.{partsOf, openingOf, splits?, made, weightOf, totalOf, massOf, portion, copied, groupAt, rewiredTriangles, rewiredStraps, ring, edgeGroups, stayed, doubled, otherEdges, parted, straddles, sideGroup, followed, faceOn, facetsAt, crackFacets, atLongest, settled, splitEntries, goneEntries, splitMade, splitStep, splitBySides}
-use Rattle.model.specs.Run.{Entry, split, start, stepTo, splitsOf, changed}
+use Rattle.model.specs.Run.{split, start, stepTo, splitsOf, changed}
 use Rattle.model.specs.Calls.{sidesOk, refusal, tooSmall, firstFault, done, outcome, splitCall}
 use Rattle.model.specs.Starred.{point, free, triangle, limits}
 use Rattle.lineage.specs.History.{Stored, Accepted, Begins, splitting, History, first, calling, inUse, mostParticles}

@@ -3,7 +3,7 @@
 use Prim.Native.Nat.{ℕ, _+_, _-_, _*_, _<_, _≤_}
 use mathlib.Core.Path.{_≡_}
 use mathlib.Core.Bool.{Bool, true}
-use mathlib.Core.List.{List, [], _∷_, _++_, map}
+use mathlib.Core.List.{List, [], _++_, map}
 use lib.ListN.{length}
 use lib.Dec.{T}
 use lib.Ieee.{Float, binary32, fits}
@@ -17,7 +17,7 @@ use Rattle.model.specs.Pieces.{removeStraddlers}
 use Rattle.model.specs.Cut.{Blade, cut}
 use Rattle.model.specs.Crack.{crack}
 use Rattle.model.specs.Calls.{sidesOk, firstFault, refused, done, cutCall, crackCall, splitCall, straddlersCall}
-use Rattle.model.specs.Trace.{All, Sound, tracedBack, Hold}
+use Rattle.model.specs.Trace.{All, Sound, tracedBack}
 
 -- the first mesh: it has a triangle, it is accepted, and each particle is its own root
 pub record Begins (M : Mesh) : Type 0 where
