@@ -1,9 +1,9 @@
 -- What holds of an accepted mesh: its elements name its particles, and it is small enough for the tables.
-use Prim.Native.Nat.{ℕ, zero, suc, _*_, _/_, _<_, _≤_}
+use Prim.Native.Nat.{ℕ, suc, _*_, _/_, _<_, _≤_}
 use native.Mathlib.Omega.{arith}
 use native.Mathlib.Nat.{mul-le-mul-right}
 use mathlib.Core.Path.{_≡_, refl, sym, _∙_, ap, subst}
-use mathlib.Core.Bool.{Bool, true, false, not, _&&_, false≢true}
+use mathlib.Core.Bool.{Bool, true, false, not, _&&_}
 use mathlib.Core.List.{List, [], _∷_}
 use lib.Dec.{ltb}
 use lib.Ieee.{Float}
@@ -15,9 +15,9 @@ use Rattle.lists.proofs.Sifts.{and-true, true-and, all-append, all-get}
 use Rattle.lists.proofs.Stores.{tab-length}
 use Rattle.model.specs.Mesh.{Triangle, Edge, Mesh}
 use Rattle.model.specs.Valid.{named, rootOk, cornersOk, endsOk, sideOk, indicesFit}
-use Rattle.model.specs.Elements.{Kind, Triangles, Straps, Nothing, Element, kindOf, kindBy, elementsOf, fanOf, cornersOf, endsOf, structural?, strapElement, trianglesFrom, strapsFrom, cornersPer, facetOthers, sum, restMeasure, restMeasureOf}
+use Rattle.model.specs.Elements.{Kind, Triangles, Straps, Nothing, Element, kindOf, elementsOf, cornersOf, endsOf, structural?, strapElement, trianglesFrom, strapsFrom, cornersPer, facetOthers, sum, restMeasure, restMeasureOf}
 use Rattle.mesh.specs.At.{triangleRow, trianglesAt, edgesAt, meshAt}
-use Rattle.mesh.specs.Given.{Given, meshOf, sizes, sizesFit}
+use Rattle.mesh.specs.Given.{Given, meshOf, sizes}
 use Rattle.mesh.proofs.Joined.{Sized, sizes-told}
 use Rattle.mesh.proofs.Lists.{particles-length, edges-length}
 use Rattle.elements.specs.declared.Kind.{Kind as KindCase}
@@ -27,7 +27,7 @@ use Rattle.elements.proofs.Filling.{triangles-length, straps-length}
 use Rattle.model.specs.Pieces.{pieces}
 use Rattle.model.specs.Calls.{strictly, particlesOk}
 use Rattle.elements.proofs.Measures.{rest-measure, rest-measure-of}
-use Rattle.pieces.specs.Counted.{Corners, PiecesCounted}
+use Rattle.pieces.specs.Counted.{PiecesCounted}
 use Rattle.bench.specs.Accepted.{Accepted, TableLent, MeshTabled, FanFound}
 
 -- ---- counts

@@ -2,3 +2,5 @@
 pub mod Asked
 pub mod Accepted
 pub mod Refusing
+pub mod Grouped
+pub mod Agree

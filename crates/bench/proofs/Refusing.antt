@@ -8,7 +8,6 @@ use mathlib.Core.Bool.{Bool, true, false, not, _&&_}
 use mathlib.Core.List.{List}
 use lib.Ieee.{Float}
 use Rattle.lists.specs.Lists.{pick, all}
-use Rattle.float.specs.declared.root.Rooted.{Rooted}
 use Rattle.blade.specs.declared.Point.{Point}
 use Rattle.blade.specs.declared.Hit.{Hit}
 use Rattle.blade.specs.Blade.{bladeHit}
@@ -17,7 +16,7 @@ use Rattle.model.specs.Elements.{restMeasure, restMeasureOf}
 use Rattle.model.specs.Pieces.{pieces}
 use Rattle.model.specs.Cut.{Blade}
 use Rattle.model.specs.Calls.{pointOk, bladeOk, refusal, strictly, particlesOk}
-use Rattle.model.specs.Reads.{Read, refused, value, orRefused, rooted, bladeCall, piecesCall, restMeasureCall, restMeasureOfCall}
+use Rattle.model.specs.Reads.{refused, value, orRefused, bladeCall, piecesCall, restMeasureCall, restMeasureOfCall}
 use Rattle.mesh.specs.Given.{Given, meshOf, sizesFit}
 use Rattle.mesh.specs.Checks.{thenCheck, firstFrom, faultOf}
 use Rattle.mesh.proofs.Joined.{then-zero}
@@ -25,11 +24,8 @@ use Rattle.mesh.proofs.Refusals.{fault-refuses}
 use Rattle.bench.specs.Accepted.{Accepted}
 use Rattle.bench.proofs.Accepted.{particles-count}
 use Rattle.bench.specs.Answers.{numberOf, countOf, testedOf}
-use Rattle.bench.specs.declared.Number.{Number}
 use Rattle.bench.specs.declared.Number.the-variants.{Refused as NumberRefused, Value}
-use Rattle.bench.specs.declared.Count.{Count}
 use Rattle.bench.specs.declared.Count.the-variants.{Refused as CountRefused, Counted}
-use Rattle.bench.specs.declared.Tested.{Tested}
 use Rattle.bench.specs.declared.Tested.the-variants.{Refused as TestRefused, Tested as TestedAs}
 
 -- a number that isn't 0 refuses

@@ -1,13 +1,10 @@
+-- `bench::reading::root` meets its contract. Assumes nothing.
 use Rattle.bench.specs.Answers.{numberOf}
 use Rattle.model.specs.Reads.{rooted}
--- `bench::reading::root` meets its contract. Assumes nothing.
-use mathlib.Core.Path.{_≡_, refl, sym, _∙_, ap}
+use mathlib.Core.Path.{sym, _∙_, ap}
 use borrow.Author.Needs.{needs}
 use Rattle.bench.proofs.reading.root.Statement.{statement}
 use Rattle.bench.proofs.reading.root.Tie as tie
-use Rattle.bench.proofs.reading.root.Reads as reads
-use Rattle.bench.proofs.reading.root.Lts as lts
-use Rattle.float.proofs.root.root.Reads as root-reads
 
 root-requires : tie.Need-root-requires
 root-requires c κs = search needs

@@ -9,8 +9,6 @@ use Rattle.lists.specs.Lists.{all}
 use Rattle.elements.proofs.Measures.{all-on, all-stop, all-end}
 use Rattle.bench.proofs.tests.all_below.Statement.{statement}
 use Rattle.bench.proofs.tests.all_below.Tie as tie
-use Rattle.bench.proofs.tests.all_below.Reads as reads
-use Rattle.bench.proofs.tests.all_below.Lts as lts
 
 abbrev Inv-loop : tie.InvT-loop
 Inv-loop n list i₀ i = (i ≤ length list) × (all (λ x. ltb x n) (drop i list) ≡ all (λ x. ltb x n) list)

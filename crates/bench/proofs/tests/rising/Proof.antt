@@ -7,8 +7,6 @@ use Rattle.model.specs.Calls.{strictly}
 use Rattle.bench.proofs.Asked.{strictly-on, strictly-stop, strictly-end}
 use Rattle.bench.proofs.tests.rising.Statement.{statement}
 use Rattle.bench.proofs.tests.rising.Tie as tie
-use Rattle.bench.proofs.tests.rising.Reads as reads
-use Rattle.bench.proofs.tests.rising.Lts as lts
 
 abbrev Inv-loop : tie.InvT-loop
 Inv-loop list i₀ i = (i ≤ length list - 1) × (strictly (drop i list) ≡ strictly list)
