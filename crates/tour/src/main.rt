@@ -1,10 +1,5 @@
 // Asks the bench about the worked mesh of document 01: a square of foam, two triangles that meet on its diagonal.
 use bench::Count;
-use bench::Number;
-use bench::Tested;
-use bench::Truth;
-use blade::Hit;
-use blade::Point;
 use libc::STDOUT_FILENO;
 
 fn say(text: &[u8]) {
@@ -20,23 +15,6 @@ fn say_count(text: &[u8], r: Count) {
         }
         Count::Counted(n) => {
             io::print_decimal(STDOUT_FILENO, n as u64);
-        }
-    }
-    say(b"\n");
-}
-
-// The measures asked here are small whole numbers.
-fn say_number(text: &[u8], r: Number) {
-    say(text);
-    match r {
-        Number::Refused(n) => {
-            say(b"refused ");
-            io::print_decimal(STDOUT_FILENO, n as u64);
-        }
-        Number::Value(x) => {
-            if x >= 0.0 && x <= 1000000.0 {
-                io::print_decimal(STDOUT_FILENO, std::num::truncating_f32_to_u64(x));
-            }
         }
     }
     say(b"\n");
@@ -62,20 +40,16 @@ fn main() {
         b"pieces: ",
         bench::reading::pieces(&points, &roots, &corners, &volumes, &ends, &lengths, &outline),
     );
-    say_number(
-        b"rest measure: ",
-        bench::reading::rest_measure(&points, &roots, &corners, &volumes, &ends, &lengths, &outline),
-    );
     say_count(
         b"groups at 0 if both triangles are on one side: ",
-        bench::reading::groups(&points, &roots, &corners, &volumes, &ends, &lengths, &outline, 0, &[0, 0], &mut table),
+        bench::grouping::groups(&points, &roots, &corners, &volumes, &ends, &lengths, &outline, 0, &[0, 0], &mut table),
     );
     say_count(
         b"groups at 0 if the diagonal parts them: ",
-        bench::reading::groups(&points, &roots, &corners, &volumes, &ends, &lengths, &outline, 0, &[0, 1], &mut table),
+        bench::grouping::groups(&points, &roots, &corners, &volumes, &ends, &lengths, &outline, 0, &[0, 1], &mut table),
     );
     say_count(
         b"groups at 0 by a side that is neither 0 nor 1: ",
-        bench::reading::groups(&points, &roots, &corners, &volumes, &ends, &lengths, &outline, 0, &[0, 2], &mut table),
+        bench::grouping::groups(&points, &roots, &corners, &volumes, &ends, &lengths, &outline, 0, &[0, 2], &mut table),
     );
 }
