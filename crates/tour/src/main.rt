@@ -23,8 +23,30 @@ fn say_count(text: &[u8], r: Count) {
 fn main() {
     // positions x and y, rest positions x and y, masses, inverse masses
     let points = [
-        0.0f32, 4.0, 4.0, 0.0, 0.0, 0.0, 4.0, 4.0, 0.0, 4.0, 4.0, 0.0, 0.0, 0.0, 4.0, 4.0, 1.0, 1.0, 1.0,
-        1.0, 1.0, 1.0, 1.0, 1.0,
+        0.0f32,
+        4.0,
+        4.0,
+        0.0,
+        0.0,
+        0.0,
+        4.0,
+        4.0,
+        0.0,
+        4.0,
+        4.0,
+        0.0,
+        0.0,
+        0.0,
+        4.0,
+        4.0,
+        1.0,
+        1.0,
+        1.0,
+        1.0,
+        1.0,
+        1.0,
+        1.0,
+        1.0,
     ];
     let roots = [0usize, 1, 2, 3, 0, 0, 0, 0];
     // triangles (0, 1, 2) and (0, 2, 3), of rest volume 8 each
@@ -38,18 +60,59 @@ fn main() {
     say(b"a square of foam, triangles (0, 1, 2) and (0, 2, 3)\n");
     say_count(
         b"pieces: ",
-        bench::reading::pieces(&points, &roots, &corners, &volumes, &ends, &lengths, &outline),
+        bench::reading::pieces(
+            &points,
+            &roots,
+            &corners,
+            &volumes,
+            &ends,
+            &lengths,
+            &outline,
+        ),
     );
     say_count(
         b"groups at 0 if both triangles are on one side: ",
-        bench::grouping::groups(&points, &roots, &corners, &volumes, &ends, &lengths, &outline, 0, &[0, 0], &mut table),
+        bench::grouping::groups(
+            &points,
+            &roots,
+            &corners,
+            &volumes,
+            &ends,
+            &lengths,
+            &outline,
+            0,
+            &[0, 0],
+            &mut table,
+        ),
     );
     say_count(
         b"groups at 0 if the diagonal parts them: ",
-        bench::grouping::groups(&points, &roots, &corners, &volumes, &ends, &lengths, &outline, 0, &[0, 1], &mut table),
+        bench::grouping::groups(
+            &points,
+            &roots,
+            &corners,
+            &volumes,
+            &ends,
+            &lengths,
+            &outline,
+            0,
+            &[0, 1],
+            &mut table,
+        ),
     );
     say_count(
         b"groups at 0 by a side that is neither 0 nor 1: ",
-        bench::grouping::groups(&points, &roots, &corners, &volumes, &ends, &lengths, &outline, 0, &[0, 2], &mut table),
+        bench::grouping::groups(
+            &points,
+            &roots,
+            &corners,
+            &volumes,
+            &ends,
+            &lengths,
+            &outline,
+            0,
+            &[0, 2],
+            &mut table,
+        ),
     );
 }

@@ -1,0 +1,68 @@
+-- `trial::ask_sides` meets its contract. Each part of a block is as long as asked. Assumes nothing.
+use mathlib.Core.Path.{sym}
+use native.Mathlib.Omega.{arith}
+use lib.Seq.{length-take-le}
+use borrow.Author.Needs.{needs}
+use Rattle.trial.proofs.ask_sides.Statement.{statement}
+use Rattle.trial.proofs.ask_sides.Tie as tie
+use Rattle.trial.proofs.ask_sides.Reads as reads
+use Rattle.trial.proofs.ask_sides.Lts as lts
+use Rattle.bench.proofs.reading.pieces.Reads as pieces-reads
+use Rattle.trial.proofs.count.Reads as count-reads
+
+mul-a : tie.Need-mul-a
+mul-a c = search needs
+
+slice-aggregate-pieces : tie.Need-slice-aggregate-pieces
+slice-aggregate-pieces c = search needs
+
+slice-aggregate-pieces-2 : tie.Need-slice-aggregate-pieces-2
+slice-aggregate-pieces-2 c = search needs
+
+slice-aggregate-pieces-3 : tie.Need-slice-aggregate-pieces-3
+slice-aggregate-pieces-3 c = search needs
+
+slice-aggregate-pieces-4 : tie.Need-slice-aggregate-pieces-4
+slice-aggregate-pieces-4 c = search needs
+
+slice-aggregate-pieces-5 : tie.Need-slice-aggregate-pieces-5
+slice-aggregate-pieces-5 c = search needs
+
+slice-aggregate-pieces-6 : tie.Need-slice-aggregate-pieces-6
+slice-aggregate-pieces-6 c = search needs
+
+slice-aggregate-pieces-7 : tie.Need-slice-aggregate-pieces-7
+slice-aggregate-pieces-7 c = sym (length-take-le _ _ (omega arith))
+
+pieces-requires : tie.Need-pieces-requires
+pieces-requires c κs = search needs
+
+count-requires : tie.Need-count-requires
+count-requires c κs = search needs
+
+returns : tie.Need-returns
+returns c = search needs
+
+returns-2 : tie.Need-returns-2
+returns-2 c = search needs
+
+returns-3 : tie.Need-returns-3
+returns-3 c = search needs
+
+pub ask-sides-spec : {M : Type 1} → statement M
+ask-sides-spec =
+    tie.close
+    (tie.spec
+    mul-a
+    slice-aggregate-pieces
+    slice-aggregate-pieces-2
+    slice-aggregate-pieces-3
+    slice-aggregate-pieces-4
+    slice-aggregate-pieces-5
+    slice-aggregate-pieces-6
+    slice-aggregate-pieces-7
+    pieces-requires
+    count-requires
+    returns
+    returns-2
+    returns-3)
