@@ -1,6 +1,10 @@
 // The public entries of the bench. Each checks for itself, answers document 01's refusal number, and never touches the mesh it reads.
 use blade::Hit;
 
+pub mod reading;
+pub mod tables;
+pub mod tests;
+
 // A number, or the number of a refusal.
 pub enum Number {
     Refused(usize),

@@ -1,0 +1,119 @@
+-- Refusals: a check's number is the answer where it isn't 0, and the value is where it is.
+use Prim.Native.Nat.{ℕ, zero, suc, _/_}
+use lib.Dec.{ltb}
+use lib.ListN.{length}
+use native.Mathlib.Omega.{arith}
+use mathlib.Core.Path.{_≡_, refl, sym, _∙_, ap}
+use mathlib.Core.Bool.{Bool, true, false, not, _&&_}
+use mathlib.Core.List.{List}
+use lib.Ieee.{Float}
+use Rattle.lists.specs.Lists.{pick, all}
+use Rattle.float.specs.declared.root.Rooted.{Rooted}
+use Rattle.blade.specs.declared.Point.{Point}
+use Rattle.blade.specs.declared.Hit.{Hit}
+use Rattle.blade.specs.Blade.{bladeHit}
+use Rattle.model.specs.Valid.{numbersFit, indicesFit}
+use Rattle.model.specs.Elements.{restMeasure, restMeasureOf}
+use Rattle.model.specs.Pieces.{pieces}
+use Rattle.model.specs.Cut.{Blade}
+use Rattle.model.specs.Calls.{pointOk, bladeOk, refusal, strictly, particlesOk}
+use Rattle.model.specs.Reads.{Read, refused, value, orRefused, rooted, bladeCall, piecesCall, restMeasureCall, restMeasureOfCall}
+use Rattle.mesh.specs.Given.{Given, meshOf, sizesFit}
+use Rattle.mesh.specs.Checks.{thenCheck, firstFrom, faultOf}
+use Rattle.mesh.proofs.Joined.{then-zero}
+use Rattle.mesh.proofs.Refusals.{fault-refuses}
+use Rattle.bench.specs.Accepted.{Accepted}
+use Rattle.bench.proofs.Accepted.{particles-count}
+use Rattle.bench.specs.Answers.{numberOf, countOf, testedOf}
+use Rattle.bench.specs.declared.Number.{Number}
+use Rattle.bench.specs.declared.Number.the-variants.{Refused as NumberRefused, Value}
+use Rattle.bench.specs.declared.Count.{Count}
+use Rattle.bench.specs.declared.Count.the-variants.{Refused as CountRefused, Counted}
+use Rattle.bench.specs.declared.Tested.{Tested}
+use Rattle.bench.specs.declared.Tested.the-variants.{Refused as TestRefused, Tested as TestedAs}
+
+-- a number that isn't 0 refuses
+pub refuse-by : {A : Type 0} (code m : ℕ) (a : A) → code ≡ m → (code ≡ 0 → ⊥) → orRefused m a ≡ refused code
+refuse-by zero m a e h = absurd (h refl)
+refuse-by (suc n) m a e h = rw (sym e) refl
+
+-- where it is 0, the value is the answer
+pub value-by : {A : Type 0} (code m : ℕ) (a b : A) → code ≡ m → code ≡ 0 → b ≡ a → orRefused m a ≡ value b
+value-by code m a b e z q = rw (sym e ∙ z, q) refl
+
+-- ---- the blade test
+
+module _ (B : Blade) (p q : Point) (z : Bool) (e : z ≡ (bladeOk B && pointOk p && pointOk q)) where
+  pub blade-refuses : z ≡ false → TestRefused 2 ≡ testedOf (bladeCall B p q)
+  unfolding bladeCall
+  blade-refuses f = ap (λ (t : Bool). testedOf (orRefused (pick t 0 2) (bladeHit (B .from) (B .to) p q))) (sym f ∙ e)
+
+  pub blade-answers : (r : Hit) → z ≡ true → r ≡ bladeHit (B .from) (B .to) p q → TestedAs r ≡ testedOf (bladeCall B p q)
+  unfolding bladeCall
+  blade-answers r f g = ap TestedAs g ∙ ap (λ (t : Bool). testedOf (orRefused (pick t 0 2) (bladeHit (B .from) (B .to) p q))) (sym f ∙ e)
+
+-- ---- a mesh, with arguments beside it
+
+-- the four tests of a mesh and its arguments in their order
+four-in-order :
+    (sized numbers indices arguments : Bool)
+    → thenCheck (thenCheck (thenCheck (thenCheck 0 sized 1) numbers 2) indices 3) arguments 4
+    ≡ pick (not sized) 1 (pick (not (numbers && true)) 2 (pick (not indices) 3 (pick (not arguments) 4 0)))
+unfolding thenCheck
+four-in-order false numbers indices arguments = refl
+four-in-order true false indices arguments = refl
+four-in-order true true false arguments = refl
+four-in-order true true true false = refl
+four-in-order true true true true = refl
+
+-- a bad argument refuses behind the faults of the mesh
+pub arguments-refuse : (G : Given) (t : Bool) → thenCheck (faultOf G) t 4 ≡ refusal (sizesFit G) (meshOf G) true t
+unfolding faultOf firstFrom refusal
+arguments-refuse G t = four-in-order (sizesFit G) (numbersFit (meshOf G)) (indicesFit (meshOf G)) t
+
+-- a mesh without a fault is accepted
+pub accepted : (G : Given) → faultOf G ≡ 0 → Accepted G
+unfolding faultOf firstFrom
+accepted G e =
+    let a = then-zero (thenCheck (thenCheck 0 (sizesFit G) 1) (numbersFit (meshOf G)) 2) (indicesFit (meshOf G)) 3 (λ q. omega arith) e in
+    let b = then-zero (thenCheck 0 (sizesFit G) 1) (numbersFit (meshOf G)) 2 (λ q. omega arith) (a .0) in
+    record { sized = then-zero 0 (sizesFit G) 1 (λ q. omega arith) (b .0) .1; indices = a .1 }
+
+module _ (G : Given) (code : ℕ) where
+  pub pieces-refuses : code ≡ faultOf G → (code ≡ 0 → ⊥) → CountRefused code ≡ countOf (piecesCall (sizesFit G) (meshOf G))
+  unfolding piecesCall
+  pieces-refuses e h = sym (ap countOf (refuse-by code _ (pieces (meshOf G)) (e ∙ fault-refuses G) h))
+
+  pub pieces-answers : (r : ℕ) → code ≡ faultOf G → code ≡ 0 → r ≡ pieces (meshOf G) → Counted r ≡ countOf (piecesCall (sizesFit G) (meshOf G))
+  unfolding piecesCall
+  pieces-answers r e z q = sym (ap countOf (value-by code _ (pieces (meshOf G)) r (e ∙ fault-refuses G) z q))
+
+  pub measure-refuses : code ≡ faultOf G → (code ≡ 0 → ⊥) → NumberRefused code ≡ numberOf (restMeasureCall (sizesFit G) (meshOf G))
+  unfolding restMeasureCall
+  measure-refuses e h = sym (ap numberOf (refuse-by code _ (restMeasure (meshOf G)) (e ∙ fault-refuses G) h))
+
+  pub measure-answers : (r : Float) → code ≡ faultOf G → code ≡ 0 → r ≡ restMeasure (meshOf G) → Value r ≡ numberOf (restMeasureCall (sizesFit G) (meshOf G))
+  unfolding restMeasureCall
+  measure-answers r e z q = sym (ap numberOf (value-by code _ (restMeasure (meshOf G)) r (e ∙ fault-refuses G) z q))
+
+-- a list that was tested by the length of the points
+pub listed-ok : (G : Given) (l : List ℕ) (t : Bool) → t ≡ (strictly l && all (λ x. ltb x (length (G .points) / 6)) l) → t ≡ particlesOk (meshOf G) l
+unfolding particlesOk
+listed-ok G l t e = e ∙ ap (λ (n : ℕ). strictly l && all (λ x. ltb x n) l) (sym (particles-count G))
+
+-- one refusal behind the faults: the tests that were made, and the number that came of them
+module _ (G : Given) (code code₀ : ℕ) (t : Bool) (first : code ≡ thenCheck code₀ t 4) (fault : code₀ ≡ faultOf G) where
+  behind : code ≡ refusal (sizesFit G) (meshOf G) true t
+  behind = first ∙ ap (λ (c : ℕ). thenCheck c t 4) fault ∙ arguments-refuse G t
+
+  -- where none refuses, the mesh is accepted and the test holds
+  pub accepted-with : code ≡ 0 → Accepted G × (t ≡ true)
+  accepted-with z = let w = then-zero code₀ t 4 (λ q. omega arith) (sym first ∙ z) in (accepted G (sym fault ∙ w .0), w .1)
+
+  pub listed-refuses : (l : List ℕ) → t ≡ particlesOk (meshOf G) l → (code ≡ 0 → ⊥) → NumberRefused code ≡ numberOf (restMeasureOfCall (sizesFit G) (meshOf G) l)
+  unfolding restMeasureOfCall
+  listed-refuses l e h = sym (ap numberOf (refuse-by code _ (restMeasureOf (meshOf G) l) (behind ∙ ap (refusal (sizesFit G) (meshOf G) true) e) h))
+
+  pub listed-answers : (l : List ℕ) (r : Float) → t ≡ particlesOk (meshOf G) l → code ≡ 0 → r ≡ restMeasureOf (meshOf G) l → Value r ≡ numberOf (restMeasureOfCall (sizesFit G) (meshOf G) l)
+  unfolding restMeasureOfCall
+  listed-answers l r e z q = sym (ap numberOf (value-by code _ (restMeasureOf (meshOf G) l) r (behind ∙ ap (refusal (sizesFit G) (meshOf G) true) e) z q))

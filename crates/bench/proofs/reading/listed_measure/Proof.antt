@@ -1,0 +1,61 @@
+use Rattle.bench.proofs.Accepted.{mark-room, listed-found}
+use native.Mathlib.Omega.{arith}
+use borrow.Author.Needs.{needs}
+use Rattle.bench.proofs.reading.listed_measure.Statement.{statement}
+use Rattle.bench.proofs.reading.listed_measure.Tie as tie
+use Rattle.bench.proofs.reading.listed_measure.Reads as reads
+use Rattle.bench.proofs.reading.listed_measure.Lts as lts
+use Rattle.bench.proofs.tables.table.Reads as table-reads
+use Rattle.elements.proofs.measure_within.Reads as measure-within-reads
+
+-- src/reading.rt:153:66
+slice-aggregate-table : tie.Need-slice-aggregate-table
+slice-aggregate-table c = search needs
+
+-- src/reading.rt:153:80
+slice-aggregate-table-2 : tie.Need-slice-aggregate-table-2
+slice-aggregate-table-2 c = search needs
+
+-- src/reading.rt:153:92
+slice-aggregate-table-3 : tie.Need-slice-aggregate-table-3
+slice-aggregate-table-3 c = search needs
+
+-- src/reading.rt:152:9
+table-requires : tie.Need-table-requires
+table-requires c κs = search needs
+
+-- src/reading.rt:155:40
+slice-aggregate-measure-within : tie.Need-slice-aggregate-measure-within
+slice-aggregate-measure-within c = search needs
+
+-- src/reading.rt:155:48
+slice-aggregate-measure-within-2 : tie.Need-slice-aggregate-measure-within-2
+slice-aggregate-measure-within-2 c = search needs
+
+-- src/reading.rt:155:65
+slice-aggregate-measure-within-3 : tie.Need-slice-aggregate-measure-within-3
+slice-aggregate-measure-within-3 c = search needs
+
+-- src/reading.rt:155:5
+measure-within-requires : tie.Need-measure-within-requires
+measure-within-requires c κs = let T = c .before .before .before .before .before .before .table in
+    let P = c .before .before .before .before .before .before .before .before .before .before .before .before .before .before .before .before .before .before .pre in
+    mark-room _ (P .0) (P .1) (T .ensures) (omega (arith, T .kept .1 .1 .1 .1 .1 .1 .1 .1 .1 .0))
+
+-- src/reading.rt:135:1
+returns : tie.Need-returns
+returns c = listed-found (c .before .before .before .before .before .before .before .before .table .ensures) (c .before .measure-within .ensures)
+
+pub listed-measure-spec : {M : Type 1} → statement M
+listed-measure-spec =
+    tie.close
+    (tie.spec
+    slice-aggregate-table
+    slice-aggregate-table-2
+    slice-aggregate-table-3
+    table-requires
+    slice-aggregate-measure-within
+    slice-aggregate-measure-within-2
+    slice-aggregate-measure-within-3
+    measure-within-requires
+    returns)
