@@ -11,6 +11,7 @@ use Rattle.bench.specs.declared.Tested.{Tested}
 use Rattle.bench.specs.declared.Tested.the-variants.{Refused as TestRefused, Tested as TestedAs}
 use Rattle.bench_c.specs.Replies.{codeOf, hitWords}
 
+-- an answer that is a number, a count, a blade test
 abbrev pub numberReply : Number → Read (List ℕ)
 numberReply (NumberRefused n) = refused n
 numberReply (Value x) = value (toBits binary32 x ∷ [])
