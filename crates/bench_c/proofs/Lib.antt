@@ -1,0 +1,3 @@
+-- The laws of replies, and of an image that is loaded.
+pub mod Replying
+pub mod Loading

@@ -1,0 +1,3 @@
+-- What the C functions answer.
+pub mod Replies
+pub mod Given

@@ -1,0 +1,79 @@
+-- What the C functions answer, as docs/C-FUNCTIONS.md has it: the number of a refusal, and the words of an answer in the lent bytes. Definitions only.
+use Prim.Native.Nat.{ℕ, _+_, _*_}
+use mathlib.Core.Path.{_≡_}
+use mathlib.Core.List.{List, [], _∷_}
+use lib.ListN.{length}
+use lib.Dec.{eqb, leb}
+use lib.Ieee.{Float, binary32, toBits}
+use Rattle.lists.specs.Lists.{pick}
+use Rattle.blade.specs.declared.Point.{Point}
+use Rattle.blade.specs.declared.Hit.{Hit}
+use Rattle.blade.specs.declared.Hit.the-variants.{Miss, Hit as HitAt}
+use Rattle.model.specs.Cut.{Blade}
+use Rattle.model.specs.Reads.{Read, refused, value, rootCall, bladeCall, restMeasureCall, piecesCall}
+use Rattle.mesh.specs.Given.{meshOf}
+use Rattle.image.specs.Words.{wordAt, numberOf, written}
+use Rattle.image.specs.Image.{imageOf, imageSized}
+
+-- ---- the words of an answer
+
+-- a number: its bits
+abbrev pub numberWords : Read Float → Read (List ℕ)
+numberWords (refused n) = refused n
+numberWords (value x) = value (toBits binary32 x ∷ [])
+
+-- a count: itself
+abbrev pub countWords : Read ℕ → Read (List ℕ)
+countWords (refused n) = refused n
+countWords (value n) = value (n ∷ [])
+
+-- a blade test: 1 and the bits of the fraction, or 0 and 0 for a miss
+abbrev pub hitWords : Hit → List ℕ
+hitWords Miss = 0 ∷ 0 ∷ []
+hitWords (HitAt t) = 1 ∷ toBits binary32 t ∷ []
+
+abbrev pub testedWords : Read Hit → Read (List ℕ)
+testedWords (refused n) = refused n
+testedWords (value h) = value (hitWords h)
+
+-- ---- the reply
+
+-- result bytes too few for the words: 4
+abbrev pub lentEnough : ℕ → Read (List ℕ) → Read (List ℕ)
+lentEnough lent (refused n) = refused n
+lentEnough lent (value ws) = pick (leb (4 * length ws) lent) (value ws) (refused 4)
+
+-- the number of the refusal, or 0; and the words that the lent bytes show
+abbrev pub codeOf : Read (List ℕ) → ℕ
+codeOf (refused n) = n
+codeOf (value ws) = 0
+
+abbrev pub shownOf : Read (List ℕ) → List ℕ
+shownOf (refused n) = []
+shownOf (value ws) = ws
+
+-- what a C function with `lent` result bytes returns and leaves in them
+pub record Replied (o : Read (List ℕ)) (lent r : ℕ) (out : List ℕ) : Type 0 where
+  pub code : r ≡ codeOf (lentEnough lent o)
+  pub bytes : out ≡ written lent (shownOf (lentEnough lent o))
+
+-- ---- what each C function is asked
+
+-- the root of the number of a word
+unfoldable pub rootReply : ℕ → Read (List ℕ)
+rootReply bits = numberWords (rootCall (numberOf bits))
+
+-- the point of words i and i + 1
+abbrev pub pointAt : List ℕ → ℕ → Point
+pointAt s i = record { x = numberOf (wordAt s i); y = numberOf (wordAt s (i + 1)) }
+
+-- the blade test on eight words
+unfoldable pub bladeReply : List ℕ → Read (List ℕ)
+bladeReply s = pick (eqb (length s) 32) (testedWords (bladeCall (record { from = pointAt s 0; to = pointAt s 2 }) (pointAt s 4) (pointAt s 6))) (refused 4)
+
+-- the pieces, and the measure, of the mesh that an image is
+unfoldable pub piecesReply : List ℕ → Read (List ℕ)
+piecesReply s = countWords (piecesCall (imageSized s) (meshOf (imageOf s)))
+
+unfoldable pub measureReply : List ℕ → Read (List ℕ)
+measureReply s = numberWords (restMeasureCall (imageSized s) (meshOf (imageOf s)))

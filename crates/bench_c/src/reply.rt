@@ -1,0 +1,106 @@
+// The reply of a C function: the words of an answer in the lent bytes, and the number of the refusal.
+ghost use mathlib.Core.Path.{_≡_};
+ghost use Prim.Native.Nat.{_<_};
+ghost use mathlib.Core.List.{[], _∷_};
+ghost use lib.ListN.{length};
+ghost use lib.Ieee.{binary32, toBits};
+ghost use Rattle.model.specs.Reads.{refused, value};
+ghost use Rattle.bench_c.specs.Replies.{Replied};
+ghost use Rattle.bench_c.specs.Given.{numberReply, countReply, testedReply, SmallCode};
+use bench::Count;
+use bench::Number;
+use bench::Tested;
+use blade::Hit;
+
+// The bits of a number.
+pub fn bits_of(x: f32) -> usize
+    ensures { λ r. ⌜ r ≡ toBits binary32 x ⌝ }
+{
+    if x != x {
+        return 2143289344;
+    }
+    f32::to_bits(x) as usize
+}
+
+// A refusal: every byte is 0.
+pub fn reply_refused(code: usize, out: &mut [u8]) -> u32
+    requires { ⌜ code < 256 ⌝ }
+    ensures { λ r. ⌜ Replied (refused code) (length (now (out .entry))) r (now (out .exit)) ⌝ }
+{
+    image::clear_bytes(out);
+    code as u32
+}
+
+// An answer of one word.
+pub fn reply_one(w: usize, out: &mut [u8]) -> u32
+    ensures { λ r. ⌜ Replied (value (w ∷ [])) (length (now (out .entry))) r (now (out .exit)) ⌝ }
+{
+    if out.len() < 4 {
+        image::clear_bytes(out);
+        return 4;
+    }
+    image::write_one(out, w);
+    0
+}
+
+// An answer of two words.
+pub fn reply_two(w: usize, v: usize, out: &mut [u8]) -> u32
+    ensures { λ r. ⌜ Replied (value (w ∷ v ∷ [])) (length (now (out .entry))) r (now (out .exit)) ⌝ }
+{
+    if out.len() < 8 {
+        image::clear_bytes(out);
+        return 4;
+    }
+    image::write_two(out, w, v);
+    0
+}
+
+// The reply of an entry that answers a number.
+pub fn reply_number(a: Number, out: &mut [u8]) -> u32
+    requires { ⌜ SmallCode (numberReply a) ⌝ }
+    ensures { λ r. ⌜ Replied (numberReply a) (length (now (out .entry))) r (now (out .exit)) ⌝ }
+{
+    match a {
+        Number::Refused(code) => {
+            return reply_refused(code, out);
+        }
+        Number::Value(x) => {
+            return reply_one(bits_of(x), out);
+        }
+    }
+}
+
+// The reply of an entry that answers a count.
+pub fn reply_count(a: Count, out: &mut [u8]) -> u32
+    requires { ⌜ SmallCode (countReply a) ⌝ }
+    ensures { λ r. ⌜ Replied (countReply a) (length (now (out .entry))) r (now (out .exit)) ⌝ }
+{
+    match a {
+        Count::Refused(code) => {
+            return reply_refused(code, out);
+        }
+        Count::Counted(n) => {
+            return reply_one(n, out);
+        }
+    }
+}
+
+// The reply of a blade test.
+pub fn reply_tested(a: Tested, out: &mut [u8]) -> u32
+    requires { ⌜ SmallCode (testedReply a) ⌝ }
+    ensures { λ r. ⌜ Replied (testedReply a) (length (now (out .entry))) r (now (out .exit)) ⌝ }
+{
+    match a {
+        Tested::Refused(code) => {
+            return reply_refused(code, out);
+        }
+        Tested::Tested(h) => match h {
+            Hit::Miss => {
+                return reply_two(0, 0, out);
+            }
+            Hit::Hit(t) => {
+                return reply_two(1, bits_of(t), out);
+            }
+        },
+    }
+}
