@@ -407,7 +407,7 @@ unfolding edgeGroups
 groups-none M O x e = ap (λ (s : List ℕ). orElse s (toward M O x ∷ [])) e
 
 -- rows that are all there
-grown-all : {A : Type 0} (r room : ℕ) (l : List A) (rows : ℕ → List A) → length (rows r) ≡ r → r ≤ room → rows r ≡ l → GrownTo (Rows r) room l rows
+pub grown-all : {A : Type 0} (r room : ℕ) (l : List A) (rows : ℕ → List A) → length (rows r) ≡ r → r ≤ room → rows r ≡ l → GrownTo (Rows r) room l rows
 grown-all r room l rows m h e =
     let many : r ≡ length l = sym m ∙ ap length e in
     (le-leb (length l) room (subst (λ (z : ℕ). z ≤ room) many h), many, e)

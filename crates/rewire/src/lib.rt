@@ -1,5 +1,6 @@
 // What each list of a mesh becomes in a split: particles copied, elements rewired, other edges, straddlers, boundary, crack facets.
 pub mod edges;
+pub mod facets;
 pub mod straddlers;
 
 // How many rows a list has after rows were appended, or that there is no room for them.
