@@ -216,12 +216,6 @@ lacks-more room now piece left h =
     lt-leb _ room (omega (arith, low, length-append now piece, length-append now (piece ++ left), length-append piece left))
 
 module _ (v before n count room : ℕ) (numbers verts groups corners : List ℕ) where
-  abbrev In : Opening → Mesh → ℕ → List Float → Type 0
-  In O M t volumes = FacetsIn O M t volumes v before n count numbers verts groups corners
-
-  abbrev Made : (Opening → Mesh → List Side) → ℕ → List ℕ → List ℕ → Grown → Type 0
-  Made f m s s′ r = FacetsGrown f v before n count m room numbers verts groups corners s s′ r
-
   -- rows entries are there, and `left` is still to come of the total behind the m entries
   pub record Facing (total left : Opening → Mesh → List Side) (m : ℕ) (s₀ s : List ℕ) (rows : ℕ) : Type 0 where
     pub coming : (O : Opening) (M : Mesh) (t : ℕ) (volumes : List Float) → FacetsIn O M t volumes v before n count numbers verts groups corners → boundaryAt rows s ++ left O M ≡ boundaryAt m s₀ ++ total O M

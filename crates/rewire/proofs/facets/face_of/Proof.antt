@@ -1,122 +1,91 @@
+-- `rewire::facets::face_of` meets its contract: the first face, for every opening and mesh that the tables hold. Assumes nothing.
 use Rattle.rewire.proofs.FacetLaws.{face-found}
 use native.Mathlib.Omega.{arith}
 use borrow.Author.Needs.{needs}
 use Rattle.rewire.proofs.facets.face_of.Statement.{statement}
 use Rattle.rewire.proofs.facets.face_of.Tie as tie
-use Rattle.rewire.proofs.facets.face_of.Reads as reads
-use Rattle.rewire.proofs.facets.face_of.Lts as lts
-use Rattle.rewire.proofs.edges.copy_number.Reads as copy-number-reads
-use Rattle.rewire.proofs.facets.first_face.Reads as first-face-reads
 
--- src/facets.rt:85:13
 mul-t : tie.Need-mul-t
 mul-t c = search needs
 
--- src/facets.rt:85:13
 shared-slice-read-t : tie.Need-shared-slice-read-t
 shared-slice-read-t c = search needs
 
--- src/facets.rt:86:60
 mul-copy-number : tie.Need-mul-copy-number
 mul-copy-number c = search needs
 
--- src/facets.rt:86:60
 shared-slice-read-copy-number : tie.Need-shared-slice-read-copy-number
 shared-slice-read-copy-number c = search needs
 
--- src/facets.rt:86:9
 copy-number-requires : tie.Need-copy-number-requires
 copy-number-requires c κs = search needs
 
--- src/facets.rt:87:13
 mul-a : tie.Need-mul-a
 mul-a c = search needs
 
--- src/facets.rt:88:17
 add-a-end : tie.Need-add-a-end
 add-a-end c = search needs
 
--- src/facets.rt:89:13
 mul-b : tie.Need-mul-b
 mul-b c = search needs
 
--- src/facets.rt:90:17
 add-b-end : tie.Need-add-b-end
 add-b-end c = search needs
 
--- src/facets.rt:92:9
 mul-first-face : tie.Need-mul-first-face
 mul-first-face c = omega (arith, c .before .before .before .before .before .before .before .pre .0 .numbers-in _ (c .before .before .before .before .before .before .before .pre .3))
 
--- src/facets.rt:92:9
 shared-slice-read-first-face : tie.Need-shared-slice-read-first-face
 shared-slice-read-first-face c = omega (arith, c .before .before .before .before .before .before .before .before .pre .0 .numbers-in _ (c .before .before .before .before .before .before .before .before .pre .3))
 
--- src/facets.rt:93:17
 add-first-face : tie.Need-add-first-face
 add-first-face c = omega (arith, c .before .before .before .before .before .before .before .before .pre .0 .numbers-in _ (c .before .before .before .before .before .before .before .before .pre .3))
 
--- src/facets.rt:93:9
 mul-first-face-2 : tie.Need-mul-first-face-2
 mul-first-face-2 c = omega (arith, c .before .before .before .before .before .before .before .before .pre .0 .numbers-in _ (c .before .before .before .before .before .before .before .before .pre .3))
 
--- src/facets.rt:93:9
 shared-slice-read-first-face-2 : tie.Need-shared-slice-read-first-face-2
 shared-slice-read-first-face-2 c = omega (arith, c .before .before .before .before .before .before .before .before .before .pre .0 .numbers-in _ (c .before .before .before .before .before .before .before .before .before .pre .3))
 
--- src/facets.rt:94:17
 mul-first-face-3 : tie.Need-mul-first-face-3
 mul-first-face-3 c = search needs
 
--- src/facets.rt:94:17
 add-first-face-2 : tie.Need-add-first-face-2
 add-first-face-2 c = omega (arith, c .before .before .before .before .before .before .before .before .before .pre .0 .numbers-in _ (c .before .before .before .before .before .before .before .before .before .pre .3))
 
--- src/facets.rt:94:9
 mul-first-face-4 : tie.Need-mul-first-face-4
 mul-first-face-4 c = omega (arith, c .before .before .before .before .before .before .before .before .before .pre .0 .numbers-in _ (c .before .before .before .before .before .before .before .before .before .pre .3))
 
--- src/facets.rt:94:9
 shared-slice-read-first-face-3 : tie.Need-shared-slice-read-first-face-3
 shared-slice-read-first-face-3 c = omega (arith, c .before .before .before .before .before .before .before .before .before .before .pre .0 .numbers-in _ (c .before .before .before .before .before .before .before .before .before .before .pre .3))
 
--- src/facets.rt:97:9
 mul-first-face-5 : tie.Need-mul-first-face-5
 mul-first-face-5 c = search needs
 
--- src/facets.rt:97:9
 sub-first-face : tie.Need-sub-first-face
 sub-first-face c = search needs
 
--- src/facets.rt:97:9
 part-first-face-start : tie.Need-part-first-face-start
 part-first-face-start c = search needs
 
--- src/facets.rt:97:9
 part-first-face-end : tie.Need-part-first-face-end
 part-first-face-end c = search needs
 
--- src/facets.rt:98:9
 mul-first-face-6 : tie.Need-mul-first-face-6
 mul-first-face-6 c = search needs
 
--- src/facets.rt:98:9
 sub-first-face-2 : tie.Need-sub-first-face-2
 sub-first-face-2 c = search needs
 
--- src/facets.rt:98:9
 part-first-face-start-2 : tie.Need-part-first-face-start-2
 part-first-face-start-2 c = search needs
 
--- src/facets.rt:98:9
 part-first-face-end-2 : tie.Need-part-first-face-end-2
 part-first-face-end-2 c = search needs
 
--- src/facets.rt:91:5
 first-face-requires : tie.Need-first-face-requires
 first-face-requires c κs = search needs
 
--- src/facets.rt:68:1
 returns : tie.Need-returns
 returns c = let A = c .before .before .before .before .before .before .before .before .before .before .before .before .before .args in face-found (A .v) (A .before) (A .n) (A .count) (A .numbers .now) (A .verts .now) (A .groups .now) (A .corners .now) (A .i) (A .j) (A .r) (c .before .before .before .before .before .before .copy-number .result) (c .first-face .result) (c .before .before .before .before .before .before .before .before .before .before .before .before .before .pre .1) (c .before .before .before .before .before .before .before .before .before .before .before .before .before .pre .2) (c .before .before .before .before .before .before .before .before .before .before .before .before .before .pre .3) (c .before .before .before .before .before .before .copy-number .ensures) (c .first-face .ensures)
 

@@ -1,33 +1,25 @@
+-- `rewire::facets::on_facet` meets its contract: one test behind the other. Assumes nothing.
 use Rattle.rewire.proofs.FacetLaws.{on-copy, on-home, on-first, on-second}
 use borrow.Author.Tests.{not-true, not-false}
 use borrow.Author.Needs.{needs}
 use Rattle.rewire.proofs.facets.on_facet.Statement.{statement}
 use Rattle.rewire.proofs.facets.on_facet.Tie as tie
-use Rattle.rewire.proofs.facets.on_facet.Reads as reads
-use Rattle.rewire.proofs.facets.on_facet.Lts as lts
-use Rattle.fan.proofs.stands_in.Reads as stands-in-reads
 
--- src/facets.rt:22:9
 returns : tie.Need-returns
 returns c = on-copy (c .before .before .before .args .v) (c .before .before .before .args .copy) (c .before .before .before .args .p .now) (c .before .before .before .args .q .now) (c .before .before .before .args .w) (c .if1 .taken)
 
--- src/facets.rt:25:9
 returns-2 : tie.Need-returns-2
 returns-2 c = on-home (c .before .before .before .before .args .v) (c .before .before .before .before .args .copy) (c .before .before .before .before .args .p .now) (c .before .before .before .before .args .q .now) (c .before .before .before .before .args .w) (c .before .if1 .left) (c .if2 .taken)
 
--- src/facets.rt:27:9
 stands-in-requires : tie.Need-stands-in-requires
 stands-in-requires c κs = search needs
 
--- src/facets.rt:28:9
 returns-3 : tie.Need-returns-3
 returns-3 c = on-first (c .before .before .before .before .before .before .args .v) (c .before .before .before .before .before .before .args .copy) (c .before .before .before .before .before .before .args .p .now) (c .before .before .before .before .before .before .args .q .now) (c .before .before .before .before .before .before .args .w) (c .before .before .before .if1 .left) (c .before .before .if2 .left) (c .before .stands-in .result) (c .before .stands-in .ensures) (not-true _ (c .if3 .taken))
 
--- src/facets.rt:30:5
 stands-in-requires-2 : tie.Need-stands-in-requires-2
 stands-in-requires-2 c κs = search needs
 
--- src/facets.rt:18:1
 returns-4 : tie.Need-returns-4
 returns-4 c = on-second (c .before .before .before .before .before .before .before .args .v) (c .before .before .before .before .before .before .before .args .copy) (c .before .before .before .before .before .before .before .args .p .now) (c .before .before .before .before .before .before .before .args .q .now) (c .before .before .before .before .before .before .before .args .w) (c .before .before .before .before .if1 .left) (c .before .before .before .if2 .left) (c .before .before .stands-in .result) (c .stands-in2 .result) (c .before .before .stands-in .ensures) (not-false _ (c .before .if3 .left)) (c .stands-in2 .ensures)
 
