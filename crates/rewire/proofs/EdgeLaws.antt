@@ -224,10 +224,6 @@ module _ (O : Opening) (from x count g : ℕ) (q : O .count ≡ count) (e : g �
 abbrev copyAs : ℕ → ℕ → Edge → ℕ → Edge
 copyAs v before e g = calm (moved v (copyFor v before g) e)
 
--- what rows came to, with the groups from f on still to come
-abbrev Coming : Edge → ℕ → ℕ → ℕ → List Edge → List Edge → Opening → ℕ → Type 0
-Coming e x v before now all O f = now ++ map (copyAs v before e) (ringFrom O f x) ≡ all
-
 -- at the head of the loop: g is the next group, and its copy comes next
 pub record Growing (e : Edge) (x from v before k n count m room : ℕ) (verts groups ends₀ ends : List ℕ) (lengths₀ lengths : List Float) (rows g : ℕ) : Type 0 where
   pub coming :
@@ -407,7 +403,7 @@ unfolding edgeGroups
 groups-none M O x e = ap (λ (s : List ℕ). orElse s (toward M O x ∷ [])) e
 
 -- rows that are all there
-grown-all : {A : Type 0} (r room : ℕ) (l : List A) (rows : ℕ → List A) → length (rows r) ≡ r → r ≤ room → rows r ≡ l → GrownTo (Rows r) room l rows
+pub grown-all : {A : Type 0} (r room : ℕ) (l : List A) (rows : ℕ → List A) → length (rows r) ≡ r → r ≤ room → rows r ≡ l → GrownTo (Rows r) room l rows
 grown-all r room l rows m h e =
     let many : r ≡ length l = sym m ∙ ap length e in
     (le-leb (length l) room (subst (λ (z : ℕ). z ≤ room) many h), many, e)

@@ -4,3 +4,4 @@ pub mod FanLaws
 pub mod BoundaryLaws
 pub mod EdgeLaws
 pub mod StraddlerLaws
+pub mod FacetLaws

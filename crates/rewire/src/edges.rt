@@ -26,7 +26,7 @@ fn swapped(x: usize, v: usize, w: usize) -> usize
 }
 
 // The number that stands for v in group g, where `before` particles were there before the copies.
-fn copy_number(v: usize, before: usize, count: usize, g: usize) -> usize
+pub fn copy_number(v: usize, before: usize, count: usize, g: usize) -> usize
     requires { ⌜ before + count ≤ 65536 ⌝ }
     ensures { λ r. ⌜ CopyIs v before count g r ⌝ }
 {
