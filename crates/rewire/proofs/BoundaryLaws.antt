@@ -5,10 +5,9 @@ use native.Mathlib.Decide.{ℕ-discrete}
 use native.Mathlib.Omega.{arith}
 use mathlib.Core.Path.{_≡_, refl, sym, ap, ap₂, _∙_, subst}
 use mathlib.Core.Bool.{Bool, true, false, _&&_}
-use mathlib.Core.List.{List, [], _∷_, map}
-use mathlib.Core.Option.{Option, none, some}
+use mathlib.Core.List.{List, [], _∷_}
+use mathlib.Core.Option.{none, some}
 use lib.ListN.{length, getD, set, take, drop, length-set}
-use lib.Seq.{getD-set-same, getD-set-other}
 use lib.Dec.{eqb}
 use lib.Ieee.{Float, nan, lt, neg}
 use borrow.Author.Tests.{eq-eqb, ne-eqb}
@@ -19,11 +18,11 @@ use Rattle.lists.proofs.Stores.{tab-length, tab-at}
 use Rattle.float.specs.Numbers.{largest}
 use Rattle.blade.specs.declared.Point.{Point}
 use Rattle.columns.specs.Block.{cell}
-use Rattle.columns.proofs.Cells.{col-0, col-1, store-row}
+use Rattle.columns.proofs.Cells.{col-0, col-1}
 use Rattle.model.specs.Mesh.{Particle, Side, Mesh, blank}
 use Rattle.model.specs.Elements.{restOf, besides, sideEnds}
-use Rattle.model.specs.Split.{Part, Opening, copyFor, Best, better, scoreOf, scored, toward, partGroup, sideGroup, turned, followed}
-use Rattle.mesh.specs.At.{particleRow, particlesAt, sideRow, boundaryAt}
+use Rattle.model.specs.Split.{Part, Opening, copyFor, Best, better, scoreOf, scored, toward, sideGroup, turned, followed}
+use Rattle.mesh.specs.At.{particlesAt, sideRow, boundaryAt}
 use Rattle.mesh.proofs.Lists.{turned as turned-at, unturned}
 use Rattle.opening.specs.Opened.{partAt, blankPart, Ringed, RestsIn, CornersBelow}
 use Rattle.opening.specs.Answers.{TowardIs}

@@ -7,20 +7,19 @@ use native.Mathlib.Omega.{arith}
 use mathlib.Core.Path.{_≡_, refl, sym, ap, ap₂, _∙_, subst}
 use mathlib.Core.Bool.{Bool, true, false}
 use mathlib.Core.Logic.{⊎-elim}
-use mathlib.Core.List.{List, [], _∷_, _++_, map}
+use mathlib.Core.List.{List, [], _∷_, map}
 use lib.ListN.{length, getD, set, take, length-set}
 use lib.Seq.{length-take-le, getD-take, ext-getD}
 use lib.Dec.{eqb}
 use lib.Ieee.{Float, nan}
 use borrow.Author.Tests.{eq-eqb, ne-eqb}
-use Rattle.lists.specs.Lists.{pick, mapAt, tab}
+use Rattle.lists.specs.Lists.{pick, mapAt}
 use Rattle.lists.specs.Labels.{replaced}
 use Rattle.lists.proofs.Sifts.{tab-ext}
 use Rattle.lists.proofs.Stores.{map-at, replaced-case}
 use Rattle.lists.proofs.Rows.{rows-map, mapAt-mapAt, mapAt-ext, mapAt-same}
 use Rattle.columns.specs.Block.{cell}
 use Rattle.model.specs.Mesh.{Triangle, Edge}
-use Rattle.model.specs.Elements.{Straps}
 use Rattle.model.specs.Split.{Part, Opening, groupAt, rewiredStraps, retargeted, moved, onlyAt, copyFor}
 use Rattle.mesh.specs.At.{edgeRow, edgesAt}
 use Rattle.mesh.specs.Workers.{groupOf, Mapped, FanOk}

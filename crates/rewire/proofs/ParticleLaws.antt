@@ -1,17 +1,17 @@
 -- Laws of the particles of a split: a particle with another mass, and copies behind the particles. Assumes nothing.
-use Prim.Native.Nat.{ℕ, zero, suc, _+_, _*_, _-_, _/_, _≤_, _<_, zero-le, suc-le-suc}
+use Prim.Native.Nat.{ℕ, zero, suc, _+_, _*_, _-_, _/_, _≤_, _<_, zero-le}
 use native.Mathlib.Nat.{le-of-suc-le-suc, not-suc-le-zero}
 use native.Mathlib.Omega.{arith}
 use native.Mathlib.Decide.{ℕ-discrete}
 use native.Mathlib.Numerals.{add-one}
-use mathlib.Core.Path.{_≡_, refl, sym, ap, ap₂, _∙_, subst}
+use mathlib.Core.Path.{_≡_, refl, sym, ap, ap₂, _∙_}
 use mathlib.Core.List.{List, [], _∷_, _++_, map, append-nil, append-assoc}
-use lib.ListN.{length, getD, set, take, length-set, List·getD-append}
+use lib.ListN.{length, getD, set, length-set, List·getD-append}
 use lib.Seq.{getD-take}
-use lib.Dec.{eqb, eqb·zero-suc, eqb·suc-zero, eqb·suc-suc}
+use lib.Dec.{eqb·zero-suc, eqb·suc-zero, eqb·suc-suc}
 use lib.Ieee.{Float, nan}
 use borrow.Author.Tests.{eq-eqb, ne-eqb}
-use Rattle.lists.specs.Lists.{pick, mapAt, tab, upTo}
+use Rattle.lists.specs.Lists.{mapAt, tab, upTo}
 use Rattle.lists.proofs.Sifts.{map-tab, tab-ext}
 use Rattle.lists.proofs.Stores.{tab-at}
 use Rattle.lists.proofs.Rows.{rows-map, mapAt-same, mapAt-ext}
@@ -20,7 +20,7 @@ use Rattle.float.specs.Numbers.{invOf}
 use Rattle.columns.specs.Block.{cell}
 use Rattle.columns.proofs.Cells.{store-same, store-row, store-col}
 use Rattle.model.specs.Mesh.{Particle, blank}
-use Rattle.model.specs.Split.{Opening, weightOf, totalOf, massOf, weighed, portion, onlyAt, copied}
+use Rattle.model.specs.Split.{Opening, weightOf, totalOf, weighed, portion, onlyAt, copied}
 use Rattle.mesh.specs.At.{particleRow, particlesAt}
 use Rattle.mesh.specs.Workers.{withCopy}
 use Rattle.mesh.proofs.Lists.{particles-length}

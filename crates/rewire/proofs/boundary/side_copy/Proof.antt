@@ -1,5 +1,6 @@
 -- `rewire::boundary::side_copy` meets its contract: by whether v is an end. Assumes nothing.
 use Rattle.rewire.proofs.BoundaryLaws.{copy-at, copy-none, copy-small}
+use native.Mathlib.Omega.{arith}
 use mathlib.Core.Path.{sym, _∙_}
 use borrow.Author.Needs.{needs}
 use Rattle.rewire.proofs.boundary.side_copy.Statement.{statement}
@@ -12,7 +13,7 @@ side-group-requires : tie.Need-side-group-requires
 side-group-requires c κs = c .before .before .before .before .before .pre .0
 
 copy-for-requires : tie.Need-copy-for-requires
-copy-for-requires c κs = (c .before .before .before .before .before .before .pre .1 .some, copy-small (c .before .before .before .before .before .before .pre .1) (c .side-group .ensures))
+copy-for-requires c κs = (c .before .before .before .before .before .before .pre .1 .some, omega (arith, copy-small (c .before .before .before .before .before .before .pre .1) (c .side-group .ensures)))
 
 returns : tie.Need-returns
 returns c = copy-at (sym (c .before .before .before .names .ensures) ∙ c .before .before .if1 .taken) (c .before .side-group .ensures) (c .copy-for .ensures)
