@@ -1,0 +1,3 @@
+-- Sheets: their meaning, and helpers of contracts.
+pub mod Sheet
+pub mod Work
