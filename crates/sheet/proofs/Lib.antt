@@ -4,5 +4,7 @@ pub mod PutLaws
 pub mod ColumnLaws
 pub mod There
 pub mod Back
+pub mod RowPuts
+pub mod RowReads
 pub mod Cases
 pub mod CoordLaws

@@ -11,6 +11,8 @@ ghost use Rattle.lists.specs.Lists.{padded};
 ghost use Rattle.sheet.specs.Sheet.{countsAt, endOf, bytesOf, above, tooMany, spareOf, pairOK, seenOf, allBelow, allOK, rowOK, Columns, even3, evenOf, fit3, fitOf, sheetFrom, sheetBits, namesOK, answerOf, WriteDone, sheetWith, coord};
 ghost use Rattle.sheet.specs.Work.{rowAt, okAt, namesAt, Small, CountsRead, RowsIn, Framed, Put, Even};
 
+pub mod rows;
+
 // How many of each a sheet says it has.
 pub struct Counts {
     pub particles: usize,
