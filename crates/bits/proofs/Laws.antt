@@ -100,7 +100,7 @@ bits-num (x ∷ l) h =
     let hx : x < 2 = h 0 in
     let e : (x * 2 ^ length l + num l) / 2 ^ length l % 2 ≡ x = rw (high x (length l) b) (mod-eq-of-lt hx) in
     let t : bits (length l) (x * 2 ^ length l + num l) ≡ l =
-      sym (rw zero-add at (bits-mod (length l) 0 (x * 2 ^ length l + num l))) ∙ rw (low x (length l) b) (bits-num l (λ i. h (suc i))) in
+    sym (rw zero-add at (bits-mod (length l) 0 (x * 2 ^ length l + num l))) ∙ rw (low x (length l) b) (bits-num l (λ i. h (suc i))) in
     rw (e, t)
 
 pub bits-put : (i k o b : ℕ) → b < 2 → bits (i + suc k) ((o / 2 ^ k / 2 * 2 + b) * 2 ^ k + o % 2 ^ k) ≡ set (bits (i + suc k) o) i b

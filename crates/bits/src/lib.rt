@@ -86,7 +86,16 @@ pub fn read_column(s: &[u8], at: usize, step: usize, w: usize, n: usize, out: &m
 }
 
 // Writes a row of three fields at bit `at`.
-pub fn put_row(s: &mut [u8], at: usize, w0: usize, w1: usize, w2: usize, a: usize, b: usize, c: usize)
+pub fn put_row(
+    s: &mut [u8],
+    at: usize,
+    w0: usize,
+    w1: usize,
+    w2: usize,
+    a: usize,
+    b: usize,
+    c: usize,
+)
     requires { ⌜ RowIn (now s) at w0 w1 w2 ⌝ }
     ensures { λ _. ⌜ bitsOf (now (s .exit)) ≡ sets (bitsOf (now (s .entry))) at (pack (w0 ∷ w1 ∷ w2 ∷ []) (a ∷ b ∷ c ∷ [])) ⌝ }
 {
@@ -96,7 +105,16 @@ pub fn put_row(s: &mut [u8], at: usize, w0: usize, w1: usize, w2: usize, a: usiz
 }
 
 // Writes the rows of three columns from bit `at` on.
-pub fn put_rows(s: &mut [u8], at: usize, w0: usize, w1: usize, w2: usize, a: &[usize], b: &[usize], c: &[usize])
+pub fn put_rows(
+    s: &mut [u8],
+    at: usize,
+    w0: usize,
+    w1: usize,
+    w2: usize,
+    a: &[usize],
+    b: &[usize],
+    c: &[usize],
+)
     requires { ⌜ TableIn (now s) at w0 w1 w2 (now a) (now b) (now c) ⌝ }
     ensures { λ _. ⌜ bitsOf (now (s .exit)) ≡ sets (bitsOf (now (s .entry))) at (writeRows (w0 ∷ w1 ∷ w2 ∷ []) (rowsOf (now (a .entry) ∷ now (b .entry) ∷ now (c .entry) ∷ []) 0 (length (now (a .entry))))) ⌝ }
 {

@@ -33,7 +33,7 @@ pub never : (n : ℕ) (c : Counts) → Refused n ≡ Whole c → ⊥
 never n c e = let z : _≡_ {A = ℕ} 0 1 = cc in omega arith
 
 whole : (a b x y z : Bool) (d c : Counts) → cond a (Refused 9) (cond b (Refused 1) (cond x (cond y (cond z (Whole d) (Refused 3)) (Refused 9)) (Refused 9))) ≡ Whole c
-  → (b ≡ false) × (x ≡ true) × (y ≡ true) × (z ≡ true) × (d ≡ c)
+    → (b ≡ false) × (x ≡ true) × (y ≡ true) × (z ≡ true) × (d ≡ c)
 whole true b x y z d c e = absurd (never 9 c e)
 whole false true x y z d c e = absurd (never 1 c e)
 whole false false false y z d c e = absurd (never 9 c e)
@@ -47,12 +47,13 @@ accepted-seen limits s c e =
     let d = countsAt (bitsOf s) in
     let w = whole (ltb (length s) 6) (tooMany d || above limits d) (eqb (length s) (bytesOf d)) (eqb (spareOf d (bitsOf s)) 0) (namesOK (sheetWith d (bitsOf s))) d c e in
     let i : d ≡ c = w .4 in
-    record
-    { is = i
-    ; few = subst (λ (x : Counts). tooMany x ≡ false) i (neither (tooMany d) (above limits d) (w .0) .0)
-    ; long = subst (λ (x : Counts). length s ≡ bytesOf x) i (eqb-true _ _ (w .1))
-    ; spare = subst (λ (x : Counts). spareOf x (bitsOf s) ≡ 0) i (eqb-true _ _ (w .2))
-    ; names = subst (λ (x : Counts). namesOK (sheetWith x (bitsOf s)) ≡ true) i (w .3) }
+    record {
+      is = i;
+      few = subst (λ (x : Counts). tooMany x ≡ false) i (neither (tooMany d) (above limits d) (w .0) .0);
+      long = subst (λ (x : Counts). length s ≡ bytesOf x) i (eqb-true _ _ (w .1));
+      spare = subst (λ (x : Counts). spareOf x (bitsOf s) ≡ 0) i (eqb-true _ _ (w .2));
+      names = subst (λ (x : Counts). namesOK (sheetWith x (bitsOf s)) ≡ true) i (w .3);
+    }
 
 bits-zero : (n : ℕ) → bits n 0 ≡ replicate n 0
 unfolding bits
@@ -208,8 +209,16 @@ module _ (s : List ℕ) (c : Counts) (a : Accepted s c) where
   pub back-sheet : sheetFrom (columnsOf (sheetWith c (bitsOf s))) ≡ sheetWith c (bitsOf s)
   back-sheet =
       let h = sheetWith c (bitsOf s) in
-      rw (length-col (h .particles) 0, length-col (h .triangles) 0, length-col (h .edges) 0, length-col (h .boundary) 0,
-        rows-cols3 11 11 1 (h .particles) fit-p, rows-cols3 10 10 10 (h .triangles) fit-t, rows-cols3 10 10 1 (h .edges) fit-e, rows-cols2 10 10 (h .boundary) fit-b)
+      rw (
+        length-col (h .particles) 0,
+        length-col (h .triangles) 0,
+        length-col (h .edges) 0,
+        length-col (h .boundary) 0,
+        rows-cols3 11 11 1 (h .particles) fit-p,
+        rows-cols3 10 10 10 (h .triangles) fit-t,
+        rows-cols3 10 10 1 (h .edges) fit-e,
+        rows-cols2 10 10 (h .boundary) fit-b,
+      )
 
   kept : countsOf (sheetWith c (bitsOf s)) ≡ c
   unfolding sheetWith
@@ -237,7 +246,7 @@ module _ (s : List ℕ) (c : Counts) (a : Accepted s c) where
 
   -- so what `write` leaves in as many bytes is the sheet itself
   pub rewritten : (before after : List ℕ) (r : ℕ) → length before ≡ length s → ((i : ℕ) → getD s i 0 < 256) → ((i : ℕ) → getD after i 0 < 256)
-    → WriteDone (columnsOf (sheetWith c (bitsOf s))) before after r → after ≡ s
+      → WriteDone (columnsOf (sheetWith c (bitsOf s))) before after r → after ≡ s
   rewritten before after r n hs ha w =
       let k = columnsOf (sheetWith c (bitsOf s)) in
       let z : r ≡ 0 = w .answer ∙ back-answer (length before) (omega arith) in

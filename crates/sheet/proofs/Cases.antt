@@ -24,12 +24,13 @@ pub worked-seen : seenOf most worked ≡ Whole workedCounts
 unfolding worked workedCounts seenOf seenWith bitsOf bits num sheetWith readRows unpack total allOK rowOK pairOK above
 worked-seen = refl
 
-pub worked-sheet : sheetWith workedCounts (bitsOf worked) ≡ record
-  { particles = (0 ∷ 0 ∷ 0 ∷ []) ∷ (4 ∷ 0 ∷ 0 ∷ []) ∷ (4 ∷ 4 ∷ 0 ∷ []) ∷ (0 ∷ 4 ∷ 0 ∷ []) ∷ []
-  ; triangles = (0 ∷ 1 ∷ 2 ∷ []) ∷ (0 ∷ 2 ∷ 3 ∷ []) ∷ []
-  ; edges = (0 ∷ 2 ∷ 1 ∷ []) ∷ (1 ∷ 3 ∷ 0 ∷ []) ∷ []
-  ; boundary = (0 ∷ 1 ∷ []) ∷ (1 ∷ 2 ∷ []) ∷ (2 ∷ 3 ∷ []) ∷ (3 ∷ 0 ∷ []) ∷ []
-  ; blade = 2047 ∷ 2047 ∷ 5 ∷ 5 ∷ [] }
+pub worked-sheet : sheetWith workedCounts (bitsOf worked) ≡ record {
+  particles = (0 ∷ 0 ∷ 0 ∷ []) ∷ (4 ∷ 0 ∷ 0 ∷ []) ∷ (4 ∷ 4 ∷ 0 ∷ []) ∷ (0 ∷ 4 ∷ 0 ∷ []) ∷ [];
+  triangles = (0 ∷ 1 ∷ 2 ∷ []) ∷ (0 ∷ 2 ∷ 3 ∷ []) ∷ [];
+  edges = (0 ∷ 2 ∷ 1 ∷ []) ∷ (1 ∷ 3 ∷ 0 ∷ []) ∷ [];
+  boundary = (0 ∷ 1 ∷ []) ∷ (1 ∷ 2 ∷ []) ∷ (2 ∷ 3 ∷ []) ∷ (3 ∷ 0 ∷ []) ∷ [];
+  blade = 2047 ∷ 2047 ∷ 5 ∷ 5 ∷ [];
+}
 unfolding worked workedCounts bitsOf bits num sheetWith readRows unpack total
 worked-sheet = refl
 

@@ -6,5 +6,7 @@ pub mod There
 pub mod Back
 pub mod RowPuts
 pub mod RowReads
+pub mod MeshReads
+pub mod Entering
 pub mod Cases
 pub mod CoordLaws

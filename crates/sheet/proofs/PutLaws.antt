@@ -61,13 +61,13 @@ module _ (k : Columns) where
 
   -- the parts one after the other
   pub put-sheet : (l : List ℕ) →
-    sets (sets (sets (sets (sets (sets l 0 (pack headerW (length (k .x) ∷ length (k .t0) ∷ length (k .e0) ∷ length (k .b0) ∷ [])))
+      sets (sets (sets (sets (sets (sets l 0 (pack headerW (length (k .x) ∷ length (k .t0) ∷ length (k .e0) ∷ length (k .b0) ∷ [])))
       46 (writeRows particleW (rowsOf (k .x ∷ k .y ∷ k .pinned ∷ []) 0 (length (k .x)))))
       (atTriangles (countsIn k)) (writeRows triangleW (rowsOf (k .t0 ∷ k .t1 ∷ k .t2 ∷ []) 0 (length (k .t0)))))
       (atEdges (countsIn k)) (writeRows edgeW (rowsOf (k .e0 ∷ k .e1 ∷ k .structural ∷ []) 0 (length (k .e0)))))
       (atBoundary (countsIn k)) (writeRows (10 ∷ 10 ∷ 0 ∷ []) (rowsOf (k .b0 ∷ k .b1 ∷ k .b1 ∷ []) 0 (length (k .b0)))))
       (atBlade (countsIn k)) (pack bladeW (getD (k .blade) 0 0 ∷ getD (k .blade) 1 0 ∷ getD (k .blade) 2 0 ∷ getD (k .blade) 3 0 ∷ []))
-    ≡ sets l 0 (sheetBits (sheetFrom k))
+      ≡ sets l 0 (sheetBits (sheetFrom k))
   unfolding sheetBits total
   put-sheet l =
       let c = countsIn k in
@@ -94,10 +94,19 @@ module _ (k : Columns) where
       let ht : length (H ++ P ++ T) ≡ atEdges c = omega (arith, length-append (H ++ P) T) in
       let he : length (H ++ P ++ T ++ E) ≡ atBoundary c = omega (arith, length-append (H ++ P ++ T) E) in
       let hb : length (H ++ P ++ T ++ E ++ B) ≡ atBlade c = omega (arith, length-append (H ++ P ++ T ++ E) B) in
-      rw (pairs (k .b0) (k .b1) 0 (length (k .b0)), pack-blade (k .blade),
-        sets-then l 0 46 H P (omega arith), sets-then l 0 (atTriangles c) (H ++ P) T (omega arith),
-        sets-then l 0 (atEdges c) (H ++ P ++ T) E (omega arith), sets-then l 0 (atBoundary c) (H ++ P ++ T ++ E) B (omega arith),
-        sets-then l 0 (atBlade c) (H ++ P ++ T ++ E ++ B) D (omega arith), np, nt, ne, nb)
+      rw (
+        pairs (k .b0) (k .b1) 0 (length (k .b0)),
+        pack-blade (k .blade),
+        sets-then l 0 46 H P (omega arith),
+        sets-then l 0 (atTriangles c) (H ++ P) T (omega arith),
+        sets-then l 0 (atEdges c) (H ++ P ++ T) E (omega arith),
+        sets-then l 0 (atBoundary c) (H ++ P ++ T ++ E) B (omega arith),
+        sets-then l 0 (atBlade c) (H ++ P ++ T ++ E ++ B) D (omega arith),
+        np,
+        nt,
+        ne,
+        nb,
+      )
 
 -- on zeros
 pub put-zeros : (k : Columns) (m : ℕ) → endOf (countsIn k) ≤ m → sets (replicate m 0) 0 (sheetBits (sheetFrom k)) ≡ padded m 0 (sheetBits (sheetFrom k))
@@ -192,7 +201,7 @@ module _ (k : Columns) (m : ℕ) where
           answer-good h = rw (a, b, c, d, le-leb (bytesOf (countsIn k)) m h)
 
 pub names-cols : (k : Columns) → namesOK (sheetFrom k) ≡ (allOK true (length (k .x)) (rowsOf (k .t0 ∷ k .t1 ∷ k .t2 ∷ []) 0 (length (k .t0)))
-  && (allOK false (length (k .x)) (rowsOf (k .e0 ∷ k .e1 ∷ k .structural ∷ []) 0 (length (k .e0))) && allOK false (length (k .x)) (rowsOf (k .b0 ∷ k .b1 ∷ k .b1 ∷ []) 0 (length (k .b0)))))
+    && (allOK false (length (k .x)) (rowsOf (k .e0 ∷ k .e1 ∷ k .structural ∷ []) 0 (length (k .e0))) && allOK false (length (k .x)) (rowsOf (k .b0 ∷ k .b1 ∷ k .b1 ∷ []) 0 (length (k .b0)))))
 names-cols k = rw (length-rowsOf (k .x ∷ k .y ∷ k .pinned ∷ []) 0 (length (k .x)), pair-names (length (k .x)) (k .b0) (k .b1) 0 (length (k .b0)))
 
 -- what a refusal leaves

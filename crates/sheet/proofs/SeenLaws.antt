@@ -18,7 +18,7 @@ use Rattle.bits.proofs.RowLaws.{length-read}
 
 -- the rows that bits hold are right where the fields at their places are
 module _ (ws : List ℕ) (three : Bool) (p : ℕ)
-  (row : (l : List ℕ) (at : ℕ) → rowOK three p (getD (unpack ws (drop at l)) 0 0) (getD (unpack ws (drop at l)) 1 0) (getD (unpack ws (drop at l)) 2 0) ≡ rowAt three p l at) where
+    (row : (l : List ℕ) (at : ℕ) → rowOK three p (getD (unpack ws (drop at l)) 0 0) (getD (unpack ws (drop at l)) 1 0) (getD (unpack ws (drop at l)) 2 0) ≡ rowAt three p l at) where
   pub ok-rows : (n : ℕ) (l : List ℕ) (at : ℕ) → allOK three p (readRows ws n (drop at l)) ≡ okAt three p l at (total ws) n
   unfolding allOK okAt readRows
   ok-rows zero l at = refl
@@ -57,7 +57,7 @@ unfolding okAt
 ok-none three p l pos st n i h = let e : n - i ≡ zero = omega arith in rw e
 
 pub names-turn : (three : Bool) (p : ℕ) (a b c : List ℕ) (n i : ℕ) → i < n
-  → allOK three p (rowsOf (a ∷ b ∷ c ∷ []) i (n - i)) ≡ (rowOK three p (getD a i 0) (getD b i 0) (getD c i 0) && allOK three p (rowsOf (a ∷ b ∷ c ∷ []) (i + 1) (n - (i + 1))))
+    → allOK three p (rowsOf (a ∷ b ∷ c ∷ []) i (n - i)) ≡ (rowOK three p (getD a i 0) (getD b i 0) (getD c i 0) && allOK three p (rowsOf (a ∷ b ∷ c ∷ []) (i + 1) (n - (i + 1))))
 unfolding allOK rowsOf
 names-turn three p a b c n i h = let e : n - i ≡ suc (n - (i + 1)) = omega arith in rw e
 

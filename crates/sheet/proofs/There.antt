@@ -29,14 +29,15 @@ below-at m (x ∷ a) zero e h = ltb-true x m (both (ltb x m) (allBelow m a) e .0
 below-at m (x ∷ a) (suc i) e h = below-at m a i (both (ltb x m) (allBelow m a) e .1) (omega arith)
 
 fit-rows : (w0 w1 w2 : ℕ) (a b c : List ℕ) (i n : ℕ) → i + n ≤ length a → length b ≡ length a → length c ≡ length a
-  → fit3 (2 ^ w0) (2 ^ w1) (2 ^ w2) a b c ≡ true → FitAll (w0 ∷ w1 ∷ w2 ∷ []) (rowsOf (a ∷ b ∷ c ∷ []) i n)
+    → fit3 (2 ^ w0) (2 ^ w1) (2 ^ w2) a b c ≡ true → FitAll (w0 ∷ w1 ∷ w2 ∷ []) (rowsOf (a ∷ b ∷ c ∷ []) i n)
 unfolding FitAll Fit rowsOf fit3
 fit-rows w0 w1 w2 a b c i zero r p q e = tt
 fit-rows w0 w1 w2 a b c i (suc n) r p q e =
     let w = both (allBelow (2 ^ w0) a) (allBelow (2 ^ w1) b && allBelow (2 ^ w2) c) e in
-    let v = both (allBelow (2 ^ w1) b) (allBelow (2 ^ w2) c) (w .1) in
-    ((below-at (2 ^ w0) a i (w .0) (omega arith), (below-at (2 ^ w1) b i (v .0) (omega arith), (below-at (2 ^ w2) c i (v .1) (omega arith), tt))),
-    fit-rows w0 w1 w2 a b c (i + 1) n (omega arith) p q e)
+    let v = both (allBelow (2 ^ w1) b) (allBelow (2 ^ w2) c) (w .1) in (
+      (below-at (2 ^ w0) a i (w .0) (omega arith), (below-at (2 ^ w1) b i (v .0) (omega arith), (below-at (2 ^ w2) c i (v .1) (omega arith), tt))),
+      fit-rows w0 w1 w2 a b c (i + 1) n (omega arith) p q e,
+    )
 
 fit-pairs : (a b : List ℕ) (i n : ℕ) → i + n ≤ length a → length b ≡ length a → fit3 1024 1024 1024 a b b ≡ true → FitAll boundaryW (rowsOf (a ∷ b ∷ []) i n)
 unfolding FitAll Fit rowsOf fit3
@@ -80,13 +81,14 @@ module _ (k : Columns) where
         let w3 = both (fit3 1024 1024 2 (k .e0) (k .e1) (k .structural)) (fit3 1024 1024 1024 (k .b0) (k .b1) (k .b1) && allBelow 2048 (k .blade)) (w2 .1) in
         let w4 = both (fit3 1024 1024 1024 (k .b0) (k .b1) (k .b1)) (allBelow 2048 (k .blade)) (w3 .1) in
         let v = g .even in
-        record
-        { header = subst (λ (c : Counts). Fit headerW (headerOf c)) (sym counts-from) (fit-header (countsIn k) (g .few))
-        ; particles = fit-rows 11 11 1 (k .x) (k .y) (k .pinned) 0 (length (k .x)) (omega arith) (v .y) (v .pinned) (w1 .0)
-        ; triangles = fit-rows 10 10 10 (k .t0) (k .t1) (k .t2) 0 (length (k .t0)) (omega arith) (v .t1) (v .t2) (w2 .0)
-        ; edges = fit-rows 10 10 1 (k .e0) (k .e1) (k .structural) 0 (length (k .e0)) (omega arith) (v .e1) (v .structural) (w3 .0)
-        ; boundary = fit-pairs (k .b0) (k .b1) 0 (length (k .b0)) (omega arith) (v .b1) (w4 .0)
-        ; blade = fit-blade (k .blade) (v .blade) (w4 .1) }
+        record {
+          header = subst (λ (c : Counts). Fit headerW (headerOf c)) (sym counts-from) (fit-header (countsIn k) (g .few));
+          particles = fit-rows 11 11 1 (k .x) (k .y) (k .pinned) 0 (length (k .x)) (omega arith) (v .y) (v .pinned) (w1 .0);
+          triangles = fit-rows 10 10 10 (k .t0) (k .t1) (k .t2) 0 (length (k .t0)) (omega arith) (v .t1) (v .t2) (w2 .0);
+          edges = fit-rows 10 10 1 (k .e0) (k .e1) (k .structural) 0 (length (k .e0)) (omega arith) (v .e1) (v .structural) (w3 .0);
+          boundary = fit-pairs (k .b0) (k .b1) 0 (length (k .b0)) (omega arith) (v .b1) (w4 .0);
+          blade = fit-blade (k .blade) (v .blade) (w4 .1);
+        }
 
 pub bitsOf-take : (n : ℕ) (s : List ℕ) → bitsOf (take n s) ≡ take (8 * n) (bitsOf s)
 unfolding bitsOf

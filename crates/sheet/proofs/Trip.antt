@@ -20,8 +20,8 @@ header-counts l = rw (drop-drop 11 11 l, drop-drop 12 22 l)
 module _ (c : Counts) (l : List ℕ) (h : AllBits l) (r : endOf c ≤ length l) where
   -- what is read behind the header is written again
   pub body : take 46 l ++ writeRows particleW (sheetWith c l .particles) ++ writeRows triangleW (sheetWith c l .triangles)
-    ++ writeRows edgeW (sheetWith c l .edges) ++ writeRows boundaryW (sheetWith c l .boundary) ++ pack bladeW (sheetWith c l .blade)
-    ≡ take (endOf c) l
+      ++ writeRows edgeW (sheetWith c l .edges) ++ writeRows boundaryW (sheetWith c l .boundary) ++ pack bladeW (sheetWith c l .blade)
+      ≡ take (endOf c) l
   unfolding sheetWith total
   body =
       let p : writeRows particleW (readRows particleW (c .particles) (drop 46 l)) ≡ take (c .particles * 23) (drop 46 l) = write-read particleW (c .particles) (drop 46 l) (bits-drop 46 l h) (omega (arith, length-drop 46 l)) in
@@ -66,14 +66,13 @@ module _ (n : ℕ) (A : List ℕ) (e : length A ≡ n) where
   past5 P T E B D R = simp append-assoc (drop-at A (P ++ (T ++ (E ++ (B ++ (D ++ R))))) n e)
 
 module _ (s : Sheet) (rest : List ℕ) (f : FitSheet s) where
-
   -- bits that begin with a sheet's hold its counts
   pub counts-read : headerOf (countsAt (sheetBits s ++ rest)) ≡ headerOf (countsOf s)
   unfolding sheetBits
   counts-read =
       sym (header-counts (sheetBits s ++ rest))
       ∙ simp append-assoc (unpack-pack headerW (headerOf (countsOf s))
-        (writeRows particleW (s .particles) ++ (writeRows triangleW (s .triangles) ++ (writeRows edgeW (s .edges) ++ (writeRows boundaryW (s .boundary) ++ (pack bladeW (s .blade) ++ rest))))) (f .header))
+      (writeRows particleW (s .particles) ++ (writeRows triangleW (s .triangles) ++ (writeRows edgeW (s .edges) ++ (writeRows boundaryW (s .boundary) ++ (pack bladeW (s .blade) ++ rest))))) (f .header))
 
   -- and the sheet
   pub read-of-write : sheetWith (countsOf s) (sheetBits s ++ rest) ≡ s
@@ -95,11 +94,18 @@ module _ (s : Sheet) (rest : List ℕ) (f : FitSheet s) where
       let ht : length (H ++ P ++ T) ≡ atEdges c = omega (arith, length-append (H ++ P) T) in
       let he : length (H ++ P ++ T ++ E) ≡ atBoundary c = omega (arith, length-append (H ++ P ++ T) E) in
       let hb : length (H ++ P ++ T ++ E ++ B) ≡ atBlade c = omega (arith, length-append (H ++ P ++ T ++ E) B) in
-      rw (past5 46 H h P T E B D rest, read-write particleW (s .particles) (T ++ (E ++ (B ++ (D ++ rest)))) (f .particles),
-        past4 (atTriangles c) (H ++ P) hp T E B D rest, read-write triangleW (s .triangles) (E ++ (B ++ (D ++ rest))) (f .triangles),
-        past3 (atEdges c) (H ++ P ++ T) ht E B D rest, read-write edgeW (s .edges) (B ++ (D ++ rest)) (f .edges),
-        past2 (atBoundary c) (H ++ P ++ T ++ E) he B D rest, read-write boundaryW (s .boundary) (D ++ rest) (f .boundary),
-        past1 (atBlade c) (H ++ P ++ T ++ E ++ B) hb D rest, unpack-pack bladeW (s .blade) rest (f .blade))
+      rw (
+        past5 46 H h P T E B D rest,
+        read-write particleW (s .particles) (T ++ (E ++ (B ++ (D ++ rest)))) (f .particles),
+        past4 (atTriangles c) (H ++ P) hp T E B D rest,
+        read-write triangleW (s .triangles) (E ++ (B ++ (D ++ rest))) (f .triangles),
+        past3 (atEdges c) (H ++ P ++ T) ht E B D rest,
+        read-write edgeW (s .edges) (B ++ (D ++ rest)) (f .edges),
+        past2 (atBoundary c) (H ++ P ++ T ++ E) he B D rest,
+        read-write boundaryW (s .boundary) (D ++ rest) (f .boundary),
+        past1 (atBlade c) (H ++ P ++ T ++ E ++ B) hb D rest,
+        unpack-pack bladeW (s .blade) rest (f .blade),
+      )
 
 pub length-sheetBits : (s : Sheet) → length (sheetBits s) ≡ endOf (countsOf s)
 unfolding sheetBits total

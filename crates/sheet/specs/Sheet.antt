@@ -16,14 +16,19 @@ use Rattle.sheet.specs.declared.Seen.the-variants.{Whole, Refused}
 -- the widths: counts; particle x, y, pinned; triangle; edge and structural; boundary; blade x0, y0, x1, y1
 abbrev pub headerW : List ℕ
 headerW = 11 ∷ 11 ∷ 12 ∷ 12 ∷ []
+
 abbrev pub particleW : List ℕ
 particleW = 11 ∷ 11 ∷ 1 ∷ []
+
 abbrev pub triangleW : List ℕ
 triangleW = 10 ∷ 10 ∷ 10 ∷ []
+
 abbrev pub edgeW : List ℕ
 edgeW = 10 ∷ 10 ∷ 1 ∷ []
+
 abbrev pub boundaryW : List ℕ
 boundaryW = 10 ∷ 10 ∷ []
+
 abbrev pub bladeW : List ℕ
 bladeW = 11 ∷ 11 ∷ 11 ∷ 11 ∷ []
 
@@ -46,23 +51,28 @@ countsAt l = record { particles = fieldAt l 0 11; triangles = fieldAt l 11 11; e
 -- where each list begins, and the end
 abbrev pub atTriangles : Counts → ℕ
 atTriangles c = 46 + c .particles * 23
+
 abbrev pub atEdges : Counts → ℕ
 atEdges c = atTriangles c + c .triangles * 30
+
 abbrev pub atBoundary : Counts → ℕ
 atBoundary c = atEdges c + c .edges * 21
+
 abbrev pub atBlade : Counts → ℕ
 atBlade c = atBoundary c + c .boundary * 20
+
 abbrev pub endOf : Counts → ℕ
 endOf c = atBlade c + 44
 
 -- the sheet that bits hold, whatever else stands behind it
 unfoldable pub sheetWith : Counts → List ℕ → Sheet
-sheetWith c l = record
-  { particles = readRows particleW (c .particles) (drop 46 l)
-  ; triangles = readRows triangleW (c .triangles) (drop (atTriangles c) l)
-  ; edges = readRows edgeW (c .edges) (drop (atEdges c) l)
-  ; boundary = readRows boundaryW (c .boundary) (drop (atBoundary c) l)
-  ; blade = unpack bladeW (drop (atBlade c) l) }
+sheetWith c l = record {
+  particles = readRows particleW (c .particles) (drop 46 l);
+  triangles = readRows triangleW (c .triangles) (drop (atTriangles c) l);
+  edges = readRows edgeW (c .edges) (drop (atEdges c) l);
+  boundary = readRows boundaryW (c .boundary) (drop (atBoundary c) l);
+  blade = unpack bladeW (drop (atBlade c) l);
+}
 
 -- the counts of a sheet
 abbrev pub countsOf : Sheet → Counts
@@ -160,12 +170,13 @@ pub record Columns : Type 0 where
 
 -- the sheet that columns are
 abbrev pub sheetFrom : Columns → Sheet
-sheetFrom k = record
-  { particles = rowsOf (k .x ∷ k .y ∷ k .pinned ∷ []) 0 (length (k .x))
-  ; triangles = rowsOf (k .t0 ∷ k .t1 ∷ k .t2 ∷ []) 0 (length (k .t0))
-  ; edges = rowsOf (k .e0 ∷ k .e1 ∷ k .structural ∷ []) 0 (length (k .e0))
-  ; boundary = rowsOf (k .b0 ∷ k .b1 ∷ []) 0 (length (k .b0))
-  ; blade = k .blade }
+sheetFrom k = record {
+  particles = rowsOf (k .x ∷ k .y ∷ k .pinned ∷ []) 0 (length (k .x));
+  triangles = rowsOf (k .t0 ∷ k .t1 ∷ k .t2 ∷ []) 0 (length (k .t0));
+  edges = rowsOf (k .e0 ∷ k .e1 ∷ k .structural ∷ []) 0 (length (k .e0));
+  boundary = rowsOf (k .b0 ∷ k .b1 ∷ []) 0 (length (k .b0));
+  blade = k .blade;
+}
 
 -- how many entries columns have
 abbrev pub countsIn : Columns → Counts
@@ -209,16 +220,17 @@ pub record WriteDone (k : Columns) (before after : List ℕ) (r : ℕ) : Type 0 
 
 -- a sheet's columns
 abbrev pub columnsOf : Sheet → Columns
-columnsOf s = record
-  { x = col 0 (s .particles)
-  ; y = col 1 (s .particles)
-  ; pinned = col 2 (s .particles)
-  ; t0 = col 0 (s .triangles)
-  ; t1 = col 1 (s .triangles)
-  ; t2 = col 2 (s .triangles)
-  ; e0 = col 0 (s .edges)
-  ; e1 = col 1 (s .edges)
-  ; structural = col 2 (s .edges)
-  ; b0 = col 0 (s .boundary)
-  ; b1 = col 1 (s .boundary)
-  ; blade = s .blade }
+columnsOf s = record {
+  x = col 0 (s .particles);
+  y = col 1 (s .particles);
+  pinned = col 2 (s .particles);
+  t0 = col 0 (s .triangles);
+  t1 = col 1 (s .triangles);
+  t2 = col 2 (s .triangles);
+  e0 = col 0 (s .edges);
+  e1 = col 1 (s .edges);
+  structural = col 2 (s .edges);
+  b0 = col 0 (s .boundary);
+  b1 = col 1 (s .boundary);
+  blade = s .blade;
+}

@@ -8,10 +8,12 @@ use lib.Ieee.{Float, nan}
 use Rattle.blade.specs.declared.Point.{Point}
 use Rattle.model.specs.Mesh.{Particle, Triangle, Edge, Side}
 use Rattle.columns.specs.Block.{cell}
+use Rattle.mesh.specs.Given.{Lent}
+use Rattle.mesh.specs.Filled.{Fits}
 use Rattle.mesh.specs.Workers.{ParticleRoom, EdgeRoom}
 use Rattle.bits.specs.Bits.{bitsOf, num, fieldAt}
 use Rattle.sheet.specs.Sheet.{Columns, countsAt, countsIn, endOf, rowOK, atTriangles, atEdges, atBoundary}
-use Rattle.sheet.specs.Read.{particleFrom, triangleFrom, edgeFrom, sideFrom}
+use Rattle.sheet.specs.Read.{particleFrom, triangleFrom, edgeFrom, sideFrom, countsFor}
 use Rattle.sheet.specs.declared.Counts.{Counts}
 
 -- a row of names whose fields begin at bit `at`
@@ -128,3 +130,19 @@ pub record EdgesIn (s : List ℕ) (at n p lp le ll : ℕ) : Type 0 where
 pub record SidesIn (s : List ℕ) (at n lo : ℕ) : Type 0 where
   pub rows : RowsIn s at 20 n
   pub outline : n ≤ lo / 2
+
+-- the bytes hold a sheet with these counts whose names are right, and the blocks have room for it
+pub record MeshIn (s : List ℕ) (c : Counts) (L : Lent) : Type 0 where
+  pub framed : Framed s c
+  pub names : namesAt c (bitsOf s) ≡ true
+  pub room : Fits (countsFor c) L
+
+-- the blade's fields lie inside the bytes, and have places
+pub record BladeIn (s : List ℕ) (at places : ℕ) : Type 0 where
+  pub rows : RowsIn s at 11 4
+  pub room : 4 ≤ places
+
+-- what an accepted reading has: the bytes hold the sheet, and everything has room
+pub record Held (s : List ℕ) (c : Counts) (L : Lent) (places : ℕ) : Type 0 where
+  pub mesh : MeshIn s c L
+  pub blade : 4 ≤ places

@@ -11,6 +11,7 @@ ghost use Rattle.lists.specs.Lists.{padded};
 ghost use Rattle.sheet.specs.Sheet.{countsAt, endOf, bytesOf, above, tooMany, spareOf, pairOK, seenOf, allBelow, allOK, rowOK, Columns, even3, evenOf, fit3, fitOf, sheetFrom, sheetBits, namesOK, answerOf, WriteDone, sheetWith, coord};
 ghost use Rattle.sheet.specs.Work.{rowAt, okAt, namesAt, Small, CountsRead, RowsIn, Framed, Put, Even};
 
+pub mod read;
 pub mod rows;
 
 // How many of each a sheet says it has.
@@ -117,7 +118,11 @@ fn row_ok(s: &[u8], at: usize, three: bool, p: usize) -> bool
     if pair_ok(p, a, b) {
         if three {
             let c = bits::field(s, at + 20, 10);
-            if pair_ok(p, a, c) { pair_ok(p, b, c) } else { false }
+            if pair_ok(p, a, c) {
+                pair_ok(p, b, c)
+            } else {
+                false
+            }
         } else {
             true
         }
@@ -227,7 +232,11 @@ fn names_row(three: bool, p: usize, a: usize, b: usize, c: usize) -> bool
 {
     if pair_ok(p, a, b) {
         if three {
-            if pair_ok(p, a, c) { pair_ok(p, b, c) } else { false }
+            if pair_ok(p, a, c) {
+                pair_ok(p, b, c)
+            } else {
+                false
+            }
         } else {
             true
         }
@@ -239,7 +248,11 @@ fn names_row(three: bool, p: usize, a: usize, b: usize, c: usize) -> bool
 fn same3(a: &[usize], b: &[usize], c: &[usize]) -> bool
     ensures { λ r. ⌜ r ≡ even3 (now (a .entry)) (now (b .entry)) (now (c .entry)) ⌝ }
 {
-    if b.len() == a.len() { c.len() == a.len() } else { false }
+    if b.len() == a.len() {
+        c.len() == a.len()
+    } else {
+        false
+    }
 }
 
 fn fits3(l: usize, m: usize, n: usize, a: &[usize], b: &[usize], c: &[usize]) -> bool
@@ -252,13 +265,30 @@ fn fits3(l: usize, m: usize, n: usize, a: &[usize], b: &[usize], c: &[usize]) ->
     }
 }
 
-fn all_same(x: &[usize], y: &[usize], pinned: &[usize], t0: &[usize], t1: &[usize], t2: &[usize], e0: &[usize], e1: &[usize], structural: &[usize], b0: &[usize], b1: &[usize], blade: &[usize]) -> bool
+fn all_same(
+    x: &[usize],
+    y: &[usize],
+    pinned: &[usize],
+    t0: &[usize],
+    t1: &[usize],
+    t2: &[usize],
+    e0: &[usize],
+    e1: &[usize],
+    structural: &[usize],
+    b0: &[usize],
+    b1: &[usize],
+    blade: &[usize],
+) -> bool
     ensures { λ r. ⌜ r ≡ evenOf (record { x = now (x .entry); y = now (y .entry); pinned = now (pinned .entry); t0 = now (t0 .entry); t1 = now (t1 .entry); t2 = now (t2 .entry); e0 = now (e0 .entry); e1 = now (e1 .entry); structural = now (structural .entry); b0 = now (b0 .entry); b1 = now (b1 .entry); blade = now (blade .entry) }) ⌝ }
 {
     if same3(x, y, pinned) {
         if same3(t0, t1, t2) {
             if same3(e0, e1, structural) {
-                if same3(b0, b1, b1) { blade.len() == 4 } else { false }
+                if same3(b0, b1, b1) {
+                    blade.len() == 4
+                } else {
+                    false
+                }
             } else {
                 false
             }
@@ -270,13 +300,30 @@ fn all_same(x: &[usize], y: &[usize], pinned: &[usize], t0: &[usize], t1: &[usiz
     }
 }
 
-fn all_fit(x: &[usize], y: &[usize], pinned: &[usize], t0: &[usize], t1: &[usize], t2: &[usize], e0: &[usize], e1: &[usize], structural: &[usize], b0: &[usize], b1: &[usize], blade: &[usize]) -> bool
+fn all_fit(
+    x: &[usize],
+    y: &[usize],
+    pinned: &[usize],
+    t0: &[usize],
+    t1: &[usize],
+    t2: &[usize],
+    e0: &[usize],
+    e1: &[usize],
+    structural: &[usize],
+    b0: &[usize],
+    b1: &[usize],
+    blade: &[usize],
+) -> bool
     ensures { λ r. ⌜ r ≡ fitOf (record { x = now (x .entry); y = now (y .entry); pinned = now (pinned .entry); t0 = now (t0 .entry); t1 = now (t1 .entry); t2 = now (t2 .entry); e0 = now (e0 .entry); e1 = now (e1 .entry); structural = now (structural .entry); b0 = now (b0 .entry); b1 = now (b1 .entry); blade = now (blade .entry) }) ⌝ }
 {
     if fits3(2048, 2048, 2, x, y, pinned) {
         if fits3(1024, 1024, 1024, t0, t1, t2) {
             if fits3(1024, 1024, 2, e0, e1, structural) {
-                if fits3(1024, 1024, 1024, b0, b1, b1) { below(blade, 2048) } else { false }
+                if fits3(1024, 1024, 1024, b0, b1, b1) {
+                    below(blade, 2048)
+                } else {
+                    false
+                }
             } else {
                 false
             }
@@ -289,7 +336,21 @@ fn all_fit(x: &[usize], y: &[usize], pinned: &[usize], t0: &[usize], t1: &[usize
 }
 
 // Writes a whole sheet into bytes that are 0.
-fn put_all(s: &mut [u8], x: &[usize], y: &[usize], pinned: &[usize], t0: &[usize], t1: &[usize], t2: &[usize], e0: &[usize], e1: &[usize], structural: &[usize], b0: &[usize], b1: &[usize], blade: &[usize])
+fn put_all(
+    s: &mut [u8],
+    x: &[usize],
+    y: &[usize],
+    pinned: &[usize],
+    t0: &[usize],
+    t1: &[usize],
+    t2: &[usize],
+    e0: &[usize],
+    e1: &[usize],
+    structural: &[usize],
+    b0: &[usize],
+    b1: &[usize],
+    blade: &[usize],
+)
     requires { ⌜ Put (record { x = now x; y = now y; pinned = now pinned; t0 = now t0; t1 = now t1; t2 = now t2; e0 = now e0; e1 = now e1; structural = now structural; b0 = now b0; b1 = now b1; blade = now blade }) (now s) ⌝ }
     ensures { λ _. ⌜ bitsOf (now (s .exit)) ≡ padded (8 * length (now (s .entry))) 0 (sheetBits (sheetFrom (record { x = now (x .entry); y = now (y .entry); pinned = now (pinned .entry); t0 = now (t0 .entry); t1 = now (t1 .entry); t2 = now (t2 .entry); e0 = now (e0 .entry); e1 = now (e1 .entry); structural = now (structural .entry); b0 = now (b0 .entry); b1 = now (b1 .entry); blade = now (blade .entry) }))) ⌝ }
 {
@@ -309,20 +370,51 @@ fn put_all(s: &mut [u8], x: &[usize], y: &[usize], pinned: &[usize], t0: &[usize
     bits::put_four(s, at_d, 11, 11, blade[0], blade[1], blade[2], blade[3]);
 }
 
-fn names_all(x: &[usize], y: &[usize], pinned: &[usize], t0: &[usize], t1: &[usize], t2: &[usize], e0: &[usize], e1: &[usize], structural: &[usize], b0: &[usize], b1: &[usize], blade: &[usize]) -> bool
+fn names_all(
+    x: &[usize],
+    y: &[usize],
+    pinned: &[usize],
+    t0: &[usize],
+    t1: &[usize],
+    t2: &[usize],
+    e0: &[usize],
+    e1: &[usize],
+    structural: &[usize],
+    b0: &[usize],
+    b1: &[usize],
+    blade: &[usize],
+) -> bool
     requires { ⌜ Even (record { x = now x; y = now y; pinned = now pinned; t0 = now t0; t1 = now t1; t2 = now t2; e0 = now e0; e1 = now e1; structural = now structural; b0 = now b0; b1 = now b1; blade = now blade }) ⌝ }
     ensures { λ r. ⌜ r ≡ namesOK (sheetFrom (record { x = now (x .entry); y = now (y .entry); pinned = now (pinned .entry); t0 = now (t0 .entry); t1 = now (t1 .entry); t2 = now (t2 .entry); e0 = now (e0 .entry); e1 = now (e1 .entry); structural = now (structural .entry); b0 = now (b0 .entry); b1 = now (b1 .entry); blade = now (blade .entry) })) ⌝ }
 {
     let p = x.len();
     if names_in(true, p, t0, t1, t2) {
-        if names_in(false, p, e0, e1, structural) { names_in(false, p, b0, b1, b1) } else { false }
+        if names_in(false, p, e0, e1, structural) {
+            names_in(false, p, b0, b1, b1)
+        } else {
+            false
+        }
     } else {
         false
     }
 }
 
 // What a writer answers with m bytes lent.
-fn refusal(m: usize, x: &[usize], y: &[usize], pinned: &[usize], t0: &[usize], t1: &[usize], t2: &[usize], e0: &[usize], e1: &[usize], structural: &[usize], b0: &[usize], b1: &[usize], blade: &[usize]) -> usize
+fn refusal(
+    m: usize,
+    x: &[usize],
+    y: &[usize],
+    pinned: &[usize],
+    t0: &[usize],
+    t1: &[usize],
+    t2: &[usize],
+    e0: &[usize],
+    e1: &[usize],
+    structural: &[usize],
+    b0: &[usize],
+    b1: &[usize],
+    blade: &[usize],
+) -> usize
     ensures { λ r. ⌜ r ≡ answerOf (record { x = now (x .entry); y = now (y .entry); pinned = now (pinned .entry); t0 = now (t0 .entry); t1 = now (t1 .entry); t2 = now (t2 .entry); e0 = now (e0 .entry); e1 = now (e1 .entry); structural = now (structural .entry); b0 = now (b0 .entry); b1 = now (b1 .entry); blade = now (blade .entry) }) m ⌝ }
 {
     if all_same(x, y, pinned, t0, t1, t2, e0, e1, structural, b0, b1, blade) {
@@ -350,13 +442,55 @@ fn refusal(m: usize, x: &[usize], y: &[usize], pinned: &[usize], t0: &[usize], t
 }
 
 // Writes a sheet: 0, or a refusal's number with every lent byte 0.
-pub fn write(out: &mut [u8], x: &[usize], y: &[usize], pinned: &[usize], t0: &[usize], t1: &[usize], t2: &[usize], e0: &[usize], e1: &[usize], structural: &[usize], b0: &[usize], b1: &[usize], blade: &[usize]) -> usize
+pub fn write(
+    out: &mut [u8],
+    x: &[usize],
+    y: &[usize],
+    pinned: &[usize],
+    t0: &[usize],
+    t1: &[usize],
+    t2: &[usize],
+    e0: &[usize],
+    e1: &[usize],
+    structural: &[usize],
+    b0: &[usize],
+    b1: &[usize],
+    blade: &[usize],
+) -> usize
     ensures { λ r. ⌜ WriteDone (record { x = now (x .entry); y = now (y .entry); pinned = now (pinned .entry); t0 = now (t0 .entry); t1 = now (t1 .entry); t2 = now (t2 .entry); e0 = now (e0 .entry); e1 = now (e1 .entry); structural = now (structural .entry); b0 = now (b0 .entry); b1 = now (b1 .entry); blade = now (blade .entry) }) (now (out .entry)) (now (out .exit)) r ⌝ }
 {
     bits::blank(out);
-    let r = refusal(out.len(), x, y, pinned, t0, t1, t2, e0, e1, structural, b0, b1, blade);
+    let r = refusal(
+        out.len(),
+        x,
+        y,
+        pinned,
+        t0,
+        t1,
+        t2,
+        e0,
+        e1,
+        structural,
+        b0,
+        b1,
+        blade,
+    );
     if r == 0 {
-        put_all(out, x, y, pinned, t0, t1, t2, e0, e1, structural, b0, b1, blade);
+        put_all(
+            out,
+            x,
+            y,
+            pinned,
+            t0,
+            t1,
+            t2,
+            e0,
+            e1,
+            structural,
+            b0,
+            b1,
+            blade,
+        );
         return 0;
     }
     r

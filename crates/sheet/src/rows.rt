@@ -198,7 +198,12 @@ pub fn read_sides(s: &[u8], at: usize, n: usize, outline: &mut [usize])
     let mut i = 0;
     let mut pos = at;
     while i < n {
-        put_side(i, bits::field(s, pos, 10), bits::field(s, pos + 10, 10), outline);
+        put_side(
+            i,
+            bits::field(s, pos, 10),
+            bits::field(s, pos + 10, 10),
+            outline,
+        );
         i += 1;
         pos += 20;
     }

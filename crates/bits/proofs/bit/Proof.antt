@@ -21,7 +21,7 @@ div-result : tie.Need-div-result
 div-result c = search needs
 
 returns : tie.Need-returns
-returns c = 
+returns c =
     let a = c .before .before .before .before .args in
     (rw (c .wide .ensures .0, c .before .before .pow2 .ensures .is) (sym (getD-bitsOf (a .s .now) (a .at) (search needs))), search needs)
 

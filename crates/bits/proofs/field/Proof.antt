@@ -39,13 +39,14 @@ loop-less : tie.Need-loop-less Inv-loop μ-loop
 loop-less c = omega arith
 
 loop-again : tie.Need-loop-again Inv-loop μ-loop
-loop-again c = 
+loop-again c =
     let a = c .before .before .before .before .args in
     let l = c .before .before .loop in
-    let b = c .bit .ensures in
-    (omega arith,
-    rw (l .inv .1, b .0) (sym (field-more (bitsOf (a .s .now)) (a .at) (l .k) (omega (arith, length-bitsOf (a .s .now))))),
-    rw add-one (omega (arith, pow-suc 2 (l .k))))
+    let b = c .bit .ensures in (
+      omega arith,
+      rw (l .inv .1, b .0) (sym (field-more (bitsOf (a .s .now)) (a .at) (l .k) (omega (arith, length-bitsOf (a .s .now))))),
+      rw add-one (omega (arith, pow-suc 2 (l .k))),
+    )
 
 returns : tie.Need-returns Inv-loop μ-loop
 returns c = let e : c .before .loop .k ≡ c .before .before .before .args .w = omega arith in (rw (← e) (c .before .loop .inv .1), rw (← e) (c .before .loop .inv .2))

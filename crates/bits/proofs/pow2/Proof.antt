@@ -11,7 +11,7 @@ shl-result : tie.Need-shl-result
 shl-result c = search needs
 
 returns : tie.Need-returns
-returns c = 
+returns c =
     let k = c .args .k in
     let e : 1 * 2 ^ k % 2 ^ 64 ≡ 2 ^ k = shl-exact {a = 1} 1 k 64 (omega arith) (omega arith) ∙ one-mul (2 ^ k) in
     let s : 2 ^ k ≤ 2 ^ 11 = pow-mono {j = 11} (omega arith) in

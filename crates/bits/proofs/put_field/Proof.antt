@@ -43,19 +43,20 @@ loop-less : tie.Need-loop-less Inv-loop μ-loop
 loop-less c = omega arith
 
 loop-again : tie.Need-loop-again Inv-loop μ-loop
-loop-again c = 
+loop-again c =
     let a = c .before .before .before .before .before .before .before .before .args in
     let l = c .before .before .before .before .before .before .loop in
-    let e : length (take (l .k) (bits (a .w) (a .v))) ≡ l .k = length-take-le (l .k) (bits (a .w) (a .v)) (omega (arith, length-bits (a .w) (a .v))) in
-    (omega arith,
-    c .before .before .put-bit .kept .0 ∙ l .inv .1,
-    c .before .before .put-bit .ensures ∙ rw (c .before .before .before .pow2 .ensures .is, l .inv .2, take-bits (a .w) (a .v) (l .k) (omega arith), sets-snoc, e))
+    let e : length (take (l .k) (bits (a .w) (a .v))) ≡ l .k = length-take-le (l .k) (bits (a .w) (a .v)) (omega (arith, length-bits (a .w) (a .v))) in (
+      omega arith,
+      c .before .before .put-bit .kept .0 ∙ l .inv .1,
+      c .before .before .put-bit .ensures ∙ rw (c .before .before .before .pow2 .ensures .is, l .inv .2, take-bits (a .w) (a .v) (l .k) (omega arith), sets-snoc, e),
+    )
 
 same-length : tie.Need-same-length Inv-loop μ-loop
 same-length c = omega arith
 
 returns : tie.Need-returns Inv-loop μ-loop
-returns c = 
+returns c =
     let a = c .before .before .before .args in
     let e : take (c .before .loop .k) (bits (a .w) (a .v)) ≡ bits (a .w) (a .v) = take-all (c .before .loop .k) (bits (a .w) (a .v)) (omega (arith, length-bits (a .w) (a .v))) in
     c .before .loop .inv .2 ∙ rw e

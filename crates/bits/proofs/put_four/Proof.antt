@@ -24,7 +24,7 @@ same-length : tie.Need-same-length
 same-length c = search needs
 
 returns : tie.Need-returns
-returns c = 
+returns c =
     let a = c .before .before .before .before .before .before .before .before .before .args in
     c .before .before .put-field .ensures ∙ rw (c .before .before .before .before .before .before .put-row .ensures) (sets-pack4 (bitsOf (a .s .now)) (a .at) (a .w) (a .v) (a .a) (a .b) (a .c) (a .d))
 

@@ -27,7 +27,7 @@ same-length : tie.Need-same-length
 same-length c = search needs
 
 returns : tie.Need-returns
-returns c = 
+returns c =
     let a = c .before .before .before .before .before .before .before .before .before .before .before .before .before .args in
     c .before .before .put-field3 .ensures ∙ rw (c .before .before .before .before .before .before .put-field2 .ensures, c .before .before .before .before .before .before .before .before .before .before .put-field .ensures) (sets-pack3 (bitsOf (a .s .now)) (a .at) (a .w0) (a .w1) (a .w2) (a .a) (a .b) (a .c))
 

@@ -27,7 +27,7 @@ add-step-2 : tie.Need-add-step-2 Inv-loop μ-loop
 add-step-2 c = omega arith
 
 loop-holds : tie.Need-loop-holds Inv-loop μ-loop
-loop-holds c = 
+loop-holds c =
     let a = c .before .before .before .before .args in
     let e : length (a .a .now) - 0 ≡ length (a .a .now) = omega arith in
     rw e (omega arith, refl, c .before .before .before .before .pre .room, c .before .before .before .before .pre .small, refl)
@@ -64,7 +64,7 @@ loop-less c = omega arith
 
 loop-again : tie.Need-loop-again Inv-loop μ-loop
 unfolding total
-loop-again c = 
+loop-again c =
     let a = c .before .before .before .before .before .before .before .before .before .before .before .before .before .args in
     let l = c .before .before .before .before .before .before .before .before .loop in
     let f = fewer (length (c .before .before .before .before .before .before .before .before .before .before .before .before .before .args .a .now)) (c .before .before .before .before .before .before .before .before .loop .i) (c .before .before .before .before .before .before .before .before .before .before .before .before .before .args .w0 + c .before .before .before .before .before .before .before .before .before .before .before .before .before .args .w1 + c .before .before .before .before .before .before .before .before .before .before .before .before .before .args .w2) (omega arith) in
@@ -80,7 +80,7 @@ same-length : tie.Need-same-length Inv-loop μ-loop
 same-length c = omega arith
 
 returns : tie.Need-returns Inv-loop μ-loop
-returns c = 
+returns c =
     let a = c .before .before .before .before .before .before .args in
     let l = c .before .loop in
     let z = rows-none (a .w0 ∷ a .w1 ∷ a .w2 ∷ []) (a .a .now ∷ a .b .now ∷ a .c .now ∷ []) (length (a .a .now)) (l .i) (omega arith) in

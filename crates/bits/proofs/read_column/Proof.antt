@@ -22,7 +22,7 @@ abbrev μ-loop : tie.MeasureT-loop
 μ-loop s at step w n out₀ i₀ pos₀ out i pos = n - i
 
 loop-holds : tie.Need-loop-holds Inv-loop μ-loop
-loop-holds c = 
+loop-holds c =
     let a = c .before .before .args in
     let e : a .n - 0 ≡ a .n = omega arith in
     rw e (omega arith, refl, c .before .before .pre .room, c .before .before .pre .small, refl, refl)
@@ -46,15 +46,19 @@ loop-less : tie.Need-loop-less Inv-loop μ-loop
 loop-less c = omega arith
 
 loop-again : tie.Need-loop-again Inv-loop μ-loop
-loop-again c = 
+loop-again c =
     let a = c .before .before .before .before .before .args in
     let l = c .before .before .loop in
     let f = fewer (c .before .before .before .before .before .args .n) (c .before .before .loop .i) (c .before .before .before .before .before .args .step) (omega arith) in
-    let t = column-turn (bitsOf (a .s .now)) (l .pos) (a .step) (a .w) (a .n) (l .i) (omega arith) in
-    (omega arith, length-set (l .out) (l .i) (c .field .result) ∙ l .inv .1, omega arith, omega arith,
-    drop-set-lt (l .i + 1) (l .out) (l .i) (c .field .result) (omega arith) ∙ drop-more (l .i) (l .out) (a .out .now) (l .inv .4),
-    ap (λ (x : List ℕ). x ++ columnAt (bitsOf (a .s .now)) (l .pos + a .step) (a .step) (a .w) (a .n - (l .i + 1))) (take-store (l .out) (l .i) (c .field .result) (omega arith))
-    ∙ (rw (append-assoc, c .field .ensures .0, ← t) (l .inv .5)))
+    let t = column-turn (bitsOf (a .s .now)) (l .pos) (a .step) (a .w) (a .n) (l .i) (omega arith) in (
+      omega arith,
+      length-set (l .out) (l .i) (c .field .result) ∙ l .inv .1,
+      omega arith,
+      omega arith,
+      drop-set-lt (l .i + 1) (l .out) (l .i) (c .field .result) (omega arith) ∙ drop-more (l .i) (l .out) (a .out .now) (l .inv .4),
+      ap (λ (x : List ℕ). x ++ columnAt (bitsOf (a .s .now)) (l .pos + a .step) (a .step) (a .w) (a .n - (l .i + 1))) (take-store (l .out) (l .i) (c .field .result) (omega arith))
+          ∙ (rw (append-assoc, c .field .ensures .0, ← t) (l .inv .5)),
+    )
 
 same-length : tie.Need-same-length Inv-loop μ-loop
 same-length c = c .before .loop .inv .1

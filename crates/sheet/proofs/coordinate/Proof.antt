@@ -20,7 +20,7 @@ sub-result : tie.Need-sub-result
 sub-result c = below-fits (c .before .args .raw) (c .before .pre)
 
 returns-2 : tie.Need-returns-2
-returns-2 c = 
+returns-2 c =
     let n = c .before .args .raw in
     toZ-ofZ w64 _ (below-fits n (c .before .pre)) ∙ (below-2048 n (c .before .pre) ∙ sym (coord-high n (c .if1 .left) (c .before .pre)))
 

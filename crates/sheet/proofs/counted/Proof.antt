@@ -16,10 +16,11 @@ field-requires-4 : tie.Need-field-requires-4
 field-requires-4 c κs = search needs
 
 returns : tie.Need-returns
-returns c = 
-    record
-    { is = rw (c .before .before .before .field .ensures .0, c .before .before .field2 .ensures .0, c .before .field3 .ensures .0, c .field4 .ensures .0)
-    ; small = record { particles = omega arith; triangles = omega arith; edges = omega arith; boundary = omega arith } }
+returns c =
+    record {
+      is = rw (c .before .before .before .field .ensures .0, c .before .before .field2 .ensures .0, c .before .field3 .ensures .0, c .field4 .ensures .0);
+      small = record { particles = omega arith; triangles = omega arith; edges = omega arith; boundary = omega arith };
+    }
 
 pub counted-spec : {M : Type 1} → statement M
 counted-spec =

@@ -43,7 +43,7 @@ field-requires c κs = search needs
 
 returns-4 : tie.Need-returns-4
 unfolding seenWith
-returns-4 c = 
+returns-4 c =
     let m = sym (c .before .before .before .before .before .before .refused-counts .ensures) ∙ c .before .before .before .before .before .if2 .left in
     let n = eq-eqb _ _ (c .before .before .if3 .left) in
     let k = ne-eqb _ _ (c .if4 .taken) in
@@ -54,7 +54,7 @@ names-ok-requires c κs = search needs
 
 returns-5 : tie.Need-returns-5
 unfolding seenWith
-returns-5 c = 
+returns-5 c =
     let m = sym (c .before .before .before .before .before .before .before .before .refused-counts .ensures) ∙ c .before .before .before .before .before .before .before .if2 .left in
     let n = eq-eqb _ _ (c .before .before .before .before .if3 .left) in
     let k = eq-eqb _ _ (c .before .before .if4 .left) in
@@ -63,7 +63,7 @@ returns-5 c =
 
 returns-6 : tie.Need-returns-6
 unfolding seenWith
-returns-6 c = 
+returns-6 c =
     let m = sym (c .before .before .before .before .before .before .before .before .refused-counts .ensures) ∙ c .before .before .before .before .before .before .before .if2 .left in
     let n = eq-eqb _ _ (c .before .before .before .before .if3 .left) in
     let k = eq-eqb _ _ (c .before .before .if4 .left) in

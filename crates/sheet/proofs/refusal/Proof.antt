@@ -27,14 +27,14 @@ byte-len-requires : tie.Need-byte-len-requires
 byte-len-requires c κs = not-many _ (sym (c .before .before .before .before .before .too-many .ensures) ∙ c .before .before .before .before .if2 .left)
 
 returns-2 : tie.Need-returns-2
-returns-2 c = 
+returns-2 c =
     let a = c .before .before .before .before .before .before .before .before .before .before .before .before .before .before .before .before .before .before .before .before .before .before .args in let k : Columns = record { x = a .x .now; y = a .y .now; pinned = a .pinned .now; t0 = a .t0 .now; t1 = a .t1 .now; t2 = a .t2 .now; e0 = a .e0 .now; e1 = a .e1 .now; structural = a .structural .now; b0 = a .b0 .now; b1 = a .b1 .now; blade = a .blade .now } in
     let b = c .before .byte-len .ensures in
     let h = c .if5 .taken in
     sym (answer-good k (a .m) (sym (c .before .before .before .before .before .before .before .before .before .all-same .ensures) ∙ c .before .before .before .before .before .before .before .before .if1 .taken) (sym (c .before .before .before .before .before .before .before .too-many .ensures) ∙ c .before .before .before .before .before .before .if2 .left) (sym (c .before .before .before .before .before .all-fit .ensures) ∙ c .before .before .before .before .if3 .taken) (sym (c .before .before .before .names-all .ensures) ∙ c .before .before .if4 .taken) (omega arith))
 
 returns-3 : tie.Need-returns-3
-returns-3 c = 
+returns-3 c =
     let a = c .before .before .before .before .before .before .before .before .before .before .before .before .before .before .before .before .before .before .before .before .before .before .args in let k : Columns = record { x = a .x .now; y = a .y .now; pinned = a .pinned .now; t0 = a .t0 .now; t1 = a .t1 .now; t2 = a .t2 .now; e0 = a .e0 .now; e1 = a .e1 .now; structural = a .structural .now; b0 = a .b0 .now; b1 = a .b1 .now; blade = a .blade .now } in
     let b = c .before .byte-len .ensures in
     let h = c .if5 .left in

@@ -31,27 +31,27 @@ pair-ok-requires-3 c κs = search needs
 
 returns : tie.Need-returns
 unfolding rowOK
-returns c = 
+returns c =
     let e1 = sym (c .before .before .before .before .before .before .pair-ok .ensures) ∙ c .before .before .before .before .before .if1 .taken in
     let e2 = sym (c .before .before .pair-ok2 .ensures) ∙ c .before .if3 .taken in
     c .pair-ok3 .ensures ∙ rw (← c .before .before .before .before .before .before .before .before .field .ensures .0, ← c .before .before .before .before .before .before .before .field2 .ensures .0, ← c .before .before .before .field3 .ensures .0, e1, c .before .before .before .before .if2 .taken, e2)
 
 returns-2 : tie.Need-returns-2
 unfolding rowOK
-returns-2 c = 
+returns-2 c =
     let e1 = sym (c .before .before .before .before .before .pair-ok .ensures) ∙ c .before .before .before .before .if1 .taken in
     let e2 = sym (c .before .pair-ok2 .ensures) ∙ c .if3 .left in
     rw (← c .before .before .before .before .before .before .before .field .ensures .0, ← c .before .before .before .before .before .before .field2 .ensures .0, ← c .before .before .field3 .ensures .0, e1, c .before .before .before .if2 .taken, e2)
 
 returns-3 : tie.Need-returns-3
 unfolding rowOK
-returns-3 c = 
+returns-3 c =
     let e1 = sym (c .before .before .pair-ok .ensures) ∙ c .before .if1 .taken in
     rw (← c .before .before .before .before .field .ensures .0, ← c .before .before .before .field2 .ensures .0, e1, c .if2 .left)
 
 returns-4 : tie.Need-returns-4
 unfolding rowOK
-returns-4 c = 
+returns-4 c =
     let e1 = sym (c .before .pair-ok .ensures) ∙ c .if1 .left in
     rw (← c .before .before .before .field .ensures .0, ← c .before .before .field2 .ensures .0, e1)
 

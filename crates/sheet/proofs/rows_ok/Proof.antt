@@ -19,7 +19,7 @@ abbrev μ-loop : tie.MeasureT-loop
 μ-loop s at step n three p i₀ pos₀ i pos = n - i
 
 loop-holds : tie.Need-loop-holds Inv-loop μ-loop
-loop-holds c = 
+loop-holds c =
     let a = c .before .args in
     let e : a .n - 0 ≡ a .n = omega arith in
     rw e (omega arith, c .before .pre .room, c .before .pre .small, refl)
@@ -37,14 +37,14 @@ loop-less : tie.Need-loop-less Inv-loop μ-loop
 loop-less c = omega arith
 
 loop-again : tie.Need-loop-again Inv-loop μ-loop
-loop-again c = 
+loop-again c =
     let f = fewer (c .before .before .before .before .before .args .n) (c .before .before .before .loop .i) (c .before .before .before .before .before .args .step) (omega arith) in
     let r = sym (c .before .row-ok .ensures) ∙ c .if1 .taken in
     let t = ok-turn (c .before .before .before .before .before .args .three) (c .before .before .before .before .before .args .p) (bitsOf (c .before .before .before .before .before .args .s .now)) (c .before .before .before .loop .pos) (c .before .before .before .before .before .args .step) (c .before .before .before .before .before .args .n) (c .before .before .before .loop .i) (omega arith) in
     (omega arith, omega arith, omega arith, sym (t ∙ rw r) ∙ c .before .before .before .loop .inv .3)
 
 returns : tie.Need-returns Inv-loop μ-loop
-returns c = 
+returns c =
     let r = sym (c .before .row-ok .ensures) ∙ c .if1 .left in
     let t = ok-turn (c .before .before .before .before .before .args .three) (c .before .before .before .before .before .args .p) (bitsOf (c .before .before .before .before .before .args .s .now)) (c .before .before .before .loop .pos) (c .before .before .before .before .before .args .step) (c .before .before .before .before .before .args .n) (c .before .before .before .loop .i) (omega arith) in
     sym (sym (c .before .before .before .loop .inv .3) ∙ (t ∙ rw r))
