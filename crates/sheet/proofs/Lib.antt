@@ -8,5 +8,6 @@ pub mod RowPuts
 pub mod RowReads
 pub mod MeshReads
 pub mod Entering
+pub mod Agree
 pub mod Cases
 pub mod CoordLaws

@@ -5,7 +5,7 @@ use mathlib.Core.Bool.{Bool, true, false, cond, not, _&&_, _||_}
 use mathlib.Core.List.{List, [], _∷_, _++_, map}
 use lib.ListN.{length, take, drop, getD, replicate}
 use lib.Dec.{ltb, leb, eqb}
-use lib.IntN.{ℤ, pos, subℕ}
+use lib.IntN.{ℤ, pos, negsuc, subℕ}
 use Rattle.lists.specs.Lists.{padded}
 use Rattle.bits.specs.Bits.{bits, bitsOf, num, fieldAt}
 use Rattle.bits.specs.Rows.{total, unpack, pack, readRows, writeRows, Fit, FitAll, rowsOf, col}
@@ -43,6 +43,11 @@ pub record Sheet : Type 0 where
 -- the value of an 11-bit two's complement field
 unfoldable pub coord : ℕ → ℤ
 coord n = subℕ n (n / 1024 * 2048)
+
+-- the field of a whole number in 11-bit two's complement, or 2048, which no 11 bits hold
+unfoldable pub fieldOf : ℤ → ℕ
+fieldOf (pos n) = cond (ltb n 1024) n 2048
+fieldOf (negsuc n) = cond (ltb n 1024) (2047 - n) 2048
 
 -- the counts that bits begin with
 abbrev pub countsAt : List ℕ → Counts
