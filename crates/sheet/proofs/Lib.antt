@@ -1,0 +1,13 @@
+pub mod SeenLaws
+pub mod Trip
+pub mod PutLaws
+pub mod ColumnLaws
+pub mod There
+pub mod Back
+pub mod RowPuts
+pub mod RowReads
+pub mod MeshReads
+pub mod Entering
+pub mod Agree
+pub mod Cases
+pub mod CoordLaws

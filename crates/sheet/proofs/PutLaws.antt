@@ -1,0 +1,215 @@
+-- Laws of a sheet written part by part.
+use Prim.Native.Nat.{ℕ, zero, suc, _+_, _-_, _*_, _/_, _%_, _^_, _<_, _≤_}
+use mathlib.Core.Path.{_≡_, refl, ap, sym, _∙_}
+use mathlib.Core.List.{List, [], _∷_, _++_, append-assoc, append-nil}
+use mathlib.Core.Bool.{Bool, true, false, cond, _&&_, _||_}
+use native.Mathlib.Omega.{arith}
+use native.Mathlib.Nat.{zero-add, suc-sub-suc, sub-zero}
+use borrow.Author.Tests.{eqb-true, leb-true, ltb-false, lt-leb, le-leb}
+use lib.Dec.{eqb, leb, ltb}
+use lib.ListN.{length, take, drop, getD, replicate, length-append, length-replicate}
+use lib.Seq.{sets, sets-eq}
+use Rattle.bits.specs.Bits.{bits, bitsOf}
+use Rattle.bits.specs.Rows.{total, pack, writeRows, rowsOf}
+use Rattle.lists.specs.Lists.{padded}
+use Rattle.sheet.specs.Sheet.{Sheet, above, Columns, sheetFrom, sheetBits, countsIn, headerW, particleW, triangleW, edgeW, boundaryW, bladeW, atTriangles, atEdges, atBoundary, atBlade, endOf, even3, evenOf, allOK, rowOK, tooMany, fitOf, namesOK, answerOf, bytesOf, putOf}
+use Rattle.sheet.specs.Work.{Even, Small}
+use Rattle.sheet.specs.declared.Counts.{Counts}
+use Rattle.bits.proofs.Laws.{length-bits}
+use Rattle.sheet.proofs.Trip.{length-sheetBits}
+use Rattle.bits.proofs.RowLaws.{sets-then, length-pack, length-writeRows}
+
+pub length-rowsOf : (cols : List (List ℕ)) (i n : ℕ) → length (rowsOf cols i n) ≡ n
+unfolding rowsOf
+length-rowsOf cols i zero = refl
+length-rowsOf cols i (suc n) = ap suc (length-rowsOf cols (i + 1) n)
+
+-- a third field of no bits adds nothing
+pub pairs : (a b : List ℕ) (i n : ℕ) → writeRows (10 ∷ 10 ∷ 0 ∷ []) (rowsOf (a ∷ b ∷ b ∷ []) i n) ≡ writeRows boundaryW (rowsOf (a ∷ b ∷ []) i n)
+unfolding rowsOf writeRows pack bits
+pairs a b i zero = refl
+pairs a b i (suc n) = rw (pairs a b (i + 1) n)
+
+pub pair-names : (p : ℕ) (a b : List ℕ) (i n : ℕ) → allOK false p (rowsOf (a ∷ b ∷ b ∷ []) i n) ≡ allOK false p (rowsOf (a ∷ b ∷ []) i n)
+unfolding rowsOf allOK rowOK
+pair-names p a b i zero = refl
+pair-names p a b i (suc n) = rw (pair-names p a b (i + 1) n)
+
+pub pack-blade : (d : List ℕ) → pack bladeW (getD d 0 0 ∷ getD d 1 0 ∷ getD d 2 0 ∷ getD d 3 0 ∷ []) ≡ pack bladeW d
+unfolding pack
+pack-blade [] = refl
+pack-blade (a ∷ []) = refl
+pack-blade (a ∷ b ∷ []) = refl
+pack-blade (a ∷ b ∷ c ∷ []) = refl
+pack-blade (a ∷ b ∷ c ∷ e ∷ r) = refl
+
+pub drop-zeros : (n m : ℕ) → drop n (replicate {A = ℕ} m 0) ≡ replicate (m - n) 0
+drop-zeros zero m = rw sub-zero
+drop-zeros (suc n) zero = let e : zero - suc n ≡ zero = omega arith in rw e
+drop-zeros (suc n) (suc m) = let e : suc m - suc n ≡ m - n = omega arith in rw e (drop-zeros n m)
+
+-- stores from the front on zeros
+pub sets-zeros : (m : ℕ) (x : List ℕ) → length x ≤ m → sets (replicate m 0) 0 x ≡ padded m 0 x
+unfolding padded
+sets-zeros m x h =
+    let e : 0 + length x ≡ length x = omega arith in
+    sets-eq x (replicate m 0) 0 (omega (arith, length-replicate {A = ℕ} m 0)) ∙ rw (e, drop-zeros (length x) m)
+
+module _ (k : Columns) where
+  pub length-sheet : length (sheetBits (sheetFrom k)) ≡ endOf (countsIn k)
+  length-sheet = omega (arith, length-sheetBits (sheetFrom k), length-rowsOf (k .x ∷ k .y ∷ k .pinned ∷ []) 0 (length (k .x)), length-rowsOf (k .t0 ∷ k .t1 ∷ k .t2 ∷ []) 0 (length (k .t0)), length-rowsOf (k .e0 ∷ k .e1 ∷ k .structural ∷ []) 0 (length (k .e0)), length-rowsOf (k .b0 ∷ k .b1 ∷ []) 0 (length (k .b0)))
+
+  -- the parts one after the other
+  pub put-sheet : (l : List ℕ) →
+      sets (sets (sets (sets (sets (sets l 0 (pack headerW (length (k .x) ∷ length (k .t0) ∷ length (k .e0) ∷ length (k .b0) ∷ [])))
+      46 (writeRows particleW (rowsOf (k .x ∷ k .y ∷ k .pinned ∷ []) 0 (length (k .x)))))
+      (atTriangles (countsIn k)) (writeRows triangleW (rowsOf (k .t0 ∷ k .t1 ∷ k .t2 ∷ []) 0 (length (k .t0)))))
+      (atEdges (countsIn k)) (writeRows edgeW (rowsOf (k .e0 ∷ k .e1 ∷ k .structural ∷ []) 0 (length (k .e0)))))
+      (atBoundary (countsIn k)) (writeRows (10 ∷ 10 ∷ 0 ∷ []) (rowsOf (k .b0 ∷ k .b1 ∷ k .b1 ∷ []) 0 (length (k .b0)))))
+      (atBlade (countsIn k)) (pack bladeW (getD (k .blade) 0 0 ∷ getD (k .blade) 1 0 ∷ getD (k .blade) 2 0 ∷ getD (k .blade) 3 0 ∷ []))
+      ≡ sets l 0 (sheetBits (sheetFrom k))
+  unfolding sheetBits total
+  put-sheet l =
+      let c = countsIn k in
+      let H = pack headerW (length (k .x) ∷ length (k .t0) ∷ length (k .e0) ∷ length (k .b0) ∷ []) in
+      let rp = rowsOf (k .x ∷ k .y ∷ k .pinned ∷ []) 0 (length (k .x)) in
+      let rt = rowsOf (k .t0 ∷ k .t1 ∷ k .t2 ∷ []) 0 (length (k .t0)) in
+      let re = rowsOf (k .e0 ∷ k .e1 ∷ k .structural ∷ []) 0 (length (k .e0)) in
+      let rb = rowsOf (k .b0 ∷ k .b1 ∷ []) 0 (length (k .b0)) in
+      let np : length rp ≡ length (k .x) = length-rowsOf (k .x ∷ k .y ∷ k .pinned ∷ []) 0 (length (k .x)) in
+      let nt : length rt ≡ length (k .t0) = length-rowsOf (k .t0 ∷ k .t1 ∷ k .t2 ∷ []) 0 (length (k .t0)) in
+      let ne : length re ≡ length (k .e0) = length-rowsOf (k .e0 ∷ k .e1 ∷ k .structural ∷ []) 0 (length (k .e0)) in
+      let nb : length rb ≡ length (k .b0) = length-rowsOf (k .b0 ∷ k .b1 ∷ []) 0 (length (k .b0)) in
+      let P = writeRows particleW rp in
+      let T = writeRows triangleW rt in
+      let E = writeRows edgeW re in
+      let B = writeRows boundaryW rb in
+      let D = pack bladeW (k .blade) in
+      let h : length H ≡ 46 = length-pack headerW (length (k .x) ∷ length (k .t0) ∷ length (k .e0) ∷ length (k .b0) ∷ []) in
+      let p : length P ≡ length rp * 23 = length-writeRows particleW rp in
+      let t : length T ≡ length rt * 30 = length-writeRows triangleW rt in
+      let e : length E ≡ length re * 21 = length-writeRows edgeW re in
+      let b : length B ≡ length rb * 20 = length-writeRows boundaryW rb in
+      let hp : length (H ++ P) ≡ atTriangles c = omega (arith, length-append H P) in
+      let ht : length (H ++ P ++ T) ≡ atEdges c = omega (arith, length-append (H ++ P) T) in
+      let he : length (H ++ P ++ T ++ E) ≡ atBoundary c = omega (arith, length-append (H ++ P ++ T) E) in
+      let hb : length (H ++ P ++ T ++ E ++ B) ≡ atBlade c = omega (arith, length-append (H ++ P ++ T ++ E) B) in
+      rw (
+        pairs (k .b0) (k .b1) 0 (length (k .b0)),
+        pack-blade (k .blade),
+        sets-then l 0 46 H P (omega arith),
+        sets-then l 0 (atTriangles c) (H ++ P) T (omega arith),
+        sets-then l 0 (atEdges c) (H ++ P ++ T) E (omega arith),
+        sets-then l 0 (atBoundary c) (H ++ P ++ T ++ E) B (omega arith),
+        sets-then l 0 (atBlade c) (H ++ P ++ T ++ E ++ B) D (omega arith),
+        np,
+        nt,
+        ne,
+        nb,
+      )
+
+-- on zeros
+pub put-zeros : (k : Columns) (m : ℕ) → endOf (countsIn k) ≤ m → sets (replicate m 0) 0 (sheetBits (sheetFrom k)) ≡ padded m 0 (sheetBits (sheetFrom k))
+put-zeros k m h = sets-zeros m (sheetBits (sheetFrom k)) (omega (arith, length-sheet k))
+
+pub both : (a b : Bool) → (a && b) ≡ true → (a ≡ true) × (b ≡ true)
+both true b e = (refl, e)
+both false b e = absurd (let z : _≡_ {A = ℕ} 0 1 = cc in omega arith)
+
+even-three : (a b c : List ℕ) → even3 a b c ≡ true → (length b ≡ length a) × (length c ≡ length a)
+unfolding even3
+even-three a b c e = let w = both _ _ e in (eqb-true _ _ (w .0), eqb-true _ _ (w .1))
+
+pub even-from : (k : Columns) → evenOf k ≡ true → Even k
+even-from k e =
+    let w1 = both _ _ e in
+    let w2 = both _ _ (w1 .1) in
+    let w3 = both _ _ (w2 .1) in
+    let w4 = both _ _ (w3 .1) in
+    let p = even-three (k .x) (k .y) (k .pinned) (w1 .0) in
+    let t = even-three (k .t0) (k .t1) (k .t2) (w2 .0) in
+    let g = even-three (k .e0) (k .e1) (k .structural) (w3 .0) in
+    let b = even-three (k .b0) (k .b1) (k .b1) (w4 .0) in
+    record { y = p .0; pinned = p .1; t1 = t .0; t2 = t .1; e1 = g .0; structural = g .1; b1 = b .0; blade = eqb-true _ _ (w4 .1) }
+
+pub neither : (a b : Bool) → (a || b) ≡ false → (a ≡ false) × (b ≡ false)
+neither true b e = absurd (let z : _≡_ {A = ℕ} 0 1 = cc in omega arith)
+neither false b e = (refl, e)
+
+pub not-many : (c : Counts) → tooMany c ≡ false → Small c
+unfolding above
+not-many c e =
+    let w1 = neither (ltb 1024 (c .particles)) (ltb 1024 (c .triangles) || (ltb 2048 (c .edges) || ltb 2048 (c .boundary))) e in
+    let w2 = neither (ltb 1024 (c .triangles)) (ltb 2048 (c .edges) || ltb 2048 (c .boundary)) (w1 .1) in
+    let w3 = neither (ltb 2048 (c .edges)) (ltb 2048 (c .boundary)) (w2 .1) in
+    let p : c .particles ≤ 1024 = ltb-false _ _ (w1 .0) in
+    let t : c .triangles ≤ 1024 = ltb-false _ _ (w2 .0) in
+    let g : c .edges ≤ 2048 = ltb-false _ _ (w3 .0) in
+    let b : c .boundary ≤ 2048 = ltb-false _ _ (w3 .1) in
+    record { particles = omega arith; triangles = omega arith; edges = omega arith; boundary = omega arith }
+
+pub accepted : (a b c d e : Bool) → _≡_ {A = ℕ} (cond a (cond b 1 (cond c (cond d (cond e 0 9) 3) 2)) 1) 0 → (a ≡ true) × (b ≡ false) × (c ≡ true) × (d ≡ true) × (e ≡ true)
+accepted false b c d e h = absurd (omega arith)
+accepted true true c d e h = absurd (omega arith)
+accepted true false false d e h = absurd (omega arith)
+accepted true false true false e h = absurd (omega arith)
+accepted true false true true false h = absurd (omega arith)
+accepted true false true true true h = (refl, refl, refl, refl, refl)
+
+-- a sheet that is accepted: what put_all asks, and that every field holds its number
+pub record Good (k : Columns) (m : ℕ) : Type 0 where
+  pub even : Even k
+  pub counts : Small (countsIn k)
+  pub few : tooMany (countsIn k) ≡ false
+  pub fit : fitOf k ≡ true
+  pub names : namesOK (sheetFrom k) ≡ true
+  pub room : bytesOf (countsIn k) ≤ m
+
+pub good : (k : Columns) (m : ℕ) → answerOf k m ≡ 0 → Good k m
+unfolding answerOf
+good k m h =
+    let w = accepted (evenOf k) (tooMany (countsIn k)) (fitOf k) (namesOK (sheetFrom k)) (leb (bytesOf (countsIn k)) m) h in
+    record { even = even-from k (w .0); counts = not-many (countsIn k) (w .1); few = w .1; fit = w .2; names = w .3; room = leb-true _ _ (w .4) }
+
+module _ (k : Columns) (m : ℕ) where
+  pub answer-uneven : evenOf k ≡ false → answerOf k m ≡ 1
+  unfolding answerOf
+  answer-uneven a = rw a
+
+  module _ (a : evenOf k ≡ true) where
+    pub answer-many : tooMany (countsIn k) ≡ true → answerOf k m ≡ 1
+    unfolding answerOf
+    answer-many b = rw (a, b)
+
+    module _ (b : tooMany (countsIn k) ≡ false) where
+      pub answer-wide : fitOf k ≡ false → answerOf k m ≡ 2
+      unfolding answerOf
+      answer-wide c = rw (a, b, c)
+
+      module _ (c : fitOf k ≡ true) where
+        pub answer-names : namesOK (sheetFrom k) ≡ false → answerOf k m ≡ 3
+        unfolding answerOf
+        answer-names d = rw (a, b, c, d)
+
+        module _ (d : namesOK (sheetFrom k) ≡ true) where
+          pub answer-long : m < bytesOf (countsIn k) → answerOf k m ≡ 9
+          unfolding answerOf
+          answer-long h = rw (a, b, c, d, lt-leb (bytesOf (countsIn k)) m h)
+
+          pub answer-good : bytesOf (countsIn k) ≤ m → answerOf k m ≡ 0
+          unfolding answerOf
+          answer-good h = rw (a, b, c, d, le-leb (bytesOf (countsIn k)) m h)
+
+pub names-cols : (k : Columns) → namesOK (sheetFrom k) ≡ (allOK true (length (k .x)) (rowsOf (k .t0 ∷ k .t1 ∷ k .t2 ∷ []) 0 (length (k .t0)))
+    && (allOK false (length (k .x)) (rowsOf (k .e0 ∷ k .e1 ∷ k .structural ∷ []) 0 (length (k .e0))) && allOK false (length (k .x)) (rowsOf (k .b0 ∷ k .b1 ∷ k .b1 ∷ []) 0 (length (k .b0)))))
+names-cols k = rw (length-rowsOf (k .x ∷ k .y ∷ k .pinned ∷ []) 0 (length (k .x)), pair-names (length (k .x)) (k .b0) (k .b1) 0 (length (k .b0)))
+
+-- what a refusal leaves
+pub put-none : (r : ℕ) (s : Sheet) (m : ℕ) → (r ≡ 0 → ⊥) → padded m 0 (putOf r s) ≡ replicate m 0
+unfolding putOf padded
+put-none zero s m h = absurd (h refl)
+put-none (suc r) s m h = let e : m - zero ≡ m = omega arith in rw e
+
+pub put-some : (s : Sheet) → putOf 0 s ≡ sheetBits s
+unfolding putOf
+put-some s = refl

@@ -1,0 +1,17 @@
+use mathlib.Core.Path.{sym}
+use borrow.Author.Tests.{le-leb, lt-leb}
+use Rattle.sheet.proofs.read.two_fit.Statement.{statement}
+use Rattle.sheet.proofs.read.two_fit.Tie as tie
+use Rattle.sheet.proofs.read.two_fit.Reads as reads
+use Rattle.sheet.proofs.read.two_fit.Lts as lts
+
+-- src/read.rt:20:1
+returns : tie.Need-returns
+returns c = sym (rw (le-leb _ _ (c .if1 .taken)))
+
+-- src/read.rt:20:1
+returns-2 : tie.Need-returns-2
+returns-2 c = sym (rw (lt-leb _ _ (c .if1 .left)))
+
+pub two-fit-spec : {M : Type 1} → statement M
+two-fit-spec = tie.close (tie.spec returns returns-2)

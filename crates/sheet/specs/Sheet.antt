@@ -1,0 +1,241 @@
+-- Document 01, "Sheet and listing": the layout, a sheet's meaning, and what each sheet and each writing is answered. Definitions only.
+use Prim.Native.Nat.{ℕ, zero, suc, _+_, _-_, _*_, _/_, _%_, _^_, _<_, _≤_}
+use mathlib.Core.Path.{_≡_}
+use mathlib.Core.Bool.{Bool, true, false, cond, not, _&&_, _||_}
+use mathlib.Core.List.{List, [], _∷_, _++_, map}
+use lib.ListN.{length, take, drop, getD, replicate}
+use lib.Dec.{ltb, leb, eqb}
+use lib.IntN.{ℤ, pos, negsuc, subℕ}
+use Rattle.lists.specs.Lists.{padded}
+use Rattle.bits.specs.Bits.{bits, bitsOf, num, fieldAt}
+use Rattle.bits.specs.Rows.{total, unpack, pack, readRows, writeRows, Fit, FitAll, rowsOf, col}
+use Rattle.sheet.specs.declared.Counts.{Counts}
+use Rattle.sheet.specs.declared.Seen.{Seen}
+use Rattle.sheet.specs.declared.Seen.the-variants.{Whole, Refused}
+
+-- the widths: counts; particle x, y, pinned; triangle; edge and structural; boundary; blade x0, y0, x1, y1
+abbrev pub headerW : List ℕ
+headerW = 11 ∷ 11 ∷ 12 ∷ 12 ∷ []
+
+abbrev pub particleW : List ℕ
+particleW = 11 ∷ 11 ∷ 1 ∷ []
+
+abbrev pub triangleW : List ℕ
+triangleW = 10 ∷ 10 ∷ 10 ∷ []
+
+abbrev pub edgeW : List ℕ
+edgeW = 10 ∷ 10 ∷ 1 ∷ []
+
+abbrev pub boundaryW : List ℕ
+boundaryW = 10 ∷ 10 ∷ []
+
+abbrev pub bladeW : List ℕ
+bladeW = 11 ∷ 11 ∷ 11 ∷ 11 ∷ []
+
+-- a sheet's meaning: its lists, each entry the row of its fields; coordinates as their 11 bits (`coord` is their value)
+pub record Sheet : Type 0 where
+  pub particles : List (List ℕ)
+  pub triangles : List (List ℕ)
+  pub edges : List (List ℕ)
+  pub boundary : List (List ℕ)
+  pub blade : List ℕ
+
+-- the value of an 11-bit two's complement field
+unfoldable pub coord : ℕ → ℤ
+coord n = subℕ n (n / 1024 * 2048)
+
+-- the field of a whole number in 11-bit two's complement, or 2048, which no 11 bits hold
+unfoldable pub fieldOf : ℤ → ℕ
+fieldOf (pos n) = cond (ltb n 1024) n 2048
+fieldOf (negsuc n) = cond (ltb n 1024) (2047 - n) 2048
+
+-- the counts that bits begin with
+abbrev pub countsAt : List ℕ → Counts
+countsAt l = record { particles = fieldAt l 0 11; triangles = fieldAt l 11 11; edges = fieldAt l 22 12; boundary = fieldAt l 34 12 }
+
+-- where each list begins, and the end
+abbrev pub atTriangles : Counts → ℕ
+atTriangles c = 46 + c .particles * 23
+
+abbrev pub atEdges : Counts → ℕ
+atEdges c = atTriangles c + c .triangles * 30
+
+abbrev pub atBoundary : Counts → ℕ
+atBoundary c = atEdges c + c .edges * 21
+
+abbrev pub atBlade : Counts → ℕ
+atBlade c = atBoundary c + c .boundary * 20
+
+abbrev pub endOf : Counts → ℕ
+endOf c = atBlade c + 44
+
+-- the sheet that bits hold, whatever else stands behind it
+unfoldable pub sheetWith : Counts → List ℕ → Sheet
+sheetWith c l = record {
+  particles = readRows particleW (c .particles) (drop 46 l);
+  triangles = readRows triangleW (c .triangles) (drop (atTriangles c) l);
+  edges = readRows edgeW (c .edges) (drop (atEdges c) l);
+  boundary = readRows boundaryW (c .boundary) (drop (atBoundary c) l);
+  blade = unpack bladeW (drop (atBlade c) l);
+}
+
+-- the counts of a sheet
+abbrev pub countsOf : Sheet → Counts
+countsOf s = record { particles = length (s .particles); triangles = length (s .triangles); edges = length (s .edges); boundary = length (s .boundary) }
+
+-- counts as a header's row
+abbrev pub headerOf : Counts → List ℕ
+headerOf c = c .particles ∷ c .triangles ∷ c .edges ∷ c .boundary ∷ []
+
+-- a sheet's bits, without the spare ones
+unfoldable pub sheetBits : Sheet → List ℕ
+sheetBits s =
+    pack headerW (headerOf (countsOf s)) ++ writeRows particleW (s .particles) ++ writeRows triangleW (s .triangles)
+    ++ writeRows edgeW (s .edges) ++ writeRows boundaryW (s .boundary) ++ pack bladeW (s .blade)
+
+-- every field holds its number
+pub record FitSheet (s : Sheet) : Type 0 where
+  pub header : Fit headerW (headerOf (countsOf s))
+  pub particles : FitAll particleW (s .particles)
+  pub triangles : FitAll triangleW (s .triangles)
+  pub edges : FitAll edgeW (s .edges)
+  pub boundary : FitAll boundaryW (s .boundary)
+  pub blade : Fit bladeW (s .blade)
+
+-- a count is above its limit
+unfoldable pub above : Counts → Counts → Bool
+above limits c = ltb (limits .particles) (c .particles) || (ltb (limits .triangles) (c .triangles) || (ltb (limits .edges) (c .edges) || ltb (limits .boundary) (c .boundary)))
+
+-- document 01's limits
+abbrev pub most : Counts
+most = record { particles = 1024; triangles = 1024; edges = 2048; boundary = 2048 }
+
+-- a count is above document 01's limit
+abbrev pub tooMany : Counts → Bool
+tooMany c = above most c
+
+-- how many bytes a sheet has
+abbrev pub bytesOf : Counts → ℕ
+bytesOf c = (endOf c + 7) / 8
+
+-- the number that its spare bits stand for
+abbrev pub spareOf : Counts → List ℕ → ℕ
+spareOf c l = fieldAt l (endOf c) (8 * bytesOf c - endOf c)
+
+-- two different particles of p
+unfoldable pub pairOK : ℕ → ℕ → ℕ → Bool
+pairOK p a b = ltb a p && (ltb b p && not (eqb a b))
+
+-- a row of two names, or of three
+unfoldable pub rowOK : Bool → ℕ → ℕ → ℕ → ℕ → Bool
+rowOK three p a b c = pairOK p a b && cond three (pairOK p a c && pairOK p b c) true
+
+-- every row of a list
+unfoldable pub allOK : Bool → ℕ → List (List ℕ) → Bool
+allOK three p [] = true
+allOK three p (r ∷ rs) = rowOK three p (getD r 0 0) (getD r 1 0) (getD r 2 0) && allOK three p rs
+
+-- every element names particles, and none twice
+abbrev pub namesOK : Sheet → Bool
+namesOK s = allOK true (length (s .particles)) (s .triangles) && (allOK false (length (s .particles)) (s .edges) && allOK false (length (s .particles)) (s .boundary))
+
+-- what the bytes of a sheet with counts c are answered: counts 1; length and spare bits 9; names 3
+unfoldable pub seenWith : Counts → Counts → List ℕ → Seen
+seenWith limits c s =
+    cond (tooMany c || above limits c) (Refused 1)
+    (cond (eqb (length s) (bytesOf c))
+    (cond (eqb (spareOf c (bitsOf s)) 0)
+    (cond (namesOK (sheetWith c (bitsOf s))) (Whole c) (Refused 3))
+    (Refused 9))
+    (Refused 9))
+
+-- what the bytes of a sheet are answered, where the caller's limits hold besides document 01's: a short header 9; then as above
+unfoldable pub seenOf : Counts → List ℕ → Seen
+seenOf limits s = cond (ltb (length s) 6) (Refused 9) (seenWith limits (countsAt (bitsOf s)) s)
+
+-- every number of a column is below a bound
+unfoldable pub allBelow : ℕ → List ℕ → Bool
+allBelow m [] = true
+allBelow m (x ∷ xs) = ltb x m && allBelow m xs
+
+-- what a writer is handed: a column for each field
+pub record Columns : Type 0 where
+  pub x : List ℕ
+  pub y : List ℕ
+  pub pinned : List ℕ
+  pub t0 : List ℕ
+  pub t1 : List ℕ
+  pub t2 : List ℕ
+  pub e0 : List ℕ
+  pub e1 : List ℕ
+  pub structural : List ℕ
+  pub b0 : List ℕ
+  pub b1 : List ℕ
+  pub blade : List ℕ
+
+-- the sheet that columns are
+abbrev pub sheetFrom : Columns → Sheet
+sheetFrom k = record {
+  particles = rowsOf (k .x ∷ k .y ∷ k .pinned ∷ []) 0 (length (k .x));
+  triangles = rowsOf (k .t0 ∷ k .t1 ∷ k .t2 ∷ []) 0 (length (k .t0));
+  edges = rowsOf (k .e0 ∷ k .e1 ∷ k .structural ∷ []) 0 (length (k .e0));
+  boundary = rowsOf (k .b0 ∷ k .b1 ∷ []) 0 (length (k .b0));
+  blade = k .blade;
+}
+
+-- how many entries columns have
+abbrev pub countsIn : Columns → Counts
+countsIn k = record { particles = length (k .x); triangles = length (k .t0); edges = length (k .e0); boundary = length (k .b0) }
+
+-- three columns have one length
+unfoldable pub even3 : List ℕ → List ℕ → List ℕ → Bool
+even3 a b c = eqb (length b) (length a) && eqb (length c) (length a)
+
+-- columns of one list have one length, and the blade four numbers
+abbrev pub evenOf : Columns → Bool
+evenOf k = even3 (k .x) (k .y) (k .pinned) && (even3 (k .t0) (k .t1) (k .t2)
+    && (even3 (k .e0) (k .e1) (k .structural) && (even3 (k .b0) (k .b1) (k .b1) && eqb (length (k .blade)) 4)))
+
+-- three columns stay below their bounds
+unfoldable pub fit3 : ℕ → ℕ → ℕ → List ℕ → List ℕ → List ℕ → Bool
+fit3 l m n a b c = allBelow l a && (allBelow m b && allBelow n c)
+
+-- the bits can hold each number
+abbrev pub fitOf : Columns → Bool
+fitOf k = fit3 2048 2048 2 (k .x) (k .y) (k .pinned) && (fit3 1024 1024 1024 (k .t0) (k .t1) (k .t2)
+    && (fit3 1024 1024 2 (k .e0) (k .e1) (k .structural) && (fit3 1024 1024 1024 (k .b0) (k .b1) (k .b1) && allBelow 2048 (k .blade))))
+
+-- what a writer answers with m bytes lent: 1; 2; 3; 9; else 0
+unfoldable pub answerOf : Columns → ℕ → ℕ
+answerOf k m =
+    cond (evenOf k)
+    (cond (tooMany (countsIn k)) 1
+    (cond (fitOf k) (cond (namesOK (sheetFrom k)) (cond (leb (bytesOf (countsIn k)) m) 0 9) 3) 2))
+    1
+
+-- what it leaves: the sheet's bits and 0 behind them, or 0 alone
+unfoldable pub putOf : ℕ → Sheet → List ℕ
+putOf zero s = sheetBits s
+putOf (suc r) s = []
+
+-- what a writer answers, and the bits of every byte it was lent
+pub record WriteDone (k : Columns) (before after : List ℕ) (r : ℕ) : Type 0 where
+  pub answer : r ≡ answerOf k (length before)
+  pub bits : bitsOf after ≡ padded (8 * length before) 0 (putOf r (sheetFrom k))
+
+-- a sheet's columns
+abbrev pub columnsOf : Sheet → Columns
+columnsOf s = record {
+  x = col 0 (s .particles);
+  y = col 1 (s .particles);
+  pinned = col 2 (s .particles);
+  t0 = col 0 (s .triangles);
+  t1 = col 1 (s .triangles);
+  t2 = col 2 (s .triangles);
+  e0 = col 0 (s .edges);
+  e1 = col 1 (s .edges);
+  structural = col 2 (s .edges);
+  b0 = col 0 (s .boundary);
+  b1 = col 1 (s .boundary);
+  blade = s .blade;
+}
