@@ -22,9 +22,11 @@ pub read-agree :
     → ReadDone limits s L r p q c v e l o g b d → ReadDone limits s L r′ p′ q′ c′ v′ e′ l′ o′ g′ b d′
     → (r ≡ r′) × ((p ≡ p′) × (q ≡ q′) × (c ≡ c′) × (v ≡ v′) × (e ≡ e′) × (l ≡ l′) × (o ≡ o′) × (g ≡ g′)) × (d ≡ d′)
 read-agree limits s L b r r′ p p′ q q′ c c′ v v′ e e′ l l′ o o′ g g′ d d′ f h =
-    let z : r ≡ r′ = f .answer ∙ sym (h .answer) in
-    (z, agree (worldOf r (bitsOf s)) L p p′ q q′ c c′ v v′ e e′ l l′ o o′ g g′ (f .blocks) (subst (λ (x : Seen). Filled (worldOf x (bitsOf s)) L p′ q′ c′ v′ e′ l′ o′ g′) (sym z) (h .blocks)),
-    f .blade ∙ (ap (λ (x : Seen). padded (length b) zero32 (bladeLeft x (bitsOf s))) z ∙ sym (h .blade)))
+    let z : r ≡ r′ = f .answer ∙ sym (h .answer) in (
+      z,
+      agree (worldOf r (bitsOf s)) L p p′ q q′ c c′ v v′ e e′ l l′ o o′ g g′ (f .blocks) (subst (λ (x : Seen). Filled (worldOf x (bitsOf s)) L p′ q′ c′ v′ e′ l′ o′ g′) (sym z) (h .blocks)),
+      f .blade ∙ (ap (λ (x : Seen). padded (length b) zero32 (bladeLeft x (bitsOf s))) z ∙ sym (h .blade)),
+    )
 
 -- two writings of the same columns into as many bytes
 pub write-agree :
