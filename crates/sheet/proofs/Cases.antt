@@ -7,6 +7,15 @@ use Rattle.bits.specs.Bits.{bits, bitsOf, num}
 use Rattle.bits.specs.Rows.{total, unpack, pack, readRows, writeRows}
 use Rattle.lists.specs.Lists.{padded}
 use Rattle.sheet.specs.Sheet.{Sheet, sheetWith, sheetBits, seenOf, seenWith, allOK, rowOK, pairOK, coord, above, most}
+use lib.IntN.{pos, negsuc}
+use lib.Ieee.{Float, fin, isNan, neg, add, sub, mul, div, lt, le, eq, ofInt, ofBits}
+use mathlib.Core.Bool.{Bool, true, false}
+use Rattle.lists.specs.Lists.{mapAt}
+use Rattle.float.specs.Numbers.{zero32, one, absOf}
+use Rattle.float.specs.Root.{floorRoot, rootUnits}
+use Rattle.blade.specs.Points.{lengthOf}
+use Rattle.model.specs.Mesh.{Particle, Triangle, Edge, Side, Mesh}
+use Rattle.sheet.specs.Read.{floatOf, inverseOf, particleFrom, areaOf, triangleFrom, edgeFrom, particlesFrom, trianglesFrom, edgesFrom, boundaryFrom, meshOfSheet, bladeOfSheet}
 use Rattle.sheet.specs.declared.Counts.{Counts}
 use Rattle.sheet.specs.declared.Seen.the-variants.{Whole, Refused}
 
@@ -37,3 +46,39 @@ worked-sheet = refl
 pub empty-seen : (limits : Counts) → seenOf limits [] ≡ Refused 9
 unfolding seenOf
 empty-seen limits = refl
+
+-- 4, 8, 5, -1, and the rounded root of 32
+abbrev four : Float
+four = fin false 1 (pos 2)
+
+abbrev eight : Float
+eight = fin false 1 (pos 3)
+
+abbrev five : Float
+five = fin false 5 (pos 0)
+
+abbrev back : Float
+back = fin true 1 (pos 0)
+
+abbrev root32 : Float
+root32 = fin false 11863283 (negsuc 20)
+
+-- a free particle at rest, of mass 1
+abbrev free : ℕ → Float → Float → Particle
+free k x y = record { x = x; y = y; rest-x = x; rest-y = y; mass = one; inv = one; root = k; damaged = 0 }
+
+-- the worked sheet's mesh: rest volumes 8, rest lengths the rounded root of 32
+pub worked-mesh : meshOfSheet (sheetWith workedCounts (bitsOf worked)) ≡ record {
+  particles = free 0 zero32 zero32 ∷ free 1 four zero32 ∷ free 2 four four ∷ free 3 zero32 four ∷ [];
+  triangles = record { a = 0; b = 1; c = 2; volume = eight; stress = zero32 } ∷ record { a = 0; b = 2; c = 3; volume = eight; stress = zero32 } ∷ [];
+  edges = record { a = 0; b = 2; structural = 1; torn = 0; rest = root32; initial = root32; impulse = zero32; stress = zero32 }
+      ∷ record { a = 1; b = 3; structural = 0; torn = 0; rest = root32; initial = root32; impulse = zero32; stress = zero32 } ∷ [];
+  boundary = record { a = 0; b = 1 } ∷ record { a = 1; b = 2 } ∷ record { a = 2; b = 3 } ∷ record { a = 3; b = 0 } ∷ [];
+}
+unfolding worked workedCounts bitsOf bits num sheetWith readRows unpack total coord floatOf inverseOf particleFrom areaOf triangleFrom edgeFrom particlesFrom trianglesFrom edgesFrom boundaryFrom meshOfSheet mapAt absOf floorRoot rootUnits lengthOf isNan neg add sub mul div lt le eq ofInt ofBits
+worked-mesh = refl
+
+-- and its blade: (-1,-1) to (5,5)
+pub worked-blade : bladeOfSheet (sheetWith workedCounts (bitsOf worked)) ≡ back ∷ back ∷ five ∷ five ∷ []
+unfolding worked workedCounts bitsOf bits num sheetWith readRows unpack total coord floatOf bladeOfSheet ofInt ofBits
+worked-blade = refl

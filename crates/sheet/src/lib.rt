@@ -8,7 +8,7 @@ ghost use lib.Seq.{sets};
 ghost use Rattle.bits.specs.Bits.{bitsOf, num, fieldAt};
 ghost use Rattle.bits.specs.Rows.{total, unpack, pack, readRows, writeRows, columnAt, rowsOf};
 ghost use Rattle.lists.specs.Lists.{padded};
-ghost use Rattle.sheet.specs.Sheet.{countsAt, endOf, bytesOf, above, tooMany, spareOf, pairOK, seenOf, allBelow, allOK, rowOK, Columns, even3, evenOf, fit3, fitOf, sheetFrom, sheetBits, namesOK, answerOf, WriteDone, sheetWith, coord};
+ghost use Rattle.sheet.specs.Sheet.{countsAt, endOf, bytesOf, above, tooMany, spareOf, pairOK, seenOf, allBelow, allOK, rowOK, Columns, even3, evenOf, fit3, fitOf, sheetFrom, sheetBits, namesOK, answerOf, WriteDone, sheetWith, coord, fieldOf};
 ghost use Rattle.sheet.specs.Work.{rowAt, okAt, namesAt, Small, CountsRead, RowsIn, Framed, Put, Even};
 
 pub mod read;
@@ -505,4 +505,20 @@ pub fn coordinate(raw: usize) -> i64
         return raw as i64;
     }
     raw as i64 - 2048
+}
+
+// The 11-bit two's complement field of a whole number; 2048, which the writer refuses, where there is none.
+pub fn field_of(z: i64) -> usize
+    ensures { λ r. ⌜ r ≡ fieldOf z ⌝ }
+{
+    if z < 0 {
+        if z < -1024 {
+            return 2048;
+        }
+        return (z + 2048) as usize;
+    }
+    if z < 1024 {
+        return z as usize;
+    }
+    2048
 }

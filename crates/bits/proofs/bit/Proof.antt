@@ -1,3 +1,4 @@
+-- `bits::bit` meets its contract. Assumes nothing.
 use native.Mathlib.Omega.{arith}
 use mathlib.Core.Path.{_≡_, _∙_, sym}
 use Rattle.bits.proofs.Laws.{getD-bitsOf}

@@ -1,3 +1,4 @@
+-- `bits::pow2` meets its contract. Assumes nothing.
 use native.Mathlib.Omega.{arith}
 use lib.Pow.{shl-exact, pow-mono, pow-pos}
 use mathlib.Core.Path.{_≡_, _∙_}

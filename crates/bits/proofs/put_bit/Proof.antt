@@ -1,3 +1,4 @@
+-- `bits::put_bit` meets its contract. Assumes nothing.
 use native.Mathlib.Nat.{div-le-self}
 use native.Mathlib.Omega.{arith}
 use Prim.Native.Nat.{ℕ, suc, _-_, _+_, _*_, _/_, _%_, _^_, _<_, _≤_}

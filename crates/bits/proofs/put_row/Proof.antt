@@ -1,3 +1,4 @@
+-- `bits::put_row` meets its contract. Assumes nothing.
 use mathlib.Core.Path.{_∙_}
 use Rattle.bits.specs.Bits.{bitsOf}
 use Rattle.bits.proofs.RowLaws.{sets-pack3}

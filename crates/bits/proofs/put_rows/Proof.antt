@@ -1,3 +1,4 @@
+-- `bits::put_rows` meets its contract. Assumes nothing.
 use borrow.Author.Needs.{needs}
 use native.Mathlib.Omega.{arith}
 use Prim.Native.Nat.{ℕ, _-_, _+_, _*_, _^_, _<_, _≤_}

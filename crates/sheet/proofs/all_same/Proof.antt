@@ -1,3 +1,4 @@
+-- `sheet::all_same` meets its contract. Assumes nothing.
 use mathlib.Core.Path.{_≡_, sym, _∙_}
 use borrow.Author.Needs.{needs}
 use Rattle.sheet.proofs.all_same.Statement.{statement}

@@ -1,3 +1,4 @@
+-- `sheet::coordinate` meets its contract. Assumes nothing.
 use native.Mathlib.Omega.{arith}
 use mathlib.Core.Path.{_≡_, _∙_, sym}
 use mir.Syntax.{w64}

@@ -1,3 +1,4 @@
+-- `sheet::counted` meets its contract. Assumes nothing.
 use native.Mathlib.Omega.{arith}
 use borrow.Author.Needs.{needs}
 use Rattle.sheet.proofs.counted.Statement.{statement}

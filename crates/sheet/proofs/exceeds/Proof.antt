@@ -1,3 +1,4 @@
+-- `sheet::exceeds` meets its contract. Assumes nothing.
 use borrow.Author.Tests.{lt-ltb, le-ltb}
 use Rattle.sheet.specs.Sheet.{above}
 use Rattle.sheet.proofs.exceeds.Statement.{statement}

@@ -1,3 +1,4 @@
+-- `sheet::fits3` meets its contract. Assumes nothing.
 use mathlib.Core.Path.{_≡_, sym, _∙_}
 use Rattle.sheet.specs.Sheet.{fit3}
 use borrow.Author.Needs.{needs}

@@ -1,3 +1,4 @@
+-- `sheet::names_ok` meets its contract. Assumes nothing.
 use mathlib.Core.Path.{_≡_, _∙_, sym}
 use borrow.Author.Needs.{needs}
 use Rattle.sheet.proofs.names_ok.Statement.{statement}

@@ -1,3 +1,4 @@
+-- `sheet::names_row` meets its contract. Assumes nothing.
 use mathlib.Core.Path.{_≡_, sym, _∙_}
 use Rattle.sheet.specs.Sheet.{pairOK, rowOK}
 use borrow.Author.Needs.{needs}

@@ -1,3 +1,4 @@
+-- `sheet::pair_ok` meets its contract. Assumes nothing.
 use borrow.Author.Tests.{lt-ltb, le-ltb}
 use Rattle.sheet.specs.Sheet.{pairOK}
 use Rattle.sheet.proofs.pair_ok.Statement.{statement}

@@ -1,3 +1,4 @@
+-- `sheet::refused_counts` meets its contract. Assumes nothing.
 use mathlib.Core.Path.{_∙_, sym}
 use borrow.Author.Needs.{needs}
 use Rattle.sheet.proofs.refused_counts.Statement.{statement}

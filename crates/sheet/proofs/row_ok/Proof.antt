@@ -1,3 +1,4 @@
+-- `sheet::row_ok` meets its contract. Assumes nothing.
 use mathlib.Core.Path.{_≡_, sym, _∙_}
 use mathlib.Core.Bool.{Bool, true, false}
 use Rattle.sheet.specs.Sheet.{pairOK, rowOK}

@@ -1,3 +1,4 @@
+-- `sheet::same3` meets its contract. Assumes nothing.
 use borrow.Author.Tests.{eq-eqb, ne-eqb}
 use Rattle.sheet.specs.Sheet.{even3}
 use Rattle.sheet.proofs.same3.Statement.{statement}

@@ -1,3 +1,4 @@
+-- `sheet::read::refuse` meets its contract. Assumes nothing.
 use native.Mathlib.Omega.{arith}
 use mathlib.Core.Path.{_≡_, refl, _∙_}
 use Rattle.sheet.proofs.MeshReads.{filled-same, empty-world}

@@ -1,15 +1,12 @@
+-- `sheet::read::two_fit` meets its contract. Assumes nothing.
 use mathlib.Core.Path.{sym}
 use borrow.Author.Tests.{le-leb, lt-leb}
 use Rattle.sheet.proofs.read.two_fit.Statement.{statement}
 use Rattle.sheet.proofs.read.two_fit.Tie as tie
-use Rattle.sheet.proofs.read.two_fit.Reads as reads
-use Rattle.sheet.proofs.read.two_fit.Lts as lts
 
--- src/read.rt:20:1
 returns : tie.Need-returns
 returns c = sym (rw (le-leb _ _ (c .if1 .taken)))
 
--- src/read.rt:20:1
 returns-2 : tie.Need-returns-2
 returns-2 c = sym (rw (lt-leb _ _ (c .if1 .left)))
 

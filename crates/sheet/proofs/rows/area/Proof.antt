@@ -1,3 +1,4 @@
+-- `sheet::rows::area` meets its contract. Assumes nothing.
 use mathlib.Core.Path.{ap}
 use lib.Ieee.{Float}
 use Rattle.float.specs.Numbers.{times, half}

@@ -1,3 +1,4 @@
+-- `sheet::rows::float_of` meets its contract. Assumes nothing.
 use mathlib.Core.Path.{_≡_, sym, subst, ap, _∙_}
 use lib.Dec.{T}
 use lib.IntN.{ℤ}

@@ -1,3 +1,4 @@
+-- `sheet::rows::inverse_of` meets its contract. Assumes nothing.
 use mathlib.Core.Path.{sym, ap}
 use mathlib.Core.Bool.{Bool}
 use borrow.Author.Tests.{eq-eqb, ne-eqb}

@@ -1,3 +1,4 @@
+-- `sheet::rows::place` meets its contract. Assumes nothing.
 use mathlib.Core.Path.{sym}
 use Prim.Native.Nat.{_/_}
 use lib.ListN.{length}

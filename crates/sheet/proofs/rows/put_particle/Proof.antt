@@ -1,3 +1,4 @@
+-- `sheet::rows::put_particle` meets its contract. Assumes nothing.
 use Rattle.sheet.proofs.RowPuts.{particle-put}
 use native.Mathlib.Omega.{arith}
 use mathlib.Core.Path.{_∙_}
@@ -6,136 +7,100 @@ use lib.ListN.{length-set}
 use borrow.Author.Needs.{needs}
 use Rattle.sheet.proofs.rows.put_particle.Statement.{statement}
 use Rattle.sheet.proofs.rows.put_particle.Tie as tie
-use Rattle.sheet.proofs.rows.put_particle.Reads as reads
-use Rattle.sheet.proofs.rows.put_particle.Lts as lts
-use Rattle.sheet.proofs.rows.float_of.Reads as float-of-reads
-use Rattle.sheet.proofs.rows.inverse_of.Reads as inverse-of-reads
 
--- src/rows.rt:46:9
 float-of-requires : tie.Need-float-of-requires
 float-of-requires c κs = search needs
 
--- src/rows.rt:47:9
 float-of-requires-2 : tie.Need-float-of-requires-2
 float-of-requires-2 c κs = search needs
 
--- src/rows.rt:48:5
 mul-points : tie.Need-mul-points
 mul-points c = search needs
 
--- src/rows.rt:48:5
 slice-write-points : tie.Need-slice-write-points
 slice-write-points c = search needs
 
--- src/rows.rt:49:12
 add-points : tie.Need-add-points
 add-points c = search needs
 
--- src/rows.rt:49:5
 mul-points-2 : tie.Need-mul-points-2
 mul-points-2 c = search needs
 
--- src/rows.rt:49:5
 slice-write-points-2 : tie.Need-slice-write-points-2
 slice-write-points-2 c = simp length-set (omega (arith, c .before .before .before .before .pre .room .points))
 
--- src/rows.rt:50:12
 mul-points-3 : tie.Need-mul-points-3
 mul-points-3 c = search needs
 
--- src/rows.rt:50:12
 add-points-2 : tie.Need-add-points-2
 add-points-2 c = search needs
 
--- src/rows.rt:50:5
 mul-points-4 : tie.Need-mul-points-4
 mul-points-4 c = search needs
 
--- src/rows.rt:50:5
 slice-write-points-3 : tie.Need-slice-write-points-3
 slice-write-points-3 c = simp length-set (omega (arith, c .before .before .before .before .pre .room .points))
 
--- src/rows.rt:51:12
 mul-points-5 : tie.Need-mul-points-5
 mul-points-5 c = search needs
 
--- src/rows.rt:51:12
 add-points-3 : tie.Need-add-points-3
 add-points-3 c = search needs
 
--- src/rows.rt:51:5
 mul-points-6 : tie.Need-mul-points-6
 mul-points-6 c = search needs
 
--- src/rows.rt:51:5
 slice-write-points-4 : tie.Need-slice-write-points-4
 slice-write-points-4 c = simp length-set (omega (arith, c .before .before .before .before .pre .room .points))
 
--- src/rows.rt:52:12
 mul-points-7 : tie.Need-mul-points-7
 mul-points-7 c = search needs
 
--- src/rows.rt:52:12
 add-points-4 : tie.Need-add-points-4
 add-points-4 c = search needs
 
--- src/rows.rt:52:5
 mul-points-8 : tie.Need-mul-points-8
 mul-points-8 c = search needs
 
--- src/rows.rt:52:5
 slice-write-points-5 : tie.Need-slice-write-points-5
 slice-write-points-5 c = simp length-set (omega (arith, c .before .before .before .before .pre .room .points))
 
--- src/rows.rt:53:25
 inverse-of-requires : tie.Need-inverse-of-requires
 inverse-of-requires c κs = search needs
 
--- src/rows.rt:53:12
 mul-points-9 : tie.Need-mul-points-9
 mul-points-9 c = search needs
 
--- src/rows.rt:53:12
 add-points-5 : tie.Need-add-points-5
 add-points-5 c = search needs
 
--- src/rows.rt:53:5
 mul-points-10 : tie.Need-mul-points-10
 mul-points-10 c = search needs
 
--- src/rows.rt:53:5
 slice-write-points-6 : tie.Need-slice-write-points-6
 slice-write-points-6 c = simp length-set (omega (arith, c .before .before .before .before .before .pre .room .points))
 
--- src/rows.rt:54:5
 mul-roots : tie.Need-mul-roots
 mul-roots c = search needs
 
--- src/rows.rt:54:5
 slice-write-roots : tie.Need-slice-write-roots
 slice-write-roots c = search needs
 
--- src/rows.rt:55:11
 add-roots : tie.Need-add-roots
 add-roots c = search needs
 
--- src/rows.rt:55:5
 mul-roots-2 : tie.Need-mul-roots-2
 mul-roots-2 c = search needs
 
--- src/rows.rt:55:5
 slice-write-roots-2 : tie.Need-slice-write-roots-2
 slice-write-roots-2 c = simp length-set (omega (arith, c .before .before .before .before .before .pre .room .roots))
 
--- src/rows.rt:33:1
 same-length : tie.Need-same-length
 same-length c = simp length-set
 
--- src/rows.rt:33:1
 same-length-2 : tie.Need-same-length-2
 same-length-2 c = search needs
 
--- src/rows.rt:33:1
 returns : tie.Need-returns
 unfolding ofBits
 returns c = particle-put _ _ _ _ _ _ _ _ _ (c .before .before .float-of .ensures) (c .before .float-of2 .ensures) (c .inverse-of .ensures) (c .before .before .before .before .before .pre .room .points) (c .before .before .before .before .before .pre .room .roots)

@@ -1,3 +1,4 @@
+-- `sheet::rows::put_side` meets its contract. Assumes nothing.
 use Prim.Native.Nat.{_/_}
 use lib.ListN.{length}
 use lib.ListN.{length-set}

@@ -1,3 +1,4 @@
+-- `sheet::rows::put_triangle` meets its contract. Assumes nothing.
 use Rattle.sheet.proofs.RowPuts.{triangle-put}
 use Rattle.sheet.specs.Work.{pointIn}
 use Rattle.sheet.specs.Read.{areaOf}
@@ -8,92 +9,67 @@ use lib.ListN.{length-set}
 use borrow.Author.Needs.{needs}
 use Rattle.sheet.proofs.rows.put_triangle.Statement.{statement}
 use Rattle.sheet.proofs.rows.put_triangle.Tie as tie
-use Rattle.sheet.proofs.rows.put_triangle.Reads as reads
-use Rattle.sheet.proofs.rows.put_triangle.Lts as lts
-use Rattle.sheet.proofs.rows.area.Reads as area-reads
-use Rattle.sheet.proofs.rows.place.Reads as place-reads
 
--- src/rows.rt:108:5
 mul-corners : tie.Need-mul-corners
 mul-corners c = search needs
 
--- src/rows.rt:108:5
 slice-write-corners : tie.Need-slice-write-corners
 slice-write-corners c = search needs
 
--- src/rows.rt:109:13
 add-corners : tie.Need-add-corners
 add-corners c = search needs
 
--- src/rows.rt:109:5
 mul-corners-2 : tie.Need-mul-corners-2
 mul-corners-2 c = search needs
 
--- src/rows.rt:109:5
 slice-write-corners-2 : tie.Need-slice-write-corners-2
 slice-write-corners-2 c = simp length-set (omega (arith, c .before .before .before .pre .corners))
 
--- src/rows.rt:110:13
 mul-corners-3 : tie.Need-mul-corners-3
 mul-corners-3 c = search needs
 
--- src/rows.rt:110:13
 add-corners-2 : tie.Need-add-corners-2
 add-corners-2 c = search needs
 
--- src/rows.rt:110:5
 mul-corners-4 : tie.Need-mul-corners-4
 mul-corners-4 c = search needs
 
--- src/rows.rt:110:5
 slice-write-corners-3 : tie.Need-slice-write-corners-3
 slice-write-corners-3 c = simp length-set (omega (arith, c .before .before .before .pre .corners))
 
--- src/rows.rt:111:23
 place-requires : tie.Need-place-requires
 place-requires c κs = search needs
 
--- src/rows.rt:111:41
 place-requires-2 : tie.Need-place-requires-2
 place-requires-2 c κs = search needs
 
--- src/rows.rt:111:59
 place-requires-3 : tie.Need-place-requires-3
 place-requires-3 c κs = search needs
 
--- src/rows.rt:111:18
 area-requires : tie.Need-area-requires
 area-requires c κs = search needs
 
--- src/rows.rt:111:5
 mul-volumes : tie.Need-mul-volumes
 mul-volumes c = search needs
 
--- src/rows.rt:111:5
 slice-write-volumes : tie.Need-slice-write-volumes
 slice-write-volumes c = search needs
 
--- src/rows.rt:112:13
 add-volumes : tie.Need-add-volumes
 add-volumes c = search needs
 
--- src/rows.rt:112:5
 mul-volumes-2 : tie.Need-mul-volumes-2
 mul-volumes-2 c = search needs
 
--- src/rows.rt:112:5
 slice-write-volumes-2 : tie.Need-slice-write-volumes-2
 slice-write-volumes-2 c = simp length-set (omega (arith, c .before .before .before .before .before .before .before .pre .volumes))
 
--- src/rows.rt:94:1
 same-length : tie.Need-same-length
 same-length c = search needs
 
--- src/rows.rt:94:1
 same-length-2 : tie.Need-same-length-2
 same-length-2 c = search needs
 
--- src/rows.rt:94:1
 returns : tie.Need-returns
 unfolding ofBits
 returns c = triangle-put (pointIn (c .before .before .before .before .before .before .before .args .points .now)) _ _ _ _ _ _ _ (c .area .ensures ∙ (λ i. areaOf (c .before .before .before .place .ensures i) (c .before .before .place2 .ensures i) (c .before .place3 .ensures i))) (c .before .before .before .before .before .before .before .pre .corners) (c .before .before .before .before .before .before .before .pre .volumes)

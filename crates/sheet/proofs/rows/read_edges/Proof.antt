@@ -1,3 +1,4 @@
+-- `sheet::rows::read_edges` meets its contract. Assumes nothing.
 use Rattle.sheet.proofs.RowReads.{no-edges, tab-more, triangle-same, edge-made, first-right, two-named, three-named}
 use Rattle.sheet.specs.Work.{okAt, pointIn, edgeBits}
 use Rattle.bits.specs.Bits.{num, bitsOf, fieldAt}
@@ -11,11 +12,6 @@ use mathlib.Core.Path.{_≡_, _∙_, refl, subst}
 use mathlib.Core.Bool.{Bool, true, false}
 use Rattle.sheet.proofs.rows.read_edges.Statement.{statement}
 use Rattle.sheet.proofs.rows.read_edges.Tie as tie
-use Rattle.sheet.proofs.rows.read_edges.Reads as reads
-use Rattle.sheet.proofs.rows.read_edges.Lts as lts
-use Rattle.bits.proofs.field.Reads as field-reads
-use Rattle.mesh.proofs.rows.append_edge.Reads as append-edge-reads
-use Rattle.sheet.proofs.rows.span.Reads as span-reads
 
 abbrev Inv-loop : tie.InvT-loop
 Inv-loop s at n p points ends₀ lengths₀ i₀ pos₀ ends lengths i pos = (i ≤ n) × (length ends ≡ length ends₀) × (length lengths ≡ length lengths₀) × (pos ≡ at + i * 21) × (okAt false p (bitsOf s) pos 21 (n - i) ≡ true) × (edgesAt i ends lengths ≡ tab i (edgeBits (pointIn points) (bitsOf s) at))
@@ -23,67 +19,52 @@ Inv-loop s at n p points ends₀ lengths₀ i₀ pos₀ ends lengths i pos = (i 
 abbrev μ-loop : tie.MeasureT-loop
 μ-loop s at n p points ends₀ lengths₀ i₀ pos₀ ends lengths i pos = n - i
 
--- src/rows.rt:163:5
 loop-holds : tie.Need-loop-holds Inv-loop μ-loop
 loop-holds c = let e : c .before .before .before .before .args .n - 0 ≡ c .before .before .before .before .args .n = omega arith in (omega arith, refl, refl, omega arith, rw e (c .before .before .before .before .pre .names), no-edges _ _ _)
 
--- src/rows.rt:164:13
 field-requires : tie.Need-field-requires Inv-loop μ-loop
 field-requires c κs = let p = c .before .before .before .before .before .before .pre .rows in record { room = omega (arith, p .room, c .before .loop .inv .3); narrow = omega arith; small = omega (arith, p .small, c .before .loop .inv .3) }
 
--- src/rows.rt:165:32
 add-field : tie.Need-add-field Inv-loop μ-loop
 add-field c = omega (arith, c .before .before .before .before .before .before .before .pre .rows .small, c .before .before .loop .inv .3)
 
--- src/rows.rt:165:13
 field-requires-2 : tie.Need-field-requires-2 Inv-loop μ-loop
 field-requires-2 c κs = let p = c .before .before .before .before .before .before .before .pre .rows in record { room = omega (arith, p .room, c .before .before .loop .inv .3); narrow = omega arith; small = omega (arith, p .small, c .before .before .loop .inv .3) }
 
--- src/rows.rt:166:13
 span-requires : tie.Need-span-requires Inv-loop μ-loop
 span-requires c κs = let a = c .before .before .before .before .before .before .before .before .args in let l = c .before .before .before .loop in let w = first-right false (a .p) (bitsOf (a .s .now)) (l .pos) 21 (a .n) (l .i) (omega arith) (l .inv .4) in
     let r = two-named false (a .p) (fieldAt (bitsOf (a .s .now)) (l .pos) 10) (fieldAt (bitsOf (a .s .now)) (l .pos + 10) 10) (fieldAt (bitsOf (a .s .now)) (l .pos + 20) 10) (w .0) in
     (omega (arith, r .0, c .before .field .ensures .0, c .before .before .before .before .before .before .before .before .pre .points), omega (arith, r .1, c .field2 .ensures .0, c .before .before .before .before .before .before .before .before .pre .points))
 
--- src/rows.rt:170:40
 add-field-2 : tie.Need-add-field-2 Inv-loop μ-loop
 add-field-2 c = omega (arith, c .before .before .before .before .before .before .before .before .before .pre .rows .small, c .before .before .before .before .loop .inv .3)
 
--- src/rows.rt:170:25
 field-requires-3 : tie.Need-field-requires-3 Inv-loop μ-loop
 field-requires-3 c κs = let p = c .before .before .before .before .before .before .before .before .before .pre .rows in record { room = omega (arith, p .room, c .before .before .before .before .loop .inv .3); narrow = omega arith; small = omega (arith, p .small, c .before .before .before .before .loop .inv .3) }
 
--- src/rows.rt:177:9
 append-edge-requires : tie.Need-append-edge-requires Inv-loop μ-loop
 append-edge-requires c κs = let q = c .before .before .before .before .before .before .before .before .before .before .before .before .pre .room in let l = c .before .before .before .before .before .before .before .loop in record { ends = omega (arith, q .ends, l .inv .1); lengths = omega (arith, q .lengths, l .inv .2) }
 
--- src/rows.rt:178:9
 add-i : tie.Need-add-i Inv-loop μ-loop
 add-i c = omega arith
 
--- src/rows.rt:179:9
 add-pos : tie.Need-add-pos Inv-loop μ-loop
 add-pos c = omega (arith, c .before .before .before .before .before .before .before .before .before .before .before .before .before .before .before .before .before .pre .rows .small, c .before .before .before .before .before .before .before .before .before .before .before .before .loop .inv .3)
 
--- src/rows.rt:163:5
 loop-less : tie.Need-loop-less Inv-loop μ-loop
 loop-less c = omega arith
 
--- src/rows.rt:163:5
 loop-again : tie.Need-loop-again Inv-loop μ-loop
 unfolding ofBits
 loop-again c = let a = c .before .before .before .before .before .before .before .before .before .before .before .before .before .before .before .before .before .args in let l = c .before .before .before .before .before .before .before .before .before .before .before .before .loop in let w = first-right false (a .p) (bitsOf (a .s .now)) (l .pos) 21 (a .n) (l .i) (omega arith) (l .inv .4) in
     (omega arith, c .before .before .before .before .append-edge .kept .1 .1 .0 ∙ l .inv .1, c .before .before .before .before .append-edge .kept .1 .1 .1 .0 ∙ l .inv .2, omega (arith, l .inv .3), w .1, tab-more (edgeBits (pointIn (a .points .now)) (bitsOf (a .s .now)) (a .at)) (l .i) _ _ _ (c .before .before .before .before .append-edge .ensures) (l .inv .5) (edge-made (pointIn (a .points .now)) _ _ _ _ _ _ _ _ (l .inv .3) (c .before .before .before .before .before .before .before .before .before .before .field .ensures .0) (c .before .before .before .before .before .before .before .before .before .field2 .ensures .0) (c .before .before .before .before .before .before .before .field3 .ensures .0) (c .before .before .before .before .before .before .before .before .span .ensures)))
 
--- src/rows.rt:149:1
 same-length : tie.Need-same-length Inv-loop μ-loop
 same-length c = c .before .loop .inv .1
 
--- src/rows.rt:149:1
 same-length-2 : tie.Need-same-length-2 Inv-loop μ-loop
 same-length-2 c = c .before .loop .inv .2
 
--- src/rows.rt:149:1
 returns : tie.Need-returns Inv-loop μ-loop
 returns c = let a = c .before .before .before .before .before .before .args in let l = c .before .loop in let e : l .i ≡ a .n = omega arith in
     subst (λ (m : ℕ). edgesAt m (l .ends) (l .lengths) ≡ tab m (edgeBits (pointIn (a .points .now)) (bitsOf (a .s .now)) (a .at))) e (l .inv .5)

@@ -1,3 +1,4 @@
+-- `sheet::rows::read_sides` meets its contract. Assumes nothing.
 use Rattle.sheet.proofs.RowReads.{no-sides, tab-more, side-same}
 use Rattle.sheet.specs.Work.{sideBits}
 use Rattle.bits.specs.Bits.{bitsOf}
@@ -9,10 +10,6 @@ use native.Mathlib.Omega.{arith}
 use mathlib.Core.Path.{_≡_, _∙_, refl, subst}
 use Rattle.sheet.proofs.rows.read_sides.Statement.{statement}
 use Rattle.sheet.proofs.rows.read_sides.Tie as tie
-use Rattle.sheet.proofs.rows.read_sides.Reads as reads
-use Rattle.sheet.proofs.rows.read_sides.Lts as lts
-use Rattle.bits.proofs.field.Reads as field-reads
-use Rattle.sheet.proofs.rows.put_side.Reads as put-side-reads
 
 abbrev Inv-loop : tie.InvT-loop
 Inv-loop s at n outline₀ i₀ pos₀ outline i pos = (i ≤ n) × (length outline ≡ length outline₀) × (pos ≡ at + i * 20) × (boundaryAt i outline ≡ tab i (sideBits (bitsOf s) at))
@@ -20,48 +17,37 @@ Inv-loop s at n outline₀ i₀ pos₀ outline i pos = (i ≤ n) × (length outl
 abbrev μ-loop : tie.MeasureT-loop
 μ-loop s at n outline₀ i₀ pos₀ outline i pos = n - i
 
--- src/rows.rt:200:5
 loop-holds : tie.Need-loop-holds Inv-loop μ-loop
 loop-holds c = (omega arith, refl, omega arith, no-sides _ _)
 
--- src/rows.rt:201:21
 field-requires : tie.Need-field-requires Inv-loop μ-loop
 field-requires c κs = let p = c .before .before .before .before .pre .rows in record { room = omega (arith, p .room, c .before .loop .inv .2); narrow = omega arith; small = omega (arith, p .small, c .before .loop .inv .2) }
 
--- src/rows.rt:201:61
 add-field : tie.Need-add-field Inv-loop μ-loop
 add-field c = omega (arith, c .before .before .before .before .before .pre .rows .small, c .before .before .loop .inv .2)
 
--- src/rows.rt:201:46
 field-requires-2 : tie.Need-field-requires-2 Inv-loop μ-loop
 field-requires-2 c κs = let p = c .before .before .before .before .before .pre .rows in record { room = omega (arith, p .room, c .before .before .loop .inv .2); narrow = omega arith; small = omega (arith, p .small, c .before .before .loop .inv .2) }
 
--- src/rows.rt:201:9
 put-side-requires : tie.Need-put-side-requires Inv-loop μ-loop
 put-side-requires c κs = omega (arith, c .before .before .before .before .before .before .before .pre .outline, c .before .before .before .before .loop .inv .1)
 
--- src/rows.rt:202:9
 add-i : tie.Need-add-i Inv-loop μ-loop
 add-i c = omega arith
 
--- src/rows.rt:203:9
 add-pos : tie.Need-add-pos Inv-loop μ-loop
 add-pos c = omega (arith, c .before .before .before .before .before .before .before .before .before .before .pre .rows .small, c .before .before .before .before .before .before .before .loop .inv .2)
 
--- src/rows.rt:200:5
 loop-less : tie.Need-loop-less Inv-loop μ-loop
 loop-less c = omega arith
 
--- src/rows.rt:200:5
 loop-again : tie.Need-loop-again Inv-loop μ-loop
 loop-again c = let a = c .before .before .before .before .before .before .before .before .before .before .args in let l = c .before .before .before .before .before .before .before .loop in
     (omega arith, c .before .before .put-side .kept .1 .1 .1 .0 ∙ l .inv .1, omega (arith, l .inv .2), tab-more (sideBits (bitsOf (a .s .now)) (a .at)) (l .i) _ _ _ (c .before .before .put-side .ensures) (l .inv .3) (side-same _ _ _ _ _ _ (l .inv .2) (c .before .before .before .before .before .field .ensures .0) (c .before .before .before .before .field2 .ensures .0)))
 
--- src/rows.rt:194:1
 same-length : tie.Need-same-length Inv-loop μ-loop
 same-length c = c .before .loop .inv .1
 
--- src/rows.rt:194:1
 returns : tie.Need-returns Inv-loop μ-loop
 returns c = let a = c .before .before .before .before .args in let l = c .before .loop in let e : l .i ≡ a .n = omega arith in
     subst (λ (m : ℕ). boundaryAt m (l .outline) ≡ tab m (sideBits (bitsOf (a .s .now)) (a .at))) e (l .inv .3)

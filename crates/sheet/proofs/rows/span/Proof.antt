@@ -1,3 +1,4 @@
+-- `sheet::rows::span` meets its contract. Assumes nothing.
 use mathlib.Core.Path.{ap, ap₂, _∙_}
 use Rattle.blade.specs.declared.Point.{Point}
 use Rattle.blade.specs.Points.{minusOf, lengthOf}
