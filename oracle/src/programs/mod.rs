@@ -1,5 +1,6 @@
 //! The programs; the first word names one.
 mod bench;
+mod cases;
 mod check;
 mod compare;
 mod cutlist;
@@ -10,10 +11,11 @@ mod vectors;
 /// Runs the program and gives its exit code.
 pub fn start(words: &[String]) -> i32 {
     let Some((name, rest)) = words.split_first() else {
-        eprintln!("oracle check | fuzz | compare | faults | replay | bench | vectors | cutlist (see oracle/README.md)");
+        eprintln!("oracle cases | check | fuzz | compare | faults | replay | bench | vectors | cutlist (see oracle/README.md)");
         return 2;
     };
     match name.as_str() {
+        "cases" => cases::run(rest),
         "check" => check::run(),
         "fuzz" => fuzz::run(rest),
         "compare" => compare::run(rest),

@@ -4,11 +4,11 @@
     cases.py                  cases.txt and cases.names -> crates/model/proofs/Case*.antt, a file for each section
     cases.py FILE FOLDER N    any vector file, N cases to a file (CaseRandom1.antt, ..), for a try outside the repository
 
-cases.txt and cases.names are written by the oracle's program `cases` (cases.rs) from the published Rust."""
+cases.txt and cases.names are written by `oracle/run cases oracle/cases` from the published Rust."""
 import os, re, sys
 
 HERE = os.path.dirname(os.path.abspath(__file__))
-CRATES = os.path.join(HERE, '..', 'crates')
+CRATES = os.path.join(HERE, '..', '..', 'crates')
 # the file of each section, a hundred numbers to a section
 SECTIONS = {1: 'Groups', 2: 'Splits', 3: 'Cuts', 4: 'Grid', 5: 'Straps', 6: 'Cracks', 7: 'TriangleCracks', 8: 'Loads', 9: 'Reads', 10: 'Refusals', 11: 'Rooms'}
 # the modules whose definitions are computed

@@ -1,8 +1,8 @@
 //! Writes the cases that crate model's definitions are computed on, with the published Rust's answers.
-//! A program of the oracle (src/bin/cases.rs): `cases FOLDER` writes FOLDER/cases.txt, a vector file, and
-//! FOLDER/cases.names, a line `NUMBER what it is` for each case. cases.py makes the statements of both.
-use tear_oracle::api::*;
-use tear_oracle::vectors::*;
+//! `cases FOLDER` writes FOLDER/cases.txt, a vector file, and FOLDER/cases.names, a line `NUMBER what it is` for each case.
+//! oracle/cases/cases.py makes the statements of both.
+use crate::api::*;
+use crate::vectors::*;
 
 fn body(ps: &[(f32, f32)]) -> Mesh {
     let mut m = Mesh::default();
@@ -392,8 +392,11 @@ fn rooms(o: &mut Out) {
     o.room("8: straddlers lack log", &two(), Call::Straddlers, lent(9, 9, 9, 0));
 }
 
-fn main() {
-    let folder = std::env::args().nth(1).unwrap();
+pub fn run(words: &[String]) -> i32 {
+    let [folder] = words else {
+        eprintln!("cases FOLDER");
+        return 2;
+    };
     let mut o = Out { no: 0, text: "tearvec 1\n".into(), names: String::new() };
     groups_and_splits(&mut o);
     cuts_of_triangles(&mut o);
@@ -402,6 +405,12 @@ fn main() {
     readings(&mut o);
     refusals(&mut o);
     rooms(&mut o);
-    std::fs::write(format!("{folder}/cases.txt"), o.text).unwrap();
-    std::fs::write(format!("{folder}/cases.names"), o.names).unwrap();
+    let texts = [("cases.txt", o.text), ("cases.names", o.names)];
+    for (name, text) in texts {
+        if let Err(e) = std::fs::write(format!("{folder}/{name}"), text) {
+            eprintln!("{folder}/{name}: {e}");
+            return 1;
+        }
+    }
+    0
 }
