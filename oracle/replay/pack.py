@@ -1,5 +1,5 @@
 #!/usr/bin/env python3
-"""Packs the list of calls for the program replay: oracle/replay/pack.py LIST.. > crates/replay/stdin
+"""Packs the list of calls for the program replay: oracle/replay/pack.py [--only NAME,NAME..] LIST.. > crates/replay/stdin
 
 A call of the list (oracle/README.md, 'The fixed list') becomes eight little-endian words of 4 bytes: kind, particle, minimum,
 bytes of the image, bytes of the arguments, bytes of the expected words, bytes lent, refusal; then those bytes.
@@ -38,7 +38,10 @@ def packed(line):
     return head + image + rest + words
 
 
-for name in sys.argv[1:]:
+args, only = sys.argv[1:], KINDS
+if args[:1] == ["--only"]:
+    only, args = args[1].split(","), args[2:]
+for name in args:
     for text in open(name):
-        if not text.startswith("#") and text.strip():
+        if text.split(" ")[0] in only:
             sys.stdout.buffer.write(packed(text))
