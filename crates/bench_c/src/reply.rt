@@ -6,10 +6,11 @@ ghost use lib.ListN.{length};
 ghost use lib.Ieee.{binary32, toBits};
 ghost use Rattle.model.specs.Reads.{refused, value};
 ghost use Rattle.bench_c.specs.Replies.{Replied};
-ghost use Rattle.bench_c.specs.Given.{numberReply, countReply, testedReply, SmallCode};
+ghost use Rattle.bench_c.specs.Given.{numberReply, countReply, truthReply, testedReply, SmallCode};
 use bench::Count;
 use bench::Number;
 use bench::Tested;
+use bench::Truth;
 use blade::Hit;
 
 // The bits of a number.
@@ -81,6 +82,24 @@ pub fn reply_count(a: Count, out: &mut [u8]) -> u32
         }
         Count::Counted(n) => {
             return reply_one(n, out);
+        }
+    }
+}
+
+// The reply of an entry that answers whether something holds.
+pub fn reply_truth(a: Truth, out: &mut [u8]) -> u32
+    requires { ⌜ SmallCode (truthReply a) ⌝ }
+    ensures { λ r. ⌜ Replied (truthReply a) (length (now (out .entry))) r (now (out .exit)) ⌝ }
+{
+    match a {
+        Truth::Refused(code) => {
+            return reply_refused(code, out);
+        }
+        Truth::Holds(b) => {
+            if b {
+                return reply_one(1, out);
+            }
+            return reply_one(0, out);
         }
     }
 }
