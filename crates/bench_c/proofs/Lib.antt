@@ -2,3 +2,4 @@
 pub mod Replying
 pub mod Loading
 pub mod Siding
+pub mod Grouping

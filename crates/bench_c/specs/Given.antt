@@ -25,6 +25,11 @@ abbrev pub countReply : Count → Read (List ℕ)
 countReply (CountRefused n) = refused n
 countReply (Counted n) = value (n ∷ [])
 
+-- a count, and words behind it
+abbrev pub groupsTold : Count → List ℕ → Read (List ℕ)
+groupsTold (CountRefused n) ws = refused n
+groupsTold (Counted n) ws = value (n ∷ ws)
+
 abbrev pub truthReply : Truth → Read (List ℕ)
 truthReply (TruthRefused n) = refused n
 truthReply (Holds b) = value (pick b 1 0 ∷ [])

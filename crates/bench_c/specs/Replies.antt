@@ -11,7 +11,7 @@ use Rattle.blade.specs.declared.Point.{Point}
 use Rattle.blade.specs.declared.Hit.{Hit}
 use Rattle.blade.specs.declared.Hit.the-variants.{Miss, Hit as HitAt}
 use Rattle.model.specs.Cut.{Blade}
-use Rattle.model.specs.Reads.{Read, refused, value, rootCall, bladeCall, restMeasureCall, piecesCall, opensCall}
+use Rattle.model.specs.Reads.{Read, refused, value, rootCall, bladeCall, restMeasureCall, piecesCall, opensCall, groupsCall}
 use Rattle.mesh.specs.Given.{meshOf}
 use Rattle.image.specs.Words.{wordAt, numberOf, written}
 use Rattle.image.specs.Image.{imageOf, imageSized}
@@ -32,6 +32,11 @@ countWords (value n) = value (n ∷ [])
 abbrev pub truthWords : Read Bool → Read (List ℕ)
 truthWords (refused n) = refused n
 truthWords (value b) = value (pick b 1 0 ∷ [])
+
+-- groups: how many they are, then the group of each element
+abbrev pub groupsWords : Read (List ℕ × ℕ) → Read (List ℕ)
+groupsWords (refused n) = refused n
+groupsWords (value gs) = value (gs .1 ∷ gs .0)
 
 -- a blade test: 1 and the bits of the fraction, or 0 and 0 for a miss
 abbrev pub hitWords : Hit → List ℕ
@@ -87,3 +92,7 @@ measureReply s = numberWords (restMeasureCall (imageSized s) (meshOf (imageOf s)
 -- whether the groups that sides, a byte for each, make at particle v of that mesh reach the minimum piece
 unfoldable pub opensReply : List ℕ → ℕ → List ℕ → ℕ → Read (List ℕ)
 opensReply s v sides min = truthWords (opensCall (imageSized s) (meshOf (imageOf s)) v sides min)
+
+-- the groups that such sides make there
+unfoldable pub groupsReply : List ℕ → ℕ → List ℕ → Read (List ℕ)
+groupsReply s v sides = groupsWords (groupsCall (imageSized s) (meshOf (imageOf s)) v sides)

@@ -6,9 +6,10 @@ ghost use lib.ListN.{length, take};
 ghost use Rattle.model.specs.Reads.{opensCall};
 ghost use Rattle.mesh.specs.Given.{meshOf};
 ghost use Rattle.image.specs.Image.{imageOf, imageSized};
-ghost use Rattle.bench.specs.Answers.{truthOf};
-ghost use Rattle.bench_c.specs.Replies.{Replied, opensReply};
+ghost use Rattle.bench.specs.Answers.{truthOf, groupsEntry, GroupsAnswered};
+ghost use Rattle.bench_c.specs.Replies.{Replied, opensReply, groupsReply};
 ghost use Rattle.bench_c.specs.Given.{Capped};
+use bench::Count;
 use bench::Truth;
 
 // A byte as a number.
@@ -105,6 +106,68 @@ pub extern "C" fn bench_opens_without_confetti(
             image_opens(bytes, v as usize, &numbers[..n], minimum as usize),
             out,
         );
+    }
+    crate::reply::reply_refused(1, out)
+}
+
+// The groups at a particle of an image that has the sizes of a mesh.
+fn image_groups(bytes: &[u8], v: usize, sides: &[usize], groups: &mut [usize]) -> Count
+    requires { ⌜ imageSized (now bytes) ≡ true ⌝ }
+    ensures { λ r. ⌜ GroupsAnswered (groupsEntry (imageSized (now (bytes .entry))) (meshOf (imageOf (now (bytes .entry)))) v (now (sides .entry)) (length (now (groups .entry)))) (length (now (groups .entry))) r (now (groups .exit)) ⌝ }
+{
+    let mut points = [0.0f32; 6144];
+    let mut roots = [0usize; 2048];
+    let mut corners = [0usize; 3072];
+    let mut volumes = [0.0f32; 2048];
+    let mut ends = [0usize; 8192];
+    let mut lengths = [0.0f32; 8192];
+    let mut outline = [0usize; 4096];
+    let p = image::word_at(bytes, 0);
+    let t = image::word_at(bytes, 1);
+    let e = image::word_at(bytes, 2);
+    let b = image::word_at(bytes, 3);
+    let p6 = 6 * p;
+    let p2 = 2 * p;
+    let t3 = 3 * t;
+    let t2 = 2 * t;
+    let e4 = 4 * e;
+    let b2 = 2 * b;
+    image::load(
+        bytes,
+        &mut points,
+        &mut roots,
+        &mut corners,
+        &mut volumes,
+        &mut ends,
+        &mut lengths,
+        &mut outline,
+    );
+    bench::grouping::groups(
+        &points[..p6],
+        &roots[..p2],
+        &corners[..t3],
+        &volumes[..t2],
+        &ends[..e4],
+        &lengths[..e4],
+        &outline[..b2],
+        v,
+        sides,
+        groups,
+    )
+}
+
+// The groups that sides make at a particle of a mesh image.
+#[no_mangle]
+pub extern "C" fn bench_groups(bytes: &[u8], v: u32, sides: &[u8], out: &mut [u8]) -> u32
+    ensures { λ r. ⌜ Replied (groupsReply (now (bytes .entry)) v (now (sides .entry))) (length (now (out .entry))) r (now (out .exit)) ⌝ }
+{
+    if image::image_sized(bytes) {
+        let mut numbers = [0usize; 2049];
+        let mut groups = [0usize; 2049];
+        let n = capped(sides.len(), 2049);
+        bytes_into(sides, n, &mut numbers);
+        let a = image_groups(bytes, v as usize, &numbers[..n], &mut groups);
+        return crate::reply::reply_groups(a, &groups[..n], out);
     }
     crate::reply::reply_refused(1, out)
 }
