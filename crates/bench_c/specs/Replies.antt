@@ -1,6 +1,7 @@
 -- What the C functions answer, as docs/C-FUNCTIONS.md has it: the number of a refusal, and the words of an answer in the lent bytes. Definitions only.
 use Prim.Native.Nat.{ℕ, _+_, _*_}
 use mathlib.Core.Path.{_≡_}
+use mathlib.Core.Bool.{Bool}
 use mathlib.Core.List.{List, [], _∷_}
 use lib.ListN.{length}
 use lib.Dec.{eqb, leb}
@@ -10,7 +11,7 @@ use Rattle.blade.specs.declared.Point.{Point}
 use Rattle.blade.specs.declared.Hit.{Hit}
 use Rattle.blade.specs.declared.Hit.the-variants.{Miss, Hit as HitAt}
 use Rattle.model.specs.Cut.{Blade}
-use Rattle.model.specs.Reads.{Read, refused, value, rootCall, bladeCall, restMeasureCall, piecesCall}
+use Rattle.model.specs.Reads.{Read, refused, value, rootCall, bladeCall, restMeasureCall, piecesCall, opensCall, groupsCall}
 use Rattle.mesh.specs.Given.{meshOf}
 use Rattle.image.specs.Words.{wordAt, numberOf, written}
 use Rattle.image.specs.Image.{imageOf, imageSized}
@@ -26,6 +27,16 @@ numberWords (value x) = value (toBits binary32 x ∷ [])
 abbrev pub countWords : Read ℕ → Read (List ℕ)
 countWords (refused n) = refused n
 countWords (value n) = value (n ∷ [])
+
+-- whether something holds: 1 or 0
+abbrev pub truthWords : Read Bool → Read (List ℕ)
+truthWords (refused n) = refused n
+truthWords (value b) = value (pick b 1 0 ∷ [])
+
+-- groups: how many they are, then the group of each element
+abbrev pub groupsWords : Read (List ℕ × ℕ) → Read (List ℕ)
+groupsWords (refused n) = refused n
+groupsWords (value gs) = value (gs .1 ∷ gs .0)
 
 -- a blade test: 1 and the bits of the fraction, or 0 and 0 for a miss
 abbrev pub hitWords : Hit → List ℕ
@@ -77,3 +88,11 @@ piecesReply s = countWords (piecesCall (imageSized s) (meshOf (imageOf s)))
 
 unfoldable pub measureReply : List ℕ → Read (List ℕ)
 measureReply s = numberWords (restMeasureCall (imageSized s) (meshOf (imageOf s)))
+
+-- whether the groups that sides, a byte for each, make at particle v of that mesh reach the minimum piece
+unfoldable pub opensReply : List ℕ → ℕ → List ℕ → ℕ → Read (List ℕ)
+opensReply s v sides min = truthWords (opensCall (imageSized s) (meshOf (imageOf s)) v sides min)
+
+-- the groups that such sides make there
+unfoldable pub groupsReply : List ℕ → ℕ → List ℕ → Read (List ℕ)
+groupsReply s v sides = groupsWords (groupsCall (imageSized s) (meshOf (imageOf s)) v sides)

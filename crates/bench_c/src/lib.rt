@@ -1,4 +1,5 @@
 // The C functions of the bench, on numbers and byte slices: each reads its bytes, calls the public entry, and writes the answer.
+pub mod fans;
 pub mod leaves;
 pub mod meshes;
 pub mod reply;

@@ -1,0 +1,140 @@
+-- Laws of the C function on groups: they are as many as the sides, and the entry's answer and table are the reply. Assumes nothing.
+use Prim.Native.Nat.{ℕ, zero, suc, _+_, _-_, _*_, _≤_, _<_}
+use native.Mathlib.Omega.{arith}
+use mathlib.Core.Path.{_≡_, refl, sym, ap, subst, _∙_}
+use mathlib.Core.Logic.{_⊎_, inl, inr, ⊎-elim}
+use mathlib.Core.Bool.{Bool, true, false, _&&_}
+use mathlib.Core.List.{List, [], _∷_, _++_}
+use lib.ListN.{length, getD, take, set, replicate, length-set, length-replicate, length-take}
+use lib.Dec.{eqb, leb}
+use lib.Seq.{take-at, take-length, length-take-le}
+use borrow.Author.Tests.{le-leb}
+use Rattle.lists.specs.Lists.{pick, padded}
+use Rattle.fan.specs.Fan.{Fan, size}
+use Rattle.fan.specs.Groups.{Numbered, numberOne, numberSide, numbered, groupsOf, countOf, labelsOf}
+use Rattle.model.specs.Mesh.{Mesh}
+use Rattle.model.specs.Elements.{kindOf, fanOf, gridOf}
+use Rattle.model.specs.Calls.{sidesOk, refusal}
+use Rattle.model.specs.Reads.{Read, refused, value, orRefused, grouped, groupsCall}
+use Rattle.mesh.specs.Given.{Given, meshOf, sizesFit}
+use Rattle.bench.specs.declared.Count.{Count}
+use Rattle.bench.specs.Answers.{groupsEntry, groupCount, groupsShown, GroupsAnswered}
+use Rattle.image.specs.Words.{written}
+use Rattle.image.specs.Image.{imageOf, imageSized}
+use Rattle.bench_c.specs.Replies.{Replied, codeOf, groupsWords, groupsReply}
+use Rattle.bench_c.specs.Given.{groupsTold, SmallCode, Capped}
+use Rattle.bench_c.proofs.Replying.{refusal-small, replied-as, says, says-short}
+use Rattle.bench_c.proofs.Loading.{sized-input}
+use Rattle.bench_c.proofs.Siding.{capped-within, capped-most, capped-sides, refused-either}
+
+-- ---- a word and a table
+
+pub says-words : (first : ℕ) (table ws : List ℕ) (lent r : ℕ) (out : List ℕ) → ws ≡ table → 4 * length table + 4 ≤ lent → r ≡ 0 → out ≡ written lent (first ∷ ws) → Replied (value (first ∷ table)) lent r out
+says-words first table ws lent r out f h e k =
+    says (first ∷ table) lent r out (omega arith) e (k ∙ ap (λ (l : List ℕ). written lent (first ∷ l)) f)
+
+pub says-few : (first : ℕ) (table : List ℕ) (lent r : ℕ) (out : List ℕ) → lent < 4 * length table + 4 → r ≡ 4 → out ≡ written lent [] → Replied (value (first ∷ table)) lent r out
+says-few first table lent r out h e k = says-short (first ∷ table) lent r out (omega arith) e k
+
+-- a front is no longer than it is asked to be
+pub front-few : (n : ℕ) (l : List ℕ) → n ≤ 2049 → length (take n l) ≤ 2049
+front-few n l h = omega (arith, length-take n l)
+
+-- an answer in one of its cases
+pub told-small : (a b : Count) (ws : List ℕ) → a ≡ b → SmallCode (groupsTold a ws) → SmallCode (groupsTold b ws)
+told-small a b ws e h = subst (λ (o : Count). SmallCode (groupsTold o ws)) e h
+
+pub told-as : (a b : Count) (ws : List ℕ) (lent r : ℕ) (out : List ℕ) → a ≡ b → Replied (groupsTold b ws) lent r out → Replied (groupsTold a ws) lent r out
+told-as a b ws lent r out e h = subst (λ (o : Count). Replied (groupsTold o ws) lent r out) (sym e) h
+
+-- ---- a group for each side
+
+pick-long : (b : Bool) (x y : Numbered) (m : ℕ) → length (x .groups) ≡ m → length (y .groups) ≡ m → length (pick b x y .groups) ≡ m
+pick-long true x y m h k = h
+pick-long false x y m h k = k
+
+one-long : (p : List ℕ) (i : ℕ) (N : Numbered) → length (numberOne p i N .groups) ≡ length (N .groups)
+unfolding numberOne
+one-long p i N =
+    pick-long (eqb (getD p i 0) i) (record { groups = set (N .groups) i (N .count); count = N .count + 1 })
+    (record { groups = set (N .groups) i (getD (N .groups) (getD p i 0) 0); count = N .count }) _ (length-set (N .groups) i _) (length-set (N .groups) i _)
+
+side-long : (sides p : List ℕ) (s m i : ℕ) (N : Numbered) → length (numberSide sides p s m i N .groups) ≡ length (N .groups)
+unfolding numberSide
+side-long sides p s zero i N = refl
+side-long sides p s (suc m) i N = side-long sides p s m (suc i) _ ∙ pick-long (eqb (getD sides i 0) s) (numberOne p i N) N _ (one-long p i N) refl
+
+groups-long : (F : Fan) → length (groupsOf F) ≡ length (F .sides)
+unfolding groupsOf numbered
+groups-long F = side-long (F .sides) (labelsOf F) 1 (size F) 0 _ ∙ side-long (F .sides) (labelsOf F) 0 (size F) 0 _ ∙ length-replicate (size F) 0
+
+-- ---- the entry on an image
+
+pub groups-on : (s : List ℕ) (G : Given) (v : ℕ) (sides : List ℕ) (lent : ℕ) (r : Count) (table : List ℕ) → imageSized s ≡ true → G ≡ imageOf s
+    → GroupsAnswered (groupsEntry (sizesFit G) (meshOf G) v sides lent) lent r table → GroupsAnswered (groupsEntry (imageSized s) (meshOf (imageOf s)) v sides lent) lent r table
+groups-on s G v sides lent r table h e f =
+    subst (λ (b : Bool). GroupsAnswered (groupsEntry b (meshOf (imageOf s)) v sides lent) lent r table) (sized-input s h)
+    (subst (λ (H : Given). GroupsAnswered (groupsEntry (sizesFit H) (meshOf H) v sides lent) lent r table) e f)
+
+and-so : (a b : Bool) → b ≡ true → a && b ≡ a
+and-so true b h = h
+and-so false b h = refl
+
+-- a table that has a place for each side is no bad argument
+entry-call : (z : Bool) (M : Mesh) (v : ℕ) (t : List ℕ) → length t ≤ 2049 → groupsEntry z M v t 2049 ≡ groupsCall z M v t
+unfolding groupsEntry groupsCall
+entry-call z M v t h =
+    ap (λ (b : Bool). orRefused (refusal z M true b) (grouped (gridOf (kindOf M) v (fanOf (kindOf M) M v) t))) (and-so (sidesOk M v t) (leb (length t) 2049) (le-leb (length t) 2049 h))
+
+calls-refused : (z : Bool) (M : Mesh) (v : ℕ) (t sides : List ℕ) → sidesOk M v t ≡ false → sidesOk M v sides ≡ false → groupsCall z M v t ≡ groupsCall z M v sides
+unfolding groupsCall
+calls-refused z M v t sides e f =
+    let x : List ℕ × ℕ = grouped (gridOf (kindOf M) v (fanOf (kindOf M) M v) t) in
+    let y : List ℕ × ℕ = grouped (gridOf (kindOf M) v (fanOf (kindOf M) M v) sides) in
+    ap (λ (b : Bool). orRefused (refusal z M true b) x) e ∙ refused-either z M x y ∙ sym (ap (λ (b : Bool). orRefused (refusal z M true b) y) f)
+
+groups-capped : (s : List ℕ) (v r : ℕ) (sides t : List ℕ) → imageSized s ≡ true → Capped (length sides) 2049 r → t ≡ take r sides
+    → groupsCall (imageSized s) (meshOf (imageOf s)) v t ≡ groupsCall (imageSized s) (meshOf (imageOf s)) v sides
+groups-capped s v r sides t h c e =
+    ⊎-elim
+    (λ y. ap (λ (l : List ℕ). groupsCall (imageSized s) (meshOf (imageOf s)) v l) y)
+    (λ y. calls-refused (imageSized s) (meshOf (imageOf s)) v t sides (y .0) (y .1))
+    (capped-sides s v r sides t h c e)
+
+-- ---- the reply
+
+told-or : (c : ℕ) (gs : List ℕ × ℕ) (n : ℕ) → length (gs .0) ≡ n → groupsTold (groupCount (orRefused c gs)) (take n (padded 2049 0 (groupsShown (orRefused c gs)))) ≡ groupsWords (orRefused c gs)
+unfolding padded
+told-or zero gs n e = ap (λ (l : List ℕ). value (gs .1 ∷ l)) (take-at (gs .0) (replicate (2049 - length (gs .0)) 0) n e)
+told-or (suc c) gs n e = refl
+
+call-told : (z : Bool) (M : Mesh) (v : ℕ) (t : List ℕ) (n : ℕ) → length t ≡ n → groupsTold (groupCount (groupsCall z M v t)) (take n (padded 2049 0 (groupsShown (groupsCall z M v t)))) ≡ groupsWords (groupsCall z M v t)
+unfolding groupsCall gridOf
+call-told z M v t n e = told-or (refusal z M true (sidesOk M v t)) _ n (groups-long (gridOf (kindOf M) v (fanOf (kindOf M) M v) t) ∙ e)
+
+small-or : (c : ℕ) (gs : List ℕ × ℕ) (ws : List ℕ) → c < 256 → SmallCode (groupsTold (groupCount (orRefused c gs)) ws)
+small-or zero gs ws h = omega arith
+small-or (suc c) gs ws h = h
+
+pub groups-small : (z : Bool) (M : Mesh) (v : ℕ) (t : List ℕ) (lent : ℕ) (a : Count) (table ws : List ℕ) → GroupsAnswered (groupsEntry z M v t lent) lent a table → SmallCode (groupsTold a ws)
+unfolding groupsEntry
+groups-small z M v t lent a table ws A = rw (A .answer) (small-or _ _ ws (refusal-small z M true (sidesOk M v t && leb (length t) lent)))
+
+pub groups-replied : (s : List ℕ) (v n : ℕ) (sides t : List ℕ) (lent r : ℕ) (a : Count) (table out : List ℕ) → imageSized s ≡ true → Capped (length sides) 2049 n → t ≡ take n sides
+    → GroupsAnswered (groupsEntry (imageSized s) (meshOf (imageOf s)) v t 2049) 2049 a table → Replied (groupsTold a (take n table)) lent r out → Replied (groupsReply s v sides) lent r out
+unfolding groupsReply
+groups-replied s v n sides t lent r a table out z c e A h =
+    let w = capped-within c in
+    let m = capped-most c in
+    let l : length t ≡ n = ap length e ∙ length-take-le n sides w in
+    let o : Read (List ℕ × ℕ) = groupsCall (imageSized s) (meshOf (imageOf s)) v t in
+    let q : groupsEntry (imageSized s) (meshOf (imageOf s)) v t 2049 ≡ o = entry-call (imageSized s) (meshOf (imageOf s)) v t (omega arith) in
+    replied-as (groupsTold a (take n table)) _ lent r out
+    (ap (λ (x : Count). groupsTold x (take n table)) (A .answer ∙ ap groupCount q)
+    ∙ ap (λ (x : List ℕ). groupsTold (groupCount o) (take n x)) (A .table-is ∙ ap (λ (x : Read (List ℕ × ℕ)). padded 2049 0 (groupsShown x)) q)
+    ∙ call-told (imageSized s) (meshOf (imageOf s)) v t n l
+    ∙ ap groupsWords (groups-capped s v n sides t z c e)) h
+
+pub groups-unsized : (s : List ℕ) (v : ℕ) (sides : List ℕ) (lent r : ℕ) (out : List ℕ) (z : Bool) → z ≡ imageSized s → z ≡ false → Replied (refused 1) lent r out → Replied (groupsReply s v sides) lent r out
+unfolding groupsReply groupsCall refusal
+groups-unsized s v sides lent r out z e f h = replied-as (refused 1) _ lent r out (ap (λ (b : Bool). groupsWords (groupsCall b (meshOf (imageOf s)) v sides)) (sym f ∙ e)) h
