@@ -10,6 +10,7 @@ use libc::STDOUT_FILENO;
 struct Call {
     kind: usize,
     number: usize,
+    minimum: usize,
     image: usize,
     args: usize,
     words: usize,
@@ -69,6 +70,7 @@ fn call_at(bytes: &[u8], i: usize) -> Step {
     Step::Call(Call {
         kind: word(bytes, i),
         number: word(bytes, i + 4),
+        minimum: word(bytes, i + 8),
         image,
         args,
         words,
@@ -79,15 +81,30 @@ fn call_at(bytes: &[u8], i: usize) -> Step {
 }
 
 // Asks the C function of this kind, and returns its refusal number.
-fn asked(kind: usize, number: usize, image: &[u8], args: &[u8], out: &mut [u8]) -> u32 {
+fn asked(
+    kind: usize,
+    number: usize,
+    minimum: usize,
+    image: &[u8],
+    args: &[u8],
+    out: &mut [u8],
+) -> u32 {
+    let v = (number % 4294967296) as u32;
+    let least = (minimum % 4294967296) as u32;
     if kind == 0 {
-        return bench_c::leaves::bench_root((number % 4294967296) as u32, out);
+        return bench_c::leaves::bench_root(v, out);
     }
     if kind == 1 {
         return bench_c::leaves::bench_blade_hit(args, out);
     }
+    if kind == 2 {
+        return bench_c::fans::bench_groups(image, v, args, out);
+    }
     if kind == 3 {
         return bench_c::meshes::bench_rest_measure(image, out);
+    }
+    if kind == 5 {
+        return bench_c::fans::bench_opens_without_confetti(image, v, args, least, out);
     }
     if kind == 6 {
         return bench_c::meshes::bench_pieces(image, out);
@@ -117,8 +134,9 @@ fn same(want: &[u8], out: &[u8]) -> bool {
 fn passes(c: Call, image: &[u8], args: &[u8], want: &[u8], out: &mut [u8]) -> bool {
     let kind = c.kind;
     let number = c.number;
+    let minimum = c.minimum;
     let refusal = c.refusal;
-    let r = asked(kind, number, image, args, out);
+    let r = asked(kind, number, minimum, image, args, out);
     if r as usize != refusal {
         return false;
     }
