@@ -3,3 +3,4 @@ pub mod Replying
 pub mod Loading
 pub mod Siding
 pub mod Grouping
+pub mod Listing
