@@ -1,11 +1,11 @@
 -- Laws of the C function on a list of particles: a capped list asks the same, and the entry's answer is the reply. Assumes nothing.
 use Prim.Native.Nat.{ℕ, zero, suc, _+_, _*_, _/_, _%_, _≤_, _<_}
 use native.Mathlib.Omega.{arith}
-use mathlib.Core.Path.{_≡_, refl, sym, ap, subst, _∙_}
+use mathlib.Core.Path.{_≡_, refl, sym, ap, _∙_}
 use mathlib.Core.Logic.{⊎-elim}
 use mathlib.Core.Bool.{Bool, true, false, not, _&&_}
 use mathlib.Core.List.{List, [], _∷_}
-use lib.ListN.{length, take}
+use lib.ListN.{length}
 use lib.Dec.{eqb, ltb}
 use lib.Ieee.{Float}
 use borrow.Author.Tests.{ltb-true, eq-eqb, ne-eqb}
@@ -16,7 +16,7 @@ use Rattle.model.specs.Mesh.{Mesh}
 use Rattle.model.specs.Valid.{numbersFit, indicesFit}
 use Rattle.model.specs.Elements.{restMeasureOf}
 use Rattle.model.specs.Calls.{present, strictly, particlesOk, refusal}
-use Rattle.model.specs.Reads.{Read, refused, value, orRefused, restMeasureOfCall}
+use Rattle.model.specs.Reads.{Read, refused, orRefused, restMeasureOfCall}
 use Rattle.mesh.specs.Given.{Given, meshOf, sizesFit}
 use Rattle.mesh.proofs.Joined.{Sized, sizes-told}
 use Rattle.bench.proofs.Accepted.{particles-count}
@@ -24,7 +24,7 @@ use Rattle.bench.specs.declared.Number.{Number}
 use Rattle.bench.specs.Answers.{numberOf}
 use Rattle.image.specs.Words.{wordAt, wordsFrom}
 use Rattle.image.specs.Image.{imageOf, imageSized}
-use Rattle.bench_c.specs.Replies.{Replied, codeOf, numberWords, measureOfReply}
+use Rattle.bench_c.specs.Replies.{Replied, numberWords, measureOfReply}
 use Rattle.bench_c.specs.Given.{numberReply, SmallCode, Capped}
 use Rattle.bench_c.proofs.Replying.{number-words, refusal-small, replied-as}
 use Rattle.bench_c.proofs.Loading.{sized-input}
@@ -40,6 +40,7 @@ rising-few n x (y ∷ l) h k =
     let a = ltb-true x y (and-true (ltb x y) (strictly (y ∷ l)) h .0) in
     omega (arith, f, a)
 
+-- so an accepted list has at most as many as there are particles
 ok-few : (M : Mesh) (l : List ℕ) → particlesOk M l ≡ true → length l ≤ length (M .particles)
 unfolding particlesOk
 ok-few M [] h = omega arith
@@ -48,6 +49,7 @@ ok-few M (x ∷ l) h =
     let f = rising-few (length (M .particles)) x l (a .0) (a .1) in
     omega (arith, f)
 
+-- and a longer one is refused
 many-wrong : (M : Mesh) (l : List ℕ) → length (M .particles) ≤ 1024 → 1025 ≤ length l → particlesOk M l ≡ false
 many-wrong M l f h = by (particlesOk M l) refl
   where
@@ -145,16 +147,17 @@ measure-of-ragged s list lent r a out w f h =
     ∙ sym (ap (λ (b : Bool). pick b (numberWords o) (refused (refusal (imageSized s) M true false))) (ne-eqb (length list % 4) 0 w)))
     h
 
-unsized-either : (s : List ℕ) (b z : Bool) (x : Read (List ℕ)) (y : ℕ) → refused 1 ≡ x → 1 ≡ y → refused 1 ≡ pick b x (refused y)
-unsized-either s true z x y e f = e
-unsized-either s false z x y e f = ap refused f
+-- either way, a refusal that comes before the arguments
+unsized-either : (b : Bool) (x : Read (List ℕ)) (y : ℕ) → refused 1 ≡ x → 1 ≡ y → refused 1 ≡ pick b x (refused y)
+unsized-either true x y e f = e
+unsized-either false x y e f = ap refused f
 
 pub measure-of-unsized : (s list : List ℕ) (lent r : ℕ) (out : List ℕ) (z : Bool) → z ≡ imageSized s → z ≡ false → Replied (refused 1) lent r out → Replied (measureOfReply s list) lent r out
 unfolding measureOfReply restMeasureOfCall refusal
 measure-of-unsized s list lent r out z e f h =
     let M = meshOf (imageOf s) in
     replied-as (refused 1) _ lent r out
-    (unsized-either s (eqb (length list % 4) 0) z _ _
+    (unsized-either (eqb (length list % 4) 0) _ _
     (ap (λ (b : Bool). numberWords (restMeasureOfCall b M (wordsFrom list 0 (length list / 4)))) (sym f ∙ e))
     (ap (λ (b : Bool). refusal b M true false) (sym f ∙ e)))
     h
