@@ -2,16 +2,16 @@
 use Prim.Native.Nat.{ℕ, zero, suc, _+_, _-_, _*_, _≤_, _<_}
 use native.Mathlib.Omega.{arith}
 use mathlib.Core.Path.{_≡_, refl, sym, ap, subst, _∙_}
-use mathlib.Core.Logic.{_⊎_, inl, inr, ⊎-elim}
+use mathlib.Core.Logic.{⊎-elim}
 use mathlib.Core.Bool.{Bool, true, false, _&&_}
-use mathlib.Core.List.{List, [], _∷_, _++_}
+use mathlib.Core.List.{List, [], _∷_}
 use lib.ListN.{length, getD, take, set, replicate, length-set, length-replicate, length-take}
 use lib.Dec.{eqb, leb}
-use lib.Seq.{take-at, take-length, length-take-le}
+use lib.Seq.{take-at, length-take-le}
 use borrow.Author.Tests.{le-leb}
 use Rattle.lists.specs.Lists.{pick, padded}
 use Rattle.fan.specs.Fan.{Fan, size}
-use Rattle.fan.specs.Groups.{Numbered, numberOne, numberSide, numbered, groupsOf, countOf, labelsOf}
+use Rattle.fan.specs.Groups.{Numbered, numberOne, numberSide, numbered, groupsOf, labelsOf}
 use Rattle.model.specs.Mesh.{Mesh}
 use Rattle.model.specs.Elements.{kindOf, fanOf, gridOf}
 use Rattle.model.specs.Calls.{sidesOk, refusal}
@@ -21,7 +21,7 @@ use Rattle.bench.specs.declared.Count.{Count}
 use Rattle.bench.specs.Answers.{groupsEntry, groupCount, groupsShown, GroupsAnswered}
 use Rattle.image.specs.Words.{written}
 use Rattle.image.specs.Image.{imageOf, imageSized}
-use Rattle.bench_c.specs.Replies.{Replied, codeOf, groupsWords, groupsReply}
+use Rattle.bench_c.specs.Replies.{Replied, groupsWords, groupsReply}
 use Rattle.bench_c.specs.Given.{groupsTold, SmallCode, Capped}
 use Rattle.bench_c.proofs.Replying.{refusal-small, replied-as, says, says-short}
 use Rattle.bench_c.proofs.Loading.{sized-input}

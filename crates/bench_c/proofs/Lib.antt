@@ -1,5 +1,6 @@
--- The laws of replies, and of an image that is loaded.
+-- The laws of replies, of an image that is loaded, and of the sides, groups and lists beside it.
 pub mod Replying
 pub mod Loading
 pub mod Siding
 pub mod Grouping
+pub mod Listing

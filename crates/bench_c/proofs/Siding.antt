@@ -1,5 +1,5 @@
 -- Laws of the C functions on a fan: a capped list of sides asks the same, and the entry's answer is the reply. Assumes nothing.
-use Prim.Native.Nat.{ℕ, zero, suc, _+_, _*_, _/_, _≤_, _<_, zero-le}
+use Prim.Native.Nat.{ℕ, zero, suc, _+_, _/_, _≤_, _<_, zero-le}
 use native.Mathlib.Numerals.{add-one}
 use native.Mathlib.Omega.{arith}
 use mathlib.Core.Path.{_≡_, refl, sym, ap, subst, _∙_}
@@ -29,7 +29,7 @@ use Rattle.elements.proofs.Filling.{triangles-length, straps-length}
 use Rattle.bench.specs.declared.Truth.{Truth}
 use Rattle.bench.specs.Answers.{truthOf}
 use Rattle.image.specs.Image.{imageOf, imageSized}
-use Rattle.bench_c.specs.Replies.{Replied, codeOf, truthWords, opensReply}
+use Rattle.bench_c.specs.Replies.{Replied, truthWords, opensReply}
 use Rattle.bench_c.specs.Given.{truthReply, SmallCode, Capped}
 use Rattle.bench_c.proofs.Replying.{refusal-small, replied-as}
 use Rattle.bench_c.proofs.Loading.{sized-input}

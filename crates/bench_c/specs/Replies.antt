@@ -1,7 +1,7 @@
 -- What the C functions answer, as docs/C-FUNCTIONS.md has it: the number of a refusal, and the words of an answer in the lent bytes. Definitions only.
-use Prim.Native.Nat.{ℕ, _+_, _*_}
+use Prim.Native.Nat.{ℕ, _+_, _*_, _/_, _%_}
 use mathlib.Core.Path.{_≡_}
-use mathlib.Core.Bool.{Bool}
+use mathlib.Core.Bool.{Bool, true, false}
 use mathlib.Core.List.{List, [], _∷_}
 use lib.ListN.{length}
 use lib.Dec.{eqb, leb}
@@ -11,9 +11,10 @@ use Rattle.blade.specs.declared.Point.{Point}
 use Rattle.blade.specs.declared.Hit.{Hit}
 use Rattle.blade.specs.declared.Hit.the-variants.{Miss, Hit as HitAt}
 use Rattle.model.specs.Cut.{Blade}
-use Rattle.model.specs.Reads.{Read, refused, value, rootCall, bladeCall, restMeasureCall, piecesCall, opensCall, groupsCall}
+use Rattle.model.specs.Calls.{refusal}
+use Rattle.model.specs.Reads.{Read, refused, value, rootCall, bladeCall, restMeasureCall, piecesCall, opensCall, groupsCall, restMeasureOfCall}
 use Rattle.mesh.specs.Given.{meshOf}
-use Rattle.image.specs.Words.{wordAt, numberOf, written}
+use Rattle.image.specs.Words.{wordAt, wordsFrom, numberOf, written}
 use Rattle.image.specs.Image.{imageOf, imageSized}
 
 -- ---- the words of an answer
@@ -96,3 +97,9 @@ opensReply s v sides min = truthWords (opensCall (imageSized s) (meshOf (imageOf
 -- the groups that such sides make there
 unfoldable pub groupsReply : List ℕ → ℕ → List ℕ → Read (List ℕ)
 groupsReply s v sides = groupsWords (groupsCall (imageSized s) (meshOf (imageOf s)) v sides)
+
+-- the measure of what lies in a list of particles, a word for each; bytes that are no whole words are a bad argument
+unfoldable pub measureOfReply : List ℕ → List ℕ → Read (List ℕ)
+measureOfReply s list =
+    pick (eqb (length list % 4) 0) (numberWords (restMeasureOfCall (imageSized s) (meshOf (imageOf s)) (wordsFrom list 0 (length list / 4))))
+    (refused (refusal (imageSized s) (meshOf (imageOf s)) true false))

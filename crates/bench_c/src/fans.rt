@@ -20,7 +20,7 @@ fn wide(x: u8) -> usize
 }
 
 // The smaller of a length and a limit.
-fn capped(n: usize, most: usize) -> usize
+pub fn capped(n: usize, most: usize) -> usize
     ensures { λ r. ⌜ Capped n most r ⌝ }
 {
     if n <= most {

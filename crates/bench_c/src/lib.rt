@@ -1,5 +1,6 @@
 // The C functions of the bench, on numbers and byte slices: each reads its bytes, calls the public entry, and writes the answer.
 pub mod fans;
 pub mod leaves;
+pub mod listed;
 pub mod meshes;
 pub mod reply;

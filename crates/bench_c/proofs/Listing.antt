@@ -1,0 +1,163 @@
+-- Laws of the C function on a list of particles: a capped list asks the same, and the entry's answer is the reply. Assumes nothing.
+use Prim.Native.Nat.{ℕ, zero, suc, _+_, _*_, _/_, _%_, _≤_, _<_}
+use native.Mathlib.Omega.{arith}
+use mathlib.Core.Path.{_≡_, refl, sym, ap, _∙_}
+use mathlib.Core.Logic.{⊎-elim}
+use mathlib.Core.Bool.{Bool, true, false, not, _&&_}
+use mathlib.Core.List.{List, [], _∷_}
+use lib.ListN.{length}
+use lib.Dec.{eqb, ltb}
+use lib.Ieee.{Float}
+use borrow.Author.Tests.{ltb-true, eq-eqb, ne-eqb}
+use Rattle.lists.specs.Lists.{pick, all}
+use Rattle.lists.proofs.Sifts.{and-true}
+use Rattle.lists.proofs.Stores.{tab-length}
+use Rattle.model.specs.Mesh.{Mesh}
+use Rattle.model.specs.Valid.{numbersFit, indicesFit}
+use Rattle.model.specs.Elements.{restMeasureOf}
+use Rattle.model.specs.Calls.{present, strictly, particlesOk, refusal}
+use Rattle.model.specs.Reads.{Read, refused, orRefused, restMeasureOfCall}
+use Rattle.mesh.specs.Given.{Given, meshOf, sizesFit}
+use Rattle.mesh.proofs.Joined.{Sized, sizes-told}
+use Rattle.bench.proofs.Accepted.{particles-count}
+use Rattle.bench.specs.declared.Number.{Number}
+use Rattle.bench.specs.Answers.{numberOf}
+use Rattle.image.specs.Words.{wordAt, wordsFrom}
+use Rattle.image.specs.Image.{imageOf, imageSized}
+use Rattle.bench_c.specs.Replies.{Replied, numberWords, measureOfReply}
+use Rattle.bench_c.specs.Given.{numberReply, SmallCode, Capped}
+use Rattle.bench_c.proofs.Replying.{number-words, refusal-small, replied-as}
+use Rattle.bench_c.proofs.Loading.{sized-input}
+use Rattle.bench_c.proofs.Siding.{capped-within, refused-either}
+
+-- ---- a rising list of particles is short
+
+rising-few : (n x : ℕ) (l : List ℕ) → strictly (x ∷ l) ≡ true → all (λ y. ltb y n) (x ∷ l) ≡ true → x + suc (length l) ≤ n
+unfolding strictly all
+rising-few n x [] h k = let a = ltb-true x n (and-true (ltb x n) true k .0) in omega arith
+rising-few n x (y ∷ l) h k =
+    let f = rising-few n y l (and-true (ltb x y) (strictly (y ∷ l)) h .1) (and-true (ltb x n) (all (λ y. ltb y n) (y ∷ l)) k .1) in
+    let a = ltb-true x y (and-true (ltb x y) (strictly (y ∷ l)) h .0) in
+    omega (arith, f, a)
+
+-- so an accepted list has at most as many as there are particles
+ok-few : (M : Mesh) (l : List ℕ) → particlesOk M l ≡ true → length l ≤ length (M .particles)
+unfolding particlesOk
+ok-few M [] h = omega arith
+ok-few M (x ∷ l) h =
+    let a = and-true (strictly (x ∷ l)) (all (present M) (x ∷ l)) h in
+    let f = rising-few (length (M .particles)) x l (a .0) (a .1) in
+    omega (arith, f)
+
+-- and a longer one is refused
+many-wrong : (M : Mesh) (l : List ℕ) → length (M .particles) ≤ 1024 → 1025 ≤ length l → particlesOk M l ≡ false
+many-wrong M l f h = by (particlesOk M l) refl
+  where
+    by : (b : Bool) → particlesOk M l ≡ b → b ≡ false
+    by false e = refl
+    by true e = let a = ok-few M l e in absurd (omega (arith, a, f, h))
+
+particles-small : (s : List ℕ) → imageSized s ≡ true → length (meshOf (imageOf s) .particles) ≤ 1024
+particles-small s h =
+    let G = imageOf s in
+    let z : Sized (length (G .points)) (length (G .roots)) (length (G .corners)) (length (G .volumes)) (length (G .ends)) (length (G .lengths)) (length (G .outline)) = sizes-told _ _ _ _ _ _ _ (sized-input s h ∙ h) in
+    omega (arith, particles-count G, z .few-particles)
+
+-- ---- the entry on an image
+
+pub measure-of-on : (s : List ℕ) (G : Given) (l : List ℕ) (a : Number) → imageSized s ≡ true → G ≡ imageOf s → a ≡ numberOf (restMeasureOfCall (sizesFit G) (meshOf G) l)
+    → a ≡ numberOf (restMeasureOfCall (imageSized s) (meshOf (imageOf s)) l)
+measure-of-on s G l a h e f =
+    f ∙ ap (λ (H : Given). numberOf (restMeasureOfCall (sizesFit H) (meshOf H) l)) e ∙ ap (λ (b : Bool). numberOf (restMeasureOfCall b (meshOf (imageOf s)) l)) (sized-input s h)
+
+bad-calls : (z : Bool) (M : Mesh) (t l : List ℕ) → particlesOk M t ≡ false → particlesOk M l ≡ false → restMeasureOfCall z M t ≡ restMeasureOfCall z M l
+unfolding restMeasureOfCall
+bad-calls z M t l e f =
+    ap (λ (b : Bool). orRefused (refusal z M true b) (restMeasureOf M t)) e ∙ refused-either z M (restMeasureOf M t) (restMeasureOf M l)
+    ∙ sym (ap (λ (b : Bool). orRefused (refusal z M true b) (restMeasureOf M l)) f)
+
+words-long : (b : List ℕ) (n : ℕ) → length (wordsFrom b 0 n) ≡ n
+unfolding wordsFrom
+words-long b n = tab-length n (λ k. wordAt b (0 + k))
+
+words-capped : (s b : List ℕ) (m n : ℕ) → imageSized s ≡ true → Capped m 1025 n
+    → restMeasureOfCall (imageSized s) (meshOf (imageOf s)) (wordsFrom b 0 n) ≡ restMeasureOfCall (imageSized s) (meshOf (imageOf s)) (wordsFrom b 0 m)
+words-capped s b m n h c =
+    ⊎-elim
+    (λ y. ap (λ (k : ℕ). restMeasureOfCall (imageSized s) (meshOf (imageOf s)) (wordsFrom b 0 k)) (y .0))
+    (λ y.
+    let f = particles-small s h in
+    bad-calls (imageSized s) (meshOf (imageOf s)) (wordsFrom b 0 n) (wordsFrom b 0 m)
+    (many-wrong (meshOf (imageOf s)) (wordsFrom b 0 n) f (omega (arith, words-long b n, y .0)))
+    (many-wrong (meshOf (imageOf s)) (wordsFrom b 0 m) f (omega (arith, words-long b m, y .1))))
+    c
+
+-- capped words stand in the bytes
+pub words-within : (m n : ℕ) → Capped (m / 4) 1025 n → 4 * (0 + n) ≤ m
+words-within m n c = let w = capped-within c in omega arith
+
+-- two equal particles don't rise
+refused-as : {A : Type 0} (z : Bool) (M : Mesh) (x : A) → orRefused (refusal z M true false) x ≡ refused (refusal z M true false)
+unfolding refusal
+refused-as {A} z M x = by (not z) (not (numbersFit M && true)) (not (indicesFit M))
+  where
+    by : (a b c : Bool) → orRefused (pick a 1 (pick b 2 (pick c 3 4))) x ≡ refused (pick a 1 (pick b 2 (pick c 3 4)))
+    by true b c = refl
+    by false true c = refl
+    by false false true = refl
+    by false false false = refl
+
+two-wrong : (M : Mesh) → particlesOk M (0 ∷ 0 ∷ []) ≡ false
+unfolding particlesOk strictly
+two-wrong M = refl
+
+two-refused : (z : Bool) (M : Mesh) → restMeasureOfCall z M (0 ∷ 0 ∷ []) ≡ refused (refusal z M true false)
+unfolding restMeasureOfCall
+two-refused z M = ap (λ (b : Bool). orRefused (refusal z M true b) (restMeasureOf M (0 ∷ 0 ∷ []))) (two-wrong M) ∙ refused-as z M (restMeasureOf M (0 ∷ 0 ∷ []))
+
+-- ---- the reply
+
+small-or : (n : ℕ) (x : Float) → n < 256 → SmallCode (numberReply (numberOf (orRefused n x)))
+small-or zero x h = omega arith
+small-or (suc n) x h = h
+
+pub measure-of-small : (z : Bool) (M : Mesh) (l : List ℕ) (a : Number) → a ≡ numberOf (restMeasureOfCall z M l) → SmallCode (numberReply a)
+unfolding restMeasureOfCall
+measure-of-small z M l a e = rw e (small-or _ _ (refusal-small z M true (particlesOk M l)))
+
+pub measure-of-replied : (s list : List ℕ) (n : ℕ) (t : List ℕ) (lent r : ℕ) (a : Number) (out : List ℕ) → imageSized s ≡ true → length list % 4 ≡ 0 → Capped (length list / 4) 1025 n
+    → t ≡ wordsFrom list 0 n → a ≡ numberOf (restMeasureOfCall (imageSized s) (meshOf (imageOf s)) t) → Replied (numberReply a) lent r out → Replied (measureOfReply s list) lent r out
+unfolding measureOfReply
+measure-of-replied s list n t lent r a out z w c e f h =
+    let M = meshOf (imageOf s) in
+    let o : Read Float = restMeasureOfCall (imageSized s) M (wordsFrom list 0 (length list / 4)) in
+    replied-as (numberReply a) _ lent r out
+    (ap numberReply (f ∙ ap (λ (l : List ℕ). numberOf (restMeasureOfCall (imageSized s) M l)) e ∙ ap numberOf (words-capped s list (length list / 4) n z c)) ∙ number-words o
+    ∙ sym (ap (λ (b : Bool). pick b (numberWords o) (refused (refusal (imageSized s) M true false))) (eq-eqb (length list % 4) 0 w)))
+    h
+
+pub measure-of-ragged : (s list : List ℕ) (lent r : ℕ) (a : Number) (out : List ℕ) → (length list % 4 ≡ 0 → ⊥)
+    → a ≡ numberOf (restMeasureOfCall (imageSized s) (meshOf (imageOf s)) (0 ∷ 0 ∷ [])) → Replied (numberReply a) lent r out → Replied (measureOfReply s list) lent r out
+unfolding measureOfReply
+measure-of-ragged s list lent r a out w f h =
+    let M = meshOf (imageOf s) in
+    let o : Read Float = restMeasureOfCall (imageSized s) M (wordsFrom list 0 (length list / 4)) in
+    replied-as (numberReply a) _ lent r out
+    (ap numberReply (f ∙ ap numberOf (two-refused (imageSized s) M))
+    ∙ sym (ap (λ (b : Bool). pick b (numberWords o) (refused (refusal (imageSized s) M true false))) (ne-eqb (length list % 4) 0 w)))
+    h
+
+-- either way, a refusal that comes before the arguments
+unsized-either : (b : Bool) (x : Read (List ℕ)) (y : ℕ) → refused 1 ≡ x → 1 ≡ y → refused 1 ≡ pick b x (refused y)
+unsized-either true x y e f = e
+unsized-either false x y e f = ap refused f
+
+pub measure-of-unsized : (s list : List ℕ) (lent r : ℕ) (out : List ℕ) (z : Bool) → z ≡ imageSized s → z ≡ false → Replied (refused 1) lent r out → Replied (measureOfReply s list) lent r out
+unfolding measureOfReply restMeasureOfCall refusal
+measure-of-unsized s list lent r out z e f h =
+    let M = meshOf (imageOf s) in
+    replied-as (refused 1) _ lent r out
+    (unsized-either (eqb (length list % 4) 0) _ _
+    (ap (λ (b : Bool). numberWords (restMeasureOfCall b M (wordsFrom list 0 (length list / 4)))) (sym f ∙ e))
+    (ap (λ (b : Bool). refusal b M true false) (sym f ∙ e)))
+    h
