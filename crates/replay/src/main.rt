@@ -103,6 +103,9 @@ fn asked(
     if kind == 3 {
         return bench_c::meshes::bench_rest_measure(image, out);
     }
+    if kind == 4 {
+        return bench_c::listed::bench_rest_measure_of(image, args, out);
+    }
     if kind == 5 {
         return bench_c::fans::bench_opens_without_confetti(image, v, args, least, out);
     }
