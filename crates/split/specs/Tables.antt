@@ -1,0 +1,59 @@
+-- The tables of a fan that is to be split: its elements' numbers, corners and measures, and a group for each. Only contracts between workers need this file. Definitions only.
+use Prim.Native.Nat.{ℕ, _<_, _≤_}
+use mathlib.Core.Path.{_≡_}
+use mathlib.Core.List.{List}
+use lib.ListN.{length, getD, take}
+use lib.Ieee.{Float}
+use Rattle.model.specs.Mesh.{Mesh}
+use Rattle.model.specs.Elements.{Kind, Triangles, Straps, cornersPer, fanOf}
+use Rattle.model.specs.Split.{Opening}
+use Rattle.elements.specs.Table.{Tabled}
+use Rattle.opening.specs.Opened.{openingBy, Ringed, Weighted, Numbered, RingRoom, CornersBelow}
+
+-- the fan of v in M stands in the tables, and each of its elements has a group below count
+pub record FanGrouped (K : Kind) (M : Mesh) (v n count : ℕ) (numbers verts : List ℕ) (measures : List Float) (groups : List ℕ) : Type 0 where
+  pub here : v < length (M .particles)
+  pub two : 2 ≤ count
+  pub tabled : Tabled (cornersPer K) (fanOf K M v) n numbers verts measures
+  pub few : n ≤ 2048
+  pub numbers-long : n ≤ length numbers
+  pub measures-long : n ≤ length measures
+  pub groups-long : n ≤ length groups
+  pub below : (i : ℕ) → i < n → getD groups i 0 < count
+
+-- the split that the tables tell of
+abbrev pub openedBy : Kind → Mesh → ℕ → ℕ → ℕ → List ℕ → Opening
+openedBy K M v n count groups = openingBy v (length (M .particles)) (fanOf K M v) (take n groups) count
+
+-- the tables hold a split O at v, with so many particles before it, of so many groups
+pub record Opens (K : Kind) (O : Opening) (v before n count : ℕ) (numbers verts : List ℕ) (measures : List Float) (groups : List ℕ) : Type 0 where
+  pub at : O .v ≡ v
+  pub before-is : O .before ≡ before
+  pub count-is : O .count ≡ count
+  pub ringed : Ringed (cornersPer K) O n verts groups
+  pub weighted : Weighted O n measures
+  pub numbered : Numbered O n numbers
+
+-- the tables fit a mesh of `before` particles, t triangles and e edges, whatever split they hold
+pub record TablesFit (K : Kind) (before t e v n count : ℕ) (numbers verts : List ℕ) (measures : List Float) (groups : List ℕ) : Type 0 where
+  pub here : v < before
+  pub two : 2 ≤ count
+  pub ring : RingRoom n (cornersPer K) (length verts) (length groups)
+  pub numbers-long : n ≤ length numbers
+  pub measures-long : n ≤ length measures
+  pub rising : (i j : ℕ) → i < j → j < n → getD numbers i 0 < getD numbers j 0
+  pub in-triangles : K ≡ Triangles → (i : ℕ) → i < n → getD numbers i 0 < t
+  pub in-edges : K ≡ Straps → (i : ℕ) → i < n → getD numbers i 0 < e
+  pub below : (i : ℕ) → i < n → getD groups i 0 < count
+  pub corners-in : CornersBelow before n (cornersPer K) verts
+
+-- the fan of v in M stands in the tables, and each of its elements has a side, 0 or 1
+pub record FanSided (K : Kind) (M : Mesh) (v n : ℕ) (numbers verts : List ℕ) (measures : List Float) (sides : List ℕ) : Type 0 where
+  pub here : v < length (M .particles)
+  pub tabled : Tabled (cornersPer K) (fanOf K M v) n numbers verts measures
+  pub few : n ≤ 2048
+  pub numbers-long : n ≤ length numbers
+  pub verts-long : 4096 ≤ length verts
+  pub measures-long : n ≤ length measures
+  pub sides-long : n ≤ length sides
+  pub two : (i : ℕ) → i < n → getD sides i 0 < 2
