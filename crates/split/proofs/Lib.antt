@@ -1,0 +1,4 @@
+-- A split over the lent blocks: its laws and its proofs.
+pub mod Below
+pub mod Fitted
+pub mod Placed
