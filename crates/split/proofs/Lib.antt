@@ -2,3 +2,4 @@
 pub mod Below
 pub mod Fitted
 pub mod Placed
+pub mod Stepping
