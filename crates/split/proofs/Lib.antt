@@ -1,0 +1,2 @@
+-- Laws of a split over the blocks.
+pub mod Runs
