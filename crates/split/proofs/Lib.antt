@@ -2,4 +2,5 @@
 pub mod Below
 pub mod Fitted
 pub mod Placed
+pub mod Runs
 pub mod Stepping
