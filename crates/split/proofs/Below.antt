@@ -7,7 +7,6 @@ use mathlib.Core.Bool.{Bool, true, false}
 use mathlib.Core.List.{List, [], _∷_, map}
 use lib.ListN.{length, getD, take, length-take, length-map}
 use lib.Seq.{getD-take}
-use borrow.Author.Tests.{eqb-true}
 use lib.Ieee.{Float}
 use Rattle.lists.specs.Lists.{pick, stands, sift, each}
 use Rattle.model.specs.Mesh.{Triangle, Edge, Mesh}
@@ -119,37 +118,3 @@ unfolding elementsIn
 few-of Triangles ts es n t e c = let h = triangles-length 0 ts in record { width = (omega arith, omega arith); few = omega arith; narrow = omega arith }
 few-of Straps ts es n t e c = let h = straps-length 0 es in record { width = (omega arith, omega arith); few = omega arith; narrow = omega arith }
 few-of Nothing ts es n t e c = record { width = (omega arith, omega arith); few = omega arith; narrow = omega arith }
-
--- ---- straps are structural edges
-
--- element x stands for edge j of a list that is numbered from i on, and that edge is structural
-record StrapAt (i : ℕ) (es : List Edge) (x : Element) : Type 0 where
-  pub place : ℕ
-  pub number-is : x .number ≡ i + place
-  pub low : place < length es
-  pub structural-is : getD (map (λ (e : Edge). e .structural) es) place 0 ≡ 1
-
-strap-behind : (i : ℕ) (a : Edge) (es : List Edge) (x : Element) → StrapAt (suc i) es x → StrapAt i (a ∷ es) x
-strap-behind i a es x S = record { place = suc (S .place); number-is = S .number-is ∙ omega arith; low = omega (arith, S .low); structural-is = S .structural-is }
-
-straps-at : (i : ℕ) (es : List Edge) → All (StrapAt i es) (strapsFrom i es)
-unfolding strapsFrom
-straps-at i [] = tt
-straps-at i (a ∷ es) = by (all-over (StrapAt (suc i) es) (StrapAt i (a ∷ es)) (strap-behind i a es) (strapsFrom (suc i) es) (straps-at (suc i) es)) (structural? a) refl
-  where
-    by : All (StrapAt i (a ∷ es)) (strapsFrom (suc i) es) → (b : Bool) → structural? a ≡ b → All (StrapAt i (a ∷ es)) (pick b (strapElement i a ∷ strapsFrom (suc i) es) (strapsFrom (suc i) es))
-    by r true e = (record { place = 0; number-is = omega arith; low = omega arith; structural-is = eqb-true (a .structural) 1 e }, r)
-    by r false e = r
-
--- the edges that a table of a fan of straps names
-pub fan-structural : (M : Mesh) (v n : ℕ) (numbers verts : List ℕ) (measures : List Float) → Tabled (cornersPer Straps) (fanOf Straps M v) n numbers verts measures
-    → (i : ℕ) → i < n → getD (map (λ (e : Edge). e .structural) (M .edges)) (getD numbers i 0) 0 ≡ 1
-unfolding elementsOf
-fan-structural M v n numbers verts measures T i l =
-    let ns = map (λ (e : Element). e .number) (fanOf Straps M v) in
-    let e : getD numbers i 0 ≡ getD ns i 0 = sym (getD-take n numbers i 0 l) ∙ ap (λ (s : List ℕ). getD s i 0) (T .numbers-are) in
-    let c = T .cornered .count in
-    let P : ℕ → Type 0 = λ x. getD (map (λ (a : Edge). a .structural) (M .edges)) x 0 ≡ 1 in
-    subst P (sym e)
-    (all-in P ns i 0 (omega (arith, length-map (fanOf Straps M v) (λ (a : Element). a .number)))
-    (all-map (StrapAt 0 (M .edges)) P (λ (a : Element). a .number) (λ a u. subst P (let z : u .place ≡ a .number = omega (arith, u .number-is) in z) (u .structural-is)) (fanOf Straps M v) (fan-all (StrapAt 0 (M .edges)) Straps M v (straps-at 0 (M .edges)))))
