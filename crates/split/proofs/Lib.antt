@@ -1,0 +1,3 @@
+-- Laws of a split over the lent blocks.
+pub mod GrowLaws
+pub mod NamedLaws
