@@ -4,3 +4,5 @@ pub mod Fitted
 pub mod Placed
 pub mod Runs
 pub mod Stepping
+pub mod GrowLaws
+pub mod NamedLaws

@@ -1,5 +1,6 @@
 // A split over the lent blocks: one particle by the groups of its fan, and the straddlers across pieces.
 pub mod fans;
+pub mod grow;
 
 use mesh::Counts;
 
