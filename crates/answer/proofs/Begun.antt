@@ -1,25 +1,28 @@
 -- How a call begins: what it has room for, and what it knows when its input is copied.
 use Prim.Native.Nat.{ℕ, zero, suc, _/_, _<_, _≤_, min, zero-le}
 use native.Mathlib.Omega.{arith}
-use mathlib.Core.Path.{_≡_, refl, sym, _∙_, ap}
-use mathlib.Core.Bool.{Bool, true, false}
+use mathlib.Core.Path.{_≡_, refl, sym, _∙_, ap, subst}
+use mathlib.Core.Bool.{Bool, true, false, not, _&&_}
 use lib.Dec.{eqb, ltb}
 use lib.ListN.{length}
-use borrow.Author.Tests.{le-ltb, lt-ltb, ltb-false, ne-eqb}
+use borrow.Author.Tests.{le-ltb, lt-ltb, ltb-false, leb-true, ne-eqb}
 use Rattle.lists.specs.Lists.{pick}
+use Rattle.lists.proofs.Sifts.{and-true}
 use Rattle.lists.proofs.Stores.{tab-length}
 use Rattle.model.specs.Mesh.{Mesh}
 use Rattle.model.specs.Run as M
 use Rattle.model.specs.Run.{start}
-use Rattle.model.specs.Calls.{tooSmall, firstFault}
+use Rattle.model.specs.Valid.{numbersFit, indicesFit}
+use Rattle.model.specs.Calls.{trianglesLent, refusal, tooSmall, firstFault}
 use Rattle.mesh.specs.At.{meshAt, trianglesAt, boundaryAt, triangleRow, sideRow}
-use Rattle.mesh.specs.Given.{Given, Lent, meshOf, sizes, roomsOf, asRooms}
+use Rattle.mesh.specs.Given.{Given, Lent, meshOf, sizes, sizesFit, roomsOf, asRooms}
 use Rattle.mesh.specs.Filled.{Fits, Holds}
 use Rattle.mesh.specs.declared.Counts.{Counts}
 use Rattle.mesh.specs.declared.Rooms.{Rooms}
 use Rattle.mesh.proofs.Joined.{sizes-told}
 use Rattle.mesh.proofs.Accepted.{lentOf, SizedInput, input-fits}
 use Rattle.mesh.proofs.Lists.{particles-length, edges-length}
+use Rattle.split.specs.Working.{Roomed}
 use Rattle.answer.specs.Framed.{copyNeed, RoomsLent, BeginAsked, Begun}
 
 -- ---- counts
@@ -128,21 +131,75 @@ pub begun-copied : (code : ℕ) (R : Rooms) (G : Given) (held : Mesh) (lack : �
 begun-copied code R G held lack z e n same =
     record { number = sym (rw z (copy-first (asRooms R) G) ∙ sym e ∙ n); copied = λ _. same }
 
--- the rooms of lent blocks are within them
-pub rooms-lent : (R : Rooms) (L : Lent) → R ≡ roomsOf L → RoomsLent R L
-rooms-lent R L e = rw e (by L)
-  where
-    two : (n a b : ℕ) → (min n (min a b) ≤ a) × (min n (min a b) ≤ b)
-    two n a b = (omega arith, omega arith)
+-- ---- what is asked of a call
 
-    by : (L : Lent) → RoomsLent (roomsOf L) L
+-- the rooms of lent blocks are within them, and within the limits
+pub roomed : (R : Rooms) (L : Lent) → R ≡ roomsOf L → Roomed R L
+roomed R L e = rw e (by L)
+  where
+    three : (n a b : ℕ) → (min n (min a b) ≤ n) × (min n (min a b) ≤ a) × (min n (min a b) ≤ b)
+    three n a b = (omega arith, omega arith, omega arith)
+
+    two : (n a : ℕ) → (min n a ≤ n) × (min n a ≤ a)
+    two n a = (omega arith, omega arith)
+
+    by : (L : Lent) → Roomed (roomsOf L) L
     by L =
         record {
-          points = two _ _ _ .0;
-          roots = two _ _ _ .1;
-          corners = two _ _ _ .0;
-          volumes = two _ _ _ .1;
-          ends = two _ _ _ .0;
-          lengths = two _ _ _ .1;
-          outline = omega arith;
+          few-particles = three 1024 _ _ .0;
+          few-triangles = three 1024 _ _ .0;
+          few-edges = three 2048 _ _ .0;
+          few-boundary = two 2048 _ .0;
+          few-log = two 4096 _ .0;
+          points = three 1024 _ _ .1;
+          roots = three 1024 _ _ .2;
+          corners = three 1024 _ _ .1;
+          volumes = three 1024 _ _ .2;
+          ends = three 2048 _ _ .1;
+          lengths = three 2048 _ _ .2;
+          outline = two 2048 _ .1;
+          log = two 4096 _ .1;
         }
+
+-- the same of the seven blocks of a mesh
+pub rooms-lent : {R : Rooms} {L : Lent} → Roomed R L → RoomsLent R L
+rooms-lent A =
+    record { points = A .points; roots = A .roots; corners = A .corners; volumes = A .volumes; ends = A .ends; lengths = A .lengths; outline = A .outline }
+
+-- what a call knows that no check refused
+pub record Passed (G : Given) (arguments : Bool) : Type 0 where
+  pub sized : sizesFit G ≡ true
+  pub indices : indicesFit (meshOf G) ≡ true
+  pub asked : arguments ≡ true
+
+unless-not : (t : Bool) (n m : ℕ) → pick (not t) (suc n) m ≡ 0 → (t ≡ true) × (m ≡ 0)
+unless-not true n m e = (refl, e)
+unless-not false n m e = absurd (omega arith)
+
+pub passed : (G : Given) (numbers arguments : Bool) → refusal (sizesFit G) (meshOf G) numbers arguments ≡ 0 → Passed G arguments
+unfolding refusal
+passed G numbers arguments e =
+    let s = unless-not (sizesFit G) 0 _ e in
+    let n = unless-not (numbersFit (meshOf G) && numbers) 1 _ (s .1) in
+    let i = unless-not (indicesFit (meshOf G)) 2 _ (n .1) in
+    record { sized = s .0; indices = i .0; asked = unless-not arguments 3 _ (i .1) .0 }
+
+-- where none did, the input may be copied
+pub begin-asked : (G : Given) (R : Rooms) (I : Lent) (code : ℕ) (numbers arguments : Bool) → code ≡ refusal (sizesFit G) (meshOf G) numbers arguments
+    → (arguments ≡ true → trianglesLent (asRooms R) (meshOf G) ≡ true) → RoomsLent R I → BeginAsked code R G I
+begin-asked G R I code numbers arguments e t rooms =
+    record {
+      sized = λ z. passed G numbers arguments (sym e ∙ z) .sized;
+      triangles = λ z. let h = leb-true (length (meshOf G .triangles)) (R .triangles) (t (passed G numbers arguments (sym e ∙ z) .asked)) in omega (arith, h, mesh-triangles G);
+      rooms = rooms;
+    }
+
+-- the same where more is asked beside
+pub begin-asked-beside : (G : Given) (R : Rooms) (I : Lent) (code : ℕ) (numbers beside : Bool) → code ≡ refusal (sizesFit G) (meshOf G) numbers (beside && trianglesLent (asRooms R) (meshOf G)) → RoomsLent R I
+    → BeginAsked code R G I
+begin-asked-beside G R I code numbers beside e rooms =
+    begin-asked G R I code numbers (beside && trianglesLent (asRooms R) (meshOf G)) e (λ q. and-true beside (trianglesLent (asRooms R) (meshOf G)) q .1) rooms
+
+-- the number that the checks gave is the refusal
+pub begun-by : {code code′ : ℕ} {R : Rooms} {N held : Mesh} {r : ℕ} → Begun code R N held r → code ≡ code′ → Begun code′ R N held r
+begun-by {R = R} {N} {held} {r} B e = subst (λ (n : ℕ). Begun n R N held r) e B

@@ -2,7 +2,6 @@
 use Prim.Native.Nat.{ℕ, zero, suc}
 use native.Mathlib.Omega.{arith}
 use mathlib.Core.Path.{_≡_, refl, sym, _∙_, ap, subst}
-use mathlib.Core.Bool.{Bool}
 use mathlib.Core.List.{List, [], _∷_, map}
 use borrow.Author.Tests.{ne-eqb}
 use lib.ListN.{length, length-map}
@@ -11,22 +10,22 @@ use Rattle.lists.specs.Lists.{any, tab}
 use Rattle.lists.proofs.Stores.{tab-length}
 use Rattle.model.specs.Mesh.{Mesh}
 use Rattle.model.specs.Run.{Entry, split, edge, insert, opened, Run, start, changes, changed}
-use Rattle.model.specs.Calls.{refusal, Outcome, refused, done, fitted, outcome, unless}
+use Rattle.model.specs.Calls.{firstFault, Outcome, refused, done, fitted, outcome, unless}
 use Rattle.model.proofs.Steps.{Onward, refused-early}
 use Rattle.mesh.specs.At.{meshAt, trianglesAt, boundaryAt}
 use Rattle.mesh.specs.Log.{World, wordsOf, worldOf, logAt, worldAt}
-use Rattle.mesh.specs.Given.{Given, Lent, meshOf, sizesFit, roomsOf, asRooms}
-use Rattle.mesh.specs.Filled.{Filled, Fits}
+use Rattle.mesh.specs.Given.{Given, Lent, meshOf, roomsOf, asRooms}
+use Rattle.mesh.specs.Filled.{Filled}
 use Rattle.mesh.specs.declared.Counts.{Counts}
 use Rattle.mesh.specs.declared.Rooms.{Rooms}
 use Rattle.mesh.proofs.Accepted.{rooms-fit}
 use Rattle.mesh.proofs.Agree.{agree, Zero, zeros}
 use Rattle.mesh.proofs.Lists.{particles-length, edges-length, log-length}
-use Rattle.split.specs.Working.{Within, Went}
+use Rattle.split.specs.Working.{Within, Went, Works}
 use Rattle.split.specs.declared.Ran.{Ran}
 use Rattle.split.specs.declared.Ran.the-variants.{Refused as Stopped, Done as Ended}
-use Rattle.answer.specs.Answered.{shown, countsOf, answerOf, Answered}
-use Rattle.answer.specs.Framed.{wordsChange, begunWith, Begun, WorksUnless, RanFits, shownOf, saidOf, Finished}
+use Rattle.answer.specs.Answered.{shown, countsOf, Answered}
+use Rattle.answer.specs.Framed.{wordsChange, begunWith, Begun, RanFits, RanWithin, Came, Finished}
 use Rattle.answer.specs.declared.Answer.{Answer}
 use Rattle.answer.specs.declared.Answer.the-variants.{Refused, Done}
 
@@ -43,14 +42,9 @@ words-tell (opened a b ∷ l) = words-tell l
 
 -- ---- what a worker came to, and the outcome
 
--- what is shown and said of a worker's end is that of the outcome
-pub record Told (o : Outcome) (ran : Ran) (at : Counts → World) : Type 0 where
-  pub said : saidOf ran at ≡ answerOf o
-  pub shows : shownOf ran at ≡ shown o
-
 -- a refusal
-told-refused : (o : Outcome) (ran : Ran) (at : Counts → World) (n : ℕ) → ran ≡ Stopped n → o ≡ refused n → Told o ran at
-told-refused o ran at n e q = rw (e, q) (record { said = refl; shows = refl })
+pub came-refused : (o : Outcome) (R : Rooms) (at : Counts → World) (ran : Ran) (n : ℕ) → ran ≡ Stopped n → o ≡ refused n → Came o R at ran
+came-refused o R at ran n e q = rw (e, q) (record { said = refl; shows = refl; within = tt })
 
 module _ (p : List Float) (r c : List ℕ) (v : List Float) (e : List ℕ) (l : List Float) (o g : List ℕ) where
   -- the counts of what the blocks hold
@@ -67,93 +61,86 @@ module _ (p : List Float) (r c : List ℕ) (v : List Float) (e : List ℕ) (l : 
       }
 
   -- a run that had room
-  told-done : (S : Run) (k : Counts) → worldAt k p r c v e l o g ≡ worldOf (S .mesh) (S .log) → Told (done (S .mesh) (S .log) (changed S)) (Ended k) (λ q. worldAt q p r c v e l o g)
+  came-done : (R : Rooms) (S : Run) (k : Counts) → Within k R → worldAt k p r c v e l o g ≡ worldOf (S .mesh) (S .log) → Came (done (S .mesh) (S .log) (changed S)) R (λ q. worldAt q p r c v e l o g) (Ended k)
   unfolding changed
-  told-done S k q =
+  came-done R S k w q =
       record {
         said =
             ap (λ (W : World). Done k (wordsChange (W .log))) q ∙ ap (Done k) (words-tell (S .log)) ∙ ap (λ (n : Counts). Done n (any changes (S .log))) (counts-are k (S .mesh) (S .log) q);
         shows = q;
+        within = w;
       }
 
   -- a run
-  told-run : (L : Rooms) (S : Run) (ran : Ran) → Went L S (λ q. worldAt q p r c v e l o g) ran → Told (outcome (asRooms L) S) ran (λ q. worldAt q p r c v e l o g)
+  came-run : (R : Rooms) (S : Run) (ran : Ran) → Went R S (λ q. worldAt q p r c v e l o g) ran → Came (outcome (asRooms R) S) R (λ q. worldAt q p r c v e l o g) ran
   unfolding outcome
-  told-run L S (Stopped zero) w = absurd (omega (arith, w .1))
-  told-run L S (Stopped (suc n)) w = told-refused _ _ _ (suc n) refl (ap (λ (m : ℕ). fitted m S) (w .0))
-  told-run L S (Ended k) w =
-      subst (λ (m : ℕ). Told (fitted m S) (Ended k) (λ q. worldAt q p r c v e l o g)) (sym (w .0)) (told-done S k (w .2))
+  came-run R S (Stopped zero) w = absurd (omega (arith, w .1))
+  came-run R S (Stopped (suc n)) w = came-refused _ R _ _ (suc n) refl (ap (λ (m : ℕ). fitted m S) (w .0))
+  came-run R S (Ended k) w =
+      subst (λ (m : ℕ). Came (fitted m S) R (λ q. worldAt q p r c v e l o g) (Ended k)) (sym (w .0)) (came-done R S k (w .1) (w .2))
 
 -- ---- a call
-
--- the number that a call begins with, where a check refused, and where none did
-begun-first : (n : ℕ) (L : _) (M : Mesh) → begunWith (suc n) L M ≡ suc n
-begun-first n L M = rw (ne-eqb (suc n) 0 (λ d. omega arith)) refl
-
--- a refusal is no end
-stopped-ended : (n : ℕ) (k : Counts) → _≡_ {A = Ran} (Stopped n) (Ended k) → ⊥
-stopped-ended n k q = let z : _≡_ {A = ℕ} 0 1 = cc in omega arith
 
 -- blocks without a log
 pub unlogged : (k : Counts) (p : List Float) (r c : List ℕ) (v : List Float) (e : List ℕ) (l : List Float) (o g : List ℕ) → k .log ≡ 0 → worldAt k p r c v e l o g ≡ worldOf (meshAt k p r c v e l o) []
 unfolding worldAt logAt tab
 unlogged k p r c v e l o g z = ap (λ (n : ℕ). record { mesh = meshAt k p r c v e l o; log = logAt n g }) z
 
-module _
-    {f : Run → Run} (onward : (S : Run) → Onward S (f S)) (G : Given) (L : Lent) {R : Rooms} (room : R ≡ roomsOf L) {code begun : ℕ} {ran : Ran} {held : Mesh} {W₁ : World}
-    (p : List Float) (r c : List ℕ) (v : List Float) (e : List ℕ) (l : List Float) (o g : List ℕ)
-    (B : Begun code R (meshOf G) held begun) (fresh : W₁ ≡ worldOf held []) (W : WorksUnless begun f R W₁ (λ k. worldAt k p r c v e l o g) ran) where
-  -- the copy of the input is the run that the worker begins with
-  start-held : begun ≡ 0 → W₁ ≡ worldOf (start (meshOf G) .mesh) (start (meshOf G) .log)
+module _ (f : Run → Run) (onward : (S : Run) → Onward S (f S)) (G : Given) {R : Rooms} {code begun : ℕ} {held : Mesh} (B : Begun code R (meshOf G) held begun) where
+  -- a check that refused is what the call begins with
+  refused-first : (n : ℕ) → code ≡ suc n → begun ≡ suc n
+  refused-first n q = B .number ∙ ap (λ (k : ℕ). begunWith k (asRooms R) (meshOf G)) q ∙ rw (ne-eqb (suc n) 0 (λ d. omega arith)) refl
+
+  -- where none did, it is the room that lacks
+  room-next : code ≡ 0 → begun ≡ firstFault (asRooms R) (start (meshOf G) .needs)
+  room-next q = B .number ∙ ap (λ (k : ℕ). begunWith k (asRooms R) (meshOf G)) q
+
+  -- no check refused where the copy was made
+  pub nothing-before : begun ≡ 0 → code ≡ 0
+  nothing-before z = by code refl
+    where
+      by : (n : ℕ) → code ≡ n → code ≡ 0
+      by zero q = q
+      by (suc n) q = absurd (omega (arith, refused-first n q))
+
+  -- a refusal, by a check or for want of room
+  pub came-begun : (at : Counts → World) → (begun ≡ 0 → ⊥) → Came (unless code (outcome (asRooms R) (f (start (meshOf G))))) R at (Stopped begun)
+  came-begun at h = by code begun refl refl
+    where
+      by : (n m : ℕ) → code ≡ n → begun ≡ m → Came (unless n (outcome (asRooms R) (f (start (meshOf G))))) R at (Stopped begun)
+      by zero zero q b = absurd (h b)
+      by zero (suc m) q b = came-refused _ R at _ (suc m) (ap Stopped b) (refused-early (asRooms R) (start (meshOf G)) (f (start (meshOf G))) m (onward (start (meshOf G))) (sym (room-next q) ∙ b))
+      by (suc n) m q b = came-refused _ R at _ (suc n) (ap Stopped (refused-first n q)) refl
+
+  -- the copy, and what the worker made of it
+  pub came-worked : (p r c v e l o g : _) (W : World) (ran : Ran) → W ≡ worldOf held [] → begun ≡ 0 → Works f R W (λ k. worldAt k p r c v e l o g) ran
+      → Came (unless code (outcome (asRooms R) (f (start (meshOf G))))) R (λ k. worldAt k p r c v e l o g) ran
   unfolding start
-  start-held z = fresh ∙ ap (λ (M : Mesh). worldOf M []) (B .copied z)
+  came-worked p r c v e l o g W ran fresh z works =
+      let same : W ≡ worldOf (start (meshOf G) .mesh) (start (meshOf G) .log) = fresh ∙ ap (λ (M : Mesh). worldOf M []) (B .copied z) in
+      subst (λ (n : ℕ). Came (unless n (outcome (asRooms R) (f (start (meshOf G))))) R (λ k. worldAt k p r c v e l o g) ran) (sym (nothing-before z))
+      (came-run p r c v e l o g R (f (start (meshOf G))) ran (works .went (start (meshOf G)) same (sym (room-next (nothing-before z)) ∙ z)))
 
-  -- nothing refused before the worker
-  nothing-before : (n : ℕ) → begun ≡ 0 → code ≡ n → n ≡ 0
-  nothing-before zero z q = refl
-  nothing-before (suc n) z q = absurd (omega (arith, B .number ∙ ap (λ (k : ℕ). begunWith k (asRooms R) (meshOf G)) q ∙ begun-first n (asRooms R) (meshOf G)))
+-- ---- the end
 
-  -- what the worker tells of it
-  went-from : begun ≡ 0 → Went R (f (start (meshOf G))) (λ k. worldAt k p r c v e l o g) ran
-  went-from z = W .works z .went (start (meshOf G)) (start-held z) (sym (B .number ∙ ap (λ (m : ℕ). begunWith m (asRooms R) (meshOf G)) (nothing-before code z refl)) ∙ z)
+-- counts within the rooms of the lent blocks fit them
+ran-fits : (ran : Ran) (L : Lent) → RanWithin ran (roomsOf L) → RanFits ran L
+ran-fits (Stopped n) L w = tt
+ran-fits (Ended k) L w = rooms-fit k L (w .particles) (w .triangles) (w .edges) (w .boundary) (w .log)
 
-  -- the outcome of the call's checks and of its run
-  told-by : (n m : ℕ) → code ≡ n → begun ≡ m → Told (unless n (outcome (asRooms R) (f (start (meshOf G))))) ran (λ k. worldAt k p r c v e l o g)
-  told-by zero zero z h = told-run p r c v e l o g R (f (start (meshOf G))) ran (went-from h)
-  told-by zero (suc m) z h =
-      told-refused _ ran _ (suc m) (W .refuses (λ q. omega arith) ∙ ap Stopped h)
-      (refused-early (asRooms R) (start (meshOf G)) (f (start (meshOf G))) m (onward (start (meshOf G))) (sym (B .number ∙ ap (λ (k : ℕ). begunWith k (asRooms R) (meshOf G)) z) ∙ h))
-  told-by (suc n) m z h =
-      let q : begun ≡ suc n = B .number ∙ ap (λ (k : ℕ). begunWith k (asRooms R) (meshOf G)) z ∙ begun-first n (asRooms R) (meshOf G) in
-      told-refused _ ran _ (suc n) (W .refuses (λ u. omega arith) ∙ ap Stopped q) refl
+module _ (call : Rooms → Outcome) (L : Lent) {R : Rooms} (room : R ≡ roomsOf L) {at : Counts → World} {ran : Ran} (C : Came (call R) R at ran) where
+  -- what a call came to fits the lent blocks
+  pub came-fits : (K : Lent) → K ≡ L → RanFits ran K
+  came-fits K same = subst (RanFits ran) (sym same) (ran-fits ran L (subst (RanWithin ran) room (C .within)))
 
-  -- counts within the rooms fit the lent blocks
-  within-fits : (k : Counts) → Within k (roomsOf L) → Fits k L
-  within-fits k w = rooms-fit k L (w .particles) (w .triangles) (w .edges) (w .boundary) (w .log)
-
-  fits-by : (m : ℕ) (x : Ran) → begun ≡ m → ran ≡ x → RanFits x L
-  fits-by m (Stopped n) h q = tt
-  fits-by zero (Ended k) h q =
-      let w : Went R (f (start (meshOf G))) (λ k. worldAt k p r c v e l o g) (Ended k) = subst (λ (x : Ran). Went R (f (start (meshOf G))) (λ k. worldAt k p r c v e l o g) x) q (went-from h) in
-      within-fits k (subst (Within k) room (w .1))
-  fits-by (suc m) (Ended k) h q = absurd (stopped-ended begun k (sym (W .refuses (λ u. omega arith)) ∙ q))
-
-  -- the counts that the worker came to fit the lent blocks
-  pub work-fits : (K : Lent) → K ≡ L → RanFits ran K
-  work-fits K same = subst (RanFits ran) (sym same) (fits-by begun ran refl refl)
-
-  -- the call answers, and leaves in every lent place, what the model's call does
-  pub answered : (numbers arguments : Bool) (K : Lent) (a : Answer) (p′ : List Float) (r′ c′ : List ℕ) (v′ : List Float) (e′ : List ℕ) (l′ : List Float) (o′ g′ : List ℕ)
-      → code ≡ refusal (sizesFit G) (meshOf G) numbers arguments → K ≡ L → Finished ran (λ k. worldAt k p r c v e l o g) K a p′ r′ c′ v′ e′ l′ o′ g′
-      → Answered (unless (refusal (sizesFit G) (meshOf G) numbers arguments) (outcome (asRooms (roomsOf L)) (f (start (meshOf G))))) L a p′ r′ c′ v′ e′ l′ o′ g′
-  answered numbers arguments K a p′ r′ c′ v′ e′ l′ o′ g′ judged same F =
-      let o″ = unless (refusal (sizesFit G) (meshOf G) numbers arguments) (outcome (asRooms (roomsOf L)) (f (start (meshOf G)))) in
-      let T : Told o″ ran (λ k. worldAt k p r c v e l o g)
-      = subst (λ (x : Rooms). Told (unless (refusal (sizesFit G) (meshOf G) numbers arguments) (outcome (asRooms x) (f (start (meshOf G))))) ran (λ k. worldAt k p r c v e l o g)) room
-      (told-by (refusal (sizesFit G) (meshOf G) numbers arguments) begun judged refl) in
+  -- and finished, they hold its outcome
+  pub answered : (K : Lent) (a : Answer) (p : List Float) (r c : List ℕ) (v : List Float) (e : List ℕ) (l : List Float) (o g : List ℕ) → K ≡ L → Finished ran at K a p r c v e l o g
+      → Answered (call (roomsOf L)) L a p r c v e l o g
+  answered K a p r c v e l o g same F =
+      let C′ : Came (call (roomsOf L)) (roomsOf L) at ran = subst (λ (x : Rooms). Came (call x) x at ran) room C in
       record {
-        answer = F .answer ∙ T .said;
-        blocks = subst (λ (x : Lent). Filled (shown o″) x p′ r′ c′ v′ e′ l′ o′ g′) same (subst (λ (x : World). Filled x K p′ r′ c′ v′ e′ l′ o′ g′) (T .shows) (F .blocks));
+        answer = F .answer ∙ C′ .said;
+        blocks = subst (λ (x : Lent). Filled (shown (call (roomsOf L))) x p r c v e l o g) same (subst (λ (x : World). Filled x K p r c v e l o g) (C′ .shows) (F .blocks));
       }
 
 -- ---- one answer

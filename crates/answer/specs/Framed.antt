@@ -9,17 +9,17 @@ use lib.Ieee.{Float}
 use Rattle.lists.specs.Lists.{pick, any}
 use Rattle.model.specs.Mesh.{Mesh}
 use Rattle.model.specs.Run as M
-use Rattle.model.specs.Run.{Need, Run, start}
-use Rattle.model.specs.Calls.{firstFault}
+use Rattle.model.specs.Run.{Need, start}
+use Rattle.model.specs.Calls.{firstFault, Outcome}
 use Rattle.mesh.specs.Log.{Words, World}
 use Rattle.mesh.specs.Given.{Given, Lent, sizes, sizesFit, asRooms}
 use Rattle.mesh.specs.Filled.{Filled, Fits}
 use Rattle.mesh.specs.declared.Counts.{Counts}
 use Rattle.mesh.specs.declared.Rooms.{Rooms}
-use Rattle.split.specs.Working.{Works}
+use Rattle.split.specs.Working.{Within}
 use Rattle.split.specs.declared.Ran.{Ran}
 use Rattle.split.specs.declared.Ran.the-variants.{Refused as Stopped, Done as Ended}
-use Rattle.answer.specs.Answered.{nothing}
+use Rattle.answer.specs.Answered.{nothing, shown, answerOf}
 use Rattle.answer.specs.declared.Answer.{Answer}
 use Rattle.answer.specs.declared.Answer.the-variants.{Refused, Done}
 
@@ -64,13 +64,6 @@ pub record Begun (code : ℕ) (R : Rooms) (N held : Mesh) (r : ℕ) : Type 0 whe
   pub number : r ≡ begunWith code (asRooms R) N
   pub copied : r ≡ 0 → held ≡ N
 
--- ---- between
-
--- a worker does f to whatever run the blocks hold, unless a refusal is there
-pub record WorksUnless (code : ℕ) (f : Run → Run) (L : Rooms) (W : World) (at : Counts → World) (r : Ran) : Type 0 where
-  pub refuses : (code ≡ 0 → ⊥) → r ≡ Stopped code
-  pub works : code ≡ 0 → Works f L W at r
-
 -- ---- the end
 
 -- the counts that a worker came to fit the lent blocks
@@ -87,6 +80,17 @@ shownOf (Ended k) at = at k
 abbrev pub saidOf : Ran → (Counts → World) → Answer
 saidOf (Stopped c) at = Refused c
 saidOf (Ended k) at = Done k (wordsChange (at k .log))
+
+-- the counts that a worker came to are within the rooms
+abbrev pub RanWithin : Ran → Rooms → Type 0
+RanWithin (Stopped c) R = Unit {0}
+RanWithin (Ended k) R = Within k R
+
+-- a call came to the outcome o, in rooms R and in blocks that hold `at` of its counts
+pub record Came (o : Outcome) (R : Rooms) (at : Counts → World) (ran : Ran) : Type 0 where
+  pub said : saidOf ran at ≡ answerOf o
+  pub shows : shownOf ran at ≡ shown o
+  pub within : RanWithin ran R
 
 -- the answer, and every lent place
 pub record Finished (ran : Ran) (at : Counts → World) (L : Lent) (a : Answer) (p : List Float) (r c : List ℕ) (v : List Float) (e : List ℕ) (l : List Float) (b g : List ℕ) : Type 0 where
