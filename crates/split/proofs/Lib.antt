@@ -6,3 +6,5 @@ pub mod Runs
 pub mod Stepping
 pub mod GrowLaws
 pub mod NamedLaws
+pub mod StepLaws
+pub mod TabledLaws

@@ -57,7 +57,7 @@ pub record FanSided (K : Kind) (M : Mesh) (v n : ℕ) (numbers verts : List ℕ)
   pub tabled : Tabled (cornersPer K) (fanOf K M v) n numbers verts measures
   pub few : n ≤ 2048
   pub numbers-long : n ≤ length numbers
-  pub verts-long : 4096 ≤ length verts
+  pub verts-long : n * cornersPer K ≤ length verts
   pub measures-long : n ≤ length measures
   pub sides-long : n ≤ length sides
   pub two : (i : ℕ) → i < n → getD sides i 0 < 2
