@@ -8,3 +8,7 @@ pub mod GrowLaws
 pub mod NamedLaws
 pub mod StepLaws
 pub mod TabledLaws
+pub mod NoteLaws
+pub mod MarkLaws
+pub mod OutlineLaws
+pub mod SettleLaws
