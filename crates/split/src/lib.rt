@@ -2,6 +2,7 @@
 pub mod fans;
 pub mod grow;
 pub mod settle;
+pub mod step;
 
 use mesh::Counts;
 
