@@ -3,6 +3,7 @@ pub mod fans;
 pub mod grow;
 pub mod settle;
 pub mod step;
+pub mod straddlers;
 
 use mesh::Counts;
 
