@@ -22,8 +22,8 @@ use Rattle.mesh.specs.declared.Rooms.{Rooms}
 use Rattle.mesh.proofs.Joined.{sizes-told}
 use Rattle.mesh.proofs.Accepted.{lentOf, SizedInput, input-fits}
 use Rattle.mesh.proofs.Lists.{particles-length, edges-length}
-use Rattle.split.specs.Working.{Roomed}
-use Rattle.answer.specs.Framed.{copyNeed, RoomsLent, BeginAsked, Begun}
+use Rattle.split.specs.Working.{Roomed, Ready}
+use Rattle.answer.specs.Framed.{copyNeed, begunWith, RoomsLent, BeginAsked, Begun}
 
 -- ---- counts
 
@@ -203,3 +203,41 @@ begin-asked-beside G R I code numbers beside e rooms =
 -- the number that the checks gave is the refusal
 pub begun-by : {code code′ : ℕ} {R : Rooms} {N held : Mesh} {r : ℕ} → Begun code R N held r → code ≡ code′ → Begun code′ R N held r
 begun-by {R = R} {N} {held} {r} B e = subst (λ (n : ℕ). Begun n R N held r) e B
+
+-- ---- where the copy was made
+
+-- lengths that stayed
+pub roomed-still : {R : Rooms} {K L : Lent} → Roomed R L → K ≡ L → Roomed R K
+roomed-still {R} A e = subst (Roomed R) (sym e) A
+
+module _ (G : Given) (numbers arguments : Bool) {R : Rooms} {held : Mesh} {begun : ℕ} (B : Begun (refusal (sizesFit G) (meshOf G) numbers arguments) R (meshOf G) held begun) (z : begun ≡ 0) where
+  -- no check refused
+  unrefused : refusal (sizesFit G) (meshOf G) numbers arguments ≡ 0
+  unrefused = by (refusal (sizesFit G) (meshOf G) numbers arguments) refl
+    where
+      by : (n : ℕ) → refusal (sizesFit G) (meshOf G) numbers arguments ≡ n → refusal (sizesFit G) (meshOf G) numbers arguments ≡ 0
+      by zero q = q
+      by (suc n) q =
+          absurd (omega (arith, B .number ∙ ap (λ (k : ℕ). begunWith k (asRooms R) (meshOf G)) q ∙ step n))
+        where
+          step : (n : ℕ) → begunWith (suc n) (asRooms R) (meshOf G) ≡ suc n
+          step n = rw (ne-eqb (suc n) 0 (λ d. omega arith)) refl
+
+  pub began-passed : Passed G arguments
+  began-passed = passed G numbers arguments unrefused
+
+  -- and no room lacked
+  began-fits : CopyFits (sizes G) R
+  began-fits =
+      copy-fits (sizes G) R
+      (sym (copy-first (asRooms R) G) ∙ sym (ap (λ (k : ℕ). begunWith k (asRooms R) (meshOf G)) unrefused) ∙ sym (B .number) ∙ z)
+
+  -- so a worker may begin
+  pub began-ready : (K : Lent) → (arguments ≡ true → trianglesLent (asRooms R) (meshOf G) ≡ true) → Roomed R K → Ready R (sizes G) K held
+  began-ready K t rooms =
+      let h = leb-true (length (meshOf G .triangles)) (R .triangles) (t (began-passed .asked)) in
+      record {
+        rooms = rooms;
+        counts = record { particles = began-fits .particles; triangles = omega (arith, h, mesh-triangles G); edges = began-fits .edges; boundary = began-fits .boundary; log = zero-le };
+        indices = ap indicesFit (B .copied z) ∙ began-passed .indices;
+      }
