@@ -3,8 +3,10 @@ use Prim.Native.Nat.{ℕ, zero, suc, _/_, _<_, _≤_, min, zero-le}
 use native.Mathlib.Omega.{arith}
 use mathlib.Core.Path.{_≡_, refl, sym, _∙_, ap, subst}
 use mathlib.Core.Bool.{Bool, true, false, not, _&&_}
+use mathlib.Core.List.{List, []}
 use lib.Dec.{eqb, ltb}
 use lib.ListN.{length}
+use lib.Ieee.{Float}
 use borrow.Author.Tests.{le-ltb, lt-ltb, ltb-false, leb-true, ne-eqb}
 use Rattle.lists.specs.Lists.{pick}
 use Rattle.lists.proofs.Sifts.{and-true}
@@ -16,7 +18,7 @@ use Rattle.model.specs.Valid.{numbersFit, indicesFit}
 use Rattle.model.specs.Calls.{trianglesLent, refusal, tooSmall, firstFault}
 use Rattle.mesh.specs.At.{meshAt, trianglesAt, boundaryAt, triangleRow, sideRow}
 use Rattle.mesh.specs.Given.{Given, Lent, meshOf, sizes, sizesFit, roomsOf, asRooms}
-use Rattle.mesh.specs.Filled.{Fits, Holds}
+use Rattle.mesh.specs.Filled.{Fits, Holds, lent}
 use Rattle.mesh.specs.declared.Counts.{Counts}
 use Rattle.mesh.specs.declared.Rooms.{Rooms}
 use Rattle.mesh.proofs.Joined.{sizes-told}
@@ -162,8 +164,8 @@ roomed R L e = rw e (by L)
         }
 
 -- the same of the seven blocks of a mesh
-pub rooms-lent : {R : Rooms} {L : Lent} → Roomed R L → RoomsLent R L
-rooms-lent A =
+pub rooms-lent : {R : Rooms} (p : List Float) (r c : List ℕ) (v : List Float) (e : List ℕ) (l : List Float) (o g : List ℕ) → Roomed R (lent p r c v e l o g) → RoomsLent R (lent p r c v e l o [])
+rooms-lent p r c v e l o g A =
     record { points = A .points; roots = A .roots; corners = A .corners; volumes = A .volumes; ends = A .ends; lengths = A .lengths; outline = A .outline }
 
 -- what a call knows that no check refused
