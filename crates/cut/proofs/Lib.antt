@@ -1,0 +1,3 @@
+-- Laws of the cut along a blade.
+pub mod MarkLaws
+pub mod SideLaws

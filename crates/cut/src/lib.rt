@@ -1,0 +1,3 @@
+// The cut along a blade, over the lent blocks: particles marked, the sides of a fan, and the whole cut.
+pub mod marks;
+pub mod sides;
