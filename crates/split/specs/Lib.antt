@@ -2,3 +2,4 @@
 pub mod Working
 pub mod Tables
 pub mod Steps
+pub mod Growing

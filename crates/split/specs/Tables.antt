@@ -1,12 +1,15 @@
 -- The tables of a fan that is to be split: its elements' numbers, corners and measures, and a group for each. Only contracts between workers need this file. Definitions only.
-use Prim.Native.Nat.{ℕ, _<_, _≤_}
+use Prim.Native.Nat.{ℕ, _*_, _/_, _<_, _≤_}
 use mathlib.Core.Path.{_≡_}
 use mathlib.Core.List.{List}
 use lib.ListN.{length, getD, take}
 use lib.Ieee.{Float}
 use Rattle.model.specs.Mesh.{Mesh}
-use Rattle.model.specs.Elements.{Kind, Triangles, Straps, cornersPer, fanOf}
+use Rattle.fan.specs.Fan.{fan}
+use Rattle.fan.specs.Groups.{groupsOf, countOf}
+use Rattle.model.specs.Elements.{Kind, Triangles, Straps, cornersPer, facetOthers, fanOf}
 use Rattle.model.specs.Split.{Opening}
+use Rattle.mesh.specs.At.{trianglesAt, edgesAt}
 use Rattle.elements.specs.Table.{Tabled}
 use Rattle.opening.specs.Opened.{openingBy, Ringed, Weighted, Numbered, RingRoom, CornersBelow}
 
@@ -17,6 +20,7 @@ pub record FanGrouped (K : Kind) (M : Mesh) (v n count : ℕ) (numbers verts : L
   pub tabled : Tabled (cornersPer K) (fanOf K M v) n numbers verts measures
   pub few : n ≤ 2048
   pub numbers-long : n ≤ length numbers
+  pub verts-long : n * cornersPer K ≤ length verts
   pub measures-long : n ≤ length measures
   pub groups-long : n ≤ length groups
   pub below : (i : ℕ) → i < n → getD groups i 0 < count
@@ -57,3 +61,34 @@ pub record FanSided (K : Kind) (M : Mesh) (v n : ℕ) (numbers verts : List ℕ)
   pub measures-long : n ≤ length measures
   pub sides-long : n ≤ length sides
   pub two : (i : ℕ) → i < n → getD sides i 0 < 2
+
+-- what is asked of the blocks that a fan is read from, and of the tables lent for it
+pub record FanLent (t e lc lv le ll ln lk lm : ℕ) : Type 0 where
+  pub few : (t ≤ 1024) × (e ≤ 2048)
+  pub corners : t ≤ lc / 3
+  pub volumes : t ≤ lv / 2
+  pub ends : e ≤ le / 4
+  pub lengths : e ≤ ll / 4
+  pub numbers : 2048 ≤ ln
+  pub verts : 4096 ≤ lk
+  pub measures : 2048 ≤ lm
+
+-- the fan of v in any mesh of these triangles and edges stands in the tables
+pub record FanRead (K : Kind) (v t e : ℕ) (corners : List ℕ) (volumes : List Float) (ends : List ℕ) (lengths : List Float) (n : ℕ) (numbers verts : List ℕ) (measures : List Float) : Type 0 where
+  pub tabled : (M : Mesh) → M .triangles ≡ trianglesAt t corners volumes → M .edges ≡ edgesAt e ends lengths → Tabled (cornersPer K) (fanOf K M v) n numbers verts measures
+  pub few : n ≤ 2048
+  pub narrow : n * cornersPer K ≤ 4096
+
+-- what is asked where a fan of n elements is grouped by sides
+pub record SidesLent (n k lk ls lg : ℕ) (sides : List ℕ) : Type 0 where
+  pub few : n ≤ 2048
+  pub verts : n * k ≤ lk
+  pub long : n ≤ ls
+  pub groups : n ≤ lg
+  pub two : (i : ℕ) → i < n → getD sides i 0 < 2
+
+-- the groups of the fan whose corners stand in verts, and their count
+pub record GroupsFound (K : Kind) (v n : ℕ) (verts sides groups : List ℕ) (count : ℕ) : Type 0 where
+  pub groups-are : take n groups ≡ groupsOf (fan (take (n * cornersPer K) verts) (cornersPer K) v (facetOthers K) (take n sides))
+  pub count-is : count ≡ countOf (fan (take (n * cornersPer K) verts) (cornersPer K) v (facetOthers K) (take n sides))
+  pub below : (i : ℕ) → i < n → getD groups i 0 < count

@@ -1,4 +1,7 @@
 // A split over the lent blocks: one particle by the groups of its fan, and the straddlers across pieces.
+pub mod fans;
+pub mod grow;
+
 use mesh::Counts;
 
 // What a step came to: the number of the room that lacks, or the new counts.

@@ -1,0 +1,2 @@
+-- What a call that gives a mesh answers and leaves in the lent blocks.
+pub mod Answered
