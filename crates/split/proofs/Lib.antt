@@ -12,3 +12,6 @@ pub mod NoteLaws
 pub mod MarkLaws
 pub mod OutlineLaws
 pub mod SettleLaws
+pub mod PieceMasks
+pub mod PieceTables
+pub mod Straddled

@@ -44,7 +44,7 @@ world-of k q points points′ roots roots′ corners corners′ volumes ends end
     ap (λ (X : Mesh). record { mesh = X; log = logAt (q .log) log }) m ∙ ap (λ (j : ℕ). record { mesh = A; log = logAt j log }) l
 
 -- the mesh of a world in blocks
-world-mesh : (k : Counts) (points : List Float) (roots corners : List ℕ) (volumes : List Float) (ends : List ℕ) (lengths : List Float) (outline log : List ℕ)
+pub world-mesh : (k : Counts) (points : List Float) (roots corners : List ℕ) (volumes : List Float) (ends : List ℕ) (lengths : List Float) (outline log : List ℕ)
     → worldAt k points roots corners volumes ends lengths outline log .mesh ≡ meshAt k points roots corners volumes ends lengths outline
 unfolding worldAt
 world-mesh k points roots corners volumes ends lengths outline log = refl
@@ -140,19 +140,21 @@ module _ (K : Kind) (L : Rooms) (k : Counts) (points : List Float) (roots corner
     grew g T = T .told O volumes outline opens
 
     -- there was room for the particles and the edges
-    pub room-made : (e : ℕ) → Told (Longest e) → (k .particles + count - 1 ≤ L .particles) × (e ≤ L .edges)
-    room-made e T = let G = grew (Longest e) T in (G .0, G .1)
+    pub room-made : (g : Grew) (e : ℕ) → Told g → g ≡ Longest e → (k .particles + count - 1 ≤ L .particles) × (e ≤ L .edges)
+    room-made g e T′ q = let T : Told (Longest e) = subst Told q T′ in let G = grew (Longest e) T in (G .0, G .1)
 
-    pub all-lacking : (c extra : ℕ) (at : Counts → World) → Told (Lacking c) → Stepped K O L extra (worldAt k points roots corners volumes ends lengths outline log) at (Refused c)
-    all-lacking c extra at T =
-        stepped-lacking K O L extra k (worldAt k points roots corners volumes ends lengths outline log) (λ q. meshAt q points′ roots′ corners′ volumes ends′ lengths′ outline) at c
+    pub all-lacking : (g : Grew) (c extra : ℕ) → Told g → g ≡ Lacking c → Stepped K O L extra (worldAt k points roots corners volumes ends lengths outline log) (λ q. worldAt q points roots corners volumes ends lengths outline log) (Refused c)
+    all-lacking g c extra T′ q =
+        let T : Told (Lacking c) = subst Told q T′ in
+        stepped-lacking K O L extra k (worldAt k points roots corners volumes ends lengths outline log) (λ q. meshAt q points′ roots′ corners′ volumes ends′ lengths′ outline) (λ q. worldAt q points roots corners volumes ends lengths outline log) c
         (subst (λ (X : Mesh). GrewTo K O L k X (λ q. meshAt q points′ roots′ corners′ volumes ends′ lengths′ outline) (Lacking c)) (sym (world-mesh k points roots corners volumes ends lengths outline log)) (grew (Lacking c) T))
 
-    pub all-settled : (e extra : ℕ) (ends″ : List ℕ) (lengths″ : List Float) (outline″ log″ : List ℕ) (r : Ran) → Told (Longest e)
+    pub all-settled : (g : Grew) (e extra : ℕ) (ends″ : List ℕ) (lengths″ : List Float) (outline″ log″ : List ℕ) (r : Ran) → Told g → g ≡ Longest e
         → SettledFor K L extra v (k .particles) n count numbers verts groups (λ s. worldAt (grownCounts k (k .particles + count - 1) e) points′ s corners′ volumes ends′ lengths′ outline log)
         (λ s q. worldAt q points′ s corners′ volumes ends″ lengths″ outline″ log″) r
         → Stepped K O L extra (worldAt k points roots corners volumes ends lengths outline log) (λ q. worldAt q points′ roots′ corners′ volumes ends″ lengths″ outline″ log″) r
-    all-settled e extra ends″ lengths″ outline″ log″ r T S =
+    all-settled g e extra ends″ lengths″ outline″ log″ r T′ z S =
+        let T : Told (Longest e) = subst Told z T′ in
         let G = grew (Longest e) T in
         let q : Counts = grownCounts k (k .particles + count - 1) e in
         let W = worldAt k points roots corners volumes ends lengths outline log in

@@ -2,6 +2,8 @@
 pub mod fans;
 pub mod grow;
 pub mod settle;
+pub mod step;
+pub mod straddlers;
 
 use mesh::Counts;
 
