@@ -1,6 +1,6 @@
 // The sides of a fan by the blade.
 ghost use mathlib.Core.Path.{_≡_};
-ghost use Prim.Native.Nat.{_/_, _<_, _≤_};
+ghost use Prim.Native.Nat.{_/_, _<_};
 ghost use lib.ListN.{length};
 ghost use Rattle.model.specs.Elements.{cornersPer};
 ghost use Rattle.elements.specs.Table.{kindIs};
