@@ -1,0 +1,6 @@
+// The cut of straps over the lent blocks: crossings, insertions, bend edges, boundary.
+pub mod edges;
+pub mod particles;
+pub mod plan;
+pub mod shares;
+pub mod sides;
