@@ -114,3 +114,22 @@ fn append_particle(n: usize, row: ParticleRow, points: &mut [f32], roots: &mut [
     roots[n] = row.root;
     roots[r + n] = row.damaged;
 }
+// Both ends are lightened, and the new particles p on a's side and q on b's are appended.
+pub fn insert_particles(plan: Plan, points: &mut [f32], roots: &mut [usize])
+    requires { ⌜ ParticlesRoom plan (length (now points)) (length (now roots)) ⌝ }
+    ensures { λ _. ⌜ ParticlesInserted plan (now (points .entry)) (now (points .exit)) (now (roots .entry)) (now (roots .exit)) ⌝ }
+{
+    let row = plan.row;
+    let a = row.a;
+    let b = row.b;
+    let n = plan.before;
+    let r = roots.len() / 2;
+    let first = first_half(plan);
+    let second = second_half(plan);
+    let p = between(plan, first, n, roots[r + a], points);
+    let q = between(plan, second, n + 1, roots[r + b], points);
+    lighten(a, plan.first, first, points);
+    lighten(b, plan.second, second, points);
+    append_particle(n, p, points, roots);
+    append_particle(n + 1, q, points, roots);
+}
