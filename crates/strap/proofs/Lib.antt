@@ -5,3 +5,4 @@ pub mod Passes
 pub mod SideLaws
 pub mod StoreLaws
 pub mod InsertLaws
+pub mod BendLaws

@@ -3,3 +3,4 @@ pub mod Shares
 pub mod Plans
 pub mod Sides
 pub mod Inserts
+pub mod Bends

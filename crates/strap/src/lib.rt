@@ -1,4 +1,5 @@
 // The cut of straps over the lent blocks: crossings, insertions, bend edges, boundary.
+pub mod bends;
 pub mod edges;
 pub mod particles;
 pub mod plan;
