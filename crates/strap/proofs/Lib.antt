@@ -6,3 +6,4 @@ pub mod SideLaws
 pub mod StoreLaws
 pub mod InsertLaws
 pub mod BendLaws
+pub mod StepLaws

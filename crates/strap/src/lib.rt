@@ -5,3 +5,4 @@ pub mod particles;
 pub mod plan;
 pub mod shares;
 pub mod sides;
+pub mod step;
