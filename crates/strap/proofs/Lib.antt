@@ -7,3 +7,4 @@ pub mod StoreLaws
 pub mod InsertLaws
 pub mod BendLaws
 pub mod StepLaws
+pub mod CrossingLaws

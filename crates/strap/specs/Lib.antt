@@ -5,3 +5,4 @@ pub mod Sides
 pub mod Inserts
 pub mod Bends
 pub mod Steps
+pub mod Crossings
