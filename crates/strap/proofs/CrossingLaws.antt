@@ -73,3 +73,71 @@ noted-hit hit t i m numbers ts e h l =
       least = omega arith;
       most = omega arith;
     }
+
+-- ---- the tables, edge by edge
+
+-- the crossing of an element
+abbrev crossingOf : Point → Point → Mesh → Element → List Crossing
+crossingOf b0 b1 M x = crossingAt (x .number) (meets (record { from = b0; to = b1 }) M (edgeAt M (x .number) .a) (edgeAt M (x .number) .b))
+
+-- at the head of the loop: the crossings of the first i edges stand in the tables
+pub record Finding (b0 b1 : Point) (e : ℕ) (points : List Float) (ends numbers₀ numbers : List ℕ) (ts₀ ts : List Float) (m i : ℕ) : Type 0 where
+  pub is :
+      (M : Mesh) (n : ℕ) (roots : List ℕ) (lengths : List Float) → Stands M n e points roots ends lengths → EndsBelow n e ends
+      → crossed-in m numbers ts ≡ each (crossingOf b0 b1 M) (strapsFrom 0 (edgesAt i ends lengths))
+  pub inside : i ≤ e
+  pub few : m ≤ i
+  pub numbers-long : length numbers ≡ length numbers₀
+  pub ts-long : length ts ≡ length ts₀
+
+module _ (b0 b1 : Point) (e : ℕ) (points : List Float) (ends numbers₀ : List ℕ) (ts₀ : List Float) where
+  pub finding-start : Finding b0 b1 e points ends numbers₀ numbers₀ ts₀ ts₀ 0 0
+  unfolding edgesAt tab strapsFrom each
+  finding-start = record { is = λ M n roots B S E. refl; inside = omega arith; few = omega arith; numbers-long = refl; ts-long = refl }
+
+  one-found : (M : Mesh) (x : Edge) (i : ℕ) (t : Bool) → each (crossingOf b0 b1 M) (pick t (strapElement i x ∷ []) []) ≡ pick t (crossingOf b0 b1 M (strapElement i x)) []
+  unfolding each
+  one-found M x i true = append-nil _
+  one-found M x i false = refl
+
+  -- the crossings of one edge more
+  found-step : (M : Mesh) (B : List Float) (i : ℕ) → M .edges ≡ edgesAt e ends B → i < e
+      → each (crossingOf b0 b1 M) (strapsFrom 0 (edgesAt (i + 1) ends B))
+      ≡ each (crossingOf b0 b1 M) (strapsFrom 0 (edgesAt i ends B))
+      ++ pick (structural? (rowAt ends B i)) (crossingAt i (meets (record { from = b0; to = b1 }) M (rowAt ends B i .a) (rowAt ends B i .b))) []
+  unfolding edgesAt
+  found-step M B i q h =
+      let f = rowAt ends B in
+      let z : 0 + length (tab i f) ≡ i = omega (arith, tab-length i f) in
+      let row : edgeAt M i ≡ f i = ap (λ (l : List Edge). getD l i blankEdge) q ∙ edges-get e ends B i h in
+      ap (λ (l : List Edge). each (crossingOf b0 b1 M) (strapsFrom 0 l)) (tab-step f i)
+      ∙ ap (each (crossingOf b0 b1 M)) (straps-push 0 (tab i f) (f i) ∙ ap (λ (j : ℕ). strapsFrom 0 (tab i f) ++ pick (structural? (f i)) (strapElement j (f i) ∷ []) []) z)
+      ∙ each-append (crossingOf b0 b1 M) (strapsFrom 0 (tab i f)) (pick (structural? (f i)) (strapElement i (f i) ∷ []) [])
+      ∙ ap (λ (l : List Crossing). each (crossingOf b0 b1 M) (strapsFrom 0 (tab i f)) ++ l)
+      (one-found M (f i) i (structural? (f i)) ∙ ap (λ (x : Edge). pick (structural? (f i)) (crossingAt i (meets (record { from = b0; to = b1 }) M (x .a) (x .b))) []) row)
+
+  module _ (numbers : List ℕ) (ts : List Float) (m i : ℕ) (F : Finding b0 b1 e points ends numbers₀ numbers ts₀ ts m i) where
+    pub finding-step : (hit : Hit) (numbers′ : List ℕ) (ts′ : List Float) (r : ℕ) → i < e → HitTold b0 b1 i points ends hit → HitNoted hit i m numbers numbers′ ts ts′ r
+        → length numbers′ ≡ length numbers → length ts′ ≡ length ts → Finding b0 b1 e points ends numbers₀ numbers′ ts₀ ts′ r (i + 1)
+    finding-step hit numbers′ ts′ r h T N ln lt =
+        let low = F .few in
+        let most = N .most in
+        record {
+          is =
+              λ M n roots B S E.
+              N .is ∙ ap₂ (λ (x y : List Crossing). x ++ y) (F .is M n roots B S E) (T .is M n e roots B S (E .first i h) (E .second i h)) ∙ sym (found-step M B i (S .edges-are) h);
+          inside = omega arith;
+          few = omega arith;
+          numbers-long = ln ∙ F .numbers-long;
+          ts-long = lt ∙ F .ts-long;
+        }
+
+    pub finding-done : e ≤ i → CrossingsAre b0 b1 e points ends numbers ts m
+    unfolding crossings elementsOf
+    finding-done h =
+        let low = F .inside in
+        let all : i ≡ e = omega arith in
+        record {
+          is = λ M n roots B S E. F .is M n roots B S E ∙ ap (λ (j : ℕ). each (crossingOf b0 b1 M) (strapsFrom 0 (edgesAt j ends B))) all ∙ ap (λ (l : List Edge). each (crossingOf b0 b1 M) (strapsFrom 0 l)) (sym (S .edges-are));
+          few = omega (arith, F .few);
+        }

@@ -2,7 +2,7 @@
 ghost use mathlib.Core.Path.{_≡_};
 ghost use Prim.Native.Nat.{_<_, _≤_, _/_};
 ghost use lib.ListN.{length};
-ghost use Rattle.strap.specs.Crossings.{HitRoom, HitTold, HitNoted};
+ghost use Rattle.strap.specs.Crossings.{HitRoom, HitTold, HitNoted, CrossingsRoom, CrossingsAre};
 use blade::Hit;
 use blade::Point;
 
@@ -31,4 +31,27 @@ fn note_hit(hit: Hit, i: usize, m: usize, numbers: &mut [usize], ts: &mut [f32])
     numbers[m] = i;
     ts[m] = t;
     m + 1
+}
+
+// Fills the tables with the crossings of the first e edges; returns how many there are.
+pub fn find_crossings(
+    b0: Point,
+    b1: Point,
+    e: usize,
+    points: &[f32],
+    ends: &[usize],
+    numbers: &mut [usize],
+    ts: &mut [f32],
+) -> usize
+    requires { ⌜ CrossingsRoom e (length (now points)) (now ends) (length (now numbers)) (length (now ts)) ⌝ }
+    ensures { λ r. ⌜ CrossingsAre b0 b1 e (now (points .entry)) (now (ends .entry)) (now (numbers .exit)) (now (ts .exit)) r ⌝ }
+{
+    let mut m: usize = 0;
+    let mut i: usize = 0;
+    while i < e {
+        let hit = hit_of(b0, b1, i, points, ends);
+        m = note_hit(hit, i, m, numbers, ts);
+        i += 1;
+    }
+    m
 }
