@@ -1,0 +1,6 @@
+-- Laws of the cut along a blade.
+pub mod MarkLaws
+pub mod SideLaws
+pub mod RunLaws
+pub mod FanSides
+pub mod CutLaws

@@ -1,0 +1,199 @@
+-- Laws of marked particles split one after the other: the particles that are chosen, the run so far, and what its blocks are ready for. Assumes nothing.
+use mathlib.Core.Path.{_≡_, refl, sym, _∙_, ap, subst}
+use mathlib.Core.Bool.{Bool, true, false}
+use mathlib.Core.List.{List, [], _∷_, _++_, map}
+use Prim.Native.Nat.{ℕ, _+_, _<_, _≤_}
+use native.Mathlib.Omega.{arith}
+use borrow.Author.Tests.{eq-eqb, ne-eqb}
+use lib.Dec.{eqb}
+use lib.ListN.{length, getD, take, drop, take-append-drop}
+use lib.Ieee.{Float}
+use Rattle.lists.specs.Lists.{pick, stands, sift, fold, tab, upTo, rising}
+use Rattle.lists.proofs.Sifts.{pick-by, sift-append, fold-append, tab-take, upTo-length, upTo-at}
+use Rattle.lists.proofs.Steps.{sift-step}
+use Rattle.lists.proofs.Stores.{tab-at}
+use Rattle.model.specs.Mesh.{Particle, blank}
+use Rattle.model.specs.Elements.{Kind, placeOf}
+use Rattle.model.specs.Valid.{indicesFit}
+use Rattle.model.specs.Run.{Entry, Run, stepTo}
+use Rattle.model.specs.Split.{Opening, openingOf, splits?, splitMade, splitStep, splitBySides, settled, atLongest}
+use Rattle.model.specs.Calls.{firstFault}
+use Rattle.model.proofs.Steps.{Onward, onward-fold, sides-onward}
+use Rattle.model.proofs.Traced.{copied-length}
+use Rattle.model.proofs.Indexed.{Indexed, sides-indexed, fold-indexed}
+use Rattle.model.proofs.Accepted.{accepted-indexed, indexed-accepted}
+use Rattle.mesh.specs.At.{meshAt, particlesAt}
+use Rattle.mesh.specs.Log.{World, worldOf, wordsOf}
+use Rattle.mesh.specs.Given.{Lent, asRooms}
+use Rattle.mesh.specs.declared.Counts.{Counts}
+use Rattle.mesh.specs.declared.Rooms.{Rooms}
+use Rattle.split.specs.Working.{Within, Roomed, Ready, Went, Works}
+use Rattle.split.specs.declared.Ran.{Ran}
+use Rattle.split.specs.declared.Ran.the-variants.{Refused, Done}
+use Rattle.split.proofs.Runs.{works-stay, works-then, works-refused}
+use Rattle.elements.proofs.Measures.{sift-agree}
+use Rattle.cut.specs.declared.facets.Parting.{Parting}
+use Rattle.cut.specs.Marking.{Marks, PlacesIn, marked?}
+use Rattle.cut.specs.Running.{sidesIn, splitIn, splitIf, chosen}
+
+-- ---- the particles that are chosen
+
+pub chosen-none : (marks : List ℕ) → chosen 0 marks ≡ []
+unfolding chosen upTo tab sift
+chosen-none marks = refl
+
+chosen-step : (marks : List ℕ) (v : ℕ) → chosen (v + 1) marks ≡ chosen v marks ++ pick (marked? marks v) (v ∷ []) []
+unfolding chosen upTo
+chosen-step marks v = sift-step (marked? marks) (λ k. k) v
+
+-- those below m come first
+chosen-more : (marks : List ℕ) (m p : ℕ) → m ≤ p → chosen m marks ++ sift (marked? marks) (drop m (upTo p)) ≡ chosen p marks
+unfolding chosen upTo
+chosen-more marks m p h =
+    ap (λ (l : List ℕ). sift (marked? marks) l ++ sift (marked? marks) (drop m (tab p (λ k. k)))) (sym (tab-take m p (λ k. k) h))
+    ∙ sym (sift-append (marked? marks) (take m (tab p (λ k. k))) (drop m (tab p (λ k. k))))
+    ∙ ap (sift (marked? marks)) (take-append-drop m (tab p (λ k. k)))
+
+-- where a list is marked, its numbers below p are chosen
+mark-tells : (s : Bool) (x : ℕ) → x ≡ pick s 1 0 → eqb x 1 ≡ s
+mark-tells true x e = eq-eqb x 1 e
+mark-tells false x e = ne-eqb x 1 (λ q. omega arith)
+
+pub chosen-rising : (marks listed : List ℕ) (p : ℕ) → Marks listed marks → p ≤ length marks → chosen p marks ≡ rising p listed
+unfolding chosen rising
+chosen-rising marks listed p A h =
+    sift-agree (marked? marks) (λ k. stands k listed) (upTo p) 0
+    (λ i l.
+    let b : i < p = omega (arith, upTo-length p) in
+    let e : getD (upTo p) i 0 ≡ i = upTo-at p i b in
+    mark-tells _ _ (A .mark (getD (upTo p) i 0) (omega arith)))
+
+-- ---- one split
+
+-- it goes on, keeps the indices, and takes no particle away
+module _ (w : Parting) (K : Kind) where
+  pub in-onward : (R : Run) (v : ℕ) → Onward R (splitIn w K R v)
+  unfolding splitIn
+  in-onward R v = sides-onward K v (sidesIn w K (R .mesh) v) R
+
+  in-indexed : (R : Run) (v : ℕ) → Indexed (R .mesh) → Indexed (splitIn w K R v .mesh)
+  unfolding splitIn
+  in-indexed R v X = sides-indexed K v (sidesIn w K (R .mesh) v) R X
+
+  in-grown : (R : Run) (v : ℕ) → length (R .mesh .particles) ≤ length (splitIn w K R v .mesh .particles)
+  unfolding splitIn splitBySides splitStep splitMade stepTo settled atLongest
+  in-grown R v =
+      let O : Opening = openingOf K (R .mesh) v (sidesIn w K (R .mesh) v) in
+      pick-by (λ (S : Run). length (R .mesh .particles) ≤ length (S .mesh .particles)) (splits? O (R .mesh)) (omega (arith, copied-length O (R .mesh .particles))) (omega arith)
+
+  fold-grown : (R : Run) (l : List ℕ) → length (R .mesh .particles) ≤ length (fold (splitIn w K) R l .mesh .particles)
+  unfolding fold
+  fold-grown R [] = omega arith
+  fold-grown R (v ∷ l) =
+      let a = in-grown R v in
+      let b = fold-grown (splitIn w K R v) l in
+      omega arith
+
+-- ---- workers that do the same
+
+pub works-when : {f g : Run → Run} {L : Rooms} {W : World} {at : Counts → World} {r : Ran} → ((R : Run) → W ≡ worldOf (R .mesh) (R .log) → f R ≡ g R) → Works f L W at r → Works g L W at r
+works-when {L = L} {at = at} {r = r} s F = record { went = λ R e z. subst (λ (S : Run). Went L S at r) (s R e) (F .went R e z) }
+
+-- a worker that does nothing where v has no mark, and one that splits v by sides that are those of its fan
+pub none-works : (mark : ℕ) (w : Parting) (K : Kind) (v : ℕ) (L : Rooms) (at : Counts → World) (k : Counts) → Within k L → (mark ≡ 1 → ⊥) → Works (λ (R : Run). splitIf mark w K R v) L (at k) at (Done k)
+unfolding splitIf
+none-works mark w K v L at k b n = works-when (λ R e. sym (ap (λ (t : Bool). pick t (splitIn w K R v) R) (ne-eqb _ _ n))) (works-stay k b)
+
+pub one-works : (mark : ℕ) (w : Parting) (K : Kind) (v : ℕ) (sides : List ℕ) (L : Rooms) (W : World) (at : Counts → World) (r : Ran) → mark ≡ 1 → sides ≡ sidesIn w K (W .mesh) v → Works (splitBySides K v sides) L W at r
+    → Works (λ (R : Run). splitIf mark w K R v) L W at r
+unfolding splitIf splitIn
+one-works mark w K v sides L W at r y s F =
+    works-when (λ R e. ap (λ (l : List ℕ). splitBySides K v l R) (s ∙ ap (λ (x : World). sidesIn w K (x .mesh) v) e) ∙ sym (ap (λ (t : Bool). pick t (splitBySides K v (sidesIn w K (R .mesh) v) R) R) (eq-eqb _ _ y))) F
+
+-- ---- the run so far
+
+module _ (w : Parting) (K : Kind) (L : Rooms) (marks : List ℕ) where
+  -- the run in which the chosen below v are split
+  abbrev pub splitTo : ℕ → Run → Run
+  splitTo v R = fold (splitIn w K) R (chosen v marks)
+
+  pub run-none : {at : Counts → World} (k : Counts) → Within k L → Works (splitTo 0) L (at k) at (Done k)
+  unfolding fold
+  run-none k b = works-when (λ R e. sym (ap (fold (splitIn w K) R) (chosen-none marks))) (works-stay k b)
+
+  module _ {W : World} {at : Counts → World} {k : Counts} (v : ℕ) (F : Works (splitTo v) L W at (Done k)) where
+    run-same : (R : Run) → splitIf (getD marks v 0) w K (splitTo v R) v ≡ splitTo (v + 1) R
+    unfolding splitIf fold
+    run-same R =
+        sym (ap (fold (splitIn w K) R) (chosen-step marks v) ∙ fold-append (splitIn w K) R (chosen v marks) (pick (marked? marks v) (v ∷ []) [])
+        ∙ by (marked? marks v) (splitTo v R))
+      where
+        by : (t : Bool) (S : Run) → fold (splitIn w K) S (pick t (v ∷ []) []) ≡ pick t (splitIn w K S v) S
+        by true S = refl
+        by false S = refl
+
+    pub run-more : {at′ : Counts → World} {r : Ran} → Works (λ (R : Run). splitIf (getD marks v 0) w K R v) L (at k) at′ r → Works (splitTo (v + 1)) L W at′ r
+    run-more G = works-when (λ R e. run-same R) (works-then F G)
+
+    pub run-stop : {at′ : Counts → World} {c : ℕ} (p : ℕ) → v < p → Works (λ (R : Run). splitIf (getD marks v 0) w K R v) L (at k) at′ (Refused c) → Works (splitTo p) L W at′ (Refused c)
+    run-stop {at′} {c} p h G =
+        let rest : List ℕ = sift (marked? marks) (drop (v + 1) (upTo p)) in
+        works-when
+        (λ R e. sym (fold-append (splitIn w K) R (chosen (v + 1) marks) rest) ∙ ap (fold (splitIn w K) R) (chosen-more marks (v + 1) p (omega arith)))
+        (works-refused (λ (S : Run). fold (splitIn w K) S rest) {at = at′} (λ R. onward-fold (splitIn w K) (in-onward w K) (splitTo (v + 1) R) rest) (run-more G))
+
+    -- the same of an answer that is known
+    pub run-next : {at′ : Counts → World} (r : Ran) (k′ : Counts) → r ≡ Done k′ → Works (λ (R : Run). splitIf (getD marks v 0) w K R v) L (at k) at′ r → Works (splitTo (v + 1)) L W at′ (Done k′)
+    run-next {at′} r k′ e G = run-more (subst (λ (x : Ran). Works (λ (R : Run). splitIf (getD marks v 0) w K R v) L (at k) at′ x) e G)
+
+    pub run-end : {at′ : Counts → World} (r : Ran) (c : ℕ) → r ≡ Refused c → (p : ℕ) → v < p → Works (λ (R : Run). splitIf (getD marks v 0) w K R v) L (at k) at′ r → Works (splitTo p) L W at′ r
+    run-end {at′} r c e p h G =
+        subst (λ (x : Ran). Works (splitTo p) L W at′ x) (sym e) (run-stop p h (subst (λ (x : Ran). Works (λ (R : Run). splitIf (getD marks v 0) w K R v) L (at k) at′ x) e G))
+
+  pub run-all : {W : World} {at : Counts → World} {r : Ran} (v p : ℕ) → v ≡ p → Works (splitTo v) L W at r → Works (splitTo p) L W at r
+  run-all {W} {at} {r} v p e F = subst (λ (m : ℕ). Works (splitTo m) L W at r) e F
+
+  -- a run in the blocks at the start
+  abbrev start : World → List Entry → Run
+  start W l = record { mesh = W .mesh; log = l; needs = [] }
+
+  started : (W : World) (l : List Entry) → W .log ≡ map wordsOf l → W ≡ worldOf (start W l .mesh) (start W l .log)
+  started W l e = λ i. record { mesh = W .mesh; log = e i }
+
+  -- what its blocks are ready for
+  module _ {W : World} {at : Counts → World} {k : Counts} (v : ℕ) (F : Works (splitTo v) L W at (Done k)) (l : List Entry) (words : W .log ≡ map wordsOf l) where
+    went-to : (firstFault (asRooms L) (splitTo v (start W l) .needs) ≡ 0) × Within k L × (at k ≡ worldOf (splitTo v (start W l) .mesh) (splitTo v (start W l) .log))
+    unfolding firstFault
+    went-to = F .went (start W l) (started W l words) refl
+
+    pub within-at : Within k L
+    within-at = went-to .1
+
+    pub ready-at : (k₀ : Counts) (I I′ : Lent) → Ready L k₀ I (W .mesh) → I′ ≡ I → Ready L k I′ (at k .mesh)
+    ready-at k₀ I I′ Y e =
+        record {
+          rooms = subst (Roomed L) (sym e) (Y .rooms);
+          counts = within-at;
+          indices =
+              ap (λ (x : World). indicesFit (x .mesh)) (went-to .2)
+              ∙ indexed-accepted (splitTo v (start W l) .mesh) (fold-indexed (splitIn w K) (in-indexed w K) (start W l) (chosen v marks) (accepted-indexed (W .mesh) (Y .indices)));
+        }
+
+    pub grown-at : length (W .mesh .particles) ≤ length (at k .mesh .particles)
+    grown-at =
+        let e : length (at k .mesh .particles) ≡ length (splitTo v (start W l) .mesh .particles) = ap (λ (x : World). length (x .mesh .particles)) (went-to .2) in
+        let h : length (W .mesh .particles) ≤ length (splitTo v (start W l) .mesh .particles) = fold-grown w K (start W l) (chosen v marks) in
+        omega arith
+
+    abbrev pub entries-at : List Entry
+    entries-at = splitTo v (start W l) .log
+
+    pub words-at : at k .log ≡ map wordsOf entries-at
+    words-at = ap (λ (x : World). x .log) (went-to .2)
+
+-- ---- the places of a mesh in blocks
+
+pub places-at : (k : Counts) (points : List Float) (roots corners : List ℕ) (volumes : List Float) (ends : List ℕ) (lengths : List Float) (outline : List ℕ)
+    → PlacesIn (meshAt k points roots corners volumes ends lengths outline) (k .particles) points
+unfolding placeOf meshAt particlesAt
+places-at k points roots corners volumes ends lengths outline w h = ap (λ (p : Particle). record { x = p .x; y = p .y }) (tab-at (k .particles) _ w blank h)

@@ -1,0 +1,4 @@
+-- The cut along a blade, over the lent blocks.
+pub mod Marking
+pub mod Sided
+pub mod Running

@@ -1,0 +1,251 @@
+// The cut of triangles: the candidates are split by the blade, and then the pinched.
+ghost use Prim.Native.Nat.{_<_};
+ghost use lib.ListN.{length};
+ghost use Rattle.lists.specs.Lists.{fold};
+ghost use Rattle.model.specs.Elements.{Triangles, cornersPer};
+ghost use Rattle.model.specs.Cut.{splitPinched, cutFacets};
+ghost use Rattle.mesh.specs.At.{meshAt};
+ghost use Rattle.mesh.specs.Log.{worldAt};
+ghost use Rattle.mesh.specs.Filled.{lent};
+ghost use Rattle.elements.specs.Table.{kindIs};
+ghost use Rattle.split.specs.Working.{Ready, Works};
+ghost use Rattle.cut.specs.Marking.{bladeFrom};
+ghost use Rattle.cut.specs.Sided.{SidesRoom};
+ghost use Rattle.cut.specs.Running.{splitIn, splitIf, SidesFor, chosen, Logged, Chosen};
+use crate::marks;
+use crate::sides::blade_sides;
+use blade::Point;
+use elements::Kind;
+use mesh::Counts;
+use mesh::Rooms;
+use split::Ran;
+use split::step::split_tabled;
+
+// How a fan is parted: no element from another by its side, or by the blade.
+pub enum Parting {
+    Free,
+    Blade(Point, Point),
+}
+
+// The side of each of the n elements of v's fan.
+fn part_fan(
+    way: Parting,
+    kind: Kind,
+    v: usize,
+    n: usize,
+    verts: &[usize],
+    points: &[f32],
+    sides: &mut [usize],
+)
+    requires { ⌜ SidesRoom v (cornersPer (kindIs kind)) n (now verts) (length (now points)) (length (now sides)) ⌝ }
+    ensures { λ _. ⌜ SidesFor way (kindIs kind) v n (now (verts .entry)) (now (points .entry)) (now (sides .exit)) ⌝ }
+{
+    match way {
+        Parting::Free => columns::clear_usize(0, sides),
+        Parting::Blade(b0, b1) => blade_sides(kind, b0, b1, v, n, verts, points, sides),
+    }
+}
+
+// Splits v by the sides of its fan, if its mark is 1.
+pub fn split_one(
+    way: Parting,
+    kind: Kind,
+    v: usize,
+    mark: usize,
+    k: Counts,
+    room: Rooms,
+    points: &mut [f32],
+    roots: &mut [usize],
+    corners: &mut [usize],
+    volumes: &[f32],
+    ends: &mut [usize],
+    lengths: &mut [f32],
+    outline: &mut [usize],
+    log: &mut [usize],
+) -> Ran
+    requires { ⌜ Ready room k (lent (now points) (now roots) (now corners) (now volumes) (now ends) (now lengths) (now outline) (now log)) (meshAt k (now points) (now roots) (now corners) (now volumes) (now ends) (now lengths) (now outline)) × (v < k .particles) ⌝ }
+    ensures { λ r. ⌜ Works (λ R. splitIf mark way (kindIs kind) R v) room (worldAt k (now (points .entry)) (now (roots .entry)) (now (corners .entry)) (now (volumes .entry)) (now (ends .entry)) (now (lengths .entry)) (now (outline .entry)) (now (log .entry))) (λ q. worldAt q (now (points .exit)) (now (roots .exit)) (now (corners .exit)) (now (volumes .entry)) (now (ends .exit)) (now (lengths .exit)) (now (outline .exit)) (now (log .exit))) r ⌝ }
+{
+    if mark != 1 {
+        return Ran::Done(k);
+    }
+    let mut numbers = [0usize; 2048];
+    let mut verts = [0usize; 4096];
+    let mut measures = [0.0f32; 2048];
+    let mut sides = [0usize; 2048];
+    let n = split::fans::fan_tables(
+        kind,
+        v,
+        k.triangles,
+        k.edges,
+        corners,
+        volumes,
+        ends,
+        lengths,
+        &mut numbers,
+        &mut verts,
+        &mut measures,
+    );
+    part_fan(way, kind, v, n, &verts, points, &mut sides);
+    split_tabled(
+        kind,
+        v,
+        n,
+        &numbers,
+        &verts,
+        &measures,
+        &sides,
+        k,
+        room,
+        points,
+        roots,
+        corners,
+        volumes,
+        ends,
+        lengths,
+        outline,
+        log,
+    )
+}
+
+// Splits each marked particle below p, in rising order, until one lacks room.
+pub fn split_marked(
+    way: Parting,
+    kind: Kind,
+    p: usize,
+    marks: &[usize],
+    k: Counts,
+    room: Rooms,
+    points: &mut [f32],
+    roots: &mut [usize],
+    corners: &mut [usize],
+    volumes: &[f32],
+    ends: &mut [usize],
+    lengths: &mut [f32],
+    outline: &mut [usize],
+    log: &mut [usize],
+) -> Ran
+    requires { ⌜ Ready room k (lent (now points) (now roots) (now corners) (now volumes) (now ends) (now lengths) (now outline) (now log)) (meshAt k (now points) (now roots) (now corners) (now volumes) (now ends) (now lengths) (now outline)) × Chosen p k (now log) (length (now marks)) ⌝ }
+    ensures { λ r. ⌜ Works (λ R. fold (splitIn way (kindIs kind)) R (chosen p (now (marks .entry)))) room (worldAt k (now (points .entry)) (now (roots .entry)) (now (corners .entry)) (now (volumes .entry)) (now (ends .entry)) (now (lengths .entry)) (now (outline .entry)) (now (log .entry))) (λ q. worldAt q (now (points .exit)) (now (roots .exit)) (now (corners .exit)) (now (volumes .entry)) (now (ends .exit)) (now (lengths .exit)) (now (outline .exit)) (now (log .exit))) r ⌝ }
+{
+    let mut counts = k;
+    let mut v: usize = 0;
+    while v < p {
+        let ran = split_one(
+            way,
+            kind,
+            v,
+            marks[v],
+            counts,
+            room,
+            points,
+            roots,
+            corners,
+            volumes,
+            ends,
+            lengths,
+            outline,
+            log,
+        );
+        let Ran::Done(next) = ran else {
+            return ran;
+        };
+        counts = next;
+        v += 1;
+    }
+    Ran::Done(counts)
+}
+
+// Splits the particles near a split that were left joining two pieces alone.
+pub fn split_pinched(
+    k: Counts,
+    room: Rooms,
+    points: &mut [f32],
+    roots: &mut [usize],
+    corners: &mut [usize],
+    volumes: &[f32],
+    ends: &mut [usize],
+    lengths: &mut [f32],
+    outline: &mut [usize],
+    log: &mut [usize],
+) -> Ran
+    requires { ⌜ Ready room k (lent (now points) (now roots) (now corners) (now volumes) (now ends) (now lengths) (now outline) (now log)) (meshAt k (now points) (now roots) (now corners) (now volumes) (now ends) (now lengths) (now outline)) × Logged (k .log) (now log) ⌝ }
+    ensures { λ r. ⌜ Works (splitPinched Triangles) room (worldAt k (now (points .entry)) (now (roots .entry)) (now (corners .entry)) (now (volumes .entry)) (now (ends .entry)) (now (lengths .entry)) (now (outline .entry)) (now (log .entry))) (λ q. worldAt q (now (points .exit)) (now (roots .exit)) (now (corners .exit)) (now (volumes .entry)) (now (ends .exit)) (now (lengths .exit)) (now (outline .exit)) (now (log .exit))) r ⌝ }
+{
+    let mut near = [0usize; 1024];
+    let mut marks = [0usize; 1024];
+    marks::mark_near(k.log, log, &mut near);
+    marks::mark_pinched(k.triangles, corners, &near, &mut marks);
+    split_marked(
+        Parting::Free,
+        Kind::Triangles,
+        k.particles,
+        &marks,
+        k,
+        room,
+        points,
+        roots,
+        corners,
+        volumes,
+        ends,
+        lengths,
+        outline,
+        log,
+    )
+}
+
+// Splits the candidates by the blade; then, if anything split, the pinched.
+pub fn cut_facets(
+    b0: Point,
+    b1: Point,
+    k: Counts,
+    room: Rooms,
+    points: &mut [f32],
+    roots: &mut [usize],
+    corners: &mut [usize],
+    volumes: &[f32],
+    ends: &mut [usize],
+    lengths: &mut [f32],
+    outline: &mut [usize],
+    log: &mut [usize],
+) -> Ran
+    requires { ⌜ Ready room k (lent (now points) (now roots) (now corners) (now volumes) (now ends) (now lengths) (now outline) (now log)) (meshAt k (now points) (now roots) (now corners) (now volumes) (now ends) (now lengths) (now outline)) × Logged (k .log) (now log) ⌝ }
+    ensures { λ r. ⌜ Works (cutFacets (bladeFrom b0 b1)) room (worldAt k (now (points .entry)) (now (roots .entry)) (now (corners .entry)) (now (volumes .entry)) (now (ends .entry)) (now (lengths .entry)) (now (outline .entry)) (now (log .entry))) (λ q. worldAt q (now (points .exit)) (now (roots .exit)) (now (corners .exit)) (now (volumes .entry)) (now (ends .exit)) (now (lengths .exit)) (now (outline .exit)) (now (log .exit))) r ⌝ }
+{
+    let mut marks = [0usize; 1024];
+    marks::mark_candidates(b0, b1, k.triangles, points, corners, &mut marks);
+    let ran = split_marked(
+        Parting::Blade(b0, b1),
+        Kind::Triangles,
+        k.particles,
+        &marks,
+        k,
+        room,
+        points,
+        roots,
+        corners,
+        volumes,
+        ends,
+        lengths,
+        outline,
+        log,
+    );
+    let Ran::Done(counts) = ran else {
+        return ran;
+    };
+    if marks::any_split(counts.log, log) {
+        return split_pinched(
+            counts,
+            room,
+            points,
+            roots,
+            corners,
+            volumes,
+            ends,
+            lengths,
+            outline,
+            log,
+        );
+    }
+    Ran::Done(counts)
+}
