@@ -4,3 +4,5 @@ pub mod SideLaws
 pub mod RunLaws
 pub mod FanSides
 pub mod CutLaws
+pub mod SlackLaws
+pub mod SnapLaws
