@@ -6,3 +6,4 @@ pub mod FanSides
 pub mod CutLaws
 pub mod SlackLaws
 pub mod SnapLaws
+pub mod SteadyRuns

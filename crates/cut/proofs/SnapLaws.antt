@@ -31,12 +31,14 @@ use Rattle.mesh.specs.Given.{Lent, asRooms}
 use Rattle.mesh.specs.declared.Counts.{Counts}
 use Rattle.mesh.specs.declared.Rooms.{Rooms}
 use Rattle.split.specs.Working.{Within, Ready, Went, Works}
+use Rattle.split.proofs.Placed.{particles-count}
 use Rattle.split.specs.declared.Ran.{Ran}
 use Rattle.split.specs.declared.Ran.the-variants.{Refused, Done}
 use Rattle.cut.specs.declared.facets.Parting.the-variants.{Blade as BladeFrom}
 use Rattle.cut.specs.Marking.{bladeFrom}
-use Rattle.cut.specs.Running.{sidesIn, splitIn, splitIf}
+use Rattle.cut.specs.Running.{sidesIn, splitIn, splitIf, Logged}
 use Rattle.cut.specs.Snapping.{beyond, slackBeyond, SlackFrom, EdgesHere, snapIf}
+use Rattle.cut.proofs.SteadyRuns.{Steady}
 
 -- ---- the copies of a split
 
@@ -217,3 +219,48 @@ module _ (mark : ℕ) (b0 b1 : Point) (v : ℕ) {L : Rooms} {W : World} {at : Co
             let h = went-on k known R e z in
             subst (λ (S : Run). Went L S at′ (Done k)) (sym (snap-run fit R e)) (h .0, h .1, E ∙ ap (slackWorld (length (W .mesh .particles))) (h .2));
       }
+
+-- a step on a run: it goes on, keeps the indices, and takes no particle away
+pub snap-steady : (B : Blade) → Steady (splitSnapped B)
+snap-steady B = record { onward = snapped-onward B; indexed = snapped-indexed B; grown = snapped-grown B }
+
+module _ (mark : ℕ) (b0 b1 : Point) (v : ℕ) (k : Counts) (points : List Float) (roots corners : List ℕ) (volumes : List Float) (ends : List ℕ) (lengths : List Float) (outline log : List ℕ) (L : Rooms) (I : Lent)
+    (Y : Ready L k I (meshAt k points roots corners volumes ends lengths outline)) where
+  abbrev world : World
+  world = worldAt k points roots corners volumes ends lengths outline log
+
+  abbrev plain : Run → Run
+  plain R = splitIf mark (BladeFrom b0 b1) Straps R v
+
+  abbrev slacked : Run → Run
+  slacked R = snapIf mark (bladeFrom b0 b1) R v
+
+  fit : Indexed (world .mesh)
+  unfolding worldAt
+  fit = accepted-indexed (meshAt k points roots corners volumes ends lengths outline) (Y .indices)
+
+  count : length (world .mesh .particles) ≡ k .particles
+  unfolding worldAt
+  count = particles-count k points roots corners volumes ends lengths outline
+
+  -- the plain split lacks room
+  pub blocks-refused : {at at′ : Counts → World} (r : Ran) (c : ℕ) → r ≡ Refused c → Works plain L world at r → Works slacked L world at′ r
+  blocks-refused r c known F = snap-refused mark b0 b1 v r F c known fit
+
+  -- its edges are there
+  pub blocks-edges : {at : Counts → World} (r : Ran) (next : Counts) → r ≡ Done next → Works plain L world at r → Logged (k .log) log → (le ll : ℕ) → le ≡ I .ends → ll ≡ I .lengths → EdgesHere (next .edges) le ll
+  unfolding worldAt
+  blocks-edges r next known F G le ll e f =
+      let w : next .edges ≤ L .edges = snap-within mark b0 b1 v r F next known (G .entries) (G .words) .edges in
+      let a : L .edges ≤ I .ends / 4 = Y .rooms .ends in
+      let b : L .edges ≤ I .lengths / 4 = Y .rooms .lengths in
+      record { ends = omega arith; lengths = omega arith }
+
+  -- they are slack behind it
+  pub blocks-snapped : (points′ : List Float) (roots′ corners′ : List ℕ) (ends′ : List ℕ) (lengths′ lengths″ : List Float) (outline′ log′ : List ℕ) (r : Ran) (next : Counts) → r ≡ Done next
+      → Works plain L world (λ q. worldAt q points′ roots′ corners′ volumes ends′ lengths′ outline′ log′) r → SlackFrom (k .particles) (next .edges) ends′ lengths′ lengths″
+      → Works slacked L world (λ q. worldAt q points′ roots′ corners′ volumes ends′ lengths″ outline′ log′) (Done next)
+  blocks-snapped points′ roots′ corners′ ends′ lengths′ lengths″ outline′ log′ r next known F S =
+      snap-done mark b0 b1 v r F next known fit
+      (slack-world (k .particles) next points′ roots′ corners′ volumes ends′ lengths′ lengths″ outline′ log′ S
+      ∙ ap (λ n. slackWorld n (worldAt next points′ roots′ corners′ volumes ends′ lengths′ outline′ log′)) (sym count))

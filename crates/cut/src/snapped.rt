@@ -3,7 +3,19 @@ ghost use mathlib.Core.Path.{_≡_};
 ghost use mathlib.Core.Bool.{_||_};
 ghost use lib.Dec.{leb};
 ghost use lib.ListN.{length};
-ghost use Rattle.cut.specs.Snapping.{EdgeHere, SlackAt, EdgesHere, SlackFrom};
+ghost use Rattle.mesh.specs.At.{meshAt};
+ghost use Rattle.mesh.specs.Log.{worldAt};
+ghost use Rattle.mesh.specs.Filled.{lent};
+ghost use Rattle.split.specs.Working.{Ready, Works};
+ghost use Rattle.cut.specs.Marking.{bladeFrom};
+ghost use Rattle.cut.specs.Snapping.{EdgeHere, SlackAt, EdgesHere, SlackFrom, snapIf, Snappable};
+use crate::facets::Parting;
+use crate::facets::split_one;
+use blade::Point;
+use elements::Kind;
+use mesh::Counts;
+use mesh::Rooms;
+use split::Ran;
 
 // Is one of two particles `from` or one behind it?
 fn one_beyond(from: usize, x: usize, y: usize) -> bool
@@ -38,4 +50,48 @@ pub fn slacken_from(from: usize, e: usize, ends: &[usize], lengths: &mut [f32])
         slacken(from, j, ends, lengths);
         j += 1;
     }
+}
+
+// Splits v by the blade if its mark is 1. The edges at its copies are slack: the copies are the particles behind those of before.
+pub fn split_snapped(
+    b0: Point,
+    b1: Point,
+    v: usize,
+    mark: usize,
+    k: Counts,
+    room: Rooms,
+    points: &mut [f32],
+    roots: &mut [usize],
+    corners: &mut [usize],
+    volumes: &[f32],
+    ends: &mut [usize],
+    lengths: &mut [f32],
+    outline: &mut [usize],
+    log: &mut [usize],
+) -> Ran
+    requires { ⌜ Ready room k (lent (now points) (now roots) (now corners) (now volumes) (now ends) (now lengths) (now outline) (now log)) (meshAt k (now points) (now roots) (now corners) (now volumes) (now ends) (now lengths) (now outline)) × Snappable v k (now log) ⌝ }
+    ensures { λ r. ⌜ Works (λ R. snapIf mark (bladeFrom b0 b1) R v) room (worldAt k (now (points .entry)) (now (roots .entry)) (now (corners .entry)) (now (volumes .entry)) (now (ends .entry)) (now (lengths .entry)) (now (outline .entry)) (now (log .entry))) (λ q. worldAt q (now (points .exit)) (now (roots .exit)) (now (corners .exit)) (now (volumes .entry)) (now (ends .exit)) (now (lengths .exit)) (now (outline .exit)) (now (log .exit))) r ⌝ }
+{
+    let before = k.particles;
+    let ran = split_one(
+        Parting::Blade(b0, b1),
+        Kind::Straps,
+        v,
+        mark,
+        k,
+        room,
+        points,
+        roots,
+        corners,
+        volumes,
+        ends,
+        lengths,
+        outline,
+        log,
+    );
+    let Ran::Done(next) = ran else {
+        return ran;
+    };
+    slacken_from(before, next.edges, ends, lengths);
+    Ran::Done(next)
 }
