@@ -3,11 +3,14 @@ ghost use mathlib.Core.Path.{_≡_};
 ghost use mathlib.Core.Bool.{_||_};
 ghost use lib.Dec.{leb};
 ghost use lib.ListN.{length};
+ghost use Rattle.lists.specs.Lists.{fold};
+ghost use Rattle.model.specs.Cut.{splitSnapped};
 ghost use Rattle.mesh.specs.At.{meshAt};
 ghost use Rattle.mesh.specs.Log.{worldAt};
 ghost use Rattle.mesh.specs.Filled.{lent};
 ghost use Rattle.split.specs.Working.{Ready, Works};
 ghost use Rattle.cut.specs.Marking.{bladeFrom};
+ghost use Rattle.cut.specs.Running.{chosen, Chosen};
 ghost use Rattle.cut.specs.Snapping.{EdgeHere, SlackAt, EdgesHere, SlackFrom, snapIf, Snappable};
 use crate::facets::Parting;
 use crate::facets::split_one;
@@ -94,4 +97,52 @@ pub fn split_snapped(
     };
     slacken_from(before, next.edges, ends, lengths);
     Ran::Done(next)
+}
+
+// Splits each marked particle below p so, in rising order, until one lacks room.
+pub fn split_all_snapped(
+    b0: Point,
+    b1: Point,
+    p: usize,
+    marks: &[usize],
+    k: Counts,
+    room: Rooms,
+    points: &mut [f32],
+    roots: &mut [usize],
+    corners: &mut [usize],
+    volumes: &[f32],
+    ends: &mut [usize],
+    lengths: &mut [f32],
+    outline: &mut [usize],
+    log: &mut [usize],
+) -> Ran
+    requires { ⌜ Ready room k (lent (now points) (now roots) (now corners) (now volumes) (now ends) (now lengths) (now outline) (now log)) (meshAt k (now points) (now roots) (now corners) (now volumes) (now ends) (now lengths) (now outline)) × Chosen p k (now log) (length (now marks)) ⌝ }
+    ensures { λ r. ⌜ Works (λ R. fold (splitSnapped (bladeFrom b0 b1)) R (chosen p (now (marks .entry)))) room (worldAt k (now (points .entry)) (now (roots .entry)) (now (corners .entry)) (now (volumes .entry)) (now (ends .entry)) (now (lengths .entry)) (now (outline .entry)) (now (log .entry))) (λ q. worldAt q (now (points .exit)) (now (roots .exit)) (now (corners .exit)) (now (volumes .entry)) (now (ends .exit)) (now (lengths .exit)) (now (outline .exit)) (now (log .exit))) r ⌝ }
+{
+    let mut counts = k;
+    let mut v: usize = 0;
+    while v < p {
+        let ran = split_snapped(
+            b0,
+            b1,
+            v,
+            marks[v],
+            counts,
+            room,
+            points,
+            roots,
+            corners,
+            volumes,
+            ends,
+            lengths,
+            outline,
+            log,
+        );
+        let Ran::Done(next) = ran else {
+            return ran;
+        };
+        counts = next;
+        v += 1;
+    }
+    Ran::Done(counts)
 }
