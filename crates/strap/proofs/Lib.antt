@@ -8,3 +8,4 @@ pub mod InsertLaws
 pub mod BendLaws
 pub mod StepLaws
 pub mod CrossingLaws
+pub mod UnbentLaws

@@ -7,3 +7,4 @@ pub mod plan;
 pub mod shares;
 pub mod sides;
 pub mod step;
+pub mod unbent;
