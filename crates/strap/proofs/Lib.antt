@@ -8,3 +8,5 @@ pub mod InsertLaws
 pub mod BendLaws
 pub mod StepLaws
 pub mod CrossingLaws
+pub mod CrossedLaws
+pub mod CrossedRuns

@@ -6,3 +6,4 @@ pub mod Inserts
 pub mod Bends
 pub mod Steps
 pub mod Crossings
+pub mod Crossed
