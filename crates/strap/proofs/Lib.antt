@@ -9,3 +9,5 @@ pub mod BendLaws
 pub mod StepLaws
 pub mod CrossingLaws
 pub mod UnbentLaws
+pub mod CrossedLaws
+pub mod CrossedRuns

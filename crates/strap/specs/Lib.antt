@@ -7,3 +7,4 @@ pub mod Bends
 pub mod Steps
 pub mod Crossings
 pub mod Unbent
+pub mod Crossed

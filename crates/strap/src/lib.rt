@@ -1,5 +1,6 @@
 // The cut of straps over the lent blocks: crossings, insertions, bend edges, boundary.
 pub mod bends;
+pub mod crossed;
 pub mod crossings;
 pub mod edges;
 pub mod particles;
