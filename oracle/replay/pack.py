@@ -1,7 +1,7 @@
 #!/usr/bin/env python3
 """Packs the list of calls for the program replay: oracle/replay/pack.py [--only NAME,NAME..] LIST.. > crates/replay/stdin
 
-A call of the list (oracle/README.md, 'The fixed list') becomes eight little-endian words of 4 bytes: kind, particle, minimum,
+A call of the list (oracle/README.md, 'The fixed lists') becomes eight little-endian words of 4 bytes: kind, particle, minimum,
 bytes of the image, bytes of the arguments, bytes of the expected words, bytes lent, refusal; then those bytes.
 """
 import struct

@@ -101,8 +101,6 @@ pub enum Fault {
     MinusZeroFraction,
     /// A bad blade is found after 3.
     BladeAfterThree,
-    /// NaN patterns of the result stay as they come.
-    NanAsItComes,
     /// The bytes behind the log's entries are left as they were.
     DirtyLog,
 }
@@ -134,7 +132,7 @@ pub const READING: [Fault; 23] = [
     WritesPast,
 ];
 /// Those of the entries that give a mesh.
-pub const TEARING: [Fault; 35] = [
+pub const TEARING: [Fault; 34] = [
     UnionRoot,
     CornerGroups,
     ReachInFan,
@@ -168,7 +166,6 @@ pub const TEARING: [Fault; 35] = [
     TornPart,
     MinusZeroFraction,
     BladeAfterThree,
-    NanAsItComes,
     DirtyLog,
 ];
 static PLANTED: AtomicUsize = AtomicUsize::new(0);

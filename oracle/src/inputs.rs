@@ -25,6 +25,7 @@ pub fn input(entry: Entry, kind: Kind, seed: u64) -> Input {
         (_, Kind::Large) if entry.tears() => seasoned(r),
         (_, Kind::Large) => large(r),
         (_, Kind::Limit) => at_limit(r),
+        (Entry::Crack, Kind::Random) if r.chance(3) => loaded(r),
         _ => meshgen::mesh(r),
     };
     let mesh = if entry == Entry::Straddlers && kind != Kind::Limit { apart(r, mesh) } else { mesh };
@@ -80,7 +81,8 @@ fn lend(r: &mut Rng, i: &mut Input) -> usize {
         _ => most(k),
     });
     let lists: Vec<usize> = (0..4).filter(|&k| most(k) > 0).collect();
-    if mood > 3 && !lists.is_empty() {
+    // One list lacks room, now and then two.
+    for _ in 0..if mood > 3 && !lists.is_empty() { 1 + r.chance(4) as u32 } else { 0 } {
         let k = r.pick(&lists);
         let needs: Vec<usize> = steps.iter().map(|s| s[k]).filter(|&n| n > 0).collect();
         rooms[k] = r.pick(&needs) - 1;
@@ -132,6 +134,9 @@ fn args(r: &mut Rng, entry: Entry, kind: Kind, m: &Mesh) -> Args {
         }
         Entry::Crack => {
             let mut torn = meshgen::torn(r, m);
+            if r.chance(4) {
+                torn.extend(meshgen::torn(r, m));
+            }
             if r.chance(6) {
                 torn.push(r.pick(&[m.ea.len() as u32, 2048, 1 << 30, u32::MAX]));
             }
@@ -149,7 +154,7 @@ fn busy(r: &mut Rng, m: &Mesh) -> u32 {
     some.into_iter().max_by_key(|&v| second::fan(m, k, v).len()).unwrap_or(0)
 }
 /// A blade across a large mesh, or a part of it.
-fn long_blade(r: &mut Rng, m: &Mesh) -> Blade {
+pub fn long_blade(r: &mut Rng, m: &Mesh) -> Blade {
     let most = |c: &[f32]| c.iter().copied().fold(0.0, f32::max);
     let (x, y) = (most(&m.px), most(&m.py));
     match r.below(5) {
@@ -264,6 +269,15 @@ fn seasoned(r: &mut Rng) -> Mesh {
     m.tstress.iter_mut().for_each(|x| *x = r.span(-1.0, 3.0));
     m.estress.iter_mut().for_each(|x| *x = r.span(-1.0, 3.0));
     m.impulse.iter_mut().for_each(|x| *x = r.span(-1.0, 1.0));
+    m
+}
+/// A small grid whose loads come from its edges alone, so that a crack next to another would find
+/// other loads if it read them again.
+fn loaded(r: &mut Rng) -> Mesh {
+    let (w, h) = (2 + r.below(3), 2 + r.below(3));
+    let mut m = meshgen::grid(w, h, r, 0.2);
+    m.tstress.fill(0.0);
+    m.estress.iter_mut().for_each(|x| *x = r.span(0.0, 9.0));
     m
 }
 /// The mesh cut, with further edges and boundary entries between any particles, so that some lie

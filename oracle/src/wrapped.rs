@@ -314,13 +314,7 @@ fn image_words(m: &Mesh) -> Vec<u32> {
     for (b, (width, _)) in BLOCKS.into_iter().enumerate() {
         for _ in 0..width {
             match matches!(b, 0 | 3 | 5) {
-                true => w.extend(
-                    floats.next().unwrap().iter().map(
-                        |x| {
-                            if x.is_nan() && !has(NanAsItComes) { NAN } else { x.to_bits() }
-                        },
-                    ),
-                ),
+                true => w.extend(floats.next().unwrap().iter().map(|x| if x.is_nan() { NAN } else { x.to_bits() })),
                 false => w.extend(numbers.next().unwrap()),
             }
         }

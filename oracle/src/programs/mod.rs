@@ -6,12 +6,13 @@ mod compare;
 mod cutlist;
 mod fuzz;
 mod replay;
+mod sheets;
 mod vectors;
 
 /// Runs the program and gives its exit code.
 pub fn start(words: &[String]) -> i32 {
     let Some((name, rest)) = words.split_first() else {
-        eprintln!("oracle cases | check | fuzz | compare | faults | replay | bench | vectors | cutlist (see oracle/README.md)");
+        eprintln!("oracle cases | check | fuzz | compare | faults | replay | bench | vectors | cutlist | sheet | sheets (see oracle/README.md)");
         return 2;
     };
     match name.as_str() {
@@ -24,6 +25,8 @@ pub fn start(words: &[String]) -> i32 {
         "bench" => bench::run(rest),
         "vectors" => vectors::run(rest),
         "cutlist" => cutlist::run(rest),
+        "sheet" => sheets::sheet(rest),
+        "sheets" => sheets::run(rest),
         _ => {
             eprintln!("oracle: no program {name}");
             2

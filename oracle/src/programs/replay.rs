@@ -7,6 +7,7 @@ use crate::expect::{Expected, expected, fault, hex_words};
 use crate::faults::{Fault, READING, TEARING, plant};
 use crate::image::Image;
 use crate::inputs::{Kind, input, need};
+use crate::shrink::shrink;
 use crate::wrapped::table;
 use std::fmt::Write;
 
@@ -137,8 +138,24 @@ fn choose(tearing: bool) -> Vec<Raw> {
             }
         }
     }
+    for &f in faults(tearing) {
+        plant(f);
+        if !list.iter().any(|c| fails(&t, c)) {
+            list.extend(smallest(&t, tearing));
+        }
+    }
     plant(Fault::Nothing);
     list
+}
+/// The first failing call of any size, made small.
+fn smallest(t: &Table, tearing: bool) -> Option<Raw> {
+    let kinds = [Kind::Random, Kind::Limit].into_iter();
+    let mut calls = kinds.flat_map(|k| {
+        let entries = ENTRIES.into_iter().filter(move |e| e.tears() == tearing);
+        entries.flat_map(move |e| (1..3 * TRIES).map(move |s| input(e, k, s)))
+    });
+    let found = calls.find(|i| fails(t, &i.raw()))?;
+    Some(shrink(found, &|i| fails(t, &i.raw())).raw())
 }
 fn faults(tearing: bool) -> &'static [Fault] {
     if tearing { &TEARING } else { &READING }

@@ -1,0 +1,254 @@
+//! sheets COUNT [PROGRAM] [--seed N]: random and damaged sheets through the oracle's cutlist and
+//! through a compiled program (default target/bin/cutlist), standard input to standard output.
+//! sheet read FILE, sheet write < TEXT > FILE: a sheet as text and back.
+use crate::api::Blade;
+use crate::inputs::{long_blade, rope, soup};
+use crate::meshgen;
+use crate::rng::Rng;
+use crate::sheet::{CUTLIST, MESH, Sheet, cutlist, parse, read, text, write};
+use std::collections::BTreeMap;
+use std::io::{Read, Write};
+use std::process::{Command, Stdio};
+
+// ---- random sheets --------------------------------------------------------------------------
+
+/// Bytes of a sheet: mostly sound, some damaged.
+pub fn random(seed: u64) -> Vec<u8> {
+    let mut r = Rng::new(seed ^ 0x5ee7);
+    let r = &mut r;
+    let mut s = sound(r);
+    if r.chance(5) {
+        damage_fields(r, &mut s);
+    }
+    let mut bytes = write(&s);
+    if r.chance(6) {
+        damage_bytes(r, &mut bytes);
+    }
+    bytes
+}
+/// A sheet of any shape, small or up to cutlist's limits (now and then beyond).
+fn sound(r: &mut Rng) -> Sheet {
+    if r.chance(40) {
+        return slit(r);
+    }
+    let mesh = match r.below(12) {
+        0 => {
+            let (w, h) = (1 + r.below(8), 1 + r.below(7));
+            meshgen::grid(w, h, r, 0.0)
+        }
+        1 => rope(2 + r.below(128)),
+        // Crowded: pinched corners, copied edges and straddlers need more room than is lent.
+        2 => {
+            let (p, t, e) = (4 + r.below(100), 1 + r.below(128), r.below(258));
+            soup(r, p, t, e)
+        }
+        4 => {
+            let (p, t, e) = (30 + r.below(90), 100 + r.below(29), 200 + r.below(57));
+            let mut m = soup(r, p, t, e);
+            for _ in 0..r.pick(&[0, 100, 256]) {
+                let a = r.below(p);
+                m.bound(a, (a + 1 + r.below(3)) % p);
+            }
+            m
+        }
+        3 => {
+            let (p, e) = (4 + r.below(100), r.below(250));
+            soup(r, p, 0, e)
+        }
+        _ => meshgen::mesh(r),
+    };
+    let scale = r.pick(&[1.0, 1.0, 2.0, 7.0, 100.0]);
+    let whole = |x: f32| (x * scale).round().clamp(-1024.0, 1023.0) as i32;
+    let b = match mesh.px.len() {
+        0..20 => meshgen::blade(r, &mesh),
+        _ if r.chance(3) => Blade::new(-10.0, r.span(-4.0, 4.0), 10.0, r.span(-4.0, 4.0)),
+        _ if r.chance(2) => long_blade(r, &mesh),
+        _ => meshgen::blade(r, &mesh),
+    };
+    let pins = r.pick(&[3, 20, 1000]);
+    let mut s = Sheet {
+        particles: (0..mesh.px.len()).map(|i| (whole(mesh.px[i]), whole(mesh.py[i]), r.chance(pins) as u32)).collect(),
+        triangles: mesh.triangles().into_iter().map(|(a, b, c)| [a, b, c]).collect(),
+        edges: (0..mesh.ea.len()).map(|i| (mesh.ea[i], mesh.eb[i], mesh.structural[i])).collect(),
+        boundary: mesh.boundary(),
+        blade: [b.x0, b.y0, b.x1, b.y1].map(whole),
+    };
+    let n = s.particles.len() as u32;
+    if n > 1 && r.chance(20) {
+        // Many boundary entries, or edges that lie across.
+        for _ in 0..r.below(256) {
+            let a = r.below(n);
+            let b = (a + 1 + r.below(n - 1)) % n;
+            if r.chance(2) { s.boundary.push((a, b)) } else { s.edges.push((a, b, 0)) }
+        }
+    }
+    s
+}
+/// A strip slit lengthwise, with many edges across the diagonals: its log may be too long.
+fn slit(r: &mut Rng) -> Sheet {
+    let n = 2 + r.below(14);
+    let quad = |x: u32| [x, x + 1, n + x + 2, n + x + 1];
+    let diagonals = r.pick(&[n, 150, 240, 256]);
+    Sheet {
+        particles: (0..2).flat_map(|y| (0..=n).map(move |x| (2 * x as i32, 2 * y, 0))).collect(),
+        triangles: (0..n).map(quad).flat_map(|[a, b, c, d]| [[a, b, c], [a, c, d]]).collect(),
+        edges: (0..diagonals).map(|k| quad(k % n)).map(|[_, b, _, d]| (b, d, 0)).collect(),
+        boundary: vec![],
+        blade: [-1, 1, 2 * n as i32 + 1, 1],
+    }
+}
+/// Indices that name nothing, doubles, counts above cutlist's limits.
+fn damage_fields(r: &mut Rng, s: &mut Sheet) {
+    let n = s.particles.len() as u32;
+    let index = r.pick(&[n, n + 1, 1023]).min(1023);
+    let at = |r: &mut Rng, k: usize| r.below(k as u32) as usize;
+    match r.below(8) {
+        0 if !s.triangles.is_empty() => {
+            let i = at(r, s.triangles.len());
+            s.triangles[i][r.below(3) as usize] = index;
+        }
+        1 if !s.triangles.is_empty() => {
+            let i = at(r, s.triangles.len());
+            s.triangles[i][0] = s.triangles[i][2];
+        }
+        2 if !s.edges.is_empty() => {
+            let i = at(r, s.edges.len());
+            s.edges[i].1 = r.pick(&[index, s.edges[i].0]);
+        }
+        3 if !s.boundary.is_empty() => {
+            let i = at(r, s.boundary.len());
+            s.boundary[i].0 = r.pick(&[index, s.boundary[i].1]);
+        }
+        4 => s.particles.resize(127 + r.below(3) as usize, (0, 0, 0)),
+        5 if n > 2 => s.triangles.resize(127 + r.below(3) as usize, [0, 1, 2]),
+        6 if n > 1 => s.edges.resize(255 + r.below(3) as usize, (0, 1, r.below(2))),
+        7 if n > 1 => s.boundary.resize(255 + r.below(3) as usize, (0, 1)),
+        _ => s.blade = s.blade.map(|k| r.pick(&[k, 0, -1024, 1023])),
+    }
+}
+/// Another length, other bits.
+fn damage_bytes(r: &mut Rng, bytes: &mut Vec<u8>) {
+    match r.below(6) {
+        0 => bytes.truncate(r.below(bytes.len() as u32) as usize),
+        1 => bytes.truncate(r.below(8) as usize),
+        2 => bytes.push(0),
+        3 => {
+            let last = bytes.len() - 1;
+            bytes[last] |= 1 << r.below(8);
+        }
+        4 => {
+            let k = r.below(6.min(bytes.len() as u32)) as usize;
+            bytes[k] ^= 1 << r.below(8);
+        }
+        _ => {
+            let k = r.below(bytes.len() as u32) as usize;
+            bytes[k] = r.next() as u8;
+        }
+    }
+}
+
+// ---- the comparison -------------------------------------------------------------------------
+
+/// What the program prints on these bytes. `ORACLE_LAUNCH` stands before it where it cannot be
+/// started by itself.
+fn printed(program: &str, bytes: &[u8]) -> std::io::Result<Vec<u8>> {
+    let launch = std::env::var("ORACLE_LAUNCH").unwrap_or_default();
+    let words: Vec<&str> = launch.split_whitespace().chain([program]).collect();
+    let mut child = Command::new(words[0]).args(&words[1..]).stdin(Stdio::piped()).stdout(Stdio::piped()).spawn()?;
+    // A program may end before it has read all; what it printed is compared all the same.
+    let _ = child.stdin.take().expect("its standard input").write_all(bytes);
+    let mut out = vec![];
+    child.stdout.take().expect("its standard output").read_to_end(&mut out)?;
+    child.wait()?;
+    Ok(out)
+}
+
+pub fn run(words: &[String]) -> i32 {
+    let mut rest = words.to_vec();
+    let mut seed = 1;
+    if let Some(k) = rest.iter().position(|w| w == "--seed") {
+        seed = rest[k + 1].parse().expect("a number");
+        rest.drain(k..k + 2);
+    }
+    let Some(count) = rest.first().and_then(|w| w.parse::<u64>().ok()) else {
+        eprintln!("sheets COUNT [PROGRAM] [--seed N]");
+        return 2;
+    };
+    let root = std::env::var("ORACLE_ROOT").unwrap_or(".".into());
+    let program = rest.get(1).cloned().unwrap_or(format!("{root}/target/bin/cutlist"));
+    let mut tally: BTreeMap<String, u64> = BTreeMap::new();
+    for s in seed * 1_000_000_000..seed * 1_000_000_000 + count {
+        let bytes = random(s);
+        let want = cutlist(&bytes, false);
+        let got = match printed(&program, &bytes) {
+            Ok(got) => got,
+            Err(e) => {
+                eprintln!("{program}: {e}");
+                return 2;
+            }
+        };
+        if got != want.as_bytes() {
+            let file = format!("{root}/oracle/target/sheet-{s}.bin");
+            std::fs::write(&file, &bytes).expect("the sheet's file");
+            println!("sheet {s} differs; it is in {file}");
+            println!("{program}:\n{}the Rust:\n{want}", String::from_utf8_lossy(&got));
+            return 1;
+        }
+        let kind = match want.strip_prefix("refused ") {
+            Some(n) => format!("refused {}", n.trim_end()),
+            None if want.contains("split") => "listings with a split".into(),
+            None if want.contains("insert") => "listings with insertions alone".into(),
+            None => "listings of an unchanged mesh".into(),
+        };
+        *tally.entry(kind).or_default() += 1;
+    }
+    for (kind, n) in &tally {
+        println!("{n:8}  {kind}");
+    }
+    println!("{count} sheets, no difference");
+    0
+}
+
+// ---- sheets as text -------------------------------------------------------------------------
+
+pub fn sheet(words: &[String]) -> i32 {
+    match words {
+        [w, file] if w == "read" => match read(&std::fs::read(file).expect("the sheet"), &MESH) {
+            Ok(s) => {
+                print!("{}", text(&s));
+                0
+            }
+            Err(n) => {
+                eprintln!("refused {n}");
+                1
+            }
+        },
+        [w] if w == "write" => {
+            let mut given = String::new();
+            std::io::stdin().read_to_string(&mut given).expect("standard input");
+            match parse(&given) {
+                Ok(s) => {
+                    std::io::stdout().write_all(&write(&s)).expect("standard output");
+                    0
+                }
+                Err(why) => {
+                    eprintln!("{why}");
+                    1
+                }
+            }
+        }
+        _ => {
+            eprintln!("sheet read FILE | sheet write < TEXT > FILE");
+            2
+        }
+    }
+}
+/// How many of the random sheets that can be read come back from their text, byte for byte, and how
+/// many do not.
+pub fn round_trips(count: u64) -> (u64, u64) {
+    let sheets = (0..count).map(random).filter_map(|b| read(&b, &CUTLIST).ok().map(|s| (b, s)));
+    sheets.fold((0, 0), |(well, badly), (bytes, s)| match parse(&text(&s)) {
+        Ok(again) if again == s && write(&again) == bytes => (well + 1, badly),
+        _ => (well, badly + 1),
+    })
+}
