@@ -169,6 +169,12 @@ snap-is mark b0 b1 R v X = by (eqb mark 1)
     by true = snapped-is (bladeFrom b0 b1) R v X
     by false = slack-idle R X
 
+-- the plain split keeps the indices
+plain-indexed : (mark : ℕ) (b0 b1 : Point) (R : Run) (v : ℕ) → Indexed (R .mesh) → Indexed (splitIf mark (BladeFrom b0 b1) Straps R v .mesh)
+unfolding splitIf splitIn
+plain-indexed mark b0 b1 R v X =
+    pick-by (λ (S : Run). Indexed (S .mesh)) (eqb mark 1) (sides-indexed Straps v (sidesIn (BladeFrom b0 b1) Straps (R .mesh) v) R X) X
+
 -- it takes no particle away
 pub snapped-grown : (B : Blade) (R : Run) (v : ℕ) → length (R .mesh .particles) ≤ length (splitSnapped B R v .mesh .particles)
 unfolding splitSnapped splitStep splitMade stepTo settled atLongest slackened
@@ -220,6 +226,18 @@ module _ (mark : ℕ) (b0 b1 : Point) (v : ℕ) {L : Rooms} {W : World} {at : Co
             subst (λ (S : Run). Went L S at′ (Done k)) (sym (snap-run fit R e)) (h .0, h .1, E ∙ ap (slackWorld (length (W .mesh .particles))) (h .2));
       }
 
+  -- the plain split made no copy
+  pub snap-idle : (k : Counts) → r ≡ Done k → Indexed (W .mesh) → length (at k .mesh .particles) ≡ length (W .mesh .particles) → Works (λ (R : Run). snapIf mark (bladeFrom b0 b1) R v) L W at (Done k)
+  snap-idle k known fit same =
+      record {
+        went = λ R e z.
+            let h = went-on k known R e z in
+            let S = splitIf mark (BladeFrom b0 b1) Straps R v in
+            let X = plain-indexed mark b0 b1 R v (subst Indexed (ap (λ (x : World). x .mesh) e) fit) in
+            subst (λ (T : Run). Went L T at (Done k))
+            (slack-idle S X ∙ ap (λ n. slackRun n S) (sym (ap (λ (x : World). length (x .mesh .particles)) (h .2)) ∙ same) ∙ sym (snap-run fit R e)) h;
+      }
+
 -- a step on a run: it goes on, keeps the indices, and takes no particle away
 pub snap-steady : (B : Blade) → Steady (splitSnapped B)
 snap-steady B = record { onward = snapped-onward B; indexed = snapped-indexed B; grown = snapped-grown B }
@@ -246,6 +264,13 @@ module _ (mark : ℕ) (b0 b1 : Point) (v : ℕ) (k : Counts) (points : List Floa
   -- the plain split lacks room
   pub blocks-refused : {at at′ : Counts → World} (r : Ran) (c : ℕ) → r ≡ Refused c → Works plain L world at r → Works slacked L world at′ r
   blocks-refused r c known F = snap-refused mark b0 b1 v r F c known fit
+
+  -- it made no copy
+  pub blocks-idle : (points′ : List Float) (roots′ corners′ : List ℕ) (ends′ : List ℕ) (lengths′ : List Float) (outline′ log′ : List ℕ) (r : Ran) (next : Counts) → r ≡ Done next → next .particles ≡ k .particles
+      → Works plain L world (λ q. worldAt q points′ roots′ corners′ volumes ends′ lengths′ outline′ log′) r → Works slacked L world (λ q. worldAt q points′ roots′ corners′ volumes ends′ lengths′ outline′ log′) (Done next)
+  unfolding worldAt
+  blocks-idle points′ roots′ corners′ ends′ lengths′ outline′ log′ r next known same F =
+      snap-idle mark b0 b1 v r F next known fit (particles-count next points′ roots′ corners′ volumes ends′ lengths′ outline′ ∙ same ∙ sym count)
 
   -- its edges are there
   pub blocks-edges : {at : Counts → World} (r : Ran) (next : Counts) → r ≡ Done next → Works plain L world at r → Logged (k .log) log → (le ll : ℕ) → le ≡ I .ends → ll ≡ I .lengths → EdgesHere (next .edges) le ll

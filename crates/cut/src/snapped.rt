@@ -95,6 +95,9 @@ pub fn split_snapped(
     let Ran::Done(next) = ran else {
         return ran;
     };
+    if next.particles == before {
+        return Ran::Done(next);
+    }
     slacken_from(before, next.edges, ends, lengths);
     Ran::Done(next)
 }

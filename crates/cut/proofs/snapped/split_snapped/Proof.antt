@@ -1,5 +1,5 @@
--- `cut::snapped::split_snapped` meets its contract. The plain split, and then the edges at its copies are slack. Assumes nothing.
-use Rattle.cut.proofs.SnapLaws.{blocks-refused, blocks-edges, blocks-snapped}
+-- `cut::snapped::split_snapped` meets its contract. The plain split; and where it made copies, the edges at them are slack. Assumes nothing.
+use Rattle.cut.proofs.SnapLaws.{blocks-refused, blocks-idle, blocks-edges, blocks-snapped}
 use mathlib.Core.Path.{_∙_}
 use borrow.Author.Needs.{needs}
 use Rattle.cut.proofs.snapped.split_snapped.Statement.{statement}
@@ -40,36 +40,62 @@ returns c = let A = c .before .before .before .before .before .before .before .b
     let P = c .before .before .before .before .before .before .before .before .before .before .before .before .before .before .before .before .before .before .before .before .before .before .before .before .before .before .before .before .before .before .before .before .pre in
     blocks-refused (A .mark) (A .b0) (A .b1) (A .v) (A .k) (A .points .now) (A .roots .now) (A .corners .now) (A .volumes .now) (A .ends .now) (A .lengths .now) (A .outline .now) (A .log .now) (A .room) _ (P .0) _ _ (c .enum-told .given .1) (c .before .before .before .before .before .before .before .before .before .before .before .before .before .before .before .before .split-one .ensures)
 
-slacken-from-requires : tie.Need-slacken-from-requires
-slacken-from-requires c κs = let A = c .before .before .before .before .before .before .before .before .before .before .before .before .before .before .before .before .before .before .before .before .before .before .before .before .before .before .before .before .before .before .before .before .before .before .before .args in
-    let P = c .before .before .before .before .before .before .before .before .before .before .before .before .before .before .before .before .before .before .before .before .before .before .before .before .before .before .before .before .before .before .before .before .before .before .before .pre in
-    blocks-edges (A .mark) (A .b0) (A .b1) (A .v) (A .k) (A .points .now) (A .roots .now) (A .corners .now) (A .volumes .now) (A .ends .now) (A .lengths .now) (A .outline .now) (A .log .now) (A .room) _ (P .0) _ _ (c .before .before .before .ran .given .1) (c .before .before .before .before .before .before .before .before .before .before .before .before .before .before .before .before .before .before .before .split-one .ensures) (P .1 .logged) _ _ (c .before .before .before .before .before .before .before .before .before .before .before .before .before .before .before .before .before .before .before .split-one .kept .1 .1 .1 .1 .1 .1 .1 .1 .1 .1 .0) (c .before .before .before .before .before .before .before .before .before .before .before .before .before .before .before .before .before .before .before .split-one .kept .1 .1 .1 .1 .1 .1 .1 .1 .1 .1 .1 .0)
-
 same-length-8 : tie.Need-same-length-8
-same-length-8 c = c .before .before .before .before .before .before .before .before .before .before .before .before .before .before .before .before .before .before .before .before .before .before .split-one .kept .1 .1 .1 .1 .1 .1 .0
+same-length-8 c = c .before .before .before .before .before .before .before .before .before .before .before .before .before .before .before .before .before .before .before .split-one .kept .1 .1 .1 .1 .1 .1 .0
 
 same-length-9 : tie.Need-same-length-9
-same-length-9 c = c .before .before .before .before .before .before .before .before .before .before .before .before .before .before .before .before .before .before .before .before .before .before .split-one .kept .1 .1 .1 .1 .1 .1 .1 .0
+same-length-9 c = c .before .before .before .before .before .before .before .before .before .before .before .before .before .before .before .before .before .before .before .split-one .kept .1 .1 .1 .1 .1 .1 .1 .0
 
 same-length-10 : tie.Need-same-length-10
-same-length-10 c = c .before .before .before .before .before .before .before .before .before .before .before .before .before .before .before .before .before .before .before .before .before .before .split-one .kept .1 .1 .1 .1 .1 .1 .1 .1 .0
+same-length-10 c = c .before .before .before .before .before .before .before .before .before .before .before .before .before .before .before .before .before .before .before .split-one .kept .1 .1 .1 .1 .1 .1 .1 .1 .0
 
 same-length-11 : tie.Need-same-length-11
-same-length-11 c = c .before .before .before .before .before .before .before .before .before .before .before .before .before .before .before .before .before .before .before .before .before .before .split-one .kept .1 .1 .1 .1 .1 .1 .1 .1 .1 .1 .0
+same-length-11 c = c .before .before .before .before .before .before .before .before .before .before .before .before .before .before .before .before .before .before .before .split-one .kept .1 .1 .1 .1 .1 .1 .1 .1 .1 .1 .0
 
 same-length-12 : tie.Need-same-length-12
-same-length-12 c = c .before .before .slacken-from .kept .1 .1 .1 .0 ∙ c .before .before .before .before .before .before .before .before .before .before .before .before .before .before .before .before .before .before .before .before .before .before .split-one .kept .1 .1 .1 .1 .1 .1 .1 .1 .1 .1 .1 .0
+same-length-12 c = c .before .before .before .before .before .before .before .before .before .before .before .before .before .before .before .before .before .before .before .split-one .kept .1 .1 .1 .1 .1 .1 .1 .1 .1 .1 .1 .0
 
 same-length-13 : tie.Need-same-length-13
-same-length-13 c = c .before .before .before .before .before .before .before .before .before .before .before .before .before .before .before .before .before .before .before .before .before .before .split-one .kept .1 .1 .1 .1 .1 .1 .1 .1 .1 .1 .1 .1 .0
+same-length-13 c = c .before .before .before .before .before .before .before .before .before .before .before .before .before .before .before .before .before .before .before .split-one .kept .1 .1 .1 .1 .1 .1 .1 .1 .1 .1 .1 .1 .0
 
 same-length-14 : tie.Need-same-length-14
-same-length-14 c = c .before .before .before .before .before .before .before .before .before .before .before .before .before .before .before .before .before .before .before .before .before .before .split-one .kept .1 .1 .1 .1 .1 .1 .1 .1 .1 .1 .1 .1 .1 .0
+same-length-14 c = c .before .before .before .before .before .before .before .before .before .before .before .before .before .before .before .before .before .before .before .split-one .kept .1 .1 .1 .1 .1 .1 .1 .1 .1 .1 .1 .1 .1 .0
 
 returns-2 : tie.Need-returns-2
-returns-2 c = let A = c .before .before .before .before .before .before .before .before .before .before .before .before .before .before .before .before .before .before .before .before .before .before .before .before .before .before .before .before .before .before .before .before .before .before .before .before .before .before .args in
-    let P = c .before .before .before .before .before .before .before .before .before .before .before .before .before .before .before .before .before .before .before .before .before .before .before .before .before .before .before .before .before .before .before .before .before .before .before .before .before .before .pre in
-    blocks-snapped (A .mark) (A .b0) (A .b1) (A .v) (A .k) (A .points .now) (A .roots .now) (A .corners .now) (A .volumes .now) (A .ends .now) (A .lengths .now) (A .outline .now) (A .log .now) (A .room) _ (P .0) _ _ _ _ _ _ _ _ _ _ (c .before .before .before .before .before .before .ran .given .1) (c .before .before .before .before .before .before .before .before .before .before .before .before .before .before .before .before .before .before .before .before .before .before .split-one .ensures) (c .before .before .slacken-from .ensures)
+returns-2 c = let A = c .before .before .before .before .before .before .before .before .before .before .before .before .before .before .before .before .before .before .before .before .before .before .before .before .before .before .before .before .before .before .before .before .before .before .before .args in
+    let P = c .before .before .before .before .before .before .before .before .before .before .before .before .before .before .before .before .before .before .before .before .before .before .before .before .before .before .before .before .before .before .before .before .before .before .before .pre in
+    blocks-idle (A .mark) (A .b0) (A .b1) (A .v) (A .k) (A .points .now) (A .roots .now) (A .corners .now) (A .volumes .now) (A .ends .now) (A .lengths .now) (A .outline .now) (A .log .now) (A .room) _ (P .0) _ _ _ _ _ _ _ _ _ (c .before .before .before .ran .given .1) (c .if1 .taken) (c .before .before .before .before .before .before .before .before .before .before .before .before .before .before .before .before .before .before .before .split-one .ensures)
+
+slacken-from-requires : tie.Need-slacken-from-requires
+slacken-from-requires c κs = let A = c .before .before .before .before .before .before .before .before .before .before .before .before .before .before .before .before .before .before .before .before .before .before .before .before .before .before .before .before .before .before .before .before .before .before .before .before .before .args in
+    let P = c .before .before .before .before .before .before .before .before .before .before .before .before .before .before .before .before .before .before .before .before .before .before .before .before .before .before .before .before .before .before .before .before .before .before .before .before .before .pre in
+    blocks-edges (A .mark) (A .b0) (A .b1) (A .v) (A .k) (A .points .now) (A .roots .now) (A .corners .now) (A .volumes .now) (A .ends .now) (A .lengths .now) (A .outline .now) (A .log .now) (A .room) _ (P .0) _ _ (c .before .before .before .before .before .ran .given .1) (c .before .before .before .before .before .before .before .before .before .before .before .before .before .before .before .before .before .before .before .before .before .split-one .ensures) (P .1 .logged) _ _ (c .before .before .before .before .before .before .before .before .before .before .before .before .before .before .before .before .before .before .before .before .before .split-one .kept .1 .1 .1 .1 .1 .1 .1 .1 .1 .1 .0) (c .before .before .before .before .before .before .before .before .before .before .before .before .before .before .before .before .before .before .before .before .before .split-one .kept .1 .1 .1 .1 .1 .1 .1 .1 .1 .1 .1 .0)
+
+same-length-15 : tie.Need-same-length-15
+same-length-15 c = c .before .before .before .before .before .before .before .before .before .before .before .before .before .before .before .before .before .before .before .before .before .before .before .before .split-one .kept .1 .1 .1 .1 .1 .1 .0
+
+same-length-16 : tie.Need-same-length-16
+same-length-16 c = c .before .before .before .before .before .before .before .before .before .before .before .before .before .before .before .before .before .before .before .before .before .before .before .before .split-one .kept .1 .1 .1 .1 .1 .1 .1 .0
+
+same-length-17 : tie.Need-same-length-17
+same-length-17 c = c .before .before .before .before .before .before .before .before .before .before .before .before .before .before .before .before .before .before .before .before .before .before .before .before .split-one .kept .1 .1 .1 .1 .1 .1 .1 .1 .0
+
+same-length-18 : tie.Need-same-length-18
+same-length-18 c = c .before .before .before .before .before .before .before .before .before .before .before .before .before .before .before .before .before .before .before .before .before .before .before .before .split-one .kept .1 .1 .1 .1 .1 .1 .1 .1 .1 .1 .0
+
+same-length-19 : tie.Need-same-length-19
+same-length-19 c = c .before .before .slacken-from .kept .1 .1 .1 .0 ∙ c .before .before .before .before .before .before .before .before .before .before .before .before .before .before .before .before .before .before .before .before .before .before .before .before .split-one .kept .1 .1 .1 .1 .1 .1 .1 .1 .1 .1 .1 .0
+
+same-length-20 : tie.Need-same-length-20
+same-length-20 c = c .before .before .before .before .before .before .before .before .before .before .before .before .before .before .before .before .before .before .before .before .before .before .before .before .split-one .kept .1 .1 .1 .1 .1 .1 .1 .1 .1 .1 .1 .1 .0
+
+same-length-21 : tie.Need-same-length-21
+same-length-21 c = c .before .before .before .before .before .before .before .before .before .before .before .before .before .before .before .before .before .before .before .before .before .before .before .before .split-one .kept .1 .1 .1 .1 .1 .1 .1 .1 .1 .1 .1 .1 .1 .0
+
+returns-3 : tie.Need-returns-3
+returns-3 c = let A = c .before .before .before .before .before .before .before .before .before .before .before .before .before .before .before .before .before .before .before .before .before .before .before .before .before .before .before .before .before .before .before .before .before .before .before .before .before .before .before .before .args in
+    let P = c .before .before .before .before .before .before .before .before .before .before .before .before .before .before .before .before .before .before .before .before .before .before .before .before .before .before .before .before .before .before .before .before .before .before .before .before .before .before .before .before .pre in
+    blocks-snapped (A .mark) (A .b0) (A .b1) (A .v) (A .k) (A .points .now) (A .roots .now) (A .corners .now) (A .volumes .now) (A .ends .now) (A .lengths .now) (A .outline .now) (A .log .now) (A .room) _ (P .0) _ _ _ _ _ _ _ _ _ _ (c .before .before .before .before .before .before .before .before .ran .given .1) (c .before .before .before .before .before .before .before .before .before .before .before .before .before .before .before .before .before .before .before .before .before .before .before .before .split-one .ensures) (c .before .before .slacken-from .ensures)
 
 pub split-snapped-spec : {M : Type 1} → statement M
 split-snapped-spec =
@@ -86,7 +112,6 @@ split-snapped-spec =
     same-length-6
     same-length-7
     returns
-    slacken-from-requires
     same-length-8
     same-length-9
     same-length-10
@@ -94,4 +119,13 @@ split-snapped-spec =
     same-length-12
     same-length-13
     same-length-14
-    returns-2)
+    returns-2
+    slacken-from-requires
+    same-length-15
+    same-length-16
+    same-length-17
+    same-length-18
+    same-length-19
+    same-length-20
+    same-length-21
+    returns-3)
