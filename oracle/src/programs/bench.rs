@@ -201,14 +201,14 @@ fn torn_from_image(c: &Raw) -> Option<(Vec<u32>, Vec<u32>)> {
     let head = vec![changed as u32, entries.len() as u32 / 6];
     Some(([head, words(&Mesh::from_body(&body))].concat(), entries))
 }
-/// The C function; `None` if the table lacks it.
+/// The C function, which must accept the call; `None` if the table lacks it.
 fn ours(t: &Table, c: &Raw) -> Option<f64> {
     let lent = RefCell::new((vec![FILL; c.out], vec![FILL; c.log]));
     let call = |c: &Raw| {
         let (out, log) = &mut *lent.borrow_mut();
         invoke(t, c, out, log)
     };
-    call(c)?;
+    assert_eq!(call(c)?, 0, "a call that is accepted");
     let fill = |_: u32| {
         let (out, log) = &mut *lent.borrow_mut();
         out.fill(FILL);
@@ -260,7 +260,9 @@ pub fn run(words: &[String]) -> i32 {
         let whole = |c: &Raw| {
             black_box(torn_from_image(c));
         };
-        row(&t, name, &m, &i.raw(), whole);
+        let c = i.raw();
+        let entries = torn_from_image(&c).expect("a call that passes the checks").1.len() / 6;
+        row(&t, &format!("{name} ({entries} log entries)"), &m, &c, whole);
     }
     0
 }

@@ -1,5 +1,5 @@
-//! compare [--self] SEED RANDOM LARGE LIMIT DAMAGED: each C function that is there, on so many
-//! inputs of each kind, against document 01's checks and the published Rust.
+//! compare [--self] [--only reading|tearing|NAME] SEED RANDOM LARGE LIMIT DAMAGED: each C function
+//! that is there, on so many inputs of each kind, against document 01's checks and the published Rust.
 //! faults [SEED [NAME]]: plants each fault in the second writing; every one must be found.
 use crate::entries::{ENTRIES, Entry, Input, Table, archive, call};
 use crate::expect::{Expected, expected, fault};
@@ -73,19 +73,36 @@ fn numbers(words: &[String]) -> Vec<u64> {
     words.iter().map(|w| w.parse().expect("a number")).collect()
 }
 
+/// Whether the word names the entry: by its name, or by what it gives.
+fn named(e: Entry, word: &str) -> bool {
+    match word {
+        "reading" => !e.tears(),
+        "tearing" => e.tears(),
+        _ => e.name().strip_prefix("bench_") == word.strip_prefix("bench_").or(Some(word)),
+    }
+}
+
 pub fn run(words: &[String]) -> i32 {
     let own = words.first().is_some_and(|w| w == "--self");
-    let n = numbers(&words[own as usize..]);
+    let mut rest = &words[own as usize..];
+    let mut only = None;
+    if let [flag, which, tail @ ..] = rest
+        && flag == "--only"
+    {
+        (only, rest) = (Some(which.as_str()), tail);
+    }
+    let entries: Vec<Entry> = ENTRIES.into_iter().filter(|e| only.is_none_or(|o| named(*e, o))).collect();
+    let n = numbers(rest);
     let [seed, counts @ ..] = n.as_slice() else { return 2 };
-    if counts.len() != 4 {
-        eprintln!("compare [--self] SEED RANDOM LARGE LIMIT DAMAGED");
+    if counts.len() != 4 || entries.is_empty() {
+        eprintln!("compare [--self] [--only reading|tearing|NAME] SEED RANDOM LARGE LIMIT DAMAGED");
         return 2;
     }
     plant(Fault::Nothing);
     let t = if own { table() } else { archive() };
     let (mut failures, mut totals) = (0, vec![]);
     println!("{}, cases from {seed} on", if own { "the second writing behind the C functions" } else { "the archive" });
-    for e in ENTRIES {
+    for &e in &entries {
         if !t.has(e) {
             println!("  {:29} not compared: it is not in the archive", e.name());
             continue;
@@ -114,8 +131,8 @@ pub fn run(words: &[String]) -> i32 {
     for (e, n) in &totals {
         println!("  {:29} {} accepted, {}", e.name(), n[0], refusals(*e, n));
     }
-    let there = ENTRIES.iter().filter(|&&e| t.has(e)).count();
-    println!("{there} functions compared, {} not there; {failures} failures", ENTRIES.len() - there);
+    let there = entries.iter().filter(|&&e| t.has(e)).count();
+    println!("{there} functions compared, {} not there; {failures} failures", entries.len() - there);
     (failures > 0) as i32
 }
 
