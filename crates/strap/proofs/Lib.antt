@@ -11,3 +11,4 @@ pub mod CrossingLaws
 pub mod UnbentLaws
 pub mod CrossedLaws
 pub mod CrossedRuns
+pub mod SegmentLaws

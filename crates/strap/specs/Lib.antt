@@ -8,3 +8,4 @@ pub mod Steps
 pub mod Crossings
 pub mod Unbent
 pub mod Crossed
+pub mod Segments

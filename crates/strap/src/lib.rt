@@ -5,6 +5,7 @@ pub mod crossings;
 pub mod edges;
 pub mod particles;
 pub mod plan;
+pub mod segments;
 pub mod shares;
 pub mod sides;
 pub mod step;

@@ -1,0 +1,28 @@
+-- The cut of straps behind its crossings, and the whole. Only contracts between workers need this file. Definitions only.
+use Prim.Native.Nat.{ℕ, _<_, _≤_}
+use mathlib.Core.Path.{_≡_}
+use mathlib.Core.Bool.{true}
+use mathlib.Core.List.{List}
+use lib.ListN.{length}
+use lib.Ieee.{Float}
+use Rattle.lists.specs.Lists.{stands}
+use Rattle.model.specs.Calls.{firstFault}
+use Rattle.model.specs.Cut.{Blade, Strapping, afterCrossings}
+use Rattle.mesh.specs.Log.{World, worldOf}
+use Rattle.mesh.specs.Given.{asRooms}
+use Rattle.mesh.specs.declared.Counts.{Counts}
+use Rattle.mesh.specs.declared.Rooms.{Rooms}
+use Rattle.split.specs.Working.{Went}
+use Rattle.split.specs.declared.Ran.{Ran}
+use Rattle.strap.specs.Crossed.{ranOf, bendsOf, StrapMarks}
+
+-- each edge and each particle has a mark
+pub record MarksLent (bends snapped : ℕ) : Type 0 where
+  pub bends-long : 2048 ≤ bends
+  pub snapped-long : 1024 ≤ snapped
+
+-- what is left of a strap cut is done to whatever cut the blocks hold, where the marks are its bend edges, all of them there, and its ends
+pub record AfterTold (B : Blade) (L : Rooms) (e : ℕ) (W : World) (at : Counts → World) (bends snapped : List ℕ) (r : Ran) : Type 0 where
+  pub went :
+      (S : Strapping) → W ≡ worldOf (ranOf S .mesh) (ranOf S .log) → firstFault (asRooms L) (ranOf S .needs) ≡ 0 → StrapMarks S bends snapped
+      → ((j : ℕ) → stands j (bendsOf S) ≡ true → j < e) → Went L (afterCrossings B S) at r

@@ -1,0 +1,58 @@
+// The cut of straps along a blade: insertions at the crossings, bend edges removed, snapped ends split.
+ghost use Prim.Native.Nat.{_≤_};
+ghost use lib.ListN.{length};
+ghost use Rattle.model.specs.Cut.{cutSegments};
+ghost use Rattle.mesh.specs.At.{meshAt};
+ghost use Rattle.mesh.specs.Log.{worldAt};
+ghost use Rattle.mesh.specs.Filled.{lent};
+ghost use Rattle.split.specs.Working.{Ready, Works};
+ghost use Rattle.cut.specs.Marking.{bladeFrom};
+ghost use Rattle.cut.specs.Running.{Logged};
+ghost use Rattle.strap.specs.Segments.{MarksLent, AfterTold};
+use blade::Point;
+use mesh::Counts;
+use mesh::Rooms;
+use split::Ran;
+
+// The marked bend edges go, and then the snapped ends are split by the blade.
+pub fn after_crossings(
+    b0: Point,
+    b1: Point,
+    bends: &[usize],
+    snapped: &[usize],
+    k: Counts,
+    room: Rooms,
+    points: &mut [f32],
+    roots: &mut [usize],
+    corners: &mut [usize],
+    volumes: &[f32],
+    ends: &mut [usize],
+    lengths: &mut [f32],
+    outline: &mut [usize],
+    log: &mut [usize],
+) -> Ran
+    requires { ⌜ Ready room k (lent (now points) (now roots) (now corners) (now volumes) (now ends) (now lengths) (now outline) (now log)) (meshAt k (now points) (now roots) (now corners) (now volumes) (now ends) (now lengths) (now outline)) × Logged (k .log) (now log) × MarksLent (length (now bends)) (length (now snapped)) ⌝ }
+    ensures { λ r. ⌜ AfterTold (bladeFrom b0 b1) room (k .edges) (worldAt k (now (points .entry)) (now (roots .entry)) (now (corners .entry)) (now (volumes .entry)) (now (ends .entry)) (now (lengths .entry)) (now (outline .entry)) (now (log .entry))) (λ q. worldAt q (now (points .exit)) (now (roots .exit)) (now (corners .exit)) (now (volumes .entry)) (now (ends .exit)) (now (lengths .exit)) (now (outline .exit)) (now (log .exit))) (now (bends .entry)) (now (snapped .entry)) r ⌝ }
+{
+    let p = k.particles;
+    let ran = crate::unbent::remove_bends(bends, k, room, ends, lengths, outline, log);
+    match ran {
+        Ran::Refused(c) => Ran::Refused(c),
+        Ran::Done(left) => cut::snapped::split_all_snapped(
+            b0,
+            b1,
+            p,
+            snapped,
+            left,
+            room,
+            points,
+            roots,
+            corners,
+            volumes,
+            ends,
+            lengths,
+            outline,
+            log,
+        ),
+    }
+}
