@@ -10,3 +10,4 @@ pub mod StepLaws
 pub mod CrossingLaws
 pub mod CrossedLaws
 pub mod CrossedRuns
+pub mod CrossedStart
