@@ -72,6 +72,13 @@ module _ (f : Float) (cs : List Crossing) (L : Rooms) (W : World) (at : Counts �
   unfolding firstFault
   went-to = F .went start (λ i. record { mesh = W .mesh; log = words i }) refl
 
+  -- its log
+  abbrev pub entries-to : List Entry
+  entries-to = ranOf (fold (crossed f) start cs) .log
+
+  pub words-to : at k .log ≡ map wordsOf entries-to
+  words-to = ap (λ (x : World). x .log) (went-to .2)
+
   module _ (k₀ : Counts) (I I′ : Lent) (Y : Ready L k₀ I (W .mesh)) (inside : All (λ (c : Crossing). c .number < length (W .mesh .edges)) cs) where
     kept-to : Kept (length (W .mesh .edges)) (fold (crossed f) start cs)
     kept-to = all-kept f (length (W .mesh .edges)) start cs inside (accepted-indexed (W .mesh) (Y .indices), omega arith)

@@ -12,3 +12,4 @@ pub mod UnbentLaws
 pub mod CrossedLaws
 pub mod CrossedRuns
 pub mod SegmentLaws
+pub mod CrossedStart

@@ -1,0 +1,165 @@
+-- Laws of the crossings of an input: they name its edges, nothing is marked at first, and all of them are done. Assumes nothing.
+use Prim.Native.Nat.{ℕ, zero, suc, _+_, _-_, _/_, _<_, _≤_}
+use native.Mathlib.Omega.{arith}
+use mathlib.Core.Path.{_≡_, refl, sym, ap, _∙_, subst}
+use mathlib.Core.Bool.{Bool, true, false}
+use mathlib.Core.List.{List, [], _∷_}
+use lib.ListN.{length, getD, replicate}
+use lib.Ieee.{Float, nan}
+use borrow.Author.Tests.{ne-eqb}
+use Rattle.lists.specs.Lists.{pick, fold, padded}
+use Rattle.lists.proofs.Stores.{tab-at, tab-length}
+use Rattle.blade.specs.declared.Point.{Point}
+use Rattle.blade.specs.declared.Hit.{Hit}
+use Rattle.blade.specs.declared.Hit.the-variants.{Miss, Hit as HitAt}
+use Rattle.columns.proofs.Cells.{col-0, col-1}
+use Rattle.model.specs.Mesh.{Edge, Mesh}
+use Rattle.model.specs.Elements.{Element, edgeAt, structural?, strapElement, strapsFrom, elementsOf}
+use Rattle.model.specs.Trace.{All}
+use Rattle.model.specs.Run.{Run}
+use Rattle.model.specs.Calls.{firstFault}
+use Rattle.model.specs.Cut.{Blade, Crossing, meets, crossingAt, crossings, strapping, crossed}
+use Rattle.model.proofs.Laws.{all-over, all-in, all-eachOf}
+use Rattle.mesh.specs.At.{meshAt}
+use Rattle.mesh.specs.Log.{World, worldOf, worldAt}
+use Rattle.mesh.specs.Given.{Lent, asRooms}
+use Rattle.mesh.specs.declared.Counts.{Counts}
+use Rattle.mesh.specs.declared.Rooms.{Rooms}
+use Rattle.mesh.proofs.Lists.{edges-length}
+use Rattle.split.specs.Working.{Ready, Went}
+use Rattle.split.specs.declared.Ran.{Ran}
+use Rattle.split.specs.declared.Ran.the-variants.{Done}
+use Rattle.split.proofs.Placed.{ends-in}
+use Rattle.cut.specs.Marking.{bladeFrom}
+use Rattle.cut.specs.Running.{Logged}
+use Rattle.strap.specs.Shares.{Stands}
+use Rattle.strap.specs.Bends.{EndsBelow}
+use Rattle.strap.specs.Crossings.{crossed-in, CrossingsAre}
+use Rattle.strap.specs.Crossed.{ranOf, StrapMarks, Crosses, CrossTold, CrossingsIn}
+use Rattle.strap.proofs.CrossedRuns.{entries-to, words-to, ready-to}
+
+-- ---- nothing is marked
+
+-- a table of zeros has 0 at every place, and behind it
+pub zeros-there : (n j : ℕ) → getD (replicate {A = ℕ} n 0) j 0 ≡ 0
+zeros-there zero j = refl
+zeros-there (suc n) zero = refl
+zeros-there (suc n) (suc j) = zeros-there n j
+
+-- and so has a table that was cleared
+pub cleared-there : (n : ℕ) (l : List ℕ) → l ≡ padded n 0 [] → (j : ℕ) → getD l j 0 ≡ 0
+unfolding padded
+cleared-there n l e j = ap (λ (t : List ℕ). getD t j 0) e ∙ zeros-there (n - 0) j
+
+-- such tables are the marks of a strap cut that begins
+pub marks-none : (R : Run) (bends snapped : List ℕ) → ((j : ℕ) → getD bends j 0 ≡ 0) → ((j : ℕ) → getD snapped j 0 ≡ 0) → StrapMarks (strapping R [] []) bends snapped
+marks-none R bends snapped zb zs =
+    record {
+      bends-are = λ j. ne-eqb (getD bends j 0) 1 (λ q. let z = zb j in omega arith);
+      snapped-are = record { mark = λ j l. zs j };
+    }
+
+-- ---- the crossings of a mesh name its edges
+
+straps-inside : (i : ℕ) (es : List Edge) → All (λ (e : Element). e .number < i + length es) (strapsFrom i es)
+unfolding strapsFrom
+straps-inside i [] = tt
+straps-inside i (e ∷ es) =
+    by (structural? e) (all-over (λ (x : Element). x .number < suc i + length es) (λ (x : Element). x .number < i + suc (length es)) (λ x u. omega arith) (strapsFrom (suc i) es) (straps-inside (suc i) es))
+  where
+    by : (b : Bool) → All (λ (x : Element). x .number < i + suc (length es)) (strapsFrom (suc i) es)
+        → All (λ (x : Element). x .number < i + suc (length es)) (pick b (strapElement i e ∷ strapsFrom (suc i) es) (strapsFrom (suc i) es))
+    by true h = (omega arith, h)
+    by false h = h
+
+hit-inside : (n i : ℕ) → i < n → (h : Hit) → All (λ (c : Crossing). c .number < n) (crossingAt i h)
+hit-inside n i u Miss = tt
+hit-inside n i u (HitAt t) = (u, tt)
+
+crossings-inside : (B : Blade) (M : Mesh) → All (λ (c : Crossing). c .number < length (M .edges)) (crossings B M)
+unfolding crossings elementsOf
+crossings-inside B M =
+    all-eachOf (λ (e : Element). e .number < 0 + length (M .edges)) (λ (c : Crossing). c .number < length (M .edges)) _
+    (λ e u. hit-inside (length (M .edges)) (e .number) (omega arith) (meets B M (edgeAt M (e .number) .a) (edgeAt M (e .number) .b))) (strapsFrom 0 (M .edges)) (straps-inside 0 (M .edges))
+
+-- so do those that were found in the blocks
+module _ (b0 b1 : Point) (e : ℕ) (points : List Float) (ends numbers : List ℕ) (ts : List Float) (m : ℕ) (C : CrossingsAre b0 b1 e points ends numbers ts m) where
+  pub numbers-below : (M : Mesh) (n : ℕ) (roots : List ℕ) (lengths : List Float) → Stands M n e points roots ends lengths → EndsBelow n e ends → (j : ℕ) → j < m → getD numbers j 0 < e
+  numbers-below M n roots lengths S E j l =
+      let row : ℕ → Crossing = λ i. record { number = getD numbers i 0; t = getD ts i nan } in
+      let blank : Crossing = record { number = 0; t = nan } in
+      let all : All (λ (c : Crossing). c .number < length (M .edges)) (crossed-in m numbers ts) =
+      subst (All (λ (c : Crossing). c .number < length (M .edges))) (sym (C .is M n roots lengths S E)) (crossings-inside (bladeFrom b0 b1) M) in
+      let at : getD (crossed-in m numbers ts) j blank .number < length (M .edges) = all-in (λ (c : Crossing). c .number < length (M .edges)) (crossed-in m numbers ts) j blank (omega (arith, tab-length m row)) all in
+      let is : getD (crossed-in m numbers ts) j blank .number ≡ getD numbers j 0 = ap (λ (c : Crossing). c .number) (tab-at m row j blank l) in
+      let many : length (M .edges) ≡ e = ap length (S .edges-are) ∙ edges-length e ends lengths in
+      omega arith
+
+-- ---- the crossings of the mesh that the blocks hold
+
+module _ (b0 b1 : Point) (L : Rooms) (k : Counts) (I : Lent) (points : List Float) (roots corners : List ℕ) (volumes : List Float) (ends : List ℕ) (lengths : List Float) (outline log : List ℕ)
+    (Y : Ready L k I (meshAt k points roots corners volumes ends lengths outline)) (lent : I .ends ≡ length ends) (numbers : List ℕ) (ts : List Float) (m : ℕ) (C : CrossingsAre b0 b1 (k .edges) points ends numbers ts m) where
+  ends-below : EndsBelow (k .particles) (k .edges) ends
+  ends-below =
+      let E = ends-in k points roots corners volumes ends lengths outline (Y .indices) in
+      let few : k .edges ≤ L .edges = Y .counts .edges in
+      let room : L .edges ≤ length ends / 4 = subst (λ (n : ℕ). L .edges ≤ n / 4) lent (Y .rooms .ends) in
+      record {
+        rows = omega arith;
+        first = λ j l. subst (λ (x : ℕ). x < k .particles) (col-0 0 (length ends / 4) ends j) (E .first j l);
+        second = λ j l. subst (λ (x : ℕ). x < k .particles) (col-1 0 (length ends / 4) ends j) (E .second j l);
+      }
+
+  -- they can be done in turn
+  pub found-inside : Logged (k .log) log → k .edges ≤ length numbers → k .edges ≤ length ts → CrossingsIn m numbers (length ts) k log
+  unfolding meshAt
+  found-inside G ln lt =
+      let few : m ≤ k .edges = C .few in
+      record {
+        logged = G;
+        numbers-long = omega arith;
+        ts-long = omega arith;
+        inside = numbers-below b0 b1 (k .edges) points ends numbers ts m C (meshAt k points roots corners volumes ends lengths outline) (k .particles) roots lengths (record { particles-are = refl; edges-are = refl }) ends-below;
+      }
+
+  module _ (R : Run) (w : worldAt k points roots corners volumes ends lengths outline log ≡ worldOf (R .mesh) (R .log)) where
+    -- they are those of the run
+    pub found-are : crossed-in m numbers ts ≡ crossings (bladeFrom b0 b1) (R .mesh)
+    unfolding worldAt meshAt
+    found-are = C .is (R .mesh) (k .particles) roots lengths (record { particles-are = ap (λ (W : World). W .mesh .particles) (sym w); edges-are = ap (λ (W : World). W .mesh .edges) (sym w) }) ends-below
+
+    -- and so all crossings of the run are done
+    module _ (f : Float) (bends snapped : List ℕ) (points′ : List Float) (roots′ ends′ : List ℕ) (lengths′ : List Float) (outline′ log′ bends′ snapped′ : List ℕ) (r : Ran)
+        (T : CrossTold f (crossed-in m numbers ts) L k points roots ends lengths outline log bends snapped points′ roots′ ends′ lengths′ outline′ log′ bends′ snapped′ r) (z : firstFault (asRooms L) (R .needs) ≡ 0) where
+      pub all-went : Went L (ranOf (fold (crossed f) (strapping R [] []) (crossings (bladeFrom b0 b1) (R .mesh)))) (λ q. worldAt q points′ roots′ corners volumes ends′ lengths′ outline′ log′) r
+      all-went =
+          subst (λ (cs : List Crossing). Went L (ranOf (fold (crossed f) (strapping R [] []) cs)) (λ q. worldAt q points′ roots′ corners volumes ends′ lengths′ outline′ log′) r) found-are
+          (T .crosses corners volumes .went (strapping R [] []) w z)
+
+      pub all-marked : StrapMarks (strapping R [] []) bends snapped → (q : Counts) → r ≡ Done q → StrapMarks (fold (crossed f) (strapping R [] []) (crossings (bladeFrom b0 b1) (R .mesh))) bends′ snapped′
+      all-marked A q e =
+          subst (λ (cs : List Crossing). StrapMarks (fold (crossed f) (strapping R [] []) cs) bends′ snapped′) found-are (T .crosses corners volumes .marks (strapping R [] []) w z A q e)
+
+  -- behind them the blocks are ready for what comes next, and their log is one
+  module _ (f : Float) (bends snapped : List ℕ) (points′ : List Float) (roots′ ends′ : List ℕ) (lengths′ : List Float) (outline′ log′ bends′ snapped′ : List ℕ) (r : Ran)
+      (T : CrossTold f (crossed-in m numbers ts) L k points roots ends lengths outline log bends snapped points′ roots′ ends′ lengths′ outline′ log′ bends′ snapped′ r) (G : Logged (k .log) log) (q : Counts) (e : r ≡ Done q) where
+    done : Crosses f (crossed-in m numbers ts) L (worldAt k points roots corners volumes ends lengths outline log) (λ x. worldAt x points′ roots′ corners volumes ends′ lengths′ outline′ log′) bends snapped bends′ snapped′ (Done q)
+    done =
+        subst
+        (λ (x : Ran).
+        Crosses f (crossed-in m numbers ts) L (worldAt k points roots corners volumes ends lengths outline log) (λ y. worldAt y points′ roots′ corners volumes ends′ lengths′ outline′ log′) bends snapped bends′ snapped′ x)
+        e (T .crosses corners volumes)
+
+    named : All (λ (c : Crossing). c .number < length (meshAt k points roots corners volumes ends lengths outline .edges)) (crossed-in m numbers ts)
+    unfolding meshAt
+    named =
+        let M = meshAt k points roots corners volumes ends lengths outline in
+        subst (All (λ (c : Crossing). c .number < length (M .edges))) (sym (C .is M (k .particles) roots lengths (record { particles-are = refl; edges-are = refl }) ends-below)) (crossings-inside (bladeFrom b0 b1) M)
+
+    pub all-ready : (I′ : Lent) → I′ ≡ I → Ready L q I′ (meshAt q points′ roots′ corners volumes ends′ lengths′ outline′)
+    unfolding worldAt
+    all-ready I′ same = ready-to f (crossed-in m numbers ts) L _ _ _ _ _ _ q done (G .entries) (G .words) k I I′ Y named same
+
+    pub all-logged : Logged (q .log) log′
+    unfolding worldAt
+    all-logged = record { entries = entries-to f (crossed-in m numbers ts) L _ _ _ _ _ _ q done (G .entries) (G .words); words = words-to f (crossed-in m numbers ts) L _ _ _ _ _ _ q done (G .entries) (G .words) }
