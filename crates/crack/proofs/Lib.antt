@@ -1,0 +1,4 @@
+-- A crack across torn edges: its laws and its proofs.
+pub mod LoadLaws
+pub mod FamilyLaws
+pub mod WayLaws

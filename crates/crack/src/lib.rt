@@ -1,0 +1,4 @@
+// A crack across torn edges, over the lent blocks.
+pub mod families;
+pub mod loads;
+pub mod ways;
