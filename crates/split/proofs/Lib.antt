@@ -6,3 +6,12 @@ pub mod Runs
 pub mod Stepping
 pub mod GrowLaws
 pub mod NamedLaws
+pub mod StepLaws
+pub mod TabledLaws
+pub mod NoteLaws
+pub mod MarkLaws
+pub mod OutlineLaws
+pub mod SettleLaws
+pub mod PieceMasks
+pub mod PieceTables
+pub mod Straddled

@@ -1,12 +1,11 @@
 -- Laws of runs at work in lent blocks: one step behind a run, and one worker behind another. Assumes nothing.
-use mathlib.Core.Path.{_≡_, refl, sym, _∙_, ap}
-use mathlib.Core.Bool.{Bool, true, false}
+use mathlib.Core.Path.{_≡_, refl, _∙_, ap, subst}
 use mathlib.Core.List.{List, [], _∷_, _++_}
 use Prim.Native.Nat.{ℕ, zero, suc, _<_, _≤_}
 use native.Mathlib.Omega.{arith}
-use borrow.Author.Tests.{eq-eqb, ne-eqb, le-ltb, lt-ltb}
+use borrow.Author.Tests.{ne-eqb, le-ltb, lt-ltb}
 use lib.ListN.{length}
-use lib.Dec.{eqb, ltb}
+use lib.Dec.{eqb}
 use lib.Ieee.{Float}
 use Rattle.lists.specs.Lists.{pick}
 use Rattle.model.specs.Mesh.{Mesh}
@@ -74,6 +73,10 @@ beside B points roots = B .works points roots
 -- a worker that does nothing
 pub works-stay : {L : Rooms} {at : Counts → World} (k : Counts) → Within k L → Works (λ (R : Run). R) L (at k) at (Done k)
 works-stay k w = record { went = λ R e z. (z, w, e) }
+
+-- a worker on f is one on g, where the two agree on the runs that the blocks hold
+pub works-as : {f g : Run → Run} {L : Rooms} {W : World} {at : Counts → World} {r : Ran} → ((R : Run) → W ≡ worldOf (R .mesh) (R .log) → f R ≡ g R) → Works f L W at r → Works g L W at r
+works-as {L = L} {at = at} {r = r} same F = record { went = λ R e z. subst (λ (S : Run). Went L S at r) (same R e) (F .went R e z) }
 
 -- f is done, and then g is done to what it left
 pub works-then : {f g : Run → Run} {L : Rooms} {W : World} {at at′ : Counts → World} {k : Counts} {r : Ran} → Works f L W at (Done k) → Works g L (at k) at′ r

@@ -3,3 +3,5 @@ pub mod Working
 pub mod Tables
 pub mod Steps
 pub mod Growing
+pub mod Settling
+pub mod Straddling

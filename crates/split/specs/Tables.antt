@@ -57,7 +57,7 @@ pub record FanSided (K : Kind) (M : Mesh) (v n : ℕ) (numbers verts : List ℕ)
   pub tabled : Tabled (cornersPer K) (fanOf K M v) n numbers verts measures
   pub few : n ≤ 2048
   pub numbers-long : n ≤ length numbers
-  pub verts-long : 4096 ≤ length verts
+  pub verts-long : n * cornersPer K ≤ length verts
   pub measures-long : n ≤ length measures
   pub sides-long : n ≤ length sides
   pub two : (i : ℕ) → i < n → getD sides i 0 < 2
@@ -92,3 +92,9 @@ pub record GroupsFound (K : Kind) (v n : ℕ) (verts sides groups : List ℕ) (c
   pub groups-are : take n groups ≡ groupsOf (fan (take (n * cornersPer K) verts) (cornersPer K) v (facetOthers K) (take n sides))
   pub count-is : count ≡ countOf (fan (take (n * cornersPer K) verts) (cornersPer K) v (facetOthers K) (take n sides))
   pub below : (i : ℕ) → i < n → getD groups i 0 < count
+
+-- v is there, and each element of its fan has a side, 0 or 1
+pub record SidesGiven (K : Kind) (M : Mesh) (v : ℕ) (sides : List ℕ) : Type 0 where
+  pub here : v < length (M .particles)
+  pub every : length sides ≡ length (fanOf K M v)
+  pub two : (i : ℕ) → i < length sides → getD sides i 0 < 2

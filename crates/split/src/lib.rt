@@ -1,6 +1,9 @@
 // A split over the lent blocks: one particle by the groups of its fan, and the straddlers across pieces.
 pub mod fans;
 pub mod grow;
+pub mod settle;
+pub mod step;
+pub mod straddlers;
 
 use mesh::Counts;
 

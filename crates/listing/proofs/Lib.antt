@@ -1,0 +1,6 @@
+-- The laws of the listing and of its writer.
+pub mod Decimal
+pub mod Entries
+pub mod Worked
+pub mod Appending
+pub mod Outcomes

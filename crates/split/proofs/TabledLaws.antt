@@ -1,0 +1,188 @@
+-- A fan in tables with a side for each element: its groups, its split, and whether it splits at all. Assumes nothing.
+use Prim.Native.Nat.{ℕ, _*_, _+_, _/_, _<_, _≤_}
+use native.Mathlib.Omega.{arith}
+use mathlib.Core.Path.{_≡_, refl, sym, _∙_, ap, subst}
+use mathlib.Core.Bool.{Bool, true, false, _&&_}
+use mathlib.Core.List.{List}
+use borrow.Author.Tests.{le-leb, lt-leb}
+use lib.ListN.{length, getD, take}
+use lib.Seq.{take-all}
+use lib.Dec.{leb}
+use lib.Ieee.{Float, nan, ne}
+use Rattle.lists.proofs.Stores.{tab-at}
+use Rattle.float.specs.Numbers.{zero32}
+use Rattle.columns.specs.Block.{cell}
+use Rattle.fan.specs.Fan.{Fan, fan}
+use Rattle.fan.specs.Groups.{groupsOf, countOf}
+use Rattle.model.specs.Mesh.{Particle, Mesh, blank}
+use Rattle.model.specs.Elements.{Kind, Triangles, Straps, Nothing, cornersPer, facetOthers, fanOf, gridOf, particle}
+use Rattle.model.specs.Split.{Opening, openingOf, splits?, splitBySides}
+use Rattle.mesh.specs.At.{particleRow, particlesAt, meshAt}
+use Rattle.mesh.specs.Log.{World, worldAt}
+use Rattle.mesh.specs.Filled.{lent}
+use Rattle.mesh.specs.declared.Counts.{Counts}
+use Rattle.mesh.specs.declared.Rooms.{Rooms}
+use Rattle.elements.specs.Table.{Tabled}
+use Rattle.opening.specs.Opened.{openingBy}
+use Rattle.opening.proofs.Tables.{opening-is}
+use Rattle.split.specs.Working.{Ready, Works}
+use Rattle.split.specs.Tables.{FanGrouped, FanSided, FanLent, FanRead, SidesLent, SidesGiven, GroupsFound, openedBy}
+use Rattle.split.specs.Steps.{Stepped}
+use Rattle.split.proofs.Fitted.{grid-is, rows-small}
+use Rattle.split.proofs.Placed.{particles-count}
+use Rattle.split.proofs.Stepping.{works-split, works-unsplit}
+use Rattle.split.proofs.StepLaws.{world-mesh}
+use Rattle.split.specs.declared.Ran.{Ran}
+use Rattle.split.specs.declared.Ran.the-variants.{Refused, Done}
+
+-- the inverse mass of a particle, by its place
+pub inverse-at : (k : Counts) (points : List Float) (roots corners : List ℕ) (volumes : List Float) (ends : List ℕ) (lengths : List Float) (outline : List ℕ) (v : ℕ) → v < k .particles
+    → particle (meshAt k points roots corners volumes ends lengths outline) v .inv ≡ getD points (5 * (length points / 6) + v) nan
+unfolding meshAt particlesAt cell
+inverse-at k points roots corners volumes ends lengths outline v l = ap (λ (p : Particle). p .inv) (tab-at (k .particles) (particleRow (length points / 6) (length roots / 2) points roots) v blank l)
+
+module _ {K : Kind} {M : Mesh} {v n : ℕ} {numbers verts : List ℕ} {measures : List Float} {sides : List ℕ} (F : FanSided K M v n numbers verts measures sides) where
+  -- what the grouping asks
+  pub sides-asked : (lg : ℕ) → 2048 ≤ lg → SidesLent n (cornersPer K) (length verts) (length sides) lg sides
+  sides-asked lg h =
+      record { few = F .few; verts = verts-room; long = F .sides-long; groups = omega (arith, F .few); two = F .two }
+    where
+      verts-room : n * cornersPer K ≤ length verts
+      verts-room = F .verts-long
+
+  -- the groups that were found are those of the definition
+  module _ {groups : List ℕ} {count : ℕ} (G : GroupsFound K v n verts sides groups count) where
+    grid : fan (take (n * cornersPer K) verts) (cornersPer K) v (facetOthers K) (take n sides) ≡ gridOf K v (fanOf K M v) (take n sides)
+    grid = grid-is K M v n numbers verts measures (take n sides) (F .tabled)
+
+    pub opening-found : openedBy K M v n count groups ≡ openingOf K M v (take n sides)
+    opening-found =
+        ap (λ (gs : List ℕ). openingBy v (length (M .particles)) (fanOf K M v) gs count) (G .groups-are ∙ ap groupsOf grid)
+        ∙ ap (λ (m : ℕ). openingBy v (length (M .particles)) (fanOf K M v) (groupsOf (gridOf K v (fanOf K M v) (take n sides))) m) (G .count-is ∙ ap countOf grid)
+        ∙ sym (opening-is K M v (take n sides))
+
+    pub fan-grouped : 2 ≤ count → n ≤ length groups → FanGrouped K M v n count numbers verts measures groups
+    fan-grouped two long =
+        record {
+          here = F .here;
+          two = two;
+          tabled = F .tabled;
+          few = F .few;
+          numbers-long = F .numbers-long;
+          verts-long = sides-asked 2048 (omega arith) .verts;
+          measures-long = F .measures-long;
+          groups-long = long;
+          below = G .below;
+        }
+
+    -- whether v splits
+    splits-told : splits? (openingOf K M v (take n sides)) M ≡ (leb 2 count && ne (particle M v .inv) zero32)
+    unfolding splits?
+    splits-told = ap (λ (O : Opening). leb 2 (O .count) && ne (particle M (O .v) .inv) zero32) (sym opening-found)
+
+    pub splits-not : count < 2 → splits? (openingOf K M v (take n sides)) M ≡ false
+    splits-not h = splits-told ∙ ap (λ (b : Bool). b && ne (particle M v .inv) zero32) (lt-leb 2 count h)
+
+    pub splits-pinned : ne (particle M v .inv) zero32 ≡ false → splits? (openingOf K M v (take n sides)) M ≡ false
+    splits-pinned e = splits-told ∙ ap (λ (b : Bool). leb 2 count && b) e ∙ and-false (leb 2 count)
+      where
+        and-false : (b : Bool) → (b && false) ≡ false
+        and-false true = refl
+        and-false false = refl
+
+    pub splits-so : 2 ≤ count → ne (particle M v .inv) zero32 ≡ true → splits? (openedBy K M v n count groups) M ≡ true
+    splits-so h e = ap (λ (O : Opening). splits? O M) opening-found ∙ splits-told ∙ ap (λ (b : Bool). leb 2 count && b) e ∙ ap (λ (b : Bool). b && true) (le-leb 2 count h)
+
+-- ---- over the blocks
+
+module _ (K : Kind) (L : Rooms) (k : Counts) (points : List Float) (roots corners : List ℕ) (volumes : List Float) (ends : List ℕ) (lengths : List Float) (outline log : List ℕ)
+    (P : Ready L k (lent points roots corners volumes ends lengths outline log) (meshAt k points roots corners volumes ends lengths outline))
+    {v n : ℕ} {numbers verts : List ℕ} {measures : List Float} {sides : List ℕ}
+    (F : FanSided K (meshAt k points roots corners volumes ends lengths outline) v n numbers verts measures sides) where
+  abbrev M : Mesh
+  M = meshAt k points roots corners volumes ends lengths outline
+
+  abbrev at : Counts → World
+  at q = worldAt q points roots corners volumes ends lengths outline log
+
+  -- v is there
+  pub here-in : v < k .particles
+  here-in = subst (λ (p : ℕ). v < p) (particles-count k points roots corners volumes ends lengths outline) (F .here)
+
+  -- its inverse mass stands in the block
+  pub inverse-place : v < length points / 6
+  inverse-place = let h = here-in in let a = P .counts .particles in let b = P .rooms .points in omega arith
+
+  inverse-is : particle M v .inv ≡ getD points (5 * (length points / 6) + v) nan
+  inverse-is = inverse-at k points roots corners volumes ends lengths outline v here-in
+
+  mesh-is : (q : Counts) → at q .mesh ≡ meshAt q points roots corners volumes ends lengths outline
+  mesh-is q = world-mesh q points roots corners volumes ends lengths outline log
+
+  stays : splits? (openingOf K M v (take n sides)) M ≡ false → Works (splitBySides K v (take n sides)) L (at k) at (Done k)
+  stays e = works-unsplit K v (take n sides) L at k (P .counts) (ap (λ (X : Mesh). splits? (openingOf K X v (take n sides)) X) (mesh-is k) ∙ e)
+
+  module _ {groups : List ℕ} {count : ℕ} (G : GroupsFound K v n verts sides groups count) where
+    pub few-stays : count < 2 → Works (splitBySides K v (take n sides)) L (at k) at (Done k)
+    few-stays h = stays (splits-not F G h)
+
+    pub pinned-stays : (t : Bool) → t ≡ ne (getD points (5 * (length points / 6) + v) nan) zero32 → t ≡ false → Works (splitBySides K v (take n sides)) L (at k) at (Done k)
+    pinned-stays t u e = stays (splits-pinned F G (ap (λ (x : Float). ne x zero32) inverse-is ∙ sym u ∙ e))
+
+    pub split-works : 2 ≤ count → (t : Bool) → t ≡ ne (getD points (5 * (length points / 6) + v) nan) zero32 → t ≡ true → (at′ : Counts → World) (r : Ran)
+        → Stepped K (openedBy K M v n count groups) L 0 (at k) at′ r → Works (splitBySides K v (take n sides)) L (at k) at′ r
+    split-works h t u e at′ r S =
+        works-split K v (take n sides) (openedBy K M v n count groups) L (at k) at′ r
+        (opening-found F G ∙ ap (λ (X : Mesh). openingOf K X v (take n sides)) (sym (mesh-is k)))
+        (ap (splits? (openedBy K M v n count groups)) (mesh-is k) ∙ splits-so F G h (ap (λ (x : Float). ne x zero32) inverse-is ∙ sym u ∙ e)) S
+
+-- ---- sides given for the fan of a mesh in blocks
+
+module _ (K : Kind) (L : Rooms) (k : Counts) (points : List Float) (roots corners : List ℕ) (volumes : List Float) (ends : List ℕ) (lengths : List Float) (outline log : List ℕ)
+    (P : Ready L k (lent points roots corners volumes ends lengths outline log) (meshAt k points roots corners volumes ends lengths outline)) where
+  -- the fan's tables have room
+  pub fan-lent : (ln lk lm : ℕ) → 2048 ≤ ln → 4096 ≤ lk → 2048 ≤ lm
+      → FanLent (k .triangles) (k .edges) (length corners) (length volumes) (length ends) (length lengths) ln lk lm
+  fan-lent ln lk lm a b c =
+      let R = P .rooms in
+      let C = P .counts in
+      record {
+        few = (omega (arith, C .triangles, R .few-triangles), omega (arith, C .edges, R .few-edges));
+        corners = omega (arith, C .triangles, R .corners);
+        volumes = omega (arith, C .triangles, R .volumes);
+        ends = omega (arith, C .edges, R .ends);
+        lengths = omega (arith, C .edges, R .lengths);
+        numbers = a;
+        verts = b;
+        measures = c;
+      }
+
+  module _ {v n : ℕ} {numbers verts : List ℕ} {measures : List Float} (F : FanRead K v (k .triangles) (k .edges) corners volumes ends lengths n numbers verts measures) where
+    -- the tables hold the fan of the mesh in the blocks
+    pub fan-here : Tabled (cornersPer K) (fanOf K (meshAt k points roots corners volumes ends lengths outline) v) n numbers verts measures
+    unfolding meshAt
+    fan-here = F .tabled (meshAt k points roots corners volumes ends lengths outline) refl refl
+
+    pub sided-by : {sides : List ℕ} → SidesGiven K (meshAt k points roots corners volumes ends lengths outline) v sides → 2048 ≤ length numbers → 4096 ≤ length verts → 2048 ≤ length measures
+        → FanSided K (meshAt k points roots corners volumes ends lengths outline) v n numbers verts measures sides
+    sided-by {sides} S a b c =
+        let T = fan-here in
+        let count = T .cornered .count in
+        let few = F .few in
+        record {
+          here = S .here;
+          tabled = T;
+          few = few;
+          numbers-long = omega arith;
+          verts-long = let h = F .narrow in omega arith;
+          measures-long = omega arith;
+          sides-long = omega (arith, S .every);
+          two = λ i l. S .two i (omega (arith, S .every));
+        }
+
+    pub sides-whole : {sides : List ℕ} → SidesGiven K (meshAt k points roots corners volumes ends lengths outline) v sides → take n sides ≡ sides
+    sides-whole {sides} S = let T = fan-here in let count = T .cornered .count in take-all n sides (omega (arith, S .every))
+
+-- the same sides, written otherwise
+pub sides-works : (K : Kind) (v : ℕ) {s t : List ℕ} {L : Rooms} {W : World} {at : Counts → World} {r : Ran} → s ≡ t → Works (splitBySides K v s) L W at r → Works (splitBySides K v t) L W at r
+sides-works K v {L = L} {W} {at} {r} e X = subst (λ (l : List ℕ). Works (splitBySides K v l) L W at r) e X

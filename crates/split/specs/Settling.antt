@@ -1,0 +1,155 @@
+-- Parts 4 to 6 of a split and its log, worker by worker. Only contracts between workers need this file. Definitions only.
+use Prim.Native.Nat.{ℕ, _+_, _-_, _/_, _<_, _≤_}
+use mathlib.Core.Path.{_≡_}
+use mathlib.Core.Bool.{not}
+use mathlib.Core.List.{List, map, _++_}
+use lib.ListN.{length, getD}
+use lib.Dec.{eqb}
+use lib.Ieee.{Float}
+use Rattle.lists.specs.Lists.{pick, sift, keep, upTo}
+use Rattle.model.specs.Mesh.{Edge, Mesh}
+use Rattle.model.specs.Elements.{Kind, Triangles, cornersPer}
+use Rattle.model.specs.Split.{Opening, straddles, followed, crackFacets}
+use Rattle.mesh.specs.At.{trianglesAt, edgesAt, boundaryAt}
+use Rattle.mesh.specs.Log.{World, Words, logAt}
+use Rattle.mesh.specs.declared.Counts.{Counts}
+use Rattle.mesh.specs.declared.Rooms.{Rooms}
+use Rattle.opening.specs.Opened.{Ringed, Numbered, RingRoom, RestsIn, CornersBelow}
+use Rattle.rewire.specs.Stages.{GrownTo}
+use Rattle.rewire.specs.RoomsB.{rowAt}
+use Rattle.rewire.specs.declared.Grown.{Grown}
+use Rattle.split.specs.Steps.{SidesIn, SettleRoom, SettlingTold}
+use Rattle.split.specs.declared.Ran.{Ran}
+
+-- ---- 4: straddlers
+
+-- the places below e that the mask marks, rising
+unfoldable pub markedOf : List ℕ → ℕ → List ℕ
+markedOf mask e = sift (λ i. eqb (getD mask i 0) 1) (upTo e)
+
+-- a split in tables, and a mesh with the triangles and the edges of the blocks
+pub record SplitIn (K : Kind) (O : Opening) (M : Mesh) (v before n count t e : ℕ) (verts groups corners : List ℕ) (volumes : List Float) (ends : List ℕ) (lengths : List Float) : Type 0 where
+  pub at : O .v ≡ v
+  pub before-is : O .before ≡ before
+  pub count-is : O .count ≡ count
+  pub ringed : Ringed (cornersPer K) O n verts groups
+  pub triangles-are : M .triangles ≡ trianglesAt t corners volumes
+  pub edges-are : M .edges ≡ edgesAt e ends lengths
+
+-- what marking the straddlers asks: tables that fit, few rows within the blocks, and a mark for each edge
+pub record MarkAsked (K : Kind) (n count t e : ℕ) (verts groups : List ℕ) (lc lv le ll lm : ℕ) : Type 0 where
+  pub ring : RingRoom n (cornersPer K) (length verts) (length groups)
+  pub below : (i : ℕ) → i < n → getD groups i 0 < count
+  pub few-triangles : t ≤ 1024
+  pub few-edges : e ≤ 2048
+  pub corners : t ≤ lc / 3
+  pub volumes : t ≤ lv / 2
+  pub ends : e ≤ le / 4
+  pub lengths : e ≤ ll / 4
+  pub mask : e ≤ lm
+
+-- the mask marks s edges, those that straddle, whatever split the tables hold
+pub record MarkedFor (K : Kind) (v before n count t e : ℕ) (verts groups corners : List ℕ) (volumes : List Float) (ends : List ℕ) (lengths : List Float) (mask : List ℕ) (s : ℕ) : Type 0 where
+  pub marks :
+      (O : Opening) (M : Mesh) → SplitIn K O M v before n count t e verts groups corners volumes ends lengths
+      → (i : ℕ) → i < e → getD mask i 0 ≡ pick (straddles K M O (rowAt ends lengths i)) 1 0
+  pub kept :
+      (O : Opening) (M : Mesh) → SplitIn K O M v before n count t e verts groups corners volumes ends lengths
+      → keep mask (edgesAt e ends lengths) ≡ sift (λ (a : Edge). not (straddles K M O a)) (edgesAt e ends lengths)
+  pub counted : s ≡ length (markedOf mask e)
+
+-- ---- 5 and 6: boundary and crack facets
+
+-- a split in tables, and a mesh with the triangles of the block, whose first particles rest as the points say
+pub record BoundaryIn (K : Kind) (O : Opening) (M : Mesh) (t : ℕ) (volumes : List Float) (v before n count : ℕ) (numbers verts groups : List ℕ) (points : List Float) (corners : List ℕ) : Type 0 where
+  pub at : O .v ≡ v
+  pub before-is : O .before ≡ before
+  pub count-is : O .count ≡ count
+  pub ringed : Ringed (cornersPer K) O n verts groups
+  pub numbered : Numbered O n numbers
+  pub rests : RestsIn M before points
+  pub triangles-are : M .triangles ≡ trianglesAt t corners volumes
+  pub numbers-in : K ≡ Triangles → (i : ℕ) → i < n → getD numbers i 0 < t
+
+-- what the facets ask: tables that fit, triangles that the corners hold, and b entries within the room
+pub record FacetsAsked (K : Kind) (before n count b room : ℕ) (numbers : List ℕ) (lv lg lc lo : ℕ) : Type 0 where
+  pub ring : RingRoom n (cornersPer K) lv lg
+  pub small : before + count ≤ 65536
+  pub numbers-long : n ≤ length numbers
+  pub in-corners : K ≡ Triangles → (i : ℕ) → i < n → getD numbers i 0 < lc / 3
+  pub rows : b ≤ room
+  pub columns : room ≤ lo / 2
+
+-- the crack facets of a split stand behind the b entries
+pub record FacetsTold (K : Kind) (v before n count b room : ℕ) (numbers verts groups : List ℕ) (corners outline outline′ : List ℕ) (r : Grown) : Type 0 where
+  pub facets :
+      (O : Opening) (M : Mesh) (t : ℕ) (volumes points : List Float) → BoundaryIn K O M t volumes v before n count numbers verts groups points corners
+      → GrownTo r room (boundaryAt b outline ++ crackFacets K M O) (λ q. boundaryAt q outline′)
+
+-- what the boundary asks besides: its ends, v and the corners of the fan are among the particles before the copies
+pub record BoundaryAsked (K : Kind) (v before n count b room : ℕ) (numbers verts groups : List ℕ) (lp lc : ℕ) (outline : List ℕ) : Type 0 where
+  pub facets : FacetsAsked K before n count b room numbers (length verts) (length groups) lc (length outline)
+  pub here : v < before
+  pub rests-in : before ≤ lp / 6
+  pub below : (i : ℕ) → i < n → getD groups i 0 < count
+  pub corners-in : CornersBelow before n (cornersPer K) verts
+  pub sides : SidesIn before b outline
+
+-- the b entries follow their groups, and the crack facets stand behind them
+pub record BoundaryTold (K : Kind) (v before n count b room : ℕ) (numbers verts groups : List ℕ) (points : List Float) (corners outline outline′ : List ℕ) (r : Grown) : Type 0 where
+  pub sides :
+      (O : Opening) (M : Mesh) (t : ℕ) (volumes : List Float) → BoundaryIn K O M t volumes v before n count numbers verts groups points corners
+      → GrownTo r room (map (followed M O) (boundaryAt b outline) ++ crackFacets K M O) (λ q. boundaryAt q outline′)
+
+-- ---- the log
+
+-- the words of a copy of v, and of edge i, which goes
+abbrev pub copyWords : ℕ → ℕ → ℕ → Words
+copyWords v before g = record { kind = 1; a = before + g; b = v; p = 0; q = 0; t = 0 }
+
+abbrev pub goneWords : List ℕ → ℕ → Words
+goneWords ends i = record { kind = 2; a = getD ends i 0; b = getD ends (length ends / 4 + i) 0; p = 0; q = 0; t = 0 }
+
+-- m copies are noted behind the entries
+pub record CopiesNoted (v before m at : ℕ) (log log′ : List ℕ) : Type 0 where
+  pub noted : logAt (at + m) log′ ≡ logAt at log ++ map (copyWords v before) (upTo m)
+
+-- what noting the marked among e edges asks
+pub record NoteAsked (at e : ℕ) (mask : List ℕ) (le lg : ℕ) : Type 0 where
+  pub mask-long : e ≤ length mask
+  pub ends : e ≤ le / 4
+  pub room : at + length (markedOf mask e) ≤ lg / 6
+
+-- the marked edges are noted behind the entries
+pub record GoneNoted (at e : ℕ) (mask ends log log′ : List ℕ) : Type 0 where
+  pub noted : logAt (at + length (markedOf mask e)) log′ ≡ logAt at log ++ map (goneWords ends) (markedOf mask e)
+
+-- what noting both asks
+pub record SplitAsked (before m at e : ℕ) (mask : List ℕ) (le lg : ℕ) : Type 0 where
+  pub small : before + m ≤ 65536
+  pub marked : NoteAsked (at + m) e mask le lg
+
+-- the copies and then the marked edges are noted
+pub record SplitNoted (v before m at e : ℕ) (mask ends log log′ : List ℕ) : Type 0 where
+  pub noted : logAt (at + m + length (markedOf mask e)) log′ ≡ logAt at log ++ (map (copyWords v before) (upTo m) ++ map (goneWords ends) (markedOf mask e))
+
+-- ---- the whole
+
+-- what parts 4 to 6 ask: the copies are there, and the tables of the fan fit the mesh before them
+pub record SettleAsked (K : Kind) (L : Rooms) (k : Counts) (v before n count extra : ℕ) (numbers verts groups : List ℕ) (lp lc lv le ll : ℕ) (outline : List ℕ) (lg : ℕ) : Type 0 where
+  pub room : SettleRoom L k lc lv le ll (length outline) lg
+  pub copied-all : k .particles ≡ before + count - 1
+  pub points : k .particles ≤ lp / 6
+  pub here : v < before
+  pub two : 2 ≤ count
+  pub ring : RingRoom n (cornersPer K) (length verts) (length groups)
+  pub numbers-long : n ≤ length numbers
+  pub in-triangles : K ≡ Triangles → (i : ℕ) → i < n → getD numbers i 0 < k .triangles
+  pub below : (i : ℕ) → i < n → getD groups i 0 < count
+  pub corners-in : CornersBelow before n (cornersPer K) verts
+  pub sides : SidesIn before (k .boundary) outline
+  pub one-extra : extra ≤ 1
+
+-- what was told after parts 4 to 6, whatever the measures of the fan are
+pub record SettledFor (K : Kind) (L : Rooms) (extra v before n count : ℕ) (numbers verts groups : List ℕ) (W : List ℕ → World) (at : List ℕ → Counts → World) (r : Ran) : Type 0 where
+  pub settling : (measures : List Float) → SettlingTold K L extra v before n count numbers verts measures groups W at r

@@ -1,0 +1,287 @@
+// The second half of a split: straddlers go, the boundary follows, crack facets join it, and the log tells of it.
+ghost use mathlib.Core.Path.{_≡_};
+ghost use Prim.Native.Nat.{_+_, _/_, _≤_};
+ghost use lib.ListN.{length};
+ghost use lib.Dec.{leb};
+ghost use Rattle.elements.specs.Table.{kindIs};
+ghost use Rattle.mesh.specs.Log.{worldAt};
+ghost use Rattle.split.specs.Settling.{MarkAsked, MarkedFor, FacetsAsked, FacetsTold, BoundaryAsked, BoundaryTold, CopiesNoted, NoteAsked, GoneNoted, SplitAsked, SplitNoted, SettleAsked, SettledFor};
+use crate::Ran;
+use elements::Kind;
+use mesh::Counts;
+use mesh::Rooms;
+use rewire::Grown;
+
+// Marks the straddlers among the first e edges with 1, the others with 0; returns how many straddle.
+fn mark(
+    kind: Kind,
+    v: usize,
+    before: usize,
+    n: usize,
+    count: usize,
+    t: usize,
+    e: usize,
+    verts: &[usize],
+    groups: &[usize],
+    corners: &[usize],
+    volumes: &[f32],
+    ends: &[usize],
+    lengths: &[f32],
+    mask: &mut [usize],
+) -> usize
+    requires { ⌜ MarkAsked (kindIs kind) n count t e (now verts) (now groups) (length (now corners)) (length (now volumes)) (length (now ends)) (length (now lengths)) (length (now mask)) ⌝ }
+    ensures { λ r. ⌜ MarkedFor (kindIs kind) v before n count t e (now (verts .entry)) (now (groups .entry)) (now (corners .entry)) (now (volumes .entry)) (now (ends .entry)) (now (lengths .entry)) (now (mask .exit)) r ⌝ }
+{
+    let mut body_numbers = [0usize; 2048];
+    let mut body = [0usize; 4096];
+    let mut body_measures = [0.0f32; 2048];
+    let k = elements::corners_per(kind);
+    let m = elements::element_table(
+        kind,
+        t,
+        e,
+        corners,
+        volumes,
+        ends,
+        lengths,
+        &mut body_numbers,
+        &mut body,
+        &mut body_measures,
+    );
+    rewire::straddlers::mark_straddlers(
+        kind,
+        v,
+        before,
+        k,
+        n,
+        count,
+        e,
+        verts,
+        groups,
+        m,
+        k,
+        &body,
+        ends,
+        mask,
+    )
+}
+
+// Where the elements are triangles, appends the crack facets to the b entries of the outline.
+fn open_facets(
+    kind: Kind,
+    v: usize,
+    before: usize,
+    n: usize,
+    count: usize,
+    b: usize,
+    room: usize,
+    numbers: &[usize],
+    verts: &[usize],
+    groups: &[usize],
+    corners: &[usize],
+    outline: &mut [usize],
+) -> Grown
+    requires { ⌜ FacetsAsked (kindIs kind) before n count b room (now numbers) (length (now verts)) (length (now groups)) (length (now corners)) (length (now outline)) ⌝ }
+    ensures { λ r. ⌜ FacetsTold (kindIs kind) v before n count b room (now (numbers .entry)) (now (verts .entry)) (now (groups .entry)) (now (corners .entry)) (now (outline .entry)) (now (outline .exit)) r ⌝ }
+{
+    match kind {
+        Kind::Triangles => rewire::facets::crack_facets(
+            v,
+            before,
+            n,
+            count,
+            b,
+            room,
+            numbers,
+            verts,
+            groups,
+            corners,
+            outline,
+        ),
+        Kind::Straps => Grown::Rows(b),
+        Kind::Nothing => Grown::Rows(b),
+    }
+}
+
+// The b entries of the outline follow their groups, and the crack facets are appended.
+fn open_boundary(
+    kind: Kind,
+    v: usize,
+    before: usize,
+    n: usize,
+    count: usize,
+    b: usize,
+    room: usize,
+    numbers: &[usize],
+    verts: &[usize],
+    groups: &[usize],
+    points: &[f32],
+    corners: &[usize],
+    outline: &mut [usize],
+) -> Grown
+    requires { ⌜ BoundaryAsked (kindIs kind) v before n count b room (now numbers) (now verts) (now groups) (length (now points)) (length (now corners)) (now outline) ⌝ }
+    ensures { λ r. ⌜ BoundaryTold (kindIs kind) v before n count b room (now (numbers .entry)) (now (verts .entry)) (now (groups .entry)) (now (points .entry)) (now (corners .entry)) (now (outline .entry)) (now (outline .exit)) r ⌝ }
+{
+    let k = elements::corners_per(kind);
+    rewire::boundary::follow_boundary(
+        v,
+        before,
+        k,
+        n,
+        count,
+        before,
+        b,
+        verts,
+        groups,
+        points,
+        outline,
+    );
+    open_facets(
+        kind,
+        v,
+        before,
+        n,
+        count,
+        b,
+        room,
+        numbers,
+        verts,
+        groups,
+        corners,
+        outline,
+    )
+}
+
+// Do m copies, s removed edges and the entries to come fit?
+fn log_fits(free: usize, m: usize, s: usize, extra: usize) -> bool
+    requires { ⌜ m + extra ≤ 65536 ⌝ }
+    ensures { λ r. ⌜ r ≡ leb (m + s + extra) free ⌝ }
+{
+    if free < s {
+        return false;
+    }
+    m + extra <= free - s
+}
+
+// Notes m copies of v, which were appended to `before` particles, behind the entries.
+fn note_copies(v: usize, before: usize, m: usize, at: usize, log: &mut [usize])
+    requires { ⌜ (before + m ≤ 65536) × (at + m ≤ length (now log) / 6) ⌝ }
+    ensures { λ _. ⌜ CopiesNoted v before m at (now (log .entry)) (now (log .exit)) ⌝ }
+{
+    let mut i: usize = 0;
+    while i < m {
+        mesh::rows::note(at + i, 1, before + i, v, 0, 0, 0, log);
+        i += 1;
+    }
+}
+
+// Notes the marked among the first e edges, by their ends, behind the entries.
+fn note_gone(at: usize, e: usize, mask: &[usize], ends: &[usize], log: &mut [usize])
+    requires { ⌜ NoteAsked at e (now mask) (length (now ends)) (length (now log)) ⌝ }
+    ensures { λ _. ⌜ GoneNoted at e (now (mask .entry)) (now (ends .entry)) (now (log .entry)) (now (log .exit)) ⌝ }
+{
+    let c = ends.len() / 4;
+    let mut n = at;
+    let mut i: usize = 0;
+    while i < e {
+        if mask[i] == 1 {
+            mesh::rows::note(n, 2, ends[i], ends[c + i], 0, 0, 0, log);
+            n += 1;
+        }
+        i += 1;
+    }
+}
+
+// Notes m copies of v and then the marked edges.
+fn note_split(
+    v: usize,
+    before: usize,
+    m: usize,
+    at: usize,
+    e: usize,
+    mask: &[usize],
+    ends: &[usize],
+    log: &mut [usize],
+)
+    requires { ⌜ SplitAsked before m at e (now mask) (length (now ends)) (length (now log)) ⌝ }
+    ensures { λ _. ⌜ SplitNoted v before m at e (now (mask .entry)) (now (ends .entry)) (now (log .entry)) (now (log .exit)) ⌝ }
+{
+    note_copies(v, before, m, at, log);
+    note_gone(at + m, e, mask, ends, log);
+}
+
+// Parts 4 to 6 of a split and its log, on a mesh whose edges are at their longest, with `extra` entries to come.
+pub fn settle(
+    kind: Kind,
+    v: usize,
+    before: usize,
+    n: usize,
+    count: usize,
+    extra: usize,
+    numbers: &[usize],
+    verts: &[usize],
+    groups: &[usize],
+    k: Counts,
+    room: Rooms,
+    points: &[f32],
+    corners: &[usize],
+    volumes: &[f32],
+    ends: &mut [usize],
+    lengths: &mut [f32],
+    outline: &mut [usize],
+    log: &mut [usize],
+) -> Ran
+    requires { ⌜ SettleAsked (kindIs kind) room k v before n count extra (now numbers) (now verts) (now groups) (length (now points)) (length (now corners)) (length (now volumes)) (length (now ends)) (length (now lengths)) (now outline) (length (now log)) ⌝ }
+    ensures { λ r. ⌜ SettledFor (kindIs kind) room extra v before n count (now (numbers .entry)) (now (verts .entry)) (now (groups .entry)) (λ roots. worldAt k (now (points .entry)) roots (now (corners .entry)) (now (volumes .entry)) (now (ends .entry)) (now (lengths .entry)) (now (outline .entry)) (now (log .entry))) (λ roots q. worldAt q (now (points .entry)) roots (now (corners .entry)) (now (volumes .entry)) (now (ends .exit)) (now (lengths .exit)) (now (outline .exit)) (now (log .exit))) r ⌝ }
+{
+    let t = k.triangles;
+    let e = k.edges;
+    let mut mask = [0usize; 2048];
+    let s = mark(
+        kind,
+        v,
+        before,
+        n,
+        count,
+        t,
+        e,
+        verts,
+        groups,
+        corners,
+        volumes,
+        ends,
+        lengths,
+        &mut mask,
+    );
+    let grown = open_boundary(
+        kind,
+        v,
+        before,
+        n,
+        count,
+        k.boundary,
+        room.boundary,
+        numbers,
+        verts,
+        groups,
+        points,
+        corners,
+        outline,
+    );
+    let Grown::Rows(rows) = grown else {
+        return Ran::Refused(7);
+    };
+    let m = count - 1;
+    if !log_fits(room.log - k.log, m, s, extra) {
+        return Ran::Refused(8);
+    }
+    note_split(v, before, m, k.log, e, &mask, ends, log);
+    let left = mesh::rows::remove_edges(&mask, e, ends, lengths);
+    Ran::Done(Counts {
+        particles: k.particles,
+        triangles: t,
+        edges: left,
+        boundary: rows,
+        log: k.log + m + s,
+    })
+}

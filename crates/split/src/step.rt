@@ -1,0 +1,225 @@
+// One particle split by the groups of its fan, as one step over the lent blocks.
+ghost use mathlib.Core.Path.{_≡_};
+ghost use Prim.Native.Nat.{_+_, _*_, _/_, _<_, _≤_};
+ghost use lib.ListN.{length, getD, take};
+ghost use lib.Ieee.{nan, ne};
+ghost use Rattle.float.specs.Numbers.{zero32};
+ghost use Rattle.elements.specs.Table.{kindIs};
+ghost use Rattle.model.specs.Elements.{fanOf};
+ghost use Rattle.model.specs.Split.{splitBySides};
+ghost use Rattle.mesh.specs.At.{meshAt};
+ghost use Rattle.mesh.specs.Log.{worldAt};
+ghost use Rattle.mesh.specs.Filled.{lent};
+ghost use Rattle.split.specs.Working.{Ready, Works};
+ghost use Rattle.split.specs.Tables.{FanGrouped, FanSided, openedBy, SidesGiven};
+ghost use Rattle.split.specs.Steps.{Stepped};
+use crate::Grew;
+use crate::Ran;
+use elements::Kind;
+use mesh::Counts;
+use mesh::Rooms;
+
+// Splits v by the groups of its fan. `extra` entries more must have room in the log: the caller writes them.
+pub fn split_opened(
+    kind: Kind,
+    v: usize,
+    n: usize,
+    count: usize,
+    extra: usize,
+    numbers: &[usize],
+    verts: &[usize],
+    measures: &[f32],
+    groups: &[usize],
+    k: Counts,
+    room: Rooms,
+    points: &mut [f32],
+    roots: &mut [usize],
+    corners: &mut [usize],
+    volumes: &[f32],
+    ends: &mut [usize],
+    lengths: &mut [f32],
+    outline: &mut [usize],
+    log: &mut [usize],
+) -> Ran
+    requires { ⌜ Ready room k (lent (now points) (now roots) (now corners) (now volumes) (now ends) (now lengths) (now outline) (now log)) (meshAt k (now points) (now roots) (now corners) (now volumes) (now ends) (now lengths) (now outline)) × FanGrouped (kindIs kind) (meshAt k (now points) (now roots) (now corners) (now volumes) (now ends) (now lengths) (now outline)) v n count (now numbers) (now verts) (now measures) (now groups) × (extra ≤ 1) ⌝ }
+    ensures { λ r. ⌜ Stepped (kindIs kind) (openedBy (kindIs kind) (meshAt k (now (points .entry)) (now (roots .entry)) (now (corners .entry)) (now (volumes .entry)) (now (ends .entry)) (now (lengths .entry)) (now (outline .entry))) v n count (now (groups .entry))) room extra
+        (worldAt k (now (points .entry)) (now (roots .entry)) (now (corners .entry)) (now (volumes .entry)) (now (ends .entry)) (now (lengths .entry)) (now (outline .entry)) (now (log .entry)))
+        (λ q. worldAt q (now (points .exit)) (now (roots .exit)) (now (corners .exit)) (now (volumes .entry)) (now (ends .exit)) (now (lengths .exit)) (now (outline .exit)) (now (log .exit))) r ⌝ }
+{
+    let before = k.particles;
+    let t = k.triangles;
+    let b = k.boundary;
+    let g = k.log;
+    let grew = crate::grow::grow(
+        kind,
+        v,
+        n,
+        count,
+        numbers,
+        verts,
+        measures,
+        groups,
+        k,
+        room,
+        points,
+        roots,
+        corners,
+        ends,
+        lengths,
+    );
+    match grew {
+        Grew::Lacking(c) => Ran::Refused(c),
+        Grew::Longest(e) => {
+            let longest = Counts {
+                particles: before + count - 1,
+                triangles: t,
+                edges: e,
+                boundary: b,
+                log: g,
+            };
+            crate::settle::settle(
+                kind,
+                v,
+                before,
+                n,
+                count,
+                extra,
+                numbers,
+                verts,
+                groups,
+                longest,
+                room,
+                points,
+                corners,
+                volumes,
+                ends,
+                lengths,
+                outline,
+                log,
+            )
+        }
+    }
+}
+
+// Is v free: is its inverse mass not 0?
+pub fn is_free(v: usize, points: &[f32]) -> bool
+    requires { ⌜ v < length (now points) / 6 ⌝ }
+    ensures { λ r. ⌜ r ≡ ne (getD (now (points .entry)) (5 * (length (now (points .entry)) / 6) + v) nan) zero32 ⌝ }
+{
+    let size = points.len() / 6;
+    points[5 * size + v] != 0.0
+}
+
+// Splits v by the sides of its fan, which stands in the tables, if it splits at all.
+pub fn split_tabled(
+    kind: Kind,
+    v: usize,
+    n: usize,
+    numbers: &[usize],
+    verts: &[usize],
+    measures: &[f32],
+    sides: &[usize],
+    k: Counts,
+    room: Rooms,
+    points: &mut [f32],
+    roots: &mut [usize],
+    corners: &mut [usize],
+    volumes: &[f32],
+    ends: &mut [usize],
+    lengths: &mut [f32],
+    outline: &mut [usize],
+    log: &mut [usize],
+) -> Ran
+    requires { ⌜ Ready room k (lent (now points) (now roots) (now corners) (now volumes) (now ends) (now lengths) (now outline) (now log)) (meshAt k (now points) (now roots) (now corners) (now volumes) (now ends) (now lengths) (now outline)) × FanSided (kindIs kind) (meshAt k (now points) (now roots) (now corners) (now volumes) (now ends) (now lengths) (now outline)) v n (now numbers) (now verts) (now measures) (now sides) ⌝ }
+    ensures { λ r. ⌜ Works (splitBySides (kindIs kind) v (take n (now (sides .entry)))) room
+        (worldAt k (now (points .entry)) (now (roots .entry)) (now (corners .entry)) (now (volumes .entry)) (now (ends .entry)) (now (lengths .entry)) (now (outline .entry)) (now (log .entry)))
+        (λ q. worldAt q (now (points .exit)) (now (roots .exit)) (now (corners .exit)) (now (volumes .entry)) (now (ends .exit)) (now (lengths .exit)) (now (outline .exit)) (now (log .exit))) r ⌝ }
+{
+    let mut groups = [0usize; 2048];
+    let count = crate::fans::group_fan(kind, v, n, verts, sides, &mut groups);
+    if count < 2 {
+        return Ran::Done(k);
+    }
+    if is_free(v, points) {
+        return split_opened(
+            kind,
+            v,
+            n,
+            count,
+            0,
+            numbers,
+            verts,
+            measures,
+            &groups,
+            k,
+            room,
+            points,
+            roots,
+            corners,
+            volumes,
+            ends,
+            lengths,
+            outline,
+            log,
+        );
+    }
+    Ran::Done(k)
+}
+
+// Splits v by a side for each element of its fan.
+pub fn split_by_sides(
+    kind: Kind,
+    v: usize,
+    sides: &[usize],
+    k: Counts,
+    room: Rooms,
+    points: &mut [f32],
+    roots: &mut [usize],
+    corners: &mut [usize],
+    volumes: &[f32],
+    ends: &mut [usize],
+    lengths: &mut [f32],
+    outline: &mut [usize],
+    log: &mut [usize],
+) -> Ran
+    requires { ⌜ Ready room k (lent (now points) (now roots) (now corners) (now volumes) (now ends) (now lengths) (now outline) (now log)) (meshAt k (now points) (now roots) (now corners) (now volumes) (now ends) (now lengths) (now outline)) × SidesGiven (kindIs kind) (meshAt k (now points) (now roots) (now corners) (now volumes) (now ends) (now lengths) (now outline)) v (now sides) ⌝ }
+    ensures { λ r. ⌜ Works (splitBySides (kindIs kind) v (now (sides .entry))) room
+        (worldAt k (now (points .entry)) (now (roots .entry)) (now (corners .entry)) (now (volumes .entry)) (now (ends .entry)) (now (lengths .entry)) (now (outline .entry)) (now (log .entry)))
+        (λ q. worldAt q (now (points .exit)) (now (roots .exit)) (now (corners .exit)) (now (volumes .entry)) (now (ends .exit)) (now (lengths .exit)) (now (outline .exit)) (now (log .exit))) r ⌝ }
+{
+    let mut numbers = [0usize; 2048];
+    let mut verts = [0usize; 4096];
+    let mut measures = [0.0f32; 2048];
+    let n = crate::fans::fan_tables(
+        kind,
+        v,
+        k.triangles,
+        k.edges,
+        corners,
+        volumes,
+        ends,
+        lengths,
+        &mut numbers,
+        &mut verts,
+        &mut measures,
+    );
+    split_tabled(
+        kind,
+        v,
+        n,
+        &numbers,
+        &verts,
+        &measures,
+        sides,
+        k,
+        room,
+        points,
+        roots,
+        corners,
+        volumes,
+        ends,
+        lengths,
+        outline,
+        log,
+    )
+}
