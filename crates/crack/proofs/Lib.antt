@@ -2,3 +2,4 @@
 pub mod LoadLaws
 pub mod FamilyLaws
 pub mod WayLaws
+pub mod TearLaws

@@ -2,3 +2,4 @@
 pub mod Loads
 pub mod Families
 pub mod Ways
+pub mod Tears
