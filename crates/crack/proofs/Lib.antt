@@ -3,3 +3,4 @@ pub mod LoadLaws
 pub mod FamilyLaws
 pub mod WayLaws
 pub mod TearLaws
+pub mod TornLaws

@@ -3,3 +3,4 @@ pub mod Loads
 pub mod Families
 pub mod Ways
 pub mod Tears
+pub mod Torn
