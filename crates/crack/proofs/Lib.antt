@@ -4,3 +4,4 @@ pub mod FamilyLaws
 pub mod WayLaws
 pub mod TearLaws
 pub mod TornLaws
+pub mod TriedLaws

@@ -4,3 +4,4 @@ pub mod Families
 pub mod Ways
 pub mod Tears
 pub mod Torn
+pub mod Tried

@@ -3,4 +3,5 @@ pub mod families;
 pub mod loads;
 pub mod opens;
 pub mod tears;
+pub mod tried;
 pub mod ways;
