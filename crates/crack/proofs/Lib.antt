@@ -1,0 +1,7 @@
+-- A crack across torn edges: its laws and its proofs.
+pub mod LoadLaws
+pub mod FamilyLaws
+pub mod WayLaws
+pub mod TearLaws
+pub mod TornLaws
+pub mod TriedLaws

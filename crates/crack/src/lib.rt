@@ -1,0 +1,7 @@
+// A crack across torn edges, over the lent blocks.
+pub mod families;
+pub mod loads;
+pub mod opens;
+pub mod tears;
+pub mod tried;
+pub mod ways;

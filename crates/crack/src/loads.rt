@@ -1,0 +1,95 @@
+// Loads: the stress of a triangle, or of an edge between two of its corners where that is larger.
+ghost use mathlib.Core.Path.{_≡_};
+ghost use mathlib.Core.Bool.{_&&_};
+ghost use mathlib.Core.List.{[], _∷_};
+ghost use Prim.Native.Nat.{_/_, _<_, _≤_};
+ghost use lib.ListN.{length};
+ghost use Rattle.lists.specs.Lists.{stands};
+ghost use Rattle.mesh.specs.Workers.{EdgeRoom};
+ghost use Rattle.crack.specs.Loads.{PairLoad, TriangleLoad, LoadRoom, LoadsRead};
+
+// Is x one of the two ends?
+pub fn is_end(x: usize, a: usize, b: usize) -> bool
+    ensures { λ r. ⌜ r ≡ stands x (a ∷ b ∷ []) ⌝ }
+{
+    if a == x {
+        return true;
+    }
+    b == x
+}
+
+// Are both x and y ends?
+pub fn both_ends(x: usize, y: usize, a: usize, b: usize) -> bool
+    ensures { λ r. ⌜ r ≡ stands x (a ∷ b ∷ []) && stands y (a ∷ b ∷ []) ⌝ }
+{
+    if is_end(x, a, b) {
+        return is_end(y, a, b);
+    }
+    false
+}
+
+// The larger of a load and the stresses of the edges between x and y, if there is any.
+fn pair_load(load: f32, x: usize, y: usize, e: usize, ends: &[usize], lengths: &[f32]) -> f32
+    requires { ⌜ EdgeRoom e (length (now ends)) (length (now lengths)) ⌝ }
+    ensures { λ r. ⌜ PairLoad load x y e (now (ends .entry)) (now (lengths .entry)) r ⌝ }
+{
+    let c = ends.len() / 4;
+    let m = lengths.len() / 4;
+    let mut most: f32 = 0.0;
+    let mut found = false;
+    let mut i: usize = 0;
+    while i < e {
+        if both_ends(x, y, ends[i], ends[c + i]) {
+            most = float::larger::larger(most, lengths[3 * m + i]);
+            found = true;
+        }
+        i += 1;
+    }
+    if found {
+        return float::larger::larger(load, most);
+    }
+    load
+}
+
+// The load of triangle i, among the first e edges.
+pub fn triangle_load(
+    i: usize,
+    e: usize,
+    corners: &[usize],
+    volumes: &[f32],
+    ends: &[usize],
+    lengths: &[f32],
+) -> f32
+    requires { ⌜ LoadRoom (i < length (now corners) / 3) (i < length (now volumes) / 2) e (length (now ends)) (length (now lengths)) ⌝ }
+    ensures { λ r. ⌜ TriangleLoad i e (now (corners .entry)) (now (volumes .entry)) (now (ends .entry)) (now (lengths .entry)) r ⌝ }
+{
+    let c = corners.len() / 3;
+    let w = volumes.len() / 2;
+    let x = corners[i];
+    let y = corners[c + i];
+    let z = corners[2 * c + i];
+    let own = volumes[w + i];
+    let first = pair_load(own, x, y, e, ends, lengths);
+    let second = pair_load(first, x, z, e, ends, lengths);
+    pair_load(second, y, z, e, ends, lengths)
+}
+
+// The loads of the first t triangles.
+pub fn read_loads(
+    t: usize,
+    e: usize,
+    corners: &[usize],
+    volumes: &[f32],
+    ends: &[usize],
+    lengths: &[f32],
+    loads: &mut [f32],
+)
+    requires { ⌜ LoadRoom (t ≤ length (now corners) / 3) (t ≤ length (now volumes) / 2) e (length (now ends)) (length (now lengths)) × (t ≤ length (now loads)) ⌝ }
+    ensures { λ _. ⌜ LoadsRead t e (now (corners .entry)) (now (volumes .entry)) (now (ends .entry)) (now (lengths .entry)) (now (loads .exit)) ⌝ }
+{
+    let mut i: usize = 0;
+    while i < t {
+        loads[i] = triangle_load(i, e, corners, volumes, ends, lengths);
+        i += 1;
+    }
+}
