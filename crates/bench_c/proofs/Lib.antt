@@ -4,3 +4,4 @@ pub mod Loading
 pub mod Siding
 pub mod Grouping
 pub mod Listing
+pub mod Tellings
