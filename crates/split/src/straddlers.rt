@@ -140,7 +140,7 @@ fn note_edges(mask: &[usize], n: usize, at: usize, ends: &[usize], log: &mut [us
 }
 
 // Removes the marked edges and boundary entries, and notes the s edges, if the log has room.
-fn remove_marked(
+pub fn remove_marked(
     k: Counts,
     room: Rooms,
     s: usize,
