@@ -5,3 +5,5 @@ pub mod Siding
 pub mod Grouping
 pub mod Listing
 pub mod Tellings
+pub mod Outcomes
+pub mod Tearings

@@ -6,6 +6,7 @@ use lib.ListN.{take}
 use lib.Ieee.{Float}
 use Rattle.lists.specs.Lists.{pick}
 use Rattle.model.specs.Reads.{Read, refused, value}
+use Rattle.mesh.specs.Given.{Lent}
 use Rattle.mesh.specs.declared.Counts.{Counts}
 use Rattle.answer.specs.declared.Answer.{Answer}
 use Rattle.answer.specs.declared.Answer.the-variants.{Refused, Done}
@@ -44,3 +45,11 @@ pub record Tellable (k : Counts) (lp lr lc lv le ll lo lg logged : ℕ) : Type 0
 abbrev pub Telling : Answer → ℕ → ℕ → ℕ → ℕ → ℕ → ℕ → ℕ → ℕ → ℕ → Type 0
 Telling (Refused n) lp lr lc lv le ll lo lg logged = n < 256
 Telling (Done k b) lp lr lc lv le ll lo lg logged = Tellable k lp lr lc lv le ll lo lg logged
+
+-- lent blocks that are no longer than those of a mesh, and a log that its bytes have room for
+pub record Limited (L : Lent) (logged : ℕ) : Type 0 where
+  pub particles : L .points / 6 ≤ 1024
+  pub triangles : L .corners / 3 ≤ 1024
+  pub edges : L .ends / 4 ≤ 2048
+  pub boundary : L .outline / 2 ≤ 2048
+  pub log : 24 * (L .log / 6) ≤ logged

@@ -5,3 +5,4 @@ pub mod listed;
 pub mod meshes;
 pub mod outcome;
 pub mod reply;
+pub mod tearing;
