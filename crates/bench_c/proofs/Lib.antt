@@ -4,3 +4,6 @@ pub mod Loading
 pub mod Siding
 pub mod Grouping
 pub mod Listing
+pub mod Tellings
+pub mod Outcomes
+pub mod Tearings

@@ -5,9 +5,8 @@ use mathlib.Core.Path.{_≡_, refl, sym, ap, subst, _∙_}
 use mathlib.Core.Bool.{Bool, true, false, not, _&&_}
 use mathlib.Core.List.{List, [], _∷_}
 use lib.ListN.{length}
-use lib.Dec.{T, eqb, leb}
-use lib.Ieee.{Float, binary32, toBits, ne}
-use lib.Ieee.Compare.{differs-from-itself}
+use lib.Dec.{eqb, leb}
+use lib.Ieee.{Float}
 use borrow.Author.Tests.{le-leb, lt-leb, eq-eqb, ne-eqb}
 use Rattle.lists.specs.Lists.{pick}
 use Rattle.float.specs.declared.root.Rooted.{Rooted}
@@ -122,11 +121,6 @@ says ws lent r out h e f =
 -- a reply under another name for what is replied to
 pub replied-as : (o o′ : Read (List ℕ)) (lent r : ℕ) (out : List ℕ) → o ≡ o′ → Replied o lent r out → Replied o′ lent r out
 replied-as o o′ lent r out e h = subst (λ (z : Read (List ℕ)). Replied z lent r out) e h
-
--- the pattern of what differs from itself
-pub nan-bits : (x : Float) → ne x x ≡ true → 2143289344 ≡ toBits binary32 x
-unfolding toBits
-nan-bits x h = subst (λ (z : Float). 2143289344 ≡ toBits binary32 z) (sym (differs-from-itself x (subst T (sym h) tt))) refl
 
 -- ---- the reply of each C function without a mesh
 

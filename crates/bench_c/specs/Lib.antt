@@ -1,3 +1,5 @@
 -- What the C functions answer.
 pub mod Replies
 pub mod Given
+pub mod Torn
+pub mod Told

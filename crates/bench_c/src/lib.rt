@@ -3,4 +3,6 @@ pub mod fans;
 pub mod leaves;
 pub mod listed;
 pub mod meshes;
+pub mod outcome;
 pub mod reply;
+pub mod tearing;

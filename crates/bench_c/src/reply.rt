@@ -3,7 +3,6 @@ ghost use mathlib.Core.Path.{_≡_};
 ghost use Prim.Native.Nat.{_<_, _≤_};
 ghost use mathlib.Core.List.{[], _∷_};
 ghost use lib.ListN.{length};
-ghost use lib.Ieee.{binary32, toBits};
 ghost use Rattle.model.specs.Reads.{refused, value};
 ghost use Rattle.bench_c.specs.Replies.{Replied};
 ghost use Rattle.bench_c.specs.Given.{numberReply, countReply, groupsTold, truthReply, testedReply, SmallCode};
@@ -12,16 +11,6 @@ use bench::Number;
 use bench::Tested;
 use bench::Truth;
 use blade::Hit;
-
-// The bits of a number.
-pub fn bits_of(x: f32) -> usize
-    ensures { λ r. ⌜ r ≡ toBits binary32 x ⌝ }
-{
-    if x != x {
-        return 2143289344;
-    }
-    f32::to_bits(x) as usize
-}
 
 // A refusal: every byte is 0.
 pub fn reply_refused(code: usize, out: &mut [u8]) -> u32
@@ -66,7 +55,7 @@ pub fn reply_number(a: Number, out: &mut [u8]) -> u32
             return reply_refused(code, out);
         }
         Number::Value(x) => {
-            return reply_one(bits_of(x), out);
+            return reply_one(image::bits_of(x), out);
         }
     }
 }
@@ -147,7 +136,7 @@ pub fn reply_tested(a: Tested, out: &mut [u8]) -> u32
                 return reply_two(0, 0, out);
             }
             Hit::Hit(t) => {
-                return reply_two(1, bits_of(t), out);
+                return reply_two(1, image::bits_of(t), out);
             }
         },
     }

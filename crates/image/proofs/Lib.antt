@@ -2,3 +2,6 @@
 pub mod Words
 pub mod Sizes
 pub mod Fronts
+pub mod Puts
+pub mod Stored
+pub mod Encoded

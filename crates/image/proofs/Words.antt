@@ -7,8 +7,9 @@ use mathlib.Core.Path.{_≡_, refl, sym, ap, ap₂, subst, _∙_}
 use mathlib.Core.Bool.{Bool, true, false, not}
 use mathlib.Core.List.{List, [], _∷_, _++_, append-nil, append-assoc}
 use lib.Dec.{T, ltb}
-use lib.Ieee.{Float, inf, binary32, nanBits, ofBits}
+use lib.Ieee.{Float, inf, binary32, nanBits, ofBits, toBits, ne}
 use lib.Ieee.Bits.{nanBits-above}
+use lib.Ieee.Compare.{differs-from-itself}
 use lib.ListN.{length, getD, take, drop, set, replicate, length-set, length-append}
 use lib.Seq.{take-at, drop-at, drop-drop, take-suc, length-take-le}
 use borrow.Author.Tests.{le-ltb, lt-ltb}
@@ -36,6 +37,11 @@ number-plain w h = rw (no-nan w h)
 pub number-nan : (w : ℕ) → 2139095040 < w % 2147483648 → inf false ≡ numberOf w
 unfolding numberOf
 number-nan w h = rw (is-nan w h)
+
+-- the pattern of what differs from itself
+pub nan-bits : (x : Float) → ne x x ≡ true → 2143289344 ≡ toBits binary32 x
+unfolding toBits
+nan-bits x h = subst (λ (z : Float). 2143289344 ≡ toBits binary32 z) (sym (differs-from-itself x (subst T (sym h) tt))) refl
 
 -- ---- a block that fills from the front
 
@@ -92,22 +98,22 @@ drop-replicate zero n z = rw sub-zero
 drop-replicate (suc k) zero z = rw zero-sub
 drop-replicate (suc k) (suc n) z = drop-replicate k n z ∙ ap (λ (m : ℕ). replicate m z) (sym (suc-sub-suc n k))
 
--- four bytes behind those that stand there, in a run of lent bytes
-pub four-more : (lent k : ℕ) (a b : List ℕ) → length a ≡ k → length b ≡ 4 → k + 4 ≤ lent
-    → take k (padded lent 0 a) ++ (b ++ drop (k + 4) (padded lent 0 a)) ≡ padded lent 0 (a ++ b)
+-- bytes behind those that stand there, in a run of lent bytes
+pub bytes-more : (lent k m : ℕ) (a b : List ℕ) → length a ≡ k → length b ≡ m → k + m ≤ lent
+    → take k (padded lent 0 a) ++ (b ++ drop (k + m) (padded lent 0 a)) ≡ padded lent 0 (a ++ b)
 unfolding padded
-four-more lent k a b ea eb h =
+bytes-more lent k m a b ea eb h =
     let r : List ℕ = replicate (lent - length a) 0 in
-    let n : lent - length a - 4 ≡ lent - length (a ++ b) = omega (arith, length-append a b) in
-    let d : drop (k + 4) (a ++ r) ≡ replicate {A = ℕ} (lent - length (a ++ b)) 0 =
-    sym (drop-drop 4 k (a ++ r)) ∙ ap (drop 4) (drop-at a r k ea) ∙ drop-replicate 4 (lent - length a) 0 ∙ ap (λ (m : ℕ). replicate {A = ℕ} m 0) n in
+    let n : lent - length a - m ≡ lent - length (a ++ b) = omega (arith, length-append a b) in
+    let d : drop (k + m) (a ++ r) ≡ replicate {A = ℕ} (lent - length (a ++ b)) 0 =
+    sym (drop-drop m k (a ++ r)) ∙ ap (drop m) (drop-at a r k ea) ∙ drop-replicate m (lent - length a) 0 ∙ ap (λ (m : ℕ). replicate {A = ℕ} m 0) n in
     ap₂ (λ (x y : List ℕ). x ++ (b ++ y)) (take-at a r k ea) d ∙ sym (append-assoc a b (replicate (lent - length (a ++ b)) 0))
 
 -- one word more behind those that stand there
 pub put-next : (lent : ℕ) (ws : List ℕ) (i w : ℕ) → length ws ≡ i → 4 * i + 4 ≤ lent → putWord (written lent ws) i w ≡ written lent (ws ++ (w ∷ []))
 unfolding written each
 put-next lent ws i w e h =
-    four-more lent (4 * i) (each bytesOf ws) (bytesOf w) (bytes-length ws ∙ ap (λ (m : ℕ). 4 * m) e) refl h ∙ ap (padded lent 0) (sym (each-append bytesOf ws (w ∷ [])))
+    bytes-more lent (4 * i) 4 (each bytesOf ws) (bytesOf w) (bytes-length ws ∙ ap (λ (m : ℕ). 4 * m) e) refl h ∙ ap (padded lent 0) (sym (each-append bytesOf ws (w ∷ [])))
 
 -- the same of a store that a function made
 pub put-more : (lent : ℕ) (ws s s′ : List ℕ) (i w : ℕ) → s ≡ written lent ws → s′ ≡ putWord s i w → length ws ≡ i → 4 * i + 4 ≤ lent → s′ ≡ written lent (ws ++ (w ∷ []))

@@ -1,11 +1,14 @@
 -- A mesh image, as docs/C-FUNCTIONS.md has it: the four counts, then the columns of the seven blocks. Definitions only.
 use Prim.Native.Nat.{ℕ, _+_, _*_}
 use mathlib.Core.Bool.{Bool, _&&_}
-use mathlib.Core.List.{List}
+use mathlib.Core.List.{List, [], _∷_, _++_, map}
 use lib.ListN.{length}
 use lib.Dec.{eqb, leb}
+use Rattle.columns.specs.Block.{stack}
+use Rattle.model.specs.Mesh.{Mesh}
 use Rattle.mesh.specs.Given.{Given, given, sizesFit}
-use Rattle.image.specs.Words.{wordAt, wordsFrom, numbersFrom}
+use Rattle.mesh.specs.Filled.{pointOf, rootOf, cornerOf, volumeOf, endOf, lengthOf, sideOf}
+use Rattle.image.specs.Words.{wordAt, wordsFrom, numbersFrom, bitsIn}
 
 -- how many words an image of so many particles, triangles, edges and boundary entries has
 abbrev pub imageWords : ℕ → ℕ → ℕ → ℕ → ℕ
@@ -32,3 +35,10 @@ countsWithin s = leb (wordAt s 0) 1024 && leb (wordAt s 1) 1024 && leb (wordAt s
 -- the image has as many bytes as its counts say, and the input that it is has the sizes of a mesh
 unfoldable pub imageSized : List ℕ → Bool
 imageSized s = imageFits s && sizesFit (imageOf s)
+
+-- the words of the image of a mesh: the four counts, then the columns of the seven blocks, one behind the other
+unfoldable pub imageWordsOf : Mesh → List ℕ
+imageWordsOf M =
+    (length (M .particles) ∷ length (M .triangles) ∷ length (M .edges) ∷ length (M .boundary) ∷ []) ++ bitsIn (stack 6 (λ k. map (pointOf k) (M .particles)))
+    ++ stack 2 (λ k. map (rootOf k) (M .particles)) ++ stack 3 (λ k. map (cornerOf k) (M .triangles)) ++ bitsIn (stack 2 (λ k. map (volumeOf k) (M .triangles)))
+    ++ stack 4 (λ k. map (endOf k) (M .edges)) ++ bitsIn (stack 4 (λ k. map (lengthOf k) (M .edges))) ++ stack 2 (λ k. map (sideOf k) (M .boundary))

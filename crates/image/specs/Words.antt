@@ -1,8 +1,8 @@
 -- Bytes as little-endian words of 4 bytes, and words as bytes. Definitions only.
 use Prim.Native.Nat.{ℕ, _+_, _*_, _/_, _%_}
-use mathlib.Core.List.{List, [], _∷_, _++_}
+use mathlib.Core.List.{List, [], _∷_, _++_, map}
 use lib.ListN.{length, getD, take, drop}
-use lib.Ieee.{Float, inf, binary32, ofBits, nanBits}
+use lib.Ieee.{Float, inf, binary32, ofBits, toBits, nanBits}
 use mathlib.Core.Bool.{Bool, false}
 use Rattle.lists.specs.Lists.{pick, tab, each, padded}
 
@@ -32,3 +32,11 @@ written lent ws = padded lent 0 (each bytesOf ws)
 -- the bytes with the word w in the place of word i
 abbrev pub putWord : List ℕ → ℕ → ℕ → List ℕ
 putWord s i w = take (4 * i) s ++ (bytesOf w ++ drop (4 * i + 4) s)
+
+-- the bytes with the words ws in the place of word `at` and of those behind it
+unfoldable pub putWords : List ℕ → ℕ → List ℕ → List ℕ
+putWords s at ws = take (4 * at) s ++ (each bytesOf ws ++ drop (4 * at + 4 * length ws) s)
+
+-- the bit patterns of numbers
+abbrev pub bitsIn : List Float → List ℕ
+bitsIn l = map (toBits binary32) l

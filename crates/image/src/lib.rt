@@ -3,9 +3,12 @@ ghost use mathlib.Core.Path.{_≡_};
 ghost use Prim.Native.Nat.{ℕ, _+_, _*_, _%_, _≤_, _<_};
 ghost use mathlib.Core.List.{[], _∷_};
 ghost use lib.ListN.{length, take, replicate};
-ghost use Rattle.image.specs.Words.{wordAt, numberOf, wordsFrom, numbersFrom, written, putWord};
+ghost use lib.Ieee.{binary32, toBits};
+ghost use Rattle.image.specs.Words.{wordAt, numberOf, wordsFrom, numbersFrom, written, putWord, putWords, bitsIn};
 ghost use Rattle.image.specs.Image.{imageFits, countsWithin, imageSized};
 ghost use Rattle.image.specs.Loads.{Loadable, Loaded};
+ghost use Rattle.image.specs.Stores.{frontsOf, Placed, blockWords, Storable};
+use mesh::Counts;
 
 // A byte as a number.
 fn wide(x: u8) -> usize
@@ -188,4 +191,128 @@ pub fn load(
     words_into(image, edges, 4 * e, ends);
     numbers_into(image, edges + 4 * e, 4 * e, lengths);
     words_into(image, edges + 8 * e, 2 * b, outline);
+}
+
+// The bits of a number.
+pub fn bits_of(x: f32) -> usize
+    ensures { λ r. ⌜ r ≡ toBits binary32 x ⌝ }
+{
+    if x != x {
+        return 2143289344;
+    }
+    f32::to_bits(x) as usize
+}
+
+// Writes words from word `at` on.
+pub fn store_words(words: &[usize], at: usize, out: &mut [u8])
+    requires { ⌜ 4 * (at + length (now words)) ≤ length (now out) ⌝ }
+    ensures { λ _. ⌜ now (out .exit) ≡ putWords (now (out .entry)) at (now (words .entry)) ⌝ }
+{
+    let mut i: usize = 0;
+    while i < words.len() {
+        put_word(out, at + i, words[i]);
+        i += 1;
+    }
+}
+
+// Writes the bits of numbers from word `at` on.
+pub fn store_numbers(numbers: &[f32], at: usize, out: &mut [u8])
+    requires { ⌜ 4 * (at + length (now numbers)) ≤ length (now out) ⌝ }
+    ensures { λ _. ⌜ now (out .exit) ≡ putWords (now (out .entry)) at (bitsIn (now (numbers .entry))) ⌝ }
+{
+    let mut i: usize = 0;
+    while i < numbers.len() {
+        put_word(out, at + i, bits_of(numbers[i]));
+        i += 1;
+    }
+}
+
+// Writes the first n places of each column of a block of words, from word `at` on.
+pub fn store_words_block(
+    block: &[usize],
+    width: usize,
+    stride: usize,
+    n: usize,
+    at: usize,
+    out: &mut [u8],
+)
+    requires { ⌜ Placed width stride n at (length (now block)) (length (now out)) ⌝ }
+    ensures { λ _. ⌜ now (out .exit) ≡ putWords (now (out .entry)) at (frontsOf width n stride (now (block .entry))) ⌝ }
+{
+    let mut c: usize = 0;
+    let mut o: usize = 0;
+    let mut to: usize = at;
+    while c < width {
+        let end = o + n;
+        store_words(&block[o..end], to, out);
+        o += stride;
+        to += n;
+        c += 1;
+    }
+}
+
+// Writes the first n places of each column of a block of numbers, from word `at` on.
+pub fn store_numbers_block(
+    block: &[f32],
+    width: usize,
+    stride: usize,
+    n: usize,
+    at: usize,
+    out: &mut [u8],
+)
+    requires { ⌜ Placed width stride n at (length (now block)) (length (now out)) ⌝ }
+    ensures { λ _. ⌜ now (out .exit) ≡ putWords (now (out .entry)) at (bitsIn (frontsOf width n stride (now (block .entry)))) ⌝ }
+{
+    let mut c: usize = 0;
+    let mut o: usize = 0;
+    let mut to: usize = at;
+    while c < width {
+        let end = o + n;
+        store_numbers(&block[o..end], to, out);
+        o += stride;
+        to += n;
+        c += 1;
+    }
+}
+
+// Writes four words from word `at` on.
+pub fn store_four(at: usize, a: usize, b: usize, c: usize, d: usize, out: &mut [u8])
+    requires { ⌜ 4 * (at + 4) ≤ length (now out) ⌝ }
+    ensures { λ _. ⌜ now (out .exit) ≡ putWords (now (out .entry)) at (a ∷ b ∷ c ∷ d ∷ []) ⌝ }
+{
+    put_word(out, at, a);
+    put_word(out, at + 1, b);
+    put_word(out, at + 2, c);
+    put_word(out, at + 3, d);
+}
+
+// Writes the image of the first rows of seven blocks, from word 2 on.
+pub fn store(
+    k: Counts,
+    points: &[f32],
+    roots: &[usize],
+    corners: &[usize],
+    volumes: &[f32],
+    ends: &[usize],
+    lengths: &[f32],
+    outline: &[usize],
+    out: &mut [u8],
+)
+    requires { ⌜ Storable k (length (now points)) (length (now roots)) (length (now corners)) (length (now volumes)) (length (now ends)) (length (now lengths)) (length (now outline)) 2 (length (now out)) ⌝ }
+    ensures { λ _. ⌜ now (out .exit) ≡ putWords (now (out .entry)) 2 (blockWords k (now (points .entry)) (now (roots .entry)) (now (corners .entry)) (now (volumes .entry)) (now (ends .entry)) (now (lengths .entry)) (now (outline .entry))) ⌝ }
+{
+    let p = k.particles;
+    let t = k.triangles;
+    let e = k.edges;
+    let b = k.boundary;
+    let triangles = 6 + 8 * p;
+    let edges = triangles + 5 * t;
+    store_four(2, p, t, e, b, out);
+    store_numbers_block(points, 6, points.len() / 6, p, 6, out);
+    store_words_block(roots, 2, roots.len() / 2, p, 6 + 6 * p, out);
+    store_words_block(corners, 3, corners.len() / 3, t, triangles, out);
+    store_numbers_block(volumes, 2, volumes.len() / 2, t, triangles + 3 * t, out);
+    store_words_block(ends, 4, ends.len() / 4, e, edges, out);
+    store_numbers_block(lengths, 4, lengths.len() / 4, e, edges + 4 * e, out);
+    store_words_block(outline, 2, outline.len() / 2, b, edges + 8 * e, out);
 }

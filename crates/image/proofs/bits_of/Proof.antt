@@ -1,14 +1,14 @@
--- `bench_c::reply::bits_of` meets its contract: a NaN has the pattern that the definition names. Assumes nothing.
+-- `image::bits_of` meets its contract: a NaN has the pattern that the definition names. Assumes nothing.
 use native.Mathlib.Omega.{arith}
 use mathlib.Core.Path.{_≡_, refl, sym, subst, _∙_, ap}
 use lib.Dec.{T}
 use lib.Ieee.{binary32}
 use lib.Ieee.Bits.{toBits-lt}
 use Rattle.float.proofs.Patterns.{is-no-nan}
-use Rattle.bench_c.proofs.Replying.{nan-bits}
+use Rattle.image.proofs.Words.{nan-bits}
 use borrow.Author.Needs.{needs}
-use Rattle.bench_c.proofs.reply.bits_of.Statement.{statement}
-use Rattle.bench_c.proofs.reply.bits_of.Tie as tie
+use Rattle.image.proofs.bits_of.Statement.{statement}
+use Rattle.image.proofs.bits_of.Tie as tie
 
 returns : tie.Need-returns
 returns c = nan-bits ((c .before) .args .x) (c .if1 .taken)

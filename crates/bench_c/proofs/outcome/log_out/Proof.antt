@@ -1,0 +1,38 @@
+-- `bench_c::outcome::log_out` meets its contract: the words of the entries behind nothing. Assumes nothing.
+use Prim.Native.Nat.{_*_}
+use native.Mathlib.Omega.{arith}
+use mathlib.Core.Path.{sym}
+use lib.Seq.{length-take-le}
+use Rattle.bench_c.proofs.Tellings.{log-written}
+use borrow.Author.Needs.{needs}
+use Rattle.bench_c.proofs.outcome.log_out.Statement.{statement}
+use Rattle.bench_c.proofs.outcome.log_out.Tie as tie
+
+clear-bytes-requires : tie.Need-clear-bytes-requires
+clear-bytes-requires c κs = search needs
+
+mul-end : tie.Need-mul-end
+mul-end c = search needs
+
+slice-aggregate-store-words : tie.Need-slice-aggregate-store-words
+slice-aggregate-store-words c = sym (length-take-le _ _ ((c .before .before .before .before .before .before .before) .pre .0))
+
+store-words-requires : tie.Need-store-words-requires
+store-words-requires c κs = omega (arith, (c .before .before .before .before .before .before .before .before) .pre .1, (c .before .before .before .before) .clear-bytes .kept .0, length-take-le (6 * (c .before .before .before .before .before .before .before .before) .args .n) ((c .before .before .before .before .before .before .before .before) .args .words .now) ((c .before .before .before .before .before .before .before .before) .pre .0))
+
+same-length : tie.Need-same-length
+same-length c = search needs
+
+returns : tie.Need-returns
+returns c = log-written _ _ _ _ (omega (arith, (c .before .before .before .before .before .before .before .before .before .before .before) .pre .1, length-take-le (6 * (c .before .before .before .before .before .before .before .before .before .before .before) .args .n) ((c .before .before .before .before .before .before .before .before .before .before .before) .args .words .now) ((c .before .before .before .before .before .before .before .before .before .before .before) .pre .0))) ((c .before .before .before .before .before .before .before) .clear-bytes .ensures) ((c .before .before) .store-words .ensures)
+
+pub log-out-spec : {M : Type 1} → statement M
+log-out-spec =
+    tie.close
+    (tie.spec
+    clear-bytes-requires
+    mul-end
+    slice-aggregate-store-words
+    store-words-requires
+    same-length
+    returns)

@@ -1,0 +1,55 @@
+-- The reply to an entry that gives a mesh, by what it answered and left in its blocks. Only the contracts between the functions need this file. Definitions only.
+use Prim.Native.Nat.{ℕ, _*_, _/_, _≤_, _<_}
+use mathlib.Core.Bool.{Bool}
+use mathlib.Core.List.{List, [], _∷_}
+use lib.ListN.{take}
+use lib.Ieee.{Float}
+use Rattle.lists.specs.Lists.{pick}
+use Rattle.model.specs.Reads.{Read, refused, value}
+use Rattle.mesh.specs.Given.{Lent}
+use Rattle.mesh.specs.declared.Counts.{Counts}
+use Rattle.answer.specs.declared.Answer.{Answer}
+use Rattle.answer.specs.declared.Answer.the-variants.{Refused, Done}
+use Rattle.image.specs.Stores.{blockWords}
+
+-- the words of an answer whose rows are the first of seven blocks
+abbrev pub doneWords : Counts → Bool → List Float → List ℕ → List ℕ → List Float → List ℕ → List Float → List ℕ → List ℕ
+doneWords k b p r c v e l o = pick b 1 0 ∷ k .log ∷ blockWords k p r c v e l o
+
+abbrev pub meshTold : Answer → List Float → List ℕ → List ℕ → List Float → List ℕ → List Float → List ℕ → Read (List ℕ)
+meshTold (Refused n) p r c v e l o = refused n
+meshTold (Done k b) p r c v e l o = value (doneWords k b p r c v e l o)
+
+-- the words of its log, which are the first of g
+abbrev pub logTold : Answer → List ℕ → List ℕ
+logTold (Refused n) g = []
+logTold (Done k b) g = take (6 * k .log) g
+
+-- the rows stand in blocks that are no longer than those of a mesh, and the log in its words and in its bytes
+pub record Tellable (k : Counts) (lp lr lc lv le ll lo lg logged : ℕ) : Type 0 where
+  pub points : k .particles ≤ lp / 6
+  pub roots : k .particles ≤ lr / 2
+  pub corners : k .triangles ≤ lc / 3
+  pub volumes : k .triangles ≤ lv / 2
+  pub ends : k .edges ≤ le / 4
+  pub lengths : k .edges ≤ ll / 4
+  pub outline : k .boundary ≤ lo / 2
+  pub few-particles : k .particles ≤ 1024
+  pub few-triangles : k .triangles ≤ 1024
+  pub few-edges : k .edges ≤ 2048
+  pub few-boundary : k .boundary ≤ 2048
+  pub words : 6 * k .log ≤ lg
+  pub entries : 24 * k .log ≤ logged
+
+-- the same of an answer; or the number of a refusal is small
+abbrev pub Telling : Answer → ℕ → ℕ → ℕ → ℕ → ℕ → ℕ → ℕ → ℕ → ℕ → Type 0
+Telling (Refused n) lp lr lc lv le ll lo lg logged = n < 256
+Telling (Done k b) lp lr lc lv le ll lo lg logged = Tellable k lp lr lc lv le ll lo lg logged
+
+-- lent blocks that are no longer than those of a mesh, and a log that its bytes have room for
+pub record Limited (L : Lent) (logged : ℕ) : Type 0 where
+  pub particles : L .points / 6 ≤ 1024
+  pub triangles : L .corners / 3 ≤ 1024
+  pub edges : L .ends / 4 ≤ 2048
+  pub boundary : L .outline / 2 ≤ 2048
+  pub log : 24 * (L .log / 6) ≤ logged

@@ -1,0 +1,64 @@
+-- What the C functions that give a mesh answer, as docs/C-FUNCTIONS.md has it: the words of the answer, the words of the log, and the rooms. Definitions only.
+use Prim.Native.Nat.{ℕ, _/_, min}
+use mathlib.Core.Path.{_≡_}
+use mathlib.Core.Bool.{Bool, true, false}
+use mathlib.Core.List.{List, [], _∷_, map}
+use lib.ListN.{length}
+use lib.Dec.{eqb}
+use Rattle.lists.specs.Lists.{pick}
+use Rattle.model.specs.Run.{Rooms}
+use Rattle.model.specs.Calls.{Outcome, done, refusal, splitCall, straddlersCall}
+use Rattle.model.specs.Calls.{refused as turnedDown}
+use Rattle.model.specs.Reads.{Read, refused, value}
+use Rattle.mesh.specs.Given.{meshOf}
+use Rattle.mesh.specs.Log.{wordsOf, wordsIn}
+use Rattle.image.specs.Words.{wordAt, written}
+use Rattle.image.specs.Image.{imageOf, imageSized, imageWordsOf}
+use Rattle.bench_c.specs.Replies.{lentEnough, codeOf, shownOf}
+
+-- ---- the words of an outcome
+
+-- 1 or 0 for whether anything was split or inserted, the number of log entries, then the image of the mesh
+abbrev pub meshReply : Outcome → Read (List ℕ)
+meshReply (turnedDown n) = refused n
+meshReply (done M l c) = value (pick c 1 0 ∷ length l ∷ imageWordsOf M)
+
+-- the words of the log, six an entry
+abbrev pub logReply : Outcome → List ℕ
+logReply (turnedDown n) = []
+logReply (done M l c) = wordsIn (map wordsOf l)
+
+-- ---- the reply
+
+-- the words that the log's bytes show beside an answer: none beside a refusal
+abbrev pub beside : Read (List ℕ) → List ℕ → List ℕ
+beside (refused n) ws = []
+beside (value vs) ws = ws
+
+-- what a C function with `lent` result bytes and `logged` log bytes returns, and leaves in both
+pub record BothReplied (o : Read (List ℕ)) (ws : List ℕ) (lent logged r : ℕ) (out log : List ℕ) : Type 0 where
+  pub code : r ≡ codeOf (lentEnough lent o)
+  pub bytes : out ≡ written lent (shownOf (lentEnough lent o))
+  pub entries : log ≡ written logged (beside (lentEnough lent o) ws)
+
+-- the same of an outcome
+abbrev pub OutcomeReplied : Outcome → ℕ → ℕ → ℕ → List ℕ → List ℕ → Type 0
+OutcomeReplied o lent logged r out log = BothReplied (meshReply o) (logReply o) lent logged r out log
+
+-- ---- what each C function is asked
+
+-- four words: the places lent for particles, triangles, edges and boundary entries, each at most the limit; and the entries that the log's bytes have room for
+abbrev pub roomsIn : List ℕ → ℕ → Rooms
+roomsIn s logged = record { particles = min 1024 (wordAt s 0); triangles = min 1024 (wordAt s 1); edges = min 2048 (wordAt s 2); boundary = min 2048 (wordAt s 3); log = min 4096 (logged / 24) }
+
+-- the outcome o of a call on an image; rooms that are no four words are a bad argument
+unfoldable pub withRooms : List ℕ → List ℕ → Outcome → Outcome
+withRooms s rooms o = pick (eqb (length rooms) 16) o (turnedDown (refusal (imageSized s) (meshOf (imageOf s)) true false))
+
+-- the split of particle v of the mesh that an image is, by sides, a byte for each
+unfoldable pub splitOutcome : List ℕ → ℕ → List ℕ → List ℕ → ℕ → Outcome
+splitOutcome s v sides rooms logged = withRooms s rooms (splitCall (imageSized s) (meshOf (imageOf s)) v sides (roomsIn rooms logged))
+
+-- the removal of straddlers across its pieces
+unfoldable pub straddlersOutcome : List ℕ → List ℕ → ℕ → Outcome
+straddlersOutcome s rooms logged = withRooms s rooms (straddlersCall (imageSized s) (meshOf (imageOf s)) (roomsIn rooms logged))

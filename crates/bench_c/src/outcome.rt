@@ -1,0 +1,124 @@
+// The reply of a C function that gives a mesh: the words of the answer and of the log in the lent bytes, and the number of the refusal.
+ghost use mathlib.Core.Path.{_≡_};
+ghost use Prim.Native.Nat.{_*_, _≤_, _<_};
+ghost use mathlib.Core.List.{[]};
+ghost use lib.ListN.{length, take};
+ghost use Rattle.lists.specs.Lists.{pick};
+ghost use Rattle.model.specs.Reads.{refused, value};
+ghost use Rattle.image.specs.Words.{written};
+ghost use Rattle.bench_c.specs.Torn.{BothReplied};
+ghost use Rattle.bench_c.specs.Told.{doneWords, meshTold, logTold, Tellable, Telling};
+use answer::Answer;
+use mesh::Counts;
+
+// A refusal: every byte of the answer and of the log is 0.
+pub fn refuse(code: usize, out: &mut [u8], log: &mut [u8]) -> u32
+    requires { ⌜ code < 256 ⌝ }
+    ensures { λ r. ⌜ BothReplied (refused code) [] (length (now (out .entry))) (length (now (log .entry))) r (now (out .exit)) (now (log .exit)) ⌝ }
+{
+    image::clear_bytes(out);
+    image::clear_bytes(log);
+    code as u32
+}
+
+// 1 for true, 0 for false.
+fn one_if(b: bool) -> usize
+    ensures { λ r. ⌜ r ≡ pick b 1 0 ⌝ }
+{
+    if b {
+        return 1;
+    }
+    0
+}
+
+// Writes the words of the first n entries of a log, and 0 behind them.
+fn log_out(words: &[usize], n: usize, log: &mut [u8])
+    requires { ⌜ (6 * n ≤ length (now words)) × (24 * n ≤ length (now log)) ⌝ }
+    ensures { λ _. ⌜ now (log .exit) ≡ written (length (now (log .entry))) (take (6 * n) (now (words .entry))) ⌝ }
+{
+    image::clear_bytes(log);
+    let end = 6 * n;
+    image::store_words(&words[..end], 0, log);
+}
+
+// The reply to a mesh in seven blocks and a log; 4 where the answer's words have no room.
+fn reply_done(
+    k: Counts,
+    any: bool,
+    points: &[f32],
+    roots: &[usize],
+    corners: &[usize],
+    volumes: &[f32],
+    ends: &[usize],
+    lengths: &[f32],
+    outline: &[usize],
+    words: &[usize],
+    out: &mut [u8],
+    log: &mut [u8],
+) -> u32
+    requires { ⌜ Tellable k (length (now points)) (length (now roots)) (length (now corners)) (length (now volumes)) (length (now ends)) (length (now lengths)) (length (now outline)) (length (now words)) (length (now log)) ⌝ }
+    ensures { λ r. ⌜ BothReplied (value (doneWords k any (now (points .entry)) (now (roots .entry)) (now (corners .entry)) (now (volumes .entry)) (now (ends .entry)) (now (lengths .entry)) (now (outline .entry)))) (take (6 * k .log) (now (words .entry))) (length (now (out .entry))) (length (now (log .entry))) r (now (out .exit)) (now (log .exit)) ⌝ }
+{
+    let p = k.particles;
+    let t = k.triangles;
+    let e = k.edges;
+    let b = k.boundary;
+    let n = k.log;
+    if out.len() < 4 * (6 + 8 * p + 5 * t + 8 * e + 2 * b) {
+        return refuse(4, out, log);
+    }
+    image::write_two(out, one_if(any), n);
+    image::store(
+        k,
+        points,
+        roots,
+        corners,
+        volumes,
+        ends,
+        lengths,
+        outline,
+        out,
+    );
+    log_out(words, n, log);
+    0
+}
+
+// The reply of an entry that gives a mesh.
+pub fn reply_mesh(
+    a: Answer,
+    points: &[f32],
+    roots: &[usize],
+    corners: &[usize],
+    volumes: &[f32],
+    ends: &[usize],
+    lengths: &[f32],
+    outline: &[usize],
+    words: &[usize],
+    out: &mut [u8],
+    log: &mut [u8],
+) -> u32
+    requires { ⌜ Telling a (length (now points)) (length (now roots)) (length (now corners)) (length (now volumes)) (length (now ends)) (length (now lengths)) (length (now outline)) (length (now words)) (length (now log)) ⌝ }
+    ensures { λ r. ⌜ BothReplied (meshTold a (now (points .entry)) (now (roots .entry)) (now (corners .entry)) (now (volumes .entry)) (now (ends .entry)) (now (lengths .entry)) (now (outline .entry))) (logTold a (now (words .entry))) (length (now (out .entry))) (length (now (log .entry))) r (now (out .exit)) (now (log .exit)) ⌝ }
+{
+    match a {
+        Answer::Refused(code) => {
+            return refuse(code, out, log);
+        }
+        Answer::Done(k, any) => {
+            return reply_done(
+                k,
+                any,
+                points,
+                roots,
+                corners,
+                volumes,
+                ends,
+                lengths,
+                outline,
+                words,
+                out,
+                log,
+            );
+        }
+    }
+}

@@ -1,0 +1,116 @@
+// The C functions that give a mesh. Each loads the image into local blocks, has the entry fill others that are as long as the rooms say, and writes what they hold.
+ghost use mathlib.Core.Path.{_≡_};
+ghost use mathlib.Core.Bool.{true};
+ghost use lib.ListN.{length};
+ghost use Rattle.model.specs.Calls.{straddlersCall};
+ghost use Rattle.mesh.specs.Given.{meshOf, roomsOf, asRooms};
+ghost use Rattle.mesh.specs.Filled.{lent};
+ghost use Rattle.answer.specs.Answered.{Answered};
+ghost use Rattle.image.specs.Image.{imageOf, imageSized};
+ghost use Rattle.bench_c.specs.Torn.{OutcomeReplied};
+ghost use Rattle.bench_c.specs.Told.{Limited};
+use answer::Answer;
+
+// The removal of straddlers from an image that has the sizes of a mesh, into lent blocks and words.
+fn image_straddlers(
+    bytes: &[u8],
+    points: &mut [f32],
+    roots: &mut [usize],
+    corners: &mut [usize],
+    volumes: &mut [f32],
+    ends: &mut [usize],
+    lengths: &mut [f32],
+    outline: &mut [usize],
+    words: &mut [usize],
+) -> Answer
+    requires { ⌜ imageSized (now bytes) ≡ true ⌝ }
+    ensures { λ r. ⌜ Answered (straddlersCall (imageSized (now (bytes .entry))) (meshOf (imageOf (now (bytes .entry)))) (asRooms (roomsOf (lent (now (points .entry)) (now (roots .entry)) (now (corners .entry)) (now (volumes .entry)) (now (ends .entry)) (now (lengths .entry)) (now (outline .entry)) (now (words .entry)))))) (lent (now (points .entry)) (now (roots .entry)) (now (corners .entry)) (now (volumes .entry)) (now (ends .entry)) (now (lengths .entry)) (now (outline .entry)) (now (words .entry))) r (now (points .exit)) (now (roots .exit)) (now (corners .exit)) (now (volumes .exit)) (now (ends .exit)) (now (lengths .exit)) (now (outline .exit)) (now (words .exit)) ⌝ }
+{
+    let mut in_points = [0.0f32; 6144];
+    let mut in_roots = [0usize; 2048];
+    let mut in_corners = [0usize; 3072];
+    let mut in_volumes = [0.0f32; 2048];
+    let mut in_ends = [0usize; 8192];
+    let mut in_lengths = [0.0f32; 8192];
+    let mut in_outline = [0usize; 4096];
+    let p = image::word_at(bytes, 0);
+    let t = image::word_at(bytes, 1);
+    let e = image::word_at(bytes, 2);
+    let b = image::word_at(bytes, 3);
+    let p6 = 6 * p;
+    let p2 = 2 * p;
+    let t3 = 3 * t;
+    let t2 = 2 * t;
+    let e4 = 4 * e;
+    let b2 = 2 * b;
+    image::load(
+        bytes,
+        &mut in_points,
+        &mut in_roots,
+        &mut in_corners,
+        &mut in_volumes,
+        &mut in_ends,
+        &mut in_lengths,
+        &mut in_outline,
+    );
+    bench::tearing::straddlers(
+        &in_points[..p6],
+        &in_roots[..p2],
+        &in_corners[..t3],
+        &in_volumes[..t2],
+        &in_ends[..e4],
+        &in_lengths[..e4],
+        &in_outline[..b2],
+        points,
+        roots,
+        corners,
+        volumes,
+        ends,
+        lengths,
+        outline,
+        words,
+    )
+}
+
+// The reply to that removal.
+fn reply_straddlers(
+    bytes: &[u8],
+    points: &mut [f32],
+    roots: &mut [usize],
+    corners: &mut [usize],
+    volumes: &mut [f32],
+    ends: &mut [usize],
+    lengths: &mut [f32],
+    outline: &mut [usize],
+    words: &mut [usize],
+    out: &mut [u8],
+    log: &mut [u8],
+) -> u32
+    requires { ⌜ (imageSized (now bytes) ≡ true) × Limited (lent (now points) (now roots) (now corners) (now volumes) (now ends) (now lengths) (now outline) (now words)) (length (now log)) ⌝ }
+    ensures { λ r. ⌜ OutcomeReplied (straddlersCall (imageSized (now (bytes .entry))) (meshOf (imageOf (now (bytes .entry)))) (asRooms (roomsOf (lent (now (points .entry)) (now (roots .entry)) (now (corners .entry)) (now (volumes .entry)) (now (ends .entry)) (now (lengths .entry)) (now (outline .entry)) (now (words .entry)))))) (length (now (out .entry))) (length (now (log .entry))) r (now (out .exit)) (now (log .exit)) ⌝ }
+{
+    let a = image_straddlers(
+        bytes,
+        points,
+        roots,
+        corners,
+        volumes,
+        ends,
+        lengths,
+        outline,
+        words,
+    );
+    crate::outcome::reply_mesh(
+        a,
+        points,
+        roots,
+        corners,
+        volumes,
+        ends,
+        lengths,
+        outline,
+        words,
+        out,
+        log,
+    )
+}
