@@ -1,0 +1,4 @@
+-- The laws of the program from bytes to bytes.
+pub mod Fillings
+pub mod Counting
+pub mod Answering
