@@ -2,3 +2,4 @@
 pub mod Fillings
 pub mod Counting
 pub mod Answering
+pub mod Worked
