@@ -2,4 +2,5 @@
 pub mod Fillings
 pub mod Counting
 pub mod Answering
+pub mod Reading
 pub mod Worked

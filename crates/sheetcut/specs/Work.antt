@@ -12,11 +12,16 @@ use Rattle.model.specs.Elements.{structural?, kindBy}
 use Rattle.model.specs.Pieces.{pieceLabels}
 use Rattle.mesh.specs.At.{trianglesAt, edgesAt}
 use Rattle.mesh.specs.Log.{logAt}
+use Rattle.mesh.specs.Given.{Lent}
 use Rattle.mesh.specs.declared.Counts.{Counts}
 use Rattle.elements.specs.Table.{elementsIn}
 use Rattle.answer.specs.declared.Answer.{Answer}
 use Rattle.answer.specs.declared.Answer.the-variants.{Refused, Done}
 use Rattle.listing.specs.Listing.{listingBytes, refusedBytes}
+use Rattle.sheet.specs.Sheet.{seenOf}
+use Rattle.sheet.specs.declared.Counts as S
+use Rattle.sheet.specs.declared.Seen.the-variants.{Whole}
+use Rattle.sheetcut.specs.SheetCut.{limits}
 
 -- the pieces of triangles and edges: `pieces` reads no more of a mesh
 unfoldable pub piecesIn : List Triangle → List Edge → ℕ
@@ -43,3 +48,35 @@ Listable (Done k changed) c v e l g = Countable k c v e l × (6 * k .log ≤ g)
 abbrev pub textOf : Answer → List ℕ → List Float → List ℕ → List Float → List ℕ → List ℕ
 textOf (Refused n) c v e l g = refusedBytes n
 textOf (Done k changed) c v e l g = listingBytes (logAt (k .log) g) (k .particles) (piecesIn (trianglesAt (k .triangles) c v) (edgesAt (k .edges) e l))
+
+-- ---- a sheet on its way
+
+-- blocks have places for the rows of a sheet with these counts, and none besides
+pub record Exact (c : S.Counts) (L : Lent) : Type 0 where
+  pub points : L .points ≡ 6 * c .particles
+  pub roots : L .roots ≡ 2 * c .particles
+  pub corners : L .corners ≡ 3 * c .triangles
+  pub volumes : L .volumes ≡ 2 * c .triangles
+  pub ends : L .ends ≡ 4 * c .edges
+  pub lengths : L .lengths ≡ 4 * c .edges
+  pub outline : L .outline ≡ 2 * c .boundary
+
+-- a sheet that is whole, and exact blocks for it
+pub record Ready (s : List ℕ) (c : S.Counts) (L : Lent) : Type 0 where
+  pub seen : seenOf limits s ≡ Whole c
+  pub exact : Exact c L
+
+-- blocks of the sizes that the limits ask for
+pub record Ample (L : Lent) : Type 0 where
+  pub points : L .points ≡ 768
+  pub roots : L .roots ≡ 256
+  pub corners : L .corners ≡ 384
+  pub volumes : L .volumes ≡ 256
+  pub ends : L .ends ≡ 1024
+  pub lengths : L .lengths ≡ 1024
+  pub outline : L .outline ≡ 512
+
+-- a sheet that is whole, and blocks that have room for it
+pub record Roomy (s : List ℕ) (c : S.Counts) (L : Lent) : Type 0 where
+  pub seen : seenOf limits s ≡ Whole c
+  pub ample : Ample L
