@@ -455,7 +455,7 @@ impl Blade {
     pub fn new(x0: f32, y0: f32, x1: f32, y1: f32) -> Self {
         Blade { x0, y0, x1, y1 }
     }
-    fn ends(self) -> [Vector; 2] {
+    pub fn ends(self) -> [Vector; 2] {
         [Vector::new(self.x0, self.y0), Vector::new(self.x1, self.y1)]
     }
 }

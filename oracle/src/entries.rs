@@ -7,6 +7,36 @@ type Slice = unsafe extern "C" fn(*const u8, usize, *mut u8, usize) -> u32;
 type Sides = unsafe extern "C" fn(*const u8, usize, u32, *const u8, usize, *mut u8, usize) -> u32;
 type List = unsafe extern "C" fn(*const u8, usize, *const u8, usize, *mut u8, usize) -> u32;
 type Opens = unsafe extern "C" fn(*const u8, usize, u32, *const u8, usize, u32, *mut u8, usize) -> u32;
+/// Image, rooms, result, log.
+type Removal = unsafe extern "C" fn(*const u8, usize, *const u8, usize, *mut u8, usize, *mut u8, usize) -> u32;
+/// Image, particle, sides, rooms, result, log.
+type Split = unsafe extern "C" fn(
+    *const u8,
+    usize,
+    u32,
+    *const u8,
+    usize,
+    *const u8,
+    usize,
+    *mut u8,
+    usize,
+    *mut u8,
+    usize,
+) -> u32;
+/// Image, blade or torn edges, fraction or minimum, rooms, result, log.
+type Tear = unsafe extern "C" fn(
+    *const u8,
+    usize,
+    *const u8,
+    usize,
+    u32,
+    *const u8,
+    usize,
+    *mut u8,
+    usize,
+    *mut u8,
+    usize,
+) -> u32;
 
 /// One side of a comparison: the C functions that it has.
 #[derive(Clone, Copy)]
@@ -18,6 +48,10 @@ pub struct Table {
     pub rest_measure_of: Option<List>,
     pub opens: Option<Opens>,
     pub pieces: Option<Slice>,
+    pub split: Option<Split>,
+    pub straddlers: Option<Removal>,
+    pub cut: Option<Tear>,
+    pub crack: Option<Tear>,
 }
 
 /// `Some` of an archive's function if `run` found its name there (`--cfg have="NAME"`).
@@ -50,6 +84,22 @@ pub fn archive() -> Table {
             bench_opens_without_confetti(*const u8, usize, u32, *const u8, usize, u32, *mut u8, usize)
         ),
         pieces: linked!("bench_pieces", bench_pieces(*const u8, usize, *mut u8, usize)),
+        split: linked!(
+            "bench_split",
+            bench_split(*const u8, usize, u32, *const u8, usize, *const u8, usize, *mut u8, usize, *mut u8, usize)
+        ),
+        straddlers: linked!(
+            "bench_straddlers",
+            bench_straddlers(*const u8, usize, *const u8, usize, *mut u8, usize, *mut u8, usize)
+        ),
+        cut: linked!(
+            "bench_cut",
+            bench_cut(*const u8, usize, *const u8, usize, u32, *const u8, usize, *mut u8, usize, *mut u8, usize)
+        ),
+        crack: linked!(
+            "bench_crack",
+            bench_crack(*const u8, usize, *const u8, usize, u32, *const u8, usize, *mut u8, usize, *mut u8, usize)
+        ),
     }
 }
 
@@ -62,8 +112,12 @@ pub enum Entry {
     RestMeasureOf,
     Opens,
     Pieces,
+    Split,
+    Straddlers,
+    Cut,
+    Crack,
 }
-pub const ENTRIES: [Entry; 7] = [
+pub const ENTRIES: [Entry; 11] = [
     Entry::Root,
     Entry::BladeHit,
     Entry::Groups,
@@ -71,6 +125,10 @@ pub const ENTRIES: [Entry; 7] = [
     Entry::RestMeasureOf,
     Entry::Opens,
     Entry::Pieces,
+    Entry::Split,
+    Entry::Straddlers,
+    Entry::Cut,
+    Entry::Crack,
 ];
 impl Entry {
     pub fn name(self) -> &'static str {
@@ -82,7 +140,15 @@ impl Entry {
             Entry::RestMeasureOf => "bench_rest_measure_of",
             Entry::Opens => "bench_opens_without_confetti",
             Entry::Pieces => "bench_pieces",
+            Entry::Split => "bench_split",
+            Entry::Straddlers => "bench_straddlers",
+            Entry::Cut => "bench_cut",
+            Entry::Crack => "bench_crack",
         }
+    }
+    /// Whether it gives a mesh and a log.
+    pub fn tears(self) -> bool {
+        matches!(self, Entry::Split | Entry::Straddlers | Entry::Cut | Entry::Crack)
     }
 }
 impl Table {
@@ -95,12 +161,16 @@ impl Table {
             Entry::RestMeasureOf => self.rest_measure_of.is_some(),
             Entry::Opens => self.opens.is_some(),
             Entry::Pieces => self.pieces.is_some(),
+            Entry::Split => self.split.is_some(),
+            Entry::Straddlers => self.straddlers.is_some(),
+            Entry::Cut => self.cut.is_some(),
+            Entry::Crack => self.crack.is_some(),
         }
     }
 }
 
-/// The arguments besides the image and the result bytes. A `length` is that of the bytes where it
-/// is another than the words'.
+/// The arguments besides the image, the rooms and the result bytes. A `length` is that of the
+/// bytes where it is another than the words'.
 #[derive(Clone, Debug)]
 pub enum Args {
     Root { bits: u32 },
@@ -110,12 +180,25 @@ pub enum Args {
     RestMeasureOf { list: Vec<u32>, length: Option<usize> },
     Opens { v: u32, sides: Vec<u8>, minimum: u32 },
     Pieces,
+    Split { v: u32, sides: Vec<u8> },
+    Straddlers,
+    Cut { blade: [u32; 4], length: Option<usize>, fraction: u32 },
+    Crack { torn: Vec<u32>, length: Option<usize>, minimum: u32 },
+}
+/// What is lent to an entry that gives a mesh: places for particles, triangles, edges and boundary
+/// entries, and the bytes of the log. `length` is that of the rooms' bytes where it isn't 16.
+#[derive(Clone, Copy, Debug, Default, PartialEq)]
+pub struct Lending {
+    pub places: [u32; 4],
+    pub length: Option<usize>,
+    pub log: usize,
 }
 /// One call. Entries without a mesh have the empty image.
 #[derive(Clone, Debug)]
 pub struct Input {
     pub image: Image,
     pub args: Args,
+    pub lending: Lending,
     /// Number of result bytes lent.
     pub out: usize,
 }
@@ -129,6 +212,10 @@ impl Input {
             Args::RestMeasureOf { .. } => Entry::RestMeasureOf,
             Args::Opens { .. } => Entry::Opens,
             Args::Pieces => Entry::Pieces,
+            Args::Split { .. } => Entry::Split,
+            Args::Straddlers => Entry::Straddlers,
+            Args::Cut { .. } => Entry::Cut,
+            Args::Crack { .. } => Entry::Crack,
         }
     }
     /// The call as the C function gets it.
@@ -137,17 +224,27 @@ impl Input {
         let (first, second) = match &self.args {
             Args::Root { .. } => (vec![], vec![]),
             Args::BladeHit { words, length } => (bytes_of(words, *length), vec![]),
-            Args::Groups { sides, .. } | Args::Opens { sides, .. } => image(sides.clone()),
-            Args::RestMeasureOf { list, length } => image(bytes_of(list, *length)),
-            Args::RestMeasure | Args::Pieces => image(vec![]),
+            Args::Groups { sides, .. } | Args::Opens { sides, .. } | Args::Split { sides, .. } => image(sides.clone()),
+            Args::RestMeasureOf { list, length } | Args::Crack { torn: list, length, .. } => {
+                image(bytes_of(list, *length))
+            }
+            Args::Cut { blade, length, .. } => image(bytes_of(blade, *length)),
+            Args::RestMeasure | Args::Pieces | Args::Straddlers => image(vec![]),
         };
         let (number, minimum) = match self.args {
             Args::Root { bits } => (bits, 0),
-            Args::Groups { v, .. } => (v, 0),
+            Args::Groups { v, .. } | Args::Split { v, .. } => (v, 0),
             Args::Opens { v, minimum, .. } => (v, minimum),
+            Args::Cut { fraction, .. } => (fraction, 0),
+            Args::Crack { minimum, .. } => (0, minimum),
             _ => (0, 0),
         };
-        Raw { entry: self.entry(), first, second, number, minimum, out: self.out }
+        let (entry, out) = (self.entry(), self.out);
+        let (rooms, log) = match entry.tears() {
+            true => (bytes_of(&self.lending.places, self.lending.length), self.lending.log),
+            false => (vec![], 0),
+        };
+        Raw { entry, first, second, number, minimum, rooms, out, log }
     }
 }
 
@@ -155,22 +252,27 @@ impl Input {
 #[derive(Clone, Debug, PartialEq)]
 pub struct Raw {
     pub entry: Entry,
-    /// The image, or the blade's words.
+    /// The image, or the blade's words where there is no image.
     pub first: Vec<u8>,
-    /// The sides, or the list.
+    /// The sides, the list, the blade's ends or the torn edges.
     pub second: Vec<u8>,
-    /// The particle, or the bits of the number.
+    /// The particle, or the bits of the number or of the fraction.
     pub number: u32,
     pub minimum: u32,
-    /// Number of result bytes lent.
+    /// The places lent, four words.
+    pub rooms: Vec<u8>,
+    /// Numbers of bytes lent for result and log.
     pub out: usize,
+    pub log: usize,
 }
 
-/// What a call did: its answer, the result bytes, and whether it wrote where it must not.
+/// What a call did: its answer, the result's and the log's bytes, and whether it wrote where it
+/// must not.
 #[derive(Clone, Debug, PartialEq)]
 pub struct Got {
     pub refusal: u32,
     pub out: Vec<u8>,
+    pub log: Vec<u8>,
     pub stray: Option<&'static str>,
 }
 
@@ -202,12 +304,16 @@ impl Lent {
     }
 }
 
-/// Calls the entry on these bytes; `None` if the table lacks it.
-pub fn invoke(t: &Table, c: &Raw, first: &[u8], second: &[u8], out: &mut [u8]) -> Option<u32> {
-    let (pa, pb, po) = (first.as_ptr(), second.as_ptr(), out.as_mut_ptr());
-    let (na, nb, no) = (first.len(), second.len(), out.len());
-    // SAFETY: every pointer comes with the length of the bytes that stand there; the result bytes
-    // are borrowed alone.
+/// Calls the entry on the call's own bytes; `None` if the table lacks it.
+pub fn invoke(t: &Table, c: &Raw, out: &mut [u8], log: &mut [u8]) -> Option<u32> {
+    invoke_at(t, c, [&c.first, &c.second, &c.rooms], out, log)
+}
+/// The same with the bytes of image, argument and rooms at other places.
+fn invoke_at(t: &Table, c: &Raw, given: [&[u8]; 3], out: &mut [u8], log: &mut [u8]) -> Option<u32> {
+    let [(pa, na), (pb, nb), (pr, nr)] = given.map(|g| (g.as_ptr(), g.len()));
+    let (po, no, pl, nl) = (out.as_mut_ptr(), out.len(), log.as_mut_ptr(), log.len());
+    // SAFETY: every pointer comes with the length of the bytes that stand there; the bytes of
+    // result and log are borrowed alone.
     Some(unsafe {
         match c.entry {
             Entry::Root => t.root?(c.number, po, no),
@@ -217,6 +323,10 @@ pub fn invoke(t: &Table, c: &Raw, first: &[u8], second: &[u8], out: &mut [u8]) -
             Entry::RestMeasureOf => t.rest_measure_of?(pa, na, pb, nb, po, no),
             Entry::Opens => t.opens?(pa, na, c.number, pb, nb, c.minimum, po, no),
             Entry::Pieces => t.pieces?(pa, na, po, no),
+            Entry::Split => t.split?(pa, na, c.number, pb, nb, pr, nr, po, no, pl, nl),
+            Entry::Straddlers => t.straddlers?(pa, na, pr, nr, po, no, pl, nl),
+            Entry::Cut => t.cut?(pa, na, pb, nb, c.number, pr, nr, po, no, pl, nl),
+            Entry::Crack => t.crack?(pa, na, pb, nb, c.minimum, pr, nr, po, no, pl, nl),
         }
     })
 }
@@ -225,14 +335,16 @@ pub fn invoke(t: &Table, c: &Raw, first: &[u8], second: &[u8], out: &mut [u8]) -
 pub fn call(t: &Table, c: &Raw) -> Option<Got> {
     let a = Lent::new(&c.first, c.first.len() / 4 + c.out);
     let b = Lent::new(&c.second, c.second.len() + 3 * c.out + 1);
+    let r = Lent::new(&c.rooms, c.out / 4 + 2);
     let mut o = Lent::new(&vec![FILL; c.out], c.out + 5);
-    let refusal = invoke(t, c, a.content(), b.content(), o.content_mut())?;
-    let stray = if a.content() != c.first || b.content() != c.second {
+    let mut l = Lent::new(&vec![FILL; c.log], c.log + c.out + 3);
+    let refusal = invoke_at(t, c, [a.content(), b.content(), r.content()], o.content_mut(), l.content_mut())?;
+    let stray = if a.content() != c.first || b.content() != c.second || r.content() != c.rooms {
         Some("it changed its input")
-    } else if !a.guarded() || !b.guarded() || !o.guarded() {
+    } else if ![&a, &b, &r, &o, &l].iter().all(|s| s.guarded()) {
         Some("it wrote beside what it was lent")
     } else {
         None
     };
-    Some(Got { refusal, out: o.content().to_vec(), stray })
+    Some(Got { refusal, out: o.content().to_vec(), log: l.content().to_vec(), stray })
 }

@@ -2,19 +2,23 @@
 //! (the source checks nothing), the words by the published Rust.
 use crate::api;
 use crate::entries::{Entry, Got, Raw};
-use crate::image::{bytes_of, read, words_of};
+use crate::image::{bytes_of, read, words, words_of};
 use crate::second;
 
 #[derive(Clone, Debug, PartialEq)]
 pub enum Expected {
-    Words(Vec<u32>),
+    /// The result's words, and the log's where a mesh is given.
+    Words(Vec<u32>, Vec<u32>),
     Refused(u32),
 }
 use Expected::*;
 
 /// The answer's words if they fit into the lent bytes, else 4.
 fn fitting(words: Vec<u32>, out: usize) -> Expected {
-    if out < 4 * words.len() { Refused(4) } else { Words(words) }
+    fitting_both(words, vec![], out)
+}
+fn fitting_both(words: Vec<u32>, log: Vec<u32>, out: usize) -> Expected {
+    if out < 4 * words.len() { Refused(4) } else { Words(words, log) }
 }
 
 fn root(bits: u32, out: usize) -> Expected {
@@ -43,7 +47,85 @@ fn sides_ok(m: &api::Mesh, v: u32, sides: &[u8]) -> bool {
     (v as usize) < m.px.len() && sides.iter().all(|&s| s < 2) && sides.len() == second::fan(m, second::kind(m), v).len()
 }
 
+// ---- a mesh as the answer -----------------------------------------------------------------
+
+/// Check 2 on the words of a blade; one of another length has none.
+fn blade_numbers_ok(c: &Raw) -> bool {
+    c.entry != Entry::Cut
+        || c.second.len() != 16
+        || words_of(&c.second).into_iter().all(|w| api::number_ok(f32::from_bits(w)))
+}
+/// Check 4 on the arguments of an entry that gives a mesh.
+fn arguments_ok(c: &Raw, m: &api::Mesh) -> bool {
+    if c.rooms.len() != 16 || (words_of(&c.rooms)[1] as usize) < m.ta.len() {
+        return false;
+    }
+    match c.entry {
+        Entry::Split => sides_ok(m, c.number, &c.second),
+        Entry::Cut => c.second.len() == 16 && api::fraction_ok(f32::from_bits(c.number)),
+        Entry::Crack => c.second.len() % 4 == 0,
+        _ => true,
+    }
+}
+/// The mesh of a call that gives one, or what checks 1 to 4 refuse.
+pub fn checked(c: &Raw) -> Result<api::Mesh, u32> {
+    let m = read(&c.first).ok_or(1u32)?;
+    match api::check_mesh(&m) {
+        0 | 3 if !blade_numbers_ok(c) => Err(2),
+        0 if !arguments_ok(c, &m) => Err(4),
+        0 => Ok(m),
+        no => Err(no),
+    }
+}
+/// The published Rust's run on a checked mesh.
+pub fn outcome(c: &Raw, m: &api::Mesh) -> api::Outcome {
+    let w = words_of(&c.second);
+    match c.entry {
+        Entry::Split => {
+            let sides: Vec<u32> = c.second.iter().map(|&s| s as u32).collect();
+            api::split_fan(m, c.number, &sides)
+        }
+        Entry::Cut => {
+            let f: Vec<f32> = w.into_iter().map(f32::from_bits).collect();
+            api::cut(m, api::Blade::new(f[0], f[1], f[2], f[3]), f32::from_bits(c.number))
+        }
+        Entry::Crack => api::crack(m, &w, Some(c.minimum)),
+        _ => api::straddlers(m),
+    }
+}
+/// The rooms of a checked call; the limits are `Outcome::refusal`'s.
+fn rooms(c: &Raw) -> api::Rooms {
+    let w = words_of(&c.rooms);
+    api::Rooms { particles: w[0] as usize, edges: w[2] as usize, boundary: w[3] as usize, log: c.log / 24 }
+}
+/// Whether anything was split or inserted, the number of log entries, the image of the result.
+pub fn result_words(o: &api::Outcome) -> Vec<u32> {
+    [vec![o.changed as u32, o.log.len() as u32], words(&o.mesh)].concat()
+}
+pub fn log_words(log: &[api::Entry]) -> Vec<u32> {
+    let entry = |e: &api::Entry| match *e {
+        api::Entry::Split { copy, source } => [1, copy, source, 0, 0, 0],
+        api::Entry::Removed { a, b } => [2, a, b, 0, 0, 0],
+        api::Entry::Insert { a, b, p, q, t } => [3, a, b, p, q, t.to_bits()],
+        api::Entry::Opened { a, b } => [4, a, b, 0, 0, 0],
+    };
+    log.iter().flat_map(entry).collect()
+}
+fn torn(c: &Raw) -> Expected {
+    let o = match checked(c) {
+        Ok(m) => outcome(c, &m),
+        Err(no) => return Refused(no),
+    };
+    match o.refusal(rooms(c)) {
+        0 => fitting_both(result_words(&o), log_words(&o.log), c.out),
+        no => Refused(no),
+    }
+}
+
 pub fn expected(c: &Raw) -> Expected {
+    if c.entry.tears() {
+        return torn(c);
+    }
     match c.entry {
         Entry::Root => return root(c.number, c.out),
         Entry::BladeHit => return blade_hit(&c.first, c.out),
@@ -90,29 +172,35 @@ pub fn fault(want: &Expected, got: &Got) -> Option<String> {
         return Some(s.to_string());
     }
     let allowed = match want {
-        Words(_) => got.refusal == 0,
+        Words(..) => got.refusal == 0,
         Refused(n) => got.refusal == *n,
     };
     if !allowed {
         return Some(format!("it answered {}, expected {}", got.refusal, text(want)));
     }
-    let words = if let Words(w) = want { w.as_slice() } else { &[] };
-    let bytes = bytes_of(words, Some(got.out.len()));
-    let wrong = (0..bytes.len()).find(|&k| bytes[k] != got.out[k])?;
-    let place = if wrong < 4 * words.len() {
-        format!("word {} is {:08x}", wrong / 4, words_of(&got.out)[wrong / 4])
-    } else {
-        format!("byte {wrong} is {:02x} behind the answer", got.out[wrong])
-    };
+    let none: (&[u32], &[u32]) = (&[], &[]);
+    let (words, log) = if let Words(w, l) = want { (w.as_slice(), l.as_slice()) } else { none };
+    let place = differs("", words, &got.out).or_else(|| differs("the log's ", log, &got.log))?;
     Some(format!("{place}, expected {}", text(want)))
 }
+/// The first byte that isn't one of these words or 0 behind them, in words.
+fn differs(of: &str, words: &[u32], got: &[u8]) -> Option<String> {
+    let bytes = bytes_of(words, Some(got.len()));
+    let wrong = (0..bytes.len()).find(|&k| bytes[k] != got[k])?;
+    Some(match wrong < 4 * words.len() {
+        true => format!("{of}word {} is {:08x}", wrong / 4, words_of(got)[wrong / 4]),
+        false => format!("{of}byte {wrong} is {:02x} behind the answer", got[wrong]),
+    })
+}
 
+pub fn hex_words(w: &[u32]) -> String {
+    let w: Vec<String> = w.iter().map(|w| format!("{w:08x}")).collect();
+    w.join(" ")
+}
 pub fn text(e: &Expected) -> String {
     match e {
         Refused(n) => format!("refusal {n}"),
-        Words(w) => {
-            let w: Vec<String> = w.iter().map(|w| format!("{w:08x}")).collect();
-            format!("0 and {}", w.join(" "))
-        }
+        Words(w, l) if l.is_empty() => format!("0 and {}", hex_words(w)),
+        Words(w, l) => format!("0 and {}, log {}", hex_words(w), hex_words(l)),
     }
 }

@@ -31,19 +31,28 @@ impl Image {
         self.counts.unwrap_or([m.px.len(), m.ta.len(), m.ea.len(), m.ba.len()].map(|n| n as u32))
     }
     pub fn bytes(&self) -> Vec<u8> {
-        let m = &self.mesh;
         let mut w: Vec<u32> = self.counts().to_vec();
-        let f = |w: &mut Vec<u32>, c: &[&Vec<f32>]| w.extend(c.iter().flat_map(|c| c.iter().map(|x| x.to_bits())));
-        let n = |w: &mut Vec<u32>, c: &[&Vec<u32>]| w.extend(c.iter().flat_map(|c| c.iter()));
-        f(&mut w, &[&m.px, &m.py, &m.rx, &m.ry, &m.mass, &m.inv]);
-        n(&mut w, &[&m.root, &m.damaged]);
-        n(&mut w, &[&m.ta, &m.tb, &m.tc]);
-        f(&mut w, &[&m.volume, &m.tstress]);
-        n(&mut w, &[&m.ea, &m.eb, &m.structural, &m.torn]);
-        f(&mut w, &[&m.rest, &m.initial, &m.impulse, &m.estress]);
-        n(&mut w, &[&m.ba, &m.bb]);
+        columns(&mut w, &self.mesh, f32::to_bits);
         bytes_of(&w, self.length)
     }
+}
+/// The columns in the order of the blocks, behind what is there.
+fn columns(w: &mut Vec<u32>, m: &Mesh, bits: fn(f32) -> u32) {
+    let f = |w: &mut Vec<u32>, c: &[&Vec<f32>]| w.extend(c.iter().flat_map(|c| c.iter().map(|x| bits(*x))));
+    let n = |w: &mut Vec<u32>, c: &[&Vec<u32>]| w.extend(c.iter().flat_map(|c| c.iter()));
+    f(w, &[&m.px, &m.py, &m.rx, &m.ry, &m.mass, &m.inv]);
+    n(w, &[&m.root, &m.damaged]);
+    n(w, &[&m.ta, &m.tb, &m.tc]);
+    f(w, &[&m.volume, &m.tstress]);
+    n(w, &[&m.ea, &m.eb, &m.structural, &m.torn]);
+    f(w, &[&m.rest, &m.initial, &m.impulse, &m.estress]);
+    n(w, &[&m.ba, &m.bb]);
+}
+/// The image of a result as words; any NaN is 7fc00000.
+pub fn words(m: &Mesh) -> Vec<u32> {
+    let mut w = Image::new(m.clone()).counts().to_vec();
+    columns(&mut w, m, |x| if x.is_nan() { 0x7fc0_0000 } else { x.to_bits() });
+    w
 }
 
 /// The mesh of an image; `None` if its length is another than its counts ask for, or a count is

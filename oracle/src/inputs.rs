@@ -1,7 +1,8 @@
 //! Inputs for the C functions: random ones, large ones, ones at a limit, damaged ones.
 use crate::api::*;
-use crate::entries::{Args, Entry, Input};
-use crate::image::Image;
+use crate::entries::{Args, Entry, Input, Lending};
+use crate::expect::{checked, outcome, result_words};
+use crate::image::{Image, bytes_of};
 use crate::meshgen;
 use crate::rng::Rng;
 use crate::second;
@@ -21,13 +22,15 @@ pub fn input(entry: Entry, kind: Kind, seed: u64) -> Input {
     let r = &mut r;
     let mesh = match (entry, kind) {
         (Entry::Root | Entry::BladeHit, _) => Mesh::default(),
+        (_, Kind::Large) if entry.tears() => seasoned(r),
         (_, Kind::Large) => large(r),
         (_, Kind::Limit) => at_limit(r),
         _ => meshgen::mesh(r),
     };
+    let mesh = if entry == Entry::Straddlers && kind != Kind::Limit { apart(r, mesh) } else { mesh };
     let args = args(r, entry, kind, &mesh);
-    let mut i = Input { image: Image::new(mesh), args, out: 0 };
-    let need = need(&i);
+    let mut i = Input { image: Image::new(mesh), args, lending: Lending::default(), out: 0 };
+    let need = if entry.tears() { lend(r, &mut i) } else { need(&i) };
     i.out = match kind {
         Kind::Limit => r.pick(&[need, need, need, need + 1, need - 1, 0]),
         _ => need + r.pick(&[0, 0, 1, 3, 4, 17, 200]),
@@ -45,8 +48,50 @@ pub fn need(i: &Input) -> usize {
     match &i.args {
         Args::Groups { sides, .. } => 4 + 4 * sides.len(),
         Args::BladeHit { .. } => 8,
+        _ if i.entry().tears() => torn_need(i, &run(i)),
         _ => 4,
     }
+}
+/// The Rust's run of a call that gives a mesh, whatever is lent; `None` if a check refuses it.
+fn run(i: &Input) -> Option<Outcome> {
+    let mut c = i.raw();
+    c.rooms = bytes_of(&[u32::MAX; 4], None);
+    checked(&c).ok().map(|m| outcome(&c, &m))
+}
+fn torn_need(i: &Input, o: &Option<Outcome>) -> usize {
+    o.as_ref().map_or(i.image.bytes().len() + 8, |o| 4 * result_words(o).len())
+}
+/// Lends plenty, or just enough, or (in a third of the calls) too little for one of the steps.
+/// Gives the bytes of the answer.
+fn lend(r: &mut Rng, i: &mut Input) -> usize {
+    let ran = run(i);
+    let mesh = &i.image.mesh;
+    let copy = vec![[mesh.px.len(), mesh.ea.len(), mesh.ba.len(), 0]];
+    let steps = ran.as_ref().map_or(copy, |o| {
+        o.steps.iter().map(|s| [s.particles, s.edges, s.boundary, s.log]).collect::<Vec<[usize; 4]>>()
+    });
+    let most = |k: usize| steps.iter().map(|s| s[k]).max().unwrap_or(0);
+    let mood = r.below(6);
+    let limits = [MAX_PARTICLES, MAX_EDGES, MAX_BOUNDARY, MAX_LOG];
+    let mut rooms = [0, 1, 2, 3].map(|k| match mood {
+        0..=2 if k < 3 => r.pick(&[limits[k], limits[k] + 1, 5000, most(k) + 9, u32::MAX as usize]),
+        0..=2 if r.chance(60) => MAX_LOG + 1,
+        0..=2 => most(k) + r.pick(&[0, 1, 7, 40]),
+        _ => most(k),
+    });
+    let lists: Vec<usize> = (0..4).filter(|&k| most(k) > 0).collect();
+    if mood > 3 && !lists.is_empty() {
+        let k = r.pick(&lists);
+        let needs: Vec<usize> = steps.iter().map(|s| s[k]).filter(|&n| n > 0).collect();
+        rooms[k] = r.pick(&needs) - 1;
+        if r.chance(4) {
+            rooms[k] = r.below(rooms[k] as u32 + 1) as usize;
+        }
+    }
+    let triangles = mesh.ta.len() as u32 + r.pick(&[0, 0, 1, 2000]);
+    i.lending.places = [rooms[0] as u32, triangles, rooms[1] as u32, rooms[2] as u32];
+    i.lending.log = 24 * rooms[3] + r.pick(&[0, 0, 0, 1, 12, 23]);
+    torn_need(i, &ran)
 }
 
 fn args(r: &mut Rng, entry: Entry, kind: Kind, m: &Mesh) -> Args {
@@ -54,6 +99,7 @@ fn args(r: &mut Rng, entry: Entry, kind: Kind, m: &Mesh) -> Args {
     let v = if n == 0 { 0 } else { r.below(n) };
     // A large mesh is also asked at its busiest particle.
     let v = if kind == Kind::Large && r.chance(2) { busiest(m) } else { v };
+    let v = if entry == Entry::Split && n > 0 && !r.chance(4) { busy(r, m) } else { v };
     match entry {
         Entry::Root => Args::Root { bits: root_bits(r, kind) },
         Entry::BladeHit => Args::BladeHit { words: blade_words(r, kind), length: None },
@@ -69,6 +115,49 @@ fn args(r: &mut Rng, entry: Entry, kind: Kind, m: &Mesh) -> Args {
             Args::Opens { v, sides: sides(r, m, v), minimum }
         }
         Entry::Pieces => Args::Pieces,
+        Entry::Split => Args::Split { v, sides: sides(r, m, v) },
+        Entry::Straddlers => Args::Straddlers,
+        Entry::Cut => {
+            let b = if kind == Kind::Large { long_blade(r, m) } else { meshgen::blade(r, m) };
+            let mut blade = [b.x0, b.y0, b.x1, b.y1];
+            if kind == Kind::Limit && r.chance(4) {
+                blade[r.below(4) as usize] = limit_number(r, MAX_NUMBER);
+            }
+            let fraction = match kind {
+                Kind::Limit if r.chance(3) => limit_number(r, 0.5),
+                _ if r.chance(4) => r.span(0.0, 0.5),
+                _ => r.pick(&[0.1, 0.1, 0.2, 0.0, 0.5, 0.25, 0.45, 1.0e-45, -0.0]),
+            };
+            Args::Cut { blade: blade.map(f32::to_bits), length: None, fraction: fraction.to_bits() }
+        }
+        Entry::Crack => {
+            let mut torn = meshgen::torn(r, m);
+            if r.chance(6) {
+                torn.push(r.pick(&[m.ea.len() as u32, 2048, 1 << 30, u32::MAX]));
+            }
+            if let (true, Some(&e)) = (r.chance(6), torn.first()) {
+                torn.push(e);
+            }
+            Args::Crack { torn, length: None, minimum: r.pick(&[0, 1, 1, 1, 2, 3, 3, 5, 500, u32::MAX]) }
+        }
+    }
+}
+/// A particle with a large fan among a few taken at random.
+fn busy(r: &mut Rng, m: &Mesh) -> u32 {
+    let k = second::kind(m);
+    let some: Vec<u32> = (0..4).map(|_| r.below(m.px.len().min(60) as u32)).collect();
+    some.into_iter().max_by_key(|&v| second::fan(m, k, v).len()).unwrap_or(0)
+}
+/// A blade across a large mesh, or a part of it.
+fn long_blade(r: &mut Rng, m: &Mesh) -> Blade {
+    let most = |c: &[f32]| c.iter().copied().fold(0.0, f32::max);
+    let (x, y) = (most(&m.px), most(&m.py));
+    match r.below(5) {
+        0 => Blade::new(-1., -1., x + 1., y + 1.),
+        1 => Blade::new(r.span(0., x), -1., r.span(0., x), y + 1.),
+        2 => Blade::new(-1., (y / 2.).round(), x + 1., (y / 2.).round()),
+        3 => Blade::new(-9., r.span(0., y), 1000., r.span(0., y)),
+        _ => Blade::new(r.span(0., x), r.span(0., y), r.span(0., x), r.span(0., y)),
     }
 }
 fn sides(r: &mut Rng, m: &Mesh, v: u32) -> Vec<u8> {
@@ -157,6 +246,39 @@ pub fn large(r: &mut Rng) -> Mesh {
     if r.chance(4) && !m.ta.is_empty() && !m.ea.is_empty() {
         (m.ta, m.tb, m.tc) = (vec![], vec![], vec![]);
         (m.volume, m.tstress) = (vec![], vec![]);
+    }
+    m
+}
+/// A large mesh with pins, masses and stresses of its own.
+fn seasoned(r: &mut Rng) -> Mesh {
+    let mut m = large(r);
+    let pins = r.pick(&[10, 40, 2000]);
+    for i in 0..m.px.len() {
+        if r.chance(pins) {
+            m.inv[i] = 0.0;
+        } else if r.chance(3) {
+            m.mass[i] = r.span(0.0, 4.0);
+            m.inv[i] = crate::utils::inv(m.mass[i]);
+        }
+    }
+    m.tstress.iter_mut().for_each(|x| *x = r.span(-1.0, 3.0));
+    m.estress.iter_mut().for_each(|x| *x = r.span(-1.0, 3.0));
+    m.impulse.iter_mut().for_each(|x| *x = r.span(-1.0, 1.0));
+    m
+}
+/// The mesh cut, with further edges and boundary entries between any particles, so that some lie
+/// across pieces.
+fn apart(r: &mut Rng, m: Mesh) -> Mesh {
+    let cut = second::cut(&m, if m.px.len() > 60 { long_blade(r, &m) } else { meshgen::blade(r, &m) }, 0.1).mesh;
+    let mut m = if r.chance(3) || check_mesh(&cut) != 0 { m } else { cut };
+    let n = m.px.len() as u32;
+    let other = |r: &mut Rng, a: u32| (a + 1 + r.below(n - 1)) % n;
+    for _ in 0..r.pick(&[0, 1, 3, 8]) {
+        if n > 1 && m.ea.len() < MAX_EDGES && m.ba.len() < MAX_BOUNDARY {
+            let (a, b) = (r.below(n), r.below(n));
+            m.edge(a, other(r, a), false, r.span(0.0, 2.0));
+            m.bound(b, other(r, b));
+        }
     }
     m
 }
@@ -359,7 +481,18 @@ fn double(r: &mut Rng, m: &mut Mesh) {
         _ => {}
     }
 }
+/// Rooms of another length, or too few triangle places.
+fn damage_lending(r: &mut Rng, i: &mut Input) {
+    let triangles = i.image.mesh.ta.len() as u32;
+    match r.below(2) {
+        0 => i.lending.length = Some(r.pick(&[0, 1, 4, 12, 15, 17, 20, 32])),
+        _ => i.lending.places[1] = r.pick(&[0, triangles / 2, triangles.saturating_sub(1)]),
+    }
+}
 fn damage_arguments(r: &mut Rng, i: &mut Input) {
+    if i.entry().tears() && (i.entry() == Entry::Straddlers || r.chance(3)) {
+        return damage_lending(r, i);
+    }
     let n = i.image.mesh.px.len() as u32;
     let need = need(i);
     match &mut i.args {
@@ -368,7 +501,13 @@ fn damage_arguments(r: &mut Rng, i: &mut Input) {
             0 => *length = Some(r.pick(&[0, 1, 4, 28, 31, 33, 36, 64])),
             _ => words[r.below(8) as usize] = r.pick(&BAD_NUMBERS),
         },
-        Args::Groups { v, sides } | Args::Opens { v, sides, .. } => match r.below(4) {
+        Args::Cut { blade, length, fraction } => match r.below(4) {
+            0 => *length = Some(r.pick(&[0, 1, 4, 12, 15, 17, 20, 32])),
+            1 => *fraction = r.pick(&[0x3f00_0001, 0x3f80_0000, 0x8000_0001, 0xbf80_0000, 0x7f80_0000, 0x7fc0_0000]),
+            _ => blade[r.below(4) as usize] = r.pick(&BAD_NUMBERS),
+        },
+        Args::Crack { torn, length, .. } => *length = Some(4 * torn.len() + r.pick(&[1, 2, 3])),
+        Args::Groups { v, sides } | Args::Opens { v, sides, .. } | Args::Split { v, sides } => match r.below(4) {
             0 => *v = r.pick(&[n, n + 1, 1024, 1 << 31, u32::MAX]),
             1 => sides.push(r.below(2) as u8),
             2 => {

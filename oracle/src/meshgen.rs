@@ -375,6 +375,29 @@ pub fn sides(r: &mut Rng, m: &Mesh, v: u32) -> Vec<u32> {
         })
         .collect()
 }
+/// Torn edge numbers: any, or around the first one; some twice, some past the end.
+pub fn torn(r: &mut Rng, m: &Mesh) -> Vec<u32> {
+    let ne = m.ea.len() as u32;
+    let mut torn: Vec<u32> = vec![];
+    let near = r.chance(2);
+    for _ in 0..r.pick(&[0, 1, 1, 2, 3, 4, 5, 8, 12]) {
+        let mut e = r.below(ne + 1 + ne / 8);
+        if near && !torn.is_empty() && torn[0] < ne {
+            // again one of the first one's neighbours, perhaps itself
+            let f = torn[0] as usize;
+            let ends = [m.ea[f], m.eb[f]];
+            for _ in 0..20 {
+                let g = r.below(ne) as usize;
+                if ends.contains(&m.ea[g]) || ends.contains(&m.eb[g]) {
+                    e = g as u32;
+                    break;
+                }
+            }
+        }
+        torn.push(e);
+    }
+    torn
+}
 fn min_piece(r: &mut Rng) -> Option<u32> {
     r.pick(&[None, Some(0), Some(1), Some(1), Some(2), Some(3), Some(5), Some(u32::MAX)])
 }
@@ -393,25 +416,7 @@ pub fn case(seed: u64) -> Case {
             Call::Cut { blade: blade(r, &m), fraction }
         }
         7..=11 => {
-            let ne = m.ea.len() as u32;
-            let mut torn: Vec<u32> = vec![];
-            let near = r.chance(2);
-            for _ in 0..r.pick(&[0, 1, 1, 2, 3, 4, 5, 8, 12]) {
-                let mut e = r.below(ne + 1 + ne / 8);
-                if near && !torn.is_empty() && torn[0] < ne {
-                    // again one of the first one's neighbours, perhaps itself
-                    let f = torn[0] as usize;
-                    let ends = [m.ea[f], m.eb[f]];
-                    for _ in 0..20 {
-                        let g = r.below(ne) as usize;
-                        if ends.contains(&m.ea[g]) || ends.contains(&m.eb[g]) {
-                            e = g as u32;
-                            break;
-                        }
-                    }
-                }
-                torn.push(e);
-            }
+            let torn = torn(r, &m);
             Call::Crack { torn, min_piece: min_piece(r) }
         }
         12..=14 if n > 0 => {

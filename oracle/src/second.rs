@@ -1,7 +1,9 @@
 //! A second, independent writing of the kept functions: plain columns, index loops, no maps, no
 //! closures over the body, no early exits that a definition would not have. It fixes the order of
-//! the effects that can be seen; `fuzz` compares it with the oracle.
+//! the effects that can be seen; `fuzz` compares it with the oracle. `has` asks for a planted
+//! mistake (`faults.rs`).
 use crate::api::{Blade, Entry, Mesh, Outcome, Step, StepKind};
+use crate::faults::{Fault::*, has};
 
 type V2 = (f32, f32);
 fn sub(a: V2, b: V2) -> V2 {
@@ -112,8 +114,8 @@ fn shared_others(a: &[u32], b: &[u32], v: u32) -> usize {
     a.iter().filter(|x| **x != v && b.contains(x)).count()
 }
 /// Shared particles besides v that make two fan elements neighbours (`facet_others`).
-fn facet_others(k: Kind) -> usize {
-    (k == Kind::Triangles) as usize
+pub fn facet_others(k: Kind) -> usize {
+    (k == Kind::Triangles && !has(CornerGroups)) as usize
 }
 /// Labels: the least fan place joined to each place by a chain of neighbours.
 pub fn groups_of(needed: usize, fans: &[Vec<u32>], sides: &[u32], v: u32) -> (Vec<u32>, u32) {
@@ -144,7 +146,18 @@ pub fn groups_of(needed: usize, fans: &[Vec<u32>], sides: &[u32], v: u32) -> (Ve
             }
         }
     }
-    ((0..n).map(|i| number[label[i]]).collect(), count)
+    let groups: Vec<u32> = (0..n).map(|i| number[label[i]]).collect();
+    (if has(UnionRoot) || has(SidesMixed) { misnumbered(&groups, count, sides) } else { groups }, count)
+}
+/// Numbers by the place of the last, or of the first member whatever its side (two mistakes).
+fn misnumbered(groups: &[u32], count: u32, sides: &[u32]) -> Vec<u32> {
+    let place = |g: u32| match has(UnionRoot) {
+        true => (sides[groups.iter().position(|&h| h == g).unwrap()], groups.iter().rposition(|&h| h == g)),
+        false => (0, groups.iter().position(|&h| h == g)),
+    };
+    let mut order: Vec<u32> = (0..count).collect();
+    order.sort_by_key(|&g| place(g));
+    groups.iter().map(|&g| order.iter().position(|&h| h == g).unwrap() as u32).collect()
 }
 
 pub fn rest_measure(m: &Mesh) -> f32 {
@@ -186,7 +199,8 @@ fn reached(n: usize, start: Vec<bool>, near: impl Fn(usize, usize) -> bool) -> V
 /// Every group reaches at least `min` elements across facets without `v`, through the whole body.
 pub fn opens(m: &Mesh, k: Kind, v: u32, fan: &[u32], groups: &[u32], count: u32, min: u32) -> bool {
     let facet = if k == Kind::Triangles { 2 } else { 1 };
-    opens_within(m, k, &elements(m, k), v, facet, fan, groups, count, min)
+    let within = if has(ReachInFan) { fan.to_vec() } else { elements(m, k) };
+    opens_within(m, k, &within, v, facet, fan, groups, count, min)
 }
 /// The same among the elements `within`, where `facet` shared particles besides `v` touch.
 pub fn opens_within(
@@ -333,7 +347,7 @@ impl Run {
 
     /// One split step. `false`, and nothing changed, with fewer than two groups or a pinned `v`.
     fn split(&mut self, k: Kind, v: u32, fan: &[u32], groups: &[u32], count: u32) -> bool {
-        if count < 2 || self.m.inv[v as usize] == 0.0 {
+        if count < 2 || self.m.inv[v as usize] == 0.0 && !has(PinnedSplits) {
             return false;
         }
         let n = fan.len();
@@ -350,11 +364,18 @@ impl Run {
         let source_mass = self.m.mass[v as usize];
         let mut copies = vec![];
         for g in 0..count as usize {
-            let mass = if total > 0.0 { source_mass * weights[g] / total } else { source_mass / count as f32 };
+            let mass = if total > 0.0 && !has(MassEqually) {
+                source_mass * weights[g] / total
+            } else {
+                source_mass / count as f32
+            };
             let at = if g == 0 { v as usize } else { self.push_particle_like(v as usize) };
             self.m.mass[at] = mass;
             self.m.inv[at] = inv(mass);
-            if g != 0 {
+            if g != 0 && has(CopyOwnRoot) {
+                self.m.root[at] = at as u32;
+            }
+            if g != 0 && !has(CopyUnlogged) {
                 self.log.push(Entry::Split { copy: at as u32, source: v });
             }
             copies.push(at as u32);
@@ -400,7 +421,9 @@ impl Run {
             for &other in gs.iter().skip(1) {
                 let (a, b) = ends(copies[other as usize]);
                 let at = self.push_edge_like(i, a, b);
-                self.m.impulse[at] = 0.0;
+                if !has(CopyImpulse) {
+                    self.m.impulse[at] = 0.0;
+                }
             }
         }
         let longest = self.m.ea.len();
@@ -413,7 +436,8 @@ impl Run {
                     return false;
                 }
                 let (gx, gy) = (ring(x), ring(y));
-                !gx.is_empty()
+                !has(StraddlersStay)
+                    && !gx.is_empty()
                     && !gy.is_empty()
                     && !gx.iter().any(|g| gy.contains(g))
                     && !all.iter().any(|&e| {
@@ -431,6 +455,7 @@ impl Run {
             }
             let x = if a == v { b } else { a };
             let g = match (0..n).find(|&i| old[i].contains(&x)) {
+                Some(_) if has(BoundaryLowest) => ring(x)[0],
                 Some(i) => groups[i],
                 None => self.toward(v, &old, groups, x),
             };
@@ -461,7 +486,8 @@ impl Run {
                 }
             }
         }
-        self.step(StepKind::Split, longest, self.m.ba.len());
+        let edges = if has(EdgesAfter) { self.m.ea.len() } else { longest };
+        self.step(StepKind::Split, edges, self.m.ba.len());
         true
     }
 
@@ -496,7 +522,7 @@ impl Run {
     }
 
     fn split_pinched(&mut self, k: Kind) {
-        if k == Kind::Straps {
+        if k == Kind::Straps || has(PinchedStay) {
             return;
         }
         let splits = self.splits();
@@ -532,7 +558,7 @@ impl Run {
             }
         }
         for v in 0..n {
-            if candidate[v] {
+            if candidate[v] && !(has(FirstCandidate) && !self.splits().is_empty()) {
                 self.split_by_blade(k, v as u32, blade);
             }
         }
@@ -562,7 +588,7 @@ impl Run {
             self.step(StepKind::Remove, edges, boundary);
         }
         for v in 0..snapped.len() {
-            if !snapped[v] {
+            if !snapped[v] || has(FirstCandidate) && !self.splits().is_empty() {
                 continue;
             }
             let first = self.m.px.len() as u32;
@@ -583,10 +609,10 @@ impl Run {
             return false;
         }
         let mut t = t;
-        if t < lo {
+        if t < lo && !has(Unclamped) {
             t = lo;
         }
-        if t > hi {
+        if t > hi && !has(Unclamped) {
             t = hi;
         }
         let (a, b) = (self.m.ea[i], self.m.eb[i]);
@@ -672,6 +698,7 @@ impl Run {
                 m.bound(p, a);
             }
         }
+        let (p, q) = if has(InsertTurned) { (q, p) } else { (p, q) };
         self.log.push(Entry::Insert { a, b, p, q, t });
         self.step(StepKind::Insert, self.m.ea.len(), self.m.ba.len());
         true
@@ -715,7 +742,8 @@ impl Run {
             .map(|i| !(k == Kind::Straps && self.m.structural[i] == 1) && spans(self.m.ea[i], self.m.eb[i]))
             .collect();
         self.drop_edges(&gone);
-        let keep: Vec<(u32, u32)> = self.m.boundary().into_iter().filter(|&(a, b)| !spans(a, b)).collect();
+        let keep: Vec<(u32, u32)> =
+            self.m.boundary().into_iter().filter(|&(a, b)| !spans(a, b) || has(OutlineStays)).collect();
         self.m.ba = keep.iter().map(|s| s.0).collect();
         self.m.bb = keep.iter().map(|s| s.1).collect();
         self.step(StepKind::Remove, edges, boundary);
@@ -728,39 +756,22 @@ impl Run {
         }
         let input = self.m.edges();
         // Triangle loads, read once.
-        let loads: Vec<f32> = if k == Kind::Triangles {
-            elements(&self.m, k)
-                .iter()
-                .map(|&e| {
-                    let c = corners(&self.m, k, e);
-                    let mut load = self.m.tstress[e as usize];
-                    for i in 0..input.len() {
-                        if c.contains(&input[i].0) && c.contains(&input[i].1) {
-                            // the source starts each pair's stress at 0
-                            for s in [0.0, self.m.estress[i]] {
-                                if s > load {
-                                    load = s;
-                                }
-                            }
-                        }
-                    }
-                    load
-                })
-                .collect()
-        } else {
-            vec![]
-        };
+        let mut loads = self.loads(k);
         for &e in torn {
-            if e as usize >= input.len() {
+            if e as usize >= input.len() || has(TornNow) && e as usize >= self.m.ea.len() {
                 continue;
             }
-            let (a, b) = input[e as usize];
+            let (a, b) = if has(TornNow) { self.m.edges()[e as usize] } else { input[e as usize] };
             let Some((x, y)) = self.current_pair(k, a, b) else {
                 continue;
             };
             let first = self.m.px.len();
+            if has(LoadsAgain) {
+                loads = self.loads(k);
+            }
+            let logged = self.log.len();
             if self.crack_across(k, x, y, &loads, min) {
-                self.log.push(Entry::Opened { a, b });
+                self.log.insert(if has(OpenedEarly) { logged } else { self.log.len() }, Entry::Opened { a, b });
                 self.steps.last_mut().unwrap().log = self.log.len();
                 self.m.damaged[x as usize] = 1;
                 self.m.damaged[y as usize] = 1;
@@ -774,6 +785,32 @@ impl Run {
         }
         self.split_pinched(k);
         self.straddlers();
+    }
+
+    /// The load of each triangle: the highest stress of itself and of the edges between its corners.
+    fn loads(&self, k: Kind) -> Vec<f32> {
+        let input = self.m.edges();
+        if k != Kind::Triangles {
+            return vec![];
+        }
+        elements(&self.m, k)
+            .iter()
+            .map(|&e| {
+                let c = corners(&self.m, k, e);
+                let mut load = self.m.tstress[e as usize];
+                for i in 0..input.len() {
+                    if c.contains(&input[i].0) && c.contains(&input[i].1) {
+                        // the source starts each pair's stress at 0
+                        for s in [0.0, self.m.estress[i]] {
+                            if s > load {
+                                load = s;
+                            }
+                        }
+                    }
+                }
+                load
+            })
+            .collect()
     }
 
     fn current_pair(&self, k: Kind, a: u32, b: u32) -> Option<(u32, u32)> {
@@ -852,6 +889,7 @@ impl Run {
         }
         if options.len() == 2 {
             let order = options[1].0.total_cmp(&options[0].0);
+            let order = if has(LowerFirst) { std::cmp::Ordering::Equal } else { order };
             if order.is_gt() || (order.is_eq() && options[1].1 < options[0].1) {
                 options.swap(0, 1);
             }
@@ -915,7 +953,8 @@ pub fn cut_whole(m: &Mesh, blade: Blade, fraction: f32) -> Outcome {
 }
 pub fn crack(m: &Mesh, torn: &[u32], min_piece: Option<u32>) -> Outcome {
     let mut r = Run::new(m);
-    r.crack(torn, min_piece.map_or(3, |n| n.max(1)));
+    let less = has(MinimumLess) as u32;
+    r.crack(torn, min_piece.map_or(3, |n| n.saturating_sub(less).max(1 - less)));
     r.done()
 }
 pub fn straddlers(m: &Mesh) -> Outcome {

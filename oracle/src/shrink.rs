@@ -1,6 +1,6 @@
 //! Makes a failing input small: drops what is wrong with the image, elements and particles, and
 //! then simplifies the numbers, as long as the input still fails.
-use crate::api::Mesh;
+use crate::api::{MAX_BOUNDARY, MAX_EDGES, MAX_PARTICLES, MAX_TRIANGLES, Mesh};
 use crate::entries::{Args, Input};
 use crate::inputs::need;
 use crate::second;
@@ -57,6 +57,26 @@ fn form(s: &mut Search) {
     if s.best.out != plain {
         s.with(|i| i.out = plain);
     }
+    if s.best.entry().tears() {
+        lending(s);
+    }
+}
+/// Room for everything; else the smallest rooms that still fail.
+fn lending(s: &mut Search) {
+    if s.best.lending.length.is_some() {
+        s.with(|i| i.lending.length = None);
+    }
+    for (k, limit) in [MAX_PARTICLES, MAX_TRIANGLES, MAX_EDGES, MAX_BOUNDARY].into_iter().enumerate() {
+        let now = s.best.lending.places[k];
+        if now != limit as u32 && !s.with(|i| i.lending.places[k] = limit as u32) && now > limit as u32 {
+            s.with(|i| i.lending.places[k] = limit as u32 + 1);
+        }
+    }
+    for bytes in [24 * 40, s.best.lending.log / 24 * 24, 0] {
+        if s.best.lending.log == bytes || s.with(|i| i.lending.log = bytes) {
+            break;
+        }
+    }
 }
 
 fn count(m: &Mesh, list: usize) -> usize {
@@ -69,7 +89,13 @@ fn rows(s: &mut Search, list: usize) {
         let mut at = 0;
         while at < count(&s.best.image.mesh, list) {
             let end = (at + step).min(count(&s.best.image.mesh, list));
-            let smaller = without(&s.best, list, at, end).is_some_and(|i| s.attempt(i));
+            let drop = without(&s.best, list, at, end);
+            // With the same room, or with as many places fewer.
+            let fewer = drop.clone().filter(|i| i.entry().tears()).map(|mut i| {
+                i.lending.places[list] = i.lending.places[list].saturating_sub((end - at) as u32);
+                i
+            });
+            let smaller = [drop, fewer].into_iter().flatten().any(|i| s.attempt(i));
             if !smaller {
                 at += step;
             }
@@ -106,7 +132,7 @@ fn without(i: &Input, list: usize, from: usize, to: usize) -> Option<Input> {
     let m = &i.image.mesh;
     let dropped = |x: u32| (from..to).contains(&(x as usize));
     let fan = match &i.args {
-        Args::Groups { v, .. } | Args::Opens { v, .. } => second::fan(m, second::kind(m), *v),
+        Args::Groups { v, .. } | Args::Opens { v, .. } | Args::Split { v, .. } => second::fan(m, second::kind(m), *v),
         _ => vec![],
     };
     let straps = second::kind(m) == second::Kind::Straps;
@@ -140,7 +166,7 @@ fn without(i: &Input, list: usize, from: usize, to: usize) -> Option<Input> {
         }
     }
     match &mut i.args {
-        Args::Groups { v, sides } | Args::Opens { v, sides, .. } => {
+        Args::Groups { v, sides } | Args::Opens { v, sides, .. } | Args::Split { v, sides } => {
             if list == 0 {
                 if dropped(*v) {
                     return None;
@@ -156,6 +182,10 @@ fn without(i: &Input, list: usize, from: usize, to: usize) -> Option<Input> {
         Args::RestMeasureOf { list: l, length } if list == 0 && length.is_none() => {
             l.retain(|&p| !dropped(p));
             l.iter_mut().for_each(|p| *p = renumber(*p));
+        }
+        Args::Crack { torn, length, .. } if list == 2 && length.is_none() => {
+            torn.retain(|&e| !dropped(e));
+            torn.iter_mut().for_each(|e| *e = renumber(*e));
         }
         _ => {}
     }
@@ -193,33 +223,66 @@ fn arguments(s: &mut Search) {
                 }
             }
         }
-        Args::Groups { sides, .. } | Args::Opens { sides, .. } => {
+        Args::Groups { sides, .. } | Args::Opens { sides, .. } | Args::Split { sides, .. } => {
             for k in 0..sides.len() {
                 if sides[k] != 0 {
-                    s.with(|i| {
-                        if let Args::Groups { sides, .. } | Args::Opens { sides, .. } = &mut i.args {
-                            sides[k] = 0;
-                        }
-                    });
+                    s.with(|i| sides_of(i)[k] = 0);
                 }
             }
-            let (Args::Groups { sides, .. } | Args::Opens { sides, .. }) = &s.best.args else { return };
             for k in (0..sides.len()).rev() {
                 s.with(|i| {
-                    if let Args::Groups { sides, .. } | Args::Opens { sides, .. } = &mut i.args {
-                        sides.remove(k);
+                    sides_of(i).remove(k);
+                });
+            }
+            smaller_minimum(s);
+        }
+        Args::Cut { blade, length, fraction } => {
+            if length.is_some() {
+                s.with(|i| {
+                    if let Args::Cut { length, .. } = &mut i.args {
+                        *length = None;
                     }
                 });
             }
-            for least in [1, 2, 3] {
-                if matches!(s.best.args, Args::Opens { minimum, .. } if minimum > least) {
-                    s.with(|i| {
-                        if let Args::Opens { minimum, .. } = &mut i.args {
-                            *minimum = least;
+            for k in 0..4 {
+                for x in simpler(f32::from_bits(blade[k])) {
+                    if s.with(|i| {
+                        if let Args::Cut { blade, .. } = &mut i.args {
+                            blade[k] = x.to_bits();
                         }
-                    });
+                    }) {
+                        break;
+                    }
                 }
             }
+            for x in [0.0f32, 0.25, 0.5].map(f32::to_bits) {
+                if fraction == x
+                    || s.with(|i| {
+                        if let Args::Cut { fraction, .. } = &mut i.args {
+                            *fraction = x;
+                        }
+                    })
+                {
+                    break;
+                }
+            }
+        }
+        Args::Crack { torn, length, .. } => {
+            if length.is_some() {
+                s.with(|i| {
+                    if let Args::Crack { length, .. } = &mut i.args {
+                        *length = None;
+                    }
+                });
+            }
+            for k in (0..torn.len()).rev() {
+                s.with(|i| {
+                    if let Args::Crack { torn, .. } = &mut i.args {
+                        torn.remove(k);
+                    }
+                });
+            }
+            smaller_minimum(s);
         }
         Args::RestMeasureOf { list, length } => {
             if length.is_some() {
@@ -233,7 +296,28 @@ fn arguments(s: &mut Search) {
                 });
             }
         }
-        Args::RestMeasure | Args::Pieces => {}
+        Args::RestMeasure | Args::Pieces | Args::Straddlers => {}
+    }
+}
+fn sides_of(i: &mut Input) -> &mut Vec<u8> {
+    match &mut i.args {
+        Args::Groups { sides, .. } | Args::Opens { sides, .. } | Args::Split { sides, .. } => sides,
+        other => panic!("{other:?} has no sides"),
+    }
+}
+fn smaller_minimum(s: &mut Search) {
+    for least in [1, 2, 3] {
+        let minimum = match s.best.args {
+            Args::Opens { minimum, .. } | Args::Crack { minimum, .. } => minimum,
+            _ => 0,
+        };
+        if minimum > least {
+            s.with(|i| {
+                if let Args::Opens { minimum, .. } | Args::Crack { minimum, .. } = &mut i.args {
+                    *minimum = least;
+                }
+            });
+        }
     }
 }
 

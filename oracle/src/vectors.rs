@@ -1,7 +1,7 @@
 //! Calls, their answers, and the text form of both (see README.md, "Vector file").
 use crate::api::*;
 use crate::entries::{Args, Input};
-use crate::expect::Expected;
+use crate::expect::{Expected, hex_words};
 use std::fmt::Write;
 
 #[derive(Clone, Debug)]
@@ -237,26 +237,44 @@ pub fn write_case(out: &mut String, c: &Case, a: &Answer) {
 pub fn write_input(out: &mut String, seed: u64, i: &Input, want: &Expected) {
     writeln!(out, "case {seed}").unwrap();
     write_mesh(out, &i.image.mesh);
-    let mut length = i.image.length;
+    let (mut length, mut list_bytes) = (i.image.length, None);
     match &i.args {
         Args::Root { bits } => writeln!(out, "root {bits:08x}"),
         Args::BladeHit { words, length: l } => {
             length = *l;
-            let w: Vec<String> = words.iter().map(|w| format!("{w:08x}")).collect();
-            writeln!(out, "blade_hit {}", w.join(" "))
+            writeln!(out, "blade_hit {}", hex_words(words))
         }
         Args::Groups { v, sides } => writeln!(out, "groups {v} {}", list(sides)),
         Args::Opens { v, sides, minimum } => writeln!(out, "opens {minimum} {v} {}", list(sides)),
         Args::RestMeasure => writeln!(out, "rest_measure"),
         Args::RestMeasureOf { list: l, length: n } => {
-            if n.is_some() {
-                writeln!(out, "list_bytes {}", n.unwrap()).unwrap();
-            }
+            list_bytes = *n;
             writeln!(out, "rest_measure_of {}", list(l))
         }
         Args::Pieces => writeln!(out, "pieces"),
+        Args::Split { v, sides } => writeln!(out, "split_fan {v} {}", list(sides)),
+        Args::Straddlers => writeln!(out, "straddlers"),
+        Args::Cut { blade, length: n, fraction } => {
+            list_bytes = *n;
+            writeln!(out, "cut {} {fraction:08x}", hex_words(blade))
+        }
+        Args::Crack { torn, length: n, minimum } => {
+            list_bytes = *n;
+            writeln!(out, "crack {minimum} {}", list(torn))
+        }
     }
     .unwrap();
+    if let Some(n) = list_bytes {
+        writeln!(out, "list_bytes {n}").unwrap();
+    }
+    if i.entry().tears() {
+        let [p, t, e, b] = i.lending.places;
+        writeln!(out, "places {p} {t} {e} {b}").unwrap();
+        if let Some(n) = i.lending.length {
+            writeln!(out, "places_bytes {n}").unwrap();
+        }
+        writeln!(out, "log {}", i.lending.log).unwrap();
+    }
     if let Some([p, t, e, b]) = i.image.counts {
         writeln!(out, "counts {p} {t} {e} {b}").unwrap();
     }
@@ -266,10 +284,10 @@ pub fn write_input(out: &mut String, seed: u64, i: &Input, want: &Expected) {
     writeln!(out, "out {}", i.out).unwrap();
     match want {
         Expected::Refused(n) => writeln!(out, "answer {n}"),
-        Expected::Words(w) => {
-            let w: Vec<String> = w.iter().map(|w| format!("{w:08x}")).collect();
-            writeln!(out, "answer 0 words {}", w.join(" "))
+        Expected::Words(w, log) if i.entry().tears() => {
+            writeln!(out, "answer 0 words {} log {}", hex_words(w), hex_words(log))
         }
+        Expected::Words(w, _) => writeln!(out, "answer 0 words {}", hex_words(w)),
     }
     .unwrap();
     writeln!(out, "end").unwrap();

@@ -1,97 +1,11 @@
 //! The second writing behind the same C functions, so that the comparison can be tried without an
 //! archive, right or with a planted fault. It reads the image by places, not by columns, so it is a
 //! second reading of checks 1 to 4 too.
-use crate::api::{Blade, Mesh};
+use crate::api::{Blade, Entry, Mesh, Outcome};
 use crate::entries::Table;
+use crate::faults::{Fault::*, has};
 use crate::image::{read, words_of};
 use crate::second::{self, Kind};
-use std::sync::atomic::{AtomicUsize, Ordering};
-
-/// The faults that can be planted; each must be found.
-#[derive(Clone, Copy, PartialEq, Eq, Debug)]
-pub enum Fault {
-    Nothing,
-    /// Groups are numbered by their union root, here the last element, not by first appearance.
-    UnionRoot,
-    /// Groups of side 1 are numbered with those of side 0.
-    SidesMixed,
-    /// A shared corner is taken for a facet when grouping.
-    CornerGroups,
-    /// A shared corner is taken for a facet when counting reach.
-    CornerReach,
-    /// Reach is counted inside the fan only.
-    ReachInFan,
-    /// Reach goes across facets that hold v.
-    ReachThroughV,
-    /// A minimum of 0 is not counted as 1, and 1 is asked where 2 is.
-    MinimumLess,
-    /// Pieces are joined by edges and boundary too.
-    PiecesByEdges,
-    /// Pieces are joined by facets only.
-    PiecesByFacets,
-    /// The blade's ends are left out.
-    BladeOpenEnd,
-    /// Minus zero becomes zero in a hit.
-    BladeZero,
-    /// Offsets of one sign whose product underflows are a miss.
-    BladeSigns,
-    /// A rest volume keeps its sign.
-    SignedVolume,
-    /// A strap counts by its rest length.
-    PresentLength,
-    /// One listed corner is enough.
-    AnyCorner,
-    /// The root is cut off instead of rounded.
-    RootCut,
-    /// The bytes behind the answer are left as they were.
-    DirtyTail,
-    /// A refusal leaves the answer's bytes as they were.
-    DirtyRefusal,
-    /// 3 is found before 2.
-    ThreeBeforeTwo,
-    /// A NaN pattern passes.
-    NanPasses,
-    /// A list may name a particle twice.
-    ListTwice,
-    /// The counts are multiplied in 32 bits.
-    ShortLength,
-    /// One byte too many is cleared.
-    WritesPast,
-}
-use Fault::*;
-pub const FAULTS: [Fault; 23] = [
-    UnionRoot,
-    SidesMixed,
-    CornerGroups,
-    CornerReach,
-    ReachInFan,
-    ReachThroughV,
-    MinimumLess,
-    PiecesByEdges,
-    PiecesByFacets,
-    BladeOpenEnd,
-    BladeZero,
-    BladeSigns,
-    SignedVolume,
-    PresentLength,
-    AnyCorner,
-    RootCut,
-    DirtyTail,
-    DirtyRefusal,
-    ThreeBeforeTwo,
-    NanPasses,
-    ListTwice,
-    ShortLength,
-    WritesPast,
-];
-static PLANTED: AtomicUsize = AtomicUsize::new(0);
-/// Plants a fault in all functions of `table()`.
-pub fn plant(f: Fault) {
-    PLANTED.store(f as usize, Ordering::Relaxed);
-}
-fn has(f: Fault) -> bool {
-    PLANTED.load(Ordering::Relaxed) == f as usize
-}
 
 pub fn table() -> Table {
     Table {
@@ -102,6 +16,10 @@ pub fn table() -> Table {
         rest_measure_of: Some(rest_measure_of),
         opens: Some(opens),
         pieces: Some(pieces),
+        split: Some(split),
+        straddlers: Some(straddlers),
+        cut: Some(cut),
+        crack: Some(crack),
     }
 }
 
@@ -133,6 +51,28 @@ unsafe fn give(answer: Result<Vec<u32>, u32>, p: *mut u8, n: usize) -> u32 {
         }
         Err(no) => no,
     }
+}
+
+/// The same for result and log, each with its bytes' number.
+/// # Safety
+/// `n` bytes stand at `p`, `k` bytes at `log`.
+unsafe fn give_both(
+    answer: Result<(Vec<u32>, Vec<u32>), u32>,
+    (p, n): (*mut u8, usize),
+    (log, k): (*mut u8, usize),
+) -> u32 {
+    let answer = answer.and_then(|a| if 4 * a.0.len() > n { Err(4) } else { Ok(a) });
+    let entries = unsafe { std::slice::from_raw_parts_mut(log, k) };
+    if !(has(DirtyLog) && answer.is_ok() || has(DirtyRefusal) && answer.is_err()) {
+        entries.fill(0);
+    }
+    let words = answer.map(|(words, log)| {
+        for (place, w) in entries.chunks_exact_mut(4).zip(log) {
+            place.copy_from_slice(&w.to_le_bytes());
+        }
+        words
+    });
+    unsafe { give(words, p, n) }
 }
 
 // ---- checks 1 to 3, by places in the image --------------------------------------------------
@@ -167,6 +107,10 @@ fn is_index(b: usize, c: usize) -> bool {
 }
 
 fn judge(bytes: &[u8]) -> Result<Mesh, u32> {
+    judge_with(bytes, true)
+}
+/// The same with the numbers of a blade, found good or bad beforehand.
+fn judge_with(bytes: &[u8], blade: bool) -> Result<Mesh, u32> {
     let w = words_of(bytes);
     if bytes.len() < 16 || (0..4).any(|k| w[k] > LIMITS[k]) && !has(ShortLength) {
         return Err(1);
@@ -198,7 +142,7 @@ fn judge(bytes: &[u8]) -> Result<Mesh, u32> {
         }
         at += width * n;
     }
-    if !numbers && !(has(ThreeBeforeTwo) && !indices) {
+    if !(numbers && blade) && !(has(ThreeBeforeTwo) && !indices) && !(has(BladeAfterThree) && numbers && !indices) {
         return Err(2);
     }
     if !indices {
@@ -224,20 +168,7 @@ fn fan_of(m: &Mesh, v: u32, sides: &[u8]) -> Result<Vec<Vec<u32>>, u32> {
 fn grouped(m: &Mesh, v: u32, sides: &[u8]) -> Result<(Vec<u32>, u32), u32> {
     let fans = fan_of(m, v, sides)?;
     let sides: Vec<u32> = sides.iter().map(|&s| s as u32).collect();
-    let needed = (second::kind(m) == Kind::Triangles && !has(CornerGroups)) as usize;
-    let (groups, count) = second::groups_of(needed, &fans, &sides, v);
-    if !has(UnionRoot) && !has(SidesMixed) {
-        return Ok((groups, count));
-    }
-    // Numbers by the place of the last, or of the first member, whatever its side.
-    let place = |g: u32| match has(UnionRoot) {
-        true => (sides[groups.iter().position(|&h| h == g).unwrap()], groups.iter().rposition(|&h| h == g)),
-        false => (0, groups.iter().position(|&h| h == g)),
-    };
-    let mut order: Vec<u32> = (0..count).collect();
-    order.sort_by_key(|&g| place(g));
-    let number = |g: u32| order.iter().position(|&h| h == g).unwrap() as u32;
-    Ok((groups.iter().map(|&g| number(g)).collect(), count))
+    Ok(second::groups_of(second::facet_others(second::kind(m)), &fans, &sides, v))
 }
 
 unsafe extern "C" fn root(bits: u32, out: *mut u8, n: usize) -> u32 {
@@ -370,4 +301,157 @@ unsafe extern "C" fn pieces(image: *const u8, len: usize, out: *mut u8, n: usize
         vec![second::pieces_of(&sets, count, joins)]
     });
     unsafe { give(answer, out, n) }
+}
+
+// ---- the functions that give a mesh ---------------------------------------------------------
+
+const NAN: u32 = 0x7fc0_0000;
+/// The words of a mesh's image, by blocks.
+fn image_words(m: &Mesh) -> Vec<u32> {
+    let mut w: Vec<u32> = [m.px.len(), m.ta.len(), m.ea.len(), m.ba.len()].map(|n| n as u32).to_vec();
+    let mut floats = m.floats().into_iter();
+    let mut numbers = m.numbers().into_iter();
+    for (b, (width, _)) in BLOCKS.into_iter().enumerate() {
+        for _ in 0..width {
+            match matches!(b, 0 | 3 | 5) {
+                true => w.extend(
+                    floats.next().unwrap().iter().map(
+                        |x| {
+                            if x.is_nan() && !has(NanAsItComes) { NAN } else { x.to_bits() }
+                        },
+                    ),
+                ),
+                false => w.extend(numbers.next().unwrap()),
+            }
+        }
+    }
+    w
+}
+fn log_words(log: &[Entry]) -> Vec<u32> {
+    let words = |e: &Entry| match *e {
+        Entry::Split { copy, source } => [1, copy, source, 0, 0, 0],
+        Entry::Removed { a, b } => [2, a, b, 0, 0, 0],
+        Entry::Insert { a, b, p, q, t } => [3, a, b, p, q, t.to_bits()],
+        Entry::Opened { a, b } => [4, a, b, 0, 0, 0],
+    };
+    log.iter().flat_map(words).collect()
+}
+/// The places lent, each at most its limit; 4 if the bytes are no four words or triangles lack.
+fn lent_places(m: &Mesh, rooms: &[u8]) -> Result<Vec<u32>, u32> {
+    let w = words_of(rooms);
+    if rooms.len() != 16 || (w[1] as usize) < m.ta.len() && !has(TrianglesUnasked) {
+        return Err(4);
+    }
+    Ok((0..4).map(|k| if has(RoomUncapped) { w[k] } else { w[k].min(LIMITS[k]) }).collect())
+}
+/// The first lack of room of a run, by its steps, or its words.
+fn answered(o: Outcome, places: &[u32], log: usize) -> Result<(Vec<u32>, Vec<u32>), u32> {
+    let entries = if has(LogRoundedUp) { log.div_ceil(24) } else { log / 24 };
+    let rooms = [places[0] as usize, places[2] as usize, places[3] as usize, entries.min(4096)];
+    let steps = if has(RoomAtEnd) { &o.steps[o.steps.len() - 1..] } else { &o.steps[..] };
+    for s in steps {
+        let needs = [s.particles, s.edges, s.boundary, s.log];
+        let lacking = |k: &usize| needs[*k] > rooms[*k];
+        let lack = if has(LogFirst) { [3, 0, 1, 2].into_iter().find(lacking) } else { (0..4).find(lacking) };
+        if let Some(k) = lack {
+            return Err(5 + k as u32);
+        }
+    }
+    let log = log_words(&o.log);
+    let head = vec![o.changed as u32, log.len() as u32 / 6];
+    Ok(([head, image_words(&o.mesh)].concat(), log))
+}
+
+unsafe extern "C" fn split(
+    image: *const u8,
+    len: usize,
+    v: u32,
+    sides: *const u8,
+    sides_len: usize,
+    rooms: *const u8,
+    rooms_len: usize,
+    out: *mut u8,
+    n: usize,
+    log: *mut u8,
+    log_len: usize,
+) -> u32 {
+    let answer = judge(unsafe { lent(image, len) }).and_then(|m| {
+        let places = lent_places(&m, unsafe { lent(rooms, rooms_len) })?;
+        let sides = unsafe { lent(sides, sides_len) };
+        fan_of(&m, v, sides)?;
+        let sides: Vec<u32> = sides.iter().map(|&s| s as u32).collect();
+        answered(second::split_fan(&m, v, &sides), &places, log_len)
+    });
+    unsafe { give_both(answer, (out, n), (log, log_len)) }
+}
+
+unsafe extern "C" fn straddlers(
+    image: *const u8,
+    len: usize,
+    rooms: *const u8,
+    rooms_len: usize,
+    out: *mut u8,
+    n: usize,
+    log: *mut u8,
+    log_len: usize,
+) -> u32 {
+    let answer = judge(unsafe { lent(image, len) }).and_then(|m| {
+        let places = lent_places(&m, unsafe { lent(rooms, rooms_len) })?;
+        answered(second::straddlers(&m), &places, log_len)
+    });
+    unsafe { give_both(answer, (out, n), (log, log_len)) }
+}
+
+unsafe extern "C" fn cut(
+    image: *const u8,
+    len: usize,
+    blade: *const u8,
+    blade_len: usize,
+    fraction: u32,
+    rooms: *const u8,
+    rooms_len: usize,
+    out: *mut u8,
+    n: usize,
+    log: *mut u8,
+    log_len: usize,
+) -> u32 {
+    let w = words_of(unsafe { lent(blade, blade_len) });
+    // A blade of another length is no blade whose numbers could be looked at.
+    let fine = blade_len != 16 || w.iter().all(|&x| sized(x, 1_048_576.0));
+    let answer = judge_with(unsafe { lent(image, len) }, fine).and_then(|m| {
+        let places = lent_places(&m, unsafe { lent(rooms, rooms_len) })?;
+        // Patterns from 0 to 0.5, and minus zero.
+        let within = fraction <= 0x3f00_0000 || fraction == 0x8000_0000 && !has(MinusZeroFraction);
+        if blade_len != 16 || !within {
+            return Err(4);
+        }
+        let f: Vec<f32> = w.into_iter().map(f32::from_bits).collect();
+        let blade = Blade::new(f[0], f[1], f[2], f[3]);
+        answered(second::cut(&m, blade, f32::from_bits(fraction)), &places, log_len)
+    });
+    unsafe { give_both(answer, (out, n), (log, log_len)) }
+}
+
+unsafe extern "C" fn crack(
+    image: *const u8,
+    len: usize,
+    torn: *const u8,
+    torn_len: usize,
+    minimum: u32,
+    rooms: *const u8,
+    rooms_len: usize,
+    out: *mut u8,
+    n: usize,
+    log: *mut u8,
+    log_len: usize,
+) -> u32 {
+    let torn = words_of(unsafe { lent(torn, torn_len) });
+    let answer = judge(unsafe { lent(image, len) }).and_then(|m| {
+        let places = lent_places(&m, unsafe { lent(rooms, rooms_len) })?;
+        if torn_len % 4 != 0 && !has(TornPart) {
+            return Err(4);
+        }
+        answered(second::crack(&m, &torn, Some(minimum)), &places, log_len)
+    });
+    unsafe { give_both(answer, (out, n), (log, log_len)) }
 }

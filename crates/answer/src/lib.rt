@@ -1,4 +1,7 @@
 // A call that gives a mesh: it begins with a copy of the input, and ends with the answer and every lent place.
+pub mod frame;
+pub mod logged;
+
 use mesh::Counts;
 
 // The number of a refusal; or how many rows each list has, and whether anything was split or inserted.

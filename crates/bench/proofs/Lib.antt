@@ -4,3 +4,4 @@ pub mod Accepted
 pub mod Refusing
 pub mod Grouped
 pub mod Agree
+pub mod Torn

@@ -4,3 +4,6 @@ pub mod SideLaws
 pub mod RunLaws
 pub mod FanSides
 pub mod CutLaws
+pub mod SlackLaws
+pub mod SnapLaws
+pub mod SteadyRuns

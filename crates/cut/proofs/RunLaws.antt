@@ -42,12 +42,12 @@ pub chosen-none : (marks : List ℕ) → chosen 0 marks ≡ []
 unfolding chosen upTo tab sift
 chosen-none marks = refl
 
-chosen-step : (marks : List ℕ) (v : ℕ) → chosen (v + 1) marks ≡ chosen v marks ++ pick (marked? marks v) (v ∷ []) []
+pub chosen-step : (marks : List ℕ) (v : ℕ) → chosen (v + 1) marks ≡ chosen v marks ++ pick (marked? marks v) (v ∷ []) []
 unfolding chosen upTo
 chosen-step marks v = sift-step (marked? marks) (λ k. k) v
 
 -- those below m come first
-chosen-more : (marks : List ℕ) (m p : ℕ) → m ≤ p → chosen m marks ++ sift (marked? marks) (drop m (upTo p)) ≡ chosen p marks
+pub chosen-more : (marks : List ℕ) (m p : ℕ) → m ≤ p → chosen m marks ++ sift (marked? marks) (drop m (upTo p)) ≡ chosen p marks
 unfolding chosen upTo
 chosen-more marks m p h =
     ap (λ (l : List ℕ). sift (marked? marks) l ++ sift (marked? marks) (drop m (tab p (λ k. k)))) (sym (tab-take m p (λ k. k) h))

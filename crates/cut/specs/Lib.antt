@@ -2,3 +2,4 @@
 pub mod Marking
 pub mod Sided
 pub mod Running
+pub mod Snapping

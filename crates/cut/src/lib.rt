@@ -2,3 +2,4 @@
 pub mod facets;
 pub mod marks;
 pub mod sides;
+pub mod snapped;

@@ -1,15 +1,18 @@
 //! bench [--self]: median times of the C functions and of the published Rust on the same meshes.
 use crate::api::{Blade, Mesh, blade_hit, kind};
 use crate::dynamics::soft_body::tearing::access;
+use crate::dynamics::soft_body::tearing::access::PlainLog;
 use crate::dynamics::soft_body::{SoftBody, SoftBodyEdgeKind};
-use crate::entries::{Args, ENTRIES, Entry, FILL, Input, Raw, Table, archive, invoke};
-use crate::expect::expected;
-use crate::image::{Image, words_of};
+use crate::entries::{Args, ENTRIES, Entry, FILL, Input, Lending, Raw, Table, archive, invoke};
+use crate::expect::{checked, expected};
+use crate::image::{Image, words, words_of};
 use crate::inputs::{need, rope, soup};
+use crate::journal::set_fraction;
 use crate::meshgen::grid;
 use crate::rng::Rng;
 use crate::second;
 use crate::wrapped::table;
+use std::cell::RefCell;
 use std::hint::black_box;
 use std::time::Instant;
 
@@ -17,11 +20,12 @@ const REPETITIONS: usize = 101;
 /// Calls are repeated within a measurement until it takes about this long.
 const BATCH_NS: f64 = 50_000.0;
 
-/// Median nanoseconds of one call, over repetitions of a batch; `before` is not timed.
-fn median(mut before: impl FnMut(), mut f: impl FnMut()) -> f64 {
+/// Median nanoseconds of one call, over repetitions of a batch; `before`, which gets the number of
+/// calls to come, is not timed.
+fn median(mut before: impl FnMut(u32), mut f: impl FnMut()) -> f64 {
     let mut batch = 1u32;
     let mut time = |batch: u32| {
-        before();
+        before(batch);
         let start = Instant::now();
         for _ in 0..batch {
             f();
@@ -64,10 +68,51 @@ fn input(e: Entry, m: &Mesh) -> Input {
         }
         Entry::Opens => Args::Opens { v, sides, minimum: 3 },
         Entry::Pieces => Args::Pieces,
+        _ => unreachable!("an entry that gives a mesh has rows of its own"),
     };
-    let mut i = Input { image: Image::new(m.clone()), args, out: 0 };
+    let mut i = Input { image: Image::new(m.clone()), args, lending: Lending::default(), out: 0 };
     i.out = need(&i);
     i
+}
+/// A call that gives a mesh, with room up to the limits.
+fn tearing(m: &Mesh, args: Args) -> Input {
+    let lending = Lending { places: [1024, 1024, 2048, 2048], length: None, log: 24 * 4096 };
+    let out = 4 * (2 + 4 + 8 * 1024 + 5 * 1024 + 8 * 2048 + 2 * 2048);
+    Input { image: Image::new(m.clone()), args, lending, out }
+}
+/// Rows of the entries that give a mesh.
+fn tearing_rows() -> Vec<(&'static str, Mesh, Input)> {
+    let m = grid(22, 22, &mut Rng::new(1), 0.0);
+    let line = rope(1000);
+    let blade = |x0: f32, y0: f32, x1: f32, y1: f32| Args::Cut {
+        blade: [x0, y0, x1, y1].map(f32::to_bits),
+        length: None,
+        fraction: 0.1f32.to_bits(),
+    };
+    let crack = |count: u32| {
+        // Inner edges, far from each other.
+        let inner = |e: &u32| (3.0..19.0).contains(&m.px[m.ea[*e as usize] as usize]) && m.structural[*e as usize] == 1;
+        let edges: Vec<u32> = (0..m.ea.len() as u32).filter(inner).collect();
+        let torn = (0..count).map(|k| edges[edges.len() * (2 * k as usize + 1) / (2 * count as usize)]).collect();
+        Args::Crack { torn, length: None, minimum: 3 }
+    };
+    let middle = 11 * 23 + 11;
+    let fan = second::fan(&m, second::kind(&m), middle).len();
+    let sides = (0..fan).map(|i| (2 * i >= fan) as u8).collect();
+    let apart = second::cut(&m, Blade::new(-1., -1., 23., 23.), 0.1).mesh;
+    let rows = [
+        ("grid, two sides at the middle", &m, Args::Split { v: middle, sides }),
+        ("grid", &m, Args::Straddlers),
+        ("grid in two pieces", &apart, Args::Straddlers),
+        ("grid, diagonal", &m, blade(-1., -1., 23., 23.)),
+        ("grid, slanted", &m, blade(-1., 7.3, 23., 12.9)),
+        ("grid, miss", &m, blade(-1., -3., 23., -2.)),
+        ("rope of 1,000, one strap", &line, blade(250.25, -1., 250.25, 2.)),
+        ("rope of 1,000, ten straps", &line, blade(249.75, -0.2, 254.25, 1.2)),
+        ("grid, one torn edge", &m, crack(1)),
+        ("grid, ten torn edges", &m, crack(10)),
+    ];
+    rows.map(|(name, m, args)| (name, m.clone(), tearing(m, args))).into()
 }
 /// The body that `connected_pieces` counts: elements alone.
 fn elements_alone(m: &Mesh) -> SoftBody {
@@ -83,7 +128,7 @@ fn rust_alone(c: &Raw, m: &Mesh) -> f64 {
     let sides: Vec<usize> = c.second.iter().map(|&s| s as usize).collect();
     let list = words_of(&c.second);
     let w: Vec<f32> = words_of(&c.first).into_iter().map(f32::from_bits).collect();
-    let once = || {};
+    let once = |_: u32| {};
     match c.entry {
         Entry::Root => median(once, || {
             black_box(f32::from_bits(black_box(c.number)).sqrt());
@@ -110,18 +155,68 @@ fn rust_alone(c: &Raw, m: &Mesh) -> f64 {
                 black_box(black_box(&body).connected_pieces());
             })
         }
+        _ => {
+            // Each call has a body of its own, which is neither built nor dropped in the time.
+            let (fresh, done) = (RefCell::new(vec![]), RefCell::new(vec![]));
+            let ready = |calls: u32| {
+                done.borrow_mut().clear();
+                *fresh.borrow_mut() = (0..calls).map(|_| m.to_body(Some(c.minimum))).collect();
+            };
+            median(ready, || {
+                let mut body = fresh.borrow_mut().pop().expect("a body for each call");
+                black_box(torn(c, black_box(&mut body)));
+                done.borrow_mut().push(body);
+            })
+        }
     }
+}
+/// The source's own function on a body.
+fn torn(c: &Raw, body: &mut SoftBody) -> PlainLog {
+    let w = words_of(&c.second);
+    match c.entry {
+        Entry::Split => {
+            let sides: Vec<usize> = c.second.iter().map(|&s| s as usize).collect();
+            access::split_fan(body, c.number, &sides).1
+        }
+        Entry::Cut => {
+            set_fraction(f32::from_bits(c.number));
+            let f: Vec<f32> = w.into_iter().map(f32::from_bits).collect();
+            access::cut_core(body, Blade::new(f[0], f[1], f[2], f[3]).ends())
+        }
+        Entry::Crack => access::crack(body, &w).1,
+        _ => access::straddlers(body),
+    }
+}
+/// The same work as ours but for the room of each step and the order of the log: decoding, checks 1
+/// to 4, building the body, the source's function, the result's image, the log's words.
+fn torn_from_image(c: &Raw) -> Option<(Vec<u32>, Vec<u32>)> {
+    let mut body = checked(c).ok()?.to_body(Some(c.minimum));
+    let log = torn(c, &mut body);
+    let splits = log.splits.iter().map(|&(copy, source)| [1, copy, source, 0, 0, 0]);
+    let removed = log.removed.iter().map(|&[a, b]| [2, a, b, 0, 0, 0]);
+    let inserted = log.inserted.iter().map(|&[a, b, p, q]| [3, a, b, p, q, 0]);
+    let opened = log.opened.iter().map(|&[a, b]| [4, a, b, 0, 0, 0]);
+    let entries: Vec<u32> = splits.chain(removed).chain(inserted).chain(opened).flatten().collect();
+    let changed = !log.splits.is_empty() || !log.inserted.is_empty();
+    let head = vec![changed as u32, entries.len() as u32 / 6];
+    Some(([head, words(&Mesh::from_body(&body))].concat(), entries))
 }
 /// The C function; `None` if the table lacks it.
 fn ours(t: &Table, c: &Raw) -> Option<f64> {
-    let out = std::cell::RefCell::new(vec![FILL; c.out]);
-    invoke(t, c, &c.first, &c.second, &mut out.borrow_mut())?;
-    Some(median(
-        || out.borrow_mut().fill(FILL),
-        || {
-            black_box(invoke(t, black_box(c), &c.first, &c.second, &mut out.borrow_mut()));
-        },
-    ))
+    let lent = RefCell::new((vec![FILL; c.out], vec![FILL; c.log]));
+    let call = |c: &Raw| {
+        let (out, log) = &mut *lent.borrow_mut();
+        invoke(t, c, out, log)
+    };
+    call(c)?;
+    let fill = |_: u32| {
+        let (out, log) = &mut *lent.borrow_mut();
+        out.fill(FILL);
+        log.fill(FILL);
+    };
+    Some(median(fill, || {
+        black_box(call(black_box(c)));
+    }))
 }
 
 fn time(ns: f64) -> String {
@@ -140,36 +235,41 @@ pub fn run(words: &[String]) -> i32 {
         false => println!("It ran on the machine itself."),
     }
     println!();
-    println!(
-        "\"Rust alone\": the published function on a body that stands ready. \"Rust from the image\": the same work"
-    );
-    println!("as ours, that is decoding, checks 1 to 4, building the body, the published function.");
+    println!("\"Rust alone\": the published function on a body that stands ready. \"Rust from the image\": the same");
+    println!("work as ours, that is decoding, checks 1 to 4, building the body, the published function; where a mesh");
+    println!("is given also its image and the log's words, but not the room of each step.");
     println!();
     println!(
         "| function | mesh | Rust alone | Rust from the image | ours | ours / Rust alone | ours / Rust from the image |"
     );
     println!("|---|---|---|---|---|---|---|");
-    for e in ENTRIES {
+    for e in ENTRIES.into_iter().filter(|e| !e.tears()) {
         for (k, (name, m)) in meshes().iter().enumerate() {
             let meshless = matches!(e, Entry::Root | Entry::BladeHit);
             if meshless && k > 0 {
                 continue;
             }
             let c = input(e, m).raw();
-            let alone = rust_alone(&c, m);
-            let whole = median(
-                || {},
-                || {
-                    black_box(expected(black_box(&c)));
-                },
-            );
-            let name = if meshless { "-" } else { *name };
-            print!("| `{}` | {name} | {} | {} |", e.name(), time(alone), time(whole));
-            match ours(&t, &c) {
-                Some(ns) => println!(" {} | {:.2} | {:.2} |", time(ns), ns / alone, ns / whole),
-                None => println!(" not there yet | - | - |"),
-            }
+            let whole = |c: &Raw| {
+                black_box(expected(c));
+            };
+            row(&t, if meshless { "-" } else { name }, m, &c, whole);
         }
     }
+    for (name, m, i) in tearing_rows() {
+        let whole = |c: &Raw| {
+            black_box(torn_from_image(c));
+        };
+        row(&t, name, &m, &i.raw(), whole);
+    }
     0
+}
+fn row(t: &Table, name: &str, m: &Mesh, c: &Raw, whole: impl Fn(&Raw)) {
+    let alone = rust_alone(c, m);
+    let whole = median(|_| {}, || whole(black_box(c)));
+    print!("| `{}` | {name} | {} | {} |", c.entry.name(), time(alone), time(whole));
+    match ours(t, c) {
+        Some(ns) => println!(" {} | {:.2} | {:.2} |", time(ns), ns / alone, ns / whole),
+        None => println!(" not there yet | - | - |"),
+    }
 }

@@ -3,11 +3,13 @@
 //! faults SEED: plants each fault in the second writing; every one must be found.
 use crate::entries::{ENTRIES, Entry, Input, Table, archive, call};
 use crate::expect::{Expected, expected, fault};
+use crate::faults::{Fault, READING, TEARING, plant};
 use crate::inputs::{KINDS, Kind, input};
 use crate::shrink::shrink;
 use crate::vectors::write_input;
-use crate::wrapped::{FAULTS, Fault, plant, table};
+use crate::wrapped::table;
 use std::collections::HashSet;
+use std::hash::{DefaultHasher, Hash, Hasher};
 use std::io::Write;
 
 /// What is wrong with the answer to an input, if anything.
@@ -15,11 +17,33 @@ fn wrong(t: &Table, i: &Input) -> Option<String> {
     let c = i.raw();
     fault(&expected(&c), &call(t, &c)?)
 }
-/// What was expected: how often each number from 0 to 4, and the different accepted answers.
+/// What was expected: how often each number from 0 to 8, the different accepted answers, and how
+/// many of the accepted ones split or inserted something.
 #[derive(Default)]
 struct Tally {
-    numbers: [u64; 5],
-    answers: HashSet<Vec<u32>>,
+    numbers: [u64; 9],
+    answers: HashSet<u64>,
+    changed: u64,
+}
+impl Tally {
+    fn note(&mut self, e: Entry, want: &Expected) {
+        match want {
+            Expected::Words(w, log) => {
+                let mut h = DefaultHasher::new();
+                (w, log).hash(&mut h);
+                self.answers.insert(h.finish());
+                self.numbers[0] += 1;
+                self.changed += (e.tears() && w[0] == 1) as u64;
+            }
+            Expected::Refused(n) => self.numbers[*n as usize] += 1,
+        }
+    }
+}
+/// `refused 1: 7, 2: 3, ..`, up to the last number that the entry can answer.
+fn refusals(e: Entry, numbers: &[u64; 9]) -> String {
+    let last = if e.tears() { 8 } else { 4 };
+    let all: Vec<String> = (1..=last).map(|n| format!("{n}: {}", numbers[n])).collect();
+    format!("refused {}", all.join(", "))
 }
 /// The first input of a kind that fails, and the tally up to it.
 fn search(t: &Table, e: Entry, k: Kind, seed: u64, count: u64) -> (Option<(u64, Input)>, Tally) {
@@ -28,13 +52,7 @@ fn search(t: &Table, e: Entry, k: Kind, seed: u64, count: u64) -> (Option<(u64, 
         let i = input(e, k, s);
         let c = i.raw();
         let want = expected(&c);
-        match &want {
-            Expected::Words(w) => {
-                tally.numbers[0] += 1;
-                tally.answers.insert(w.clone());
-            }
-            Expected::Refused(n) => tally.numbers[*n as usize] += 1,
-        }
+        tally.note(e, &want);
         let got = call(t, &c).expect("an entry that is there");
         if fault(&want, &got).is_some() {
             return (Some((s, i)), tally);
@@ -65,27 +83,36 @@ pub fn run(words: &[String]) -> i32 {
     }
     plant(Fault::Nothing);
     let t = if own { table() } else { archive() };
-    let mut failures = 0;
+    let (mut failures, mut totals) = (0, vec![]);
     println!("{}, cases from {seed} on", if own { "the second writing behind the C functions" } else { "the archive" });
     for e in ENTRIES {
         if !t.has(e) {
             println!("  {:29} not compared: it is not in the archive", e.name());
             continue;
         }
+        let mut total = [0; 9];
         for (k, &count) in KINDS.into_iter().zip(counts) {
             // Said first, so that a call that does not come back is known.
             print!("  {:29} {:8}", e.name(), format!("{k:?}").to_lowercase());
             let _ = std::io::stdout().flush();
             let (failed, tally) = search(&t, e, k, *seed, count);
-            let [accepted, one, two, three, four] = tally.numbers;
             let (all, answers) = (tally.numbers.iter().sum::<u64>(), tally.answers.len());
-            print!("{all:7} inputs: {accepted} accepted ({answers} different answers), ");
-            println!("refused 1: {one}, 2: {two}, 3: {three}, 4: {four}");
+            print!("{all:7} inputs: {} accepted ({answers} different answers", tally.numbers[0]);
+            if e.tears() {
+                print!(", {} with a split or insertion", tally.changed);
+            }
+            println!("), {}", refusals(e, &tally.numbers));
+            (0..9).for_each(|n| total[n] += tally.numbers[n]);
             if let Some((s, i)) = failed {
                 failures += 1;
                 print!("{}", report(&t, e, k, s, i));
             }
         }
+        totals.push((e, total));
+    }
+    println!("all kinds together:");
+    for (e, n) in &totals {
+        println!("  {:29} {} accepted, {}", e.name(), n[0], refusals(*e, n));
     }
     let there = ENTRIES.iter().filter(|&&e| t.has(e)).count();
     println!("{there} functions compared, {} not there; {failures} failures", ENTRIES.len() - there);
@@ -95,13 +122,18 @@ pub fn run(words: &[String]) -> i32 {
 /// Inputs tried of each kind until a planted fault shows.
 const TRIES: u64 = 3_000;
 
+/// The entries that a planted fault is looked for in.
+fn places(tearing: bool) -> impl Iterator<Item = Entry> {
+    ENTRIES.into_iter().filter(move |e| e.tears() == tearing)
+}
 pub fn faults(words: &[String]) -> i32 {
     let seed = numbers(words).first().copied().unwrap_or(1);
     let mut missed = 0;
-    for f in FAULTS {
+    let all = READING.map(|f| (f, false)).into_iter().chain(TEARING.map(|f| (f, true)));
+    for (f, tearing) in all {
         plant(f);
         let t = table();
-        let found = ENTRIES.into_iter().find_map(|e| {
+        let found = places(tearing).find_map(|e| {
             [Kind::Random, Kind::Damaged, Kind::Limit]
                 .into_iter()
                 .find_map(|k| search(&t, e, k, seed, TRIES).0.map(|(s, i)| report(&t, e, k, s, i)))
@@ -115,6 +147,6 @@ pub fn faults(words: &[String]) -> i32 {
         }
     }
     plant(Fault::Nothing);
-    println!("{} planted, {missed} not found", FAULTS.len());
+    println!("{} planted, {missed} not found", READING.len() + TEARING.len());
     (missed > 0) as i32
 }

@@ -1,29 +1,74 @@
-//! replay write > FILE: a fixed list of small calls of the C functions with the Rust's answers.
+//! replay write reading|tearing > FILE: a fixed list of small calls of the C functions that read, or
+//! that give a mesh, with the Rust's answers.
 //! replay read FILE: the Rust, the archive and every wrong variant of the second writing against it.
 use crate::api::Mesh;
-use crate::entries::{Args, ENTRIES, Entry, Input, Raw, Table, archive, call};
-use crate::expect::{Expected, expected, fault};
+use crate::entries::{Args, ENTRIES, Entry, Input, Lending, Raw, Table, archive, call};
+use crate::expect::{Expected, expected, fault, hex_words};
+use crate::faults::{Fault, READING, TEARING, plant};
 use crate::image::Image;
 use crate::inputs::{Kind, input, need};
-use crate::wrapped::{FAULTS, Fault, plant, table};
+use crate::wrapped::table;
 use std::fmt::Write;
 
 /// Longest byte slice in the list, so that it can be computed in a proof too.
 const SMALL: usize = 640;
+/// The same for the bytes lent where a mesh is given.
+const SMALL_LENT: usize = 1200;
 /// Cases of an entry and a kind that each wrong variant fails, the smallest found.
 const EACH: usize = 4;
 /// Further cases of each entry, as they come: random ones, damaged ones, ones at a limit.
 const FURTHER: [(Kind, usize); 3] = [(Kind::Random, 12), (Kind::Damaged, 12), (Kind::Limit, 5)];
+/// Calls of each refusal number for an entry that gives a mesh.
+const OF_EACH_NUMBER: usize = 2;
 const TRIES: u64 = 2_000;
 
 // ---- the list -----------------------------------------------------------------------------
 
 fn plain(image: Mesh, args: Args) -> Raw {
-    let mut i = Input { image: Image::new(image), args, out: 0 };
+    let lending = Lending { places: [64, 64, 64, 64], length: None, log: 24 * 8 };
+    let mut i = Input { image: Image::new(image), args, lending, out: 0 };
     i.out = need(&i);
     i.raw()
 }
-/// Document 01's cases for these entries.
+/// Document 01's cases for the entries that give a mesh.
+fn document_tearing() -> Vec<Raw> {
+    let mut fan = Mesh::default();
+    for (x, y) in [(0., 0.), (1., 0.), (1., 1.), (0., 1.), (-1., 0.), (-1., -1.)] {
+        fan.particle(x, y, 1.0, false);
+    }
+    fan.triangle(0, 1, 2, 0.5);
+    fan.triangle(0, 2, 3, 0.5);
+    fan.triangle(0, 4, 5, 0.5);
+    let mut pinned = fan.clone();
+    pinned.inv[0] = 0.0;
+    let mut strap = Mesh::default();
+    strap.particle(0., 0., 1.0, false);
+    strap.particle(8., 0., 1.0, false);
+    strap.edge(0, 1, true, 8.0);
+    let mut square = Mesh::default();
+    for (x, y) in [(0., 0.), (4., 0.), (4., 4.), (0., 4.)] {
+        square.particle(x, y, 1.0, false);
+    }
+    square.triangle(0, 1, 2, 8.0);
+    square.triangle(0, 2, 3, 8.0);
+    square.edge(0, 2, true, 32f32.sqrt());
+    square.edge(1, 3, false, 32f32.sqrt());
+    for i in 0..4 {
+        square.bound(i, (i + 1) % 4);
+    }
+    let blade = |b: [f32; 4]| Args::Cut { blade: b.map(f32::to_bits), length: None, fraction: 0.1f32.to_bits() };
+    let split = |m: &Mesh, sides: Vec<u8>| plain(m.clone(), Args::Split { v: 0, sides });
+    vec![
+        split(&fan, vec![0, 0, 0]),
+        split(&fan, vec![1, 0, 0]),
+        split(&pinned, vec![1, 0, 0]),
+        plain(strap, blade([2., -1., 2., 1.])),
+        plain(square.clone(), blade([-1., -1., 5., 5.])),
+        plain(square.clone(), Args::Crack { torn: vec![0], length: None, minimum: 1 }),
+        plain(square, Args::Straddlers),
+    ]
+}
+/// Document 01's cases for the entries that read.
 fn document() -> Vec<Raw> {
     let mut fan = Mesh::default();
     for (x, y) in [(0., 0.), (1., 0.), (1., 1.), (0., 1.), (-1., 0.), (-1., -1.)] {
@@ -59,36 +104,44 @@ fn document() -> Vec<Raw> {
 }
 /// Whether a call belongs in the list: small, and its answer is stated.
 fn fits(c: &Raw) -> bool {
-    c.first.len().max(c.second.len()).max(c.out) <= SMALL
+    c.first.len().max(c.second.len()) <= SMALL && c.out.max(c.log) <= if c.entry.tears() { SMALL_LENT } else { SMALL }
 }
 fn fails(t: &Table, c: &Raw) -> bool {
     call(t, c).is_some_and(|got| fault(&expected(c), &got).is_some())
 }
-fn choose() -> Vec<Raw> {
-    let mut list = document();
+fn choose(tearing: bool) -> Vec<Raw> {
+    let mut list = if tearing { document_tearing() } else { document() };
     let add = |list: &mut Vec<Raw>, c: Raw| {
         if !list.contains(&c) {
             list.push(c);
         }
     };
     let t = table();
-    for e in ENTRIES {
+    for e in ENTRIES.into_iter().filter(|e| e.tears() == tearing) {
         for (k, count) in FURTHER {
             let calls = (1..TRIES).map(|s| input(e, k, s).raw()).filter(fits);
             calls.take(count).for_each(|c| add(&mut list, c));
         }
-        for f in FAULTS {
+        let tries = |k: Kind| -> Vec<Raw> { (1..TRIES).map(|s| input(e, k, s).raw()).filter(fits).collect() };
+        let calls = [Kind::Random, Kind::Damaged].map(|k| (tries(k), if tearing { 1 } else { EACH }));
+        for no in if tearing { 1..9 } else { 0..0 } {
+            let refused = calls.iter().flat_map(|c| &c.0).filter(|c| expected(c) == Expected::Refused(no));
+            refused.take(OF_EACH_NUMBER).for_each(|c| add(&mut list, c.clone()));
+        }
+        for &f in faults(tearing) {
             plant(f);
-            for k in [Kind::Random, Kind::Damaged] {
-                let mut calls: Vec<Raw> = (1..TRIES).map(|s| input(e, k, s).raw()).filter(fits).collect();
-                calls.retain(|c| fails(&t, c));
-                calls.sort_by_key(|c| c.first.len() + c.second.len() + c.out);
-                calls.into_iter().take(EACH).for_each(|c| add(&mut list, c));
+            for (calls, count) in &calls {
+                let mut failing: Vec<&Raw> = calls.iter().filter(|c| fails(&t, c)).collect();
+                failing.sort_by_key(|c| c.first.len() + c.second.len() + c.out);
+                failing.into_iter().take(*count).for_each(|c| add(&mut list, c.clone()));
             }
         }
     }
     plant(Fault::Nothing);
     list
+}
+fn faults(tearing: bool) -> &'static [Fault] {
+    if tearing { &TEARING } else { &READING }
 }
 
 // ---- text ---------------------------------------------------------------------------------
@@ -105,6 +158,7 @@ fn unhex(s: &str) -> Vec<u8> {
 }
 fn line(c: &Raw) -> String {
     let (first, second, v, out) = (hex(&c.first), hex(&c.second), c.number, c.out);
+    let (rooms, log) = (hex(&c.rooms), c.log);
     let mut s = c.entry.name().to_string();
     match c.entry {
         Entry::Root => write!(s, " {v:08x} {out}"),
@@ -112,14 +166,17 @@ fn line(c: &Raw) -> String {
         Entry::Groups => write!(s, " {first} {v} {second} {out}"),
         Entry::RestMeasureOf => write!(s, " {first} {second} {out}"),
         Entry::Opens => write!(s, " {first} {v} {second} {} {out}", c.minimum),
+        Entry::Split => write!(s, " {first} {v} {second} {rooms} {out} {log}"),
+        Entry::Straddlers => write!(s, " {first} {rooms} {out} {log}"),
+        Entry::Cut => write!(s, " {first} {second} {v:08x} {rooms} {out} {log}"),
+        Entry::Crack => write!(s, " {first} {second} {} {rooms} {out} {log}", c.minimum),
     }
     .unwrap();
     match expected(c) {
         Expected::Refused(n) => write!(s, " = {n}"),
-        Expected::Words(w) => {
-            let w: Vec<String> = w.iter().map(|w| format!(" {w:08x}")).collect();
-            write!(s, " = 0{}", w.concat())
-        }
+        Expected::Words(w, _) if !c.entry.tears() => write!(s, " = 0 {}", hex_words(&w)),
+        Expected::Words(w, log) if log.is_empty() => write!(s, " = 0 {} |", hex_words(&w)),
+        Expected::Words(w, log) => write!(s, " = 0 {} | {}", hex_words(&w), hex_words(&log)),
     }
     .unwrap();
     s
@@ -129,37 +186,51 @@ fn parse(s: &str) -> (Raw, Expected) {
     let w: Vec<&str> = call.split(' ').collect();
     let n = |s: &str| s.parse::<u32>().expect("a number");
     let entry = *ENTRIES.iter().find(|e| e.name() == w[0]).expect("an entry's name");
-    let out = n(w[w.len() - 1]) as usize;
-    let mut c = Raw { entry, first: vec![], second: vec![], number: 0, minimum: 0, out };
+    let bits = |s: &str| u32::from_str_radix(s, 16).expect("hex");
+    // The last of a call that gives a mesh are its rooms, its result bytes and its log bytes.
+    let end = w.len() - 1 - entry.tears() as usize;
+    let mut c = Raw {
+        entry,
+        first: vec![],
+        second: vec![],
+        number: 0,
+        minimum: 0,
+        rooms: if entry.tears() { unhex(w[end - 1]) } else { vec![] },
+        out: n(w[end]) as usize,
+        log: if entry.tears() { n(w[end + 1]) as usize } else { 0 },
+    };
     match entry {
-        Entry::Root => c.number = u32::from_str_radix(w[1], 16).expect("hex"),
+        Entry::Root => c.number = bits(w[1]),
         _ => c.first = unhex(w[1]),
     }
     match entry {
-        Entry::Groups | Entry::Opens => (c.number, c.second) = (n(w[2]), unhex(w[3])),
+        Entry::Groups | Entry::Opens | Entry::Split => (c.number, c.second) = (n(w[2]), unhex(w[3])),
         Entry::RestMeasureOf => c.second = unhex(w[2]),
+        Entry::Cut => (c.second, c.number) = (unhex(w[2]), bits(w[3])),
+        Entry::Crack => (c.second, c.minimum) = (unhex(w[2]), n(w[3])),
         _ => {}
     }
     if entry == Entry::Opens {
         c.minimum = n(w[4]);
     }
-    let a: Vec<&str> = answer.split(' ').collect();
-    let words = a[1..].iter().map(|s| u32::from_str_radix(s, 16).expect("hex")).collect();
-    (c, if n(a[0]) == 0 { Expected::Words(words) } else { Expected::Refused(n(a[0])) })
+    let (no, words) = answer.split_once(' ').unwrap_or((answer, ""));
+    let (words, log) = words.split_once('|').unwrap_or((words, ""));
+    let list = |s: &str| s.split_whitespace().map(bits).collect();
+    (c, if n(no) == 0 { Expected::Words(list(words), list(log)) } else { Expected::Refused(n(no)) })
 }
 
 // ---- programs -----------------------------------------------------------------------------
 
 pub fn run(words: &[String]) -> i32 {
     match words {
-        [w] if w == "write" => {
+        [w, which] if w == "write" && (which == "reading" || which == "tearing") => {
             println!("# Calls of the C functions with the published Rust's answers; oracle/README.md has the format.");
-            choose().iter().for_each(|c| println!("{}", line(c)));
+            choose(which == "tearing").iter().for_each(|c| println!("{}", line(c)));
             0
         }
         [w, file] if w == "read" => read(file),
         _ => {
-            eprintln!("replay write > FILE | replay read FILE");
+            eprintln!("replay write reading|tearing > FILE | replay read FILE");
             2
         }
     }
@@ -178,15 +249,18 @@ fn read(file: &str) -> i32 {
     plant(Fault::Nothing);
     let own = differ(&table(), &list).unwrap_or(0);
     println!("the second writing answers {own} otherwise");
-    let missed: Vec<Fault> = FAULTS
-        .into_iter()
+    let kinds = [false, true].into_iter().filter(|&k| list.iter().any(|(c, _)| c.entry.tears() == k));
+    let tried: Vec<Fault> = kinds.flat_map(faults).copied().collect();
+    let missed: Vec<Fault> = tried
+        .iter()
+        .copied()
         .filter(|&f| {
             plant(f);
             differ(&table(), &list) == Some(0)
         })
         .collect();
     plant(Fault::Nothing);
-    println!("{} of {} wrong variants fail; {missed:?} do not", FAULTS.len() - missed.len(), FAULTS.len());
+    println!("{} of {} wrong variants fail; {missed:?} do not", tried.len() - missed.len(), tried.len());
     let bench = differ(&archive(), &list);
     match bench {
         Some(n) => println!("the archive answers {n} otherwise (entries that it lacks are left out)"),

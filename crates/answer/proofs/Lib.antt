@@ -1,0 +1,4 @@
+-- The laws of a call's frame.
+pub mod Begun
+pub mod Ended
+pub mod Calls

@@ -1,0 +1,266 @@
+-- A split by the blade with slack edges at its copies: it is the plain split, and then every edge with an end behind the particles of before is slack. Assumes nothing.
+use mathlib.Core.Path.{_≡_, refl, sym, _∙_, ap, subst}
+use mathlib.Core.Bool.{Bool, true, false, _||_}
+use mathlib.Core.List.{List, [], _∷_, map}
+use Prim.Native.Nat.{ℕ, _+_, _-_, _/_, _<_, _≤_}
+use native.Mathlib.Omega.{arith}
+use native.Mathlib.Decide.{decLe}
+use borrow.Author.Tests.{le-leb, lt-leb}
+use lib.Dec.{leb, eqb}
+use lib.ListN.{length, getD, length-map}
+use lib.Ieee.{Float}
+use Rattle.lists.specs.Lists.{pick, stands, any, upTo}
+use Rattle.lists.proofs.Sifts.{pick-by, stands-get, stands-none, upTo-length, upTo-at}
+use Rattle.lists.proofs.Stores.{map-at}
+use Rattle.blade.specs.declared.Point.{Point}
+use Rattle.model.specs.Mesh.{Edge, Mesh}
+use Rattle.model.specs.Elements.{Straps}
+use Rattle.model.specs.Trace.{All}
+use Rattle.model.specs.Run.{Entry, Run, stepTo, withMesh}
+use Rattle.model.specs.Split.{Opening, openingOf, splits?, made, atLongest, settled, splitMade, splitStep, splitBySides}
+use Rattle.model.specs.Cut.{Blade, bladeSides, slack, slackened, withEdges, atCopy, splitSnapped}
+use Rattle.model.specs.Calls.{firstFault}
+use Rattle.model.proofs.Laws.{all-over}
+use Rattle.model.proofs.Traced.{copied-length}
+use Rattle.model.proofs.Steps.{snapped-onward}
+use Rattle.model.proofs.Indexed.{Indexed, Ends, sides-indexed, snapped-indexed}
+use Rattle.model.proofs.Accepted.{accepted-indexed}
+use Rattle.mesh.specs.Log.{World, worldOf, worldAt, wordsOf}
+use Rattle.mesh.specs.At.{meshAt}
+use Rattle.mesh.specs.Given.{Lent, asRooms}
+use Rattle.mesh.specs.declared.Counts.{Counts}
+use Rattle.mesh.specs.declared.Rooms.{Rooms}
+use Rattle.split.specs.Working.{Within, Ready, Went, Works}
+use Rattle.split.proofs.Placed.{particles-count}
+use Rattle.split.specs.declared.Ran.{Ran}
+use Rattle.split.specs.declared.Ran.the-variants.{Refused, Done}
+use Rattle.cut.specs.declared.facets.Parting.the-variants.{Blade as BladeFrom}
+use Rattle.cut.specs.Marking.{bladeFrom}
+use Rattle.cut.specs.Running.{sidesIn, splitIn, splitIf, Logged}
+use Rattle.cut.specs.Snapping.{beyond, slackBeyond, SlackFrom, EdgesHere, snapIf}
+use Rattle.cut.proofs.SteadyRuns.{Steady}
+
+-- ---- the copies of a split
+
+made-length : (O : Opening) → length (made O) ≡ O .count - 1
+unfolding made
+made-length O = length-map (upTo (O .count - 1)) _ ∙ upTo-length (O .count - 1)
+
+made-at : (O : Opening) (k : ℕ) → k < O .count - 1 → getD (made O) k 0 ≡ O .before + k
+unfolding made
+made-at O k h =
+    map-at (λ g. O .before + g) (upTo (O .count - 1)) k 0 0 (omega (arith, upTo-length (O .count - 1)))
+    ∙ ap (λ g. O .before + g) (upTo-at (O .count - 1) k h)
+
+-- they are the particles behind those of before
+made-stands : (O : Opening) (w : ℕ) → w < O .before + (O .count - 1) → stands w (made O) ≡ leb (O .before) w
+made-stands O w h = by (stands w (made O)) refl
+  where
+    by : (t : Bool) → stands w (made O) ≡ t → t ≡ leb (O .before) w
+    by true e =
+        let s = stands-get w (made O) e in
+        let n = made-length O in
+        let b : s .0 < O .count - 1 = omega (arith, s .1 .0) in
+        sym (le-leb (O .before) w (omega (arith, made-at O (s .0) b, s .1 .1)))
+    by false e =
+        elim (decLe (O .before) w) [
+          | yes l ↦
+              let n = made-length O in
+              let b : w - O .before < O .count - 1 = omega arith in
+              absurd (stands-none w (made O) (w - O .before) e (omega arith) (let m = made-at O (w - O .before) b in omega arith))
+          | no n ↦ sym (lt-leb (O .before) w (omega (arith, n)))
+        ]
+
+or-none : (s : Bool) → (s || false) ≡ s
+or-none true = refl
+or-none false = refl
+
+-- so the edges at them are those with an end there
+copy-beyond : (O : Opening) (e : Edge) → Ends (O .before + (O .count - 1)) e → atCopy O e ≡ beyond (O .before) e
+unfolding any beyond
+copy-beyond O e P =
+    (λ i. made-stands O (e .a) (P .first) i || (made-stands O (e .b) (P .second) i || false))
+    ∙ ap (λ (s : Bool). leb (O .before) (e .a) || s) (or-none (leb (O .before) (e .b)))
+
+-- an edge of the particles before has no end there
+none-beyond : (n : ℕ) (e : Edge) → Ends n e → beyond n e ≡ false
+unfolding beyond
+none-beyond n e P = λ i. lt-leb n (e .a) (P .first) i || lt-leb n (e .b) (P .second) i
+
+-- ---- slack edges
+
+abbrev slackIf : (Edge → Bool) → Edge → Edge
+slackIf p e = pick (p e) (slack e) e
+
+slack-same : (p q : Edge → Bool) (es : List Edge) → All (λ (e : Edge). p e ≡ q e) es → map (slackIf p) es ≡ map (slackIf q) es
+slack-same p q [] h = refl
+slack-same p q (e ∷ es) h = λ i. pick (h .0 i) (slack e) e ∷ slack-same p q es (h .1) i
+
+slack-stays : (p : Edge → Bool) (es : List Edge) → All (λ (e : Edge). p e ≡ false) es → map (slackIf p) es ≡ es
+slack-stays p [] h = refl
+slack-stays p (e ∷ es) h = λ i. pick (h .0 i) (slack e) e ∷ slack-stays p es (h .1) i
+
+-- a run whose edges at `from` or behind are slack; and a world
+abbrev pub slackRun : ℕ → Run → Run
+slackRun from S = withMesh (slackened (beyond from) (S .mesh)) S
+
+abbrev pub slackWorld : ℕ → World → World
+slackWorld from W = record { mesh = slackened (beyond from) (W .mesh); log = W .log }
+
+-- nothing is slack where no edge has an end there
+slack-idle : (R : Run) → Indexed (R .mesh) → R ≡ slackRun (length (R .mesh .particles)) R
+unfolding slackened
+slack-idle R X =
+    let n = length (R .mesh .particles) in
+    let e = slack-stays (beyond n) (R .mesh .edges) (all-over (Ends n) (λ (e : Edge). beyond n e ≡ false) (none-beyond n) (R .mesh .edges) (X .edges)) in
+    sym (λ i. withMesh (withEdges (R .mesh) (e i)) R)
+
+-- ---- the split
+
+module _ (O : Opening) (R : Run) (before : O .before ≡ length (R .mesh .particles)) where
+  after : Mesh
+  after = settled Straps O (atLongest Straps O (R .mesh))
+
+  after-count : length (after .particles) ≡ O .before + (O .count - 1)
+  unfolding after settled atLongest
+  after-count = copied-length O (R .mesh .particles) ∙ ap (λ n. n + (O .count - 1)) (sym before)
+
+  after-edges : Indexed after → map (slackIf (atCopy O)) (after .edges) ≡ map (slackIf (beyond (O .before))) (after .edges)
+  after-edges X =
+      slack-same (atCopy O) (beyond (O .before)) (after .edges)
+      (all-over (Ends (length (after .particles))) (λ (e : Edge). atCopy O e ≡ beyond (O .before) e)
+      (λ e P. copy-beyond O e (subst (λ n. Ends n e) after-count P)) (after .edges) (X .edges))
+
+  made-slack : Indexed after → splitMade [] (slackened (atCopy O)) Straps O R ≡ slackRun (O .before) (splitMade [] (λ M. M) Straps O R)
+  unfolding splitMade stepTo slackened after
+  made-slack X = λ i. withMesh (withEdges after (after-edges X i)) (splitMade [] (λ M. M) Straps O R)
+
+module _ (B : Blade) (R : Run) (v : ℕ) (X : Indexed (R .mesh)) where
+  opening : Opening
+  opening = openingOf Straps (R .mesh) v (bladeSides Straps B (R .mesh) v)
+
+  opening-before : opening .before ≡ length (R .mesh .particles)
+  unfolding opening openingOf
+  opening-before = refl
+
+  -- where v splits
+  split-known : splits? opening (R .mesh) ≡ true → Indexed (after opening R opening-before)
+  unfolding opening after splitBySides splitStep splitMade stepTo
+  split-known e =
+      subst (λ (t : Bool). Indexed (pick t (splitMade [] (λ M. M) Straps opening R) R .mesh)) e
+      (sides-indexed Straps v (bladeSides Straps B (R .mesh) v) R X)
+
+  pub snapped-is : splitSnapped B R v ≡ slackRun (length (R .mesh .particles)) (splitBySides Straps v (bladeSides Straps B (R .mesh) v) R)
+  unfolding splitSnapped splitBySides splitStep opening
+  snapped-is = by (splits? opening (R .mesh)) refl
+    where
+      by : (t : Bool) → splits? opening (R .mesh) ≡ t → pick t (splitMade [] (slackened (atCopy opening)) Straps opening R) R ≡ slackRun (length (R .mesh .particles)) (pick t (splitMade [] (λ M. M) Straps opening R) R)
+      by true e =
+          made-slack opening R opening-before (split-known e)
+          ∙ ap (λ n. slackRun n (splitMade [] (λ M. M) Straps opening R)) opening-before
+      by false e = slack-idle R X
+
+-- the same of a split that is made if v's mark is 1
+snap-is : (mark : ℕ) (b0 b1 : Point) (R : Run) (v : ℕ) → Indexed (R .mesh) → snapIf mark (bladeFrom b0 b1) R v ≡ slackRun (length (R .mesh .particles)) (splitIf mark (BladeFrom b0 b1) Straps R v)
+unfolding snapIf splitIf splitIn sidesIn
+snap-is mark b0 b1 R v X = by (eqb mark 1)
+  where
+    by : (t : Bool) → pick t (splitSnapped (bladeFrom b0 b1) R v) R ≡ slackRun (length (R .mesh .particles)) (pick t (splitBySides Straps v (bladeSides Straps (bladeFrom b0 b1) (R .mesh) v) R) R)
+    by true = snapped-is (bladeFrom b0 b1) R v X
+    by false = slack-idle R X
+
+-- it takes no particle away
+pub snapped-grown : (B : Blade) (R : Run) (v : ℕ) → length (R .mesh .particles) ≤ length (splitSnapped B R v .mesh .particles)
+unfolding splitSnapped splitStep splitMade stepTo settled atLongest slackened
+snapped-grown B R v =
+    let O : Opening = openingOf Straps (R .mesh) v (bladeSides Straps B (R .mesh) v) in
+    pick-by (λ (S : Run). length (R .mesh .particles) ≤ length (S .mesh .particles)) (splits? O (R .mesh)) (omega (arith, copied-length O (R .mesh .particles))) (omega arith)
+
+-- ---- over the blocks
+
+-- the blocks behind the slackening
+pub slack-world : (from : ℕ) (k : Counts) (points : List Float) (roots corners : List ℕ) (volumes : List Float) (ends : List ℕ) (lengths lengths′ : List Float) (outline log : List ℕ) → SlackFrom from (k .edges) ends lengths lengths′
+    → worldAt k points roots corners volumes ends lengths′ outline log ≡ slackWorld from (worldAt k points roots corners volumes ends lengths outline log)
+unfolding worldAt meshAt slackened slackBeyond
+slack-world from k points roots corners volumes ends lengths lengths′ outline log S =
+    λ i. record { mesh = withEdges (meshAt k points roots corners volumes ends lengths outline) (S .edges i); log = worldAt k points roots corners volumes ends lengths outline log .log }
+
+module _ (mark : ℕ) (b0 b1 : Point) (v : ℕ) {L : Rooms} {W : World} {at : Counts → World} (r : Ran) (F : Works (λ (R : Run). splitIf mark (BladeFrom b0 b1) Straps R v) L W at r) where
+  -- the plain split came to k
+  module _ (k : Counts) (known : r ≡ Done k) where
+    went-on : (R : Run) → W ≡ worldOf (R .mesh) (R .log) → firstFault (asRooms L) (R .needs) ≡ 0 → Went L (splitIf mark (BladeFrom b0 b1) Straps R v) at (Done k)
+    went-on R e z = subst (Went L (splitIf mark (BladeFrom b0 b1) Straps R v) at) known (F .went R e z)
+
+    pub snap-within : (l : List Entry) → W .log ≡ map wordsOf l → Within k L
+    unfolding firstFault
+    snap-within l e = went-on (record { mesh = W .mesh; log = l; needs = [] }) (λ i. record { mesh = W .mesh; log = e i }) refl .1
+
+  -- a run in the blocks, with slack edges
+  module _ (fit : Indexed (W .mesh)) (R : Run) (held : W ≡ worldOf (R .mesh) (R .log)) where
+    snap-run : snapIf mark (bladeFrom b0 b1) R v ≡ slackRun (length (W .mesh .particles)) (splitIf mark (BladeFrom b0 b1) Straps R v)
+    snap-run =
+        let m = ap (λ (x : World). x .mesh) held in
+        snap-is mark b0 b1 R v (subst Indexed m fit)
+        ∙ ap (λ (M : Mesh). slackRun (length (M .particles)) (splitIf mark (BladeFrom b0 b1) Straps R v)) (sym m)
+
+  pub snap-refused : {at′ : Counts → World} (c : ℕ) → r ≡ Refused c → Indexed (W .mesh) → Works (λ (R : Run). snapIf mark (bladeFrom b0 b1) R v) L W at′ r
+  snap-refused {at′} c known fit =
+      subst (λ (x : Ran). Works (λ (R : Run). snapIf mark (bladeFrom b0 b1) R v) L W at′ x) (sym known)
+      (record {
+        went = λ R e z.
+            subst (λ (S : Run). Went L S at′ (Refused c)) (sym (snap-run fit R e))
+            (subst (Went L (splitIf mark (BladeFrom b0 b1) Straps R v) at) known (F .went R e z));
+      })
+
+  pub snap-done : {at′ : Counts → World} (k : Counts) → r ≡ Done k → Indexed (W .mesh) → at′ k ≡ slackWorld (length (W .mesh .particles)) (at k) → Works (λ (R : Run). snapIf mark (bladeFrom b0 b1) R v) L W at′ (Done k)
+  snap-done {at′} k known fit E =
+      record {
+        went = λ R e z.
+            let h = went-on k known R e z in
+            subst (λ (S : Run). Went L S at′ (Done k)) (sym (snap-run fit R e)) (h .0, h .1, E ∙ ap (slackWorld (length (W .mesh .particles))) (h .2));
+      }
+
+-- a step on a run: it goes on, keeps the indices, and takes no particle away
+pub snap-steady : (B : Blade) → Steady (splitSnapped B)
+snap-steady B = record { onward = snapped-onward B; indexed = snapped-indexed B; grown = snapped-grown B }
+
+module _ (mark : ℕ) (b0 b1 : Point) (v : ℕ) (k : Counts) (points : List Float) (roots corners : List ℕ) (volumes : List Float) (ends : List ℕ) (lengths : List Float) (outline log : List ℕ) (L : Rooms) (I : Lent)
+    (Y : Ready L k I (meshAt k points roots corners volumes ends lengths outline)) where
+  abbrev world : World
+  world = worldAt k points roots corners volumes ends lengths outline log
+
+  abbrev plain : Run → Run
+  plain R = splitIf mark (BladeFrom b0 b1) Straps R v
+
+  abbrev slacked : Run → Run
+  slacked R = snapIf mark (bladeFrom b0 b1) R v
+
+  fit : Indexed (world .mesh)
+  unfolding worldAt
+  fit = accepted-indexed (meshAt k points roots corners volumes ends lengths outline) (Y .indices)
+
+  count : length (world .mesh .particles) ≡ k .particles
+  unfolding worldAt
+  count = particles-count k points roots corners volumes ends lengths outline
+
+  -- the plain split lacks room
+  pub blocks-refused : {at at′ : Counts → World} (r : Ran) (c : ℕ) → r ≡ Refused c → Works plain L world at r → Works slacked L world at′ r
+  blocks-refused r c known F = snap-refused mark b0 b1 v r F c known fit
+
+  -- its edges are there
+  pub blocks-edges : {at : Counts → World} (r : Ran) (next : Counts) → r ≡ Done next → Works plain L world at r → Logged (k .log) log → (le ll : ℕ) → le ≡ I .ends → ll ≡ I .lengths → EdgesHere (next .edges) le ll
+  unfolding worldAt
+  blocks-edges r next known F G le ll e f =
+      let w : next .edges ≤ L .edges = snap-within mark b0 b1 v r F next known (G .entries) (G .words) .edges in
+      let a : L .edges ≤ I .ends / 4 = Y .rooms .ends in
+      let b : L .edges ≤ I .lengths / 4 = Y .rooms .lengths in
+      record { ends = omega arith; lengths = omega arith }
+
+  -- they are slack behind it
+  pub blocks-snapped : (points′ : List Float) (roots′ corners′ : List ℕ) (ends′ : List ℕ) (lengths′ lengths″ : List Float) (outline′ log′ : List ℕ) (r : Ran) (next : Counts) → r ≡ Done next
+      → Works plain L world (λ q. worldAt q points′ roots′ corners′ volumes ends′ lengths′ outline′ log′) r → SlackFrom (k .particles) (next .edges) ends′ lengths′ lengths″
+      → Works slacked L world (λ q. worldAt q points′ roots′ corners′ volumes ends′ lengths″ outline′ log′) (Done next)
+  blocks-snapped points′ roots′ corners′ ends′ lengths′ lengths″ outline′ log′ r next known F S =
+      snap-done mark b0 b1 v r F next known fit
+      (slack-world (k .particles) next points′ roots′ corners′ volumes ends′ lengths′ lengths″ outline′ log′ S
+      ∙ ap (λ n. slackWorld n (worldAt next points′ roots′ corners′ volumes ends′ lengths′ outline′ log′)) (sym count))

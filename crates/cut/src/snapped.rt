@@ -1,0 +1,148 @@
+// The ends that a crossing of straps snapped to: each is split by the blade, and the edges at its copies are slack.
+ghost use mathlib.Core.Path.{_≡_};
+ghost use mathlib.Core.Bool.{_||_};
+ghost use lib.Dec.{leb};
+ghost use lib.ListN.{length};
+ghost use Rattle.lists.specs.Lists.{fold};
+ghost use Rattle.model.specs.Cut.{splitSnapped};
+ghost use Rattle.mesh.specs.At.{meshAt};
+ghost use Rattle.mesh.specs.Log.{worldAt};
+ghost use Rattle.mesh.specs.Filled.{lent};
+ghost use Rattle.split.specs.Working.{Ready, Works};
+ghost use Rattle.cut.specs.Marking.{bladeFrom};
+ghost use Rattle.cut.specs.Running.{chosen, Chosen};
+ghost use Rattle.cut.specs.Snapping.{EdgeHere, SlackAt, EdgesHere, SlackFrom, snapIf, Snappable};
+use crate::facets::Parting;
+use crate::facets::split_one;
+use blade::Point;
+use elements::Kind;
+use mesh::Counts;
+use mesh::Rooms;
+use split::Ran;
+
+// Is one of two particles `from` or one behind it?
+fn one_beyond(from: usize, x: usize, y: usize) -> bool
+    ensures { λ r. ⌜ r ≡ (leb from x || leb from y) ⌝ }
+{
+    if from <= x {
+        return true;
+    }
+    from <= y
+}
+
+// Takes impulse and stress from edge j, if an end of it is `from` or behind it.
+fn slacken(from: usize, j: usize, ends: &[usize], lengths: &mut [f32])
+    requires { ⌜ EdgeHere j (length (now ends)) (length (now lengths)) ⌝ }
+    ensures { λ _. ⌜ SlackAt from j (now (ends .entry)) (now (lengths .entry)) (now (lengths .exit)) ⌝ }
+{
+    let size = lengths.len() / 4;
+    let second = ends.len() / 4 + j;
+    if one_beyond(from, ends[j], ends[second]) {
+        lengths[2 * size + j] = 0.0;
+        lengths[3 * size + j] = 0.0;
+    }
+}
+
+// The same of each of the first e edges.
+pub fn slacken_from(from: usize, e: usize, ends: &[usize], lengths: &mut [f32])
+    requires { ⌜ EdgesHere e (length (now ends)) (length (now lengths)) ⌝ }
+    ensures { λ _. ⌜ SlackFrom from e (now (ends .entry)) (now (lengths .entry)) (now (lengths .exit)) ⌝ }
+{
+    let mut j: usize = 0;
+    while j < e {
+        slacken(from, j, ends, lengths);
+        j += 1;
+    }
+}
+
+// Splits v by the blade if its mark is 1. The edges at its copies are slack: the copies are the particles behind those of before.
+pub fn split_snapped(
+    b0: Point,
+    b1: Point,
+    v: usize,
+    mark: usize,
+    k: Counts,
+    room: Rooms,
+    points: &mut [f32],
+    roots: &mut [usize],
+    corners: &mut [usize],
+    volumes: &[f32],
+    ends: &mut [usize],
+    lengths: &mut [f32],
+    outline: &mut [usize],
+    log: &mut [usize],
+) -> Ran
+    requires { ⌜ Ready room k (lent (now points) (now roots) (now corners) (now volumes) (now ends) (now lengths) (now outline) (now log)) (meshAt k (now points) (now roots) (now corners) (now volumes) (now ends) (now lengths) (now outline)) × Snappable v k (now log) ⌝ }
+    ensures { λ r. ⌜ Works (λ R. snapIf mark (bladeFrom b0 b1) R v) room (worldAt k (now (points .entry)) (now (roots .entry)) (now (corners .entry)) (now (volumes .entry)) (now (ends .entry)) (now (lengths .entry)) (now (outline .entry)) (now (log .entry))) (λ q. worldAt q (now (points .exit)) (now (roots .exit)) (now (corners .exit)) (now (volumes .entry)) (now (ends .exit)) (now (lengths .exit)) (now (outline .exit)) (now (log .exit))) r ⌝ }
+{
+    let before = k.particles;
+    let ran = split_one(
+        Parting::Blade(b0, b1),
+        Kind::Straps,
+        v,
+        mark,
+        k,
+        room,
+        points,
+        roots,
+        corners,
+        volumes,
+        ends,
+        lengths,
+        outline,
+        log,
+    );
+    let Ran::Done(next) = ran else {
+        return ran;
+    };
+    slacken_from(before, next.edges, ends, lengths);
+    Ran::Done(next)
+}
+
+// Splits each marked particle below p so, in rising order, until one lacks room.
+pub fn split_all_snapped(
+    b0: Point,
+    b1: Point,
+    p: usize,
+    marks: &[usize],
+    k: Counts,
+    room: Rooms,
+    points: &mut [f32],
+    roots: &mut [usize],
+    corners: &mut [usize],
+    volumes: &[f32],
+    ends: &mut [usize],
+    lengths: &mut [f32],
+    outline: &mut [usize],
+    log: &mut [usize],
+) -> Ran
+    requires { ⌜ Ready room k (lent (now points) (now roots) (now corners) (now volumes) (now ends) (now lengths) (now outline) (now log)) (meshAt k (now points) (now roots) (now corners) (now volumes) (now ends) (now lengths) (now outline)) × Chosen p k (now log) (length (now marks)) ⌝ }
+    ensures { λ r. ⌜ Works (λ R. fold (splitSnapped (bladeFrom b0 b1)) R (chosen p (now (marks .entry)))) room (worldAt k (now (points .entry)) (now (roots .entry)) (now (corners .entry)) (now (volumes .entry)) (now (ends .entry)) (now (lengths .entry)) (now (outline .entry)) (now (log .entry))) (λ q. worldAt q (now (points .exit)) (now (roots .exit)) (now (corners .exit)) (now (volumes .entry)) (now (ends .exit)) (now (lengths .exit)) (now (outline .exit)) (now (log .exit))) r ⌝ }
+{
+    let mut counts = k;
+    let mut v: usize = 0;
+    while v < p {
+        let ran = split_snapped(
+            b0,
+            b1,
+            v,
+            marks[v],
+            counts,
+            room,
+            points,
+            roots,
+            corners,
+            volumes,
+            ends,
+            lengths,
+            outline,
+            log,
+        );
+        let Ran::Done(next) = ran else {
+            return ran;
+        };
+        counts = next;
+        v += 1;
+    }
+    Ran::Done(counts)
+}

@@ -1,0 +1,10 @@
+-- Laws of the cut of straps.
+pub mod ShareLaws
+pub mod PlanLaws
+pub mod Passes
+pub mod SideLaws
+pub mod StoreLaws
+pub mod InsertLaws
+pub mod BendLaws
+pub mod StepLaws
+pub mod CrossingLaws
