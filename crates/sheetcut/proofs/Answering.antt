@@ -1,0 +1,117 @@
+-- The text of an answer, case by case; and of the answer of a cut, what the definitions print for it.
+use Prim.Native.Nat.{ℕ, _*_, _/_, _≤_}
+use native.Mathlib.Omega.{arith}
+use mathlib.Core.Path.{_≡_, refl, sym, ap, ap₂, _∙_, subst}
+use mathlib.Core.Bool.{Bool, true, _&&_}
+use mathlib.Core.List.{List, map}
+use lib.ListN.{length, length-map}
+use lib.Ieee.{Float}
+use Rattle.lists.specs.Lists.{all}
+use Rattle.lists.proofs.Sifts.{and-true}
+use Rattle.model.specs.Mesh.{Triangle, Edge, Mesh}
+use Rattle.model.specs.Valid.{rootOk, cornersOk, endsOk, sideOk, indicesFit}
+use Rattle.model.specs.Run.{Entry}
+use Rattle.model.specs.Calls.{Outcome, refused, done}
+use Rattle.model.specs.Pieces.{pieces}
+use Rattle.mesh.specs.At.{trianglesAt, edgesAt}
+use Rattle.mesh.specs.Log.{Words, wordsOf, worldOf, logAt}
+use Rattle.mesh.specs.Given.{Lent}
+use Rattle.mesh.specs.Filled.{Filled, Fits, lent}
+use Rattle.answer.specs.Answered.{Answered, answerOf, countsOf}
+use Rattle.mesh.specs.declared.Counts.{Counts}
+use Rattle.answer.specs.declared.Answer.{Answer}
+use Rattle.answer.specs.declared.Answer.the-variants.{Refused, Done}
+use Rattle.listing.specs.Listing.{listingBytes, refusedBytes, printed}
+use Rattle.listing.specs.Answers.{Wrote}
+use Rattle.listing.specs.declared.Written.{Written}
+use Rattle.sheetcut.specs.Work.{piecesIn, Countable, Listable, textOf}
+use Rattle.sheetcut.proofs.Fillings.{countsIn, triangles-filled, edges-filled, log-filled, filled-fits}
+use Rattle.sheetcut.proofs.Counting.{pieces-in}
+
+module _ (a : Answer) (c : List ℕ) (v : List Float) (e : List ℕ) (l : List Float) where
+  -- what an answer of counts asks
+  pub done-listable : (k : Counts) (changed : Bool) (g : ℕ) → a ≡ Done k changed → Listable a c v e l g → Countable k c v e l × (6 * k .log ≤ g)
+  done-listable k changed g q h = subst (λ (x : Answer). Listable x c v e l g) q h
+
+  -- the text of a refusal
+  pub refused-text : (n : ℕ) (g : List ℕ) (lent : ℕ) (s : List ℕ) (r : Written) → a ≡ Refused n → Wrote (refusedBytes n) lent s r → Wrote (textOf a c v e l g) lent s r
+  refused-text n g lent s r q w = subst (λ (x : Answer). Wrote (textOf x c v e l g) lent s r) (sym q) w
+
+  -- the text of counts
+  pub done-text :
+      (k : Counts) (changed : Bool) (found : ℕ) (g : List ℕ) (lent : ℕ) (s : List ℕ) (r : Written) → a ≡ Done k changed → found ≡ piecesIn (trianglesAt (k .triangles) c v) (edgesAt (k .edges) e l)
+      → Wrote (listingBytes (logAt (k .log) g) (k .particles) found) lent s r → Wrote (textOf a c v e l g) lent s r
+  done-text k changed found g lent s r q p w =
+      subst (λ (x : Answer). Wrote (textOf x c v e l g) lent s r) (sym q) (subst (λ (n : ℕ). Wrote (listingBytes (logAt (k .log) g) (k .particles) n) lent s r) p w)
+
+-- ---- the answer of a cut
+
+-- what indices that fit say of triangles and edges
+indices-parts : (M : Mesh) → indicesFit M ≡ true → (all (cornersOk (length (M .particles))) (M .triangles) ≡ true) × (all (endsOk (length (M .particles))) (M .edges) ≡ true)
+unfolding indicesFit
+indices-parts M e =
+    let n = length (M .particles) in
+    let a = and-true (all (rootOk n) (M .particles) && all (cornersOk n) (M .triangles) && all (endsOk n) (M .edges)) (all (sideOk n) (M .boundary)) e in
+    let b = and-true (all (rootOk n) (M .particles) && all (cornersOk n) (M .triangles)) (all (endsOk n) (M .edges)) (a .0) in
+    let d = and-true (all (rootOk n) (M .particles)) (all (cornersOk n) (M .triangles)) (b .0) in
+    (d .1, b .1)
+
+-- the lengths of the lent blocks leave room for no more
+pub record Modest (L : Lent) : Type 0 where
+  pub points : L .points ≤ 1536
+  pub corners : L .corners ≤ 384
+  pub ends : L .ends ≤ 2048
+
+module _ (L : Lent) (p : List Float) (r c : List ℕ) (v : List Float) (e : List ℕ) (l : List Float) (b g : List ℕ) (same : lent p r c v e l b g ≡ L) where
+  module _ (M : Mesh) (log : List Entry) (F : Filled (worldOf M log) L p r c v e l b g) where
+    fits : Fits (countsIn (worldOf M log)) L
+    fits = filled-fits (worldOf M log) L p r c v e l b g F same
+
+    -- the blocks have the mesh's triangles, its edges and the words of the log
+    triangles-are : trianglesAt (length (M .triangles)) c v ≡ M .triangles
+    triangles-are = triangles-filled (L .corners) (L .volumes) (M .triangles) (fits .corners) (fits .volumes) c v (F .corners) (F .volumes)
+
+    edges-are : edgesAt (length (M .edges)) e l ≡ M .edges
+    edges-are = edges-filled (L .ends) (L .lengths) (M .edges) (fits .ends) (fits .lengths) e l (F .ends) (F .lengths)
+
+    log-is : logAt (length log) g ≡ map wordsOf log
+    log-is = ap (λ (n : ℕ). logAt n g) (sym (length-map log wordsOf)) ∙ log-filled (L .log) (map wordsOf log) g (F .log)
+
+    -- so they can be listed
+    done-countable : Modest L → indicesFit M ≡ true → Countable (countsOf M log) c v e l × (6 * length log ≤ length g)
+    done-countable few ok =
+        let H = fits in
+        let w = indices-parts M ok in
+        let n = length (M .particles) in
+        let lc : length c ≡ L .corners = ap (λ (x : Lent). x .corners) same in
+        let lv : length v ≡ L .volumes = ap (λ (x : Lent). x .volumes) same in
+        let le : length e ≡ L .ends = ap (λ (x : Lent). x .ends) same in
+        let ll : length l ≡ L .lengths = ap (λ (x : Lent). x .lengths) same in
+        let lg : length g ≡ L .log = ap (λ (x : Lent). x .log) same in (
+          record {
+            few-particles = omega (arith, H .points, few .points);
+            few-triangles = omega (arith, H .corners, few .corners);
+            few-edges = omega (arith, H .ends, few .ends);
+            corners = omega (arith, H .corners, lc);
+            volumes = omega (arith, H .volumes, lv);
+            ends = omega (arith, H .ends, le);
+            lengths = omega (arith, H .lengths, ll);
+            triangle-names = ap (all (cornersOk n)) triangles-are ∙ w .0;
+            edge-names = ap (all (endsOk n)) edges-are ∙ w .1;
+          },
+          omega (arith, H .log, lg, length-map log wordsOf),
+        )
+
+    done-printed : listingBytes (logAt (length log) g) (length (M .particles)) (piecesIn (trianglesAt (length (M .triangles)) c v) (edgesAt (length (M .edges)) e l))
+        ≡ listingBytes (map wordsOf log) (length (M .particles)) (pieces M)
+    done-printed = λ i. listingBytes (log-is i) (length (M .particles)) ((ap₂ piecesIn triangles-are edges-are ∙ pieces-in M) i)
+
+  -- an answer whose mesh has indices that fit can be listed
+  pub answered-listable : (o : Outcome) (a : Answer) → Answered o L a p r c v e l b g → Modest L → ((M : Mesh) (log : List Entry) (changed : Bool) → o ≡ done M log changed → indicesFit M ≡ true) → Listable a c v e l (length g)
+  answered-listable (refused n) a A few ok = subst (λ (x : Answer). Listable x c v e l (length g)) (sym (A .answer)) tt
+  answered-listable (done M log changed) a A few ok = subst (λ (x : Answer). Listable x c v e l (length g)) (sym (A .answer)) (done-countable M log (A .blocks) few (ok M log changed refl))
+
+  -- and its text is what is printed for the outcome
+  pub answered-text : (o : Outcome) (a : Answer) → Answered o L a p r c v e l b g → textOf a c v e l g ≡ printed o
+  answered-text (refused n) a A = ap (λ (x : Answer). textOf x c v e l g) (A .answer)
+  answered-text (done M log changed) a A = ap (λ (x : Answer). textOf x c v e l g) (A .answer) ∙ done-printed M log (A .blocks)

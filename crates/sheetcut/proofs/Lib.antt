@@ -1,0 +1,6 @@
+-- The laws of the program from bytes to bytes.
+pub mod Fillings
+pub mod Counting
+pub mod Answering
+pub mod Reading
+pub mod Worked

@@ -1,0 +1,226 @@
+-- A sheet that was read into exact blocks: the blocks are an input whose sizes fit and whose mesh is the sheet's, and the blade is the sheet's.
+use Prim.Native.Nat.{ℕ, _+_, _-_, _*_, _/_, _%_, _≤_}
+use native.Mathlib.Omega.{arith}
+use mathlib.Core.Path.{_≡_, refl, sym, ap, _∙_, subst}
+use mathlib.Core.Bool.{Bool, true, false, cond, _&&_, _||_}
+use mathlib.Core.List.{List, [], _∷_, map}
+use lib.Dec.{ltb, leb, eqb}
+use lib.Ieee.{Float, nan}
+use lib.ListN.{length, drop, getD, replicate, length-map}
+use borrow.Author.Tests.{ltb-false, le-leb, eq-eqb}
+use Rattle.lists.specs.Lists.{padded}
+use Rattle.lists.proofs.Sifts.{true-and}
+use Rattle.lists.proofs.Rows.{length-mapAt}
+use Rattle.float.specs.Numbers.{zero32}
+use Rattle.blade.specs.declared.Point.{Point}
+use Rattle.model.specs.Mesh.{Mesh}
+use Rattle.model.specs.Cut.{Blade}
+use Rattle.model.specs.Calls.{Outcome, cutCall}
+use Rattle.mesh.specs.At.{meshAt}
+use Rattle.mesh.specs.Log.{World}
+use Rattle.mesh.specs.Given.{Given, Lent, given, sizes, meshOf, listFits, lengthsFit, sizesFit}
+use Rattle.mesh.specs.Filled.{Filled, Fits, pointOf, rootOf, cornerOf, volumeOf, endOf, lengthOf, sideOf}
+use Rattle.mesh.specs.declared.Counts as M
+use Rattle.bits.specs.Bits.{bitsOf, fieldAt}
+use Rattle.bits.proofs.RowLaws.{length-read}
+use Rattle.sheet.specs.Sheet.{sheetWith, seenOf, seenWith, above, tooMany, countsAt, bytesOf, spareOf, namesOK, particleW, triangleW, edgeW, boundaryW, atTriangles, atEdges, atBoundary, atBlade}
+use Rattle.sheet.specs.Read.{floatOf, particlesFrom, trianglesFrom, edgesFrom, boundaryFrom, placeIn, meshOfSheet, bladeOfSheet, countsFor, roomFor, lentOf, worldOf, bladeLeft, ReadDone}
+use Rattle.sheet.specs.declared.Counts.{Counts}
+use Rattle.sheet.specs.declared.Seen.{Seen}
+use Rattle.sheet.specs.declared.Seen.the-variants.{Whole, Refused}
+use Rattle.sheet.proofs.Back.{never}
+use Rattle.sheet.proofs.PutLaws.{neither}
+use Rattle.sheet.proofs.MeshReads.{blade-read}
+use Rattle.sheetcut.specs.SheetCut.{limits, rooms, fraction, bladeOf, cutOf}
+use Rattle.sheetcut.specs.Work.{Exact}
+use Rattle.sheetcut.proofs.Fillings.{block-long, countsIn, mesh-filled}
+
+-- ---- the counts
+
+whole : (a b d x y z : Bool) (k c : Counts) → cond a (Refused 9) (cond (b || d) (Refused 1) (cond x (cond y (cond z (Whole k) (Refused 3)) (Refused 9)) (Refused 9))) ≡ Whole c → (d ≡ false) × (k ≡ c)
+whole true b d x y z k c e = absurd (never 9 c e)
+whole false true d x y z k c e = absurd (never 1 c e)
+whole false false true x y z k c e = absurd (never 1 c e)
+whole false false false false y z k c e = absurd (never 9 c e)
+whole false false false true false z k c e = absurd (never 9 c e)
+whole false false false true true false k c e = absurd (never 3 c e)
+whole false false false true true true k c e = (refl, cc)
+
+-- no count above the program's limits
+pub record Few (c : Counts) : Type 0 where
+  pub particles : c .particles ≤ 128
+  pub triangles : c .triangles ≤ 128
+  pub edges : c .edges ≤ 256
+  pub boundary : c .boundary ≤ 256
+
+not-above : (c : Counts) → above limits c ≡ false → Few c
+unfolding above
+not-above c e =
+    let u = neither (ltb 128 (c .particles)) (ltb 128 (c .triangles) || (ltb 256 (c .edges) || ltb 256 (c .boundary))) e in
+    let v = neither (ltb 128 (c .triangles)) (ltb 256 (c .edges) || ltb 256 (c .boundary)) (u .1) in
+    let w = neither (ltb 256 (c .edges)) (ltb 256 (c .boundary)) (v .1) in
+    record { particles = ltb-false 128 (c .particles) (u .0); triangles = ltb-false 128 (c .triangles) (v .0); edges = ltb-false 256 (c .edges) (w .0); boundary = ltb-false 256 (c .boundary) (w .1) }
+
+-- a whole sheet keeps the limits
+pub seen-few : (s : List ℕ) (c : Counts) → seenOf limits s ≡ Whole c → Few c
+unfolding seenOf seenWith
+seen-few s c e =
+    let d = countsAt (bitsOf s) in
+    let w = whole (ltb (length s) 6) (tooMany d) (above limits d) (eqb (length s) (bytesOf d)) (eqb (spareOf d (bitsOf s)) 0) (namesOK (sheetWith d (bitsOf s))) d c e in
+    subst Few (w .1) (not-above d (w .0))
+
+-- the mesh of a sheet with an empty log
+abbrev world-read : Counts → List ℕ → World
+world-read c l = record { mesh = meshOfSheet (sheetWith c l); log = [] }
+
+-- each list has as many entries as rows
+particles-long : (rows : List (List ℕ)) → length (particlesFrom rows) ≡ length rows
+unfolding particlesFrom
+particles-long rows = length-mapAt _ rows
+
+triangles-long : (place : ℕ → Point) (rows : List (List ℕ)) → length (trianglesFrom place rows) ≡ length rows
+unfolding trianglesFrom
+triangles-long place rows = length-map rows _
+
+edges-long : (place : ℕ → Point) (rows : List (List ℕ)) → length (edgesFrom place rows) ≡ length rows
+unfolding edgesFrom
+edges-long place rows = length-map rows _
+
+boundary-long : (rows : List (List ℕ)) → length (boundaryFrom rows) ≡ length rows
+unfolding boundaryFrom
+boundary-long rows = length-map rows _
+
+-- so the mesh has as many as the counts say
+mesh-counts : (c : Counts) (l : List ℕ) → countsIn (world-read c l) ≡ countsFor c
+unfolding meshOfSheet sheetWith
+mesh-counts c l =
+    let S = sheetWith c l in
+    let place = placeIn (particlesFrom (S .particles)) in
+    let p = particles-long (S .particles) ∙ length-read particleW (c .particles) (drop 46 l) in
+    let t = triangles-long place (S .triangles) ∙ length-read triangleW (c .triangles) (drop (atTriangles c) l) in
+    let e = edges-long place (S .edges) ∙ length-read edgeW (c .edges) (drop (atEdges c) l) in
+    let b = boundary-long (S .boundary) ∙ length-read boundaryW (c .boundary) (drop (atBoundary c) l) in
+    λ i. record { particles = p i; triangles = t i; edges = e i; boundary = b i; log = 0 }
+
+-- ---- sizes
+
+-- one list
+list-fits : (limit overA a overB b : ℕ) → overA ≡ 0 → overB ≡ 0 → a ≡ b → a ≤ limit → listFits limit overA a overB b ≡ true
+unfolding listFits
+list-fits limit overA a overB b p q e h = true-and (true-and (true-and (eq-eqb overA 0 p) (eq-eqb overB 0 q)) (eq-eqb a b e)) (le-leb a limit h)
+
+-- exact blocks fit
+exact-sizes : (c : Counts) (L : Lent) → Few c → Exact c L → lengthsFit (L .points) (L .roots) (L .corners) (L .volumes) (L .ends) (L .lengths) (L .outline) ≡ true
+unfolding lengthsFit
+exact-sizes c L F X =
+    let p = list-fits 1024 (L .points % 6) (L .points / 6) (L .roots % 2) (L .roots / 2) (omega (arith, X .points)) (omega (arith, X .roots)) (omega (arith, X .points, X .roots)) (omega (arith, X .points, F .particles)) in
+    let t = list-fits 1024 (L .corners % 3) (L .corners / 3) (L .volumes % 2) (L .volumes / 2) (omega (arith, X .corners)) (omega (arith, X .volumes)) (omega (arith, X .corners, X .volumes)) (omega (arith, X .corners, F .triangles)) in
+    let e = list-fits 2048 (L .ends % 4) (L .ends / 4) (L .lengths % 4) (L .lengths / 4) (omega (arith, X .ends)) (omega (arith, X .lengths)) (omega (arith, X .ends, X .lengths)) (omega (arith, X .ends, F .edges)) in
+    let o = list-fits 2048 (L .outline % 2) (L .outline / 2) 0 (L .outline / 2) (omega (arith, X .outline)) refl refl (omega (arith, X .outline, F .boundary)) in
+    true-and (true-and (true-and p t) e) o
+
+-- and have room for the sheet
+exact-room : (c : Counts) (L : Lent) (nb : ℕ) → Exact c L → nb ≡ 4 → roomFor c L nb ≡ Whole c
+unfolding roomFor
+exact-room c L nb X four =
+    rw
+    (le-leb (c .triangles) (L .corners / 3) (omega (arith, X .corners)), le-leb (c .triangles) (L .volumes / 2) (omega (arith, X .volumes)), le-leb 4 nb (omega arith), le-leb (c .particles) (L .points / 6) (omega (arith, X .points)), le-leb (c .particles) (L .roots / 2) (omega (arith, X .roots)), le-leb (c .edges) (L .ends / 4) (omega (arith, X .ends)), le-leb (c .edges) (L .lengths / 4) (omega (arith, X .lengths)), le-leb (c .boundary) (L .outline / 2) (omega (arith, X .outline)))
+    refl
+
+exact-fits : (c : Counts) (L : Lent) → Exact c L → Fits (countsFor c) L
+exact-fits c L X =
+    record {
+      points = omega (arith, X .points);
+      roots = omega (arith, X .roots);
+      corners = omega (arith, X .corners);
+      volumes = omega (arith, X .volumes);
+      ends = omega (arith, X .ends);
+      lengths = omega (arith, X .lengths);
+      outline = omega (arith, X .outline);
+      log = omega arith;
+    }
+
+-- four numbers in four places
+padded-four : (n : ℕ) (x y z w : Float) → n ≡ 4 → padded n zero32 (x ∷ y ∷ z ∷ w ∷ []) ≡ x ∷ y ∷ z ∷ w ∷ []
+unfolding padded
+padded-four n x y z w e = ap (λ (k : ℕ). x ∷ y ∷ z ∷ w ∷ replicate (k - 4) zero32) e
+
+-- ---- what was read
+
+module _ (s : List ℕ) (c : Counts) (L : Lent) (r : Seen) (P : List Float) (R C : List ℕ) (U : List Float) (E : List ℕ) (N : List Float) (O G : List ℕ) (b b′ : List Float)
+    (D : ReadDone limits s L r P R C U E N O G b b′) (seen : seenOf limits s ≡ Whole c) (X : Exact c L) (four : length b ≡ 4) where
+  -- the sheet was read whole
+  read-whole : r ≡ Whole c
+  unfolding lentOf
+  read-whole = D .answer ∙ (ap (λ (x : Seen). lentOf x L (length b)) seen ∙ exact-room c L (length b) X four)
+
+  read-filled : Filled (world-read c (bitsOf s)) L P R C U E N O G
+  unfolding worldOf
+  read-filled = subst (λ (x : Seen). Filled (worldOf x (bitsOf s)) L P R C U E N O G) read-whole (D .blocks)
+
+  read-fits : Fits (countsIn (world-read c (bitsOf s))) L
+  read-fits = subst (λ (k : M.Counts). Fits k L) (sym (mesh-counts c (bitsOf s))) (exact-fits c L X)
+
+  -- the lengths of the blocks are those that were lent
+  lengths-are : Lent
+  lengths-are = record { points = length P; roots = length R; corners = length C; volumes = length U; ends = length E; lengths = length N; outline = length O; log = L .log }
+
+  still : lengths-are ≡ L
+  unfolding lengths-are
+  still =
+      let F = read-filled in
+      let W = world-read c (bitsOf s) in
+      let H = read-fits in
+      λ i.
+      record {
+        points = (ap length (F .points) ∙ block-long pointOf (W .mesh .particles) zero32 nan (L .points) 6 (L .points / 6) (H .points) (omega arith)) i;
+        roots = (ap length (F .roots) ∙ block-long rootOf (W .mesh .particles) 0 0 (L .roots) 2 (L .roots / 2) (H .roots) (omega arith)) i;
+        corners = (ap length (F .corners) ∙ block-long cornerOf (W .mesh .triangles) 0 0 (L .corners) 3 (L .corners / 3) (H .corners) (omega arith)) i;
+        volumes = (ap length (F .volumes) ∙ block-long volumeOf (W .mesh .triangles) zero32 nan (L .volumes) 2 (L .volumes / 2) (H .volumes) (omega arith)) i;
+        ends = (ap length (F .ends) ∙ block-long endOf (W .mesh .edges) 0 0 (L .ends) 4 (L .ends / 4) (H .ends) (omega arith)) i;
+        lengths = (ap length (F .lengths) ∙ block-long lengthOf (W .mesh .edges) zero32 nan (L .lengths) 4 (L .lengths / 4) (H .lengths) (omega arith)) i;
+        outline = (ap length (F .outline) ∙ block-long sideOf (W .mesh .boundary) 0 0 (L .outline) 2 (L .outline / 2) (H .outline) (omega arith)) i;
+        log = L .log;
+      }
+
+  exact-still : Exact c lengths-are
+  exact-still = subst (Exact c) (sym still) X
+
+  -- the sizes fit
+  pub read-sized : sizesFit (given P R C U E N O) ≡ true
+  unfolding lengths-are
+  read-sized = exact-sizes c lengths-are (seen-few s c seen) exact-still
+
+  read-sizes : sizes (given P R C U E N O) ≡ countsIn (world-read c (bitsOf s))
+  unfolding lengths-are
+  read-sizes =
+      let Y = exact-still in
+      let p : length P / 6 ≡ c .particles = omega (arith, Y .points) in
+      let t : length C / 3 ≡ c .triangles = omega (arith, Y .corners) in
+      let e : length E / 4 ≡ c .edges = omega (arith, Y .ends) in
+      let o : length O / 2 ≡ c .boundary = omega (arith, Y .outline) in
+      let h : sizes (given P R C U E N O) ≡ countsFor c = λ i. record { particles = p i; triangles = t i; edges = e i; boundary = o i; log = 0 } in
+      h ∙ sym (mesh-counts c (bitsOf s))
+
+  -- the mesh is the sheet's
+  pub read-mesh : meshOf (given P R C U E N O) ≡ meshOfSheet (sheetWith c (bitsOf s))
+  unfolding meshOf
+  read-mesh = ap (λ (k : M.Counts). meshAt k P R C U E N O) read-sizes ∙ mesh-filled (world-read c (bitsOf s)) L P R C U E N O G read-filled read-fits
+
+  -- the blade's four numbers
+  read-blade : b′ ≡ floatOf (fieldAt (bitsOf s) (atBlade c) 11) ∷ floatOf (fieldAt (bitsOf s) (atBlade c + 11) 11) ∷ floatOf (fieldAt (bitsOf s) (atBlade c + 22) 11) ∷ floatOf (fieldAt (bitsOf s) (atBlade c + 33) 11) ∷ []
+  unfolding bladeLeft
+  read-blade =
+      D .blade
+      ∙ (ap (λ (x : Seen). padded (length b) zero32 (bladeLeft x (bitsOf s))) read-whole
+      ∙ (ap (padded (length b) zero32) (sym (blade-read c (bitsOf s))) ∙ padded-four (length b) _ _ _ _ four))
+
+  -- the blade is the sheet's
+  pub blade-is : _≡_ {A = Blade} (record { from = record { x = getD b′ 0 nan; y = getD b′ 1 nan }; to = record { x = getD b′ 2 nan; y = getD b′ 3 nan } }) (bladeOf (bladeOfSheet (sheetWith c (bitsOf s))))
+  blade-is =
+      ap (λ (l : List Float). record { from = record { x = getD l 0 nan; y = getD l 1 nan }; to = record { x = getD l 2 nan; y = getD l 3 nan } }) read-blade ∙ ap bladeOf (blade-read c (bitsOf s))
+
+  -- so the cut of the blocks is the sheet's
+  pub cut-read : cutCall (sizesFit (given P R C U E N O)) (meshOf (given P R C U E N O)) (record { from = record { x = getD b′ 0 nan; y = getD b′ 1 nan }; to = record { x = getD b′ 2 nan; y = getD b′ 3 nan } }) fraction rooms ≡ cutOf (sheetWith c (bitsOf s))
+  unfolding cutOf
+  cut-read = λ i. cutCall (read-sized i) (read-mesh i) (blade-is i) fraction rooms

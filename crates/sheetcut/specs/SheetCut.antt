@@ -1,0 +1,50 @@
+-- Document 01's program `cutlist` as a function of bytes: the cut of a sheet, and what is printed of it. Definitions only.
+use Prim.Native.Nat.{ℕ}
+use mathlib.Core.Bool.{true}
+use mathlib.Core.List.{List}
+use lib.ListN.{getD}
+use lib.Ieee.{Float, binary32, ofBits}
+use Rattle.float.specs.Numbers.{zero32}
+use Rattle.model.specs.Run.{Rooms}
+use Rattle.model.specs.Cut.{Blade}
+use Rattle.model.specs.Calls.{Outcome, refused, cutCall}
+use Rattle.bits.specs.Bits.{bitsOf}
+use Rattle.sheet.specs.Sheet.{Sheet, sheetWith, seenOf}
+use Rattle.sheet.specs.Read.{meshOfSheet, bladeOfSheet}
+use Rattle.sheet.specs.declared.Counts.{Counts}
+use Rattle.sheet.specs.declared.Seen.{Seen}
+use Rattle.sheet.specs.declared.Seen.the-variants.{Whole, Refused}
+use Rattle.listing.specs.Listing.{printed}
+
+-- a sheet has at most 128 particles, 128 triangles, 256 edges and 256 boundary entries
+abbrev pub limits : Counts
+limits = record { particles = 128; triangles = 128; edges = 256; boundary = 256 }
+
+-- twice those particle, edge and boundary places are lent, as many triangle places, and 256 log entries
+abbrev pub rooms : Rooms
+rooms = record { particles = 256; triangles = 128; edges = 512; boundary = 512; log = 256 }
+
+-- the insertion fraction 0.1: the f32 with the bits 0x3dcccccd
+unfoldable pub fraction : Float
+fraction = ofBits binary32 1036831949
+
+-- the blade of four numbers x0, y0, x1, y1
+abbrev pub bladeOf : List Float → Blade
+bladeOf l = record { from = record { x = getD l 0 zero32; y = getD l 1 zero32 }; to = record { x = getD l 2 zero32; y = getD l 3 zero32 } }
+
+-- the cut of a sheet: its mesh, its blade, the fraction and the rooms
+unfoldable pub cutOf : Sheet → Outcome
+cutOf s = cutCall true (meshOfSheet s) (bladeOf (bladeOfSheet s)) fraction rooms
+
+-- what a look at bytes comes to: the refusal of the sheet, or the cut of it
+unfoldable pub cutSeen : Seen → List ℕ → Outcome
+cutSeen (Refused n) s = refused n
+cutSeen (Whole c) s = cutOf (sheetWith c (bitsOf s))
+
+-- the cut of the sheet that bytes are
+abbrev pub sheetCut : List ℕ → Outcome
+sheetCut s = cutSeen (seenOf limits s) s
+
+-- the bytes that the program prints for the bytes that it reads
+abbrev pub listed : List ℕ → List ℕ
+listed s = printed (sheetCut s)

@@ -1,0 +1,82 @@
+-- What the workers ask and promise. Only the contracts between workers need this file. Definitions only.
+use Prim.Native.Nat.{ℕ, _*_, _/_, _≤_}
+use mathlib.Core.Path.{_≡_}
+use mathlib.Core.Bool.{Bool, true}
+use mathlib.Core.List.{List}
+use lib.ListN.{length}
+use lib.Ieee.{Float}
+use Rattle.lists.specs.Lists.{any, all, distinct}
+use Rattle.model.specs.Mesh.{Triangle, Edge}
+use Rattle.model.specs.Valid.{cornersOk, endsOk}
+use Rattle.model.specs.Elements.{structural?, kindBy}
+use Rattle.model.specs.Pieces.{pieceLabels}
+use Rattle.mesh.specs.At.{trianglesAt, edgesAt}
+use Rattle.mesh.specs.Log.{logAt}
+use Rattle.mesh.specs.Given.{Lent}
+use Rattle.mesh.specs.declared.Counts.{Counts}
+use Rattle.elements.specs.Table.{elementsIn}
+use Rattle.answer.specs.declared.Answer.{Answer}
+use Rattle.answer.specs.declared.Answer.the-variants.{Refused, Done}
+use Rattle.listing.specs.Listing.{listingBytes, refusedBytes}
+use Rattle.sheet.specs.Sheet.{seenOf}
+use Rattle.sheet.specs.declared.Counts as S
+use Rattle.sheet.specs.declared.Seen.the-variants.{Whole}
+use Rattle.sheetcut.specs.SheetCut.{limits}
+
+-- the pieces of triangles and edges: `pieces` reads no more of a mesh
+unfoldable pub piecesIn : List Triangle → List Edge → ℕ
+piecesIn ts es = length (distinct (pieceLabels (elementsIn (kindBy ts (any structural? es)) ts es)))
+
+-- the fronts of blocks hold few triangles and edges, which name particles
+pub record Countable (k : Counts) (c : List ℕ) (v : List Float) (e : List ℕ) (l : List Float) : Type 0 where
+  pub few-particles : k .particles ≤ 256
+  pub few-triangles : k .triangles ≤ 128
+  pub few-edges : k .edges ≤ 512
+  pub corners : k .triangles ≤ length c / 3
+  pub volumes : k .triangles ≤ length v / 2
+  pub ends : k .edges ≤ length e / 4
+  pub lengths : k .edges ≤ length l / 4
+  pub triangle-names : all (cornersOk (k .particles)) (trianglesAt (k .triangles) c v) ≡ true
+  pub edge-names : all (endsOk (k .particles)) (edgesAt (k .edges) e l) ≡ true
+
+-- what is asked for the listing of an answer: of counts, that the blocks hold so many rows
+abbrev pub Listable : Answer → List ℕ → List Float → List ℕ → List Float → ℕ → Type 0
+Listable (Refused n) c v e l g = Unit {0}
+Listable (Done k changed) c v e l g = Countable k c v e l × (6 * k .log ≤ g)
+
+-- the text of an answer, from the blocks that it goes with
+abbrev pub textOf : Answer → List ℕ → List Float → List ℕ → List Float → List ℕ → List ℕ
+textOf (Refused n) c v e l g = refusedBytes n
+textOf (Done k changed) c v e l g = listingBytes (logAt (k .log) g) (k .particles) (piecesIn (trianglesAt (k .triangles) c v) (edgesAt (k .edges) e l))
+
+-- ---- a sheet on its way
+
+-- blocks have places for the rows of a sheet with these counts, and none besides
+pub record Exact (c : S.Counts) (L : Lent) : Type 0 where
+  pub points : L .points ≡ 6 * c .particles
+  pub roots : L .roots ≡ 2 * c .particles
+  pub corners : L .corners ≡ 3 * c .triangles
+  pub volumes : L .volumes ≡ 2 * c .triangles
+  pub ends : L .ends ≡ 4 * c .edges
+  pub lengths : L .lengths ≡ 4 * c .edges
+  pub outline : L .outline ≡ 2 * c .boundary
+
+-- a sheet that is whole, and exact blocks for it
+pub record Ready (s : List ℕ) (c : S.Counts) (L : Lent) : Type 0 where
+  pub seen : seenOf limits s ≡ Whole c
+  pub exact : Exact c L
+
+-- blocks of the sizes that the limits ask for
+pub record Ample (L : Lent) : Type 0 where
+  pub points : L .points ≡ 768
+  pub roots : L .roots ≡ 256
+  pub corners : L .corners ≡ 384
+  pub volumes : L .volumes ≡ 256
+  pub ends : L .ends ≡ 1024
+  pub lengths : L .lengths ≡ 1024
+  pub outline : L .outline ≡ 512
+
+-- a sheet that is whole, and blocks that have room for it
+pub record Roomy (s : List ℕ) (c : S.Counts) (L : Lent) : Type 0 where
+  pub seen : seenOf limits s ≡ Whole c
+  pub ample : Ample L
