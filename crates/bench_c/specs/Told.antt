@@ -8,6 +8,7 @@ use Rattle.lists.specs.Lists.{pick}
 use Rattle.model.specs.Reads.{Read, refused, value}
 use Rattle.mesh.specs.Given.{Lent}
 use Rattle.mesh.specs.declared.Counts.{Counts}
+use Rattle.mesh.specs.declared.Rooms.{Rooms}
 use Rattle.answer.specs.declared.Answer.{Answer}
 use Rattle.answer.specs.declared.Answer.the-variants.{Refused, Done}
 use Rattle.image.specs.Stores.{blockWords}
@@ -53,3 +54,20 @@ pub record Limited (L : Lent) (logged : ℕ) : Type 0 where
   pub edges : L .ends / 4 ≤ 2048
   pub boundary : L .outline / 2 ≤ 2048
   pub log : 24 * (L .log / 6) ≤ logged
+
+-- rooms that are within the limits, blocks that have them in front, and a log whose bytes have room
+pub record Fronted (R : Rooms) (lp lr lc lv le ll lo lg logged : ℕ) : Type 0 where
+  pub particles : R .particles ≤ 1024
+  pub triangles : R .triangles ≤ 1024
+  pub edges : R .edges ≤ 2048
+  pub boundary : R .boundary ≤ 2048
+  pub log : R .log ≤ 4096
+  pub points-room : 6 * R .particles ≤ lp
+  pub roots-room : 2 * R .particles ≤ lr
+  pub corners-room : 3 * R .triangles ≤ lc
+  pub volumes-room : 2 * R .triangles ≤ lv
+  pub ends-room : 4 * R .edges ≤ le
+  pub lengths-room : 4 * R .edges ≤ ll
+  pub outline-room : 2 * R .boundary ≤ lo
+  pub words-room : 6 * R .log ≤ lg
+  pub entries-room : 24 * R .log ≤ logged

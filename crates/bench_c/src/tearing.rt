@@ -8,8 +8,9 @@ ghost use Rattle.mesh.specs.Filled.{lent};
 ghost use Rattle.answer.specs.Answered.{Answered};
 ghost use Rattle.image.specs.Image.{imageOf, imageSized};
 ghost use Rattle.bench_c.specs.Torn.{OutcomeReplied};
-ghost use Rattle.bench_c.specs.Told.{Limited};
+ghost use Rattle.bench_c.specs.Told.{Fronted, Limited};
 use answer::Answer;
+use mesh::Rooms;
 
 // The removal of straddlers from an image that has the sizes of a mesh, into lent blocks and words.
 fn image_straddlers(
@@ -110,6 +111,46 @@ fn reply_straddlers(
         lengths,
         outline,
         words,
+        out,
+        log,
+    )
+}
+
+// The reply to that removal in the fronts of blocks, with these rooms.
+fn front_straddlers(
+    bytes: &[u8],
+    room: Rooms,
+    points: &mut [f32],
+    roots: &mut [usize],
+    corners: &mut [usize],
+    volumes: &mut [f32],
+    ends: &mut [usize],
+    lengths: &mut [f32],
+    outline: &mut [usize],
+    words: &mut [usize],
+    out: &mut [u8],
+    log: &mut [u8],
+) -> u32
+    requires { ⌜ (imageSized (now bytes) ≡ true) × Fronted room (length (now points)) (length (now roots)) (length (now corners)) (length (now volumes)) (length (now ends)) (length (now lengths)) (length (now outline)) (length (now words)) (length (now log)) ⌝ }
+    ensures { λ r. ⌜ OutcomeReplied (straddlersCall (imageSized (now (bytes .entry))) (meshOf (imageOf (now (bytes .entry)))) (asRooms room)) (length (now (out .entry))) (length (now (log .entry))) r (now (out .exit)) (now (log .exit)) ⌝ }
+{
+    let p6 = 6 * room.particles;
+    let p2 = 2 * room.particles;
+    let t3 = 3 * room.triangles;
+    let t2 = 2 * room.triangles;
+    let e4 = 4 * room.edges;
+    let b2 = 2 * room.boundary;
+    let n6 = 6 * room.log;
+    reply_straddlers(
+        bytes,
+        &mut points[..p6],
+        &mut roots[..p2],
+        &mut corners[..t3],
+        &mut volumes[..t2],
+        &mut ends[..e4],
+        &mut lengths[..e4],
+        &mut outline[..b2],
+        &mut words[..n6],
         out,
         log,
     )
