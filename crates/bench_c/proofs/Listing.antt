@@ -111,7 +111,7 @@ two-wrong : (M : Mesh) → particlesOk M (0 ∷ 0 ∷ []) ≡ false
 unfolding particlesOk strictly
 two-wrong M = refl
 
-two-refused : (z : Bool) (M : Mesh) → restMeasureOfCall z M (0 ∷ 0 ∷ []) ≡ refused (refusal z M true false)
+pub two-refused : (z : Bool) (M : Mesh) → restMeasureOfCall z M (0 ∷ 0 ∷ []) ≡ refused (refusal z M true false)
 unfolding restMeasureOfCall
 two-refused z M = ap (λ (b : Bool). orRefused (refusal z M true b) (restMeasureOf M (0 ∷ 0 ∷ []))) (two-wrong M) ∙ refused-as z M (restMeasureOf M (0 ∷ 0 ∷ []))
 

@@ -1,26 +1,37 @@
 -- Laws of the entries that give a mesh, on an image. Assumes nothing.
-use mathlib.Core.Path.{_≡_, ap, subst, _∙_}
-use Prim.Native.Nat.{ℕ, _*_, _/_}
+use mathlib.Core.Path.{_≡_, refl, sym, ap, subst, _∙_}
+use Prim.Native.Nat.{ℕ, _*_, _/_, min}
 use native.Mathlib.Omega.{arith}
 use lib.ListN.{length, take}
 use lib.Seq.{length-take-le}
-use mathlib.Core.Bool.{Bool, true}
-use mathlib.Core.List.{List}
+use mathlib.Core.Bool.{Bool, true, false}
+use mathlib.Core.List.{List, [], _∷_}
+use lib.Dec.{eqb}
+use borrow.Author.Tests.{eq-eqb, ne-eqb}
+use Rattle.lists.specs.Lists.{pick}
+use Rattle.model.specs.Reads.{Read, refused, restMeasureOfCall}
+use Rattle.model.specs.Calls.{refused as turnedDown}
+use Rattle.bench.specs.declared.Number.{Number}
+use Rattle.bench.specs.Answers.{numberOf}
+use Rattle.image.specs.Words.{written, wordAt}
+use Rattle.bench_c.specs.Replies.{Replied}
+use Rattle.bench_c.proofs.Listing.{two-refused}
+use Rattle.bench_c.proofs.Replying.{replied-as}
 use lib.Ieee.{Float}
 use Rattle.model.specs.Mesh.{Mesh}
 use Rattle.model.specs.Run.{Rooms, start}
 use Rattle.model.specs.Elements.{kindOf}
 use Rattle.model.specs.Pieces.{removeStraddlers}
-use Rattle.model.specs.Calls.{Outcome, trianglesLent, straddlersCall}
+use Rattle.model.specs.Calls.{Outcome, trianglesLent, refusal, straddlersCall}
 use Rattle.mesh.specs.Given.{Given, Lent, sizesFit, meshOf, roomsOf, asRooms}
 use Rattle.mesh.specs.Filled.{lent}
 use Rattle.mesh.specs.declared.Rooms.{Rooms as Given-Rooms}
 use Rattle.answer.specs.Answered.{Answered}
 use Rattle.answer.specs.declared.Answer.{Answer}
 use Rattle.image.specs.Image.{imageOf, imageSized}
-use Rattle.bench_c.specs.Given.{SmallCode}
-use Rattle.bench_c.specs.Torn.{meshReply, OutcomeReplied}
-use Rattle.bench_c.specs.Told.{Fronted, Limited}
+use Rattle.bench_c.specs.Given.{SmallCode, numberReply}
+use Rattle.bench_c.specs.Torn.{meshReply, BothReplied, OutcomeReplied, withRooms, roomsIn, straddlersOutcome}
+use Rattle.bench_c.specs.Told.{Fronted, Limited, roomsGiven}
 use Rattle.bench_c.proofs.Replying.{refusal-small}
 use Rattle.bench_c.proofs.Loading.{sized-input}
 use Rattle.bench_c.proofs.Outcomes.{unless-small}
@@ -81,3 +92,83 @@ module _ (R : Given-Rooms) (p : List Float) (r c : List ℕ) (v : List Float) (e
   -- so a reply by the fronts is one by the rooms
   pub fronts-replied : (f : Rooms → Outcome) (lent′ x : ℕ) (out log : List ℕ) → OutcomeReplied (f (asRooms (roomsOf fronts))) lent′ logged x out log → OutcomeReplied (f (asRooms R)) lent′ logged x out log
   fronts-replied f lent′ x out log q = subst (λ (z : Rooms). OutcomeReplied (f z) lent′ logged x out log) fronts-rooms q
+
+-- ---- the rooms of words
+
+pub rooms-made : (s : List ℕ) (logged a b c d a′ b′ c′ d′ e : ℕ) → a′ ≡ wordAt s 0 → b′ ≡ wordAt s 1 → c′ ≡ wordAt s 2 → d′ ≡ wordAt s 3 → a ≡ min 1024 a′ → b ≡ min 1024 b′ → c ≡ min 2048 c′ → d ≡ min 2048 d′ → e ≡ min 4096 (logged / 24)
+    → _≡_ {A = Given-Rooms} (record { particles = a; triangles = b; edges = c; boundary = d; log = e }) (roomsGiven s logged)
+unfolding roomsGiven
+rooms-made s logged a b c d a′ b′ c′ d′ e wa wb wc wd ea eb ec ed ee i =
+    record { particles = (ea ∙ ap (min 1024) wa) i; triangles = (eb ∙ ap (min 1024) wb) i; edges = (ec ∙ ap (min 2048) wc) i; boundary = (ed ∙ ap (min 2048) wd) i; log = ee i }
+
+given-fronted : (s : List ℕ) (logged : ℕ) → Fronted (roomsGiven s logged) 6144 2048 3072 2048 8192 8192 4096 24576 logged
+unfolding roomsGiven
+given-fronted s logged =
+    record {
+      particles = omega arith;
+      triangles = omega arith;
+      edges = omega arith;
+      boundary = omega arith;
+      log = omega arith;
+      points-room = omega arith;
+      roots-room = omega arith;
+      corners-room = omega arith;
+      volumes-room = omega arith;
+      ends-room = omega arith;
+      lengths-room = omega arith;
+      outline-room = omega arith;
+      words-room = omega arith;
+      entries-room = omega arith;
+    }
+
+pub made-fronted : (s : List ℕ) (logged : ℕ) (R : Given-Rooms) → R ≡ roomsGiven s logged → Fronted R 6144 2048 3072 2048 8192 8192 4096 24576 logged
+made-fronted s logged R e = subst (λ (Q : Given-Rooms). Fronted Q 6144 2048 3072 2048 8192 8192 4096 24576 logged) (sym e) (given-fronted s logged)
+
+given-as : (s : List ℕ) (logged : ℕ) → asRooms (roomsGiven s logged) ≡ roomsIn s logged
+unfolding roomsGiven
+given-as s logged = refl
+
+-- ---- a bad argument
+
+pub argument-refused : (s : List ℕ) (a : Number) (lent′ logged x : ℕ) (out log : List ℕ) → a ≡ numberOf (restMeasureOfCall (imageSized s) (meshOf (imageOf s)) (0 ∷ 0 ∷ [])) → Replied (numberReply a) lent′ x out
+    → log ≡ written logged [] → BothReplied (refused (refusal (imageSized s) (meshOf (imageOf s)) true false)) [] lent′ logged x out log
+argument-refused s a lent′ logged x out log e h k =
+    let M = meshOf (imageOf s) in
+    let q = replied-as (numberReply a) (refused (refusal (imageSized s) M true false)) lent′ x out (ap numberReply (e ∙ ap numberOf (two-refused (imageSized s) M))) h in
+    record { code = q .code; bytes = q .bytes; entries = k }
+
+-- ---- the C function
+
+-- a refusal of an outcome
+turned : (n lent′ logged x : ℕ) (out log : List ℕ) (o : Outcome) → turnedDown n ≡ o → BothReplied (refused n) [] lent′ logged x out log → OutcomeReplied o lent′ logged x out log
+turned n lent′ logged x out log o e h = subst (λ (z : Outcome). OutcomeReplied z lent′ logged x out log) e h
+
+pub straddlers-replied : (s rooms : List ℕ) (R : Given-Rooms) (lent′ logged x : ℕ) (out log : List ℕ) → length rooms ≡ 16 → R ≡ roomsGiven rooms logged
+    → OutcomeReplied (straddlersCall (imageSized s) (meshOf (imageOf s)) (asRooms R)) lent′ logged x out log → OutcomeReplied (straddlersOutcome s rooms logged) lent′ logged x out log
+unfolding straddlersOutcome withRooms
+straddlers-replied s rooms R lent′ logged x out log n e h =
+    let M = meshOf (imageOf s) in
+    subst (λ (z : Outcome). OutcomeReplied z lent′ logged x out log)
+    (ap (λ (Q : Given-Rooms). straddlersCall (imageSized s) M (asRooms Q)) e ∙ ap (straddlersCall (imageSized s) M) (given-as rooms logged)
+    ∙ sym (ap (λ (b : Bool). pick b (straddlersCall (imageSized s) M (roomsIn rooms logged)) (turnedDown (refusal (imageSized s) M true false))) (eq-eqb (length rooms) 16 n)))
+    h
+
+pub straddlers-misread : (s rooms : List ℕ) (lent′ logged x : ℕ) (out log : List ℕ) → (length rooms ≡ 16 → ⊥)
+    → BothReplied (refused (refusal (imageSized s) (meshOf (imageOf s)) true false)) [] lent′ logged x out log → OutcomeReplied (straddlersOutcome s rooms logged) lent′ logged x out log
+unfolding straddlersOutcome withRooms
+straddlers-misread s rooms lent′ logged x out log n h =
+    let M = meshOf (imageOf s) in
+    turned _ lent′ logged x out log _
+    (sym (ap (λ (b : Bool). pick b (straddlersCall (imageSized s) M (roomsIn rooms logged)) (turnedDown (refusal (imageSized s) M true false))) (ne-eqb (length rooms) 16 n))) h
+
+either-turned : (b : Bool) (o : Outcome) (m : ℕ) → turnedDown 1 ≡ o → 1 ≡ m → turnedDown 1 ≡ pick b o (turnedDown m)
+either-turned true o m e f = e
+either-turned false o m e f = ap turnedDown f
+
+pub straddlers-unsized : (s rooms : List ℕ) (lent′ logged x : ℕ) (out log : List ℕ) (z : Bool) → z ≡ imageSized s → z ≡ false
+    → BothReplied (refused 1) [] lent′ logged x out log → OutcomeReplied (straddlersOutcome s rooms logged) lent′ logged x out log
+unfolding straddlersOutcome withRooms straddlersCall refusal
+straddlers-unsized s rooms lent′ logged x out log z e f h =
+    let M = meshOf (imageOf s) in
+    turned 1 lent′ logged x out log _
+    (either-turned (eqb (length rooms) 16) _ _ (ap (λ (b : Bool). straddlersCall b M (roomsIn rooms logged)) (sym f ∙ e)) (ap (λ (b : Bool). refusal b M true false) (sym f ∙ e))) h

@@ -1,5 +1,5 @@
 -- The reply to an entry that gives a mesh, by what it answered and left in its blocks. Only the contracts between the functions need this file. Definitions only.
-use Prim.Native.Nat.{ℕ, _*_, _/_, _≤_, _<_}
+use Prim.Native.Nat.{ℕ, _*_, _/_, _≤_, _<_, min}
 use mathlib.Core.Bool.{Bool}
 use mathlib.Core.List.{List, [], _∷_}
 use lib.ListN.{take}
@@ -11,6 +11,7 @@ use Rattle.mesh.specs.declared.Counts.{Counts}
 use Rattle.mesh.specs.declared.Rooms.{Rooms}
 use Rattle.answer.specs.declared.Answer.{Answer}
 use Rattle.answer.specs.declared.Answer.the-variants.{Refused, Done}
+use Rattle.image.specs.Words.{wordAt}
 use Rattle.image.specs.Stores.{blockWords}
 
 -- the words of an answer whose rows are the first of seven blocks
@@ -71,3 +72,7 @@ pub record Fronted (R : Rooms) (lp lr lc lv le ll lo lg logged : ℕ) : Type 0 w
   pub outline-room : 2 * R .boundary ≤ lo
   pub words-room : 6 * R .log ≤ lg
   pub entries-room : 24 * R .log ≤ logged
+
+-- the rooms of four words and of so many log bytes, as the program has them
+unfoldable pub roomsGiven : List ℕ → ℕ → Rooms
+roomsGiven s logged = record { particles = min 1024 (wordAt s 0); triangles = min 1024 (wordAt s 1); edges = min 2048 (wordAt s 2); boundary = min 2048 (wordAt s 3); log = min 4096 (logged / 24) }

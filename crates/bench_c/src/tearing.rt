@@ -1,14 +1,16 @@
 // The C functions that give a mesh. Each loads the image into local blocks, has the entry fill others that are as long as the rooms say, and writes what they hold.
 ghost use mathlib.Core.Path.{_≡_};
-ghost use mathlib.Core.Bool.{true};
+ghost use mathlib.Core.Bool.{true, false};
 ghost use lib.ListN.{length};
-ghost use Rattle.model.specs.Calls.{straddlersCall};
+ghost use Rattle.model.specs.Calls.{refusal, straddlersCall};
+ghost use Rattle.model.specs.Reads.{refused};
+ghost use mathlib.Core.List.{[]};
 ghost use Rattle.mesh.specs.Given.{meshOf, roomsOf, asRooms};
 ghost use Rattle.mesh.specs.Filled.{lent};
 ghost use Rattle.answer.specs.Answered.{Answered};
 ghost use Rattle.image.specs.Image.{imageOf, imageSized};
-ghost use Rattle.bench_c.specs.Torn.{OutcomeReplied};
-ghost use Rattle.bench_c.specs.Told.{Fronted, Limited};
+ghost use Rattle.bench_c.specs.Torn.{BothReplied, OutcomeReplied, straddlersOutcome};
+ghost use Rattle.bench_c.specs.Told.{Fronted, Limited, roomsGiven};
 use answer::Answer;
 use mesh::Rooms;
 
@@ -154,4 +156,77 @@ fn front_straddlers(
         out,
         log,
     )
+}
+
+// The rooms that four words and so many log bytes are.
+fn rooms_in(rooms: &[u8], logged: usize) -> Rooms
+    requires { ⌜ length (now rooms) ≡ 16 ⌝ }
+    ensures { λ r. ⌜ r ≡ roomsGiven (now (rooms .entry)) logged ⌝ }
+{
+    Rooms {
+        particles: mesh::whole::least(1024, image::word_at(rooms, 0)),
+        triangles: mesh::whole::least(1024, image::word_at(rooms, 1)),
+        edges: mesh::whole::least(2048, image::word_at(rooms, 2)),
+        boundary: mesh::whole::least(2048, image::word_at(rooms, 3)),
+        log: mesh::whole::least(4096, logged / 24),
+    }
+}
+
+// The refusal of a bad argument beside an image that has the sizes of a mesh: an earlier one of its mesh, or 4. Two equal particles stand for the argument.
+fn refuse_argument(bytes: &[u8], out: &mut [u8], log: &mut [u8]) -> u32
+    requires { ⌜ imageSized (now bytes) ≡ true ⌝ }
+    ensures { λ r. ⌜ BothReplied (refused (refusal (imageSized (now (bytes .entry))) (meshOf (imageOf (now (bytes .entry)))) true false)) [] (length (now (out .entry))) (length (now (log .entry))) r (now (out .exit)) (now (log .exit)) ⌝ }
+{
+    image::clear_bytes(log);
+    let bad = [0usize; 2];
+    crate::reply::reply_number(crate::listed::image_measure_of(bytes, &bad), out)
+}
+
+// The removal of straddlers in local blocks, with these rooms.
+fn local_straddlers(bytes: &[u8], room: Rooms, out: &mut [u8], log: &mut [u8]) -> u32
+    requires { ⌜ (imageSized (now bytes) ≡ true) × Fronted room 6144 2048 3072 2048 8192 8192 4096 24576 (length (now log)) ⌝ }
+    ensures { λ r. ⌜ OutcomeReplied (straddlersCall (imageSized (now (bytes .entry))) (meshOf (imageOf (now (bytes .entry)))) (asRooms room)) (length (now (out .entry))) (length (now (log .entry))) r (now (out .exit)) (now (log .exit)) ⌝ }
+{
+    let mut points = [0.0f32; 6144];
+    let mut roots = [0usize; 2048];
+    let mut corners = [0usize; 3072];
+    let mut volumes = [0.0f32; 2048];
+    let mut ends = [0usize; 8192];
+    let mut lengths = [0.0f32; 8192];
+    let mut outline = [0usize; 4096];
+    let mut words = [0usize; 24576];
+    front_straddlers(
+        bytes,
+        room,
+        &mut points,
+        &mut roots,
+        &mut corners,
+        &mut volumes,
+        &mut ends,
+        &mut lengths,
+        &mut outline,
+        &mut words,
+        out,
+        log,
+    )
+}
+
+// The straddlers across the pieces of a mesh image removed.
+#[no_mangle]
+pub extern "C" fn bench_straddlers(
+    bytes: &[u8],
+    rooms: &[u8],
+    out: &mut [u8],
+    log: &mut [u8],
+) -> u32
+    ensures { λ r. ⌜ OutcomeReplied (straddlersOutcome (now (bytes .entry)) (now (rooms .entry)) (length (now (log .entry)))) (length (now (out .entry))) (length (now (log .entry))) r (now (out .exit)) (now (log .exit)) ⌝ }
+{
+    if image::image_sized(bytes) {
+        if rooms.len() == 16 {
+            let room = rooms_in(rooms, log.len());
+            return local_straddlers(bytes, room, out, log);
+        }
+        return refuse_argument(bytes, out, log);
+    }
+    crate::outcome::refuse(1, out, log)
 }
