@@ -11,11 +11,13 @@ use Rattle.lists.proofs.Sifts.{and-true}
 use Rattle.model.specs.Mesh.{Triangle, Edge, Mesh}
 use Rattle.model.specs.Valid.{rootOk, cornersOk, endsOk, sideOk, indicesFit}
 use Rattle.model.specs.Run.{Entry}
-use Rattle.model.specs.Calls.{Outcome, refused, done}
+use Rattle.model.specs.Cut.{Blade}
+use Rattle.model.specs.Calls.{Outcome, refused, done, cutCall}
+use Rattle.model.proofs.Accepted.{cut-accepted}
 use Rattle.model.specs.Pieces.{pieces}
 use Rattle.mesh.specs.At.{trianglesAt, edgesAt}
 use Rattle.mesh.specs.Log.{Words, wordsOf, worldOf, logAt}
-use Rattle.mesh.specs.Given.{Lent}
+use Rattle.mesh.specs.Given.{Lent, roomsOf, asRooms}
 use Rattle.mesh.specs.Filled.{Filled, Fits, lent}
 use Rattle.answer.specs.Answered.{Answered, answerOf, countsOf}
 use Rattle.mesh.specs.declared.Counts.{Counts}
@@ -24,6 +26,7 @@ use Rattle.answer.specs.declared.Answer.the-variants.{Refused, Done}
 use Rattle.listing.specs.Listing.{listingBytes, refusedBytes, printed}
 use Rattle.listing.specs.Answers.{Wrote}
 use Rattle.listing.specs.declared.Written.{Written}
+use Rattle.sheetcut.specs.SheetCut.{rooms, fraction}
 use Rattle.sheetcut.specs.Work.{piecesIn, Countable, Listable, textOf}
 use Rattle.sheetcut.proofs.Fillings.{countsIn, triangles-filled, edges-filled, log-filled, filled-fits}
 use Rattle.sheetcut.proofs.Counting.{pieces-in}
@@ -115,3 +118,28 @@ module _ (L : Lent) (p : List Float) (r c : List ℕ) (v : List Float) (e : List
   pub answered-text : (o : Outcome) (a : Answer) → Answered o L a p r c v e l b g → textOf a c v e l g ≡ printed o
   answered-text (refused n) a A = ap (λ (x : Answer). textOf x c v e l g) (A .answer)
   answered-text (done M log changed) a A = ap (λ (x : Answer). textOf x c v e l g) (A .answer) ∙ done-printed M log (A .blocks)
+
+-- ---- with the places that the program lends
+
+-- 256 particles, 128 triangles, 512 edges, 512 boundary entries and 256 log entries
+abbrev pub places : Lent
+places = record { points = 1536; roots = 512; corners = 384; volumes = 256; ends = 2048; lengths = 2048; outline = 1024; log = 1536 }
+
+places-modest : Modest places
+places-modest = record { points = omega arith; corners = omega arith; ends = omega arith }
+
+-- they are the rooms
+places-rooms : asRooms (roomsOf places) ≡ rooms
+places-rooms = refl
+
+module _ (sized : Bool) (M : Mesh) (B : Blade) (f : Float) (a : Answer) (p : List Float) (r c : List ℕ) (v : List Float) (e : List ℕ) (l : List Float) (b g : List ℕ) (same : lent p r c v e l b g ≡ places)
+    (A : Answered (cutCall sized M B f (asRooms (roomsOf places))) places a p r c v e l b g) where
+  -- the answer of a cut can be listed
+  pub cut-listable : Listable a c v e l (length g)
+  cut-listable = answered-listable places p r c v e l b g same (cutCall sized M B f (asRooms (roomsOf places))) a A places-modest (λ N log changed q. cut-accepted sized M B f (asRooms (roomsOf places)) N log changed q)
+
+  -- and the text is what is printed for the cut
+  pub cut-listed : (n : ℕ) (s : List ℕ) (w : Written) → f ≡ fraction → Wrote (textOf a c v e l g) n s w → Wrote (printed (cutCall sized M B fraction rooms)) n s w
+  cut-listed n s w q W =
+      subst (λ (t : List ℕ). Wrote t n s w)
+      (answered-text places p r c v e l b g same (cutCall sized M B f (asRooms (roomsOf places))) a A ∙ ap (λ (x : Float). printed (cutCall sized M B x (asRooms (roomsOf places)))) q) W

@@ -3,10 +3,11 @@ use Prim.Native.Nat.{ℕ, _+_, _-_, _*_, _/_, _%_, _≤_}
 use native.Mathlib.Omega.{arith}
 use mathlib.Core.Path.{_≡_, refl, sym, ap, _∙_, subst}
 use mathlib.Core.Bool.{Bool, true, false, cond, _&&_, _||_}
-use mathlib.Core.List.{List, [], _∷_, map}
+use mathlib.Core.List.{List, [], _∷_, _++_, map}
 use lib.Dec.{ltb, leb, eqb}
 use lib.Ieee.{Float, nan}
-use lib.ListN.{length, drop, getD, replicate, length-map}
+use lib.ListN.{length, take, drop, getD, replicate, length-map, length-append, length-drop, length-take}
+use lib.Seq.{length-take-le, take-at}
 use borrow.Author.Tests.{ltb-false, le-leb, eq-eqb}
 use Rattle.lists.specs.Lists.{padded}
 use Rattle.lists.proofs.Sifts.{true-and}
@@ -19,7 +20,7 @@ use Rattle.model.specs.Calls.{Outcome, cutCall}
 use Rattle.mesh.specs.At.{meshAt}
 use Rattle.mesh.specs.Log.{World}
 use Rattle.mesh.specs.Given.{Given, Lent, given, sizes, meshOf, listFits, lengthsFit, sizesFit}
-use Rattle.mesh.specs.Filled.{Filled, Fits, pointOf, rootOf, cornerOf, volumeOf, endOf, lengthOf, sideOf}
+use Rattle.mesh.specs.Filled.{Filled, Fits, pointOf, rootOf, cornerOf, volumeOf, endOf, lengthOf, sideOf, lent}
 use Rattle.mesh.specs.declared.Counts as M
 use Rattle.bits.specs.Bits.{bitsOf, fieldAt}
 use Rattle.bits.proofs.RowLaws.{length-read}
@@ -32,7 +33,7 @@ use Rattle.sheet.proofs.Back.{never}
 use Rattle.sheet.proofs.PutLaws.{neither}
 use Rattle.sheet.proofs.MeshReads.{blade-read}
 use Rattle.sheetcut.specs.SheetCut.{limits, rooms, fraction, bladeOf, cutOf}
-use Rattle.sheetcut.specs.Work.{Exact}
+use Rattle.sheetcut.specs.Work.{Exact, Ample, fronts, FrontsRead}
 use Rattle.sheetcut.proofs.Fillings.{block-long, countsIn, mesh-filled}
 
 -- ---- the counts
@@ -145,6 +146,27 @@ padded-four : (n : ℕ) (x y z w : Float) → n ≡ 4 → padded n zero32 (x ∷
 unfolding padded
 padded-four n x y z w e = ap (λ (k : ℕ). x ∷ y ∷ z ∷ w ∷ replicate (k - 4) zero32) e
 
+-- ---- fronts
+
+-- a front that came back as long as it was lent leaves the length
+pub front-long : {A : Type 0} (n : ℕ) (l front : List A) → length front ≡ length (take n l) → length (front ++ drop n l) ≡ length l
+front-long n l front e = omega (arith, length-append front (drop n l), length-drop n l, length-take n l)
+
+-- fronts of ample blocks are exact
+pub exact-fronts :
+    (c : Counts) (P : List Float) (R C : List ℕ) (U : List Float) (E : List ℕ) (N : List Float) (O G : List ℕ) → Few c → Ample (lent P R C U E N O [])
+    → Exact c (lent (take (6 * c .particles) P) (take (2 * c .particles) R) (take (3 * c .triangles) C) (take (2 * c .triangles) U) (take (4 * c .edges) E) (take (4 * c .edges) N) (take (2 * c .boundary) O) G)
+exact-fronts c P R C U E N O G F A =
+    record {
+      points = length-take-le (6 * c .particles) P (omega (arith, F .particles, A .points));
+      roots = length-take-le (2 * c .particles) R (omega (arith, F .particles, A .roots));
+      corners = length-take-le (3 * c .triangles) C (omega (arith, F .triangles, A .corners));
+      volumes = length-take-le (2 * c .triangles) U (omega (arith, F .triangles, A .volumes));
+      ends = length-take-le (4 * c .edges) E (omega (arith, F .edges, A .ends));
+      lengths = length-take-le (4 * c .edges) N (omega (arith, F .edges, A .lengths));
+      outline = length-take-le (2 * c .boundary) O (omega (arith, F .boundary, A .outline));
+    }
+
 -- ---- what was read
 
 module _ (s : List ℕ) (c : Counts) (L : Lent) (r : Seen) (P : List Float) (R C : List ℕ) (U : List Float) (E : List ℕ) (N : List Float) (O G : List ℕ) (b b′ : List Float)
@@ -215,12 +237,29 @@ module _ (s : List ℕ) (c : Counts) (L : Lent) (r : Seen) (P : List Float) (R C
       ∙ (ap (λ (x : Seen). padded (length b) zero32 (bladeLeft x (bitsOf s))) read-whole
       ∙ (ap (padded (length b) zero32) (sym (blade-read c (bitsOf s))) ∙ padded-four (length b) _ _ _ _ four))
 
-  -- the blade is the sheet's
-  pub blade-is : _≡_ {A = Blade} (record { from = record { x = getD b′ 0 nan; y = getD b′ 1 nan }; to = record { x = getD b′ 2 nan; y = getD b′ 3 nan } }) (bladeOf (bladeOfSheet (sheetWith c (bitsOf s))))
-  blade-is =
-      ap (λ (l : List Float). record { from = record { x = getD l 0 nan; y = getD l 1 nan }; to = record { x = getD l 2 nan; y = getD l 3 nan } }) read-blade ∙ ap bladeOf (blade-read c (bitsOf s))
+  -- whatever stands behind the fronts
+  module _ (tp : List Float) (tr tc : List ℕ) (tu : List Float) (te : List ℕ) (tn : List Float) (to : List ℕ) where
+    fronts-are : fronts c (P ++ tp) (R ++ tr) (C ++ tc) (U ++ tu) (E ++ te) (N ++ tn) (O ++ to) ≡ given P R C U E N O
+    unfolding lengths-are
+    fronts-are =
+        let Y = exact-still in
+        λ i.
+        given (take-at P tp (6 * c .particles) (Y .points) i) (take-at R tr (2 * c .particles) (Y .roots) i) (take-at C tc (3 * c .triangles) (Y .corners) i) (take-at U tu (2 * c .triangles) (Y .volumes) i) (take-at E te (4 * c .edges) (Y .ends) i) (take-at N tn (4 * c .edges) (Y .lengths) i) (take-at O to (2 * c .boundary) (Y .outline) i)
 
-  -- so the cut of the blocks is the sheet's
-  pub cut-read : cutCall (sizesFit (given P R C U E N O)) (meshOf (given P R C U E N O)) (record { from = record { x = getD b′ 0 nan; y = getD b′ 1 nan }; to = record { x = getD b′ 2 nan; y = getD b′ 3 nan } }) fraction rooms ≡ cutOf (sheetWith c (bitsOf s))
-  unfolding cutOf
-  cut-read = λ i. cutCall (read-sized i) (read-mesh i) (blade-is i) fraction rooms
+    -- the fronts are the sheet's mesh, and the blade is the sheet's
+    pub fronts-read : FrontsRead s c (P ++ tp) (R ++ tr) (C ++ tc) (U ++ tu) (E ++ te) (N ++ tn) (O ++ to) b′
+    fronts-read = record { sized = ap (λ (x : Given). sizesFit x) fronts-are ∙ read-sized; mesh = ap meshOf fronts-are ∙ read-mesh; blade = read-blade ∙ blade-read c (bitsOf s) }
+
+-- four numbers of a list, by their places
+four-at : (b : List Float) (x y z w : Float) → b ≡ x ∷ y ∷ z ∷ w ∷ [] → _≡_ {A = Blade} (record { from = record { x = getD b 0 nan; y = getD b 1 nan }; to = record { x = getD b 2 nan; y = getD b 3 nan } }) (bladeOf (x ∷ y ∷ z ∷ w ∷ []))
+four-at b x y z w e = ap (λ (l : List Float). record { from = record { x = getD l 0 nan; y = getD l 1 nan }; to = record { x = getD l 2 nan; y = getD l 3 nan } }) e
+
+-- the cut of fronts that were read is the sheet's
+pub fronts-cut :
+    (s : List ℕ) (c : Counts) (P : List Float) (R C : List ℕ) (U : List Float) (E : List ℕ) (N : List Float) (O : List ℕ) (b : List Float) → FrontsRead s c P R C U E N O b
+    → cutCall (sizesFit (fronts c P R C U E N O)) (meshOf (fronts c P R C U E N O)) (record { from = record { x = getD b 0 nan; y = getD b 1 nan }; to = record { x = getD b 2 nan; y = getD b 3 nan } }) fraction rooms
+    ≡ cutOf (sheetWith c (bitsOf s))
+unfolding cutOf
+fronts-cut s c P R C U E N O b D =
+    let e = four-at b _ _ _ _ (D .blade ∙ sym (blade-read c (bitsOf s))) ∙ ap bladeOf (blade-read c (bitsOf s)) in
+    λ i. cutCall (D .sized i) (D .mesh i) (e i) fraction rooms

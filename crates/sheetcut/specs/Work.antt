@@ -3,7 +3,7 @@ use Prim.Native.Nat.{ℕ, _*_, _/_, _≤_}
 use mathlib.Core.Path.{_≡_}
 use mathlib.Core.Bool.{Bool, true}
 use mathlib.Core.List.{List}
-use lib.ListN.{length}
+use lib.ListN.{length, take}
 use lib.Ieee.{Float}
 use Rattle.lists.specs.Lists.{any, all, distinct}
 use Rattle.model.specs.Mesh.{Triangle, Edge}
@@ -12,13 +12,15 @@ use Rattle.model.specs.Elements.{structural?, kindBy}
 use Rattle.model.specs.Pieces.{pieceLabels}
 use Rattle.mesh.specs.At.{trianglesAt, edgesAt}
 use Rattle.mesh.specs.Log.{logAt}
-use Rattle.mesh.specs.Given.{Lent}
+use Rattle.mesh.specs.Given.{Given, Lent, given, meshOf, sizesFit}
 use Rattle.mesh.specs.declared.Counts.{Counts}
 use Rattle.elements.specs.Table.{elementsIn}
 use Rattle.answer.specs.declared.Answer.{Answer}
 use Rattle.answer.specs.declared.Answer.the-variants.{Refused, Done}
 use Rattle.listing.specs.Listing.{listingBytes, refusedBytes}
-use Rattle.sheet.specs.Sheet.{seenOf}
+use Rattle.bits.specs.Bits.{bitsOf}
+use Rattle.sheet.specs.Sheet.{sheetWith, seenOf}
+use Rattle.sheet.specs.Read.{meshOfSheet, bladeOfSheet}
 use Rattle.sheet.specs.declared.Counts as S
 use Rattle.sheet.specs.declared.Seen.the-variants.{Whole}
 use Rattle.sheetcut.specs.SheetCut.{limits}
@@ -61,11 +63,6 @@ pub record Exact (c : S.Counts) (L : Lent) : Type 0 where
   pub lengths : L .lengths ≡ 4 * c .edges
   pub outline : L .outline ≡ 2 * c .boundary
 
--- a sheet that is whole, and exact blocks for it
-pub record Ready (s : List ℕ) (c : S.Counts) (L : Lent) : Type 0 where
-  pub seen : seenOf limits s ≡ Whole c
-  pub exact : Exact c L
-
 -- blocks of the sizes that the limits ask for
 pub record Ample (L : Lent) : Type 0 where
   pub points : L .points ≡ 768
@@ -76,7 +73,19 @@ pub record Ample (L : Lent) : Type 0 where
   pub lengths : L .lengths ≡ 1024
   pub outline : L .outline ≡ 512
 
--- a sheet that is whole, and blocks that have room for it
-pub record Roomy (s : List ℕ) (c : S.Counts) (L : Lent) : Type 0 where
+-- a sheet that is whole, blocks that have room for it, and four places for its blade
+pub record Roomy (s : List ℕ) (c : S.Counts) (L : Lent) (blade : ℕ) : Type 0 where
   pub seen : seenOf limits s ≡ Whole c
   pub ample : Ample L
+  pub four : blade ≡ 4
+
+-- the fronts of blocks, exactly as long as the lists of a sheet with these counts need
+abbrev pub fronts : S.Counts → List Float → List ℕ → List ℕ → List Float → List ℕ → List Float → List ℕ → Given
+fronts c p r k v e l o =
+    given (take (6 * c .particles) p) (take (2 * c .particles) r) (take (3 * c .triangles) k) (take (2 * c .triangles) v) (take (4 * c .edges) e) (take (4 * c .edges) l) (take (2 * c .boundary) o)
+
+-- the fronts are an input whose sizes fit and whose mesh is the sheet's; the blade is the sheet's
+pub record FrontsRead (s : List ℕ) (c : S.Counts) (p : List Float) (r k : List ℕ) (v : List Float) (e : List ℕ) (l : List Float) (o : List ℕ) (b : List Float) : Type 0 where
+  pub sized : sizesFit (fronts c p r k v e l o) ≡ true
+  pub mesh : meshOf (fronts c p r k v e l o) ≡ meshOfSheet (sheetWith c (bitsOf s))
+  pub blade : b ≡ bladeOfSheet (sheetWith c (bitsOf s))

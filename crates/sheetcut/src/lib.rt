@@ -1,13 +1,16 @@
 // Document 01's program from bytes to bytes: a sheet is read, cut and listed.
 ghost use mathlib.Core.Path.{_≡_};
+ghost use mathlib.Core.List.{[]};
 ghost use lib.ListN.{length};
 ghost use Rattle.mesh.specs.At.{trianglesAt, edgesAt};
+ghost use Rattle.mesh.specs.Filled.{lent};
 ghost use Rattle.listing.specs.Answers.{Wrote};
 ghost use Rattle.sheetcut.specs.SheetCut.{fraction as tenth};
-ghost use Rattle.sheetcut.specs.Work.{piecesIn, Countable, Listable, textOf};
+ghost use Rattle.sheetcut.specs.Work.{piecesIn, Countable, Listable, textOf, Roomy, FrontsRead};
 use answer::Answer;
 use listing::Written;
 use mesh::Counts;
+use sheet::Counts as SheetCounts;
 
 // The insertion fraction.
 fn fraction() -> f32
@@ -71,4 +74,48 @@ fn list_answer(
             listing::write_listing(k.log, log, k.particles, found, out)
         }
     }
+}
+
+// Reads a whole sheet with counts c to the fronts of blocks, exactly as long as its lists need, and its blade.
+fn read_fronts(
+    sheet: &[u8],
+    c: SheetCounts,
+    points: &mut [f32],
+    roots: &mut [usize],
+    corners: &mut [usize],
+    volumes: &mut [f32],
+    ends: &mut [usize],
+    lengths: &mut [f32],
+    outline: &mut [usize],
+    blade: &mut [f32],
+)
+    requires { ⌜ Roomy (now sheet) c (lent (now points) (now roots) (now corners) (now volumes) (now ends) (now lengths) (now outline) []) (length (now blade)) ⌝ }
+    ensures { λ _. ⌜ FrontsRead (now (sheet .entry)) c (now (points .exit)) (now (roots .exit)) (now (corners .exit)) (now (volumes .exit)) (now (ends .exit)) (now (lengths .exit)) (now (outline .exit)) (now (blade .exit)) ⌝ }
+{
+    let limits = SheetCounts {
+        particles: 128,
+        triangles: 128,
+        edges: 256,
+        boundary: 256,
+    };
+    let p = 6 * c.particles;
+    let r = 2 * c.particles;
+    let t = 3 * c.triangles;
+    let v = 2 * c.triangles;
+    let e = 4 * c.edges;
+    let o = 2 * c.boundary;
+    let mut log = [0usize; 6];
+    sheet::read::read(
+        sheet,
+        limits,
+        &mut points[..p],
+        &mut roots[..r],
+        &mut corners[..t],
+        &mut volumes[..v],
+        &mut ends[..e],
+        &mut lengths[..e],
+        &mut outline[..o],
+        &mut log,
+        blade,
+    );
 }
