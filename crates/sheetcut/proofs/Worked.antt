@@ -1,4 +1,4 @@
--- Document 01's worked sheet as the program reads and lists it, byte for byte; a file without bytes; a sheet of 129 particles. Assumes nothing.
+-- Document 01's worked sheet as the program reads and lists it, byte for byte; a file without bytes. Assumes nothing.
 use Prim.Native.Nat.{ℕ}
 use mathlib.Core.Path.{_≡_, refl, sym, ap, ap₂, _∙_}
 use mathlib.Core.Bool.{Bool, true, false}
