@@ -4,7 +4,8 @@ use Prim.Native.Nat.{ℕ, _*_, _/_, min}
 use native.Mathlib.Omega.{arith}
 use lib.ListN.{length, take}
 use lib.Seq.{length-take-le}
-use mathlib.Core.Bool.{Bool, true, false}
+use mathlib.Core.Bool.{Bool, true, false, not, _&&_}
+use mathlib.Core.Logic.{⊎-elim}
 use mathlib.Core.List.{List, [], _∷_}
 use lib.Dec.{eqb}
 use borrow.Author.Tests.{eq-eqb, ne-eqb}
@@ -22,19 +23,22 @@ use Rattle.model.specs.Mesh.{Mesh}
 use Rattle.model.specs.Run.{Rooms, start}
 use Rattle.model.specs.Elements.{kindOf}
 use Rattle.model.specs.Pieces.{removeStraddlers}
-use Rattle.model.specs.Calls.{Outcome, trianglesLent, refusal, straddlersCall}
+use Rattle.model.specs.Split.{splitBySides}
+use Rattle.model.specs.Calls.{Outcome, unless, outcome, sidesOk, trianglesLent, refusal, splitCall, straddlersCall}
 use Rattle.mesh.specs.Given.{Given, Lent, sizesFit, meshOf, roomsOf, asRooms}
 use Rattle.mesh.specs.Filled.{lent}
 use Rattle.mesh.specs.declared.Rooms.{Rooms as Given-Rooms}
 use Rattle.answer.specs.Answered.{Answered}
 use Rattle.answer.specs.declared.Answer.{Answer}
 use Rattle.image.specs.Image.{imageOf, imageSized}
-use Rattle.bench_c.specs.Given.{SmallCode, numberReply}
-use Rattle.bench_c.specs.Torn.{meshReply, BothReplied, OutcomeReplied, withRooms, roomsIn, straddlersOutcome}
+use Rattle.model.specs.Valid.{numbersFit, indicesFit}
+use Rattle.bench_c.specs.Given.{SmallCode, Capped, numberReply}
+use Rattle.bench_c.specs.Torn.{meshReply, BothReplied, OutcomeReplied, withRooms, roomsIn, splitOutcome, straddlersOutcome}
 use Rattle.bench_c.specs.Told.{Fronted, Limited, roomsGiven}
 use Rattle.bench_c.proofs.Replying.{refusal-small}
 use Rattle.bench_c.proofs.Loading.{sized-input}
 use Rattle.bench_c.proofs.Outcomes.{unless-small}
+use Rattle.bench_c.proofs.Siding.{capped-sides}
 
 -- what the entry answers on the fronts of loaded blocks it answers on the image
 pub straddlers-on : (s : List ℕ) (G : Given) (R : Rooms) (L : Lent) (a : Answer) (p : List Float) (r c : List ℕ) (v : List Float) (e : List ℕ) (l : List Float) (b g : List ℕ)
@@ -172,3 +176,71 @@ straddlers-unsized s rooms lent′ logged x out log z e f h =
     let M = meshOf (imageOf s) in
     turned 1 lent′ logged x out log _
     (either-turned (eqb (length rooms) 16) _ _ (ap (λ (b : Bool). straddlersCall b M (roomsIn rooms logged)) (sym f ∙ e)) (ap (λ (b : Bool). refusal b M true false) (sym f ∙ e))) h
+
+-- ---- the split by sides
+
+pub split-on : (s : List ℕ) (G : Given) (w : ℕ) (sides : List ℕ) (R : Rooms) (L : Lent) (a : Answer) (p : List Float) (r c : List ℕ) (v : List Float) (e : List ℕ) (l : List Float) (b g : List ℕ)
+    → imageSized s ≡ true → G ≡ imageOf s → Answered (splitCall (sizesFit G) (meshOf G) w sides R) L a p r c v e l b g
+    → Answered (splitCall (imageSized s) (meshOf (imageOf s)) w sides R) L a p r c v e l b g
+split-on s G w sides R L a p r c v e l b g h q f =
+    subst (λ (o : Outcome). Answered o L a p r c v e l b g)
+    (ap (λ (H : Given). splitCall (sizesFit H) (meshOf H) w sides R) q ∙ ap (λ (z : Bool). splitCall z (meshOf (imageOf s)) w sides R) (sized-input s h)) f
+
+pub split-small : (z : Bool) (M : Mesh) (w : ℕ) (sides : List ℕ) (R : Rooms) → SmallCode (meshReply (splitCall z M w sides R))
+unfolding splitCall
+split-small z M w sides R = unless-small _ R (splitBySides (kindOf M) w sides (start M)) (refusal-small z M true (sidesOk M w sides && trianglesLent R M))
+
+-- a bad argument is refused, whatever the run
+unless-either : (z : Bool) (M : Mesh) (x y : Outcome) → unless (refusal z M true false) x ≡ unless (refusal z M true false) y
+unfolding refusal
+unless-either z M x y = by (not z) (not (numbersFit M && true)) (not (indicesFit M))
+  where
+    by : (a b c : Bool) → unless (pick a 1 (pick b 2 (pick c 3 4))) x ≡ unless (pick a 1 (pick b 2 (pick c 3 4))) y
+    by true b c = refl
+    by false true c = refl
+    by false false true = refl
+    by false false false = refl
+
+split-refused : (z : Bool) (M : Mesh) (w : ℕ) (t sides : List ℕ) (R : Rooms) → sidesOk M w t ≡ false → sidesOk M w sides ≡ false → splitCall z M w t R ≡ splitCall z M w sides R
+unfolding splitCall
+split-refused z M w t sides R e f =
+    let x : Outcome = outcome R (splitBySides (kindOf M) w t (start M)) in
+    let y : Outcome = outcome R (splitBySides (kindOf M) w sides (start M)) in
+    ap (λ (b : Bool). unless (refusal z M true (b && trianglesLent R M)) x) e ∙ unless-either z M x y ∙ sym (ap (λ (b : Bool). unless (refusal z M true (b && trianglesLent R M)) y) f)
+
+-- a capped list of sides asks the same
+split-capped : (s : List ℕ) (w r : ℕ) (sides t : List ℕ) (R : Rooms) → imageSized s ≡ true → Capped (length sides) 2049 r → t ≡ take r sides
+    → splitCall (imageSized s) (meshOf (imageOf s)) w t R ≡ splitCall (imageSized s) (meshOf (imageOf s)) w sides R
+split-capped s w r sides t R h c e =
+    ⊎-elim
+    (λ y. ap (λ (l : List ℕ). splitCall (imageSized s) (meshOf (imageOf s)) w l R) y)
+    (λ y. split-refused (imageSized s) (meshOf (imageOf s)) w t sides R (y .0) (y .1))
+    (capped-sides s w r sides t h c e)
+
+pub split-replied : (s : List ℕ) (w n : ℕ) (sides t rooms : List ℕ) (R : Given-Rooms) (lent′ logged x : ℕ) (out log : List ℕ) → imageSized s ≡ true → Capped (length sides) 2049 n → t ≡ take n sides
+    → length rooms ≡ 16 → R ≡ roomsGiven rooms logged
+    → OutcomeReplied (splitCall (imageSized s) (meshOf (imageOf s)) w t (asRooms R)) lent′ logged x out log → OutcomeReplied (splitOutcome s w sides rooms logged) lent′ logged x out log
+unfolding splitOutcome withRooms
+split-replied s w n sides t rooms R lent′ logged x out log z c q k e h =
+    let M = meshOf (imageOf s) in
+    subst (λ (o : Outcome). OutcomeReplied o lent′ logged x out log)
+    (ap (λ (Q : Given-Rooms). splitCall (imageSized s) M w t (asRooms Q)) e ∙ ap (splitCall (imageSized s) M w t) (given-as rooms logged)
+    ∙ split-capped s w n sides t (roomsIn rooms logged) z c q
+    ∙ sym (ap (λ (b : Bool). pick b (splitCall (imageSized s) M w sides (roomsIn rooms logged)) (turnedDown (refusal (imageSized s) M true false))) (eq-eqb (length rooms) 16 k)))
+    h
+
+pub split-misread : (s : List ℕ) (w : ℕ) (sides rooms : List ℕ) (lent′ logged x : ℕ) (out log : List ℕ) → (length rooms ≡ 16 → ⊥)
+    → BothReplied (refused (refusal (imageSized s) (meshOf (imageOf s)) true false)) [] lent′ logged x out log → OutcomeReplied (splitOutcome s w sides rooms logged) lent′ logged x out log
+unfolding splitOutcome withRooms
+split-misread s w sides rooms lent′ logged x out log n h =
+    let M = meshOf (imageOf s) in
+    turned _ lent′ logged x out log _
+    (sym (ap (λ (b : Bool). pick b (splitCall (imageSized s) M w sides (roomsIn rooms logged)) (turnedDown (refusal (imageSized s) M true false))) (ne-eqb (length rooms) 16 n))) h
+
+pub split-unsized : (s : List ℕ) (w : ℕ) (sides rooms : List ℕ) (lent′ logged x : ℕ) (out log : List ℕ) (z : Bool) → z ≡ imageSized s → z ≡ false
+    → BothReplied (refused 1) [] lent′ logged x out log → OutcomeReplied (splitOutcome s w sides rooms logged) lent′ logged x out log
+unfolding splitOutcome withRooms splitCall refusal
+split-unsized s w sides rooms lent′ logged x out log z e f h =
+    let M = meshOf (imageOf s) in
+    turned 1 lent′ logged x out log _
+    (either-turned (eqb (length rooms) 16) _ _ (ap (λ (b : Bool). splitCall b M w sides (roomsIn rooms logged)) (sym f ∙ e)) (ap (λ (b : Bool). refusal b M true false) (sym f ∙ e))) h

@@ -30,7 +30,7 @@ pub fn capped(n: usize, most: usize) -> usize
 }
 
 // Writes the first n bytes as numbers to the front of out.
-fn bytes_into(bytes: &[u8], n: usize, out: &mut [usize])
+pub fn bytes_into(bytes: &[u8], n: usize, out: &mut [usize])
     requires { ⌜ (n ≤ length (now bytes)) × (n ≤ length (now out)) ⌝ }
     ensures { λ _. ⌜ take n (now (out .exit)) ≡ take n (now (bytes .entry)) ⌝ }
 {
