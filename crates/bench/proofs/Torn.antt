@@ -33,7 +33,7 @@ use Rattle.split.proofs.Placed.{corners-in, ends-in, sides-in}
 use Rattle.answer.specs.Framed.{Begun, Came}
 use Rattle.answer.proofs.Begun.{mesh-triangles, began-passed, began-ready}
 use Rattle.answer.proofs.Calls.{came-begun, came-worked, unlogged}
-use Rattle.bench.proofs.Refusing.{arguments-refuse}
+use Rattle.asked.proofs.Judged.{arguments-refuse}
 
 module _ (G : Given) (code code₀ : ℕ) (t : Bool) (first : code ≡ thenCheck code₀ t 4) (fault : code₀ ≡ faultOf G) where
   -- one test behind the faults of the mesh

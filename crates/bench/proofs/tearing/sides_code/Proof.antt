@@ -2,8 +2,7 @@
 use mathlib.Core.Path.{sym, _∙_}
 use native.Mathlib.Omega.{arith}
 use Rattle.mesh.specs.Given.{given}
-use Rattle.bench.proofs.Grouped.{undecided, sides-ok}
-use Rattle.bench.proofs.Refusing.{accepted}
+use Rattle.asked.proofs.Judged.{accepted, undecided, sides-ok}
 use Rattle.bench.proofs.Torn.{judged-sides}
 use borrow.Author.Needs.{needs}
 use Rattle.bench.proofs.tearing.sides_code.Statement.{statement}

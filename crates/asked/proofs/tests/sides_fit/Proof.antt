@@ -1,4 +1,4 @@
--- `bench::tests::sides_fit` meets its contract. Assumes nothing.
+-- `asked::tests::sides_fit` meets its contract. Assumes nothing.
 use Rattle.lists.specs.Lists.{all}
 use lib.ListN.{length}
 use lib.Dec.{eqb, ltb}
@@ -6,8 +6,8 @@ use mathlib.Core.Bool.{_&&_}
 use Rattle.mesh.proofs.Joined.{and-next}
 use mathlib.Core.Path.{refl}
 use borrow.Author.Needs.{needs}
-use Rattle.bench.proofs.tests.sides_fit.Statement.{statement}
-use Rattle.bench.proofs.tests.sides_fit.Tie as tie
+use Rattle.asked.proofs.tests.sides_fit.Statement.{statement}
+use Rattle.asked.proofs.tests.sides_fit.Tie as tie
 
 all-below-requires : tie.Need-all-below-requires
 all-below-requires c κs = search needs

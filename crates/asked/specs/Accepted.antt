@@ -1,19 +1,15 @@
 -- An accepted mesh, and the tables of its elements. Only the contracts between workers need this file. Definitions only.
-use Prim.Native.Nat.{ℕ, _*_, _<_, _≤_}
+use Prim.Native.Nat.{ℕ, _*_, _≤_}
 use mathlib.Core.Path.{_≡_}
 use mathlib.Core.Bool.{true}
 use mathlib.Core.List.{List}
-use lib.ListN.{length, getD}
+use lib.ListN.{length}
 use lib.Ieee.{Float}
-use Rattle.lists.specs.Lists.{padded}
-use Rattle.fan.specs.Fan.{Fan}
-use Rattle.fan.specs.Groups.{groupsOf, countOf}
 use Rattle.model.specs.Valid.{indicesFit}
 use Rattle.model.specs.Elements.{kindOf, elementsOf, fanOf, cornersPer, facetOthers}
 use Rattle.mesh.specs.Given.{Given, meshOf, sizesFit}
 use Rattle.elements.specs.Table.{Cornered, Tabled}
 use Rattle.pieces.specs.Counted.{Corners}
-use Rattle.reach.specs.Walk.{Lent}
 
 -- what a worker knows of an input that was not refused
 pub record Accepted (G : Given) : Type 0 where
@@ -48,20 +44,3 @@ pub record FanFound (G : Given) (v n k others count : ℕ) (verts fan-verts : Li
   pub fan-cornered : Cornered k (fanOf (kindOf (meshOf G)) (meshOf G) v) count fan-verts
   pub fan-few : count ≤ 2048
   pub fan-room : count * k ≤ length fan-verts
-
--- ---- groups
-
--- what is asked of a fan: few elements, k corners to each, and for each a side, 0 or 1
-pub record FanAsked (verts : List ℕ) (k : ℕ) (sides : List ℕ) : Type 0 where
-  pub few : length sides ≤ 2048
-  pub whole : length verts ≡ length sides * k
-  pub two : (i : ℕ) → i < length sides → getD sides i 0 < 2
-
--- a lent table shows the groups of a fan, and 0 behind them; n is their count
-pub record GroupsFilled (F : Fan) (lent : ℕ) (table : List ℕ) (n : ℕ) : Type 0 where
-  pub table-is : table ≡ padded lent 0 (groupsOf F)
-  pub count-is : n ≡ countOf F
-
--- what is asked of a table of n elements for a walk from the groups of v's fan, whichever these are
-pub record WalkAsked (n k v : ℕ) (verts : List ℕ) (size seen queue : ℕ) : Type 0 where
-  pub asked : (groups : List ℕ) → length groups ≡ size → Lent n k v verts groups seen queue

@@ -1,8 +1,7 @@
 // The tables of an accepted mesh: all its elements, and the fan of a particle.
-ghost use Prim.Native.Nat.{ℕ, _≤_};
 ghost use lib.ListN.{length};
 ghost use Rattle.mesh.specs.Given.{given};
-ghost use Rattle.bench.specs.Accepted.{Accepted, TableLent, MeshTabled, FanLent, FanFound};
+ghost use Rattle.asked.specs.Accepted.{Accepted, TableLent, MeshTabled, FanLent, FanFound};
 
 // How many elements there are, how many corners each has, and how many particles two neighbours share at least.
 pub struct Shape {

@@ -1,9 +1,9 @@
--- `bench::tables::table` meets its contract: the kind of the mesh, and the table of its elements. Assumes nothing.
+-- `asked::tables::table` meets its contract: the kind of the mesh, and the table of its elements. Assumes nothing.
 use native.Mathlib.Omega.{arith}
-use Rattle.bench.proofs.Accepted.{table-room, mesh-tabled}
+use Rattle.asked.proofs.Accepted.{table-room, mesh-tabled}
 use borrow.Author.Needs.{needs}
-use Rattle.bench.proofs.tables.table.Statement.{statement}
-use Rattle.bench.proofs.tables.table.Tie as tie
+use Rattle.asked.proofs.tables.table.Statement.{statement}
+use Rattle.asked.proofs.tables.table.Tie as tie
 
 kind-of-requires : tie.Need-kind-of-requires
 kind-of-requires c κs = search needs

@@ -1,8 +1,8 @@
--- `bench::tests::rising_below` meets its contract. Assumes nothing.
+-- `asked::tests::rising_below` meets its contract. Assumes nothing.
 use Rattle.mesh.proofs.Joined.{and-next}
 use borrow.Author.Needs.{needs}
-use Rattle.bench.proofs.tests.rising_below.Statement.{statement}
-use Rattle.bench.proofs.tests.rising_below.Tie as tie
+use Rattle.asked.proofs.tests.rising_below.Statement.{statement}
+use Rattle.asked.proofs.tests.rising_below.Tie as tie
 
 rising-requires : tie.Need-rising-requires
 rising-requires c κs = search needs

@@ -28,7 +28,7 @@ use Rattle.model.specs.Pieces.{pieces}
 use Rattle.model.specs.Calls.{strictly, particlesOk}
 use Rattle.elements.proofs.Measures.{rest-measure, rest-measure-of}
 use Rattle.pieces.specs.Counted.{PiecesCounted}
-use Rattle.bench.specs.Accepted.{Accepted, TableLent, MeshTabled, FanFound}
+use Rattle.asked.specs.Accepted.{Accepted, TableLent, MeshTabled, FanFound}
 
 -- ---- counts
 

@@ -1,4 +1,4 @@
--- `bench::tests::all_below` meets its contract. The invariant: whether all of the rest are below n is whether all of the list are. Assumes nothing.
+-- `asked::tests::all_below` meets its contract. The invariant: whether all of the rest are below n is whether all of the list are. Assumes nothing.
 use Prim.Native.Nat.{_≤_, _-_}
 use native.Mathlib.Omega.{arith}
 use mathlib.Core.Path.{_≡_, refl, sym, _∙_}
@@ -7,8 +7,8 @@ use lib.ListN.{length, drop}
 use borrow.Author.Tests.{lt-ltb, le-ltb}
 use Rattle.lists.specs.Lists.{all}
 use Rattle.elements.proofs.Measures.{all-on, all-stop, all-end}
-use Rattle.bench.proofs.tests.all_below.Statement.{statement}
-use Rattle.bench.proofs.tests.all_below.Tie as tie
+use Rattle.asked.proofs.tests.all_below.Statement.{statement}
+use Rattle.asked.proofs.tests.all_below.Tie as tie
 
 abbrev Inv-loop : tie.InvT-loop
 Inv-loop n list i₀ i = (i ≤ length list) × (all (λ x. ltb x n) (drop i list) ≡ all (λ x. ltb x n) list)

@@ -1,8 +1,8 @@
--- `bench::reading::point_fits` meets its contract. Assumes nothing.
+-- `asked::tests::point_fits` meets its contract. Assumes nothing.
 use Rattle.mesh.proofs.Joined.{and-next}
 use borrow.Author.Needs.{needs}
-use Rattle.bench.proofs.reading.point_fits.Statement.{statement}
-use Rattle.bench.proofs.reading.point_fits.Tie as tie
+use Rattle.asked.proofs.tests.point_fits.Statement.{statement}
+use Rattle.asked.proofs.tests.point_fits.Tie as tie
 
 in-range-requires : tie.Need-in-range-requires
 in-range-requires c κs = search needs

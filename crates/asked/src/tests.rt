@@ -1,12 +1,19 @@
 // Tests of the arguments that stand beside a mesh.
 ghost use mathlib.Core.Path.{_≡_};
 ghost use mathlib.Core.Bool.{_&&_};
-ghost use Prim.Native.Nat.{ℕ};
 ghost use lib.Dec.{eqb, ltb};
 ghost use lib.ListN.{length};
 ghost use Rattle.lists.specs.Lists.{all};
-ghost use Rattle.model.specs.Calls.{strictly};
+ghost use Rattle.model.specs.Calls.{strictly, pointOk};
+use blade::Point;
 use mesh::tests;
+
+// Are both numbers of a point in range?
+pub fn point_fits(p: Point) -> bool
+    ensures { λ r. ⌜ r ≡ pointOk p ⌝ }
+{
+    tests::both(float::range::in_range(p.x), float::range::in_range(p.y))
+}
 
 // Is each number of a list below n?
 pub fn all_below(n: usize, list: &[usize]) -> bool

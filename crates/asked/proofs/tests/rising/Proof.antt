@@ -1,12 +1,12 @@
--- `bench::tests::rising` meets its contract. The invariant: the rest rises exactly where the list does. Assumes nothing.
+-- `asked::tests::rising` meets its contract. The invariant: the rest rises exactly where the list does. Assumes nothing.
 use Prim.Native.Nat.{_≤_, _-_}
 use native.Mathlib.Omega.{arith}
 use mathlib.Core.Path.{_≡_, refl, sym, _∙_}
 use lib.ListN.{length, drop}
 use Rattle.model.specs.Calls.{strictly}
-use Rattle.bench.proofs.Asked.{strictly-on, strictly-stop, strictly-end}
-use Rattle.bench.proofs.tests.rising.Statement.{statement}
-use Rattle.bench.proofs.tests.rising.Tie as tie
+use Rattle.asked.proofs.Rising.{strictly-on, strictly-stop, strictly-end}
+use Rattle.asked.proofs.tests.rising.Statement.{statement}
+use Rattle.asked.proofs.tests.rising.Tie as tie
 
 abbrev Inv-loop : tie.InvT-loop
 Inv-loop list i₀ i = (i ≤ length list - 1) × (strictly (drop i list) ≡ strictly list)

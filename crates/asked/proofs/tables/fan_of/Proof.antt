@@ -1,9 +1,9 @@
--- `bench::tables::fan_of` meets its contract: the table of all elements, and the rows that hold v. Assumes nothing.
-use Rattle.bench.proofs.Accepted.{fan-found}
+-- `asked::tables::fan_of` meets its contract: the table of all elements, and the rows that hold v. Assumes nothing.
+use Rattle.asked.proofs.Accepted.{fan-found}
 use native.Mathlib.Omega.{arith}
 use borrow.Author.Needs.{needs}
-use Rattle.bench.proofs.tables.fan_of.Statement.{statement}
-use Rattle.bench.proofs.tables.fan_of.Tie as tie
+use Rattle.asked.proofs.tables.fan_of.Statement.{statement}
+use Rattle.asked.proofs.tables.fan_of.Tie as tie
 
 slice-aggregate-table : tie.Need-slice-aggregate-table
 slice-aggregate-table c = search needs

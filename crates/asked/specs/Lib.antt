@@ -1,0 +1,2 @@
+-- What is known of an accepted mesh, and of the tables of its elements.
+pub mod Accepted
