@@ -5,6 +5,7 @@ ghost use lib.Dec.{eqb, ltb};
 ghost use lib.ListN.{length};
 ghost use Rattle.lists.specs.Lists.{all};
 ghost use Rattle.model.specs.Calls.{strictly, pointOk};
+ghost use Rattle.asked.specs.Beside.{withNumbers};
 use blade::Point;
 use mesh::tests;
 
@@ -13,6 +14,16 @@ pub fn point_fits(p: Point) -> bool
     ensures { λ r. ⌜ r ≡ pointOk p ⌝ }
 {
     tests::both(float::range::in_range(p.x), float::range::in_range(p.y))
+}
+
+// The fault of a mesh and of the numbers beside it: bad ones refuse with 2, behind 1 and before 3.
+pub fn with_numbers(fault: usize, ok: bool) -> usize
+    ensures { λ r. ⌜ r ≡ withNumbers fault ok ⌝ }
+{
+    if ok {
+        return fault;
+    }
+    if fault == 1 { 1 } else { 2 }
 }
 
 // Is each number of a list below n?
