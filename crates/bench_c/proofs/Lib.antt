@@ -1,9 +1,12 @@
--- The laws of replies, of an image that is loaded, and of the sides, groups and lists beside it.
+-- The laws of replies, of an image that is loaded or read into blocks, of the sides, groups and lists beside it, and of jobs.
 pub mod Replying
 pub mod Loading
 pub mod Siding
 pub mod Grouping
 pub mod Listing
+pub mod Places
+pub mod Shown
 pub mod Tellings
 pub mod Outcomes
 pub mod Tearings
+pub mod Entries

@@ -11,8 +11,10 @@ use borrow.Author.Tests.{le-leb, lt-leb}
 use Rattle.lists.specs.Lists.{pick}
 use Rattle.model.specs.Reads.{Read, refused, value}
 use Rattle.mesh.specs.declared.Counts.{Counts}
-use Rattle.answer.specs.declared.Answer.{Answer}
-use Rattle.answer.specs.declared.Answer.the-variants.{Refused, Done}
+use Rattle.mesh.specs.Log.{logAt}
+use Rattle.split.specs.declared.Ran.{Ran}
+use Rattle.split.specs.declared.Ran.the-variants.{Refused, Done}
+use Rattle.answer.specs.Framed.{wordsChange}
 use Rattle.image.specs.Words.{written, putWords, bitsIn}
 use Rattle.image.specs.Image.{imageWords}
 use Rattle.image.specs.Stores.{frontsOf, blockWords, Storable}
@@ -95,11 +97,16 @@ module _ (k : Counts) (p : List Float) (r c : List ℕ) (v : List Float) (e : Li
 pub log-written : (logged : ℕ) (ws s s′ : List ℕ) → 4 * length ws ≤ logged → s ≡ written logged [] → s′ ≡ putWords s 0 ws → s′ ≡ written logged ws
 log-written logged ws s s′ h e f = f ∙ ap (λ (t : List ℕ). putWords t 0 ws) e ∙ put-written logged [] ws 0 refl (omega arith)
 
--- ---- by the answer's case
+-- ---- by the case of what a call came to
 
-pub telling-as : (a b : Answer) (lp lr lc lv le ll lo lg logged : ℕ) → a ≡ b → Telling a lp lr lc lv le ll lo lg logged → Telling b lp lr lc lv le ll lo lg logged
-telling-as a b lp lr lc lv le ll lo lg logged e h = subst (λ (z : Answer). Telling z lp lr lc lv le ll lo lg logged) e h
+pub telling-as : (a b : Ran) (lp lr lc lv le ll lo lg logged : ℕ) → a ≡ b → Telling a lp lr lc lv le ll lo lg logged → Telling b lp lr lc lv le ll lo lg logged
+telling-as a b lp lr lc lv le ll lo lg logged e h = subst (λ (z : Ran). Telling z lp lr lc lv le ll lo lg logged) e h
 
-pub answer-as : (a b : Answer) (p : List Float) (r c : List ℕ) (v : List Float) (e : List ℕ) (l : List Float) (o g : List ℕ) (lent logged x : ℕ) (out log : List ℕ) → a ≡ b
-    → BothReplied (meshTold b p r c v e l o) (logTold b g) lent logged x out log → BothReplied (meshTold a p r c v e l o) (logTold a g) lent logged x out log
-answer-as a b p r c v e l o g lent logged x out log q h = subst (λ (z : Answer). BothReplied (meshTold z p r c v e l o) (logTold z g) lent logged x out log) (sym q) h
+pub told-as : (a b : Ran) (p : List Float) (r c : List ℕ) (v : List Float) (e : List ℕ) (l : List Float) (o g : List ℕ) (lent logged x : ℕ) (out log : List ℕ) → a ≡ b
+    → BothReplied (meshTold b p r c v e l o g) (logTold b g) lent logged x out log → BothReplied (meshTold a p r c v e l o g) (logTold a g) lent logged x out log
+told-as a b p r c v e l o g lent logged x out log q h = subst (λ (z : Ran). BothReplied (meshTold z p r c v e l o g) (logTold z g) lent logged x out log) (sym q) h
+
+-- whether anything was split or inserted, as the log tells it
+pub done-as : (k : Counts) (any : Bool) (p : List Float) (r c : List ℕ) (v : List Float) (e : List ℕ) (l : List Float) (o g : List ℕ) (lent logged x : ℕ) (out log : List ℕ) → any ≡ wordsChange (logAt (k .log) g)
+    → BothReplied (value (doneWords k any p r c v e l o)) (take (6 * k .log) g) lent logged x out log → BothReplied (meshTold (Done k) p r c v e l o g) (logTold (Done k) g) lent logged x out log
+done-as k any p r c v e l o g lent logged x out log q h = subst (λ (b : Bool). BothReplied (value (doneWords k b p r c v e l o)) (take (6 * k .log) g) lent logged x out log) q h

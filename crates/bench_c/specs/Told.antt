@@ -1,4 +1,4 @@
--- The reply to an entry that gives a mesh, by what it answered and left in its blocks. Only the contracts between the functions need this file. Definitions only.
+-- The reply to a call that gives a mesh, by what it came to and left in its blocks. Only the contracts between the functions need this file. Definitions only.
 use Prim.Native.Nat.{ℕ, _*_, _/_, _≤_, _<_, min}
 use mathlib.Core.Bool.{Bool}
 use mathlib.Core.List.{List, [], _∷_}
@@ -6,11 +6,12 @@ use lib.ListN.{take}
 use lib.Ieee.{Float}
 use Rattle.lists.specs.Lists.{pick}
 use Rattle.model.specs.Reads.{Read, refused, value}
-use Rattle.mesh.specs.Given.{Lent}
+use Rattle.mesh.specs.Log.{logAt}
 use Rattle.mesh.specs.declared.Counts.{Counts}
 use Rattle.mesh.specs.declared.Rooms.{Rooms}
-use Rattle.answer.specs.declared.Answer.{Answer}
-use Rattle.answer.specs.declared.Answer.the-variants.{Refused, Done}
+use Rattle.split.specs.declared.Ran.{Ran}
+use Rattle.split.specs.declared.Ran.the-variants.{Refused, Done}
+use Rattle.answer.specs.Framed.{wordsChange}
 use Rattle.image.specs.Words.{wordAt}
 use Rattle.image.specs.Stores.{blockWords}
 
@@ -18,14 +19,15 @@ use Rattle.image.specs.Stores.{blockWords}
 abbrev pub doneWords : Counts → Bool → List Float → List ℕ → List ℕ → List Float → List ℕ → List Float → List ℕ → List ℕ
 doneWords k b p r c v e l o = pick b 1 0 ∷ k .log ∷ blockWords k p r c v e l o
 
-abbrev pub meshTold : Answer → List Float → List ℕ → List ℕ → List Float → List ℕ → List Float → List ℕ → Read (List ℕ)
-meshTold (Refused n) p r c v e l o = refused n
-meshTold (Done k b) p r c v e l o = value (doneWords k b p r c v e l o)
+-- what is told of what a call came to, whose log is the first words of g
+abbrev pub meshTold : Ran → List Float → List ℕ → List ℕ → List Float → List ℕ → List Float → List ℕ → List ℕ → Read (List ℕ)
+meshTold (Refused n) p r c v e l o g = refused n
+meshTold (Done k) p r c v e l o g = value (doneWords k (wordsChange (logAt (k .log) g)) p r c v e l o)
 
--- the words of its log, which are the first of g
-abbrev pub logTold : Answer → List ℕ → List ℕ
+-- the words of its log
+abbrev pub logTold : Ran → List ℕ → List ℕ
 logTold (Refused n) g = []
-logTold (Done k b) g = take (6 * k .log) g
+logTold (Done k) g = take (6 * k .log) g
 
 -- the rows stand in blocks that are no longer than those of a mesh, and the log in its words and in its bytes
 pub record Tellable (k : Counts) (lp lr lc lv le ll lo lg logged : ℕ) : Type 0 where
@@ -43,35 +45,19 @@ pub record Tellable (k : Counts) (lp lr lc lv le ll lo lg logged : ℕ) : Type 0
   pub words : 6 * k .log ≤ lg
   pub entries : 24 * k .log ≤ logged
 
--- the same of an answer; or the number of a refusal is small
-abbrev pub Telling : Answer → ℕ → ℕ → ℕ → ℕ → ℕ → ℕ → ℕ → ℕ → ℕ → Type 0
+-- the same of what a call came to; or the number of a refusal is small
+abbrev pub Telling : Ran → ℕ → ℕ → ℕ → ℕ → ℕ → ℕ → ℕ → ℕ → ℕ → Type 0
 Telling (Refused n) lp lr lc lv le ll lo lg logged = n < 256
-Telling (Done k b) lp lr lc lv le ll lo lg logged = Tellable k lp lr lc lv le ll lo lg logged
+Telling (Done k) lp lr lc lv le ll lo lg logged = Tellable k lp lr lc lv le ll lo lg logged
 
--- lent blocks that are no longer than those of a mesh, and a log that its bytes have room for
-pub record Limited (L : Lent) (logged : ℕ) : Type 0 where
-  pub particles : L .points / 6 ≤ 1024
-  pub triangles : L .corners / 3 ≤ 1024
-  pub edges : L .ends / 4 ≤ 2048
-  pub boundary : L .outline / 2 ≤ 2048
-  pub log : 24 * (L .log / 6) ≤ logged
-
--- rooms that are within the limits, blocks that have them in front, and a log whose bytes have room
-pub record Fronted (R : Rooms) (lp lr lc lv le ll lo lg logged : ℕ) : Type 0 where
+-- rooms that are within the limits, and a log that its bytes have room for
+pub record Limited (R : Rooms) (logged : ℕ) : Type 0 where
   pub particles : R .particles ≤ 1024
   pub triangles : R .triangles ≤ 1024
   pub edges : R .edges ≤ 2048
   pub boundary : R .boundary ≤ 2048
   pub log : R .log ≤ 4096
-  pub points-room : 6 * R .particles ≤ lp
-  pub roots-room : 2 * R .particles ≤ lr
-  pub corners-room : 3 * R .triangles ≤ lc
-  pub volumes-room : 2 * R .triangles ≤ lv
-  pub ends-room : 4 * R .edges ≤ le
-  pub lengths-room : 4 * R .edges ≤ ll
-  pub outline-room : 2 * R .boundary ≤ lo
-  pub words-room : 6 * R .log ≤ lg
-  pub entries-room : 24 * R .log ≤ logged
+  pub entries : 24 * R .log ≤ logged
 
 -- the rooms of four words and of so many log bytes, as the program has them
 unfoldable pub roomsGiven : List ℕ → ℕ → Rooms

@@ -1,7 +1,7 @@
 -- What the C functions that give a mesh answer, as docs/C-FUNCTIONS.md has it: the words of the answer, the words of the log, and the rooms. Definitions only.
 use Prim.Native.Nat.{ℕ, _/_, min}
 use mathlib.Core.Path.{_≡_}
-use mathlib.Core.Bool.{Bool, true, false}
+use mathlib.Core.Bool.{Bool, true, false, _&&_}
 use mathlib.Core.List.{List, [], _∷_, map}
 use lib.ListN.{length}
 use lib.Dec.{eqb}
@@ -51,14 +51,14 @@ OutcomeReplied o lent logged r out log = BothReplied (meshReply o) (logReply o) 
 abbrev pub roomsIn : List ℕ → ℕ → Rooms
 roomsIn s logged = record { particles = min 1024 (wordAt s 0); triangles = min 1024 (wordAt s 1); edges = min 2048 (wordAt s 2); boundary = min 2048 (wordAt s 3); log = min 4096 (logged / 24) }
 
--- the outcome o of a call on an image; rooms that are no four words are a bad argument
-unfoldable pub withRooms : List ℕ → List ℕ → Outcome → Outcome
-withRooms s rooms o = pick (eqb (length rooms) 16) o (turnedDown (refusal (imageSized s) (meshOf (imageOf s)) true false))
+-- the outcome o of a call on an image, beside arguments that could be read or not, and numbers that are right or not; what could not be read is a bad argument, and so are rooms that are no four words
+unfoldable pub withRooms : List ℕ → List ℕ → Bool → Bool → Outcome → Outcome
+withRooms s rooms read numbers o = pick (read && eqb (length rooms) 16) o (turnedDown (refusal (imageSized s) (meshOf (imageOf s)) numbers false))
 
 -- the split of particle v of the mesh that an image is, by sides, a byte for each
 unfoldable pub splitOutcome : List ℕ → ℕ → List ℕ → List ℕ → ℕ → Outcome
-splitOutcome s v sides rooms logged = withRooms s rooms (splitCall (imageSized s) (meshOf (imageOf s)) v sides (roomsIn rooms logged))
+splitOutcome s v sides rooms logged = withRooms s rooms true true (splitCall (imageSized s) (meshOf (imageOf s)) v sides (roomsIn rooms logged))
 
 -- the removal of straddlers across its pieces
 unfoldable pub straddlersOutcome : List ℕ → List ℕ → ℕ → Outcome
-straddlersOutcome s rooms logged = withRooms s rooms (straddlersCall (imageSized s) (meshOf (imageOf s)) (roomsIn rooms logged))
+straddlersOutcome s rooms logged = withRooms s rooms true true (straddlersCall (imageSized s) (meshOf (imageOf s)) (roomsIn rooms logged))

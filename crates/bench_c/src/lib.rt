@@ -1,8 +1,9 @@
-// The C functions of the bench, on numbers and byte slices: each reads its bytes, calls the public entry, and writes the answer.
+// The C functions of the bench, on numbers and byte slices: each reads its bytes, calls the public entry or runs the job, and writes the answer.
 pub mod fans;
 pub mod leaves;
 pub mod listed;
 pub mod meshes;
 pub mod outcome;
+pub mod placing;
 pub mod reply;
 pub mod tearing;

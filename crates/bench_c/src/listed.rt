@@ -10,7 +10,7 @@ ghost use Rattle.bench_c.specs.Replies.{Replied, measureOfReply};
 use bench::Number;
 
 // The measure of a list of particles of an image that has the sizes of a mesh.
-pub fn image_measure_of(bytes: &[u8], list: &[usize]) -> Number
+fn image_measure_of(bytes: &[u8], list: &[usize]) -> Number
     requires { ⌜ imageSized (now bytes) ≡ true ⌝ }
     ensures { λ r. ⌜ r ≡ numberOf (restMeasureOfCall (imageSized (now (bytes .entry))) (meshOf (imageOf (now (bytes .entry)))) (now (list .entry))) ⌝ }
 {

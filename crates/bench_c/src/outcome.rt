@@ -8,8 +8,8 @@ ghost use Rattle.model.specs.Reads.{refused, value};
 ghost use Rattle.image.specs.Words.{written};
 ghost use Rattle.bench_c.specs.Torn.{BothReplied};
 ghost use Rattle.bench_c.specs.Told.{doneWords, meshTold, logTold, Tellable, Telling};
-use answer::Answer;
 use mesh::Counts;
+use split::Ran;
 
 // A refusal: every byte of the answer and of the log is 0.
 pub fn refuse(code: usize, out: &mut [u8], log: &mut [u8]) -> u32
@@ -83,9 +83,9 @@ fn reply_done(
     0
 }
 
-// The reply of an entry that gives a mesh.
-pub fn reply_mesh(
-    a: Answer,
+// The reply to what a call that gives a mesh came to.
+pub fn reply_ran(
+    ran: Ran,
     points: &[f32],
     roots: &[usize],
     corners: &[usize],
@@ -97,14 +97,15 @@ pub fn reply_mesh(
     out: &mut [u8],
     log: &mut [u8],
 ) -> u32
-    requires { ⌜ Telling a (length (now points)) (length (now roots)) (length (now corners)) (length (now volumes)) (length (now ends)) (length (now lengths)) (length (now outline)) (length (now words)) (length (now log)) ⌝ }
-    ensures { λ r. ⌜ BothReplied (meshTold a (now (points .entry)) (now (roots .entry)) (now (corners .entry)) (now (volumes .entry)) (now (ends .entry)) (now (lengths .entry)) (now (outline .entry))) (logTold a (now (words .entry))) (length (now (out .entry))) (length (now (log .entry))) r (now (out .exit)) (now (log .exit)) ⌝ }
+    requires { ⌜ Telling ran (length (now points)) (length (now roots)) (length (now corners)) (length (now volumes)) (length (now ends)) (length (now lengths)) (length (now outline)) (length (now words)) (length (now log)) ⌝ }
+    ensures { λ r. ⌜ BothReplied (meshTold ran (now (points .entry)) (now (roots .entry)) (now (corners .entry)) (now (volumes .entry)) (now (ends .entry)) (now (lengths .entry)) (now (outline .entry)) (now (words .entry))) (logTold ran (now (words .entry))) (length (now (out .entry))) (length (now (log .entry))) r (now (out .exit)) (now (log .exit)) ⌝ }
 {
-    match a {
-        Answer::Refused(code) => {
+    match ran {
+        Ran::Refused(code) => {
             return refuse(code, out, log);
         }
-        Answer::Done(k, any) => {
+        Ran::Done(k) => {
+            let any = answer::logged::changed(k.log, words);
             return reply_done(
                 k,
                 any,

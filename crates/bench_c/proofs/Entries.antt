@@ -1,0 +1,196 @@
+-- Laws of the C functions that give a mesh: rooms, arguments that could not be read, and the job that each is. Assumes nothing.
+use Prim.Native.Nat.{ℕ, zero, suc, _/_, _<_, min}
+use native.Mathlib.Omega.{arith}
+use mathlib.Core.Path.{_≡_, refl, sym, ap, subst, _∙_}
+use mathlib.Core.Bool.{Bool, true, false, not, _&&_}
+use mathlib.Core.Logic.{⊎-elim}
+use mathlib.Core.List.{List, []}
+use lib.ListN.{length, take}
+use lib.Dec.{eqb}
+use borrow.Author.Tests.{eqb-true, ne-eqb}
+use Rattle.lists.specs.Lists.{pick}
+use Rattle.lists.proofs.Sifts.{and-true}
+use Rattle.model.specs.Mesh.{Mesh}
+use Rattle.model.specs.Elements.{kindOf}
+use Rattle.model.specs.Valid.{numbersFit, indicesFit}
+use Rattle.model.specs.Split.{splitBySides}
+use Rattle.model.specs.Run.{Rooms as RoomsOf, start}
+use Rattle.model.specs.Calls.{Outcome, unless, outcome, sidesOk, trianglesLent, refusal, splitCall, straddlersCall}
+use Rattle.model.specs.Calls.{refused as turnedDown}
+use Rattle.model.specs.Reads.{refused}
+use Rattle.mesh.specs.Checks.{thenCheck}
+use Rattle.mesh.specs.Given.{meshOf, asRooms}
+use Rattle.mesh.specs.declared.Rooms.{Rooms}
+use Rattle.mesh.proofs.Joined.{then-zero}
+use Rattle.jobs.specs.Jobs.{jobNumbers, jobArguments, jobCall}
+use Rattle.jobs.specs.declared.Job.{Job}
+use Rattle.jobs.specs.declared.Job.the-variants.{Straddlers, Split}
+use Rattle.jobs.proofs.Jobs.{straddlers-is, split-is}
+use Rattle.image.specs.Words.{wordAt}
+use Rattle.image.specs.Image.{imageOf, imageSized}
+use Rattle.bench_c.specs.Given.{Capped}
+use Rattle.bench_c.specs.Torn.{BothReplied, OutcomeReplied, withRooms, roomsIn, splitOutcome, straddlersOutcome}
+use Rattle.bench_c.specs.Told.{Limited, roomsGiven}
+use Rattle.bench_c.proofs.Siding.{capped-sides}
+use Rattle.bench_c.proofs.Tearings.{checked, checked-small, checked-replied}
+
+-- ---- rooms
+
+pub rooms-made : (s : List ℕ) (logged a b c d a′ b′ c′ d′ e : ℕ) → a′ ≡ wordAt s 0 → b′ ≡ wordAt s 1 → c′ ≡ wordAt s 2 → d′ ≡ wordAt s 3 → a ≡ min 1024 a′ → b ≡ min 1024 b′ → c ≡ min 2048 c′ → d ≡ min 2048 d′ → e ≡ min 4096 (logged / 24)
+    → _≡_ {A = Rooms} (record { particles = a; triangles = b; edges = c; boundary = d; log = e }) (roomsGiven s logged)
+unfolding roomsGiven
+rooms-made s logged a b c d a′ b′ c′ d′ e wa wb wc wd ea eb ec ed ee i =
+    record { particles = (ea ∙ ap (min 1024) wa) i; triangles = (eb ∙ ap (min 1024) wb) i; edges = (ec ∙ ap (min 2048) wc) i; boundary = (ed ∙ ap (min 2048) wd) i; log = ee i }
+
+given-limited : (s : List ℕ) (logged : ℕ) → Limited (roomsGiven s logged) logged
+unfolding roomsGiven
+given-limited s logged = record { particles = omega arith; triangles = omega arith; edges = omega arith; boundary = omega arith; log = omega arith; entries = omega arith }
+
+pub made-limited : (s : List ℕ) (logged : ℕ) (R : Rooms) → R ≡ roomsGiven s logged → Limited R logged
+made-limited s logged R e = subst (λ (Q : Rooms). Limited Q logged) (sym e) (given-limited s logged)
+
+-- no rooms
+pub none-limited : (logged : ℕ) → Limited (record { particles = 0; triangles = 0; edges = 0; boundary = 0; log = 0 }) logged
+none-limited logged = record { particles = omega arith; triangles = omega arith; edges = omega arith; boundary = omega arith; log = omega arith; entries = omega arith }
+
+made-as : (s : List ℕ) (logged : ℕ) (R : Rooms) → R ≡ roomsGiven s logged → asRooms R ≡ roomsIn s logged
+unfolding roomsGiven
+made-as s logged R e = ap asRooms e
+
+-- ---- the checks, and what could not be read
+
+-- what the checks refuse, or 4
+argument-told : (z : Bool) (M : Mesh) (numbers arguments : Bool) → thenCheck (refusal z M numbers arguments) false 4 ≡ refusal z M numbers false
+unfolding thenCheck refusal
+argument-told z M numbers arguments = by (not z) (not (numbersFit M && numbers)) (not (indicesFit M)) (not arguments)
+  where
+    by : (a b c d : Bool) → _≡_ {A = ℕ} (pick (eqb (pick a 1 (pick b 2 (pick c 3 (pick d 4 0)))) 0) 4 (pick a 1 (pick b 2 (pick c 3 (pick d 4 0))))) (pick a 1 (pick b 2 (pick c 3 4)))
+    by true b c d = refl
+    by false true c d = refl
+    by false false true d = refl
+    by false false false true = refl
+    by false false false false = refl
+
+-- the checks alone where all could be read
+read-told : (code : ℕ) → thenCheck code true 4 ≡ code
+unfolding thenCheck
+read-told zero = refl
+read-told (suc n) = rw (ne-eqb (suc n) 0 (λ d. omega arith)) refl
+
+told-small : (b : Bool) (code : ℕ) → code < 256 → thenCheck code b 4 < 256
+unfolding thenCheck
+told-small b code h = by (eqb code 0) b
+  where
+    by : (z b : Bool) → pick z (pick b 0 4) code < 256
+    by true true = omega arith
+    by true false = omega arith
+    by false b = h
+
+module _ (j : Job) (ls s rooms : List ℕ) (read : Bool) (R : Rooms) (lent logged x : ℕ) (out log : List ℕ) where
+  abbrev called : Outcome
+  called = jobCall j ls (imageSized s) (meshOf (imageOf s)) (roomsIn rooms logged)
+
+  abbrev answered : Outcome
+  answered = withRooms s rooms read (jobNumbers j) called
+
+  module _ (code right-code : ℕ) (right : Bool) (e : code ≡ checked j ls s R) (w : right ≡ read && eqb (length rooms) 16) (q : right-code ≡ thenCheck code right 4) where
+    -- a refusal is small
+    pub job-small : right-code < 256
+    job-small = let h = told-small right code (checked-small j ls s R code e) in omega (arith, q, h)
+
+    -- the rooms that were made are those of the words
+    module _ (made : length rooms ≡ 16 → R ≡ roomsGiven rooms logged) where
+      by-rooms : right ≡ true → jobCall j ls (imageSized s) (meshOf (imageOf s)) (asRooms R) ≡ answered
+      unfolding withRooms
+      by-rooms t =
+          let n = eqb-true (length rooms) 16 (and-true read (eqb (length rooms) 16) (sym w ∙ t) .1) in
+          ap (jobCall j ls (imageSized s) (meshOf (imageOf s))) (made-as rooms logged R (made n))
+          ∙ sym (ap (λ (b : Bool). pick b called (turnedDown (refusal (imageSized s) (meshOf (imageOf s)) (jobNumbers j) false))) (sym w ∙ t))
+
+      -- nothing refused
+      pub job-accepted : right-code ≡ 0 → checked j ls s R ≡ 0
+      job-accepted z = sym e ∙ then-zero code right 4 (λ d. omega arith) (sym q ∙ z) .0
+
+      pub job-replied : right-code ≡ 0 → OutcomeReplied (jobCall j ls (imageSized s) (meshOf (imageOf s)) (asRooms R)) lent logged x out log → OutcomeReplied answered lent logged x out log
+      job-replied z h = subst (λ (o : Outcome). OutcomeReplied o lent logged x out log) (by-rooms (then-zero code right 4 (λ d. omega arith) (sym q ∙ z) .1)) h
+
+      -- a check refused, or something could not be read
+      pub job-turned : (right-code ≡ 0 → ⊥) → BothReplied (refused right-code) [] lent logged x out log → OutcomeReplied answered lent logged x out log
+      unfolding withRooms
+      job-turned ne h = by right refl
+        where
+          by : (b : Bool) → right ≡ b → OutcomeReplied answered lent logged x out log
+          by true t =
+              let same : right-code ≡ code = q ∙ ap (λ (b : Bool). thenCheck code b 4) t ∙ read-told code in
+              subst (λ (o : Outcome). OutcomeReplied o lent logged x out log) (by-rooms t)
+              (checked-replied j ls s R code lent logged x out log e (λ z. ne (same ∙ z)) (subst (λ (n : ℕ). BothReplied (refused n) [] lent logged x out log) same h))
+          by false t =
+              let same : right-code ≡ refusal (imageSized s) (meshOf (imageOf s)) (jobNumbers j) false =
+              q ∙ ap (λ (b : Bool). thenCheck code b 4) t ∙ ap (λ (n : ℕ). thenCheck n false 4) e ∙ argument-told (imageSized s) (meshOf (imageOf s)) (jobNumbers j) (jobArguments j ls (asRooms R) (meshOf (imageOf s))) in
+              subst (λ (o : Outcome). OutcomeReplied o lent logged x out log)
+              (sym (ap (λ (b : Bool). pick b called (turnedDown (refusal (imageSized s) (meshOf (imageOf s)) (jobNumbers j) false))) (sym w ∙ t)))
+              (subst (λ (n : ℕ). BothReplied (refused n) [] lent logged x out log) same h)
+
+-- no image of a mesh: nothing else is looked at
+pub job-unsized : (j : Job) (ls s rooms : List ℕ) (read : Bool) (lent logged x : ℕ) (out log : List ℕ) (z : Bool) → z ≡ imageSized s → z ≡ false → BothReplied (refused 1) [] lent logged x out log
+    → OutcomeReplied (withRooms s rooms read (jobNumbers j) (jobCall j ls (imageSized s) (meshOf (imageOf s)) (roomsIn rooms logged))) lent logged x out log
+unfolding withRooms jobCall refusal
+job-unsized j ls s rooms read lent logged x out log z e f h = by (read && eqb (length rooms) 16)
+  where
+    by : (b : Bool) → OutcomeReplied (pick b (jobCall j ls (imageSized s) (meshOf (imageOf s)) (roomsIn rooms logged)) (turnedDown (refusal (imageSized s) (meshOf (imageOf s)) (jobNumbers j) false))) lent logged x out log
+    by true = subst (λ (y : Bool). OutcomeReplied (jobCall j ls y (meshOf (imageOf s)) (roomsIn rooms logged)) lent logged x out log) (sym f ∙ e) h
+    by false = subst (λ (y : Bool). OutcomeReplied (turnedDown (refusal y (meshOf (imageOf s)) (jobNumbers j) false)) lent logged x out log) (sym f ∙ e) h
+
+-- ---- the job of each
+
+pub straddlers-replied : (ls s rooms : List ℕ) (lent logged x : ℕ) (out log : List ℕ) → OutcomeReplied (withRooms s rooms true (jobNumbers Straddlers) (jobCall Straddlers ls (imageSized s) (meshOf (imageOf s)) (roomsIn rooms logged))) lent logged x out log
+    → OutcomeReplied (straddlersOutcome s rooms logged) lent logged x out log
+unfolding straddlersOutcome
+straddlers-replied ls s rooms lent logged x out log h =
+    subst (λ (o : Outcome). OutcomeReplied (withRooms s rooms true true o) lent logged x out log) (straddlers-is ls (imageSized s) (meshOf (imageOf s)) (roomsIn rooms logged)) h
+
+-- a bad argument is refused, whatever the run
+unless-either : (z : Bool) (M : Mesh) (x y : Outcome) → unless (refusal z M true false) x ≡ unless (refusal z M true false) y
+unfolding refusal
+unless-either z M x y = by (not z) (not (numbersFit M && true)) (not (indicesFit M))
+  where
+    by : (a b c : Bool) → unless (pick a 1 (pick b 2 (pick c 3 4))) x ≡ unless (pick a 1 (pick b 2 (pick c 3 4))) y
+    by true b c = refl
+    by false true c = refl
+    by false false true = refl
+    by false false false = refl
+
+split-refused : (z : Bool) (M : Mesh) (w : ℕ) (t sides : List ℕ) (L : RoomsOf) → sidesOk M w t ≡ false → sidesOk M w sides ≡ false → splitCall z M w t L ≡ splitCall z M w sides L
+unfolding splitCall
+split-refused z M w t sides L e f =
+    let x : Outcome = outcome L (splitBySides (kindOf M) w t (start M)) in
+    let y : Outcome = outcome L (splitBySides (kindOf M) w sides (start M)) in
+    ap (λ (b : Bool). unless (refusal z M true (b && trianglesLent L M)) x) e ∙ unless-either z M x y ∙ sym (ap (λ (b : Bool). unless (refusal z M true (b && trianglesLent L M)) y) f)
+
+-- beside no image of a mesh the sides are not looked at
+split-unsized : (M : Mesh) (w : ℕ) (t sides : List ℕ) (L : RoomsOf) → splitCall false M w t L ≡ splitCall false M w sides L
+unfolding splitCall refusal
+split-unsized M w t sides L = refl
+
+-- a capped list of sides asks the same
+split-capped : (s : List ℕ) (w r : ℕ) (sides t : List ℕ) (L : RoomsOf) → Capped (length sides) 2049 r → t ≡ take r sides
+    → splitCall (imageSized s) (meshOf (imageOf s)) w t L ≡ splitCall (imageSized s) (meshOf (imageOf s)) w sides L
+split-capped s w r sides t L c e = by (imageSized s) refl
+  where
+    by : (z : Bool) → imageSized s ≡ z → splitCall (imageSized s) (meshOf (imageOf s)) w t L ≡ splitCall (imageSized s) (meshOf (imageOf s)) w sides L
+    by true h =
+        ⊎-elim
+        (λ y. ap (λ (l : List ℕ). splitCall (imageSized s) (meshOf (imageOf s)) w l L) y)
+        (λ y. split-refused (imageSized s) (meshOf (imageOf s)) w t sides L (y .0) (y .1))
+        (capped-sides s w r sides t h c e)
+    by false h =
+        subst (λ (z : Bool). splitCall z (meshOf (imageOf s)) w t L ≡ splitCall z (meshOf (imageOf s)) w sides L) (sym h) (split-unsized (meshOf (imageOf s)) w t sides L)
+
+pub split-replied : (s : List ℕ) (w n : ℕ) (sides t rooms : List ℕ) (lent logged x : ℕ) (out log : List ℕ) → Capped (length sides) 2049 n → t ≡ take n sides
+    → OutcomeReplied (withRooms s rooms true (jobNumbers (Split w)) (jobCall (Split w) t (imageSized s) (meshOf (imageOf s)) (roomsIn rooms logged))) lent logged x out log
+    → OutcomeReplied (splitOutcome s w sides rooms logged) lent logged x out log
+unfolding splitOutcome
+split-replied s w n sides t rooms lent logged x out log c e h =
+    subst (λ (o : Outcome). OutcomeReplied (withRooms s rooms true true o) lent logged x out log)
+    (split-is w t (imageSized s) (meshOf (imageOf s)) (roomsIn rooms logged) ∙ split-capped s w n sides t (roomsIn rooms logged) c e)
+    h
