@@ -13,3 +13,5 @@ pub mod CrossedLaws
 pub mod CrossedRuns
 pub mod SegmentLaws
 pub mod CrossedStart
+pub mod BendNumbers
+pub mod SegmentRuns
