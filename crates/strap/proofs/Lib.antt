@@ -15,3 +15,4 @@ pub mod SegmentLaws
 pub mod CrossedStart
 pub mod BendNumbers
 pub mod SegmentRuns
+pub mod KindLaws

@@ -2,12 +2,12 @@
 use Prim.Native.Nat.{ℕ, zero, suc, _<_}
 use native.Mathlib.Omega.{arith}
 use mathlib.Core.Path.{_≡_, refl, sym, ap, _∙_, subst}
-use mathlib.Core.Bool.{true}
-use mathlib.Core.List.{List, [], _∷_}
+use mathlib.Core.List.{List, []}
 use lib.ListN.{length, getD}
 use lib.Ieee.{Float}
-use Rattle.lists.specs.Lists.{stands, fold, rising}
+use Rattle.lists.specs.Lists.{fold, rising}
 use Rattle.blade.specs.declared.Point.{Point}
+use Rattle.model.specs.Mesh.{Mesh}
 use Rattle.model.specs.Run.{Run}
 use Rattle.model.specs.Calls.{firstFault}
 use Rattle.model.specs.Cut.{Blade, crossings, Strapping, strapping, crossed, unbent, splitSnapped, afterCrossings, cutSegments}
@@ -25,7 +25,7 @@ use Rattle.split.proofs.Placed.{edges-count}
 use Rattle.split.proofs.StepLaws.{world-mesh}
 use Rattle.cut.specs.Marking.{bladeFrom}
 use Rattle.cut.specs.Running.{Logged}
-use Rattle.strap.specs.Crossed.{ranOf, bendsOf, StrapMarks}
+use Rattle.strap.specs.Crossed.{ranOf}
 use Rattle.strap.specs.Segments.{AfterTold, BladeCrossed}
 use Rattle.strap.proofs.CrossedStart.{marks-none, all-went, all-marked, all-ready, all-logged}
 use Rattle.strap.proofs.BendNumbers.{marked-there}
@@ -83,9 +83,9 @@ module _ (b0 b1 : Point) (f : Float) (L : Rooms) (k : Counts) (points : List Flo
         all-logged b0 b1 L k _ points roots corners volumes ends lengths outline log Y refl (T .numbers) (T .ts) (T .many) (T .found) f bends snapped points′ roots′ ends′ lengths′ outline′ log′ bends′ snapped′ r (T .told) G q e
 
     -- as many edges as the counts say
-    held-edges : (M : _) → behind q .mesh ≡ M → q .edges ≡ length (M .edges)
+    held-edges : (M : Mesh) → behind q .mesh ≡ M → q .edges ≡ length (M .edges)
     held-edges M h =
-        sym (edges-count q points′ roots′ corners volumes ends′ lengths′ outline′) ∙ ap (λ (X : _). length (X .edges)) (sym (world-mesh q points′ roots′ corners volumes ends′ lengths′ outline′ log′) ∙ h)
+        sym (edges-count q points′ roots′ corners volumes ends′ lengths′ outline′) ∙ ap (λ (X : Mesh). length (X .edges)) (sym (world-mesh q points′ roots′ corners volumes ends′ lengths′ outline′ log′) ∙ h)
 
     -- and it was: nothing was marked at first, and so the marks are those of the cut
     pub segments-done : ((j : ℕ) → getD bends j 0 ≡ 0) → ((j : ℕ) → getD snapped j 0 ≡ 0) → (at : Counts → World) (s : Ran)
