@@ -2,4 +2,3 @@
 pub mod Refusing
 pub mod Grouped
 pub mod Agree
-pub mod Torn

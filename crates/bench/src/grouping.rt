@@ -1,6 +1,6 @@
 // The entries on the fan of a particle: its groups by sides, and whether they open it without confetti.
 ghost use mathlib.Core.Path.{_≡_};
-ghost use Prim.Native.Nat.{ℕ, _≤_};
+ghost use Prim.Native.Nat.{_≤_};
 ghost use lib.ListN.{length};
 ghost use Rattle.fan.specs.Fan.{fan};
 ghost use Rattle.fan.specs.Groups.{groupsOf, countOf};

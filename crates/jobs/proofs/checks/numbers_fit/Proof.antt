@@ -1,0 +1,21 @@
+-- `jobs::checks::numbers_fit` meets its contract. Assumes nothing.
+use mathlib.Core.Path.{sym, ap}
+use borrow.Author.Needs.{needs}
+use Rattle.jobs.specs.Jobs.{jobNumbers}
+use Rattle.jobs.proofs.checks.numbers_fit.Statement.{statement}
+use Rattle.jobs.proofs.checks.numbers_fit.Tie as tie
+
+enum-told : tie.Need-enum-told
+enum-told c = search needs
+
+enum-told-2 : tie.Need-enum-told-2
+enum-told-2 c = search needs
+
+returns : tie.Need-returns
+returns c = sym (ap jobNumbers (c .enum-told .given .1))
+
+returns-2 : tie.Need-returns-2
+returns-2 c = sym (ap jobNumbers (c .enum-told2 .given .1))
+
+pub numbers-fit-spec : {M : Type 1} → statement M
+numbers-fit-spec = tie.close (tie.spec enum-told enum-told-2 returns returns-2)
