@@ -121,6 +121,22 @@ pub fn work(
             outline,
             log,
         ),
+        Job::Cut(b0, b1, f) => strap::kinds::cut(
+            kind,
+            b0,
+            b1,
+            f,
+            k,
+            room,
+            points,
+            roots,
+            corners,
+            volumes,
+            ends,
+            lengths,
+            outline,
+            log,
+        ),
     }
 }
 

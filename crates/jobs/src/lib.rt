@@ -2,8 +2,12 @@
 pub mod calls;
 pub mod checks;
 
-// What is to be done to a mesh. A list stands beside it: the sides of a split, else nothing.
+use blade::Point;
+
+// What is to be done to a mesh: straddlers removed, a particle split, or a cut from one point to another with an insertion fraction.
+// A list stands beside it: the sides of a split, else nothing.
 pub enum Job {
     Straddlers,
     Split(usize),
+    Cut(Point, Point, f32),
 }
