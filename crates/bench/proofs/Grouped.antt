@@ -19,39 +19,21 @@ use Rattle.model.specs.Split.{openingOf}
 use Rattle.model.specs.Calls.{sidesOk, refusal}
 use Rattle.model.specs.Reads.{Read, refused, value, orRefused, grouped, opensCall}
 use Rattle.mesh.specs.Given.{Given, meshOf, sizesFit}
-use Rattle.mesh.specs.Checks.{thenCheck, faultOf}
-use Rattle.mesh.proofs.Joined.{then-stays}
+use Rattle.mesh.specs.Checks.{faultOf}
 use Rattle.elements.proofs.Found.{fan-of}
 use Rattle.reach.specs.Opens.{Opens}
 use Rattle.reach.proofs.Opening.{lent-by, opens-opening}
-use Rattle.bench.specs.Accepted.{FanFound, FanAsked, GroupsFilled, WalkAsked}
+use Rattle.asked.specs.Accepted.{FanFound}
+use Rattle.bench.specs.Fans.{FanAsked, GroupsFilled, WalkAsked}
 use Rattle.bench.specs.Answers.{truthOf, groupsEntry, groupCount, groupsShown, GroupsAnswered}
 use Rattle.bench.specs.declared.Count.the-variants.{Refused as CountRefused, Counted}
 use Rattle.bench.specs.declared.Truth.the-variants.{Refused as TruthRefused, Holds}
-use Rattle.bench.proofs.Accepted.{particles-count}
-use Rattle.bench.proofs.Refusing.{refuse-by, value-by, arguments-refuse}
-
--- ---- arguments of a mesh without a fault
-
--- they alone decide
-pub decided : (G : Given) (t : Bool) → faultOf G ≡ 0 → refusal (sizesFit G) (meshOf G) true t ≡ pick t 0 4
-unfolding thenCheck
-decided G t z = sym (arguments-refuse G t) ∙ ap (λ (c : ℕ). thenCheck c t 4) z
-
--- where there is a fault, they are not asked
-pub undecided : (G : Given) (code : ℕ) (t : Bool) → code ≡ faultOf G → (code ≡ 0 → ⊥) → code ≡ refusal (sizesFit G) (meshOf G) true t
-undecided G code t e h = then-stays code t 4 h ∙ ap (λ (c : ℕ). thenCheck c t 4) e ∙ arguments-refuse G t
+use Rattle.asked.proofs.Judged.{decided}
+use Rattle.bench.proofs.Refusing.{refuse-by, value-by}
 
 -- ---- a fan that was found
 
 module _ {G : Given} {v n k others count : ℕ} {verts fan-verts : List ℕ} (F : FanFound G v n k others count verts fan-verts) (sides : List ℕ) where
-  -- the test of the sides is the definition's
-  pub sides-ok : (t : Bool) → t ≡ (ltb v (length (G .points) / 6) && all (λ s. ltb s 2) sides && eqb (length sides) count) → t ≡ sidesOk (meshOf G) v sides
-  unfolding sidesOk
-  sides-ok t e =
-      e ∙ ap (λ (p : ℕ). ltb v p && all (λ s. ltb s 2) sides && eqb (length sides) count) (sym (particles-count G))
-      ∙ ap (λ (c : ℕ). ltb v (length (meshOf G .particles)) && all (λ s. ltb s 2) sides && eqb (length sides) c) (F .fan-cornered .count)
-
   -- the fan in its table is the definition's
   pub grid-is : fan (take (count * k) fan-verts) k v others sides ≡ gridOf (kindOf (meshOf G)) v (fanOf (kindOf (meshOf G)) (meshOf G) v) sides
   unfolding gridOf

@@ -1,7 +1,4 @@
 -- The laws of the entries. Assumes nothing.
-pub mod Asked
-pub mod Accepted
 pub mod Refusing
 pub mod Grouped
 pub mod Agree
-pub mod Torn

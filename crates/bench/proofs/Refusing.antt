@@ -4,25 +4,25 @@ use lib.Dec.{ltb}
 use lib.ListN.{length}
 use native.Mathlib.Omega.{arith}
 use mathlib.Core.Path.{_≡_, refl, sym, _∙_, ap}
-use mathlib.Core.Bool.{Bool, true, false, not, _&&_}
+use mathlib.Core.Bool.{Bool, true, false, _&&_}
 use mathlib.Core.List.{List}
 use lib.Ieee.{Float}
 use Rattle.lists.specs.Lists.{pick, all}
 use Rattle.blade.specs.declared.Point.{Point}
 use Rattle.blade.specs.declared.Hit.{Hit}
 use Rattle.blade.specs.Blade.{bladeHit}
-use Rattle.model.specs.Valid.{numbersFit, indicesFit}
 use Rattle.model.specs.Elements.{restMeasure, restMeasureOf}
 use Rattle.model.specs.Pieces.{pieces}
 use Rattle.model.specs.Cut.{Blade}
 use Rattle.model.specs.Calls.{pointOk, bladeOk, refusal, strictly, particlesOk}
 use Rattle.model.specs.Reads.{refused, value, orRefused, bladeCall, piecesCall, restMeasureCall, restMeasureOfCall}
 use Rattle.mesh.specs.Given.{Given, meshOf, sizesFit}
-use Rattle.mesh.specs.Checks.{thenCheck, firstFrom, faultOf}
+use Rattle.mesh.specs.Checks.{thenCheck, faultOf}
 use Rattle.mesh.proofs.Joined.{then-zero}
 use Rattle.mesh.proofs.Refusals.{fault-refuses}
-use Rattle.bench.specs.Accepted.{Accepted}
-use Rattle.bench.proofs.Accepted.{particles-count}
+use Rattle.asked.specs.Accepted.{Accepted}
+use Rattle.asked.proofs.Accepted.{particles-count}
+use Rattle.asked.proofs.Judged.{arguments-refuse, accepted}
 use Rattle.bench.specs.Answers.{numberOf, countOf, testedOf}
 use Rattle.bench.specs.declared.Number.the-variants.{Refused as NumberRefused, Value}
 use Rattle.bench.specs.declared.Count.the-variants.{Refused as CountRefused, Counted}
@@ -49,31 +49,6 @@ module _ (B : Blade) (p q : Point) (z : Bool) (e : z ≡ (bladeOk B && pointOk p
   blade-answers r f g = ap TestedAs g ∙ ap (λ (t : Bool). testedOf (orRefused (pick t 0 2) (bladeHit (B .from) (B .to) p q))) (sym f ∙ e)
 
 -- ---- a mesh, with arguments beside it
-
--- the four tests of a mesh and its arguments in their order
-four-in-order :
-    (sized numbers indices arguments : Bool)
-    → thenCheck (thenCheck (thenCheck (thenCheck 0 sized 1) numbers 2) indices 3) arguments 4
-    ≡ pick (not sized) 1 (pick (not (numbers && true)) 2 (pick (not indices) 3 (pick (not arguments) 4 0)))
-unfolding thenCheck
-four-in-order false numbers indices arguments = refl
-four-in-order true false indices arguments = refl
-four-in-order true true false arguments = refl
-four-in-order true true true false = refl
-four-in-order true true true true = refl
-
--- a bad argument refuses behind the faults of the mesh
-pub arguments-refuse : (G : Given) (t : Bool) → thenCheck (faultOf G) t 4 ≡ refusal (sizesFit G) (meshOf G) true t
-unfolding faultOf firstFrom refusal
-arguments-refuse G t = four-in-order (sizesFit G) (numbersFit (meshOf G)) (indicesFit (meshOf G)) t
-
--- a mesh without a fault is accepted
-pub accepted : (G : Given) → faultOf G ≡ 0 → Accepted G
-unfolding faultOf firstFrom
-accepted G e =
-    let a = then-zero (thenCheck (thenCheck 0 (sizesFit G) 1) (numbersFit (meshOf G)) 2) (indicesFit (meshOf G)) 3 (λ q. omega arith) e in
-    let b = then-zero (thenCheck 0 (sizesFit G) 1) (numbersFit (meshOf G)) 2 (λ q. omega arith) (a .0) in
-    record { sized = then-zero 0 (sizesFit G) 1 (λ q. omega arith) (b .0) .1; indices = a .1 }
 
 module _ (G : Given) (code : ℕ) where
   pub pieces-refuses : code ≡ faultOf G → (code ≡ 0 → ⊥) → CountRefused code ≡ countOf (piecesCall (sizesFit G) (meshOf G))

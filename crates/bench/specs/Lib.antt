@@ -1,3 +1,3 @@
 -- What the public entries answer, and what their workers ask and give.
 pub mod Answers
-pub mod Accepted
+pub mod Fans

@@ -1,6 +1,6 @@
 // The entries on the fan of a particle: its groups by sides, and whether they open it without confetti.
 ghost use mathlib.Core.Path.{_≡_};
-ghost use Prim.Native.Nat.{ℕ, _≤_};
+ghost use Prim.Native.Nat.{_≤_};
 ghost use lib.ListN.{length};
 ghost use Rattle.fan.specs.Fan.{fan};
 ghost use Rattle.fan.specs.Groups.{groupsOf, countOf};
@@ -8,12 +8,12 @@ ghost use Rattle.reach.specs.Opens.{Opens};
 ghost use Rattle.model.specs.Reads.{opensCall};
 ghost use Rattle.mesh.specs.Given.{given, meshOf, sizesFit};
 ghost use Rattle.mesh.specs.Checks.{faultOf};
-ghost use Rattle.bench.specs.Accepted.{FanAsked, GroupsFilled, WalkAsked};
+ghost use Rattle.bench.specs.Fans.{FanAsked, GroupsFilled, WalkAsked};
 ghost use Rattle.bench.specs.Answers.{groupsEntry, GroupsAnswered, truthOf};
 use crate::Count;
 use crate::Truth;
-use crate::tables;
-use crate::tests;
+use asked::tables;
+use asked::tests;
 
 // The groups of a fan at the front of a lent table, and 0 behind them. Returns how many groups there are.
 fn fill_groups(

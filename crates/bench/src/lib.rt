@@ -3,9 +3,7 @@ use blade::Hit;
 
 pub mod grouping;
 pub mod reading;
-mod tables;
 pub mod tearing;
-mod tests;
 
 // A number, or the number of a refusal.
 pub enum Number {

@@ -1,20 +1,18 @@
 // The entries that only read a mesh: pieces, measures.
 ghost use mathlib.Core.Path.{_≡_};
 ghost use mathlib.Core.Bool.{true};
-ghost use Prim.Native.Nat.{ℕ, _/_};
-ghost use lib.Dec.{ltb};
-ghost use lib.ListN.{length};
-ghost use Rattle.lists.specs.Lists.{all};
+ghost use Prim.Native.Nat.{_/_};
 ghost use Rattle.model.specs.Elements.{restMeasure, restMeasureOf};
 ghost use Rattle.model.specs.Pieces.{pieces as piecesOf};
-ghost use Rattle.model.specs.Calls.{pointOk, particlesOk};
+ghost use Rattle.model.specs.Calls.{particlesOk};
 ghost use Rattle.model.specs.Reads.{rootCall, bladeCall, piecesCall, restMeasureCall, restMeasureOfCall};
 ghost use Rattle.mesh.specs.Given.{given, meshOf, sizesFit};
-ghost use Rattle.bench.specs.Accepted.{Accepted};
+ghost use Rattle.asked.specs.Accepted.{Accepted};
 ghost use Rattle.bench.specs.Answers.{numberOf, countOf, testedOf};
 use crate::Count;
 use crate::Number;
 use crate::Tested;
+use asked::tests;
 use blade::Point;
 use float::root::Rooted;
 
@@ -29,20 +27,13 @@ pub fn root(x: f32) -> Number
     }
 }
 
-// Are both numbers of a point in range?
-fn point_fits(p: Point) -> bool
-    ensures { λ r. ⌜ r ≡ pointOk p ⌝ }
-{
-    mesh::tests::both(float::range::in_range(p.x), float::range::in_range(p.y))
-}
-
 // The blade from b0 to b1 on the edge from p to q: 2 where a number is out of range.
 pub fn blade_hit(b0: Point, b1: Point, p: Point, q: Point) -> Tested
     ensures { λ r. ⌜ r ≡ testedOf (bladeCall (record { from = b0; to = b1 }) p q) ⌝ }
 {
-    let z = mesh::tests::both(point_fits(b0), point_fits(b1));
-    let z = mesh::tests::both(z, point_fits(p));
-    let z = mesh::tests::both(z, point_fits(q));
+    let z = mesh::tests::both(tests::point_fits(b0), tests::point_fits(b1));
+    let z = mesh::tests::both(z, tests::point_fits(p));
+    let z = mesh::tests::both(z, tests::point_fits(q));
     if z {
         return Tested::Tested(blade::blade_hit(b0, b1, p, q));
     }
@@ -67,7 +58,7 @@ fn count_pieces(
     let mut measures = [0.0f32; 2048];
     let mut parent = [0usize; 1024];
     let mut seen = [0usize; 1024];
-    let s = crate::tables::table(
+    let s = asked::tables::table(
         points,
         roots,
         corners,
@@ -117,7 +108,7 @@ fn whole_measure(
     let mut numbers = [0usize; 2048];
     let mut verts = [0usize; 4096];
     let mut measures = [0.0f32; 2048];
-    let s = crate::tables::table(
+    let s = asked::tables::table(
         points,
         roots,
         corners,
@@ -169,7 +160,7 @@ fn listed_measure(
     let mut verts = [0usize; 4096];
     let mut measures = [0.0f32; 2048];
     let mut marks = [0usize; 1024];
-    let s = crate::tables::table(
+    let s = asked::tables::table(
         points,
         roots,
         corners,
@@ -198,7 +189,7 @@ pub fn rest_measure_of(
     ensures { λ r. ⌜ r ≡ numberOf (restMeasureOfCall (sizesFit (given (now (points .entry)) (now (roots .entry)) (now (corners .entry)) (now (volumes .entry)) (now (ends .entry)) (now (lengths .entry)) (now (outline .entry)))) (meshOf (given (now (points .entry)) (now (roots .entry)) (now (corners .entry)) (now (volumes .entry)) (now (ends .entry)) (now (lengths .entry)) (now (outline .entry)))) (now (list .entry))) ⌝ }
 {
     let code = mesh::checks::judge(points, roots, corners, volumes, ends, lengths, outline);
-    let ok = crate::tests::rising_below(list, points.len() / 6);
+    let ok = tests::rising_below(list, points.len() / 6);
     let code = mesh::tests::first(code, ok, 4);
     if code != 0 {
         return Number::Refused(code);

@@ -1,6 +1,7 @@
 -- `bench::grouping::groups` meets its contract: the faults of the mesh, or the groups. Assumes nothing.
 use Rattle.mesh.specs.Given.{given}
-use Rattle.bench.proofs.Grouped.{undecided, groups-refused}
+use Rattle.asked.proofs.Judged.{undecided}
+use Rattle.bench.proofs.Grouped.{groups-refused}
 use borrow.Author.Needs.{needs}
 use Rattle.bench.proofs.grouping.groups.Statement.{statement}
 use Rattle.bench.proofs.grouping.groups.Tie as tie

@@ -4,8 +4,8 @@ use borrow.Author.Needs.{needs}
 use native.Mathlib.Omega.{arith}
 use mathlib.Core.Path.{sym}
 use lib.Seq.{length-take-le}
-use Rattle.bench.proofs.Refusing.{accepted}
-use Rattle.bench.proofs.Grouped.{sides-ok, fan-asked, walk-asked, opens-answered, opens-refused, opens-found, four-of}
+use Rattle.asked.proofs.Judged.{accepted, sides-ok}
+use Rattle.bench.proofs.Grouped.{fan-asked, walk-asked, opens-answered, opens-refused, opens-found, four-of}
 use Rattle.bench.proofs.grouping.mesh_opens.Statement.{statement}
 use Rattle.bench.proofs.grouping.mesh_opens.Tie as tie
 

@@ -1,6 +1,7 @@
 -- `bench::grouping::opens_without_confetti` meets its contract: the faults of the mesh, or the walk. Assumes nothing.
 use Rattle.mesh.specs.Given.{given}
-use Rattle.bench.proofs.Grouped.{undecided, opens-refused}
+use Rattle.asked.proofs.Judged.{undecided}
+use Rattle.bench.proofs.Grouped.{opens-refused}
 use borrow.Author.Needs.{needs}
 use Rattle.bench.proofs.grouping.opens_without_confetti.Statement.{statement}
 use Rattle.bench.proofs.grouping.opens_without_confetti.Tie as tie

@@ -1,5 +1,5 @@
 -- `bench::reading::count_pieces` meets its contract: the table, and its pieces. Assumes nothing.
-use Rattle.bench.proofs.Accepted.{pieces-found}
+use Rattle.asked.proofs.Accepted.{pieces-found}
 use borrow.Author.Needs.{needs}
 use Rattle.bench.proofs.reading.count_pieces.Statement.{statement}
 use Rattle.bench.proofs.reading.count_pieces.Tie as tie

@@ -1,5 +1,6 @@
 -- `bench::reading::pieces` meets its contract: the faults of the mesh, or its pieces. Assumes nothing.
-use Rattle.bench.proofs.Refusing.{accepted, pieces-refuses, pieces-answers}
+use Rattle.asked.proofs.Judged.{accepted}
+use Rattle.bench.proofs.Refusing.{pieces-refuses, pieces-answers}
 use mathlib.Core.Path.{sym, _∙_}
 use borrow.Author.Needs.{needs}
 use Rattle.bench.proofs.reading.pieces.Statement.{statement}

@@ -1,5 +1,6 @@
 -- `bench::reading::rest_measure` meets its contract: the faults of the mesh, or its measure. Assumes nothing.
-use Rattle.bench.proofs.Refusing.{accepted, measure-refuses, measure-answers}
+use Rattle.asked.proofs.Judged.{accepted}
+use Rattle.bench.proofs.Refusing.{measure-refuses, measure-answers}
 use mathlib.Core.Path.{sym, _∙_}
 use borrow.Author.Needs.{needs}
 use Rattle.bench.proofs.reading.rest_measure.Statement.{statement}

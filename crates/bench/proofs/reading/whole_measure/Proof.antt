@@ -1,5 +1,5 @@
 -- `bench::reading::whole_measure` meets its contract: the table, and the sum of its measures. Assumes nothing.
-use Rattle.bench.proofs.Accepted.{measure-found}
+use Rattle.asked.proofs.Accepted.{measure-found}
 use borrow.Author.Needs.{needs}
 use Rattle.bench.proofs.reading.whole_measure.Statement.{statement}
 use Rattle.bench.proofs.reading.whole_measure.Tie as tie

@@ -1,0 +1,3 @@
+// What the entries ask beside the checks of a mesh: tests of their arguments, and the tables of an accepted mesh.
+pub mod tables;
+pub mod tests;

@@ -1,0 +1,3 @@
+-- The laws of the calls that give a mesh. Assumes nothing.
+pub mod Jobs
+pub mod Asked

@@ -1,0 +1,133 @@
+// The refusals 1 to 4 of a call: those of the mesh, then those of what stands beside it.
+ghost use mathlib.Core.Path.{_≡_};
+ghost use Rattle.model.specs.Calls.{sidesOk, refusal};
+ghost use Rattle.mesh.specs.Given.{given, meshOf, sizesFit, asRooms};
+ghost use Rattle.asked.specs.Accepted.{Accepted};
+ghost use Rattle.jobs.specs.Jobs.{jobNumbers, jobArguments};
+use crate::Job;
+use mesh::Rooms;
+
+// Are the numbers beside the mesh right?
+fn numbers_fit(job: Job) -> bool
+    ensures { λ r. ⌜ r ≡ jobNumbers job ⌝ }
+{
+    match job {
+        Job::Straddlers => true,
+        Job::Split(_) => true,
+        Job::Cut(b0, b1, _) => {
+            mesh::tests::both(asked::tests::point_fits(b0), asked::tests::point_fits(b1))
+        }
+    }
+}
+
+// Is v a particle of an accepted mesh, and is there a side for each element of its fan?
+fn sides_given(
+    v: usize,
+    sides: &[usize],
+    in_points: &[f32],
+    in_roots: &[usize],
+    in_corners: &[usize],
+    in_volumes: &[f32],
+    in_ends: &[usize],
+    in_lengths: &[f32],
+    in_outline: &[usize],
+) -> bool
+    requires { ⌜ Accepted (given (now «in_points») (now «in_roots») (now «in_corners») (now «in_volumes») (now «in_ends») (now «in_lengths») (now «in_outline»)) ⌝ }
+    ensures { λ r. ⌜ r ≡ sidesOk (meshOf (given (now («in_points» .entry)) (now («in_roots» .entry)) (now («in_corners» .entry)) (now («in_volumes» .entry)) (now («in_ends» .entry)) (now («in_lengths» .entry)) (now («in_outline» .entry)))) v (now (sides .entry)) ⌝ }
+{
+    let mut verts = [0usize; 4096];
+    let mut fan_verts = [0usize; 4096];
+    let f = asked::tables::fan_of(
+        in_points,
+        in_roots,
+        in_corners,
+        in_volumes,
+        in_ends,
+        in_lengths,
+        in_outline,
+        v,
+        &mut verts,
+        &mut fan_verts,
+    );
+    asked::tests::sides_fit(v, in_points.len() / 6, sides, f.fan)
+}
+
+// Are the arguments beside an accepted mesh right, and have its triangles room?
+fn arguments_fit(
+    job: Job,
+    list: &[usize],
+    room: Rooms,
+    in_points: &[f32],
+    in_roots: &[usize],
+    in_corners: &[usize],
+    in_volumes: &[f32],
+    in_ends: &[usize],
+    in_lengths: &[f32],
+    in_outline: &[usize],
+) -> bool
+    requires { ⌜ Accepted (given (now «in_points») (now «in_roots») (now «in_corners») (now «in_volumes») (now «in_ends») (now «in_lengths») (now «in_outline»)) ⌝ }
+    ensures { λ r. ⌜ r ≡ jobArguments job (now (list .entry)) (asRooms room) (meshOf (given (now («in_points» .entry)) (now («in_roots» .entry)) (now («in_corners» .entry)) (now («in_volumes» .entry)) (now («in_ends» .entry)) (now («in_lengths» .entry)) (now («in_outline» .entry)))) ⌝ }
+{
+    let lent = in_corners.len() / 3 <= room.triangles;
+    match job {
+        Job::Straddlers => lent,
+        Job::Split(v) => {
+            let fit = sides_given(
+                v,
+                list,
+                in_points,
+                in_roots,
+                in_corners,
+                in_volumes,
+                in_ends,
+                in_lengths,
+                in_outline,
+            );
+            mesh::tests::both(fit, lent)
+        }
+        Job::Cut(_, _, f) => mesh::tests::both(asked::tests::fraction_fits(f), lent),
+    }
+}
+
+// The refusals 1 to 4 of a call, or 0.
+pub fn judge(
+    job: Job,
+    list: &[usize],
+    room: Rooms,
+    in_points: &[f32],
+    in_roots: &[usize],
+    in_corners: &[usize],
+    in_volumes: &[f32],
+    in_ends: &[usize],
+    in_lengths: &[f32],
+    in_outline: &[usize],
+) -> usize
+    ensures { λ r. ⌜ r ≡ refusal (sizesFit (given (now («in_points» .entry)) (now («in_roots» .entry)) (now («in_corners» .entry)) (now («in_volumes» .entry)) (now («in_ends» .entry)) (now («in_lengths» .entry)) (now («in_outline» .entry)))) (meshOf (given (now («in_points» .entry)) (now («in_roots» .entry)) (now («in_corners» .entry)) (now («in_volumes» .entry)) (now («in_ends» .entry)) (now («in_lengths» .entry)) (now («in_outline» .entry)))) (jobNumbers job) (jobArguments job (now (list .entry)) (asRooms room) (meshOf (given (now («in_points» .entry)) (now («in_roots» .entry)) (now («in_corners» .entry)) (now («in_volumes» .entry)) (now («in_ends» .entry)) (now («in_lengths» .entry)) (now («in_outline» .entry))))) ⌝ }
+{
+    let fault = mesh::checks::judge(
+        in_points,
+        in_roots,
+        in_corners,
+        in_volumes,
+        in_ends,
+        in_lengths,
+        in_outline,
+    );
+    let code = asked::tests::with_numbers(fault, numbers_fit(job));
+    if code != 0 {
+        return code;
+    }
+    let ok = arguments_fit(
+        job,
+        list,
+        room,
+        in_points,
+        in_roots,
+        in_corners,
+        in_volumes,
+        in_ends,
+        in_lengths,
+        in_outline,
+    );
+    mesh::tests::first(code, ok, 4)
+}

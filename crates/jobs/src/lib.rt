@@ -1,0 +1,13 @@
+// The calls that give a mesh, said once for all: the checks, the copy of the input, and the work on it.
+pub mod calls;
+pub mod checks;
+
+use blade::Point;
+
+// What is to be done to a mesh: straddlers removed, a particle split, or a cut from one point to another with an insertion fraction.
+// A list stands beside it: the sides of a split, else nothing.
+pub enum Job {
+    Straddlers,
+    Split(usize),
+    Cut(Point, Point, f32),
+}
