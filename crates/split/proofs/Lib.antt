@@ -9,7 +9,6 @@ pub mod NamedLaws
 pub mod StepLaws
 pub mod TabledLaws
 pub mod NoteLaws
-pub mod MarkLaws
 pub mod OutlineLaws
 pub mod SettleLaws
 pub mod PieceMasks

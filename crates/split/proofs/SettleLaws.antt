@@ -5,10 +5,10 @@ use mathlib.Core.List.{List, [], _∷_, _++_, map}
 use Prim.Native.Nat.{ℕ, _+_, _-_, _/_, _<_, _≤_}
 use native.Mathlib.Omega.{arith}
 use borrow.Author.Tests.{leb-true, leb-false, lt-ltb, le-ltb}
-use lib.Dec.{leb}
-use lib.ListN.{length, length-append, length-map}
+use lib.Dec.{eqb, leb}
+use lib.ListN.{length, getD, length-append, length-map}
 use lib.Ieee.{Float}
-use Rattle.lists.specs.Lists.{upTo}
+use Rattle.lists.specs.Lists.{sift, upTo}
 use Rattle.lists.proofs.Stores.{tab-at}
 use Rattle.lists.proofs.Sifts.{upTo-length}
 use Rattle.columns.proofs.Blocks.{kept-le}
@@ -27,11 +27,12 @@ use Rattle.mesh.specs.declared.Counts.{Counts}
 use Rattle.mesh.specs.declared.Rooms.{Rooms}
 use Rattle.opening.specs.Opened.{RestsIn}
 use Rattle.rewire.specs.Stages.{GrownTo}
+use Rattle.rewire.specs.RoomsB.{Straddling, StraddleRoom, StraddlersMarked}
 use Rattle.rewire.specs.declared.Grown.{Grown}
 use Rattle.rewire.specs.declared.Grown.the-variants.{Lacking, Rows}
 use Rattle.split.specs.Tables.{Opens, TablesFit}
 use Rattle.split.specs.Steps.{SidesIn, loggedOf, settledWorld, SettleRoom}
-use Rattle.split.specs.Settling.{markedOf, copyWords, goneWords, SplitIn, MarkAsked, MarkedFor, BoundaryIn, BoundaryAsked, BoundaryTold, SplitAsked, SplitNoted, SettleAsked, SettledFor}
+use Rattle.split.specs.Settling.{markedOf, copyWords, goneWords, BoundaryIn, BoundaryAsked, BoundaryTold, SplitAsked, SplitNoted, SettleAsked, SettledFor}
 use Rattle.split.specs.declared.Ran.the-variants.{Refused, Done}
 use Rattle.split.proofs.NoteLaws.{map-both, gone-words, gone-count}
 
@@ -85,23 +86,18 @@ settle-asked K L k v before n count extra numbers verts measures groups lp lc lv
 
 -- ---- the whole
 
+-- the marks as they are counted
+counted-is : (mask : List ℕ) (s e : ℕ) → s ≡ length (sift (λ i. eqb (getD mask i 0) 1) (upTo e)) → s ≡ length (markedOf mask e)
+unfolding markedOf
+counted-is mask s e q = q
+
 module _ (K : Kind) (L : Rooms) (k : Counts) (v before n count extra : ℕ) (numbers verts groups : List ℕ) (points : List Float) (corners : List ℕ) (volumes : List Float) (ends : List ℕ) (lengths : List Float) (outline log : List ℕ) (A : SettleAsked K L k v before n count extra numbers verts groups (length points) (length corners) (length volumes) (length ends) (length lengths) outline (length log)) where
   -- what marking asks
-  pub mark-asked : (lm : ℕ) → 2048 ≤ lm → MarkAsked K n count (k .triangles) (k .edges) verts groups (length corners) (length volumes) (length ends) (length lengths) lm
+  pub mark-asked : (lm : ℕ) → 2048 ≤ lm → StraddleRoom K n (k .triangles) (k .edges) (length verts) (length groups) (length corners) (length ends) × (k .edges ≤ lm)
   mark-asked lm h =
       let C = A .room .counts in
       let R = A .room in
-      record {
-        ring = A .ring;
-        below = A .below;
-        few-triangles = omega (arith, C .triangles, R .few-triangles);
-        few-edges = omega (arith, C .edges, R .few-edges);
-        corners = omega (arith, C .triangles, R .corners);
-        volumes = omega (arith, C .triangles, R .volumes);
-        ends = omega (arith, C .edges, R .ends);
-        lengths = omega (arith, C .edges, R .lengths);
-        mask = omega (arith, C .edges, R .few-edges);
-      }
+      (record { ring = A .ring; corners = omega (arith, C .triangles, R .corners); ends = omega (arith, C .edges, R .ends) }, omega (arith, C .edges, R .few-edges))
 
   -- what the boundary asks
   pub boundary-asked : BoundaryAsked K v before n count (k .boundary) (L .boundary) numbers verts groups (length points) (length corners) outline
@@ -135,7 +131,7 @@ module _ (K : Kind) (L : Rooms) (k : Counts) (v before n count extra : ℕ) (num
   rests roots w h = ap restAt (tab-at (k .particles) (particleRow (length points / 6) (length roots / 2) points roots) w blank (omega (arith, A .copied-all, A .two)))
 
   module _ (measures : List Float) (O : Opening) (roots : List ℕ) (S : Opens K O v before n count numbers verts measures groups) where
-    split-of : SplitIn K O (W roots .mesh) v before n count (k .triangles) (k .edges) verts groups corners volumes ends lengths
+    split-of : Straddling K O (W roots .mesh) v before n count (k .triangles) (k .edges) verts groups corners volumes ends lengths
     unfolding worldAt meshAt
     split-of = record { at = S .at; before-is = S .before-is; count-is = S .count-is; ringed = S .ringed; triangles-are = refl; edges-are = refl }
 
@@ -155,17 +151,17 @@ module _ (K : Kind) (L : Rooms) (k : Counts) (v before n count extra : ℕ) (num
     unfolding worldAt
     log-was = log-length (k .log) log
 
-    module _ (mask : List ℕ) (s : ℕ) (D : MarkedFor K v before n count (k .triangles) (k .edges) verts groups corners volumes ends lengths mask s) where
+    module _ (mask : List ℕ) (s : ℕ) (D : StraddlersMarked K v before n count (k .triangles) (k .edges) verts groups corners ends mask s) where
       gone-are : map (goneWords ends) (markedOf mask (k .edges)) ≡ map wordsOf (goneEntries (straddles K (W roots .mesh) O) (W roots .mesh .edges))
       unfolding worldAt meshAt
-      gone-are = gone-words (straddles K (W roots .mesh) O) mask ends lengths (k .edges) (D .marks O (W roots .mesh) split-of)
+      gone-are = gone-words (straddles K (W roots .mesh) O) mask ends lengths (k .edges) (D .marks O (W roots .mesh) volumes lengths split-of)
 
       logged-count : length (loggedOf K O (W roots .mesh)) ≡ (count - 1) + s
       unfolding worldAt meshAt
       logged-count =
           length-append (splitEntries O) (goneEntries (straddles K (W roots .mesh) O) (W roots .mesh .edges))
           ∙ ap₂ (λ (a b : ℕ). a + b) (split-count O count (S .count-is))
-          (sym (gone-count (straddles K (W roots .mesh) O) mask ends lengths (k .edges) (D .marks O (W roots .mesh) split-of)) ∙ sym (D .counted))
+          (sym (gone-count (straddles K (W roots .mesh) O) mask ends lengths (k .edges) (D .marks O (W roots .mesh) volumes lengths split-of)) ∙ sym (counted-is mask s (k .edges) (D .counted)))
 
       logged-words : map (copyWords v before) (upTo (count - 1)) ++ map (goneWords ends) (markedOf mask (k .edges)) ≡ map wordsOf (loggedOf K O (W roots .mesh))
       logged-words =
@@ -193,7 +189,7 @@ module _ (K : Kind) (L : Rooms) (k : Counts) (v before n count extra : ℕ) (num
             };
       }
 
-  module _ (outline′ : List ℕ) (r : Grown) (rows : ℕ) (B : BoundaryTold K v before n count (k .boundary) (L .boundary) numbers verts groups points corners outline outline′ r) (q : r ≡ Rows rows) (mask : List ℕ) (s : ℕ) (D : MarkedFor K v before n count (k .triangles) (k .edges) verts groups corners volumes ends lengths mask s) where
+  module _ (outline′ : List ℕ) (r : Grown) (rows : ℕ) (B : BoundaryTold K v before n count (k .boundary) (L .boundary) numbers verts groups points corners outline outline′ r) (q : r ≡ Rows rows) (mask : List ℕ) (s : ℕ) (D : StraddlersMarked K v before n count (k .triangles) (k .edges) verts groups corners ends mask s) where
     grown : (measures : List Float) (O : Opening) (roots : List ℕ) → Opens K O v before n count numbers verts measures groups
         → GrownTo (Rows rows) (L .boundary) (settled K O (W roots .mesh) .boundary) (λ j. boundaryAt j outline′)
     grown measures O roots S = subst (λ (z : Grown). GrownTo z (L .boundary) (settled K O (W roots .mesh) .boundary) (λ j. boundaryAt j outline′)) q (sides-grown measures O roots S outline′ r B)
@@ -230,7 +226,7 @@ module _ (K : Kind) (L : Rooms) (k : Counts) (v before n count extra : ℕ) (num
                 record {
                   mask-long = omega (arith, C .edges, R .few-edges);
                   ends = omega (arith, C .edges, R .ends);
-                  room = omega (arith, D .counted, C .log, R .log);
+                  room = omega (arith, counted-is mask s (k .edges) (D .counted), C .log, R .log);
                 };
           }
 
@@ -244,8 +240,8 @@ module _ (K : Kind) (L : Rooms) (k : Counts) (v before n count extra : ℕ) (num
             → worldAt counts points roots corners volumes ends′ lengths′ outline′ log′ ≡ settledWorld K O (W roots)
         unfolding worldAt meshAt settledWorld settled
         world-is measures O roots S =
-            world-path (mesh-path refl refl (E .edges ∙ D .kept O (W roots .mesh) (split-of measures O roots S)) (grown measures O roots S .2))
-            (ap (λ (z : ℕ). logAt (k .log + (count - 1) + z) log′) (D .counted) ∙ N .noted ∙ ap (λ (w : List Words). logAt (k .log) log ++ w) (logged-words measures O roots S mask s D))
+            world-path (mesh-path refl refl (E .edges ∙ D .kept O (W roots .mesh) volumes lengths (split-of measures O roots S)) (grown measures O roots S .2))
+            (ap (λ (z : ℕ). logAt (k .log + (count - 1) + z) log′) (counted-is mask s (k .edges) (D .counted)) ∙ N .noted ∙ ap (λ (w : List Words). logAt (k .log) log ++ w) (logged-words measures O roots S mask s D))
 
         -- all has room
         pub settled-all : SettledFor K L extra v before n count numbers verts groups W (λ roots z. worldAt z points roots corners volumes ends′ lengths′ outline′ log′) (Done counts)

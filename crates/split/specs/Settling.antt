@@ -1,62 +1,27 @@
 -- Parts 4 to 6 of a split and its log, worker by worker. Only contracts between workers need this file. Definitions only.
 use Prim.Native.Nat.{ℕ, _+_, _-_, _/_, _<_, _≤_}
 use mathlib.Core.Path.{_≡_}
-use mathlib.Core.Bool.{not}
 use mathlib.Core.List.{List, map, _++_}
 use lib.ListN.{length, getD}
 use lib.Dec.{eqb}
 use lib.Ieee.{Float}
-use Rattle.lists.specs.Lists.{pick, sift, keep, upTo}
-use Rattle.model.specs.Mesh.{Edge, Mesh}
+use Rattle.lists.specs.Lists.{sift, upTo}
+use Rattle.model.specs.Mesh.{Mesh}
 use Rattle.model.specs.Elements.{Kind, Triangles, cornersPer}
-use Rattle.model.specs.Split.{Opening, straddles, followed, crackFacets}
-use Rattle.mesh.specs.At.{trianglesAt, edgesAt, boundaryAt}
+use Rattle.model.specs.Split.{Opening, followed, crackFacets}
+use Rattle.mesh.specs.At.{trianglesAt, boundaryAt}
 use Rattle.mesh.specs.Log.{World, Words, logAt}
 use Rattle.mesh.specs.declared.Counts.{Counts}
 use Rattle.mesh.specs.declared.Rooms.{Rooms}
 use Rattle.opening.specs.Opened.{Ringed, Numbered, RingRoom, RestsIn, CornersBelow}
 use Rattle.rewire.specs.Stages.{GrownTo}
-use Rattle.rewire.specs.RoomsB.{rowAt}
 use Rattle.rewire.specs.declared.Grown.{Grown}
 use Rattle.split.specs.Steps.{SidesIn, SettleRoom, SettlingTold}
 use Rattle.split.specs.declared.Ran.{Ran}
 
--- ---- 4: straddlers
-
 -- the places below e that the mask marks, rising
 unfoldable pub markedOf : List ℕ → ℕ → List ℕ
 markedOf mask e = sift (λ i. eqb (getD mask i 0) 1) (upTo e)
-
--- a split in tables, and a mesh with the triangles and the edges of the blocks
-pub record SplitIn (K : Kind) (O : Opening) (M : Mesh) (v before n count t e : ℕ) (verts groups corners : List ℕ) (volumes : List Float) (ends : List ℕ) (lengths : List Float) : Type 0 where
-  pub at : O .v ≡ v
-  pub before-is : O .before ≡ before
-  pub count-is : O .count ≡ count
-  pub ringed : Ringed (cornersPer K) O n verts groups
-  pub triangles-are : M .triangles ≡ trianglesAt t corners volumes
-  pub edges-are : M .edges ≡ edgesAt e ends lengths
-
--- what marking the straddlers asks: tables that fit, few rows within the blocks, and a mark for each edge
-pub record MarkAsked (K : Kind) (n count t e : ℕ) (verts groups : List ℕ) (lc lv le ll lm : ℕ) : Type 0 where
-  pub ring : RingRoom n (cornersPer K) (length verts) (length groups)
-  pub below : (i : ℕ) → i < n → getD groups i 0 < count
-  pub few-triangles : t ≤ 1024
-  pub few-edges : e ≤ 2048
-  pub corners : t ≤ lc / 3
-  pub volumes : t ≤ lv / 2
-  pub ends : e ≤ le / 4
-  pub lengths : e ≤ ll / 4
-  pub mask : e ≤ lm
-
--- the mask marks s edges, those that straddle, whatever split the tables hold
-pub record MarkedFor (K : Kind) (v before n count t e : ℕ) (verts groups corners : List ℕ) (volumes : List Float) (ends : List ℕ) (lengths : List Float) (mask : List ℕ) (s : ℕ) : Type 0 where
-  pub marks :
-      (O : Opening) (M : Mesh) → SplitIn K O M v before n count t e verts groups corners volumes ends lengths
-      → (i : ℕ) → i < e → getD mask i 0 ≡ pick (straddles K M O (rowAt ends lengths i)) 1 0
-  pub kept :
-      (O : Opening) (M : Mesh) → SplitIn K O M v before n count t e verts groups corners volumes ends lengths
-      → keep mask (edgesAt e ends lengths) ≡ sift (λ (a : Edge). not (straddles K M O a)) (edgesAt e ends lengths)
-  pub counted : s ≡ length (markedOf mask e)
 
 -- ---- 5 and 6: boundary and crack facets
 

@@ -5,66 +5,12 @@ ghost use lib.ListN.{length};
 ghost use lib.Dec.{leb};
 ghost use Rattle.elements.specs.Table.{kindIs};
 ghost use Rattle.mesh.specs.Log.{worldAt};
-ghost use Rattle.split.specs.Settling.{MarkAsked, MarkedFor, FacetsAsked, FacetsTold, BoundaryAsked, BoundaryTold, CopiesNoted, NoteAsked, GoneNoted, SplitAsked, SplitNoted, SettleAsked, SettledFor};
+ghost use Rattle.split.specs.Settling.{FacetsAsked, FacetsTold, BoundaryAsked, BoundaryTold, CopiesNoted, NoteAsked, GoneNoted, SplitAsked, SplitNoted, SettleAsked, SettledFor};
 use crate::Ran;
 use elements::Kind;
 use mesh::Counts;
 use mesh::Rooms;
 use rewire::Grown;
-
-// Marks the straddlers among the first e edges with 1, the others with 0; returns how many straddle.
-fn mark(
-    kind: Kind,
-    v: usize,
-    before: usize,
-    n: usize,
-    count: usize,
-    t: usize,
-    e: usize,
-    verts: &[usize],
-    groups: &[usize],
-    corners: &[usize],
-    volumes: &[f32],
-    ends: &[usize],
-    lengths: &[f32],
-    mask: &mut [usize],
-) -> usize
-    requires { ⌜ MarkAsked (kindIs kind) n count t e (now verts) (now groups) (length (now corners)) (length (now volumes)) (length (now ends)) (length (now lengths)) (length (now mask)) ⌝ }
-    ensures { λ r. ⌜ MarkedFor (kindIs kind) v before n count t e (now (verts .entry)) (now (groups .entry)) (now (corners .entry)) (now (volumes .entry)) (now (ends .entry)) (now (lengths .entry)) (now (mask .exit)) r ⌝ }
-{
-    let mut body_numbers = [0usize; 2048];
-    let mut body = [0usize; 4096];
-    let mut body_measures = [0.0f32; 2048];
-    let k = elements::corners_per(kind);
-    let m = elements::element_table(
-        kind,
-        t,
-        e,
-        corners,
-        volumes,
-        ends,
-        lengths,
-        &mut body_numbers,
-        &mut body,
-        &mut body_measures,
-    );
-    rewire::straddlers::mark_straddlers(
-        kind,
-        v,
-        before,
-        k,
-        n,
-        count,
-        e,
-        verts,
-        groups,
-        m,
-        k,
-        &body,
-        ends,
-        mask,
-    )
-}
 
 // Where the elements are triangles, appends the crack facets to the b entries of the outline.
 fn open_facets(
@@ -237,7 +183,7 @@ pub fn settle(
     let t = k.triangles;
     let e = k.edges;
     let mut mask = [0usize; 2048];
-    let s = mark(
+    let s = rewire::straddlers::mark_straddlers(
         kind,
         v,
         before,
@@ -248,9 +194,7 @@ pub fn settle(
         verts,
         groups,
         corners,
-        volumes,
         ends,
-        lengths,
         &mut mask,
     );
     let grown = open_boundary(
