@@ -1,7 +1,7 @@
 -- Laws of parts 4 to 6 as a whole: what each worker asks, the rooms that lack, and the world behind them. Assumes nothing.
 use mathlib.Core.Path.{_≡_, refl, sym, _∙_, ap, ap₂, subst}
 use mathlib.Core.Bool.{true, false}
-use mathlib.Core.List.{List, [], _∷_, _++_, map}
+use mathlib.Core.List.{List, [], _∷_, _++_, map, map-append}
 use Prim.Native.Nat.{ℕ, _+_, _-_, _/_, _<_, _≤_}
 use native.Mathlib.Omega.{arith}
 use borrow.Author.Tests.{leb-true, leb-false, lt-ltb, le-ltb}
@@ -27,14 +27,16 @@ use Rattle.mesh.specs.declared.Counts.{Counts}
 use Rattle.mesh.specs.declared.Rooms.{Rooms}
 use Rattle.opening.specs.Opened.{RestsIn}
 use Rattle.rewire.specs.Stages.{GrownTo}
-use Rattle.rewire.specs.RoomsB.{Straddling, StraddleRoom, StraddlersMarked}
+use Rattle.rewire.specs.RoomsB.{rowAt, Straddling, StraddleRoom, StraddlersMarked}
 use Rattle.rewire.specs.declared.Grown.{Grown}
 use Rattle.rewire.specs.declared.Grown.the-variants.{Lacking, Rows}
 use Rattle.split.specs.Tables.{Opens, TablesFit}
 use Rattle.split.specs.Steps.{SidesIn, loggedOf, settledWorld, SettleRoom}
-use Rattle.split.specs.Settling.{markedOf, copyWords, goneWords, BoundaryIn, BoundaryAsked, BoundaryTold, SplitAsked, SplitNoted, SettleAsked, SettledFor}
+use Rattle.split.specs.Straddling.{marked, markedOf, goneWords}
+use Rattle.split.specs.Settling.{copyWords, BoundaryIn, BoundaryAsked, BoundaryTold, SplitAsked, SplitNoted, SettleAsked, SettledFor}
 use Rattle.split.specs.declared.Ran.the-variants.{Refused, Done}
-use Rattle.split.proofs.NoteLaws.{map-both, gone-words, gone-count}
+use Rattle.split.proofs.NoteLaws.{gone-words, gone-count}
+use Rattle.split.proofs.PieceMasks.{mark-eqb}
 
 -- ---- rooms that lack
 
@@ -152,27 +154,24 @@ module _ (K : Kind) (L : Rooms) (k : Counts) (v before n count extra : ℕ) (num
     log-was = log-length (k .log) log
 
     module _ (mask : List ℕ) (s : ℕ) (D : StraddlersMarked K v before n count (k .triangles) (k .edges) verts groups corners ends mask s) where
+      marks-are : (j : ℕ) → j < k .edges → marked mask j ≡ straddles K (W roots .mesh) O (rowAt ends lengths j)
+      marks-are j h = ap (λ (z : ℕ). eqb z 1) (D .marks O (W roots .mesh) volumes lengths split-of j h) ∙ mark-eqb (straddles K (W roots .mesh) O (rowAt ends lengths j))
+
       gone-are : map (goneWords ends) (markedOf mask (k .edges)) ≡ map wordsOf (goneEntries (straddles K (W roots .mesh) O) (W roots .mesh .edges))
       unfolding worldAt meshAt
-      gone-are = gone-words (straddles K (W roots .mesh) O) mask ends lengths (k .edges) (D .marks O (W roots .mesh) volumes lengths split-of)
+      gone-are = sym (gone-words (straddles K (W roots .mesh) O) mask ends lengths (k .edges) marks-are)
 
       logged-count : length (loggedOf K O (W roots .mesh)) ≡ (count - 1) + s
       unfolding worldAt meshAt
       logged-count =
           length-append (splitEntries O) (goneEntries (straddles K (W roots .mesh) O) (W roots .mesh .edges))
           ∙ ap₂ (λ (a b : ℕ). a + b) (split-count O count (S .count-is))
-          (sym (gone-count (straddles K (W roots .mesh) O) mask ends lengths (k .edges) (D .marks O (W roots .mesh) volumes lengths split-of)) ∙ sym (counted-is mask s (k .edges) (D .counted)))
+          (gone-count (straddles K (W roots .mesh) O) mask ends lengths (k .edges) marks-are ∙ sym (counted-is mask s (k .edges) (D .counted)))
 
       logged-words : map (copyWords v before) (upTo (count - 1)) ++ map (goneWords ends) (markedOf mask (k .edges)) ≡ map wordsOf (loggedOf K O (W roots .mesh))
       logged-words =
           ap₂ (λ (a b : List Words). a ++ b) (sym (split-words O v before count (S .at) (S .before-is) (S .count-is))) gone-are
-          ∙ sym (map-both wordsOf (splitEntries O) (goneEntries (straddles K (W roots .mesh) O) (W roots .mesh .edges)))
-
-  -- the entries that fit are few
-  pub log-few : (s : ℕ) → leb ((count - 1) + s + extra) (L .log - k .log) ≡ true → k .log + (count - 1) + s ≤ 4096
-  log-few s f =
-      let b : (count - 1) + s + extra ≤ L .log - k .log = leb-true _ _ f in
-      omega (arith, A .room .counts .log, A .room .few-log)
+          ∙ sym (map-append wordsOf (splitEntries O) (goneEntries (straddles K (W roots .mesh) O) (W roots .mesh .edges)))
 
   -- the boundary lacks room
   pub refused-boundary : (outline′ : List ℕ) (r : Grown) → BoundaryTold K v before n count (k .boundary) (L .boundary) numbers verts groups points corners outline outline′ r → r ≡ Lacking
@@ -225,15 +224,15 @@ module _ (K : Kind) (L : Rooms) (k : Counts) (v before n count extra : ℕ) (num
             marked =
                 record {
                   mask-long = omega (arith, C .edges, R .few-edges);
-                  ends = omega (arith, C .edges, R .ends);
-                  room = omega (arith, counted-is mask s (k .edges) (D .counted), C .log, R .log);
+                  ends-long = omega (arith, C .edges, R .ends);
+                  log-long = omega (arith, counted-is mask s (k .edges) (D .counted), C .log, R .log);
                 };
           }
 
-      module _ (log′ : List ℕ) (N : SplitNoted v before (count - 1) (k .log) (k .edges) mask ends log log′) (left : ℕ) (ends′ : List ℕ) (lengths′ : List Float) (E : Removed mask (k .edges) left (edgesAt (k .edges) ends lengths) (edgesAt left ends′ lengths′)) where
+      module _ (log′ : List ℕ) (g : ℕ) (N : SplitNoted v before (count - 1) (k .log) (k .edges) mask ends log log′ g) (left : ℕ) (ends′ : List ℕ) (lengths′ : List Float) (E : Removed mask (k .edges) left (edgesAt (k .edges) ends lengths) (edgesAt left ends′ lengths′)) where
         -- the counts behind it
         abbrev counts : Counts
-        counts = record { particles = k .particles; triangles = k .triangles; edges = left; boundary = rows; log = k .log + (count - 1) + s }
+        counts = record { particles = k .particles; triangles = k .triangles; edges = left; boundary = rows; log = g }
 
         -- the world behind it
         world-is : (measures : List Float) (O : Opening) (roots : List ℕ) → Opens K O v before n count numbers verts measures groups
@@ -241,7 +240,7 @@ module _ (K : Kind) (L : Rooms) (k : Counts) (v before n count extra : ℕ) (num
         unfolding worldAt meshAt settledWorld settled
         world-is measures O roots S =
             world-path (mesh-path refl refl (E .edges ∙ D .kept O (W roots .mesh) volumes lengths (split-of measures O roots S)) (grown measures O roots S .2))
-            (ap (λ (z : ℕ). logAt (k .log + (count - 1) + z) log′) (counted-is mask s (k .edges) (D .counted)) ∙ N .noted ∙ ap (λ (w : List Words). logAt (k .log) log ++ w) (logged-words measures O roots S mask s D))
+            (N .entries ∙ ap (λ (w : List Words). logAt (k .log) log ++ w) (logged-words measures O roots S mask s D))
 
         -- all has room
         pub settled-all : SettledFor K L extra v before n count numbers verts groups W (λ roots z. worldAt z points roots corners volumes ends′ lengths′ outline′ log′) (Done counts)
@@ -266,7 +265,7 @@ module _ (K : Kind) (L : Rooms) (k : Counts) (v before n count extra : ℕ) (num
                             triangles = C .triangles;
                             edges = omega (arith, kept-le mask (k .edges), E .count, C .edges);
                             boundary = omega arith;
-                            log = omega arith;
+                            log = omega (arith, N .count, counted-is mask s (k .edges) (D .counted));
                           },
                           world-is measures O roots S,
                         );

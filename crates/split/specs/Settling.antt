@@ -3,9 +3,8 @@ use Prim.Native.Nat.{ℕ, _+_, _-_, _/_, _<_, _≤_}
 use mathlib.Core.Path.{_≡_}
 use mathlib.Core.List.{List, map, _++_}
 use lib.ListN.{length, getD}
-use lib.Dec.{eqb}
 use lib.Ieee.{Float}
-use Rattle.lists.specs.Lists.{sift, upTo}
+use Rattle.lists.specs.Lists.{upTo}
 use Rattle.model.specs.Mesh.{Mesh}
 use Rattle.model.specs.Elements.{Kind, Triangles, cornersPer}
 use Rattle.model.specs.Split.{Opening, followed, crackFacets}
@@ -17,11 +16,8 @@ use Rattle.opening.specs.Opened.{Ringed, Numbered, RingRoom, RestsIn, CornersBe
 use Rattle.rewire.specs.Stages.{GrownTo}
 use Rattle.rewire.specs.declared.Grown.{Grown}
 use Rattle.split.specs.Steps.{SidesIn, SettleRoom, SettlingTold}
+use Rattle.split.specs.Straddling.{markedOf, goneWords, NoteRoom}
 use Rattle.split.specs.declared.Ran.{Ran}
-
--- the places below e that the mask marks, rising
-unfoldable pub markedOf : List ℕ → ℕ → List ℕ
-markedOf mask e = sift (λ i. eqb (getD mask i 0) 1) (upTo e)
 
 -- ---- 5 and 6: boundary and crack facets
 
@@ -68,35 +64,23 @@ pub record BoundaryTold (K : Kind) (v before n count b room : ℕ) (numbers vert
 
 -- ---- the log
 
--- the words of a copy of v, and of edge i, which goes
+-- the words of a copy of v
 abbrev pub copyWords : ℕ → ℕ → ℕ → Words
 copyWords v before g = record { kind = 1; a = before + g; b = v; p = 0; q = 0; t = 0 }
-
-abbrev pub goneWords : List ℕ → ℕ → Words
-goneWords ends i = record { kind = 2; a = getD ends i 0; b = getD ends (length ends / 4 + i) 0; p = 0; q = 0; t = 0 }
 
 -- m copies are noted behind the entries
 pub record CopiesNoted (v before m at : ℕ) (log log′ : List ℕ) : Type 0 where
   pub noted : logAt (at + m) log′ ≡ logAt at log ++ map (copyWords v before) (upTo m)
 
--- what noting the marked among e edges asks
-pub record NoteAsked (at e : ℕ) (mask : List ℕ) (le lg : ℕ) : Type 0 where
-  pub mask-long : e ≤ length mask
-  pub ends : e ≤ le / 4
-  pub room : at + length (markedOf mask e) ≤ lg / 6
-
--- the marked edges are noted behind the entries
-pub record GoneNoted (at e : ℕ) (mask ends log log′ : List ℕ) : Type 0 where
-  pub noted : logAt (at + length (markedOf mask e)) log′ ≡ logAt at log ++ map (goneWords ends) (markedOf mask e)
-
--- what noting both asks
+-- what noting m copies and then the marked among e edges asks
 pub record SplitAsked (before m at e : ℕ) (mask : List ℕ) (le lg : ℕ) : Type 0 where
   pub small : before + m ≤ 65536
-  pub marked : NoteAsked (at + m) e mask le lg
+  pub marked : NoteRoom mask e (at + m) le lg
 
--- the copies and then the marked edges are noted
-pub record SplitNoted (v before m at e : ℕ) (mask ends log log′ : List ℕ) : Type 0 where
-  pub noted : logAt (at + m + length (markedOf mask e)) log′ ≡ logAt at log ++ (map (copyWords v before) (upTo m) ++ map (goneWords ends) (markedOf mask e))
+-- the copies and then the marked edges are noted, and the log has r entries
+pub record SplitNoted (v before m at e : ℕ) (mask ends log log′ : List ℕ) (r : ℕ) : Type 0 where
+  pub count : r ≡ at + m + length (markedOf mask e)
+  pub entries : logAt r log′ ≡ logAt at log ++ (map (copyWords v before) (upTo m) ++ map (goneWords ends) (markedOf mask e))
 
 -- ---- the whole
 

@@ -5,7 +5,7 @@ ghost use lib.ListN.{length};
 ghost use lib.Dec.{leb};
 ghost use Rattle.elements.specs.Table.{kindIs};
 ghost use Rattle.mesh.specs.Log.{worldAt};
-ghost use Rattle.split.specs.Settling.{FacetsAsked, FacetsTold, BoundaryAsked, BoundaryTold, CopiesNoted, NoteAsked, GoneNoted, SplitAsked, SplitNoted, SettleAsked, SettledFor};
+ghost use Rattle.split.specs.Settling.{FacetsAsked, FacetsTold, BoundaryAsked, BoundaryTold, CopiesNoted, SplitAsked, SplitNoted, SettleAsked, SettledFor};
 use crate::Ran;
 use elements::Kind;
 use mesh::Counts;
@@ -121,24 +121,7 @@ fn note_copies(v: usize, before: usize, m: usize, at: usize, log: &mut [usize])
     }
 }
 
-// Notes the marked among the first e edges, by their ends, behind the entries.
-fn note_gone(at: usize, e: usize, mask: &[usize], ends: &[usize], log: &mut [usize])
-    requires { ⌜ NoteAsked at e (now mask) (length (now ends)) (length (now log)) ⌝ }
-    ensures { λ _. ⌜ GoneNoted at e (now (mask .entry)) (now (ends .entry)) (now (log .entry)) (now (log .exit)) ⌝ }
-{
-    let c = ends.len() / 4;
-    let mut n = at;
-    let mut i: usize = 0;
-    while i < e {
-        if mask[i] == 1 {
-            mesh::rows::note(n, 2, ends[i], ends[c + i], 0, 0, 0, log);
-            n += 1;
-        }
-        i += 1;
-    }
-}
-
-// Notes m copies of v and then the marked edges.
+// Notes m copies of v and then the marked edges; returns how many entries there are.
 fn note_split(
     v: usize,
     before: usize,
@@ -148,12 +131,12 @@ fn note_split(
     mask: &[usize],
     ends: &[usize],
     log: &mut [usize],
-)
+) -> usize
     requires { ⌜ SplitAsked before m at e (now mask) (length (now ends)) (length (now log)) ⌝ }
-    ensures { λ _. ⌜ SplitNoted v before m at e (now (mask .entry)) (now (ends .entry)) (now (log .entry)) (now (log .exit)) ⌝ }
+    ensures { λ r. ⌜ SplitNoted v before m at e (now (mask .entry)) (now (ends .entry)) (now (log .entry)) (now (log .exit)) r ⌝ }
 {
     note_copies(v, before, m, at, log);
-    note_gone(at + m, e, mask, ends, log);
+    crate::straddlers::note_edges(mask, e, at + m, ends, log)
 }
 
 // Parts 4 to 6 of a split and its log, on a mesh whose edges are at their longest, with `extra` entries to come.
@@ -219,13 +202,13 @@ pub fn settle(
     if !log_fits(room.log - k.log, m, s, extra) {
         return Ran::Refused(8);
     }
-    note_split(v, before, m, k.log, e, &mask, ends, log);
+    let entries = note_split(v, before, m, k.log, e, &mask, ends, log);
     let left = mesh::rows::remove_edges(&mask, e, ends, lengths);
     Ran::Done(Counts {
         particles: k.particles,
         triangles: t,
         edges: left,
         boundary: rows,
-        log: k.log + m + s,
+        log: entries,
     })
 }

@@ -1,5 +1,5 @@
 -- `split::settle::settle` meets its contract: what each part asks and tells is in proofs/SettleLaws.antt. Assumes nothing.
-use Rattle.split.proofs.SettleLaws.{mark-asked, boundary-asked, refused-boundary, refused-log, split-asked, settled-all, log-few}
+use Rattle.split.proofs.SettleLaws.{mark-asked, boundary-asked, refused-boundary, refused-log, split-asked, settled-all}
 use Rattle.elements.specs.Table.{kindIs}
 use borrow.Author.Tests.{not-true, not-false}
 use mathlib.Core.Path.{refl, _∙_, sym}
@@ -72,32 +72,22 @@ slice-aggregate-remove-edges c = search needs
 remove-edges-requires : tie.Need-remove-edges-requires
 remove-edges-requires c κs = (omega (arith, c .before .before .before .before .before .before .before .before .before .before .before .before .before .before .before .before .before .before .before .before .before .mark-straddlers .kept .1 .1 .1 .1 .1 .1 .1 .1 .1 .1 .1 .0, c .before .before .before .before .before .before .before .before .before .before .before .before .before .before .before .before .before .before .before .before .before .before .before .before .before .before .before .before .before .before .before .before .before .before .pre .room .counts .edges, c .before .before .before .before .before .before .before .before .before .before .before .before .before .before .before .before .before .before .before .before .before .before .before .before .before .before .before .before .before .before .before .before .before .before .pre .room .few-edges), record { ends = omega (arith, c .before .before .before .before .before .before .before .before .before .before .before .before .before .before .before .before .before .before .before .before .before .before .before .before .before .before .before .before .before .before .before .before .before .before .pre .room .counts .edges, c .before .before .before .before .before .before .before .before .before .before .before .before .before .before .before .before .before .before .before .before .before .before .before .before .before .before .before .before .before .before .before .before .before .before .pre .room .ends); lengths = omega (arith, c .before .before .before .before .before .before .before .before .before .before .before .before .before .before .before .before .before .before .before .before .before .before .before .before .before .before .before .before .before .before .before .before .before .before .pre .room .counts .edges, c .before .before .before .before .before .before .before .before .before .before .before .before .before .before .before .before .before .before .before .before .before .before .before .before .before .before .before .before .before .before .before .before .before .before .pre .room .lengths) })
 
-add-t34 : tie.Need-add-t34
-add-t34 c = let A = c .before .before .before .before .before .before .before .before .before .before .before .before .before .before .before .before .before .before .before .before .before .before .before .before .before .before .before .before .before .before .before .before .before .before .before .before .before .before .before .before .args in
-    let P = c .before .before .before .before .before .before .before .before .before .before .before .before .before .before .before .before .before .before .before .before .before .before .before .before .before .before .before .before .before .before .before .before .before .before .before .before .before .before .before .before .pre in
-    omega (arith, log-few (kindIs (A .kind)) (A .room) (A .k) (A .v) (A .before) (A .n) (A .count) (A .extra) (A .numbers .now) (A .verts .now) (A .groups .now) (A .points .now) (A .corners .now) (A .volumes .now) (A .ends .now) (A .lengths .now) (A .outline .now) (A .log .now) P _ (sym (c .before .before .before .before .before .before .before .before .before .before .before .before .before .before .before .before .log-fits .ensures) ∙ not-false _ (c .before .before .before .before .before .before .before .before .before .before .before .before .before .before .before .if1 .left)))
-
-add-t49 : tie.Need-add-t49
-add-t49 c = let A = c .before .before .before .before .before .before .before .before .before .before .before .before .before .before .before .before .before .before .before .before .before .before .before .before .before .before .before .before .before .before .before .before .before .before .before .before .before .before .before .before .args in
-    let P = c .before .before .before .before .before .before .before .before .before .before .before .before .before .before .before .before .before .before .before .before .before .before .before .before .before .before .before .before .before .before .before .before .before .before .before .before .before .before .before .before .pre in
-    omega (arith, log-few (kindIs (A .kind)) (A .room) (A .k) (A .v) (A .before) (A .n) (A .count) (A .extra) (A .numbers .now) (A .verts .now) (A .groups .now) (A .points .now) (A .corners .now) (A .volumes .now) (A .ends .now) (A .lengths .now) (A .outline .now) (A .log .now) P _ (sym (c .before .before .before .before .before .before .before .before .before .before .before .before .before .before .before .before .log-fits .ensures) ∙ not-false _ (c .before .before .before .before .before .before .before .before .before .before .before .before .before .before .before .if1 .left)))
-
 same-length-5 : tie.Need-same-length-5
-same-length-5 c = c .before .before .before .before .before .remove-edges .kept .1 .1 .0
+same-length-5 c = c .before .before .before .before .remove-edges .kept .1 .1 .0
 
 same-length-6 : tie.Need-same-length-6
-same-length-6 c = c .before .before .before .before .before .remove-edges .kept .1 .1 .1 .0
+same-length-6 c = c .before .before .before .before .remove-edges .kept .1 .1 .1 .0
 
 same-length-7 : tie.Need-same-length-7
-same-length-7 c = c .before .before .before .before .before .before .before .before .before .before .before .before .before .before .before .before .before .before .before .before .before .before .before .before .open-boundary .kept .1 .1 .1 .1 .1 .1 .1 .1 .1 .1 .1 .1 .0
+same-length-7 c = c .before .before .before .before .before .before .before .before .before .before .before .before .before .before .before .before .before .before .before .before .before .before .before .open-boundary .kept .1 .1 .1 .1 .1 .1 .1 .1 .1 .1 .1 .1 .0
 
 same-length-8 : tie.Need-same-length-8
-same-length-8 c = c .before .before .before .before .before .before .before .before .before .before .before .note-split .kept .1 .1 .1 .1 .1 .1 .1 .0
+same-length-8 c = c .before .before .before .before .before .before .before .before .before .before .note-split .kept .1 .1 .1 .1 .1 .1 .1 .0
 
 returns-3 : tie.Need-returns-3
-returns-3 c = let A = c .before .before .before .before .before .before .before .before .before .before .before .before .before .before .before .before .before .before .before .before .before .before .before .before .before .before .before .before .before .before .before .before .before .before .before .before .before .before .before .before .args in
-    let P = c .before .before .before .before .before .before .before .before .before .before .before .before .before .before .before .before .before .before .before .before .before .before .before .before .before .before .before .before .before .before .before .before .before .before .before .before .before .before .before .before .pre in
-    settled-all (kindIs (A .kind)) (A .room) (A .k) (A .v) (A .before) (A .n) (A .count) (A .extra) (A .numbers .now) (A .verts .now) (A .groups .now) (A .points .now) (A .corners .now) (A .volumes .now) (A .ends .now) (A .lengths .now) (A .outline .now) (A .log .now) P _ _ _ (c .before .before .before .before .before .before .before .before .before .before .before .before .before .before .before .before .before .before .before .before .before .before .before .before .open-boundary .ensures) (c .before .before .before .before .before .before .before .before .before .before .before .before .before .before .before .before .before .before .before .before .grown .given .1) _ _ (c .before .before .before .before .before .before .before .before .before .before .before .before .before .before .before .before .before .before .before .before .before .before .before .before .before .before .before .mark-straddlers .ensures) (sym (c .before .before .before .before .before .before .before .before .before .before .before .before .before .before .before .before .log-fits .ensures) ∙ not-false _ (c .before .before .before .before .before .before .before .before .before .before .before .before .before .before .before .if1 .left)) _ (c .before .before .before .before .before .before .before .before .before .before .before .note-split .ensures) _ _ _ (c .before .before .before .before .before .remove-edges .ensures)
+returns-3 c = let A = c .before .before .before .before .before .before .before .before .before .before .before .before .before .before .before .before .before .before .before .before .before .before .before .before .before .before .before .before .before .before .before .before .before .before .before .before .before .before .before .args in
+    let P = c .before .before .before .before .before .before .before .before .before .before .before .before .before .before .before .before .before .before .before .before .before .before .before .before .before .before .before .before .before .before .before .before .before .before .before .before .before .before .before .pre in
+    settled-all (kindIs (A .kind)) (A .room) (A .k) (A .v) (A .before) (A .n) (A .count) (A .extra) (A .numbers .now) (A .verts .now) (A .groups .now) (A .points .now) (A .corners .now) (A .volumes .now) (A .ends .now) (A .lengths .now) (A .outline .now) (A .log .now) P _ _ _ (c .before .before .before .before .before .before .before .before .before .before .before .before .before .before .before .before .before .before .before .before .before .before .before .open-boundary .ensures) (c .before .before .before .before .before .before .before .before .before .before .before .before .before .before .before .before .before .before .before .grown .given .1) _ _ (c .before .before .before .before .before .before .before .before .before .before .before .before .before .before .before .before .before .before .before .before .before .before .before .before .before .before .mark-straddlers .ensures) (sym (c .before .before .before .before .before .before .before .before .before .before .before .before .before .before .before .log-fits .ensures) ∙ not-false _ (c .before .before .before .before .before .before .before .before .before .before .before .before .before .before .if1 .left)) _ _ (c .before .before .before .before .before .before .before .before .before .before .note-split .ensures) _ _ _ (c .before .before .before .before .remove-edges .ensures)
 
 pub settle-spec : {M : Type 1} → statement M
 settle-spec =
@@ -121,8 +111,6 @@ settle-spec =
     note-split-requires
     slice-aggregate-remove-edges
     remove-edges-requires
-    add-t34
-    add-t49
     same-length-5
     same-length-6
     same-length-7
