@@ -11,6 +11,7 @@ pub mod TabledLaws
 pub mod NoteLaws
 pub mod OutlineLaws
 pub mod SettleLaws
+pub mod DropLaws
 pub mod PieceMasks
 pub mod PieceTables
 pub mod Straddled

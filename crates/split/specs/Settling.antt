@@ -1,23 +1,26 @@
 -- Parts 4 to 6 of a split and its log, worker by worker. Only contracts between workers need this file. Definitions only.
 use Prim.Native.Nat.{ℕ, _+_, _-_, _/_, _<_, _≤_}
 use mathlib.Core.Path.{_≡_}
+use mathlib.Core.Bool.{not}
 use mathlib.Core.List.{List, map, _++_}
 use lib.ListN.{length, getD}
 use lib.Ieee.{Float}
-use Rattle.lists.specs.Lists.{upTo}
-use Rattle.model.specs.Mesh.{Mesh}
+use Rattle.lists.specs.Lists.{sift, upTo}
+use Rattle.model.specs.Mesh.{Edge, Mesh}
 use Rattle.model.specs.Elements.{Kind, Triangles, cornersPer}
-use Rattle.model.specs.Split.{Opening, followed, crackFacets}
-use Rattle.mesh.specs.At.{trianglesAt, boundaryAt}
-use Rattle.mesh.specs.Log.{World, Words, logAt}
+use Rattle.model.specs.Split.{Opening, straddles, followed, crackFacets}
+use Rattle.mesh.specs.At.{trianglesAt, edgesAt, boundaryAt}
+use Rattle.mesh.specs.Log.{World, Words, wordsOf, logAt}
 use Rattle.mesh.specs.declared.Counts.{Counts}
 use Rattle.mesh.specs.declared.Rooms.{Rooms}
 use Rattle.opening.specs.Opened.{Ringed, Numbered, RingRoom, RestsIn, CornersBelow}
 use Rattle.rewire.specs.Stages.{GrownTo}
+use Rattle.rewire.specs.RoomsB.{Straddling, StraddleRoom}
 use Rattle.rewire.specs.declared.Grown.{Grown}
-use Rattle.split.specs.Steps.{SidesIn, SettleRoom, SettlingTold}
+use Rattle.split.specs.Steps.{SidesIn, loggedOf, SettleRoom, SettlingTold}
 use Rattle.split.specs.Straddling.{markedOf, goneWords, NoteRoom}
 use Rattle.split.specs.declared.Ran.{Ran}
+use Rattle.split.specs.declared.Ran.the-variants.{Refused, Done}
 
 -- ---- 5 and 6: boundary and crack facets
 
@@ -81,6 +84,41 @@ pub record SplitAsked (before m at e : ℕ) (mask : List ℕ) (le lg : ℕ) : Ty
 pub record SplitNoted (v before m at e : ℕ) (mask ends log log′ : List ℕ) (r : ℕ) : Type 0 where
   pub count : r ≡ at + m + length (markedOf mask e)
   pub entries : logAt r log′ ≡ logAt at log ++ (map (copyWords v before) (upTo m) ++ map (goneWords ends) (markedOf mask e))
+
+-- ---- 4: straddlers, with the log of the split
+
+-- what the removal of straddlers asks: tables that fit, few edges, and a log within its room
+pub record DropAsked (K : Kind) (L : Rooms) (k : Counts) (before n count extra lv lg lc le ll llog : ℕ) : Type 0 where
+  pub straddle : StraddleRoom K n (k .triangles) (k .edges) lv lg lc le
+  pub few-edges : k .edges ≤ 2048
+  pub lengths : k .edges ≤ ll / 4
+  pub some : 1 ≤ count
+  pub small : before + count ≤ 65536
+  pub one-extra : extra ≤ 1
+  pub log-in : k .log ≤ L .log
+  pub log-long : L .log ≤ llog / 6
+
+-- the straddlers of a split of M are gone from the edges, and the split is logged, with room for `extra` entries
+pub record EdgesDropped (K : Kind) (O : Opening) (M : Mesh) (L : Rooms) (k q : Counts) (extra rows : ℕ) (ends ends′ : List ℕ) (lengths lengths′ : List Float) (log log′ : List ℕ) : Type 0 where
+  pub particles : q .particles ≡ k .particles
+  pub triangles : q .triangles ≡ k .triangles
+  pub boundary : q .boundary ≡ rows
+  pub few-edges : q .edges ≤ k .edges
+  pub count : q .log ≡ k .log + length (loggedOf K O M)
+  pub fits : k .log + (length (loggedOf K O M) + extra) ≤ L .log
+  pub edges : edgesAt (q .edges) ends′ lengths′ ≡ sift (λ (a : Edge). not (straddles K M O a)) (edgesAt (k .edges) ends lengths)
+  pub entries : logAt (q .log) log′ ≡ logAt (k .log) log ++ map wordsOf (loggedOf K O M)
+
+-- what was told of the removal: the log lacks room; or the new counts
+abbrev pub DroppedTo : Kind → Opening → Mesh → Rooms → Counts → ℕ → ℕ → List ℕ → List ℕ → List Float → List Float → List ℕ → List ℕ → Ran → Type 0
+DroppedTo K O M L k extra rows ends ends′ lengths lengths′ log log′ (Refused c) = (c ≡ 8) × (L .log < k .log + (length (loggedOf K O M) + extra))
+DroppedTo K O M L k extra rows ends ends′ lengths lengths′ log log′ (Done q) = EdgesDropped K O M L k q extra rows ends ends′ lengths lengths′ log log′
+
+-- for every split that the tables hold
+pub record Dropped (K : Kind) (L : Rooms) (k : Counts) (v before n count extra rows : ℕ) (verts groups corners ends ends′ : List ℕ) (lengths lengths′ : List Float) (log log′ : List ℕ) (r : Ran) : Type 0 where
+  pub told :
+      (O : Opening) (M : Mesh) (volumes : List Float) → Straddling K O M v before n count (k .triangles) (k .edges) verts groups corners volumes ends lengths
+      → DroppedTo K O M L k extra rows ends ends′ lengths lengths′ log log′ r
 
 -- ---- the whole
 

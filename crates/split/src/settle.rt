@@ -5,7 +5,7 @@ ghost use lib.ListN.{length};
 ghost use lib.Dec.{leb};
 ghost use Rattle.elements.specs.Table.{kindIs};
 ghost use Rattle.mesh.specs.Log.{worldAt};
-ghost use Rattle.split.specs.Settling.{FacetsAsked, FacetsTold, BoundaryAsked, BoundaryTold, CopiesNoted, SplitAsked, SplitNoted, SettleAsked, SettledFor};
+ghost use Rattle.split.specs.Settling.{FacetsAsked, FacetsTold, BoundaryAsked, BoundaryTold, CopiesNoted, SplitAsked, SplitNoted, DropAsked, Dropped, SettleAsked, SettledFor};
 use crate::Ran;
 use elements::Kind;
 use mesh::Counts;
@@ -139,6 +139,57 @@ fn note_split(
     crate::straddlers::note_edges(mask, e, at + m, ends, log)
 }
 
+// The straddlers go, and the log tells of the split, if it has room for that and for `extra` entries more; `rows` boundary entries are there by now.
+fn drop_straddlers(
+    kind: Kind,
+    v: usize,
+    before: usize,
+    n: usize,
+    count: usize,
+    extra: usize,
+    rows: usize,
+    k: Counts,
+    room: Rooms,
+    verts: &[usize],
+    groups: &[usize],
+    corners: &[usize],
+    ends: &mut [usize],
+    lengths: &mut [f32],
+    log: &mut [usize],
+) -> Ran
+    requires { ⌜ DropAsked (kindIs kind) room k before n count extra (length (now verts)) (length (now groups)) (length (now corners)) (length (now ends)) (length (now lengths)) (length (now log)) ⌝ }
+    ensures { λ r. ⌜ Dropped (kindIs kind) room k v before n count extra rows (now (verts .entry)) (now (groups .entry)) (now (corners .entry)) (now (ends .entry)) (now (ends .exit)) (now (lengths .entry)) (now (lengths .exit)) (now (log .entry)) (now (log .exit)) r ⌝ }
+{
+    let mut mask = [0usize; 2048];
+    let s = rewire::straddlers::mark_straddlers(
+        kind,
+        v,
+        before,
+        n,
+        count,
+        k.triangles,
+        k.edges,
+        verts,
+        groups,
+        corners,
+        ends,
+        &mut mask,
+    );
+    let m = count - 1;
+    if !log_fits(room.log - k.log, m, s, extra) {
+        return Ran::Refused(8);
+    }
+    let entries = note_split(v, before, m, k.log, k.edges, &mask, ends, log);
+    let left = mesh::rows::remove_edges(&mask, k.edges, ends, lengths);
+    Ran::Done(Counts {
+        particles: k.particles,
+        triangles: k.triangles,
+        edges: left,
+        boundary: rows,
+        log: entries,
+    })
+}
+
 // Parts 4 to 6 of a split and its log, on a mesh whose edges are at their longest, with `extra` entries to come.
 pub fn settle(
     kind: Kind,
@@ -163,23 +214,6 @@ pub fn settle(
     requires { ⌜ SettleAsked (kindIs kind) room k v before n count extra (now numbers) (now verts) (now groups) (length (now points)) (length (now corners)) (length (now volumes)) (length (now ends)) (length (now lengths)) (now outline) (length (now log)) ⌝ }
     ensures { λ r. ⌜ SettledFor (kindIs kind) room extra v before n count (now (numbers .entry)) (now (verts .entry)) (now (groups .entry)) (λ roots. worldAt k (now (points .entry)) roots (now (corners .entry)) (now (volumes .entry)) (now (ends .entry)) (now (lengths .entry)) (now (outline .entry)) (now (log .entry))) (λ roots q. worldAt q (now (points .entry)) roots (now (corners .entry)) (now (volumes .entry)) (now (ends .exit)) (now (lengths .exit)) (now (outline .exit)) (now (log .exit))) r ⌝ }
 {
-    let t = k.triangles;
-    let e = k.edges;
-    let mut mask = [0usize; 2048];
-    let s = rewire::straddlers::mark_straddlers(
-        kind,
-        v,
-        before,
-        n,
-        count,
-        t,
-        e,
-        verts,
-        groups,
-        corners,
-        ends,
-        &mut mask,
-    );
     let grown = open_boundary(
         kind,
         v,
@@ -198,17 +232,21 @@ pub fn settle(
     let Grown::Rows(rows) = grown else {
         return Ran::Refused(7);
     };
-    let m = count - 1;
-    if !log_fits(room.log - k.log, m, s, extra) {
-        return Ran::Refused(8);
-    }
-    let entries = note_split(v, before, m, k.log, e, &mask, ends, log);
-    let left = mesh::rows::remove_edges(&mask, e, ends, lengths);
-    Ran::Done(Counts {
-        particles: k.particles,
-        triangles: t,
-        edges: left,
-        boundary: rows,
-        log: entries,
-    })
+    drop_straddlers(
+        kind,
+        v,
+        before,
+        n,
+        count,
+        extra,
+        rows,
+        k,
+        room,
+        verts,
+        groups,
+        corners,
+        ends,
+        lengths,
+        log,
+    )
 }
