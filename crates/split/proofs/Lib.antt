@@ -9,9 +9,9 @@ pub mod NamedLaws
 pub mod StepLaws
 pub mod TabledLaws
 pub mod NoteLaws
-pub mod MarkLaws
 pub mod OutlineLaws
 pub mod SettleLaws
+pub mod DropLaws
 pub mod PieceMasks
 pub mod PieceTables
 pub mod Straddled
