@@ -5,3 +5,5 @@ pub mod WayLaws
 pub mod TearLaws
 pub mod TornLaws
 pub mod TriedLaws
+pub mod BodyLaws
+pub mod ListedLaws
