@@ -43,7 +43,7 @@ use Rattle.split.proofs.Placed.{corners-in, ends-in, sides-in}
 use Rattle.split.proofs.Runs.{works-stay, works-as, works-then, works-refused}
 use Rattle.cut.proofs.CutLaws.{works-known}
 use Rattle.crack.specs.Loads.{LoadsRead}
-use Rattle.crack.specs.Bodies.{EndsKept, endsListed, CracksTold, crackEnd}
+use Rattle.crack.specs.Bodies.{EndsKept, endsListed, CracksTold, crackTurns, crackEnd}
 
 -- ---- what a worker leaves is ready for the next
 
@@ -298,21 +298,31 @@ module _ (K : Kind) (min : ℕ) (is : List ℕ) (k : Counts) (points : List Floa
   unfolding meshAt
   ends-held = ends-torn held (k .edges) ends from to lengths refl N is
 
-  -- the torn edges in turn, by those
-  abbrev turns : Run → Run
-  turns R = fold (crackEdge K (loadsOf K held) min) R (endsListed (k .edges) from to is)
+  -- so the torn edges that were cracked by them are the mesh's
+  pub turns-work : {L : Rooms} {at : Counts → World} {r : Ran} → CracksTold K min (k .triangles) (endsListed (k .edges) from to is) loads L world at r → Works (crackTurns K min is) L world at r
+  unfolding crackTurns worldAt
+  turns-work F =
+      works-as
+      (λ R e.
+      ap (λ (abs : List (ℕ × ℕ)). fold (crackEdge K (loadsOf K held) min) R abs) (sym ends-held)
+      ∙ ap (λ (x : World). fold (crackEdge K (loadsOf K (x .mesh)) min) R (tornEnds (x .mesh) is)) e)
+      (F .works (loadsOf K held) loads-held)
 
-  crack-is : (R : Run) → world ≡ worldOf (R .mesh) (R .log) → crackEnd K (turns R) ≡ crack K min is R
-  unfolding crack crackEnd worldAt
-  crack-is R e =
-      ap (λ (abs : List (ℕ × ℕ)). crackEnd K (fold (crackEdge K (loadsOf K held) min) R abs)) (sym ends-held)
-      ∙ ap (λ (x : World). crackEnd K (fold (crackEdge K (loadsOf K (x .mesh)) min) R (tornEnds (x .mesh) is))) e
+pub turns-indexed : (K : Kind) (min : ℕ) (is : List ℕ) (R : Run) → Indexed (R .mesh) → Indexed (crackTurns K min is R .mesh)
+unfolding crackTurns
+turns-indexed K min is R X = fold-indexed (crackEdge K (loadsOf K (R .mesh)) min) (edge-indexed K (loadsOf K (R .mesh)) min) R (tornEnds (R .mesh) is) X
 
-  module _ {L : Rooms} {at : Counts → World} (r : Ran) (F : CracksTold K min (k .triangles) (endsListed (k .edges) from to is) loads L world at r) where
-    pub body-refused : {at′ : Counts → World} (c : ℕ) → r ≡ Refused c → Works (crack K min is) L world at′ r
+-- the end behind the torn edges is the whole
+module _ (K : Kind) (min : ℕ) (is : List ℕ) where
+  crack-is : (R : Run) → crackEnd K (crackTurns K min is R) ≡ crack K min is R
+  unfolding crack crackEnd crackTurns
+  crack-is R = refl
+
+  module _ {L : Rooms} {W : World} {at : Counts → World} (r : Ran) (F : Works (crackTurns K min is) L W at r) where
+    pub body-refused : {at′ : Counts → World} (c : ℕ) → r ≡ Refused c → Works (crack K min is) L W at′ r
     body-refused {at′} c known =
         works-known (Refused c) r (sym known)
-        (works-as crack-is (works-refused (crackEnd K) {at = at} {at′ = at′} (λ R. end-onward K (turns R)) (works-known r (Refused c) known (F .works (loadsOf K held) loads-held))))
+        (works-as (λ R e. crack-is R) (works-refused (crackEnd K) {at = at} {at′ = at′} (λ R. end-onward K (crackTurns K min is R)) (works-known r (Refused c) known F)))
 
-    pub body-done : {at′ : Counts → World} (q : Counts) {s : Ran} → r ≡ Done q → Works (crackEnd K) L (at q) at′ s → Works (crack K min is) L world at′ s
-    body-done q known G = works-as crack-is (works-then (works-known r (Done q) known (F .works (loadsOf K held) loads-held)) G)
+    pub body-done : {at′ : Counts → World} (k : Counts) {s : Ran} → r ≡ Done k → Works (crackEnd K) L (at k) at′ s → Works (crack K min is) L W at′ s
+    body-done k known G = works-as (λ R e. crack-is R) (works-then (works-known r (Done k) known F) G)

@@ -11,7 +11,7 @@ use Rattle.model.specs.Elements.{Kind, Triangles}
 use Rattle.model.specs.Run.{Run, splitsOf}
 use Rattle.model.specs.Pieces.{removeStraddlers}
 use Rattle.model.specs.Cut.{splitPinched}
-use Rattle.model.specs.Crack.{crackEdge}
+use Rattle.model.specs.Crack.{loadsOf, crackEdge, tornEnds}
 use Rattle.mesh.specs.Log.{World}
 use Rattle.mesh.specs.declared.Counts.{Counts}
 use Rattle.mesh.specs.declared.Rooms.{Rooms}
@@ -49,6 +49,10 @@ pub record CracksRoom (K : Kind) (e lf lt : ℕ) (k : Counts) (lo : ℕ) (log : 
 -- the torn edges with these ends in the input are cracked in turn, whatever loads of t triangles stand in the table
 pub record CracksTold (K : Kind) (min t : ℕ) (abs : List (ℕ × ℕ)) (loads : List Float) (L : Rooms) (W : World) (at : Counts → World) (r : Ran) : Type 0 where
   pub works : (ls : List Float) → (K ≡ Triangles → take t loads ≡ ls) → Works (λ R. fold (crackEdge K ls min) R abs) L W at r
+
+-- each of the listed torn edges in turn, by its ends in the input and the loads of the input
+unfoldable pub crackTurns : Kind → ℕ → List ℕ → Run → Run
+crackTurns K min is R = fold (crackEdge K (loadsOf K (R .mesh)) min) R (tornEnds (R .mesh) is)
 
 -- ---- behind them
 
