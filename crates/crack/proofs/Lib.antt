@@ -7,3 +7,5 @@ pub mod TornLaws
 pub mod TriedLaws
 pub mod PairLaws
 pub mod OpenLaws
+pub mod BodyLaws
+pub mod ListedLaws

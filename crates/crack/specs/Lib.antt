@@ -6,3 +6,4 @@ pub mod Tears
 pub mod Torn
 pub mod Tried
 pub mod Cracks
+pub mod Bodies
