@@ -137,6 +137,21 @@ pub fn work(
             outline,
             log,
         ),
+        Job::Crack(minimum) => crack::body::crack_body(
+            kind,
+            minimum,
+            list,
+            k,
+            room,
+            points,
+            roots,
+            corners,
+            volumes,
+            ends,
+            lengths,
+            outline,
+            log,
+        ),
     }
 }
 

@@ -17,6 +17,7 @@ fn numbers_fit(job: Job) -> bool
         Job::Cut(b0, b1, _) => {
             mesh::tests::both(asked::tests::point_fits(b0), asked::tests::point_fits(b1))
         }
+        Job::Crack(_) => true,
     }
 }
 
@@ -86,6 +87,7 @@ fn arguments_fit(
             mesh::tests::both(fit, lent)
         }
         Job::Cut(_, _, f) => mesh::tests::both(asked::tests::fraction_fits(f), lent),
+        Job::Crack(_) => lent,
     }
 }
 
