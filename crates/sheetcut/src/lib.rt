@@ -4,8 +4,7 @@ ghost use mathlib.Core.List.{[]};
 ghost use lib.ListN.{length};
 ghost use Rattle.mesh.specs.At.{trianglesAt, edgesAt};
 ghost use Rattle.mesh.specs.Filled.{lent};
-ghost use Rattle.listing.specs.Answers.{Wrote};
-ghost use Rattle.sheetcut.specs.SheetCut.{fraction as tenth};
+ghost use Rattle.sheetcut.specs.SheetCut.{fraction as tenth, Told};
 ghost use Rattle.sheetcut.specs.Work.{piecesIn, Countable, Listable, textOf, Roomy, FrontsRead};
 use answer::Answer;
 use listing::Written;
@@ -65,7 +64,7 @@ fn list_answer(
     out: &mut [u8],
 ) -> Written
     requires { ⌜ Listable a (now corners) (now volumes) (now ends) (now lengths) (length (now log)) ⌝ }
-    ensures { λ r. ⌜ Wrote (textOf a (now (corners .entry)) (now (volumes .entry)) (now (ends .entry)) (now (lengths .entry)) (now (log .entry))) (length (now (out .entry))) (now (out .exit)) r ⌝ }
+    ensures { λ r. ⌜ Told (textOf a (now (corners .entry)) (now (volumes .entry)) (now (ends .entry)) (now (lengths .entry)) (now (log .entry))) (length (now (out .entry))) (now (out .exit)) r ⌝ }
 {
     match a {
         Answer::Refused(n) => listing::write_refused(n, out),
