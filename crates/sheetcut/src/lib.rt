@@ -13,8 +13,6 @@ ghost use Rattle.mesh.specs.At.{trianglesAt, edgesAt};
 ghost use Rattle.mesh.specs.Filled.{lent};
 ghost use Rattle.sheetcut.specs.SheetCut.{fraction as tenth, rooms, limits as most, cutOf, listed, Told};
 ghost use Rattle.sheetcut.specs.Work.{piecesIn, Countable, Listable, textOf, Roomy, Cuttable, fronts, FrontsRead};
-
-
 use answer::Answer;
 use blade::Point;
 use listing::Written;
