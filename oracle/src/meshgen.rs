@@ -285,7 +285,7 @@ fn further(r: &mut Rng, m: &mut Mesh, outline: bool) {
     }
 }
 /// Numbers of every column.
-fn values(r: &mut Rng, m: &mut Mesh) {
+pub fn values(r: &mut Rng, m: &mut Mesh) {
     let deformed = r.chance(3);
     let strange = r.chance(3);
     let stresses = r.below(7);

@@ -233,37 +233,35 @@ pub fn write_case(out: &mut String, c: &Case, a: &Answer) {
     writeln!(out, "end").unwrap();
 }
 
+/// The line of a C function's call and arguments.
+pub fn args_line(out: &mut String, a: &Args) {
+    match a {
+        Args::Root { bits } => writeln!(out, "root {bits:08x}"),
+        Args::BladeHit { words, .. } => writeln!(out, "blade_hit {}", hex_words(words)),
+        Args::Groups { v, sides } => writeln!(out, "groups {v} {}", list(sides)),
+        Args::Opens { v, sides, minimum } => writeln!(out, "opens {minimum} {v} {}", list(sides)),
+        Args::RestMeasure => writeln!(out, "rest_measure"),
+        Args::RestMeasureOf { list: l, .. } => writeln!(out, "rest_measure_of {}", list(l)),
+        Args::Pieces => writeln!(out, "pieces"),
+        Args::Split { v, sides } => writeln!(out, "split_fan {v} {}", list(sides)),
+        Args::Straddlers => writeln!(out, "straddlers"),
+        Args::Cut { blade, fraction, .. } => writeln!(out, "cut {} {fraction:08x}", hex_words(blade)),
+        Args::Crack { torn, minimum, .. } => writeln!(out, "crack {minimum} {}", list(torn)),
+    }
+    .unwrap();
+}
 /// A call of a C function, with what is wrong with its bytes and what it must answer.
 pub fn write_input(out: &mut String, seed: u64, i: &Input, want: &Expected) {
     writeln!(out, "case {seed}").unwrap();
     write_mesh(out, &i.image.mesh);
-    let (mut length, mut list_bytes) = (i.image.length, None);
-    match &i.args {
-        Args::Root { bits } => writeln!(out, "root {bits:08x}"),
-        Args::BladeHit { words, length: l } => {
-            length = *l;
-            writeln!(out, "blade_hit {}", hex_words(words))
+    args_line(out, &i.args);
+    let (length, list_bytes) = match i.args {
+        Args::BladeHit { length, .. } => (length, None),
+        Args::RestMeasureOf { length, .. } | Args::Cut { length, .. } | Args::Crack { length, .. } => {
+            (i.image.length, length)
         }
-        Args::Groups { v, sides } => writeln!(out, "groups {v} {}", list(sides)),
-        Args::Opens { v, sides, minimum } => writeln!(out, "opens {minimum} {v} {}", list(sides)),
-        Args::RestMeasure => writeln!(out, "rest_measure"),
-        Args::RestMeasureOf { list: l, length: n } => {
-            list_bytes = *n;
-            writeln!(out, "rest_measure_of {}", list(l))
-        }
-        Args::Pieces => writeln!(out, "pieces"),
-        Args::Split { v, sides } => writeln!(out, "split_fan {v} {}", list(sides)),
-        Args::Straddlers => writeln!(out, "straddlers"),
-        Args::Cut { blade, length: n, fraction } => {
-            list_bytes = *n;
-            writeln!(out, "cut {} {fraction:08x}", hex_words(blade))
-        }
-        Args::Crack { torn, length: n, minimum } => {
-            list_bytes = *n;
-            writeln!(out, "crack {minimum} {}", list(torn))
-        }
-    }
-    .unwrap();
+        _ => (i.image.length, None),
+    };
     if let Some(n) = list_bytes {
         writeln!(out, "list_bytes {n}").unwrap();
     }
