@@ -139,43 +139,19 @@ fn list<T: std::fmt::Display>(xs: &[T]) -> String {
 fn min_text(m: Option<u32>) -> String {
     m.map_or("-".into(), |n| n.to_string())
 }
+/// The tag of a list's rows, and whether their f32 stand first.
+const ROWS: [(&str, bool); 4] = [("p", true), ("t", false), ("e", false), ("b", false)];
 pub fn write_mesh(out: &mut String, m: &Mesh) {
-    writeln!(out, "mesh {} {} {} {}", m.px.len(), m.ta.len(), m.ea.len(), m.ba.len()).unwrap();
-    for i in 0..m.px.len() {
-        writeln!(
-            out,
-            "p {} {} {} {} {} {} {} {}",
-            h(m.px[i]),
-            h(m.py[i]),
-            h(m.rx[i]),
-            h(m.ry[i]),
-            h(m.mass[i]),
-            h(m.inv[i]),
-            m.root[i],
-            m.damaged[i]
-        )
-        .unwrap();
-    }
-    for i in 0..m.ta.len() {
-        writeln!(out, "t {} {} {} {} {}", m.ta[i], m.tb[i], m.tc[i], h(m.volume[i]), h(m.tstress[i])).unwrap();
-    }
-    for i in 0..m.ea.len() {
-        writeln!(
-            out,
-            "e {} {} {} {} {} {} {} {}",
-            m.ea[i],
-            m.eb[i],
-            m.structural[i],
-            m.torn[i],
-            h(m.rest[i]),
-            h(m.initial[i]),
-            h(m.impulse[i]),
-            h(m.estress[i])
-        )
-        .unwrap();
-    }
-    for i in 0..m.ba.len() {
-        writeln!(out, "b {} {}", m.ba[i], m.bb[i]).unwrap();
+    let counts = [m.px.len(), m.ta.len(), m.ea.len(), m.ba.len()];
+    writeln!(out, "mesh {} {} {} {}", counts[0], counts[1], counts[2], counts[3]).unwrap();
+    for (list, (tag, floats_first)) in ROWS.into_iter().enumerate() {
+        let (f, n) = COLUMNS[list].clone();
+        for i in 0..counts[list] {
+            let mut row: Vec<String> = m.floats()[f.clone()].iter().map(|c| h(c[i])).collect();
+            let at = if floats_first { row.len() } else { 0 };
+            row.splice(at..at, m.numbers()[n.clone()].iter().map(|c| c[i].to_string()));
+            writeln!(out, "{tag} {}", row.join(" ")).unwrap();
+        }
     }
 }
 fn blade_text(b: &Blade) -> String {
@@ -314,42 +290,16 @@ pub fn read_mesh<'a>(lines: &mut impl Iterator<Item = &'a str>) -> Mesh {
     let head: Vec<&str> = lines.next().unwrap().split(' ').collect();
     assert_eq!(head[0], "mesh");
     let mut m = Mesh::default();
-    let mut row = |tag: &str| -> Vec<&'a str> {
-        let w: Vec<&str> = lines.next().unwrap().split(' ').collect();
-        assert_eq!(w[0], tag);
-        w
-    };
-    for _ in 0..n(head[1]) {
-        let w = row("p");
-        for (c, s) in [&mut m.px, &mut m.py, &mut m.rx, &mut m.ry, &mut m.mass, &mut m.inv].into_iter().zip(&w[1..]) {
-            c.push(f(s));
+    for (list, (tag, floats_first)) in ROWS.into_iter().enumerate() {
+        let (floats, numbers) = COLUMNS[list].clone();
+        for _ in 0..n(head[1 + list]) {
+            let w: Vec<&str> = lines.next().unwrap().split(' ').collect();
+            assert_eq!((w[0], w.len()), (tag, 1 + floats.len() + numbers.len()));
+            let (a, b) = w[1..].split_at(if floats_first { floats.len() } else { numbers.len() });
+            let (fs, ns) = if floats_first { (a, b) } else { (b, a) };
+            m.floats_mut()[floats.clone()].iter_mut().zip(fs).for_each(|(c, s)| c.push(f(s)));
+            m.numbers_mut()[numbers.clone()].iter_mut().zip(ns).for_each(|(c, s)| c.push(n(s)));
         }
-        m.root.push(n(w[7]));
-        m.damaged.push(n(w[8]));
-    }
-    for _ in 0..n(head[2]) {
-        let w = row("t");
-        m.ta.push(n(w[1]));
-        m.tb.push(n(w[2]));
-        m.tc.push(n(w[3]));
-        m.volume.push(f(w[4]));
-        m.tstress.push(f(w[5]));
-    }
-    for _ in 0..n(head[3]) {
-        let w = row("e");
-        m.ea.push(n(w[1]));
-        m.eb.push(n(w[2]));
-        m.structural.push(n(w[3]));
-        m.torn.push(n(w[4]));
-        m.rest.push(f(w[5]));
-        m.initial.push(f(w[6]));
-        m.impulse.push(f(w[7]));
-        m.estress.push(f(w[8]));
-    }
-    for _ in 0..n(head[4]) {
-        let w = row("b");
-        m.ba.push(n(w[1]));
-        m.bb.push(n(w[2]));
     }
     m
 }
