@@ -96,7 +96,8 @@ fn lend(r: &mut Rng, i: &mut Input) -> usize {
     torn_need(i, &ran)
 }
 
-fn args(r: &mut Rng, entry: Entry, kind: Kind, m: &Mesh) -> Args {
+/// Good arguments of a call on this mesh; those of the kind at a limit may be one beyond.
+pub fn args(r: &mut Rng, entry: Entry, kind: Kind, m: &Mesh) -> Args {
     let n = m.px.len() as u32;
     let v = if n == 0 { 0 } else { r.below(n) };
     // A large mesh is also asked at its busiest particle.
