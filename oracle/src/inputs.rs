@@ -144,6 +144,10 @@ pub fn args(r: &mut Rng, entry: Entry, kind: Kind, m: &Mesh) -> Args {
             if let (true, Some(&e)) = (r.chance(6), torn.first()) {
                 torn.push(e);
             }
+            // The longest list that is taken, and one number more.
+            if kind == Kind::Limit && !torn.is_empty() && r.chance(4) {
+                torn = torn.iter().copied().cycle().take(r.pick(&[2048, 2049])).collect();
+            }
             Args::Crack { torn, length: None, minimum: r.pick(&[0, 1, 1, 1, 2, 3, 3, 5, 500, u32::MAX]) }
         }
     }

@@ -370,10 +370,15 @@ fn cut(image: &[u8], blade: &[u8], fraction: u32, rooms: &[u8], log: usize) -> T
     answered(second::cut(&m, Blade::new(f[0], f[1], f[2], f[3]), f32::from_bits(fraction)), &places, log)
 }
 
+/// The bytes of the longest torn list that is taken.
+pub const MOST_TORN: usize = 4 * 2048;
 fn crack(image: &[u8], torn: &[u8], minimum: u32, rooms: &[u8], log: usize) -> Torn {
     let m = judge(image)?;
     let places = lent_places(&m, rooms)?;
     if torn.len() % 4 != 0 && !has(TornPart) {
+        return Err(4);
+    }
+    if torn.len() > MOST_TORN {
         return Err(4);
     }
     answered(second::crack(&m, &words_of(torn), Some(minimum)), &places, log)
