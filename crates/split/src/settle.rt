@@ -4,8 +4,10 @@ ghost use Prim.Native.Nat.{_+_, _/_, _≤_};
 ghost use lib.ListN.{length};
 ghost use lib.Dec.{leb};
 ghost use Rattle.elements.specs.Table.{kindIs};
+ghost use Rattle.mesh.specs.At.{edgesAt};
 ghost use Rattle.mesh.specs.Log.{worldAt};
-ghost use Rattle.split.specs.Settling.{FacetsAsked, FacetsTold, BoundaryAsked, BoundaryTold, CopiesNoted, SplitAsked, SplitNoted, DropAsked, Dropped, SettleAsked, SettledFor};
+ghost use Rattle.mesh.specs.Workers.{Removed};
+ghost use Rattle.split.specs.Settling.{FacetsAsked, FacetsTold, BoundaryAsked, BoundaryTold, CopiesNoted, SplitAsked, SplitNoted, MarkedRoom, DropAsked, Dropped, SettleAsked, SettledFor};
 use crate::Ran;
 use elements::Kind;
 use mesh::Counts;
@@ -139,6 +141,17 @@ fn note_split(
     crate::straddlers::note_edges(mask, e, at + m, ends, log)
 }
 
+// Removes the s marked edges from the first e, and returns how many are left; where none is marked there is nothing to move.
+fn drop_marked(mask: &[usize], e: usize, s: usize, ends: &mut [usize], lengths: &mut [f32]) -> usize
+    requires { ⌜ MarkedRoom (now mask) e s (length (now ends)) (length (now lengths)) ⌝ }
+    ensures { λ r. ⌜ Removed (now (mask .entry)) e r (edgesAt e (now (ends .entry)) (now (lengths .entry))) (edgesAt r (now (ends .exit)) (now (lengths .exit))) ⌝ }
+{
+    if s == 0 {
+        return e;
+    }
+    mesh::rows::remove_edges(mask, e, ends, lengths)
+}
+
 // The straddlers go, and the log tells of the split, if it has room for that and for `extra` entries more; `rows` boundary entries are there by now.
 fn drop_straddlers(
     kind: Kind,
@@ -180,7 +193,7 @@ fn drop_straddlers(
         return Ran::Refused(8);
     }
     let entries = note_split(v, before, m, k.log, k.edges, &mask, ends, log);
-    let left = mesh::rows::remove_edges(&mask, k.edges, ends, lengths);
+    let left = drop_marked(&mask, k.edges, s, ends, lengths);
     Ran::Done(Counts {
         particles: k.particles,
         triangles: k.triangles,

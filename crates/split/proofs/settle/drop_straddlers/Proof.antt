@@ -1,5 +1,5 @@
 -- `split::settle::drop_straddlers` meets its contract: what each part asks and tells is in proofs/DropLaws.antt. Assumes nothing.
-use Rattle.split.proofs.DropLaws.{drop-refused, split-asked, drop-done}
+use Rattle.split.proofs.DropLaws.{counted-is, drop-refused, split-asked, drop-done}
 use Rattle.elements.specs.Table.{kindIs}
 use borrow.Author.Tests.{not-true, not-false}
 use mathlib.Core.Path.{refl, _∙_, sym}
@@ -39,18 +39,19 @@ note-split-requires c κs = let A = c .before .before .before .before .before .b
     let P = c .before .before .before .before .before .before .before .before .before .before .before .before .before .before .before .before .before .pre in
     split-asked (kindIs (A .kind)) (A .room) (A .k) (A .v) (A .before) (A .n) (A .count) (A .extra) (A .rows) (A .verts .now) (A .groups .now) (A .corners .now) (A .ends .now) (A .lengths .now) (A .log .now) P _ _ (c .before .before .before .before .before .before .before .before .mark-straddlers .ensures) (sym (c .before .before .before .before .log-fits .ensures) ∙ not-false _ (c .before .before .before .if1 .left)) (omega (arith, c .before .before .before .before .before .before .before .before .mark-straddlers .kept .1 .1 .1 .1 .1 .1 .1 .1 .1 .1 .1 .0))
 
-slice-aggregate-remove-edges : tie.Need-slice-aggregate-remove-edges
-slice-aggregate-remove-edges c = search needs
+slice-aggregate-drop-marked : tie.Need-slice-aggregate-drop-marked
+slice-aggregate-drop-marked c = search needs
 
-remove-edges-requires : tie.Need-remove-edges-requires
-remove-edges-requires c κs = let P = c .before .before .before .before .before .before .before .before .before .before .before .before .before .before .before .before .before .before .before .before .before .before .before .pre in
-    (omega (arith, c .before .before .before .before .before .before .before .before .before .before .before .before .before .before .mark-straddlers .kept .1 .1 .1 .1 .1 .1 .1 .1 .1 .1 .1 .0, P .few-edges), record { ends = P .straddle .ends; lengths = P .lengths })
+drop-marked-requires : tie.Need-drop-marked-requires
+drop-marked-requires c κs = let P = c .before .before .before .before .before .before .before .before .before .before .before .before .before .before .before .before .before .before .before .before .before .before .before .pre in
+    let D = c .before .before .before .before .before .before .before .before .before .before .before .before .before .before .mark-straddlers in
+    record { long = omega (arith, D .kept .1 .1 .1 .1 .1 .1 .1 .1 .1 .1 .1 .0, P .few-edges); counted = counted-is _ _ _ (D .ensures .counted); rows = record { ends = P .straddle .ends; lengths = P .lengths } }
 
 same-length-2 : tie.Need-same-length-2
-same-length-2 c = c .before .before .before .before .remove-edges .kept .1 .1 .0
+same-length-2 c = c .before .before .before .before .drop-marked .kept .1 .1 .1 .0
 
 same-length-3 : tie.Need-same-length-3
-same-length-3 c = c .before .before .before .before .remove-edges .kept .1 .1 .1 .0
+same-length-3 c = c .before .before .before .before .drop-marked .kept .1 .1 .1 .1 .0
 
 same-length-4 : tie.Need-same-length-4
 same-length-4 c = c .before .before .before .before .before .before .before .before .before .before .note-split .kept .1 .1 .1 .1 .1 .1 .1 .0
@@ -58,7 +59,7 @@ same-length-4 c = c .before .before .before .before .before .before .before .bef
 returns-2 : tie.Need-returns-2
 returns-2 c = let A = c .before .before .before .before .before .before .before .before .before .before .before .before .before .before .before .before .before .before .before .before .before .before .before .before .before .before .before .before .args in
     let P = c .before .before .before .before .before .before .before .before .before .before .before .before .before .before .before .before .before .before .before .before .before .before .before .before .before .before .before .before .pre in
-    drop-done (kindIs (A .kind)) (A .room) (A .k) (A .v) (A .before) (A .n) (A .count) (A .extra) (A .rows) (A .verts .now) (A .groups .now) (A .corners .now) (A .ends .now) (A .lengths .now) (A .log .now) P _ _ (c .before .before .before .before .before .before .before .before .before .before .before .before .before .before .before .before .before .before .before .mark-straddlers .ensures) (sym (c .before .before .before .before .before .before .before .before .before .before .before .before .before .before .before .log-fits .ensures) ∙ not-false _ (c .before .before .before .before .before .before .before .before .before .before .before .before .before .before .if1 .left)) _ _ (c .before .before .before .before .before .before .before .before .before .before .note-split .ensures) _ _ _ (c .before .before .before .before .remove-edges .ensures)
+    drop-done (kindIs (A .kind)) (A .room) (A .k) (A .v) (A .before) (A .n) (A .count) (A .extra) (A .rows) (A .verts .now) (A .groups .now) (A .corners .now) (A .ends .now) (A .lengths .now) (A .log .now) P _ _ (c .before .before .before .before .before .before .before .before .before .before .before .before .before .before .before .before .before .before .before .mark-straddlers .ensures) (sym (c .before .before .before .before .before .before .before .before .before .before .before .before .before .before .before .log-fits .ensures) ∙ not-false _ (c .before .before .before .before .before .before .before .before .before .before .before .before .before .before .if1 .left)) _ _ (c .before .before .before .before .before .before .before .before .before .before .note-split .ensures) _ _ _ (c .before .before .before .before .drop-marked .ensures)
 
 pub drop-straddlers-spec : {M : Type 1} → statement M
 drop-straddlers-spec =
@@ -73,8 +74,8 @@ drop-straddlers-spec =
     returns
     slice-aggregate-note-split
     note-split-requires
-    slice-aggregate-remove-edges
-    remove-edges-requires
+    slice-aggregate-drop-marked
+    drop-marked-requires
     same-length-2
     same-length-3
     same-length-4
