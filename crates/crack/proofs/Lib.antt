@@ -1,4 +1,5 @@
 -- A crack across torn edges: its laws and its proofs.
+pub mod LinkLaws
 pub mod LoadLaws
 pub mod FamilyLaws
 pub mod WayLaws

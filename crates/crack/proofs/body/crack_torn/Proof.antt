@@ -1,6 +1,7 @@
 -- `crack::body::crack_torn` meets its contract: the tables hold the ends and the loads of the input. Assumes nothing.
 use native.Mathlib.Omega.{arith}
 use Rattle.elements.specs.Table.{kindIs}
+use Rattle.crack.proofs.LinkLaws.{numbered}
 use Rattle.crack.proofs.BodyLaws.{turns-work}
 use borrow.Author.Needs.{needs}
 use Rattle.crack.proofs.body.crack_torn.Statement.{statement}
@@ -24,13 +25,14 @@ slice-aggregate-read-loads : tie.Need-slice-aggregate-read-loads
 slice-aggregate-read-loads c = search needs
 
 read-loads-requires : tie.Need-read-loads-requires
-read-loads-requires c κs = let P = c .before .before .before .before .before .before .before .before .before .before .before .before .before .before .before .before .before .before .before .pre .0 in (
+read-loads-requires c κs = let P = c .before .before .before .before .before .before .before .before .before .before .before .before .before .before .before .before .before .before .before .pre .0 in let A = c .before .before .before .before .before .before .before .before .before .before .before .before .before .before .before .before .before .before .before .args in (
   record {
     corners = omega (arith, P .counts .triangles, P .rooms .corners);
     volumes = omega (arith, P .counts .triangles, P .rooms .volumes);
     edges = record { ends = omega (arith, P .counts .edges, P .rooms .ends); lengths = omega (arith, P .counts .edges, P .rooms .lengths) };
   },
   omega (arith, P .counts .triangles, P .rooms .few-triangles),
+  numbered (A .room) (A .k) (A .points .now) (A .roots .now) (A .corners .now) (A .volumes .now) (A .ends .now) (A .lengths .now) (A .outline .now) _ P,
 )
 
 slice-aggregate-crack-listed : tie.Need-slice-aggregate-crack-listed
