@@ -5,6 +5,7 @@ use crate::dynamics::soft_body::tearing::access::{self, PlainLog};
 use crate::dynamics::soft_body::*;
 use crate::journal::{self, BOUNDARY, EDGES, Op, PARTICLES};
 use crate::math::Vector;
+use std::ops::Range;
 
 pub const MAX_PARTICLES: usize = 1024;
 pub const MAX_TRIANGLES: usize = 1024;
@@ -55,6 +56,8 @@ impl PartialEq for Mesh {
     }
 }
 
+/// The columns of particles, triangles, edges and boundary among `floats` and among `numbers`.
+pub const COLUMNS: [(Range<usize>, Range<usize>); 4] = [(0..6, 0..2), (6..8, 2..5), (8..12, 5..9), (12..12, 9..11)];
 impl Mesh {
     pub fn floats(&self) -> [&Vec<f32>; 12] {
         [
@@ -117,6 +120,23 @@ impl Mesh {
             &mut self.ba,
             &mut self.bb,
         ]
+    }
+    /// Drops the rows of a list that are marked.
+    pub fn drop_rows(&mut self, list: usize, gone: &[bool]) {
+        fn keep<T: Copy>(c: &mut Vec<T>, gone: &[bool]) {
+            let mut row = gone.iter();
+            c.retain(|_| row.next() == Some(&false));
+        }
+        let (f, n) = COLUMNS[list].clone();
+        self.floats_mut()[f].iter_mut().for_each(|c| keep(c, gone));
+        self.numbers_mut()[n].iter_mut().for_each(|c| keep(c, gone));
+    }
+    /// Appends a copy of a list's row and gives its number.
+    pub fn copy_row(&mut self, list: usize, i: usize) -> usize {
+        let (f, n) = COLUMNS[list].clone();
+        self.floats_mut()[f].iter_mut().for_each(|c| c.push(c[i]));
+        self.numbers_mut()[n].iter_mut().for_each(|c| c.push(c[i]));
+        [self.px.len(), self.ta.len(), self.ea.len(), self.ba.len()][list] - 1
     }
     /// Position = rest position, mass as given, inverse by `inv` unless pinned, own root.
     pub fn particle(&mut self, x: f32, y: f32, mass: f32, pinned: bool) -> u32 {

@@ -2,41 +2,26 @@
 //! one safe way to call them.
 use crate::image::{Image, bytes_of};
 
-type Root = unsafe extern "C" fn(u32, *mut u8, usize) -> u32;
-type Slice = unsafe extern "C" fn(*const u8, usize, *mut u8, usize) -> u32;
-type Sides = unsafe extern "C" fn(*const u8, usize, u32, *const u8, usize, *mut u8, usize) -> u32;
-type List = unsafe extern "C" fn(*const u8, usize, *const u8, usize, *mut u8, usize) -> u32;
-type Opens = unsafe extern "C" fn(*const u8, usize, u32, *const u8, usize, u32, *mut u8, usize) -> u32;
-/// Image, rooms, result, log.
-type Removal = unsafe extern "C" fn(*const u8, usize, *const u8, usize, *mut u8, usize, *mut u8, usize) -> u32;
-/// Image, particle, sides, rooms, result, log.
-type Split = unsafe extern "C" fn(
-    *const u8,
-    usize,
-    u32,
-    *const u8,
-    usize,
-    *const u8,
-    usize,
-    *mut u8,
-    usize,
-    *mut u8,
-    usize,
-) -> u32;
-/// Image, blade or torn edges, fraction or minimum, rooms, result, log.
-type Tear = unsafe extern "C" fn(
-    *const u8,
-    usize,
-    *const u8,
-    usize,
-    u32,
-    *const u8,
-    usize,
-    *mut u8,
-    usize,
-    *mut u8,
-    usize,
-) -> u32;
+/// The type of a C function by its arguments: `bytes` is a pointer and a length, `number` a u32; last stands what it fills, the
+/// bytes of an `answer`, or those of a `mesh` and of its log.
+macro_rules! c_type {
+    ($($kind:ident)*) => { c_type!(@ [] $($kind)*) };
+    (@ [$($t:ty,)*] bytes $($rest:ident)*) => { c_type!(@ [$($t,)* *const u8, usize,] $($rest)*) };
+    (@ [$($t:ty,)*] number $($rest:ident)*) => { c_type!(@ [$($t,)* u32,] $($rest)*) };
+    (@ [$($t:ty,)*] answer) => { unsafe extern "C" fn($($t,)* *mut u8, usize) -> u32 };
+    (@ [$($t:ty,)*] mesh) => { unsafe extern "C" fn($($t,)* *mut u8, usize, *mut u8, usize) -> u32 };
+}
+type Root = c_type!(number answer);
+type Slice = c_type!(bytes answer);
+type Sides = c_type!(bytes number bytes answer);
+type List = c_type!(bytes bytes answer);
+type Opens = c_type!(bytes number bytes number answer);
+/// Image, rooms.
+type Removal = c_type!(bytes bytes mesh);
+/// Image, particle, sides, rooms.
+type Split = c_type!(bytes number bytes bytes mesh);
+/// Image, blade or torn edges, fraction or minimum, rooms.
+type Tear = c_type!(bytes bytes number bytes mesh);
 
 /// One side of a comparison: the C functions that it has.
 #[derive(Clone, Copy)]
@@ -56,13 +41,14 @@ pub struct Table {
 
 /// `Some` of an archive's function if `run` found its name there (`--cfg have="NAME"`).
 macro_rules! linked {
-    ($have:tt, $name:ident($($t:ty),*)) => {{
+    ($have:tt, $name:ident as $type:ty) => {{
         #[cfg(have = $have)]
         {
             unsafe extern "C" {
-                fn $name($(_: $t),*) -> u32;
+                fn $name();
             }
-            Some($name as unsafe extern "C" fn($($t),*) -> u32)
+            // SAFETY: docs/C-FUNCTIONS.md has its parameters; it is declared without them to say them once.
+            Some(unsafe { std::mem::transmute::<unsafe extern "C" fn(), $type>($name) })
         }
         #[cfg(not(have = $have))]
         None
@@ -71,35 +57,17 @@ macro_rules! linked {
 /// The Rattle archive's functions.
 pub fn archive() -> Table {
     Table {
-        root: linked!("bench_root", bench_root(u32, *mut u8, usize)),
-        blade_hit: linked!("bench_blade_hit", bench_blade_hit(*const u8, usize, *mut u8, usize)),
-        groups: linked!("bench_groups", bench_groups(*const u8, usize, u32, *const u8, usize, *mut u8, usize)),
-        rest_measure: linked!("bench_rest_measure", bench_rest_measure(*const u8, usize, *mut u8, usize)),
-        rest_measure_of: linked!(
-            "bench_rest_measure_of",
-            bench_rest_measure_of(*const u8, usize, *const u8, usize, *mut u8, usize)
-        ),
-        opens: linked!(
-            "bench_opens_without_confetti",
-            bench_opens_without_confetti(*const u8, usize, u32, *const u8, usize, u32, *mut u8, usize)
-        ),
-        pieces: linked!("bench_pieces", bench_pieces(*const u8, usize, *mut u8, usize)),
-        split: linked!(
-            "bench_split",
-            bench_split(*const u8, usize, u32, *const u8, usize, *const u8, usize, *mut u8, usize, *mut u8, usize)
-        ),
-        straddlers: linked!(
-            "bench_straddlers",
-            bench_straddlers(*const u8, usize, *const u8, usize, *mut u8, usize, *mut u8, usize)
-        ),
-        cut: linked!(
-            "bench_cut",
-            bench_cut(*const u8, usize, *const u8, usize, u32, *const u8, usize, *mut u8, usize, *mut u8, usize)
-        ),
-        crack: linked!(
-            "bench_crack",
-            bench_crack(*const u8, usize, *const u8, usize, u32, *const u8, usize, *mut u8, usize, *mut u8, usize)
-        ),
+        root: linked!("bench_root", bench_root as Root),
+        blade_hit: linked!("bench_blade_hit", bench_blade_hit as Slice),
+        groups: linked!("bench_groups", bench_groups as Sides),
+        rest_measure: linked!("bench_rest_measure", bench_rest_measure as Slice),
+        rest_measure_of: linked!("bench_rest_measure_of", bench_rest_measure_of as List),
+        opens: linked!("bench_opens_without_confetti", bench_opens_without_confetti as Opens),
+        pieces: linked!("bench_pieces", bench_pieces as Slice),
+        split: linked!("bench_split", bench_split as Split),
+        straddlers: linked!("bench_straddlers", bench_straddlers as Removal),
+        cut: linked!("bench_cut", bench_cut as Tear),
+        crack: linked!("bench_crack", bench_crack as Tear),
     }
 }
 

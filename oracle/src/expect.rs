@@ -63,7 +63,7 @@ fn arguments_ok(c: &Raw, m: &api::Mesh) -> bool {
     match c.entry {
         Entry::Split => sides_ok(m, c.number, &c.second),
         Entry::Cut => c.second.len() == 16 && api::fraction_ok(f32::from_bits(c.number)),
-        Entry::Crack => c.second.len() % 4 == 0,
+        Entry::Crack => c.second.len() % 4 == 0 && c.second.len() <= crate::wrapped::MOST_TORN,
         _ => true,
     }
 }

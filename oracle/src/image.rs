@@ -36,17 +36,17 @@ impl Image {
         bytes_of(&w, self.length)
     }
 }
+/// The blocks in order: the list of each, and whether it is that list's f32 or its numbers.
+const BLOCKS: [(usize, bool); 7] = [(0, true), (0, false), (1, false), (1, true), (2, false), (2, true), (3, false)];
 /// The columns in the order of the blocks, behind what is there.
 fn columns(w: &mut Vec<u32>, m: &Mesh, bits: fn(f32) -> u32) {
-    let f = |w: &mut Vec<u32>, c: &[&Vec<f32>]| w.extend(c.iter().flat_map(|c| c.iter().map(|x| bits(*x))));
-    let n = |w: &mut Vec<u32>, c: &[&Vec<u32>]| w.extend(c.iter().flat_map(|c| c.iter()));
-    f(w, &[&m.px, &m.py, &m.rx, &m.ry, &m.mass, &m.inv]);
-    n(w, &[&m.root, &m.damaged]);
-    n(w, &[&m.ta, &m.tb, &m.tc]);
-    f(w, &[&m.volume, &m.tstress]);
-    n(w, &[&m.ea, &m.eb, &m.structural, &m.torn]);
-    f(w, &[&m.rest, &m.initial, &m.impulse, &m.estress]);
-    n(w, &[&m.ba, &m.bb]);
+    for (list, floats) in BLOCKS {
+        let (f, n) = COLUMNS[list].clone();
+        match floats {
+            true => w.extend(m.floats()[f].iter().flat_map(|c| c.iter().map(|x| bits(*x)))),
+            false => w.extend(m.numbers()[n].iter().flat_map(|c| c.iter())),
+        }
+    }
 }
 /// The image of a result as words; any NaN is 7fc00000.
 pub fn words(m: &Mesh) -> Vec<u32> {
@@ -62,42 +62,27 @@ pub fn read(bytes: &[u8]) -> Option<Mesh> {
     if bytes.len() < 16 {
         return None;
     }
-    let [np, nt, ne, nb] = [w[0] as usize, w[1] as usize, w[2] as usize, w[3] as usize];
+    let counts = [w[0], w[1], w[2], w[3]].map(|n| n as usize);
+    let [np, nt, ne, nb] = counts;
     if np > MAX_PARTICLES || nt > MAX_TRIANGLES || ne > MAX_EDGES || nb > MAX_BOUNDARY {
         return None;
     }
     if bytes.len() != 4 * (4 + 8 * np + 5 * nt + 8 * ne + 2 * nb) {
         return None;
     }
-    let mut at = 4;
-    let mut take = |n: usize| {
-        at += n;
-        w[at - n..at].to_vec()
-    };
-    let f = |c: Vec<u32>| c.into_iter().map(f32::from_bits).collect();
-    Some(Mesh {
-        px: f(take(np)),
-        py: f(take(np)),
-        rx: f(take(np)),
-        ry: f(take(np)),
-        mass: f(take(np)),
-        inv: f(take(np)),
-        root: take(np),
-        damaged: take(np),
-        ta: take(nt),
-        tb: take(nt),
-        tc: take(nt),
-        volume: f(take(nt)),
-        tstress: f(take(nt)),
-        ea: take(ne),
-        eb: take(ne),
-        structural: take(ne),
-        torn: take(ne),
-        rest: f(take(ne)),
-        initial: f(take(ne)),
-        impulse: f(take(ne)),
-        estress: f(take(ne)),
-        ba: take(nb),
-        bb: take(nb),
-    })
+    let mut m = Mesh::default();
+    let mut rest = &w[4..];
+    for (list, floats) in BLOCKS {
+        let (f, n) = COLUMNS[list].clone();
+        let mut take = || {
+            let (column, behind) = rest.split_at(counts[list]);
+            rest = behind;
+            column.iter()
+        };
+        match floats {
+            true => m.floats_mut()[f].iter_mut().for_each(|c| c.extend(take().map(|&x| f32::from_bits(x)))),
+            false => m.numbers_mut()[n].iter_mut().for_each(|c| c.extend(take())),
+        }
+    }
+    Some(m)
 }

@@ -96,7 +96,8 @@ fn lend(r: &mut Rng, i: &mut Input) -> usize {
     torn_need(i, &ran)
 }
 
-fn args(r: &mut Rng, entry: Entry, kind: Kind, m: &Mesh) -> Args {
+/// Good arguments of a call on this mesh; those of the kind at a limit may be one beyond.
+pub fn args(r: &mut Rng, entry: Entry, kind: Kind, m: &Mesh) -> Args {
     let n = m.px.len() as u32;
     let v = if n == 0 { 0 } else { r.below(n) };
     // A large mesh is also asked at its busiest particle.
@@ -142,6 +143,10 @@ fn args(r: &mut Rng, entry: Entry, kind: Kind, m: &Mesh) -> Args {
             }
             if let (true, Some(&e)) = (r.chance(6), torn.first()) {
                 torn.push(e);
+            }
+            // The longest list that is taken, and one number more.
+            if kind == Kind::Limit && !torn.is_empty() && r.chance(4) {
+                torn = torn.iter().copied().cycle().take(r.pick(&[2048, 2049])).collect();
             }
             Args::Crack { torn, length: None, minimum: r.pick(&[0, 1, 1, 1, 2, 3, 3, 5, 500, u32::MAX]) }
         }

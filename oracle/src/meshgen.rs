@@ -65,15 +65,42 @@ pub fn mesh(r: &mut Rng) -> Mesh {
     m
 }
 
-/// Grid of triangles with holes.
-fn holed_grid(r: &mut Rng, mood: u32, m: &mut Mesh) {
-    let (w, h) = (1 + r.below(5), 1 + r.below(5));
+/// Document 01's fan of three triangles at particle 0, two of which share a facet.
+pub fn document_fan() -> Mesh {
+    let mut m = Mesh::default();
+    for (x, y) in [(0., 0.), (1., 0.), (1., 1.), (0., 1.), (-1., 0.), (-1., -1.)] {
+        m.particle(x, y, 1.0, false);
+    }
+    for [a, b, c] in [[0, 1, 2], [0, 2, 3], [0, 4, 5]] {
+        m.triangle(a, b, c, 0.5);
+    }
+    m
+}
+/// Document 01's three straps at a shared end.
+pub fn document_straps() -> Mesh {
+    let mut m = Mesh::default();
+    for i in 0..4 {
+        m.particle(i as f32, (i * i) as f32, 1.0, false);
+    }
+    for i in 1..4 {
+        m.edge(0, i, true, 1.0);
+    }
+    m
+}
+
+/// The corners of w by h squares, row by row.
+fn lattice(r: &mut Rng, mood: u32, m: &mut Mesh, w: u32, h: u32) {
     for y in 0..=h {
         for x in 0..=w {
             let (px, py) = (coordinate(r, mood, x as f32), coordinate(r, mood, y as f32));
             m.particle(px, py, 1.0, false);
         }
     }
+}
+/// Grid of triangles with holes.
+fn holed_grid(r: &mut Rng, mood: u32, m: &mut Mesh) {
+    let (w, h) = (1 + r.below(5), 1 + r.below(5));
+    lattice(r, mood, m, w, h);
     let holes = r.pick(&[0, 0, 5, 3]);
     let diagonal = r.below(3);
     for y in 0..h {
@@ -179,12 +206,7 @@ fn short_rope(r: &mut Rng, mood: u32, m: &mut Mesh) {
 /// Net of straps.
 fn net(r: &mut Rng, mood: u32, m: &mut Mesh) {
     let (w, h) = (1 + r.below(4), 1 + r.below(4));
-    for y in 0..=h {
-        for x in 0..=w {
-            let (px, py) = (coordinate(r, mood, x as f32), coordinate(r, mood, y as f32));
-            m.particle(px, py, 1.0, false);
-        }
-    }
+    lattice(r, mood, m, w, h);
     for y in 0..=h {
         for x in 0..=w {
             let a = y * (w + 1) + x;
@@ -285,7 +307,7 @@ fn further(r: &mut Rng, m: &mut Mesh, outline: bool) {
     }
 }
 /// Numbers of every column.
-fn values(r: &mut Rng, m: &mut Mesh) {
+pub fn values(r: &mut Rng, m: &mut Mesh) {
     let deformed = r.chance(3);
     let strange = r.chance(3);
     let stresses = r.below(7);

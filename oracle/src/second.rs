@@ -284,41 +284,15 @@ impl Run {
                 self.log.push(Entry::Removed { a: m.ea[i], b: m.eb[i] });
             }
         }
-        fn keep<T: Copy>(c: &mut Vec<T>, gone: &[bool]) {
-            *c = (0..gone.len()).filter(|&i| !gone[i]).map(|i| c[i]).collect();
-        }
-        keep(&mut m.ea, gone);
-        keep(&mut m.eb, gone);
-        keep(&mut m.structural, gone);
-        keep(&mut m.torn, gone);
-        keep(&mut m.rest, gone);
-        keep(&mut m.initial, gone);
-        keep(&mut m.impulse, gone);
-        keep(&mut m.estress, gone);
+        m.drop_rows(2, gone);
     }
     fn push_edge_like(&mut self, i: usize, a: u32, b: u32) -> usize {
-        let m = &mut self.m;
-        m.ea.push(a);
-        m.eb.push(b);
-        m.structural.push(m.structural[i]);
-        m.torn.push(m.torn[i]);
-        m.rest.push(m.rest[i]);
-        m.initial.push(m.initial[i]);
-        m.impulse.push(m.impulse[i]);
-        m.estress.push(m.estress[i]);
-        m.ea.len() - 1
+        let j = self.m.copy_row(2, i);
+        (self.m.ea[j], self.m.eb[j]) = (a, b);
+        j
     }
     fn push_particle_like(&mut self, i: usize) -> usize {
-        let m = &mut self.m;
-        m.px.push(m.px[i]);
-        m.py.push(m.py[i]);
-        m.rx.push(m.rx[i]);
-        m.ry.push(m.ry[i]);
-        m.mass.push(m.mass[i]);
-        m.inv.push(m.inv[i]);
-        m.root.push(m.root[i]);
-        m.damaged.push(m.damaged[i]);
-        m.px.len() - 1
+        self.m.copy_row(0, i)
     }
 
     /// The group whose fan points toward particle `x` (which no fan element holds).

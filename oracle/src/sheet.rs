@@ -20,6 +20,8 @@ pub struct Sheet {
     pub blade: [i32; 4],
 }
 
+/// Bits of the counts.
+const HEADER: usize = 46;
 struct Bits<'a> {
     bytes: &'a [u8],
     at: usize,
@@ -39,19 +41,34 @@ impl Bits<'_> {
     }
 }
 
-pub fn read(bytes: &[u8], l: &Limits) -> Result<Sheet, u32> {
-    if bytes.len() * 8 < 46 {
-        return Err(9);
-    }
+/// The counts in front of a sheet; `None` if it is too short for them.
+pub fn counts(bytes: &[u8]) -> Option<[usize; 4]> {
     let mut b = Bits { bytes, at: 0 };
-    let (np, nt, ne, nb) = (b.take(11), b.take(11), b.take(12), b.take(12));
-    if np as usize > l.particles || nt as usize > l.triangles || ne as usize > l.edges || nb as usize > l.boundary {
+    (bytes.len() * 8 >= HEADER).then(|| [11, 11, 12, 12].map(|n| b.take(n) as usize))
+}
+/// The bits of a sheet with these counts, before the spare ones.
+pub fn length([np, nt, ne, nb]: [usize; 4]) -> usize {
+    HEADER + np * 23 + nt * 30 + ne * 21 + nb * 20 + 44
+}
+impl Limits {
+    /// The lists, in order, whose count is above its limit.
+    pub fn above(&self, counts: [usize; 4]) -> impl Iterator<Item = usize> {
+        let limits = [self.particles, self.triangles, self.edges, self.boundary];
+        (0..4).filter(move |&k| counts[k] > limits[k])
+    }
+}
+
+pub fn read(bytes: &[u8], l: &Limits) -> Result<Sheet, u32> {
+    let counts = counts(bytes).ok_or(9u32)?;
+    if l.above(counts).next().is_some() {
         return Err(1);
     }
-    let bits = (46 + np * 23 + nt * 30 + ne * 21 + nb * 20 + 44) as usize;
+    let bits = length(counts);
     if bytes.len() != bits.div_ceil(8) {
         return Err(9);
     }
+    let [np, nt, ne, nb] = counts;
+    let mut b = Bits { bytes, at: HEADER };
     let mut s = Sheet::default();
     for _ in 0..np {
         s.particles.push((b.signed(), b.signed(), b.take(1)));

@@ -107,24 +107,6 @@ fn rows(s: &mut Search, list: usize) {
     }
 }
 
-fn sift<T: Copy>(c: &mut Vec<T>, gone: &[bool]) {
-    let mut k = 0;
-    c.retain(|_| {
-        k += 1;
-        !gone[k - 1]
-    });
-}
-fn drop_rows(m: &mut Mesh, list: usize, gone: &[bool]) {
-    let (f, n) = match list {
-        0 => (0..6, 0..2),
-        1 => (6..8, 2..5),
-        2 => (8..12, 5..9),
-        _ => (0..0, 9..11),
-    };
-    m.floats_mut().into_iter().enumerate().filter(|(k, _)| f.contains(k)).for_each(|(_, c)| sift(c, gone));
-    m.numbers_mut().into_iter().enumerate().filter(|(k, _)| n.contains(k)).for_each(|(_, c)| sift(c, gone));
-}
-
 /// The input without rows `from..to` of a list; the sides of dropped fan elements go too. A
 /// dropped particle takes with it what names it. `None` if the asked particle is one of them.
 fn without(i: &Input, list: usize, from: usize, to: usize) -> Option<Input> {
@@ -148,7 +130,7 @@ fn without(i: &Input, list: usize, from: usize, to: usize) -> Option<Input> {
         .collect();
     let lost: Vec<bool> = fan.iter().map(|&e| rows[if straps { 2 } else { 1 }][e as usize]).collect();
     for l in 0..4 {
-        drop_rows(&mut i.image.mesh, l, &rows[l]);
+        i.image.mesh.drop_rows(l, &rows[l]);
     }
     // A number at or beyond `to` moves down, so that "one past the end" stays that.
     let renumber = |x: u32| {
@@ -194,8 +176,47 @@ fn without(i: &Input, list: usize, from: usize, to: usize) -> Option<Input> {
     Some(i)
 }
 
+/// The length of an argument's bytes, where it may be another than its words'.
+fn length(a: &mut Args) -> Option<&mut Option<usize>> {
+    match a {
+        Args::BladeHit { length, .. } | Args::Cut { length, .. } => Some(length),
+        Args::RestMeasureOf { length, .. } | Args::Crack { length, .. } => Some(length),
+        _ => None,
+    }
+}
+/// The words of an argument that are bits of numbers.
+fn numbers(a: &mut Args) -> &mut [u32] {
+    match a {
+        Args::BladeHit { words, .. } => words,
+        Args::Cut { blade, .. } => blade,
+        _ => &mut [],
+    }
+}
+/// An argument that is a list.
+fn list(a: &mut Args) -> Option<&mut Vec<u32>> {
+    match a {
+        Args::RestMeasureOf { list, .. } | Args::Crack { torn: list, .. } => Some(list),
+        _ => None,
+    }
+}
 fn arguments(s: &mut Search) {
-    match s.best.args.clone() {
+    let mut now = s.best.args.clone();
+    if length(&mut now).is_some_and(|l| l.is_some()) {
+        s.with(|i| length(&mut i.args).into_iter().for_each(|l| *l = None));
+    }
+    for (k, &w) in numbers(&mut now).iter().enumerate() {
+        for x in simpler(f32::from_bits(w)) {
+            if s.with(|i| numbers(&mut i.args)[k] = x.to_bits()) {
+                break;
+            }
+        }
+    }
+    for k in (0..list(&mut now).map_or(0, |l| l.len())).rev() {
+        s.with(|i| {
+            list(&mut i.args).map(|l| l.remove(k));
+        });
+    }
+    match now {
         Args::Root { bits } => {
             for k in 0..32 {
                 if bits >> k & 1 == 1 {
@@ -204,22 +225,6 @@ fn arguments(s: &mut Search) {
                             *bits &= !(1 << k);
                         }
                     });
-                }
-            }
-        }
-        Args::BladeHit { words, length } => {
-            if length.is_some() {
-                s.with(|i| i.args = Args::BladeHit { words, length: None });
-            }
-            for k in 0..8 {
-                for x in simpler(f32::from_bits(words[k])) {
-                    if s.with(|i| {
-                        if let Args::BladeHit { words, .. } = &mut i.args {
-                            words[k] = x.to_bits();
-                        }
-                    }) {
-                        break;
-                    }
                 }
             }
         }
@@ -236,25 +241,7 @@ fn arguments(s: &mut Search) {
             }
             smaller_minimum(s);
         }
-        Args::Cut { blade, length, fraction } => {
-            if length.is_some() {
-                s.with(|i| {
-                    if let Args::Cut { length, .. } = &mut i.args {
-                        *length = None;
-                    }
-                });
-            }
-            for k in 0..4 {
-                for x in simpler(f32::from_bits(blade[k])) {
-                    if s.with(|i| {
-                        if let Args::Cut { blade, .. } = &mut i.args {
-                            blade[k] = x.to_bits();
-                        }
-                    }) {
-                        break;
-                    }
-                }
-            }
+        Args::Cut { fraction, .. } => {
             for x in [0.0f32, 0.25, 0.5].map(f32::to_bits) {
                 if fraction == x
                     || s.with(|i| {
@@ -267,36 +254,8 @@ fn arguments(s: &mut Search) {
                 }
             }
         }
-        Args::Crack { torn, length, .. } => {
-            if length.is_some() {
-                s.with(|i| {
-                    if let Args::Crack { length, .. } = &mut i.args {
-                        *length = None;
-                    }
-                });
-            }
-            for k in (0..torn.len()).rev() {
-                s.with(|i| {
-                    if let Args::Crack { torn, .. } = &mut i.args {
-                        torn.remove(k);
-                    }
-                });
-            }
-            smaller_minimum(s);
-        }
-        Args::RestMeasureOf { list, length } => {
-            if length.is_some() {
-                s.with(|i| i.args = Args::RestMeasureOf { list: list.clone(), length: None });
-            }
-            for k in (0..list.len()).rev() {
-                s.with(|i| {
-                    if let Args::RestMeasureOf { list, .. } = &mut i.args {
-                        list.remove(k);
-                    }
-                });
-            }
-        }
-        Args::RestMeasure | Args::Pieces | Args::Straddlers => {}
+        Args::Crack { .. } => smaller_minimum(s),
+        _ => {}
     }
 }
 fn sides_of(i: &mut Input) -> &mut Vec<u8> {

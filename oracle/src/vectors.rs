@@ -139,43 +139,19 @@ fn list<T: std::fmt::Display>(xs: &[T]) -> String {
 fn min_text(m: Option<u32>) -> String {
     m.map_or("-".into(), |n| n.to_string())
 }
+/// The tag of a list's rows, and whether their f32 stand first.
+const ROWS: [(&str, bool); 4] = [("p", true), ("t", false), ("e", false), ("b", false)];
 pub fn write_mesh(out: &mut String, m: &Mesh) {
-    writeln!(out, "mesh {} {} {} {}", m.px.len(), m.ta.len(), m.ea.len(), m.ba.len()).unwrap();
-    for i in 0..m.px.len() {
-        writeln!(
-            out,
-            "p {} {} {} {} {} {} {} {}",
-            h(m.px[i]),
-            h(m.py[i]),
-            h(m.rx[i]),
-            h(m.ry[i]),
-            h(m.mass[i]),
-            h(m.inv[i]),
-            m.root[i],
-            m.damaged[i]
-        )
-        .unwrap();
-    }
-    for i in 0..m.ta.len() {
-        writeln!(out, "t {} {} {} {} {}", m.ta[i], m.tb[i], m.tc[i], h(m.volume[i]), h(m.tstress[i])).unwrap();
-    }
-    for i in 0..m.ea.len() {
-        writeln!(
-            out,
-            "e {} {} {} {} {} {} {} {}",
-            m.ea[i],
-            m.eb[i],
-            m.structural[i],
-            m.torn[i],
-            h(m.rest[i]),
-            h(m.initial[i]),
-            h(m.impulse[i]),
-            h(m.estress[i])
-        )
-        .unwrap();
-    }
-    for i in 0..m.ba.len() {
-        writeln!(out, "b {} {}", m.ba[i], m.bb[i]).unwrap();
+    let counts = [m.px.len(), m.ta.len(), m.ea.len(), m.ba.len()];
+    writeln!(out, "mesh {} {} {} {}", counts[0], counts[1], counts[2], counts[3]).unwrap();
+    for (list, (tag, floats_first)) in ROWS.into_iter().enumerate() {
+        let (f, n) = COLUMNS[list].clone();
+        for i in 0..counts[list] {
+            let mut row: Vec<String> = m.floats()[f.clone()].iter().map(|c| h(c[i])).collect();
+            let at = if floats_first { row.len() } else { 0 };
+            row.splice(at..at, m.numbers()[n.clone()].iter().map(|c| c[i].to_string()));
+            writeln!(out, "{tag} {}", row.join(" ")).unwrap();
+        }
     }
 }
 fn blade_text(b: &Blade) -> String {
@@ -233,37 +209,35 @@ pub fn write_case(out: &mut String, c: &Case, a: &Answer) {
     writeln!(out, "end").unwrap();
 }
 
+/// The line of a C function's call and arguments.
+pub fn args_line(out: &mut String, a: &Args) {
+    match a {
+        Args::Root { bits } => writeln!(out, "root {bits:08x}"),
+        Args::BladeHit { words, .. } => writeln!(out, "blade_hit {}", hex_words(words)),
+        Args::Groups { v, sides } => writeln!(out, "groups {v} {}", list(sides)),
+        Args::Opens { v, sides, minimum } => writeln!(out, "opens {minimum} {v} {}", list(sides)),
+        Args::RestMeasure => writeln!(out, "rest_measure"),
+        Args::RestMeasureOf { list: l, .. } => writeln!(out, "rest_measure_of {}", list(l)),
+        Args::Pieces => writeln!(out, "pieces"),
+        Args::Split { v, sides } => writeln!(out, "split_fan {v} {}", list(sides)),
+        Args::Straddlers => writeln!(out, "straddlers"),
+        Args::Cut { blade, fraction, .. } => writeln!(out, "cut {} {fraction:08x}", hex_words(blade)),
+        Args::Crack { torn, minimum, .. } => writeln!(out, "crack {minimum} {}", list(torn)),
+    }
+    .unwrap();
+}
 /// A call of a C function, with what is wrong with its bytes and what it must answer.
 pub fn write_input(out: &mut String, seed: u64, i: &Input, want: &Expected) {
     writeln!(out, "case {seed}").unwrap();
     write_mesh(out, &i.image.mesh);
-    let (mut length, mut list_bytes) = (i.image.length, None);
-    match &i.args {
-        Args::Root { bits } => writeln!(out, "root {bits:08x}"),
-        Args::BladeHit { words, length: l } => {
-            length = *l;
-            writeln!(out, "blade_hit {}", hex_words(words))
+    args_line(out, &i.args);
+    let (length, list_bytes) = match i.args {
+        Args::BladeHit { length, .. } => (length, None),
+        Args::RestMeasureOf { length, .. } | Args::Cut { length, .. } | Args::Crack { length, .. } => {
+            (i.image.length, length)
         }
-        Args::Groups { v, sides } => writeln!(out, "groups {v} {}", list(sides)),
-        Args::Opens { v, sides, minimum } => writeln!(out, "opens {minimum} {v} {}", list(sides)),
-        Args::RestMeasure => writeln!(out, "rest_measure"),
-        Args::RestMeasureOf { list: l, length: n } => {
-            list_bytes = *n;
-            writeln!(out, "rest_measure_of {}", list(l))
-        }
-        Args::Pieces => writeln!(out, "pieces"),
-        Args::Split { v, sides } => writeln!(out, "split_fan {v} {}", list(sides)),
-        Args::Straddlers => writeln!(out, "straddlers"),
-        Args::Cut { blade, length: n, fraction } => {
-            list_bytes = *n;
-            writeln!(out, "cut {} {fraction:08x}", hex_words(blade))
-        }
-        Args::Crack { torn, length: n, minimum } => {
-            list_bytes = *n;
-            writeln!(out, "crack {minimum} {}", list(torn))
-        }
-    }
-    .unwrap();
+        _ => (i.image.length, None),
+    };
     if let Some(n) = list_bytes {
         writeln!(out, "list_bytes {n}").unwrap();
     }
@@ -316,42 +290,16 @@ pub fn read_mesh<'a>(lines: &mut impl Iterator<Item = &'a str>) -> Mesh {
     let head: Vec<&str> = lines.next().unwrap().split(' ').collect();
     assert_eq!(head[0], "mesh");
     let mut m = Mesh::default();
-    let mut row = |tag: &str| -> Vec<&'a str> {
-        let w: Vec<&str> = lines.next().unwrap().split(' ').collect();
-        assert_eq!(w[0], tag);
-        w
-    };
-    for _ in 0..n(head[1]) {
-        let w = row("p");
-        for (c, s) in [&mut m.px, &mut m.py, &mut m.rx, &mut m.ry, &mut m.mass, &mut m.inv].into_iter().zip(&w[1..]) {
-            c.push(f(s));
+    for (list, (tag, floats_first)) in ROWS.into_iter().enumerate() {
+        let (floats, numbers) = COLUMNS[list].clone();
+        for _ in 0..n(head[1 + list]) {
+            let w: Vec<&str> = lines.next().unwrap().split(' ').collect();
+            assert_eq!((w[0], w.len()), (tag, 1 + floats.len() + numbers.len()));
+            let (a, b) = w[1..].split_at(if floats_first { floats.len() } else { numbers.len() });
+            let (fs, ns) = if floats_first { (a, b) } else { (b, a) };
+            m.floats_mut()[floats.clone()].iter_mut().zip(fs).for_each(|(c, s)| c.push(f(s)));
+            m.numbers_mut()[numbers.clone()].iter_mut().zip(ns).for_each(|(c, s)| c.push(n(s)));
         }
-        m.root.push(n(w[7]));
-        m.damaged.push(n(w[8]));
-    }
-    for _ in 0..n(head[2]) {
-        let w = row("t");
-        m.ta.push(n(w[1]));
-        m.tb.push(n(w[2]));
-        m.tc.push(n(w[3]));
-        m.volume.push(f(w[4]));
-        m.tstress.push(f(w[5]));
-    }
-    for _ in 0..n(head[3]) {
-        let w = row("e");
-        m.ea.push(n(w[1]));
-        m.eb.push(n(w[2]));
-        m.structural.push(n(w[3]));
-        m.torn.push(n(w[4]));
-        m.rest.push(f(w[5]));
-        m.initial.push(f(w[6]));
-        m.impulse.push(f(w[7]));
-        m.estress.push(f(w[8]));
-    }
-    for _ in 0..n(head[4]) {
-        let w = row("b");
-        m.ba.push(n(w[1]));
-        m.bb.push(n(w[2]));
     }
     m
 }

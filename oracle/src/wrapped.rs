@@ -7,23 +7,51 @@ use crate::faults::{Fault::*, has};
 use crate::image::{read, words_of};
 use crate::second::{self, Kind};
 
+/// The C function over a plain one, by its arguments in order: `bytes` comes as a pointer and a length, `number` as it is; last stands
+/// what it fills, the bytes of an `answer`, or those of a `mesh` and of its log, whose number a plain function gets at the end.
+macro_rules! c_function {
+    ($plain:ident: $($kind:ident)*) => { c_function!(@ $plain [] [] $($kind)*) };
+    (@ $plain:ident [$($p:tt)*] [$($a:expr,)*] bytes $($rest:ident)*) => {
+        c_function!(@ $plain [$($p)* at: *const u8, n: usize,] [$($a,)* lent(at, n),] $($rest)*)
+    };
+    (@ $plain:ident [$($p:tt)*] [$($a:expr,)*] number $($rest:ident)*) => {
+        c_function!(@ $plain [$($p)* x: u32,] [$($a,)* x,] $($rest)*)
+    };
+    (@ $plain:ident [$($p:tt)*] [$($a:expr,)*] answer) => {{
+        unsafe extern "C" fn f($($p)* out: *mut u8, n: usize) -> u32 {
+            unsafe { give($plain($($a),*), out, n) }
+        }
+        Some(f)
+    }};
+    (@ $plain:ident [$($p:tt)*] [$($a:expr,)*] mesh) => {{
+        unsafe extern "C" fn f($($p)* out: *mut u8, n: usize, log: *mut u8, k: usize) -> u32 {
+            unsafe { give_both($plain($($a,)* k), (out, n), (log, k)) }
+        }
+        Some(f)
+    }};
+}
 pub fn table() -> Table {
     Table {
-        root: Some(root),
-        blade_hit: Some(blade_hit),
-        groups: Some(groups),
-        rest_measure: Some(rest_measure),
-        rest_measure_of: Some(rest_measure_of),
-        opens: Some(opens),
-        pieces: Some(pieces),
-        split: Some(split),
-        straddlers: Some(straddlers),
-        cut: Some(cut),
-        crack: Some(crack),
+        root: c_function!(root: number answer),
+        blade_hit: c_function!(blade_hit: bytes answer),
+        groups: c_function!(groups: bytes number bytes answer),
+        rest_measure: c_function!(rest_measure: bytes answer),
+        rest_measure_of: c_function!(rest_measure_of: bytes bytes answer),
+        opens: c_function!(opens: bytes number bytes number answer),
+        pieces: c_function!(pieces: bytes answer),
+        split: c_function!(split: bytes number bytes bytes mesh),
+        straddlers: c_function!(straddlers: bytes bytes mesh),
+        cut: c_function!(cut: bytes bytes number bytes mesh),
+        crack: c_function!(crack: bytes bytes number bytes mesh),
     }
 }
 
 // ---- bytes in and out ---------------------------------------------------------------------
+
+/// The words of an answer, or the refusal's number.
+type Answer = Result<Vec<u32>, u32>;
+/// The same with the words of the log.
+type Torn = Result<(Vec<u32>, Vec<u32>), u32>;
 
 /// # Safety
 /// `n` bytes stand at `p`.
@@ -33,7 +61,7 @@ unsafe fn lent<'a>(p: *const u8, n: usize) -> &'a [u8] {
 /// Fills the lent bytes with the answer's words, or with 0 and the refusal's number.
 /// # Safety
 /// `n` bytes stand at `p`.
-unsafe fn give(answer: Result<Vec<u32>, u32>, p: *mut u8, n: usize) -> u32 {
+unsafe fn give(answer: Answer, p: *mut u8, n: usize) -> u32 {
     let out = unsafe { std::slice::from_raw_parts_mut(p, n) };
     let answer = answer.and_then(|w| if 4 * w.len() > n { Err(4) } else { Ok(w) });
     if !(has(DirtyTail) || has(DirtyRefusal) && answer.is_err()) {
@@ -56,11 +84,7 @@ unsafe fn give(answer: Result<Vec<u32>, u32>, p: *mut u8, n: usize) -> u32 {
 /// The same for result and log, each with its bytes' number.
 /// # Safety
 /// `n` bytes stand at `p`, `k` bytes at `log`.
-unsafe fn give_both(
-    answer: Result<(Vec<u32>, Vec<u32>), u32>,
-    (p, n): (*mut u8, usize),
-    (log, k): (*mut u8, usize),
-) -> u32 {
+unsafe fn give_both(answer: Torn, (p, n): (*mut u8, usize), (log, k): (*mut u8, usize)) -> u32 {
     let answer = answer.and_then(|a| if 4 * a.0.len() > n { Err(4) } else { Ok(a) });
     let entries = unsafe { std::slice::from_raw_parts_mut(log, k) };
     if !(has(DirtyLog) && answer.is_ok() || has(DirtyRefusal) && answer.is_err()) {
@@ -171,57 +195,43 @@ fn grouped(m: &Mesh, v: u32, sides: &[u8]) -> Result<(Vec<u32>, u32), u32> {
     Ok(second::groups_of(second::facet_others(second::kind(m)), &fans, &sides, v))
 }
 
-unsafe extern "C" fn root(bits: u32, out: *mut u8, n: usize) -> u32 {
+fn root(bits: u32) -> Answer {
     let x = f32::from_bits(bits);
-    let answer = if bits == 0x8000_0000 || bits < 0x7f80_0000 {
-        let mut r = x.sqrt();
-        if has(RootCut) && r as f64 * r as f64 > x as f64 {
-            r = f32::from_bits(r.to_bits() - 1);
-        }
-        Ok(vec![r.to_bits()])
-    } else {
-        Err(4)
-    };
-    unsafe { give(answer, out, n) }
+    if bits != 0x8000_0000 && bits >= 0x7f80_0000 {
+        return Err(4);
+    }
+    let mut r = x.sqrt();
+    if has(RootCut) && r as f64 * r as f64 > x as f64 {
+        r = f32::from_bits(r.to_bits() - 1);
+    }
+    Ok(vec![r.to_bits()])
 }
 
-unsafe extern "C" fn blade_hit(words: *const u8, len: usize, out: *mut u8, n: usize) -> u32 {
-    let bytes = unsafe { lent(words, len) };
-    let w = words_of(bytes);
-    let answer = if len != 32 {
-        Err(4)
-    } else if !w.iter().all(|&x| sized(x, 1_048_576.0)) {
-        Err(2)
-    } else {
-        let f: Vec<f32> = w.into_iter().map(f32::from_bits).collect();
-        let b = Blade::new(f[0], f[1], f[2], f[3]);
-        let (p, q) = ((f[4], f[5]), (f[6], f[7]));
-        let (dp, dq) = (second::offset(b, p), second::offset(b, q));
-        let mut t = second::blade_hit(b, p, q);
-        if has(BladeOpenEnd) {
-            t = t.filter(|&t| second::blade_inside(b, p, q, t));
-        }
-        if has(BladeSigns) && (dp > 0.0) == (dq > 0.0) && dp != 0.0 && dq != 0.0 {
-            t = None;
-        }
-        Ok(t.map_or(vec![0, 0], |t| vec![1, if has(BladeZero) { (t + 0.0).to_bits() } else { t.to_bits() }]))
-    };
-    unsafe { give(answer, out, n) }
+fn blade_hit(words: &[u8]) -> Answer {
+    let w = words_of(words);
+    if words.len() != 32 {
+        return Err(4);
+    }
+    if !w.iter().all(|&x| sized(x, 1_048_576.0)) {
+        return Err(2);
+    }
+    let f: Vec<f32> = w.into_iter().map(f32::from_bits).collect();
+    let b = Blade::new(f[0], f[1], f[2], f[3]);
+    let (p, q) = ((f[4], f[5]), (f[6], f[7]));
+    let (dp, dq) = (second::offset(b, p), second::offset(b, q));
+    let mut t = second::blade_hit(b, p, q);
+    if has(BladeOpenEnd) {
+        t = t.filter(|&t| second::blade_inside(b, p, q, t));
+    }
+    if has(BladeSigns) && (dp > 0.0) == (dq > 0.0) && dp != 0.0 && dq != 0.0 {
+        t = None;
+    }
+    Ok(t.map_or(vec![0, 0], |t| vec![1, if has(BladeZero) { (t + 0.0).to_bits() } else { t.to_bits() }]))
 }
 
-unsafe extern "C" fn groups(
-    image: *const u8,
-    len: usize,
-    v: u32,
-    sides: *const u8,
-    sides_len: usize,
-    out: *mut u8,
-    n: usize,
-) -> u32 {
-    let answer = judge(unsafe { lent(image, len) })
-        .and_then(|m| grouped(&m, v, unsafe { lent(sides, sides_len) }))
-        .map(|(groups, count)| [vec![count], groups].concat());
-    unsafe { give(answer, out, n) }
+fn groups(image: &[u8], v: u32, sides: &[u8]) -> Answer {
+    let (groups, count) = grouped(&judge(image)?, v, sides)?;
+    Ok([vec![count], groups].concat())
 }
 
 /// The measure, with the planted faults' readings of an element's weight.
@@ -239,68 +249,44 @@ fn measured(m: &Mesh, keep: impl Fn(&[u32]) -> bool) -> Vec<u32> {
     }
     vec![total.to_bits()]
 }
-unsafe extern "C" fn rest_measure(image: *const u8, len: usize, out: *mut u8, n: usize) -> u32 {
-    let answer = judge(unsafe { lent(image, len) }).map(|m| measured(&m, |_| true));
-    unsafe { give(answer, out, n) }
+fn rest_measure(image: &[u8]) -> Answer {
+    Ok(measured(&judge(image)?, |_| true))
 }
-unsafe extern "C" fn rest_measure_of(
-    image: *const u8,
-    len: usize,
-    list: *const u8,
-    list_len: usize,
-    out: *mut u8,
-    n: usize,
-) -> u32 {
-    let list = words_of(unsafe { lent(list, list_len) });
-    let answer = judge(unsafe { lent(image, len) }).and_then(|m| {
-        let falls = |k: usize| list[k - 1] > list[k] || list[k - 1] == list[k] && !has(ListTwice);
-        if list_len % 4 != 0 || (1..list.len()).any(falls) || list.iter().any(|&p| p as usize >= m.px.len()) {
-            return Err(4);
-        }
-        Ok(measured(&m, |c| match has(AnyCorner) {
-            true => c.iter().any(|w| list.contains(w)),
-            false => c.iter().all(|w| list.contains(w)),
-        }))
-    });
-    unsafe { give(answer, out, n) }
+fn rest_measure_of(image: &[u8], bytes: &[u8]) -> Answer {
+    let (m, list) = (judge(image)?, words_of(bytes));
+    let falls = |k: usize| list[k - 1] > list[k] || list[k - 1] == list[k] && !has(ListTwice);
+    if bytes.len() % 4 != 0 || (1..list.len()).any(falls) || list.iter().any(|&p| p as usize >= m.px.len()) {
+        return Err(4);
+    }
+    Ok(measured(&m, |c| match has(AnyCorner) {
+        true => c.iter().any(|w| list.contains(w)),
+        false => c.iter().all(|w| list.contains(w)),
+    }))
 }
 
-unsafe extern "C" fn opens(
-    image: *const u8,
-    len: usize,
-    v: u32,
-    sides: *const u8,
-    sides_len: usize,
-    minimum: u32,
-    out: *mut u8,
-    n: usize,
-) -> u32 {
-    let answer = judge(unsafe { lent(image, len) }).and_then(|m| {
-        let (groups, count) = grouped(&m, v, unsafe { lent(sides, sides_len) })?;
-        let k = second::kind(&m);
-        let fan = second::fan(&m, k, v);
-        let facet = if k == Kind::Triangles && !has(CornerReach) { 2 } else { 1 };
-        let least = if has(MinimumLess) { minimum.saturating_sub(1) } else { minimum.max(1) };
-        // A particle that no element holds.
-        let pivot = if has(ReachThroughV) { u32::MAX } else { v };
-        let within = if has(ReachInFan) { fan.clone() } else { second::elements(&m, k) };
-        Ok(vec![second::opens_within(&m, k, &within, pivot, facet, &fan, &groups, count, least) as u32])
-    });
-    unsafe { give(answer, out, n) }
+fn opens(image: &[u8], v: u32, sides: &[u8], minimum: u32) -> Answer {
+    let m = judge(image)?;
+    let (groups, count) = grouped(&m, v, sides)?;
+    let k = second::kind(&m);
+    let fan = second::fan(&m, k, v);
+    let facet = if k == Kind::Triangles && !has(CornerReach) { 2 } else { 1 };
+    let least = if has(MinimumLess) { minimum.saturating_sub(1) } else { minimum.max(1) };
+    // A particle that no element holds.
+    let pivot = if has(ReachThroughV) { u32::MAX } else { v };
+    let within = if has(ReachInFan) { fan.clone() } else { second::elements(&m, k) };
+    Ok(vec![second::opens_within(&m, k, &within, pivot, facet, &fan, &groups, count, least) as u32])
 }
 
-unsafe extern "C" fn pieces(image: *const u8, len: usize, out: *mut u8, n: usize) -> u32 {
-    let answer = judge(unsafe { lent(image, len) }).map(|m| {
-        let k = second::kind(&m);
-        let mut sets: Vec<Vec<u32>> = second::elements(&m, k).iter().map(|&e| second::corners(&m, k, e)).collect();
-        let count = sets.len();
-        let joins = if has(PiecesByFacets) && k == Kind::Triangles { 2 } else { 1 };
-        if has(PiecesByEdges) {
-            sets.extend(m.edges().into_iter().chain(m.boundary()).map(|(a, b)| vec![a, b]));
-        }
-        vec![second::pieces_of(&sets, count, joins)]
-    });
-    unsafe { give(answer, out, n) }
+fn pieces(image: &[u8]) -> Answer {
+    let m = judge(image)?;
+    let k = second::kind(&m);
+    let mut sets: Vec<Vec<u32>> = second::elements(&m, k).iter().map(|&e| second::corners(&m, k, e)).collect();
+    let count = sets.len();
+    let joins = if has(PiecesByFacets) && k == Kind::Triangles { 2 } else { 1 };
+    if has(PiecesByEdges) {
+        sets.extend(m.edges().into_iter().chain(m.boundary()).map(|(a, b)| vec![a, b]));
+    }
+    Ok(vec![second::pieces_of(&sets, count, joins)])
 }
 
 // ---- the functions that give a mesh ---------------------------------------------------------
@@ -339,7 +325,7 @@ fn lent_places(m: &Mesh, rooms: &[u8]) -> Result<Vec<u32>, u32> {
     Ok((0..4).map(|k| if has(RoomUncapped) { w[k] } else { w[k].min(LIMITS[k]) }).collect())
 }
 /// The first lack of room of a run, by its steps, or its words.
-fn answered(o: Outcome, places: &[u32], log: usize) -> Result<(Vec<u32>, Vec<u32>), u32> {
+fn answered(o: Outcome, places: &[u32], log: usize) -> Torn {
     let entries = if has(LogRoundedUp) { log.div_ceil(24) } else { log / 24 };
     let rooms = [places[0] as usize, places[2] as usize, places[3] as usize, entries.min(4096)];
     let steps = if has(RoomAtEnd) { &o.steps[o.steps.len() - 1..] } else { &o.steps[..] };
@@ -356,96 +342,44 @@ fn answered(o: Outcome, places: &[u32], log: usize) -> Result<(Vec<u32>, Vec<u32
     Ok(([head, image_words(&o.mesh)].concat(), log))
 }
 
-unsafe extern "C" fn split(
-    image: *const u8,
-    len: usize,
-    v: u32,
-    sides: *const u8,
-    sides_len: usize,
-    rooms: *const u8,
-    rooms_len: usize,
-    out: *mut u8,
-    n: usize,
-    log: *mut u8,
-    log_len: usize,
-) -> u32 {
-    let answer = judge(unsafe { lent(image, len) }).and_then(|m| {
-        let places = lent_places(&m, unsafe { lent(rooms, rooms_len) })?;
-        let sides = unsafe { lent(sides, sides_len) };
-        fan_of(&m, v, sides)?;
-        let sides: Vec<u32> = sides.iter().map(|&s| s as u32).collect();
-        answered(second::split_fan(&m, v, &sides), &places, log_len)
-    });
-    unsafe { give_both(answer, (out, n), (log, log_len)) }
+fn split(image: &[u8], v: u32, sides: &[u8], rooms: &[u8], log: usize) -> Torn {
+    let m = judge(image)?;
+    let places = lent_places(&m, rooms)?;
+    fan_of(&m, v, sides)?;
+    let sides: Vec<u32> = sides.iter().map(|&s| s as u32).collect();
+    answered(second::split_fan(&m, v, &sides), &places, log)
 }
 
-unsafe extern "C" fn straddlers(
-    image: *const u8,
-    len: usize,
-    rooms: *const u8,
-    rooms_len: usize,
-    out: *mut u8,
-    n: usize,
-    log: *mut u8,
-    log_len: usize,
-) -> u32 {
-    let answer = judge(unsafe { lent(image, len) }).and_then(|m| {
-        let places = lent_places(&m, unsafe { lent(rooms, rooms_len) })?;
-        answered(second::straddlers(&m), &places, log_len)
-    });
-    unsafe { give_both(answer, (out, n), (log, log_len)) }
+fn straddlers(image: &[u8], rooms: &[u8], log: usize) -> Torn {
+    let m = judge(image)?;
+    let places = lent_places(&m, rooms)?;
+    answered(second::straddlers(&m), &places, log)
 }
 
-unsafe extern "C" fn cut(
-    image: *const u8,
-    len: usize,
-    blade: *const u8,
-    blade_len: usize,
-    fraction: u32,
-    rooms: *const u8,
-    rooms_len: usize,
-    out: *mut u8,
-    n: usize,
-    log: *mut u8,
-    log_len: usize,
-) -> u32 {
-    let w = words_of(unsafe { lent(blade, blade_len) });
+fn cut(image: &[u8], blade: &[u8], fraction: u32, rooms: &[u8], log: usize) -> Torn {
+    let w = words_of(blade);
     // A blade of another length is no blade whose numbers could be looked at.
-    let fine = blade_len != 16 || w.iter().all(|&x| sized(x, 1_048_576.0));
-    let answer = judge_with(unsafe { lent(image, len) }, fine).and_then(|m| {
-        let places = lent_places(&m, unsafe { lent(rooms, rooms_len) })?;
-        // Patterns from 0 to 0.5, and minus zero.
-        let within = fraction <= 0x3f00_0000 || fraction == 0x8000_0000 && !has(MinusZeroFraction);
-        if blade_len != 16 || !within {
-            return Err(4);
-        }
-        let f: Vec<f32> = w.into_iter().map(f32::from_bits).collect();
-        let blade = Blade::new(f[0], f[1], f[2], f[3]);
-        answered(second::cut(&m, blade, f32::from_bits(fraction)), &places, log_len)
-    });
-    unsafe { give_both(answer, (out, n), (log, log_len)) }
+    let m = judge_with(image, blade.len() != 16 || w.iter().all(|&x| sized(x, 1_048_576.0)))?;
+    let places = lent_places(&m, rooms)?;
+    // Patterns from 0 to 0.5, and minus zero.
+    let within = fraction <= 0x3f00_0000 || fraction == 0x8000_0000 && !has(MinusZeroFraction);
+    if blade.len() != 16 || !within {
+        return Err(4);
+    }
+    let f: Vec<f32> = w.into_iter().map(f32::from_bits).collect();
+    answered(second::cut(&m, Blade::new(f[0], f[1], f[2], f[3]), f32::from_bits(fraction)), &places, log)
 }
 
-unsafe extern "C" fn crack(
-    image: *const u8,
-    len: usize,
-    torn: *const u8,
-    torn_len: usize,
-    minimum: u32,
-    rooms: *const u8,
-    rooms_len: usize,
-    out: *mut u8,
-    n: usize,
-    log: *mut u8,
-    log_len: usize,
-) -> u32 {
-    let torn = words_of(unsafe { lent(torn, torn_len) });
-    let answer = judge(unsafe { lent(image, len) }).and_then(|m| {
-        let places = lent_places(&m, unsafe { lent(rooms, rooms_len) })?;
-        if torn_len % 4 != 0 && !has(TornPart) {
-            return Err(4);
-        }
-        answered(second::crack(&m, &torn, Some(minimum)), &places, log_len)
-    });
-    unsafe { give_both(answer, (out, n), (log, log_len)) }
+/// The bytes of the longest torn list that is taken.
+pub const MOST_TORN: usize = 4 * 2048;
+fn crack(image: &[u8], torn: &[u8], minimum: u32, rooms: &[u8], log: usize) -> Torn {
+    let m = judge(image)?;
+    let places = lent_places(&m, rooms)?;
+    if torn.len() % 4 != 0 && !has(TornPart) {
+        return Err(4);
+    }
+    if torn.len() > MOST_TORN {
+        return Err(4);
+    }
+    answered(second::crack(&m, &words_of(torn), Some(minimum)), &places, log)
 }

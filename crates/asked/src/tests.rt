@@ -4,7 +4,7 @@ ghost use mathlib.Core.Bool.{_&&_};
 ghost use lib.Dec.{eqb, ltb};
 ghost use lib.ListN.{length};
 ghost use Rattle.lists.specs.Lists.{all};
-ghost use Rattle.model.specs.Calls.{strictly, pointOk};
+ghost use Rattle.model.specs.Calls.{strictly, pointOk, fractionOk};
 ghost use Rattle.asked.specs.Beside.{withNumbers};
 use blade::Point;
 use mesh::tests;
@@ -14,6 +14,13 @@ pub fn point_fits(p: Point) -> bool
     ensures { λ r. ⌜ r ≡ pointOk p ⌝ }
 {
     tests::both(float::range::in_range(p.x), float::range::in_range(p.y))
+}
+
+// Is an insertion fraction in its range, from 0 to 0.5?
+pub fn fraction_fits(f: f32) -> bool
+    ensures { λ r. ⌜ r ≡ fractionOk f ⌝ }
+{
+    tests::both(0.0 <= f, f <= 0.5)
 }
 
 // The fault of a mesh and of the numbers beside it: bad ones refuse with 2, behind 1 and before 3.

@@ -1,11 +1,13 @@
 // The entries that give a mesh: they copy the input to the lent blocks, work there, and leave 0 behind.
 ghost use mathlib.Core.Path.{_≡_};
-ghost use Rattle.model.specs.Calls.{splitCall, straddlersCall};
+ghost use Rattle.model.specs.Calls.{splitCall, straddlersCall, cutCall, crackCall};
 ghost use Rattle.mesh.specs.Given.{given, meshOf, sizesFit, roomsOf, asRooms};
 ghost use Rattle.mesh.specs.Filled.{lent};
+ghost use Rattle.cut.specs.Marking.{bladeFrom};
 ghost use Rattle.answer.specs.Answered.{Answered};
 ghost use Rattle.answer.specs.Framed.{frontOf};
 use answer::Answer;
+use blade::Point;
 use jobs::Job;
 
 // The straddlers across pieces removed: the edges that are no elements, and the boundary entries, that join two pieces.
@@ -109,6 +111,147 @@ pub fn split(
     let ran = jobs::calls::run(
         Job::Split(v),
         sides,
+        room,
+        in_points,
+        in_roots,
+        in_corners,
+        in_volumes,
+        in_ends,
+        in_lengths,
+        in_outline,
+        points,
+        roots,
+        corners,
+        volumes,
+        ends,
+        lengths,
+        outline,
+        log,
+    );
+    answer::frame::finish(
+        ran,
+        points,
+        roots,
+        corners,
+        volumes,
+        ends,
+        lengths,
+        outline,
+        log,
+    )
+}
+
+// The mesh cut along the blade from b0 to b1, straps with insertions at the fraction f or further from their ends: 2 for a bad blade, 4 for a bad fraction.
+pub fn cut(
+    b0: Point,
+    b1: Point,
+    f: f32,
+    in_points: &[f32],
+    in_roots: &[usize],
+    in_corners: &[usize],
+    in_volumes: &[f32],
+    in_ends: &[usize],
+    in_lengths: &[f32],
+    in_outline: &[usize],
+    points: &mut [f32],
+    roots: &mut [usize],
+    corners: &mut [usize],
+    volumes: &mut [f32],
+    ends: &mut [usize],
+    lengths: &mut [f32],
+    outline: &mut [usize],
+    log: &mut [usize],
+) -> Answer
+    ensures { λ r. ⌜ Answered (cutCall (sizesFit (given (now («in_points» .entry)) (now («in_roots» .entry)) (now («in_corners» .entry)) (now («in_volumes» .entry)) (now («in_ends» .entry)) (now («in_lengths» .entry)) (now («in_outline» .entry)))) (meshOf (given (now («in_points» .entry)) (now («in_roots» .entry)) (now («in_corners» .entry)) (now («in_volumes» .entry)) (now («in_ends» .entry)) (now («in_lengths» .entry)) (now («in_outline» .entry)))) (bladeFrom b0 b1) f (asRooms (roomsOf (lent (now (points .entry)) (now (roots .entry)) (now (corners .entry)) (now (volumes .entry)) (now (ends .entry)) (now (lengths .entry)) (now (outline .entry)) (now (log .entry)))))) (lent (now (points .entry)) (now (roots .entry)) (now (corners .entry)) (now (volumes .entry)) (now (ends .entry)) (now (lengths .entry)) (now (outline .entry)) (now (log .entry))) r
+        (now (points .exit)) (now (roots .exit)) (now (corners .exit)) (now (volumes .exit)) (now (ends .exit)) (now (lengths .exit)) (now (outline .exit)) (now (log .exit)) ⌝ }
+{
+    let room = mesh::whole::rooms_for(
+        points.len(),
+        roots.len(),
+        corners.len(),
+        volumes.len(),
+        ends.len(),
+        lengths.len(),
+        outline.len(),
+        log.len(),
+    );
+    let none = [0usize; 0];
+    let ran = jobs::calls::run(
+        Job::Cut(b0, b1, f),
+        &none,
+        room,
+        in_points,
+        in_roots,
+        in_corners,
+        in_volumes,
+        in_ends,
+        in_lengths,
+        in_outline,
+        points,
+        roots,
+        corners,
+        volumes,
+        ends,
+        lengths,
+        outline,
+        log,
+    );
+    answer::frame::finish(
+        ran,
+        points,
+        roots,
+        corners,
+        volumes,
+        ends,
+        lengths,
+        outline,
+        log,
+    )
+}
+
+// The minimum piece that is offered: three elements.
+pub fn minimum_piece() -> usize
+    ensures { λ r. ⌜ r ≡ 3 ⌝ }
+{
+    3
+}
+
+// The mesh cracked across torn edges, told by their numbers; each part at a crack must reach the minimum piece, of which 0 counts as 1.
+pub fn crack(
+    minimum: usize,
+    torn: &[usize],
+    in_points: &[f32],
+    in_roots: &[usize],
+    in_corners: &[usize],
+    in_volumes: &[f32],
+    in_ends: &[usize],
+    in_lengths: &[f32],
+    in_outline: &[usize],
+    points: &mut [f32],
+    roots: &mut [usize],
+    corners: &mut [usize],
+    volumes: &mut [f32],
+    ends: &mut [usize],
+    lengths: &mut [f32],
+    outline: &mut [usize],
+    log: &mut [usize],
+) -> Answer
+    ensures { λ r. ⌜ Answered (crackCall (sizesFit (given (now («in_points» .entry)) (now («in_roots» .entry)) (now («in_corners» .entry)) (now («in_volumes» .entry)) (now («in_ends» .entry)) (now («in_lengths» .entry)) (now («in_outline» .entry)))) (meshOf (given (now («in_points» .entry)) (now («in_roots» .entry)) (now («in_corners» .entry)) (now («in_volumes» .entry)) (now («in_ends» .entry)) (now («in_lengths» .entry)) (now («in_outline» .entry)))) (now (torn .entry)) minimum (asRooms (roomsOf (lent (now (points .entry)) (now (roots .entry)) (now (corners .entry)) (now (volumes .entry)) (now (ends .entry)) (now (lengths .entry)) (now (outline .entry)) (now (log .entry)))))) (lent (now (points .entry)) (now (roots .entry)) (now (corners .entry)) (now (volumes .entry)) (now (ends .entry)) (now (lengths .entry)) (now (outline .entry)) (now (log .entry))) r
+        (now (points .exit)) (now (roots .exit)) (now (corners .exit)) (now (volumes .exit)) (now (ends .exit)) (now (lengths .exit)) (now (outline .exit)) (now (log .exit)) ⌝ }
+{
+    let room = mesh::whole::rooms_for(
+        points.len(),
+        roots.len(),
+        corners.len(),
+        volumes.len(),
+        ends.len(),
+        lengths.len(),
+        outline.len(),
+        log.len(),
+    );
+    let ran = jobs::calls::run(
+        Job::Crack(minimum),
+        torn,
         room,
         in_points,
         in_roots,

@@ -1,25 +1,27 @@
 -- Laws of loads: the edges between two corners as a loop goes through them, and the loads of all triangles. Assumes nothing.
-use Prim.Native.Nat.{ℕ, _+_, _*_, _/_, _<_, _≤_}
+use Prim.Native.Nat.{ℕ, _+_, _*_, _-_, _/_, _<_, _≤_}
 use native.Mathlib.Omega.{arith}
-use mathlib.Core.Path.{_≡_, refl, sym, _∙_, ap, ap₂}
-use mathlib.Core.Bool.{Bool, true, false, not, _&&_, _||_}
+use mathlib.Core.Path.{_≡_, refl, sym, _∙_, ap, ap₂, subst}
+use mathlib.Core.Bool.{Bool, true, false, not, _&&_}
 use mathlib.Core.List.{List, [], _∷_, _++_, map, append-nil, map-append}
 use lib.ListN.{length, getD, take, set, length-set}
 use lib.Ieee.{Float, nan}
 use lib.Dec.{eqb}
 use borrow.Author.Tests.{eq-eqb, ne-eqb}
 use Rattle.lists.specs.Lists.{pick, stands, sift, fold, each, pairs, tab, empty}
-use Rattle.lists.proofs.Sifts.{fold-append, map-tab}
+use Rattle.lists.proofs.Sifts.{fold-append}
 use Rattle.lists.proofs.Steps.{sift-step, tab-step}
 use Rattle.float.specs.Numbers.{zero32, maxOf}
 use Rattle.columns.specs.Block.{cell}
 use Rattle.columns.proofs.Cells.{col-0, col-1}
 use Rattle.columns.proofs.Sweep.{front-grows}
 use Rattle.model.specs.Mesh.{Triangle, Edge, Mesh}
-use Rattle.model.specs.Elements.{Triangles, endsOf, cornersOf}
+use Rattle.model.specs.Trace.{Sound}
+use Rattle.model.specs.Elements.{endsOf}
 use Rattle.model.specs.Crack.{largestStress, stressBetween, triangleLoad, loadsOf}
 use Rattle.mesh.specs.At.{triangleRow, edgeRow, trianglesAt, edgesAt}
-use Rattle.crack.specs.Loads.{PairLoad, TriangleLoad, LoadsRead}
+use Rattle.crack.specs.Loads.{endSum, FirstFrom, Apart, PairLoad, TriangleLoad, LoadsRead}
+use Rattle.crack.proofs.LinkLaws.{other-sum, sift-run}
 
 -- ---- the edges between two particles
 
@@ -90,6 +92,31 @@ module _ (x y e : ℕ) (ends : List ℕ) (lengths : List Float) (most : Float) (
         found-is = ef ∙ F .found-is ∙ ap (λ (k : List Edge). not (empty k)) (sym s);
       }
 
+-- edges up to the first of the sum x + y are not between x and y
+finding-past : (x y e : ℕ) (ends : List ℕ) (lengths : List Float) (most : Float) (found : Bool) (i k : ℕ) → (x ≡ y → ⊥) → Finding x y e ends lengths most found i
+    → FirstFrom i (x + y) e ends k → Finding x y e ends lengths most found k
+finding-past x y e ends lengths most found i k differ F K =
+    let q : i + (k - i) ≡ k = omega (arith, K .from) in
+    let run = sift-run (between x y) (edgeIn ends lengths) i (k - i) (λ j a b.
+    ends-read x y j ends lengths false (sym (other-sum x y (getD ends j 0) (getD ends (length ends / 4 + j) 0) differ (K .none j a (omega arith))))) in
+    let s : sift (between x y) (tab k (edgeIn ends lengths)) ≡ sift (between x y) (tab i (edgeIn ends lengths)) = ap (λ (n : ℕ). sift (between x y) (tab n (edgeIn ends lengths))) (sym q) ∙ run in
+    record {
+      inside = K .inside;
+      most-is = F .most-is ∙ ap (fold stressed zero32) (sym s);
+      found-is = F .found-is ∙ ap (λ (l : List Edge). not (empty l)) (sym s);
+    }
+
+-- at the head of the loop over the edges of one sum
+pub record Walking (x y e : ℕ) (ends : List ℕ) (lengths : List Float) (most : Float) (found : Bool) (i : ℕ) : Type 0 where
+  pub finding : Finding x y e ends lengths most found i
+  pub sums : i < e → endSum ends i ≡ x + y
+
+-- from what was found among the first i edges to the next edge of the sum
+pub walking-on : (x y e : ℕ) (ends : List ℕ) (lengths : List Float) (most : Float) (found : Bool) (i s k : ℕ) → (x ≡ y → ⊥) → Finding x y e ends lengths most found i
+    → s ≡ x + y → FirstFrom i s e ends k → Walking x y e ends lengths most found k
+walking-on x y e ends lengths most found i s k differ F q K =
+    let P = subst (λ (n : ℕ). FirstFrom i n e ends k) q K in record { finding = finding-past x y e ends lengths most found i k differ F P; sums = P .sums }
+
 -- the largest stress of some edges, folded onto a load
 onto-some : (load : Float) (l : List Edge) → not (empty l) ≡ true → maxOf load (fold stressed zero32 l) ≡ fold maxOf load (largestStress l)
 unfolding largestStress fold
@@ -136,6 +163,20 @@ module _ (load : Float) (x y e : ℕ) (ends : List ℕ) (lengths : List Float) (
 pub corner-two : (corners : List ℕ) (i : ℕ) → getD corners (2 * (length corners / 3) + i) 0 ≡ cell 0 (length corners / 3) corners 2 i
 unfolding cell
 corner-two corners i = refl
+
+-- two corners of a triangle are apart
+module _ (corners : List ℕ) (volumes : List Float) (i : ℕ) (S : Sound 1024 (triangleRow (length corners / 3) (length volumes / 2) corners volumes i)) where
+  apart-by : {a b x y : ℕ} → a ≡ x → b ≡ y → a < 1024 → b < 1024 → (a ≡ b → ⊥) → Apart x y
+  apart-by p q h k n = record { first = omega arith; second = omega arith; differ = λ e. n (p ∙ e ∙ sym q) }
+
+  pub apart-ab : Apart (getD corners i 0) (getD corners (length corners / 3 + i) 0)
+  apart-ab = apart-by (col-0 0 (length corners / 3) corners i) (col-1 0 (length corners / 3) corners i) (S .a) (S .b) (S .ab)
+
+  pub apart-ac : Apart (getD corners i 0) (getD corners (2 * (length corners / 3) + i) 0)
+  apart-ac = apart-by (col-0 0 (length corners / 3) corners i) (sym (corner-two corners i)) (S .a) (S .c) (λ e. S .ca (sym e))
+
+  pub apart-bc : Apart (getD corners (length corners / 3 + i) 0) (getD corners (2 * (length corners / 3) + i) 0)
+  apart-bc = apart-by (col-1 0 (length corners / 3) corners i) (sym (corner-two corners i)) (S .b) (S .c) (S .bc)
 
 -- three lists, one behind the other
 fold-three : (b : Float) (l m n : List Float) → fold maxOf (fold maxOf (fold maxOf b l) m) n ≡ fold maxOf b (l ++ (m ++ (n ++ [])))

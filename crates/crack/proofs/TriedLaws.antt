@@ -127,6 +127,15 @@ module _ (K : Kind) (k : Counts) (points : List Float) (roots corners : List ℕ
 
 -- ---- does it open without confetti
 
+-- the table of all elements holds those of the mesh in the blocks
+pub elements-here : (K : Kind) (k : Counts) (points : List Float) (roots corners : List ℕ) (volumes : List Float) (ends : List ℕ) (lengths : List Float) (outline : List ℕ) (m per : ℕ) (numbers verts : List ℕ) (measures : List Float)
+    → Tabled (cornersPer K) (elementsIn K (trianglesAt (k .triangles) corners volumes) (edgesAt (k .edges) ends lengths)) m numbers verts measures → per ≡ cornersPer K
+    → Cornered per (elementsOf K (meshAt k points roots corners volumes ends lengths outline)) m verts
+unfolding meshAt
+elements-here K k points roots corners volumes ends lengths outline m per numbers verts measures T e =
+    let M : Mesh = meshAt k points roots corners volumes ends lengths outline in
+    subst (λ (c : ℕ). Cornered c (elementsOf K M) m verts) (sym e) (subst (λ (es : List Element). Cornered (cornersPer K) es m verts) (sym (elements-in K M)) (T .cornered))
+
 module _ (K : Kind) (k : Counts) (points : List Float) (roots corners : List ℕ) (volumes : List Float) (ends : List ℕ) (lengths : List Float) (outline : List ℕ) (v n m per : ℕ) (numbers verts : List ℕ) (measures : List Float) (groups : List ℕ)
     (P : TableRoom (k .triangles) (k .edges) (length corners) (length volumes) (length ends) (length lengths) 2048 4096 2048)
     (Q : OpensRoom n (length (fanOf K (meshAt k points roots corners volumes ends lengths outline) v)) (length groups))
@@ -134,10 +143,8 @@ module _ (K : Kind) (k : Counts) (points : List Float) (roots corners : List ℕ
   abbrev Here : Mesh
   Here = meshAt k points roots corners volumes ends lengths outline
 
-  -- the table of all elements holds those of the mesh
   cornered : Cornered per (elementsOf K Here) m verts
-  unfolding meshAt
-  cornered = subst (λ (c : ℕ). Cornered c (elementsOf K Here) m verts) (sym e) (subst (λ (es : List Element). Cornered (cornersPer K) es m verts) (sym (elements-in K Here)) (T .cornered))
+  cornered = elements-here K k points roots corners volumes ends lengths outline m per numbers verts measures T e
 
   pub opens-lent : 4096 ≤ length verts → (s q : ℕ) → 2048 ≤ s → 2048 ≤ q → Lent m per v verts (take n groups) s q
   opens-lent lk s q hs hq =

@@ -5,3 +5,5 @@ pub mod Ways
 pub mod Tears
 pub mod Torn
 pub mod Tried
+pub mod Cracks
+pub mod Bodies

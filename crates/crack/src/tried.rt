@@ -11,7 +11,7 @@ use elements::Kind;
 use mesh::Counts;
 
 // The fan of v in tables, and the side of each of its elements across the edge to w; returns how many they are.
-fn way_tables(
+pub fn way_tables(
     kind: Kind,
     v: usize,
     w: usize,

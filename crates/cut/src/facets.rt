@@ -11,7 +11,7 @@ ghost use Rattle.elements.specs.Table.{kindIs};
 ghost use Rattle.split.specs.Working.{Ready, Works};
 ghost use Rattle.cut.specs.Marking.{bladeFrom};
 ghost use Rattle.cut.specs.Sided.{SidesRoom};
-ghost use Rattle.cut.specs.Running.{splitIn, splitIf, SidesFor, chosen, Logged, Chosen};
+ghost use Rattle.cut.specs.Running.{splitIn, splitIf, SidesFor, TablesLong, chosen, Logged, Chosen};
 use crate::marks;
 use crate::sides::blade_sides;
 use blade::Point;
@@ -46,7 +46,7 @@ fn part_fan(
     }
 }
 
-// Splits v by the sides of its fan, if its mark is 1.
+// Splits v by the sides of its fan, if its mark is 1. The tables are lent to work in: what stands in them does not matter.
 pub fn split_one(
     way: Parting,
     kind: Kind,
@@ -62,17 +62,17 @@ pub fn split_one(
     lengths: &mut [f32],
     outline: &mut [usize],
     log: &mut [usize],
+    numbers: &mut [usize],
+    verts: &mut [usize],
+    measures: &mut [f32],
+    sides: &mut [usize],
 ) -> Ran
-    requires { ⌜ Ready room k (lent (now points) (now roots) (now corners) (now volumes) (now ends) (now lengths) (now outline) (now log)) (meshAt k (now points) (now roots) (now corners) (now volumes) (now ends) (now lengths) (now outline)) × (v < k .particles) ⌝ }
+    requires { ⌜ Ready room k (lent (now points) (now roots) (now corners) (now volumes) (now ends) (now lengths) (now outline) (now log)) (meshAt k (now points) (now roots) (now corners) (now volumes) (now ends) (now lengths) (now outline)) × (v < k .particles) × TablesLong (length (now numbers)) (length (now verts)) (length (now measures)) (length (now sides)) ⌝ }
     ensures { λ r. ⌜ Works (λ R. splitIf mark way (kindIs kind) R v) room (worldAt k (now (points .entry)) (now (roots .entry)) (now (corners .entry)) (now (volumes .entry)) (now (ends .entry)) (now (lengths .entry)) (now (outline .entry)) (now (log .entry))) (λ q. worldAt q (now (points .exit)) (now (roots .exit)) (now (corners .exit)) (now (volumes .entry)) (now (ends .exit)) (now (lengths .exit)) (now (outline .exit)) (now (log .exit))) r ⌝ }
 {
     if mark != 1 {
         return Ran::Done(k);
     }
-    let mut numbers = [0usize; 2048];
-    let mut verts = [0usize; 4096];
-    let mut measures = [0.0f32; 2048];
-    let mut sides = [0usize; 2048];
     let n = split::fans::fan_tables(
         kind,
         v,
@@ -82,19 +82,19 @@ pub fn split_one(
         volumes,
         ends,
         lengths,
-        &mut numbers,
-        &mut verts,
-        &mut measures,
+        numbers,
+        verts,
+        measures,
     );
-    part_fan(way, kind, v, n, &verts, points, &mut sides);
+    part_fan(way, kind, v, n, verts, points, sides);
     split_tabled(
         kind,
         v,
         n,
-        &numbers,
-        &verts,
-        &measures,
-        &sides,
+        numbers,
+        verts,
+        measures,
+        sides,
         k,
         room,
         points,
@@ -108,7 +108,7 @@ pub fn split_one(
     )
 }
 
-// Splits each marked particle below p, in rising order, until one lacks room.
+// Splits each marked particle below p, in rising order, until one lacks room. All share one set of tables: to clear it is dear.
 pub fn split_marked(
     way: Parting,
     kind: Kind,
@@ -128,6 +128,10 @@ pub fn split_marked(
     requires { ⌜ Ready room k (lent (now points) (now roots) (now corners) (now volumes) (now ends) (now lengths) (now outline) (now log)) (meshAt k (now points) (now roots) (now corners) (now volumes) (now ends) (now lengths) (now outline)) × Chosen p k (now log) (length (now marks)) ⌝ }
     ensures { λ r. ⌜ Works (λ R. fold (splitIn way (kindIs kind)) R (chosen p (now (marks .entry)))) room (worldAt k (now (points .entry)) (now (roots .entry)) (now (corners .entry)) (now (volumes .entry)) (now (ends .entry)) (now (lengths .entry)) (now (outline .entry)) (now (log .entry))) (λ q. worldAt q (now (points .exit)) (now (roots .exit)) (now (corners .exit)) (now (volumes .entry)) (now (ends .exit)) (now (lengths .exit)) (now (outline .exit)) (now (log .exit))) r ⌝ }
 {
+    let mut numbers = [0usize; 2048];
+    let mut verts = [0usize; 4096];
+    let mut measures = [0.0f32; 2048];
+    let mut sides = [0usize; 2048];
     let mut counts = k;
     let mut v: usize = 0;
     while v < p {
@@ -146,6 +150,10 @@ pub fn split_marked(
             lengths,
             outline,
             log,
+            &mut numbers,
+            &mut verts,
+            &mut measures,
+            &mut sides,
         );
         let Ran::Done(next) = ran else {
             return ran;

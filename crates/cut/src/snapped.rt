@@ -10,7 +10,7 @@ ghost use Rattle.mesh.specs.Log.{worldAt};
 ghost use Rattle.mesh.specs.Filled.{lent};
 ghost use Rattle.split.specs.Working.{Ready, Works};
 ghost use Rattle.cut.specs.Marking.{bladeFrom};
-ghost use Rattle.cut.specs.Running.{chosen, Chosen};
+ghost use Rattle.cut.specs.Running.{TablesLong, chosen, Chosen};
 ghost use Rattle.cut.specs.Snapping.{EdgeHere, SlackAt, EdgesHere, SlackFrom, snapIf, Snappable};
 use crate::facets::Parting;
 use crate::facets::split_one;
@@ -71,8 +71,12 @@ pub fn split_snapped(
     lengths: &mut [f32],
     outline: &mut [usize],
     log: &mut [usize],
+    numbers: &mut [usize],
+    verts: &mut [usize],
+    measures: &mut [f32],
+    sides: &mut [usize],
 ) -> Ran
-    requires { ⌜ Ready room k (lent (now points) (now roots) (now corners) (now volumes) (now ends) (now lengths) (now outline) (now log)) (meshAt k (now points) (now roots) (now corners) (now volumes) (now ends) (now lengths) (now outline)) × Snappable v k (now log) ⌝ }
+    requires { ⌜ Ready room k (lent (now points) (now roots) (now corners) (now volumes) (now ends) (now lengths) (now outline) (now log)) (meshAt k (now points) (now roots) (now corners) (now volumes) (now ends) (now lengths) (now outline)) × Snappable v k (now log) × TablesLong (length (now numbers)) (length (now verts)) (length (now measures)) (length (now sides)) ⌝ }
     ensures { λ r. ⌜ Works (λ R. snapIf mark (bladeFrom b0 b1) R v) room (worldAt k (now (points .entry)) (now (roots .entry)) (now (corners .entry)) (now (volumes .entry)) (now (ends .entry)) (now (lengths .entry)) (now (outline .entry)) (now (log .entry))) (λ q. worldAt q (now (points .exit)) (now (roots .exit)) (now (corners .exit)) (now (volumes .entry)) (now (ends .exit)) (now (lengths .exit)) (now (outline .exit)) (now (log .exit))) r ⌝ }
 {
     let before = k.particles;
@@ -91,6 +95,10 @@ pub fn split_snapped(
         lengths,
         outline,
         log,
+        numbers,
+        verts,
+        measures,
+        sides,
     );
     let Ran::Done(next) = ran else {
         return ran;
@@ -102,7 +110,7 @@ pub fn split_snapped(
     Ran::Done(next)
 }
 
-// Splits each marked particle below p so, in rising order, until one lacks room.
+// Splits each marked particle below p so, in rising order, until one lacks room. All share one set of tables.
 pub fn split_all_snapped(
     b0: Point,
     b1: Point,
@@ -122,6 +130,10 @@ pub fn split_all_snapped(
     requires { ⌜ Ready room k (lent (now points) (now roots) (now corners) (now volumes) (now ends) (now lengths) (now outline) (now log)) (meshAt k (now points) (now roots) (now corners) (now volumes) (now ends) (now lengths) (now outline)) × Chosen p k (now log) (length (now marks)) ⌝ }
     ensures { λ r. ⌜ Works (λ R. fold (splitSnapped (bladeFrom b0 b1)) R (chosen p (now (marks .entry)))) room (worldAt k (now (points .entry)) (now (roots .entry)) (now (corners .entry)) (now (volumes .entry)) (now (ends .entry)) (now (lengths .entry)) (now (outline .entry)) (now (log .entry))) (λ q. worldAt q (now (points .exit)) (now (roots .exit)) (now (corners .exit)) (now (volumes .entry)) (now (ends .exit)) (now (lengths .exit)) (now (outline .exit)) (now (log .exit))) r ⌝ }
 {
+    let mut numbers = [0usize; 2048];
+    let mut verts = [0usize; 4096];
+    let mut measures = [0.0f32; 2048];
+    let mut sides = [0usize; 2048];
     let mut counts = k;
     let mut v: usize = 0;
     while v < p {
@@ -140,6 +152,10 @@ pub fn split_all_snapped(
             lengths,
             outline,
             log,
+            &mut numbers,
+            &mut verts,
+            &mut measures,
+            &mut sides,
         );
         let Ran::Done(next) = ran else {
             return ran;

@@ -12,8 +12,8 @@ use Rattle.lists.proofs.Sifts.{and-true, all-get}
 use Rattle.model.specs.Mesh.{Mesh}
 use Rattle.model.specs.Elements.{Kind, kindOf, fanOf}
 use Rattle.model.specs.Run.{Run, Rooms as RoomsOf}
-use Rattle.model.specs.Calls.{sidesOk, trianglesLent, refusal, splitCall, straddlersCall}
-use Rattle.model.proofs.Steps.{Onward, sides-onward, straddlers-onward}
+use Rattle.model.specs.Calls.{sidesOk, fractionOk, trianglesLent, refusal, splitCall, straddlersCall, cutCall, crackCall}
+use Rattle.model.proofs.Steps.{Onward, sides-onward, straddlers-onward, cut-onward, crack-onward}
 use Rattle.mesh.specs.At.{meshAt}
 use Rattle.mesh.specs.Log.{World, logAt, worldAt}
 use Rattle.mesh.specs.Given.{Given, meshOf, sizes, sizesFit, asRooms}
@@ -24,6 +24,8 @@ use Rattle.split.specs.Working.{Roomed, Ready, Works}
 use Rattle.split.specs.Tables.{SidesGiven}
 use Rattle.split.specs.declared.Ran.{Ran}
 use Rattle.split.specs.declared.Ran.the-variants.{Refused as Stopped}
+use Rattle.blade.specs.declared.Point.{Point}
+use Rattle.cut.specs.Marking.{bladeFrom}
 use Rattle.cut.specs.Running.{Logged}
 use Rattle.answer.specs.Framed.{Begun, Came}
 use Rattle.answer.proofs.Begun.{began-passed, began-ready}
@@ -31,7 +33,7 @@ use Rattle.answer.proofs.Calls.{came-begun, came-worked, unlogged}
 use Rattle.jobs.specs.Jobs.{jobNumbers, jobArguments, jobRun, jobCall}
 use Rattle.jobs.specs.Asks.{JobAsked}
 use Rattle.jobs.specs.declared.Job.{Job}
-use Rattle.jobs.specs.declared.Job.the-variants.{Straddlers, Split}
+use Rattle.jobs.specs.declared.Job.the-variants.{Straddlers, Split, Cut, Crack}
 
 -- ---- the calls of the model
 
@@ -43,17 +45,29 @@ pub split-is : (v : ℕ) (ls : List ℕ) (sized : Bool) (M : Mesh) (L : RoomsOf)
 unfolding jobCall splitCall
 split-is v ls sized M L = refl
 
+pub cut-is : (b0 b1 : Point) (f : Float) (ls : List ℕ) (sized : Bool) (M : Mesh) (L : RoomsOf) → jobCall (Cut b0 b1 f) ls sized M L ≡ cutCall sized M (bladeFrom b0 b1) f L
+unfolding jobCall cutCall
+cut-is b0 b1 f ls sized M L = refl
+
+pub crack-is : (min : ℕ) (ls : List ℕ) (sized : Bool) (M : Mesh) (L : RoomsOf) → jobCall (Crack min) ls sized M L ≡ crackCall sized M ls min L
+unfolding jobCall crackCall
+crack-is min ls sized M L = refl
+
 -- ---- each job
 
 -- it only goes on
 pub job-onward : (j : Job) (ls : List ℕ) (K : Kind) (R : Run) → Onward R (jobRun j ls K R)
 job-onward Straddlers ls K R = straddlers-onward K R
 job-onward (Split v) ls K R = sides-onward K v ls R
+job-onward (Cut b0 b1 f) ls K R = cut-onward K (bladeFrom b0 b1) f R
+job-onward (Crack min) ls K R = crack-onward K min ls R
 
 -- right arguments have room for the triangles
 pub job-lent : (j : Job) (ls : List ℕ) (L : RoomsOf) (M : Mesh) → jobArguments j ls L M ≡ true → trianglesLent L M ≡ true
 job-lent Straddlers ls L M e = e
 job-lent (Split v) ls L M e = and-true (sidesOk M v ls) (trianglesLent L M) e .1
+job-lent (Cut b0 b1 f) ls L M e = and-true (fractionOk f) (trianglesLent L M) e .1
+job-lent (Crack min) ls L M e = e
 
 -- right sides are given
 sides-given : (M : Mesh) (v : ℕ) (sides : List ℕ) → sidesOk M v sides ≡ true → SidesGiven (kindOf M) M v sides
@@ -71,6 +85,8 @@ sides-given M v sides e =
 pub job-given : (j : Job) (ls : List ℕ) (L : RoomsOf) (M : Mesh) → jobArguments j ls L M ≡ true → JobAsked j ls M
 job-given Straddlers ls L M e = tt
 job-given (Split v) ls L M e = sides-given M v ls (and-true (sidesOk M v ls) (trianglesLent L M) e .0)
+job-given (Cut b0 b1 f) ls L M e = tt
+job-given (Crack min) ls L M e = tt
 
 -- ---- every job
 

@@ -14,6 +14,10 @@ fn numbers_fit(job: Job) -> bool
     match job {
         Job::Straddlers => true,
         Job::Split(_) => true,
+        Job::Cut(b0, b1, _) => {
+            mesh::tests::both(asked::tests::point_fits(b0), asked::tests::point_fits(b1))
+        }
+        Job::Crack(_) => true,
     }
 }
 
@@ -82,6 +86,8 @@ fn arguments_fit(
             );
             mesh::tests::both(fit, lent)
         }
+        Job::Cut(_, _, f) => mesh::tests::both(asked::tests::fraction_fits(f), lent),
+        Job::Crack(_) => lent,
     }
 }
 

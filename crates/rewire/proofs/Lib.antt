@@ -3,5 +3,6 @@ pub mod ParticleLaws
 pub mod FanLaws
 pub mod BoundaryLaws
 pub mod EdgeLaws
+pub mod HeldLaws
 pub mod StraddlerLaws
 pub mod FacetLaws

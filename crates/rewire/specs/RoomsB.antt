@@ -1,16 +1,16 @@
 -- What the workers on other edges, straddlers and crack facets ask and give: helper records that only proofs and contracts between workers need. Definitions only.
-use Prim.Native.Nat.{ℕ, _+_, _-_, _*_, _/_, _<_, _≤_}
+use Prim.Native.Nat.{ℕ, _+_, _-_, _/_, _<_, _≤_}
 use mathlib.Core.Path.{_≡_}
 use mathlib.Core.Logic.{_⊎_}
 use mathlib.Core.Bool.{Bool, false, not, _&&_, _||_}
 use mathlib.Core.List.{List, [], _∷_, map, _++_}
-use lib.ListN.{length, getD, set, take, drop}
+use lib.ListN.{length, getD, set, drop}
 use lib.Ieee.{Float}
 use Rattle.model.specs.Mesh.{Edge, Side, Mesh}
 use lib.Dec.{eqb}
 use Rattle.lists.specs.Lists.{pick, stands, all, find, each, upTo, sift, keep}
-use Rattle.model.specs.Elements.{Kind, Triangles, element?, elementsOf, sideEnds}
-use Rattle.elements.specs.Table.{Cornered}
+use Rattle.columns.specs.Block.{cell}
+use Rattle.model.specs.Elements.{Kind, Triangles, element?, held, cornersPer, sideEnds}
 use Rattle.model.specs.Split.{Opening, copyFor, moved, calm, stayed, doubled, straddles, oneOrNone, faceOn, facetsAt, crackFacets}
 use Rattle.mesh.specs.At.{edgeRow, edgesAt, trianglesAt, boundaryAt}
 use Rattle.mesh.specs.Workers.{EdgeRoom}
@@ -95,36 +95,52 @@ pub record EdgesRoom (K : Kind) (v before k n count p e room : ℕ) (verts group
 abbrev pub copiesBy : ℕ → ℕ → ℕ → List ℕ
 copiesBy v before count = v ∷ map (λ g. before + g) (upTo (count - 1))
 
--- an opening in tables, and a mesh whose elements stand in a table
-pub record Straddling (K : Kind) (O : Opening) (M : Mesh) (v before k n count : ℕ) (verts groups : List ℕ) (body-n body-k : ℕ) (body : List ℕ) : Type 0 where
+-- both x and y stand in the list
+abbrev pub bothIn : ℕ → ℕ → List ℕ → Bool
+bothIn x y l = stands x l && stands y l
+
+-- triangle i of a block holds both x and y
+abbrev pub triangleHolds : ℕ → ℕ → List ℕ → ℕ → Bool
+triangleHolds x y corners i = bothIn x y (cell 0 (length corners / 3) corners 0 i ∷ cell 0 (length corners / 3) corners 1 i ∷ cell 0 (length corners / 3) corners 2 i ∷ [])
+
+-- edge i of a block is structural and holds both
+abbrev pub strapHolds : ℕ → ℕ → List ℕ → ℕ → Bool
+strapHolds x y ends i = eqb (cell 0 (length ends / 4) ends 2 i) 1 && bothIn x y (cell 0 (length ends / 4) ends 0 i ∷ cell 0 (length ends / 4) ends 1 i ∷ [])
+
+-- r tells whether an element of a mesh with the first t triangles and the first e edges of the blocks holds both x and y
+pub record HeldTold (K : Kind) (x y t e : ℕ) (corners ends : List ℕ) (r : Bool) : Type 0 where
+  pub is : (M : Mesh) (volumes lengths : List Float) → M .triangles ≡ trianglesAt t corners volumes → M .edges ≡ edgesAt e ends lengths → r ≡ held K M x y
+
+-- an opening in tables, and a mesh with the first t triangles and the first e edges of the blocks
+pub record Straddling (K : Kind) (O : Opening) (M : Mesh) (v before n count t e : ℕ) (verts groups corners : List ℕ) (volumes : List Float) (ends : List ℕ) (lengths : List Float) : Type 0 where
   pub at : O .v ≡ v
   pub before-is : O .before ≡ before
   pub count-is : O .count ≡ count
-  pub ringed : Ringed k O n verts groups
-  pub cornered : Cornered body-k (elementsOf K M) body-n body
+  pub ringed : Ringed (cornersPer K) O n verts groups
+  pub triangles-are : M .triangles ≡ trianglesAt t corners volumes
+  pub edges-are : M .edges ≡ edgesAt e ends lengths
 
--- what a straddler test asks
-pub record StraddleRoom (k n lv lg body-n body-k lb : ℕ) : Type 0 where
-  pub ring : RingRoom n k lv lg
-  pub body : body-n * body-k ≤ lb
+-- what a straddler test asks: tables that fit, and rows within the blocks
+pub record StraddleRoom (K : Kind) (n t e lv lg lc le : ℕ) : Type 0 where
+  pub ring : RingRoom n (cornersPer K) lv lg
+  pub corners : t ≤ lc / 3
+  pub ends : e ≤ le / 4
 
 -- r tells whether edge i straddles
-pub record StraddleTold (K : Kind) (i v before k n count : ℕ) (verts groups : List ℕ) (body-n body-k : ℕ) (body ends : List ℕ) (r : Bool) : Type 0 where
+pub record StraddleTold (K : Kind) (i v before n count t e : ℕ) (verts groups corners ends : List ℕ) (r : Bool) : Type 0 where
   pub is :
-      (O : Opening) (M : Mesh) (lengths : List Float) → Straddling K O M v before k n count verts groups body-n body-k body
+      (O : Opening) (M : Mesh) (volumes lengths : List Float) → Straddling K O M v before n count t e verts groups corners volumes ends lengths
       → r ≡ straddles K M O (rowAt ends lengths i)
 
 -- the mask marks the straddlers among the first e edges, and r of them are marked
-pub record StraddlersMarked (K : Kind) (v before k n count e : ℕ) (verts groups : List ℕ) (body-n body-k : ℕ) (body ends mask′ : List ℕ) (r : ℕ) : Type 0 where
+pub record StraddlersMarked (K : Kind) (v before n count t e : ℕ) (verts groups corners ends mask′ : List ℕ) (r : ℕ) : Type 0 where
   pub marks :
-      (O : Opening) (M : Mesh) (lengths : List Float) → Straddling K O M v before k n count verts groups body-n body-k body
+      (O : Opening) (M : Mesh) (volumes lengths : List Float) → Straddling K O M v before n count t e verts groups corners volumes ends lengths
       → (i : ℕ) → i < e → getD mask′ i 0 ≡ pick (straddles K M O (rowAt ends lengths i)) 1 0
   pub kept :
-      (O : Opening) (M : Mesh) (lengths : List Float) → Straddling K O M v before k n count verts groups body-n body-k body
+      (O : Opening) (M : Mesh) (volumes lengths : List Float) → Straddling K O M v before n count t e verts groups corners volumes ends lengths
       → keep mask′ (edgesAt e ends lengths) ≡ sift (λ (a : Edge). not (straddles K M O a)) (edgesAt e ends lengths)
-  pub counted :
-      (O : Opening) (M : Mesh) (lengths : List Float) → Straddling K O M v before k n count verts groups body-n body-k body
-      → r ≡ length (sift (straddles K M O) (edgesAt e ends lengths))
+  pub counted : r ≡ length (sift (λ i. eqb (getD mask′ i 0) 1) (upTo e))
 
 -- ---- crack facets
 

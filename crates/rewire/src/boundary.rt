@@ -59,7 +59,7 @@ fn side_group(
 }
 
 // Is v one of the ends x and y?
-fn names(v: usize, x: usize, y: usize) -> bool
+pub fn names(v: usize, x: usize, y: usize) -> bool
     ensures { λ r. ⌜ r ≡ stands v (x ∷ y ∷ []) ⌝ }
 {
     if x == v {

@@ -3,6 +3,7 @@ pub mod boundary;
 pub mod edges;
 pub mod facets;
 pub mod fans;
+pub mod held;
 pub mod particles;
 pub mod straddlers;
 

@@ -1,6 +1,6 @@
 // Straddlers: edges between two neighbours of v with no common group, which no element holds.
 ghost use mathlib.Core.Path.{_≡_};
-ghost use Prim.Native.Nat.{_/_, _<_, _≤_};
+ghost use Prim.Native.Nat.{_<_, _≤_};
 ghost use lib.ListN.{length};
 ghost use Rattle.lists.specs.Lists.{pick, stands};
 ghost use Rattle.elements.specs.Table.{kindIs};
@@ -29,18 +29,17 @@ fn straddles(
     i: usize,
     v: usize,
     before: usize,
-    k: usize,
     n: usize,
     count: usize,
+    t: usize,
+    e: usize,
     verts: &[usize],
     groups: &[usize],
-    body_n: usize,
-    body_k: usize,
-    body: &[usize],
+    corners: &[usize],
     ends: &[usize],
 ) -> bool
-    requires { ⌜ StraddleRoom k n (length (now verts)) (length (now groups)) «body_n» «body_k» (length (now body)) × (i < length (now ends) / 4) ⌝ }
-    ensures { λ r. ⌜ StraddleTold (kindIs kind) i v before k n count (now (verts .entry)) (now (groups .entry)) «body_n» «body_k» (now (body .entry)) (now (ends .entry)) r ⌝ }
+    requires { ⌜ StraddleRoom (kindIs kind) n t e (length (now verts)) (length (now groups)) (length (now corners)) (length (now ends)) × (i < e) ⌝ }
+    ensures { λ r. ⌜ StraddleTold (kindIs kind) i v before n count t e (now (verts .entry)) (now (groups .entry)) (now (corners .entry)) (now (ends .entry)) r ⌝ }
 {
     let c = ends.len() / 4;
     let a = ends[i];
@@ -54,10 +53,11 @@ fn straddles(
     if is_copy(b, v, before, count) {
         return false;
     }
+    let k = elements::corners_per(kind);
     if !opening::parted(a, b, n, k, verts, groups) {
         return false;
     }
-    !elements::holds_both(a, b, body_k, body_n, body)
+    !crate::held::held(kind, a, b, t, e, corners, ends)
 }
 
 // 1 if t, else 0.
@@ -72,20 +72,18 @@ pub fn mark_straddlers(
     kind: Kind,
     v: usize,
     before: usize,
-    k: usize,
     n: usize,
     count: usize,
+    t: usize,
     e: usize,
     verts: &[usize],
     groups: &[usize],
-    body_n: usize,
-    body_k: usize,
-    body: &[usize],
+    corners: &[usize],
     ends: &[usize],
     mask: &mut [usize],
 ) -> usize
-    requires { ⌜ StraddleRoom k n (length (now verts)) (length (now groups)) «body_n» «body_k» (length (now body)) × (e ≤ length (now ends) / 4) × (e ≤ length (now mask)) ⌝ }
-    ensures { λ r. ⌜ StraddlersMarked (kindIs kind) v before k n count e (now (verts .entry)) (now (groups .entry)) «body_n» «body_k» (now (body .entry)) (now (ends .entry)) (now (mask .exit)) r ⌝ }
+    requires { ⌜ StraddleRoom (kindIs kind) n t e (length (now verts)) (length (now groups)) (length (now corners)) (length (now ends)) × (e ≤ length (now mask)) ⌝ }
+    ensures { λ r. ⌜ StraddlersMarked (kindIs kind) v before n count t e (now (verts .entry)) (now (groups .entry)) (now (corners .entry)) (now (ends .entry)) (now (mask .exit)) r ⌝ }
 {
     let mut marked: usize = 0;
     let mut i: usize = 0;
@@ -95,14 +93,13 @@ pub fn mark_straddlers(
             i,
             v,
             before,
-            k,
             n,
             count,
+            t,
+            e,
             verts,
             groups,
-            body_n,
-            body_k,
-            body,
+            corners,
             ends,
         );
         let m = mark(gone);

@@ -24,28 +24,27 @@ use Rattle.mesh.specs.declared.Counts.{Counts}
 use Rattle.answer.specs.declared.Answer.{Answer}
 use Rattle.answer.specs.declared.Answer.the-variants.{Refused, Done}
 use Rattle.listing.specs.Listing.{listingBytes, refusedBytes, printed}
-use Rattle.listing.specs.Answers.{Wrote}
 use Rattle.listing.specs.declared.Written.{Written}
-use Rattle.sheetcut.specs.SheetCut.{rooms, fraction}
+use Rattle.sheetcut.specs.SheetCut.{rooms, fraction, Told}
 use Rattle.sheetcut.specs.Work.{piecesIn, Countable, Listable, textOf}
 use Rattle.sheetcut.proofs.Fillings.{countsIn, triangles-filled, edges-filled, log-filled, filled-fits}
 use Rattle.sheetcut.proofs.Counting.{pieces-in}
 
 module _ (a : Answer) (c : List ℕ) (v : List Float) (e : List ℕ) (l : List Float) where
   -- what an answer of counts asks
-  pub done-listable : (k : Counts) (changed : Bool) (g : ℕ) → a ≡ Done k changed → Listable a c v e l g → Countable k c v e l × (6 * k .log ≤ g)
+  pub done-listable : (k : Counts) (changed : Bool) (g : ℕ) → a ≡ Done k changed → Listable a c v e l g → Countable k c v e l × (6 * k .log ≤ g) × (k .log ≤ 256)
   done-listable k changed g q h = subst (λ (x : Answer). Listable x c v e l g) q h
 
   -- the text of a refusal
-  pub refused-text : (n : ℕ) (g : List ℕ) (lent : ℕ) (s : List ℕ) (r : Written) → a ≡ Refused n → Wrote (refusedBytes n) lent s r → Wrote (textOf a c v e l g) lent s r
-  refused-text n g lent s r q w = subst (λ (x : Answer). Wrote (textOf x c v e l g) lent s r) (sym q) w
+  pub refused-text : (n : ℕ) (g : List ℕ) (lent : ℕ) (s : List ℕ) (r : Written) → a ≡ Refused n → Told (refusedBytes n) lent s r → Told (textOf a c v e l g) lent s r
+  refused-text n g lent s r q w = subst (λ (x : Answer). Told (textOf x c v e l g) lent s r) (sym q) w
 
   -- the text of counts
   pub done-text :
       (k : Counts) (changed : Bool) (found : ℕ) (g : List ℕ) (lent : ℕ) (s : List ℕ) (r : Written) → a ≡ Done k changed → found ≡ piecesIn (trianglesAt (k .triangles) c v) (edgesAt (k .edges) e l)
-      → Wrote (listingBytes (logAt (k .log) g) (k .particles) found) lent s r → Wrote (textOf a c v e l g) lent s r
+      → Told (listingBytes (logAt (k .log) g) (k .particles) found) lent s r → Told (textOf a c v e l g) lent s r
   done-text k changed found g lent s r q p w =
-      subst (λ (x : Answer). Wrote (textOf x c v e l g) lent s r) (sym q) (subst (λ (n : ℕ). Wrote (listingBytes (logAt (k .log) g) (k .particles) n) lent s r) p w)
+      subst (λ (x : Answer). Told (textOf x c v e l g) lent s r) (sym q) (subst (λ (n : ℕ). Told (listingBytes (logAt (k .log) g) (k .particles) n) lent s r) p w)
 
 -- ---- the answer of a cut
 
@@ -64,6 +63,7 @@ pub record Modest (L : Lent) : Type 0 where
   pub points : L .points ≤ 1536
   pub corners : L .corners ≤ 384
   pub ends : L .ends ≤ 2048
+  pub log : L .log ≤ 1536
 
 module _ (L : Lent) (p : List Float) (r c : List ℕ) (v : List Float) (e : List ℕ) (l : List Float) (b g : List ℕ) (same : lent p r c v e l b g ≡ L) where
   module _ (M : Mesh) (log : List Entry) (F : Filled (worldOf M log) L p r c v e l b g) where
@@ -81,7 +81,7 @@ module _ (L : Lent) (p : List Float) (r c : List ℕ) (v : List Float) (e : List
     log-is = ap (λ (n : ℕ). logAt n g) (sym (length-map log wordsOf)) ∙ log-filled (L .log) (map wordsOf log) g (F .log)
 
     -- so they can be listed
-    done-countable : Modest L → indicesFit M ≡ true → Countable (countsOf M log) c v e l × (6 * length log ≤ length g)
+    done-countable : Modest L → indicesFit M ≡ true → Countable (countsOf M log) c v e l × (6 * length log ≤ length g) × (length log ≤ 256)
     done-countable few ok =
         let H = fits in
         let w = indices-parts M ok in
@@ -103,6 +103,7 @@ module _ (L : Lent) (p : List Float) (r c : List ℕ) (v : List Float) (e : List
             edge-names = ap (all (endsOk n)) edges-are ∙ w .1;
           },
           omega (arith, H .log, lg, length-map log wordsOf),
+          omega (arith, H .log, few .log, length-map log wordsOf),
         )
 
     done-printed : listingBytes (logAt (length log) g) (length (M .particles)) (piecesIn (trianglesAt (length (M .triangles)) c v) (edgesAt (length (M .edges)) e l))
@@ -126,7 +127,7 @@ abbrev pub places : Lent
 places = record { points = 1536; roots = 512; corners = 384; volumes = 256; ends = 2048; lengths = 2048; outline = 1024; log = 1536 }
 
 places-modest : Modest places
-places-modest = record { points = omega arith; corners = omega arith; ends = omega arith }
+places-modest = record { points = omega arith; corners = omega arith; ends = omega arith; log = omega arith }
 
 -- they are the rooms
 places-rooms : asRooms (roomsOf places) ≡ rooms
@@ -139,7 +140,6 @@ module _ (sized : Bool) (M : Mesh) (B : Blade) (f : Float) (a : Answer) (p : Lis
   cut-listable = answered-listable places p r c v e l b g same (cutCall sized M B f (asRooms (roomsOf places))) a A places-modest (λ N log changed q. cut-accepted sized M B f (asRooms (roomsOf places)) N log changed q)
 
   -- and the text is what is printed for the cut
-  pub cut-listed : (n : ℕ) (s : List ℕ) (w : Written) → f ≡ fraction → Wrote (textOf a c v e l g) n s w → Wrote (printed (cutCall sized M B fraction rooms)) n s w
-  cut-listed n s w q W =
-      subst (λ (t : List ℕ). Wrote t n s w)
-      (answered-text places p r c v e l b g same (cutCall sized M B f (asRooms (roomsOf places))) a A ∙ ap (λ (x : Float). printed (cutCall sized M B x (asRooms (roomsOf places)))) q) W
+  pub cut-text : f ≡ fraction → textOf a c v e l g ≡ printed (cutCall sized M B fraction rooms)
+  cut-text q =
+      answered-text places p r c v e l b g same (cutCall sized M B f (asRooms (roomsOf places))) a A ∙ ap (λ (x : Float). printed (cutCall sized M B x (asRooms (roomsOf places)))) q

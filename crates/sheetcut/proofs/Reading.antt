@@ -54,7 +54,7 @@ pub record Few (c : Counts) : Type 0 where
   pub edges : c .edges ≤ 256
   pub boundary : c .boundary ≤ 256
 
-not-above : (c : Counts) → above limits c ≡ false → Few c
+pub not-above : (c : Counts) → above limits c ≡ false → Few c
 unfolding above
 not-above c e =
     let u = neither (ltb 128 (c .particles)) (ltb 128 (c .triangles) || (ltb 256 (c .edges) || ltb 256 (c .boundary))) e in

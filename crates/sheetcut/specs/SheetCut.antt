@@ -1,8 +1,8 @@
 -- Document 01's program `cutlist` as a function of bytes: the cut of a sheet, and what is printed of it. Definitions only.
-use Prim.Native.Nat.{ℕ}
+use Prim.Native.Nat.{ℕ, _≤_}
 use mathlib.Core.Bool.{true}
 use mathlib.Core.List.{List}
-use lib.ListN.{getD}
+use lib.ListN.{length, getD}
 use lib.Ieee.{Float, binary32, ofBits}
 use Rattle.float.specs.Numbers.{zero32}
 use Rattle.model.specs.Run.{Rooms}
@@ -15,6 +15,8 @@ use Rattle.sheet.specs.declared.Counts.{Counts}
 use Rattle.sheet.specs.declared.Seen.{Seen}
 use Rattle.sheet.specs.declared.Seen.the-variants.{Whole, Refused}
 use Rattle.listing.specs.Listing.{printed}
+use Rattle.listing.specs.Answers.{Wrote}
+use Rattle.listing.specs.declared.Written.{Written}
 
 -- a sheet has at most 128 particles, 128 triangles, 256 edges and 256 boundary entries
 abbrev pub limits : Counts
@@ -48,3 +50,8 @@ sheetCut s = cutSeen (seenOf limits s) s
 -- the bytes that the program prints for the bytes that it reads
 abbrev pub listed : List ℕ → List ℕ
 listed s = printed (sheetCut s)
+
+-- what is told of a text that was to be written: the answer and every lent byte; and 65,536 bytes are always enough for it
+pub record Told (text : List ℕ) (lent : ℕ) (s : List ℕ) (r : Written) : Type 0 where
+  pub wrote : Wrote text lent s r
+  pub enough : length text ≤ 65536

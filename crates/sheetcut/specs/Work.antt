@@ -41,10 +41,10 @@ pub record Countable (k : Counts) (c : List ℕ) (v : List Float) (e : List ℕ)
   pub triangle-names : all (cornersOk (k .particles)) (trianglesAt (k .triangles) c v) ≡ true
   pub edge-names : all (endsOk (k .particles)) (edgesAt (k .edges) e l) ≡ true
 
--- what is asked for the listing of an answer: of counts, that the blocks hold so many rows
+-- what is asked for the listing of an answer: of counts, that the blocks hold so many rows, and few log entries
 abbrev pub Listable : Answer → List ℕ → List Float → List ℕ → List Float → ℕ → Type 0
 Listable (Refused n) c v e l g = Unit {0}
-Listable (Done k changed) c v e l g = Countable k c v e l × (6 * k .log ≤ g)
+Listable (Done k changed) c v e l g = Countable k c v e l × (6 * k .log ≤ g) × (k .log ≤ 256)
 
 -- the text of an answer, from the blocks that it goes with
 abbrev pub textOf : Answer → List ℕ → List Float → List ℕ → List Float → List ℕ → List ℕ
@@ -76,6 +76,15 @@ pub record Ample (L : Lent) : Type 0 where
 -- a sheet that is whole, blocks that have room for it, and four places for its blade
 pub record Roomy (s : List ℕ) (c : S.Counts) (L : Lent) (blade : ℕ) : Type 0 where
   pub seen : seenOf limits s ≡ Whole c
+  pub ample : Ample L
+  pub four : blade ≡ 4
+
+-- counts within the program's limits, blocks of the sizes that these ask for, and the four numbers of a blade
+pub record Cuttable (c : S.Counts) (L : Lent) (blade : ℕ) : Type 0 where
+  pub few-particles : c .particles ≤ 128
+  pub few-triangles : c .triangles ≤ 128
+  pub few-edges : c .edges ≤ 256
+  pub few-boundary : c .boundary ≤ 256
   pub ample : Ample L
   pub four : blade ≡ 4
 

@@ -1,16 +1,32 @@
 // Document 01's program from bytes to bytes: a sheet is read, cut and listed.
 ghost use mathlib.Core.Path.{_≡_};
 ghost use mathlib.Core.List.{[]};
-ghost use lib.ListN.{length};
+ghost use lib.ListN.{length, getD};
+ghost use lib.Ieee.{nan};
+ghost use Rattle.model.specs.Calls.{cutCall};
+ghost use Rattle.mesh.specs.Given.{given, meshOf, sizesFit};
+ghost use Rattle.bits.specs.Bits.{bitsOf};
+ghost use Rattle.sheet.specs.Sheet.{sheetWith, seenOf};
+ghost use Rattle.sheet.specs.declared.Seen.the-variants.{Whole};
+ghost use Rattle.listing.specs.Listing.{printed};
 ghost use Rattle.mesh.specs.At.{trianglesAt, edgesAt};
 ghost use Rattle.mesh.specs.Filled.{lent};
-ghost use Rattle.listing.specs.Answers.{Wrote};
-ghost use Rattle.sheetcut.specs.SheetCut.{fraction as tenth};
-ghost use Rattle.sheetcut.specs.Work.{piecesIn, Countable, Listable, textOf, Roomy, FrontsRead};
+ghost use Rattle.sheetcut.specs.SheetCut.{fraction as tenth, rooms, limits as most, cutOf, listed, Told};
+ghost use Rattle.sheetcut.specs.Work.{piecesIn, Countable, Listable, textOf, Roomy, Cuttable, fronts, FrontsRead};
 use answer::Answer;
+use blade::Point;
 use listing::Written;
 use mesh::Counts;
 use sheet::Counts as SheetCounts;
+use sheet::Seen;
+
+// The most that a sheet may have.
+const LIMITS: SheetCounts = SheetCounts {
+    particles: 128,
+    triangles: 128,
+    edges: 256,
+    boundary: 256,
+};
 
 // The insertion fraction.
 fn fraction() -> f32
@@ -65,7 +81,7 @@ fn list_answer(
     out: &mut [u8],
 ) -> Written
     requires { ⌜ Listable a (now corners) (now volumes) (now ends) (now lengths) (length (now log)) ⌝ }
-    ensures { λ r. ⌜ Wrote (textOf a (now (corners .entry)) (now (volumes .entry)) (now (ends .entry)) (now (lengths .entry)) (now (log .entry))) (length (now (out .entry))) (now (out .exit)) r ⌝ }
+    ensures { λ r. ⌜ Told (textOf a (now (corners .entry)) (now (volumes .entry)) (now (ends .entry)) (now (lengths .entry)) (now (log .entry))) (length (now (out .entry))) (now (out .exit)) r ⌝ }
 {
     match a {
         Answer::Refused(n) => listing::write_refused(n, out),
@@ -92,12 +108,6 @@ fn read_fronts(
     requires { ⌜ Roomy (now sheet) c (lent (now points) (now roots) (now corners) (now volumes) (now ends) (now lengths) (now outline) []) (length (now blade)) ⌝ }
     ensures { λ _. ⌜ FrontsRead (now (sheet .entry)) c (now (points .exit)) (now (roots .exit)) (now (corners .exit)) (now (volumes .exit)) (now (ends .exit)) (now (lengths .exit)) (now (outline .exit)) (now (blade .exit)) ⌝ }
 {
-    let limits = SheetCounts {
-        particles: 128,
-        triangles: 128,
-        edges: 256,
-        boundary: 256,
-    };
     let p = 6 * c.particles;
     let r = 2 * c.particles;
     let t = 3 * c.triangles;
@@ -107,7 +117,7 @@ fn read_fronts(
     let mut log = [0usize; 6];
     sheet::read::read(
         sheet,
-        limits,
+        LIMITS,
         &mut points[..p],
         &mut roots[..r],
         &mut corners[..t],
@@ -118,4 +128,152 @@ fn read_fronts(
         &mut log,
         blade,
     );
+}
+
+// Cuts a mesh along a blade, with the fraction and the places that the program lends, and writes the listing.
+fn list_blocks(
+    b0: Point,
+    b1: Point,
+    points: &[f32],
+    roots: &[usize],
+    corners: &[usize],
+    volumes: &[f32],
+    ends: &[usize],
+    lengths: &[f32],
+    outline: &[usize],
+    out: &mut [u8],
+) -> Written
+    ensures { λ r. ⌜ Told (printed (cutCall (sizesFit (given (now (points .entry)) (now (roots .entry)) (now (corners .entry)) (now (volumes .entry)) (now (ends .entry)) (now (lengths .entry)) (now (outline .entry)))) (meshOf (given (now (points .entry)) (now (roots .entry)) (now (corners .entry)) (now (volumes .entry)) (now (ends .entry)) (now (lengths .entry)) (now (outline .entry)))) (record { from = b0; to = b1 }) tenth rooms)) (length (now (out .entry))) (now (out .exit)) r ⌝ }
+{
+    let mut cut_points = [0.0f32; 1536];
+    let mut cut_roots = [0usize; 512];
+    let mut cut_corners = [0usize; 384];
+    let mut cut_volumes = [0.0f32; 256];
+    let mut cut_ends = [0usize; 2048];
+    let mut cut_lengths = [0.0f32; 2048];
+    let mut cut_outline = [0usize; 1024];
+    let mut log = [0usize; 1536];
+    let a = bench::tearing::cut(
+        b0,
+        b1,
+        fraction(),
+        points,
+        roots,
+        corners,
+        volumes,
+        ends,
+        lengths,
+        outline,
+        &mut cut_points,
+        &mut cut_roots,
+        &mut cut_corners,
+        &mut cut_volumes,
+        &mut cut_ends,
+        &mut cut_lengths,
+        &mut cut_outline,
+        &mut log,
+    );
+    list_answer(
+        a,
+        &cut_corners,
+        &cut_volumes,
+        &cut_ends,
+        &cut_lengths,
+        &log,
+        out,
+    )
+}
+
+// Cuts the mesh with counts c at the fronts of blocks along a blade, and writes the listing.
+fn list_fronts(
+    c: SheetCounts,
+    points: &[f32],
+    roots: &[usize],
+    corners: &[usize],
+    volumes: &[f32],
+    ends: &[usize],
+    lengths: &[f32],
+    outline: &[usize],
+    blade: &[f32],
+    out: &mut [u8],
+) -> Written
+    requires { ⌜ Cuttable c (lent (now points) (now roots) (now corners) (now volumes) (now ends) (now lengths) (now outline) []) (length (now blade)) ⌝ }
+    ensures { λ r. ⌜ Told (printed (cutCall (sizesFit (fronts c (now (points .entry)) (now (roots .entry)) (now (corners .entry)) (now (volumes .entry)) (now (ends .entry)) (now (lengths .entry)) (now (outline .entry)))) (meshOf (fronts c (now (points .entry)) (now (roots .entry)) (now (corners .entry)) (now (volumes .entry)) (now (ends .entry)) (now (lengths .entry)) (now (outline .entry)))) (record { from = record { x = getD (now (blade .entry)) 0 nan; y = getD (now (blade .entry)) 1 nan }; to = record { x = getD (now (blade .entry)) 2 nan; y = getD (now (blade .entry)) 3 nan } }) tenth rooms)) (length (now (out .entry))) (now (out .exit)) r ⌝ }
+{
+    let p = 6 * c.particles;
+    let r = 2 * c.particles;
+    let t = 3 * c.triangles;
+    let v = 2 * c.triangles;
+    let e = 4 * c.edges;
+    let o = 2 * c.boundary;
+    let b0 = Point {
+        x: blade[0],
+        y: blade[1],
+    };
+    let b1 = Point {
+        x: blade[2],
+        y: blade[3],
+    };
+    list_blocks(
+        b0,
+        b1,
+        &points[..p],
+        &roots[..r],
+        &corners[..t],
+        &volumes[..v],
+        &ends[..e],
+        &lengths[..e],
+        &outline[..o],
+        out,
+    )
+}
+
+// Cuts a whole sheet with counts c, and writes the listing.
+fn list_whole(sheet: &[u8], c: SheetCounts, out: &mut [u8]) -> Written
+    requires { ⌜ seenOf most (now sheet) ≡ Whole c ⌝ }
+    ensures { λ r. ⌜ Told (printed (cutOf (sheetWith c (bitsOf (now (sheet .entry)))))) (length (now (out .entry))) (now (out .exit)) r ⌝ }
+{
+    let mut points = [0.0f32; 768];
+    let mut roots = [0usize; 256];
+    let mut corners = [0usize; 384];
+    let mut volumes = [0.0f32; 256];
+    let mut ends = [0usize; 1024];
+    let mut lengths = [0.0f32; 1024];
+    let mut outline = [0usize; 512];
+    let mut blade = [0.0f32; 4];
+    read_fronts(
+        sheet,
+        c,
+        &mut points,
+        &mut roots,
+        &mut corners,
+        &mut volumes,
+        &mut ends,
+        &mut lengths,
+        &mut outline,
+        &mut blade,
+    );
+    list_fronts(
+        c,
+        &points,
+        &roots,
+        &corners,
+        &volumes,
+        &ends,
+        &lengths,
+        &outline,
+        &blade,
+        out,
+    )
+}
+
+// Document 01's program from bytes to bytes: the listing of the cut of a sheet, or the line of its refusal, and 0 behind it.
+pub fn list_cut(bytes: &[u8], out: &mut [u8]) -> Written
+    ensures { λ r. ⌜ Told (listed (now (bytes .entry))) (length (now (out .entry))) (now (out .exit)) r ⌝ }
+{
+    let seen = sheet::look(bytes, LIMITS);
+    match seen {
+        Seen::Whole(c) => list_whole(bytes, c, out),
+        Seen::Refused(n) => listing::write_refused(n, out),
+    }
 }

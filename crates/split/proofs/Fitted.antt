@@ -1,6 +1,5 @@
 -- From the fan of a mesh whose indices fit, in tables with a group for each element, to the split that the tables hold. Assumes nothing.
 use Prim.Native.Nat.{ℕ, _*_, _/_, _<_, _≤_}
-use native.Mathlib.Nat.{mul-le-mul-right}
 use native.Mathlib.Omega.{arith}
 use mathlib.Core.Path.{_≡_, refl, sym, _∙_, ap, subst}
 use mathlib.Core.Bool.{true}
@@ -8,7 +7,9 @@ use mathlib.Core.List.{List, _++_}
 use lib.ListN.{length, getD, take, length-take}
 use lib.Seq.{getD-take, length-take-le, take-at}
 use lib.Ieee.{Float}
+use Rattle.lists.specs.Lists.{stands}
 use Rattle.lists.proofs.Stores.{tab-length}
+use Rattle.lists.proofs.Sifts.{sift-length}
 use Rattle.fan.specs.Fan.{Fan, fan}
 use Rattle.fan.specs.Groups.{groupsOf, countOf}
 use Rattle.fan.specs.Calls.{Fits, Counted}
@@ -17,7 +18,7 @@ use Rattle.model.specs.Valid.{indicesFit}
 use Rattle.model.specs.Elements.{Kind, Triangles, Straps, Nothing, Element, fanOf, gridOf, cornersPer, facetOthers}
 use Rattle.mesh.specs.At.{triangleRow, trianglesAt, edgesAt}
 use Rattle.mesh.proofs.Lists.{edges-length}
-use Rattle.elements.specs.Table.{Tabled, FanTabled, FanRoom, holding, elementsIn}
+use Rattle.elements.specs.Table.{Tabled, holding, elementsIn}
 use Rattle.opening.specs.Opened.{openingBy, Ringed, Weighted, Numbered}
 use Rattle.opening.proofs.Tables.{Rises, ringed-by, weighted-by, numbered-by, fan-is, rises-holding}
 use Rattle.split.specs.Tables.{FanGrouped, openedBy, Opens, TablesFit, FanRead, SidesLent, GroupsFound}
@@ -84,29 +85,21 @@ unfolding trianglesAt
 all-few K t e n corners volumes ends lengths N Y Z u w T =
     few-of K (trianglesAt t corners volumes) (edgesAt e ends lengths) n (omega (arith, tab-length t (triangleRow (length corners / 3) (length volumes / 2) corners volumes))) (omega (arith, edges-length e ends lengths)) (omega (arith, T .cornered .count))
 
--- such a table fits what is lent for the fan
-pub fan-room : (K : Kind) (k n ln lk lm fn fk fm : ℕ) → k ≡ cornersPer K → Few n (cornersPer K) → 2048 ≤ ln → 4096 ≤ lk → 2048 ≤ lm → 2048 ≤ fn → 4096 ≤ fk → 2048 ≤ fm
-    → FanRoom k n ln lk lm fn fk fm
-fan-room K k n ln lk lm fn fk fm e W a b c d f g =
-    let X : Few n k = subst (Few n) (sym e) W in
-    let few = X .few in
-    let narrow = X .narrow in
-    record { numbers = omega arith; verts = omega arith; measures = omega arith; fan-numbers = omega arith; fan-verts = omega arith; fan-measures = omega arith }
-
--- the rows that hold v are v's fan
-pub fan-read : (K : Kind) (v t e n k r : ℕ) (corners : List ℕ) (volumes : List Float) (ends : List ℕ) (lengths : List Float) (N Y : List ℕ) (Z : List Float) (N′ Y′ : List ℕ) (Z′ : List Float)
-    → t ≤ 1024 → e ≤ 2048 → k ≡ cornersPer K → Tabled (cornersPer K) (elementsIn K (trianglesAt t corners volumes) (edgesAt e ends lengths)) n N Y Z
-    → FanTabled v k n N Y Z r N′ Y′ Z′ → r ≤ n → FanRead K v t e corners volumes ends lengths r N′ Y′ Z′
-fan-read K v t e n k r corners volumes ends lengths N Y Z N′ Y′ Z′ u w ek T F few =
-    let W = all-few K t e n corners volumes ends lengths N Y Z u w T in
-    let G : FanTabled v (cornersPer K) n N Y Z r N′ Y′ Z′ = subst (λ (j : ℕ). FanTabled v j n N Y Z r N′ Y′ Z′) ek F in
+-- the elements that hold v are v's fan
+pub fan-read : (K : Kind) (v t e r : ℕ) (corners : List ℕ) (volumes : List Float) (ends : List ℕ) (lengths : List Float) (N Y : List ℕ) (Z : List Float) → t ≤ 1024 → e ≤ 2048
+    → Tabled (cornersPer K) (holding v (elementsIn K (trianglesAt t corners volumes) (edgesAt e ends lengths))) r N Y Z → FanRead K v t e corners volumes ends lengths r N Y Z
+unfolding trianglesAt
+fan-read K v t e r corners volumes ends lengths N Y Z u w T =
+    let es : List Element = elementsIn K (trianglesAt t corners volumes) (edgesAt e ends lengths) in
+    let W = few-of K (trianglesAt t corners volumes) (edgesAt e ends lengths) r (omega (arith, tab-length t (triangleRow (length corners / 3) (length volumes / 2) corners volumes))) (omega (arith, edges-length e ends lengths))
+    (omega (arith, T .cornered .count, sift-length (λ (x : Element). stands v (x .corners)) es)) in
     record {
       tabled = λ M p q.
-          subst (λ (es : List Element). Tabled (cornersPer K) es r N′ Y′ Z′)
-          (sym (fan-is K M v ∙ ap (λ (ts : List Triangle). holding v (elementsIn K ts (M .edges))) p ∙ ap (λ (es : List Edge). holding v (elementsIn K (trianglesAt t corners volumes) es)) q))
-          (G .tabled _ T);
-      few = omega (arith, W .few);
-      narrow = omega (arith, mul-le-mul-right (cornersPer K) few, W .narrow);
+          subst (λ (l : List Element). Tabled (cornersPer K) l r N Y Z)
+          (sym (fan-is K M v ∙ ap (λ (ts : List Triangle). holding v (elementsIn K ts (M .edges))) p ∙ ap (λ (l : List Edge). holding v (elementsIn K (trianglesAt t corners volumes) l)) q))
+          T;
+      few = W .few;
+      narrow = W .narrow;
     }
 
 -- the grid of a fan in tables

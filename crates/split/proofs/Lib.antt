@@ -1,6 +1,7 @@
 -- A split over the lent blocks: its laws and its proofs.
 pub mod Below
 pub mod Fitted
+pub mod FanLaws
 pub mod Placed
 pub mod Runs
 pub mod Stepping
@@ -9,9 +10,9 @@ pub mod NamedLaws
 pub mod StepLaws
 pub mod TabledLaws
 pub mod NoteLaws
-pub mod MarkLaws
 pub mod OutlineLaws
 pub mod SettleLaws
+pub mod DropLaws
 pub mod PieceMasks
 pub mod PieceTables
 pub mod Straddled

@@ -107,7 +107,7 @@ any-lengths Nothing parent used ends B D j = refl
 
 -- ---- marks
 
-mark-eqb : (t : Bool) → eqb (pick t 1 0) 1 ≡ t
+pub mark-eqb : (t : Bool) → eqb (pick t 1 0) 1 ≡ t
 mark-eqb true = refl
 mark-eqb false = refl
 

@@ -1,39 +1,35 @@
 -- Laws of parts 4 to 6 as a whole: what each worker asks, the rooms that lack, and the world behind them. Assumes nothing.
-use mathlib.Core.Path.{_≡_, refl, sym, _∙_, ap, ap₂, subst}
-use mathlib.Core.Bool.{true, false}
-use mathlib.Core.List.{List, [], _∷_, _++_, map}
+use mathlib.Core.Path.{_≡_, refl, sym, _∙_, ap, subst}
+use mathlib.Core.List.{List}
 use Prim.Native.Nat.{ℕ, _+_, _-_, _/_, _<_, _≤_}
 use native.Mathlib.Omega.{arith}
 use borrow.Author.Tests.{leb-true, leb-false, lt-ltb, le-ltb}
-use lib.Dec.{leb}
-use lib.ListN.{length, length-append, length-map}
+use lib.ListN.{length}
 use lib.Ieee.{Float}
-use Rattle.lists.specs.Lists.{upTo}
 use Rattle.lists.proofs.Stores.{tab-at}
-use Rattle.lists.proofs.Sifts.{upTo-length}
-use Rattle.columns.proofs.Blocks.{kept-le}
 use Rattle.model.specs.Mesh.{blank}
 use Rattle.model.specs.Elements.{Kind, restAt, restOf}
-use Rattle.model.specs.Run.{split, Need}
+use Rattle.model.specs.Run.{Need}
 use Rattle.model.specs.Run as R
-use Rattle.model.specs.Split.{Opening, made, settled, straddles, splitEntries, goneEntries}
+use Rattle.model.specs.Split.{Opening, settled}
 use Rattle.model.specs.Calls.{tooSmall}
-use Rattle.mesh.specs.At.{particleRow, particlesAt, edgesAt, boundaryAt, meshAt}
-use Rattle.mesh.specs.Log.{World, Words, wordsOf, logAt, worldAt}
+use Rattle.mesh.specs.At.{particleRow, particlesAt, trianglesAt, boundaryAt, meshAt}
+use Rattle.mesh.specs.Log.{World, worldAt}
 use Rattle.mesh.specs.Given.{asRooms}
-use Rattle.mesh.specs.Workers.{Removed}
 use Rattle.mesh.proofs.Lists.{log-length, mesh-path, world-path}
 use Rattle.mesh.specs.declared.Counts.{Counts}
 use Rattle.mesh.specs.declared.Rooms.{Rooms}
 use Rattle.opening.specs.Opened.{RestsIn}
 use Rattle.rewire.specs.Stages.{GrownTo}
+use Rattle.rewire.specs.RoomsB.{Straddling}
 use Rattle.rewire.specs.declared.Grown.{Grown}
 use Rattle.rewire.specs.declared.Grown.the-variants.{Lacking, Rows}
+use Rattle.split.specs.Working.{Within}
 use Rattle.split.specs.Tables.{Opens, TablesFit}
 use Rattle.split.specs.Steps.{SidesIn, loggedOf, settledWorld, SettleRoom}
-use Rattle.split.specs.Settling.{markedOf, copyWords, goneWords, SplitIn, MarkAsked, MarkedFor, BoundaryIn, BoundaryAsked, BoundaryTold, SplitAsked, SplitNoted, SettleAsked, SettledFor}
+use Rattle.split.specs.Settling.{BoundaryIn, BoundaryAsked, BoundaryTold, DropAsked, EdgesDropped, Dropped, SettleAsked, SettledFor}
+use Rattle.split.specs.declared.Ran.{Ran}
 use Rattle.split.specs.declared.Ran.the-variants.{Refused, Done}
-use Rattle.split.proofs.NoteLaws.{map-both, gone-words, gone-count}
 
 -- ---- rooms that lack
 
@@ -44,22 +40,6 @@ lacks-7 L N p e b = rw (le-ltb (L .particles) (N .particles) p, le-ltb (L .edges
 lacks-8 : (L : R.Rooms) (N : Need) → N .particles ≤ L .particles → N .edges ≤ L .edges → N .boundary ≤ L .boundary → L .log < N .log → tooSmall L N ≡ 8
 unfolding tooSmall
 lacks-8 L N p e b g = rw (le-ltb (L .particles) (N .particles) p, le-ltb (L .edges) (N .edges) e, le-ltb (L .boundary) (N .boundary) b, lt-ltb (L .log) (N .log) g)
-
--- ---- the copies in the log
-
-copy-words : (v before : ℕ) (l : List ℕ) → map wordsOf (map (λ c. split c v) (map (λ g. before + g) l)) ≡ map (copyWords v before) l
-copy-words v before [] = refl
-copy-words v before (g ∷ l) = ap (λ (w : List Words). copyWords v before g ∷ w) (copy-words v before l)
-
-split-words : (O : Opening) (v before count : ℕ) → O .v ≡ v → O .before ≡ before → O .count ≡ count → map wordsOf (splitEntries O) ≡ map (copyWords v before) (upTo (count - 1))
-unfolding splitEntries made
-split-words O v before count p q r = copy-words (O .v) (O .before) (upTo (O .count - 1)) ∙ ap₂ (λ (x y : ℕ). map (copyWords x y) (upTo (O .count - 1))) p q ∙ ap (λ (z : ℕ). map (copyWords v before) (upTo (z - 1))) r
-
-split-count : (O : Opening) (count : ℕ) → O .count ≡ count → length (splitEntries O) ≡ count - 1
-unfolding splitEntries made
-split-count O count r =
-    length-map (map (λ g. O .before + g) (upTo (O .count - 1))) (λ c. split c (O .v)) ∙ length-map (upTo (O .count - 1)) (λ g. O .before + g) ∙ upTo-length (O .count - 1)
-    ∙ ap (λ (z : ℕ). z - 1) r
 
 -- ---- what is asked
 
@@ -86,23 +66,6 @@ settle-asked K L k v before n count extra numbers verts measures groups lp lc lv
 -- ---- the whole
 
 module _ (K : Kind) (L : Rooms) (k : Counts) (v before n count extra : ℕ) (numbers verts groups : List ℕ) (points : List Float) (corners : List ℕ) (volumes : List Float) (ends : List ℕ) (lengths : List Float) (outline log : List ℕ) (A : SettleAsked K L k v before n count extra numbers verts groups (length points) (length corners) (length volumes) (length ends) (length lengths) outline (length log)) where
-  -- what marking asks
-  pub mark-asked : (lm : ℕ) → 2048 ≤ lm → MarkAsked K n count (k .triangles) (k .edges) verts groups (length corners) (length volumes) (length ends) (length lengths) lm
-  mark-asked lm h =
-      let C = A .room .counts in
-      let R = A .room in
-      record {
-        ring = A .ring;
-        below = A .below;
-        few-triangles = omega (arith, C .triangles, R .few-triangles);
-        few-edges = omega (arith, C .edges, R .few-edges);
-        corners = omega (arith, C .triangles, R .corners);
-        volumes = omega (arith, C .triangles, R .volumes);
-        ends = omega (arith, C .edges, R .ends);
-        lengths = omega (arith, C .edges, R .lengths);
-        mask = omega (arith, C .edges, R .few-edges);
-      }
-
   -- what the boundary asks
   pub boundary-asked : BoundaryAsked K v before n count (k .boundary) (L .boundary) numbers verts groups (length points) (length corners) outline
   boundary-asked =
@@ -135,7 +98,7 @@ module _ (K : Kind) (L : Rooms) (k : Counts) (v before n count extra : ℕ) (num
   rests roots w h = ap restAt (tab-at (k .particles) (particleRow (length points / 6) (length roots / 2) points roots) w blank (omega (arith, A .copied-all, A .two)))
 
   module _ (measures : List Float) (O : Opening) (roots : List ℕ) (S : Opens K O v before n count numbers verts measures groups) where
-    split-of : SplitIn K O (W roots .mesh) v before n count (k .triangles) (k .edges) verts groups corners volumes ends lengths
+    split-of : Straddling K O (W roots .mesh) v before n count (k .triangles) (k .edges) verts groups corners volumes ends lengths
     unfolding worldAt meshAt
     split-of = record { at = S .at; before-is = S .before-is; count-is = S .count-is; ringed = S .ringed; triangles-are = refl; edges-are = refl }
 
@@ -155,29 +118,6 @@ module _ (K : Kind) (L : Rooms) (k : Counts) (v before n count extra : ℕ) (num
     unfolding worldAt
     log-was = log-length (k .log) log
 
-    module _ (mask : List ℕ) (s : ℕ) (D : MarkedFor K v before n count (k .triangles) (k .edges) verts groups corners volumes ends lengths mask s) where
-      gone-are : map (goneWords ends) (markedOf mask (k .edges)) ≡ map wordsOf (goneEntries (straddles K (W roots .mesh) O) (W roots .mesh .edges))
-      unfolding worldAt meshAt
-      gone-are = gone-words (straddles K (W roots .mesh) O) mask ends lengths (k .edges) (D .marks O (W roots .mesh) split-of)
-
-      logged-count : length (loggedOf K O (W roots .mesh)) ≡ (count - 1) + s
-      unfolding worldAt meshAt
-      logged-count =
-          length-append (splitEntries O) (goneEntries (straddles K (W roots .mesh) O) (W roots .mesh .edges))
-          ∙ ap₂ (λ (a b : ℕ). a + b) (split-count O count (S .count-is))
-          (sym (gone-count (straddles K (W roots .mesh) O) mask ends lengths (k .edges) (D .marks O (W roots .mesh) split-of)) ∙ sym (D .counted))
-
-      logged-words : map (copyWords v before) (upTo (count - 1)) ++ map (goneWords ends) (markedOf mask (k .edges)) ≡ map wordsOf (loggedOf K O (W roots .mesh))
-      logged-words =
-          ap₂ (λ (a b : List Words). a ++ b) (sym (split-words O v before count (S .at) (S .before-is) (S .count-is))) gone-are
-          ∙ sym (map-both wordsOf (splitEntries O) (goneEntries (straddles K (W roots .mesh) O) (W roots .mesh .edges)))
-
-  -- the entries that fit are few
-  pub log-few : (s : ℕ) → leb ((count - 1) + s + extra) (L .log - k .log) ≡ true → k .log + (count - 1) + s ≤ 4096
-  log-few s f =
-      let b : (count - 1) + s + extra ≤ L .log - k .log = leb-true _ _ f in
-      omega (arith, A .room .counts .log, A .room .few-log)
-
   -- the boundary lacks room
   pub refused-boundary : (outline′ : List ℕ) (r : Grown) → BoundaryTold K v before n count (k .boundary) (L .boundary) numbers verts groups points corners outline outline′ r → r ≡ Lacking
       → (at : List ℕ → Counts → World) → SettledFor K L extra v before n count numbers verts groups W at (Refused 7)
@@ -193,86 +133,77 @@ module _ (K : Kind) (L : Rooms) (k : Counts) (v before n count extra : ℕ) (num
             };
       }
 
-  module _ (outline′ : List ℕ) (r : Grown) (rows : ℕ) (B : BoundaryTold K v before n count (k .boundary) (L .boundary) numbers verts groups points corners outline outline′ r) (q : r ≡ Rows rows) (mask : List ℕ) (s : ℕ) (D : MarkedFor K v before n count (k .triangles) (k .edges) verts groups corners volumes ends lengths mask s) where
-    grown : (measures : List Float) (O : Opening) (roots : List ℕ) → Opens K O v before n count numbers verts measures groups
-        → GrownTo (Rows rows) (L .boundary) (settled K O (W roots .mesh) .boundary) (λ j. boundaryAt j outline′)
-    grown measures O roots S = subst (λ (z : Grown). GrownTo z (L .boundary) (settled K O (W roots .mesh) .boundary) (λ j. boundaryAt j outline′)) q (sides-grown measures O roots S outline′ r B)
+  -- what the removal of straddlers asks
+  pub drop-asked : DropAsked K L k before n count extra (length verts) (length groups) (length corners) (length ends) (length lengths) (length log)
+  drop-asked =
+      let C = A .room .counts in
+      let R = A .room in
+      record {
+        straddle = record { ring = A .ring; corners = omega (arith, C .triangles, R .corners); ends = omega (arith, C .edges, R .ends) };
+        few-edges = omega (arith, C .edges, R .few-edges);
+        lengths = omega (arith, C .edges, R .lengths);
+        some = omega (arith, A .two);
+        small = omega (arith, A .copied-all, A .two, C .particles, R .few-particles);
+        one-extra = A .one-extra;
+        log-in = C .log;
+        log-long = R .log;
+      }
 
-    -- the log lacks room
-    pub refused-log : leb ((count - 1) + s + extra) (L .log - k .log) ≡ false → (at : List ℕ → Counts → World) → SettledFor K L extra v before n count numbers verts groups W at (Refused 8)
-    refused-log f at =
+  module _ (outline′ : List ℕ) (r : Grown) (rows : ℕ) (B : BoundaryTold K v before n count (k .boundary) (L .boundary) numbers verts groups points corners outline outline′ r) (q : r ≡ Rows rows) (ends′ : List ℕ) (lengths′ : List Float) (log′ : List ℕ) where
+    module _ (measures : List Float) (O : Opening) (roots : List ℕ) (S : Opens K O v before n count numbers verts measures groups) where
+      grown : GrownTo (Rows rows) (L .boundary) (settled K O (W roots .mesh) .boundary) (λ j. boundaryAt j outline′)
+      grown = subst (λ (z : Grown). GrownTo z (L .boundary) (settled K O (W roots .mesh) .boundary) (λ j. boundaryAt j outline′)) q (sides-grown measures O roots S outline′ r B)
+
+      -- the boundary has room
+      sides-fit : length (settled K O (W roots .mesh) .boundary) ≤ L .boundary
+      sides-fit = leb-true _ _ (grown .0)
+
+      module _ (z : Counts) (D : EdgesDropped K O (W roots .mesh) L k z extra rows ends ends′ lengths lengths′ log log′) where
+        -- the world behind it
+        world-is : worldAt z points roots corners volumes ends′ lengths′ outline′ log′ ≡ settledWorld K O (W roots)
+        unfolding worldAt meshAt settledWorld settled
+        world-is =
+            world-path
+            (mesh-path (ap (λ (i : ℕ). particlesAt i points roots) (D .particles)) (ap (λ (i : ℕ). trianglesAt i corners volumes) (D .triangles)) (D .edges)
+            (ap (λ (i : ℕ). boundaryAt i outline′) (D .boundary) ∙ grown .2))
+            (D .entries)
+
+        within : Within z L
+        within =
+            let C = A .room .counts in
+            record {
+              particles = omega (arith, D .particles, C .particles);
+              triangles = omega (arith, D .triangles, C .triangles);
+              edges = omega (arith, D .few-edges, C .edges);
+              boundary = omega (arith, D .boundary, grown .1, sides-fit);
+              log = omega (arith, D .count, D .fits);
+            }
+
+    -- the boundary has room: what was told of the straddlers is told of the whole
+    pub settled-told : (ran : Ran) → Dropped K L k v before n count extra rows verts groups corners ends ends′ lengths lengths′ log log′ ran
+        → SettledFor K L extra v before n count numbers verts groups W (λ roots z. worldAt z points roots corners volumes ends′ lengths′ outline′ log′) ran
+    settled-told (Refused c) D =
         record {
           settling =
               λ measures.
               record {
                 told =
                     λ O roots S.
-                    let a : length (settled K O (W roots .mesh) .boundary) ≤ L .boundary = leb-true _ _ (grown measures O roots S .0) in
-                    let b : L .log - k .log < (count - 1) + s + extra = leb-false _ _ f in
-                    let c = A .room .counts .log in
-                    let e = logged-count measures O roots S mask s D in
+                    let d = D .told O (W roots .mesh) volumes (split-of measures O roots S) in
                     let w = log-was measures O roots S in
-                    let d : L .log < length (W roots .log) + (length (loggedOf K O (W roots .mesh)) + extra) = omega arith in
-                    ((λ p t hp ht. lacks-8 (asRooms L) _ hp ht a d), omega arith);
+                    let lacks : L .log < length (W roots .log) + (length (loggedOf K O (W roots .mesh)) + extra) = omega (arith, d .1) in
+                    ((λ p t hp ht. lacks-8 (asRooms L) _ hp ht (sides-fit measures O roots S) lacks ∙ sym (d .0)), omega (arith, d .0));
               };
         }
-
-    module _ (f : leb ((count - 1) + s + extra) (L .log - k .log) ≡ true) where
-      -- what noting the split asks
-      pub split-asked : 2048 ≤ length mask → SplitAsked before (count - 1) (k .log) (k .edges) mask (length ends) (length log)
-      split-asked h =
-          let C = A .room .counts in
-          let R = A .room in
-          let b : (count - 1) + s + extra ≤ L .log - k .log = leb-true _ _ f in
-          record {
-            small = omega (arith, A .copied-all, A .two, C .particles, R .few-particles);
-            marked =
-                record {
-                  mask-long = omega (arith, C .edges, R .few-edges);
-                  ends = omega (arith, C .edges, R .ends);
-                  room = omega (arith, D .counted, C .log, R .log);
-                };
-          }
-
-      module _ (log′ : List ℕ) (N : SplitNoted v before (count - 1) (k .log) (k .edges) mask ends log log′) (left : ℕ) (ends′ : List ℕ) (lengths′ : List Float) (E : Removed mask (k .edges) left (edgesAt (k .edges) ends lengths) (edgesAt left ends′ lengths′)) where
-        -- the counts behind it
-        abbrev counts : Counts
-        counts = record { particles = k .particles; triangles = k .triangles; edges = left; boundary = rows; log = k .log + (count - 1) + s }
-
-        -- the world behind it
-        world-is : (measures : List Float) (O : Opening) (roots : List ℕ) → Opens K O v before n count numbers verts measures groups
-            → worldAt counts points roots corners volumes ends′ lengths′ outline′ log′ ≡ settledWorld K O (W roots)
-        unfolding worldAt meshAt settledWorld settled
-        world-is measures O roots S =
-            world-path (mesh-path refl refl (E .edges ∙ D .kept O (W roots .mesh) (split-of measures O roots S)) (grown measures O roots S .2))
-            (ap (λ (z : ℕ). logAt (k .log + (count - 1) + z) log′) (D .counted) ∙ N .noted ∙ ap (λ (w : List Words). logAt (k .log) log ++ w) (logged-words measures O roots S mask s D))
-
-        -- all has room
-        pub settled-all : SettledFor K L extra v before n count numbers verts groups W (λ roots z. worldAt z points roots corners volumes ends′ lengths′ outline′ log′) (Done counts)
-        settled-all =
-            record {
-              settling =
-                  λ measures.
-                  record {
-                    told =
-                        λ O roots S.
-                        let C = A .room .counts in
-                        let a : length (settled K O (W roots .mesh) .boundary) ≤ L .boundary = leb-true _ _ (grown measures O roots S .0) in
-                        let g = grown measures O roots S .1 in
-                        let b : (count - 1) + s + extra ≤ L .log - k .log = leb-true _ _ f in
-                        let e = logged-count measures O roots S mask s D in
-                        let w = log-was measures O roots S in
-                        let cl = C .log in (
-                          a,
-                          omega arith,
-                          record {
-                            particles = C .particles;
-                            triangles = C .triangles;
-                            edges = omega (arith, kept-le mask (k .edges), E .count, C .edges);
-                            boundary = omega arith;
-                            log = omega arith;
-                          },
-                          world-is measures O roots S,
-                        );
-                  };
-            }
+    settled-told (Done z) D =
+        record {
+          settling =
+              λ measures.
+              record {
+                told =
+                    λ O roots S.
+                    let d = D .told O (W roots .mesh) volumes (split-of measures O roots S) in
+                    let w = log-was measures O roots S in
+                    (sides-fit measures O roots S, omega (arith, d .fits), within measures O roots S z d, world-is measures O roots S z d);
+              };
+        }

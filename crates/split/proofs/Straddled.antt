@@ -1,19 +1,17 @@
 -- The removal of straddlers across pieces, by its steps over the blocks: the masks mark what the definition takes away, and so the blocks hold the run behind it. Assumes nothing.
 use mathlib.Core.Path.{_≡_, refl, sym, _∙_, ap, ap₂, subst}
 use mathlib.Core.Bool.{Bool, true, false, not, _&&_}
-use mathlib.Core.List.{List, [], _∷_, _++_, map, map-append}
+use mathlib.Core.List.{List, _++_, map, map-append}
 use Prim.Native.Nat.{ℕ, _+_, _/_, _<_, _≤_}
 use native.Mathlib.Omega.{arith}
 use lib.Ieee.{Float}
 use lib.ListN.{length, length-append, length-map}
-use Rattle.lists.specs.Lists.{pick, sift, keep, tab, upTo}
-use Rattle.lists.proofs.Sifts.{map-tab}
+use Rattle.lists.specs.Lists.{sift, keep, tab}
 use Rattle.lists.proofs.Stores.{tab-length, tab-at}
 use Rattle.columns.proofs.Rows.{keep-sift}
-use Rattle.opening.proofs.Walks.{sift-same}
 use Rattle.model.specs.Mesh.{Edge, Side, Mesh, blankEdge}
 use Rattle.model.specs.Elements.{Kind, Triangles, Straps, Nothing, Element, element?, elementsOf}
-use Rattle.model.specs.Run.{Entry, edge, Run, stepTo}
+use Rattle.model.specs.Run.{Entry, Run, stepTo}
 use Rattle.model.specs.Split.{goneEntries}
 use Rattle.model.specs.Pieces.{pieceLabels, spans, across?, withoutStraddlers, straddlersGone, removeStraddlers}
 use Rattle.elements.specs.Table.{elementsIn}
@@ -29,6 +27,7 @@ use Rattle.split.specs.Steps.{EndsIn, SidesIn}
 use Rattle.split.specs.Straddling.{acrossBy, marked, markedOf, PiecesTold, EdgesMarked, SidesMarked, goneWords, GoneTo}
 use Rattle.split.specs.declared.Ran.{Ran}
 use Rattle.split.specs.declared.Ran.the-variants.{Refused, Done}
+use Rattle.split.proofs.NoteLaws.{gone-words}
 use Rattle.split.proofs.Runs.{room-enough, log-lacks, needBehind, StepTold, went-step}
 
 -- ---- masks and sifts
@@ -44,24 +43,6 @@ mask-sift p d mask n row h =
     (λ k l.
     let b : k < n = omega (arith, tab-length n row) in
     h k b ∙ not-not (p (row k)) ∙ ap (λ a. not (not (p a))) (sym (tab-at n row k d b)))
-
-module _ {A B : Type 0} (p : B → Bool) (f : A → B) where
-  pick-map : (t : Bool) (a : A) (l : List A) → pick t (f a ∷ map f l) (map f l) ≡ map f (pick t (a ∷ l) l)
-  pick-map true a l = refl
-  pick-map false a l = refl
-
-  -- a sift of what f makes
-  sift-map : (l : List A) → sift p (map f l) ≡ map f (sift (λ a. p (f a)) l)
-  unfolding sift
-  sift-map [] = refl
-  sift-map (a ∷ l) = rw (sift-map l) (pick-map (p (f a)) a (sift (λ a. p (f a)) l))
-
--- the rows that pass, by their numbers
-sift-rows : {A : Type 0} (p : A → Bool) (mask : List ℕ) (n : ℕ) (row : ℕ → A) → ((j : ℕ) → j < n → marked mask j ≡ p (row j)) → sift p (tab n row) ≡ map row (markedOf mask n)
-unfolding markedOf upTo
-sift-rows p mask n row h =
-    ap (sift p) (sym (map-tab row n (λ k. k))) ∙ sift-map p row (tab n (λ k. k))
-    ∙ ap (map row) (sift-same (λ k. p (row k)) (marked mask) n (λ k. k) (λ j l. sym (h j l)))
 
 -- ---- the definition's step
 
@@ -119,16 +100,11 @@ module _ (K : Kind) (k : Counts) (points : List Float) (roots corners : List ℕ
       ∙ sym (ap (λ (l : List Element). withoutStraddlers K l (pieceLabels l) M₀) same-elements)
 
   -- and the marked edges are what it logs
-  words-of : (l : List ℕ) → map wordsOf (map (λ (e : Edge). edge (e .a) (e .b)) (map row l)) ≡ map (goneWords ends) l
-  words-of [] = refl
-  words-of (j ∷ l) = ap (λ (t : List Words). goneWords ends j ∷ t) (words-of l)
-
   gone-is : map wordsOf (goneOf K M₀) ≡ map (goneWords ends) (markedOf edge-mask (k .edges))
-  unfolding goneOf goneEntries meshAt edgesAt
+  unfolding goneOf meshAt
   gone-is =
       ap (λ (l : List Element). map wordsOf (goneEntries (across? K l (pieceLabels l)) (M₀ .edges))) same-elements
-      ∙ ap (λ (l : List Edge). map wordsOf (map (λ (e : Edge). edge (e .a) (e .b)) l)) (sift-rows (across? K es (pieceLabels es)) edge-mask (k .edges) row edge-mark)
-      ∙ words-of (markedOf edge-mask (k .edges))
+      ∙ gone-words (across? K es (pieceLabels es)) edge-mask ends lengths (k .edges) edge-mark
 
   module _ (L : Rooms) (W : Within k L) (R : Run) (X : worldAt k points roots corners volumes ends lengths outline log ≡ worldOf (R .mesh) (R .log)) where
     -- the run that the blocks hold

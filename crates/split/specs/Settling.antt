@@ -4,59 +4,24 @@ use mathlib.Core.Path.{_≡_}
 use mathlib.Core.Bool.{not}
 use mathlib.Core.List.{List, map, _++_}
 use lib.ListN.{length, getD}
-use lib.Dec.{eqb}
 use lib.Ieee.{Float}
-use Rattle.lists.specs.Lists.{pick, sift, keep, upTo}
+use Rattle.lists.specs.Lists.{sift, upTo}
 use Rattle.model.specs.Mesh.{Edge, Mesh}
 use Rattle.model.specs.Elements.{Kind, Triangles, cornersPer}
 use Rattle.model.specs.Split.{Opening, straddles, followed, crackFacets}
 use Rattle.mesh.specs.At.{trianglesAt, edgesAt, boundaryAt}
-use Rattle.mesh.specs.Log.{World, Words, logAt}
+use Rattle.mesh.specs.Log.{World, Words, wordsOf, logAt}
+use Rattle.mesh.specs.Workers.{EdgeRoom}
 use Rattle.mesh.specs.declared.Counts.{Counts}
 use Rattle.mesh.specs.declared.Rooms.{Rooms}
 use Rattle.opening.specs.Opened.{Ringed, Numbered, RingRoom, RestsIn, CornersBelow}
 use Rattle.rewire.specs.Stages.{GrownTo}
-use Rattle.rewire.specs.RoomsB.{rowAt}
+use Rattle.rewire.specs.RoomsB.{Straddling, StraddleRoom}
 use Rattle.rewire.specs.declared.Grown.{Grown}
-use Rattle.split.specs.Steps.{SidesIn, SettleRoom, SettlingTold}
+use Rattle.split.specs.Steps.{SidesIn, loggedOf, SettleRoom, SettlingTold}
+use Rattle.split.specs.Straddling.{markedOf, goneWords, NoteRoom}
 use Rattle.split.specs.declared.Ran.{Ran}
-
--- ---- 4: straddlers
-
--- the places below e that the mask marks, rising
-unfoldable pub markedOf : List ℕ → ℕ → List ℕ
-markedOf mask e = sift (λ i. eqb (getD mask i 0) 1) (upTo e)
-
--- a split in tables, and a mesh with the triangles and the edges of the blocks
-pub record SplitIn (K : Kind) (O : Opening) (M : Mesh) (v before n count t e : ℕ) (verts groups corners : List ℕ) (volumes : List Float) (ends : List ℕ) (lengths : List Float) : Type 0 where
-  pub at : O .v ≡ v
-  pub before-is : O .before ≡ before
-  pub count-is : O .count ≡ count
-  pub ringed : Ringed (cornersPer K) O n verts groups
-  pub triangles-are : M .triangles ≡ trianglesAt t corners volumes
-  pub edges-are : M .edges ≡ edgesAt e ends lengths
-
--- what marking the straddlers asks: tables that fit, few rows within the blocks, and a mark for each edge
-pub record MarkAsked (K : Kind) (n count t e : ℕ) (verts groups : List ℕ) (lc lv le ll lm : ℕ) : Type 0 where
-  pub ring : RingRoom n (cornersPer K) (length verts) (length groups)
-  pub below : (i : ℕ) → i < n → getD groups i 0 < count
-  pub few-triangles : t ≤ 1024
-  pub few-edges : e ≤ 2048
-  pub corners : t ≤ lc / 3
-  pub volumes : t ≤ lv / 2
-  pub ends : e ≤ le / 4
-  pub lengths : e ≤ ll / 4
-  pub mask : e ≤ lm
-
--- the mask marks s edges, those that straddle, whatever split the tables hold
-pub record MarkedFor (K : Kind) (v before n count t e : ℕ) (verts groups corners : List ℕ) (volumes : List Float) (ends : List ℕ) (lengths : List Float) (mask : List ℕ) (s : ℕ) : Type 0 where
-  pub marks :
-      (O : Opening) (M : Mesh) → SplitIn K O M v before n count t e verts groups corners volumes ends lengths
-      → (i : ℕ) → i < e → getD mask i 0 ≡ pick (straddles K M O (rowAt ends lengths i)) 1 0
-  pub kept :
-      (O : Opening) (M : Mesh) → SplitIn K O M v before n count t e verts groups corners volumes ends lengths
-      → keep mask (edgesAt e ends lengths) ≡ sift (λ (a : Edge). not (straddles K M O a)) (edgesAt e ends lengths)
-  pub counted : s ≡ length (markedOf mask e)
+use Rattle.split.specs.declared.Ran.the-variants.{Refused, Done}
 
 -- ---- 5 and 6: boundary and crack facets
 
@@ -103,35 +68,64 @@ pub record BoundaryTold (K : Kind) (v before n count b room : ℕ) (numbers vert
 
 -- ---- the log
 
--- the words of a copy of v, and of edge i, which goes
+-- the words of a copy of v
 abbrev pub copyWords : ℕ → ℕ → ℕ → Words
 copyWords v before g = record { kind = 1; a = before + g; b = v; p = 0; q = 0; t = 0 }
-
-abbrev pub goneWords : List ℕ → ℕ → Words
-goneWords ends i = record { kind = 2; a = getD ends i 0; b = getD ends (length ends / 4 + i) 0; p = 0; q = 0; t = 0 }
 
 -- m copies are noted behind the entries
 pub record CopiesNoted (v before m at : ℕ) (log log′ : List ℕ) : Type 0 where
   pub noted : logAt (at + m) log′ ≡ logAt at log ++ map (copyWords v before) (upTo m)
 
--- what noting the marked among e edges asks
-pub record NoteAsked (at e : ℕ) (mask : List ℕ) (le lg : ℕ) : Type 0 where
-  pub mask-long : e ≤ length mask
-  pub ends : e ≤ le / 4
-  pub room : at + length (markedOf mask e) ≤ lg / 6
-
--- the marked edges are noted behind the entries
-pub record GoneNoted (at e : ℕ) (mask ends log log′ : List ℕ) : Type 0 where
-  pub noted : logAt (at + length (markedOf mask e)) log′ ≡ logAt at log ++ map (goneWords ends) (markedOf mask e)
-
--- what noting both asks
+-- what noting m copies and then the marked among e edges asks
 pub record SplitAsked (before m at e : ℕ) (mask : List ℕ) (le lg : ℕ) : Type 0 where
   pub small : before + m ≤ 65536
-  pub marked : NoteAsked (at + m) e mask le lg
+  pub marked : NoteRoom mask e (at + m) le lg
 
--- the copies and then the marked edges are noted
-pub record SplitNoted (v before m at e : ℕ) (mask ends log log′ : List ℕ) : Type 0 where
-  pub noted : logAt (at + m + length (markedOf mask e)) log′ ≡ logAt at log ++ (map (copyWords v before) (upTo m) ++ map (goneWords ends) (markedOf mask e))
+-- the copies and then the marked edges are noted, and the log has r entries
+pub record SplitNoted (v before m at e : ℕ) (mask ends log log′ : List ℕ) (r : ℕ) : Type 0 where
+  pub count : r ≡ at + m + length (markedOf mask e)
+  pub entries : logAt r log′ ≡ logAt at log ++ (map (copyWords v before) (upTo m) ++ map (goneWords ends) (markedOf mask e))
+
+-- ---- 4: straddlers, with the log of the split
+
+-- what the removal of marked edges asks: s of the first e edges are marked
+pub record MarkedRoom (mask : List ℕ) (e s le ll : ℕ) : Type 0 where
+  pub long : e ≤ length mask
+  pub counted : s ≡ length (markedOf mask e)
+  pub rows : EdgeRoom e le ll
+
+-- what the removal of straddlers asks: tables that fit, few edges, and a log within its room
+pub record DropAsked (K : Kind) (L : Rooms) (k : Counts) (before n count extra lv lg lc le ll llog : ℕ) : Type 0 where
+  pub straddle : StraddleRoom K n (k .triangles) (k .edges) lv lg lc le
+  pub few-edges : k .edges ≤ 2048
+  pub lengths : k .edges ≤ ll / 4
+  pub some : 1 ≤ count
+  pub small : before + count ≤ 65536
+  pub one-extra : extra ≤ 1
+  pub log-in : k .log ≤ L .log
+  pub log-long : L .log ≤ llog / 6
+
+-- the straddlers of a split of M are gone from the edges, and the split is logged, with room for `extra` entries
+pub record EdgesDropped (K : Kind) (O : Opening) (M : Mesh) (L : Rooms) (k q : Counts) (extra rows : ℕ) (ends ends′ : List ℕ) (lengths lengths′ : List Float) (log log′ : List ℕ) : Type 0 where
+  pub particles : q .particles ≡ k .particles
+  pub triangles : q .triangles ≡ k .triangles
+  pub boundary : q .boundary ≡ rows
+  pub few-edges : q .edges ≤ k .edges
+  pub count : q .log ≡ k .log + length (loggedOf K O M)
+  pub fits : k .log + (length (loggedOf K O M) + extra) ≤ L .log
+  pub edges : edgesAt (q .edges) ends′ lengths′ ≡ sift (λ (a : Edge). not (straddles K M O a)) (edgesAt (k .edges) ends lengths)
+  pub entries : logAt (q .log) log′ ≡ logAt (k .log) log ++ map wordsOf (loggedOf K O M)
+
+-- what was told of the removal: the log lacks room; or the new counts
+abbrev pub DroppedTo : Kind → Opening → Mesh → Rooms → Counts → ℕ → ℕ → List ℕ → List ℕ → List Float → List Float → List ℕ → List ℕ → Ran → Type 0
+DroppedTo K O M L k extra rows ends ends′ lengths lengths′ log log′ (Refused c) = (c ≡ 8) × (L .log < k .log + (length (loggedOf K O M) + extra))
+DroppedTo K O M L k extra rows ends ends′ lengths lengths′ log log′ (Done q) = EdgesDropped K O M L k q extra rows ends ends′ lengths lengths′ log log′
+
+-- for every split that the tables hold
+pub record Dropped (K : Kind) (L : Rooms) (k : Counts) (v before n count extra rows : ℕ) (verts groups corners ends ends′ : List ℕ) (lengths lengths′ : List Float) (log log′ : List ℕ) (r : Ran) : Type 0 where
+  pub told :
+      (O : Opening) (M : Mesh) (volumes : List Float) → Straddling K O M v before n count (k .triangles) (k .edges) verts groups corners volumes ends lengths
+      → DroppedTo K O M L k extra rows ends ends′ lengths lengths′ log log′ r
 
 -- ---- the whole
 

@@ -1,10 +1,112 @@
 // The fan of a particle in tables, and its groups by sides.
+ghost use mathlib.Core.Path.{_≡_};
+ghost use mathlib.Core.Bool.{_&&_};
+ghost use mathlib.Core.List.{[], _∷_};
 ghost use Prim.Native.Nat.{_≤_};
+ghost use lib.Dec.{eqb};
 ghost use lib.ListN.{length};
-ghost use Rattle.elements.specs.Table.{kindIs};
-ghost use Rattle.model.specs.Elements.{cornersPer};
+ghost use Rattle.lists.specs.Lists.{stands};
+ghost use Rattle.mesh.specs.At.{trianglesAt, edgesAt};
+ghost use Rattle.elements.specs.Table.{Tabled, holding, kindIs};
+ghost use Rattle.elements.specs.Workers.{TriangleRoom, StrapRoom};
+ghost use Rattle.model.specs.Elements.{cornersPer, trianglesFrom, strapsFrom};
 ghost use Rattle.split.specs.Tables.{FanLent, FanRead, SidesLent, GroupsFound};
 use elements::Kind;
+
+// Is v one of three corners?
+fn one_of_three(v: usize, x: usize, y: usize, z: usize) -> bool
+    ensures { λ r. ⌜ r ≡ stands v (x ∷ y ∷ z ∷ []) ⌝ }
+{
+    if x == v {
+        return true;
+    }
+    if y == v {
+        return true;
+    }
+    z == v
+}
+
+// The triangles that hold v, in tables, and how many they are.
+fn fan_triangles(
+    v: usize,
+    t: usize,
+    corners: &[usize],
+    volumes: &[f32],
+    numbers: &mut [usize],
+    verts: &mut [usize],
+    measures: &mut [f32],
+) -> usize
+    requires { ⌜ TriangleRoom t (length (now corners)) (length (now volumes)) (length (now numbers)) (length (now verts)) (length (now measures)) ⌝ }
+    ensures { λ r. ⌜ Tabled 3 (holding v (trianglesFrom 0 (trianglesAt t (now (corners .entry)) (now (volumes .entry))))) r (now (numbers .exit)) (now (verts .exit)) (now (measures .exit)) ⌝ }
+{
+    let c = corners.len() / 3;
+    let mut i: usize = 0;
+    let mut r: usize = 0;
+    let mut o: usize = 0;
+    while i < t {
+        let x = corners[i];
+        let y = corners[c + i];
+        let z = corners[2 * c + i];
+        if one_of_three(v, x, y, z) {
+            numbers[r] = i;
+            verts[o] = x;
+            verts[o + 1] = y;
+            verts[o + 2] = z;
+            measures[r] = float::abs::abs(volumes[i]);
+            o += 3;
+            r += 1;
+        }
+        i += 1;
+    }
+    r
+}
+
+// Is an edge from x to y a strap that holds v?
+fn strap_holds(v: usize, structural: usize, x: usize, y: usize) -> bool
+    ensures { λ r. ⌜ r ≡ (eqb structural 1 && stands v (x ∷ y ∷ [])) ⌝ }
+{
+    if structural != 1 {
+        return false;
+    }
+    if x == v {
+        return true;
+    }
+    y == v
+}
+
+// The straps that hold v, in tables, and how many they are.
+fn fan_straps(
+    v: usize,
+    e: usize,
+    ends: &[usize],
+    lengths: &[f32],
+    numbers: &mut [usize],
+    verts: &mut [usize],
+    measures: &mut [f32],
+) -> usize
+    requires { ⌜ StrapRoom e (length (now ends)) (length (now lengths)) (length (now numbers)) (length (now verts)) (length (now measures)) ⌝ }
+    ensures { λ r. ⌜ Tabled 2 (holding v (strapsFrom 0 (edgesAt e (now (ends .entry)) (now (lengths .entry))))) r (now (numbers .exit)) (now (verts .exit)) (now (measures .exit)) ⌝ }
+{
+    let c = ends.len() / 4;
+    let m = lengths.len() / 4;
+    let mut i: usize = 0;
+    let mut r: usize = 0;
+    let mut o: usize = 0;
+    while i < e {
+        let x = ends[i];
+        let y = ends[c + i];
+        if strap_holds(v, ends[2 * c + i], x, y) {
+            numbers[r] = i;
+            verts[o] = x;
+            verts[o + 1] = y;
+            measures[r] = lengths[m + i];
+            o += 2;
+            r += 1;
+        }
+        i += 1;
+    }
+    r
+}
 
 // The numbers, corners and measures of the elements that hold v, and how many they are.
 pub fn fan_tables(
@@ -23,33 +125,11 @@ pub fn fan_tables(
     requires { ⌜ FanLent t e (length (now corners)) (length (now volumes)) (length (now ends)) (length (now lengths)) (length (now numbers)) (length (now verts)) (length (now measures)) ⌝ }
     ensures { λ r. ⌜ FanRead (kindIs kind) v t e (now (corners .entry)) (now (volumes .entry)) (now (ends .entry)) (now (lengths .entry)) r (now (numbers .exit)) (now (verts .exit)) (now (measures .exit)) ⌝ }
 {
-    let mut all_numbers = [0usize; 2048];
-    let mut all_verts = [0usize; 4096];
-    let mut all_measures = [0.0f32; 2048];
-    let n = elements::element_table(
-        kind,
-        t,
-        e,
-        corners,
-        volumes,
-        ends,
-        lengths,
-        &mut all_numbers,
-        &mut all_verts,
-        &mut all_measures,
-    );
-    let k = elements::corners_per(kind);
-    elements::fan_table(
-        v,
-        k,
-        n,
-        &all_numbers,
-        &all_verts,
-        &all_measures,
-        numbers,
-        verts,
-        measures,
-    )
+    match kind {
+        Kind::Triangles => fan_triangles(v, t, corners, volumes, numbers, verts, measures),
+        Kind::Straps => fan_straps(v, e, ends, lengths, numbers, verts, measures),
+        Kind::Nothing => 0,
+    }
 }
 
 // The groups of a fan of n elements by their sides, and how many there are.

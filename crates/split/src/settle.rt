@@ -4,67 +4,15 @@ ghost use Prim.Native.Nat.{_+_, _/_, _≤_};
 ghost use lib.ListN.{length};
 ghost use lib.Dec.{leb};
 ghost use Rattle.elements.specs.Table.{kindIs};
+ghost use Rattle.mesh.specs.At.{edgesAt};
 ghost use Rattle.mesh.specs.Log.{worldAt};
-ghost use Rattle.split.specs.Settling.{MarkAsked, MarkedFor, FacetsAsked, FacetsTold, BoundaryAsked, BoundaryTold, CopiesNoted, NoteAsked, GoneNoted, SplitAsked, SplitNoted, SettleAsked, SettledFor};
+ghost use Rattle.mesh.specs.Workers.{Removed};
+ghost use Rattle.split.specs.Settling.{FacetsAsked, FacetsTold, BoundaryAsked, BoundaryTold, CopiesNoted, SplitAsked, SplitNoted, MarkedRoom, DropAsked, Dropped, SettleAsked, SettledFor};
 use crate::Ran;
 use elements::Kind;
 use mesh::Counts;
 use mesh::Rooms;
 use rewire::Grown;
-
-// Marks the straddlers among the first e edges with 1, the others with 0; returns how many straddle.
-fn mark(
-    kind: Kind,
-    v: usize,
-    before: usize,
-    n: usize,
-    count: usize,
-    t: usize,
-    e: usize,
-    verts: &[usize],
-    groups: &[usize],
-    corners: &[usize],
-    volumes: &[f32],
-    ends: &[usize],
-    lengths: &[f32],
-    mask: &mut [usize],
-) -> usize
-    requires { ⌜ MarkAsked (kindIs kind) n count t e (now verts) (now groups) (length (now corners)) (length (now volumes)) (length (now ends)) (length (now lengths)) (length (now mask)) ⌝ }
-    ensures { λ r. ⌜ MarkedFor (kindIs kind) v before n count t e (now (verts .entry)) (now (groups .entry)) (now (corners .entry)) (now (volumes .entry)) (now (ends .entry)) (now (lengths .entry)) (now (mask .exit)) r ⌝ }
-{
-    let mut body_numbers = [0usize; 2048];
-    let mut body = [0usize; 4096];
-    let mut body_measures = [0.0f32; 2048];
-    let k = elements::corners_per(kind);
-    let m = elements::element_table(
-        kind,
-        t,
-        e,
-        corners,
-        volumes,
-        ends,
-        lengths,
-        &mut body_numbers,
-        &mut body,
-        &mut body_measures,
-    );
-    rewire::straddlers::mark_straddlers(
-        kind,
-        v,
-        before,
-        k,
-        n,
-        count,
-        e,
-        verts,
-        groups,
-        m,
-        k,
-        &body,
-        ends,
-        mask,
-    )
-}
 
 // Where the elements are triangles, appends the crack facets to the b entries of the outline.
 fn open_facets(
@@ -175,24 +123,7 @@ fn note_copies(v: usize, before: usize, m: usize, at: usize, log: &mut [usize])
     }
 }
 
-// Notes the marked among the first e edges, by their ends, behind the entries.
-fn note_gone(at: usize, e: usize, mask: &[usize], ends: &[usize], log: &mut [usize])
-    requires { ⌜ NoteAsked at e (now mask) (length (now ends)) (length (now log)) ⌝ }
-    ensures { λ _. ⌜ GoneNoted at e (now (mask .entry)) (now (ends .entry)) (now (log .entry)) (now (log .exit)) ⌝ }
-{
-    let c = ends.len() / 4;
-    let mut n = at;
-    let mut i: usize = 0;
-    while i < e {
-        if mask[i] == 1 {
-            mesh::rows::note(n, 2, ends[i], ends[c + i], 0, 0, 0, log);
-            n += 1;
-        }
-        i += 1;
-    }
-}
-
-// Notes m copies of v and then the marked edges.
+// Notes m copies of v and then the marked edges; returns how many entries there are.
 fn note_split(
     v: usize,
     before: usize,
@@ -202,12 +133,74 @@ fn note_split(
     mask: &[usize],
     ends: &[usize],
     log: &mut [usize],
-)
+) -> usize
     requires { ⌜ SplitAsked before m at e (now mask) (length (now ends)) (length (now log)) ⌝ }
-    ensures { λ _. ⌜ SplitNoted v before m at e (now (mask .entry)) (now (ends .entry)) (now (log .entry)) (now (log .exit)) ⌝ }
+    ensures { λ r. ⌜ SplitNoted v before m at e (now (mask .entry)) (now (ends .entry)) (now (log .entry)) (now (log .exit)) r ⌝ }
 {
     note_copies(v, before, m, at, log);
-    note_gone(at + m, e, mask, ends, log);
+    crate::straddlers::note_edges(mask, e, at + m, ends, log)
+}
+
+// Removes the s marked edges from the first e, and returns how many are left; where none is marked there is nothing to move.
+fn drop_marked(mask: &[usize], e: usize, s: usize, ends: &mut [usize], lengths: &mut [f32]) -> usize
+    requires { ⌜ MarkedRoom (now mask) e s (length (now ends)) (length (now lengths)) ⌝ }
+    ensures { λ r. ⌜ Removed (now (mask .entry)) e r (edgesAt e (now (ends .entry)) (now (lengths .entry))) (edgesAt r (now (ends .exit)) (now (lengths .exit))) ⌝ }
+{
+    if s == 0 {
+        return e;
+    }
+    mesh::rows::remove_edges(mask, e, ends, lengths)
+}
+
+// The straddlers go, and the log tells of the split, if it has room for that and for `extra` entries more; `rows` boundary entries are there by now.
+fn drop_straddlers(
+    kind: Kind,
+    v: usize,
+    before: usize,
+    n: usize,
+    count: usize,
+    extra: usize,
+    rows: usize,
+    k: Counts,
+    room: Rooms,
+    verts: &[usize],
+    groups: &[usize],
+    corners: &[usize],
+    ends: &mut [usize],
+    lengths: &mut [f32],
+    log: &mut [usize],
+) -> Ran
+    requires { ⌜ DropAsked (kindIs kind) room k before n count extra (length (now verts)) (length (now groups)) (length (now corners)) (length (now ends)) (length (now lengths)) (length (now log)) ⌝ }
+    ensures { λ r. ⌜ Dropped (kindIs kind) room k v before n count extra rows (now (verts .entry)) (now (groups .entry)) (now (corners .entry)) (now (ends .entry)) (now (ends .exit)) (now (lengths .entry)) (now (lengths .exit)) (now (log .entry)) (now (log .exit)) r ⌝ }
+{
+    let mut mask = [0usize; 2048];
+    let s = rewire::straddlers::mark_straddlers(
+        kind,
+        v,
+        before,
+        n,
+        count,
+        k.triangles,
+        k.edges,
+        verts,
+        groups,
+        corners,
+        ends,
+        &mut mask,
+    );
+    let m = count - 1;
+    if !log_fits(room.log - k.log, m, s, extra) {
+        return Ran::Refused(8);
+    }
+    let entries = note_split(v, before, m, k.log, k.edges, &mask, ends, log);
+    let left = drop_marked(&mask, k.edges, s, ends, lengths);
+    Ran::Done(Counts {
+        particles: k.particles,
+        triangles: k.triangles,
+        edges: left,
+        boundary: rows,
+        log: entries,
+    })
 }
 
 // Parts 4 to 6 of a split and its log, on a mesh whose edges are at their longest, with `extra` entries to come.
@@ -234,25 +227,6 @@ pub fn settle(
     requires { ⌜ SettleAsked (kindIs kind) room k v before n count extra (now numbers) (now verts) (now groups) (length (now points)) (length (now corners)) (length (now volumes)) (length (now ends)) (length (now lengths)) (now outline) (length (now log)) ⌝ }
     ensures { λ r. ⌜ SettledFor (kindIs kind) room extra v before n count (now (numbers .entry)) (now (verts .entry)) (now (groups .entry)) (λ roots. worldAt k (now (points .entry)) roots (now (corners .entry)) (now (volumes .entry)) (now (ends .entry)) (now (lengths .entry)) (now (outline .entry)) (now (log .entry))) (λ roots q. worldAt q (now (points .entry)) roots (now (corners .entry)) (now (volumes .entry)) (now (ends .exit)) (now (lengths .exit)) (now (outline .exit)) (now (log .exit))) r ⌝ }
 {
-    let t = k.triangles;
-    let e = k.edges;
-    let mut mask = [0usize; 2048];
-    let s = mark(
-        kind,
-        v,
-        before,
-        n,
-        count,
-        t,
-        e,
-        verts,
-        groups,
-        corners,
-        volumes,
-        ends,
-        lengths,
-        &mut mask,
-    );
     let grown = open_boundary(
         kind,
         v,
@@ -271,17 +245,21 @@ pub fn settle(
     let Grown::Rows(rows) = grown else {
         return Ran::Refused(7);
     };
-    let m = count - 1;
-    if !log_fits(room.log - k.log, m, s, extra) {
-        return Ran::Refused(8);
-    }
-    note_split(v, before, m, k.log, e, &mask, ends, log);
-    let left = mesh::rows::remove_edges(&mask, e, ends, lengths);
-    Ran::Done(Counts {
-        particles: k.particles,
-        triangles: t,
-        edges: left,
-        boundary: rows,
-        log: k.log + m + s,
-    })
+    drop_straddlers(
+        kind,
+        v,
+        before,
+        n,
+        count,
+        extra,
+        rows,
+        k,
+        room,
+        verts,
+        groups,
+        corners,
+        ends,
+        lengths,
+        log,
+    )
 }

@@ -122,7 +122,7 @@ fn mark_sides(n: usize, parent: &[usize], used: &[usize], outline: &[usize], mas
 }
 
 // Notes the marked edges among the first n, by their ends, behind the `at` entries of the log; returns how many entries there are.
-fn note_edges(mask: &[usize], n: usize, at: usize, ends: &[usize], log: &mut [usize]) -> usize
+pub fn note_edges(mask: &[usize], n: usize, at: usize, ends: &[usize], log: &mut [usize]) -> usize
     requires { ⌜ NoteRoom (now mask) n at (length (now ends)) (length (now log)) ⌝ }
     ensures { λ r. ⌜ EdgesNoted (now (mask .entry)) n at (now (ends .entry)) (now (log .entry)) (now (log .exit)) r ⌝ }
 {

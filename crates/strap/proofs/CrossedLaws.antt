@@ -30,6 +30,7 @@ use Rattle.strap.specs.Shares.{Stands}
 use Rattle.strap.specs.Plans.{planned, PlanRoom, PlanIs, InsertableRoom, InsertableIs}
 use Rattle.strap.specs.Bends.{EndsBelow, BendsRoom, BendsMarked}
 use Rattle.strap.specs.Steps.{StepRoom, InsertTold}
+use Rattle.strap.specs.Crossings.{CrossingsRoom}
 use Rattle.strap.specs.Crossed.{ranOf, StrapMarks, Crosses, CrossTold, CrossRoom}
 use Rattle.strap.specs.declared.plan.Plan.{Plan}
 
@@ -52,6 +53,13 @@ module _ (L : Rooms) (k : Counts) (points : List Float) (roots ends : List ℕ) 
 
   points-long : k .particles ≤ length points / 6
   points-long = let a = X .ready .counts .particles in let b = X .ready .rooms .points in omega arith
+
+  -- the blade can be tried on every edge
+  pub crossings-room : (ln lt : ℕ) → 2048 ≤ ln → 2048 ≤ lt → CrossingsRoom (k .edges) (length points) ends ln lt
+  crossings-room ln lt hn ht =
+      let a = X .ready .counts .edges in
+      let b = X .ready .rooms .few-edges in
+      record { ends-in = below (length points / 6) points-long; numbers-long = omega arith; ts-long = omega arith }
 
   pub plan-room : (number : ℕ) → number < k .edges → PlanRoom number (k .particles) (k .edges) (length points) ends (length lengths)
   plan-room number h =

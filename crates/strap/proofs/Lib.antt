@@ -13,3 +13,6 @@ pub mod CrossedLaws
 pub mod CrossedRuns
 pub mod SegmentLaws
 pub mod CrossedStart
+pub mod BendNumbers
+pub mod SegmentRuns
+pub mod KindLaws

@@ -87,7 +87,7 @@ particles-need I X =
     length-append (mapAt (onlyAt (I .edge .b) (lightened (I .share-b) (half-b I))) inner) _
     ∙ ap (λ (n : ℕ). n + 2) (length-mapAt (onlyAt (I .edge .b) (lightened (I .share-b) (half-b I))) inner ∙ length-mapAt (onlyAt (I .edge .a) (lightened (I .share-a) (half-a I))) (X .particles))
 
-edges-need : (I : Insertion) (es : List Edge) → length (insertedEdges I es) ≡ length es + 1
+pub edges-need : (I : Insertion) (es : List Edge) → length (insertedEdges I es) ≡ length es + 1
 unfolding insertedEdges
 edges-need I es = length-append (mapAt _ es) _ ∙ ap (λ (n : ℕ). n + 1) (length-mapAt _ es)
 

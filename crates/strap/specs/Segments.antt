@@ -6,6 +6,7 @@ use mathlib.Core.List.{List}
 use lib.ListN.{length}
 use lib.Ieee.{Float}
 use Rattle.lists.specs.Lists.{stands}
+use Rattle.blade.specs.declared.Point.{Point}
 use Rattle.model.specs.Calls.{firstFault}
 use Rattle.model.specs.Cut.{Blade, Strapping, afterCrossings}
 use Rattle.mesh.specs.Log.{World, worldOf}
@@ -14,7 +15,8 @@ use Rattle.mesh.specs.declared.Counts.{Counts}
 use Rattle.mesh.specs.declared.Rooms.{Rooms}
 use Rattle.split.specs.Working.{Went}
 use Rattle.split.specs.declared.Ran.{Ran}
-use Rattle.strap.specs.Crossed.{ranOf, bendsOf, StrapMarks}
+use Rattle.strap.specs.Crossings.{crossed-in, CrossingsAre}
+use Rattle.strap.specs.Crossed.{ranOf, bendsOf, StrapMarks, CrossTold}
 
 -- each edge and each particle has a mark
 pub record MarksLent (bends snapped : ℕ) : Type 0 where
@@ -26,3 +28,11 @@ pub record AfterTold (B : Blade) (L : Rooms) (e : ℕ) (W : World) (at : Counts 
   pub went :
       (S : Strapping) → W ≡ worldOf (ranOf S .mesh) (ranOf S .log) → firstFault (asRooms L) (ranOf S .needs) ≡ 0 → StrapMarks S bends snapped
       → ((j : ℕ) → stands j (bendsOf S) ≡ true → j < e) → Went L (afterCrossings B S) at r
+
+-- the crossings of the blade with the straps in the blocks were found in some tables, and done in turn
+pub record BladeCrossed (b0 b1 : Point) (f : Float) (L : Rooms) (k : Counts) (points : List Float) (roots ends : List ℕ) (lengths : List Float) (outline log bends snapped : List ℕ) (points′ : List Float) (roots′ ends′ : List ℕ) (lengths′ : List Float) (outline′ log′ bends′ snapped′ : List ℕ) (r : Ran) : Type 0 where
+  pub many : ℕ
+  pub numbers : List ℕ
+  pub ts : List Float
+  pub found : CrossingsAre b0 b1 (k .edges) points ends numbers ts many
+  pub told : CrossTold f (crossed-in many numbers ts) L k points roots ends lengths outline log bends snapped points′ roots′ ends′ lengths′ outline′ log′ bends′ snapped′ r

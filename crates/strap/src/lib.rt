@@ -3,6 +3,7 @@ pub mod bends;
 pub mod crossed;
 pub mod crossings;
 pub mod edges;
+pub mod kinds;
 pub mod particles;
 pub mod plan;
 pub mod segments;

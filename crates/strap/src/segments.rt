@@ -8,11 +8,52 @@ ghost use Rattle.mesh.specs.Filled.{lent};
 ghost use Rattle.split.specs.Working.{Ready, Works};
 ghost use Rattle.cut.specs.Marking.{bladeFrom};
 ghost use Rattle.cut.specs.Running.{Logged};
-ghost use Rattle.strap.specs.Segments.{MarksLent, AfterTold};
+ghost use Rattle.strap.specs.Crossed.{CrossRoom};
+ghost use Rattle.strap.specs.Segments.{MarksLent, AfterTold, BladeCrossed};
 use blade::Point;
 use mesh::Counts;
 use mesh::Rooms;
 use split::Ran;
+
+// Finds the crossings of the blade with the straps, and does them in turn, until one lacks room.
+fn cross_blade(
+    b0: Point,
+    b1: Point,
+    f: f32,
+    k: Counts,
+    room: Rooms,
+    points: &mut [f32],
+    roots: &mut [usize],
+    ends: &mut [usize],
+    lengths: &mut [f32],
+    outline: &mut [usize],
+    log: &mut [usize],
+    bends: &mut [usize],
+    snapped: &mut [usize],
+) -> Ran
+    requires { ⌜ CrossRoom room k (now points) (now roots) (now ends) (now lengths) (now outline) (now log) (length (now bends)) (length (now snapped)) × Logged (k .log) (now log) ⌝ }
+    ensures { λ r. ⌜ BladeCrossed b0 b1 f room k (now (points .entry)) (now (roots .entry)) (now (ends .entry)) (now (lengths .entry)) (now (outline .entry)) (now (log .entry)) (now (bends .entry)) (now (snapped .entry)) (now (points .exit)) (now (roots .exit)) (now (ends .exit)) (now (lengths .exit)) (now (outline .exit)) (now (log .exit)) (now (bends .exit)) (now (snapped .exit)) r ⌝ }
+{
+    let mut numbers = [0usize; 2048];
+    let mut ts = [0.0f32; 2048];
+    let m = crate::crossings::find_crossings(b0, b1, k.edges, points, ends, &mut numbers, &mut ts);
+    crate::crossed::cross_all(
+        f,
+        m,
+        &numbers,
+        &ts,
+        k,
+        room,
+        points,
+        roots,
+        ends,
+        lengths,
+        outline,
+        log,
+        bends,
+        snapped,
+    )
+}
 
 // The marked bend edges go, and then the snapped ends are split by the blade.
 pub fn after_crossings(
@@ -55,4 +96,61 @@ pub fn after_crossings(
             log,
         ),
     }
+}
+
+// Inserts at the crossings or marks their near ends; then removes the bend edges over the insertions and splits the marked ends.
+pub fn cut_segments(
+    b0: Point,
+    b1: Point,
+    f: f32,
+    k: Counts,
+    room: Rooms,
+    points: &mut [f32],
+    roots: &mut [usize],
+    corners: &mut [usize],
+    volumes: &[f32],
+    ends: &mut [usize],
+    lengths: &mut [f32],
+    outline: &mut [usize],
+    log: &mut [usize],
+) -> Ran
+    requires { ⌜ Ready room k (lent (now points) (now roots) (now corners) (now volumes) (now ends) (now lengths) (now outline) (now log)) (meshAt k (now points) (now roots) (now corners) (now volumes) (now ends) (now lengths) (now outline)) × Logged (k .log) (now log) ⌝ }
+    ensures { λ r. ⌜ Works (cutSegments (bladeFrom b0 b1) f) room (worldAt k (now (points .entry)) (now (roots .entry)) (now (corners .entry)) (now (volumes .entry)) (now (ends .entry)) (now (lengths .entry)) (now (outline .entry)) (now (log .entry))) (λ q. worldAt q (now (points .exit)) (now (roots .exit)) (now (corners .exit)) (now (volumes .entry)) (now (ends .exit)) (now (lengths .exit)) (now (outline .exit)) (now (log .exit))) r ⌝ }
+{
+    let mut bends = [0usize; 2048];
+    let mut snapped = [0usize; 1024];
+    let ran = cross_blade(
+        b0,
+        b1,
+        f,
+        k,
+        room,
+        points,
+        roots,
+        ends,
+        lengths,
+        outline,
+        log,
+        &mut bends,
+        &mut snapped,
+    );
+    let Ran::Done(crossed) = ran else {
+        return ran;
+    };
+    after_crossings(
+        b0,
+        b1,
+        &bends,
+        &snapped,
+        crossed,
+        room,
+        points,
+        roots,
+        corners,
+        volumes,
+        ends,
+        lengths,
+        outline,
+        log,
+    )
 }

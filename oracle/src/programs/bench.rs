@@ -19,25 +19,45 @@ use std::time::Instant;
 const REPETITIONS: usize = 101;
 /// Calls are repeated within a measurement until it takes about this long.
 const BATCH_NS: f64 = 50_000.0;
+/// Calls of a batch at most, and where each has a body of its own.
+const MOST: u32 = 1 << 20;
+const MOST_BODIES: u32 = 32;
 
-/// Median nanoseconds of one call, over repetitions of a batch; `before`, which gets the number of
-/// calls to come, is not timed.
-fn median(mut before: impl FnMut(u32), mut f: impl FnMut()) -> f64 {
-    let mut batch = 1u32;
-    let mut time = |batch: u32| {
-        before(batch);
-        let start = Instant::now();
-        for _ in 0..batch {
-            f();
+/// Calls that are timed in batches; `before`, which gets the number of calls to come, is not timed.
+struct Timed<B: FnMut(u32), F: FnMut()> {
+    before: B,
+    call: F,
+    batch: u32,
+}
+impl<B: FnMut(u32), F: FnMut()> Timed<B, F> {
+    /// With a batch that takes long enough, or the largest allowed.
+    fn new(before: B, call: F, most: u32) -> Self {
+        let mut t = Timed { before, call, batch: 1 };
+        while t.once() * (t.batch as f64) < BATCH_NS && t.batch < most {
+            t.batch *= 2;
         }
-        start.elapsed().as_nanos() as f64
-    };
-    while time(batch) < BATCH_NS && batch < 1 << 20 {
-        batch *= 2;
+        t
     }
-    let mut all: Vec<f64> = (0..REPETITIONS).map(|_| time(batch) / batch as f64).collect();
+    /// Nanoseconds of one call, by one batch.
+    fn once(&mut self) -> f64 {
+        (self.before)(self.batch);
+        let start = Instant::now();
+        for _ in 0..self.batch {
+            (self.call)();
+        }
+        start.elapsed().as_nanos() as f64 / self.batch as f64
+    }
+}
+/// The median of this many repetitions.
+fn middle(mut once: impl FnMut() -> f64) -> f64 {
+    let mut all: Vec<f64> = (0..REPETITIONS).map(|_| once()).collect();
     all.sort_by(f64::total_cmp);
     all[REPETITIONS / 2]
+}
+/// Median nanoseconds of one call.
+fn median(before: impl FnMut(u32), call: impl FnMut()) -> f64 {
+    let mut t = Timed::new(before, call, MOST);
+    middle(|| t.once())
 }
 
 fn meshes() -> [(&'static str, Mesh); 3] {
@@ -80,8 +100,30 @@ fn tearing(m: &Mesh, args: Args) -> Input {
     let out = 4 * (2 + 4 + 8 * 1024 + 5 * 1024 + 8 * 2048 + 2 * 2048);
     Input { image: Image::new(m.clone()), args, lending, out }
 }
+/// A call that gives a mesh, and the name of its row.
+struct Row {
+    name: &'static str,
+    mesh: Mesh,
+    call: Raw,
+}
+/// Rows on one mesh, behind the row in which nothing is split but all else is done.
+struct Rows {
+    idle: Row,
+    rows: Vec<Row>,
+}
+fn rows<const N: usize>(m: &Mesh, idle: (&'static str, &Mesh, Args), rows: [(&'static str, Args); N]) -> Rows {
+    let row = |name, m: &Mesh, args| Row { name, mesh: m.clone(), call: tearing(m, args).raw() };
+    let (name, still, args) = idle;
+    Rows { idle: row(name, still, args), rows: rows.map(|(name, args)| row(name, m, args)).into() }
+}
+/// The same mesh with this particle pinned.
+fn pinned(m: &Mesh, v: u32) -> Mesh {
+    let mut m = m.clone();
+    m.inv[v as usize] = 0.0;
+    m
+}
 /// Rows of the entries that give a mesh.
-fn tearing_rows() -> Vec<(&'static str, Mesh, Input)> {
+fn tearing_rows() -> Vec<Rows> {
     let m = grid(22, 22, &mut Rng::new(1), 0.0);
     let line = rope(1000);
     let blade = |x0: f32, y0: f32, x1: f32, y1: f32| Args::Cut {
@@ -96,23 +138,47 @@ fn tearing_rows() -> Vec<(&'static str, Mesh, Input)> {
         let torn = (0..count).map(|k| edges[edges.len() * (2 * k as usize + 1) / (2 * count as usize)]).collect();
         Args::Crack { torn, length: None, minimum: 3 }
     };
-    let middle = 11 * 23 + 11;
-    let fan = second::fan(&m, second::kind(&m), middle).len();
-    let sides = (0..fan).map(|i| (2 * i >= fan) as u8).collect();
+    let v = 11 * 23 + 11;
+    let split = |m: &Mesh| {
+        let fan = second::fan(m, second::kind(m), v).len();
+        Args::Split { v, sides: (0..fan).map(|i| (2 * i >= fan) as u8).collect() }
+    };
     let apart = second::cut(&m, Blade::new(-1., -1., 23., 23.), 0.1).mesh;
-    let rows = [
-        ("grid, two sides at the middle", &m, Args::Split { v: middle, sides }),
-        ("grid", &m, Args::Straddlers),
-        ("grid in two pieces", &apart, Args::Straddlers),
-        ("grid, diagonal", &m, blade(-1., -1., 23., 23.)),
-        ("grid, slanted", &m, blade(-1., 7.3, 23., 12.9)),
-        ("grid, miss", &m, blade(-1., -3., 23., -2.)),
-        ("rope of 1,000, one strap", &line, blade(250.25, -1., 250.25, 2.)),
-        ("rope of 1,000, ten straps", &line, blade(249.75, -0.2, 254.25, 1.2)),
-        ("grid, one torn edge", &m, crack(1)),
-        ("grid, ten torn edges", &m, crack(10)),
-    ];
-    rows.map(|(name, m, args)| (name, m.clone(), tearing(m, args))).into()
+    let mut joined = apart.clone();
+    (m.px.len()..apart.px.len()).for_each(|copy| joined.edge(apart.root[copy], copy as u32, false, 0.0));
+    let pin = "grid, split at a pinned particle (idle)";
+    let pin_apart = "grid in two pieces, split at a pinned particle (idle)";
+    vec![
+        rows(
+            &m,
+            (pin, &pinned(&m, v), split(&m)),
+            [("grid, two sides at the middle", split(&m)), ("grid", Args::Straddlers)],
+        ),
+        rows(&apart, (pin_apart, &pinned(&apart, v), split(&apart)), [("grid in two pieces", Args::Straddlers)]),
+        rows(
+            &joined,
+            ("the same with edges across (idle)", &pinned(&joined, v), split(&joined)),
+            [("grid in two pieces, edges across", Args::Straddlers)],
+        ),
+        rows(
+            &m,
+            ("grid, miss (idle)", &m, blade(-1., -3., 23., -2.)),
+            [("grid, diagonal", blade(-1., -1., 23., 23.)), ("grid, slanted", blade(-1., 7.3, 23., 12.9))],
+        ),
+        rows(
+            &line,
+            ("rope of 1,000, miss (idle)", &line, blade(-1., -3., 23., -2.)),
+            [
+                ("rope of 1,000, one strap", blade(250.25, -1., 250.25, 2.)),
+                ("rope of 1,000, ten straps", blade(249.75, -0.2, 254.25, 1.2)),
+            ],
+        ),
+        rows(
+            &m,
+            ("grid, no torn edge (idle)", &m, crack(0)),
+            [("grid, one torn edge", crack(1)), ("grid, ten torn edges", crack(10))],
+        ),
+    ]
 }
 /// The body that `connected_pieces` counts: elements alone.
 fn elements_alone(m: &Mesh) -> SoftBody {
@@ -162,11 +228,13 @@ fn rust_alone(c: &Raw, m: &Mesh) -> f64 {
                 done.borrow_mut().clear();
                 *fresh.borrow_mut() = (0..calls).map(|_| m.to_body(Some(c.minimum))).collect();
             };
-            median(ready, || {
+            let call = || {
                 let mut body = fresh.borrow_mut().pop().expect("a body for each call");
                 black_box(torn(c, black_box(&mut body)));
                 done.borrow_mut().push(body);
-            })
+            };
+            let mut t = Timed::new(ready, call, MOST_BODIES);
+            middle(|| t.once())
         }
     }
 }
@@ -201,26 +269,42 @@ fn torn_from_image(c: &Raw) -> Option<(Vec<u32>, Vec<u32>)> {
     let head = vec![changed as u32, entries.len() as u32 / 6];
     Some(([head, words(&Mesh::from_body(&body))].concat(), entries))
 }
-/// The C function, which must accept the call; `None` if the table lacks it.
-fn ours(t: &Table, c: &Raw) -> Option<f64> {
-    let lent = RefCell::new((vec![FILL; c.out], vec![FILL; c.log]));
-    let call = |c: &Raw| {
+/// The bytes lent for result and log.
+type Lent = RefCell<(Vec<u8>, Vec<u8>)>;
+/// The C function, which must accept the call, ready to be timed; `None` if the table lacks it.
+fn timed<'a>(t: &'a Table, c: &'a Raw, lent: &'a Lent) -> Option<Timed<impl FnMut(u32) + 'a, impl FnMut() + 'a>> {
+    let call = move || {
         let (out, log) = &mut *lent.borrow_mut();
-        invoke(t, c, out, log)
+        invoke(t, black_box(c), out, log)
     };
-    assert_eq!(call(c)?, 0, "a call that is accepted");
-    let fill = |_: u32| {
+    assert_eq!(call()?, 0, "a call that is accepted");
+    let fill = move |_: u32| {
         let (out, log) = &mut *lent.borrow_mut();
         out.fill(FILL);
         log.fill(FILL);
     };
-    Some(median(fill, || {
-        black_box(call(black_box(c)));
-    }))
+    let again = move || {
+        black_box(call());
+    };
+    Some(Timed::new(fill, again, MOST))
+}
+fn lent(c: &Raw) -> Lent {
+    RefCell::new((vec![FILL; c.out], vec![FILL; c.log]))
+}
+fn ours(t: &Table, c: &Raw) -> Option<f64> {
+    let lent = lent(c);
+    let mut ours = timed(t, c, &lent)?;
+    Some(middle(|| ours.once()))
+}
+/// What the C function takes beyond an idle call: the median of differences, the two timed in turn.
+fn ours_apart(t: &Table, c: &Raw, idle: &Raw) -> Option<f64> {
+    let (lent, still) = (lent(c), lent(idle));
+    let (mut ours, mut idle) = (timed(t, c, &lent)?, timed(t, idle, &still)?);
+    Some(middle(|| ours.once() - idle.once()))
 }
 
 fn time(ns: f64) -> String {
-    if ns < 10_000.0 { format!("{ns:.0} ns") } else { format!("{:.1} us", ns / 1000.0) }
+    if ns.abs() < 10_000.0 { format!("{ns:.0} ns") } else { format!("{:.1} us", ns / 1000.0) }
 }
 
 pub fn run(words: &[String]) -> i32 {
@@ -240,9 +324,17 @@ pub fn run(words: &[String]) -> i32 {
     println!("is given also its image and the log's words, but not the room of each step.");
     println!();
     println!(
-        "| function | mesh | Rust alone | Rust from the image | ours | ours / Rust alone | ours / Rust from the image |"
+        "\"The work apart\", where a mesh is given: ours less an idle call, in which nothing is split but decoding,"
     );
-    println!("|---|---|---|---|---|---|---|");
+    println!(
+        "checks, copy and store are done; the median of differences, the two timed in turn. Its row stands before."
+    );
+    println!(
+        "Straddlers have no idle call, so that of a split is taken. A cut that misses has looked at every element."
+    );
+    println!();
+    println!("| function | mesh | {} | {} |", COLUMNS[..5].join(" | "), COLUMNS[5..].join(" | "));
+    println!("|---|---|{}", "---|".repeat(COLUMNS.len()));
     for e in ENTRIES.into_iter().filter(|e| !e.tears()) {
         for (k, (name, m)) in meshes().iter().enumerate() {
             let meshless = matches!(e, Entry::Root | Entry::BladeHit);
@@ -253,25 +345,42 @@ pub fn run(words: &[String]) -> i32 {
             let whole = |c: &Raw| {
                 black_box(expected(c));
             };
-            row(&t, if meshless { "-" } else { name }, m, &c, whole);
+            row(&t, if meshless { "-" } else { name }, m, &c, whole, None);
         }
     }
-    for (name, m, i) in tearing_rows() {
-        let whole = |c: &Raw| {
-            black_box(torn_from_image(c));
-        };
-        let c = i.raw();
-        let entries = torn_from_image(&c).expect("a call that passes the checks").1.len() / 6;
-        row(&t, &format!("{name} ({entries} log entries)"), &m, &c, whole);
+    for Rows { idle, rows } in &tearing_rows() {
+        torn_row(&t, idle, None);
+        rows.iter().for_each(|r| torn_row(&t, r, Some(&idle.call)));
     }
     0
 }
-fn row(t: &Table, name: &str, m: &Mesh, c: &Raw, whole: impl Fn(&Raw)) {
+/// Behind the function's and the mesh's.
+const COLUMNS: [&str; 7] = [
+    "Rust alone",
+    "Rust from the image",
+    "ours",
+    "ours / Rust alone",
+    "ours / Rust from the image",
+    "the work apart",
+    "the work apart / Rust alone",
+];
+fn torn_row(t: &Table, r: &Row, idle: Option<&Raw>) {
+    let entries = torn_from_image(&r.call).expect("a call that passes the checks").1.len() / 6;
+    let whole = |c: &Raw| {
+        black_box(torn_from_image(c));
+    };
+    row(t, &format!("{} ({entries} log entries)", r.name), &r.mesh, &r.call, whole, idle);
+}
+fn row(t: &Table, name: &str, m: &Mesh, c: &Raw, whole: impl Fn(&Raw), idle: Option<&Raw>) {
     let alone = rust_alone(c, m);
     let whole = median(|_| {}, || whole(black_box(c)));
     print!("| `{}` | {name} | {} | {} |", c.entry.name(), time(alone), time(whole));
     match ours(t, c) {
-        Some(ns) => println!(" {} | {:.2} | {:.2} |", time(ns), ns / alone, ns / whole),
-        None => println!(" not there yet | - | - |"),
+        Some(ns) => print!(" {} | {:.2} | {:.2} |", time(ns), ns / alone, ns / whole),
+        None => print!(" not there yet | - | - |"),
+    }
+    match idle.and_then(|idle| ours_apart(t, c, idle)) {
+        Some(ns) => println!(" {} | {:.2} |", time(ns), ns / alone),
+        None => println!(" - | - |"),
     }
 }

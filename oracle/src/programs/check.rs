@@ -1,5 +1,6 @@
 //! Every case under document 01's "Cases to hold".
 use crate::api::*;
+use crate::meshgen::{document_fan, document_straps};
 use crate::sheet::{self, Sheet};
 
 struct T(u32, u32);
@@ -14,16 +15,6 @@ impl T {
         }
     }
 }
-fn tri_fan() -> Mesh {
-    let mut m = Mesh::default();
-    for (x, y) in [(0., 0.), (1., 0.), (1., 1.), (0., 1.), (-1., 0.), (-1., -1.)] {
-        m.particle(x, y, 1.0, false);
-    }
-    m.triangle(0, 1, 2, 0.5);
-    m.triangle(0, 2, 3, 0.5);
-    m.triangle(0, 4, 5, 0.5);
-    m
-}
 fn strap(pa: (f32, f32), pb: (f32, f32), rest: f32) -> Mesh {
     let mut m = Mesh::default();
     m.particle(pa.0, pa.1, 1.0, false);
@@ -37,16 +28,10 @@ fn next(x: f32) -> f32 {
 
 pub fn run() -> i32 {
     let mut t = T(0, 0);
-    let f = tri_fan();
+    let f = document_fan();
     t.is("fan (0,1,2),(0,2,3),(0,4,5), sides 0,0,0: groups 0,0,1", groups(&f, 0, &[0, 0, 0]), (vec![0, 0, 1], 2));
     t.is("the same fan, sides 1,0,0: groups 2,0,1", groups(&f, 0, &[1, 0, 0]), (vec![2, 0, 1], 3));
-    let mut s = Mesh::default();
-    for i in 0..4 {
-        s.particle(i as f32, (i * i) as f32, 1.0, false);
-    }
-    for i in 1..4 {
-        s.edge(0, i, true, 1.0);
-    }
+    let s = document_straps();
     t.is("strap sides 0,1,0 at a shared end: groups 0,1,0", groups(&s, 0, &[0, 1, 0]), (vec![0, 1, 0], 2));
     for (name, z) in [("0", 0.0f32), ("-0", -0.0)] {
         let mut pinned = f.clone();

@@ -3,7 +3,7 @@
 //! faults [SEED [NAME]]: plants each fault in the second writing; every one must be found.
 use crate::entries::{ENTRIES, Entry, Input, Table, archive, call};
 use crate::expect::{Expected, expected, fault};
-use crate::faults::{Fault, READING, TEARING, plant};
+use crate::faults::{self, Fault, plant};
 use crate::inputs::{KINDS, Kind, input};
 use crate::shrink::shrink;
 use crate::vectors::write_input;
@@ -147,8 +147,11 @@ pub fn faults(words: &[String]) -> i32 {
     // faults [SEED [NAME]]
     let seed = numbers(&words[..words.len().min(1)]).first().copied().unwrap_or(1);
     let mut missed = 0;
-    let all = READING.map(|f| (f, false)).into_iter().chain(TEARING.map(|f| (f, true)));
-    for (f, tearing) in all.filter(|(f, _)| words.get(1).is_none_or(|w| *w == format!("{f:?}"))) {
+    let all: Vec<(Fault, bool)> = [false, true]
+        .into_iter()
+        .flat_map(|tearing| faults::faults(tearing).into_iter().map(move |f| (f, tearing)))
+        .collect();
+    for &(f, tearing) in all.iter().filter(|(f, _)| words.get(1).is_none_or(|w| *w == format!("{f:?}"))) {
         plant(f);
         let t = table();
         let found = TRIES.into_iter().find_map(|tries| {
@@ -165,6 +168,6 @@ pub fn faults(words: &[String]) -> i32 {
         }
     }
     plant(Fault::Nothing);
-    println!("{} planted, {missed} not found", READING.len() + TEARING.len());
+    println!("{} planted, {missed} not found", all.len());
     (missed > 0) as i32
 }

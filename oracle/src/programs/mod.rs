@@ -5,6 +5,7 @@ mod check;
 mod compare;
 mod cutlist;
 mod fuzz;
+mod histories;
 mod replay;
 mod sheets;
 mod vectors;
@@ -12,7 +13,8 @@ mod vectors;
 /// Runs the program and gives its exit code.
 pub fn start(words: &[String]) -> i32 {
     let Some((name, rest)) = words.split_first() else {
-        eprintln!("oracle cases | check | fuzz | compare | faults | replay | bench | vectors | cutlist | sheet | sheets (see oracle/README.md)");
+        eprintln!("oracle cases | check | fuzz | compare | faults | histories | replay | bench | vectors | cutlist | sheet");
+        eprintln!("  | sheets (see oracle/README.md)");
         return 2;
     };
     match name.as_str() {
@@ -21,6 +23,7 @@ pub fn start(words: &[String]) -> i32 {
         "fuzz" => fuzz::run(rest),
         "compare" => compare::run(rest),
         "faults" => compare::faults(rest),
+        "histories" => histories::run(rest),
         "replay" => replay::run(rest),
         "bench" => bench::run(rest),
         "vectors" => vectors::run(rest),

@@ -4,9 +4,10 @@
 use crate::api::Mesh;
 use crate::entries::{Args, ENTRIES, Entry, Input, Lending, Raw, Table, archive, call};
 use crate::expect::{Expected, expected, fault, hex_words};
-use crate::faults::{Fault, READING, TEARING, plant};
+use crate::faults::{Fault, faults, plant};
 use crate::image::Image;
 use crate::inputs::{Kind, input, need};
+use crate::meshgen::{document_fan, document_straps};
 use crate::shrink::shrink;
 use crate::wrapped::table;
 use std::fmt::Write;
@@ -33,13 +34,7 @@ fn plain(image: Mesh, args: Args) -> Raw {
 }
 /// Document 01's cases for the entries that give a mesh.
 fn document_tearing() -> Vec<Raw> {
-    let mut fan = Mesh::default();
-    for (x, y) in [(0., 0.), (1., 0.), (1., 1.), (0., 1.), (-1., 0.), (-1., -1.)] {
-        fan.particle(x, y, 1.0, false);
-    }
-    fan.triangle(0, 1, 2, 0.5);
-    fan.triangle(0, 2, 3, 0.5);
-    fan.triangle(0, 4, 5, 0.5);
+    let fan = document_fan();
     let mut pinned = fan.clone();
     pinned.inv[0] = 0.0;
     let mut strap = Mesh::default();
@@ -71,20 +66,8 @@ fn document_tearing() -> Vec<Raw> {
 }
 /// Document 01's cases for the entries that read.
 fn document() -> Vec<Raw> {
-    let mut fan = Mesh::default();
-    for (x, y) in [(0., 0.), (1., 0.), (1., 1.), (0., 1.), (-1., 0.), (-1., -1.)] {
-        fan.particle(x, y, 1.0, false);
-    }
-    fan.triangle(0, 1, 2, 0.5);
-    fan.triangle(0, 2, 3, 0.5);
-    fan.triangle(0, 4, 5, 0.5);
-    let mut straps = Mesh::default();
-    for i in 0..4 {
-        straps.particle(i as f32, (i * i) as f32, 1.0, false);
-    }
-    for i in 1..4 {
-        straps.edge(0, i, true, 1.0);
-    }
+    let fan = document_fan();
+    let straps = document_straps();
     let mut list = vec![
         plain(fan.clone(), Args::Groups { v: 0, sides: vec![0, 0, 0] }),
         plain(fan, Args::Groups { v: 0, sides: vec![1, 0, 0] }),
@@ -129,7 +112,7 @@ fn choose(tearing: bool) -> Vec<Raw> {
             let refused = calls.iter().flat_map(|c| &c.0).filter(|c| expected(c) == Expected::Refused(no));
             refused.take(OF_EACH_NUMBER).for_each(|c| add(&mut list, c.clone()));
         }
-        for &f in faults(tearing) {
+        for f in faults(tearing) {
             plant(f);
             for (calls, count) in &calls {
                 let mut failing: Vec<&Raw> = calls.iter().filter(|c| fails(&t, c)).collect();
@@ -138,7 +121,7 @@ fn choose(tearing: bool) -> Vec<Raw> {
             }
         }
     }
-    for &f in faults(tearing) {
+    for f in faults(tearing) {
         plant(f);
         if !list.iter().any(|c| fails(&t, c)) {
             list.extend(smallest(&t, tearing));
@@ -156,9 +139,6 @@ fn smallest(t: &Table, tearing: bool) -> Option<Raw> {
     });
     let found = calls.find(|i| fails(t, &i.raw()))?;
     Some(shrink(found, &|i| fails(t, &i.raw())).raw())
-}
-fn faults(tearing: bool) -> &'static [Fault] {
-    if tearing { &TEARING } else { &READING }
 }
 
 // ---- text ---------------------------------------------------------------------------------
@@ -267,7 +247,7 @@ fn read(file: &str) -> i32 {
     let own = differ(&table(), &list).unwrap_or(0);
     println!("the second writing answers {own} otherwise");
     let kinds = [false, true].into_iter().filter(|&k| list.iter().any(|(c, _)| c.entry.tears() == k));
-    let tried: Vec<Fault> = kinds.flat_map(faults).copied().collect();
+    let tried: Vec<Fault> = kinds.flat_map(faults).collect();
     let missed: Vec<Fault> = tried
         .iter()
         .copied()

@@ -5,10 +5,13 @@ use crate::api::Blade;
 use crate::inputs::{long_blade, rope, soup};
 use crate::meshgen;
 use crate::rng::Rng;
-use crate::sheet::{CUTLIST, MESH, Sheet, cutlist, parse, read, text, write};
+use crate::sheet::{CUTLIST, MESH, Sheet, counts, cutlist, length, parse, read, text, write};
 use std::collections::BTreeMap;
 use std::io::{Read, Write};
-use std::process::{Command, Stdio};
+use std::ops::Range;
+use std::process::{Child, Command, ExitStatus, Stdio};
+use std::sync::Mutex;
+use std::sync::atomic::{AtomicU64, Ordering};
 
 // ---- random sheets --------------------------------------------------------------------------
 
@@ -28,8 +31,8 @@ pub fn random(seed: u64) -> Vec<u8> {
 }
 /// A sheet of any shape, small or up to cutlist's limits (now and then beyond).
 fn sound(r: &mut Rng) -> Sheet {
-    if r.chance(40) {
-        return slit(r);
+    if r.chance(16) {
+        return [slit, crowd, book][r.below(3) as usize](r);
     }
     let mesh = match r.below(12) {
         0 => {
@@ -97,6 +100,35 @@ fn slit(r: &mut Rng) -> Sheet {
         blade: [-1, 1, 2 * n as i32 + 1, 1],
     }
 }
+/// Triangles between any particles, which a cut across takes apart: its copies may need too much room.
+fn crowd(r: &mut Rng) -> Sheet {
+    let n = 60 + r.below(69);
+    let place = |r: &mut Rng| r.range(-20, 20);
+    let triangle = |r: &mut Rng| {
+        let (a, k) = (r.below(n), 1 + r.below(n - 2));
+        [a, (a + k) % n, (a + k + 1 + r.below(n - 1 - k)) % n]
+    };
+    Sheet {
+        particles: (0..n).map(|_| (place(r), place(r), 0)).collect(),
+        triangles: (0..60 + r.below(69)).map(|_| triangle(r)).collect(),
+        edges: vec![],
+        boundary: vec![],
+        blade: [-30, place(r) / 4, 30, place(r) / 4],
+    }
+}
+/// Many triangles over one side, on both of its sides, and a blade along it: each pair of them opens a facet, so that the boundary may
+/// need too much room, and each edge there gets a copy.
+fn book(r: &mut Rng) -> Sheet {
+    let (above, below) = (1 + r.below(24), 1 + r.below(24));
+    let page = |k: u32| (k as i32 % 9, if k < above { 2 } else { -2 }, 0);
+    Sheet {
+        particles: [(0, 0, 0), (8, 0, 0)].into_iter().chain((0..above + below).map(page)).collect(),
+        triangles: (0..above + below).map(|k| [0, 1, 2 + k]).collect(),
+        edges: vec![(0, 1, 0); r.pick(&[0, 1, 200, 256])],
+        boundary: vec![(0, 1); r.pick(&[0, 1, 200, 256])],
+        blade: [-1, 0, 9, 0],
+    }
+}
 /// Indices that name nothing, doubles, counts above cutlist's limits.
 fn damage_fields(r: &mut Rng, s: &mut Sheet) {
     let n = s.particles.len() as u32;
@@ -149,18 +181,139 @@ fn damage_bytes(r: &mut Rng, bytes: &mut Vec<u8>) {
 
 // ---- the comparison -------------------------------------------------------------------------
 
-/// What the program prints on these bytes. `ORACLE_LAUNCH` stands before it where it cannot be
-/// started by itself.
-fn printed(program: &str, bytes: &[u8]) -> std::io::Result<Vec<u8>> {
+/// Starts the program on these bytes. `ORACLE_LAUNCH` stands before it where it cannot be started by itself.
+fn started(program: &str, bytes: &[u8]) -> std::io::Result<Child> {
     let launch = std::env::var("ORACLE_LAUNCH").unwrap_or_default();
     let words: Vec<&str> = launch.split_whitespace().chain([program]).collect();
     let mut child = Command::new(words[0]).args(&words[1..]).stdin(Stdio::piped()).stdout(Stdio::piped()).spawn()?;
     // A program may end before it has read all; what it printed is compared all the same.
     let _ = child.stdin.take().expect("its standard input").write_all(bytes);
+    Ok(child)
+}
+/// What it prints, and how it ended.
+fn printed(mut child: Child) -> std::io::Result<(Vec<u8>, ExitStatus)> {
     let mut out = vec![];
     child.stdout.take().expect("its standard output").read_to_end(&mut out)?;
-    child.wait()?;
-    Ok(out)
+    Ok((out, child.wait()?))
+}
+
+/// Everything that a sheet can come to. A cut cannot meet 6, as it copies or cuts an edge once at most and twice the edges are lent;
+/// cutlist cannot meet 2 or 4.
+const ROWS: [&str; 18] = [
+    "listing, nothing changed",
+    "listing, splits",
+    "listing, insertions",
+    "listing, splits and insertions",
+    "refused 9, short header",
+    "refused 9, ends early",
+    "refused 9, bytes left over",
+    "refused 9, a spare bit",
+    "refused 1, particles",
+    "refused 1, triangles",
+    "refused 1, edges",
+    "refused 1, boundary",
+    "refused 3, triangles",
+    "refused 3, edges",
+    "refused 3, boundary",
+    "refused 5",
+    "refused 7",
+    "refused 8",
+];
+const COLUMNS: [&str; 4] = ["triangles", "straps", "neither", "unread"];
+/// The row and the column of a sheet, by its bytes and by what is printed.
+fn place(bytes: &[u8], want: &str) -> (String, usize) {
+    let lists = ["particles", "triangles", "edges", "boundary"];
+    let sheet = read(bytes, &CUTLIST);
+    let column = match &sheet {
+        Err(_) => 3,
+        Ok(s) if !s.triangles.is_empty() => 0,
+        Ok(s) => 2 - s.edges.iter().any(|e| e.2 == 1) as usize,
+    };
+    let row = match (want.trim_end(), counts(bytes)) {
+        ("refused 9", None) => "refused 9, short header".into(),
+        ("refused 9", Some(c)) => format!("refused 9, {}", misfit(bytes.len(), length(c).div_ceil(8))),
+        ("refused 1", Some(c)) => format!("refused 1, {}", lists[CUTLIST.above(c).next().expect("a long list")]),
+        ("refused 3", _) => format!("refused 3, {}", lists[1 + unsound(&sheet.expect("a sheet that is read"))]),
+        (w, _) if w.starts_with("refused") => w.into(),
+        (w, _) => match (w.contains("\nsplit "), w.contains("\ninsert ")) {
+            (false, false) => "listing, nothing changed".into(),
+            (true, false) => "listing, splits".into(),
+            (false, true) => "listing, insertions".into(),
+            (true, true) => "listing, splits and insertions".into(),
+        },
+    };
+    (row, column)
+}
+fn misfit(there: usize, asked: usize) -> &'static str {
+    match there.cmp(&asked) {
+        std::cmp::Ordering::Less => "ends early",
+        std::cmp::Ordering::Greater => "bytes left over",
+        std::cmp::Ordering::Equal => "a spare bit",
+    }
+}
+/// The first list, of triangles, edges and boundary, that names no particle or one twice.
+fn unsound(s: &Sheet) -> usize {
+    let n = s.particles.len() as u32;
+    let bad = |names: &[u32]| names.iter().enumerate().any(|(k, x)| *x >= n || names[..k].contains(x));
+    let lists = [
+        s.triangles.iter().any(|t| bad(t)),
+        s.edges.iter().any(|&(a, b, _)| bad(&[a, b])),
+        s.boundary.iter().any(|&(a, b)| bad(&[a, b])),
+    ];
+    lists.into_iter().position(|b| b).expect("a list that is not sound")
+}
+/// The table of what was met; gives the rows that nothing met.
+fn print(met: &Met) -> Vec<&'static str> {
+    println!("{:32} {:>9} {:>9} {:>9} {:>9}", "", COLUMNS[0], COLUMNS[1], COLUMNS[2], COLUMNS[3]);
+    let others = met.keys().map(String::as_str).filter(|k| !ROWS.contains(k));
+    for row in ROWS.into_iter().chain(others) {
+        let n = met.get(row).copied().unwrap_or_default();
+        println!("{row:32} {:9} {:9} {:9} {:9}", n[0], n[1], n[2], n[3]);
+    }
+    ROWS.into_iter().filter(|r| !met.contains_key(*r)).collect()
+}
+
+/// What sheets came to: counts by row and column.
+type Met = BTreeMap<String, [u64; 4]>;
+/// One sheet: where it belongs in the table, or how the program differs from the Rust.
+fn tried(program: &str, bytes: &[u8]) -> std::io::Result<Result<(String, usize), String>> {
+    let child = started(program, bytes)?;
+    // The Rust works while the program does.
+    let want = cutlist(bytes, false);
+    let (got, ended) = printed(child)?;
+    if got == want.as_bytes() && ended.success() {
+        return Ok(Ok(place(bytes, &want)));
+    }
+    Ok(Err(format!("{program} ({ended}):\n{}the Rust:\n{want}", String::from_utf8_lossy(&got))))
+}
+/// Sheets by several threads in turn, up to the first that differs (its number, and how); what the others came to.
+fn all(program: &str, numbers: Range<u64>, threads: u64) -> std::io::Result<(Met, Option<(u64, String)>)> {
+    let (met, failed) = (Mutex::new(Met::new()), Mutex::new(None));
+    let next = AtomicU64::new(numbers.start);
+    let work = || -> std::io::Result<()> {
+        loop {
+            let s = next.fetch_add(1, Ordering::Relaxed);
+            if s >= numbers.end || failed.lock().unwrap().is_some() {
+                return Ok(());
+            }
+            match tried(program, &random(s))? {
+                Ok((row, column)) => met.lock().unwrap().entry(row).or_default()[column] += 1,
+                Err(how) => {
+                    failed.lock().unwrap().get_or_insert((s, how));
+                }
+            }
+        }
+    };
+    std::thread::scope(|scope| {
+        let all: Vec<_> = (0..threads).map(|_| scope.spawn(work)).collect();
+        all.into_iter().map(|t| t.join().expect("a thread that ends")).collect::<std::io::Result<()>>()
+    })?;
+    Ok((met.into_inner().unwrap(), failed.into_inner().unwrap()))
+}
+/// One for each processor; one where an emulator starts the program.
+fn threads() -> u64 {
+    let emulated = std::env::var("ORACLE_EMULATED").is_ok_and(|v| v == "1");
+    if emulated { 1 } else { std::thread::available_parallelism().map_or(1, |n| n.get() as u64) }
 }
 
 pub fn run(words: &[String]) -> i32 {
@@ -176,36 +329,23 @@ pub fn run(words: &[String]) -> i32 {
     };
     let root = std::env::var("ORACLE_ROOT").unwrap_or(".".into());
     let program = rest.get(1).cloned().unwrap_or(format!("{root}/target/bin/cutlist"));
-    let mut tally: BTreeMap<String, u64> = BTreeMap::new();
-    for s in seed * 1_000_000_000..seed * 1_000_000_000 + count {
-        let bytes = random(s);
-        let want = cutlist(&bytes, false);
-        let got = match printed(&program, &bytes) {
-            Ok(got) => got,
-            Err(e) => {
-                eprintln!("{program}: {e}");
-                return 2;
-            }
-        };
-        if got != want.as_bytes() {
-            let file = format!("{root}/oracle/target/sheet-{s}.bin");
-            std::fs::write(&file, &bytes).expect("the sheet's file");
-            println!("sheet {s} differs; it is in {file}");
-            println!("{program}:\n{}the Rust:\n{want}", String::from_utf8_lossy(&got));
-            return 1;
+    let first = seed * 1_000_000_000;
+    let (met, failed) = match all(&program, first..first + count, threads()) {
+        Ok(r) => r,
+        Err(e) => {
+            eprintln!("{program}: {e}");
+            return 2;
         }
-        let kind = match want.strip_prefix("refused ") {
-            Some(n) => format!("refused {}", n.trim_end()),
-            None if want.contains("split") => "listings with a split".into(),
-            None if want.contains("insert") => "listings with insertions alone".into(),
-            None => "listings of an unchanged mesh".into(),
-        };
-        *tally.entry(kind).or_default() += 1;
+    };
+    let lacking = print(&met);
+    if let Some((s, how)) = failed {
+        let file = format!("{root}/oracle/target/sheet-{s}.bin");
+        std::fs::write(&file, random(s)).expect("the sheet's file");
+        println!("{how}sheet {s} differs; it is in {file}");
+        return 1;
     }
-    for (kind, n) in &tally {
-        println!("{n:8}  {kind}");
-    }
-    println!("{count} sheets, no difference");
+    let lacking = if lacking.is_empty() { "nothing".into() } else { lacking.join("; ") };
+    println!("{count} sheets, no difference; not met: {lacking}");
     0
 }
 

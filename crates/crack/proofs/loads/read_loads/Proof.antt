@@ -1,56 +1,55 @@
--- `crack::loads::read_loads` meets its contract: the loop over the triangles is `Reading` of proofs/LoadLaws.antt. Assumes nothing.
-use Prim.Native.Nat.{_-_}
+-- `crack::loads::read_loads` meets its contract: all edges are linked, and then the loads are read. Assumes nothing.
 use native.Mathlib.Omega.{arith}
-use Rattle.crack.proofs.LoadLaws.{Reading, reading-start, reading-more, reading-done}
+use lib.ListN.{getD-replicate}
 use borrow.Author.Needs.{needs}
 use Rattle.crack.proofs.loads.read_loads.Statement.{statement}
 use Rattle.crack.proofs.loads.read_loads.Tie as tie
 
-abbrev Inv-loop : tie.InvT-loop
-Inv-loop t e corners volumes ends lengths loads₀ i₀ loads i = Reading t e corners volumes ends lengths loads₀ loads i
+slice-aggregate-link-edges : tie.Need-slice-aggregate-link-edges
+slice-aggregate-link-edges c = search needs
 
-abbrev μ-loop : tie.MeasureT-loop
-μ-loop t e corners volumes ends lengths loads₀ i₀ loads i = t - i
+slice-aggregate-link-edges-2 : tie.Need-slice-aggregate-link-edges-2
+slice-aggregate-link-edges-2 c = search needs
 
-loop-holds : tie.Need-loop-holds Inv-loop μ-loop
-loop-holds c = reading-start _ _ _ _ _ _ _
+link-edges-requires : tie.Need-link-edges-requires
+link-edges-requires c κs = let P = c .before .before .before .before .before .before .before .pre in
+    record {
+      inside = P .0 .edges .ends;
+      below = P .2 .ends-in;
+      long = omega arith;
+      empty = λ s h. getD-replicate 2048 s (c .before .before .before .before .before .before .before .args .e) 0 h;
+      nexts = omega (arith, P .2 .few);
+    }
 
-triangle-load-requires : tie.Need-triangle-load-requires Inv-loop μ-loop
-triangle-load-requires c κs = let P = c .before .before .before .before .before .before .before .pre .0 in let h = c .loop-test .taken in record { corners = omega (arith, P .corners); volumes = omega (arith, P .volumes); edges = P .edges }
+slice-aggregate-linked-loads : tie.Need-slice-aggregate-linked-loads
+slice-aggregate-linked-loads c = search needs
 
-mul-loads : tie.Need-mul-loads Inv-loop μ-loop
-mul-loads c = omega (arith, c .before .before .before .before .before .before .before .before .pre .1, c .before .loop-test .taken)
+slice-aggregate-linked-loads-2 : tie.Need-slice-aggregate-linked-loads-2
+slice-aggregate-linked-loads-2 c = search needs
 
-slice-write-loads : tie.Need-slice-write-loads Inv-loop μ-loop
-slice-write-loads c = omega (arith, c .before .before .before .before .before .before .before .before .pre .1, c .before .loop-test .taken, c .before .before .loop .inv .long)
+linked-loads-requires : tie.Need-linked-loads-requires
+linked-loads-requires c κs = let P = c .before .before .before .before .before .before .before .before .before .before .before .before .before .pre in let K = c .before .before .before .before .before .link-edges .kept in (
+  P .0,
+  P .1,
+  record { heads-long = omega (arith, K .1 .1 .0); nexts-long = omega (arith, P .2 .few, K .1 .1 .1 .0); linked = c .before .before .before .before .before .link-edges .ensures },
+  P .2,
+)
 
-add-i : tie.Need-add-i Inv-loop μ-loop
-add-i c = omega (arith, c .before .loop-test .taken)
+same-length : tie.Need-same-length
+same-length c = c .before .before .linked-loads .kept .1 .1 .1 .1 .1 .1 .1 .1 .0
 
-loop-less : tie.Need-loop-less Inv-loop μ-loop
-loop-less c = omega (arith, c .before .loop-test .taken)
-
-loop-again : tie.Need-loop-again Inv-loop μ-loop
-loop-again c = reading-more _ _ _ _ _ _ _ _ _ (c .before .before .loop .inv) (c .before .loop-test .taken) (c .before .before .before .before .before .before .before .before .pre .1) _ (c .triangle-load .ensures)
-
-same-length : tie.Need-same-length Inv-loop μ-loop
-same-length c = c .before .loop .inv .long
-
-returns : tie.Need-returns Inv-loop μ-loop
-returns c = reading-done _ _ _ _ _ _ _ _ _ (c .before .loop .inv) (search needs)
+returns : tie.Need-returns
+returns c = c .before .before .linked-loads .ensures
 
 pub read-loads-spec : {M : Type 1} → statement M
 read-loads-spec =
     tie.close
     (tie.spec
-    Inv-loop
-    μ-loop
-    loop-holds
-    triangle-load-requires
-    mul-loads
-    slice-write-loads
-    add-i
-    loop-less
-    loop-again
+    slice-aggregate-link-edges
+    slice-aggregate-link-edges-2
+    link-edges-requires
+    slice-aggregate-linked-loads
+    slice-aggregate-linked-loads-2
+    linked-loads-requires
     same-length
     returns)

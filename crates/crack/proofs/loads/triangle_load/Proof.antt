@@ -1,5 +1,5 @@
 -- `crack::loads::triangle_load` meets its contract: three pairs of corners, one behind the other. Assumes nothing.
-use Rattle.crack.proofs.LoadLaws.{triangle-loaded}
+use Rattle.crack.proofs.LoadLaws.{apart-ab, apart-ac, apart-bc, triangle-loaded}
 use borrow.Author.Needs.{needs}
 use Rattle.crack.proofs.loads.triangle_load.Statement.{statement}
 use Rattle.crack.proofs.loads.triangle_load.Tie as tie
@@ -41,13 +41,13 @@ shared-slice-read-own : tie.Need-shared-slice-read-own
 shared-slice-read-own c = search needs
 
 pair-load-requires : tie.Need-pair-load-requires
-pair-load-requires c κs = search needs
+pair-load-requires c κs = let P = c .before .before .before .before .before .before .before .before .before .before .pre in let A = c .before .before .before .before .before .before .before .before .before .before .args in (P .0 .edges, P .1, apart-ab (A .corners .now) (A .volumes .now) (A .i) (P .2))
 
 pair-load-requires-2 : tie.Need-pair-load-requires-2
-pair-load-requires-2 c κs = search needs
+pair-load-requires-2 c κs = let P = c .before .before .before .before .before .before .before .before .before .before .before .pre in let A = c .before .before .before .before .before .before .before .before .before .before .before .args in (P .0 .edges, P .1, apart-ac (A .corners .now) (A .volumes .now) (A .i) (P .2))
 
 pair-load-requires-3 : tie.Need-pair-load-requires-3
-pair-load-requires-3 c κs = search needs
+pair-load-requires-3 c κs = let P = c .before .before .before .before .before .before .before .before .before .before .before .before .pre in let A = c .before .before .before .before .before .before .before .before .before .before .before .before .args in (P .0 .edges, P .1, apart-bc (A .corners .now) (A .volumes .now) (A .i) (P .2))
 
 returns : tie.Need-returns
 returns c = triangle-loaded _ _ _ _ _ _ _ _ _ (c .before .before .pair-load .ensures) (c .before .pair-load2 .ensures) (c .pair-load3 .ensures)

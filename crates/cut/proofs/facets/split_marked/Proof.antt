@@ -1,4 +1,4 @@
--- `cut::facets::split_marked` meets its contract. The invariant: the marked particles so far are split, and no step lacked room. Assumes nothing.
+-- `cut::facets::split_marked` meets its contract. The invariant: the marked particles so far are split, no step lacked room, and the tables are as long as ever. Assumes nothing.
 use Rattle.cut.proofs.RunLaws.{splitTo, run-none, run-next, run-end, run-all, ready-at, grown-at}
 use Rattle.split.proofs.Placed.{particles-count}
 use Rattle.split.specs.declared.Ran.the-variants.{Done}
@@ -9,21 +9,22 @@ use Rattle.mesh.specs.Log.{worldAt}
 use Rattle.mesh.specs.Filled.{lent}
 use Rattle.mesh.specs.Given.{Lent}
 use Prim.Native.Nat.{_≤_, _-_}
-use mathlib.Core.Path.{_≡_, refl, _∙_, ap}
+use mathlib.Core.Path.{_≡_, refl, sym, _∙_, ap}
+use lib.ListN.{length}
 use borrow.Author.Needs.{needs}
 use native.Mathlib.Omega.{arith}
 use Rattle.cut.proofs.facets.split_marked.Statement.{statement}
 use Rattle.cut.proofs.facets.split_marked.Tie as tie
 
 abbrev Inv-loop : tie.InvT-loop
-Inv-loop way kind p marks room points₀ roots₀ corners₀ volumes ends₀ lengths₀ outline₀ log₀ counts₀ v₀ points roots corners ends lengths outline log counts v = (v ≤ p) × (lent points roots corners volumes ends lengths outline log ≡ lent points₀ roots₀ corners₀ volumes ends₀ lengths₀ outline₀ log₀) × Works (splitTo way (kindIs kind) room marks v) room (worldAt counts₀ points₀ roots₀ corners₀ volumes ends₀ lengths₀ outline₀ log₀) (λ q. worldAt q points roots corners volumes ends lengths outline log) (Done counts)
+Inv-loop way kind p marks room points₀ roots₀ corners₀ volumes ends₀ lengths₀ outline₀ log₀ numbers₀ verts₀ measures₀ sides₀ counts₀ v₀ points roots corners ends lengths outline log numbers verts measures sides counts v = (v ≤ p) × (lent points roots corners volumes ends lengths outline log ≡ lent points₀ roots₀ corners₀ volumes ends₀ lengths₀ outline₀ log₀) × Works (splitTo way (kindIs kind) room marks v) room (worldAt counts₀ points₀ roots₀ corners₀ volumes ends₀ lengths₀ outline₀ log₀) (λ q. worldAt q points roots corners volumes ends lengths outline log) (Done counts) × (length numbers ≡ 2048) × (length verts ≡ 4096) × (length measures ≡ 2048) × (length sides ≡ 2048)
 
 abbrev μ-loop : tie.MeasureT-loop
-μ-loop way kind p marks room points₀ roots₀ corners₀ volumes ends₀ lengths₀ outline₀ log₀ counts₀ v₀ points roots corners ends lengths outline log counts v = p - v
+μ-loop way kind p marks room points₀ roots₀ corners₀ volumes ends₀ lengths₀ outline₀ log₀ numbers₀ verts₀ measures₀ sides₀ counts₀ v₀ points roots corners ends lengths outline log numbers verts measures sides counts v = p - v
 
 loop-holds : tie.Need-loop-holds Inv-loop μ-loop
 loop-holds c = let A = c .before .before .before .before .before .before .before .before .before .args in
-    (omega arith, refl, run-none (A .way) (kindIs (A .kind)) (A .room) (A .marks .now) {at = λ q. worldAt q (A .points .now) (A .roots .now) (A .corners .now) (A .volumes .now) (A .ends .now) (A .lengths .now) (A .outline .now) (A .log .now)} (A .k) (c .before .before .before .before .before .before .before .before .before .pre .0 .counts))
+    (omega arith, refl, run-none (A .way) (kindIs (A .kind)) (A .room) (A .marks .now) {at = λ q. worldAt q (A .points .now) (A .roots .now) (A .corners .now) (A .volumes .now) (A .ends .now) (A .lengths .now) (A .outline .now) (A .log .now)} (A .k) (c .before .before .before .before .before .before .before .before .before .pre .0 .counts), refl, refl, refl, refl)
 
 mul-split-one : tie.Need-mul-split-one Inv-loop μ-loop
 mul-split-one c = omega (arith, c .before .before .before .before .before .before .before .before .before .before .before .pre .1 .long)
@@ -31,14 +32,27 @@ mul-split-one c = omega (arith, c .before .before .before .before .before .befor
 shared-slice-read-split-one : tie.Need-shared-slice-read-split-one Inv-loop μ-loop
 shared-slice-read-split-one c = omega (arith, c .before .before .before .before .before .before .before .before .before .before .before .before .pre .1 .long)
 
+slice-aggregate-split-one : tie.Need-slice-aggregate-split-one Inv-loop μ-loop
+slice-aggregate-split-one c = sym (c .before .before .before .before .before .before .before .before .before .before .loop .inv .3)
+
+slice-aggregate-split-one-2 : tie.Need-slice-aggregate-split-one-2 Inv-loop μ-loop
+slice-aggregate-split-one-2 c = sym (c .before .before .before .before .before .before .before .before .before .before .before .loop .inv .4)
+
+slice-aggregate-split-one-3 : tie.Need-slice-aggregate-split-one-3 Inv-loop μ-loop
+slice-aggregate-split-one-3 c = sym (c .before .before .before .before .before .before .before .before .before .before .before .before .loop .inv .5)
+
+slice-aggregate-split-one-4 : tie.Need-slice-aggregate-split-one-4 Inv-loop μ-loop
+slice-aggregate-split-one-4 c = sym (c .before .before .before .before .before .before .before .before .before .before .before .before .before .loop .inv .6)
+
 split-one-requires : tie.Need-split-one-requires Inv-loop μ-loop
 unfolding worldAt
-split-one-requires c κs = let A = c .before .before .before .before .before .before .before .before .before .before .before .before .before .before .before .before .before .before .before .args in
-    let P = c .before .before .before .before .before .before .before .before .before .before .before .before .before .before .before .before .before .before .before .pre in
-    let L = c .before .before .before .before .before .before .before .before .before .loop in
+split-one-requires c κs = let A = c .before .before .before .before .before .before .before .before .before .before .before .before .before .before .before .before .before .before .before .before .before .before .before .args in
+    let P = c .before .before .before .before .before .before .before .before .before .before .before .before .before .before .before .before .before .before .before .before .before .before .before .pre in
+    let L = c .before .before .before .before .before .before .before .before .before .before .before .before .before .loop in
     let G = P .1 .logged in (
       ready-at (A .way) (kindIs (A .kind)) (A .room) (A .marks .now) (L .v) (L .inv .2) (G .entries) (G .words) (A .k) _ _ (P .0) (L .inv .1),
       omega (arith, P .1 .inside, grown-at (A .way) (kindIs (A .kind)) (A .room) (A .marks .now) (L .v) (L .inv .2) (G .entries) (G .words), particles-count (A .k) (A .points .now) (A .roots .now) (A .corners .now) (A .volumes .now) (A .ends .now) (A .lengths .now) (A .outline .now), particles-count (L .counts) (L .points) (L .roots) (L .corners) (A .volumes .now) (L .ends) (L .lengths) (L .outline)),
+      record { numbers = omega (arith, L .inv .3); verts = omega (arith, L .inv .4); measures = omega (arith, L .inv .5); sides = omega (arith, L .inv .6) },
     )
 
 enum-known-ran : tie.Need-enum-known-ran Inv-loop μ-loop
@@ -48,43 +62,47 @@ enum-told : tie.Need-enum-told Inv-loop μ-loop
 enum-told c = search needs
 
 same-length : tie.Need-same-length Inv-loop μ-loop
-same-length c = c .before .before .before .before .before .before .before .before .before .before .before .before .before .before .before .before .split-one .kept .1 .1 .1 .1 .1 .1 .0 ∙ ap (λ (I : Lent). I .points) (c .before .before .before .before .before .before .before .before .before .before .before .before .before .before .before .before .before .before .before .before .before .before .before .before .before .before .loop .inv .1)
+same-length c = c .before .before .before .before .before .before .before .before .before .before .before .before .before .before .before .before .before .before .before .before .split-one .kept .1 .1 .1 .1 .1 .1 .0 ∙ ap (λ (I : Lent). I .points) (c .before .before .before .before .before .before .before .before .before .before .before .before .before .before .before .before .before .before .before .before .before .before .before .before .before .before .before .before .before .before .before .before .before .before .loop .inv .1)
 
 same-length-2 : tie.Need-same-length-2 Inv-loop μ-loop
-same-length-2 c = c .before .before .before .before .before .before .before .before .before .before .before .before .before .before .before .before .split-one .kept .1 .1 .1 .1 .1 .1 .1 .0 ∙ ap (λ (I : Lent). I .roots) (c .before .before .before .before .before .before .before .before .before .before .before .before .before .before .before .before .before .before .before .before .before .before .before .before .before .before .loop .inv .1)
+same-length-2 c = c .before .before .before .before .before .before .before .before .before .before .before .before .before .before .before .before .before .before .before .before .split-one .kept .1 .1 .1 .1 .1 .1 .1 .0 ∙ ap (λ (I : Lent). I .roots) (c .before .before .before .before .before .before .before .before .before .before .before .before .before .before .before .before .before .before .before .before .before .before .before .before .before .before .before .before .before .before .before .before .before .before .loop .inv .1)
 
 same-length-3 : tie.Need-same-length-3 Inv-loop μ-loop
-same-length-3 c = c .before .before .before .before .before .before .before .before .before .before .before .before .before .before .before .before .split-one .kept .1 .1 .1 .1 .1 .1 .1 .1 .0 ∙ ap (λ (I : Lent). I .corners) (c .before .before .before .before .before .before .before .before .before .before .before .before .before .before .before .before .before .before .before .before .before .before .before .before .before .before .loop .inv .1)
+same-length-3 c = c .before .before .before .before .before .before .before .before .before .before .before .before .before .before .before .before .before .before .before .before .split-one .kept .1 .1 .1 .1 .1 .1 .1 .1 .0 ∙ ap (λ (I : Lent). I .corners) (c .before .before .before .before .before .before .before .before .before .before .before .before .before .before .before .before .before .before .before .before .before .before .before .before .before .before .before .before .before .before .before .before .before .before .loop .inv .1)
 
 same-length-4 : tie.Need-same-length-4 Inv-loop μ-loop
-same-length-4 c = c .before .before .before .before .before .before .before .before .before .before .before .before .before .before .before .before .split-one .kept .1 .1 .1 .1 .1 .1 .1 .1 .1 .1 .0 ∙ ap (λ (I : Lent). I .ends) (c .before .before .before .before .before .before .before .before .before .before .before .before .before .before .before .before .before .before .before .before .before .before .before .before .before .before .loop .inv .1)
+same-length-4 c = c .before .before .before .before .before .before .before .before .before .before .before .before .before .before .before .before .before .before .before .before .split-one .kept .1 .1 .1 .1 .1 .1 .1 .1 .1 .1 .0 ∙ ap (λ (I : Lent). I .ends) (c .before .before .before .before .before .before .before .before .before .before .before .before .before .before .before .before .before .before .before .before .before .before .before .before .before .before .before .before .before .before .before .before .before .before .loop .inv .1)
 
 same-length-5 : tie.Need-same-length-5 Inv-loop μ-loop
-same-length-5 c = c .before .before .before .before .before .before .before .before .before .before .before .before .before .before .before .before .split-one .kept .1 .1 .1 .1 .1 .1 .1 .1 .1 .1 .1 .0 ∙ ap (λ (I : Lent). I .lengths) (c .before .before .before .before .before .before .before .before .before .before .before .before .before .before .before .before .before .before .before .before .before .before .before .before .before .before .loop .inv .1)
+same-length-5 c = c .before .before .before .before .before .before .before .before .before .before .before .before .before .before .before .before .before .before .before .before .split-one .kept .1 .1 .1 .1 .1 .1 .1 .1 .1 .1 .1 .0 ∙ ap (λ (I : Lent). I .lengths) (c .before .before .before .before .before .before .before .before .before .before .before .before .before .before .before .before .before .before .before .before .before .before .before .before .before .before .before .before .before .before .before .before .before .before .loop .inv .1)
 
 same-length-6 : tie.Need-same-length-6 Inv-loop μ-loop
-same-length-6 c = c .before .before .before .before .before .before .before .before .before .before .before .before .before .before .before .before .split-one .kept .1 .1 .1 .1 .1 .1 .1 .1 .1 .1 .1 .1 .0 ∙ ap (λ (I : Lent). I .outline) (c .before .before .before .before .before .before .before .before .before .before .before .before .before .before .before .before .before .before .before .before .before .before .before .before .before .before .loop .inv .1)
+same-length-6 c = c .before .before .before .before .before .before .before .before .before .before .before .before .before .before .before .before .before .before .before .before .split-one .kept .1 .1 .1 .1 .1 .1 .1 .1 .1 .1 .1 .1 .0 ∙ ap (λ (I : Lent). I .outline) (c .before .before .before .before .before .before .before .before .before .before .before .before .before .before .before .before .before .before .before .before .before .before .before .before .before .before .before .before .before .before .before .before .before .before .loop .inv .1)
 
 same-length-7 : tie.Need-same-length-7 Inv-loop μ-loop
-same-length-7 c = c .before .before .before .before .before .before .before .before .before .before .before .before .before .before .before .before .split-one .kept .1 .1 .1 .1 .1 .1 .1 .1 .1 .1 .1 .1 .1 .0 ∙ ap (λ (I : Lent). I .log) (c .before .before .before .before .before .before .before .before .before .before .before .before .before .before .before .before .before .before .before .before .before .before .before .before .before .before .loop .inv .1)
+same-length-7 c = c .before .before .before .before .before .before .before .before .before .before .before .before .before .before .before .before .before .before .before .before .split-one .kept .1 .1 .1 .1 .1 .1 .1 .1 .1 .1 .1 .1 .1 .0 ∙ ap (λ (I : Lent). I .log) (c .before .before .before .before .before .before .before .before .before .before .before .before .before .before .before .before .before .before .before .before .before .before .before .before .before .before .before .before .before .before .before .before .before .before .loop .inv .1)
 
 returns : tie.Need-returns Inv-loop μ-loop
-returns c = let A = c .before .before .before .before .before .before .before .before .before .before .before .before .before .before .before .before .before .before .before .before .before .before .before .before .before .before .before .before .before .before .before .before .before .before .before .before .args in
-    let L = c .before .before .before .before .before .before .before .before .before .before .before .before .before .before .before .before .before .before .before .before .before .before .before .before .before .before .loop in
-    run-end (A .way) (kindIs (A .kind)) (A .room) (A .marks .now) (L .v) (L .inv .2) _ _ (c .enum-told .given .1) (A .p) (c .before .before .before .before .before .before .before .before .before .before .before .before .before .before .before .before .before .before .before .before .before .before .before .before .before .loop-test .taken) (c .before .before .before .before .before .before .before .before .before .before .before .before .before .before .before .before .split-one .ensures)
+returns c = let A = c .before .before .before .before .before .before .before .before .before .before .before .before .before .before .before .before .before .before .before .before .before .before .before .before .before .before .before .before .before .before .before .before .before .before .before .before .before .before .before .before .before .before .before .before .args in
+    let L = c .before .before .before .before .before .before .before .before .before .before .before .before .before .before .before .before .before .before .before .before .before .before .before .before .before .before .before .before .before .before .before .before .before .before .loop in
+    run-end (A .way) (kindIs (A .kind)) (A .room) (A .marks .now) (L .v) (L .inv .2) _ _ (c .enum-told .given .1) (A .p) (c .before .before .before .before .before .before .before .before .before .before .before .before .before .before .before .before .before .before .before .before .before .before .before .before .before .before .before .before .before .before .before .before .before .loop-test .taken) (c .before .before .before .before .before .before .before .before .before .before .before .before .before .before .before .before .before .before .before .before .split-one .ensures)
 
 add-v : tie.Need-add-v Inv-loop μ-loop
-add-v c = omega (arith, c .before .before .before .before .before .before .before .before .before .before .before .before .before .before .before .before .before .before .before .before .before .before .before .before .before .before .before .before .before .before .before .before .before .before .before .before .before .pre .1 .inside, c .before .before .before .before .before .before .before .before .before .before .before .before .before .before .before .before .before .before .before .before .before .before .before .before .before .before .before .before .before .before .before .before .before .before .before .before .before .pre .0 .counts .particles, c .before .before .before .before .before .before .before .before .before .before .before .before .before .before .before .before .before .before .before .before .before .before .before .before .before .before .before .before .before .before .before .before .before .before .before .before .before .pre .0 .rooms .few-particles, c .before .before .before .before .before .before .before .before .before .before .before .before .before .before .before .before .before .before .before .before .before .before .before .before .before .before .loop-test .taken)
+add-v c = omega (arith, c .before .before .before .before .before .before .before .before .before .before .before .before .before .before .before .before .before .before .before .before .before .before .before .before .before .before .before .before .before .before .before .before .before .before .before .before .before .before .before .before .before .before .before .before .before .pre .1 .inside, c .before .before .before .before .before .before .before .before .before .before .before .before .before .before .before .before .before .before .before .before .before .before .before .before .before .before .before .before .before .before .before .before .before .before .before .before .before .before .before .before .before .before .before .before .before .pre .0 .counts .particles, c .before .before .before .before .before .before .before .before .before .before .before .before .before .before .before .before .before .before .before .before .before .before .before .before .before .before .before .before .before .before .before .before .before .before .before .before .before .before .before .before .before .before .before .before .before .pre .0 .rooms .few-particles, c .before .before .before .before .before .before .before .before .before .before .before .before .before .before .before .before .before .before .before .before .before .before .before .before .before .before .before .before .before .before .before .before .before .before .loop-test .taken)
 
 loop-less : tie.Need-loop-less Inv-loop μ-loop
-loop-less c = search needs
+loop-less c = omega (arith, c .before .before .before .before .before .before .before .before .before .before .before .before .before .before .before .before .before .before .before .before .before .before .before .before .before .before .before .before .before .before .before .before .before .before .loop-test .taken)
 
 loop-again : tie.Need-loop-again Inv-loop μ-loop
-loop-again c = let A = c .before .before .before .before .before .before .before .before .before .before .before .before .before .before .before .before .before .before .before .before .before .before .before .before .before .before .before .before .before .before .before .before .before .before .before .before .before .args in
-    let L = c .before .before .before .before .before .before .before .before .before .before .before .before .before .before .before .before .before .before .before .before .before .before .before .before .before .before .before .loop in (
-      omega arith,
-      lent-path _ _ (c .before .before .before .before .before .before .before .before .before .before .before .before .before .before .before .before .before .split-one .kept .1 .1 .1 .1 .1 .1 .0) (c .before .before .before .before .before .before .before .before .before .before .before .before .before .before .before .before .before .split-one .kept .1 .1 .1 .1 .1 .1 .1 .0) (c .before .before .before .before .before .before .before .before .before .before .before .before .before .before .before .before .before .split-one .kept .1 .1 .1 .1 .1 .1 .1 .1 .0) refl (c .before .before .before .before .before .before .before .before .before .before .before .before .before .before .before .before .before .split-one .kept .1 .1 .1 .1 .1 .1 .1 .1 .1 .1 .0) (c .before .before .before .before .before .before .before .before .before .before .before .before .before .before .before .before .before .split-one .kept .1 .1 .1 .1 .1 .1 .1 .1 .1 .1 .1 .0) (c .before .before .before .before .before .before .before .before .before .before .before .before .before .before .before .before .before .split-one .kept .1 .1 .1 .1 .1 .1 .1 .1 .1 .1 .1 .1 .0) (c .before .before .before .before .before .before .before .before .before .before .before .before .before .before .before .before .before .split-one .kept .1 .1 .1 .1 .1 .1 .1 .1 .1 .1 .1 .1 .1 .0) ∙ L .inv .1,
-      run-next (A .way) (kindIs (A .kind)) (A .room) (A .marks .now) (L .v) (L .inv .2) _ _ (c .before .ran .given .1) (c .before .before .before .before .before .before .before .before .before .before .before .before .before .before .before .before .before .split-one .ensures),
+loop-again c = let A = c .before .before .before .before .before .before .before .before .before .before .before .before .before .before .before .before .before .before .before .before .before .before .before .before .before .before .before .before .before .before .before .before .before .before .before .before .before .before .before .before .before .before .before .before .before .args in
+    let L = c .before .before .before .before .before .before .before .before .before .before .before .before .before .before .before .before .before .before .before .before .before .before .before .before .before .before .before .before .before .before .before .before .before .before .before .loop in (
+      omega (arith, c .before .before .before .before .before .before .before .before .before .before .before .before .before .before .before .before .before .before .before .before .before .before .before .before .before .before .before .before .before .before .before .before .before .before .loop-test .taken),
+      lent-path _ _ (c .before .before .before .before .before .before .before .before .before .before .before .before .before .before .before .before .before .before .before .before .before .split-one .kept .1 .1 .1 .1 .1 .1 .0) (c .before .before .before .before .before .before .before .before .before .before .before .before .before .before .before .before .before .before .before .before .before .split-one .kept .1 .1 .1 .1 .1 .1 .1 .0) (c .before .before .before .before .before .before .before .before .before .before .before .before .before .before .before .before .before .before .before .before .before .split-one .kept .1 .1 .1 .1 .1 .1 .1 .1 .0) refl (c .before .before .before .before .before .before .before .before .before .before .before .before .before .before .before .before .before .before .before .before .before .split-one .kept .1 .1 .1 .1 .1 .1 .1 .1 .1 .1 .0) (c .before .before .before .before .before .before .before .before .before .before .before .before .before .before .before .before .before .before .before .before .before .split-one .kept .1 .1 .1 .1 .1 .1 .1 .1 .1 .1 .1 .0) (c .before .before .before .before .before .before .before .before .before .before .before .before .before .before .before .before .before .before .before .before .before .split-one .kept .1 .1 .1 .1 .1 .1 .1 .1 .1 .1 .1 .1 .0) (c .before .before .before .before .before .before .before .before .before .before .before .before .before .before .before .before .before .before .before .before .before .split-one .kept .1 .1 .1 .1 .1 .1 .1 .1 .1 .1 .1 .1 .1 .0) ∙ L .inv .1,
+      run-next (A .way) (kindIs (A .kind)) (A .room) (A .marks .now) (L .v) (L .inv .2) _ _ (c .before .ran .given .1) (c .before .before .before .before .before .before .before .before .before .before .before .before .before .before .before .before .before .before .before .before .before .split-one .ensures),
+      c .before .before .before .before .before .before .before .before .before .before .before .before .before .before .before .before .before .before .before .before .before .split-one .kept .1 .1 .1 .1 .1 .1 .1 .1 .1 .1 .1 .1 .1 .1 .0 ∙ L .inv .3,
+      c .before .before .before .before .before .before .before .before .before .before .before .before .before .before .before .before .before .before .before .before .before .split-one .kept .1 .1 .1 .1 .1 .1 .1 .1 .1 .1 .1 .1 .1 .1 .1 .0 ∙ L .inv .4,
+      c .before .before .before .before .before .before .before .before .before .before .before .before .before .before .before .before .before .before .before .before .before .split-one .kept .1 .1 .1 .1 .1 .1 .1 .1 .1 .1 .1 .1 .1 .1 .1 .1 .0 ∙ L .inv .5,
+      c .before .before .before .before .before .before .before .before .before .before .before .before .before .before .before .before .before .before .before .before .before .split-one .kept .1 .1 .1 .1 .1 .1 .1 .1 .1 .1 .1 .1 .1 .1 .1 .1 .1 .0 ∙ L .inv .6,
     )
 
 same-length-8 : tie.Need-same-length-8 Inv-loop μ-loop
@@ -122,6 +140,10 @@ split-marked-spec =
     loop-holds
     mul-split-one
     shared-slice-read-split-one
+    slice-aggregate-split-one
+    slice-aggregate-split-one-2
+    slice-aggregate-split-one-3
+    slice-aggregate-split-one-4
     split-one-requires
     enum-known-ran
     enum-told

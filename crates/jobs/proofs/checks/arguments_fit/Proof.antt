@@ -3,7 +3,7 @@ use mathlib.Core.Path.{refl}
 use borrow.Author.Needs.{needs}
 use Rattle.mesh.specs.Given.{given}
 use Rattle.mesh.proofs.Joined.{and-next}
-use Rattle.jobs.specs.declared.Job.the-variants.{Straddlers, Split}
+use Rattle.jobs.specs.declared.Job.the-variants.{Straddlers, Split, Cut, Crack}
 use Rattle.jobs.proofs.Asked.{room-test, job-fits}
 use Rattle.jobs.proofs.checks.arguments_fit.Statement.{statement}
 use Rattle.jobs.proofs.checks.arguments_fit.Tie as tie
@@ -20,6 +20,18 @@ sides-given-requires c κs = c .before .before .before .before .before .before .
 both-requires : tie.Need-both-requires
 both-requires c κs = search needs
 
+enum-known-job-2 : tie.Need-enum-known-job-2
+enum-known-job-2 c = search needs
+
+fraction-fits-requires : tie.Need-fraction-fits-requires
+fraction-fits-requires c κs = search needs
+
+both-requires-2 : tie.Need-both-requires-2
+both-requires-2 c κs = search needs
+
+enum-told-2 : tie.Need-enum-told-2
+enum-told-2 c = search needs
+
 returns : tie.Need-returns
 returns c =
     let A = c .before .before .before .before .before .before .before .before .before .before .before .args in
@@ -32,5 +44,17 @@ returns-2 c =
     let G = given (A .in-points .now) (A .in-roots .now) (A .in-corners .now) (A .in-volumes .now) (A .in-ends .now) (A .in-lengths .now) (A .in-outline .now) in
     job-fits G (A .room) (A .job) (Split _) (A .list .now) (c .before .before .before .job .given .1) (and-next _ _ _ _ _ (c .both .ensures) (c .before .sides-given .ensures) (room-test G (A .room) refl))
 
+returns-3 : tie.Need-returns-3
+returns-3 c =
+    let A = c .before .before .before .before .before .before .before .before .before .before .before .before .before .before .args in
+    let G = given (A .in-points .now) (A .in-roots .now) (A .in-corners .now) (A .in-volumes .now) (A .in-ends .now) (A .in-lengths .now) (A .in-outline .now) in
+    job-fits G (A .room) (A .job) (Cut _ _ _) (A .list .now) (c .before .before .before .job2 .given .1) (and-next _ _ _ _ _ (c .both2 .ensures) (c .before .fraction-fits .ensures) (room-test G (A .room) refl))
+
+returns-4 : tie.Need-returns-4
+returns-4 c =
+    let A = c .before .before .before .before .before .before .before .before .before .before .before .args in
+    let G = given (A .in-points .now) (A .in-roots .now) (A .in-corners .now) (A .in-volumes .now) (A .in-ends .now) (A .in-lengths .now) (A .in-outline .now) in
+    job-fits G (A .room) (A .job) (Crack _) (A .list .now) (c .enum-told2 .given .1) (room-test G (A .room) refl)
+
 pub arguments-fit-spec : {M : Type 1} → statement M
-arguments-fit-spec = tie.close (tie.spec enum-told enum-known-job sides-given-requires both-requires returns returns-2)
+arguments-fit-spec = tie.close (tie.spec enum-told enum-known-job sides-given-requires both-requires enum-known-job-2 fraction-fits-requires both-requires-2 enum-told-2 returns returns-2 returns-3 returns-4)

@@ -9,30 +9,29 @@ use Rattle.rewire.proofs.straddlers.mark_straddlers.Statement.{statemen
 use Rattle.rewire.proofs.straddlers.mark_straddlers.Tie as tie
 
 abbrev Inv-loop : tie.InvT-loop
-Inv-loop kind v before k n count e verts groups body-n body-k body ends mask₀ marked₀ i₀ mask marked i =
-    Marking (kindIs kind) v before k n count e verts groups body-n body-k body ends mask₀ mask marked i
+Inv-loop kind v before n count t e verts groups corners ends mask₀ marked₀ i₀ mask marked i =
+    Marking (kindIs kind) v before n count t e verts groups corners ends mask₀ mask marked i
 
 abbrev μ-loop : tie.MeasureT-loop
-μ-loop kind v before k n count e verts groups body-n body-k body ends mask₀ marked₀ i₀ mask marked i =
-    e - i
+μ-loop kind v before n count t e verts groups corners ends mask₀ marked₀ i₀ mask marked i = e - i
 
 loop-holds : tie.Need-loop-holds Inv-loop μ-loop
-loop-holds c = marking-start _ _ _ _ _ _ _ _ _ _ _ _ _ _
+loop-holds c = marking-start _ _ _ _ _ _ _ _ _ _ _ _
 
 straddles-requires : tie.Need-straddles-requires Inv-loop μ-loop
-straddles-requires c κs = (c .before .before .before .before .before .before .before .pre .0, omega (arith, c .loop-test .taken, c .before .before .before .before .before .before .before .pre .1))
+straddles-requires c κs = (c .before .before .before .before .before .before .before .pre .0, c .loop-test .taken)
 
 mark-requires : tie.Need-mark-requires Inv-loop μ-loop
 mark-requires c κs = search needs
 
 mul-mask : tie.Need-mul-mask Inv-loop μ-loop
-mul-mask c = omega (arith, c .before .before .loop-test .taken, c .before .before .before .before .before .before .before .before .before .pre .1, c .before .before .before .before .before .before .before .before .before .pre .2)
+mul-mask c = omega (arith, c .before .before .loop-test .taken, c .before .before .before .before .before .before .before .before .before .pre .0 .ends)
 
 slice-write-mask : tie.Need-slice-write-mask Inv-loop μ-loop
-slice-write-mask c = omega (arith, c .before .before .loop-test .taken, c .before .before .before .before .before .before .before .before .before .pre .2, c .before .before .before .loop .inv .long)
+slice-write-mask c = omega (arith, c .before .before .loop-test .taken, c .before .before .before .before .before .before .before .before .before .pre .1, c .before .before .before .loop .inv .long)
 
 add-marked : tie.Need-add-marked Inv-loop μ-loop
-add-marked c = omega (arith, c .before .before .before .loop .inv .few, c .before .before .loop-test .taken, c .before .before .before .before .before .before .before .before .before .pre .1, c .mark .ensures, pick-small (c .before .straddles .result))
+add-marked c = omega (arith, c .before .before .before .loop .inv .few, c .before .before .loop-test .taken, c .before .before .before .before .before .before .before .before .before .pre .0 .ends, c .mark .ensures, pick-small (c .before .straddles .result))
 
 add-i : tie.Need-add-i Inv-loop μ-loop
 add-i c = omega (arith, c .before .before .loop-test .taken)
@@ -41,13 +40,13 @@ loop-less : tie.Need-loop-less Inv-loop μ-loop
 loop-less c = omega (arith, c .before .before .loop-test .taken)
 
 loop-again : tie.Need-loop-again Inv-loop μ-loop
-loop-again c = marking-step _ _ _ _ _ _ _ _ _ _ _ _ _ _ _ _ _ (c .before .before .before .loop .inv) (c .before .straddles .result) (c .mark .result) (c .before .before .loop-test .taken) (c .before .before .before .before .before .before .before .before .before .pre .2) (c .before .straddles .ensures) (c .mark .ensures)
+loop-again c = marking-step _ _ _ _ _ _ _ _ _ _ _ _ _ _ _ (c .before .before .before .loop .inv) (c .before .straddles .result) (c .mark .result) (c .before .before .loop-test .taken) (c .before .before .before .before .before .before .before .before .before .pre .1) (c .before .straddles .ensures) (c .mark .ensures)
 
 same-length : tie.Need-same-length Inv-loop μ-loop
 same-length c = c .before .loop .inv .long
 
 returns : tie.Need-returns Inv-loop μ-loop
-returns c = marking-done _ _ _ _ _ _ _ _ _ _ _ _ _ _ _ _ _ (c .before .loop .inv) (c .loop-test .left)
+returns c = marking-done _ _ _ _ _ _ _ _ _ _ _ _ _ _ _ (c .before .loop .inv) (c .loop-test .left)
 
 pub mark-straddlers-spec : {M : Type 1} → statement M
 mark-straddlers-spec =

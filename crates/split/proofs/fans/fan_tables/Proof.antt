@@ -1,68 +1,73 @@
-use Rattle.elements.specs.Table.{kindIs}
-use Rattle.split.proofs.Fitted.{all-few, fan-room, fan-read}
--- `split::fans::fan_tables` meets its contract: the table of all elements, and the rows of it that hold v. Assumes nothing.
-use Rattle.split.proofs.Fitted.{all-few, fan-read}
+-- `split::fans::fan_tables` meets its contract: the triangles that hold v, or the straps, or none. The laws are in proofs/FanLaws.antt.
 use native.Mathlib.Omega.{arith}
-use mathlib.Core.Path.{_≡_, sym, subst}
+use mathlib.Core.Path.{refl}
 use borrow.Author.Needs.{needs}
+use Rattle.elements.specs.Table.{kindIs}
+use Rattle.split.proofs.Fitted.{fan-read}
+use Rattle.split.proofs.FanLaws.{held-triangles, held-straps, held-nothing}
 use Rattle.split.proofs.fans.fan_tables.Statement.{statement}
 use Rattle.split.proofs.fans.fan_tables.Tie as tie
 
-slice-aggregate-element-table : tie.Need-slice-aggregate-element-table
-slice-aggregate-element-table c = search needs
+enum-told : tie.Need-enum-told
+enum-told c = search needs
 
-slice-aggregate-element-table-2 : tie.Need-slice-aggregate-element-table-2
-slice-aggregate-element-table-2 c = search needs
+fan-triangles-requires : tie.Need-fan-triangles-requires
+fan-triangles-requires c κs = let P = c .before .before .before .before .before .before .before .before .before .before .before .before .pre in record { corners = P .corners; volumes = P .volumes; numbers = omega (arith, P .few .0, P .numbers); verts = omega (arith, P .few .0, P .verts); measures = omega (arith, P .few .0, P .measures) }
 
-slice-aggregate-element-table-3 : tie.Need-slice-aggregate-element-table-3
-slice-aggregate-element-table-3 c = search needs
+enum-told-2 : tie.Need-enum-told-2
+enum-told-2 c = search needs
 
-element-table-requires : tie.Need-element-table-requires
-element-table-requires c κs = search needs
+fan-straps-requires : tie.Need-fan-straps-requires
+fan-straps-requires c κs = let P = c .before .before .before .before .before .before .before .before .before .before .before .before .pre in record { ends = P .ends; lengths = P .lengths; numbers = omega (arith, P .few .1, P .numbers); verts = omega (arith, P .few .1, P .verts); measures = omega (arith, P .few .1, P .measures) }
 
-corners-per-requires : tie.Need-corners-per-requires
-corners-per-requires c κs = search needs
-
-slice-aggregate-fan-table : tie.Need-slice-aggregate-fan-table
-slice-aggregate-fan-table c = search needs
-
-slice-aggregate-fan-table-2 : tie.Need-slice-aggregate-fan-table-2
-slice-aggregate-fan-table-2 c = search needs
-
-slice-aggregate-fan-table-3 : tie.Need-slice-aggregate-fan-table-3
-slice-aggregate-fan-table-3 c = search needs
-
-fan-table-requires : tie.Need-fan-table-requires
-fan-table-requires c κs = let T = c .before .before .before .before .before .before .before .before .before .before .element-table in let P = c .before .before .before .before .before .before .before .before .before .before .before .before .before .before .before .before .before .before .before .before .before .pre in
-    fan-room (kindIs (c .before .before .before .before .before .before .before .before .before .before .before .before .before .before .before .before .before .before .before .before .before .args .kind)) _ _ _ _ _ _ _ _ (c .before .before .before .before .before .before .corners-per .ensures) (all-few (kindIs (c .before .before .before .before .before .before .before .before .before .before .before .before .before .before .before .before .before .before .before .before .before .args .kind)) _ _ _ _ _ _ _ _ _ _ (P .few .0) (P .few .1) (T .ensures)) (omega (arith, T .kept .1 .1 .1 .1 .1 .1 .1 .0)) (omega (arith, T .kept .1 .1 .1 .1 .1 .1 .1 .1 .0)) (omega (arith, T .kept .1 .1 .1 .1 .1 .1 .1 .1 .1 .0)) (omega (arith, P .numbers)) (omega (arith, P .verts)) (omega (arith, P .measures))
+enum-told-3 : tie.Need-enum-told-3
+enum-told-3 c = search needs
 
 same-length : tie.Need-same-length
-same-length c = search needs
+same-length c = c .before .before .before .before .before .before .fan-triangles .kept .1 .1 .1 .1 .0
 
 same-length-2 : tie.Need-same-length-2
-same-length-2 c = search needs
+same-length-2 c = c .before .before .before .before .before .before .fan-triangles .kept .1 .1 .1 .1 .1 .0
 
 same-length-3 : tie.Need-same-length-3
-same-length-3 c = search needs
+same-length-3 c = c .before .before .before .before .before .before .fan-triangles .kept .1 .1 .1 .1 .1 .1 .0
 
 returns : tie.Need-returns
-returns c = let T = c .before .before .before .before .before .before .before .before .before .before .before .before .before .before .before .before .before .element-table in let P = c .before .before .before .before .before .before .before .before .before .before .before .before .before .before .before .before .before .before .before .before .before .before .before .before .before .before .before .before .pre in let F = c .before .before .before .before .before .before .fan-table in
-    fan-read _ _ _ _ _ _ _ _ _ _ _ _ _ _ _ _ _ (P .few .0) (P .few .1) (c .before .before .before .before .before .before .before .before .before .before .before .before .before .corners-per .ensures) (T .ensures) (F .ensures .0) (F .ensures .1)
+returns c = let A = c .before .before .before .before .before .before .before .before .before .before .before .before .before .before .before .before .before .before .before .args in let P = c .before .before .before .before .before .before .before .before .before .before .before .before .before .before .before .before .before .before .before .pre in
+    fan-read (kindIs (A .kind)) _ _ _ _ _ _ _ _ _ _ _ (P .few .0) (P .few .1) (held-triangles (A .kind) _ _ _ _ _ _ _ (c .before .before .before .before .before .before .before .before .before .before .enum-told .given .1) (c .before .before .before .before .before .before .fan-triangles .ensures))
+
+same-length-4 : tie.Need-same-length-4
+same-length-4 c = c .before .before .before .before .before .before .fan-straps .kept .1 .1 .1 .1 .0
+
+same-length-5 : tie.Need-same-length-5
+same-length-5 c = c .before .before .before .before .before .before .fan-straps .kept .1 .1 .1 .1 .1 .0
+
+same-length-6 : tie.Need-same-length-6
+same-length-6 c = c .before .before .before .before .before .before .fan-straps .kept .1 .1 .1 .1 .1 .1 .0
+
+returns-2 : tie.Need-returns-2
+returns-2 c = let A = c .before .before .before .before .before .before .before .before .before .before .before .before .before .before .before .before .before .before .before .args in let P = c .before .before .before .before .before .before .before .before .before .before .before .before .before .before .before .before .before .before .before .pre in
+    fan-read (kindIs (A .kind)) _ _ _ _ _ _ _ _ _ _ _ (P .few .0) (P .few .1) (held-straps (A .kind) _ _ _ _ _ _ _ (c .before .before .before .before .before .before .before .before .before .before .enum-told2 .given .1) (c .before .before .before .before .before .before .fan-straps .ensures))
+
+returns-3 : tie.Need-returns-3
+returns-3 c = let A = c .before .before .before .before .before .before .before .before .before .args in let P = c .before .before .before .before .before .before .before .before .before .pre in
+    fan-read (kindIs (A .kind)) _ _ _ _ _ _ _ _ _ _ _ (P .few .0) (P .few .1) (held-nothing (A .kind) _ _ _ _ _ _ _ (c .enum-told3 .given .1) refl)
 
 pub fan-tables-spec : {M : Type 1} → statement M
 fan-tables-spec =
     tie.close
     (tie.spec
-    slice-aggregate-element-table
-    slice-aggregate-element-table-2
-    slice-aggregate-element-table-3
-    element-table-requires
-    corners-per-requires
-    slice-aggregate-fan-table
-    slice-aggregate-fan-table-2
-    slice-aggregate-fan-table-3
-    fan-table-requires
+    enum-told
+    fan-triangles-requires
+    enum-told-2
+    fan-straps-requires
+    enum-told-3
     same-length
     same-length-2
     same-length-3
-    returns)
+    returns
+    same-length-4
+    same-length-5
+    same-length-6
+    returns-2
+    returns-3)

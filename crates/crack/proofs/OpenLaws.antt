@@ -1,0 +1,382 @@
+-- Laws of trying the ways to open an edge: two sides are two groups, the way that opens, and which of two is taken. Assumes nothing.
+use Prim.Native.Nat.{ℕ, _*_, _/_, _<_, _≤_}
+use native.Mathlib.Omega.{arith}
+use mathlib.Core.Path.{_≡_, refl, sym, _∙_, ap, ap₂, subst}
+use mathlib.Core.Bool.{Bool, true, false, _&&_, and-assoc}
+use mathlib.Core.List.{List, [], _∷_, map}
+use mathlib.Core.Option.{Option, none, some}
+use borrow.Author.Tests.{eq-eqb, ne-eqb}
+use native.Mathlib.Decide.{ℕ-discrete}
+use lib.ListN.{length, getD, take, length-take}
+use lib.Seq.{getD-take}
+use lib.Dec.{eqb, ltb}
+use lib.Ieee.{Float, ne}
+use Rattle.lists.specs.Lists.{pick, stands, find}
+use Rattle.lists.specs.Chain.{Chain, stay, ahead as onward, back}
+use Rattle.lists.proofs.Sifts.{stands-get}
+use Rattle.float.specs.Numbers.{zero32}
+use Rattle.float.specs.Order.{totalCmp}
+use Rattle.columns.specs.Block.{cell}
+use Rattle.fan.specs.Fan.{Fan, fan, Near, size, side}
+use Rattle.fan.specs.Groups.{countOf}
+use Rattle.model.specs.Mesh.{Mesh}
+use Rattle.model.specs.Elements.{Kind, Triangles, cornersPer, facetOthers, fanOf, particle}
+use Rattle.model.specs.Run.{opened, Run}
+use Rattle.model.specs.Split.{Opening, openingOf, splits?, splitMade, splitStep}
+use Rattle.model.specs.Pieces.{opensWithoutConfetti}
+use Rattle.model.specs.Crack.{farSide, meanLoad, Way, twoSided, wayAt, ahead, before?, inOrder, waysOf, firstOf, torn, crackBy, crackPair, crackEdge}
+use Rattle.model.proofs.Laws.{and-true, pick-both}
+use Rattle.model.proofs.Splitting.{two-groups}
+use Rattle.mesh.specs.At.{meshAt}
+use Rattle.mesh.specs.Log.{World, worldOf}
+use Rattle.mesh.specs.Given.{Lent}
+use Rattle.mesh.specs.declared.Counts.{Counts}
+use Rattle.mesh.specs.declared.Rooms.{Rooms}
+use Rattle.mesh.specs.Filled.{lent}
+use Rattle.elements.specs.Table.{TableRoom}
+use Rattle.split.specs.Working.{Within, Ready, Works}
+use Rattle.split.specs.Tables.{FanGrouped, FanSided, GroupsFound, openedBy}
+use Rattle.split.specs.declared.Ran.{Ran}
+use Rattle.split.specs.declared.Ran.the-variants.{Done}
+use Rattle.split.proofs.Runs.{works-stay, works-as}
+use Rattle.split.proofs.TabledLaws.{inverse-at, opening-found, fan-grouped, splits-so}
+use Rattle.split.proofs.Placed.{particles-count}
+use Rattle.crack.specs.Ways.{twoBy}
+use Rattle.crack.specs.Tried.{WayReady, WayRead, WayLoad, OpensRoom}
+use Rattle.crack.specs.Cracks.{PairReady, PairBelow, PairNow, openWay, WayAsked, OpenedTo, TriedTo, EndsTold, PairTold, CrackTold}
+use Rattle.crack.specs.Families.{pairIs}
+use Rattle.crack.specs.declared.families.Pair.{Pair}
+use Rattle.crack.specs.declared.families.Pair.the-variants.{None, Ends}
+use Rattle.crack.specs.declared.edges.Tried.{Tried}
+use Rattle.crack.specs.declared.edges.Tried.the-variants.{Not, Tore}
+
+-- ---- two sides are two groups
+
+-- a chain of neighbours keeps to its side
+chain-side : (F : Fan) {i j : ℕ} → Chain (Near F) i j → side F i ≡ side F j
+chain-side F stay = refl
+chain-side F (onward n c) = n .alike ∙ chain-side F c
+chain-side F (back n c) = sym (n .alike) ∙ chain-side F c
+
+sides-two : (F : Fan) → ((a : ℕ) → a < size F → side F a < 2) → stands 0 (F .sides) ≡ true → stands 1 (F .sides) ≡ true → 2 ≤ countOf F
+sides-two F two zeros ones =
+    let a = stands-get 0 (F .sides) zeros in
+    let b = stands-get 1 (F .sides) ones in
+    two-groups F two (a .0) (b .0) (a .1 .0) (b .1 .0) (λ c. let z : _≡_ {A = ℕ} 0 1 = sym (a .1 .1) ∙ chain-side F c ∙ b .1 .1 in omega arith)
+
+-- of a fan in tables
+pub groups-two : {K : Kind} {v n : ℕ} {verts sides groups : List ℕ} {count : ℕ} → GroupsFound K v n verts sides groups count → ((i : ℕ) → i < n → getD sides i 0 < 2)
+    → stands 0 (take n sides) ≡ true → stands 1 (take n sides) ≡ true → 2 ≤ count
+groups-two {K} {v} {n} {verts} {sides} G two zeros ones =
+    let F : Fan = fan (take (n * cornersPer K) verts) (cornersPer K) v (facetOthers K) (take n sides) in
+    let h = sides-two F (λ a l. let b : a < n = omega (arith, length-take n sides) in subst (λ (s : ℕ). s < 2) (sym (getD-take n sides a 0 b)) (two a b)) zeros ones in
+    omega (arith, G .count-is)
+
+-- ---- the split of one way
+
+module _ {K : Kind} {M : Mesh} {v n : ℕ} {numbers verts : List ℕ} {measures : List Float} {sides : List ℕ} (F : FanSided K M v n numbers verts measures sides) (two : twoSided M v (take n sides) ≡ true) where
+  -- v is free, and both sides are there
+  parts : (ne (particle M v .inv) zero32 ≡ true) × ((stands 0 (take n sides) ≡ true) × (stands 1 (take n sides) ≡ true))
+  unfolding twoSided
+  parts =
+      let a = and-true (ne (particle M v .inv) zero32 && stands 0 (take n sides)) (stands 1 (take n sides)) two in
+      let b = and-true (ne (particle M v .inv) zero32) (stands 0 (take n sides)) (a .0) in
+      (b .0, (b .1, a .1))
+
+  pub opens-room : (lg : ℕ) → 2048 ≤ lg → OpensRoom n (length (fanOf K M v)) lg
+  opens-room lg h = record { every = F .tabled .cornered .count; groups = let f = F .few in omega arith }
+
+  module _ {groups : List ℕ} {count : ℕ} (G : GroupsFound K v n verts sides groups count) where
+    enough : 2 ≤ count
+    enough = let p = parts in groups-two G (F .two) (p .1 .0) (p .1 .1)
+
+    pub way-grouped : 2048 ≤ length groups → FanGrouped K M v n count numbers verts measures groups
+    way-grouped h = fan-grouped F G enough (let f = F .few in omega arith)
+
+    module _ (L : Rooms) (W : World) (at : Counts → World) (k : Counts) (ab xy : ℕ × ℕ) (min : ℕ) (same : W .mesh ≡ M) where
+      -- some group is too small
+      pub way-shut : (t : Bool) → t ≡ opensWithoutConfetti K M min (openedBy K M v n count groups) → t ≡ false → at k ≡ W → OpenedTo K min (openingOf K M v (take n sides)) ab xy L k W at Not
+      way-shut t q e u = (ap₂ (λ (X : Mesh) (O : Opening). opensWithoutConfetti K X min O) same (sym (opening-found F G)) ∙ sym q ∙ e, u)
+
+      -- v splits
+      pub way-torn : (t : Bool) → t ≡ opensWithoutConfetti K M min (openedBy K M v n count groups) → t ≡ true → (r : Ran)
+          → Works (splitMade (opened (ab .0) (ab .1) ∷ []) (torn (openedBy K M v n count groups) xy) K (openedBy K M v n count groups)) L W at r
+          → OpenedTo K min (openingOf K M v (take n sides)) ab xy L k W at (Tore r)
+      unfolding splitStep
+      way-torn t q e r S =
+          let O : Opening = openedBy K M v n count groups in
+          let yes-splits : splits? O M ≡ true = splits-so F G enough (parts .0) in (
+            ap₂ (λ (X : Mesh) (Y : Opening). opensWithoutConfetti K X min Y) same (sym (opening-found F G)) ∙ sym q ∙ e,
+            subst (λ (Y : Opening). Works (splitStep (opened (ab .0) (ab .1) ∷ []) (torn Y xy) K Y) L W at r) (opening-found F G)
+                (works-as
+                (λ R w.
+                let m : M ≡ R .mesh = sym same ∙ ap (λ (X : World). X .mesh) w in
+                sym (ap (λ (b : Bool). pick b (splitMade (opened (ab .0) (ab .1) ∷ []) (torn O xy) K O R) R) (ap (splits? O) (sym m) ∙ yes-splits)))
+                S),
+          )
+
+-- ---- one way
+
+-- the way at v with both sides
+abbrev wayOf : Kind → List Float → Mesh → ℕ → ℕ → Way
+wayOf K ls M v w = record { load = meanLoad K ls M v w; opening = openingOf K M v (map (farSide M v w) (fanOf K M v)) }
+
+-- it is there exactly if its fan has both sides and v is free
+way-is : (K : Kind) (ls : List Float) (M : Mesh) (v w : ℕ) (sides : List ℕ) (t : Bool) → sides ≡ map (farSide M v w) (fanOf K M v) → twoSided M v sides ≡ t → wayAt K ls M v w ≡ pick t (wayOf K ls M v w ∷ []) []
+unfolding wayAt
+way-is K ls M v w sides t s e = ap (λ (b : Bool). pick b (wayOf K ls M v w ∷ []) []) (ap (twoSided M v) (sym s) ∙ e)
+
+-- a way that is not there
+pub way-absent : (K : Kind) (min v w : ℕ) (ab xy : ℕ × ℕ) (L : Rooms) (k : Counts) (W : World) (at : Counts → World) (sides : List ℕ) → sides ≡ map (farSide (W .mesh) v w) (fanOf K (W .mesh) v) → twoSided (W .mesh) v sides ≡ false → at k ≡ W
+    → TriedTo K min v w ab xy L k W at Not
+unfolding openWay find
+way-absent K min v w ab xy L k W at sides s e u = (λ ls. ap (find (λ (p : Way). opensWithoutConfetti K (W .mesh) min (p .opening))) (way-is K ls (W .mesh) v w sides false s e), u)
+
+-- one that is there, as its split was tried
+pub way-tried : (K : Kind) (min v w : ℕ) (ab xy : ℕ × ℕ) (L : Rooms) (k : Counts) (W : World) (at : Counts → World) (sides : List ℕ) → sides ≡ map (farSide (W .mesh) v w) (fanOf K (W .mesh) v) → twoSided (W .mesh) v sides ≡ true
+    → (t : Tried) → OpenedTo K min (openingOf K (W .mesh) v sides) ab xy L k W at t → TriedTo K min v w ab xy L k W at t
+unfolding openWay find crackBy
+way-tried K min v w ab xy L k W at sides s e Not S = (
+  λ ls.
+      ap (find (λ (p : Way). opensWithoutConfetti K (W .mesh) min (p .opening))) (way-is K ls (W .mesh) v w sides true s e)
+      ∙ ap (λ (b : Bool). pick b (some (wayOf K ls (W .mesh) v w)) none) (ap (λ (l : List ℕ). opensWithoutConfetti K (W .mesh) min (openingOf K (W .mesh) v l)) (sym s) ∙ S .0),
+  S .1,
+)
+way-tried K min v w ab xy L k W at sides s e (Tore r) S =
+    λ ls. (
+      wayOf K ls (W .mesh) v w,
+      (
+        ap (find (λ (p : Way). opensWithoutConfetti K (W .mesh) min (p .opening))) (way-is K ls (W .mesh) v w sides true s e)
+            ∙ ap (λ (b : Bool). pick b (some (wayOf K ls (W .mesh) v w)) none) (ap (λ (l : List ℕ). opensWithoutConfetti K (W .mesh) min (openingOf K (W .mesh) v l)) (sym s) ∙ S .0),
+        subst (λ (l : List ℕ). Works (splitStep (opened (ab .0) (ab .1) ∷ []) (torn (openingOf K (W .mesh) v l) xy) K (openingOf K (W .mesh) v l)) L W at r) s (S .1),
+      ),
+    )
+
+-- ---- both ends in turn
+
+module _ (K : Kind) (min v w : ℕ) (ab xy : ℕ × ℕ) (L : Rooms) (W : World) where
+  -- the two ways in a run
+  abbrev inTurn : List Float → Mesh → Option Way
+  inTurn ls M = firstOf (openWay K ls min M v w) (openWay K ls min M w v)
+
+  -- a worker that cracks by what is taken in the blocks
+  taken-works : (at : Counts → World) (r : Ran) (o : List Float → Option Way) → ((ls : List Float) → inTurn ls (W .mesh) ≡ o ls) → ((ls : List Float) → Works (crackBy K (o ls) ab xy) L W at r) → EndsTold K min v w ab xy L W at r
+  taken-works at r o e F =
+      record { works = λ ls. works-as (λ R u. ap (λ (z : Option Way). crackBy K z ab xy R) (sym (e ls) ∙ ap (λ (X : World). inTurn ls (X .mesh)) u)) (F ls) }
+
+  -- the first opens
+  pub first-taken : (k : Counts) (at : Counts → World) (t : Tried) (r : Ran) → t ≡ Tore r → TriedTo K min v w ab xy L k W at t → EndsTold K min v w ab xy L W at r
+  first-taken k at t r e T =
+      let S : TriedTo K min v w ab xy L k W at (Tore r) = subst (TriedTo K min v w ab xy L k W at) e T in
+      taken-works at r (λ ls. some (S ls .0)) (λ ls. ap (λ (z : Option Way). firstOf z (openWay K ls min (W .mesh) w v)) (S ls .1 .0)) (λ ls. S ls .1 .1)
+
+  module _ (k : Counts) (at : Counts → World) (t : Tried) (e : t ≡ Not) (T : TriedTo K min v w ab xy L k W at t) where
+    shut : TriedTo K min v w ab xy L k W at Not
+    shut = subst (TriedTo K min v w ab xy L k W at) e T
+
+    -- the blocks hold what they held
+    pub still : at k ≡ W
+    still = shut .1
+
+    pub still-ready : (I J : Lent) → Ready L k I (W .mesh) → J ≡ I → Ready L k J (at k .mesh)
+    still-ready I J P q =
+        subst (λ (X : World). Ready L k J (X .mesh)) (sym still) (subst (λ (Z : Lent). Ready L k Z (W .mesh)) (sym q) P)
+
+    -- the second as if tried in the blocks at the start
+    second-tried : (at′ : Counts → World) (s : Tried) → TriedTo K min w v ab xy L k (at k) at′ s → TriedTo K min w v ab xy L k W at′ s
+    second-tried at′ s S = subst (λ (X : World). TriedTo K min w v ab xy L k X at′ s) still S
+
+    -- the second opens
+    pub second-taken : (at′ : Counts → World) (s : Tried) (r : Ran) → s ≡ Tore r → TriedTo K min w v ab xy L k (at k) at′ s → EndsTold K min v w ab xy L W at′ r
+    second-taken at′ s r q U =
+        let S : TriedTo K min w v ab xy L k W at′ (Tore r) = subst (TriedTo K min w v ab xy L k W at′) q (second-tried at′ s U) in
+        taken-works at′ r (λ ls. some (S ls .0)) (λ ls. ap₂ (λ (y z : Option Way). firstOf y z) (shut .0 ls) (S ls .1 .0)) (λ ls. S ls .1 .1)
+
+    -- neither does
+    pub none-taken : (at′ : Counts → World) (s : Tried) → s ≡ Not → TriedTo K min w v ab xy L k (at k) at′ s → Within k L → EndsTold K min v w ab xy L W at′ (Done k)
+    unfolding crackBy
+    none-taken at′ s q U b =
+        let S : TriedTo K min w v ab xy L k W at′ Not = subst (TriedTo K min w v ab xy L k W at′) q (second-tried at′ s U) in
+        taken-works at′ (Done k) (λ ls. none) (λ ls. ap₂ (λ (y z : Option Way). firstOf y z) (shut .0 ls) (S .0 ls))
+        (λ ls. subst (λ (X : World). Works (λ R. R) L X at′ (Done k)) (S .1) (works-stay {at = at′} k b))
+
+-- ---- their order
+
+-- of two ways in a row
+in-row : (P : Way → Bool) (p q : Way) → find P (p ∷ q ∷ []) ≡ firstOf (find P (p ∷ [])) (find P (q ∷ []))
+unfolding find
+in-row P p q = by (P p) (pick (P q) (some q) none)
+  where
+    by : (b : Bool) (o : Option Way) → pick b (some p) o ≡ firstOf (pick b (some p) none) o
+    by true o = refl
+    by false o = refl
+
+first-alone : (o : Option Way) → firstOf o none ≡ o
+first-alone none = refl
+first-alone (some a) = refl
+
+pick-same : {A : Type 0} (b : Bool) (x y z : A) → x ≡ y → x ≡ z → x ≡ pick b y z
+pick-same true x y z e f = e
+pick-same false x y z e f = f
+
+-- of at most one way from each end the one taken is the first of those that pass, in order; where one end has none the order is no matter
+order-first : (P : Way → Bool) (p q : Way) (s t : Bool)
+    → find P (inOrder (pick s (p ∷ []) []) (pick t (q ∷ []) []))
+    ≡ pick (before? q p) (firstOf (find P (pick t (q ∷ []) [])) (find P (pick s (p ∷ []) []))) (firstOf (find P (pick s (p ∷ []) [])) (find P (pick t (q ∷ []) [])))
+unfolding find
+order-first P p q true true = pick-ap (before? q p) ∙ ap₂ (λ (x y : Option Way). pick (before? q p) x y) (in-row P q p) (in-row P p q)
+  where
+    pick-ap : (b : Bool) → find P (pick b (q ∷ p ∷ []) (p ∷ q ∷ [])) ≡ pick b (find P (q ∷ p ∷ [])) (find P (p ∷ q ∷ []))
+    pick-ap true = refl
+    pick-ap false = refl
+order-first P p q true false = pick-same (before? q p) (find P (p ∷ [])) (find P (p ∷ [])) (firstOf (find P (p ∷ [])) none) refl (sym (first-alone (find P (p ∷ []))))
+order-first P p q false true = pick-same (before? q p) (find P (q ∷ [])) (firstOf (find P (q ∷ [])) none) (find P (q ∷ [])) (sym (first-alone (find P (q ∷ [])))) refl
+order-first P p q false false = pick-same {A = Option Way} (before? q p) none none none refl refl
+
+-- the ways of an edge, by their loads
+order-taken : (K : Kind) (ls : List Float) (min : ℕ) (M : Mesh) (x y : ℕ) (p q : Float) (t : Bool) → p ≡ meanLoad K ls M x y → q ≡ meanLoad K ls M y x → t ≡ ahead (totalCmp q p) (ltb y x)
+    → find (λ (z : Way). opensWithoutConfetti K M min (z .opening)) (waysOf K ls M (x, y))
+    ≡ pick t (firstOf (openWay K ls min M y x) (openWay K ls min M x y)) (firstOf (openWay K ls min M x y) (openWay K ls min M y x))
+unfolding waysOf wayAt openWay openingOf
+order-taken K ls min M x y p q t ep eq et =
+    let F : Way → Bool = λ (z : Way). opensWithoutConfetti K M min (z .opening) in
+    order-first F (wayOf K ls M x y) (wayOf K ls M y x) (twoSided M x (map (farSide M x y) (fanOf K M x))) (twoSided M y (map (farSide M y x) (fanOf K M y)))
+    ∙ ap (λ (b : Bool). pick b (firstOf (find F (wayAt K ls M y x)) (find F (wayAt K ls M x y))) (firstOf (find F (wayAt K ls M x y)) (find F (wayAt K ls M y x))))
+    (sym (et ∙ ap₂ (λ (a b : Float). ahead (totalCmp a b) (ltb y x)) eq ep))
+
+module _ (K : Kind) (min x y : ℕ) (ab : ℕ × ℕ) (loads : List Float) (k : Counts) (L : Rooms) (W : World) (p q : Float) (X : WayLoad K x y k loads (W .mesh) p) (Y : WayLoad K y x k loads (W .mesh) q) (t : Bool) (o : t ≡ ahead (totalCmp q p) (ltb y x))
+    (at : Counts → World) (r : Ran) where
+  -- what is cracked by
+  taken-is : (b : Bool) → t ≡ b → (ls : List Float) → (K ≡ Triangles → take (k .triangles) loads ≡ ls) → (R : Run) → W ≡ worldOf (R .mesh) (R .log)
+      → crackBy K (pick b (firstOf (openWay K ls min (R .mesh) y x) (openWay K ls min (R .mesh) x y)) (firstOf (openWay K ls min (R .mesh) x y) (openWay K ls min (R .mesh) y x))) ab (x, y) R ≡ crackPair K ls min ab (some (x, y)) R
+  unfolding crackPair
+  taken-is b e ls h R u =
+      let m : W .mesh ≡ R .mesh = ap (λ (Z : World). Z .mesh) u in
+      ap (λ (z : Option Way). crackBy K z ab (x, y) R)
+      (sym
+      (order-taken K ls min (R .mesh) x y p q b (X .is ls h ∙ ap (λ (M : Mesh). meanLoad K ls M x y) m) (Y .is ls h ∙ ap (λ (M : Mesh). meanLoad K ls M y x) m) (sym e ∙ o)))
+
+  -- y goes first
+  pub pair-second : t ≡ true → EndsTold K min y x ab (x, y) L W at r → PairTold K min (k .triangles) ab (x, y) loads L W at r
+  pair-second e E = record { works = λ ls h. works-as (λ R u. taken-is true e ls h R u) (E .works ls) }
+
+  -- x does
+  pub pair-first : t ≡ false → EndsTold K min x y ab (x, y) L W at r → PairTold K min (k .triangles) ab (x, y) loads L W at r
+  pair-first e E = record { works = λ ls h. works-as (λ R u. taken-is false e ls h R u) (E .works ls) }
+
+-- ---- one edge
+
+module _ (K : Kind) (min a b p t : ℕ) (loads : List Float) (L : Rooms) (W : World) (r : Pair) (N : PairNow K a b p W r) where
+  -- no pair stands for it
+  pub edge-gone : (at : Counts → World) (k : Counts) → at k ≡ W → Within k L → r ≡ None → CrackTold K min a b t loads L W at (Done k)
+  unfolding crackEdge crackPair
+  edge-gone at k s w e =
+      record {
+        works = λ ls h.
+            subst (λ (Z : World). Works (λ R. crackEdge K ls min R (a, b)) L Z at (Done k)) s
+            (works-as (λ R u. ap (λ (z : Option (ℕ × ℕ)). crackPair K ls min (a, b) z R) (ap pairIs (sym e) ∙ N .is R (sym s ∙ u))) (works-stay {at = at} k w));
+      }
+
+  module _ (x y : ℕ) (e : r ≡ Ends x y) where
+    pub edge-below : (x < p) × (y < p)
+    edge-below = subst (PairBelow p) e (N .below)
+
+    pub edge-cracked : (at : Counts → World) (s : Ran) → PairTold K min t (a, b) (x, y) loads L W at s → CrackTold K min a b t loads L W at s
+    unfolding crackEdge
+    edge-cracked at s T =
+        record { works = λ ls h. works-as (λ R u. ap (λ (z : Option (ℕ × ℕ)). crackPair K ls min (a, b) z R) (ap pairIs (sym e) ∙ N .is R u)) (T .works ls h) }
+
+-- ---- over the blocks
+
+-- both ends of a pair that is there may be tried
+pub asked-first : (x y p : ℕ) → x < p → y < p → WayAsked x y x y p
+asked-first x y p h g = record { here = h; ends = record { x-in = h; y-in = g; other = sym (ap (λ (b : Bool). pick b y x) (eq-eqb x x refl)) } }
+
+pub asked-second : (x y p : ℕ) → x < p → y < p → WayAsked y x x y p
+asked-second x y p h g = record { here = g; ends = record { x-in = h; y-in = g; other = by (ℕ-discrete y x) } }
+  where
+    by : Dec (y ≡ x) → x ≡ pick (eqb y x) y x
+    by (yes e) = sym e ∙ sym (ap (λ (b : Bool). pick b y x) (eq-eqb y x e))
+    by (no n) = sym (ap (λ (b : Bool). pick b y x) (ne-eqb y x n))
+
+module _ (L : Rooms) (k : Counts) (points : List Float) (roots corners : List ℕ) (volumes : List Float) (ends : List ℕ) (lengths : List Float) (outline log : List ℕ)
+    (P : Ready L k (lent points roots corners volumes ends lengths outline log) (meshAt k points roots corners volumes ends lengths outline)) where
+  abbrev Here : Mesh
+  Here = meshAt k points roots corners volumes ends lengths outline
+
+  -- what a table of all elements asks
+  pub table-room : TableRoom (k .triangles) (k .edges) (length corners) (length volumes) (length ends) (length lengths) 2048 4096 2048
+  table-room =
+      let R = P .rooms in
+      let C = P .counts in
+      let t : k .triangles ≤ 1024 = omega (arith, C .triangles, R .few-triangles) in
+      let e : k .edges ≤ 2048 = omega (arith, C .edges, R .few-edges) in
+      record {
+        few = (t, e);
+        corners = omega (arith, C .triangles, R .corners);
+        volumes = omega (arith, C .triangles, R .volumes);
+        ends = omega (arith, C .edges, R .ends);
+        lengths = omega (arith, C .edges, R .lengths);
+        numbers = (omega arith, e);
+        verts = (omega arith, omega arith);
+        measures = (omega arith, e);
+      }
+
+  pub pair-ready : PairReady k (length corners) (length volumes) (length ends) (length lengths) (length log) Here
+  pair-ready =
+      let R = P .rooms in
+      let C = P .counts in
+      record { table = table-room; log = omega (arith, C .log, R .log); few-log = omega (arith, C .log, R .few-log); indices = P .indices }
+
+  -- what one way asks
+  pub way-ready : (v w : ℕ) → v < k .particles → w < k .particles → WayReady v w k (length points) (length corners) (length volumes) (length ends) (length lengths) Here
+  way-ready v w h g =
+      let R = P .rooms in
+      let C = P .counts in
+      let T = table-room in
+      record {
+        v-in = h;
+        w-in = g;
+        few-triangles = T .few .0;
+        few-edges = T .few .1;
+        points = omega (arith, C .particles, R .points);
+        corners = T .corners;
+        volumes = T .volumes;
+        ends = T .ends;
+        lengths = T .lengths;
+        indices = P .indices;
+      }
+
+  module _ {v w x y : ℕ} (A : WayAsked v w x y (k .particles)) where
+    other-in : w < k .particles
+    other-in = subst (λ (z : ℕ). z < k .particles) (sym (A .ends .other)) (pick-both (λ (z : ℕ). z < k .particles) (eqb v x) y x (A .ends .y-in) (A .ends .x-in))
+
+    pub asked-ready : WayReady v w k (length points) (length corners) (length volumes) (length ends) (length lengths) Here
+    asked-ready = way-ready v w (A .here) other-in
+
+    pub place-in : v < length points / 6
+    place-in = let R = P .rooms in let C = P .counts in let h = A .here in omega (arith, C .particles, R .points)
+
+    -- whether both sides are there and v is free
+    pub two-told : (sides : List ℕ) → twoSided Here v sides ≡ twoBy v sides points
+    unfolding twoSided twoBy cell
+    two-told sides =
+        and-assoc (ne (particle Here v .inv) zero32) (stands 0 sides) (stands 1 sides)
+        ∙ ap (λ (z : Float). ne z zero32 && (stands 0 sides && stands 1 sides)) (inverse-at k points roots corners volumes ends lengths outline v (A .here))
+
+    -- the fan with its sides
+    pub way-sided : {K : Kind} {n : ℕ} {numbers verts : List ℕ} {measures : List Float} {sides : List ℕ} → WayRead K v w Here n numbers verts measures sides
+        → 2048 ≤ length numbers → 4096 ≤ length verts → 2048 ≤ length measures → 2048 ≤ length sides → FanSided K Here v n numbers verts measures sides
+    way-sided F a b c d =
+        let few = F .few in
+        let narrow = F .narrow in
+        record {
+          here = subst (λ (z : ℕ). v < z) (sym (particles-count k points roots corners volumes ends lengths outline)) (A .here);
+          tabled = F .tabled;
+          few = few;
+          numbers-long = omega arith;
+          verts-long = omega arith;
+          measures-long = omega arith;
+          sides-long = omega arith;
+          two = F .two;
+        }

@@ -1,0 +1,103 @@
+-- `crack::body::crack_torn` meets its contract: the tables hold the ends and the loads of the input. Assumes nothing.
+use native.Mathlib.Omega.{arith}
+use Rattle.elements.specs.Table.{kindIs}
+use Rattle.crack.proofs.LinkLaws.{numbered}
+use Rattle.crack.proofs.BodyLaws.{turns-work}
+use borrow.Author.Needs.{needs}
+use Rattle.crack.proofs.body.crack_torn.Statement.{statement}
+use Rattle.crack.proofs.body.crack_torn.Tie as tie
+
+slice-aggregate-keep-ends : tie.Need-slice-aggregate-keep-ends
+slice-aggregate-keep-ends c = search needs
+
+slice-aggregate-keep-ends-2 : tie.Need-slice-aggregate-keep-ends-2
+slice-aggregate-keep-ends-2 c = search needs
+
+keep-ends-requires : tie.Need-keep-ends-requires
+keep-ends-requires c κs = let P = c .before .before .before .before .before .before .before .before .before .before .before .before .pre .0 in
+    record {
+      ends = omega (arith, P .counts .edges, P .rooms .ends);
+      first = omega (arith, P .counts .edges, P .rooms .few-edges);
+      second = omega (arith, P .counts .edges, P .rooms .few-edges);
+    }
+
+slice-aggregate-read-loads : tie.Need-slice-aggregate-read-loads
+slice-aggregate-read-loads c = search needs
+
+read-loads-requires : tie.Need-read-loads-requires
+read-loads-requires c κs = let P = c .before .before .before .before .before .before .before .before .before .before .before .before .before .before .before .before .before .before .before .pre .0 in let A = c .before .before .before .before .before .before .before .before .before .before .before .before .before .before .before .before .before .before .before .args in (
+  record {
+    corners = omega (arith, P .counts .triangles, P .rooms .corners);
+    volumes = omega (arith, P .counts .triangles, P .rooms .volumes);
+    edges = record { ends = omega (arith, P .counts .edges, P .rooms .ends); lengths = omega (arith, P .counts .edges, P .rooms .lengths) };
+  },
+  omega (arith, P .counts .triangles, P .rooms .few-triangles),
+  numbered (A .room) (A .k) (A .points .now) (A .roots .now) (A .corners .now) (A .volumes .now) (A .ends .now) (A .lengths .now) (A .outline .now) _ P,
+)
+
+slice-aggregate-crack-listed : tie.Need-slice-aggregate-crack-listed
+slice-aggregate-crack-listed c = search needs
+
+slice-aggregate-crack-listed-2 : tie.Need-slice-aggregate-crack-listed-2
+slice-aggregate-crack-listed-2 c = search needs
+
+slice-aggregate-crack-listed-3 : tie.Need-slice-aggregate-crack-listed-3
+slice-aggregate-crack-listed-3 c = search needs
+
+crack-listed-requires : tie.Need-crack-listed-requires
+crack-listed-requires c κs = let P = c .before .before .before .before .before .before .before .before .before .before .before .before .before .before .before .before .before .before .before .before .before .before .before .before .before .before .before .before .before .before .before .pre in (
+  P .0,
+  record {
+    first = omega (arith, P .0 .counts .edges, P .0 .rooms .few-edges, c .before .before .before .before .before .before .before .before .before .before .before .before .before .before .before .before .before .before .keep-ends .kept .1 .1 .0);
+    second = omega (arith, P .0 .counts .edges, P .0 .rooms .few-edges, c .before .before .before .before .before .before .before .before .before .before .before .before .before .before .before .before .before .before .keep-ends .kept .1 .1 .1 .0);
+    loads = record { long = λ q. omega (arith, P .0 .counts .triangles, P .0 .rooms .few-triangles, c .before .before .before .before .before .before .before .before .before .before .before .read-loads .kept .1 .1 .1 .1 .1 .1 .0) };
+    logged = P .1;
+  },
+)
+
+same-length : tie.Need-same-length
+same-length c = c .before .before .before .before .before .before .before .before .before .before .before .before .before .before .crack-listed .kept .1 .1 .1 .1 .1 .1 .1 .1 .1 .0
+
+same-length-2 : tie.Need-same-length-2
+same-length-2 c = c .before .before .before .before .before .before .before .before .before .before .before .before .before .before .crack-listed .kept .1 .1 .1 .1 .1 .1 .1 .1 .1 .1 .0
+
+same-length-3 : tie.Need-same-length-3
+same-length-3 c = c .before .before .before .before .before .before .before .before .before .before .before .before .before .before .crack-listed .kept .1 .1 .1 .1 .1 .1 .1 .1 .1 .1 .1 .0
+
+same-length-4 : tie.Need-same-length-4
+same-length-4 c = c .before .before .before .before .before .before .before .before .before .before .before .before .before .before .crack-listed .kept .1 .1 .1 .1 .1 .1 .1 .1 .1 .1 .1 .1 .1 .0
+
+same-length-5 : tie.Need-same-length-5
+same-length-5 c = c .before .before .before .before .before .before .before .before .before .before .before .before .before .before .crack-listed .kept .1 .1 .1 .1 .1 .1 .1 .1 .1 .1 .1 .1 .1 .1 .0
+
+same-length-6 : tie.Need-same-length-6
+same-length-6 c = c .before .before .before .before .before .before .before .before .before .before .before .before .before .before .crack-listed .kept .1 .1 .1 .1 .1 .1 .1 .1 .1 .1 .1 .1 .1 .1 .1 .0
+
+same-length-7 : tie.Need-same-length-7
+same-length-7 c = c .before .before .before .before .before .before .before .before .before .before .before .before .before .before .crack-listed .kept .1 .1 .1 .1 .1 .1 .1 .1 .1 .1 .1 .1 .1 .1 .1 .1 .0
+
+returns : tie.Need-returns
+returns c = let A = c .before .before .before .before .before .before .before .before .before .before .before .before .before .before .before .before .before .before .before .before .before .before .before .before .before .before .before .before .before .before .before .before .before .before .before .before .before .before .before .before .before .before .before .before .before .before .args in
+    turns-work (kindIs (A .kind)) (A .minimum) (A .torn .now) (A .k) (A .points .now) (A .roots .now) (A .corners .now) (A .volumes .now) (A .ends .now) (A .lengths .now) (A .outline .now) (A .log .now) _ _ _ (c .before .before .before .before .before .before .before .before .before .before .before .before .before .before .before .before .before .before .before .before .before .before .before .before .before .before .before .before .before .before .before .before .before .keep-ends .ensures) (c .before .before .before .before .before .before .before .before .before .before .before .before .before .before .before .before .before .before .before .before .before .before .before .before .before .before .read-loads .ensures) (c .before .before .before .before .before .before .before .before .before .before .before .before .before .before .crack-listed .ensures)
+
+pub crack-torn-spec : {M : Type 1} → statement M
+crack-torn-spec =
+    tie.close
+    (tie.spec
+    slice-aggregate-keep-ends
+    slice-aggregate-keep-ends-2
+    keep-ends-requires
+    slice-aggregate-read-loads
+    read-loads-requires
+    slice-aggregate-crack-listed
+    slice-aggregate-crack-listed-2
+    slice-aggregate-crack-listed-3
+    crack-listed-requires
+    same-length
+    same-length-2
+    same-length-3
+    same-length-4
+    same-length-5
+    same-length-6
+    same-length-7
+    returns)

@@ -1,0 +1,315 @@
+// The crack of a whole body: the torn edges of the input in turn, and what comes behind them.
+ghost use mathlib.Core.List.{[], _∷_};
+ghost use lib.ListN.{length};
+ghost use Rattle.elements.specs.Table.{kindIs};
+ghost use Rattle.model.specs.Cut.{splitPinched};
+ghost use Rattle.model.specs.Crack.{crack};
+ghost use Rattle.mesh.specs.At.{meshAt};
+ghost use Rattle.mesh.specs.Log.{worldAt};
+ghost use Rattle.mesh.specs.Filled.{lent};
+ghost use Rattle.split.specs.Working.{Ready, Works};
+ghost use Rattle.cut.specs.Running.{Logged};
+ghost use Rattle.crack.specs.Bodies.{EndsRoom, EndsKept, endsListed, CracksRoom, CracksTold, crackTurns, crackEnd};
+use elements::Kind;
+use mesh::Counts;
+use mesh::Rooms;
+use split::Ran;
+
+// Keeps the ends of the first e edges in two tables, as a crack changes their block.
+fn keep_ends(e: usize, ends: &[usize], from: &mut [usize], to: &mut [usize])
+    requires { ⌜ EndsRoom e (length (now ends)) (length (now from)) (length (now to)) ⌝ }
+    ensures { λ _. ⌜ EndsKept e (now (ends .entry)) (now (from .exit)) (now (to .exit)) ⌝ }
+{
+    let size = ends.len() / 4;
+    let last = size + e;
+    columns::copy_usize(&ends[..e], from);
+    columns::copy_usize(&ends[size..last], to);
+}
+
+// Cracks torn edge number `number` of the input by its ends there; a number not below e is skipped.
+fn crack_numbered(
+    kind: Kind,
+    minimum: usize,
+    number: usize,
+    e: usize,
+    from: &[usize],
+    to: &[usize],
+    loads: &[f32],
+    k: Counts,
+    room: Rooms,
+    points: &mut [f32],
+    roots: &mut [usize],
+    corners: &mut [usize],
+    volumes: &[f32],
+    ends: &mut [usize],
+    lengths: &mut [f32],
+    outline: &mut [usize],
+    log: &mut [usize],
+) -> Ran
+    requires { ⌜ Ready room k (lent (now points) (now roots) (now corners) (now volumes) (now ends) (now lengths) (now outline) (now log)) (meshAt k (now points) (now roots) (now corners) (now volumes) (now ends) (now lengths) (now outline)) × CracksRoom (kindIs kind) e (length (now from)) (length (now to)) k (length (now loads)) (now log) ⌝ }
+    ensures { λ r. ⌜ CracksTold (kindIs kind) minimum (k .triangles) (endsListed e (now (from .entry)) (now (to .entry)) (number ∷ [])) (now (loads .entry)) room (worldAt k (now (points .entry)) (now (roots .entry)) (now (corners .entry)) (now (volumes .entry)) (now (ends .entry)) (now (lengths .entry)) (now (outline .entry)) (now (log .entry))) (λ q. worldAt q (now (points .exit)) (now (roots .exit)) (now (corners .exit)) (now (volumes .entry)) (now (ends .exit)) (now (lengths .exit)) (now (outline .exit)) (now (log .exit))) r ⌝ }
+{
+    if number >= e {
+        return Ran::Done(k);
+    }
+    crate::edges::crack_edge(
+        kind,
+        minimum,
+        from[number],
+        to[number],
+        loads,
+        k,
+        room,
+        points,
+        roots,
+        corners,
+        volumes,
+        ends,
+        lengths,
+        outline,
+        log,
+    )
+}
+
+// Cracks the torn edges of a list in turn, until one lacks room.
+fn crack_listed(
+    kind: Kind,
+    minimum: usize,
+    torn: &[usize],
+    e: usize,
+    from: &[usize],
+    to: &[usize],
+    loads: &[f32],
+    k: Counts,
+    room: Rooms,
+    points: &mut [f32],
+    roots: &mut [usize],
+    corners: &mut [usize],
+    volumes: &[f32],
+    ends: &mut [usize],
+    lengths: &mut [f32],
+    outline: &mut [usize],
+    log: &mut [usize],
+) -> Ran
+    requires { ⌜ Ready room k (lent (now points) (now roots) (now corners) (now volumes) (now ends) (now lengths) (now outline) (now log)) (meshAt k (now points) (now roots) (now corners) (now volumes) (now ends) (now lengths) (now outline)) × CracksRoom (kindIs kind) e (length (now from)) (length (now to)) k (length (now loads)) (now log) ⌝ }
+    ensures { λ r. ⌜ CracksTold (kindIs kind) minimum (k .triangles) (endsListed e (now (from .entry)) (now (to .entry)) (now (torn .entry))) (now (loads .entry)) room (worldAt k (now (points .entry)) (now (roots .entry)) (now (corners .entry)) (now (volumes .entry)) (now (ends .entry)) (now (lengths .entry)) (now (outline .entry)) (now (log .entry))) (λ q. worldAt q (now (points .exit)) (now (roots .exit)) (now (corners .exit)) (now (volumes .entry)) (now (ends .exit)) (now (lengths .exit)) (now (outline .exit)) (now (log .exit))) r ⌝ }
+{
+    let mut counts = k;
+    let mut i: usize = 0;
+    while i < torn.len() {
+        let ran = crack_numbered(
+            kind,
+            minimum,
+            torn[i],
+            e,
+            from,
+            to,
+            loads,
+            counts,
+            room,
+            points,
+            roots,
+            corners,
+            volumes,
+            ends,
+            lengths,
+            outline,
+            log,
+        );
+        let Ran::Done(next) = ran else {
+            return ran;
+        };
+        counts = next;
+        i += 1;
+    }
+    Ran::Done(counts)
+}
+
+// Cracks the torn edges of a list in turn, by their ends and the loads of the input.
+fn crack_torn(
+    kind: Kind,
+    minimum: usize,
+    torn: &[usize],
+    k: Counts,
+    room: Rooms,
+    points: &mut [f32],
+    roots: &mut [usize],
+    corners: &mut [usize],
+    volumes: &[f32],
+    ends: &mut [usize],
+    lengths: &mut [f32],
+    outline: &mut [usize],
+    log: &mut [usize],
+) -> Ran
+    requires { ⌜ Ready room k (lent (now points) (now roots) (now corners) (now volumes) (now ends) (now lengths) (now outline) (now log)) (meshAt k (now points) (now roots) (now corners) (now volumes) (now ends) (now lengths) (now outline)) × Logged (k .log) (now log) ⌝ }
+    ensures { λ r. ⌜ Works (crackTurns (kindIs kind) minimum (now (torn .entry))) room (worldAt k (now (points .entry)) (now (roots .entry)) (now (corners .entry)) (now (volumes .entry)) (now (ends .entry)) (now (lengths .entry)) (now (outline .entry)) (now (log .entry))) (λ q. worldAt q (now (points .exit)) (now (roots .exit)) (now (corners .exit)) (now (volumes .entry)) (now (ends .exit)) (now (lengths .exit)) (now (outline .exit)) (now (log .exit))) r ⌝ }
+{
+    let mut from = [0usize; 2048];
+    let mut to = [0usize; 2048];
+    let mut loads = [0.0f32; 1024];
+    keep_ends(k.edges, ends, &mut from, &mut to);
+    crate::loads::read_loads(
+        k.triangles,
+        k.edges,
+        corners,
+        volumes,
+        ends,
+        lengths,
+        &mut loads,
+    );
+    crack_listed(
+        kind,
+        minimum,
+        torn,
+        k.edges,
+        &from,
+        &to,
+        &loads,
+        k,
+        room,
+        points,
+        roots,
+        corners,
+        volumes,
+        ends,
+        lengths,
+        outline,
+        log,
+    )
+}
+
+// Splits the particles near a split that were left joining two pieces alone, where the elements are triangles.
+fn split_pinched(
+    kind: Kind,
+    k: Counts,
+    room: Rooms,
+    points: &mut [f32],
+    roots: &mut [usize],
+    corners: &mut [usize],
+    volumes: &[f32],
+    ends: &mut [usize],
+    lengths: &mut [f32],
+    outline: &mut [usize],
+    log: &mut [usize],
+) -> Ran
+    requires { ⌜ Ready room k (lent (now points) (now roots) (now corners) (now volumes) (now ends) (now lengths) (now outline) (now log)) (meshAt k (now points) (now roots) (now corners) (now volumes) (now ends) (now lengths) (now outline)) × Logged (k .log) (now log) ⌝ }
+    ensures { λ r. ⌜ Works (splitPinched (kindIs kind)) room (worldAt k (now (points .entry)) (now (roots .entry)) (now (corners .entry)) (now (volumes .entry)) (now (ends .entry)) (now (lengths .entry)) (now (outline .entry)) (now (log .entry))) (λ q. worldAt q (now (points .exit)) (now (roots .exit)) (now (corners .exit)) (now (volumes .entry)) (now (ends .exit)) (now (lengths .exit)) (now (outline .exit)) (now (log .exit))) r ⌝ }
+{
+    match kind {
+        Kind::Triangles => cut::facets::split_pinched(
+            k,
+            room,
+            points,
+            roots,
+            corners,
+            volumes,
+            ends,
+            lengths,
+            outline,
+            log,
+        ),
+        Kind::Straps => Ran::Done(k),
+        Kind::Nothing => Ran::Done(k),
+    }
+}
+
+// Behind the torn edges, if anything split: the pinched particles, and then the straddlers across pieces.
+fn finish_crack(
+    kind: Kind,
+    k: Counts,
+    room: Rooms,
+    points: &mut [f32],
+    roots: &mut [usize],
+    corners: &mut [usize],
+    volumes: &[f32],
+    ends: &mut [usize],
+    lengths: &mut [f32],
+    outline: &mut [usize],
+    log: &mut [usize],
+) -> Ran
+    requires { ⌜ Ready room k (lent (now points) (now roots) (now corners) (now volumes) (now ends) (now lengths) (now outline) (now log)) (meshAt k (now points) (now roots) (now corners) (now volumes) (now ends) (now lengths) (now outline)) × Logged (k .log) (now log) ⌝ }
+    ensures { λ r. ⌜ Works (crackEnd (kindIs kind)) room (worldAt k (now (points .entry)) (now (roots .entry)) (now (corners .entry)) (now (volumes .entry)) (now (ends .entry)) (now (lengths .entry)) (now (outline .entry)) (now (log .entry))) (λ q. worldAt q (now (points .exit)) (now (roots .exit)) (now (corners .exit)) (now (volumes .entry)) (now (ends .exit)) (now (lengths .exit)) (now (outline .exit)) (now (log .exit))) r ⌝ }
+{
+    if cut::marks::any_split(k.log, log) {
+        let ran = split_pinched(
+            kind,
+            k,
+            room,
+            points,
+            roots,
+            corners,
+            volumes,
+            ends,
+            lengths,
+            outline,
+            log,
+        );
+        let Ran::Done(next) = ran else {
+            return ran;
+        };
+        return split::straddlers::remove_straddlers(
+            kind,
+            next,
+            room,
+            corners,
+            volumes,
+            ends,
+            lengths,
+            outline,
+            log,
+        );
+    }
+    Ran::Done(k)
+}
+
+// Cracks the body across torn edges of the input, each in turn, and then does what comes behind them.
+pub fn crack_body(
+    kind: Kind,
+    minimum: usize,
+    torn: &[usize],
+    k: Counts,
+    room: Rooms,
+    points: &mut [f32],
+    roots: &mut [usize],
+    corners: &mut [usize],
+    volumes: &[f32],
+    ends: &mut [usize],
+    lengths: &mut [f32],
+    outline: &mut [usize],
+    log: &mut [usize],
+) -> Ran
+    requires { ⌜ Ready room k (lent (now points) (now roots) (now corners) (now volumes) (now ends) (now lengths) (now outline) (now log)) (meshAt k (now points) (now roots) (now corners) (now volumes) (now ends) (now lengths) (now outline)) × Logged (k .log) (now log) ⌝ }
+    ensures { λ r. ⌜ Works (crack (kindIs kind) minimum (now (torn .entry))) room (worldAt k (now (points .entry)) (now (roots .entry)) (now (corners .entry)) (now (volumes .entry)) (now (ends .entry)) (now (lengths .entry)) (now (outline .entry)) (now (log .entry))) (λ q. worldAt q (now (points .exit)) (now (roots .exit)) (now (corners .exit)) (now (volumes .entry)) (now (ends .exit)) (now (lengths .exit)) (now (outline .exit)) (now (log .exit))) r ⌝ }
+{
+    let ran = crack_torn(
+        kind,
+        minimum,
+        torn,
+        k,
+        room,
+        points,
+        roots,
+        corners,
+        volumes,
+        ends,
+        lengths,
+        outline,
+        log,
+    );
+    let Ran::Done(counts) = ran else {
+        return ran;
+    };
+    finish_crack(
+        kind,
+        counts,
+        room,
+        points,
+        roots,
+        corners,
+        volumes,
+        ends,
+        lengths,
+        outline,
+        log,
+    )
+}

@@ -1,0 +1,453 @@
+// One torn edge cracked: the pair that stands for it now, the ways at both ends in their order, and the first that opens without confetti.
+ghost use mathlib.Core.Path.{_≡_};
+ghost use Prim.Native.Nat.{_<_};
+ghost use mathlib.Core.Bool.{true};
+ghost use lib.ListN.{length, take};
+ghost use Rattle.elements.specs.Table.{kindIs};
+ghost use Rattle.mesh.specs.At.{meshAt};
+ghost use Rattle.mesh.specs.Log.{worldAt};
+ghost use Rattle.mesh.specs.Filled.{lent};
+ghost use Rattle.model.specs.Split.{openingOf};
+ghost use Rattle.model.specs.Crack.{twoSided};
+ghost use Rattle.split.specs.Working.{Ready};
+ghost use Rattle.split.specs.Tables.{FanSided};
+ghost use Rattle.cut.specs.Running.{Logged};
+ghost use Rattle.crack.specs.Tried.{LoadsLong};
+ghost use Rattle.crack.specs.Torn.{TearAsked};
+ghost use Rattle.crack.specs.Cracks.{PairReady, PairNow, WayAsked, OpenedTo, TriedTo, EndsTold, PairTold, CrackTold};
+use crate::families::Pair;
+use elements::Kind;
+use mesh::Counts;
+use mesh::Rooms;
+use split::Ran;
+
+// What trying a way came to: it doesn't open, or what its split came to.
+pub enum Tried {
+    Not,
+    Tore(Ran),
+}
+
+// The particles that now stand for the torn edge (a, b), if any: the elements are read into a table for it.
+fn pair_now(
+    kind: Kind,
+    a: usize,
+    b: usize,
+    k: Counts,
+    points: &[f32],
+    roots: &[usize],
+    corners: &[usize],
+    volumes: &[f32],
+    ends: &[usize],
+    lengths: &[f32],
+    outline: &[usize],
+    log: &[usize],
+) -> Pair
+    requires { ⌜ PairReady k (length (now corners)) (length (now volumes)) (length (now ends)) (length (now lengths)) (length (now log)) (meshAt k (now points) (now roots) (now corners) (now volumes) (now ends) (now lengths) (now outline)) × Logged (k .log) (now log) ⌝ }
+    ensures { λ r. ⌜ PairNow (kindIs kind) a b (k .particles) (worldAt k (now (points .entry)) (now (roots .entry)) (now (corners .entry)) (now (volumes .entry)) (now (ends .entry)) (now (lengths .entry)) (now (outline .entry)) (now (log .entry))) r ⌝ }
+{
+    let mut numbers = [0usize; 2048];
+    let mut verts = [0usize; 4096];
+    let mut measures = [0.0f32; 2048];
+    let n = elements::element_table(
+        kind,
+        k.triangles,
+        k.edges,
+        corners,
+        volumes,
+        ends,
+        lengths,
+        &mut numbers,
+        &mut verts,
+        &mut measures,
+    );
+    let per = elements::corners_per(kind);
+    crate::families::current_pair(a, b, k.log, log, per, n, &verts, k.edges, ends)
+}
+
+// Splits v by the sides of its fan across the edge (x, y), if each group then reaches the minimum piece.
+fn open_way(
+    kind: Kind,
+    minimum: usize,
+    v: usize,
+    w: usize,
+    x: usize,
+    y: usize,
+    a: usize,
+    b: usize,
+    n: usize,
+    numbers: &[usize],
+    verts: &[usize],
+    measures: &[f32],
+    sides: &[usize],
+    k: Counts,
+    room: Rooms,
+    points: &mut [f32],
+    roots: &mut [usize],
+    corners: &mut [usize],
+    volumes: &[f32],
+    ends: &mut [usize],
+    lengths: &mut [f32],
+    outline: &mut [usize],
+    log: &mut [usize],
+) -> Tried
+    requires { ⌜ Ready room k (lent (now points) (now roots) (now corners) (now volumes) (now ends) (now lengths) (now outline) (now log)) (meshAt k (now points) (now roots) (now corners) (now volumes) (now ends) (now lengths) (now outline)) × FanSided (kindIs kind) (meshAt k (now points) (now roots) (now corners) (now volumes) (now ends) (now lengths) (now outline)) v n (now numbers) (now verts) (now measures) (now sides) × (twoSided (meshAt k (now points) (now roots) (now corners) (now volumes) (now ends) (now lengths) (now outline)) v (take n (now sides)) ≡ true) × TearAsked v w x y (k .particles) ⌝ }
+    ensures { λ r. ⌜ OpenedTo (kindIs kind) minimum (openingOf (kindIs kind) (meshAt k (now (points .entry)) (now (roots .entry)) (now (corners .entry)) (now (volumes .entry)) (now (ends .entry)) (now (lengths .entry)) (now (outline .entry))) v (take n (now (sides .entry)))) (a, b) (x, y) room k
+        (worldAt k (now (points .entry)) (now (roots .entry)) (now (corners .entry)) (now (volumes .entry)) (now (ends .entry)) (now (lengths .entry)) (now (outline .entry)) (now (log .entry)))
+        (λ q. worldAt q (now (points .exit)) (now (roots .exit)) (now (corners .exit)) (now (volumes .entry)) (now (ends .exit)) (now (lengths .exit)) (now (outline .exit)) (now (log .exit))) r ⌝ }
+{
+    let mut groups = [0usize; 2048];
+    let count = split::fans::group_fan(kind, v, n, verts, sides, &mut groups);
+    if crate::tried::way_opens(
+        kind,
+        v,
+        n,
+        count,
+        minimum,
+        k,
+        points,
+        roots,
+        corners,
+        volumes,
+        ends,
+        lengths,
+        outline,
+        &groups,
+    ) {
+        return Tried::Tore(crate::opens::tear_open(
+            kind,
+            v,
+            w,
+            x,
+            y,
+            a,
+            b,
+            n,
+            count,
+            numbers,
+            verts,
+            measures,
+            &groups,
+            k,
+            room,
+            points,
+            roots,
+            corners,
+            volumes,
+            ends,
+            lengths,
+            outline,
+            log,
+        ));
+    }
+    Tried::Not
+}
+
+// Tries the way at v, an end of (x, y) whose other is w: both sides must be there, and each group reach the minimum piece.
+fn try_way(
+    kind: Kind,
+    minimum: usize,
+    v: usize,
+    w: usize,
+    x: usize,
+    y: usize,
+    a: usize,
+    b: usize,
+    k: Counts,
+    room: Rooms,
+    points: &mut [f32],
+    roots: &mut [usize],
+    corners: &mut [usize],
+    volumes: &[f32],
+    ends: &mut [usize],
+    lengths: &mut [f32],
+    outline: &mut [usize],
+    log: &mut [usize],
+) -> Tried
+    requires { ⌜ Ready room k (lent (now points) (now roots) (now corners) (now volumes) (now ends) (now lengths) (now outline) (now log)) (meshAt k (now points) (now roots) (now corners) (now volumes) (now ends) (now lengths) (now outline)) × WayAsked v w x y (k .particles) ⌝ }
+    ensures { λ r. ⌜ TriedTo (kindIs kind) minimum v w (a, b) (x, y) room k
+        (worldAt k (now (points .entry)) (now (roots .entry)) (now (corners .entry)) (now (volumes .entry)) (now (ends .entry)) (now (lengths .entry)) (now (outline .entry)) (now (log .entry)))
+        (λ q. worldAt q (now (points .exit)) (now (roots .exit)) (now (corners .exit)) (now (volumes .entry)) (now (ends .exit)) (now (lengths .exit)) (now (outline .exit)) (now (log .exit))) r ⌝ }
+{
+    let mut numbers = [0usize; 2048];
+    let mut verts = [0usize; 4096];
+    let mut measures = [0.0f32; 2048];
+    let mut sides = [0usize; 2048];
+    let n = crate::tried::way_tables(
+        kind,
+        v,
+        w,
+        k,
+        points,
+        roots,
+        corners,
+        volumes,
+        ends,
+        lengths,
+        outline,
+        &mut numbers,
+        &mut verts,
+        &mut measures,
+        &mut sides,
+    );
+    if crate::ways::two_sided(v, n, &sides, points) {
+        return open_way(
+            kind,
+            minimum,
+            v,
+            w,
+            x,
+            y,
+            a,
+            b,
+            n,
+            &numbers,
+            &verts,
+            &measures,
+            &sides,
+            k,
+            room,
+            points,
+            roots,
+            corners,
+            volumes,
+            ends,
+            lengths,
+            outline,
+            log,
+        );
+    }
+    Tried::Not
+}
+
+// Tries the way at v, and where it does not open the way at w; v and w are the ends of (x, y).
+fn crack_ends(
+    kind: Kind,
+    minimum: usize,
+    v: usize,
+    w: usize,
+    x: usize,
+    y: usize,
+    a: usize,
+    b: usize,
+    k: Counts,
+    room: Rooms,
+    points: &mut [f32],
+    roots: &mut [usize],
+    corners: &mut [usize],
+    volumes: &[f32],
+    ends: &mut [usize],
+    lengths: &mut [f32],
+    outline: &mut [usize],
+    log: &mut [usize],
+) -> Ran
+    requires { ⌜ Ready room k (lent (now points) (now roots) (now corners) (now volumes) (now ends) (now lengths) (now outline) (now log)) (meshAt k (now points) (now roots) (now corners) (now volumes) (now ends) (now lengths) (now outline)) × WayAsked v w x y (k .particles) × WayAsked w v x y (k .particles) ⌝ }
+    ensures { λ r. ⌜ EndsTold (kindIs kind) minimum v w (a, b) (x, y) room
+        (worldAt k (now (points .entry)) (now (roots .entry)) (now (corners .entry)) (now (volumes .entry)) (now (ends .entry)) (now (lengths .entry)) (now (outline .entry)) (now (log .entry)))
+        (λ q. worldAt q (now (points .exit)) (now (roots .exit)) (now (corners .exit)) (now (volumes .entry)) (now (ends .exit)) (now (lengths .exit)) (now (outline .exit)) (now (log .exit))) r ⌝ }
+{
+    let first = try_way(
+        kind,
+        minimum,
+        v,
+        w,
+        x,
+        y,
+        a,
+        b,
+        k,
+        room,
+        points,
+        roots,
+        corners,
+        volumes,
+        ends,
+        lengths,
+        outline,
+        log,
+    );
+    if let Tried::Tore(ran) = first {
+        return ran;
+    }
+    let second = try_way(
+        kind,
+        minimum,
+        w,
+        v,
+        x,
+        y,
+        a,
+        b,
+        k,
+        room,
+        points,
+        roots,
+        corners,
+        volumes,
+        ends,
+        lengths,
+        outline,
+        log,
+    );
+    match second {
+        Tried::Tore(ran) => ran,
+        Tried::Not => Ran::Done(k),
+    }
+}
+
+// Cracks the pair (x, y), which stands for the torn edge (a, b): the end with the higher mean load is tried first, then the one with the lower number.
+fn crack_pair(
+    kind: Kind,
+    minimum: usize,
+    x: usize,
+    y: usize,
+    a: usize,
+    b: usize,
+    loads: &[f32],
+    k: Counts,
+    room: Rooms,
+    points: &mut [f32],
+    roots: &mut [usize],
+    corners: &mut [usize],
+    volumes: &[f32],
+    ends: &mut [usize],
+    lengths: &mut [f32],
+    outline: &mut [usize],
+    log: &mut [usize],
+) -> Ran
+    requires { ⌜ Ready room k (lent (now points) (now roots) (now corners) (now volumes) (now ends) (now lengths) (now outline) (now log)) (meshAt k (now points) (now roots) (now corners) (now volumes) (now ends) (now lengths) (now outline)) × LoadsLong (kindIs kind) k (length (now loads)) × (x < k .particles) × (y < k .particles) ⌝ }
+    ensures { λ r. ⌜ PairTold (kindIs kind) minimum (k .triangles) (a, b) (x, y) (now (loads .entry)) room
+        (worldAt k (now (points .entry)) (now (roots .entry)) (now (corners .entry)) (now (volumes .entry)) (now (ends .entry)) (now (lengths .entry)) (now (outline .entry)) (now (log .entry)))
+        (λ q. worldAt q (now (points .exit)) (now (roots .exit)) (now (corners .exit)) (now (volumes .entry)) (now (ends .exit)) (now (lengths .exit)) (now (outline .exit)) (now (log .exit))) r ⌝ }
+{
+    let p = crate::tried::way_load(
+        kind,
+        x,
+        y,
+        k,
+        loads,
+        points,
+        roots,
+        corners,
+        volumes,
+        ends,
+        lengths,
+        outline,
+    );
+    let q = crate::tried::way_load(
+        kind,
+        y,
+        x,
+        k,
+        loads,
+        points,
+        roots,
+        corners,
+        volumes,
+        ends,
+        lengths,
+        outline,
+    );
+    if crate::ways::goes_first(q, y, p, x) {
+        return crack_ends(
+            kind,
+            minimum,
+            y,
+            x,
+            x,
+            y,
+            a,
+            b,
+            k,
+            room,
+            points,
+            roots,
+            corners,
+            volumes,
+            ends,
+            lengths,
+            outline,
+            log,
+        );
+    }
+    crack_ends(
+        kind,
+        minimum,
+        x,
+        y,
+        x,
+        y,
+        a,
+        b,
+        k,
+        room,
+        points,
+        roots,
+        corners,
+        volumes,
+        ends,
+        lengths,
+        outline,
+        log,
+    )
+}
+
+// Cracks the torn edge that was (a, b) in the input, if a pair stands for it still.
+pub fn crack_edge(
+    kind: Kind,
+    minimum: usize,
+    a: usize,
+    b: usize,
+    loads: &[f32],
+    k: Counts,
+    room: Rooms,
+    points: &mut [f32],
+    roots: &mut [usize],
+    corners: &mut [usize],
+    volumes: &[f32],
+    ends: &mut [usize],
+    lengths: &mut [f32],
+    outline: &mut [usize],
+    log: &mut [usize],
+) -> Ran
+    requires { ⌜ Ready room k (lent (now points) (now roots) (now corners) (now volumes) (now ends) (now lengths) (now outline) (now log)) (meshAt k (now points) (now roots) (now corners) (now volumes) (now ends) (now lengths) (now outline)) × Logged (k .log) (now log) × LoadsLong (kindIs kind) k (length (now loads)) ⌝ }
+    ensures { λ r. ⌜ CrackTold (kindIs kind) minimum a b (k .triangles) (now (loads .entry)) room
+        (worldAt k (now (points .entry)) (now (roots .entry)) (now (corners .entry)) (now (volumes .entry)) (now (ends .entry)) (now (lengths .entry)) (now (outline .entry)) (now (log .entry)))
+        (λ q. worldAt q (now (points .exit)) (now (roots .exit)) (now (corners .exit)) (now (volumes .entry)) (now (ends .exit)) (now (lengths .exit)) (now (outline .exit)) (now (log .exit))) r ⌝ }
+{
+    let pair = pair_now(
+        kind,
+        a,
+        b,
+        k,
+        points,
+        roots,
+        corners,
+        volumes,
+        ends,
+        lengths,
+        outline,
+        log,
+    );
+    match pair {
+        Pair::None => Ran::Done(k),
+        Pair::Ends(x, y) => crack_pair(
+            kind,
+            minimum,
+            x,
+            y,
+            a,
+            b,
+            loads,
+            k,
+            room,
+            points,
+            roots,
+            corners,
+            volumes,
+            ends,
+            lengths,
+            outline,
+            log,
+        ),
+    }
+}

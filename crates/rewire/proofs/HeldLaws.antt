@@ -1,0 +1,144 @@
+-- Laws of two particles that an element holds: one row of the columns, and the rows as the model's elements. Assumes nothing.
+use mathlib.Core.Path.{_≡_, refl, sym, _∙_, ap, ap₂}
+use mathlib.Core.Bool.{Bool, true, false, _&&_, _||_}
+use mathlib.Core.List.{List, [], _∷_}
+use Prim.Native.Nat.{ℕ, zero, suc, _+_, _*_, _/_, _<_, _≤_}
+use borrow.Author.Tests.{eq-eqb, ne-eqb}
+use lib.ListN.{length, getD}
+use Rattle.lists.specs.Lists.{pick, stands, any, tab, upTo}
+use Rattle.columns.specs.Block.{cell}
+use Rattle.columns.proofs.Cells.{col-0, col-1}
+use Rattle.columns.proofs.Rows.{any-none, any-more, any-stops, any-end}
+use Rattle.elements.proofs.Held.{holdsBoth, both-true, both-false}
+use Rattle.model.specs.Mesh.{Triangle, Edge}
+use Rattle.model.specs.Elements.{Triangles, Straps, Nothing, Element, cornersOf, endsOf, structural?, strapElement, trianglesFrom, strapsFrom, elementsOf, held}
+use Rattle.mesh.specs.At.{trianglesAt, edgesAt, triangleRow, edgeRow}
+use Rattle.rewire.specs.RoomsB.{bothIn, triangleHolds, strapHolds, HeldTold}
+
+-- ---- one row
+
+module _ (w a b c : ℕ) where
+  -- w is the first corner, or one of the others
+  pub among-first : a ≡ w → true ≡ stands w (a ∷ b ∷ c ∷ [])
+  among-first e = rw (eq-eqb a w e)
+
+  pub among-others : (t : Bool) → (a ≡ w → ⊥) → t ≡ stands w (b ∷ c ∷ []) → t ≡ stands w (a ∷ b ∷ c ∷ [])
+  among-others t n e = rw (ne-eqb a w n) e
+
+-- the corners of triangle i, the ends of edge i and its flag, as the program reads them
+abbrev threeAt : List ℕ → ℕ → List ℕ
+threeAt C i = getD C i 0 ∷ getD C (length C / 3 + i) 0 ∷ getD C (2 * (length C / 3) + i) 0 ∷ []
+
+abbrev twoAt : List ℕ → ℕ → List ℕ
+twoAt E i = getD E i 0 ∷ getD E (length E / 4 + i) 0 ∷ []
+
+corners-read : (C : List ℕ) (i : ℕ) → threeAt C i ≡ cell 0 (length C / 3) C 0 i ∷ cell 0 (length C / 3) C 1 i ∷ cell 0 (length C / 3) C 2 i ∷ []
+unfolding cell
+corners-read C i = ap₂ (λ (a b : ℕ). a ∷ b ∷ getD C (2 * (length C / 3) + i) 0 ∷ []) (sym (col-0 0 (length C / 3) C i)) (sym (col-1 0 (length C / 3) C i))
+
+ends-read : (E : List ℕ) (i : ℕ) → twoAt E i ≡ cell 0 (length E / 4) E 0 i ∷ cell 0 (length E / 4) E 1 i ∷ []
+ends-read E i = ap₂ (λ (a b : ℕ). a ∷ b ∷ []) (sym (col-0 0 (length E / 4) E i)) (sym (col-1 0 (length E / 4) E i))
+
+flag-read : (E : List ℕ) (i : ℕ) → cell 0 (length E / 4) E 2 i ≡ getD E (2 * (length E / 4) + i) 0
+unfolding cell
+flag-read E i = refl
+
+-- triangle i, one test behind the other
+module _ (x y : ℕ) (C : List ℕ) (i : ℕ) (s : Bool) (p : s ≡ stands x (threeAt C i)) where
+  pub triangle-both : s ≡ true → (t : Bool) → t ≡ stands y (threeAt C i) → t ≡ triangleHolds x y C i
+  triangle-both q t r = both-true (sym p ∙ q) r ∙ ap (bothIn x y) (corners-read C i)
+
+  pub triangle-not : s ≡ false → false ≡ triangleHolds x y C i
+  triangle-not q = both-false (stands y (threeAt C i)) (sym p ∙ q) ∙ ap (bothIn x y) (corners-read C i)
+
+-- edge i, one test behind the other
+module _ (x y : ℕ) (E : List ℕ) (i : ℕ) where
+  pub strap-loose : (getD E (2 * (length E / 4) + i) 0 ≡ 1 → ⊥) → false ≡ strapHolds x y E i
+  strap-loose n = both-false (bothIn x y (cell 0 (length E / 4) E 0 i ∷ cell 0 (length E / 4) E 1 i ∷ [])) (ne-eqb (cell 0 (length E / 4) E 2 i) 1 (λ q. n (sym (flag-read E i) ∙ q)))
+
+  module _ (e : getD E (2 * (length E / 4) + i) 0 ≡ 1) (s : Bool) (p : s ≡ stands x (twoAt E i)) where
+    strap-told : (t : Bool) → t ≡ bothIn x y (twoAt E i) → t ≡ strapHolds x y E i
+    strap-told t q = both-true (eq-eqb (cell 0 (length E / 4) E 2 i) 1 (flag-read E i ∙ e)) (q ∙ ap (bothIn x y) (ends-read E i))
+
+    pub strap-both : s ≡ true → (t : Bool) → t ≡ stands y (twoAt E i) → t ≡ strapHolds x y E i
+    strap-both q t r = strap-told t (both-true (sym p ∙ q) r)
+
+    pub strap-not : s ≡ false → false ≡ strapHolds x y E i
+    strap-not q = strap-told false (both-false (stands y (twoAt E i)) (sym p ∙ q))
+
+-- ---- the rows, one after the other
+
+module _ (p : ℕ → Bool) where
+  -- none passed before the first; none yet
+  pub passed-none : any p (upTo 0) ≡ false
+  unfolding upTo
+  passed-none = any-none p (λ k. k)
+
+  pub passed-more : (i : ℕ) → any p (upTo i) ≡ false → p i ≡ false → any p (upTo (i + 1)) ≡ false
+  unfolding upTo
+  passed-more i h g = any-more p i (λ k. k) h g
+
+  -- one that passes, and the end
+  pub passed-here : (n i : ℕ) → i < n → p i ≡ true → true ≡ any p (upTo n)
+  unfolding upTo
+  passed-here n i h g = sym (any-stops p n i (λ k. k) h g)
+
+  pub passed-all : (n i : ℕ) → any p (upTo i) ≡ false → i ≤ n → n ≤ i → false ≡ any p (upTo n)
+  unfolding upTo
+  passed-all n i h a b = any-end p n i (λ k. k) h a b
+
+any-along : {A : Type 0} (p : A → Bool) (n : ℕ) (row : ℕ → A) (f : ℕ → ℕ) → any (λ k. p (row k)) (tab n f) ≡ any p (tab n (λ k. row (f k)))
+unfolding any tab
+any-along p zero row f = refl
+any-along p (suc n) row f = ap (λ (b : Bool). p (row (f 0)) || b) (any-along p n row (λ k. f (suc k)))
+
+-- a test of the numbers is a test of the rows
+any-rows : {A : Type 0} (p : A → Bool) (n : ℕ) (row : ℕ → A) → any (λ k. p (row k)) (upTo n) ≡ any p (tab n row)
+unfolding upTo
+any-rows p n row = any-along p n row (λ k. k)
+
+-- ---- the model's elements
+
+module _ (x y : ℕ) where
+  triangles-hold : (i : ℕ) (ts : List Triangle) → any (λ (t : Triangle). bothIn x y (cornersOf t)) ts ≡ any (holdsBoth x y) (trianglesFrom i ts)
+  unfolding any trianglesFrom
+  triangles-hold i [] = refl
+  triangles-hold i (t ∷ ts) = ap (λ (b : Bool). bothIn x y (cornersOf t) || b) (triangles-hold (suc i) ts)
+
+  strap-more : (s : Bool) (i : ℕ) (e : Edge) (r : Bool) (l : List Element) → r ≡ any (holdsBoth x y) l → (s && bothIn x y (endsOf e)) || r ≡ any (holdsBoth x y) (pick s (strapElement i e ∷ l) l)
+  unfolding any
+  strap-more true i e r l q = ap (λ (b : Bool). bothIn x y (endsOf e) || b) q
+  strap-more false i e r l q = q
+
+  straps-hold : (i : ℕ) (es : List Edge) → any (λ (e : Edge). structural? e && bothIn x y (endsOf e)) es ≡ any (holdsBoth x y) (strapsFrom i es)
+  unfolding any strapsFrom
+  straps-hold i [] = refl
+  straps-hold i (e ∷ es) = strap-more (structural? e) i e (any (λ (e : Edge). structural? e && bothIn x y (endsOf e)) es) (strapsFrom (suc i) es) (straps-hold (suc i) es)
+
+  module _ (t e : ℕ) (C E : List ℕ) where
+    -- the triangles of the block are those of the mesh
+    pub held-triangles : (r : Bool) → r ≡ any (triangleHolds x y C) (upTo t) → HeldTold Triangles x y t e C E r
+    unfolding held elementsOf trianglesAt
+    held-triangles r q =
+        record {
+          is =
+              λ M W L p s.
+              q ∙ any-rows (λ (a : Triangle). bothIn x y (cornersOf a)) t (triangleRow (length C / 3) (length W / 2) C W)
+              ∙ ap (any (λ (a : Triangle). bothIn x y (cornersOf a))) (sym p) ∙ triangles-hold 0 (M .triangles);
+        }
+
+    -- the structural edges
+    pub held-straps : (r : Bool) → r ≡ any (strapHolds x y E) (upTo e) → HeldTold Straps x y t e C E r
+    unfolding held elementsOf edgesAt
+    held-straps r q =
+        record {
+          is =
+              λ M W L p s.
+              q ∙ any-rows (λ (a : Edge). structural? a && bothIn x y (endsOf a)) e (edgeRow (length E / 4) (length L / 4) E L)
+              ∙ ap (any (λ (a : Edge). structural? a && bothIn x y (endsOf a))) (sym s) ∙ straps-hold 0 (M .edges);
+        }
+
+    -- nothing has no element
+    pub held-nothing : HeldTold Nothing x y t e C E false
+    unfolding held elementsOf any
+    held-nothing = record { is = λ M W L p s. refl }

@@ -1,0 +1,101 @@
+// Does an element hold two particles: asked of the columns of the triangles, or of the edges, and of no table of the elements.
+ghost use mathlib.Core.Path.{_≡_};
+ghost use mathlib.Core.List.{[], _∷_};
+ghost use Prim.Native.Nat.{_/_, _<_, _≤_};
+ghost use lib.ListN.{length};
+ghost use Rattle.lists.specs.Lists.{stands, any, upTo};
+ghost use Rattle.elements.specs.Table.{kindIs};
+ghost use Rattle.rewire.specs.RoomsB.{triangleHolds, strapHolds, HeldTold};
+use elements::Kind;
+
+// Is w one of the corners a, b and c?
+fn among(w: usize, a: usize, b: usize, c: usize) -> bool
+    ensures { λ r. ⌜ r ≡ stands w (a ∷ b ∷ c ∷ []) ⌝ }
+{
+    if a == w {
+        return true;
+    }
+    crate::boundary::names(w, b, c)
+}
+
+// Does triangle i hold both x and y?
+fn triangle_holds(x: usize, y: usize, i: usize, corners: &[usize]) -> bool
+    requires { ⌜ i < length (now corners) / 3 ⌝ }
+    ensures { λ r. ⌜ r ≡ triangleHolds x y (now (corners .entry)) i ⌝ }
+{
+    let n = corners.len() / 3;
+    let a = corners[i];
+    let b = corners[n + i];
+    let c = corners[2 * n + i];
+    if among(x, a, b, c) {
+        return among(y, a, b, c);
+    }
+    false
+}
+
+// Is edge i structural, and does it hold both x and y?
+fn strap_holds(x: usize, y: usize, i: usize, ends: &[usize]) -> bool
+    requires { ⌜ i < length (now ends) / 4 ⌝ }
+    ensures { λ r. ⌜ r ≡ strapHolds x y (now (ends .entry)) i ⌝ }
+{
+    let n = ends.len() / 4;
+    if ends[2 * n + i] != 1 {
+        return false;
+    }
+    let a = ends[i];
+    let b = ends[n + i];
+    if crate::boundary::names(x, a, b) {
+        return crate::boundary::names(y, a, b);
+    }
+    false
+}
+
+// Does one of the first t triangles hold both x and y?
+fn any_triangle(x: usize, y: usize, t: usize, corners: &[usize]) -> bool
+    requires { ⌜ t ≤ length (now corners) / 3 ⌝ }
+    ensures { λ r. ⌜ r ≡ any (triangleHolds x y (now (corners .entry))) (upTo t) ⌝ }
+{
+    let mut i: usize = 0;
+    while i < t {
+        if triangle_holds(x, y, i, corners) {
+            return true;
+        }
+        i += 1;
+    }
+    false
+}
+
+// Does one of the structural edges among the first e hold both x and y?
+fn any_strap(x: usize, y: usize, e: usize, ends: &[usize]) -> bool
+    requires { ⌜ e ≤ length (now ends) / 4 ⌝ }
+    ensures { λ r. ⌜ r ≡ any (strapHolds x y (now (ends .entry))) (upTo e) ⌝ }
+{
+    let mut i: usize = 0;
+    while i < e {
+        if strap_holds(x, y, i, ends) {
+            return true;
+        }
+        i += 1;
+    }
+    false
+}
+
+// Does an element hold both x and y, where the elements are among the first t triangles, or the first e edges?
+pub fn held(
+    kind: Kind,
+    x: usize,
+    y: usize,
+    t: usize,
+    e: usize,
+    corners: &[usize],
+    ends: &[usize],
+) -> bool
+    requires { ⌜ (t ≤ length (now corners) / 3) × (e ≤ length (now ends) / 4) ⌝ }
+    ensures { λ r. ⌜ HeldTold (kindIs kind) x y t e (now (corners .entry)) (now (ends .entry)) r ⌝ }
+{
+    match kind {
+        Kind::Triangles => any_triangle(x, y, t, corners),
+        Kind::Straps => any_strap(x, y, e, ends),
+        Kind::Nothing => false,
+    }
+}

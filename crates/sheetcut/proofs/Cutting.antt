@@ -1,0 +1,64 @@
+-- A cut with the places that the program lends, and its listing; from the cut of fronts to the cut of a sheet, and to what the program prints. Assumes nothing.
+use Prim.Native.Nat.{ℕ}
+use mathlib.Core.Path.{_≡_, sym, ap, _∙_, subst}
+use mathlib.Core.Bool.{Bool}
+use mathlib.Core.List.{List}
+use lib.ListN.{length, getD}
+use lib.Ieee.{Float, nan}
+use Rattle.model.specs.Mesh.{Mesh}
+use Rattle.model.specs.Cut.{Blade}
+use Rattle.model.specs.Calls.{Outcome, cutCall}
+use Rattle.mesh.specs.Given.{Lent, meshOf, sizesFit, roomsOf, asRooms}
+use Rattle.mesh.specs.Filled.{lent}
+use Rattle.answer.specs.Answered.{Answered}
+use Rattle.answer.specs.declared.Answer.{Answer}
+use Rattle.bits.specs.Bits.{bitsOf}
+use Rattle.sheet.specs.Sheet.{sheetWith, seenOf}
+use Rattle.sheet.specs.declared.Counts.{Counts}
+use Rattle.sheet.specs.declared.Seen.{Seen}
+use Rattle.sheet.specs.declared.Seen.the-variants.{Whole, Refused}
+use Rattle.listing.specs.Listing.{printed, refusedBytes}
+use Rattle.listing.specs.declared.Written.{Written}
+use Rattle.sheetcut.specs.SheetCut.{limits, rooms, fraction, cutOf, cutSeen, listed, Told}
+use Rattle.sheetcut.specs.Work.{Ample, Cuttable, Listable, textOf, fronts, FrontsRead}
+use Rattle.sheetcut.proofs.Answering.{places, cut-listable, cut-text}
+use Rattle.sheetcut.proofs.Reading.{seen-few, fronts-cut}
+
+-- ---- the cut of blocks
+
+module _ (sized : Bool) (M : Mesh) (B : Blade) (f : Float) (a : Answer) (L : Lent) (p : List Float) (r c : List ℕ) (v : List Float) (e : List ℕ) (l : List Float) (b g : List ℕ)
+    (A : Answered (cutCall sized M B f (asRooms (roomsOf L))) L a p r c v e l b g) (same : L ≡ places) (kept : lent p r c v e l b g ≡ L) where
+  answered-places : Answered (cutCall sized M B f (asRooms (roomsOf places))) places a p r c v e l b g
+  answered-places = subst (λ (x : Lent). Answered (cutCall sized M B f (asRooms (roomsOf x))) x a p r c v e l b g) same A
+
+  -- the answer can be listed
+  pub lent-listable : Listable a c v e l (length g)
+  lent-listable = cut-listable sized M B f a p r c v e l b g (kept ∙ same) answered-places
+
+  -- and the text is what is printed for the cut
+  pub lent-listed : (n : ℕ) (s : List ℕ) (w : Written) → f ≡ fraction → Told (textOf a c v e l g) n s w → Told (printed (cutCall sized M B fraction rooms)) n s w
+  lent-listed n s w q W = subst (λ (t : List ℕ). Told t n s w) (cut-text sized M B f a p r c v e l b g (kept ∙ same) answered-places q) W
+
+-- ---- the cut of a sheet
+
+-- the blocks of a whole sheet can be cut
+pub whole-cuttable : (s : List ℕ) (c : Counts) (L : Lent) (blade : ℕ) → seenOf limits s ≡ Whole c → Ample L → blade ≡ 4 → Cuttable c L blade
+whole-cuttable s c L blade seen A four =
+    let F = seen-few s c seen in
+    record { few-particles = F .particles; few-triangles = F .triangles; few-edges = F .edges; few-boundary = F .boundary; ample = A; four = four }
+
+-- what was printed for the cut of the fronts is what is printed for the sheet
+pub fronts-listed :
+    (s : List ℕ) (c : Counts) (P : List Float) (R C : List ℕ) (U : List Float) (E : List ℕ) (N : List Float) (O : List ℕ) (b : List Float) → FrontsRead s c P R C U E N O b → (n : ℕ) (t : List ℕ) (w : Written)
+    → Told (printed (cutCall (sizesFit (fronts c P R C U E N O)) (meshOf (fronts c P R C U E N O)) (record { from = record { x = getD b 0 nan; y = getD b 1 nan }; to = record { x = getD b 2 nan; y = getD b 3 nan } }) fraction rooms)) n t w
+    → Told (printed (cutOf (sheetWith c (bitsOf s)))) n t w
+fronts-listed s c P R C U E N O b D n t w W = subst (λ (o : Outcome). Told (printed o) n t w) (fronts-cut s c P R C U E N O b D) W
+
+-- what was printed for a whole sheet, or for a refused one, is what the program prints
+pub whole-listed : (s : List ℕ) (c : Counts) (n : ℕ) (t : List ℕ) (w : Written) → seenOf limits s ≡ Whole c → Told (printed (cutOf (sheetWith c (bitsOf s)))) n t w → Told (listed s) n t w
+unfolding cutSeen
+whole-listed s c n t w e W = subst (λ (x : Seen). Told (printed (cutSeen x s)) n t w) (sym e) W
+
+pub refused-listed : (s : List ℕ) (code n : ℕ) (t : List ℕ) (w : Written) → seenOf limits s ≡ Refused code → Told (refusedBytes code) n t w → Told (listed s) n t w
+unfolding cutSeen
+refused-listed s code n t w e W = subst (λ (x : Seen). Told (printed (cutSeen x s)) n t w) (sym e) W

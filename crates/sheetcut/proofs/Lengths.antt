@@ -1,0 +1,135 @@
+-- How long a listing is: with at most 256 log entries, and numbers of 64 bits, it has at most 65,536 bytes. Assumes nothing.
+use Prim.Native.Nat.{ℕ, zero, suc, _+_, _*_, _/_, _%_, _≤_, _<_}
+use native.Mathlib.Omega.{arith}
+use native.Mathlib.Nat.{suc-mul, le-trans, mul-le-mul-right}
+use native.Mathlib.Decide.{decLe}
+use mathlib.Core.Path.{_≡_, refl, ap, subst}
+use mathlib.Core.Bool.{Bool, true, false}
+use mathlib.Core.List.{List, [], _∷_, _++_}
+use lib.Dec.{eqb}
+use lib.ListN.{length, take, getD, length-append}
+use Rattle.lists.specs.Lists.{pick, sift, each, tab}
+use Rattle.lists.proofs.Sifts.{sift-length}
+use Rattle.lists.proofs.Stores.{tab-length}
+use Rattle.mesh.specs.Log.{Words, entryRow, logAt}
+use Rattle.listing.specs.Listing.{digit, decimal, spaced, line, ofKind, splitLine, edgeLine, insertLine, listingBytes, refusedBytes, tearWord, splitWord, edgeWord, insertWord, particlesWord, piecesWord, refusedWord}
+use Rattle.listing.specs.declared.Written.{Written}
+use Rattle.listing.specs.declared.Written.the-variants.{Short, Bytes}
+use Rattle.listing.proofs.Decimal.{decimal-small, decimal-more}
+use Rattle.listing.proofs.Outcomes.{wrote-bytes, wrote-short, wrote-agree}
+use Rattle.sheetcut.specs.SheetCut.{Told}
+
+-- ---- numbers
+
+-- ten times itself, k times more
+tens : ℕ → ℕ
+tens zero = 10
+tens (suc k) = 10 * tens k
+
+decimal-long : (k n : ℕ) → n < tens k → length (decimal n) ≤ suc k
+unfolding tens
+decimal-long zero n h = omega (arith, ap length (decimal-small n h))
+decimal-long (suc k) n h =
+    elim (decLe 10 n) [
+      | yes l ↦ omega (arith, ap length (decimal-more n l), length-append (decimal (n / 10)) (digit (n % 10) ∷ []), decimal-long k (n / 10) (omega arith))
+      | no l ↦ omega (arith, ap length (decimal-small n (omega arith)))
+    ]
+
+-- numbers of 64 bits
+abbrev pub Wide : ℕ → Type 0
+Wide n = n < 18446744073709551616
+
+-- have at most 20 digits
+wide-long : (n : ℕ) → Wide n → length (decimal n) ≤ 20
+unfolding tens
+wide-long n h = let e : tens 19 ≡ 100000000000000000000 = refl in decimal-long 19 n (omega arith)
+
+-- ---- lists of short texts
+
+-- every entry of a list
+abbrev All : {A : Type 0} → (A → Type 0) → List A → Type 0
+All P [] = Unit {0}
+All P (a ∷ l) = P a × All P l
+
+module _ {A : Type 0} (P : A → Type 0) where
+  all-tab : (n : ℕ) (f : ℕ → A) → ((k : ℕ) → P (f k)) → All P (tab n f)
+  unfolding tab
+  all-tab zero f h = tt
+  all-tab (suc n) f h = (h 0, all-tab n (λ k. f (suc k)) (λ k. h (suc k)))
+
+  all-pick : (t : Bool) (a : A) (l : List A) → P a → All P l → All P (pick t (a ∷ l) l)
+  all-pick true a l h k = (h, k)
+  all-pick false a l h k = k
+
+  all-sift : (p : A → Bool) (l : List A) → All P l → All P (sift p l)
+  unfolding sift
+  all-sift p [] h = tt
+  all-sift p (a ∷ l) h = all-pick (p a) a (sift p l) (h .0) (all-sift p l (h .1))
+
+  each-long : (f : A → List ℕ) (m : ℕ) → ((a : A) → P a → length (f a) ≤ m) → (l : List A) → All P l → length (each f l) ≤ length l * m
+  unfolding each
+  each-long f m few [] h = omega arith
+  each-long f m few (a ∷ l) h = omega (arith, length-append (f a) (each f l), suc-mul (length l) m, few a (h .0), each-long f m few l (h .1))
+
+-- a line has its word, at most 21 bytes a number, and its end
+line-long : (word numbers : List ℕ) → All Wide numbers → length (line word numbers) ≤ length word + length numbers * 21 + 1
+unfolding line
+line-long word numbers h =
+    let e = each-long Wide spaced 21 (λ n w. omega (arith, wide-long n w)) numbers h in
+    omega (arith, length-append (word ++ each spaced numbers) (10 ∷ []), length-append word (each spaced numbers))
+
+-- ---- the listing
+
+-- the numbers of an entry that are listed
+abbrev Listable : Words → Type 0
+Listable e = Wide (e .a) × Wide (e .b) × Wide (e .p) × Wide (e .q)
+
+log-listable : (n : ℕ) (g : List ℕ) → ((j : ℕ) → Wide (getD g j 0)) → All Listable (logAt n g)
+unfolding logAt
+log-listable n g h = all-tab Listable n (entryRow g) (λ k. (h (6 * k + 1), h (6 * k + 2), h (6 * k + 3), h (6 * k + 4)))
+
+-- the lines of one kind
+kind-long : (kind : ℕ) (f : Words → List ℕ) (m : ℕ) → ((e : Words) → Listable e → length (f e) ≤ m) → (log : List Words) → All Listable log → length (each f (ofKind kind log)) ≤ length log * m
+unfolding ofKind
+kind-long kind f m few log h =
+    let p : Words → Bool = λ (e : Words). eqb (e .kind) kind in
+    le-trans (each-long Listable f m few (sift p log) (all-sift Listable p log h)) (mul-le-mul-right m (sift-length p log))
+
+log-length : (n : ℕ) (g : List ℕ) → length (logAt n g) ≡ n
+unfolding logAt
+log-length n g = tab-length n (entryRow g)
+
+six : (a b c d e f : List ℕ) → length (a ++ b ++ c ++ d ++ e ++ f) ≡ length a + length b + length c + length d + length e + length f
+six a b c d e f = simp length-append
+
+pub listing-few : (n : ℕ) (g : List ℕ) (particles found : ℕ) → n ≤ 256 → ((j : ℕ) → Wide (getD g j 0)) → Wide particles → Wide found → length (listingBytes (logAt n g) particles found) ≤ 65536
+unfolding listingBytes
+listing-few n g particles found few words p q =
+    let log = logAt n g in
+    let h = log-listable n g words in
+    let k : length log ≤ 256 = omega (arith, log-length n g) in
+    let t = line-long tearWord (1 ∷ []) (omega arith, tt) in
+    let s = kind-long 1 splitLine 48 (λ e w. line-long splitWord (e .a ∷ e .b ∷ []) (w .0, (w .1, tt))) log h in
+    let r = kind-long 2 edgeLine 47 (λ e w. line-long edgeWord (e .a ∷ e .b ∷ []) (w .0, (w .1, tt))) log h in
+    let i = kind-long 3 insertLine 91 (λ e w. line-long insertWord (e .a ∷ e .b ∷ e .p ∷ e .q ∷ []) (w .0, (w .1, (w .2, (w .3, tt))))) log h in
+    let m = line-long particlesWord (particles ∷ []) (p, tt) in
+    let z = line-long piecesWord (found ∷ []) (q, tt) in
+    omega (arith, six (line tearWord (1 ∷ [])) (each splitLine (ofKind 1 log)) (each edgeLine (ofKind 2 log)) (each insertLine (ofKind 3 log)) (line particlesWord (particles ∷ [])) (line piecesWord (found ∷ [])))
+
+-- the line of a refusal
+pub refused-few : (n : ℕ) → Wide n → length (refusedBytes n) ≤ 65536
+unfolding refusedBytes
+refused-few n h = let e = line-long refusedWord (n ∷ []) (h, tt) in omega arith
+
+-- ---- what is told
+
+-- so many lent bytes hold the whole text, and the answer is its length
+pub told-whole : (text : List ℕ) (lent : ℕ) (s : List ℕ) (r : Written) → Told text lent s r → 65536 ≤ lent → (r ≡ Bytes (length text)) × (take (length text) s ≡ text)
+told-whole text lent s Short T h = absurd (omega (arith, wrote-short text lent s Short (T .wrote) refl .0, T .enough))
+told-whole text lent s (Bytes n) T h =
+    let w = wrote-bytes text lent s (Bytes n) (T .wrote) n refl in
+    (ap Bytes (w .0), subst (λ (k : ℕ). take k s ≡ text) (w .0) (w .1))
+
+-- two outcomes of one call agree
+pub told-agree : (text : List ℕ) (lent : ℕ) (s s′ : List ℕ) (r r′ : Written) → Told text lent s r → Told text lent s′ r′ → (s ≡ s′) × (r ≡ r′)
+told-agree text lent s s′ r r′ T T′ = wrote-agree text lent s s′ r r′ (T .wrote) (T′ .wrote)
