@@ -10,3 +10,4 @@ pub mod Tellings
 pub mod Outcomes
 pub mod Tearings
 pub mod Entries
+pub mod Cuttings

@@ -1,20 +1,21 @@
 -- What the C functions that give a mesh answer, as docs/C-FUNCTIONS.md has it: the words of the answer, the words of the log, and the rooms. Definitions only.
-use Prim.Native.Nat.{ℕ, _/_, min}
+use Prim.Native.Nat.{ℕ, _/_, _%_, min}
 use mathlib.Core.Path.{_≡_}
 use mathlib.Core.Bool.{Bool, true, false, _&&_}
 use mathlib.Core.List.{List, [], _∷_, map}
 use lib.ListN.{length}
-use lib.Dec.{eqb}
+use lib.Dec.{eqb, leb}
 use Rattle.lists.specs.Lists.{pick}
 use Rattle.model.specs.Run.{Rooms}
-use Rattle.model.specs.Calls.{Outcome, done, refusal, splitCall, straddlersCall}
+use Rattle.model.specs.Cut.{Blade}
+use Rattle.model.specs.Calls.{Outcome, done, refusal, bladeOk, splitCall, straddlersCall, cutCall, crackCall}
 use Rattle.model.specs.Calls.{refused as turnedDown}
 use Rattle.model.specs.Reads.{Read, refused, value}
 use Rattle.mesh.specs.Given.{meshOf}
 use Rattle.mesh.specs.Log.{wordsOf, wordsIn}
-use Rattle.image.specs.Words.{wordAt, written}
+use Rattle.image.specs.Words.{wordAt, wordsFrom, numberOf, written}
 use Rattle.image.specs.Image.{imageOf, imageSized, imageWordsOf}
-use Rattle.bench_c.specs.Replies.{lentEnough, codeOf, shownOf}
+use Rattle.bench_c.specs.Replies.{lentEnough, codeOf, shownOf, pointAt}
 
 -- ---- the words of an outcome
 
@@ -62,3 +63,25 @@ splitOutcome s v sides rooms logged = withRooms s rooms true true (splitCall (im
 -- the removal of straddlers across its pieces
 unfoldable pub straddlersOutcome : List ℕ → List ℕ → ℕ → Outcome
 straddlersOutcome s rooms logged = withRooms s rooms true true (straddlersCall (imageSized s) (meshOf (imageOf s)) (roomsIn rooms logged))
+
+-- the outcome o, if the bytes beside an image are as they should be; else they are a bad argument
+abbrev pub ifRead : Bool → List ℕ → Outcome → Outcome
+ifRead ok s o = pick ok o (turnedDown (refusal (imageSized s) (meshOf (imageOf s)) true false))
+
+-- the blade of four words x0, y0, x1, y1
+abbrev pub bladeIn : List ℕ → Blade
+bladeIn blade = record { from = pointAt blade 0; to = pointAt blade 2 }
+
+-- the cut along a blade of 16 bytes, with the insertion fraction of a word
+unfoldable pub cutOutcome : List ℕ → List ℕ → ℕ → List ℕ → ℕ → Outcome
+cutOutcome s blade f rooms logged =
+    ifRead (eqb (length blade) 16) s (withRooms s rooms true (bladeOk (bladeIn blade)) (cutCall (imageSized s) (meshOf (imageOf s)) (bladeIn blade) (numberOf f) (roomsIn rooms logged)))
+
+-- the bytes are at most 2,048 whole words
+abbrev pub wordsFew : ℕ → Bool
+wordsFew n = eqb (n % 4) 0 && leb n 8192
+
+-- the crack of torn edges, a word for each, with a minimum piece
+unfoldable pub crackOutcome : List ℕ → List ℕ → ℕ → List ℕ → ℕ → Outcome
+crackOutcome s torn min rooms logged =
+    ifRead (wordsFew (length torn)) s (withRooms s rooms true true (crackCall (imageSized s) (meshOf (imageOf s)) (wordsFrom torn 0 (length torn / 4)) min (roomsIn rooms logged)))

@@ -15,7 +15,7 @@ pub extern "C" fn bench_root(bits: u32, out: &mut [u8]) -> u32
 }
 
 // The point of words i and i + 1.
-fn point_at(words: &[u8], i: usize) -> Point
+pub fn point_at(words: &[u8], i: usize) -> Point
     requires { ⌜ 4 * i + 8 ≤ length (now words) ⌝ }
     ensures { λ r. ⌜ r ≡ pointAt (now (words .entry)) i ⌝ }
 {

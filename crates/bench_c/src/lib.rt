@@ -1,4 +1,5 @@
 // The C functions of the bench, on numbers and byte slices: each reads its bytes, calls the public entry or runs the job, and writes the answer.
+pub mod cutting;
 pub mod fans;
 pub mod leaves;
 pub mod listed;

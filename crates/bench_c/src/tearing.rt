@@ -181,7 +181,7 @@ fn rooms_in(rooms: &[u8], logged: usize) -> Rooms
 }
 
 // A job on an image, with the rooms of four words. Other rooms, and other arguments that could not be read, are bad ones.
-fn reply_job(
+pub fn reply_job(
     job: Job,
     list: &[usize],
     read: bool,

@@ -1,0 +1,75 @@
+-- Laws of the C functions that cut and crack: their arguments, and the job that each is. Assumes nothing.
+use Prim.Native.Nat.{ℕ, _/_, _%_, _≤_, _*_, _+_}
+use native.Mathlib.Omega.{arith}
+use mathlib.Core.Path.{_≡_, refl, sym, ap, subst, _∙_}
+use mathlib.Core.Bool.{Bool, true, false, _&&_}
+use mathlib.Core.List.{List}
+use lib.ListN.{length}
+use lib.Dec.{eqb, leb}
+use lib.Ieee.{Float}
+use borrow.Author.Tests.{eq-eqb, ne-eqb, eqb-true, leb-true}
+use Rattle.lists.proofs.Sifts.{and-true}
+use Rattle.blade.specs.declared.Point.{Point}
+use Rattle.model.specs.Calls.{Outcome, bladeOk, cutCall, crackCall}
+use Rattle.mesh.specs.Given.{meshOf}
+use Rattle.cut.specs.Marking.{bladeFrom}
+use Rattle.jobs.specs.Jobs.{jobNumbers, jobCall}
+use Rattle.jobs.specs.declared.Job.the-variants.{Cut, Crack}
+use Rattle.jobs.proofs.Jobs.{cut-is, crack-is}
+use Rattle.image.specs.Words.{wordsFrom, numberOf}
+use Rattle.image.specs.Image.{imageOf, imageSized}
+use Rattle.bench_c.specs.Replies.{pointAt}
+use Rattle.bench_c.specs.Torn.{OutcomeReplied, withRooms, roomsIn, ifRead, bladeIn, cutOutcome, wordsFew, crackOutcome}
+
+module _ (s rooms : List ℕ) (lent logged x : ℕ) (out log : List ℕ) where
+  -- bytes that were read
+  read-replied : (b : Bool) (o : Outcome) → b ≡ true → OutcomeReplied o lent logged x out log → OutcomeReplied (ifRead b s o) lent logged x out log
+  read-replied b o e h = subst (λ (z : Bool). OutcomeReplied (ifRead z s o) lent logged x out log) (sym e) h
+
+  -- bytes that could not be read are a bad argument, whatever was to be done
+  misread-replied : (b : Bool) (o called : Outcome) → b ≡ false → OutcomeReplied (withRooms s rooms false true called) lent logged x out log → OutcomeReplied (ifRead b s o) lent logged x out log
+  unfolding withRooms
+  misread-replied b o called e h = subst (λ (z : Bool). OutcomeReplied (ifRead z s o) lent logged x out log) (sym e) h
+
+  -- ---- the cut
+
+  module _ (blade : List ℕ) (bits : ℕ) where
+    pub cut-misread : (called : Outcome) → (length blade ≡ 16 → ⊥) → OutcomeReplied (withRooms s rooms false true called) lent logged x out log → OutcomeReplied (cutOutcome s blade bits rooms logged) lent logged x out log
+    unfolding cutOutcome
+    cut-misread called n h = misread-replied (eqb (length blade) 16) _ called (ne-eqb (length blade) 16 n) h
+
+    pub cut-replied : (b0 b1 : Point) (f : Float) (ls : List ℕ) → length blade ≡ 16 → b0 ≡ pointAt blade 0 → b1 ≡ pointAt blade 2 → f ≡ numberOf bits
+        → OutcomeReplied (withRooms s rooms true (jobNumbers (Cut b0 b1 f)) (jobCall (Cut b0 b1 f) ls (imageSized s) (meshOf (imageOf s)) (roomsIn rooms logged))) lent logged x out log
+        → OutcomeReplied (cutOutcome s blade bits rooms logged) lent logged x out log
+    unfolding cutOutcome
+    cut-replied b0 b1 f ls n e0 e1 ef h =
+        let told : Point → Point → Float → Outcome = λ p q y. withRooms s rooms true (bladeOk (bladeFrom p q)) (cutCall (imageSized s) (meshOf (imageOf s)) (bladeFrom p q) y (roomsIn rooms logged)) in
+        read-replied (eqb (length blade) 16) _ (eq-eqb (length blade) 16 n)
+        (subst (λ (o : Outcome). OutcomeReplied o lent logged x out log)
+        (ap (withRooms s rooms true (bladeOk (bladeFrom b0 b1))) (cut-is b0 b1 f ls (imageSized s) (meshOf (imageOf s)) (roomsIn rooms logged))
+        ∙ ap (λ (p : Point). told p b1 f) e0 ∙ ap (λ (q : Point). told (pointAt blade 0) q f) e1 ∙ ap (told (pointAt blade 0) (pointAt blade 2)) ef)
+        h)
+
+  -- ---- the crack
+
+  module _ (torn : List ℕ) (min : ℕ) where
+    pub crack-misread : (b : Bool) → b ≡ wordsFew (length torn) → b ≡ false → (called : Outcome) → OutcomeReplied (withRooms s rooms false true called) lent logged x out log → OutcomeReplied (crackOutcome s torn min rooms logged) lent logged x out log
+    unfolding crackOutcome
+    crack-misread b e n called h = misread-replied (wordsFew (length torn)) _ called (sym e ∙ n) h
+
+    pub crack-replied : (b : Bool) (ls : List ℕ) → b ≡ wordsFew (length torn) → b ≡ true → ls ≡ wordsFrom torn 0 (length torn / 4)
+        → OutcomeReplied (withRooms s rooms true (jobNumbers (Crack min)) (jobCall (Crack min) ls (imageSized s) (meshOf (imageOf s)) (roomsIn rooms logged))) lent logged x out log
+        → OutcomeReplied (crackOutcome s torn min rooms logged) lent logged x out log
+    unfolding crackOutcome
+    crack-replied b ls e y l h =
+        read-replied (wordsFew (length torn)) _ (sym e ∙ y)
+        (subst (λ (o : Outcome). OutcomeReplied (withRooms s rooms true true o) lent logged x out log)
+        (crack-is min ls (imageSized s) (meshOf (imageOf s)) (roomsIn rooms logged) ∙ ap (λ (t : List ℕ). crackCall (imageSized s) (meshOf (imageOf s)) t min (roomsIn rooms logged)) l)
+        h)
+
+-- words that are few have places in the table, and stand in the bytes
+pub few-words : (n : ℕ) (b : Bool) → b ≡ wordsFew n → b ≡ true → (4 * (0 + n / 4) ≤ n) × (n / 4 ≤ 2048)
+few-words n b e y =
+    let both = and-true (eqb (n % 4) 0) (leb n 8192) (sym e ∙ y) in
+    let most : n ≤ 8192 = leb-true n 8192 (both .1) in
+    (omega arith, omega (arith, most))
