@@ -1,4 +1,4 @@
--- How a call that gives a mesh begins and ends: the copy of the input where there is room for it, and the end from what the worker came to. Only contracts between workers need this file. Definitions only.
+-- How a call that gives a mesh begins and ends: the copy of the input where there is room for it, and the end from what the worker came to. Only contracts between workers need this file, but for `frontOf`, which the entry `log_front` promises. Definitions only.
 use Prim.Native.Nat.{ℕ, _/_, _≤_, min, _*_}
 use mathlib.Core.Path.{_≡_}
 use mathlib.Core.Bool.{Bool, true}
