@@ -8,13 +8,14 @@ mod fuzz;
 mod histories;
 mod replay;
 mod sheets;
+mod stack;
 mod vectors;
 
 /// Runs the program and gives its exit code.
 pub fn start(words: &[String]) -> i32 {
     let Some((name, rest)) = words.split_first() else {
         eprintln!("oracle cases | check | fuzz | compare | faults | histories | replay | bench | vectors | cutlist | sheet");
-        eprintln!("  | sheets (see oracle/README.md)");
+        eprintln!("  | sheets | stack (see oracle/README.md)");
         return 2;
     };
     match name.as_str() {
@@ -30,6 +31,7 @@ pub fn start(words: &[String]) -> i32 {
         "cutlist" => cutlist::run(rest),
         "sheet" => sheets::sheet(rest),
         "sheets" => sheets::run(rest),
+        "stack" => stack::run(rest),
         _ => {
             eprintln!("oracle: no program {name}");
             2
