@@ -1,8 +1,8 @@
 -- What a call that gives a mesh answers, and what it leaves in every lent place, from the outcome that the model gives. Definitions only.
-use Prim.Native.Nat.{ℕ}
+use Prim.Native.Nat.{ℕ, _*_, _/_, min}
 use mathlib.Core.Path.{_≡_}
 use mathlib.Core.List.{List, []}
-use lib.ListN.{length}
+use lib.ListN.{length, take}
 use lib.Ieee.{Float}
 use Rattle.model.specs.Mesh.{Mesh}
 use Rattle.model.specs.Run.{Entry}
@@ -36,3 +36,7 @@ answerOf (done M l c) = Done (countsOf M l) c
 pub record Answered (o : Outcome) (L : Lent) (a : Answer) (p : List Float) (r c : List ℕ) (v : List Float) (e : List ℕ) (l : List Float) (b g : List ℕ) : Type 0 where
   pub answer : a ≡ answerOf o
   pub blocks : Filled (shown o) L p r c v e l b g
+
+-- the log handed back: the words of its first n entries, or of as many as it has
+abbrev pub frontOf : ℕ → List ℕ → List ℕ
+frontOf n log = take (6 * min n (length log / 6)) log

@@ -1,9 +1,9 @@
--- How a call that gives a mesh begins and ends: the copy of the input where there is room for it, and the end from what the worker came to. Only contracts between workers need this file, but for `frontOf`, which the entry `log_front` promises. Definitions only.
-use Prim.Native.Nat.{ℕ, _/_, _≤_, min, _*_}
+-- How a call that gives a mesh begins and ends: the copy of the input where there is room for it, and the end from what the worker came to. Only contracts between workers need this file. Definitions only.
+use Prim.Native.Nat.{ℕ, _/_, _≤_}
 use mathlib.Core.Path.{_≡_}
 use mathlib.Core.Bool.{Bool, true}
 use mathlib.Core.List.{List}
-use lib.ListN.{length, take}
+use lib.ListN.{length}
 use lib.Dec.{eqb}
 use lib.Ieee.{Float}
 use Rattle.lists.specs.Lists.{pick, any}
@@ -96,9 +96,3 @@ pub record Came (o : Outcome) (R : Rooms) (at : Counts → World) (ran : Ran) : 
 pub record Finished (ran : Ran) (at : Counts → World) (L : Lent) (a : Answer) (p : List Float) (r c : List ℕ) (v : List Float) (e : List ℕ) (l : List Float) (b g : List ℕ) : Type 0 where
   pub answer : a ≡ saidOf ran at
   pub blocks : Filled (shownOf ran at) L p r c v e l b g
-
--- ---- the log handed back
-
--- how many words n entries have, or the whole log where it has no more
-abbrev pub frontOf : ℕ → List ℕ → List ℕ
-frontOf n log = take (6 * min n (length log / 6)) log

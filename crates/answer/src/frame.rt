@@ -13,7 +13,7 @@ use mesh::Rooms;
 use split::Ran;
 
 // 5, 6 or 7 if the copy of an input with these counts lacks room for particles, edges or boundary, else 0.
-fn lacking(k: Counts, room: Rooms) -> usize
+pub fn lacking(k: Counts, room: Rooms) -> usize
     ensures { λ r. ⌜ r ≡ tooSmall (asRooms room) (copyNeed k) ⌝ }
 {
     if room.particles < k.particles {

@@ -3,7 +3,8 @@ ghost use mathlib.Core.Path.{_≡_};
 ghost use Prim.Native.Nat.{_/_, _≤_};
 ghost use lib.ListN.{length};
 ghost use Rattle.mesh.specs.Log.{logAt};
-ghost use Rattle.answer.specs.Framed.{kindChanges, wordsChange, frontOf};
+ghost use Rattle.answer.specs.Framed.{kindChanges, wordsChange};
+ghost use Rattle.answer.specs.Answered.{frontOf};
 
 // Does an entry of this kind tell of something split or inserted?
 fn kind_changes(kind: usize) -> bool

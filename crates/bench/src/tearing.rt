@@ -4,8 +4,7 @@ ghost use Rattle.model.specs.Calls.{splitCall, straddlersCall, cutCall, crackCa
 ghost use Rattle.mesh.specs.Given.{given, meshOf, sizesFit, roomsOf, asRooms};
 ghost use Rattle.mesh.specs.Filled.{lent};
 ghost use Rattle.cut.specs.Marking.{bladeFrom};
-ghost use Rattle.answer.specs.Answered.{Answered};
-ghost use Rattle.answer.specs.Framed.{frontOf};
+ghost use Rattle.answer.specs.Answered.{Answered, frontOf};
 use answer::Answer;
 use blade::Point;
 use jobs::Job;

@@ -6,11 +6,10 @@ ghost use Prim.Native.Nat.{_+_, _*_, _≤_};
 ghost use lib.ListN.{length};
 ghost use lib.Ieee.{nan};
 ghost use Rattle.columns.specs.Block.{BlockCopied};
-ghost use Rattle.model.specs.Calls.{tooSmall};
 ghost use Rattle.mesh.specs.At.{meshAt};
-ghost use Rattle.mesh.specs.Given.{meshOf, sizes, asRooms};
+ghost use Rattle.mesh.specs.Given.{meshOf, sizes};
 ghost use Rattle.mesh.specs.Filled.{Fits, lent};
-ghost use Rattle.answer.specs.Framed.{copyNeed, BeginAsked, Begun};
+ghost use Rattle.answer.specs.Framed.{BeginAsked, Begun};
 ghost use Rattle.image.specs.Words.{wordsFrom, numbersFrom};
 ghost use Rattle.image.specs.Image.{imageOf, imageSized};
 use mesh::Counts;
@@ -94,22 +93,6 @@ fn place_image(
     place_words(bytes, edges + 8 * e, b, 2, outline.len() / 2, outline);
 }
 
-// 5, 6 or 7 if a mesh of these counts lacks room for particles, edges or boundary, else 0.
-fn lacking(k: Counts, room: Rooms) -> usize
-    ensures { λ r. ⌜ r ≡ tooSmall (asRooms room) (copyNeed k) ⌝ }
-{
-    if room.particles < k.particles {
-        return 5;
-    }
-    if room.edges < k.edges {
-        return 6;
-    }
-    if room.boundary < k.boundary {
-        return 7;
-    }
-    0
-}
-
 // Begins a call on an image that no check has refused: reads its mesh into the lent blocks, unless a room lacks. Returns the number of that room, or 0.
 pub fn begin(
     bytes: &[u8],
@@ -126,7 +109,7 @@ pub fn begin(
     ensures { λ r. ⌜ Begun 0 room (meshOf (imageOf (now (bytes .entry)))) (meshAt (sizes (imageOf (now (bytes .entry)))) (now (points .exit)) (now (roots .exit)) (now (corners .exit)) (now (volumes .exit)) (now (ends .exit)) (now (lengths .exit)) (now (outline .exit))) r ⌝ }
 {
     let k = image_counts(bytes);
-    let lack = lacking(k, room);
+    let lack = answer::frame::lacking(k, room);
     if lack != 0 {
         return lack;
     }
