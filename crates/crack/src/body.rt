@@ -1,8 +1,9 @@
 // The crack of a whole body: the torn edges of the input in turn, and what comes behind them.
+ghost use mathlib.Core.Path.{_≡_};
 ghost use mathlib.Core.List.{[], _∷_};
 ghost use lib.ListN.{length};
 ghost use Rattle.elements.specs.Table.{kindIs};
-ghost use Rattle.model.specs.Cut.{splitPinched};
+ghost use Rattle.model.specs.Elements.{Triangles};
 ghost use Rattle.model.specs.Crack.{crack};
 ghost use Rattle.mesh.specs.At.{meshAt};
 ghost use Rattle.mesh.specs.Log.{worldAt};
@@ -178,9 +179,8 @@ fn crack_torn(
     )
 }
 
-// Splits the particles near a split that were left joining two pieces alone, where the elements are triangles.
-fn split_pinched(
-    kind: Kind,
+// Behind the torn edges of triangles, if anything split: the pinched particles, and then the straddlers across pieces.
+fn finish_facets(
     k: Counts,
     room: Rooms,
     points: &mut [f32],
@@ -193,46 +193,16 @@ fn split_pinched(
     log: &mut [usize],
 ) -> Ran
     requires { ⌜ Ready room k (lent (now points) (now roots) (now corners) (now volumes) (now ends) (now lengths) (now outline) (now log)) (meshAt k (now points) (now roots) (now corners) (now volumes) (now ends) (now lengths) (now outline)) × Logged (k .log) (now log) ⌝ }
-    ensures { λ r. ⌜ Works (splitPinched (kindIs kind)) room (worldAt k (now (points .entry)) (now (roots .entry)) (now (corners .entry)) (now (volumes .entry)) (now (ends .entry)) (now (lengths .entry)) (now (outline .entry)) (now (log .entry))) (λ q. worldAt q (now (points .exit)) (now (roots .exit)) (now (corners .exit)) (now (volumes .entry)) (now (ends .exit)) (now (lengths .exit)) (now (outline .exit)) (now (log .exit))) r ⌝ }
+    ensures { λ r. ⌜ Works (crackEnd Triangles) room (worldAt k (now (points .entry)) (now (roots .entry)) (now (corners .entry)) (now (volumes .entry)) (now (ends .entry)) (now (lengths .entry)) (now (outline .entry)) (now (log .entry))) (λ q. worldAt q (now (points .exit)) (now (roots .exit)) (now (corners .exit)) (now (volumes .entry)) (now (ends .exit)) (now (lengths .exit)) (now (outline .exit)) (now (log .exit))) r ⌝ }
 {
-    match kind {
-        Kind::Triangles => cut::facets::split_pinched(
-            k,
-            room,
-            points,
-            roots,
-            corners,
-            volumes,
-            ends,
-            lengths,
-            outline,
-            log,
-        ),
-        Kind::Straps => Ran::Done(k),
-        Kind::Nothing => Ran::Done(k),
-    }
-}
-
-// Behind the torn edges, if anything split: the pinched particles, and then the straddlers across pieces.
-fn finish_crack(
-    kind: Kind,
-    k: Counts,
-    room: Rooms,
-    points: &mut [f32],
-    roots: &mut [usize],
-    corners: &mut [usize],
-    volumes: &[f32],
-    ends: &mut [usize],
-    lengths: &mut [f32],
-    outline: &mut [usize],
-    log: &mut [usize],
-) -> Ran
-    requires { ⌜ Ready room k (lent (now points) (now roots) (now corners) (now volumes) (now ends) (now lengths) (now outline) (now log)) (meshAt k (now points) (now roots) (now corners) (now volumes) (now ends) (now lengths) (now outline)) × Logged (k .log) (now log) ⌝ }
-    ensures { λ r. ⌜ Works (crackEnd (kindIs kind)) room (worldAt k (now (points .entry)) (now (roots .entry)) (now (corners .entry)) (now (volumes .entry)) (now (ends .entry)) (now (lengths .entry)) (now (outline .entry)) (now (log .entry))) (λ q. worldAt q (now (points .exit)) (now (roots .exit)) (now (corners .exit)) (now (volumes .entry)) (now (ends .exit)) (now (lengths .exit)) (now (outline .exit)) (now (log .exit))) r ⌝ }
-{
+    let mut marks = [0usize; 1024];
+    let mut numbers = [0usize; 2048];
+    let mut verts = [0usize; 4096];
+    let mut measures = [0.0f32; 2048];
+    let mut sides = [0usize; 2048];
+    let mut groups = [0usize; 2048];
     if cut::marks::any_split(k.log, log) {
-        let ran = split_pinched(
-            kind,
+        let ran = cut::facets::split_pinched(
             k,
             room,
             points,
@@ -243,12 +213,18 @@ fn finish_crack(
             lengths,
             outline,
             log,
+            &mut marks,
+            &mut numbers,
+            &mut verts,
+            &mut measures,
+            &mut sides,
+            &mut groups,
         );
         let Ran::Done(next) = ran else {
             return ran;
         };
         return split::straddlers::remove_straddlers(
-            kind,
+            Kind::Triangles,
             next,
             room,
             corners,
@@ -262,9 +238,41 @@ fn finish_crack(
     Ran::Done(k)
 }
 
-// Cracks the body across torn edges of the input, each in turn, and then does what comes behind them.
-pub fn crack_body(
+// Behind the torn edges of any other mesh, if anything split: the straddlers across pieces.
+fn finish_plain(
     kind: Kind,
+    k: Counts,
+    room: Rooms,
+    points: &[f32],
+    roots: &[usize],
+    corners: &[usize],
+    volumes: &[f32],
+    ends: &mut [usize],
+    lengths: &mut [f32],
+    outline: &mut [usize],
+    log: &mut [usize],
+) -> Ran
+    requires { ⌜ Ready room k (lent (now points) (now roots) (now corners) (now volumes) (now ends) (now lengths) (now outline) (now log)) (meshAt k (now points) (now roots) (now corners) (now volumes) (now ends) (now lengths) (now outline)) × Logged (k .log) (now log) × (kindIs kind ≡ Triangles → ⊥) ⌝ }
+    ensures { λ r. ⌜ Works (crackEnd (kindIs kind)) room (worldAt k (now (points .entry)) (now (roots .entry)) (now (corners .entry)) (now (volumes .entry)) (now (ends .entry)) (now (lengths .entry)) (now (outline .entry)) (now (log .entry))) (λ q. worldAt q (now (points .entry)) (now (roots .entry)) (now (corners .entry)) (now (volumes .entry)) (now (ends .exit)) (now (lengths .exit)) (now (outline .exit)) (now (log .exit))) r ⌝ }
+{
+    if cut::marks::any_split(k.log, log) {
+        return split::straddlers::remove_straddlers(
+            kind,
+            k,
+            room,
+            corners,
+            volumes,
+            ends,
+            lengths,
+            outline,
+            log,
+        );
+    }
+    Ran::Done(k)
+}
+
+// Cracks a mesh of triangles across torn edges of the input, each in turn, and then does what comes behind them.
+fn crack_facets(
     minimum: usize,
     torn: &[usize],
     k: Counts,
@@ -279,6 +287,57 @@ pub fn crack_body(
     log: &mut [usize],
 ) -> Ran
     requires { ⌜ Ready room k (lent (now points) (now roots) (now corners) (now volumes) (now ends) (now lengths) (now outline) (now log)) (meshAt k (now points) (now roots) (now corners) (now volumes) (now ends) (now lengths) (now outline)) × Logged (k .log) (now log) ⌝ }
+    ensures { λ r. ⌜ Works (crack Triangles minimum (now (torn .entry))) room (worldAt k (now (points .entry)) (now (roots .entry)) (now (corners .entry)) (now (volumes .entry)) (now (ends .entry)) (now (lengths .entry)) (now (outline .entry)) (now (log .entry))) (λ q. worldAt q (now (points .exit)) (now (roots .exit)) (now (corners .exit)) (now (volumes .entry)) (now (ends .exit)) (now (lengths .exit)) (now (outline .exit)) (now (log .exit))) r ⌝ }
+{
+    let ran = crack_torn(
+        Kind::Triangles,
+        minimum,
+        torn,
+        k,
+        room,
+        points,
+        roots,
+        corners,
+        volumes,
+        ends,
+        lengths,
+        outline,
+        log,
+    );
+    let Ran::Done(counts) = ran else {
+        return ran;
+    };
+    finish_facets(
+        counts,
+        room,
+        points,
+        roots,
+        corners,
+        volumes,
+        ends,
+        lengths,
+        outline,
+        log,
+    )
+}
+
+// The same of any other mesh.
+fn crack_plain(
+    kind: Kind,
+    minimum: usize,
+    torn: &[usize],
+    k: Counts,
+    room: Rooms,
+    points: &mut [f32],
+    roots: &mut [usize],
+    corners: &mut [usize],
+    volumes: &[f32],
+    ends: &mut [usize],
+    lengths: &mut [f32],
+    outline: &mut [usize],
+    log: &mut [usize],
+) -> Ran
+    requires { ⌜ Ready room k (lent (now points) (now roots) (now corners) (now volumes) (now ends) (now lengths) (now outline) (now log)) (meshAt k (now points) (now roots) (now corners) (now volumes) (now ends) (now lengths) (now outline)) × Logged (k .log) (now log) × (kindIs kind ≡ Triangles → ⊥) ⌝ }
     ensures { λ r. ⌜ Works (crack (kindIs kind) minimum (now (torn .entry))) room (worldAt k (now (points .entry)) (now (roots .entry)) (now (corners .entry)) (now (volumes .entry)) (now (ends .entry)) (now (lengths .entry)) (now (outline .entry)) (now (log .entry))) (λ q. worldAt q (now (points .exit)) (now (roots .exit)) (now (corners .exit)) (now (volumes .entry)) (now (ends .exit)) (now (lengths .exit)) (now (outline .exit)) (now (log .exit))) r ⌝ }
 {
     let ran = crack_torn(
@@ -299,7 +358,7 @@ pub fn crack_body(
     let Ran::Done(counts) = ran else {
         return ran;
     };
-    finish_crack(
+    finish_plain(
         kind,
         counts,
         room,
@@ -312,4 +371,71 @@ pub fn crack_body(
         outline,
         log,
     )
+}
+
+// Cracks the body across torn edges of the input, each in turn, and then does what comes behind them, by its kind.
+pub fn crack_body(
+    kind: Kind,
+    minimum: usize,
+    torn: &[usize],
+    k: Counts,
+    room: Rooms,
+    points: &mut [f32],
+    roots: &mut [usize],
+    corners: &mut [usize],
+    volumes: &[f32],
+    ends: &mut [usize],
+    lengths: &mut [f32],
+    outline: &mut [usize],
+    log: &mut [usize],
+) -> Ran
+    requires { ⌜ Ready room k (lent (now points) (now roots) (now corners) (now volumes) (now ends) (now lengths) (now outline) (now log)) (meshAt k (now points) (now roots) (now corners) (now volumes) (now ends) (now lengths) (now outline)) × Logged (k .log) (now log) ⌝ }
+    ensures { λ r. ⌜ Works (crack (kindIs kind) minimum (now (torn .entry))) room (worldAt k (now (points .entry)) (now (roots .entry)) (now (corners .entry)) (now (volumes .entry)) (now (ends .entry)) (now (lengths .entry)) (now (outline .entry)) (now (log .entry))) (λ q. worldAt q (now (points .exit)) (now (roots .exit)) (now (corners .exit)) (now (volumes .entry)) (now (ends .exit)) (now (lengths .exit)) (now (outline .exit)) (now (log .exit))) r ⌝ }
+{
+    match kind {
+        Kind::Triangles => crack_facets(
+            minimum,
+            torn,
+            k,
+            room,
+            points,
+            roots,
+            corners,
+            volumes,
+            ends,
+            lengths,
+            outline,
+            log,
+        ),
+        Kind::Straps => crack_plain(
+            Kind::Straps,
+            minimum,
+            torn,
+            k,
+            room,
+            points,
+            roots,
+            corners,
+            volumes,
+            ends,
+            lengths,
+            outline,
+            log,
+        ),
+        Kind::Nothing => crack_plain(
+            Kind::Nothing,
+            minimum,
+            torn,
+            k,
+            room,
+            points,
+            roots,
+            corners,
+            volumes,
+            ends,
+            lengths,
+            outline,
+            log,
+        ),
+    }
 }

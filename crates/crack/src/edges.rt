@@ -78,7 +78,7 @@ fn open_way(
     numbers: &[usize],
     verts: &[usize],
     measures: &[f32],
-    sides: &[usize],
+    sides: &mut [usize],
     k: Counts,
     room: Rooms,
     points: &mut [f32],
@@ -90,7 +90,7 @@ fn open_way(
     outline: &mut [usize],
     log: &mut [usize],
 ) -> Tried
-    requires { ⌜ Ready room k (lent (now points) (now roots) (now corners) (now volumes) (now ends) (now lengths) (now outline) (now log)) (meshAt k (now points) (now roots) (now corners) (now volumes) (now ends) (now lengths) (now outline)) × FanSided (kindIs kind) (meshAt k (now points) (now roots) (now corners) (now volumes) (now ends) (now lengths) (now outline)) v n (now numbers) (now verts) (now measures) (now sides) × (twoSided (meshAt k (now points) (now roots) (now corners) (now volumes) (now ends) (now lengths) (now outline)) v (take n (now sides)) ≡ true) × TearAsked v w x y (k .particles) ⌝ }
+    requires { ⌜ Ready room k (lent (now points) (now roots) (now corners) (now volumes) (now ends) (now lengths) (now outline) (now log)) (meshAt k (now points) (now roots) (now corners) (now volumes) (now ends) (now lengths) (now outline)) × FanSided (kindIs kind) (meshAt k (now points) (now roots) (now corners) (now volumes) (now ends) (now lengths) (now outline)) v n (now numbers) (now verts) (now measures) (now sides) × (twoSided (meshAt k (now points) (now roots) (now corners) (now volumes) (now ends) (now lengths) (now outline)) v (take n (now sides)) ≡ true) × TearAsked v w x y (k .particles) × (2048 ≤ length (now sides)) ⌝ }
     ensures { λ r. ⌜ OpenedTo (kindIs kind) minimum (openingOf (kindIs kind) (meshAt k (now (points .entry)) (now (roots .entry)) (now (corners .entry)) (now (volumes .entry)) (now (ends .entry)) (now (lengths .entry)) (now (outline .entry))) v (take n (now (sides .entry)))) (a, b) (x, y) room k
         (worldAt k (now (points .entry)) (now (roots .entry)) (now (corners .entry)) (now (volumes .entry)) (now (ends .entry)) (now (lengths .entry)) (now (outline .entry)) (now (log .entry)))
         (λ q. worldAt q (now (points .exit)) (now (roots .exit)) (now (corners .exit)) (now (volumes .entry)) (now (ends .exit)) (now (lengths .exit)) (now (outline .exit)) (now (log .exit))) r ⌝ }
@@ -137,6 +137,7 @@ fn open_way(
             lengths,
             outline,
             log,
+            sides,
         ));
     }
     Tried::Not
@@ -203,7 +204,7 @@ fn try_way(
             &numbers,
             &verts,
             &measures,
-            &sides,
+            &mut sides,
             k,
             room,
             points,

@@ -37,12 +37,13 @@ pub record SidesFor (w : Parting) (K : Kind) (v n : ℕ) (verts : List ℕ) (poi
   pub are : (M : Mesh) (p : ℕ) → Cornered (cornersPer K) (fanOf K M v) n verts → PlacesIn M p points → v < p → CornersBelow p n (cornersPer K) verts → take n sides ≡ sidesIn w K M v
   pub two : (i : ℕ) → i < n → getD sides i 0 < 2
 
--- tables with room for any fan: numbers, corners, measures and sides
-pub record TablesLong (ln lk lm ls : ℕ) : Type 0 where
+-- tables with room for any fan: numbers, corners, measures, sides and groups
+pub record TablesLong (ln lk lm ls lg : ℕ) : Type 0 where
   pub numbers : 2048 ≤ ln
   pub verts : 4096 ≤ lk
   pub measures : 2048 ≤ lm
   pub sides : 2048 ≤ ls
+  pub groups : 2048 ≤ lg
 
 -- the particles below p that are marked, rising
 unfoldable pub chosen : ℕ → List ℕ → List ℕ

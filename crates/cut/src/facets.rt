@@ -1,5 +1,5 @@
 // The cut of triangles: the candidates are split by the blade, and then the pinched.
-ghost use Prim.Native.Nat.{_<_};
+ghost use Prim.Native.Nat.{_<_, _≤_};
 ghost use lib.ListN.{length};
 ghost use Rattle.lists.specs.Lists.{fold};
 ghost use Rattle.model.specs.Elements.{Triangles, cornersPer};
@@ -66,8 +66,9 @@ pub fn split_one(
     verts: &mut [usize],
     measures: &mut [f32],
     sides: &mut [usize],
+    groups: &mut [usize],
 ) -> Ran
-    requires { ⌜ Ready room k (lent (now points) (now roots) (now corners) (now volumes) (now ends) (now lengths) (now outline) (now log)) (meshAt k (now points) (now roots) (now corners) (now volumes) (now ends) (now lengths) (now outline)) × (v < k .particles) × TablesLong (length (now numbers)) (length (now verts)) (length (now measures)) (length (now sides)) ⌝ }
+    requires { ⌜ Ready room k (lent (now points) (now roots) (now corners) (now volumes) (now ends) (now lengths) (now outline) (now log)) (meshAt k (now points) (now roots) (now corners) (now volumes) (now ends) (now lengths) (now outline)) × (v < k .particles) × TablesLong (length (now numbers)) (length (now verts)) (length (now measures)) (length (now sides)) (length (now groups)) ⌝ }
     ensures { λ r. ⌜ Works (λ R. splitIf mark way (kindIs kind) R v) room (worldAt k (now (points .entry)) (now (roots .entry)) (now (corners .entry)) (now (volumes .entry)) (now (ends .entry)) (now (lengths .entry)) (now (outline .entry)) (now (log .entry))) (λ q. worldAt q (now (points .exit)) (now (roots .exit)) (now (corners .exit)) (now (volumes .entry)) (now (ends .exit)) (now (lengths .exit)) (now (outline .exit)) (now (log .exit))) r ⌝ }
 {
     if mark != 1 {
@@ -95,6 +96,7 @@ pub fn split_one(
         verts,
         measures,
         sides,
+        groups,
         k,
         room,
         points,
@@ -108,7 +110,7 @@ pub fn split_one(
     )
 }
 
-// Splits each marked particle below p, in rising order, until one lacks room. All share one set of tables: to clear it is dear.
+// Splits each marked particle below p, in rising order, until one lacks room. All share the lent tables.
 pub fn split_marked(
     way: Parting,
     kind: Kind,
@@ -124,14 +126,15 @@ pub fn split_marked(
     lengths: &mut [f32],
     outline: &mut [usize],
     log: &mut [usize],
+    numbers: &mut [usize],
+    verts: &mut [usize],
+    measures: &mut [f32],
+    sides: &mut [usize],
+    groups: &mut [usize],
 ) -> Ran
-    requires { ⌜ Ready room k (lent (now points) (now roots) (now corners) (now volumes) (now ends) (now lengths) (now outline) (now log)) (meshAt k (now points) (now roots) (now corners) (now volumes) (now ends) (now lengths) (now outline)) × Chosen p k (now log) (length (now marks)) ⌝ }
+    requires { ⌜ Ready room k (lent (now points) (now roots) (now corners) (now volumes) (now ends) (now lengths) (now outline) (now log)) (meshAt k (now points) (now roots) (now corners) (now volumes) (now ends) (now lengths) (now outline)) × Chosen p k (now log) (length (now marks)) × TablesLong (length (now numbers)) (length (now verts)) (length (now measures)) (length (now sides)) (length (now groups)) ⌝ }
     ensures { λ r. ⌜ Works (λ R. fold (splitIn way (kindIs kind)) R (chosen p (now (marks .entry)))) room (worldAt k (now (points .entry)) (now (roots .entry)) (now (corners .entry)) (now (volumes .entry)) (now (ends .entry)) (now (lengths .entry)) (now (outline .entry)) (now (log .entry))) (λ q. worldAt q (now (points .exit)) (now (roots .exit)) (now (corners .exit)) (now (volumes .entry)) (now (ends .exit)) (now (lengths .exit)) (now (outline .exit)) (now (log .exit))) r ⌝ }
 {
-    let mut numbers = [0usize; 2048];
-    let mut verts = [0usize; 4096];
-    let mut measures = [0.0f32; 2048];
-    let mut sides = [0usize; 2048];
     let mut counts = k;
     let mut v: usize = 0;
     while v < p {
@@ -150,10 +153,11 @@ pub fn split_marked(
             lengths,
             outline,
             log,
-            &mut numbers,
-            &mut verts,
-            &mut measures,
-            &mut sides,
+            numbers,
+            verts,
+            measures,
+            sides,
+            groups,
         );
         let Ran::Done(next) = ran else {
             return ran;
@@ -164,7 +168,7 @@ pub fn split_marked(
     Ran::Done(counts)
 }
 
-// Splits the particles near a split that were left joining two pieces alone.
+// Splits the particles near a split that were left joining two pieces alone. The table of groups first holds which particles are near.
 pub fn split_pinched(
     k: Counts,
     room: Rooms,
@@ -176,19 +180,23 @@ pub fn split_pinched(
     lengths: &mut [f32],
     outline: &mut [usize],
     log: &mut [usize],
+    marks: &mut [usize],
+    numbers: &mut [usize],
+    verts: &mut [usize],
+    measures: &mut [f32],
+    sides: &mut [usize],
+    groups: &mut [usize],
 ) -> Ran
-    requires { ⌜ Ready room k (lent (now points) (now roots) (now corners) (now volumes) (now ends) (now lengths) (now outline) (now log)) (meshAt k (now points) (now roots) (now corners) (now volumes) (now ends) (now lengths) (now outline)) × Logged (k .log) (now log) ⌝ }
+    requires { ⌜ Ready room k (lent (now points) (now roots) (now corners) (now volumes) (now ends) (now lengths) (now outline) (now log)) (meshAt k (now points) (now roots) (now corners) (now volumes) (now ends) (now lengths) (now outline)) × Logged (k .log) (now log) × (1024 ≤ length (now marks)) × TablesLong (length (now numbers)) (length (now verts)) (length (now measures)) (length (now sides)) (length (now groups)) ⌝ }
     ensures { λ r. ⌜ Works (splitPinched Triangles) room (worldAt k (now (points .entry)) (now (roots .entry)) (now (corners .entry)) (now (volumes .entry)) (now (ends .entry)) (now (lengths .entry)) (now (outline .entry)) (now (log .entry))) (λ q. worldAt q (now (points .exit)) (now (roots .exit)) (now (corners .exit)) (now (volumes .entry)) (now (ends .exit)) (now (lengths .exit)) (now (outline .exit)) (now (log .exit))) r ⌝ }
 {
-    let mut near = [0usize; 1024];
-    let mut marks = [0usize; 1024];
-    marks::mark_near(k.log, log, &mut near);
-    marks::mark_pinched(k.triangles, corners, &near, &mut marks);
+    marks::mark_near(k.log, log, groups);
+    marks::mark_pinched(k.triangles, corners, groups, marks);
     split_marked(
         Parting::Free,
         Kind::Triangles,
         k.particles,
-        &marks,
+        marks,
         k,
         room,
         points,
@@ -199,10 +207,15 @@ pub fn split_pinched(
         lengths,
         outline,
         log,
+        numbers,
+        verts,
+        measures,
+        sides,
+        groups,
     )
 }
 
-// Splits the candidates by the blade; then, if anything split, the pinched.
+// Splits the candidates by the blade; then, if anything split, the pinched. Both share the lent tables.
 pub fn cut_facets(
     b0: Point,
     b1: Point,
@@ -216,17 +229,22 @@ pub fn cut_facets(
     lengths: &mut [f32],
     outline: &mut [usize],
     log: &mut [usize],
+    marks: &mut [usize],
+    numbers: &mut [usize],
+    verts: &mut [usize],
+    measures: &mut [f32],
+    sides: &mut [usize],
+    groups: &mut [usize],
 ) -> Ran
-    requires { ⌜ Ready room k (lent (now points) (now roots) (now corners) (now volumes) (now ends) (now lengths) (now outline) (now log)) (meshAt k (now points) (now roots) (now corners) (now volumes) (now ends) (now lengths) (now outline)) × Logged (k .log) (now log) ⌝ }
+    requires { ⌜ Ready room k (lent (now points) (now roots) (now corners) (now volumes) (now ends) (now lengths) (now outline) (now log)) (meshAt k (now points) (now roots) (now corners) (now volumes) (now ends) (now lengths) (now outline)) × Logged (k .log) (now log) × (1024 ≤ length (now marks)) × TablesLong (length (now numbers)) (length (now verts)) (length (now measures)) (length (now sides)) (length (now groups)) ⌝ }
     ensures { λ r. ⌜ Works (cutFacets (bladeFrom b0 b1)) room (worldAt k (now (points .entry)) (now (roots .entry)) (now (corners .entry)) (now (volumes .entry)) (now (ends .entry)) (now (lengths .entry)) (now (outline .entry)) (now (log .entry))) (λ q. worldAt q (now (points .exit)) (now (roots .exit)) (now (corners .exit)) (now (volumes .entry)) (now (ends .exit)) (now (lengths .exit)) (now (outline .exit)) (now (log .exit))) r ⌝ }
 {
-    let mut marks = [0usize; 1024];
-    marks::mark_candidates(b0, b1, k.triangles, points, corners, &mut marks);
+    marks::mark_candidates(b0, b1, k.triangles, points, corners, marks);
     let ran = split_marked(
         Parting::Blade(b0, b1),
         Kind::Triangles,
         k.particles,
-        &marks,
+        marks,
         k,
         room,
         points,
@@ -237,6 +255,11 @@ pub fn cut_facets(
         lengths,
         outline,
         log,
+        numbers,
+        verts,
+        measures,
+        sides,
+        groups,
     );
     let Ran::Done(counts) = ran else {
         return ran;
@@ -253,6 +276,12 @@ pub fn cut_facets(
             lengths,
             outline,
             log,
+            marks,
+            numbers,
+            verts,
+            measures,
+            sides,
+            groups,
         );
     }
     Ran::Done(counts)

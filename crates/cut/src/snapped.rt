@@ -75,8 +75,9 @@ pub fn split_snapped(
     verts: &mut [usize],
     measures: &mut [f32],
     sides: &mut [usize],
+    groups: &mut [usize],
 ) -> Ran
-    requires { ⌜ Ready room k (lent (now points) (now roots) (now corners) (now volumes) (now ends) (now lengths) (now outline) (now log)) (meshAt k (now points) (now roots) (now corners) (now volumes) (now ends) (now lengths) (now outline)) × Snappable v k (now log) × TablesLong (length (now numbers)) (length (now verts)) (length (now measures)) (length (now sides)) ⌝ }
+    requires { ⌜ Ready room k (lent (now points) (now roots) (now corners) (now volumes) (now ends) (now lengths) (now outline) (now log)) (meshAt k (now points) (now roots) (now corners) (now volumes) (now ends) (now lengths) (now outline)) × Snappable v k (now log) × TablesLong (length (now numbers)) (length (now verts)) (length (now measures)) (length (now sides)) (length (now groups)) ⌝ }
     ensures { λ r. ⌜ Works (λ R. snapIf mark (bladeFrom b0 b1) R v) room (worldAt k (now (points .entry)) (now (roots .entry)) (now (corners .entry)) (now (volumes .entry)) (now (ends .entry)) (now (lengths .entry)) (now (outline .entry)) (now (log .entry))) (λ q. worldAt q (now (points .exit)) (now (roots .exit)) (now (corners .exit)) (now (volumes .entry)) (now (ends .exit)) (now (lengths .exit)) (now (outline .exit)) (now (log .exit))) r ⌝ }
 {
     let before = k.particles;
@@ -99,6 +100,7 @@ pub fn split_snapped(
         verts,
         measures,
         sides,
+        groups,
     );
     let Ran::Done(next) = ran else {
         return ran;
@@ -110,7 +112,7 @@ pub fn split_snapped(
     Ran::Done(next)
 }
 
-// Splits each marked particle below p so, in rising order, until one lacks room. All share one set of tables.
+// Splits each marked particle below p so, in rising order, until one lacks room. All share the lent tables.
 pub fn split_all_snapped(
     b0: Point,
     b1: Point,
@@ -126,14 +128,15 @@ pub fn split_all_snapped(
     lengths: &mut [f32],
     outline: &mut [usize],
     log: &mut [usize],
+    numbers: &mut [usize],
+    verts: &mut [usize],
+    measures: &mut [f32],
+    sides: &mut [usize],
+    groups: &mut [usize],
 ) -> Ran
-    requires { ⌜ Ready room k (lent (now points) (now roots) (now corners) (now volumes) (now ends) (now lengths) (now outline) (now log)) (meshAt k (now points) (now roots) (now corners) (now volumes) (now ends) (now lengths) (now outline)) × Chosen p k (now log) (length (now marks)) ⌝ }
+    requires { ⌜ Ready room k (lent (now points) (now roots) (now corners) (now volumes) (now ends) (now lengths) (now outline) (now log)) (meshAt k (now points) (now roots) (now corners) (now volumes) (now ends) (now lengths) (now outline)) × Chosen p k (now log) (length (now marks)) × TablesLong (length (now numbers)) (length (now verts)) (length (now measures)) (length (now sides)) (length (now groups)) ⌝ }
     ensures { λ r. ⌜ Works (λ R. fold (splitSnapped (bladeFrom b0 b1)) R (chosen p (now (marks .entry)))) room (worldAt k (now (points .entry)) (now (roots .entry)) (now (corners .entry)) (now (volumes .entry)) (now (ends .entry)) (now (lengths .entry)) (now (outline .entry)) (now (log .entry))) (λ q. worldAt q (now (points .exit)) (now (roots .exit)) (now (corners .exit)) (now (volumes .entry)) (now (ends .exit)) (now (lengths .exit)) (now (outline .exit)) (now (log .exit))) r ⌝ }
 {
-    let mut numbers = [0usize; 2048];
-    let mut verts = [0usize; 4096];
-    let mut measures = [0.0f32; 2048];
-    let mut sides = [0usize; 2048];
     let mut counts = k;
     let mut v: usize = 0;
     while v < p {
@@ -152,10 +155,11 @@ pub fn split_all_snapped(
             lengths,
             outline,
             log,
-            &mut numbers,
-            &mut verts,
-            &mut measures,
-            &mut sides,
+            numbers,
+            verts,
+            measures,
+            sides,
+            groups,
         );
         let Ran::Done(next) = ran else {
             return ran;

@@ -152,7 +152,7 @@ fn drop_marked(mask: &[usize], e: usize, s: usize, ends: &mut [usize], lengths: 
     mesh::rows::remove_edges(mask, e, ends, lengths)
 }
 
-// The straddlers go, and the log tells of the split, if it has room for that and for `extra` entries more; `rows` boundary entries are there by now.
+// The straddlers go, and the log tells of the split, if it has room for that and for `extra` entries more; `rows` boundary entries are there by now. The mask is lent to mark them in.
 fn drop_straddlers(
     kind: Kind,
     v: usize,
@@ -169,11 +169,11 @@ fn drop_straddlers(
     ends: &mut [usize],
     lengths: &mut [f32],
     log: &mut [usize],
+    mask: &mut [usize],
 ) -> Ran
-    requires { ⌜ DropAsked (kindIs kind) room k before n count extra (length (now verts)) (length (now groups)) (length (now corners)) (length (now ends)) (length (now lengths)) (length (now log)) ⌝ }
+    requires { ⌜ DropAsked (kindIs kind) room k before n count extra (length (now verts)) (length (now groups)) (length (now corners)) (length (now ends)) (length (now lengths)) (length (now log)) × (2048 ≤ length (now mask)) ⌝ }
     ensures { λ r. ⌜ Dropped (kindIs kind) room k v before n count extra rows (now (verts .entry)) (now (groups .entry)) (now (corners .entry)) (now (ends .entry)) (now (ends .exit)) (now (lengths .entry)) (now (lengths .exit)) (now (log .entry)) (now (log .exit)) r ⌝ }
 {
-    let mut mask = [0usize; 2048];
     let s = rewire::straddlers::mark_straddlers(
         kind,
         v,
@@ -186,14 +186,14 @@ fn drop_straddlers(
         groups,
         corners,
         ends,
-        &mut mask,
+        mask,
     );
     let m = count - 1;
     if !log_fits(room.log - k.log, m, s, extra) {
         return Ran::Refused(8);
     }
-    let entries = note_split(v, before, m, k.log, k.edges, &mask, ends, log);
-    let left = drop_marked(&mask, k.edges, s, ends, lengths);
+    let entries = note_split(v, before, m, k.log, k.edges, mask, ends, log);
+    let left = drop_marked(mask, k.edges, s, ends, lengths);
     Ran::Done(Counts {
         particles: k.particles,
         triangles: k.triangles,
@@ -223,8 +223,9 @@ pub fn settle(
     lengths: &mut [f32],
     outline: &mut [usize],
     log: &mut [usize],
+    mask: &mut [usize],
 ) -> Ran
-    requires { ⌜ SettleAsked (kindIs kind) room k v before n count extra (now numbers) (now verts) (now groups) (length (now points)) (length (now corners)) (length (now volumes)) (length (now ends)) (length (now lengths)) (now outline) (length (now log)) ⌝ }
+    requires { ⌜ SettleAsked (kindIs kind) room k v before n count extra (now numbers) (now verts) (now groups) (length (now points)) (length (now corners)) (length (now volumes)) (length (now ends)) (length (now lengths)) (now outline) (length (now log)) × (2048 ≤ length (now mask)) ⌝ }
     ensures { λ r. ⌜ SettledFor (kindIs kind) room extra v before n count (now (numbers .entry)) (now (verts .entry)) (now (groups .entry)) (λ roots. worldAt k (now (points .entry)) roots (now (corners .entry)) (now (volumes .entry)) (now (ends .entry)) (now (lengths .entry)) (now (outline .entry)) (now (log .entry))) (λ roots q. worldAt q (now (points .entry)) roots (now (corners .entry)) (now (volumes .entry)) (now (ends .exit)) (now (lengths .exit)) (now (outline .exit)) (now (log .exit))) r ⌝ }
 {
     let grown = open_boundary(
@@ -261,5 +262,6 @@ pub fn settle(
         ends,
         lengths,
         log,
+        mask,
     )
 }

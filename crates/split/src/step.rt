@@ -40,8 +40,9 @@ pub fn split_opened(
     lengths: &mut [f32],
     outline: &mut [usize],
     log: &mut [usize],
+    mask: &mut [usize],
 ) -> Ran
-    requires { ⌜ Ready room k (lent (now points) (now roots) (now corners) (now volumes) (now ends) (now lengths) (now outline) (now log)) (meshAt k (now points) (now roots) (now corners) (now volumes) (now ends) (now lengths) (now outline)) × FanGrouped (kindIs kind) (meshAt k (now points) (now roots) (now corners) (now volumes) (now ends) (now lengths) (now outline)) v n count (now numbers) (now verts) (now measures) (now groups) × (extra ≤ 1) ⌝ }
+    requires { ⌜ Ready room k (lent (now points) (now roots) (now corners) (now volumes) (now ends) (now lengths) (now outline) (now log)) (meshAt k (now points) (now roots) (now corners) (now volumes) (now ends) (now lengths) (now outline)) × FanGrouped (kindIs kind) (meshAt k (now points) (now roots) (now corners) (now volumes) (now ends) (now lengths) (now outline)) v n count (now numbers) (now verts) (now measures) (now groups) × (extra ≤ 1) × (2048 ≤ length (now mask)) ⌝ }
     ensures { λ r. ⌜ Stepped (kindIs kind) (openedBy (kindIs kind) (meshAt k (now (points .entry)) (now (roots .entry)) (now (corners .entry)) (now (volumes .entry)) (now (ends .entry)) (now (lengths .entry)) (now (outline .entry))) v n count (now (groups .entry))) room extra
         (worldAt k (now (points .entry)) (now (roots .entry)) (now (corners .entry)) (now (volumes .entry)) (now (ends .entry)) (now (lengths .entry)) (now (outline .entry)) (now (log .entry)))
         (λ q. worldAt q (now (points .exit)) (now (roots .exit)) (now (corners .exit)) (now (volumes .entry)) (now (ends .exit)) (now (lengths .exit)) (now (outline .exit)) (now (log .exit))) r ⌝ }
@@ -96,6 +97,7 @@ pub fn split_opened(
                 lengths,
                 outline,
                 log,
+                mask,
             )
         }
     }
@@ -110,7 +112,7 @@ pub fn is_free(v: usize, points: &[f32]) -> bool
     points[5 * size + v] != 0.0
 }
 
-// Splits v by the sides of its fan, which stands in the tables, if it splits at all.
+// Splits v by the sides of its fan, which stands in the tables, if it splits at all. The groups are found in a lent table, and the table of sides serves as a mask when they are.
 pub fn split_tabled(
     kind: Kind,
     v: usize,
@@ -118,7 +120,8 @@ pub fn split_tabled(
     numbers: &[usize],
     verts: &[usize],
     measures: &[f32],
-    sides: &[usize],
+    sides: &mut [usize],
+    groups: &mut [usize],
     k: Counts,
     room: Rooms,
     points: &mut [f32],
@@ -130,13 +133,12 @@ pub fn split_tabled(
     outline: &mut [usize],
     log: &mut [usize],
 ) -> Ran
-    requires { ⌜ Ready room k (lent (now points) (now roots) (now corners) (now volumes) (now ends) (now lengths) (now outline) (now log)) (meshAt k (now points) (now roots) (now corners) (now volumes) (now ends) (now lengths) (now outline)) × FanSided (kindIs kind) (meshAt k (now points) (now roots) (now corners) (now volumes) (now ends) (now lengths) (now outline)) v n (now numbers) (now verts) (now measures) (now sides) ⌝ }
+    requires { ⌜ Ready room k (lent (now points) (now roots) (now corners) (now volumes) (now ends) (now lengths) (now outline) (now log)) (meshAt k (now points) (now roots) (now corners) (now volumes) (now ends) (now lengths) (now outline)) × FanSided (kindIs kind) (meshAt k (now points) (now roots) (now corners) (now volumes) (now ends) (now lengths) (now outline)) v n (now numbers) (now verts) (now measures) (now sides) × (2048 ≤ length (now sides)) × (2048 ≤ length (now groups)) ⌝ }
     ensures { λ r. ⌜ Works (splitBySides (kindIs kind) v (take n (now (sides .entry)))) room
         (worldAt k (now (points .entry)) (now (roots .entry)) (now (corners .entry)) (now (volumes .entry)) (now (ends .entry)) (now (lengths .entry)) (now (outline .entry)) (now (log .entry)))
         (λ q. worldAt q (now (points .exit)) (now (roots .exit)) (now (corners .exit)) (now (volumes .entry)) (now (ends .exit)) (now (lengths .exit)) (now (outline .exit)) (now (log .exit))) r ⌝ }
 {
-    let mut groups = [0usize; 2048];
-    let count = crate::fans::group_fan(kind, v, n, verts, sides, &mut groups);
+    let count = crate::fans::group_fan(kind, v, n, verts, sides, groups);
     if count < 2 {
         return Ran::Done(k);
     }
@@ -150,7 +152,7 @@ pub fn split_tabled(
             numbers,
             verts,
             measures,
-            &groups,
+            groups,
             k,
             room,
             points,
@@ -161,6 +163,7 @@ pub fn split_tabled(
             lengths,
             outline,
             log,
+            sides,
         );
     }
     Ran::Done(k)
@@ -190,6 +193,8 @@ pub fn split_by_sides(
     let mut numbers = [0usize; 2048];
     let mut verts = [0usize; 4096];
     let mut measures = [0.0f32; 2048];
+    let mut own = [0usize; 2048];
+    let mut groups = [0usize; 2048];
     let n = crate::fans::fan_tables(
         kind,
         v,
@@ -203,6 +208,7 @@ pub fn split_by_sides(
         &mut verts,
         &mut measures,
     );
+    columns::copy_usize(sides, &mut own);
     split_tabled(
         kind,
         v,
@@ -210,7 +216,8 @@ pub fn split_by_sides(
         &numbers,
         &verts,
         &measures,
-        sides,
+        &mut own,
+        &mut groups,
         k,
         room,
         points,

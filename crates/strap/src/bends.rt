@@ -92,14 +92,20 @@ fn mark_between(e: usize, ends: &[usize], first: &[usize], second: &[usize], mar
     }
 }
 
-// Marks the bend edges over the strap (a, b) among the first e edges.
-pub fn mark_bends(a: usize, b: usize, e: usize, ends: &[usize], marks: &mut [usize])
-    requires { ⌜ BendsRoom a b e (now ends) (length (now marks)) ⌝ }
+// Marks the bend edges over the strap (a, b) among the first e edges. Two tables are lent for its sides.
+pub fn mark_bends(
+    a: usize,
+    b: usize,
+    e: usize,
+    ends: &[usize],
+    marks: &mut [usize],
+    first: &mut [usize],
+    second: &mut [usize],
+)
+    requires { ⌜ BendsRoom a b e (now ends) (length (now marks)) × (1024 ≤ length (now first)) × (1024 ≤ length (now second)) ⌝ }
     ensures { λ _. ⌜ BendsMarked a b e (now (ends .entry)) (now (marks .entry)) (now (marks .exit)) ⌝ }
 {
-    let mut first = [0usize; 1024];
-    let mut second = [0usize; 1024];
-    mark_side(a, b, e, ends, &mut first);
-    mark_side(b, a, e, ends, &mut second);
-    mark_between(e, ends, &first, &second, marks);
+    mark_side(a, b, e, ends, first);
+    mark_side(b, a, e, ends, second);
+    mark_between(e, ends, first, second, marks);
 }

@@ -25,14 +25,16 @@ fn cross(
     log: &mut [usize],
     bends: &mut [usize],
     snapped: &mut [usize],
+    first: &mut [usize],
+    second: &mut [usize],
 ) -> Ran
-    requires { ⌜ CrossRoom room k (now points) (now roots) (now ends) (now lengths) (now outline) (now log) (length (now bends)) (length (now snapped)) × (number < k .edges) ⌝ }
+    requires { ⌜ CrossRoom room k (now points) (now roots) (now ends) (now lengths) (now outline) (now log) (length (now bends)) (length (now snapped)) × (number < k .edges) × (1024 ≤ length (now first)) × (1024 ≤ length (now second)) ⌝ }
     ensures { λ r. ⌜ CrossTold f (record { number = number; t = t } ∷ []) room k (now (points .entry)) (now (roots .entry)) (now (ends .entry)) (now (lengths .entry)) (now (outline .entry)) (now (log .entry)) (now (bends .entry)) (now (snapped .entry)) (now (points .exit)) (now (roots .exit)) (now (ends .exit)) (now (lengths .exit)) (now (outline .exit)) (now (log .exit)) (now (bends .exit)) (now (snapped .exit)) r ⌝ }
 {
     let plan = plan::plan_at(f, number, t, k.particles, k.edges, points, ends, lengths);
     let row = plan.row;
     if plan::insertable(f, t, plan, points) {
-        crate::bends::mark_bends(row.a, row.b, k.edges, ends, bends);
+        crate::bends::mark_bends(row.a, row.b, k.edges, ends, bends, first, second);
         return crate::step::insert(plan, k, room, points, roots, ends, lengths, outline, log);
     }
     let near = plan::near_end(row.a, row.b, t);
@@ -56,8 +58,10 @@ pub fn cross_all(
     log: &mut [usize],
     bends: &mut [usize],
     snapped: &mut [usize],
+    first: &mut [usize],
+    second: &mut [usize],
 ) -> Ran
-    requires { ⌜ CrossRoom room k (now points) (now roots) (now ends) (now lengths) (now outline) (now log) (length (now bends)) (length (now snapped)) × CrossingsIn m (now numbers) (length (now ts)) k (now log) ⌝ }
+    requires { ⌜ CrossRoom room k (now points) (now roots) (now ends) (now lengths) (now outline) (now log) (length (now bends)) (length (now snapped)) × CrossingsIn m (now numbers) (length (now ts)) k (now log) × (1024 ≤ length (now first)) × (1024 ≤ length (now second)) ⌝ }
     ensures { λ r. ⌜ CrossTold f (crossed-in m (now (numbers .entry)) (now (ts .entry))) room k (now (points .entry)) (now (roots .entry)) (now (ends .entry)) (now (lengths .entry)) (now (outline .entry)) (now (log .entry)) (now (bends .entry)) (now (snapped .entry)) (now (points .exit)) (now (roots .exit)) (now (ends .exit)) (now (lengths .exit)) (now (outline .exit)) (now (log .exit)) (now (bends .exit)) (now (snapped .exit)) r ⌝ }
 {
     let mut counts = k;
@@ -77,6 +81,8 @@ pub fn cross_all(
             log,
             bends,
             snapped,
+            first,
+            second,
         );
         let Ran::Done(next) = ran else {
             return ran;

@@ -7,7 +7,7 @@ ghost use Rattle.mesh.specs.Log.{worldAt};
 ghost use Rattle.mesh.specs.Filled.{lent};
 ghost use Rattle.split.specs.Working.{Ready, Works};
 ghost use Rattle.cut.specs.Marking.{bladeFrom};
-ghost use Rattle.cut.specs.Running.{Logged};
+ghost use Rattle.cut.specs.Running.{TablesLong, Logged};
 ghost use Rattle.strap.specs.Crossed.{CrossRoom};
 ghost use Rattle.strap.specs.Segments.{MarksLent, AfterTold, BladeCrossed};
 use blade::Point;
@@ -30,18 +30,20 @@ fn cross_blade(
     log: &mut [usize],
     bends: &mut [usize],
     snapped: &mut [usize],
+    numbers: &mut [usize],
+    ts: &mut [f32],
+    first: &mut [usize],
+    second: &mut [usize],
 ) -> Ran
-    requires { ⌜ CrossRoom room k (now points) (now roots) (now ends) (now lengths) (now outline) (now log) (length (now bends)) (length (now snapped)) × Logged (k .log) (now log) ⌝ }
+    requires { ⌜ CrossRoom room k (now points) (now roots) (now ends) (now lengths) (now outline) (now log) (length (now bends)) (length (now snapped)) × Logged (k .log) (now log) × (2048 ≤ length (now numbers)) × (2048 ≤ length (now ts)) × (1024 ≤ length (now first)) × (1024 ≤ length (now second)) ⌝ }
     ensures { λ r. ⌜ BladeCrossed b0 b1 f room k (now (points .entry)) (now (roots .entry)) (now (ends .entry)) (now (lengths .entry)) (now (outline .entry)) (now (log .entry)) (now (bends .entry)) (now (snapped .entry)) (now (points .exit)) (now (roots .exit)) (now (ends .exit)) (now (lengths .exit)) (now (outline .exit)) (now (log .exit)) (now (bends .exit)) (now (snapped .exit)) r ⌝ }
 {
-    let mut numbers = [0usize; 2048];
-    let mut ts = [0.0f32; 2048];
-    let m = crate::crossings::find_crossings(b0, b1, k.edges, points, ends, &mut numbers, &mut ts);
+    let m = crate::crossings::find_crossings(b0, b1, k.edges, points, ends, numbers, ts);
     crate::crossed::cross_all(
         f,
         m,
-        &numbers,
-        &ts,
+        numbers,
+        ts,
         k,
         room,
         points,
@@ -52,14 +54,15 @@ fn cross_blade(
         log,
         bends,
         snapped,
+        first,
+        second,
     )
 }
 
-// The marked bend edges go, and then the snapped ends are split by the blade.
+// The marked bend edges go, and then the snapped ends are split by the blade; the marks of the bend edges are no longer needed by then, so their table holds sides.
 pub fn after_crossings(
     b0: Point,
     b1: Point,
-    bends: &[usize],
     snapped: &[usize],
     k: Counts,
     room: Rooms,
@@ -71,12 +74,17 @@ pub fn after_crossings(
     lengths: &mut [f32],
     outline: &mut [usize],
     log: &mut [usize],
+    numbers: &mut [usize],
+    verts: &mut [usize],
+    measures: &mut [f32],
+    bends: &mut [usize],
+    groups: &mut [usize],
 ) -> Ran
-    requires { ⌜ Ready room k (lent (now points) (now roots) (now corners) (now volumes) (now ends) (now lengths) (now outline) (now log)) (meshAt k (now points) (now roots) (now corners) (now volumes) (now ends) (now lengths) (now outline)) × Logged (k .log) (now log) × MarksLent (length (now bends)) (length (now snapped)) ⌝ }
+    requires { ⌜ Ready room k (lent (now points) (now roots) (now corners) (now volumes) (now ends) (now lengths) (now outline) (now log)) (meshAt k (now points) (now roots) (now corners) (now volumes) (now ends) (now lengths) (now outline)) × Logged (k .log) (now log) × MarksLent (length (now bends)) (length (now snapped)) × TablesLong (length (now numbers)) (length (now verts)) (length (now measures)) (length (now bends)) (length (now groups)) ⌝ }
     ensures { λ r. ⌜ AfterTold (bladeFrom b0 b1) room (k .edges) (worldAt k (now (points .entry)) (now (roots .entry)) (now (corners .entry)) (now (volumes .entry)) (now (ends .entry)) (now (lengths .entry)) (now (outline .entry)) (now (log .entry))) (λ q. worldAt q (now (points .exit)) (now (roots .exit)) (now (corners .exit)) (now (volumes .entry)) (now (ends .exit)) (now (lengths .exit)) (now (outline .exit)) (now (log .exit))) (now (bends .entry)) (now (snapped .entry)) r ⌝ }
 {
     let p = k.particles;
-    let ran = crate::unbent::remove_bends(bends, k, room, ends, lengths, outline, log);
+    let ran = crate::unbent::remove_bends(bends, groups, k, room, ends, lengths, outline, log);
     match ran {
         Ran::Refused(c) => Ran::Refused(c),
         Ran::Done(left) => cut::snapped::split_all_snapped(
@@ -94,11 +102,16 @@ pub fn after_crossings(
             lengths,
             outline,
             log,
+            numbers,
+            verts,
+            measures,
+            bends,
+            groups,
         ),
     }
 }
 
-// Inserts at the crossings or marks their near ends; then removes the bend edges over the insertions and splits the marked ends.
+// Inserts at the crossings or marks their near ends; then removes the bend edges over the insertions and splits the marked ends. The marks are of ends; the table of sides first marks bend edges, and the first and third hold the crossings.
 pub fn cut_segments(
     b0: Point,
     b1: Point,
@@ -113,12 +126,18 @@ pub fn cut_segments(
     lengths: &mut [f32],
     outline: &mut [usize],
     log: &mut [usize],
+    marks: &mut [usize],
+    numbers: &mut [usize],
+    verts: &mut [usize],
+    measures: &mut [f32],
+    sides: &mut [usize],
+    groups: &mut [usize],
 ) -> Ran
-    requires { ⌜ Ready room k (lent (now points) (now roots) (now corners) (now volumes) (now ends) (now lengths) (now outline) (now log)) (meshAt k (now points) (now roots) (now corners) (now volumes) (now ends) (now lengths) (now outline)) × Logged (k .log) (now log) ⌝ }
+    requires { ⌜ Ready room k (lent (now points) (now roots) (now corners) (now volumes) (now ends) (now lengths) (now outline) (now log)) (meshAt k (now points) (now roots) (now corners) (now volumes) (now ends) (now lengths) (now outline)) × Logged (k .log) (now log) × (1024 ≤ length (now marks)) × TablesLong (length (now numbers)) (length (now verts)) (length (now measures)) (length (now sides)) (length (now groups)) ⌝ }
     ensures { λ r. ⌜ Works (cutSegments (bladeFrom b0 b1) f) room (worldAt k (now (points .entry)) (now (roots .entry)) (now (corners .entry)) (now (volumes .entry)) (now (ends .entry)) (now (lengths .entry)) (now (outline .entry)) (now (log .entry))) (λ q. worldAt q (now (points .exit)) (now (roots .exit)) (now (corners .exit)) (now (volumes .entry)) (now (ends .exit)) (now (lengths .exit)) (now (outline .exit)) (now (log .exit))) r ⌝ }
 {
-    let mut bends = [0usize; 2048];
-    let mut snapped = [0usize; 1024];
+    columns::clear_usize(0, sides);
+    columns::clear_usize(0, marks);
     let ran = cross_blade(
         b0,
         b1,
@@ -131,8 +150,12 @@ pub fn cut_segments(
         lengths,
         outline,
         log,
-        &mut bends,
-        &mut snapped,
+        sides,
+        marks,
+        numbers,
+        measures,
+        verts,
+        groups,
     );
     let Ran::Done(crossed) = ran else {
         return ran;
@@ -140,8 +163,7 @@ pub fn cut_segments(
     after_crossings(
         b0,
         b1,
-        &bends,
-        &snapped,
+        marks,
         crossed,
         room,
         points,
@@ -152,5 +174,10 @@ pub fn cut_segments(
         lengths,
         outline,
         log,
+        numbers,
+        verts,
+        measures,
+        sides,
+        groups,
     )
 }

@@ -24,9 +24,10 @@ fn count_marked(n: usize, marks: &[usize]) -> usize
     count
 }
 
-// The marked edges go; nothing happens where none is marked.
+// The marked edges go; nothing happens where none is marked. The other table is lent for a mask of the boundary, which loses nothing.
 pub fn remove_bends(
     bends: &[usize],
+    none: &mut [usize],
     k: Counts,
     room: Rooms,
     ends: &mut [usize],
@@ -34,13 +35,13 @@ pub fn remove_bends(
     outline: &mut [usize],
     log: &mut [usize],
 ) -> Ran
-    requires { ⌜ UnbentRoom room k (length (now bends)) (length (now ends)) (length (now lengths)) (length (now outline)) (length (now log)) ⌝ }
+    requires { ⌜ UnbentRoom room k (length (now bends)) (length (now ends)) (length (now lengths)) (length (now outline)) (length (now log)) × (2048 ≤ length (now none)) ⌝ }
     ensures { λ r. ⌜ UnbentTold room k (now (bends .entry)) (now (ends .entry)) (now (lengths .entry)) (now (outline .entry)) (now (log .entry)) (now (ends .exit)) (now (lengths .exit)) (now (outline .exit)) (now (log .exit)) r ⌝ }
 {
     let s = count_marked(k.edges, bends);
     if s == 0 {
         return Ran::Done(k);
     }
-    let none = [0usize; 2048];
-    split::straddlers::remove_marked(k, room, s, bends, &none, ends, lengths, outline, log)
+    columns::clear_usize(0, none);
+    split::straddlers::remove_marked(k, room, s, bends, none, ends, lengths, outline, log)
 }
