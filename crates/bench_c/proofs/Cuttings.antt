@@ -1,13 +1,13 @@
 -- Laws of the C functions that cut and crack: their arguments, and the job that each is. Assumes nothing.
 use Prim.Native.Nat.{ℕ, _/_, _%_, _≤_, _*_, _+_}
 use native.Mathlib.Omega.{arith}
-use mathlib.Core.Path.{_≡_, refl, sym, ap, subst, _∙_}
-use mathlib.Core.Bool.{Bool, true, false, _&&_}
+use mathlib.Core.Path.{_≡_, sym, ap, subst, _∙_}
+use mathlib.Core.Bool.{Bool, true, false}
 use mathlib.Core.List.{List}
 use lib.ListN.{length}
 use lib.Dec.{eqb, leb}
 use lib.Ieee.{Float}
-use borrow.Author.Tests.{eq-eqb, ne-eqb, eqb-true, leb-true}
+use borrow.Author.Tests.{eq-eqb, ne-eqb, leb-true}
 use Rattle.lists.proofs.Sifts.{and-true}
 use Rattle.blade.specs.declared.Point.{Point}
 use Rattle.model.specs.Calls.{Outcome, bladeOk, cutCall, crackCall}
@@ -19,7 +19,7 @@ use Rattle.jobs.proofs.Jobs.{cut-is, crack-is}
 use Rattle.image.specs.Words.{wordsFrom, numberOf}
 use Rattle.image.specs.Image.{imageOf, imageSized}
 use Rattle.bench_c.specs.Replies.{pointAt}
-use Rattle.bench_c.specs.Torn.{OutcomeReplied, withRooms, roomsIn, ifRead, bladeIn, cutOutcome, wordsFew, crackOutcome}
+use Rattle.bench_c.specs.Torn.{OutcomeReplied, withRooms, roomsIn, ifRead, cutOutcome, wordsFew, crackOutcome}
 
 module _ (s rooms : List ℕ) (lent logged x : ℕ) (out log : List ℕ) where
   -- bytes that were read

@@ -15,7 +15,7 @@ use Rattle.model.specs.Elements.{kindOf}
 use Rattle.model.specs.Valid.{numbersFit, indicesFit}
 use Rattle.model.specs.Split.{splitBySides}
 use Rattle.model.specs.Run.{Rooms as RoomsOf, start}
-use Rattle.model.specs.Calls.{Outcome, unless, outcome, sidesOk, trianglesLent, refusal, splitCall, straddlersCall}
+use Rattle.model.specs.Calls.{Outcome, unless, outcome, sidesOk, trianglesLent, refusal, splitCall}
 use Rattle.model.specs.Calls.{refused as turnedDown}
 use Rattle.model.specs.Reads.{refused}
 use Rattle.mesh.specs.Checks.{thenCheck}

@@ -1,7 +1,7 @@
 -- Laws of an image that is loaded into local blocks: their room, and the input that their fronts are. Assumes nothing.
 use Prim.Native.Nat.{ℕ, _*_, _≤_}
 use native.Mathlib.Omega.{arith}
-use mathlib.Core.Path.{_≡_, refl, sym, ap, subst, _∙_}
+use mathlib.Core.Path.{_≡_, refl, sym, ap, _∙_}
 use mathlib.Core.Bool.{Bool, true, false, _&&_}
 use mathlib.Core.List.{List}
 use lib.Dec.{leb}
@@ -10,7 +10,7 @@ use lib.Ieee.{Float}
 use borrow.Author.Tests.{leb-true}
 use Rattle.mesh.specs.Given.{Given, given, sizesFit, meshOf}
 use Rattle.model.specs.Calls.{refusal}
-use Rattle.model.specs.Reads.{Read, refused, piecesCall, restMeasureCall}
+use Rattle.model.specs.Reads.{refused, piecesCall, restMeasureCall}
 use Rattle.bench.specs.declared.Number.{Number}
 use Rattle.bench.specs.declared.Count.{Count}
 use Rattle.bench.specs.Answers.{numberOf, countOf}

@@ -1,35 +1,31 @@
 -- Laws of an outcome and its reply: what a call came to and left in its blocks, told as words, is the reply of the outcome. Assumes nothing.
-use Prim.Native.Nat.{ℕ, zero, suc, _*_, _/_, _≤_, _<_}
+use Prim.Native.Nat.{ℕ, zero, suc, _<_}
 use native.Mathlib.Omega.{arith}
-use mathlib.Core.Path.{_≡_, refl, sym, ap, ap₂, subst, _∙_}
+use mathlib.Core.Path.{_≡_, refl, ap, subst, _∙_}
 use mathlib.Core.Bool.{Bool, true, false}
-use mathlib.Core.List.{List, [], _∷_, map}
+use mathlib.Core.List.{List, [], _∷_}
 use lib.Dec.{eqb, ltb}
 use lib.ListN.{length}
 use lib.Ieee.{Float}
 use Rattle.lists.specs.Lists.{pick}
-use Rattle.model.specs.Mesh.{Mesh}
-use Rattle.model.specs.Run.{Entry, Need, Rooms, Run}
+use Rattle.model.specs.Run.{Need, Rooms, Run}
 use Rattle.model.specs.Calls.{Outcome, done, tooSmall, firstFault, fitted, outcome, unless}
 use Rattle.model.specs.Calls.{refused as turnedDown}
 use Rattle.model.specs.Reads.{Read, refused, value}
-use Rattle.mesh.specs.At.{meshAt}
-use Rattle.mesh.specs.Log.{Words, World, wordsOf, wordsIn, worldOf, logAt, worldAt}
-use Rattle.mesh.specs.Given.{Lent}
+use Rattle.mesh.specs.Log.{World, wordsIn, logAt, worldAt}
 use Rattle.mesh.specs.declared.Counts.{Counts}
 use Rattle.mesh.specs.declared.Rooms.{Rooms as Given-Rooms}
 use Rattle.split.specs.Working.{Within, Roomed}
 use Rattle.split.specs.declared.Ran.{Ran}
 use Rattle.split.specs.declared.Ran.the-variants.{Refused as Stopped, Done as Ended}
-use Rattle.answer.specs.Answered.{answerOf, countsOf, shown}
-use Rattle.answer.specs.Framed.{wordsChange, saidOf, Came}
+use Rattle.answer.specs.Framed.{wordsChange, Came}
 use Rattle.answer.specs.declared.Answer.{Answer}
 use Rattle.answer.specs.declared.Answer.the-variants.{Refused, Done}
 use Rattle.image.specs.Image.{imageWordsOf}
 use Rattle.image.specs.Stores.{blockWords}
 use Rattle.bench_c.specs.Given.{SmallCode}
 use Rattle.bench_c.specs.Torn.{meshReply, logReply, BothReplied, OutcomeReplied}
-use Rattle.bench_c.specs.Told.{meshTold, logTold, Tellable, Telling, Limited}
+use Rattle.bench_c.specs.Told.{meshTold, logTold, Telling, Limited}
 use Rattle.bench_c.proofs.Shown.{rows-image, rows-log}
 
 -- ---- refusals are small

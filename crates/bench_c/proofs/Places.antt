@@ -3,15 +3,15 @@ use Prim.Native.Nat.{ℕ, _+_, _-_, _*_, _/_, _≤_, _<_}
 use native.Mathlib.Omega.{arith}
 use mathlib.Core.Path.{_≡_, refl, sym, ap, subst, _∙_}
 use mathlib.Core.Bool.{true}
-use mathlib.Core.List.{List, []}
-use lib.ListN.{length, take, drop}
+use mathlib.Core.List.{List}
+use lib.ListN.{length, take}
 use lib.Ieee.{Float, nan}
 use borrow.Rule.Slice.PartMut.{midOf, putMid}
 use Rattle.lists.specs.Lists.{tab}
 use Rattle.lists.proofs.Sifts.{tab-ext, tab-take, tab-drop}
 use Rattle.lists.proofs.Stores.{tab-length}
 use Rattle.columns.specs.Block.{BlockCopied}
-use Rattle.columns.proofs.Blocks.{BlockCopying, block-copy-start, copy-part-fits, copy-part-given, block-copy-more, block-copy-done}
+use Rattle.columns.proofs.Blocks.{BlockCopying, copy-part-fits, copy-part-given, block-copy-more}
 use Rattle.mesh.specs.At.{meshAt, particlesAt, trianglesAt, edgesAt, boundaryAt}
 use Rattle.mesh.specs.Given.{Given, meshOf, sizes, asRooms}
 use Rattle.mesh.specs.Filled.{Fits}

@@ -3,9 +3,9 @@ use Prim.Native.Nat.{ℕ, zero, suc, _*_, _≤_, _<_}
 use native.Mathlib.Omega.{arith}
 use mathlib.Core.Path.{_≡_, refl, sym, ap, subst, _∙_}
 use mathlib.Core.Bool.{Bool, true, false, not, _&&_}
-use mathlib.Core.List.{List, [], _∷_}
+use mathlib.Core.List.{List, []}
 use lib.ListN.{length}
-use lib.Dec.{eqb, leb}
+use lib.Dec.{leb}
 use lib.Ieee.{Float}
 use borrow.Author.Tests.{le-leb, lt-leb, eq-eqb, ne-eqb}
 use Rattle.lists.specs.Lists.{pick}
@@ -27,7 +27,7 @@ use Rattle.bench.specs.declared.Count.{Count}
 use Rattle.bench.specs.declared.Tested.{Tested}
 use Rattle.bench.specs.Answers.{numberOf, countOf, testedOf}
 use Rattle.image.specs.Words.{written, numberOf as floatOf}
-use Rattle.bench_c.specs.Replies.{numberWords, countWords, testedWords, lentEnough, codeOf, shownOf, Replied, rootReply, bladeReply, pointAt}
+use Rattle.bench_c.specs.Replies.{numberWords, countWords, testedWords, codeOf, Replied, rootReply, bladeReply, pointAt}
 use Rattle.bench_c.specs.Given.{numberReply, countReply, testedReply, SmallCode}
 
 -- ---- the words of an entry's answer are those of the model's

@@ -1,9 +1,9 @@
 -- The words of the rows that stand in blocks are those of the mesh and of the log that the blocks hold. Assumes nothing.
-use Prim.Native.Nat.{ℕ, zero, suc, _+_, _*_, _/_, _≤_, _<_}
+use Prim.Native.Nat.{ℕ, zero, suc, _*_, _/_, _≤_, _<_}
 use native.Mathlib.Omega.{arith}
 use mathlib.Core.Path.{_≡_, refl, sym, ap, ap₂, _∙_}
 use mathlib.Core.List.{List, [], _∷_, _++_, map}
-use lib.ListN.{length, getD, take, drop, length-drop}
+use lib.ListN.{length, take, drop, length-drop}
 use lib.Seq.{getD-drop}
 use lib.Ieee.{Float, nan}
 use Rattle.lists.specs.Lists.{tab}
@@ -12,7 +12,7 @@ use Rattle.lists.proofs.Stores.{tab-length}
 use Rattle.columns.specs.Block.{cell, stack}
 use Rattle.columns.proofs.Cells.{col-fits}
 use Rattle.mesh.specs.At.{meshAt, particlesAt, trianglesAt, edgesAt, boundaryAt, particleRow, triangleRow, edgeRow, sideRow}
-use Rattle.mesh.specs.Log.{entryRow, logAt, wordsIn}
+use Rattle.mesh.specs.Log.{logAt, wordsIn}
 use Rattle.mesh.specs.Filled.{pointOf, rootOf, cornerOf, volumeOf, endOf, lengthOf, sideOf}
 use Rattle.mesh.specs.declared.Counts.{Counts}
 use Rattle.mesh.proofs.Blocks.{words-of}

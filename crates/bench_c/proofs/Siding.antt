@@ -7,7 +7,7 @@ use mathlib.Core.Logic.{_⊎_, inl, inr, ⊎-elim}
 use mathlib.Core.Bool.{Bool, true, false, not, _&&_}
 use mathlib.Core.List.{List, [], _∷_, _++_}
 use lib.ListN.{length, getD, take, set, length-set}
-use lib.Dec.{eqb, ltb}
+use lib.Dec.{ltb}
 use lib.Seq.{take-suc, take-length, length-take-le}
 use borrow.Author.Tests.{ne-eqb}
 use Rattle.lists.specs.Lists.{pick, stands, all}

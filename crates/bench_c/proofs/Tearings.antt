@@ -1,5 +1,5 @@
 -- Laws of the jobs that give a mesh, on an image: judged, begun, worked on and told. Assumes nothing.
-use Prim.Native.Nat.{ℕ, zero, suc, _*_, _/_, _≤_, _<_}
+use Prim.Native.Nat.{ℕ, zero, suc, _<_}
 use native.Mathlib.Omega.{arith}
 use mathlib.Core.Path.{_≡_, refl, sym, ap, subst, _∙_}
 use mathlib.Core.Bool.{Bool, true}
@@ -8,10 +8,9 @@ use lib.ListN.{length}
 use lib.Ieee.{Float}
 use Rattle.model.specs.Mesh.{Mesh}
 use Rattle.model.specs.Elements.{kindOf}
-use Rattle.model.specs.Run.{Rooms as RoomsOf, start}
+use Rattle.model.specs.Run.{start}
 use Rattle.model.specs.Calls.{Outcome, refusal, unless, outcome}
-use Rattle.model.specs.Calls.{refused as turnedDown}
-use Rattle.model.specs.Reads.{Read, refused}
+use Rattle.model.specs.Reads.{refused}
 use Rattle.mesh.specs.At.{meshAt}
 use Rattle.mesh.specs.Log.{worldAt}
 use Rattle.mesh.specs.Given.{Given, Lent, sizesFit, meshOf, sizes, asRooms}
@@ -22,13 +21,12 @@ use Rattle.split.specs.Working.{Roomed, Ready, Works}
 use Rattle.split.specs.declared.Ran.{Ran}
 use Rattle.split.specs.declared.Ran.the-variants.{Refused as Stopped}
 use Rattle.cut.specs.Running.{Logged}
-use Rattle.answer.specs.Framed.{RoomsLent, BeginAsked, begunWith, Begun, Came}
+use Rattle.answer.specs.Framed.{RoomsLent, BeginAsked, Begun, Came}
 use Rattle.answer.proofs.Begun.{begin-asked, begun-by}
 use Rattle.jobs.specs.Jobs.{jobNumbers, jobArguments, jobRun, jobCall}
 use Rattle.jobs.specs.Asks.{JobAsked}
 use Rattle.jobs.specs.declared.Job.{Job}
 use Rattle.jobs.proofs.Jobs.{job-lent, job-refused, job-asked, job-came}
-use Rattle.image.specs.Words.{wordAt}
 use Rattle.image.specs.Image.{imageOf, imageSized}
 use Rattle.bench_c.specs.Given.{SmallCode}
 use Rattle.bench_c.specs.Torn.{meshReply, BothReplied, OutcomeReplied}

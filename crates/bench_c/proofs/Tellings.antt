@@ -1,7 +1,7 @@
 -- Laws of the reply to an entry that gives a mesh: how many words it has, and what the bytes and the log show. Assumes nothing.
-use Prim.Native.Nat.{ℕ, zero, suc, _+_, _*_, _/_, _≤_, _<_}
+use Prim.Native.Nat.{ℕ, _+_, _*_, _/_, _≤_, _<_}
 use native.Mathlib.Omega.{arith}
-use mathlib.Core.Path.{_≡_, refl, sym, ap, ap₂, subst, _∙_}
+use mathlib.Core.Path.{_≡_, refl, sym, ap, subst, _∙_}
 use mathlib.Core.Bool.{Bool, true, false}
 use mathlib.Core.List.{List, [], _∷_, _++_}
 use lib.Dec.{leb}
@@ -9,18 +9,17 @@ use lib.ListN.{length, take, length-append}
 use lib.Ieee.{Float}
 use borrow.Author.Tests.{le-leb, lt-leb}
 use Rattle.lists.specs.Lists.{pick}
-use Rattle.model.specs.Reads.{Read, refused, value}
+use Rattle.model.specs.Reads.{refused, value}
 use Rattle.mesh.specs.declared.Counts.{Counts}
 use Rattle.mesh.specs.Log.{logAt}
 use Rattle.split.specs.declared.Ran.{Ran}
-use Rattle.split.specs.declared.Ran.the-variants.{Refused, Done}
+use Rattle.split.specs.declared.Ran.the-variants.{Done}
 use Rattle.answer.specs.Framed.{wordsChange}
 use Rattle.image.specs.Words.{written, putWords, bitsIn}
 use Rattle.image.specs.Image.{imageWords}
 use Rattle.image.specs.Stores.{frontsOf, blockWords, Storable}
 use Rattle.image.proofs.Puts.{put-written, fronts-length, bits-length}
-use Rattle.bench_c.specs.Replies.{lentEnough, codeOf, shownOf}
-use Rattle.bench_c.specs.Torn.{beside, BothReplied}
+use Rattle.bench_c.specs.Torn.{BothReplied}
 use Rattle.bench_c.specs.Told.{doneWords, meshTold, logTold, Tellable, Telling}
 
 -- ---- how many words

@@ -10,7 +10,6 @@ use Rattle.lists.specs.Lists.{pick}
 use Rattle.blade.specs.declared.Point.{Point}
 use Rattle.blade.specs.declared.Hit.{Hit}
 use Rattle.blade.specs.declared.Hit.the-variants.{Miss, Hit as HitAt}
-use Rattle.model.specs.Cut.{Blade}
 use Rattle.model.specs.Calls.{refusal}
 use Rattle.model.specs.Reads.{Read, refused, value, rootCall, bladeCall, restMeasureCall, piecesCall, opensCall, groupsCall, restMeasureOfCall}
 use Rattle.mesh.specs.Given.{meshOf}

@@ -1,14 +1,14 @@
 -- Laws of bits and of the numbers that they stand for.
-use Prim.Native.Nat.{ℕ, zero, suc, _+_, _-_, _*_, _/_, _%_, _^_, _<_, _≤_, zero-le, suc-le-suc}
+use Prim.Native.Nat.{ℕ, zero, suc, _+_, _-_, _*_, _/_, _%_, _^_, _<_, _≤_}
 use mathlib.Core.Path.{_≡_, refl, ap, sym, _∙_}
-use mathlib.Core.List.{List, [], _∷_, _++_, append-assoc}
+use mathlib.Core.List.{List, [], _∷_, _++_}
 use mathlib.Core.Logic.{_⊎_, inl, inr, ⊎-elim}
 use native.Mathlib.Omega.{arith}
-use native.Mathlib.Nat.{mul-le-mul-right, add-mul, one-mul, div-add-mod', pow-suc, mul-comm, mul-assoc, mod-lt, zero-add, add-comm, mod-eq-of-lt}
+use native.Mathlib.Nat.{mul-le-mul-right, add-mul, one-mul, div-add-mod', pow-suc, mul-assoc, mod-lt, zero-add, add-comm, mod-eq-of-lt}
 use native.Mathlib.Numerals.{add-one, one-add}
 use lib.ListN.{length, take, drop, getD, set, length-append, length-drop, List·getD-append}
 use lib.Seq.{take-suc, getD-append-add, getD-drop, set-at, set-append-left, sets}
-use lib.Pow.{pow-pos, pow-add, shr-shr, mod-pow-add, field, high, low, mod-mod-pow}
+use lib.Pow.{pow-pos, shr-shr, mod-pow-add, field, high, low, mod-mod-pow}
 use lib.Arith.{digits-lt}
 use Rattle.bits.specs.Bits.{bits, bitsOf, num, fieldAt}
 

@@ -1,13 +1,13 @@
 -- Laws of rows: reading and writing undo each other; a column of rows read is a run of fields.
-use Prim.Native.Nat.{ℕ, zero, suc, _+_, _-_, _*_, _/_, _%_, _^_, _<_, _≤_}
+use Prim.Native.Nat.{ℕ, zero, suc, _+_, _-_, _*_, _^_, _<_, _≤_}
 use mathlib.Core.Path.{_≡_, refl, ap, sym, _∙_}
 use mathlib.Core.List.{List, [], _∷_, _++_, append-assoc, append-nil, map}
 use mathlib.Core.Logic.{⊎-elim}
 use native.Mathlib.Omega.{arith}
-use native.Mathlib.Nat.{mod-lt, mod-eq-of-lt, zero-add, add-assoc, suc-mul, zero-mul}
+use native.Mathlib.Nat.{mod-eq-of-lt, suc-mul, zero-mul}
 use native.Mathlib.Numerals.{add-one}
 use lib.ListN.{length, take, drop, getD, set, replicate, replicate-append-replicate, length-append, length-drop, length-take, List·getD-eq-default}
-use lib.Seq.{getD-take, getD-drop, take-add, drop-drop, take-at, drop-at, length-take-le, take-append-le, drop-append-le, sets, take-suc-set}
+use lib.Seq.{getD-take, getD-drop, take-add, drop-drop, take-at, drop-at, length-take-le, sets, take-suc-set}
 use Rattle.bits.specs.Bits.{bits, bitsOf, num, fieldAt}
 use Rattle.bits.specs.Rows.{total, unpack, pack, readRows, writeRows, Fit, FitAll, col, columnAt, rowsOf}
 use Rattle.bits.proofs.Laws.{below?, length-bits, length-bitsOf, getD-bitsOf, num-bits, num-lt, bits-num, sets-sets}

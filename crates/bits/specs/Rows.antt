@@ -1,7 +1,7 @@
 -- Fields one after the other, and lists of rows of fields: what bits hold and how they are written. Widths and places are arguments. Definitions only.
 use Prim.Native.Nat.{ℕ, zero, suc, _+_, _^_, _<_}
 use mathlib.Core.List.{List, [], _∷_, _++_, map}
-use lib.ListN.{length, take, drop, getD}
+use lib.ListN.{take, drop, getD}
 use Rattle.bits.specs.Bits.{bits, num, fieldAt}
 
 -- the widths' sum

@@ -1,5 +1,5 @@
 -- The blade test, each operation rounded once to an f32, in the order of the source. Definitions only.
-use mathlib.Core.Bool.{Bool, true, false, _&&_, _||_, cond}
+use mathlib.Core.Bool.{_&&_, _||_, cond}
 use lib.Ieee.{Float, neg, lt, le, eq}
 use Rattle.float.specs.Numbers.{minus, times, over, zero32, one}
 use Rattle.blade.specs.declared.Point.{Point}

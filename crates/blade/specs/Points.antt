@@ -1,6 +1,5 @@
 -- Points: each operation rounds once, coordinate by coordinate, in the order of the source. Definitions only.
-use Prim.Native.Nat.{ℕ}
-use mathlib.Core.List.{List, [], _∷_}
+use mathlib.Core.List.{List}
 use lib.ListN.{length}
 use lib.Ieee.{Float, nan}
 use Rattle.lists.specs.Lists.{fold}

@@ -1,5 +1,5 @@
 -- Points with whole coordinates, and the side of a line that one lies on. Definitions only.
-use Prim.Native.Nat.{ℕ, _≤_}
+use Prim.Native.Nat.{_≤_}
 use lib.IntN.{ℤ, natAbs, _-ℤ_, _*ℤ_}
 use Rattle.float.specs.Whole.{Is}
 use Rattle.blade.specs.declared.Point.{Point}

@@ -1,7 +1,7 @@
 -- Laws of slack edges over the blocks: the stores that take impulse and stress from one edge, and from the first ones in turn. Assumes nothing.
 use mathlib.Core.Path.{_≡_, refl, sym, _∙_, ap, subst}
 use mathlib.Core.Bool.{Bool, true, false, _||_}
-use mathlib.Core.List.{List, map}
+use mathlib.Core.List.{List}
 use Prim.Native.Nat.{ℕ, _+_, _*_, _/_, _<_, _≤_}
 use native.Mathlib.Omega.{arith}
 use native.Mathlib.Decide.{ℕ-discrete}
@@ -14,9 +14,8 @@ use Rattle.lists.proofs.Sifts.{tab-ext, map-tab}
 use Rattle.float.specs.Numbers.{zero32}
 use Rattle.columns.specs.Block.{cell}
 use Rattle.columns.proofs.Cells.{store-same, store-row, store-col, col-0, col-1}
-use Rattle.model.specs.Mesh.{Edge}
 use Rattle.model.specs.Cut.{slack}
-use Rattle.mesh.specs.At.{edgeRow, edgesAt}
+use Rattle.mesh.specs.At.{edgesAt}
 use Rattle.cut.specs.Snapping.{beyond, slackBeyond, edgeIn, SlackAt, SlackFrom}
 
 -- ---- a test on two particles

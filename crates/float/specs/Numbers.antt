@@ -1,6 +1,6 @@
 -- f32 numbers: the four operations, each rounded once, the numbers that document 01 and the source name, the inverse, and a share of a mass. Definitions only.
 use Prim.Native.Nat.{ℕ}
-use mathlib.Core.Bool.{Bool, true, false, _&&_, cond}
+use mathlib.Core.Bool.{false, _&&_, cond}
 use lib.IntN.{pos, negsuc}
 use lib.Ieee.{Float, nan, inf, fin, binary32, neg, add, sub, mul, div, lt, le, ofInt}
 

@@ -2,8 +2,8 @@
 use Prim.Native.Nat.{ℕ, zero, suc, _+_, _-_, _*_, _/_, _≤_, _<_}
 use native.Mathlib.Omega.{arith}
 use native.Mathlib.Nat.{zero-mul}
-use mathlib.Core.Path.{_≡_, refl, sym, ap, ap₂, subst, _∙_}
-use mathlib.Core.List.{List, [], _∷_, _++_, map, append-assoc}
+use mathlib.Core.Path.{_≡_, refl, sym, ap, ap₂, _∙_}
+use mathlib.Core.List.{List, [], _∷_, _++_, append-assoc}
 use lib.ListN.{length, take, drop, replicate, length-append, length-replicate, length-map}
 use lib.Seq.{take-at, drop-at, take-append-le}
 use lib.Ieee.{Float}
@@ -12,11 +12,10 @@ use Rattle.lists.specs.Lists.{padded}
 use Rattle.float.specs.Numbers.{zero32}
 use Rattle.columns.specs.Block.{stack, blockOf}
 use Rattle.columns.proofs.Cells.{next-col}
-use Rattle.model.specs.Mesh.{Mesh, Particle, Triangle, Edge, Side}
+use Rattle.model.specs.Mesh.{Mesh}
 use Rattle.mesh.specs.Given.{Lent}
 use Rattle.mesh.specs.Log.{World}
 use Rattle.mesh.specs.Filled.{Filled, pointOf, rootOf, cornerOf, volumeOf, endOf, lengthOf, sideOf}
-use Rattle.mesh.specs.declared.Counts.{Counts}
 use Rattle.image.specs.Words.{bitsIn}
 use Rattle.image.specs.Image.{imageWordsOf}
 use Rattle.image.specs.Stores.{frontsOf, blockWords}

@@ -1,23 +1,23 @@
 -- Laws of words in bytes: which patterns are no NaN, a block that fills from the front, and the words written so far. Assumes nothing.
-use Prim.Native.Nat.{ℕ, zero, suc, _+_, _-_, _*_, _/_, _%_, _^_, _≤_, _<_, zero-le}
+use Prim.Native.Nat.{ℕ, zero, suc, _+_, _-_, _*_, _/_, _%_, _≤_, _<_, zero-le}
 use native.Mathlib.Numerals.{add-one}
 use native.Mathlib.Omega.{arith}
 use native.Mathlib.Nat.{not-suc-le-zero, le-of-suc-le-suc, suc-add, sub-zero, zero-sub, suc-sub-suc}
 use mathlib.Core.Path.{_≡_, refl, sym, ap, ap₂, subst, _∙_}
-use mathlib.Core.Bool.{Bool, true, false, not}
-use mathlib.Core.List.{List, [], _∷_, _++_, append-nil, append-assoc}
-use lib.Dec.{T, ltb}
+use mathlib.Core.Bool.{true, false}
+use mathlib.Core.List.{List, [], _∷_, _++_, append-assoc}
+use lib.Dec.{T}
 use lib.Ieee.{Float, inf, binary32, nanBits, ofBits, toBits, ne}
 use lib.Ieee.Bits.{nanBits-above}
 use lib.Ieee.Compare.{differs-from-itself}
 use lib.ListN.{length, getD, take, drop, set, replicate, length-set, length-append}
 use lib.Seq.{take-at, drop-at, drop-drop, take-suc, length-take-le}
 use borrow.Author.Tests.{le-ltb, lt-ltb}
-use Rattle.lists.specs.Lists.{pick, tab, each, padded}
+use Rattle.lists.specs.Lists.{tab, each, padded}
 use Rattle.lists.proofs.Sifts.{each-append}
 use Rattle.lists.proofs.Steps.{tab-step}
 use Rattle.columns.proofs.Sweep.{front-grows}
-use Rattle.image.specs.Words.{wordAt, numberOf, bytesOf, written, putWord}
+use Rattle.image.specs.Words.{numberOf, bytesOf, written, putWord}
 
 -- ---- numbers
 

@@ -3,7 +3,7 @@ use Prim.Native.Nat.{ℕ, _+_, _*_, _/_, _%_}
 use mathlib.Core.List.{List, [], _∷_, _++_, map}
 use lib.ListN.{length, getD, take, drop}
 use lib.Ieee.{Float, inf, binary32, ofBits, toBits, nanBits}
-use mathlib.Core.Bool.{Bool, false}
+use mathlib.Core.Bool.{false}
 use Rattle.lists.specs.Lists.{pick, tab, each, padded}
 
 -- word i of the bytes; bytes past the end count as 0

@@ -1,17 +1,15 @@
 -- The test of a row, by the places that the program reads, is the definition's test of that row; and the tests of the lists make up those of the mesh.
 use Prim.Native.Nat.{ℕ, _+_, _*_, _/_}
-use native.Mathlib.Omega.{arith}
-use mathlib.Core.Path.{_≡_, refl, sym, ap₂, _∙_, subst}
-use mathlib.Core.Bool.{Bool, true, false, _&&_}
+use mathlib.Core.Path.{_≡_, refl, sym, ap₂, _∙_}
+use mathlib.Core.Bool.{Bool, _&&_}
 use mathlib.Core.List.{List, [], _∷_}
 use lib.ListN.{length, getD}
-use lib.Dec.{eqb, ltb}
+use lib.Dec.{ltb}
 use lib.Ieee.{Float, nan}
-use Rattle.lists.specs.Lists.{all, any, upTo}
+use Rattle.lists.specs.Lists.{all, upTo}
 use Rattle.columns.specs.Block.{cell}
 use Rattle.columns.proofs.Rows.{all-tab}
 use Rattle.columns.proofs.Cells.{col-0, col-1}
-use Rattle.model.specs.Mesh.{Triangle, Mesh}
 use Rattle.model.specs.Valid.{particleOk, triangleOk, edgeOk, cornersOk, rootOk, endsOk, sideOk, named, numbersFit, indicesFit}
 use Rattle.mesh.specs.At.{particleRow, triangleRow, edgeRow, sideRow, particlesAt, trianglesAt, edgesAt, boundaryAt, meshAt}
 use Rattle.mesh.specs.Given.{Given, sizes, meshOf}

@@ -6,12 +6,12 @@ use mathlib.Core.List.{List, [], _∷_, _++_}
 use lib.ListN.{length, getD}
 use lib.Dec.{eqb}
 use lib.Ieee.{Float}
-use Rattle.lists.specs.Lists.{pick, keep, keptOf, mapAt, all, any}
+use Rattle.lists.specs.Lists.{pick, keep, keptOf, mapAt, all}
 use Rattle.columns.specs.Block.{cell}
-use Rattle.model.specs.Mesh.{Particle, Triangle, Edge, Mesh, blank}
+use Rattle.model.specs.Mesh.{Particle, Triangle, Edge, blank}
 use Rattle.model.specs.Split.{weighed}
 use Rattle.model.specs.Valid.{named, rootOk, cornersOk, triangleOk}
-use Rattle.mesh.specs.At.{particlesAt, trianglesAt, edgesAt}
+use Rattle.mesh.specs.At.{particlesAt, trianglesAt}
 use Rattle.mesh.specs.Given.{Given, sizesFit}
 use Rattle.mesh.specs.declared.EdgeRow.{EdgeRow}
 

@@ -1,7 +1,7 @@
 -- Splits, cuts of triangles, cracks and the removal of straddlers keep every index and root: what refusal 3 checks holds of their results. Assumes nothing.
 use mathlib.Core.Path.{_≡_, refl, sym, _∙_, ap, subst}
 use mathlib.Core.Bool.{Bool, true, false, not}
-use mathlib.Core.Logic.{_⊎_, ⊎-elim}
+use mathlib.Core.Logic.{⊎-elim}
 use mathlib.Core.List.{List, [], _∷_, _++_, map}
 use mathlib.Core.Option.{Option, none as nothing, some}
 use Prim.Native.Nat.{ℕ, suc, _+_, _-_, _<_, _≤_, max}

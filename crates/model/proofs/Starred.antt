@@ -6,7 +6,7 @@ use mathlib.Core.List.{List, [], _∷_, map}
 use lib.IntN.{pos, negsuc}
 use lib.ListN.{length}
 use lib.Ieee.{Float, fin, isNan, neg, add, sub, mul, div, lt, le, eq, ne, ofInt, ofBits}
-use Rattle.model.specs.Mesh.{Particle, Edge, Side, Mesh}
+use Rattle.model.specs.Mesh.{Particle}
 use Rattle.model.specs.Elements.{endsOf, sideEnds}
 use Rattle.model.specs.Run.{Entry, split, edge as removed, insert}
 use Rattle.model.specs.Calls.{Outcome, refused, done}

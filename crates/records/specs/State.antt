@@ -1,5 +1,4 @@
 -- Records as the model's particles, and the model's answer as this crate's enum. Definitions only.
-use Prim.Native.Nat.{ℕ}
 use mathlib.Core.Bool.{Bool}
 use mathlib.Core.List.{List, map}
 use Rattle.model.specs.Mesh.{Particle as Model}

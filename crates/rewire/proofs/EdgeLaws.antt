@@ -1,22 +1,21 @@
 -- Laws of the other edges at v: rows of the edges, a walk along a ring, one edge, and all edges in turn. Assumes nothing.
 use mathlib.Core.Path.{_≡_, refl, sym, _∙_, ap, ap₂, subst}
-use mathlib.Core.Logic.{_⊎_, inl, inr, ⊎-elim}
+use mathlib.Core.Logic.{_⊎_, inl, inr}
 use mathlib.Core.Bool.{Bool, true, false, not, _&&_, false≢true}
 use mathlib.Core.List.{List, [], _∷_, _++_, map, map-append, append-nil, append-assoc}
-use Prim.Native.Nat.{ℕ, zero, suc, _+_, _*_, _/_, _-_, _<_, _≤_, zero-le, suc-le-suc}
+use Prim.Native.Nat.{ℕ, zero, suc, _+_, _*_, _/_, _<_, _≤_, zero-le, suc-le-suc}
 use native.Mathlib.Omega.{arith}
 use native.Mathlib.Numerals.{add-one}
-use borrow.Author.Tests.{eq-eqb, ne-eqb, le-leb, lt-leb, leb-false, leb-true}
+use borrow.Author.Tests.{eq-eqb, ne-eqb, le-leb, lt-leb, leb-false}
 use lib.Dec.{eqb, leb}
-use lib.ListN.{length, getD, take, drop, set, length-set, length-append, length-map, length-take, length-drop, List·getD-append, take-append-drop}
-use lib.Seq.{drop-cons, take-suc, set-at, getD-at, take-length, drop-length, set-getD, length-take-le, take-all}
+use lib.ListN.{length, getD, take, drop, set, length-set, length-append, length-map, length-drop, List·getD-append, take-append-drop}
+use lib.Seq.{drop-cons, take-suc, set-at, getD-at, take-length, drop-length, set-getD, length-take-le}
 use lib.Ieee.{Float, nan, neg, lt}
 use Rattle.lists.specs.Lists.{pick, stands, each, tab, fold, headOr, rest, orElse, sift, upTo}
 use Rattle.lists.specs.Labels.{replaced}
 use Rattle.lists.proofs.Stores.{tab-length, tab-at}
 use Rattle.lists.proofs.Sifts.{pick-by, and-true, tab-ext, each-append, sift-stands, rising-stands, upTo-below}
 use Rattle.lists.proofs.Rows.{rows-store}
-use Rattle.lists.proofs.Steps.{tab-step}
 use Rattle.float.specs.Numbers.{largest}
 use Rattle.blade.specs.declared.Point.{Point}
 use Rattle.blade.specs.Points.{sumOf, minusOf}
@@ -26,10 +25,8 @@ use Rattle.model.specs.Mesh.{Edge, Mesh, blankEdge}
 use Rattle.model.specs.Elements.{Kind, element?, endsOf, farEnd, besides, restOf}
 use Rattle.model.specs.Split.{Part, Opening, Best, better, scoreOf, scored, toward, ring, edgeGroups, copyFor, moved, calm, stayed, doubled, otherEdges}
 use Rattle.mesh.specs.At.{edgeRow, edgesAt}
-use Rattle.mesh.specs.Workers.{edgeOf}
-use Rattle.mesh.specs.declared.EdgeRow.{EdgeRow}
 use Rattle.opening.specs.Opened.{partAt, Ringed, ringFrom}
-use Rattle.opening.specs.Answers.{NextGroup, TowardIs}
+use Rattle.opening.specs.Answers.{NextGroup}
 use Rattle.opening.proofs.Rings.{ring-next, ring-first}
 use Rattle.opening.proofs.Weights.{fan-tab}
 use Rattle.rewire.specs.Stages.{OpeningIn, GrownTo, EdgesGrown}

@@ -1,12 +1,12 @@
 -- Laws of crack facets: a particle on a facet, the first face, an entry of the outline more, the face of a part, and pairs in turn. Assumes nothing.
 use mathlib.Core.Path.{_≡_, refl, sym, _∙_, ap, ap₂, subst}
-use mathlib.Core.Logic.{_⊎_, inl, inr}
-use mathlib.Core.Bool.{Bool, true, false, not, _&&_, _||_}
+use mathlib.Core.Logic.{inr}
+use mathlib.Core.Bool.{Bool, true, false, not, _&&_}
 use mathlib.Core.List.{List, [], _∷_, _++_, map, append-nil, append-assoc}
-use Prim.Native.Nat.{ℕ, suc, _+_, _*_, _/_, _-_, _<_, _≤_, zero-le}
+use Prim.Native.Nat.{ℕ, _+_, _*_, _/_, _-_, _<_, _≤_, zero-le}
 use native.Mathlib.Omega.{arith}
 use native.Mathlib.Numerals.{add-one}
-use borrow.Author.Tests.{eq-eqb, ne-eqb, le-leb, lt-leb, leb-false}
+use borrow.Author.Tests.{eq-eqb, ne-eqb, lt-leb, leb-false}
 use lib.Dec.{eqb, leb}
 use lib.ListN.{length, getD, set, take, drop, length-set, length-append, drop-of-length-le}
 use lib.Seq.{drop-cons}
@@ -19,8 +19,7 @@ use Rattle.columns.specs.Block.{cell}
 use Rattle.columns.proofs.Cells.{store-same, store-row, store-col, col-0, col-1}
 use Rattle.fan.specs.Fan.{sharedOthers}
 use Rattle.model.specs.Mesh.{Triangle, Side, Mesh, blankTriangle}
-use Rattle.model.specs.Elements.{Triangles, sideEnds}
-use Rattle.model.specs.Split.{Part, Opening, copyFor, oneOrNone, facesOf, faceOn, opens?, facetsAt, crackFacets}
+use Rattle.model.specs.Split.{Part, Opening, copyFor, facesOf, faceOn, opens?, facetsAt, crackFacets}
 use Rattle.mesh.specs.At.{triangleRow, trianglesAt, sideRow, boundaryAt}
 use Rattle.opening.specs.Opened.{blankPart, partAt}
 use Rattle.rewire.specs.Stages.{GrownTo}

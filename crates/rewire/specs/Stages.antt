@@ -1,15 +1,15 @@
 -- The stages of a split, each the model's equation on one list. Only contracts between workers need this file. Definitions only.
-use Prim.Native.Nat.{ℕ, _+_, _-_, _*_, _/_, _<_, _≤_}
+use Prim.Native.Nat.{ℕ, _+_, _-_, _/_, _<_, _≤_}
 use mathlib.Core.Path.{_≡_}
-use mathlib.Core.Bool.{Bool, true, false, not}
-use mathlib.Core.List.{List, [], map}
+use mathlib.Core.Bool.{true, false}
+use mathlib.Core.List.{List, map}
 use lib.ListN.{length, getD, take}
 use lib.Dec.{leb}
 use lib.Ieee.{Float}
-use Rattle.lists.specs.Lists.{pick, upTo, tab, each, keep}
-use Rattle.model.specs.Mesh.{Particle, Triangle, Edge, Side, Mesh}
-use Rattle.model.specs.Elements.{Kind, Triangles, Straps, Nothing}
-use Rattle.model.specs.Split.{Opening, weightOf, totalOf, copied, rewiredTriangles, rewiredStraps, otherEdges, straddles, followed, crackFacets}
+use Rattle.lists.specs.Lists.{upTo}
+use Rattle.model.specs.Mesh.{Mesh}
+use Rattle.model.specs.Elements.{Kind, Triangles, Straps}
+use Rattle.model.specs.Split.{Opening, weightOf, totalOf, copied, rewiredTriangles, rewiredStraps, otherEdges, followed}
 use Rattle.mesh.specs.At.{particlesAt, trianglesAt, edgesAt, boundaryAt}
 use Rattle.opening.specs.Opened.{Ringed, Numbered, RestsIn}
 use Rattle.rewire.specs.declared.Grown.{Grown}

@@ -1,26 +1,25 @@
 -- A sheet that is accepted, read into columns and written again, comes out byte for byte.
-use Prim.Native.Nat.{ℕ, zero, suc, _+_, _-_, _*_, _/_, _%_, _^_, _<_, _≤_}
+use Prim.Native.Nat.{ℕ, zero, suc, _+_, _-_, _*_, _^_, _<_, _≤_}
 use mathlib.Core.Path.{_≡_, refl, ap, sym, _∙_, subst}
-use mathlib.Core.List.{List, [], _∷_, _++_, append-assoc, append-nil, map}
-use mathlib.Core.Bool.{Bool, true, false, cond, _&&_, _||_}
+use mathlib.Core.List.{List, [], _∷_, _++_}
+use mathlib.Core.Bool.{Bool, true, false, cond, _||_}
 use native.Mathlib.Omega.{arith}
-use native.Mathlib.Nat.{zero-mul, zero-div, mod-eq-of-lt}
+use native.Mathlib.Nat.{zero-div, mod-eq-of-lt}
 use native.Mathlib.Numerals.{add-one}
-use borrow.Author.Tests.{ltb-true, ltb-false, ltb-false, lt-ltb, le-ltb, eq-eqb, eqb-true, le-leb}
-use lib.Dec.{eqb, leb, ltb}
-use lib.ListN.{length, take, drop, getD, replicate, length-append, length-drop, length-replicate, length-take, length-map, take-append-drop}
+use borrow.Author.Tests.{lt-ltb, eq-eqb, eqb-true}
+use lib.Dec.{eqb, ltb}
+use lib.ListN.{length, take, drop, getD, replicate, length-append, length-drop, length-map, take-append-drop}
 use lib.Seq.{take-at, drop-at, take-all, length-take-le}
-use Rattle.bits.specs.Bits.{bits, bitsOf, num, fieldAt}
-use Rattle.bits.specs.Rows.{total, Fit, FitAll, rowsOf, readRows, col, unpack}
+use Rattle.bits.specs.Bits.{bits, bitsOf, num}
+use Rattle.bits.specs.Rows.{total, Fit, FitAll, rowsOf, col}
 use Rattle.lists.specs.Lists.{padded}
-use Rattle.sheet.specs.Sheet.{Sheet, above, Columns, sheetFrom, sheetBits, sheetWith, columnsOf, countsIn, countsOf, countsAt, headerOf, headerW, particleW, triangleW, edgeW, boundaryW, bladeW, endOf, bytesOf, spareOf, even3, evenOf, allBelow, fit3, fitOf, tooMany, namesOK, answerOf, seenOf, seenWith, WriteDone, putOf, atTriangles, atEdges, atBoundary, atBlade}
+use Rattle.sheet.specs.Sheet.{above, sheetFrom, sheetBits, sheetWith, columnsOf, countsIn, countsOf, countsAt, particleW, triangleW, edgeW, boundaryW, bladeW, endOf, bytesOf, spareOf, even3, evenOf, allBelow, fit3, fitOf, tooMany, namesOK, answerOf, seenOf, seenWith, WriteDone, putOf, atTriangles, atEdges, atBoundary, atBlade}
 use Rattle.sheet.specs.declared.Counts.{Counts}
-use Rattle.sheet.specs.declared.Seen.{Seen}
 use Rattle.sheet.specs.declared.Seen.the-variants.{Whole, Refused}
 use Rattle.bits.proofs.Laws.{length-bits, length-bitsOf, num-bits, bits-num}
 use Rattle.bits.proofs.RowLaws.{AllBits, bits-bitsOf, bits-drop, fit-read, fit-unpack, length-read}
-use Rattle.sheet.proofs.PutLaws.{neither, answer-good, put-some, length-sheet}
-use Rattle.sheet.proofs.Trip.{write-of-read, length-sheetBits}
+use Rattle.sheet.proofs.PutLaws.{neither, answer-good, put-some}
+use Rattle.sheet.proofs.Trip.{write-of-read}
 
 pub record Accepted (s : List ℕ) (c : Counts) : Type 0 where
   pub is : countsAt (bitsOf s) ≡ c

@@ -1,14 +1,12 @@
 -- The columns of a sheet that bits hold, by their places.
-use Prim.Native.Nat.{ℕ, zero, suc, _+_, _*_}
-use mathlib.Core.Path.{_≡_, refl, ap, sym, _∙_}
-use mathlib.Core.List.{List, [], _∷_, _++_}
+use Prim.Native.Nat.{ℕ, _+_}
+use mathlib.Core.Path.{_≡_, _∙_}
+use mathlib.Core.List.{List}
 use native.Mathlib.Omega.{arith}
 use native.Mathlib.Nat.{add-zero}
-use lib.ListN.{length, take, drop, getD}
 use lib.Seq.{drop-drop}
-use Rattle.bits.specs.Bits.{bitsOf, num, fieldAt}
-use Rattle.bits.specs.Rows.{total, unpack, readRows, col, columnAt}
-use Rattle.sheet.specs.Sheet.{Sheet, Columns, sheetWith, columnsOf, particleW, triangleW, edgeW, boundaryW, bladeW, atTriangles, atEdges, atBoundary, atBlade}
+use Rattle.bits.specs.Rows.{total, unpack, columnAt}
+use Rattle.sheet.specs.Sheet.{sheetWith, columnsOf, particleW, triangleW, edgeW, boundaryW, atTriangles, atEdges, atBoundary, atBlade}
 use Rattle.sheet.specs.declared.Counts.{Counts}
 use Rattle.bits.proofs.RowLaws.{col-at}
 

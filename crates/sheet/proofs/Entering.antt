@@ -1,23 +1,22 @@
 -- What an accepted sheet with room for it has, and what a reader answers.
-use Prim.Native.Nat.{ℕ, _*_, _/_, _≤_}
+use Prim.Native.Nat.{ℕ, _/_, _≤_}
 use native.Mathlib.Omega.{arith}
 use mathlib.Core.Path.{_≡_, refl, sym, ap, _∙_, subst}
 use mathlib.Core.Bool.{Bool, true, false, cond, _&&_}
 use mathlib.Core.List.{List}
 use borrow.Author.Tests.{leb-true}
 use lib.Dec.{leb}
-use lib.ListN.{length}
 use Rattle.mesh.specs.Given.{Lent}
 use Rattle.bits.specs.Bits.{bitsOf}
-use Rattle.sheet.specs.Sheet.{seenOf, endOf, bytesOf}
+use Rattle.sheet.specs.Sheet.{seenOf}
 use Rattle.sheet.specs.Read.{roomFor, lentOf}
-use Rattle.sheet.specs.Work.{Held, namesAt}
+use Rattle.sheet.specs.Work.{Held}
 use Rattle.sheet.specs.declared.Counts.{Counts}
 use Rattle.sheet.specs.declared.Seen.{Seen}
 use Rattle.sheet.specs.declared.Seen.the-variants.{Whole, Refused}
 use Rattle.sheet.proofs.PutLaws.{both, not-many}
 use Rattle.sheet.proofs.SeenLaws.{names-at}
-use Rattle.sheet.proofs.Back.{Accepted, accepted-seen, never}
+use Rattle.sheet.proofs.Back.{accepted-seen, never}
 
 roomy : (t p e b : Bool) (c d : Counts) → cond t (cond p (cond e (cond b (Whole c) (Refused 7)) (Refused 6)) (Refused 5)) (Refused 4) ≡ Whole d
     → (t ≡ true) × (p ≡ true) × (e ≡ true) × (b ≡ true) × (c ≡ d)

@@ -1,30 +1,30 @@
 -- The lists that rows by their places make are the mesh that the sheet is.
-use Prim.Native.Nat.{ℕ, zero, suc, _+_, _-_, _*_, _/_, _≤_, _<_, zero-le, suc-le-suc}
+use Prim.Native.Nat.{ℕ, zero, suc, _+_, _*_, _/_, _≤_, _<_}
 use native.Mathlib.Omega.{arith}
 use native.Mathlib.Nat.{suc-mul, zero-mul}
 use mathlib.Core.Path.{_≡_, refl, sym, ap, _∙_, subst}
 use mathlib.Core.Bool.{Bool, true, false, _&&_}
-use mathlib.Core.List.{List, [], _∷_, _++_, map}
-use lib.ListN.{length, take, drop, getD, set}
+use mathlib.Core.List.{List, [], _∷_, map}
+use lib.ListN.{length, take, drop, set}
 use lib.Seq.{drop-drop}
-use lib.Ieee.{Float, nan}
+use lib.Ieee.{Float}
 use Rattle.lists.specs.Lists.{tab, mapAt, padded}
 use Rattle.columns.proofs.Rows.{tab-at, tab-ext, rows-map, map-tab}
 use Rattle.float.specs.Numbers.{zero32}
 use Rattle.blade.specs.declared.Point.{Point}
 use Rattle.blade.specs.Points.{minusOf, lengthOf}
-use Rattle.model.specs.Mesh.{Particle, Triangle, Edge, Side, Mesh, blank}
+use Rattle.model.specs.Mesh.{Particle, Mesh, blank}
 use Rattle.model.specs.Elements.{at}
 use Rattle.mesh.specs.At.{particleRow, particlesAt, trianglesAt, edgesAt, boundaryAt, meshAt}
-use Rattle.bits.specs.Bits.{bitsOf, num, fieldAt}
+use Rattle.bits.specs.Bits.{num, fieldAt}
 use Rattle.bits.specs.Rows.{total, unpack, readRows}
-use Rattle.sheet.specs.Sheet.{Sheet, sheetWith, particleW, triangleW, edgeW, boundaryW, rowOK, atTriangles, atEdges, atBoundary, atBlade}
+use Rattle.sheet.specs.Sheet.{sheetWith, particleW, triangleW, edgeW, boundaryW, atTriangles, atEdges, atBoundary, atBlade}
 use Rattle.sheet.specs.Work.{rowAt, okAt, namesAt, pointIn, particleBits, triangleBits, edgeBits, sideBits}
 use Rattle.sheet.specs.Read.{areaOf, particleFrom, triangleFrom, edgeFrom, sideFrom, particlesFrom, trianglesFrom, edgesFrom, boundaryFrom, placeIn, meshOfSheet, bladeOfSheet, floatOf, countsFor}
 use Rattle.sheet.specs.declared.Counts.{Counts}
 use Rattle.mesh.specs.Log.{World, worldAt, logAt}
 use Rattle.mesh.specs.Given.{Lent}
-use Rattle.mesh.specs.Filled.{Filled, lent}
+use Rattle.mesh.specs.Filled.{Filled}
 use Rattle.mesh.specs.declared.Counts as M
 use Rattle.bits.specs.Rows.{columnAt}
 use Rattle.sheet.proofs.ColumnLaws.{col-blade}

@@ -1,21 +1,20 @@
 -- Laws of a sheet written part by part.
-use Prim.Native.Nat.{ℕ, zero, suc, _+_, _-_, _*_, _/_, _%_, _^_, _<_, _≤_}
-use mathlib.Core.Path.{_≡_, refl, ap, sym, _∙_}
-use mathlib.Core.List.{List, [], _∷_, _++_, append-assoc, append-nil}
+use Prim.Native.Nat.{ℕ, zero, suc, _+_, _-_, _*_, _<_, _≤_}
+use mathlib.Core.Path.{_≡_, refl, ap, _∙_}
+use mathlib.Core.List.{List, [], _∷_, _++_}
 use mathlib.Core.Bool.{Bool, true, false, cond, _&&_, _||_}
 use native.Mathlib.Omega.{arith}
-use native.Mathlib.Nat.{zero-add, suc-sub-suc, sub-zero}
+use native.Mathlib.Nat.{sub-zero}
 use borrow.Author.Tests.{eqb-true, leb-true, ltb-false, lt-leb, le-leb}
-use lib.Dec.{eqb, leb, ltb}
-use lib.ListN.{length, take, drop, getD, replicate, length-append, length-replicate}
+use lib.Dec.{leb, ltb}
+use lib.ListN.{length, drop, getD, replicate, length-append, length-replicate}
 use lib.Seq.{sets, sets-eq}
-use Rattle.bits.specs.Bits.{bits, bitsOf}
+use Rattle.bits.specs.Bits.{bits}
 use Rattle.bits.specs.Rows.{total, pack, writeRows, rowsOf}
 use Rattle.lists.specs.Lists.{padded}
 use Rattle.sheet.specs.Sheet.{Sheet, above, Columns, sheetFrom, sheetBits, countsIn, headerW, particleW, triangleW, edgeW, boundaryW, bladeW, atTriangles, atEdges, atBoundary, atBlade, endOf, even3, evenOf, allOK, rowOK, tooMany, fitOf, namesOK, answerOf, bytesOf, putOf}
 use Rattle.sheet.specs.Work.{Even, Small}
 use Rattle.sheet.specs.declared.Counts.{Counts}
-use Rattle.bits.proofs.Laws.{length-bits}
 use Rattle.sheet.proofs.Trip.{length-sheetBits}
 use Rattle.bits.proofs.RowLaws.{sets-then, length-pack, length-writeRows}
 

@@ -2,7 +2,7 @@
 use Prim.Native.Nat.{ℕ, zero, suc, _+_, _*_, _/_, _≤_, _<_}
 use native.Mathlib.Omega.{arith}
 use native.Mathlib.Nat.{not-suc-le-zero}
-use mathlib.Core.Path.{_≡_, refl, sym, ap, _∙_}
+use mathlib.Core.Path.{_≡_, refl, _∙_}
 use mathlib.Core.List.{List, [], _∷_, _++_}
 use lib.ListN.{length, getD, set, length-set}
 use lib.Ieee.{Float, nan}
@@ -10,10 +10,9 @@ use Rattle.columns.specs.Block.{cell}
 use Rattle.columns.proofs.Rows.{rows-push}
 use Rattle.columns.proofs.Cells.{col-fits, store-same, store-row, store-col}
 use Rattle.float.specs.Numbers.{zero32, one}
-use Rattle.mesh.specs.At.{particleRow, triangleRow, sideRow, particlesAt, trianglesAt, boundaryAt}
-use Rattle.model.specs.Mesh.{Particle, Triangle, Side}
+use Rattle.mesh.specs.At.{particlesAt, trianglesAt, boundaryAt}
 use Rattle.blade.specs.declared.Point.{Point}
-use Rattle.sheet.specs.Read.{floatOf, inverseOf, areaOf, particleFrom, triangleFrom, sideFrom}
+use Rattle.sheet.specs.Read.{floatOf, inverseOf, areaOf, particleFrom, triangleFrom}
 
 -- values put at place n of columns c, c + 1, ..
 unfoldable pub putCols : {A : Type 0} → ℕ → ℕ → List A → ℕ → List A → List A

@@ -1,11 +1,8 @@
 -- Laws of the loops that read rows into blocks: nothing at the start, one row more each turn.
-use Prim.Native.Nat.{ℕ, zero, suc, _+_, _-_, _*_, _/_, _≤_, _<_}
-use native.Mathlib.Omega.{arith}
-use mathlib.Core.Path.{_≡_, refl, sym, ap, _∙_}
-use mathlib.Core.Bool.{Bool, true, false, _&&_, not}
+use Prim.Native.Nat.{ℕ, _+_, _-_, _*_, _<_}
+use mathlib.Core.Path.{_≡_, refl, sym, _∙_}
+use mathlib.Core.Bool.{Bool, true}
 use mathlib.Core.List.{List, [], _∷_, _++_}
-use lib.ListN.{length}
-use lib.Dec.{ltb}
 use lib.Ieee.{Float}
 use borrow.Author.Tests.{ltb-true}
 use Rattle.lists.specs.Lists.{tab}
@@ -15,7 +12,7 @@ use Rattle.blade.specs.Points.{minusOf, lengthOf}
 use Rattle.float.specs.Numbers.{zero32}
 use Rattle.model.specs.Mesh.{Particle, Triangle, Edge, Side}
 use Rattle.mesh.specs.At.{particlesAt, trianglesAt, edgesAt, boundaryAt}
-use Rattle.bits.specs.Bits.{num, fieldAt}
+use Rattle.bits.specs.Bits.{fieldAt}
 use Rattle.sheet.specs.Sheet.{pairOK, rowOK}
 use Rattle.sheet.specs.Work.{rowAt, okAt, particleBits, triangleBits, edgeBits, sideBits}
 use Rattle.sheet.specs.Read.{particleFrom, triangleFrom, edgeFrom, sideFrom}

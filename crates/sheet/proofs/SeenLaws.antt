@@ -1,17 +1,17 @@
 -- Laws of what a sheet is answered.
-use Prim.Native.Nat.{ℕ, zero, suc, _+_, _-_, _*_, _/_, _%_, _^_, _<_, _≤_}
-use mathlib.Core.Path.{_≡_, refl, ap, sym, _∙_}
-use mathlib.Core.List.{List, [], _∷_, _++_}
-use mathlib.Core.Bool.{Bool, true, false, cond, _&&_}
+use Prim.Native.Nat.{ℕ, zero, suc, _+_, _-_, _<_, _≤_}
+use mathlib.Core.Path.{_≡_, refl, ap, sym}
+use mathlib.Core.List.{List, [], _∷_}
+use mathlib.Core.Bool.{Bool, true, false, _&&_}
 use native.Mathlib.Omega.{arith}
-use borrow.Author.Tests.{lt-ltb, le-ltb}
+use borrow.Author.Tests.{le-ltb}
 use native.Mathlib.Numerals.{add-one}
 use lib.Dec.{ltb}
-use lib.ListN.{length, take, drop, getD, drop-of-length-le}
+use lib.ListN.{length, drop, getD, drop-of-length-le}
 use lib.Seq.{drop-drop, drop-cons}
-use Rattle.bits.specs.Bits.{bits, bitsOf, num, fieldAt}
+use Rattle.bits.specs.Bits.{bitsOf}
 use Rattle.bits.specs.Rows.{total, unpack, readRows, rowsOf}
-use Rattle.sheet.specs.Sheet.{Sheet, triangleW, edgeW, boundaryW, particleW, pairOK, rowOK, allOK, namesOK, allBelow, sheetWith, countsAt, seenOf, seenWith, atTriangles, atEdges, atBoundary}
+use Rattle.sheet.specs.Sheet.{triangleW, edgeW, boundaryW, particleW, rowOK, allOK, namesOK, allBelow, sheetWith, countsAt, seenOf, seenWith, atTriangles, atEdges, atBoundary}
 use Rattle.sheet.specs.Work.{rowAt, okAt, namesAt}
 use Rattle.sheet.specs.declared.Counts.{Counts}
 use Rattle.bits.proofs.RowLaws.{length-read}

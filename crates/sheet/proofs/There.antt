@@ -1,24 +1,22 @@
 -- A sheet that was written is read back: what `write` leaves on acceptance is accepted, and holds what was handed in.
-use Prim.Native.Nat.{ℕ, zero, suc, _+_, _-_, _*_, _/_, _%_, _^_, _<_, _≤_}
+use Prim.Native.Nat.{ℕ, zero, suc, _+_, _-_, _*_, _^_, _<_, _≤_}
 use mathlib.Core.Path.{_≡_, refl, ap, sym, _∙_, subst}
-use mathlib.Core.List.{List, [], _∷_, _++_, append-assoc, append-nil}
-use mathlib.Core.Bool.{Bool, true, false, cond, _&&_, _||_}
+use mathlib.Core.List.{List, [], _∷_, _++_}
+use mathlib.Core.Bool.{true, false, _&&_, _||_}
 use native.Mathlib.Omega.{arith}
-use borrow.Author.Tests.{ltb-true, ltb-false, le-ltb, eq-eqb}
+use borrow.Author.Tests.{ltb-true, ltb-false, eq-eqb}
 use native.Mathlib.Nat.{zero-mul}
-use lib.Dec.{eqb, leb, ltb}
-use lib.ListN.{length, take, drop, getD, replicate, length-append, length-replicate, length-take}
+use lib.Dec.{ltb}
+use lib.ListN.{length, take, getD, replicate, length-replicate}
 use lib.Seq.{take-nil, take-append-add, drop-at, take-all, length-take-le}
 use Rattle.bits.specs.Bits.{bits, bitsOf, num, fieldAt}
-use Rattle.bits.specs.Rows.{total, Fit, FitAll, rowsOf}
+use Rattle.bits.specs.Rows.{Fit, FitAll, rowsOf}
 use Rattle.lists.specs.Lists.{padded}
-use Rattle.sheet.specs.Sheet.{Sheet, above, Columns, sheetFrom, sheetBits, sheetWith, countsIn, countsOf, countsAt, headerOf, headerW, particleW, triangleW, edgeW, boundaryW, bladeW, endOf, bytesOf, spareOf, FitSheet, allBelow, fit3, fitOf, tooMany, namesOK, answerOf, seenOf, seenWith}
-use Rattle.sheet.specs.Work.{Even, Small}
+use Rattle.sheet.specs.Sheet.{above, Columns, sheetFrom, sheetBits, sheetWith, countsIn, countsOf, countsAt, headerOf, headerW, boundaryW, bladeW, endOf, bytesOf, spareOf, FitSheet, allBelow, fit3, tooMany, namesOK, answerOf, seenOf, seenWith}
 use Rattle.sheet.specs.declared.Counts.{Counts}
-use Rattle.sheet.specs.declared.Seen.{Seen}
-use Rattle.sheet.specs.declared.Seen.the-variants.{Whole, Refused}
-use Rattle.bits.proofs.Laws.{length-bits, length-bitsOf}
-use Rattle.sheet.proofs.PutLaws.{Good, good, length-rowsOf, length-sheet, both, neither, drop-zeros}
+use Rattle.sheet.specs.declared.Seen.the-variants.{Whole}
+use Rattle.bits.proofs.Laws.{length-bits}
+use Rattle.sheet.proofs.PutLaws.{Good, good, length-rowsOf, length-sheet, both, neither}
 use Rattle.sheet.proofs.Trip.{counts-read, read-of-write}
 use Rattle.sheet.proofs.SeenLaws.{seen-with}
 

@@ -1,16 +1,15 @@
 -- Reading and writing a sheet undo each other.
-use Prim.Native.Nat.{ℕ, zero, suc, _+_, _-_, _*_, _/_, _%_, _^_, _<_, _≤_}
-use mathlib.Core.Path.{_≡_, refl, ap, sym, _∙_}
-use mathlib.Core.List.{List, [], _∷_, _++_, append-assoc, append-nil, map}
+use Prim.Native.Nat.{ℕ, _*_, _≤_}
+use mathlib.Core.Path.{_≡_, sym, _∙_}
+use mathlib.Core.List.{List, _++_, append-assoc}
 use native.Mathlib.Omega.{arith}
-use lib.ListN.{length, take, drop, getD, length-append, length-drop, length-take, replicate}
-use lib.Seq.{take-add, drop-drop, take-at, drop-at}
-use Rattle.bits.specs.Bits.{bits, bitsOf, num, fieldAt}
-use Rattle.bits.specs.Rows.{total, unpack, pack, readRows, writeRows, Fit, FitAll}
+use lib.ListN.{length, take, drop, length-append, length-drop}
+use lib.Seq.{take-add, drop-drop, drop-at}
+use Rattle.bits.specs.Bits.{bits}
+use Rattle.bits.specs.Rows.{total, unpack, pack, readRows, writeRows}
 use Rattle.sheet.specs.Sheet.{Sheet, headerW, particleW, triangleW, edgeW, boundaryW, bladeW, countsAt, countsOf, headerOf, sheetWith, sheetBits, FitSheet, atTriangles, atEdges, atBoundary, atBlade, endOf}
 use Rattle.sheet.specs.declared.Counts.{Counts}
-use Rattle.bits.proofs.Laws.{length-bits}
-use Rattle.bits.proofs.RowLaws.{AllBits, bits-drop, pack-unpack, unpack-pack, length-pack, length-writeRows, write-read, read-write, getD-unpack, length-read}
+use Rattle.bits.proofs.RowLaws.{AllBits, bits-drop, pack-unpack, unpack-pack, length-pack, length-writeRows, write-read, read-write, length-read}
 
 -- the header holds the counts
 pub header-counts : (l : List ℕ) → unpack headerW l ≡ headerOf (countsAt l)

@@ -1,8 +1,8 @@
 -- Document 01: what reading a sheet gives. The mesh that a sheet is, its blade, the rooms, and what is left in the lent blocks. Definitions only.
 use Prim.Native.Nat.{ℕ, _/_}
 use mathlib.Core.Path.{_≡_}
-use mathlib.Core.Bool.{Bool, cond, _&&_}
-use mathlib.Core.List.{List, [], _∷_, map}
+use mathlib.Core.Bool.{cond, _&&_}
+use mathlib.Core.List.{List, [], map}
 use lib.ListN.{length, getD}
 use lib.Dec.{eqb, leb}
 use lib.Ieee.{Float, binary32, ofInt}

@@ -1,14 +1,14 @@
 -- Document 01, "Sheet and listing": the layout, a sheet's meaning, and what each sheet and each writing is answered. Definitions only.
-use Prim.Native.Nat.{ℕ, zero, suc, _+_, _-_, _*_, _/_, _%_, _^_, _<_, _≤_}
+use Prim.Native.Nat.{ℕ, zero, suc, _+_, _-_, _*_, _/_}
 use mathlib.Core.Path.{_≡_}
 use mathlib.Core.Bool.{Bool, true, false, cond, not, _&&_, _||_}
-use mathlib.Core.List.{List, [], _∷_, _++_, map}
-use lib.ListN.{length, take, drop, getD, replicate}
+use mathlib.Core.List.{List, [], _∷_, _++_}
+use lib.ListN.{length, drop, getD}
 use lib.Dec.{ltb, leb, eqb}
 use lib.IntN.{ℤ, pos, negsuc, subℕ}
 use Rattle.lists.specs.Lists.{padded}
-use Rattle.bits.specs.Bits.{bits, bitsOf, num, fieldAt}
-use Rattle.bits.specs.Rows.{total, unpack, pack, readRows, writeRows, Fit, FitAll, rowsOf, col}
+use Rattle.bits.specs.Bits.{bits, bitsOf, fieldAt}
+use Rattle.bits.specs.Rows.{unpack, pack, readRows, writeRows, Fit, FitAll, rowsOf, col}
 use Rattle.sheet.specs.declared.Counts.{Counts}
 use Rattle.sheet.specs.declared.Seen.{Seen}
 use Rattle.sheet.specs.declared.Seen.the-variants.{Whole, Refused}

@@ -11,7 +11,7 @@ use Rattle.columns.specs.Block.{cell}
 use Rattle.mesh.specs.Given.{Lent}
 use Rattle.mesh.specs.Filled.{Fits}
 use Rattle.mesh.specs.Workers.{ParticleRoom, EdgeRoom}
-use Rattle.bits.specs.Bits.{bitsOf, num, fieldAt}
+use Rattle.bits.specs.Bits.{bitsOf, fieldAt}
 use Rattle.sheet.specs.Sheet.{Columns, countsAt, countsIn, endOf, rowOK, atTriangles, atEdges, atBoundary}
 use Rattle.sheet.specs.Read.{particleFrom, triangleFrom, edgeFrom, sideFrom, countsFor}
 use Rattle.sheet.specs.declared.Counts.{Counts}

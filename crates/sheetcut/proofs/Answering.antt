@@ -1,5 +1,5 @@
 -- The text of an answer, case by case; and of the answer of a cut, what the definitions print for it.
-use Prim.Native.Nat.{ℕ, _*_, _/_, _≤_}
+use Prim.Native.Nat.{ℕ, _*_, _≤_}
 use native.Mathlib.Omega.{arith}
 use mathlib.Core.Path.{_≡_, refl, sym, ap, ap₂, _∙_, subst}
 use mathlib.Core.Bool.{Bool, true, _&&_}
@@ -8,7 +8,7 @@ use lib.ListN.{length, length-map}
 use lib.Ieee.{Float}
 use Rattle.lists.specs.Lists.{all}
 use Rattle.lists.proofs.Sifts.{and-true}
-use Rattle.model.specs.Mesh.{Triangle, Edge, Mesh}
+use Rattle.model.specs.Mesh.{Mesh}
 use Rattle.model.specs.Valid.{rootOk, cornersOk, endsOk, sideOk, indicesFit}
 use Rattle.model.specs.Run.{Entry}
 use Rattle.model.specs.Cut.{Blade}
@@ -16,10 +16,10 @@ use Rattle.model.specs.Calls.{Outcome, refused, done, cutCall}
 use Rattle.model.proofs.Accepted.{cut-accepted}
 use Rattle.model.specs.Pieces.{pieces}
 use Rattle.mesh.specs.At.{trianglesAt, edgesAt}
-use Rattle.mesh.specs.Log.{Words, wordsOf, worldOf, logAt}
+use Rattle.mesh.specs.Log.{wordsOf, worldOf, logAt}
 use Rattle.mesh.specs.Given.{Lent, roomsOf, asRooms}
 use Rattle.mesh.specs.Filled.{Filled, Fits, lent}
-use Rattle.answer.specs.Answered.{Answered, answerOf, countsOf}
+use Rattle.answer.specs.Answered.{Answered, countsOf}
 use Rattle.mesh.specs.declared.Counts.{Counts}
 use Rattle.answer.specs.declared.Answer.{Answer}
 use Rattle.answer.specs.declared.Answer.the-variants.{Refused, Done}

@@ -6,15 +6,15 @@ use mathlib.Core.Bool.{Bool, true, false, not, _&&_}
 use mathlib.Core.List.{List, [], _∷_}
 use lib.Dec.{ltb}
 use lib.Ieee.{Float}
-use lib.ListN.{length, getD, take, length-take}
+use lib.ListN.{length, getD, length-take}
 use lib.Seq.{getD-take}
 use borrow.Author.Tests.{ltb-true}
 use Rattle.lists.specs.Lists.{pick, stands, any, all, each, distinct}
 use Rattle.lists.proofs.Sifts.{and-true, true-and, all-append, all-get}
 use Rattle.columns.proofs.Rows.{tab-length}
 use Rattle.model.specs.Mesh.{Triangle, Edge, Mesh}
-use Rattle.model.specs.Valid.{named, rootOk, cornersOk, endsOk, sideOk, indicesFit}
-use Rattle.model.specs.Elements.{Kind, Triangles, Straps, Nothing, Element, kindBy, kindOf, elementsOf, cornersOf, endsOf, structural?, strapElement, trianglesFrom, strapsFrom, cornersPer}
+use Rattle.model.specs.Valid.{named, cornersOk, endsOk}
+use Rattle.model.specs.Elements.{Kind, Triangles, Straps, Nothing, Element, kindBy, kindOf, cornersOf, endsOf, structural?, strapElement, trianglesFrom, strapsFrom, cornersPer}
 use Rattle.model.specs.Pieces.{pieces, pieceLabels}
 use Rattle.mesh.specs.At.{triangleRow, edgeRow, trianglesAt, edgesAt}
 use Rattle.mesh.specs.declared.Counts.{Counts}

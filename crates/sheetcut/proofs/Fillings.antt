@@ -8,15 +8,15 @@ use mathlib.Core.List.{List, [], _∷_, _++_, map}
 use lib.ListN.{length, getD, replicate, length-append, length-replicate, length-map, List·getD-append}
 use lib.Seq.{getD-append-add}
 use lib.Ieee.{Float, nan}
-use Rattle.lists.specs.Lists.{tab, each, padded}
+use Rattle.lists.specs.Lists.{each, padded}
 use Rattle.float.specs.Numbers.{zero32}
 use Rattle.columns.specs.Block.{cell, stack, blockOf}
 use Rattle.columns.proofs.Cells.{col-fits}
 use Rattle.columns.proofs.Rows.{tab-ext}
 use Rattle.lists.proofs.Sifts.{tab-of}
-use Rattle.model.specs.Mesh.{Particle, Triangle, Edge, Side, Mesh, blank, blankTriangle, blankEdge}
+use Rattle.model.specs.Mesh.{Particle, Triangle, Edge, Side, blank, blankTriangle, blankEdge}
 use Rattle.mesh.specs.At.{particlesAt, trianglesAt, edgesAt, boundaryAt, meshAt}
-use Rattle.mesh.specs.Log.{Words, World, entryRow, logAt, wordList, wordsIn, worldAt}
+use Rattle.mesh.specs.Log.{Words, World, logAt, wordList, wordsIn, worldAt}
 use Rattle.mesh.specs.Given.{Lent}
 use Rattle.mesh.specs.Filled.{Filled, Fits, pointOf, rootOf, cornerOf, volumeOf, endOf, lengthOf, sideOf, lent}
 use Rattle.mesh.specs.declared.Counts.{Counts}

@@ -2,9 +2,9 @@
 use Prim.Native.Nat.{ℕ, _+_, _-_, _*_, _/_, _%_, _≤_}
 use native.Mathlib.Omega.{arith}
 use mathlib.Core.Path.{_≡_, refl, sym, ap, _∙_, subst}
-use mathlib.Core.Bool.{Bool, true, false, cond, _&&_, _||_}
-use mathlib.Core.List.{List, [], _∷_, _++_, map}
-use lib.Dec.{ltb, leb, eqb}
+use mathlib.Core.Bool.{Bool, true, false, cond, _||_}
+use mathlib.Core.List.{List, [], _∷_, _++_}
+use lib.Dec.{ltb, eqb}
 use lib.Ieee.{Float, nan}
 use lib.ListN.{length, take, drop, getD, replicate, length-map, length-append, length-drop, length-take}
 use lib.Seq.{length-take-le, take-at}
@@ -14,9 +14,8 @@ use Rattle.lists.proofs.Sifts.{true-and}
 use Rattle.lists.proofs.Rows.{length-mapAt}
 use Rattle.float.specs.Numbers.{zero32}
 use Rattle.blade.specs.declared.Point.{Point}
-use Rattle.model.specs.Mesh.{Mesh}
 use Rattle.model.specs.Cut.{Blade}
-use Rattle.model.specs.Calls.{Outcome, cutCall}
+use Rattle.model.specs.Calls.{cutCall}
 use Rattle.mesh.specs.At.{meshAt}
 use Rattle.mesh.specs.Log.{World}
 use Rattle.mesh.specs.Given.{Given, Lent, given, sizes, meshOf, listFits, lengthsFit, sizesFit}
@@ -25,7 +24,7 @@ use Rattle.mesh.specs.declared.Counts as M
 use Rattle.bits.specs.Bits.{bitsOf, fieldAt}
 use Rattle.bits.proofs.RowLaws.{length-read}
 use Rattle.sheet.specs.Sheet.{sheetWith, seenOf, seenWith, above, tooMany, countsAt, bytesOf, spareOf, namesOK, particleW, triangleW, edgeW, boundaryW, atTriangles, atEdges, atBoundary, atBlade}
-use Rattle.sheet.specs.Read.{floatOf, particlesFrom, trianglesFrom, edgesFrom, boundaryFrom, placeIn, meshOfSheet, bladeOfSheet, countsFor, roomFor, lentOf, worldOf, bladeLeft, ReadDone}
+use Rattle.sheet.specs.Read.{floatOf, particlesFrom, trianglesFrom, edgesFrom, boundaryFrom, placeIn, meshOfSheet, countsFor, roomFor, lentOf, worldOf, bladeLeft, ReadDone}
 use Rattle.sheet.specs.declared.Counts.{Counts}
 use Rattle.sheet.specs.declared.Seen.{Seen}
 use Rattle.sheet.specs.declared.Seen.the-variants.{Whole, Refused}

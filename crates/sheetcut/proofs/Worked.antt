@@ -1,13 +1,11 @@
 -- Document 01's worked sheet as the program reads and lists it, byte for byte; a file without bytes. Assumes nothing.
 use Prim.Native.Nat.{ℕ}
-use mathlib.Core.Path.{_≡_, refl, sym, ap, ap₂, _∙_}
-use mathlib.Core.Bool.{Bool, true, false}
+use mathlib.Core.Path.{_≡_, refl, ap, _∙_}
+use mathlib.Core.Bool.{true}
 use mathlib.Core.List.{List, [], _∷_, map}
 use lib.IntN.{pos, negsuc}
 use lib.ListN.{length}
-use lib.Ieee.{Float, fin, isNan, neg, add, sub, mul, div, lt, le, eq, ne, ofInt, ofBits}
-use Rattle.model.specs.Mesh.{Mesh}
-use Rattle.model.specs.Cut.{Blade}
+use lib.Ieee.{isNan, neg, add, sub, mul, div, lt, le, eq, ne, ofInt, ofBits}
 use Rattle.model.specs.Run.{Entry, split, edge}
 use Rattle.model.specs.Calls.{Outcome, refused, done}
 use Rattle.model.specs.Starred.{tenth, listingMesh, blade}
@@ -17,7 +15,7 @@ use Rattle.bits.specs.Rows.{total, unpack, readRows}
 use Rattle.sheet.specs.Sheet.{sheetWith, seenOf, seenWith, allOK, rowOK, pairOK, above}
 use Rattle.sheet.specs.Read.{meshOfSheet, bladeOfSheet}
 use Rattle.sheet.specs.declared.Seen.{Seen}
-use Rattle.sheet.specs.declared.Seen.the-variants.{Whole, Refused}
+use Rattle.sheet.specs.declared.Seen.the-variants.{Whole}
 use Rattle.sheet.proofs.Cases.{worked, workedCounts, worked-mesh, worked-blade, empty-seen}
 use Rattle.listing.specs.Listing.{printed, listingBytes, refusedBytes}
 use Rattle.listing.proofs.Worked.{worked-listing, worked-refused}

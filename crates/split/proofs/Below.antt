@@ -1,14 +1,13 @@
 -- The elements of a mesh whose indices fit: their numbers name rows, their corners name particles, and they are few. Assumes nothing.
-use Prim.Native.Nat.{ℕ, zero, suc, _+_, _*_, _<_, _≤_}
+use Prim.Native.Nat.{ℕ, suc, _+_, _*_, _<_, _≤_}
 use native.Mathlib.Omega.{arith}
-use native.Mathlib.Nat.{mul-le-mul-right}
-use mathlib.Core.Path.{_≡_, refl, sym, _∙_, ap, subst}
-use mathlib.Core.Bool.{Bool, true, false}
+use mathlib.Core.Path.{_≡_, sym, _∙_, ap, subst}
+use mathlib.Core.Bool.{true}
 use mathlib.Core.List.{List, [], _∷_, map}
-use lib.ListN.{length, getD, take, length-take, length-map}
+use lib.ListN.{length, getD, length-take, length-map}
 use lib.Seq.{getD-take}
 use lib.Ieee.{Float}
-use Rattle.lists.specs.Lists.{pick, stands, sift, each}
+use Rattle.lists.specs.Lists.{stands, each}
 use Rattle.model.specs.Mesh.{Triangle, Edge, Mesh}
 use Rattle.model.specs.Valid.{indicesFit}
 use Rattle.model.specs.Elements.{Kind, Triangles, Straps, Nothing, Element, structural?, strapElement, trianglesFrom, strapsFrom, elementsOf, fanOf, cornersPer}

@@ -4,7 +4,7 @@ use native.Mathlib.Omega.{arith}
 use mathlib.Core.Path.{_≡_, refl, sym, _∙_, ap, subst}
 use mathlib.Core.Bool.{true}
 use mathlib.Core.List.{List, _++_}
-use lib.ListN.{length, getD, take, length-take}
+use lib.ListN.{length, getD, take}
 use lib.Seq.{getD-take, length-take-le, take-at}
 use lib.Ieee.{Float}
 use Rattle.lists.specs.Lists.{stands}
@@ -19,7 +19,7 @@ use Rattle.model.specs.Elements.{Kind, Triangles, Straps, Nothing, Element, fan
 use Rattle.mesh.specs.At.{triangleRow, trianglesAt, edgesAt}
 use Rattle.mesh.proofs.Lists.{edges-length}
 use Rattle.elements.specs.Table.{Tabled, holding, elementsIn}
-use Rattle.opening.specs.Opened.{openingBy, Ringed, Weighted, Numbered}
+use Rattle.opening.specs.Opened.{Ringed}
 use Rattle.opening.proofs.Tables.{Rises, ringed-by, weighted-by, numbered-by, fan-is, rises-holding}
 use Rattle.split.specs.Tables.{FanGrouped, openedBy, Opens, TablesFit, FanRead, SidesLent, GroupsFound}
 use Rattle.split.proofs.Below.{rowsOf, table-below, fan-corners, fan-number, Few, few-of}

@@ -1,21 +1,21 @@
 -- From a mesh in blocks whose indices fit to what the places of the blocks hold. Assumes nothing.
-use Prim.Native.Nat.{ℕ, _/_, _<_, _≤_}
+use Prim.Native.Nat.{ℕ, _/_, _<_}
 use native.Mathlib.Omega.{arith}
-use mathlib.Core.Path.{_≡_, refl, sym, _∙_, ap, subst}
+use mathlib.Core.Path.{_≡_, subst}
 use mathlib.Core.Bool.{true}
 use mathlib.Core.List.{List}
-use lib.ListN.{length, getD}
+use lib.ListN.{length}
 use lib.Ieee.{Float}
 use Rattle.lists.specs.Lists.{tab}
 use Rattle.lists.proofs.Stores.{tab-at, tab-length}
 use Rattle.columns.specs.Block.{cell}
-use Rattle.model.specs.Mesh.{Particle, Triangle, Edge, Side, Mesh, blankTriangle, blankEdge}
+use Rattle.model.specs.Mesh.{Edge, Side, blankTriangle, blankEdge}
 use Rattle.model.specs.Valid.{indicesFit}
 use Rattle.model.specs.Trace.{All, Sound}
 use Rattle.model.proofs.Laws.{all-in}
 use Rattle.model.proofs.Indexed.{Indexed, Pair}
 use Rattle.model.proofs.Accepted.{accepted-indexed}
-use Rattle.mesh.specs.At.{triangleRow, edgeRow, sideRow, particlesAt, trianglesAt, edgesAt, boundaryAt, meshAt}
+use Rattle.mesh.specs.At.{triangleRow, edgeRow, sideRow, trianglesAt, edgesAt, boundaryAt, meshAt}
 use Rattle.mesh.specs.declared.Counts.{Counts}
 use Rattle.mesh.proofs.Lists.{particles-length, edges-length}
 use Rattle.split.specs.Steps.{EndsIn, SidesIn, CornersIn}

@@ -1,8 +1,7 @@
 -- What a split by the groups of a fan asks of its two halves, and what they make of it. Assumes nothing.
-use Prim.Native.Nat.{ℕ, _+_, _-_, _/_, _<_, _≤_}
+use Prim.Native.Nat.{ℕ, _+_, _-_, _≤_}
 use native.Mathlib.Omega.{arith}
 use mathlib.Core.Path.{_≡_, refl, sym, _∙_, ap, subst}
-use mathlib.Core.Bool.{true}
 use mathlib.Core.List.{List}
 use lib.ListN.{length}
 use lib.Ieee.{Float}
@@ -11,13 +10,13 @@ use Rattle.model.specs.Mesh.{Mesh}
 use Rattle.model.specs.Elements.{Kind}
 use Rattle.model.specs.Split.{Opening, atLongest}
 use Rattle.mesh.specs.At.{meshAt}
-use Rattle.mesh.specs.Log.{World, Words, logAt, worldAt}
+use Rattle.mesh.specs.Log.{World, logAt, worldAt}
 use Rattle.mesh.specs.Filled.{lent}
 use Rattle.mesh.specs.declared.Counts.{Counts}
 use Rattle.mesh.specs.declared.Rooms.{Rooms}
 use Rattle.split.specs.Working.{Ready}
 use Rattle.split.specs.Tables.{FanGrouped, openedBy, Opens, TablesFit}
-use Rattle.split.specs.Steps.{EndsIn, SidesIn, GrowRoom, grownCounts, GrewTo, GrowthTold, SettledTo, Stepped}
+use Rattle.split.specs.Steps.{EndsIn, GrowRoom, grownCounts, GrewTo, GrowthTold, SettledTo, Stepped}
 use Rattle.split.specs.Growing.{StrapsNamed}
 use Rattle.split.specs.Settling.{SettleAsked, SettledFor}
 use Rattle.split.proofs.Fitted.{opens-by, tables-fit}
@@ -25,7 +24,7 @@ use Rattle.split.proofs.NamedLaws.{straps-named}
 use Rattle.split.proofs.Placed.{particles-count, triangles-count, edges-count, ends-in, sides-in}
 use Rattle.split.proofs.Stepping.{longestWorld, stepped-lacking, stepped-settled}
 use Rattle.split.specs.declared.Ran.{Ran}
-use Rattle.split.specs.declared.Ran.the-variants.{Refused, Done}
+use Rattle.split.specs.declared.Ran.the-variants.{Refused}
 use Rattle.split.specs.declared.Grew.{Grew}
 use Rattle.split.specs.declared.Grew.the-variants.{Lacking, Longest}
 

@@ -1,14 +1,14 @@
 -- The two halves of a split make the whole step. Assumes nothing.
-use Prim.Native.Nat.{ℕ, _+_, _-_, _<_, _≤_}
+use Prim.Native.Nat.{ℕ, _+_, _≤_}
 use native.Mathlib.Omega.{arith}
-use mathlib.Core.Path.{_≡_, refl, sym, _∙_, ap, subst}
+use mathlib.Core.Path.{_≡_, sym, _∙_, ap, subst}
 use mathlib.Core.Bool.{Bool, true, false}
 use mathlib.Core.List.{List, [], map, _++_, append-nil, map-append}
 use lib.ListN.{length, length-append, length-map}
 use Rattle.lists.specs.Lists.{pick}
 use Rattle.model.specs.Mesh.{Mesh}
-use Rattle.model.specs.Elements.{Kind, Triangles, Straps, Nothing}
-use Rattle.model.specs.Run.{Entry, Need, Run, stepTo}
+use Rattle.model.specs.Elements.{Kind}
+use Rattle.model.specs.Run.{Entry, Run}
 use Rattle.model.specs.Split.{Opening, openingOf, splits?, atLongest, settled, straddles, splitEntries, goneEntries, splitMade, splitStep, splitBySides}
 use Rattle.model.specs.Calls.{tooSmall, firstFault}
 use Rattle.mesh.specs.Log.{World, Words, wordsOf, worldOf}
@@ -20,8 +20,7 @@ use Rattle.split.specs.Steps.{GrewTo, loggedOf, settledWorld, SettledTo,
 use Rattle.split.proofs.Runs.{room-enough, needBehind, StepTold, went-step}
 use Rattle.split.specs.declared.Ran.{Ran}
 use Rattle.split.specs.declared.Ran.the-variants.{Refused, Done}
-use Rattle.split.specs.declared.Grew.{Grew}
-use Rattle.split.specs.declared.Grew.the-variants.{Lacking, Longest}
+use Rattle.split.specs.declared.Grew.the-variants.{Lacking}
 
 -- the first half lacks room: so does the step
 pub stepped-lacking : (K : Kind) (O : Opening) (L : Rooms) (extra : ℕ) (k : Counts) (W : World) (at₁ : Counts → Mesh) (at : Counts → World) (c : ℕ) → GrewTo K O L k (W .mesh) at₁ (Lacking c) → Stepped K O L extra W at (Refused c)

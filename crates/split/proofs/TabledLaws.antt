@@ -12,10 +12,10 @@ use lib.Ieee.{Float, nan, ne}
 use Rattle.lists.proofs.Stores.{tab-at}
 use Rattle.float.specs.Numbers.{zero32}
 use Rattle.columns.specs.Block.{cell}
-use Rattle.fan.specs.Fan.{Fan, fan}
+use Rattle.fan.specs.Fan.{fan}
 use Rattle.fan.specs.Groups.{groupsOf, countOf}
 use Rattle.model.specs.Mesh.{Particle, Mesh, blank}
-use Rattle.model.specs.Elements.{Kind, Triangles, Straps, Nothing, cornersPer, facetOthers, fanOf, gridOf, particle}
+use Rattle.model.specs.Elements.{Kind, cornersPer, facetOthers, fanOf, gridOf, particle}
 use Rattle.model.specs.Split.{Opening, openingOf, splits?, splitBySides}
 use Rattle.mesh.specs.At.{particleRow, particlesAt, meshAt}
 use Rattle.mesh.specs.Log.{World, worldAt}
@@ -28,12 +28,12 @@ use Rattle.opening.proofs.Tables.{opening-is}
 use Rattle.split.specs.Working.{Ready, Works}
 use Rattle.split.specs.Tables.{FanGrouped, FanSided, FanLent, FanRead, SidesLent, SidesGiven, GroupsFound, openedBy}
 use Rattle.split.specs.Steps.{Stepped}
-use Rattle.split.proofs.Fitted.{grid-is, rows-small}
+use Rattle.split.proofs.Fitted.{grid-is}
 use Rattle.split.proofs.Placed.{particles-count}
 use Rattle.split.proofs.Stepping.{works-split, works-unsplit}
 use Rattle.split.proofs.StepLaws.{world-mesh}
 use Rattle.split.specs.declared.Ran.{Ran}
-use Rattle.split.specs.declared.Ran.the-variants.{Refused, Done}
+use Rattle.split.specs.declared.Ran.the-variants.{Done}
 
 -- the inverse mass of a particle, by its place
 pub inverse-at : (k : Counts) (points : List Float) (roots corners : List ℕ) (volumes : List Float) (ends : List ℕ) (lengths : List Float) (outline : List ℕ) (v : ℕ) → v < k .particles
