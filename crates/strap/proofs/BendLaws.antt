@@ -336,8 +336,17 @@ lt-or-le : (j n : ℕ) → (j < n) ⊎ (n ≤ j)
 lt-or-le j zero = inr (omega arith)
 lt-or-le j (suc n) = ⊎-elim (λ l. inl (omega arith)) (λ l. elim (ℕ-discrete j n) [ yes d ↦ inl (omega arith) | no m ↦ inr (omega (arith, m)) ]) (lt-or-le j n)
 
+-- ends below a bound are below a larger one
+pub ends-below-more : (n m e : ℕ) (ends : List ℕ) → n ≤ m → EndsBelow n e ends → EndsBelow m e ends
+ends-below-more n m e ends l E =
+    record {
+      rows = E .rows;
+      first = λ j h. let x = E .first j h in omega arith;
+      second = λ j h. let x = E .second j h in omega arith;
+    }
+
 pub bends-marked :
-    (a b e : ℕ) (ends first second marks marks′ : List ℕ) → EndsBelow 1024 e ends → length first ≡ 1024 → length second ≡ 1024 → SideMarked a b e ends first → SideMarked b a e ends second
+    (a b e : ℕ) (ends first second marks marks′ : List ℕ) → EndsBelow 1024 e ends → 1024 ≤ length first → 1024 ≤ length second → SideMarked a b e ends first → SideMarked b a e ends second
     → BetweenMarked e ends first second marks marks′ → BendsMarked a b e ends marks marks′
 unfolding bendsOver bends edgesAt
 bends-marked a b e ends first second marks marks′ E lf ls F S T =

@@ -2,14 +2,14 @@
 use mathlib.Core.Path.{_≡_, refl, sym, _∙_, ap, ap₂, subst}
 use mathlib.Core.Bool.{Bool, true, false, not}
 use mathlib.Core.List.{List, [], _∷_, _++_, map, map-append}
-use Prim.Native.Nat.{ℕ, zero, suc, _+_, _/_, _<_, _≤_}
+use Prim.Native.Nat.{ℕ, zero, suc, _+_, _-_, _/_, _<_, _≤_}
 use native.Mathlib.Omega.{arith}
 use lib.Ieee.{Float}
 use lib.Dec.{eqb}
 use borrow.Author.Tests.{eq-eqb, ne-eqb}
 use Rattle.split.proofs.PieceMasks.{Counting, counting-start, counting-few, counting-step}
 use lib.ListN.{length, getD, length-append, length-map, replicate}
-use Rattle.lists.specs.Lists.{pick, stands, sift, siftAt, keep, tab, upTo}
+use Rattle.lists.specs.Lists.{pick, stands, sift, siftAt, keep, tab, upTo, padded}
 use Rattle.lists.proofs.Sifts.{map-tab}
 use Rattle.lists.proofs.Stores.{tab-length, tab-at}
 use Rattle.columns.proofs.Rows.{keep-sift}
@@ -281,3 +281,8 @@ zeros-mark n m j l = ap (λ (x : ℕ). eqb x 1) (zeros-at n j)
     zeros-at zero j = refl
     zeros-at (suc n) zero = refl
     zeros-at (suc n) (suc j) = zeros-at n j
+
+-- and so does a table that was cleared
+pub cleared-mark : (n : ℕ) (l : List ℕ) → l ≡ padded n 0 [] → (m j : ℕ) → j < m → marked l j ≡ false
+unfolding padded
+cleared-mark n l e m j h = ap (λ (t : List ℕ). marked t j) e ∙ zeros-mark (n - 0) m j h

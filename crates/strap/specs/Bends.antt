@@ -37,7 +37,6 @@ pub record EndsBelow (n e : ℕ) (ends : List ℕ) : Type 0 where
 -- v and all ends have places in a table
 pub record SideRoom (v e : ℕ) (ends : List ℕ) (ls : ℕ) : Type 0 where
   pub here : v < ls
-  pub few : ls ≤ 65536
   pub ends-in : EndsBelow ls e ends
 
 -- exactly v's side of (v, w) is marked

@@ -13,7 +13,7 @@ use Rattle.columns.proofs.clear_usize.Reads as clear-usize-reads
 use Rattle.strap.proofs.bends.neighbour.Reads as neighbour-reads
 
 abbrev Inv-loop : tie.InvT-loop
-Inv-loop v w e ends side₀ i₀ side i = SideMarking v w e ends side₀ side i × (v < length side₀) × EndsBelow (length side₀) e ends × (length side₀ ≤ 65536)
+Inv-loop v w e ends side₀ i₀ side i = SideMarking v w e ends side₀ side i × (v < length side₀) × EndsBelow (length side₀) e ends × (length side₀ < 1152921504606846976)
 
 abbrev μ-loop : tie.MeasureT-loop
 μ-loop v w e ends side₀ i₀ side i = e - i
@@ -24,7 +24,7 @@ clear-usize-requires c κs = omega arith
 
 -- src/bends.rt:41:5
 mul-side : tie.Need-mul-side Inv-loop μ-loop
-mul-side c = omega (arith, c .before .before .before .before .before .before .pre .here, c .before .before .clear-usize .kept .1 .0)
+mul-side c = omega (arith, c .before .before .before .before .before .before .pre .here, c .before .before .before .before .before .before .good .1 .1 .1 .1 .0 .1, c .before .before .clear-usize .kept .1 .0)
 
 -- src/bends.rt:41:5
 slice-write-side : tie.Need-slice-write-side Inv-loop μ-loop
@@ -34,7 +34,7 @@ slice-write-side c = omega (arith, c .before .before .before .before .before .be
 loop-holds : tie.Need-loop-holds Inv-loop μ-loop
 loop-holds c = let e = c .before .before .before .before .before .before .pre .here in
     let k = c .before .before .clear-usize .kept .1 .0 in
-    (marking-start _ _ _ _ (c .before .before .before .before .before .before .args .side .now) _ (omega (arith, c .before .before .before .before .before .before .pre .here, k)) (c .before .before .clear-usize .ensures), simp length-set (omega (arith, c .before .before .before .before .before .before .pre .here, k)), simp length-set (subst (λ (n : ℕ). EndsBelow n (c .before .before .before .before .before .before .args .e) (c .before .before .before .before .before .before .args .ends .now)) (sym k) (c .before .before .before .before .before .before .pre .ends-in)), simp length-set (omega (arith, c .before .before .before .before .before .before .pre .few, k)))
+    (marking-start _ _ _ _ (c .before .before .before .before .before .before .args .side .now) _ (omega (arith, c .before .before .before .before .before .before .pre .here, k)) (c .before .before .clear-usize .ensures), simp length-set (omega (arith, c .before .before .before .before .before .before .pre .here, k)), simp length-set (subst (λ (n : ℕ). EndsBelow n (c .before .before .before .before .before .before .args .e) (c .before .before .before .before .before .before .args .ends .now)) (sym k) (c .before .before .before .before .before .before .pre .ends-in)), simp length-set (omega (arith, c .before .before .before .before .before .before .good .1 .1 .1 .1 .0 .1, k)))
 
 -- src/bends.rt:44:13
 neighbour-requires : tie.Need-neighbour-requires Inv-loop μ-loop
