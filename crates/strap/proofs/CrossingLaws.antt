@@ -1,12 +1,11 @@
 -- Laws of crossings: the hit on one edge, and the tables filled edge by edge. Assumes nothing.
 use Prim.Native.Nat.{ℕ, _+_, _*_, _/_, _<_, _≤_}
 use native.Mathlib.Omega.{arith}
-use mathlib.Core.Path.{_≡_, refl, sym, ap, ap₂, _∙_, subst}
+use mathlib.Core.Path.{_≡_, refl, sym, ap, ap₂, _∙_}
 use mathlib.Core.Bool.{Bool, true, false}
 use mathlib.Core.List.{List, [], _∷_, _++_, append-nil}
 use lib.ListN.{length, getD, set}
 use lib.Seq.{getD-set-same, getD-set-other}
-use lib.Dec.{eqb}
 use lib.Ieee.{Float, nan}
 use borrow.Author.Tests.{eq-eqb, ne-eqb}
 use Rattle.lists.specs.Lists.{pick, each, tab}
@@ -21,8 +20,8 @@ use Rattle.blade.specs.Blade.{bladeHit}
 use Rattle.columns.specs.Block.{cell}
 use Rattle.columns.proofs.Cells.{col-0, col-1}
 use Rattle.model.specs.Mesh.{Edge, Mesh, blankEdge}
-use Rattle.model.specs.Elements.{Straps, Element, structural?, strapElement, strapsFrom, elementsOf, edgeAt, placeOf}
-use Rattle.model.specs.Cut.{Blade, Crossing, crossingAt, meets, crossings}
+use Rattle.model.specs.Elements.{Element, structural?, strapElement, strapsFrom, elementsOf, edgeAt, placeOf}
+use Rattle.model.specs.Cut.{Crossing, crossingAt, meets, crossings}
 use Rattle.mesh.specs.At.{edgesAt}
 use Rattle.elements.proofs.Filling.{straps-push}
 use Rattle.rewire.specs.RoomsB.{rowAt}

@@ -1,11 +1,11 @@
 -- Laws of an insertion: its edges and its particles. Assumes nothing.
-use Prim.Native.Nat.{ℕ, _+_, _*_, _/_, _<_, _≤_}
+use Prim.Native.Nat.{ℕ, _+_, _*_, _/_, _<_}
 use native.Mathlib.Omega.{arith}
-use mathlib.Core.Path.{_≡_, refl, sym, ap, ap₂, _∙_, subst}
+use mathlib.Core.Path.{_≡_, sym, ap, ap₂, _∙_}
 use mathlib.Core.List.{List, [], _∷_, _++_, append-assoc}
 use lib.ListN.{length, getD, set}
 use lib.Ieee.{Float, nan, ne}
-use Rattle.lists.specs.Lists.{pick, mapAt, tab}
+use Rattle.lists.specs.Lists.{pick, mapAt}
 use Rattle.lists.proofs.Stores.{tab-at}
 use Rattle.float.specs.Numbers.{minus, zero32, invOf}
 use Rattle.blade.specs.declared.Point.{Point}

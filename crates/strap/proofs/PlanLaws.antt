@@ -1,6 +1,5 @@
 -- Laws of plans: the tests of a crossing, and the insertion that is read off the blocks. Assumes nothing.
 use Prim.Native.Nat.{ℕ, _+_, _*_, _/_, _<_}
-use native.Mathlib.Omega.{arith}
 use mathlib.Core.Path.{_≡_, refl, sym, ap, ap₂, _∙_, subst}
 use mathlib.Core.Bool.{Bool, true, false, not, _&&_, _||_, false≢true}
 use mathlib.Core.List.{List}
@@ -14,8 +13,8 @@ use Rattle.columns.specs.Block.{cell}
 use Rattle.columns.proofs.Cells.{col-0, col-1}
 use Rattle.model.specs.Mesh.{Particle, Edge, Mesh, blank, blankEdge}
 use Rattle.model.specs.Elements.{particle, edgeAt}
-use Rattle.model.specs.Cut.{Crossing, Insertion, insertionOf, insertable, wanted?, nearEnd, clampTo, segmentMass, strapShare}
-use Rattle.mesh.specs.At.{particleRow, particlesAt, edgesAt}
+use Rattle.model.specs.Cut.{Insertion, insertionOf, insertable, wanted?, nearEnd, clampTo, segmentMass, strapShare}
+use Rattle.mesh.specs.At.{particleRow, particlesAt}
 use Rattle.mesh.specs.Workers.{edgeOf}
 use Rattle.mesh.specs.declared.EdgeRow.{EdgeRow}
 use Rattle.mesh.proofs.Lists.{particles-length}

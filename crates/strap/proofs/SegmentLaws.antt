@@ -2,15 +2,15 @@
 use mathlib.Core.Path.{_≡_, refl, sym, _∙_, ap, subst}
 use mathlib.Core.Bool.{Bool, true, false, _&&_}
 use mathlib.Core.List.{List, [], _∷_, map}
-use Prim.Native.Nat.{ℕ, zero, suc, _/_, _<_, _≤_}
+use Prim.Native.Nat.{ℕ, zero, suc, _<_, _≤_}
 use native.Mathlib.Omega.{arith}
 use lib.Ieee.{Float}
-use lib.ListN.{length, getD}
-use Rattle.lists.specs.Lists.{stands, sift, fold, rising, upTo}
+use lib.ListN.{length}
+use Rattle.lists.specs.Lists.{stands, fold, rising, upTo}
 use Rattle.lists.proofs.Sifts.{sift-stands, and-true, upTo-stands, upTo-below}
 use Rattle.model.specs.Mesh.{Mesh}
 use Rattle.model.specs.Valid.{indicesFit}
-use Rattle.model.specs.Run.{Entry, Run, stepTo}
+use Rattle.model.specs.Run.{Run, stepTo}
 use Rattle.model.specs.Calls.{firstFault}
 use Rattle.model.specs.Cut.{Blade, Strapping, strapping, unbent, splitSnapped, afterCrossings}
 use Rattle.model.proofs.Steps.{Onward, fault-stays, onward-fold, snapped-onward}
@@ -28,10 +28,9 @@ use Rattle.split.specs.declared.Ran.{Ran}
 use Rattle.split.specs.declared.Ran.the-variants.{Refused, Done}
 use Rattle.split.proofs.Placed.{particles-count}
 use Rattle.split.proofs.StepLaws.{world-mesh}
-use Rattle.cut.specs.Marking.{Marks}
 use Rattle.cut.specs.Running.{chosen, Logged, Chosen}
 use Rattle.cut.proofs.RunLaws.{chosen-rising}
-use Rattle.strap.specs.Crossed.{ranOf, bendsOf, snappedOf, StrapMarks}
+use Rattle.strap.specs.Crossed.{ranOf, bendsOf, StrapMarks}
 use Rattle.strap.specs.Unbent.{UnbentRoom, MarksOf, UnbentTold}
 use Rattle.strap.specs.Segments.{MarksLent, AfterTold}
 

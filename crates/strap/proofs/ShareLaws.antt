@@ -1,6 +1,5 @@
 -- Laws of shares: the test of one strap, and the lengths of straps added one by one. Assumes nothing.
 use Prim.Native.Nat.{ℕ, _+_, _*_, _/_, _<_}
-use native.Mathlib.Omega.{arith}
 use mathlib.Core.Path.{_≡_, refl, sym, ap, ap₂, _∙_}
 use mathlib.Core.Bool.{Bool, true, false, _&&_}
 use mathlib.Core.List.{List, [], _∷_, _++_, map, map-append, append-nil}
@@ -8,20 +7,19 @@ use lib.ListN.{length, getD}
 use lib.Dec.{eqb}
 use lib.Ieee.{Float, nan, lt}
 use borrow.Author.Tests.{eq-eqb, ne-eqb}
-use Rattle.lists.specs.Lists.{pick, stands, sift, fold, tab}
-use Rattle.lists.proofs.Sifts.{fold-append}
+use Rattle.lists.specs.Lists.{pick, stands, sift, tab}
 use Rattle.lists.proofs.Stores.{tab-at}
 use Rattle.lists.proofs.Steps.{sift-step}
 use Rattle.float.specs.Numbers.{plus, zero32, shareOf}
 use Rattle.columns.specs.Block.{cell}
 use Rattle.columns.proofs.Cells.{col-0, col-1}
-use Rattle.model.specs.Mesh.{Particle, Edge, Mesh, blank}
-use Rattle.model.specs.Elements.{sum, structural?, endsOf, particle}
+use Rattle.model.specs.Mesh.{Particle, Edge, blank}
+use Rattle.model.specs.Elements.{sum, particle}
 use Rattle.model.specs.Cut.{strapsAt, strapShare}
 use Rattle.mesh.specs.At.{particleRow, particlesAt, edgesAt}
 use Rattle.rewire.specs.RoomsB.{rowAt}
 use Rattle.elements.proofs.Measures.{sum-push, sum-none}
-use Rattle.strap.specs.Shares.{strapAt, StrapTold, totalAt, Stands, ShareIs}
+use Rattle.strap.specs.Shares.{strapAt, StrapTold, totalAt, ShareIs}
 
 -- ---- one edge
 

@@ -2,22 +2,22 @@
 use Prim.Native.Nat.{ℕ, _+_, _*_, _/_, _<_, _≤_, zero-le}
 use native.Mathlib.Omega.{arith}
 use mathlib.Core.Path.{_≡_, refl, sym, ap, ap₂, _∙_, subst}
-use mathlib.Core.Bool.{Bool, true, false, _&&_}
+use mathlib.Core.Bool.{false, _&&_}
 use mathlib.Core.List.{List, [], _∷_, _++_, map, append-nil}
 use lib.ListN.{length, getD, set, length-set, length-append}
 use lib.Seq.{set-getD}
 use lib.Dec.{eqb}
 use borrow.Author.Tests.{eq-eqb, ne-eqb, lt-leb, leb-false}
-use Rattle.lists.specs.Lists.{pick, tab, each}
+use Rattle.lists.specs.Lists.{tab, each}
 use Rattle.lists.proofs.Stores.{tab-length, tab-at}
 use Rattle.lists.proofs.Rows.{rows-store, rows-push}
 use Rattle.columns.specs.Block.{cell}
 use Rattle.columns.proofs.Cells.{store-same, store-row, store-col, col-0, col-1}
 use Rattle.model.specs.Mesh.{Side}
-use Rattle.model.specs.Cut.{same, shortened, appended}
+use Rattle.model.specs.Cut.{shortened, appended}
 use Rattle.mesh.specs.At.{sideRow, boundaryAt}
 use Rattle.rewire.specs.Stages.{GrownTo}
-use Rattle.rewire.specs.RoomsB.{Between, SideRoom}
+use Rattle.rewire.specs.RoomsB.{Between}
 use Rattle.rewire.specs.declared.Grown.{Grown}
 use Rattle.rewire.specs.declared.Grown.the-variants.{Lacking, Rows}
 use Rattle.rewire.proofs.EdgeLaws.{grown-all}

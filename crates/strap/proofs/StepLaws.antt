@@ -1,19 +1,19 @@
 -- Laws of an insertion as one step: which room lacks, and the world behind it. Assumes nothing.
-use Prim.Native.Nat.{ℕ, zero, suc, _+_, _*_, _/_, _<_, _≤_}
+use Prim.Native.Nat.{ℕ, zero, suc, _+_, _<_, _≤_}
 use native.Mathlib.Omega.{arith}
 use mathlib.Core.Path.{_≡_, refl, sym, ap, ap₂, _∙_, subst}
-use mathlib.Core.Bool.{Bool, true, false}
+use mathlib.Core.Bool.{true}
 use mathlib.Core.List.{List, [], _∷_, _++_, map, map-append}
-use lib.ListN.{length, getD, length-append, length-map}
+use lib.ListN.{length, length-append, length-map}
 use lib.Dec.{eqb, T}
 use lib.Ieee.{Float, binary32, ne, toBits}
 use lib.Ieee.Compare.{differs-from-itself}
 use borrow.Author.Tests.{ne-eqb, lt-ltb, le-ltb, leb-false, leb-true}
 use Rattle.lists.specs.Lists.{pick, mapAt, each}
 use Rattle.lists.proofs.Rows.{length-mapAt}
-use Rattle.model.specs.Mesh.{Particle, Triangle, Edge, Side, Mesh}
+use Rattle.model.specs.Mesh.{Edge, Side, Mesh}
 use Rattle.model.specs.Split.{onlyAt}
-use Rattle.model.specs.Run.{Entry, insert, Need, Run, stepTo}
+use Rattle.model.specs.Run.{insert, Need, Run, stepTo}
 use Rattle.model.specs.Run as M
 use Rattle.model.specs.Calls.{tooSmall, firstFault}
 use Rattle.model.specs.Cut.{Insertion, half-a, half-b, lightened, shortened, appended, insertedParticles, insertedEdges, insertedSides, insertedMesh, insertStep}
@@ -27,7 +27,6 @@ use Rattle.mesh.proofs.Lists.{particles-length, edges-length, log-length, mesh-
 use Rattle.rewire.specs.Stages.{GrownTo}
 use Rattle.rewire.specs.declared.Grown.{Grown}
 use Rattle.rewire.specs.declared.Grown.the-variants.{Lacking, Rows}
-use Rattle.split.specs.Working.{Within, Went, Works}
 use Rattle.split.specs.declared.Ran.{Ran}
 use Rattle.split.specs.declared.Ran.the-variants.{Refused, Done}
 use Rattle.strap.specs.Plans.{planned}

@@ -10,8 +10,7 @@ use lib.Ieee.{Float, nan}
 use Rattle.lists.specs.Lists.{mapAt, tab}
 use Rattle.lists.proofs.Rows.{rows-store, rows-push, mapAt-same, mapAt-ext}
 use Rattle.columns.specs.Block.{cell}
-use Rattle.columns.proofs.Cells.{store-same, store-row, store-col, col-fits}
-use Rattle.model.specs.Mesh.{Particle, Edge}
+use Rattle.columns.proofs.Cells.{store-same, store-row, store-col}
 use Rattle.model.specs.Split.{onlyAt}
 use Rattle.mesh.specs.At.{particleRow, edgeRow, particlesAt, edgesAt}
 use Rattle.mesh.specs.Workers.{edgeOf}

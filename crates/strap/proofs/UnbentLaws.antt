@@ -10,12 +10,10 @@ use borrow.Author.Tests.{eq-eqb, ne-eqb}
 use Rattle.split.proofs.PieceMasks.{Counting, counting-start, counting-few, counting-step}
 use lib.ListN.{length, getD, length-append, length-map, replicate}
 use Rattle.lists.specs.Lists.{pick, stands, sift, siftAt, keep, tab, upTo, padded}
-use Rattle.lists.proofs.Sifts.{map-tab}
-use Rattle.lists.proofs.Stores.{tab-length, tab-at}
-use Rattle.columns.proofs.Rows.{keep-sift}
+use Rattle.lists.proofs.Stores.{tab-length}
 use Rattle.opening.proofs.Walks.{sift-same}
-use Rattle.model.specs.Mesh.{Edge, Side, Mesh, blankEdge}
-use Rattle.model.specs.Run.{Entry, edge, Run, stepTo}
+use Rattle.model.specs.Mesh.{Edge, Mesh}
+use Rattle.model.specs.Run.{Entry, edge, Run}
 use Rattle.model.specs.Cut.{unbent, withEdges}
 use Rattle.mesh.specs.At.{particlesAt, trianglesAt, edgesAt, boundaryAt, edgeRow, sideRow, meshAt}
 use Rattle.mesh.specs.Log.{Words, World, wordsOf, logAt, worldOf, worldAt}
@@ -23,12 +21,12 @@ use Rattle.mesh.specs.Given.{asRooms}
 use Rattle.mesh.specs.declared.Counts.{Counts}
 use Rattle.mesh.specs.declared.Rooms.{Rooms}
 use Rattle.mesh.proofs.Lists.{particles-length, edges-length, log-length, mesh-path, world-path}
-use Rattle.split.specs.Working.{Within, Went, Works}
-use Rattle.split.specs.Straddling.{marked, markedOf, goneWords, GoneRoom, GoneTo}
+use Rattle.split.specs.Working.{Within, Works}
+use Rattle.split.specs.Straddling.{marked, markedOf, goneWords, GoneTo}
 use Rattle.split.specs.declared.Ran.{Ran}
 use Rattle.split.specs.declared.Ran.the-variants.{Refused, Done}
 use Rattle.split.proofs.Runs.{room-enough, log-lacks, needBehind, StepTold, went-step}
-use Rattle.strap.specs.Unbent.{UnbentRoom, MarksOf, UnbentTold}
+use Rattle.strap.specs.Unbent.{MarksOf, UnbentTold}
 
 -- ---- masks by number
 

@@ -1,7 +1,7 @@
 -- The particles and the edges of an insertion, over the blocks. Only contracts between workers need this file. Definitions only.
 use Prim.Native.Nat.{ℕ, _+_, _/_, _<_, _≤_}
 use mathlib.Core.Path.{_≡_}
-use mathlib.Core.List.{List, [], _∷_, _++_}
+use mathlib.Core.List.{List}
 use lib.ListN.{length, set}
 use lib.Ieee.{Float, nan}
 use Rattle.lists.specs.Lists.{mapAt}
@@ -9,10 +9,9 @@ use Rattle.blade.specs.declared.Point.{Point}
 use Rattle.columns.specs.Block.{cell}
 use Rattle.model.specs.Mesh.{Particle, Edge, Mesh}
 use Rattle.model.specs.Split.{onlyAt}
-use Rattle.model.specs.Cut.{Insertion, lightened, between, insertedParticles, insertedEdges}
+use Rattle.model.specs.Cut.{lightened, between, insertedParticles, insertedEdges}
 use Rattle.mesh.specs.At.{particlesAt, edgesAt}
 use Rattle.mesh.specs.Workers.{EdgeRoom, ParticleRoom}
-use Rattle.rewire.specs.RoomsB.{rowAt}
 use Rattle.strap.specs.Plans.{planned}
 use Rattle.strap.specs.declared.plan.Plan.{Plan}
 use Rattle.strap.specs.declared.particles.ParticleRow.{ParticleRow}
