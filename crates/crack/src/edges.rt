@@ -1,6 +1,6 @@
 // One torn edge cracked: the pair that stands for it now, the ways at both ends in their order, and the first that opens without confetti.
 ghost use mathlib.Core.Path.{_≡_};
-ghost use Prim.Native.Nat.{_<_};
+ghost use Prim.Native.Nat.{_<_, _≤_};
 ghost use mathlib.Core.Bool.{true};
 ghost use lib.ListN.{length, take};
 ghost use Rattle.elements.specs.Table.{kindIs};
