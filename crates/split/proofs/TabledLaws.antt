@@ -6,7 +6,7 @@ use mathlib.Core.Bool.{Bool, true, false, _&&_}
 use mathlib.Core.List.{List}
 use borrow.Author.Tests.{le-leb, lt-leb}
 use lib.ListN.{length, getD, take}
-use lib.Seq.{take-all}
+use lib.Seq.{getD-take}
 use lib.Dec.{leb}
 use lib.Ieee.{Float, nan, ne}
 use Rattle.lists.proofs.Stores.{tab-at}
@@ -163,7 +163,8 @@ module _ (K : Kind) (L : Rooms) (k : Counts) (points : List Float) (roots corner
     unfolding meshAt
     fan-here = F .tabled (meshAt k points roots corners volumes ends lengths outline) refl refl
 
-    pub sided-by : {sides : List ℕ} → SidesGiven K (meshAt k points roots corners volumes ends lengths outline) v sides → 2048 ≤ length numbers → 4096 ≤ length verts → 2048 ≤ length measures
+    -- the fan in the tables with the sides given for it
+    sided-by : {sides : List ℕ} → SidesGiven K (meshAt k points roots corners volumes ends lengths outline) v sides → 2048 ≤ length numbers → 4096 ≤ length verts → 2048 ≤ length measures
         → FanSided K (meshAt k points roots corners volumes ends lengths outline) v n numbers verts measures sides
     sided-by {sides} S a b c =
         let T = fan-here in
@@ -180,8 +181,31 @@ module _ (K : Kind) (L : Rooms) (k : Counts) (points : List Float) (roots corner
           two = λ i l. S .two i (omega (arith, S .every));
         }
 
-    pub sides-whole : {sides : List ℕ} → SidesGiven K (meshAt k points roots corners volumes ends lengths outline) v sides → take n sides ≡ sides
-    sides-whole {sides} S = let T = fan-here in let count = T .cornered .count in take-all n sides (omega (arith, S .every))
+    -- there are as many sides as elements, and they fit a table of the fan
+    pub sides-count : {sides : List ℕ} → SidesGiven K (meshAt k points roots corners volumes ends lengths outline) v sides → length sides ≡ n
+    sides-count S = let count = fan-here .cornered .count in omega (arith, S .every)
+
+    pub sides-few : {sides : List ℕ} → SidesGiven K (meshAt k points roots corners volumes ends lengths outline) v sides → length sides ≤ 2048
+    sides-few S = omega (arith, sides-count S, F .few)
+
+    -- a copy of the sides begins with them
+    pub sides-copied : {sides : List ℕ} (own : List ℕ) → SidesGiven K (meshAt k points roots corners volumes ends lengths outline) v sides → take (length sides) own ≡ sides → take n own ≡ sides
+    sides-copied own S e = ap (λ (m : ℕ). take m own) (sym (sides-count S)) ∙ e
+
+    pub sided-copied : {sides own : List ℕ} → SidesGiven K (meshAt k points roots corners volumes ends lengths outline) v sides → take (length sides) own ≡ sides → 2048 ≤ length own → 2048 ≤ length numbers → 4096 ≤ length verts → 2048 ≤ length measures
+        → FanSided K (meshAt k points roots corners volumes ends lengths outline) v n numbers verts measures own
+    sided-copied {sides} {own} S e o a b c =
+        let B = sided-by S a b c in
+        record {
+          here = B .here;
+          tabled = B .tabled;
+          few = B .few;
+          numbers-long = B .numbers-long;
+          verts-long = B .verts-long;
+          measures-long = B .measures-long;
+          sides-long = omega (arith, F .few);
+          two = λ i l. subst (λ (x : ℕ). x < 2) (ap (λ (s : List ℕ). getD s i 0) (sym (sides-copied own S e)) ∙ getD-take n own i 0 l) (B .two i l);
+        }
 
 -- the same sides, written otherwise
 pub sides-works : (K : Kind) (v : ℕ) {s t : List ℕ} {L : Rooms} {W : World} {at : Counts → World} {r : Ran} → s ≡ t → Works (splitBySides K v s) L W at r → Works (splitBySides K v t) L W at r
