@@ -220,16 +220,23 @@ module _ (K : Kind) {L : Rooms} {W : World} (t : Bool) (found : (S : Run) → W 
   end-done r k known e F G = end-split e (works-then (works-known r (Done k) known F) G)
 
 -- no particle is pinched where the elements are no triangles
-pub straps-unpinched : (K : Kind) → K ≡ Straps → {L : Rooms} {at : Counts → World} (k : Counts) → Within k L → Works (splitPinched K) L (at k) at (Done k)
+pub unpinched : (K : Kind) → (K ≡ Triangles → ⊥) → {L : Rooms} {at : Counts → World} (k : Counts) → Within k L → Works (splitPinched K) L (at k) at (Done k)
 unfolding splitPinched
-straps-unpinched K e {L} {at} k b = subst (λ (x : Kind). Works (splitPinched x) L (at k) at (Done k)) (sym e) (works-stay k b)
+unpinched Triangles n k b = absurd (n refl)
+unpinched Straps n k b = works-stay k b
+unpinched Nothing n k b = works-stay k b
 
-pub nothing-unpinched : (K : Kind) → K ≡ Nothing → {L : Rooms} {at : Counts → World} (k : Counts) → Within k L → Works (splitPinched K) L (at k) at (Done k)
-unfolding splitPinched
-nothing-unpinched K e {L} {at} k b = subst (λ (x : Kind). Works (splitPinched x) L (at k) at (Done k)) (sym e) (works-stay k b)
+-- straps are no triangles, and neither is nothing
+abbrev facets? : Kind → Bool
+facets? Triangles = true
+facets? Straps = false
+facets? Nothing = false
 
-pub pinched-as : (K : Kind) → K ≡ Triangles → {L : Rooms} {W : World} {at : Counts → World} {r : Ran} → Works (splitPinched Triangles) L W at r → Works (splitPinched K) L W at r
-pinched-as K e {L} {W} {at} {r} F = subst (λ (x : Kind). Works (splitPinched x) L W at r) (sym e) F
+pub straps-plain : Straps ≡ Triangles → ⊥
+straps-plain e = false≢true (ap facets? e)
+
+pub nothing-plain : Nothing ≡ Triangles → ⊥
+nothing-plain e = false≢true (ap facets? e)
 
 -- the end goes on from what is before it
 end-onward : (K : Kind) (S : Run) → Onward S (crackEnd K S)
@@ -326,3 +333,7 @@ module _ (K : Kind) (min : ℕ) (is : List ℕ) where
 
     pub body-done : {at′ : Counts → World} (k : Counts) {s : Ran} → r ≡ Done k → Works (crackEnd K) L (at k) at′ s → Works (crack K min is) L W at′ s
     body-done k known G = works-as (λ R e. crack-is R) (works-then (works-known r (Done k) known F) G)
+
+-- the whole by another name of its kind
+pub crack-as : (K : Kind) {K′ : Kind} → K ≡ K′ → (min : ℕ) (is : List ℕ) {L : Rooms} {W : World} {at : Counts → World} {r : Ran} → Works (crack K′ min is) L W at r → Works (crack K min is) L W at r
+crack-as K e min is {L} {W} {at} {r} F = subst (λ (x : Kind). Works (crack x min is) L W at r) (sym e) F

@@ -43,7 +43,7 @@ use Rattle.split.proofs.TabledLaws.{inverse-at, opening-found, fan-grouped, spl
 use Rattle.split.proofs.Placed.{particles-count}
 use Rattle.crack.specs.Ways.{twoBy}
 use Rattle.crack.specs.Tried.{WayReady, WayRead, WayLoad, OpensRoom}
-use Rattle.crack.specs.Cracks.{PairReady, PairBelow, PairNow, openWay, WayAsked, OpenedTo, TriedTo, EndsTold, PairTold, CrackTold}
+use Rattle.crack.specs.Cracks.{PairReady, PairBelow, PairNow, openWay, WayAsked, OpenedTo, TriedTo, EndsTold, Turned, PairTold, CrackTold}
 use Rattle.crack.specs.Families.{pairIs}
 use Rattle.crack.specs.declared.families.Pair.{Pair}
 use Rattle.crack.specs.declared.families.Pair.the-variants.{None, Ends}
@@ -234,18 +234,37 @@ order-first P p q false true = pick-same (before? q p) (find P (q ∷ [])) (firs
 order-first P p q false false = pick-same {A = Option Way} (before? q p) none none none refl refl
 
 -- the ways of an edge, by their loads
-order-taken : (K : Kind) (ls : List Float) (min : ℕ) (M : Mesh) (x y : ℕ) (p q : Float) (t : Bool) → p ≡ meanLoad K ls M x y → q ≡ meanLoad K ls M y x → t ≡ ahead (totalCmp q p) (ltb y x)
+order-taken : (K : Kind) (ls : List Float) (min : ℕ) (M : Mesh) (x y : ℕ) (t : Bool) → t ≡ ahead (totalCmp (meanLoad K ls M y x) (meanLoad K ls M x y)) (ltb y x)
     → find (λ (z : Way). opensWithoutConfetti K M min (z .opening)) (waysOf K ls M (x, y))
     ≡ pick t (firstOf (openWay K ls min M y x) (openWay K ls min M x y)) (firstOf (openWay K ls min M x y) (openWay K ls min M y x))
 unfolding waysOf wayAt openWay openingOf
-order-taken K ls min M x y p q t ep eq et =
+order-taken K ls min M x y t e =
     let F : Way → Bool = λ (z : Way). opensWithoutConfetti K M min (z .opening) in
     order-first F (wayOf K ls M x y) (wayOf K ls M y x) (twoSided M x (map (farSide M x y) (fanOf K M x))) (twoSided M y (map (farSide M y x) (fanOf K M y)))
-    ∙ ap (λ (b : Bool). pick b (firstOf (find F (wayAt K ls M y x)) (find F (wayAt K ls M x y))) (firstOf (find F (wayAt K ls M x y)) (find F (wayAt K ls M y x))))
-    (sym (et ∙ ap₂ (λ (a b : Float). ahead (totalCmp a b) (ltb y x)) eq ep))
+    ∙ ap (λ (b : Bool). pick b (firstOf (find F (wayAt K ls M y x)) (find F (wayAt K ls M x y))) (firstOf (find F (wayAt K ls M x y)) (find F (wayAt K ls M y x)))) (sym e)
 
-module _ (K : Kind) (min x y : ℕ) (ab : ℕ × ℕ) (loads : List Float) (k : Counts) (L : Rooms) (W : World) (p q : Float) (X : WayLoad K x y k loads (W .mesh) p) (Y : WayLoad K y x k loads (W .mesh) q) (t : Bool) (o : t ≡ ahead (totalCmp q p) (ltb y x))
-    (at : Counts → World) (r : Ran) where
+-- which goes first, by the loads of both
+pub turned-is : (K : Kind) (x y : ℕ) (k : Counts) (loads : List Float) (M : Mesh) (p q : Float) → WayLoad K x y k loads M p → WayLoad K y x k loads M q → (t : Bool) → t ≡ ahead (totalCmp q p) (ltb y x)
+    → Turned K x y (k .triangles) loads M t
+turned-is K x y k loads M p q X Y t o = record { is = λ ls h. o ∙ ap₂ (λ (a b : Float). ahead (totalCmp a b) (ltb y x)) (Y .is ls h) (X .is ls h) }
+
+-- the way from the other end is ready as well
+pub ready-back : (v w : ℕ) (k : Counts) (lp lc lv le ll : ℕ) (M : Mesh) → WayReady v w k lp lc lv le ll M → WayReady w v k lp lc lv le ll M
+ready-back v w k lp lc lv le ll M A =
+    record {
+      v-in = A .w-in;
+      w-in = A .v-in;
+      few-triangles = A .few-triangles;
+      few-edges = A .few-edges;
+      points = A .points;
+      corners = A .corners;
+      volumes = A .volumes;
+      ends = A .ends;
+      lengths = A .lengths;
+      indices = A .indices;
+    }
+
+module _ (K : Kind) (min x y : ℕ) (ab : ℕ × ℕ) (loads : List Float) (k : Counts) (L : Rooms) (W : World) (t : Bool) (N : Turned K x y (k .triangles) loads (W .mesh) t) (at : Counts → World) (r : Ran) where
   -- what is cracked by
   taken-is : (b : Bool) → t ≡ b → (ls : List Float) → (K ≡ Triangles → take (k .triangles) loads ≡ ls) → (R : Run) → W ≡ worldOf (R .mesh) (R .log)
       → crackBy K (pick b (firstOf (openWay K ls min (R .mesh) y x) (openWay K ls min (R .mesh) x y)) (firstOf (openWay K ls min (R .mesh) x y) (openWay K ls min (R .mesh) y x))) ab (x, y) R ≡ crackPair K ls min ab (some (x, y)) R
@@ -253,16 +272,15 @@ module _ (K : Kind) (min x y : ℕ) (ab : ℕ × ℕ) (loads : List Float) (k : 
   taken-is b e ls h R u =
       let m : W .mesh ≡ R .mesh = ap (λ (Z : World). Z .mesh) u in
       ap (λ (z : Option Way). crackBy K z ab (x, y) R)
-      (sym
-      (order-taken K ls min (R .mesh) x y p q b (X .is ls h ∙ ap (λ (M : Mesh). meanLoad K ls M x y) m) (Y .is ls h ∙ ap (λ (M : Mesh). meanLoad K ls M y x) m) (sym e ∙ o)))
+      (sym (order-taken K ls min (R .mesh) x y b (sym e ∙ N .is ls h ∙ ap (λ (M : Mesh). ahead (totalCmp (meanLoad K ls M y x) (meanLoad K ls M x y)) (ltb y x)) m)))
 
-  -- y goes first
-  pub pair-second : t ≡ true → EndsTold K min y x ab (x, y) L W at r → PairTold K min (k .triangles) ab (x, y) loads L W at r
-  pair-second e E = record { works = λ ls h. works-as (λ R u. taken-is true e ls h R u) (E .works ls) }
+  -- y goes first, or x does
+  in-turn : (b : Bool) → t ≡ b → EndsTold K min (pick b y x) (pick b x y) ab (x, y) L W at r → PairTold K min (k .triangles) ab (x, y) loads L W at r
+  in-turn true e E = record { works = λ ls h. works-as (λ R u. taken-is true e ls h R u) (E .works ls) }
+  in-turn false e E = record { works = λ ls h. works-as (λ R u. taken-is false e ls h R u) (E .works ls) }
 
-  -- x does
-  pub pair-first : t ≡ false → EndsTold K min x y ab (x, y) L W at r → PairTold K min (k .triangles) ab (x, y) loads L W at r
-  pair-first e E = record { works = λ ls h. works-as (λ R u. taken-is false e ls h R u) (E .works ls) }
+  pub pair-turned : (v w : ℕ) → v ≡ pick t y x → w ≡ pick t x y → EndsTold K min v w ab (x, y) L W at r → PairTold K min (k .triangles) ab (x, y) loads L W at r
+  pair-turned v w f g E = in-turn t refl (subst (λ (z : ℕ). EndsTold K min (pick t y x) z ab (x, y) L W at r) g (subst (λ (z : ℕ). EndsTold K min z w ab (x, y) L W at r) f E))
 
 -- ---- one edge
 
@@ -298,6 +316,23 @@ asked-second x y p h g = record { here = g; ends = record { x-in = h; y-in = g; 
     by : Dec (y ≡ x) → x ≡ pick (eqb y x) y x
     by (yes e) = sym e ∙ sym (ap (λ (b : Bool). pick b y x) (eq-eqb y x e))
     by (no n) = sym (ap (λ (b : Bool). pick b y x) (ne-eqb y x n))
+
+-- what was chosen, by either arm
+pub chosen-first : (t : Bool) (v a b : ℕ) → t ≡ true → v ≡ a → v ≡ pick t a b
+chosen-first t v a b e h = h ∙ ap (λ (s : Bool). pick s a b) (sym e)
+
+pub chosen-second : (t : Bool) (v a b : ℕ) → t ≡ false → v ≡ b → v ≡ pick t a b
+chosen-second t v a b e h = h ∙ ap (λ (s : Bool). pick s a b) (sym e)
+
+-- both in the order of a test
+asked-both : (t : Bool) (x y p : ℕ) → x < p → y < p → WayAsked (pick t y x) (pick t x y) x y p × WayAsked (pick t x y) (pick t y x) x y p
+asked-both true x y p h g = (asked-second x y p h g, asked-first x y p h g)
+asked-both false x y p h g = (asked-first x y p h g, asked-second x y p h g)
+
+pub asked-turned : (t : Bool) (x y p v w : ℕ) → v ≡ pick t y x → w ≡ pick t x y → x < p → y < p → WayAsked v w x y p × WayAsked w v x y p
+asked-turned t x y p v w e f h g =
+    subst (λ (z : ℕ). WayAsked v z x y p × WayAsked z v x y p) (sym f)
+    (subst (λ (z : ℕ). WayAsked z (pick t x y) x y p × WayAsked (pick t x y) z x y p) (sym e) (asked-both t x y p h g))
 
 module _ (L : Rooms) (k : Counts) (points : List Float) (roots corners : List ℕ) (volumes : List Float) (ends : List ℕ) (lengths : List Float) (outline log : List ℕ)
     (P : Ready L k (lent points roots corners volumes ends lengths outline log) (meshAt k points roots corners volumes ends lengths outline)) where

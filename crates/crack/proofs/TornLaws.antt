@@ -27,9 +27,10 @@ use Rattle.mesh.specs.Filled.{lent}
 use Rattle.split.specs.Working.{Within, Ready, Went, Works}
 use Rattle.split.specs.Tables.{FanGrouped, openedBy}
 use Rattle.split.proofs.Placed.{particles-count}
-use Rattle.crack.specs.Torn.{TearRoom, TearDone, TearAsked}
+use Rattle.crack.specs.Torn.{TearRoom, TearDone, TearTold, TearAsked}
 use Rattle.split.specs.Steps.{loggedOf, settledWorld, needOf, splitWorld, Stepped}
 use Rattle.split.proofs.Runs.{needBehind, went-step}
+use Rattle.cut.proofs.CutLaws.{works-known}
 use Rattle.split.specs.declared.Ran.{Ran}
 use Rattle.split.specs.declared.Ran.the-variants.{Refused, Done}
 use Rattle.crack.specs.Tears.{bridgesBy, slackBy, Slackened, madeBy, Damaged}
@@ -147,10 +148,6 @@ module _ (K : Kind) (L : Rooms) (k : Counts) (points : List Float) (roots corner
     stepped : Stepped K theOpening L 1 entering behind (Done q)
     stepped = subst (Stepped K theOpening L 1 entering behind) e R
 
-    -- an entry more has room
-    pub tear-log : q .log + 1 ≤ L .log
-    tear-log = stepped .2
-
     -- the copies stand behind the particles
     copies-count : q .particles ≡ k .particles + (count - 1)
     unfolding worldAt
@@ -178,7 +175,7 @@ module _ (K : Kind) (L : Rooms) (k : Counts) (points : List Float) (roots corner
         }
 
     -- the torn edge is noted, its bridges slack, its particles damaged
-    pub tear-works : (roots″ : List ℕ) (lengths″ : List Float) (log″ : List ℕ) → TearDone v (k .particles) count w x y a b (q .edges) (q .log) roots′ roots″ ends′ lengths′ lengths″ log′ log″ → length roots′ ≡ length roots
+    tear-works : (roots″ : List ℕ) (lengths″ : List Float) (log″ : List ℕ) → TearDone v (k .particles) count w x y a b (q .edges) (q .log) roots′ roots″ ends′ lengths′ lengths″ log′ log″ → length roots′ ≡ length roots
         → Works (splitMade (opened a b ∷ []) (torn theOpening (x, y)) K theOpening) L entering (λ p. worldAt p points′ roots″ corners′ volumes ends′ lengths″ outline′ log″)
         (Done (record { particles = q .particles; triangles = q .triangles; edges = q .edges; boundary = q .boundary; log = q .log + 1 }))
     unfolding worldAt meshAt
@@ -193,5 +190,9 @@ module _ (K : Kind) (L : Rooms) (k : Counts) (points : List Float) (roots corner
         (D .slackened) (D .damaged) (let h = H .particles in let g = C .roots in omega arith))
         (D .noted)
 
-  pub tear-refused : (r : Ran) (c : ℕ) → Stepped K theOpening L 1 entering behind r → r ≡ Refused c → Works (splitMade (opened a b ∷ []) (torn theOpening (x, y)) K theOpening) L entering behind (Refused c)
-  tear-refused r c R e = torn-refused K theOpening a b (x, y) L entering behind behind c (subst (Stepped K theOpening L 1 entering behind) e R)
+    pub tear-told : (roots″ : List ℕ) (lengths″ : List Float) (log″ : List ℕ) (s : Ran) → TearTold v (k .particles) count w x y a b q roots′ roots″ ends′ lengths′ lengths″ log′ log″ s → length roots′ ≡ length roots
+        → Works (splitMade (opened a b ∷ []) (torn theOpening (x, y)) K theOpening) L entering (λ p. worldAt p points′ roots″ corners′ volumes ends′ lengths″ outline′ log″) s
+    tear-told roots″ lengths″ log″ s D er = works-known _ s (sym (D .counts)) (tear-works roots″ lengths″ log″ (D .done) er)
+
+  pub tear-refused : (r : Ran) (c : ℕ) → Stepped K theOpening L 1 entering behind r → r ≡ Refused c → Works (splitMade (opened a b ∷ []) (torn theOpening (x, y)) K theOpening) L entering behind r
+  tear-refused r c R e = works-known (Refused c) r (sym e) (torn-refused K theOpening a b (x, y) L entering behind behind c (subst (Stepped K theOpening L 1 entering behind) e R))

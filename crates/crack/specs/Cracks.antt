@@ -1,19 +1,21 @@
 -- One torn edge cracked, over the blocks. Only contracts between workers need this file. Definitions only.
 use Prim.Native.Nat.{ℕ, _/_, _<_, _≤_}
 use mathlib.Core.Path.{_≡_}
-use mathlib.Core.Bool.{true, false}
+use mathlib.Core.Bool.{Bool, true, false}
 use mathlib.Core.List.{List, [], _∷_}
 use mathlib.Core.Option.{Option, none, some}
 use lib.ListN.{take}
+use lib.Dec.{ltb}
 use lib.Ieee.{Float}
 use Rattle.lists.specs.Lists.{find}
+use Rattle.float.specs.Order.{totalCmp}
 use Rattle.model.specs.Mesh.{Mesh}
 use Rattle.model.specs.Valid.{indicesFit}
 use Rattle.model.specs.Elements.{Kind, Triangles}
 use Rattle.model.specs.Run.{opened, Run}
 use Rattle.model.specs.Split.{Opening, splitStep}
 use Rattle.model.specs.Pieces.{opensWithoutConfetti}
-use Rattle.model.specs.Crack.{currentPair, Way, wayAt, firstOf, torn, crackBy, crackPair, crackEdge}
+use Rattle.model.specs.Crack.{currentPair, Way, wayAt, meanLoad, ahead, firstOf, torn, crackBy, crackPair, crackEdge}
 use Rattle.mesh.specs.Log.{World, worldOf}
 use Rattle.mesh.specs.declared.Counts.{Counts}
 use Rattle.mesh.specs.declared.Rooms.{Rooms}
@@ -72,6 +74,10 @@ TriedTo K min v w ab xy L k W at (Tore r) = (ls : List Float) → (p : Way) × (
 -- the way at v was tried, and then the way at w
 pub record EndsTold (K : Kind) (min v w : ℕ) (ab xy : ℕ × ℕ) (L : Rooms) (W : World) (at : Counts → World) (r : Ran) : Type 0 where
   pub works : (ls : List Float) → Works (λ R. crackBy K (firstOf (openWay K ls min (R .mesh) v w) (openWay K ls min (R .mesh) w v)) ab xy R) L W at r
+
+-- r tells whether the way at y goes before the way at x, by the loads at the front of the table where the elements are t triangles
+pub record Turned (K : Kind) (x y t : ℕ) (loads : List Float) (M : Mesh) (r : Bool) : Type 0 where
+  pub is : (ls : List Float) → (K ≡ Triangles → take t loads ≡ ls) → r ≡ ahead (totalCmp (meanLoad K ls M y x) (meanLoad K ls M x y)) (ltb y x)
 
 -- the pair (x, y) for the torn edge (a, b) is cracked in whatever run the blocks hold, by the loads at the front of the table where the elements are t triangles
 pub record PairTold (K : Kind) (min t : ℕ) (ab xy : ℕ × ℕ) (loads : List Float) (L : Rooms) (W : World) (at : Counts → World) (r : Ran) : Type 0 where

@@ -1,6 +1,6 @@
 // One torn edge cracked: the pair that stands for it now, the ways at both ends in their order, and the first that opens without confetti.
 ghost use mathlib.Core.Path.{_≡_};
-ghost use Prim.Native.Nat.{_<_};
+ghost use Prim.Native.Nat.{_<_, _≤_};
 ghost use mathlib.Core.Bool.{true};
 ghost use lib.ListN.{length, take};
 ghost use Rattle.elements.specs.Table.{kindIs};
@@ -12,9 +12,9 @@ ghost use Rattle.model.specs.Crack.{twoSided};
 ghost use Rattle.split.specs.Working.{Ready};
 ghost use Rattle.split.specs.Tables.{FanSided};
 ghost use Rattle.cut.specs.Running.{Logged};
-ghost use Rattle.crack.specs.Tried.{LoadsLong};
+ghost use Rattle.crack.specs.Tried.{WayReady, LoadsLong};
 ghost use Rattle.crack.specs.Torn.{TearAsked};
-ghost use Rattle.crack.specs.Cracks.{PairReady, PairNow, WayAsked, OpenedTo, TriedTo, EndsTold, PairTold, CrackTold};
+ghost use Rattle.crack.specs.Cracks.{PairReady, PairNow, WayAsked, OpenedTo, TriedTo, EndsTold, Turned, PairTold, CrackTold};
 use crate::families::Pair;
 use elements::Kind;
 use mesh::Counts;
@@ -295,30 +295,23 @@ fn crack_ends(
     }
 }
 
-// Cracks the pair (x, y), which stands for the torn edge (a, b): the end with the higher mean load is tried first, then the one with the lower number.
-fn crack_pair(
+// Whether the way at y goes before the way at x: the higher mean load does, then the lower number.
+fn turned(
     kind: Kind,
-    minimum: usize,
     x: usize,
     y: usize,
-    a: usize,
-    b: usize,
-    loads: &[f32],
     k: Counts,
-    room: Rooms,
-    points: &mut [f32],
-    roots: &mut [usize],
-    corners: &mut [usize],
+    loads: &[f32],
+    points: &[f32],
+    roots: &[usize],
+    corners: &[usize],
     volumes: &[f32],
-    ends: &mut [usize],
-    lengths: &mut [f32],
-    outline: &mut [usize],
-    log: &mut [usize],
-) -> Ran
-    requires { ⌜ Ready room k (lent (now points) (now roots) (now corners) (now volumes) (now ends) (now lengths) (now outline) (now log)) (meshAt k (now points) (now roots) (now corners) (now volumes) (now ends) (now lengths) (now outline)) × LoadsLong (kindIs kind) k (length (now loads)) × (x < k .particles) × (y < k .particles) ⌝ }
-    ensures { λ r. ⌜ PairTold (kindIs kind) minimum (k .triangles) (a, b) (x, y) (now (loads .entry)) room
-        (worldAt k (now (points .entry)) (now (roots .entry)) (now (corners .entry)) (now (volumes .entry)) (now (ends .entry)) (now (lengths .entry)) (now (outline .entry)) (now (log .entry)))
-        (λ q. worldAt q (now (points .exit)) (now (roots .exit)) (now (corners .exit)) (now (volumes .entry)) (now (ends .exit)) (now (lengths .exit)) (now (outline .exit)) (now (log .exit))) r ⌝ }
+    ends: &[usize],
+    lengths: &[f32],
+    outline: &[usize],
+) -> bool
+    requires { ⌜ WayReady x y k (length (now points)) (length (now corners)) (length (now volumes)) (length (now ends)) (length (now lengths)) (meshAt k (now points) (now roots) (now corners) (now volumes) (now ends) (now lengths) (now outline)) × LoadsLong (kindIs kind) k (length (now loads)) ⌝ }
+    ensures { λ r. ⌜ Turned (kindIs kind) x y (k .triangles) (now (loads .entry)) (meshAt k (now (points .entry)) (now (roots .entry)) (now (corners .entry)) (now (volumes .entry)) (now (ends .entry)) (now (lengths .entry)) (now (outline .entry))) r ⌝ }
 {
     let p = crate::tried::way_load(
         kind,
@@ -348,33 +341,55 @@ fn crack_pair(
         lengths,
         outline,
     );
-    if crate::ways::goes_first(q, y, p, x) {
-        return crack_ends(
-            kind,
-            minimum,
-            y,
-            x,
-            x,
-            y,
-            a,
-            b,
-            k,
-            room,
-            points,
-            roots,
-            corners,
-            volumes,
-            ends,
-            lengths,
-            outline,
-            log,
-        );
-    }
+    crate::ways::goes_first(q, y, p, x)
+}
+
+// Cracks the pair (x, y), which stands for the torn edge (a, b): the end with the higher mean load is tried first, then the one with the lower number.
+fn crack_pair(
+    kind: Kind,
+    minimum: usize,
+    x: usize,
+    y: usize,
+    a: usize,
+    b: usize,
+    loads: &[f32],
+    k: Counts,
+    room: Rooms,
+    points: &mut [f32],
+    roots: &mut [usize],
+    corners: &mut [usize],
+    volumes: &[f32],
+    ends: &mut [usize],
+    lengths: &mut [f32],
+    outline: &mut [usize],
+    log: &mut [usize],
+) -> Ran
+    requires { ⌜ Ready room k (lent (now points) (now roots) (now corners) (now volumes) (now ends) (now lengths) (now outline) (now log)) (meshAt k (now points) (now roots) (now corners) (now volumes) (now ends) (now lengths) (now outline)) × LoadsLong (kindIs kind) k (length (now loads)) × (x < k .particles) × (y < k .particles) ⌝ }
+    ensures { λ r. ⌜ PairTold (kindIs kind) minimum (k .triangles) (a, b) (x, y) (now (loads .entry)) room
+        (worldAt k (now (points .entry)) (now (roots .entry)) (now (corners .entry)) (now (volumes .entry)) (now (ends .entry)) (now (lengths .entry)) (now (outline .entry)) (now (log .entry)))
+        (λ q. worldAt q (now (points .exit)) (now (roots .exit)) (now (corners .exit)) (now (volumes .entry)) (now (ends .exit)) (now (lengths .exit)) (now (outline .exit)) (now (log .exit))) r ⌝ }
+{
+    let other = turned(
+        kind,
+        x,
+        y,
+        k,
+        loads,
+        points,
+        roots,
+        corners,
+        volumes,
+        ends,
+        lengths,
+        outline,
+    );
+    let v = if other { y } else { x };
+    let w = if other { x } else { y };
     crack_ends(
         kind,
         minimum,
-        x,
-        y,
+        v,
+        w,
         x,
         y,
         a,

@@ -11,13 +11,13 @@ ghost use Rattle.mesh.specs.Log.{worldAt};
 ghost use Rattle.mesh.specs.Filled.{lent};
 ghost use Rattle.split.specs.Working.{Ready, Works};
 ghost use Rattle.split.specs.Tables.{FanGrouped, openedBy};
-ghost use Rattle.crack.specs.Torn.{TearRoom, TearDone, TearAsked};
+ghost use Rattle.crack.specs.Torn.{TearRoom, TearTold, TearAsked};
 use elements::Kind;
 use mesh::Counts;
 use mesh::Rooms;
 use split::Ran;
 
-// Notes the torn edge (a, b) behind the log, slackens its bridges and damages x, y and the copies.
+// Notes the torn edge (a, b) behind the log of a split that left the counts q, slackens its bridges and damages x, y and the copies.
 fn finish_tear(
     v: usize,
     before: usize,
@@ -27,19 +27,27 @@ fn finish_tear(
     y: usize,
     a: usize,
     b: usize,
-    e: usize,
-    l: usize,
+    q: Counts,
     roots: &mut [usize],
     ends: &[usize],
     lengths: &mut [f32],
     log: &mut [usize],
-)
-    requires { ⌜ TearRoom e l x y before count (length (now roots)) (length (now ends)) (length (now lengths)) (length (now log)) ⌝ }
-    ensures { λ _. ⌜ TearDone v before count w x y a b e l (now (roots .entry)) (now (roots .exit)) (now (ends .entry)) (now (lengths .entry)) (now (lengths .exit)) (now (log .entry)) (now (log .exit)) ⌝ }
+) -> Ran
+    requires { ⌜ TearRoom (q .edges) (q .log) x y before count (length (now roots)) (length (now ends)) (length (now lengths)) (length (now log)) ⌝ }
+    ensures { λ r. ⌜ TearTold v before count w x y a b q (now (roots .entry)) (now (roots .exit)) (now (ends .entry)) (now (lengths .entry)) (now (lengths .exit)) (now (log .entry)) (now (log .exit)) r ⌝ }
 {
+    let e = q.edges;
+    let l = q.log;
     mesh::rows::note(l, 4, a, b, 0, 0, 0, log);
     crate::tears::slacken_bridges(v, before, count, w, e, ends, lengths);
     crate::tears::damage(x, y, before, count, roots);
+    Ran::Done(Counts {
+        particles: q.particles,
+        triangles: q.triangles,
+        edges: e,
+        boundary: q.boundary,
+        log: l + 1,
+    })
 }
 
 // Splits v, an end of (x, y), by the groups of its fan, across the torn edge that was (a, b) in the input; w is the other end.
@@ -74,7 +82,7 @@ pub fn tear_open(
         (worldAt k (now (points .entry)) (now (roots .entry)) (now (corners .entry)) (now (volumes .entry)) (now (ends .entry)) (now (lengths .entry)) (now (outline .entry)) (now (log .entry)))
         (λ q. worldAt q (now (points .exit)) (now (roots .exit)) (now (corners .exit)) (now (volumes .entry)) (now (ends .exit)) (now (lengths .exit)) (now (outline .exit)) (now (log .exit))) r ⌝ }
 {
-    let before = k.particles;
+    let was = k.particles;
     let ran = split::step::split_opened(
         kind,
         v,
@@ -97,34 +105,8 @@ pub fn tear_open(
         log,
         mask,
     );
-    match ran {
-        Ran::Refused(c) => Ran::Refused(c),
-        Ran::Done(q) => {
-            let e = q.edges;
-            let l = q.log;
-            finish_tear(
-                v,
-                before,
-                count,
-                w,
-                x,
-                y,
-                a,
-                b,
-                e,
-                l,
-                roots,
-                ends,
-                lengths,
-                log,
-            );
-            Ran::Done(Counts {
-                particles: q.particles,
-                triangles: q.triangles,
-                edges: e,
-                boundary: q.boundary,
-                log: l + 1,
-            })
-        }
-    }
+    let Ran::Done(q) = ran else {
+        return ran;
+    };
+    finish_tear(v, was, count, w, x, y, a, b, q, roots, ends, lengths, log)
 }
