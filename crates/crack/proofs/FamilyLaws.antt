@@ -1,26 +1,24 @@
 -- Laws of families and of the pair that stands for a torn edge. Assumes nothing.
 use Prim.Native.Nat.{ℕ, zero, suc, _+_, _*_, _/_, _<_, _≤_, zero-le, suc-le-suc}
 use native.Mathlib.Nat.{le-of-suc-le-suc, not-suc-le-zero}
-use native.Mathlib.Numerals.{add-one}
 use native.Mathlib.Omega.{arith}
 use native.Mathlib.Decide.{ℕ-discrete}
 use mathlib.Core.Path.{_≡_, refl, sym, _∙_, ap, ap₂}
 use mathlib.Core.Bool.{Bool, true, false, _&&_, _||_}
-use mathlib.Core.List.{List, [], _∷_, _++_, map, append-nil}
+use mathlib.Core.List.{List, [], _∷_, _++_, map}
 use mathlib.Core.Option.{Option, none, some}
 use lib.ListN.{length, getD, take, drop, set, length-set, drop-of-length-le}
 use lib.Ieee.{Float}
 use lib.Dec.{eqb}
 use borrow.Author.Tests.{eq-eqb, ne-eqb}
 use Rattle.lists.specs.Lists.{pick, stands, any, each, fold, find, tab}
-use Rattle.lists.proofs.Sifts.{fold-append, each-append}
+use Rattle.lists.proofs.Sifts.{fold-append}
 use Rattle.lists.proofs.Steps.{each-step, each-drop}
-use Rattle.columns.specs.Block.{cell}
 use Rattle.columns.proofs.Cells.{col-0, col-1}
 use Rattle.columns.proofs.Rows.{any-none, any-more, any-stops, any-end}
 use Rattle.columns.proofs.Sweep.{front-grows}
 use Rattle.model.specs.Mesh.{Edge, Mesh}
-use Rattle.model.specs.Elements.{Kind, elementsOf, held}
+use Rattle.model.specs.Elements.{Kind}
 use Rattle.model.specs.Run.{Entry, split, edge, insert, opened, Run, splitOf, splitsOf}
 use Rattle.model.specs.Crack.{family, joins, crossPairs, firstOf, currentOf, currentPair}
 use Rattle.mesh.specs.At.{edgeRow, edgesAt}

@@ -1,5 +1,5 @@
 -- Laws of tears: bridges made slack row by row, and particles marked as damaged one by one. Assumes nothing.
-use Prim.Native.Nat.{ℕ, zero, suc, _+_, _*_, _-_, _/_, _<_, _≤_}
+use Prim.Native.Nat.{ℕ, _+_, _*_, _-_, _/_, _<_, _≤_}
 use native.Mathlib.Nat.{not-suc-le-zero}
 use native.Mathlib.Numerals.{add-one}
 use native.Mathlib.Omega.{arith}
@@ -22,7 +22,7 @@ use Rattle.model.specs.Cut.{slack}
 use Rattle.model.specs.Crack.{hurt}
 use Rattle.mesh.specs.At.{edgeRow, edgesAt, particleRow, particlesAt}
 use Rattle.rewire.specs.RoomsB.{copiesBy}
-use Rattle.crack.specs.Tears.{bridgesBy, slackBy, Slackened, DamageRoom, madeBy, Damaged}
+use Rattle.crack.specs.Tears.{bridgesBy, slackBy, Slackened, madeBy, Damaged}
 
 -- ---- bridges
 

@@ -1,5 +1,5 @@
 -- Laws of one end of a torn edge split: the mesh behind it, its need, and the step of the run. Assumes nothing.
-use Prim.Native.Nat.{ℕ, _+_, _-_, _/_, _<_, _≤_}
+use Prim.Native.Nat.{ℕ, _+_, _-_, _/_, _≤_}
 use native.Mathlib.Omega.{arith}
 use mathlib.Core.Path.{_≡_, refl, sym, _∙_, ap, ap₂, subst}
 use mathlib.Core.Bool.{Bool, _&&_}
@@ -11,20 +11,20 @@ use Rattle.lists.specs.Lists.{pick, stands, any, mapAt}
 use Rattle.lists.proofs.Rows.{length-mapAt}
 use Rattle.model.specs.Mesh.{Particle, Edge, Mesh}
 use Rattle.model.specs.Elements.{Kind, endsOf}
-use Rattle.model.specs.Run.{Entry, opened, Need, Run}
-use Rattle.model.specs.Split.{Opening, made, copies, copied, atLongest, settled, straddles, splitEntries, goneEntries, splitMade}
+use Rattle.model.specs.Run.{Entry, opened, Run}
+use Rattle.model.specs.Split.{Opening, made, copies, atLongest, settled, straddles, splitEntries, goneEntries, splitMade}
 use Rattle.model.specs.Cut.{slack, slackened}
 use Rattle.model.specs.Crack.{hurt, damagedAt, bridges, torn}
 use Rattle.model.specs.Calls.{tooSmall}
 use Rattle.model.proofs.Traced.{copied-length}
 use Rattle.mesh.specs.At.{particlesAt, edgesAt, meshAt}
-use Rattle.mesh.specs.Log.{World, Words, wordsOf, worldOf, logAt, worldAt}
+use Rattle.mesh.specs.Log.{World, Words, wordsOf, worldOf, worldAt}
 use Rattle.mesh.specs.Given.{asRooms}
 use Rattle.mesh.specs.declared.Counts.{Counts}
 use Rattle.mesh.specs.declared.Rooms.{Rooms}
-use Rattle.mesh.proofs.Lists.{mesh-path, world-path, particles-length}
+use Rattle.mesh.proofs.Lists.{mesh-path, world-path}
 use Rattle.mesh.specs.Filled.{lent}
-use Rattle.split.specs.Working.{Within, Ready, Went, Works}
+use Rattle.split.specs.Working.{Within, Ready, Works}
 use Rattle.split.specs.Tables.{FanGrouped, openedBy}
 use Rattle.split.proofs.Placed.{particles-count}
 use Rattle.crack.specs.Torn.{TearRoom, TearDone, TearTold, TearAsked}

@@ -1,14 +1,14 @@
 -- Laws of one way to open an edge: its tables over the blocks, and its mean load. Assumes nothing.
-use Prim.Native.Nat.{ℕ, _*_, _/_, _<_, _≤_}
+use Prim.Native.Nat.{ℕ, _*_, _<_, _≤_}
 use native.Mathlib.Omega.{arith}
 use mathlib.Core.Path.{_≡_, refl, sym, _∙_, ap, subst}
-use mathlib.Core.Bool.{Bool, true}
-use mathlib.Core.List.{List, map}
+use mathlib.Core.Bool.{Bool}
+use mathlib.Core.List.{List}
 use lib.ListN.{length, getD, take}
 use lib.Seq.{length-take-le}
 use lib.Ieee.{Float}
 use Rattle.model.specs.Mesh.{Mesh}
-use Rattle.model.specs.Elements.{Kind, Triangles, Straps, Nothing, Element, elementsOf, cornersPer, fanOf}
+use Rattle.model.specs.Elements.{Kind, Element, elementsOf, cornersPer, fanOf}
 use Rattle.model.specs.Crack.{meanLoad}
 use Rattle.model.specs.Pieces.{opensWithoutConfetti}
 use Rattle.mesh.specs.At.{trianglesAt, edgesAt, meshAt}
@@ -18,13 +18,13 @@ use Rattle.elements.proofs.Found.{elements-in, fan-of}
 use Rattle.reach.specs.Walk.{Lent}
 use Rattle.reach.specs.Opens.{Opens}
 use Rattle.reach.proofs.Opening.{lent-by, opens-is}
-use Rattle.opening.specs.Opened.{openingBy, RestsIn, CornersBelow}
+use Rattle.opening.specs.Opened.{openingBy, CornersBelow}
 use Rattle.split.specs.Tables.{FanLent, FanRead, openedBy}
 use Rattle.split.proofs.Placed.{particles-count, triangles-count, edges-count}
 use Rattle.split.proofs.Fitted.{all-few}
 use Rattle.split.proofs.Below.{Few, rowsOf, table-below, fan-corners, fan-number}
 use Rattle.split.proofs.GrowLaws.{rests-at}
-use Rattle.crack.specs.Ways.{SidesRoom, FarSides, LoadHas, NumberIn, LoadsIn, MeanRoom, MeanTold, meanOf}
+use Rattle.crack.specs.Ways.{SidesRoom, FarSides, NumberIn, MeanRoom, MeanTold, meanOf}
 use Rattle.crack.specs.Tried.{WayReady, WayTables, WayRead, LoadsLong, WayLoad, OpensRoom}
 
 module _ (K : Kind) (k : Counts) (points : List Float) (roots corners : List ℕ) (volumes : List Float) (ends : List ℕ) (lengths : List Float) (outline : List ℕ) (v w : ℕ)

@@ -21,16 +21,16 @@ use Rattle.blade.specs.declared.Point.{Point}
 use Rattle.blade.specs.Points.{origin, plusOf, minusOf, dotOf, sumOf}
 use Rattle.columns.specs.Block.{cell}
 use Rattle.columns.proofs.Cells.{next-col, col-fits}
-use Rattle.model.specs.Mesh.{Mesh, Particle, blank, Edge, blankEdge}
-use Rattle.model.specs.Elements.{Kind, Triangles, Straps, Nothing, Element, restOf, sum, particle, fanOf}
-use Rattle.model.specs.Crack.{loadAt, beyond, farSide, meanLoad, twoSided, ahead}
-use Rattle.mesh.specs.At.{edgeRow, edgesAt, particleRow, particlesAt}
+use Rattle.model.specs.Mesh.{Mesh, Edge, blankEdge}
+use Rattle.model.specs.Elements.{Kind, Triangles, Straps, Nothing, Element, restOf, sum}
+use Rattle.model.specs.Crack.{loadAt, beyond, farSide, ahead}
+use Rattle.mesh.specs.At.{edgeRow, edgesAt}
 use Rattle.elements.specs.Table.{Cornered}
 use Rattle.elements.proofs.Tables.{noElement, row-is, part-is}
 use Rattle.elements.proofs.Fans.{sift-more}
 use Rattle.elements.proofs.Measures.{sum-push, sum-none}
 use Rattle.opening.specs.Opened.{restIn, RestsIn, CornersBelow}
-use Rattle.crack.specs.Ways.{offsetsBy, sideBy, RowIn, FarSides, LoadsIn, NumberIn, LoadIs, MeanIn, MeanTold, meanOf, twoBy}
+use Rattle.crack.specs.Ways.{offsetsBy, sideBy, FarSides, LoadIs, MeanIn, MeanTold, meanOf, twoBy}
 
 -- ---- offsets added
 

@@ -8,8 +8,8 @@ use lib.ListN.{length, getD, take}
 use lib.Dec.{eqb}
 use lib.Ieee.{Float}
 use Rattle.lists.specs.Lists.{pick, stands, any, each, find}
-use Rattle.model.specs.Mesh.{Edge, Mesh}
-use Rattle.model.specs.Elements.{Kind, Element, elementsOf, held}
+use Rattle.model.specs.Mesh.{Mesh}
+use Rattle.model.specs.Elements.{Kind, elementsOf, held}
 use Rattle.model.specs.Run.{Run}
 use Rattle.model.specs.Crack.{family, joins, crossPairs, currentPair}
 use Rattle.mesh.specs.At.{edgesAt}

@@ -6,7 +6,7 @@ use mathlib.Core.List.{List, [], _∷_, map}
 use lib.ListN.{length}
 use lib.Ieee.{Float}
 use Rattle.lists.specs.Lists.{pick, stands, any, mapAt, upTo}
-use Rattle.model.specs.Mesh.{Particle, Edge}
+use Rattle.model.specs.Mesh.{Edge}
 use Rattle.model.specs.Cut.{slack}
 use Rattle.model.specs.Crack.{hurt}
 use Rattle.mesh.specs.At.{particlesAt, edgesAt}
