@@ -111,7 +111,7 @@ pub fn after_crossings(
     }
 }
 
-// Inserts at the crossings or marks their near ends; then removes the bend edges over the insertions and splits the marked ends. The marks are of ends; the table of sides first marks bend edges, and the first and third hold the crossings.
+// Inserts at the crossings or marks their near ends; then removes the bend edges over the insertions and splits the marked ends. At first the table of sides marks bend edges, numbers and measures hold the crossings, and corners and groups the two sides of a strap.
 pub fn cut_segments(
     b0: Point,
     b1: Point,
