@@ -40,9 +40,8 @@ use Rattle.split.specs.Working.{Within, Roomed, Ready, Works}
 use Rattle.split.specs.declared.Ran.{Ran}
 use Rattle.split.specs.declared.Ran.the-variants.{Refused, Done}
 use Rattle.split.proofs.Placed.{corners-in, ends-in, sides-in}
-use Rattle.split.proofs.Runs.{works-stay, works-as, works-then, works-refused}
-use Rattle.cut.proofs.CutLaws.{works-known}
-use Rattle.crack.specs.Loads.{LoadsRead}
+use Rattle.split.proofs.Runs.{works-stay, works-as, works-then, works-refused, works-known}
+use Rattle.tear.specs.Loads.{LoadsRead}
 use Rattle.crack.specs.Bodies.{EndsKept, endsListed, CracksTold, crackTurns, crackEnd}
 
 -- ---- what a worker leaves is ready for the next

@@ -41,12 +41,12 @@ use Rattle.split.specs.declared.Ran.the-variants.{Done}
 use Rattle.split.proofs.Runs.{works-stay, works-as}
 use Rattle.split.proofs.TabledLaws.{inverse-at, opening-found, fan-grouped, splits-so}
 use Rattle.split.proofs.Placed.{particles-count}
-use Rattle.crack.specs.Ways.{twoBy}
-use Rattle.crack.specs.Tried.{WayReady, WayRead, WayLoad, OpensRoom}
+use Rattle.tear.specs.Ways.{twoBy}
+use Rattle.tear.specs.Tried.{WayReady, WayRead, WayLoad, OpensRoom}
 use Rattle.crack.specs.Cracks.{PairReady, PairBelow, PairNow, openWay, WayAsked, OpenedTo, TriedTo, EndsTold, Turned, PairTold, CrackTold}
-use Rattle.crack.specs.Families.{pairIs}
-use Rattle.crack.specs.declared.families.Pair.{Pair}
-use Rattle.crack.specs.declared.families.Pair.the-variants.{None, Ends}
+use Rattle.tear.specs.Families.{pairIs}
+use Rattle.tear.specs.declared.families.Pair.{Pair}
+use Rattle.tear.specs.declared.families.Pair.the-variants.{None, Ends}
 use Rattle.crack.specs.declared.edges.Tried.{Tried}
 use Rattle.crack.specs.declared.edges.Tried.the-variants.{Not, Tore}
 

@@ -28,11 +28,11 @@ use Rattle.split.proofs.Placed.{particles-count}
 use Rattle.split.proofs.Below.{Few, Cornering, element-corners}
 use Rattle.split.proofs.Fitted.{all-few}
 use Rattle.cut.specs.Running.{Logged}
-use Rattle.crack.specs.Families.{MeshIn, pairIs, CurrentRoom, CurrentTold}
+use Rattle.tear.specs.Families.{MeshIn, pairIs, CurrentRoom, CurrentTold}
 use Rattle.crack.specs.Cracks.{PairReady, PairBelow, PairNow}
-use Rattle.crack.specs.declared.families.Pair.{Pair}
-use Rattle.crack.specs.declared.families.Pair.the-variants.{None, Ends}
-use Rattle.crack.proofs.TriedLaws.{elements-here}
+use Rattle.tear.specs.declared.families.Pair.{Pair}
+use Rattle.tear.specs.declared.families.Pair.the-variants.{None, Ends}
+use Rattle.tear.proofs.TriedLaws.{elements-here}
 
 -- ---- its particles are there
 

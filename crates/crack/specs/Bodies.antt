@@ -18,7 +18,7 @@ use Rattle.mesh.specs.declared.Rooms.{Rooms}
 use Rattle.split.specs.Working.{Works}
 use Rattle.split.specs.declared.Ran.{Ran}
 use Rattle.cut.specs.Running.{Logged}
-use Rattle.crack.specs.Tried.{LoadsLong}
+use Rattle.tear.specs.Tried.{LoadsLong}
 
 -- ---- the ends of the torn edges in the input
 

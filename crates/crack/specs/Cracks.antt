@@ -22,10 +22,10 @@ use Rattle.mesh.specs.declared.Rooms.{Rooms}
 use Rattle.elements.specs.Table.{TableRoom}
 use Rattle.split.specs.Working.{Works}
 use Rattle.split.specs.declared.Ran.{Ran}
-use Rattle.crack.specs.Families.{pairIs}
-use Rattle.crack.specs.Torn.{TearAsked}
-use Rattle.crack.specs.declared.families.Pair.{Pair}
-use Rattle.crack.specs.declared.families.Pair.the-variants.{None, Ends}
+use Rattle.tear.specs.Families.{pairIs}
+use Rattle.tear.specs.Torn.{TearAsked}
+use Rattle.tear.specs.declared.families.Pair.{Pair}
+use Rattle.tear.specs.declared.families.Pair.the-variants.{None, Ends}
 use Rattle.crack.specs.declared.edges.Tried.{Tried}
 use Rattle.crack.specs.declared.edges.Tried.the-variants.{Not, Tore}
 

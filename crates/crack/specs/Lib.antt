@@ -1,9 +1,3 @@
 -- A crack across torn edges, over the lent blocks.
-pub mod Loads
-pub mod Families
-pub mod Ways
-pub mod Tears
-pub mod Torn
-pub mod Tried
 pub mod Cracks
 pub mod Bodies

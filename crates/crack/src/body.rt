@@ -149,7 +149,7 @@ fn crack_torn(
     let mut to = [0usize; 2048];
     let mut loads = [0.0f32; 1024];
     keep_ends(k.edges, ends, &mut from, &mut to);
-    crate::loads::read_loads(
+    tear::loads::read_loads(
         k.triangles,
         k.edges,
         corners,

@@ -12,14 +12,14 @@ ghost use Rattle.model.specs.Crack.{twoSided};
 ghost use Rattle.split.specs.Working.{Ready};
 ghost use Rattle.split.specs.Tables.{FanSided};
 ghost use Rattle.cut.specs.Running.{Logged};
-ghost use Rattle.crack.specs.Tried.{WayReady, LoadsLong};
-ghost use Rattle.crack.specs.Torn.{TearAsked};
+ghost use Rattle.tear.specs.Tried.{WayReady, LoadsLong};
+ghost use Rattle.tear.specs.Torn.{TearAsked};
 ghost use Rattle.crack.specs.Cracks.{PairReady, PairNow, WayAsked, OpenedTo, TriedTo, EndsTold, Turned, PairTold, CrackTold};
-use crate::families::Pair;
 use elements::Kind;
 use mesh::Counts;
 use mesh::Rooms;
 use split::Ran;
+use tear::families::Pair;
 
 // What trying a way came to: it doesn't open, or what its split came to.
 pub enum Tried {
@@ -61,7 +61,7 @@ fn pair_now(
         &mut measures,
     );
     let per = elements::corners_per(kind);
-    crate::families::current_pair(a, b, k.log, log, per, n, &verts, k.edges, ends)
+    tear::families::current_pair(a, b, k.log, log, per, n, &verts, k.edges, ends)
 }
 
 // Splits v by the sides of its fan across the edge (x, y), if each group then reaches the minimum piece.
@@ -97,7 +97,7 @@ fn open_way(
 {
     let mut groups = [0usize; 2048];
     let count = split::fans::group_fan(kind, v, n, verts, sides, &mut groups);
-    if crate::tried::way_opens(
+    if tear::tried::way_opens(
         kind,
         v,
         n,
@@ -113,7 +113,7 @@ fn open_way(
         outline,
         &groups,
     ) {
-        return Tried::Tore(crate::opens::tear_open(
+        return Tried::Tore(tear::opens::tear_open(
             kind,
             v,
             w,
@@ -173,7 +173,7 @@ fn try_way(
     let mut verts = [0usize; 4096];
     let mut measures = [0.0f32; 2048];
     let mut sides = [0usize; 2048];
-    let n = crate::tried::way_tables(
+    let n = tear::tried::way_tables(
         kind,
         v,
         w,
@@ -190,7 +190,7 @@ fn try_way(
         &mut measures,
         &mut sides,
     );
-    if crate::ways::two_sided(v, n, &sides, points) {
+    if tear::ways::two_sided(v, n, &sides, points) {
         return open_way(
             kind,
             minimum,
@@ -313,7 +313,7 @@ fn turned(
     requires { ⌜ WayReady x y k (length (now points)) (length (now corners)) (length (now volumes)) (length (now ends)) (length (now lengths)) (meshAt k (now points) (now roots) (now corners) (now volumes) (now ends) (now lengths) (now outline)) × LoadsLong (kindIs kind) k (length (now loads)) ⌝ }
     ensures { λ r. ⌜ Turned (kindIs kind) x y (k .triangles) (now (loads .entry)) (meshAt k (now (points .entry)) (now (roots .entry)) (now (corners .entry)) (now (volumes .entry)) (now (ends .entry)) (now (lengths .entry)) (now (outline .entry))) r ⌝ }
 {
-    let p = crate::tried::way_load(
+    let p = tear::tried::way_load(
         kind,
         x,
         y,
@@ -327,7 +327,7 @@ fn turned(
         lengths,
         outline,
     );
-    let q = crate::tried::way_load(
+    let q = tear::tried::way_load(
         kind,
         y,
         x,
@@ -341,7 +341,7 @@ fn turned(
         lengths,
         outline,
     );
-    crate::ways::goes_first(q, y, p, x)
+    tear::ways::goes_first(q, y, p, x)
 }
 
 // Cracks the pair (x, y), which stands for the torn edge (a, b): the end with the higher mean load is tried first, then the one with the lower number.

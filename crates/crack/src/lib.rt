@@ -1,9 +1,3 @@
-// A crack across torn edges, over the lent blocks.
+// A crack across torn edges, over the lent blocks: each edge in turn, its better way first, and what comes behind them.
 pub mod body;
 pub mod edges;
-pub mod families;
-pub mod loads;
-pub mod opens;
-pub mod tears;
-pub mod tried;
-pub mod ways;

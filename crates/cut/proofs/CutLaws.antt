@@ -24,7 +24,7 @@ use Rattle.split.specs.Working.{Within, Ready, Works}
 use Rattle.split.specs.declared.Ran.{Ran}
 use Rattle.split.specs.declared.Ran.the-variants.{Refused, Done}
 use Rattle.split.proofs.Placed.{particles-count, corners-in}
-use Rattle.split.proofs.Runs.{works-stay, works-then, works-refused}
+use Rattle.split.proofs.Runs.{works-stay, works-then, works-refused, works-known}
 use Rattle.cut.specs.declared.facets.Parting.the-variants.{Free, Blade as BladeFrom}
 use Rattle.cut.specs.Marking.{bladeFrom, candidateEnds, CandidateRoom, CandidatesMarked, NearMarked, pinchedEnds, PinchedRoom, PinchedMarked}
 use Rattle.cut.specs.Running.{sidesIn, splitIn, Logged, Chosen}
@@ -136,10 +136,6 @@ afterwards S = pick (empty (splitsOf (S .log))) S (splitPinched Triangles S)
 
 after-onward : (S : Run) → Onward S (afterwards S)
 after-onward S = onward-pick (empty (splitsOf (S .log))) S S (splitPinched Triangles S) (onward-stay S) (pinched-onward Triangles S)
-
--- an answer that is known
-pub works-known : {f : Run → Run} {L : Rooms} {W : World} {at : Counts → World} (r s : Ran) → r ≡ s → Works f L W at r → Works f L W at s
-works-known {f} {L} {W} {at} r s e F = subst (λ (x : Ran). Works f L W at x) e F
 
 -- the first part lacks room
 pub facets-refused : {L : Rooms} {W : World} {at : Counts → World} (B : Blade) (r : Ran) (c : ℕ) → r ≡ Refused c → Works (splitCandidates B) L W at r → Works (cutFacets B) L W at r

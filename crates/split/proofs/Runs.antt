@@ -97,3 +97,7 @@ works-refused {f} g {L} {c = c} O F =
     by : (c : ℕ) (S T : Run) → Onward S T → firstFault (asRooms L) (S .needs) ≡ c → 0 < c → (firstFault (asRooms L) (T .needs) ≡ c) × (0 < c)
     by zero S T G e p = absurd (omega arith)
     by (suc n) S T G e p = (fault-stays (asRooms L) S T n G e, p)
+
+-- an answer that is known
+pub works-known : {f : Run → Run} {L : Rooms} {W : World} {at : Counts → World} (r s : Ran) → r ≡ s → Works f L W at r → Works f L W at s
+works-known {f} {L} {W} {at} r s e F = subst (λ (x : Ran). Works f L W at x) e F

@@ -1,9 +1,9 @@
 -- `crack::body::crack_facets` meets its contract: the end comes behind the torn edges. Assumes nothing.
 use mathlib.Core.Path.{refl, _∙_}
+use Rattle.split.proofs.Runs.{works-known}
 use Rattle.model.specs.Elements.{Triangles}
 use Rattle.mesh.specs.Log.{worldAt}
 use Rattle.mesh.proofs.Agree.{lent-path}
-use Rattle.cut.proofs.CutLaws.{works-known}
 use Rattle.crack.proofs.BodyLaws.{left-ready, left-entries, left-words, turns-indexed, body-refused, body-done}
 use borrow.Author.Needs.{needs}
 use Rattle.crack.proofs.body.crack_facets.Statement.{statement}

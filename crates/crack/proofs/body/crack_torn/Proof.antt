@@ -1,7 +1,7 @@
 -- `crack::body::crack_torn` meets its contract: the tables hold the ends and the loads of the input. Assumes nothing.
 use native.Mathlib.Omega.{arith}
 use Rattle.elements.specs.Table.{kindIs}
-use Rattle.crack.proofs.LinkLaws.{numbered}
+use Rattle.tear.proofs.LinkLaws.{numbered}
 use Rattle.crack.proofs.BodyLaws.{turns-work}
 use borrow.Author.Needs.{needs}
 use Rattle.crack.proofs.body.crack_torn.Statement.{statement}

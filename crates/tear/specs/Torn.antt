@@ -1,0 +1,37 @@
+-- One end of a torn edge split, over the blocks. Only contracts between workers need this file. Definitions only.
+use Prim.Native.Nat.{ℕ, _+_, _/_, _<_}
+use mathlib.Core.Path.{_≡_}
+use mathlib.Core.List.{List, [], _∷_, _++_}
+use lib.Dec.{eqb}
+use lib.Ieee.{Float}
+use Rattle.lists.specs.Lists.{pick}
+use Rattle.model.specs.Run.{opened}
+use Rattle.mesh.specs.Log.{logAt, wordsOf}
+use Rattle.mesh.specs.Workers.{EdgeRoom}
+use Rattle.mesh.specs.declared.Counts.{Counts}
+use Rattle.split.specs.declared.Ran.{Ran}
+use Rattle.split.specs.declared.Ran.the-variants.{Done}
+use Rattle.tear.specs.Tears.{Slackened, DamageRoom, Damaged}
+
+-- an entry has room behind l, e edges stand in their blocks, and x, y and the copies in theirs
+pub record TearRoom (e l x y before count lr le ll lg : ℕ) : Type 0 where
+  pub log : l < lg / 6
+  pub edges : EdgeRoom e le ll
+  pub marks : DamageRoom x y before count lr
+
+-- the torn edge is noted, its bridges are slack, its particles damaged
+pub record TearDone (v before count w x y a b e l : ℕ) (roots roots′ ends : List ℕ) (lengths lengths′ : List Float) (log log′ : List ℕ) : Type 0 where
+  pub noted : logAt (l + 1) log′ ≡ logAt l log ++ (wordsOf (opened a b) ∷ [])
+  pub slackened : Slackened v before count w e ends lengths lengths′
+  pub damaged : Damaged x y before count roots roots′
+
+-- that behind a split which left the counts q; r tells of an entry more
+pub record TearTold (v before count w x y a b : ℕ) (q : Counts) (roots roots′ ends : List ℕ) (lengths lengths′ : List Float) (log log′ : List ℕ) (r : Ran) : Type 0 where
+  pub counts : r ≡ Done (record { particles = q .particles; triangles = q .triangles; edges = q .edges; boundary = q .boundary; log = q .log + 1 })
+  pub done : TearDone v before count w x y a b (q .edges) (q .log) roots roots′ ends lengths lengths′ log log′
+
+-- x and y are there, and w is the one that is not v
+pub record TearAsked (v w x y p : ℕ) : Type 0 where
+  pub x-in : x < p
+  pub y-in : y < p
+  pub other : w ≡ pick (eqb v x) y x

@@ -1,0 +1,144 @@
+// Loads: the stress of a triangle, or of an edge between two of its corners where that is larger.
+ghost use mathlib.Core.Path.{_≡_};
+ghost use mathlib.Core.Bool.{_&&_};
+ghost use mathlib.Core.List.{[], _∷_};
+ghost use Prim.Native.Nat.{_/_, _<_, _≤_};
+ghost use lib.ListN.{length};
+ghost use Rattle.lists.specs.Lists.{stands};
+ghost use Rattle.model.specs.Trace.{Sound};
+ghost use Rattle.mesh.specs.At.{triangleRow};
+ghost use Rattle.mesh.specs.Workers.{EdgeRoom};
+ghost use Rattle.tear.specs.Loads.{LinkRoom, Linked, Links, Apart, Numbered, PairLoad, TriangleLoad, LoadRoom, LoadsRead};
+
+// Is x one of the two ends?
+pub fn is_end(x: usize, a: usize, b: usize) -> bool
+    ensures { λ r. ⌜ r ≡ stands x (a ∷ b ∷ []) ⌝ }
+{
+    if a == x {
+        return true;
+    }
+    b == x
+}
+
+// Are both x and y ends?
+pub fn both_ends(x: usize, y: usize, a: usize, b: usize) -> bool
+    ensures { λ r. ⌜ r ≡ stands x (a ∷ b ∷ []) && stands y (a ∷ b ∷ []) ⌝ }
+{
+    if is_end(x, a, b) {
+        return is_end(y, a, b);
+    }
+    false
+}
+
+// Links the edges whose ends have the same sum: the first of each sum in heads, and behind each edge the next in nexts; e where there is none.
+fn link_edges(e: usize, ends: &[usize], heads: &mut [usize], nexts: &mut [usize])
+    requires { ⌜ LinkRoom e (now ends) (now heads) (length (now nexts)) ⌝ }
+    ensures { λ _. ⌜ Linked 0 e (now (ends .entry)) (now (heads .exit)) (now (nexts .exit)) ⌝ }
+{
+    let c = ends.len() / 4;
+    let mut i = e;
+    while i > 0 {
+        i -= 1;
+        let sum = ends[i] + ends[c + i];
+        nexts[i] = heads[sum];
+        heads[sum] = i;
+    }
+}
+
+// The larger of a load and the stresses of the edges between x and y, if there is any: all of them have the sum x + y.
+fn pair_load(
+    load: f32,
+    x: usize,
+    y: usize,
+    e: usize,
+    ends: &[usize],
+    lengths: &[f32],
+    heads: &[usize],
+    nexts: &[usize],
+) -> f32
+    requires { ⌜ EdgeRoom e (length (now ends)) (length (now lengths)) × Links e (now ends) (now heads) (now nexts) × Apart x y ⌝ }
+    ensures { λ r. ⌜ PairLoad load x y e (now (ends .entry)) (now (lengths .entry)) r ⌝ }
+{
+    let c = ends.len() / 4;
+    let m = lengths.len() / 4;
+    let mut most: f32 = 0.0;
+    let mut found = false;
+    let mut i = heads[x + y];
+    while i < e {
+        if both_ends(x, y, ends[i], ends[c + i]) {
+            most = float::larger::larger(most, lengths[3 * m + i]);
+            found = true;
+        }
+        i = nexts[i];
+    }
+    if found {
+        return float::larger::larger(load, most);
+    }
+    load
+}
+
+// The load of triangle i, among the first e edges.
+fn triangle_load(
+    i: usize,
+    e: usize,
+    corners: &[usize],
+    volumes: &[f32],
+    ends: &[usize],
+    lengths: &[f32],
+    heads: &[usize],
+    nexts: &[usize],
+) -> f32
+    requires { ⌜ LoadRoom (i < length (now corners) / 3) (i < length (now volumes) / 2) e (length (now ends)) (length (now lengths)) × Links e (now ends) (now heads) (now nexts) × Sound 1024 (triangleRow (length (now corners) / 3) (length (now volumes) / 2) (now corners) (now volumes) i) ⌝ }
+    ensures { λ r. ⌜ TriangleLoad i e (now (corners .entry)) (now (volumes .entry)) (now (ends .entry)) (now (lengths .entry)) r ⌝ }
+{
+    let c = corners.len() / 3;
+    let w = volumes.len() / 2;
+    let x = corners[i];
+    let y = corners[c + i];
+    let z = corners[2 * c + i];
+    let own = volumes[w + i];
+    let first = pair_load(own, x, y, e, ends, lengths, heads, nexts);
+    let second = pair_load(first, x, z, e, ends, lengths, heads, nexts);
+    pair_load(second, y, z, e, ends, lengths, heads, nexts)
+}
+
+// The loads of the first t triangles, by tables of links.
+fn linked_loads(
+    t: usize,
+    e: usize,
+    corners: &[usize],
+    volumes: &[f32],
+    ends: &[usize],
+    lengths: &[f32],
+    heads: &[usize],
+    nexts: &[usize],
+    loads: &mut [f32],
+)
+    requires { ⌜ LoadRoom (t ≤ length (now corners) / 3) (t ≤ length (now volumes) / 2) e (length (now ends)) (length (now lengths)) × (t ≤ length (now loads)) × Links e (now ends) (now heads) (now nexts) × Numbered t e (now corners) (now volumes) (now ends) ⌝ }
+    ensures { λ _. ⌜ LoadsRead t e (now (corners .entry)) (now (volumes .entry)) (now (ends .entry)) (now (lengths .entry)) (now (loads .exit)) ⌝ }
+{
+    let mut i: usize = 0;
+    while i < t {
+        loads[i] = triangle_load(i, e, corners, volumes, ends, lengths, heads, nexts);
+        i += 1;
+    }
+}
+
+// The loads of the first t triangles.
+pub fn read_loads(
+    t: usize,
+    e: usize,
+    corners: &[usize],
+    volumes: &[f32],
+    ends: &[usize],
+    lengths: &[f32],
+    loads: &mut [f32],
+)
+    requires { ⌜ LoadRoom (t ≤ length (now corners) / 3) (t ≤ length (now volumes) / 2) e (length (now ends)) (length (now lengths)) × (t ≤ length (now loads)) × Numbered t e (now corners) (now volumes) (now ends) ⌝ }
+    ensures { λ _. ⌜ LoadsRead t e (now (corners .entry)) (now (volumes .entry)) (now (ends .entry)) (now (lengths .entry)) (now (loads .exit)) ⌝ }
+{
+    let mut heads = [e; 2048];
+    let mut nexts = [0usize; 2048];
+    link_edges(e, ends, &mut heads, &mut nexts);
+    linked_loads(t, e, corners, volumes, ends, lengths, &heads, &nexts, loads);
+}
