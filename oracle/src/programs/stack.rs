@@ -40,13 +40,20 @@ pub fn run(words: &[String]) -> i32 {
     let n: Vec<u64> = words.iter().map(|w| w.parse().expect("a number")).collect();
     let (first, count) = (n.first().copied().unwrap_or(1), n.get(1).copied().unwrap_or(300));
     let t = archive();
-    let (mut cut, mut there) = (0, 0);
+    let (mut cut, mut there) = (None, 0);
     for e in ENTRIES {
         let Some(most) = deepest(&t, e, first, count) else { continue };
         println!("  {:29} {most:7} bytes of stack", e.name());
         there += 1;
-        cut = cut.max(if e == Entry::Cut { most } else { 0 });
+        if e == Entry::Cut {
+            cut = Some(most);
+        }
     }
-    println!("{there} functions, bench_cut {} {LIMIT} bytes of stack", if cut < LIMIT { "below" } else { "NOT below" });
-    (cut >= LIMIT) as i32
+    let told = match cut {
+        None => "not there, so not held to",
+        Some(most) if most < LIMIT => "below",
+        Some(_) => "NOT below",
+    };
+    println!("{there} functions, bench_cut {told} {LIMIT} bytes of stack");
+    cut.is_some_and(|most| most >= LIMIT) as i32
 }
