@@ -1,5 +1,5 @@
 -- A history of a mesh of triangles as a host sees it: blocks that are lent, what the contracts of the entries say of them, and the host at work between the calls. Definitions only.
-use Prim.Native.Nat.{ℕ, _*_}
+use Prim.Native.Nat.{ℕ, _*_, _≤_}
 use mathlib.Core.Path.{_≡_}
 use mathlib.Core.Bool.{Bool}
 use mathlib.Core.List.{List, [], _++_}
@@ -63,6 +63,7 @@ pub data Entries (M₀ : Mesh) : Mesh → List ℕ → Type 0 where
 pub record Held32 (G : Given) : Type 0 where
   pub points : (i : ℕ) → T (fits binary32 (getD (G .points) i nan))
   pub volumes : (i : ℕ) → T (fits binary32 (getD (G .volumes) i nan))
+  pub lengths : (i : ℕ) → T (fits binary32 (getD (G .lengths) i nan))
 
 -- the host puts such numbers into the mesh, at first and in each move
 abbrev pub HostHolds : {M₀ M : Mesh} {words : List ℕ} → Entries M₀ M words → Type 0
@@ -79,3 +80,14 @@ pub record Packed (G : Given) (k : Counts) : Type 0 where
   pub ends : length (G .ends) ≡ 4 * k .edges
   pub lengths : length (G .lengths) ≡ 4 * k .edges
   pub outline : length (G .outline) ≡ 2 * k .boundary
+
+-- a mesh within the limits on counts
+pub record Few (M : Mesh) : Type 0 where
+  pub particles : length (M .particles) ≤ 1024
+  pub triangles : length (M .triangles) ≤ 1024
+  pub edges : length (M .edges) ≤ 2048
+  pub boundary : length (M .boundary) ≤ 2048
+
+-- the rows of a mesh, counted
+abbrev pub rowsIn : Mesh → Counts
+rowsIn M = record { particles = length (M .particles); triangles = length (M .triangles); edges = length (M .edges); boundary = length (M .boundary); log = 0 }
