@@ -19,11 +19,11 @@ use Rattle.model.specs.Trace.{All}
 use Rattle.mesh.specs.At.{particlesAt, trianglesAt, edgesAt, boundaryAt, meshAt}
 use Rattle.mesh.specs.Given.{Given, meshOf, sizesFit, lengthsFit, listFits}
 use Rattle.mesh.specs.declared.Counts.{Counts}
-use Rattle.lineage.specs.History.{Moved, Particle32, Triangle32, Edge32, Stored, Accepted, Again}
+use Rattle.lineage.specs.History.{Moved, Few, Particle32, Triangle32, Edge32, Stored, Accepted, Again}
 use Rattle.lineage.proofs.Moves.{as-many}
 use Rattle.lineage.proofs.Histories.{line-of}
 use Rattle.lineage.proofs.Again.{called-checked, accepted-again, accepted-always}
-use Rattle.joined.specs.Entries.{Entries, first, calling, moving, HostHolds, Few, rowsIn, Blocks, held, rooms, Answering, Held32, Packed}
+use Rattle.joined.specs.Entries.{Entries, first, calling, moving, HostHolds, rowsIn, Blocks, held, rooms, Answering, Held32, Packed}
 use Rattle.joined.proofs.Join.{joined}
 use Rattle.joined.proofs.Histories.{told, stores-told}
 

@@ -1,5 +1,5 @@
 -- A history of a mesh of triangles as a host sees it: blocks that are lent, what the contracts of the entries say of them, and the host at work between the calls. Definitions only.
-use Prim.Native.Nat.{ℕ, _*_, _≤_}
+use Prim.Native.Nat.{ℕ, _*_}
 use mathlib.Core.Path.{_≡_}
 use mathlib.Core.Bool.{Bool}
 use mathlib.Core.List.{List, [], _++_}
@@ -80,13 +80,6 @@ pub record Packed (G : Given) (k : Counts) : Type 0 where
   pub ends : length (G .ends) ≡ 4 * k .edges
   pub lengths : length (G .lengths) ≡ 4 * k .edges
   pub outline : length (G .outline) ≡ 2 * k .boundary
-
--- a mesh within the limits on counts
-pub record Few (M : Mesh) : Type 0 where
-  pub particles : length (M .particles) ≤ 1024
-  pub triangles : length (M .triangles) ≤ 1024
-  pub edges : length (M .edges) ≤ 2048
-  pub boundary : length (M .boundary) ≤ 2048
 
 -- the rows of a mesh, counted
 abbrev pub rowsIn : Mesh → Counts

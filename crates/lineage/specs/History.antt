@@ -124,6 +124,13 @@ HostStores {M₀} (first b) = Stored M₀
 HostStores (calling L h C) = HostStores h
 HostStores (moving {M′ = M′} h W) = HostStores h × Stored M′
 
+-- a mesh within the limits on counts, which refusal 1 lets pass
+pub record Few (M : Mesh) : Type 0 where
+  pub particles : length (M .particles) ≤ 1024
+  pub triangles : length (M .triangles) ≤ 1024
+  pub edges : length (M .edges) ≤ 2048
+  pub boundary : length (M .boundary) ≤ 2048
+
 -- a mesh that refusals 2 and 3 let pass
 pub record Accepted (M : Mesh) : Type 0 where
   pub numbers : numbersFit M ≡ true
