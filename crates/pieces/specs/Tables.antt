@@ -5,7 +5,7 @@ use mathlib.Core.List.{List}
 use lib.ListN.{length, getD}
 use Rattle.lists.specs.Lists.{pick, stands, distinct}
 use Rattle.lists.specs.Chain.{Chain}
-use Rattle.fan.specs.Forest.{Up, Down}
+use Rattle.pieces.specs.Forest.{Up, Down}
 use Rattle.pieces.specs.Counted.{elementRoots}
 
 -- x is the first corner of an element and y a corner of it, which lies among the first m of the table

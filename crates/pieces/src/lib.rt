@@ -1,4 +1,6 @@
 // Pieces: the lowest particle of each particle's piece, how many pieces the elements of a table have, and which particles they hold.
+mod forest;
+
 ghost use mathlib.Core.Path.{_≡_};
 ghost use Prim.Native.Nat.{ℕ, _+_, _*_, _<_, _≤_};
 ghost use lib.ListN.{length, getD};
@@ -16,7 +18,7 @@ fn join_corners(n: usize, k: usize, i: usize, verts: &[usize], parent: &mut [usi
     let mut j = 0;
     while j < k {
         let place = at + j;
-        fan::join(parent, first, verts[place]);
+        forest::join(parent, first, verts[place]);
         j += 1;
     }
 }
@@ -26,7 +28,7 @@ fn join_each(n: usize, k: usize, verts: &[usize], parent: &mut [usize])
     requires { ⌜ Corners n k (now verts) (length (now parent)) ⌝ }
     ensures { λ _. ⌜ Tied (Link k (now (verts .entry)) (n * k)) (now (parent .exit)) ⌝ }
 {
-    fan::own_parents(parent);
+    fan::own_numbers(parent);
     let mut i = 0;
     while i < n {
         join_corners(n, k, i, verts, parent);
@@ -40,7 +42,7 @@ pub fn join_elements(n: usize, k: usize, verts: &[usize], parent: &mut [usize])
     ensures { λ _. ⌜ PieceRoots n k (now (verts .entry)) (now (parent .exit)) ⌝ }
 {
     join_each(n, k, verts, parent);
-    fan::flatten(parent);
+    forest::flatten(parent);
 }
 
 // Takes all marks away.
