@@ -23,6 +23,7 @@ use shim_parry::{query, shape};
 mod api;
 mod entries;
 mod expect;
+mod fans;
 mod faults;
 mod image;
 mod inputs;

@@ -1,8 +1,8 @@
--- The crate's definitions. What a reader must believe: Fan, Grouping, Calls and Cases. Groups computes the same. Forest and Parts only proofs need.
+-- The crate's definitions. What a reader must believe: Fan, Grouping, Calls and Cases. Groups computes the same. Parts and Spread only proofs need.
 pub mod Fan
 pub mod Grouping
 pub mod Groups
 pub mod Calls
 pub mod Cases
-pub mod Forest
 pub mod Parts
+pub mod Spread

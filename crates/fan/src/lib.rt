@@ -4,10 +4,9 @@ ghost use Prim.Native.Nat.{ℕ, _+_, _*_, _<_, _≤_};
 ghost use lib.ListN.{length, getD};
 ghost use Rattle.lists.specs.Lists.{stands};
 ghost use Rattle.fan.specs.Fan.{fan, sharedOthers, nearTest};
-ghost use Rattle.fan.specs.Grouping.{Firsts};
-ghost use Rattle.fan.specs.Calls.{Lent, Fits, Counted, Assigned};
-ghost use Rattle.fan.specs.Parts.{Part, Tops};
-ghost use Rattle.fan.specs.Forest.{Down, Kept, Found, Joined, Forest};
+ghost use Rattle.fan.specs.Calls.{Fits, Counted};
+ghost use Rattle.fan.specs.Parts.{Turning, Turns};
+ghost use Rattle.fan.specs.Spread.{Reached, Reaching, Onward, Next, Settled, Spread};
 
 // Does x stand in b?
 pub fn stands_in(x: usize, b: &[usize]) -> bool
@@ -65,132 +64,168 @@ fn near(
     needed <= shared_others(&verts[a..ae], &verts[b..be], v)
 }
 
-// The root of start. Each element on the way is given its parent's parent.
-pub fn find(parent: &mut [usize], start: usize) -> usize
-    requires { ⌜ (start < length (now parent)) × Down (now parent) ⌝ }
-    ensures { λ r. ⌜ Found (now (parent .entry)) start (now (parent .exit)) r ⌝ }
+// Each place its own number.
+pub fn own_numbers(table: &mut [usize])
+    ensures { λ _. ⌜ ((a : ℕ) → a < length (now (table .exit)) → getD (now (table .exit)) a 0 ≡ a) ⌝ }
 {
-    let mut i = start;
-    loop {
-        let up = parent[i];
-        if up == i {
-            return i;
-        }
-        let next = parent[up];
-        parent[i] = next;
-        i = next;
+    let mut i = 0;
+    while i < table.len() {
+        table[i] = i;
+        i += 1;
     }
 }
 
-// i and j get one root, the smaller of their two.
-pub fn join(parent: &mut [usize], i: usize, j: usize)
-    requires { ⌜ (i < length (now parent)) × (j < length (now parent)) × Down (now parent) ⌝ }
-    ensures { λ _. ⌜ Joined (now (parent .entry)) i j (now (parent .exit)) ⌝ }
-{
-    let ri = find(parent, i);
-    let rj = find(parent, j);
-    if ri < rj {
-        parent[rj] = ri;
-    } else {
-        parent[ri] = rj;
-    }
-}
-
-// Joins i to each neighbour above it.
-fn join_row(
+// Reaches the untouched neighbours below a, which has the label. (None is as low as the label.)
+fn reach_below(
     verts: &[usize],
     k: usize,
     v: usize,
     needed: usize,
     sides: &[usize],
-    i: usize,
-    parent: &mut [usize],
+    label: usize,
+    a: usize,
+    table: &mut [usize],
 )
     requires { ⌜ length (now verts) ≡ length (now sides) * k ⌝ }
-    requires { ⌜ i < length (now sides) ⌝ }
-    requires { ⌜ Forest (fan (now verts) k v needed (now sides)) i 0 (now parent) ⌝ }
-    ensures { λ _. ⌜ Forest (fan (now (verts .entry)) k v needed (now (sides .entry))) (i + 1) 0 (now (parent .exit)) ⌝ }
+    requires { ⌜ Reached (fan (now verts) k v needed (now sides)) label a (now table) ⌝ }
+    ensures { λ _. ⌜ Reaching (fan (now (verts .entry)) k v needed (now (sides .entry))) label a (now (table .entry)) (now (table .exit)) (a + 1) ⌝ }
 {
-    let mut j = i + 1;
-    while j < sides.len() {
-        if near(verts, k, v, needed, sides, i, j) {
-            join(parent, i, j);
+    let mut j = label + 1;
+    while j < a {
+        if table[j] == j {
+            if near(verts, k, v, needed, sides, j, a) {
+                table[j] = label;
+            }
         }
         j += 1;
     }
 }
 
-// Each element its own parent.
-pub fn own_parents(parent: &mut [usize])
-    ensures { λ _. ⌜ ((a : ℕ) → a < length (now (parent .exit)) → getD (now (parent .exit)) a 0 ≡ a) ⌝ }
-{
-    let mut i = 0;
-    while i < parent.len() {
-        parent[i] = i;
-        i += 1;
-    }
-}
-
-// A parent table that joins exactly the neighbours.
-fn join_all(
+// The same above a.
+fn reach_above(
     verts: &[usize],
     k: usize,
     v: usize,
     needed: usize,
     sides: &[usize],
-    parent: &mut [usize],
+    label: usize,
+    a: usize,
+    table: &mut [usize],
 )
-    requires { ⌜ (length (now verts) ≡ length (now sides) * k) × (length (now parent) ≡ length (now sides)) ⌝ }
-    ensures { λ _. ⌜ Forest (fan (now (verts .entry)) k v needed (now (sides .entry))) (length (now (sides .entry))) 0 (now (parent .exit)) ⌝ }
+    requires { ⌜ length (now verts) ≡ length (now sides) * k ⌝ }
+    requires { ⌜ Reaching (fan (now verts) k v needed (now sides)) label a (now table) (now table) (a + 1) ⌝ }
+    ensures { λ _. ⌜ Reaching (fan (now (verts .entry)) k v needed (now (sides .entry))) label a (now (table .entry)) (now (table .exit)) (length (now (sides .entry))) ⌝ }
 {
-    own_parents(parent);
+    let mut j = a + 1;
+    while j < sides.len() {
+        if table[j] == j {
+            if near(verts, k, v, needed, sides, a, j) {
+                table[j] = label;
+            }
+        }
+        j += 1;
+    }
+}
+
+// Spreads the label from a, which has it: each untouched neighbour is reached, and a is marked as spread.
+fn spread_from(
+    verts: &[usize],
+    k: usize,
+    v: usize,
+    needed: usize,
+    sides: &[usize],
+    label: usize,
+    a: usize,
+    table: &mut [usize],
+)
+    requires { ⌜ length (now verts) ≡ length (now sides) * k ⌝ }
+    requires { ⌜ Reached (fan (now verts) k v needed (now sides)) label a (now table) ⌝ }
+    ensures { λ _. ⌜ Onward (fan (now (verts .entry)) k v needed (now (sides .entry))) label a (now (table .entry)) (now (table .exit)) ⌝ }
+{
+    reach_below(verts, k, v, needed, sides, label, a, table);
+    reach_above(verts, k, v, needed, sides, label, a, table);
+    table[a] = label + sides.len();
+}
+
+// The first element that is reached by the label and not yet spread; the table's length where there is none.
+fn next_reached(table: &[usize], label: usize) -> usize
+    requires { ⌜ label < length (now table) ⌝ }
+    ensures { λ r. ⌜ Next label (now (table .entry)) r ⌝ }
+{
+    let mut a = label + 1;
+    while a < table.len() {
+        if table[a] == label {
+            return a;
+        }
+        a += 1;
+    }
+    a
+}
+
+// Spreads the label of an untouched element, its own number, to all of its group.
+fn spread_label(
+    verts: &[usize],
+    k: usize,
+    v: usize,
+    needed: usize,
+    sides: &[usize],
+    label: usize,
+    table: &mut [usize],
+)
+    requires { ⌜ length (now verts) ≡ length (now sides) * k ⌝ }
+    requires { ⌜ Settled (fan (now verts) k v needed (now sides)) label (now table) ⌝ }
+    requires { ⌜ (label < length (now sides)) × (getD (now table) label 0 ≡ label) ⌝ }
+    ensures { λ _. ⌜ Settled (fan (now (verts .entry)) k v needed (now (sides .entry))) (label + 1) (now (table .exit)) ⌝ }
+{
+    let mut a = label;
+    while a < sides.len() {
+        spread_from(verts, k, v, needed, sides, label, a, table);
+        a = next_reached(table, label);
+    }
+}
+
+// Spreads all labels, the smallest first. Each place ends with the first element of its element's group, plus the number of elements.
+fn spread_all(
+    verts: &[usize],
+    k: usize,
+    v: usize,
+    needed: usize,
+    sides: &[usize],
+    table: &mut [usize],
+)
+    requires { ⌜ (length (now verts) ≡ length (now sides) * k) × (length (now table) ≡ length (now sides)) ⌝ }
+    ensures { λ _. ⌜ Spread (fan (now (verts .entry)) k v needed (now (sides .entry))) (now (table .exit)) ⌝ }
+{
+    own_numbers(table);
     let mut i = 0;
     while i < sides.len() {
-        join_row(verts, k, v, needed, sides, i, parent);
+        if table[i] == i {
+            spread_label(verts, k, v, needed, sides, i, table);
+        }
         i += 1;
     }
 }
 
-// Each element is given its root.
-pub fn flatten(parent: &mut [usize])
-    requires { ⌜ Down (now parent) ⌝ }
-    ensures { λ _. ⌜ Kept (now (parent .entry)) (now (parent .exit)) ⌝ }
-    ensures { λ _. ⌜ ((a : ℕ) → a < length (now (parent .entry)) → getD (now (parent .exit)) (getD (now (parent .exit)) a 0) 0 ≡ getD (now (parent .exit)) a 0) ⌝ }
-{
-    let mut i = 0;
-    while i < parent.len() {
-        let up = parent[i];
-        let next = parent[up];
-        parent[i] = next;
-        i += 1;
-    }
-}
-
-// Numbers the elements of one side, from a count, where first has the first element of each one's group.
-fn number_side(
-    first: &[usize],
-    sides: &[usize],
-    side: usize,
-    from: usize,
-    groups: &mut [usize],
-) -> usize
-    requires { ⌜ Tops (now sides) (now first) ⌝ }
-    requires { ⌜ Part (now sides) (now first) side 0 (now groups) from ⌝ }
+// Numbers the elements of one side, from a count. An element still to be numbered has its label plus the number of elements in its place; one that is its
+// own label gets the next number, any other the number at its label, which was passed before.
+fn number_side(sides: &[usize], side: usize, from: usize, table: &mut [usize]) -> usize
+    requires { ⌜ Turning (now sides) side (now table) from ⌝ }
     requires { ⌜ from ≤ length (now sides) ⌝ }
-    ensures { λ r. ⌜ Part (now (sides .entry)) (now (first .entry)) (side + 1) 0 (now (groups .exit)) r ⌝ }
+    ensures { λ r. ⌜ Turns (now (sides .entry)) side (now (table .entry)) from (side + 1) 0 (now (table .exit)) r ⌝ }
     ensures { λ r. ⌜ r ≤ from + length (now (sides .entry)) ⌝ }
 {
+    let n = sides.len();
     let mut count = from;
     let mut i = 0;
-    while i < sides.len() {
+    while i < n {
         if sides[i] == side {
-            let root = first[i];
-            if root == i {
-                groups[i] = count;
+            let label = table[i] - n;
+            if label == i {
+                table[i] = count;
                 count += 1;
             } else {
-                let g = groups[root];
-                groups[i] = g;
+                let g = table[label];
+                table[i] = g;
             }
         }
         i += 1;
@@ -198,43 +233,8 @@ fn number_side(
     count
 }
 
-// Numbers all elements, those of side 0 first.
-fn number(first: &[usize], sides: &[usize], groups: &mut [usize]) -> usize
-    requires { ⌜ Tops (now sides) (now first) × (length (now groups) ≡ length (now sides)) ⌝ }
-    ensures { λ r. ⌜ Part (now (sides .entry)) (now (first .entry)) 2 0 (now (groups .exit)) r ⌝ }
-{
-    let low = number_side(first, sides, 0, 0, groups);
-    number_side(first, sides, 1, low, groups)
-}
-
-// The first element of each one's group, by a parent table.
-fn unite(verts: &[usize], k: usize, v: usize, needed: usize, sides: &[usize], first: &mut [usize])
-    requires { ⌜ (length (now verts) ≡ length (now sides) * k) × (length (now first) ≡ length (now sides)) ⌝ }
-    ensures { λ _. ⌜ Firsts (fan (now (verts .entry)) k v needed (now (sides .entry))) (now (first .exit)) ⌝ }
-{
-    join_all(verts, k, v, needed, sides, first);
-    flatten(first);
-}
-
 // The groups of a fan: the element i has the vertices verts[i * k .. i * k + k] and lies on the side sides[i], 0 or 1. Returns how many groups there are.
-// first ends as the table of the first element of each one's group.
-pub fn assign_groups(
-    verts: &[usize],
-    k: usize,
-    v: usize,
-    needed: usize,
-    sides: &[usize],
-    first: &mut [usize],
-    groups: &mut [usize],
-) -> usize
-    requires { ⌜ Lent (now verts) k (now sides) (now first) (now groups) ⌝ }
-    ensures { λ r. ⌜ Assigned (fan (now (verts .entry)) k v needed (now (sides .entry))) (now (groups .exit)) (now (first .exit)) r ⌝ }
-{
-    unite(verts, k, v, needed, sides, first);
-    number(first, sides, groups)
-}
-
-// The same with a table of its own, for at most 2,048 elements.
+// The labels are spread in the table of the groups, and numbered in place, those of side 0 first.
 pub fn groups_of(
     verts: &[usize],
     k: usize,
@@ -246,7 +246,7 @@ pub fn groups_of(
     requires { ⌜ Fits (now verts) k (now sides) (now groups) ⌝ }
     ensures { λ r. ⌜ Counted (fan (now (verts .entry)) k v needed (now (sides .entry))) (now (groups .exit)) r ⌝ }
 {
-    let mut first = [0usize; 2048];
-    let n = sides.len();
-    assign_groups(verts, k, v, needed, sides, &mut first[..n], groups)
+    spread_all(verts, k, v, needed, sides, groups);
+    let low = number_side(sides, 0, 0, groups);
+    number_side(sides, 1, low, groups)
 }

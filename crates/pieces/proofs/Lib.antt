@@ -2,6 +2,7 @@
 pub mod Distinct
 pub mod Counts
 pub mod Corners
+pub mod Parents
 pub mod Trees
 pub mod Marks
 pub mod Laws

@@ -18,7 +18,7 @@ use Rattle.lists.proofs.Labelled.{lowest-same, lowest-down, lowest-flat, lowest
 use Rattle.lists.proofs.Stores.{stored, at-eq}
 use Rattle.lists.proofs.Sifts.{and-true, true-and, sift-stands, stands-get, stands-made, upTo-stands, upTo-below}
 use Rattle.fan.specs.Fan.{Distinct}
-use Rattle.fan.specs.Forest.{Kept, Joined}
+use Rattle.pieces.specs.Forest.{Kept, Joined}
 use Rattle.model.specs.Elements.{Element}
 use Rattle.elements.specs.Table.{Cornered}
 use Rattle.pieces.specs.Tables.{Tied}

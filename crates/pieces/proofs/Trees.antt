@@ -12,7 +12,7 @@ use Rattle.lists.specs.Labels.{Lowest}
 use Rattle.lists.proofs.Chains.{chain-map, chain-keeps, chain-to}
 use Rattle.lists.proofs.Stores.{at-eq}
 use Rattle.lists.proofs.Labelled.{lowest-map}
-use Rattle.fan.specs.Forest.{Up, Kept, Joined}
+use Rattle.pieces.specs.Forest.{Up, Kept, Joined}
 use Rattle.pieces.specs.Counted.{BodyRoots}
 use Rattle.pieces.specs.Tables.{Link, Tied}
 use Rattle.pieces.proofs.Corners.{row-same, link-together, together-links}

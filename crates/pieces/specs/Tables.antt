@@ -5,7 +5,7 @@ use mathlib.Core.List.{List}
 use lib.ListN.{length, getD}
 use Rattle.lists.specs.Lists.{pick, stands}
 use Rattle.lists.specs.Chain.{Chain}
-use Rattle.fan.specs.Forest.{Up, Down}
+use Rattle.pieces.specs.Forest.{Up, Down}
 
 -- x is the first corner of an element and y a corner of it, which lies among the first m of the table
 pub record Link (k : ℕ) (verts : List ℕ) (m x y : ℕ) : Type 0 where

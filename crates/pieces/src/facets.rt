@@ -63,7 +63,7 @@ fn join_place(n: usize, k: usize, verts: &[usize], link: &[usize], t: usize, par
         let s = e - 1;
         let j = s / k;
         if rows_share(n, k, verts, i, j) {
-            fan::join(parent, i, j);
+            crate::forest::join(parent, i, j);
         }
         e = link[s];
     }
@@ -74,7 +74,7 @@ fn join_places(n: usize, k: usize, verts: &[usize], link: &[usize], parent: &mut
     requires { ⌜ AllPlaces n k (now verts) (now link) (length (now parent)) ⌝ }
     ensures { λ _. ⌜ Tied (Met n k (now (verts .entry)) (n * k) (n * k)) (now (parent .exit)) ⌝ }
 {
-    fan::own_parents(parent);
+    fan::own_numbers(parent);
     let m = n * k;
     let mut t = 0;
     while t < m {
@@ -113,6 +113,6 @@ pub fn count_pieces(
 {
     link_places(n * k, verts, last, link);
     join_places(n, k, verts, link, labels);
-    fan::flatten(labels);
+    crate::forest::flatten(labels);
     count_tops(labels)
 }

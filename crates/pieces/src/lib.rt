@@ -1,12 +1,13 @@
 // Bodies, which one shared particle holds together: the lowest particle of each particle's body, and which particles the elements of a table hold.
 // Pieces, which a shared facet holds together, are counted in `facets`.
+pub mod facets;
+mod forest;
+
 ghost use mathlib.Core.Path.{_≡_};
 ghost use Prim.Native.Nat.{ℕ, _+_, _*_, _<_, _≤_};
 ghost use lib.ListN.{length, getD};
 ghost use Rattle.pieces.specs.Counted.{Corners, BodyRoots, UsedMarked};
 ghost use Rattle.pieces.specs.Tables.{Link, Tied, CornerStep};
-
-pub mod facets;
 
 // Joins each corner of element i to the first.
 fn join_corners(n: usize, k: usize, i: usize, verts: &[usize], parent: &mut [usize])
@@ -19,7 +20,7 @@ fn join_corners(n: usize, k: usize, i: usize, verts: &[usize], parent: &mut [usi
     let mut j = 0;
     while j < k {
         let place = at + j;
-        fan::join(parent, first, verts[place]);
+        forest::join(parent, first, verts[place]);
         j += 1;
     }
 }
@@ -29,7 +30,7 @@ fn join_each(n: usize, k: usize, verts: &[usize], parent: &mut [usize])
     requires { ⌜ Corners n k (now verts) (length (now parent)) ⌝ }
     ensures { λ _. ⌜ Tied (Link k (now (verts .entry)) (n * k)) (now (parent .exit)) ⌝ }
 {
-    fan::own_parents(parent);
+    fan::own_numbers(parent);
     let mut i = 0;
     while i < n {
         join_corners(n, k, i, verts, parent);
@@ -43,7 +44,7 @@ pub fn join_elements(n: usize, k: usize, verts: &[usize], parent: &mut [usize])
     ensures { λ _. ⌜ BodyRoots n k (now (verts .entry)) (now (parent .exit)) ⌝ }
 {
     join_each(n, k, verts, parent);
-    fan::flatten(parent);
+    forest::flatten(parent);
 }
 
 // Takes all marks away.

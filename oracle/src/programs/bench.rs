@@ -1,10 +1,11 @@
-//! bench [--self]: median times of the C functions and of the published Rust on the same meshes.
+//! bench [--self] [--only NAME]: median times of the C functions, or of one, and of the published Rust on the same meshes.
 use crate::api::{Blade, Mesh, blade_hit, kind};
 use crate::dynamics::soft_body::tearing::access;
 use crate::dynamics::soft_body::tearing::access::PlainLog;
 use crate::dynamics::soft_body::{SoftBody, SoftBodyEdgeKind};
 use crate::entries::{Args, ENTRIES, Entry, FILL, Input, Lending, Raw, Table, archive, invoke};
 use crate::expect::{checked, expected};
+use crate::fans::fans;
 use crate::image::{Image, words, words_of};
 use crate::inputs::{need, rope, soup};
 use crate::journal::set_fraction;
@@ -90,6 +91,10 @@ fn input(e: Entry, m: &Mesh) -> Input {
         Entry::Pieces => Args::Pieces,
         _ => unreachable!("an entry that gives a mesh has rows of its own"),
     };
+    reading(m, args)
+}
+/// A call that answers about a mesh, with just enough result bytes.
+fn reading(m: &Mesh, args: Args) -> Input {
     let mut i = Input { image: Image::new(m.clone()), args, lending: Lending::default(), out: 0 };
     i.out = need(&i);
     i
@@ -309,6 +314,8 @@ fn time(ns: f64) -> String {
 
 pub fn run(words: &[String]) -> i32 {
     let own = words.first().is_some_and(|w| w == "--self");
+    let only = words.iter().skip_while(|w| *w != "--only").nth(1);
+    let asked = |e: Entry| only.is_none_or(|name| e.name() == name);
     let t = if own { table() } else { archive() };
     let emulated = std::env::var("ORACLE_EMULATED").is_ok_and(|v| v == "1");
     println!("Medians of {REPETITIONS} repetitions, batches of at least {} us.", BATCH_NS / 1000.0);
@@ -335,22 +342,24 @@ pub fn run(words: &[String]) -> i32 {
     println!();
     println!("| function | mesh | {} | {} |", COLUMNS[..5].join(" | "), COLUMNS[5..].join(" | "));
     println!("|---|---|{}", "---|".repeat(COLUMNS.len()));
-    for e in ENTRIES.into_iter().filter(|e| !e.tears()) {
+    for e in ENTRIES.into_iter().filter(|e| !e.tears() && asked(*e)) {
         for (k, (name, m)) in meshes().iter().enumerate() {
             let meshless = matches!(e, Entry::Root | Entry::BladeHit);
             if meshless && k > 0 {
                 continue;
             }
-            let c = input(e, m).raw();
-            let whole = |c: &Raw| {
-                black_box(expected(c));
-            };
-            row(&t, if meshless { "-" } else { name }, m, &c, whole, None);
+            read_row(&t, if meshless { "-" } else { name }, m, &input(e, m).raw());
         }
     }
+    for f in fans().into_iter().filter(|_| asked(Entry::Groups)) {
+        read_row(&t, f.name, &f.mesh, &reading(&f.mesh, Args::Groups { v: 0, sides: f.sides }).raw());
+    }
     for Rows { idle, rows } in &tearing_rows() {
-        torn_row(&t, idle, None);
-        rows.iter().for_each(|r| torn_row(&t, r, Some(&idle.call)));
+        let mut rows = rows.iter().filter(|r| asked(r.call.entry)).peekable();
+        if rows.peek().is_some() {
+            torn_row(&t, idle, None);
+        }
+        rows.for_each(|r| torn_row(&t, r, Some(&idle.call)));
     }
     0
 }
@@ -364,6 +373,12 @@ const COLUMNS: [&str; 7] = [
     "the work apart",
     "the work apart / Rust alone",
 ];
+fn read_row(t: &Table, name: &str, m: &Mesh, c: &Raw) {
+    let whole = |c: &Raw| {
+        black_box(expected(c));
+    };
+    row(t, name, m, c, whole, None);
+}
 fn torn_row(t: &Table, r: &Row, idle: Option<&Raw>) {
     let entries = torn_from_image(&r.call).expect("a call that passes the checks").1.len() / 6;
     let whole = |c: &Raw| {

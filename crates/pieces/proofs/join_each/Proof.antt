@@ -16,13 +16,13 @@ Inv-loop n k verts parent₀ i₀ parent i = (i ≤ n) × (length parent ≡ len
 abbrev μ-loop : tie.MeasureT-loop
 μ-loop n k verts parent₀ i₀ parent i = n - i
 
-own-parents-requires : tie.Need-own-parents-requires Inv-loop μ-loop
-own-parents-requires c κs = search needs
+own-numbers-requires : tie.Need-own-numbers-requires Inv-loop μ-loop
+own-numbers-requires c κs = search needs
 
 loop-holds : tie.Need-loop-holds Inv-loop μ-loop
 loop-holds c =
     let A = c .before .before .before .before .before .before .args in
-    let O = c .before .before .own-parents in
+    let O = c .before .before .own-numbers in
     let z : 0 ≡ 0 * A .k = omega arith in
     (search needs, refl, tied-at z refl (tied-start {R = Link (A .k) (A .verts .now) 0} (O .last .0) (O .ensures) (link-none (A .k) (A .verts .now))))
 
@@ -30,7 +30,7 @@ join-corners-requires : tie.Need-join-corners-requires Inv-loop μ-loop
 join-corners-requires c κs =
     let A = c .before .before .before .before .before .before .before .before .before .args in
     let P = c .before .before .before .before .before .before .before .before .before .pre in
-    let O = c .before .before .before .before .before .own-parents in
+    let O = c .before .before .before .before .before .own-numbers in
     let L = c .before .before .loop in
     let e = L .inv .1 ∙ O .kept .0 in
     (corners-for (sym e) P, record { inside = search needs; tied = L .inv .2 })
@@ -50,7 +50,7 @@ loop-again c =
 same-length : tie.Need-same-length Inv-loop μ-loop
 same-length c =
     let L = c .before .loop in
-    let O = c .before .before .before .before .own-parents in
+    let O = c .before .before .before .before .own-numbers in
     L .inv .1 ∙ O .kept .0
 
 returns : tie.Need-returns Inv-loop μ-loop
@@ -66,7 +66,7 @@ join-each-spec =
     (tie.spec
     Inv-loop
     μ-loop
-    own-parents-requires
+    own-numbers-requires
     loop-holds
     join-corners-requires
     add-i

@@ -17,8 +17,8 @@ Inv-loop n k verts link parent₀ m t₀ parent t = (t ≤ n * k) × (length par
 abbrev μ-loop : tie.MeasureT-loop
 μ-loop n k verts link parent₀ m t₀ parent t = n * k - t
 
-own-parents-requires : tie.Need-own-parents-requires Inv-loop μ-loop
-own-parents-requires c κs = search needs
+own-numbers-requires : tie.Need-own-numbers-requires Inv-loop μ-loop
+own-numbers-requires c κs = search needs
 
 mul-m : tie.Need-mul-m Inv-loop μ-loop
 mul-m c = let P = c .before .before .before .before .before .before .before .pre in omega (arith, P .rows .whole)
@@ -26,13 +26,13 @@ mul-m c = let P = c .before .before .before .before .before .before .before .pre
 loop-holds : tie.Need-loop-holds Inv-loop μ-loop
 loop-holds c =
     let A = c .before .before .before .before .before .before .before .args in
-    let O = c .before .before .own-parents in
+    let O = c .before .before .own-numbers in
     (search needs, refl, tied-start {R = Met (A .n) (A .k) (A .verts .now) 0 0} (O .last .0) (O .ensures) (met-none (A .n) (A .k) (A .verts .now)))
 
 join-place-requires : tie.Need-join-place-requires Inv-loop μ-loop
 join-place-requires c κs =
     let P = c .before .before .before .before .before .before .before .before .before .before .pre in
-    let O = c .before .before .before .before .before .own-parents in
+    let O = c .before .before .before .before .before .own-numbers in
     let L = c .before .before .loop in
     record { rows = P .rows; link-room = P .link-room; linked = P .linked; inside = search needs; long = L .inv .1 ∙ O .kept .0 ∙ P .long; tied = L .inv .2 }
 
@@ -51,7 +51,7 @@ loop-again c =
 same-length : tie.Need-same-length Inv-loop μ-loop
 same-length c =
     let L = c .before .loop in
-    let O = c .before .before .before .before .own-parents in
+    let O = c .before .before .before .before .own-numbers in
     L .inv .1 ∙ O .kept .0
 
 returns : tie.Need-returns Inv-loop μ-loop
@@ -67,7 +67,7 @@ join-places-spec =
     (tie.spec
     Inv-loop
     μ-loop
-    own-parents-requires
+    own-numbers-requires
     mul-m
     loop-holds
     join-place-requires

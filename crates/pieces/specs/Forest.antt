@@ -1,11 +1,10 @@
--- Only proofs need this file: parent tables, in which each element names one that is not above it, and what the private functions that join and flatten promise of them.
+-- Only proofs need this file: parent tables, in which each element names one that is not above it, and what the functions of src/forest.rt promise of them.
 use mathlib.Core.Path.{_≡_}
 use mathlib.Core.Logic.{_⊎_}
 use mathlib.Core.List.{List}
 use Prim.Native.Nat.{ℕ, _<_, _≤_}
 use lib.ListN.{length, getD}
 use Rattle.lists.specs.Chain.{Chain}
-use Rattle.fan.specs.Fan.{Fan, Near, size}
 
 -- b is a's parent
 abbrev pub Up : List ℕ → ℕ → ℕ → Type 0
@@ -41,10 +40,3 @@ pub record Joined (p : List ℕ) (i j : ℕ) (q : List ℕ) : Type 0 where
   pub more : (a b : ℕ) → Up p a b → Chain (Up q) a b
   pub way : Chain (Up q) i j
   pub only : (a b : ℕ) → Up q a b → Chain (UpOr p i j) a b
-
--- p joins the neighbours (a, b) with a below i, and those of i with b below j, and joins nothing but neighbours
-pub record Forest (F : Fan) (i j : ℕ) (p : List ℕ) : Type 0 where
-  pub long : length p ≡ size F
-  pub down : Down p
-  pub sound : (a b : ℕ) → Up p a b → Chain (Near F) a b
-  pub done : (a b : ℕ) → Near F a b → (a < i) ⊎ ((a ≡ i) × (b < j)) → Chain (Up p) a b
