@@ -5,6 +5,7 @@ use crate::dynamics::soft_body::tearing::access::{self, PlainLog};
 use crate::dynamics::soft_body::*;
 use crate::journal::{self, BOUNDARY, EDGES, Op, PARTICLES};
 use crate::math::Vector;
+use std::collections::{HashMap, HashSet};
 use std::ops::Range;
 
 pub const MAX_PARTICLES: usize = 1024;
@@ -580,15 +581,33 @@ pub fn blade_hit(blade: Blade, px: f32, py: f32, qx: f32, qy: f32) -> Option<f32
     access::blade_hit(blade.ends(), Vector::new(px, py), Vector::new(qx, qy))
 }
 
-/// Document 01's pieces: the crate's own `connected_pieces` on the elements alone. It would also
-/// join by other edges and boundary, so these are taken away, and lone particles are not counted.
-pub fn pieces(m: &Mesh) -> u32 {
+/// Document 01's pieces, which are bodies from request L2 on: the crate's own `connected_pieces` on the elements alone. It
+/// would also join by other edges and boundary, so these are taken away, and lone particles are not counted.
+pub fn bodies(m: &Mesh) -> u32 {
     let mut b = m.to_body(None);
     let straps = access::kind(&b) == 2;
     b.edges.0.retain(|e| straps && e.kind == SoftBodyEdgeKind::Structural);
     b.boundary.0.clear();
     let sets = b.connected_pieces();
     sets.iter().filter(|s| s.len() > 1).count() as u32
+}
+/// The pieces of request L2. Straps go by bodies. Triangles are joined side by side: each side, whichever way round, names the
+/// first triangle that has it, and a triangle takes over the label that it finds there.
+pub fn pieces(m: &Mesh) -> u32 {
+    let triangles = m.triangles();
+    if triangles.is_empty() {
+        return bodies(m);
+    }
+    let mut labels: Vec<usize> = (0..triangles.len()).collect();
+    let mut first = HashMap::new();
+    for (i, &(a, b, c)) in triangles.iter().enumerate() {
+        for (x, y) in [(a, b), (b, c), (c, a)] {
+            let j = *first.entry((x.min(y), x.max(y))).or_insert(i);
+            let (old, new) = (labels[i], labels[j]);
+            labels.iter_mut().filter(|l| **l == old).for_each(|l| *l = new);
+        }
+    }
+    labels.iter().collect::<HashSet<_>>().len() as u32
 }
 
 /// Checks 1 to 3 of document 01 on a mesh.

@@ -37,8 +37,14 @@ faults! {
     MinimumLess: Both,
     /// Pieces are joined by edges and boundary too.
     PiecesByEdges: Reading,
-    /// Pieces are joined by facets only.
-    PiecesByFacets: Reading,
+    /// A shared corner is taken for a facet when counting pieces, as document 01 did.
+    PiecesByCorner: Reading,
+    /// Triangles are joined that share exactly two particles: a doubled one is a piece of its own.
+    PiecesExactly: Reading,
+    /// Two shared particles are asked of straps.
+    StrapsByTwo: Reading,
+    /// A side joins only where the other triangle has it the other way round.
+    SidesOneWay: Reading,
     /// The blade's ends are left out.
     BladeOpenEnd: Reading,
     /// Minus zero becomes zero in a hit.
@@ -83,6 +89,16 @@ faults! {
     FirstCandidate: Tearing,
     /// The closing pass is left out.
     PinchedStay: Tearing,
+    /// The closing pass looks at split particles and copies only, not at those beside them.
+    PinchedEnds: Tearing,
+    /// The closing pass ends behind the first particle that it splits.
+    PinchedFirst: Tearing,
+    /// The closing pass looks at copies only.
+    PinchedCopies: Tearing,
+    /// The closing pass leaves copies out.
+    PinchedOld: Tearing,
+    /// A corner of three parts or more is parted in two.
+    PinchedInTwo: Tearing,
     /// Straddlers of a split stay.
     StraddlersStay: Tearing,
     /// Boundary entries across pieces stay.

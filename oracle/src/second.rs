@@ -222,14 +222,19 @@ pub fn opens_within(
     })
 }
 
-/// Document 01's pieces: sets of elements that chains of shared particles join.
+/// The pieces of request L2: sets of elements that chains of shared facets join, two particles for triangles and one for straps.
 pub fn pieces(m: &Mesh) -> u32 {
     let k = kind(m);
     let all: Vec<Vec<u32>> = elements(m, k).iter().map(|&e| corners(m, k, e)).collect();
-    pieces_of(&all, all.len(), 1)
+    let facet = if k == Kind::Triangles { 2 } else { 1 };
+    pieces_of(&all, all.len(), |a, b| shared(a, b) >= facet)
 }
-/// The number of sets with one of the first `count` members, where `joins` shared particles join.
-pub fn pieces_of(all: &[Vec<u32>], count: usize, joins: usize) -> u32 {
+/// How many particles of `a` are in `b` too: none has the greatest number, so all shared ones count.
+pub fn shared(a: &[u32], b: &[u32]) -> usize {
+    shared_others(a, b, u32::MAX)
+}
+/// The number of sets with one of the first `count` members, where members that pass the test are joined.
+pub fn pieces_of(all: &[Vec<u32>], count: usize, joins: impl Fn(&[u32], &[u32]) -> bool) -> u32 {
     let mut done = vec![false; all.len()];
     let mut sets = 0;
     for i in 0..count {
@@ -238,8 +243,7 @@ pub fn pieces_of(all: &[Vec<u32>], count: usize, joins: usize) -> u32 {
         }
         sets += 1;
         let start = (0..all.len()).map(|j| j == i).collect();
-        // No particle has this number, so all shared ones count.
-        let marked = reached(all.len(), start, |i, j| shared_others(&all[i], &all[j], u32::MAX) >= joins);
+        let marked = reached(all.len(), start, |i, j| joins(&all[i], &all[j]));
         for j in 0..all.len() {
             done[j] |= marked[j];
         }
@@ -468,7 +472,11 @@ impl Run {
     fn split_by_sides(&mut self, k: Kind, v: u32, sides: &[u32]) -> bool {
         let f = fan(&self.m, k, v);
         let fans: Vec<Vec<u32>> = f.iter().map(|&e| corners(&self.m, k, e)).collect();
-        let (g, count) = groups_of(facet_others(k), &fans, sides, v);
+        let (mut g, mut count) = groups_of(facet_others(k), &fans, sides, v);
+        if has(PinchedInTwo) && sides.iter().all(|&s| s == 0) {
+            g.iter_mut().for_each(|g| *g = (*g).min(1));
+            count = count.min(2);
+        }
         self.split(k, v, &f, &g, count)
     }
 
@@ -501,17 +509,20 @@ impl Run {
         }
         let splits = self.splits();
         let near = |v: u32| splits.iter().any(|&(c, s)| c == v || s == v);
+        let old = |v: u32| !splits.iter().any(|&(c, _)| c == v);
         let mut candidates = vec![false; self.m.px.len()];
         for e in elements(&self.m, k) {
             let c = corners(&self.m, k, e);
             if c.iter().any(|&w| near(w)) {
                 for w in c {
-                    candidates[w as usize] = true;
+                    let left_out = has(PinchedEnds) && !near(w) || has(PinchedCopies) && old(w) || has(PinchedOld) && !old(w);
+                    candidates[w as usize] |= !left_out;
                 }
             }
         }
+        let began = self.m.px.len();
         for v in 0..candidates.len() {
-            if candidates[v] {
+            if candidates[v] && !(has(PinchedFirst) && self.m.px.len() > began) {
                 let n = fan(&self.m, k, v as u32).len();
                 self.split_by_sides(k, v as u32, &vec![0; n]);
             }

@@ -282,11 +282,22 @@ fn pieces(image: &[u8]) -> Answer {
     let k = second::kind(&m);
     let mut sets: Vec<Vec<u32>> = second::elements(&m, k).iter().map(|&e| second::corners(&m, k, e)).collect();
     let count = sets.len();
-    let joins = if has(PiecesByFacets) && k == Kind::Triangles { 2 } else { 1 };
+    let by_two = k == Kind::Triangles && !has(PiecesByCorner) || k == Kind::Straps && has(StrapsByTwo);
+    let facet = if by_two { 2 } else { 1 };
     if has(PiecesByEdges) {
         sets.extend(m.edges().into_iter().chain(m.boundary()).map(|(a, b)| vec![a, b]));
     }
+    let joins = |a: &[u32], b: &[u32]| match second::shared(a, b) {
+        n if has(PiecesExactly) => n == facet,
+        2 if has(SidesOneWay) && by_two => sides_meet(a, b),
+        n => n >= facet,
+    };
     Ok(vec![second::pieces_of(&sets, count, joins)])
+}
+/// Has the one triangle a side that the other has the other way round?
+fn sides_meet(a: &[u32], b: &[u32]) -> bool {
+    let sides = |t: &[u32]| [(t[0], t[1]), (t[1], t[2]), (t[2], t[0])];
+    sides(a).iter().any(|&(x, y)| sides(b).contains(&(y, x)))
 }
 
 // ---- the functions that give a mesh ---------------------------------------------------------

@@ -24,10 +24,12 @@ use Rattle.elements.specs.declared.Kind.{Kind as KindCase}
 use Rattle.elements.specs.Table.{kindIs, elementsIn, KindFound, Cornered, Tabled, TableRoom, FanTabled, MarkRoom, MeasuredWithin}
 use Rattle.elements.proofs.Found.{elements-in, fan-of}
 use Rattle.elements.proofs.Filling.{triangles-length, straps-length}
-use Rattle.model.specs.Pieces.{pieces}
+use Rattle.model.specs.Pieces.{pieceCount, pieces}
 use Rattle.model.specs.Calls.{strictly, particlesOk}
 use Rattle.elements.proofs.Measures.{rest-measure, rest-measure-of}
-use Rattle.pieces.specs.Counted.{PiecesCounted}
+use Rattle.reach.proofs.Reached.{plain-elements}
+use Rattle.pieces.specs.Counted.{Lent, PiecesCounted}
+use Rattle.pieces.proofs.Pieces.{two-corners}
 use Rattle.asked.specs.Accepted.{Accepted, TableLent, MeshTabled, FanFound}
 
 -- ---- counts
@@ -204,10 +206,17 @@ fan-found G v n k others count N Y N′ Y′ L L′ T F few long =
 
 -- ---- what is counted and measured
 
+-- the table meets what the count of pieces asks, with room for each particle, corner and element
+pub table-lent : {G : Given} {n k others labels : ℕ} {N Y : List ℕ} {L : List Float} → MeshTabled G n k others N Y L → labels ≡ n → Lent n k Y 1024 4096 labels
+table-lent {G} T e =
+    record { corners = T .corners; two = (let h = two-corners (kindOf (meshOf G)) in omega (arith, T .per)); link-room = T .narrow; label-room = e }
+
 -- the pieces of the table are the mesh's
-pub pieces-found : {G : Given} {n k others : ℕ} {N Y : List ℕ} {L : List Float} {roots seen : List ℕ} {r : ℕ} → MeshTabled G n k others N Y L → PiecesCounted n k Y roots seen r → r ≡ pieces (meshOf G)
+pub pieces-found : {G : Given} {n k others : ℕ} {N Y labels : List ℕ} {L : List Float} {r : ℕ} → Accepted G → MeshTabled G n k others N Y L → PiecesCounted n k Y labels r → r ≡ pieces (meshOf G)
 unfolding pieces
-pieces-found T P = P .counted _ (T .tabled .cornered)
+pieces-found {G} A T P =
+    let es = elementsOf (kindOf (meshOf G)) (meshOf G) in
+    P .counted es (T .tabled .cornered) (plain-elements (kindOf (meshOf G)) (meshOf G) (A .indices)) ∙ ap (λ (m : ℕ). pieceCount m es) (T .per)
 
 -- the sum of the measures in the table is the mesh's
 pub measure-found : {G : Given} {n k others : ℕ} {N Y : List ℕ} {L : List Float} {r : Float} → MeshTabled G n k others N Y L → r ≡ sum (take n L) → r ≡ restMeasure (meshOf G)

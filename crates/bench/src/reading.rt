@@ -56,8 +56,9 @@ fn count_pieces(
     let mut numbers = [0usize; 2048];
     let mut verts = [0usize; 4096];
     let mut measures = [0.0f32; 2048];
-    let mut parent = [0usize; 1024];
-    let mut seen = [0usize; 1024];
+    let mut last = [0usize; 1024];
+    let mut link = [0usize; 4096];
+    let mut labels = [0usize; 2048];
     let s = asked::tables::table(
         points,
         roots,
@@ -70,7 +71,8 @@ fn count_pieces(
         &mut verts,
         &mut measures,
     );
-    pieces::count_pieces(s.n, s.k, &verts, &mut parent, &mut seen)
+    let n = s.n;
+    pieces::facets::count_pieces(n, s.k, &verts, &mut last, &mut link, &mut labels[..n])
 }
 
 // How many pieces a mesh has.

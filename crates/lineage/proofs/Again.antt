@@ -22,7 +22,7 @@ use Rattle.model.specs.Valid.{flag?, particleOk, triangleOk, edgeOk, numbersFit
 use Rattle.model.specs.Elements.{Triangles, kindOf, elementsOf, farEnd, endsOf, fanOf}
 use Rattle.model.specs.Run.{Entry, Need, Rooms, Run, start, stepTo}
 use Rattle.model.specs.Split.{Opening, openingOf, splits?, made, weighed, massOf, portion, onlyAt, copied, groupAt, copyOf, retargeted, moved, rewiredTriangles, rewiredStraps, edgeGroups, other?, calm, stayed, doubled, otherEdges, straddles, atLongest, settled, splitMade, splitBySides}
-use Rattle.model.specs.Pieces.{across?, spans, pieceLabels, withoutStraddlers, straddlersGone, removeStraddlers}
+use Rattle.model.specs.Pieces.{across?, spans, bodyLabels, withoutStraddlers, straddlersGone, removeStraddlers}
 use Rattle.model.specs.Cut.{slack, slackened, cut}
 use Rattle.model.specs.Crack.{hurt, damagedAt, bridges, torn, crack}
 use Rattle.model.specs.Calls.{bladeOk, fractionOk, sidesOk, trianglesLent, tooSmall, firstFault, outcome, cutCall, crackCall, splitCall, straddlersCall}
@@ -365,7 +365,7 @@ covered-kept =
           covered-step R _ _ _ _ (le-trans (le-of-eq (n .0)) s) (le-of-eq (n .1));
       straddlers = λ R C.
           let es = elementsOf Triangles (R .mesh) in
-          let ls = pieceLabels es in
+          let ls = bodyLabels es in
           covered-step R _ _ _ _ (sift-length (λ (e : Edge). not (across? Triangles es ls e)) (R .mesh .edges)) (sift-length (λ (s : Side). not (spans es ls (s .a) (s .b))) (R .mesh .boundary));
     }
 

@@ -20,7 +20,7 @@ use Rattle.model.specs.Mesh.{Triangle, Edge, Mesh, blankTriangle}
 use Rattle.model.specs.Elements.{Triangles, Element, cornersOf, triangleElement, trianglesFrom, elementsOf, fanOf, gridOf}
 use Rattle.model.specs.Run.{Entry, Run, start, stepTo, splitsOf}
 use Rattle.model.specs.Split.{partsOf, Opening, openingOf, copyOf, groupAt, retargeted, splits?, rewiredTriangles, atLongest, settled, splitEntries, goneEntries, splitMade, splitStep, splitBySides}
-use Rattle.model.specs.Pieces.{pieceLabels, across?, withoutStraddlers, straddlersGone, removeStraddlers}
+use Rattle.model.specs.Pieces.{bodyLabels, across?, withoutStraddlers, straddlersGone, removeStraddlers}
 use Rattle.model.specs.Cut.{Blade, leftOf, keptSide, splitByBlade, splitFree, splitPinched, pinched, candidates, cutFacets, bladeSides}
 use Rattle.model.specs.Crack.{Way, beyond, farSide, twoSided, meanLoad, torn, crackBy, crackPair, crackEdge, currentPair, waysOf, wayAt, loadsOf, tornEnds, crack}
 use Rattle.model.specs.Trace.{All, Hold, Held}
@@ -244,7 +244,7 @@ cut-held B R H =
 pub straddlers-held : (R : Run) → Held R → Held (removeStraddlers Triangles R)
 unfolding removeStraddlers straddlersGone withoutStraddlers stepTo
 straddlers-held R H =
-    record { copies = rw (no-splits (R .log) (across? Triangles (elementsOf Triangles (R .mesh)) (pieceLabels (elementsOf Triangles (R .mesh)))) (R .mesh .edges)) (H .copies) }
+    record { copies = rw (no-splits (R .log) (across? Triangles (elementsOf Triangles (R .mesh)) (bodyLabels (elementsOf Triangles (R .mesh)))) (R .mesh .edges)) (H .copies) }
 
 abbrev FullWay : Mesh → Way → Type 0
 FullWay M w = (w .opening .before ≡ length (M .particles)) × Full (w .opening) (M .triangles)

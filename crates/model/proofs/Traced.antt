@@ -21,7 +21,7 @@ use Rattle.model.specs.Mesh.{Particle, Triangle, Edge, Mesh, blank}
 use Rattle.model.specs.Elements.{Kind, Triangles, Element, cornersOf, fanOf, elementsOf, gridOf}
 use Rattle.model.specs.Run.{Entry, split as splitEntry, edge as edgeEntry, Run, start, stepTo, splitOf, splitsOf}
 use Rattle.model.specs.Split.{Part, partsOf, Opening, openingOf, splits?, retargeted, copyFor, copyOf, made, copied, groupAt, rewiredTriangles, atLongest, settled, splitEntries, goneEntries, splitMade, splitStep, splitBySides}
-use Rattle.model.specs.Pieces.{pieceLabels, across?, withoutStraddlers, straddlersGone, removeStraddlers}
+use Rattle.model.specs.Pieces.{bodyLabels, across?, withoutStraddlers, straddlersGone, removeStraddlers}
 use Rattle.model.specs.Cut.{Blade, splitByBlade, splitFree, splitPinched, pinched, candidates, cutFacets, slackened}
 use Rattle.model.specs.Crack.{Way, farSide, twoSided, meanLoad, damagedAt, torn, crackBy, crackPair, crackEdge, currentPair, waysOf, wayAt, inOrder, before?, loadsOf, tornEnds, crack}
 use mathlib.Core.Option.{Option, none as nothing, some}
@@ -336,7 +336,7 @@ unfolding removeStraddlers straddlersGone withoutStraddlers stepTo
 straddlers-traced M₀ R T =
     record {
       sound = T .sound;
-      back = rw (no-splits (R .log) (across? Triangles (elementsOf Triangles (R .mesh)) (pieceLabels (elementsOf Triangles (R .mesh)))) (R .mesh .edges)) (T .back);
+      back = rw (no-splits (R .log) (across? Triangles (elementsOf Triangles (R .mesh)) (bodyLabels (elementsOf Triangles (R .mesh)))) (R .mesh .edges)) (T .back);
     }
 
 -- each way of a torn edge is an opening of the mesh

@@ -1,4 +1,4 @@
--- Pieces, the straddlers across them, and the reach of a group. Definitions only.
+-- Pieces, bodies and the straddlers across them, and the reach of a group. Definitions only.
 use Prim.Native.Nat.{ℕ, _-_, max}
 use mathlib.Core.Bool.{Bool, false, not, _&&_}
 use mathlib.Core.List.{List, [], _∷_, map}
@@ -19,41 +19,62 @@ use Rattle.model.specs.Split.{Part, Opening, goneEntries}
 abbrev pub cornersAt : List Element → ℕ → List ℕ
 cornersAt es i = getD (map (λ (e : Element). e .corners) es) i []
 
+-- how many particles of a are in b too
+unfoldable pub sharedOf : List ℕ → List ℕ → ℕ
+sharedOf a b = length (sift (λ x. stands x b) a)
+
+-- two elements of k corners belong together where they share at least k - 1 particles, all corners but one: two for triangles, one for straps
+abbrev pub together : ℕ → List ℕ → List ℕ → Bool
+together k a b = leb (k - 1) (sharedOf a b)
+
+-- elements that belong together lie in one piece, and so on along chains: each element's piece, named by the first element in it
+unfoldable pub pieceLabels : ℕ → List Element → List ℕ
+pieceLabels k es = labelled (λ i j. together k (cornersAt es i) (cornersAt es j)) (length es)
+
+-- the count is the number of such sets
+unfoldable pub pieceCount : ℕ → List Element → ℕ
+pieceCount k es = length (distinct (pieceLabels k es))
+
+unfoldable pub pieces : Mesh → ℕ
+pieces M = pieceCount (cornersPer (kindOf M)) (elementsOf (kindOf M) M)
+
+-- ---- bodies, which straddlers go by: one shared particle holds a body together
+
 -- some particle is in both
 abbrev pub touch : List ℕ → List ℕ → Bool
 touch a b = any (λ x. stands x b) a
 
--- two elements that share a particle lie in one piece, and so on along chains: each element's piece, named by the first element in it
-unfoldable pub pieceLabels : List Element → List ℕ
-pieceLabels es = labelled (λ i j. touch (cornersAt es i) (cornersAt es j)) (length es)
+-- two elements that share a particle lie in one body, and so on along chains: each element's body, named by the first element in it
+unfoldable pub bodyLabels : List Element → List ℕ
+bodyLabels es = labelled (λ i j. touch (cornersAt es i) (cornersAt es j)) (length es)
 
--- the count is the number of such sets
-unfoldable pub pieces : Mesh → ℕ
-pieces M = length (distinct (pieceLabels (elementsOf (kindOf M) M)))
+-- how many bodies a mesh has: document 01's count of pieces
+unfoldable pub bodies : Mesh → ℕ
+bodies M = length (distinct (bodyLabels (elementsOf (kindOf M) M)))
 
--- ---- `remove_straddlers_across_pieces`
+-- ---- `remove_straddlers_across_pieces`, whose pieces are bodies
 
--- the piece of particle w, by the elements and their labels: that of the first element that holds it, or none
-unfoldable pub pieceOf : List Element → List ℕ → ℕ → Option ℕ
-pieceOf [] ls w = none
-pieceOf (e ∷ es) [] w = none
-pieceOf (e ∷ es) (l ∷ ls) w = pick (stands w (e .corners)) (some l) (pieceOf es ls w)
+-- the body of particle w, by the elements and their labels: that of the first element that holds it, or none
+unfoldable pub bodyOf : List Element → List ℕ → ℕ → Option ℕ
+bodyOf [] ls w = none
+bodyOf (e ∷ es) [] w = none
+bodyOf (e ∷ es) (l ∷ ls) w = pick (stands w (e .corners)) (some l) (bodyOf es ls w)
 
--- two pieces, and not the same
+-- two bodies, and not the same
 abbrev pub apart : Option ℕ → Option ℕ → Bool
 apart none q = false
 apart (some i) none = false
 apart (some i) (some j) = not (eqb i j)
 
--- x and y lie in different pieces
+-- x and y lie in different bodies
 unfoldable pub spans : List Element → List ℕ → ℕ → ℕ → Bool
-spans es ls x y = apart (pieceOf es ls x) (pieceOf es ls y)
+spans es ls x y = apart (bodyOf es ls x) (bodyOf es ls y)
 
--- an edge, no element, that joins two pieces
+-- an edge, no element, that joins two bodies
 unfoldable pub across? : Kind → List Element → List ℕ → Edge → Bool
 across? k es ls e = not (element? k e) && spans es ls (e .a) (e .b)
 
--- such edges go, and boundary entries that join two pieces; what touches a particle of no element stays
+-- such edges go, and boundary entries that join two bodies; what touches a particle of no element stays
 unfoldable pub withoutStraddlers : Kind → List Element → List ℕ → Mesh → Mesh
 withoutStraddlers k es ls M =
     record {
@@ -66,7 +87,7 @@ withoutStraddlers k es ls M =
 -- the removal as one step, in which the edges are logged and the boundary entries are not
 unfoldable pub straddlersGone : Kind → List Element → Run → Run
 straddlersGone k es R =
-    let ls = pieceLabels es in
+    let ls = bodyLabels es in
     stepTo R (withoutStraddlers k es ls (R .mesh)) (goneEntries (across? k es ls) (R .mesh .edges)) (length (R .mesh .edges)) (length (R .mesh .boundary))
 
 -- a mesh of nothing stays as it is

@@ -1,4 +1,4 @@
--- Laws of `distinct`: one more number at the end, how many values two labelings have, and that no value stands twice. Assumes nothing.
+-- Laws of `distinct`: what stands in it, and that nothing stands twice; lists without repeats. Assumes nothing.
 use mathlib.Core.Path.{_≡_, refl, sym, _∙_, ap}
 use mathlib.Core.Bool.{Bool, true, false, not, _&&_, false≢true}
 use mathlib.Core.List.{List, [], _∷_, _++_}
@@ -13,75 +13,14 @@ use Rattle.lists.specs.Lists.{pick, stands, sift, tab, distinct}
 use Rattle.lists.proofs.Stores.{tab-length, tab-at}
 use Rattle.lists.proofs.Sifts.{true-and, sift-append, sift-stands, stands-get, stands-made, tab-suc}
 
--- ---- one more number at the end
+-- ---- values of a table
 
--- a number that stood before adds nothing, a new one itself
-abbrev pub added : Bool → ℕ → List ℕ
-added b x = pick b [] (x ∷ [])
-
-added-by : (y x : ℕ) (b : Bool) (D : List ℕ) → Dec (y ≡ x)
-    → y ∷ sift (λ z. not (eqb z y)) (D ++ added b x) ≡ (y ∷ sift (λ z. not (eqb z y)) D) ++ added (pick (eqb y x) true b) x
-unfolding sift
-added-by y x true D d = rw (sift-append (λ z. not (eqb z y)) D []) (ap (λ (s : Bool). y ∷ (sift (λ z. not (eqb z y)) D ++ added s x)) (both (eqb y x)))
-  where
-    both : (s : Bool) → true ≡ pick s true true
-    both true = refl
-    both false = refl
-added-by y x false D (yes e) = rw (sift-append (λ z. not (eqb z y)) D (x ∷ []), eq-eqb y x e, eq-eqb x y (sym e))
-added-by y x false D (no n) = rw (sift-append (λ z. not (eqb z y)) D (x ∷ []), ne-eqb y x n, ne-eqb x y (λ e. n (sym e)))
-
-pub distinct-snoc : (l : List ℕ) (x : ℕ) → distinct (l ++ (x ∷ [])) ≡ distinct l ++ added (stands x l) x
-unfolding distinct sift
-distinct-snoc [] x = refl
-distinct-snoc (y ∷ l) x = rw (distinct-snoc l x) (added-by y x (stands x l) (distinct l) (ℕ-discrete y x))
-
--- so many values: one more where the last is new
-pub distinct-count : (l : List ℕ) (x : ℕ) → length (distinct (l ++ (x ∷ []))) ≡ length (distinct l) + pick (stands x l) 0 1
-distinct-count l x = rw (distinct-snoc l x, length-append) (by (stands x l))
-  where
-    by : (b : Bool) → length (distinct l) + length (added b x) ≡ length (distinct l) + pick b 0 1
-    by true = refl
-    by false = refl
-
--- ---- two labelings
-
-bool-iff : (s t : Bool) → (s ≡ true → t ≡ true) → (t ≡ true → s ≡ true) → s ≡ t
-bool-iff true t f g = sym (f refl)
-bool-iff false true f g = g refl
-bool-iff false false f g = refl
-
--- a value of a table stands in it, and each number that stands in it is one of its values
-pub tab-stands : (n : ℕ) (f : ℕ → ℕ) (k : ℕ) → k < n → stands (f k) (tab n f) ≡ true
-tab-stands n f k h = stands-made (f k) (tab n f) k (omega (arith, tab-length n f)) (tab-at n f k 0 h)
-
+-- each number that stands in a table is one of its values
 pub stands-tab : (n : ℕ) (f : ℕ → ℕ) (x : ℕ) → stands x (tab n f) ≡ true → (k : ℕ) × ((k < n) × (f k ≡ x))
 stands-tab n f x e =
     let w = stands-get x (tab n f) e in
     let l : w .0 < n = omega (arith, tab-length n f, w .1 .0) in
     (w .0, (l, sym (tab-at n f (w .0) 0 l) ∙ w .1 .1))
-
--- where one labeling has two places equal, so has the other
-abbrev pub Follows : ℕ → (ℕ → ℕ) → (ℕ → ℕ) → Type 0
-Follows n f g = (i j : ℕ) → i < n → j < n → f i ≡ f j → g i ≡ g j
-
-last-follows : (n : ℕ) (f g : ℕ → ℕ) → Follows (suc n) f g → stands (f n) (tab n f) ≡ true → stands (g n) (tab n g) ≡ true
-last-follows n f g h e =
-    let w = stands-tab n f (f n) e in
-    let l = w .1 .0 in
-    rw (sym (h (w .0) n (omega arith) (omega arith) (w .1 .1))) (tab-stands n g (w .0) l)
-
--- two labelings that have the same places equal have equally many values
-pub same-distinct : (n : ℕ) (f g : ℕ → ℕ) → Follows n f g → Follows n g f → length (distinct (tab n f)) ≡ length (distinct (tab n g))
-unfolding tab
-same-distinct zero f g h k = refl
-same-distinct (suc n) f g h k =
-    let e : length (distinct (tab n f)) ≡ length (distinct (tab n g)) = same-distinct n f g (λ i j l m. h i j (omega arith) (omega arith)) (λ i j l m. k i j (omega arith) (omega arith)) in
-    let s : stands (f n) (tab n f) ≡ stands (g n) (tab n g) = bool-iff _ _ (last-follows n f g h) (last-follows n g f k) in
-    ap (λ (l : List ℕ). length (distinct l)) (tab-suc n f)
-    ∙ distinct-count (tab n f) (f n)
-    ∙ rw (e, s) refl
-    ∙ sym (distinct-count (tab n g) (g n))
-    ∙ ap (λ (l : List ℕ). length (distinct l)) (sym (tab-suc n g))
 
 -- ---- what stands, and only once
 

@@ -1,7 +1,12 @@
--- Laws of distinct numbers, of tables of corners, of parent tables, and of pieces. Assumes nothing.
+-- Laws of distinct numbers, of classes, of tables of corners, of parent tables, of bodies, and of pieces. Assumes nothing.
 pub mod Distinct
+pub mod Counts
 pub mod Corners
 pub mod Parents
 pub mod Trees
 pub mod Marks
 pub mod Laws
+pub mod Pieces
+pub mod Loops
+pub mod Places
+pub mod Examples

@@ -13,8 +13,8 @@ use Rattle.lists.proofs.Chains.{chain-map, chain-keeps, chain-to}
 use Rattle.lists.proofs.Stores.{at-eq}
 use Rattle.lists.proofs.Labelled.{lowest-map}
 use Rattle.pieces.specs.Forest.{Up, Kept, Joined}
-use Rattle.pieces.specs.Counted.{PieceRoots}
-use Rattle.pieces.specs.Tables.{Link, Tied, Rooted}
+use Rattle.pieces.specs.Counted.{BodyRoots}
+use Rattle.pieces.specs.Tables.{Link, Tied}
 use Rattle.pieces.proofs.Corners.{row-same, link-together, together-links}
 
 -- each its own parent: nothing is joined
@@ -83,17 +83,13 @@ module _ (k : ℕ) (verts : List ℕ) (i j : ℕ) (narrow : j < k) where
 pub tied-at : {k : ℕ} {verts p q : List ℕ} {m n : ℕ} → m ≡ n → q ≡ p → Tied (Link k verts m) p → Tied (Link k verts n) q
 tied-at {k} {verts} {p} {q} {m} {n} e d T = rw (d, ← e) T
 
--- a flat table that joins all links has the lowest particle of each piece
-pub piece-roots : {n k : ℕ} {verts p q : List ℕ} → Tied (Link k verts (n * k)) p → Kept p q
-    → ((a : ℕ) → a < length p → getD q (getD q a 0) 0 ≡ getD q a 0) → PieceRoots n k verts q
-piece-roots T K flat =
+-- a flat table that joins all links has the lowest particle of each body
+pub body-roots : {n k : ℕ} {verts p q : List ℕ} → Tied (Link k verts (n * k)) p → Kept p q
+    → ((a : ℕ) → a < length p → getD q (getD q a 0) 0 ≡ getD q a 0) → BodyRoots n k verts q
+body-roots T K flat =
     record {
       lowest = λ es C.
           lowest-map (λ i j c. chain-map (λ x y L. ahead (link-together C x y L) stay) c) (λ i j c. chain-map (together-links C) c) (tied-flat T K flat);
       down = K .down;
       flat = λ x l. flat x (omega (arith, K .long));
     }
-
--- its roots are particles
-pub roots-within : {n k : ℕ} {verts roots : List ℕ} (m : ℕ) → length roots ≤ m → PieceRoots n k verts roots → Rooted roots m
-roots-within m e R = record { within = λ x l. omega (arith, R .down x l) }

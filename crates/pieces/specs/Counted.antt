@@ -3,11 +3,12 @@ use Prim.Native.Nat.{ℕ, _*_, _<_, _≤_}
 use mathlib.Core.Path.{_≡_}
 use mathlib.Core.List.{List}
 use lib.ListN.{length, getD}
-use Rattle.lists.specs.Lists.{pick, stands, tab, distinct}
+use Rattle.lists.specs.Lists.{pick}
 use Rattle.lists.specs.Labels.{Lowest}
 use Rattle.model.specs.Elements.{Element}
-use Rattle.model.specs.Pieces.{pieceLabels}
+use Rattle.model.specs.Pieces.{pieceLabels, pieceCount}
 use Rattle.elements.specs.Table.{Cornered}
+use Rattle.reach.specs.Reached.{Plain}
 use Rattle.pieces.specs.Classes.{heldBy, Together}
 
 -- The first n * k numbers of a table are corners, k to each of n elements, below a count of particles.
@@ -17,21 +18,27 @@ pub record Corners (n k : ℕ) (verts : List ℕ) (particles : ℕ) : Type 0 whe
   pub room : n * k ≤ length verts
   pub below : (t : ℕ) → t < n * k → getD verts t 0 < particles
 
--- Each particle has the lowest particle of its piece, whichever elements the table is of. A root is not above its particle, and is its own.
-pub record PieceRoots (n k : ℕ) (verts roots : List ℕ) : Type 0 where
+-- ---- pieces
+
+-- The table has n elements of k corners below a count of particles; there is a place for each corner, and one for each element.
+pub record Lent (n k : ℕ) (verts : List ℕ) (particles links labels : ℕ) : Type 0 where
+  pub corners : Corners n k verts particles
+  pub two : 2 ≤ k
+  pub link-room : n * k ≤ links
+  pub label-room : labels ≡ n
+
+-- The number of pieces, and the label of each element, whichever elements the table is of, where none names a particle twice.
+pub record PiecesCounted (n k : ℕ) (verts labels : List ℕ) (r : ℕ) : Type 0 where
+  pub counted : (es : List Element) → Cornered k es n verts → Plain es → r ≡ pieceCount k es
+  pub labelled : (es : List Element) → Cornered k es n verts → Plain es → labels ≡ pieceLabels k es
+
+-- ---- bodies
+
+-- Each particle has the lowest particle of its body, whichever elements the table is of. A root is not above its particle, and is its own.
+pub record BodyRoots (n k : ℕ) (verts roots : List ℕ) : Type 0 where
   pub lowest : (es : List Element) → Cornered k es n verts → Lowest (Together es) (length roots) roots
   pub down : (x : ℕ) → x < length roots → getD roots x 0 ≤ x
   pub flat : (x : ℕ) → x < length roots → getD roots (getD roots x 0) 0 ≡ getD roots x 0
-
--- the root of each element's first corner
-unfoldable pub elementRoots : ℕ → ℕ → List ℕ → List ℕ → List ℕ
-elementRoots n k verts roots = tab n (λ i. getD roots (getD verts (i * k) 0) 0)
-
--- The number of pieces, whichever elements the table is of; and what the two lent tables end as: the roots, and a mark at each root of an element.
-pub record PiecesCounted (n k : ℕ) (verts roots seen : List ℕ) (r : ℕ) : Type 0 where
-  pub counted : (es : List Element) → Cornered k es n verts → r ≡ length (distinct (pieceLabels es))
-  pub rooted : PieceRoots n k verts roots
-  pub marks : (x : ℕ) → x < length seen → getD seen x 0 ≡ pick (stands x (elementRoots n k verts roots)) 1 0
 
 -- 1 at each particle that some element holds, 0 at the others.
 pub record UsedMarked (n k : ℕ) (verts used : List ℕ) : Type 0 where

@@ -1,5 +1,8 @@
--- The crate's definitions: what a reader must believe is in Classes and Counted; Forest and Tables only proofs need.
+-- The crate's definitions: what a reader must believe is in Classes and Counted; Examples has meshes that are computed; Forest, Tables and Places only proofs
+-- need.
 pub mod Classes
 pub mod Counted
+pub mod Examples
 pub mod Forest
 pub mod Tables
+pub mod Places

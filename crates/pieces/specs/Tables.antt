@@ -1,12 +1,11 @@
--- Only proofs need this file: the links between the corners of a table, parent tables that join them, marks, and counts under way. Definitions only.
+-- Only proofs need this file: the links between the corners of a table, parent tables that join them, and marks. Definitions only.
 use Prim.Native.Nat.{ℕ, _+_, _*_, _<_}
 use mathlib.Core.Path.{_≡_}
 use mathlib.Core.List.{List}
 use lib.ListN.{length, getD}
-use Rattle.lists.specs.Lists.{pick, stands, distinct}
+use Rattle.lists.specs.Lists.{pick, stands}
 use Rattle.lists.specs.Chain.{Chain}
 use Rattle.pieces.specs.Forest.{Up, Down}
-use Rattle.pieces.specs.Counted.{elementRoots}
 
 -- x is the first corner of an element and y a corner of it, which lies among the first m of the table
 pub record Link (k : ℕ) (verts : List ℕ) (m x y : ℕ) : Type 0 where
@@ -31,12 +30,3 @@ pub record CornerStep (n k i : ℕ) (verts parent : List ℕ) : Type 0 where
 -- 1 at each number of a list, 0 at the others
 pub record Marked (l marks : List ℕ) : Type 0 where
   pub mark : (x : ℕ) → x < length marks → getD marks x 0 ≡ pick (stands x l) 1 0
-
--- what is asked of a table of roots
-pub record Rooted (roots : List ℕ) (particles : ℕ) : Type 0 where
-  pub within : (x : ℕ) → x < length roots → getD roots x 0 < particles
-
--- how many different roots the elements have, and a mark at each
-pub record RootsCounted (n k : ℕ) (verts roots seen : List ℕ) (r : ℕ) : Type 0 where
-  pub count : r ≡ length (distinct (elementRoots n k verts roots))
-  pub marked : Marked (elementRoots n k verts roots) seen

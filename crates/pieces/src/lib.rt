@@ -1,11 +1,13 @@
-// Pieces: the lowest particle of each particle's piece, how many pieces the elements of a table have, and which particles they hold.
+// Bodies, which one shared particle holds together: the lowest particle of each particle's body, and which particles the elements of a table hold.
+// Pieces, which a shared facet holds together, are counted in `facets`.
+pub mod facets;
 mod forest;
 
 ghost use mathlib.Core.Path.{_≡_};
 ghost use Prim.Native.Nat.{ℕ, _+_, _*_, _<_, _≤_};
 ghost use lib.ListN.{length, getD};
-ghost use Rattle.pieces.specs.Counted.{Corners, PieceRoots, PiecesCounted, UsedMarked};
-ghost use Rattle.pieces.specs.Tables.{Link, Tied, CornerStep, Rooted, RootsCounted};
+ghost use Rattle.pieces.specs.Counted.{Corners, BodyRoots, UsedMarked};
+ghost use Rattle.pieces.specs.Tables.{Link, Tied, CornerStep};
 
 // Joins each corner of element i to the first.
 fn join_corners(n: usize, k: usize, i: usize, verts: &[usize], parent: &mut [usize])
@@ -36,10 +38,10 @@ fn join_each(n: usize, k: usize, verts: &[usize], parent: &mut [usize])
     }
 }
 
-// Gives each particle the lowest particle of its piece. The element i has the corners verts[i * k .. i * k + k].
+// Gives each particle the lowest particle of its body. The element i has the corners verts[i * k .. i * k + k].
 pub fn join_elements(n: usize, k: usize, verts: &[usize], parent: &mut [usize])
     requires { ⌜ Corners n k (now verts) (length (now parent)) ⌝ }
-    ensures { λ _. ⌜ PieceRoots n k (now (verts .entry)) (now (parent .exit)) ⌝ }
+    ensures { λ _. ⌜ BodyRoots n k (now (verts .entry)) (now (parent .exit)) ⌝ }
 {
     join_each(n, k, verts, parent);
     forest::flatten(parent);
@@ -54,43 +56,6 @@ fn clear(marks: &mut [usize])
         marks[i] = 0;
         i += 1;
     }
-}
-
-// How many different roots the first corners of the elements have. seen ends with a mark at each.
-fn count_roots(n: usize, k: usize, verts: &[usize], roots: &[usize], seen: &mut [usize]) -> usize
-    requires { ⌜ Corners n k (now verts) (length (now roots)) ⌝ }
-    requires { ⌜ Rooted (now roots) (length (now seen)) ⌝ }
-    ensures { λ r. ⌜ RootsCounted n k (now (verts .entry)) (now (roots .entry)) (now (seen .exit)) r ⌝ }
-{
-    clear(seen);
-    let mut count: usize = 0;
-    let mut i = 0;
-    while i < n {
-        let at = i * k;
-        let first = verts[at];
-        let root = roots[first];
-        if seen[root] == 0 {
-            seen[root] = 1;
-            count += 1;
-        }
-        i += 1;
-    }
-    count
-}
-
-// How many pieces the elements have. parent ends as join_elements leaves it.
-pub fn count_pieces(
-    n: usize,
-    k: usize,
-    verts: &[usize],
-    parent: &mut [usize],
-    seen: &mut [usize],
-) -> usize
-    requires { ⌜ Corners n k (now verts) (length (now parent)) × (length (now parent) ≤ length (now seen)) ⌝ }
-    ensures { λ r. ⌜ PiecesCounted n k (now (verts .entry)) (now (parent .exit)) (now (seen .exit)) r ⌝ }
-{
-    join_elements(n, k, verts, parent);
-    count_roots(n, k, verts, parent, seen)
 }
 
 // Marks each particle that some element holds, and no other.

@@ -23,7 +23,8 @@ use Rattle.model.specs.Elements.{Kind, Triangles, Straps, Nothing, Element, cor
 use Rattle.model.specs.Valid.{named, rootOk, cornersOk, endsOk, sideOk, indicesFit}
 use Rattle.model.specs.Split.{Opening}
 use Rattle.model.specs.Pieces.{cornersAt, facetBetween, reachLabels, labelsAt, membersOf, reachOf}
-use Rattle.elements.specs.Table.{holding}
+use Rattle.elements.specs.Table.{elementsIn, holding}
+use Rattle.elements.proofs.Found.{elements-in}
 use Rattle.reach.specs.Opens.{Numbered, openingAt}
 use Rattle.reach.specs.Reached.{Plain, Across, numberAt, Reached, InGroup}
 use Rattle.reach.specs.Walk.{tally}
@@ -153,8 +154,12 @@ parts M e =
     by true false c d z = absurd (false≢true z)
     by false b c d z = absurd (false≢true z)
 
+-- elements that pass the test
+pub plain-in : (K : Kind) (n : ℕ) (ts : List Triangle) (es : List Edge) → all (cornersOk n) ts ≡ true → all (endsOk n) es ≡ true → Plain (elementsIn K ts es)
+unfolding elementsIn
+plain-in Triangles n ts es p q = record { distinct = triangles-plain n 0 ts p }
+plain-in Straps n ts es p q = record { distinct = straps-plain n 0 es q }
+plain-in Nothing n ts es p q = record { distinct = λ i l. absurd (not-suc-le-zero l) }
+
 pub plain-elements : (K : Kind) (M : Mesh) → indicesFit M ≡ true → Plain (elementsOf K M)
-unfolding elementsOf indicesFit
-plain-elements Triangles M e = record { distinct = triangles-plain (length (M .particles)) 0 (M .triangles) (parts M e .0) }
-plain-elements Straps M e = record { distinct = straps-plain (length (M .particles)) 0 (M .edges) (parts M e .1) }
-plain-elements Nothing M e = record { distinct = λ i l. absurd (not-suc-le-zero l) }
+plain-elements K M e = rw (elements-in K M) (plain-in K (length (M .particles)) (M .triangles) (M .edges) (parts M e .0) (parts M e .1))

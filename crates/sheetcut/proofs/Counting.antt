@@ -9,26 +9,28 @@ use lib.Ieee.{Float}
 use lib.ListN.{length, getD, length-take}
 use lib.Seq.{getD-take}
 use borrow.Author.Tests.{ltb-true}
-use Rattle.lists.specs.Lists.{pick, stands, any, all, each, distinct}
+use Rattle.lists.specs.Lists.{pick, stands, any, all, each}
 use Rattle.lists.proofs.Sifts.{and-true, true-and, all-append, all-get}
 use Rattle.columns.proofs.Rows.{tab-length}
 use Rattle.model.specs.Mesh.{Triangle, Edge, Mesh}
 use Rattle.model.specs.Valid.{named, cornersOk, endsOk}
 use Rattle.model.specs.Elements.{Kind, Triangles, Straps, Nothing, Element, kindBy, kindOf, cornersOf, endsOf, structural?, strapElement, trianglesFrom, strapsFrom, cornersPer}
-use Rattle.model.specs.Pieces.{pieces, pieceLabels}
+use Rattle.model.specs.Pieces.{pieceCount, pieces}
 use Rattle.mesh.specs.At.{triangleRow, edgeRow, trianglesAt, edgesAt}
 use Rattle.mesh.specs.declared.Counts.{Counts}
 use Rattle.elements.specs.declared.Kind.{Kind as KindCase}
 use Rattle.elements.specs.Table.{kindIs, elementsIn, KindFound, Cornered, Tabled, TableRoom}
 use Rattle.elements.proofs.Found.{elements-in}
 use Rattle.elements.proofs.Filling.{triangles-length, straps-length}
-use Rattle.pieces.specs.Counted.{Corners, PiecesCounted}
+use Rattle.reach.proofs.Reached.{plain-in}
+use Rattle.pieces.specs.Counted.{Corners, Lent, PiecesCounted}
+use Rattle.pieces.proofs.Pieces.{two-corners}
 use Rattle.sheetcut.specs.Work.{piecesIn, Countable}
 
 -- the pieces of a mesh are those of its triangles and edges
 pub pieces-in : (M : Mesh) → piecesIn (M .triangles) (M .edges) ≡ pieces M
 unfolding pieces piecesIn kindOf
-pieces-in M = ap (λ (es : List Element). length (distinct (pieceLabels es))) (sym (elements-in (kindOf M) M))
+pieces-in M = ap (λ (es : List Element). pieceCount (cornersPer (kindOf M)) es) (sym (elements-in (kindOf M) M))
 
 -- ---- corners name particles
 
@@ -117,13 +119,16 @@ module _ (k : Counts) (C : List ℕ) (U : List Float) (E : List ℕ) (L : List F
 
   module _ (kind : KindCase) (n per : ℕ) (N Y : List ℕ) (F : List Float)
       (T : Tabled (cornersPer (kindIs kind)) (elementsIn (kindIs kind) (trianglesAt (k .triangles) C U) (edgesAt (k .edges) E L)) n N Y F) (e : per ≡ cornersPer (kindIs kind)) where
+    few-told : Few n (cornersPer (kindIs kind))
+    few-told =
+        few-of (kindIs kind) (trianglesAt (k .triangles) C U) (edgesAt (k .edges) E L) n (omega (arith, triangles-count (k .triangles) C U, A .few-triangles)) (omega (arith, edges-count (k .edges) E L, A .few-edges)) (T .cornered .count)
+
     -- the corners of the table name particles
-    pub corners-told : 1024 ≤ length Y → Corners n per Y 256
+    corners-told : 1024 ≤ length Y → Corners n per Y 256
     corners-told long =
         let ts = trianglesAt (k .triangles) C U in
         let es = edgesAt (k .edges) E L in
-        let W : Few n (cornersPer (kindIs kind))
-        = few-of (kindIs kind) ts es n (omega (arith, triangles-count (k .triangles) C U, A .few-triangles)) (omega (arith, edges-count (k .edges) E L, A .few-edges)) (T .cornered .count) in
+        let W : Few n (cornersPer (kindIs kind)) = few-told in
         let w = cornersPer (kindIs kind) in
         let room : n * w ≤ length Y = omega (arith, W .narrow) in
         subst (λ (x : ℕ). Corners n x Y 256) (sym e)
@@ -136,11 +141,19 @@ module _ (k : Counts) (C : List ℕ) (U : List Float) (E : List ℕ) (L : List F
               omega (arith, b, A .few-particles);
         })
 
+    -- the table meets what the count asks
+    pub lent-told : {labels : ℕ} → 1024 ≤ length Y → labels ≡ n → Lent n per Y 256 1024 labels
+    lent-told long d =
+        let W : Few n per = subst (λ (x : ℕ). Few n x) (sym e) few-told in
+        record { corners = corners-told long; two = (let h = two-corners (kindIs kind) in omega arith); link-room = W .narrow; label-room = d }
+
     -- the pieces of the table are those of the triangles and edges
-    pub pieces-told : (roots seen : List ℕ) (r : ℕ) → KindFound (k .triangles) (k .edges) E kind → PiecesCounted n per Y roots seen r → r ≡ piecesIn (trianglesAt (k .triangles) C U) (edgesAt (k .edges) E L)
+    pub pieces-told : (labels : List ℕ) (r : ℕ) → KindFound (k .triangles) (k .edges) E kind → PiecesCounted n per Y labels r → r ≡ piecesIn (trianglesAt (k .triangles) C U) (edgesAt (k .edges) E L)
     unfolding piecesIn
-    pieces-told roots seen r K P =
-        let q : kindIs kind ≡ kindBy (trianglesAt (k .triangles) C U) (any structural? (edgesAt (k .edges) E L)) = K .is C U L in
-        let Z : Cornered per (elementsIn (kindIs kind) (trianglesAt (k .triangles) C U) (edgesAt (k .edges) E L)) n Y
-        = subst (λ (x : ℕ). Cornered x (elementsIn (kindIs kind) (trianglesAt (k .triangles) C U) (edgesAt (k .edges) E L)) n Y) (sym e) (T .cornered) in
-        P .counted _ (subst (λ (x : Kind). Cornered per (elementsIn x (trianglesAt (k .triangles) C U) (edgesAt (k .edges) E L)) n Y) q Z)
+    pieces-told labels r K P =
+        let ts = trianglesAt (k .triangles) C U in
+        let es = edgesAt (k .edges) E L in
+        let Z : Cornered per (elementsIn (kindIs kind) ts es) n Y = subst (λ (x : ℕ). Cornered x (elementsIn (kindIs kind) ts es) n Y) (sym e) (T .cornered) in
+        P .counted _ Z (plain-in (kindIs kind) (k .particles) ts es (A .triangle-names) (A .edge-names))
+        ∙ ap (λ (x : ℕ). pieceCount x (elementsIn (kindIs kind) ts es)) e
+        ∙ ap (λ (x : Kind). pieceCount (cornersPer x) (elementsIn x ts es)) (K .is C U L)

@@ -33,7 +33,7 @@ use Rattle.fan.specs.Groups.{labelsOf, numberOne, numberSide, numbered, groupsO
 use Rattle.model.specs.Valid.{particleOk, triangleOk, edgeOk, numbersFit, named, rootOk, cornersOk, endsOk, sideOk, indicesFit}
 use Rattle.model.specs.Elements.{placeOf, restOf, besides, sum, kindBy, kindOf, trianglesFrom, strapsFrom, elementsOf, held, restMeasure, restMeasureOf, fanOf, gridOf}
 use Rattle.model.specs.Split.{partsOf, openingOf, splits?, made, weightOf, totalOf, massOf, portion, copied, groupAt, rewiredTriangles, rewiredStraps, ring, scoreOf, scored, toward, edgeGroups, stayed, doubled, otherEdges, parted, straddles, sideGroup, followed, faceOn, facetsAt, crackFacets, atLongest, settled, splitEntries, goneEntries, splitMade, splitStep, splitBySides}
-use Rattle.model.specs.Pieces.{pieceLabels, pieces, pieceOf, spans, across?, withoutStraddlers, straddlersGone, removeStraddlers, reachLabels, labelsAt, membersOf, reachOf, opensWithoutConfetti}
+use Rattle.model.specs.Pieces.{sharedOf, pieceLabels, pieceCount, pieces, bodyLabels, bodies, bodyOf, spans, across?, withoutStraddlers, straddlersGone, removeStraddlers, reachLabels, labelsAt, membersOf, reachOf, opensWithoutConfetti}
 use Rattle.model.specs.Cut.{meets, leftOf, keptSide, bladeSides, splitByBlade, splitEnds, nearCorners, pinched, splitFree, splitPinched, candidates, cutFacets, crossings, nearEnd, strapsAt, strapShare, insertionOf, wanted?, insertable, sideAlong, bends, numbersOf, bendsOver, lightened, between, insertedParticles, halfOf, insertedEdges, shortened, appended, insertedSides, insertedMesh, insertStep, insertedAt, snappedAt, crossed, unbent, slackened, splitSnapped, afterCrossings, cutSegments, cut}
 use Rattle.model.specs.Crack.{largestStress, stressBetween, triangleLoad, loadsOf, family, crossPairs, currentOf, currentPair, beyond, farSide, meanLoad, twoSided, wayAt, waysOf, damagedAt, torn, crackBy, crackPair, crackEdge, tornEnds, crack}
 use Rattle.model.specs.Run.{start, stepTo, splitsOf, changed}
@@ -96,7 +96,7 @@ printed-as (done M l c) = refl
 
 -- with the rooms that the program lends: split 4 0, edge 1 3, split 5 2; 6 particles, 2 pieces
 worked-cut : said (cutCall true listingMesh (blade (negsuc 0) (negsuc 0) (pos 5) (pos 5)) tenth rooms) ≡ told (split 4 0 ∷ edge 1 3 ∷ split 5 2 ∷ []) 6 2
-unfolding any all sift siftAt find fold each pairs mapAt tab upTo rising distinct disjoint padded keep keptOf nth merged joinPair joinRow joinRows labelled absOf maxOf invOf finite? number? volume? notBelow0? floorRoot rootUnits signOf sumOf centroidOf lerpOf lengthOf bladeHit labelsOf numberOne numberSide numbered groupsOf countOf particleOk triangleOk edgeOk numbersFit named rootOk cornersOk endsOk sideOk indicesFit placeOf restOf besides sum kindBy kindOf trianglesFrom strapsFrom elementsOf held restMeasure restMeasureOf fanOf gridOf partsOf openingOf splits? made weightOf totalOf massOf portion copied groupAt rewiredTriangles rewiredStraps ring scoreOf scored toward edgeGroups stayed doubled otherEdges parted straddles sideGroup followed faceOn facetsAt crackFacets atLongest settled splitEntries goneEntries splitMade splitStep splitBySides pieceLabels pieces pieceOf spans across? withoutStraddlers straddlersGone removeStraddlers reachLabels labelsAt membersOf reachOf opensWithoutConfetti meets leftOf keptSide bladeSides splitByBlade splitEnds nearCorners pinched splitFree splitPinched candidates cutFacets crossings nearEnd strapsAt strapShare insertionOf wanted? insertable sideAlong bends numbersOf bendsOver lightened between insertedParticles halfOf insertedEdges shortened appended insertedSides insertedMesh insertStep insertedAt snappedAt crossed unbent slackened splitSnapped afterCrossings cutSegments cut largestStress stressBetween triangleLoad loadsOf family crossPairs currentOf currentPair beyond farSide meanLoad twoSided wayAt waysOf damagedAt torn crackBy crackPair crackEdge tornEnds crack start stepTo splitsOf changed sidesOk strictly particlesOk refusal tooSmall firstFault outcome cutCall crackCall splitCall straddlersCall bladeCall groupsCall restMeasureCall restMeasureOfCall opensCall piecesCall stateCall isNan neg add sub mul div lt le eq ne ofInt ofBits
+unfolding any all sift siftAt find fold each pairs mapAt tab upTo rising distinct disjoint padded keep keptOf nth merged joinPair joinRow joinRows labelled absOf maxOf invOf finite? number? volume? notBelow0? floorRoot rootUnits signOf sumOf centroidOf lerpOf lengthOf bladeHit labelsOf numberOne numberSide numbered groupsOf countOf particleOk triangleOk edgeOk numbersFit named rootOk cornersOk endsOk sideOk indicesFit placeOf restOf besides sum kindBy kindOf trianglesFrom strapsFrom elementsOf held restMeasure restMeasureOf fanOf gridOf partsOf openingOf splits? made weightOf totalOf massOf portion copied groupAt rewiredTriangles rewiredStraps ring scoreOf scored toward edgeGroups stayed doubled otherEdges parted straddles sideGroup followed faceOn facetsAt crackFacets atLongest settled splitEntries goneEntries splitMade splitStep splitBySides sharedOf pieceLabels pieceCount pieces bodyLabels bodies bodyOf spans across? withoutStraddlers straddlersGone removeStraddlers reachLabels labelsAt membersOf reachOf opensWithoutConfetti meets leftOf keptSide bladeSides splitByBlade splitEnds nearCorners pinched splitFree splitPinched candidates cutFacets crossings nearEnd strapsAt strapShare insertionOf wanted? insertable sideAlong bends numbersOf bendsOver lightened between insertedParticles halfOf insertedEdges shortened appended insertedSides insertedMesh insertStep insertedAt snappedAt crossed unbent slackened splitSnapped afterCrossings cutSegments cut largestStress stressBetween triangleLoad loadsOf family crossPairs currentOf currentPair beyond farSide meanLoad twoSided wayAt waysOf damagedAt torn crackBy crackPair crackEdge tornEnds crack start stepTo splitsOf changed sidesOk strictly particlesOk refusal tooSmall firstFault outcome cutCall crackCall splitCall straddlersCall bladeCall groupsCall restMeasureCall restMeasureOfCall opensCall piecesCall stateCall isNan neg add sub mul div lt le eq ne ofInt ofBits
 worked-cut = refl
 
 -- the same of the sheet

@@ -5,11 +5,11 @@ use mathlib.Core.Bool.{true}
 use mathlib.Core.List.{List}
 use lib.ListN.{length, take}
 use lib.Ieee.{Float}
-use Rattle.lists.specs.Lists.{any, all, distinct}
+use Rattle.lists.specs.Lists.{any, all}
 use Rattle.model.specs.Mesh.{Triangle, Edge}
 use Rattle.model.specs.Valid.{cornersOk, endsOk}
-use Rattle.model.specs.Elements.{structural?, kindBy}
-use Rattle.model.specs.Pieces.{pieceLabels}
+use Rattle.model.specs.Elements.{structural?, kindBy, cornersPer}
+use Rattle.model.specs.Pieces.{pieceCount}
 use Rattle.mesh.specs.At.{trianglesAt, edgesAt}
 use Rattle.mesh.specs.Log.{logAt}
 use Rattle.mesh.specs.Given.{Given, Lent, given, meshOf, sizesFit}
@@ -27,7 +27,7 @@ use Rattle.sheetcut.specs.SheetCut.{limits}
 
 -- the pieces of triangles and edges: `pieces` reads no more of a mesh
 unfoldable pub piecesIn : List Triangle → List Edge → ℕ
-piecesIn ts es = length (distinct (pieceLabels (elementsIn (kindBy ts (any structural? es)) ts es)))
+piecesIn ts es = let K = kindBy ts (any structural? es) in pieceCount (cornersPer K) (elementsIn K ts es)
 
 -- the fronts of blocks hold few triangles and edges, which name particles
 pub record Countable (k : Counts) (c : List ℕ) (v : List Float) (e : List ℕ) (l : List Float) : Type 0 where

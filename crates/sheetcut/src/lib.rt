@@ -49,8 +49,9 @@ fn count_pieces(
     let mut numbers = [0usize; 512];
     let mut verts = [0usize; 1024];
     let mut measures = [0.0f32; 512];
-    let mut parent = [0usize; 256];
-    let mut seen = [0usize; 256];
+    let mut last = [0usize; 256];
+    let mut link = [0usize; 1024];
+    let mut labels = [0usize; 512];
     let t = k.triangles;
     let e = k.edges;
     let kind = elements::kind_of(t, e, ends);
@@ -67,7 +68,7 @@ fn count_pieces(
         &mut measures,
     );
     let per = elements::corners_per(kind);
-    pieces::count_pieces(n, per, &verts, &mut parent, &mut seen)
+    pieces::facets::count_pieces(n, per, &verts, &mut last, &mut link, &mut labels[..n])
 }
 
 // Writes the listing of an answer that goes with the blocks, or the line of its refusal.

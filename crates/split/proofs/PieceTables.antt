@@ -18,7 +18,7 @@ use Rattle.mesh.proofs.Lists.{edges-length}
 use Rattle.lists.proofs.Stores.{tab-length}
 use Rattle.elements.specs.Table.{elementsIn, Cornered, Tabled}
 use Rattle.elements.proofs.Filling.{triangles-length, straps-length}
-use Rattle.pieces.specs.Counted.{Corners, PieceRoots, UsedMarked}
+use Rattle.pieces.specs.Counted.{Corners, BodyRoots, UsedMarked}
 use Rattle.pieces.proofs.Laws.{spans-by-tables}
 use Rattle.split.specs.Steps.{CornersIn, EndsIn, SidesIn}
 use Rattle.split.specs.Straddling.{spansBy, PiecesTold}
@@ -123,7 +123,7 @@ corners-more C h = record { width = C .width; few = C .few; room = C .room; belo
 -- ---- the tables of pieces
 
 pub pieces-told : (K : Kind) (es : List Element) (n k : ℕ) (numbers verts : List ℕ) (measures : List Float) (parent used : List ℕ) → k ≡ cornersPer K
-    → Tabled (cornersPer K) es n numbers verts measures → PieceRoots n k verts parent → UsedMarked n k verts used → length parent ≤ length used → PiecesTold es parent used
+    → Tabled (cornersPer K) es n numbers verts measures → BodyRoots n k verts parent → UsedMarked n k verts used → length parent ≤ length used → PiecesTold es parent used
 unfolding spansBy
 pieces-told K es n k numbers verts measures parent used ek T R U h =
     record { spans-are = spans-by-tables es (subst (λ (z : ℕ). Cornered z es n verts) (sym ek) (T .cornered)) R U h }

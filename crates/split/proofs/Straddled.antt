@@ -13,7 +13,7 @@ use Rattle.model.specs.Mesh.{Edge, Side, Mesh, blankEdge}
 use Rattle.model.specs.Elements.{Kind, Triangles, Straps, Nothing, Element, element?, elementsOf}
 use Rattle.model.specs.Run.{Entry, Run, stepTo}
 use Rattle.model.specs.Split.{goneEntries}
-use Rattle.model.specs.Pieces.{pieceLabels, spans, across?, withoutStraddlers, straddlersGone, removeStraddlers}
+use Rattle.model.specs.Pieces.{bodyLabels, spans, across?, withoutStraddlers, straddlersGone, removeStraddlers}
 use Rattle.elements.specs.Table.{elementsIn}
 use Rattle.elements.proofs.Found.{elements-in}
 use Rattle.mesh.specs.At.{particlesAt, trianglesAt, edgesAt, boundaryAt, edgeRow, sideRow, meshAt}
@@ -48,10 +48,10 @@ mask-sift p d mask n row h =
 
 -- what is left of a mesh, and what is logged
 unfoldable leftOf : Kind → Mesh → Mesh
-leftOf K M = withoutStraddlers K (elementsOf K M) (pieceLabels (elementsOf K M)) M
+leftOf K M = withoutStraddlers K (elementsOf K M) (bodyLabels (elementsOf K M)) M
 
 unfoldable goneOf : Kind → Mesh → List Entry
-goneOf K M = goneEntries (across? K (elementsOf K M) (pieceLabels (elementsOf K M))) (M .edges)
+goneOf K M = goneEntries (across? K (elementsOf K M) (bodyLabels (elementsOf K M))) (M .edges)
 
 step-is : (K : Kind) (R : Run) → straddlersGone K (elementsOf K (R .mesh)) R ≡ stepTo R (leftOf K (R .mesh)) (goneOf K (R .mesh)) (length (R .mesh .edges)) (length (R .mesh .boundary))
 unfolding straddlersGone leftOf goneOf
@@ -79,13 +79,13 @@ module _ (K : Kind) (k : Counts) (points : List Float) (roots corners : List ℕ
   row = edgeRow (length ends / 4) (length lengths / 4) ends lengths
 
   -- the masks mark what joins two pieces
-  edge-mark : (j : ℕ) → j < k .edges → marked edge-mask j ≡ across? K es (pieceLabels es) (row j)
+  edge-mark : (j : ℕ) → j < k .edges → marked edge-mask j ≡ across? K es (bodyLabels es) (row j)
   unfolding across? acrossBy
   edge-mark j h =
       E .marks lengths j h
       ∙ ap (λ (t : Bool). not (element? K (row j)) && t) (sym (P .spans-are (row j .a) (row j .b) (omega (arith, EI .first j h)) (omega (arith, EI .second j h))))
 
-  side-mark : (j : ℕ) → j < k .boundary → marked side-mask j ≡ spans es (pieceLabels es) (sideRow (length outline / 2) outline j .a) (sideRow (length outline / 2) outline j .b)
+  side-mark : (j : ℕ) → j < k .boundary → marked side-mask j ≡ spans es (bodyLabels es) (sideRow (length outline / 2) outline j .a) (sideRow (length outline / 2) outline j .b)
   side-mark j h = S .marks j h ∙ sym (P .spans-are _ _ (omega (arith, SI .first j h)) (omega (arith, SI .second j h)))
 
   -- what they leave is what the definition leaves
@@ -95,16 +95,16 @@ module _ (K : Kind) (k : Counts) (points : List Float) (roots corners : List ℕ
   unfolding leftOf withoutStraddlers meshAt edgesAt boundaryAt
   left-is =
       mesh-path refl refl
-      (mask-sift (across? K es (pieceLabels es)) blankEdge edge-mask (k .edges) row edge-mark)
-      (mask-sift (λ (s : Side). spans es (pieceLabels es) (s .a) (s .b)) (record { a = 0; b = 0 }) side-mask (k .boundary) (sideRow (length outline / 2) outline) side-mark)
-      ∙ sym (ap (λ (l : List Element). withoutStraddlers K l (pieceLabels l) M₀) same-elements)
+      (mask-sift (across? K es (bodyLabels es)) blankEdge edge-mask (k .edges) row edge-mark)
+      (mask-sift (λ (s : Side). spans es (bodyLabels es) (s .a) (s .b)) (record { a = 0; b = 0 }) side-mask (k .boundary) (sideRow (length outline / 2) outline) side-mark)
+      ∙ sym (ap (λ (l : List Element). withoutStraddlers K l (bodyLabels l) M₀) same-elements)
 
   -- and the marked edges are what it logs
   gone-is : map wordsOf (goneOf K M₀) ≡ map (goneWords ends) (markedOf edge-mask (k .edges))
   unfolding goneOf meshAt
   gone-is =
-      ap (λ (l : List Element). map wordsOf (goneEntries (across? K l (pieceLabels l)) (M₀ .edges))) same-elements
-      ∙ gone-words (across? K es (pieceLabels es)) edge-mask ends lengths (k .edges) edge-mark
+      ap (λ (l : List Element). map wordsOf (goneEntries (across? K l (bodyLabels l)) (M₀ .edges))) same-elements
+      ∙ gone-words (across? K es (bodyLabels es)) edge-mask ends lengths (k .edges) edge-mark
 
   module _ (L : Rooms) (W : Within k L) (R : Run) (X : worldAt k points roots corners volumes ends lengths outline log ≡ worldOf (R .mesh) (R .log)) where
     -- the run that the blocks hold

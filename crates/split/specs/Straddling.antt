@@ -1,4 +1,5 @@
--- The removal of straddlers across pieces, step by step: tables of pieces, masks of what joins two of them, the log and the blocks without them. Only contracts between workers need this file. Definitions only.
+-- The removal of straddlers across pieces, step by step: tables of pieces, masks of what joins two of them, the log and the blocks without them. Its pieces are the
+-- Rust's, which one shared particle holds together: the model's bodies. Only contracts between workers need this file. Definitions only.
 use Prim.Native.Nat.{ℕ, _+_, _/_, _<_, _≤_}
 use mathlib.Core.Path.{_≡_}
 use mathlib.Core.Bool.{Bool, not, _&&_}
@@ -10,7 +11,7 @@ use Rattle.lists.specs.Lists.{sift, keep, upTo}
 use Rattle.columns.specs.Block.{cell}
 use Rattle.model.specs.Mesh.{Edge}
 use Rattle.model.specs.Elements.{Kind, Element, element?}
-use Rattle.model.specs.Pieces.{pieceLabels, spans}
+use Rattle.model.specs.Pieces.{bodyLabels, spans}
 use Rattle.mesh.specs.At.{edgeRow, edgesAt, boundaryAt}
 use Rattle.mesh.specs.Log.{Words, logAt}
 use Rattle.mesh.specs.declared.Counts.{Counts}
@@ -43,7 +44,7 @@ pub record PiecesRoom (t e : ℕ) (corners : List ℕ) (lv : ℕ) (ends : List �
 
 -- the tables tell which particles lie in different pieces of these elements
 pub record PiecesTold (es : List Element) (parent used : List ℕ) : Type 0 where
-  pub spans-are : (x y : ℕ) → x < length parent → y < length parent → spans es (pieceLabels es) x y ≡ spansBy parent used x y
+  pub spans-are : (x y : ℕ) → x < length parent → y < length parent → spans es (bodyLabels es) x y ≡ spansBy parent used x y
 
 -- ---- masks
 

@@ -5,6 +5,7 @@ mod check;
 mod compare;
 mod cutlist;
 mod fuzz;
+mod hanging;
 mod histories;
 mod replay;
 mod sheets;
@@ -14,7 +15,7 @@ mod vectors;
 /// Runs the program and gives its exit code.
 pub fn start(words: &[String]) -> i32 {
     let Some((name, rest)) = words.split_first() else {
-        eprintln!("oracle cases | check | fuzz | compare | faults | histories | replay | bench | vectors | cutlist | sheet");
+        eprintln!("oracle cases | check | fuzz | compare | faults | hanging | histories | replay | bench | vectors | cutlist | sheet");
         eprintln!("  | sheets | stack (see oracle/README.md)");
         return 2;
     };
@@ -24,6 +25,7 @@ pub fn start(words: &[String]) -> i32 {
         "fuzz" => fuzz::run(rest),
         "compare" => compare::run(rest),
         "faults" => compare::faults(rest),
+        "hanging" => hanging::run(rest),
         "histories" => histories::run(rest),
         "replay" => replay::run(rest),
         "bench" => bench::run(rest),

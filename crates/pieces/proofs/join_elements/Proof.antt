@@ -1,6 +1,6 @@
 -- `pieces::join_elements` meets its contract. Assumes nothing.
 use borrow.Author.Needs.{needs}
-use Rattle.pieces.proofs.Trees.{piece-roots}
+use Rattle.pieces.proofs.Trees.{body-roots}
 use Rattle.pieces.proofs.join_elements.Statement.{statement}
 use Rattle.pieces.proofs.join_elements.Tie as tie
 
@@ -17,7 +17,7 @@ returns : tie.Need-returns
 returns c =
     let J = c .before .before .before .before .before .before .join-each .ensures in
     let E = c .before .before .flatten .ensures in
-    piece-roots J (E .0) (E .1)
+    body-roots J (E .0) (E .1)
 
 pub join-elements-spec : {M : Type 1} → statement M
 join-elements-spec = tie.close (tie.spec join-each-requires flatten-requires same-length returns)
