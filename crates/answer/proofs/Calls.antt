@@ -18,7 +18,7 @@ use Rattle.mesh.specs.Given.{Given, Lent, meshOf, roomsOf, asRooms}
 use Rattle.mesh.specs.Filled.{Filled}
 use Rattle.mesh.specs.declared.Counts.{Counts}
 use Rattle.mesh.specs.declared.Rooms.{Rooms}
-use Rattle.mesh.proofs.Accepted.{rooms-fit}
+use Rattle.judge.proofs.Accepted.{rooms-fit}
 use Rattle.mesh.proofs.Agree.{agree, Zero, zeros}
 use Rattle.mesh.proofs.Lists.{particles-length, edges-length, log-length}
 use Rattle.split.specs.Working.{Within, Went, Works}

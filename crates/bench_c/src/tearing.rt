@@ -194,8 +194,8 @@ pub fn reply_job(
 {
     if image::image_sized(bytes) {
         let room = rooms_in(rooms, log.len());
-        let right = mesh::tests::both(read, rooms.len() == 16);
-        let code = mesh::tests::first(judge(job, list, room, bytes), right, 4);
+        let right = judge::tests::both(read, rooms.len() == 16);
+        let code = judge::tests::first(judge(job, list, room, bytes), right, 4);
         if code != 0 {
             return crate::outcome::refuse(code, out, log);
         }

@@ -1,5 +1,4 @@
 -- Laws of openings in tables.
-pub mod Walks
 pub mod Rings
 pub mod Weights
 pub mod Towards

@@ -30,7 +30,8 @@ use Rattle.opening.specs.Answers.{NextGroup}
 use Rattle.opening.proofs.Rings.{ring-next, ring-first}
 use Rattle.opening.proofs.Weights.{fan-tab}
 use Rattle.rewire.specs.Stages.{OpeningIn, GrownTo, EdgesGrown}
-use Rattle.rewire.specs.RoomsB.{rowAt, Between, CopyIs, EndsMoved, SameRows, CopiesGrown, EdgeSettled}
+use Rattle.mesh.specs.Workers.{rowAt}
+use Rattle.rewire.specs.RoomsB.{Between, CopyIs, EndsMoved, SameRows, CopiesGrown, EdgeSettled}
 use Rattle.rewire.specs.declared.Grown.{Grown}
 use Rattle.rewire.specs.declared.Grown.the-variants.{Lacking, Rows}
 

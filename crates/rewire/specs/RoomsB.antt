@@ -12,8 +12,8 @@ use Rattle.lists.specs.Lists.{pick, stands, all, find, each, upTo, sift, keep}
 use Rattle.columns.specs.Block.{cell}
 use Rattle.model.specs.Elements.{Kind, Triangles, element?, held, cornersPer, sideEnds}
 use Rattle.model.specs.Split.{Opening, copyFor, moved, calm, stayed, doubled, straddles, oneOrNone, faceOn, facetsAt, crackFacets}
-use Rattle.mesh.specs.At.{edgeRow, edgesAt, trianglesAt, boundaryAt}
-use Rattle.mesh.specs.Workers.{EdgeRoom}
+use Rattle.mesh.specs.At.{edgesAt, trianglesAt, boundaryAt}
+use Rattle.mesh.specs.Workers.{EdgeRoom, rowAt}
 use Rattle.opening.specs.Opened.{partAt, Numbered, Ringed, RingRoom, CornersBelow, ringFrom}
 use Rattle.rewire.specs.Stages.{OpeningIn, GrownTo}
 use Rattle.rewire.specs.declared.facets.Face.{Face}
@@ -22,10 +22,6 @@ use Rattle.rewire.specs.declared.Grown.{Grown}
 use Rattle.rewire.specs.declared.Grown.the-variants.{Lacking, Rows}
 
 -- ---- other edges
-
--- row j of the edges
-abbrev pub rowAt : List ℕ → List Float → ℕ → Edge
-rowAt ends lengths j = edgeRow (length ends / 4) (length lengths / 4) ends lengths j
 
 -- if there was room, there are m rows at least and no more than the room
 abbrev pub Between : ℕ → ℕ → Grown → Type 0

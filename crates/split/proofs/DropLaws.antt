@@ -17,11 +17,11 @@ use Rattle.model.specs.Run.{split}
 use Rattle.model.specs.Split.{Opening, made, straddles, splitEntries, goneEntries}
 use Rattle.mesh.specs.At.{edgesAt}
 use Rattle.mesh.specs.Log.{Words, wordsOf, logAt}
-use Rattle.mesh.specs.Workers.{Removed}
+use Rattle.mesh.specs.Workers.{Removed, rowAt}
 use Rattle.mesh.proofs.Lists.{edges-length}
 use Rattle.mesh.specs.declared.Counts.{Counts}
 use Rattle.mesh.specs.declared.Rooms.{Rooms}
-use Rattle.rewire.specs.RoomsB.{rowAt, Straddling, StraddlersMarked}
+use Rattle.rewire.specs.RoomsB.{Straddling, StraddlersMarked}
 use Rattle.split.specs.Steps.{loggedOf}
 use Rattle.split.specs.Straddling.{marked, markedOf, goneWords}
 use Rattle.split.specs.Settling.{copyWords, SplitAsked, SplitNoted, DropAsked, Dropped}

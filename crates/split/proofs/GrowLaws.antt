@@ -25,7 +25,8 @@ use Rattle.opening.specs.Answers.{WeightsAre}
 use Rattle.opening.proofs.Weights.{ringed-grouped}
 use Rattle.rewire.specs.Stages.{PartsBy, TrianglesRewired, StrapsRewired, ParticlesCopied, OpeningIn, GrownTo, EdgesGrown}
 use Rattle.rewire.specs.RoomsA.{PartsRoom}
-use Rattle.rewire.specs.RoomsB.{rowAt, EdgesRoom}
+use Rattle.mesh.specs.Workers.{rowAt}
+use Rattle.rewire.specs.RoomsB.{EdgesRoom}
 use Rattle.rewire.specs.declared.Grown.{Grown}
 use Rattle.rewire.specs.declared.Grown.the-variants.{Lacking as NoRoom, Rows}
 use Rattle.rewire.proofs.FanLaws.{replaced-self}

@@ -11,13 +11,13 @@ use lib.Ieee.{Float}
 use Rattle.lists.specs.Lists.{pick, sift, tab, upTo}
 use Rattle.lists.proofs.Sifts.{map-tab}
 use Rattle.lists.proofs.Steps.{tab-step}
-use Rattle.opening.proofs.Walks.{sift-same}
+use Rattle.lists.proofs.Walks.{sift-same}
 use Rattle.model.specs.Mesh.{Edge}
 use Rattle.model.specs.Run.{edge}
 use Rattle.model.specs.Split.{goneEntries}
 use Rattle.mesh.specs.At.{edgesAt}
 use Rattle.mesh.specs.Log.{Words, wordsOf, logAt}
-use Rattle.rewire.specs.RoomsB.{rowAt}
+use Rattle.mesh.specs.Workers.{rowAt}
 use Rattle.split.specs.Straddling.{marked, markedOf, goneWords, EdgesNoted}
 use Rattle.split.specs.Settling.{copyWords, CopiesNoted, SplitNoted}
 

@@ -16,7 +16,7 @@ use Rattle.lists.proofs.Steps.{sift-step}
 use Rattle.columns.specs.Block.{cell, BlockKept}
 use Rattle.columns.proofs.Cells.{col-0, col-1}
 use Rattle.columns.proofs.Rows.{rows-keep}
-use Rattle.opening.proofs.Walks.{sift-same, tab-split}
+use Rattle.lists.proofs.Walks.{sift-same, tab-split}
 use Rattle.model.specs.Mesh.{Edge}
 use Rattle.model.specs.Elements.{Kind, Triangles, Straps, Nothing, element?}
 use Rattle.mesh.specs.At.{edgeRow, edgesAt, boundaryAt}

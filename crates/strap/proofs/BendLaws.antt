@@ -25,7 +25,7 @@ use Rattle.model.specs.Cut.{strapsAt, sideAlong, only, bends, numbersOf, bendsO
 use Rattle.mesh.specs.At.{edgesAt}
 use Rattle.elements.specs.Workers.{marked}
 use Rattle.elements.proofs.Measures.{cleared-long}
-use Rattle.rewire.specs.RoomsB.{rowAt}
+use Rattle.mesh.specs.Workers.{rowAt}
 use Rattle.strap.specs.Shares.{strapAt, StrapTold}
 use Rattle.strap.specs.Bends.{FarIs, nearBy, NeighbourIs, EndsBelow, SideMarked, onlyBy, bendBy, BendTold, BetweenMarked, BendsMarked}
 

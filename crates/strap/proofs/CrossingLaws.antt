@@ -24,7 +24,7 @@ use Rattle.model.specs.Elements.{Element, structural?, strapElement, strapsFrom
 use Rattle.model.specs.Cut.{Crossing, crossingAt, meets, crossings}
 use Rattle.mesh.specs.At.{edgesAt}
 use Rattle.elements.proofs.Filling.{straps-push}
-use Rattle.rewire.specs.RoomsB.{rowAt}
+use Rattle.mesh.specs.Workers.{rowAt}
 use Rattle.rewire.proofs.EdgeLaws.{edges-get}
 use Rattle.strap.specs.Shares.{Stands}
 use Rattle.strap.specs.Bends.{EndsBelow}

@@ -15,10 +15,9 @@ use Rattle.model.specs.Mesh.{Particle, Edge, Mesh, blank, blankEdge}
 use Rattle.model.specs.Elements.{particle, edgeAt}
 use Rattle.model.specs.Cut.{Insertion, insertionOf, insertable, wanted?, nearEnd, clampTo, segmentMass, strapShare}
 use Rattle.mesh.specs.At.{particleRow, particlesAt}
-use Rattle.mesh.specs.Workers.{edgeOf}
+use Rattle.mesh.specs.Workers.{edgeOf, rowAt}
 use Rattle.mesh.specs.declared.EdgeRow.{EdgeRow}
 use Rattle.mesh.proofs.Lists.{particles-length}
-use Rattle.rewire.specs.RoomsB.{rowAt}
 use Rattle.rewire.proofs.EdgeLaws.{edges-get}
 use Rattle.strap.specs.Shares.{Stands, ShareIs}
 use Rattle.strap.specs.Plans.{planned, PlanRoom, PlanIs, InsertableIs}

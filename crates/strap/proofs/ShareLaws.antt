@@ -17,7 +17,7 @@ use Rattle.model.specs.Mesh.{Particle, Edge, blank}
 use Rattle.model.specs.Elements.{sum, particle}
 use Rattle.model.specs.Cut.{strapsAt, strapShare}
 use Rattle.mesh.specs.At.{particleRow, particlesAt, edgesAt}
-use Rattle.rewire.specs.RoomsB.{rowAt}
+use Rattle.mesh.specs.Workers.{rowAt}
 use Rattle.elements.proofs.Measures.{sum-push, sum-none}
 use Rattle.strap.specs.Shares.{strapAt, StrapTold, totalAt, ShareIs}
 

@@ -11,7 +11,7 @@ use Rattle.split.proofs.PieceMasks.{Counting, counting-start, counting-few, cou
 use lib.ListN.{length, getD, length-append, length-map, replicate}
 use Rattle.lists.specs.Lists.{pick, stands, sift, siftAt, keep, tab, upTo, padded}
 use Rattle.lists.proofs.Stores.{tab-length}
-use Rattle.opening.proofs.Walks.{sift-same}
+use Rattle.lists.proofs.Walks.{sift-same}
 use Rattle.model.specs.Mesh.{Edge, Mesh}
 use Rattle.model.specs.Run.{Entry, edge, Run}
 use Rattle.model.specs.Cut.{unbent, withEdges}

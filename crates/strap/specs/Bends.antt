@@ -11,7 +11,7 @@ use Rattle.model.specs.Elements.{structural?, farEnd, besides}
 use Rattle.model.specs.Cut.{sideAlong, bendsOver}
 use Rattle.mesh.specs.At.{edgesAt}
 use Rattle.elements.specs.Workers.{marked}
-use Rattle.rewire.specs.RoomsB.{rowAt}
+use Rattle.mesh.specs.Workers.{rowAt}
 use Rattle.strap.specs.Shares.{strapAt}
 
 -- the end of edge i that isn't v

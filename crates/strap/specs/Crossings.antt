@@ -10,7 +10,7 @@ use Rattle.blade.specs.declared.Hit.{Hit}
 use Rattle.model.specs.Mesh.{Mesh}
 use Rattle.model.specs.Elements.{structural?}
 use Rattle.model.specs.Cut.{Crossing, crossingAt, meets, crossings}
-use Rattle.rewire.specs.RoomsB.{rowAt}
+use Rattle.mesh.specs.Workers.{rowAt}
 use Rattle.strap.specs.Shares.{Stands}
 use Rattle.strap.specs.Bends.{EndsBelow}
 

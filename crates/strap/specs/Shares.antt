@@ -9,7 +9,7 @@ use Rattle.model.specs.Mesh.{Edge, Mesh}
 use Rattle.model.specs.Elements.{structural?, endsOf, sum}
 use Rattle.model.specs.Cut.{strapShare}
 use Rattle.mesh.specs.At.{particlesAt, edgesAt}
-use Rattle.rewire.specs.RoomsB.{rowAt}
+use Rattle.mesh.specs.Workers.{rowAt}
 
 -- is e a structural edge at v
 abbrev pub strapAt : ℕ → Edge → Bool

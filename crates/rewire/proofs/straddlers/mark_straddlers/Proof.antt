@@ -1,6 +1,5 @@
 -- `rewire::straddlers::mark_straddlers` meets its contract: the loop over the edges is `Marking` of proofs/StraddlerLaws.antt. Assumes nothing.
-use Rattle.rewire.proofs.StraddlerLaws.{pick-small}
-use Rattle.rewire.proofs.StraddlerLaws.{Marking, marking-start, marking-step, marking-done}
+use Rattle.rewire.proofs.StraddlerLaws.{pick-small, Marking, marking-start, marking-step, marking-done}
 use Rattle.elements.specs.Table.{kindIs}
 use native.Mathlib.Omega.{arith}
 use Prim.Native.Nat.{_-_}
