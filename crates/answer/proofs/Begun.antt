@@ -24,7 +24,7 @@ use Rattle.mesh.specs.declared.Rooms.{Rooms}
 use Rattle.judge.proofs.Joined.{sizes-told}
 use Rattle.judge.proofs.Accepted.{lentOf, SizedInput, input-fits}
 use Rattle.mesh.proofs.Lists.{particles-length, edges-length}
-use Rattle.split.specs.Working.{Roomed, Ready}
+use Rattle.work.specs.Working.{Roomed, Ready}
 use Rattle.answer.specs.Framed.{copyNeed, begunWith, RoomsLent, BeginAsked, Begun}
 
 -- ---- counts

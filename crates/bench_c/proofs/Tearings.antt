@@ -17,10 +17,9 @@ use Rattle.mesh.specs.Given.{Given, Lent, sizesFit, meshOf, sizes, asRooms}
 use Rattle.mesh.specs.Filled.{lent}
 use Rattle.mesh.specs.declared.Counts.{Counts}
 use Rattle.mesh.specs.declared.Rooms.{Rooms}
-use Rattle.split.specs.Working.{Roomed, Ready, Works}
-use Rattle.split.specs.declared.Ran.{Ran}
-use Rattle.split.specs.declared.Ran.the-variants.{Refused as Stopped}
-use Rattle.cut.specs.Running.{Logged}
+use Rattle.work.specs.Working.{Roomed, Ready, Works, Logged}
+use Rattle.work.specs.declared.Ran.{Ran}
+use Rattle.work.specs.declared.Ran.the-variants.{Refused as Stopped}
 use Rattle.answer.specs.Framed.{RoomsLent, BeginAsked, Begun, Came}
 use Rattle.answer.proofs.Begun.{begin-asked, begun-by}
 use Rattle.jobs.specs.Jobs.{jobNumbers, jobArguments, jobRun, jobCall}

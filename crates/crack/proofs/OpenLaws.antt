@@ -34,13 +34,13 @@ use Rattle.mesh.specs.declared.Counts.{Counts}
 use Rattle.mesh.specs.declared.Rooms.{Rooms}
 use Rattle.mesh.specs.Filled.{lent}
 use Rattle.elements.specs.Table.{TableRoom}
-use Rattle.split.specs.Working.{Within, Ready, Works}
+use Rattle.work.specs.Working.{Within, Ready, Works}
 use Rattle.split.specs.Tables.{FanGrouped, FanSided, GroupsFound, openedBy}
-use Rattle.split.specs.declared.Ran.{Ran}
-use Rattle.split.specs.declared.Ran.the-variants.{Done}
-use Rattle.split.proofs.Runs.{works-stay, works-as}
+use Rattle.work.specs.declared.Ran.{Ran}
+use Rattle.work.specs.declared.Ran.the-variants.{Done}
+use Rattle.work.proofs.Runs.{works-stay, works-as}
 use Rattle.split.proofs.TabledLaws.{inverse-at, opening-found, fan-grouped, splits-so}
-use Rattle.split.proofs.Placed.{particles-count}
+use Rattle.work.proofs.Placed.{particles-count}
 use Rattle.tear.specs.Ways.{twoBy}
 use Rattle.tear.specs.Tried.{WayReady, WayRead, WayLoad, OpensRoom}
 use Rattle.crack.specs.Cracks.{PairReady, PairBelow, PairNow, openWay, WayAsked, OpenedTo, TriedTo, EndsTold, Turned, PairTold, CrackTold}

@@ -24,10 +24,10 @@ use Rattle.mesh.specs.Log.{World, worldOf, worldAt}
 use Rattle.mesh.specs.declared.Counts.{Counts}
 use Rattle.elements.specs.Table.{Tabled, elementsIn}
 use Rattle.elements.proofs.Tables.{noElement}
-use Rattle.split.proofs.Placed.{particles-count}
+use Rattle.work.proofs.Placed.{particles-count}
 use Rattle.split.proofs.Below.{Few, Cornering, element-corners}
 use Rattle.split.proofs.Fitted.{all-few}
-use Rattle.cut.specs.Running.{Logged}
+use Rattle.work.specs.Working.{Logged}
 use Rattle.tear.specs.Families.{MeshIn, pairIs, CurrentRoom, CurrentTold}
 use Rattle.crack.specs.Cracks.{PairReady, PairBelow, PairNow}
 use Rattle.tear.specs.declared.families.Pair.{Pair}

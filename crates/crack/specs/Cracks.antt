@@ -20,8 +20,8 @@ use Rattle.mesh.specs.Log.{World, worldOf}
 use Rattle.mesh.specs.declared.Counts.{Counts}
 use Rattle.mesh.specs.declared.Rooms.{Rooms}
 use Rattle.elements.specs.Table.{TableRoom}
-use Rattle.split.specs.Working.{Works}
-use Rattle.split.specs.declared.Ran.{Ran}
+use Rattle.work.specs.Working.{Works}
+use Rattle.work.specs.declared.Ran.{Ran}
 use Rattle.tear.specs.Families.{pairIs}
 use Rattle.tear.specs.Torn.{TearAsked}
 use Rattle.tear.specs.declared.families.Pair.{Pair}

@@ -8,13 +8,12 @@ ghost use Rattle.model.specs.Crack.{crack};
 ghost use Rattle.mesh.specs.At.{meshAt};
 ghost use Rattle.mesh.specs.Log.{worldAt};
 ghost use Rattle.mesh.specs.Filled.{lent};
-ghost use Rattle.split.specs.Working.{Ready, Works};
-ghost use Rattle.cut.specs.Running.{Logged};
+ghost use Rattle.work.specs.Working.{Ready, Works, Logged};
 ghost use Rattle.crack.specs.Bodies.{EndsRoom, EndsKept, endsListed, CracksRoom, CracksTold, crackTurns, crackEnd};
 use elements::Kind;
 use mesh::Counts;
 use mesh::Rooms;
-use split::Ran;
+use work::Ran;
 
 // Keeps the ends of the first e edges in two tables, as a crack changes their block.
 fn keep_ends(e: usize, ends: &[usize], from: &mut [usize], to: &mut [usize])

@@ -9,17 +9,16 @@ ghost use Rattle.mesh.specs.Log.{worldAt};
 ghost use Rattle.mesh.specs.Filled.{lent};
 ghost use Rattle.model.specs.Split.{openingOf};
 ghost use Rattle.model.specs.Crack.{twoSided};
-ghost use Rattle.split.specs.Working.{Ready};
+ghost use Rattle.work.specs.Working.{Ready, Logged};
 ghost use Rattle.split.specs.Tables.{FanSided};
-ghost use Rattle.cut.specs.Running.{Logged};
 ghost use Rattle.tear.specs.Tried.{WayReady, LoadsLong};
 ghost use Rattle.tear.specs.Torn.{TearAsked};
 ghost use Rattle.crack.specs.Cracks.{PairReady, PairNow, WayAsked, OpenedTo, TriedTo, EndsTold, Turned, PairTold, CrackTold};
 use elements::Kind;
 use mesh::Counts;
 use mesh::Rooms;
-use split::Ran;
 use tear::families::Pair;
+use work::Ran;
 
 // What trying a way came to: it doesn't open, or what its split came to.
 pub enum Tried {

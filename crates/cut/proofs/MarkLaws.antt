@@ -24,7 +24,7 @@ use Rattle.model.specs.Run.{Entry, split, edge, insert, opened, Run, splitOf, s
 use Rattle.model.specs.Cut.{Blade, hit?, meets, ifMet, splitEnds, nearCorners}
 use Rattle.mesh.specs.At.{trianglesAt}
 use Rattle.mesh.specs.Log.{wordsOf, entryRow, logAt}
-use Rattle.split.specs.Steps.{CornersIn}
+use Rattle.work.specs.Places.{CornersIn}
 use Rattle.cut.specs.Marking.{Marks, MarkedBy, placeIn, PlacesIn, metIn, metOf, candidateEnds, CandidatesMarked, splitWords, endsIn, NearMarked, SplitFound, marked?, nearRow, pinchedEnds, PinchedMarked}
 
 -- ---- one more mark

@@ -16,7 +16,7 @@ use Rattle.model.specs.Run.{Run, splitsOf}
 use Rattle.model.specs.Cut.{Blade, hit?, ifMet, splitEnds, nearCorners}
 use Rattle.mesh.specs.At.{trianglesAt}
 use Rattle.mesh.specs.Log.{Words, wordsOf, logAt}
-use Rattle.split.specs.Steps.{CornersIn}
+use Rattle.work.specs.Places.{CornersIn}
 
 -- ---- marks
 

@@ -8,18 +8,18 @@ ghost use Rattle.mesh.specs.At.{meshAt};
 ghost use Rattle.mesh.specs.Log.{worldAt};
 ghost use Rattle.mesh.specs.Filled.{lent};
 ghost use Rattle.elements.specs.Table.{kindIs};
-ghost use Rattle.split.specs.Working.{Ready, Works};
+ghost use Rattle.work.specs.Working.{Ready, Works, Logged};
 ghost use Rattle.cut.specs.Marking.{bladeFrom};
 ghost use Rattle.cut.specs.Sided.{SidesRoom};
-ghost use Rattle.cut.specs.Running.{splitIn, splitIf, SidesFor, TablesLong, chosen, Logged, Chosen};
+ghost use Rattle.cut.specs.Running.{splitIn, splitIf, SidesFor, TablesLong, chosen, Chosen};
 use crate::marks;
 use crate::sides::blade_sides;
 use blade::Point;
 use elements::Kind;
 use mesh::Counts;
 use mesh::Rooms;
-use split::Ran;
 use split::step::split_tabled;
+use work::Ran;
 
 // How a fan is parted: no element from another by its side, or by the blade.
 pub enum Parting {

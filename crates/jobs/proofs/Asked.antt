@@ -16,11 +16,11 @@ use Rattle.mesh.specs.declared.Counts.{Counts}
 use Rattle.mesh.specs.declared.Rooms.{Rooms}
 use Rattle.elements.specs.declared.Kind.{Kind as KindCase}
 use Rattle.elements.specs.Table.{kindIs, KindFound}
-use Rattle.split.specs.Working.{Ready, Works}
+use Rattle.work.specs.Working.{Ready, Works, SettleRoom}
 use Rattle.split.specs.Tables.{SidesGiven}
-use Rattle.split.specs.Steps.{SettleRoom, CornersIn, EndsIn, SidesIn}
-use Rattle.split.specs.declared.Ran.{Ran}
-use Rattle.split.proofs.Placed.{corners-in, ends-in, sides-in}
+use Rattle.work.specs.Places.{CornersIn, EndsIn, SidesIn}
+use Rattle.work.specs.declared.Ran.{Ran}
+use Rattle.work.proofs.Placed.{corners-in, ends-in, sides-in}
 use Rattle.answer.proofs.Begun.{mesh-triangles}
 use Rattle.jobs.specs.Jobs.{jobArguments, jobRun}
 use Rattle.jobs.specs.Asks.{JobAsked}

@@ -20,13 +20,12 @@ use Rattle.mesh.specs.Given.{Given, meshOf, sizes, sizesFit, asRooms}
 use Rattle.mesh.specs.Filled.{lent}
 use Rattle.mesh.specs.declared.Counts.{Counts}
 use Rattle.mesh.specs.declared.Rooms.{Rooms}
-use Rattle.split.specs.Working.{Roomed, Ready, Works}
+use Rattle.work.specs.Working.{Roomed, Ready, Works, Logged}
 use Rattle.split.specs.Tables.{SidesGiven}
-use Rattle.split.specs.declared.Ran.{Ran}
-use Rattle.split.specs.declared.Ran.the-variants.{Refused as Stopped}
+use Rattle.work.specs.declared.Ran.{Ran}
+use Rattle.work.specs.declared.Ran.the-variants.{Refused as Stopped}
 use Rattle.blade.specs.declared.Point.{Point}
 use Rattle.cut.specs.Marking.{bladeFrom}
-use Rattle.cut.specs.Running.{Logged}
 use Rattle.answer.specs.Framed.{Begun, Came}
 use Rattle.answer.proofs.Begun.{began-passed, began-ready}
 use Rattle.answer.proofs.Calls.{came-begun, came-worked, unlogged}

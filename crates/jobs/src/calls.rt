@@ -6,8 +6,7 @@ ghost use Rattle.mesh.specs.At.{meshAt};
 ghost use Rattle.mesh.specs.Log.{worldAt};
 ghost use Rattle.mesh.specs.Given.{given, meshOf, sizes, sizesFit, asRooms};
 ghost use Rattle.mesh.specs.Filled.{lent};
-ghost use Rattle.split.specs.Working.{Roomed, Ready, Works};
-ghost use Rattle.cut.specs.Running.{Logged};
+ghost use Rattle.work.specs.Working.{Roomed, Ready, Works, Logged};
 ghost use Rattle.answer.specs.Framed.{RoomsLent, Begun, Came};
 ghost use Rattle.jobs.specs.Jobs.{jobNumbers, jobArguments, jobRun, jobCall};
 ghost use Rattle.jobs.specs.Asks.{JobAsked};
@@ -15,7 +14,7 @@ use crate::Job;
 use crate::checks;
 use mesh::Counts;
 use mesh::Rooms;
-use split::Ran;
+use work::Ran;
 
 // Copies the input of a call, unless a check or a room refuses it. Returns the refusal, or 0.
 pub fn begin(

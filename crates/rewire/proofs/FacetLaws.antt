@@ -22,13 +22,13 @@ use Rattle.model.specs.Mesh.{Triangle, Side, Mesh, blankTriangle}
 use Rattle.model.specs.Split.{Part, Opening, copyFor, facesOf, faceOn, opens?, facetsAt, crackFacets}
 use Rattle.mesh.specs.At.{triangleRow, trianglesAt, sideRow, boundaryAt}
 use Rattle.opening.specs.Opened.{blankPart, partAt}
-use Rattle.rewire.specs.Stages.{GrownTo}
-use Rattle.rewire.specs.RoomsB.{Between, CopyIs, faceIs, onBy, facesBy, foundBy, FacetsIn, FaceFound, SidesGrown, FacetsGrown, pairFacets, rowFacets, allFacets}
+use Rattle.work.specs.Rows.{GrownTo, Between}
+use Rattle.rewire.specs.RoomsB.{CopyIs, faceIs, onBy, facesBy, foundBy, FacetsIn, FaceFound, SidesGrown, FacetsGrown, pairFacets, rowFacets, allFacets}
 use Rattle.rewire.specs.declared.facets.Face.{Face}
 use Rattle.rewire.specs.declared.facets.Face.the-variants.{No, Ends}
-use Rattle.rewire.specs.declared.Grown.{Grown}
-use Rattle.rewire.specs.declared.Grown.the-variants.{Lacking, Rows}
-use Rattle.rewire.proofs.EdgeLaws.{grown-all}
+use Rattle.work.specs.declared.Grown.{Grown}
+use Rattle.work.specs.declared.Grown.the-variants.{Lacking, Rows}
+use Rattle.work.proofs.Grows.{grown-all}
 
 -- ---- on a facet
 

@@ -15,18 +15,13 @@ use Rattle.model.specs.Split.{Opening, copyFor, moved, calm, stayed, doubled, s
 use Rattle.mesh.specs.At.{edgesAt, trianglesAt, boundaryAt}
 use Rattle.mesh.specs.Workers.{EdgeRoom, rowAt}
 use Rattle.opening.specs.Opened.{partAt, Numbered, Ringed, RingRoom, CornersBelow, ringFrom}
-use Rattle.rewire.specs.Stages.{OpeningIn, GrownTo}
+use Rattle.rewire.specs.Stages.{OpeningIn}
+use Rattle.work.specs.Rows.{GrownTo, Between}
 use Rattle.rewire.specs.declared.facets.Face.{Face}
 use Rattle.rewire.specs.declared.facets.Face.the-variants.{No, Ends}
-use Rattle.rewire.specs.declared.Grown.{Grown}
-use Rattle.rewire.specs.declared.Grown.the-variants.{Lacking, Rows}
+use Rattle.work.specs.declared.Grown.{Grown}
 
 -- ---- other edges
-
--- if there was room, there are m rows at least and no more than the room
-abbrev pub Between : ℕ → ℕ → Grown → Type 0
-Between m room Lacking = 0 ≤ m
-Between m room (Rows r) = (m ≤ r) × (r ≤ room)
 
 -- r tells whether an edge with this flag is an element, whatever else it has
 pub record ElementIs (K : Kind) (structural : ℕ) (r : Bool) : Type 0 where

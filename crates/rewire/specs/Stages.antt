@@ -1,10 +1,8 @@
 -- The stages of a split, each the model's equation on one list. Only contracts between workers need this file. Definitions only.
 use Prim.Native.Nat.{ℕ, _+_, _-_, _/_, _<_, _≤_}
 use mathlib.Core.Path.{_≡_}
-use mathlib.Core.Bool.{true, false}
 use mathlib.Core.List.{List, map}
 use lib.ListN.{length, getD, take}
-use lib.Dec.{leb}
 use lib.Ieee.{Float}
 use Rattle.lists.specs.Lists.{upTo}
 use Rattle.model.specs.Mesh.{Mesh}
@@ -12,8 +10,8 @@ use Rattle.model.specs.Elements.{Kind, Triangles, Straps}
 use Rattle.model.specs.Split.{Opening, weightOf, totalOf, copied, rewiredTriangles, rewiredStraps, otherEdges, followed}
 use Rattle.mesh.specs.At.{particlesAt, trianglesAt, edgesAt, boundaryAt}
 use Rattle.opening.specs.Opened.{Ringed, Numbered, RestsIn}
-use Rattle.rewire.specs.declared.Grown.{Grown}
-use Rattle.rewire.specs.declared.Grown.the-variants.{Lacking, Rows}
+use Rattle.work.specs.declared.Grown.{Grown}
+use Rattle.work.specs.Rows.{GrownTo}
 
 -- ---- 1: particles
 
@@ -58,11 +56,6 @@ pub record OpeningIn (O : Opening) (M : Mesh) (v before k n count p : ℕ) (vert
   pub count-is : O .count ≡ count
   pub ringed : Ringed k O n verts groups
   pub rests : RestsIn M p points
-
--- rows that grew from e to what the list l is, where `room` is enough for it
-abbrev pub GrownTo : {A : Type 0} → Grown → ℕ → List A → (ℕ → List A) → Type 0
-GrownTo Lacking room l rows = leb (length l) room ≡ false
-GrownTo (Rows r) room l rows = (leb (length l) room ≡ true) × (r ≡ length l) × (rows r ≡ l)
 
 -- the other edges at v stay in the lowest of their groups, and their copies stand behind the edges
 pub record EdgesGrown (K : Kind) (v before k n count p e room : ℕ) (verts groups : List ℕ) (points : List Float) (ends ends′ : List ℕ) (lengths lengths′ : List Float) (r : Grown) : Type 0 where

@@ -11,9 +11,9 @@ ghost use Rattle.elements.specs.Table.{kindIs};
 ghost use Rattle.mesh.specs.Workers.{EdgeRoom, edgeOf, rowAt};
 ghost use Rattle.rewire.specs.Stages.{EdgesGrown};
 ghost use Rattle.rewire.specs.RoomsB.{ElementIs, CopyIs, EndsMoved, CopyRoom, CopiesGrown, SettleRoom, EdgeSettled, EdgesRoom};
-use crate::Grown;
 use elements::Kind;
 use mesh::EdgeRow;
+use work::Grown;
 
 // w for v.
 fn swapped(x: usize, v: usize, w: usize) -> usize

@@ -6,7 +6,7 @@ ghost use lib.ListN.{length};
 ghost use Rattle.lists.specs.Lists.{all};
 ghost use Rattle.mesh.specs.At.{boundaryAt};
 ghost use Rattle.rewire.specs.RoomsB.{onBy, facesBy, foundBy, faceIs, FaceRoom, SideRoom, FaceFound, SidesGrown, FacetsGrown, pairFacets, rowFacets, allFacets};
-use crate::Grown;
+use work::Grown;
 
 // A face that was found, by its ends, or none.
 pub enum Face {

@@ -6,9 +6,3 @@ pub mod fans;
 pub mod held;
 pub mod particles;
 pub mod straddlers;
-
-// How many rows a list has after rows were appended, or that there is no room for them.
-pub enum Grown {
-    Lacking,
-    Rows(usize),
-}

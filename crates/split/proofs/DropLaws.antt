@@ -23,11 +23,10 @@ use Rattle.mesh.specs.declared.Counts.{Counts}
 use Rattle.mesh.specs.declared.Rooms.{Rooms}
 use Rattle.rewire.specs.RoomsB.{Straddling, StraddlersMarked}
 use Rattle.split.specs.Steps.{loggedOf}
-use Rattle.split.specs.Straddling.{marked, markedOf, goneWords}
+use Rattle.work.specs.Removal.{marked, markedOf, goneWords}
 use Rattle.split.specs.Settling.{copyWords, SplitAsked, SplitNoted, DropAsked, Dropped}
-use Rattle.split.specs.declared.Ran.the-variants.{Refused, Done}
-use Rattle.split.proofs.NoteLaws.{gone-words, gone-count}
-use Rattle.split.proofs.PieceMasks.{mark-eqb}
+use Rattle.work.specs.declared.Ran.the-variants.{Refused, Done}
+use Rattle.work.proofs.Removals.{gone-words, gone-count, mark-eqb}
 
 -- ---- the copies in the log
 

@@ -2,8 +2,6 @@
 pub mod Below
 pub mod Fitted
 pub mod FanLaws
-pub mod Placed
-pub mod Runs
 pub mod Stepping
 pub mod GrowLaws
 pub mod NamedLaws

@@ -20,7 +20,7 @@ use Rattle.elements.specs.Table.{elementsIn, Cornered, Tabled}
 use Rattle.elements.proofs.Filling.{triangles-length, straps-length}
 use Rattle.pieces.specs.Counted.{Corners, PieceRoots, UsedMarked}
 use Rattle.pieces.proofs.Laws.{spans-by-tables}
-use Rattle.split.specs.Steps.{CornersIn, EndsIn, SidesIn}
+use Rattle.work.specs.Places.{CornersIn, EndsIn, SidesIn}
 use Rattle.split.specs.Straddling.{spansBy, PiecesTold}
 
 -- ---- corners name particles

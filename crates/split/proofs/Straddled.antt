@@ -22,13 +22,14 @@ use Rattle.mesh.specs.Given.{asRooms}
 use Rattle.mesh.specs.declared.Counts.{Counts}
 use Rattle.mesh.specs.declared.Rooms.{Rooms}
 use Rattle.mesh.proofs.Lists.{particles-length, edges-length, log-length, mesh-path, world-path}
-use Rattle.split.specs.Working.{Within, Went, WorksBeside}
-use Rattle.split.specs.Steps.{EndsIn, SidesIn}
-use Rattle.split.specs.Straddling.{acrossBy, marked, markedOf, PiecesTold, EdgesMarked, SidesMarked, goneWords, GoneTo}
-use Rattle.split.specs.declared.Ran.{Ran}
-use Rattle.split.specs.declared.Ran.the-variants.{Refused, Done}
-use Rattle.split.proofs.NoteLaws.{gone-words}
-use Rattle.split.proofs.Runs.{room-enough, log-lacks, needBehind, StepTold, went-step}
+use Rattle.work.specs.Working.{Within, Went, WorksBeside}
+use Rattle.work.specs.Places.{EndsIn, SidesIn}
+use Rattle.split.specs.Straddling.{acrossBy, PiecesTold, EdgesMarked, SidesMarked}
+use Rattle.work.specs.Removal.{marked, markedOf, goneWords, GoneTo}
+use Rattle.work.specs.declared.Ran.{Ran}
+use Rattle.work.specs.declared.Ran.the-variants.{Refused, Done}
+use Rattle.work.proofs.Removals.{gone-words}
+use Rattle.work.proofs.Runs.{room-enough, log-lacks, needBehind, StepTold, went-step}
 
 -- ---- masks and sifts
 

@@ -1,5 +1,4 @@
 -- A split, step by step, over the lent blocks.
-pub mod Working
 pub mod Tables
 pub mod Steps
 pub mod Growing

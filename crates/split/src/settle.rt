@@ -8,11 +8,11 @@ ghost use Rattle.mesh.specs.At.{edgesAt};
 ghost use Rattle.mesh.specs.Log.{worldAt};
 ghost use Rattle.mesh.specs.Workers.{Removed};
 ghost use Rattle.split.specs.Settling.{FacetsAsked, FacetsTold, BoundaryAsked, BoundaryTold, CopiesNoted, SplitAsked, SplitNoted, MarkedRoom, DropAsked, Dropped, SettleAsked, SettledFor};
-use crate::Ran;
 use elements::Kind;
 use mesh::Counts;
 use mesh::Rooms;
-use rewire::Grown;
+use work::Grown;
+use work::Ran;
 
 // Where the elements are triangles, appends the crack facets to the b entries of the outline.
 fn open_facets(
@@ -138,7 +138,7 @@ fn note_split(
     ensures { λ r. ⌜ SplitNoted v before m at e (now (mask .entry)) (now (ends .entry)) (now (log .entry)) (now (log .exit)) r ⌝ }
 {
     note_copies(v, before, m, at, log);
-    crate::straddlers::note_edges(mask, e, at + m, ends, log)
+    work::removal::note_edges(mask, e, at + m, ends, log)
 }
 
 // Removes the s marked edges from the first e, and returns how many are left; where none is marked there is nothing to move.

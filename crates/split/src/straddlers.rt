@@ -7,13 +7,13 @@ ghost use Rattle.model.specs.Pieces.{removeStraddlers};
 ghost use Rattle.mesh.specs.At.{trianglesAt, edgesAt};
 ghost use Rattle.mesh.specs.Log.{worldAt};
 ghost use Rattle.elements.specs.Table.{kindIs, elementsIn};
-ghost use Rattle.split.specs.Working.{WorksBeside};
-ghost use Rattle.split.specs.Steps.{SettleRoom, CornersIn, EndsIn, SidesIn};
-ghost use Rattle.split.specs.Straddling.{spansBy, PiecesRoom, PiecesTold, EdgeReads, EdgeTold, EdgeMaskRoom, EdgesMarked, SideMaskRoom, SidesMarked, NoteRoom, EdgesNoted, GoneRoom, GoneTo};
-use crate::Ran;
+ghost use Rattle.work.specs.Working.{WorksBeside, SettleRoom};
+ghost use Rattle.work.specs.Places.{CornersIn, EndsIn, SidesIn};
+ghost use Rattle.split.specs.Straddling.{spansBy, PiecesRoom, PiecesTold, EdgeReads, EdgeTold, EdgeMaskRoom, EdgesMarked, SideMaskRoom, SidesMarked};
 use elements::Kind;
 use mesh::Counts;
 use mesh::Rooms;
+use work::Ran;
 
 // Fills the tables of pieces of all elements: the lowest particle of each particle's piece, and a mark at each particle that an element holds.
 fn find_pieces(
@@ -121,54 +121,6 @@ fn mark_sides(n: usize, parent: &[usize], used: &[usize], outline: &[usize], mas
     }
 }
 
-// Notes the marked edges among the first n, by their ends, behind the `at` entries of the log; returns how many entries there are.
-pub fn note_edges(mask: &[usize], n: usize, at: usize, ends: &[usize], log: &mut [usize]) -> usize
-    requires { ⌜ NoteRoom (now mask) n at (length (now ends)) (length (now log)) ⌝ }
-    ensures { λ r. ⌜ EdgesNoted (now (mask .entry)) n at (now (ends .entry)) (now (log .entry)) (now (log .exit)) r ⌝ }
-{
-    let c = ends.len() / 4;
-    let mut w = at;
-    let mut i: usize = 0;
-    while i < n {
-        if mask[i] == 1 {
-            mesh::rows::note(w, 2, ends[i], ends[c + i], 0, 0, 0, log);
-            w += 1;
-        }
-        i += 1;
-    }
-    w
-}
-
-// Removes the marked edges and boundary entries, and notes the s edges, if the log has room.
-pub fn remove_marked(
-    k: Counts,
-    room: Rooms,
-    s: usize,
-    edge_mask: &[usize],
-    side_mask: &[usize],
-    ends: &mut [usize],
-    lengths: &mut [f32],
-    outline: &mut [usize],
-    log: &mut [usize],
-) -> Ran
-    requires { ⌜ GoneRoom room k s (now «edge_mask») (length (now «side_mask»)) (length (now ends)) (length (now lengths)) (length (now outline)) (length (now log)) ⌝ }
-    ensures { λ r. ⌜ GoneTo room k (now («edge_mask» .entry)) (now («side_mask» .entry)) (now (ends .entry)) (now (ends .exit)) (now (lengths .entry)) (now (lengths .exit)) (now (outline .entry)) (now (outline .exit)) (now (log .entry)) (now (log .exit)) r ⌝ }
-{
-    if room.log - k.log < s {
-        return Ran::Refused(8);
-    }
-    let g = note_edges(edge_mask, k.edges, k.log, ends, log);
-    let e = mesh::rows::remove_edges(edge_mask, k.edges, ends, lengths);
-    let b = columns::keep_block_usize(side_mask, k.boundary, 2, outline.len() / 2, outline);
-    Ran::Done(Counts {
-        particles: k.particles,
-        triangles: k.triangles,
-        edges: e,
-        boundary: b,
-        log: g,
-    })
-}
-
 // The edges that are no elements, and the boundary entries, that join two pieces go; the edges are noted in the log.
 pub fn remove_straddlers(
     kind: Kind,
@@ -204,7 +156,7 @@ pub fn remove_straddlers(
     let mut side_mask = [0usize; 2048];
     let s = mark_edges(kind, k.edges, &parent, &used, ends, &mut edge_mask);
     mark_sides(k.boundary, &parent, &used, outline, &mut side_mask);
-    remove_marked(
+    work::removal::remove_marked(
         k,
         room,
         s,

@@ -20,10 +20,10 @@ use Rattle.mesh.specs.Given.{asRooms}
 use Rattle.mesh.specs.declared.Counts.{Counts}
 use Rattle.mesh.specs.declared.Rooms.{Rooms}
 use Rattle.elements.specs.Workers.{marked}
-use Rattle.split.specs.Working.{Within, Went}
-use Rattle.split.specs.declared.Ran.{Ran}
-use Rattle.split.specs.declared.Ran.the-variants.{Refused, Done}
-use Rattle.split.proofs.Placed.{ends-in}
+use Rattle.work.specs.Working.{Within, Went}
+use Rattle.work.specs.declared.Ran.{Ran}
+use Rattle.work.specs.declared.Ran.the-variants.{Refused, Done}
+use Rattle.work.proofs.Placed.{ends-in}
 use Rattle.cut.specs.Marking.{Marks, MarkedBy}
 use Rattle.cut.proofs.MarkLaws.{marked-one}
 use Rattle.strap.specs.Shares.{Stands}

@@ -25,10 +25,10 @@ use Rattle.mesh.specs.Given.{Lent, asRooms}
 use Rattle.mesh.specs.Filled.{lent}
 use Rattle.mesh.specs.declared.Counts.{Counts}
 use Rattle.mesh.specs.declared.Rooms.{Rooms}
-use Rattle.split.specs.Working.{Within, Roomed, Ready}
-use Rattle.split.specs.declared.Ran.{Ran}
-use Rattle.split.specs.declared.Ran.the-variants.{Refused, Done}
-use Rattle.split.proofs.Placed.{edges-count}
+use Rattle.work.specs.Working.{Within, Roomed, Ready}
+use Rattle.work.specs.declared.Ran.{Ran}
+use Rattle.work.specs.declared.Ran.the-variants.{Refused, Done}
+use Rattle.work.proofs.Placed.{edges-count}
 use Rattle.strap.specs.Crossings.{crossed-in}
 use Rattle.strap.specs.Crossed.{ranOf, Crosses, CrossTold, CrossRoom, CrossingsIn}
 use Rattle.strap.proofs.CrossedLaws.{crosses-none, crosses-then, crosses-refused}

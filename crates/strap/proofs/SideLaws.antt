@@ -16,11 +16,10 @@ use Rattle.columns.proofs.Cells.{store-same, store-row, store-col, col-0, col-1
 use Rattle.model.specs.Mesh.{Side}
 use Rattle.model.specs.Cut.{shortened, appended}
 use Rattle.mesh.specs.At.{sideRow, boundaryAt}
-use Rattle.rewire.specs.Stages.{GrownTo}
-use Rattle.rewire.specs.RoomsB.{Between}
-use Rattle.rewire.specs.declared.Grown.{Grown}
-use Rattle.rewire.specs.declared.Grown.the-variants.{Lacking, Rows}
-use Rattle.rewire.proofs.EdgeLaws.{grown-all}
+use Rattle.work.specs.Rows.{GrownTo, Between}
+use Rattle.work.specs.declared.Grown.{Grown}
+use Rattle.work.specs.declared.Grown.the-variants.{Lacking, Rows}
+use Rattle.work.proofs.Grows.{grown-all}
 use Rattle.strap.specs.Sides.{EntryGrown, SidesInserted}
 use Rattle.strap.proofs.Passes.{passed, passed-start, passed-end, passed-step, passed-long}
 

@@ -24,11 +24,11 @@ use Rattle.mesh.specs.Given.{asRooms}
 use Rattle.mesh.specs.declared.Counts.{Counts}
 use Rattle.mesh.specs.declared.Rooms.{Rooms}
 use Rattle.mesh.proofs.Lists.{particles-length, edges-length, log-length, mesh-path, world-path}
-use Rattle.rewire.specs.Stages.{GrownTo}
-use Rattle.rewire.specs.declared.Grown.{Grown}
-use Rattle.rewire.specs.declared.Grown.the-variants.{Lacking, Rows}
-use Rattle.split.specs.declared.Ran.{Ran}
-use Rattle.split.specs.declared.Ran.the-variants.{Refused, Done}
+use Rattle.work.specs.Rows.{GrownTo}
+use Rattle.work.specs.declared.Grown.{Grown}
+use Rattle.work.specs.declared.Grown.the-variants.{Lacking, Rows}
+use Rattle.work.specs.declared.Ran.{Ran}
+use Rattle.work.specs.declared.Ran.the-variants.{Refused, Done}
 use Rattle.strap.specs.Plans.{planned}
 use Rattle.strap.specs.Sides.{SidesInserted}
 use Rattle.strap.specs.Inserts.{EdgesInserted, ParticlesInserted}

@@ -7,7 +7,7 @@ use native.Mathlib.Omega.{arith}
 use lib.Ieee.{Float}
 use lib.Dec.{eqb}
 use borrow.Author.Tests.{eq-eqb, ne-eqb}
-use Rattle.split.proofs.PieceMasks.{Counting, counting-start, counting-few, counting-step}
+use Rattle.work.proofs.Removals.{Counting, counting-start, counting-few, counting-step}
 use lib.ListN.{length, getD, length-append, length-map, replicate}
 use Rattle.lists.specs.Lists.{pick, stands, sift, siftAt, keep, tab, upTo, padded}
 use Rattle.lists.proofs.Stores.{tab-length}
@@ -21,11 +21,11 @@ use Rattle.mesh.specs.Given.{asRooms}
 use Rattle.mesh.specs.declared.Counts.{Counts}
 use Rattle.mesh.specs.declared.Rooms.{Rooms}
 use Rattle.mesh.proofs.Lists.{particles-length, edges-length, log-length, mesh-path, world-path}
-use Rattle.split.specs.Working.{Within, Works}
-use Rattle.split.specs.Straddling.{marked, markedOf, goneWords, GoneTo}
-use Rattle.split.specs.declared.Ran.{Ran}
-use Rattle.split.specs.declared.Ran.the-variants.{Refused, Done}
-use Rattle.split.proofs.Runs.{room-enough, log-lacks, needBehind, StepTold, went-step}
+use Rattle.work.specs.Working.{Within, Works}
+use Rattle.work.specs.Removal.{marked, markedOf, goneWords, GoneTo}
+use Rattle.work.specs.declared.Ran.{Ran}
+use Rattle.work.specs.declared.Ran.the-variants.{Refused, Done}
+use Rattle.work.proofs.Runs.{room-enough, log-lacks, needBehind, StepTold, went-step}
 use Rattle.strap.specs.Unbent.{MarksOf, UnbentTold}
 
 -- ---- masks by number

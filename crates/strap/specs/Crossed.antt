@@ -15,11 +15,10 @@ use Rattle.mesh.specs.Filled.{lent}
 use Rattle.mesh.specs.declared.Counts.{Counts}
 use Rattle.mesh.specs.declared.Rooms.{Rooms}
 use Rattle.elements.specs.Workers.{marked}
-use Rattle.split.specs.Working.{Ready, Went}
-use Rattle.split.specs.declared.Ran.{Ran}
-use Rattle.split.specs.declared.Ran.the-variants.{Done}
+use Rattle.work.specs.Working.{Ready, Went, Logged}
+use Rattle.work.specs.declared.Ran.{Ran}
+use Rattle.work.specs.declared.Ran.the-variants.{Done}
 use Rattle.cut.specs.Marking.{Marks}
-use Rattle.cut.specs.Running.{Logged}
 
 -- the run of a strap cut at work, the bend edges to go, and the ends to split
 abbrev pub ranOf : Strapping → Run

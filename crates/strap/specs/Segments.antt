@@ -12,8 +12,8 @@ use Rattle.mesh.specs.Log.{World, worldOf}
 use Rattle.mesh.specs.Given.{asRooms}
 use Rattle.mesh.specs.declared.Counts.{Counts}
 use Rattle.mesh.specs.declared.Rooms.{Rooms}
-use Rattle.split.specs.Working.{Went}
-use Rattle.split.specs.declared.Ran.{Ran}
+use Rattle.work.specs.Working.{Went}
+use Rattle.work.specs.declared.Ran.{Ran}
 use Rattle.strap.specs.Crossings.{crossed-in, CrossingsAre}
 use Rattle.strap.specs.Crossed.{ranOf, bendsOf, StrapMarks, CrossTold}
 

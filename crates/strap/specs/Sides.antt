@@ -7,9 +7,8 @@ use Rattle.lists.specs.Lists.{each}
 use Rattle.model.specs.Mesh.{Side}
 use Rattle.model.specs.Cut.{shortened, appended}
 use Rattle.mesh.specs.At.{sideRow, boundaryAt}
-use Rattle.rewire.specs.Stages.{GrownTo}
-use Rattle.rewire.specs.RoomsB.{Between}
-use Rattle.rewire.specs.declared.Grown.{Grown}
+use Rattle.work.specs.Rows.{GrownTo, Between}
+use Rattle.work.specs.declared.Grown.{Grown}
 
 -- entry i of m is `new`, and more entries stand behind the m
 pub record EntryGrown (new : Side) (more : List Side) (i m room : ℕ) (outline outline′ : List ℕ) (r : Grown) : Type 0 where

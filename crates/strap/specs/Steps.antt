@@ -7,8 +7,8 @@ use Rattle.model.specs.Cut.{insertStep}
 use Rattle.mesh.specs.Log.{worldAt}
 use Rattle.mesh.specs.declared.Counts.{Counts}
 use Rattle.mesh.specs.declared.Rooms.{Rooms}
-use Rattle.split.specs.Working.{Within, Works}
-use Rattle.split.specs.declared.Ran.{Ran}
+use Rattle.work.specs.Working.{Within, Works}
+use Rattle.work.specs.declared.Ran.{Ran}
 use Rattle.strap.specs.Plans.{planned}
 use Rattle.strap.specs.declared.plan.Plan.{Plan}
 

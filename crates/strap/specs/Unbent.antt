@@ -9,9 +9,9 @@ use Rattle.model.specs.Cut.{unbent}
 use Rattle.mesh.specs.Log.{worldAt}
 use Rattle.mesh.specs.declared.Counts.{Counts}
 use Rattle.mesh.specs.declared.Rooms.{Rooms}
-use Rattle.split.specs.Working.{Within, Works}
-use Rattle.split.specs.Straddling.{marked}
-use Rattle.split.specs.declared.Ran.{Ran}
+use Rattle.work.specs.Working.{Within, Works}
+use Rattle.work.specs.Removal.{marked}
+use Rattle.work.specs.declared.Ran.{Ran}
 
 -- the counts are within the rooms, and the blocks have them; each edge has a mark
 pub record UnbentRoom (L : Rooms) (k : Counts) (bends le ll lo lg : ℕ) : Type 0 where

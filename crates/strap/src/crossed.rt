@@ -8,7 +8,7 @@ ghost use Rattle.strap.specs.Crossed.{CrossRoom, CrossTold, CrossingsIn}
 use crate::plan;
 use mesh::Counts;
 use mesh::Rooms;
-use split::Ran;
+use work::Ran;
 
 // One crossing: inserted, with the bend edges over its segment marked; or its near end is marked to be split.
 fn cross(

@@ -5,15 +5,15 @@ ghost use Rattle.model.specs.Cut.{cutSegments};
 ghost use Rattle.mesh.specs.At.{meshAt};
 ghost use Rattle.mesh.specs.Log.{worldAt};
 ghost use Rattle.mesh.specs.Filled.{lent};
-ghost use Rattle.split.specs.Working.{Ready, Works};
+ghost use Rattle.work.specs.Working.{Ready, Works, Logged};
 ghost use Rattle.cut.specs.Marking.{bladeFrom};
-ghost use Rattle.cut.specs.Running.{TablesLong, Logged};
+ghost use Rattle.cut.specs.Running.{TablesLong};
 ghost use Rattle.strap.specs.Crossed.{CrossRoom};
 ghost use Rattle.strap.specs.Segments.{MarksLent, AfterTold, BladeCrossed};
 use blade::Point;
 use mesh::Counts;
 use mesh::Rooms;
-use split::Ran;
+use work::Ran;
 
 // Finds the crossings of the blade with the straps, and does them in turn, until one lacks room.
 fn cross_blade(

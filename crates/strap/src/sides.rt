@@ -7,7 +7,7 @@ ghost use Rattle.model.specs.Cut.{shortened, appended};
 ghost use Rattle.mesh.specs.At.{sideRow};
 ghost use Rattle.rewire.specs.RoomsB.{SideRoom};
 ghost use Rattle.strap.specs.Sides.{EntryGrown, SidesInserted};
-use rewire::Grown;
+use work::Grown;
 
 // Entry i of m ends at `end` instead, and (from, to) is appended.
 fn grow_entry(

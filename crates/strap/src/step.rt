@@ -6,8 +6,8 @@ ghost use Rattle.strap.specs.Steps.{StepRoom, InsertTold};
 use crate::plan::Plan;
 use mesh::Counts;
 use mesh::Rooms;
-use rewire::Grown;
-use split::Ran;
+use work::Grown;
+use work::Ran;
 
 // The bits of a number.
 fn bits_of(x: f32) -> usize

@@ -2,11 +2,11 @@
 ghost use mathlib.Core.Path.{_≡_};
 ghost use Prim.Native.Nat.{_≤_};
 ghost use lib.ListN.{length};
-ghost use Rattle.split.specs.Straddling.{markedOf};
+ghost use Rattle.work.specs.Removal.{markedOf};
 ghost use Rattle.strap.specs.Unbent.{UnbentRoom, UnbentTold};
 use mesh::Counts;
 use mesh::Rooms;
-use split::Ran;
+use work::Ran;
 
 // How many of the first n marks are 1.
 fn count_marked(n: usize, marks: &[usize]) -> usize
@@ -43,5 +43,5 @@ pub fn remove_bends(
         return Ran::Done(k);
     }
     columns::clear_usize(0, none);
-    split::straddlers::remove_marked(k, room, s, bends, none, ends, lengths, outline, log)
+    work::removal::remove_marked(k, room, s, bends, none, ends, lengths, outline, log)
 }

@@ -4,9 +4,9 @@ use Rattle.cut.proofs.SnapLaws.{snap-steady}
 use Rattle.cut.specs.Marking.{bladeFrom}
 use Rattle.cut.specs.Snapping.{snapIf}
 use Rattle.model.specs.Cut.{splitSnapped}
-use Rattle.split.proofs.Placed.{particles-count}
-use Rattle.split.specs.declared.Ran.the-variants.{Done}
-use Rattle.split.specs.Working.{Works}
+use Rattle.work.proofs.Placed.{particles-count}
+use Rattle.work.specs.declared.Ran.the-variants.{Done}
+use Rattle.work.specs.Working.{Works}
 use Rattle.mesh.proofs.Agree.{lent-path}
 use Rattle.mesh.specs.Log.{worldAt}
 use Rattle.mesh.specs.Filled.{lent}

@@ -1,6 +1,6 @@
 -- `rewire::facets::open_pair` meets its contract: no crack opens, or two faces are appended. Assumes nothing.
 use Rattle.rewire.proofs.FacetLaws.{pair-same, pair-far, pair-lacks, pair-open}
-use Rattle.rewire.specs.RoomsB.{Between}
+use Rattle.work.specs.Rows.{Between}
 use mathlib.Core.Path.{_∙_, subst}
 use native.Mathlib.Omega.{arith}
 use borrow.Author.Needs.{needs}

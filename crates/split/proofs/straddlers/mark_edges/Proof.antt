@@ -1,6 +1,7 @@
 -- `split::straddlers::mark_edges` meets its contract: the loop over the edges is `Marking` and `Counting` of proofs/PieceMasks.antt. Assumes nothing.
 use borrow.Author.Needs.{needs}
-use Rattle.split.proofs.PieceMasks.{Marking, Counting, marking-start, marking-step, counting-start, counting-step, counting-few, edges-marked, mark-small}
+use Rattle.work.proofs.Removals.{Marking, Counting, marking-start, marking-step, counting-start, counting-step, counting-few, mark-small}
+use Rattle.split.proofs.PieceMasks.{edges-marked}
 use Rattle.split.specs.Straddling.{edgeCrosses}
 use Rattle.elements.specs.Table.{kindIs}
 use mathlib.Core.List.{[]}

@@ -1,7 +1,7 @@
 -- `split::straddlers::mark_sides` meets its contract: the loop over the entries is `Marking` of proofs/PieceMasks.antt. Assumes nothing.
-use Rattle.split.proofs.PieceMasks.{sides-read}
+use Rattle.split.proofs.PieceMasks.{sides-read, sides-marked, side-told}
 use borrow.Author.Needs.{needs}
-use Rattle.split.proofs.PieceMasks.{Marking, marking-start, marking-step, sides-marked, side-told}
+use Rattle.work.proofs.Removals.{Marking, marking-start, marking-step}
 use Rattle.split.specs.Straddling.{sideCrosses}
 use Prim.Native.Nat.{_-_}
 use native.Mathlib.Omega.{arith}

@@ -17,9 +17,9 @@ use Rattle.mesh.specs.Log.{World, worldOf}
 use Rattle.mesh.specs.Given.{asRooms}
 use Rattle.mesh.specs.declared.Counts.{Counts}
 use Rattle.mesh.specs.declared.Rooms.{Rooms}
-use Rattle.split.specs.Working.{Within, Went, Works, WorksBeside}
-use Rattle.split.specs.declared.Ran.{Ran}
-use Rattle.split.specs.declared.Ran.the-variants.{Refused, Done}
+use Rattle.work.specs.Working.{Within, Went, Works, WorksBeside}
+use Rattle.work.specs.declared.Ran.{Ran}
+use Rattle.work.specs.declared.Ran.the-variants.{Refused, Done}
 
 -- ---- the rooms of one step
 

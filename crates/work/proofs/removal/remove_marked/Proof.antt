@@ -1,9 +1,9 @@
--- `split::straddlers::remove_marked` meets its contract: the notes, then the edges, then the boundary. Assumes nothing.
-use Rattle.split.proofs.PieceMasks.{blocks-gone}
+-- `work::removal::remove_marked` meets its contract: the notes, then the edges, then the boundary. Assumes nothing.
+use Rattle.work.proofs.Removals.{blocks-gone}
 use native.Mathlib.Omega.{arith}
 use borrow.Author.Needs.{needs}
-use Rattle.split.proofs.straddlers.remove_marked.Statement.{statement}
-use Rattle.split.proofs.straddlers.remove_marked.Tie as tie
+use Rattle.work.proofs.removal.remove_marked.Statement.{statement}
+use Rattle.work.proofs.removal.remove_marked.Tie as tie
 
 sub-if1 : tie.Need-sub-if1
 sub-if1 c = search needs

@@ -2,18 +2,18 @@
 use Prim.Native.Nat.{ℕ, _/_, _<_, _≤_}
 use mathlib.Core.Path.{_≡_}
 use mathlib.Core.Bool.{true}
-use mathlib.Core.List.{List}
+use mathlib.Core.List.{List, map}
 use lib.Ieee.{Float}
 use Rattle.model.specs.Mesh.{Mesh}
 use Rattle.model.specs.Valid.{indicesFit}
-use Rattle.model.specs.Run.{Run}
+use Rattle.model.specs.Run.{Run, Entry}
 use Rattle.model.specs.Calls.{firstFault}
-use Rattle.mesh.specs.Log.{World, worldOf}
+use Rattle.mesh.specs.Log.{World, worldOf, wordsOf, logAt}
 use Rattle.mesh.specs.Given.{Lent, asRooms}
 use Rattle.mesh.specs.declared.Counts.{Counts}
 use Rattle.mesh.specs.declared.Rooms.{Rooms}
-use Rattle.split.specs.declared.Ran.{Ran}
-use Rattle.split.specs.declared.Ran.the-variants.{Refused, Done}
+use Rattle.work.specs.declared.Ran.{Ran}
+use Rattle.work.specs.declared.Ran.the-variants.{Refused, Done}
 
 -- the counts are within the rooms
 pub record Within (k : Counts) (L : Rooms) : Type 0 where
@@ -44,6 +44,26 @@ pub record Ready (L : Rooms) (k : Counts) (I : Lent) (M : Mesh) : Type 0 where
   pub rooms : Roomed L I
   pub counts : Within k L
   pub indices : indicesFit M ≡ true
+
+-- what parts 4 to 6 and the removal of straddlers ask of the counts, the rooms and the lengths of the blocks
+pub record SettleRoom (L : Rooms) (k : Counts) (lc lv le ll lo lg : ℕ) : Type 0 where
+  pub counts : Within k L
+  pub few-particles : L .particles ≤ 1024
+  pub few-triangles : L .triangles ≤ 1024
+  pub few-edges : L .edges ≤ 2048
+  pub few-boundary : L .boundary ≤ 2048
+  pub few-log : L .log ≤ 4096
+  pub corners : L .triangles ≤ lc / 3
+  pub volumes : L .triangles ≤ lv / 2
+  pub ends : L .edges ≤ le / 4
+  pub lengths : L .edges ≤ ll / 4
+  pub outline : L .boundary ≤ lo / 2
+  pub log : L .log ≤ lg / 6
+
+-- the words of the first l entries are those of a log
+pub record Logged (l : ℕ) (log : List ℕ) : Type 0 where
+  pub entries : List Entry
+  pub words : logAt l log ≡ map wordsOf entries
 
 -- what a worker that was to bring the run to S tells: the first room that lacks; or the blocks hold S
 abbrev pub Went : Rooms → Run → (Counts → World) → Ran → Type 0

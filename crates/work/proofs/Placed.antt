@@ -18,7 +18,7 @@ use Rattle.model.proofs.Accepted.{accepted-indexed}
 use Rattle.mesh.specs.At.{triangleRow, edgeRow, sideRow, trianglesAt, edgesAt, boundaryAt, meshAt}
 use Rattle.mesh.specs.declared.Counts.{Counts}
 use Rattle.mesh.proofs.Lists.{particles-length, edges-length}
-use Rattle.split.specs.Steps.{EndsIn, SidesIn, CornersIn}
+use Rattle.work.specs.Places.{EndsIn, SidesIn, CornersIn}
 
 -- what holds of all rows holds of each
 row-all : {A : Type 0} (P : A → Type 0) (n : ℕ) (f : ℕ → A) (d : A) → All P (tab n f) → (j : ℕ) → j < n → P (f j)

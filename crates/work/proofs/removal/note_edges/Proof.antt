@@ -1,11 +1,10 @@
--- `split::straddlers::note_edges` meets its contract: the loop over the edges is `Noting` of proofs/PieceMasks.antt. Assumes nothing.
-use Rattle.split.proofs.PieceMasks.{noting-took, noting-skipped}
-use Rattle.split.proofs.PieceMasks.{Noting, noting-start, noting-room, noting-done}
+-- `work::removal::note_edges` meets its contract: the loop over the edges is `Noting` of proofs/PieceMasks.antt. Assumes nothing.
+use Rattle.work.proofs.Removals.{noting-took, noting-skipped, Noting, noting-start, noting-room, noting-done}
 use mathlib.Core.Logic.{⊎-elim}
 use Prim.Native.Nat.{_-_}
 use native.Mathlib.Omega.{arith}
-use Rattle.split.proofs.straddlers.note_edges.Statement.{statement}
-use Rattle.split.proofs.straddlers.note_edges.Tie as tie
+use Rattle.work.proofs.removal.note_edges.Statement.{statement}
+use Rattle.work.proofs.removal.note_edges.Tie as tie
 
 abbrev Inv-loop : tie.InvT-loop
 Inv-loop mask n at ends log₀ c w₀ i₀ log w i = Noting mask n at ends log₀ log w i
