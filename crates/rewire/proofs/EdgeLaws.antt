@@ -25,14 +25,14 @@ use Rattle.model.specs.Mesh.{Edge, Mesh, blankEdge}
 use Rattle.model.specs.Elements.{Kind, element?, endsOf, farEnd, besides, restOf}
 use Rattle.model.specs.Split.{Part, Opening, Best, better, scoreOf, scored, toward, ring, edgeGroups, copyFor, moved, calm, stayed, doubled, otherEdges}
 use Rattle.mesh.specs.At.{edgeRow, edgesAt}
-use Rattle.opening.specs.Opened.{partAt, Ringed, ringFrom}
-use Rattle.opening.specs.Answers.{NextGroup}
+use Rattle.opening.specs.Opened.{partAt, Ringed, ringFrom, OpeningIn}
+use Rattle.opening.specs.Answers.{NextGroup, CopyIs}
 use Rattle.opening.proofs.Rings.{ring-next, ring-first}
 use Rattle.opening.proofs.Weights.{fan-tab}
-use Rattle.rewire.specs.Stages.{OpeningIn, EdgesGrown}
+use Rattle.rewire.specs.Stages.{EdgesGrown}
 use Rattle.work.specs.Rows.{GrownTo, Between}
 use Rattle.mesh.specs.Workers.{rowAt}
-use Rattle.rewire.specs.RoomsB.{CopyIs, EndsMoved, SameRows, CopiesGrown, EdgeSettled}
+use Rattle.rewire.specs.Edges.{EndsMoved, SameRows, CopiesGrown, EdgeSettled}
 use Rattle.work.specs.declared.Grown.{Grown}
 use Rattle.work.specs.declared.Grown.the-variants.{Lacking, Rows}
 use Rattle.work.proofs.Grows.{grown-all}

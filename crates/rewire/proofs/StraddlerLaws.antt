@@ -25,7 +25,7 @@ use Rattle.model.specs.Elements.{Kind, element?, endsOf, held, cornersPer}
 use Rattle.model.specs.Split.{Opening, copies, made, parted, straddles}
 use Rattle.mesh.specs.At.{edgesAt}
 use Rattle.mesh.specs.Workers.{rowAt}
-use Rattle.rewire.specs.RoomsB.{ElementIs, copiesBy, HeldTold, Straddling, StraddleTold, StraddlersMarked}
+use Rattle.rewire.specs.Edges.{ElementIs, copiesBy, HeldTold, Straddling, StraddleTold, StraddlersMarked}
 use Rattle.rewire.proofs.EdgeLaws.{edges-many, edges-get}
 
 -- ---- v and its copies

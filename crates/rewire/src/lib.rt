@@ -1,7 +1,5 @@
-// What each list of a mesh becomes in a split: particles copied, elements rewired, other edges, straddlers, boundary, crack facets.
-pub mod boundary;
+// What each list of a mesh becomes in a split: particles copied, elements rewired, other edges, straddlers. (The boundary: crate facets.)
 pub mod edges;
-pub mod facets;
 pub mod fans;
 pub mod held;
 pub mod particles;

@@ -4,7 +4,7 @@ ghost use Prim.Native.Nat.{_<_, _≤_};
 ghost use lib.ListN.{length};
 ghost use Rattle.lists.specs.Lists.{pick, stands};
 ghost use Rattle.elements.specs.Table.{kindIs};
-ghost use Rattle.rewire.specs.RoomsB.{copiesBy, StraddleRoom, StraddleTold, StraddlersMarked};
+ghost use Rattle.rewire.specs.Edges.{copiesBy, StraddleRoom, StraddleTold, StraddlersMarked};
 use elements::Kind;
 
 // Is w v or one of its copies?

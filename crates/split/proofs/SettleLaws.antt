@@ -21,7 +21,7 @@ use Rattle.mesh.specs.declared.Counts.{Counts}
 use Rattle.mesh.specs.declared.Rooms.{Rooms}
 use Rattle.opening.specs.Opened.{RestsIn}
 use Rattle.work.specs.Rows.{GrownTo}
-use Rattle.rewire.specs.RoomsB.{Straddling}
+use Rattle.rewire.specs.Edges.{Straddling}
 use Rattle.work.specs.declared.Grown.{Grown}
 use Rattle.work.specs.declared.Grown.the-variants.{Lacking, Rows}
 use Rattle.work.specs.Working.{Within, SettleRoom}

@@ -16,7 +16,7 @@ use Rattle.mesh.specs.declared.Counts.{Counts}
 use Rattle.mesh.specs.declared.Rooms.{Rooms}
 use Rattle.opening.specs.Opened.{Ringed, Numbered, RingRoom, RestsIn, CornersBelow}
 use Rattle.work.specs.Rows.{GrownTo}
-use Rattle.rewire.specs.RoomsB.{Straddling, StraddleRoom}
+use Rattle.rewire.specs.Edges.{Straddling, StraddleRoom}
 use Rattle.work.specs.declared.Grown.{Grown}
 use Rattle.work.specs.Places.{SidesIn}
 use Rattle.split.specs.Steps.{loggedOf, SettlingTold}

@@ -33,7 +33,7 @@ fn open_facets(
     ensures { λ r. ⌜ FacetsTold (kindIs kind) v before n count b room (now (numbers .entry)) (now (verts .entry)) (now (groups .entry)) (now (corners .entry)) (now (outline .entry)) (now (outline .exit)) r ⌝ }
 {
     match kind {
-        Kind::Triangles => rewire::facets::crack_facets(
+        Kind::Triangles => facets::faces::crack_facets(
             v,
             before,
             n,
@@ -71,7 +71,7 @@ fn open_boundary(
     ensures { λ r. ⌜ BoundaryTold (kindIs kind) v before n count b room (now (numbers .entry)) (now (verts .entry)) (now (groups .entry)) (now (points .entry)) (now (corners .entry)) (now (outline .entry)) (now (outline .exit)) r ⌝ }
 {
     let k = elements::corners_per(kind);
-    rewire::boundary::follow_boundary(
+    facets::boundary::follow_boundary(
         v,
         before,
         k,

@@ -5,7 +5,7 @@ ghost use Prim.Native.Nat.{_<_, _≤_, _/_};
 ghost use lib.ListN.{length, getD};
 ghost use Rattle.model.specs.Cut.{shortened, appended};
 ghost use Rattle.mesh.specs.At.{sideRow};
-ghost use Rattle.rewire.specs.RoomsB.{SideRoom};
+ghost use Rattle.work.specs.Rows.{SideRoom};
 ghost use Rattle.strap.specs.Sides.{EntryGrown, SidesInserted};
 use work::Grown;
 

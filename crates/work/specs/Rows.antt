@@ -1,5 +1,5 @@
 -- Rows appended to a list, where there is room for them. Only contracts between workers need this file. Definitions only.
-use Prim.Native.Nat.{ℕ, _≤_}
+use Prim.Native.Nat.{ℕ, _/_, _≤_}
 use mathlib.Core.Path.{_≡_}
 use mathlib.Core.Bool.{true, false}
 use mathlib.Core.List.{List}
@@ -17,3 +17,8 @@ GrownTo (Rows r) room l rows = (leb (length l) room ≡ true) × (r ≡ length l
 abbrev pub Between : ℕ → ℕ → Grown → Type 0
 Between m room Lacking = 0 ≤ m
 Between m room (Rows r) = (m ≤ r) × (r ≤ room)
+
+-- what rows of an outline ask
+pub record SideRoom (m room lo : ℕ) : Type 0 where
+  pub rows : m ≤ room
+  pub columns : room ≤ lo / 2
