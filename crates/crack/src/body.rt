@@ -222,7 +222,7 @@ fn finish_facets(
         let Ran::Done(next) = ran else {
             return ran;
         };
-        return split::straddlers::remove_straddlers(
+        return straddlers::across::remove_straddlers(
             Kind::Triangles,
             next,
             room,
@@ -255,7 +255,7 @@ fn finish_plain(
     ensures { λ r. ⌜ Works (crackEnd (kindIs kind)) room (worldAt k (now (points .entry)) (now (roots .entry)) (now (corners .entry)) (now (volumes .entry)) (now (ends .entry)) (now (lengths .entry)) (now (outline .entry)) (now (log .entry))) (λ q. worldAt q (now (points .entry)) (now (roots .entry)) (now (corners .entry)) (now (volumes .entry)) (now (ends .exit)) (now (lengths .exit)) (now (outline .exit)) (now (log .exit))) r ⌝ }
 {
     if cut::marks::any_split(k.log, log) {
-        return split::straddlers::remove_straddlers(
+        return straddlers::across::remove_straddlers(
             kind,
             k,
             room,

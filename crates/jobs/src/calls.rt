@@ -94,7 +94,7 @@ pub fn work(
 {
     let kind = elements::kind_of(k.triangles, k.edges, ends);
     match job {
-        Job::Straddlers => split::straddlers::remove_straddlers(
+        Job::Straddlers => straddlers::across::remove_straddlers(
             kind,
             k,
             room,

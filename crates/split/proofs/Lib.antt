@@ -11,6 +11,3 @@ pub mod NoteLaws
 pub mod OutlineLaws
 pub mod SettleLaws
 pub mod DropLaws
-pub mod PieceMasks
-pub mod PieceTables
-pub mod Straddled

@@ -3,4 +3,3 @@ pub mod Tables
 pub mod Steps
 pub mod Growing
 pub mod Settling
-pub mod Straddling

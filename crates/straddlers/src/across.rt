@@ -9,7 +9,7 @@ ghost use Rattle.mesh.specs.Log.{worldAt};
 ghost use Rattle.elements.specs.Table.{kindIs, elementsIn};
 ghost use Rattle.work.specs.Working.{WorksBeside, SettleRoom};
 ghost use Rattle.work.specs.Places.{CornersIn, EndsIn, SidesIn};
-ghost use Rattle.split.specs.Straddling.{spansBy, PiecesRoom, PiecesTold, EdgeReads, EdgeTold, EdgeMaskRoom, EdgesMarked, SideMaskRoom, SidesMarked};
+ghost use Rattle.straddlers.specs.Straddling.{spansBy, PiecesRoom, PiecesTold, EdgeReads, EdgeTold, EdgeMaskRoom, EdgesMarked, SideMaskRoom, SidesMarked};
 use elements::Kind;
 use mesh::Counts;
 use mesh::Rooms;

@@ -1,11 +1,10 @@
--- `split::straddlers::find_pieces` meets its contract: the table of all elements, and its pieces. Assumes nothing.
+-- `straddlers::across::find_pieces` meets its contract: the table of all elements, and its pieces. Assumes nothing.
 use Rattle.elements.specs.Table.{kindIs}
-use Rattle.split.proofs.PieceTables.{corners-more}
-use Rattle.split.proofs.PieceTables.{table-corners, pieces-told}
+use Rattle.straddlers.proofs.PieceTables.{corners-more, table-corners, pieces-told}
 use native.Mathlib.Omega.{arith}
 use borrow.Author.Needs.{needs}
-use Rattle.split.proofs.straddlers.find_pieces.Statement.{statement}
-use Rattle.split.proofs.straddlers.find_pieces.Tie as tie
+use Rattle.straddlers.proofs.across.find_pieces.Statement.{statement}
+use Rattle.straddlers.proofs.across.find_pieces.Tie as tie
 
 slice-aggregate-element-table : tie.Need-slice-aggregate-element-table
 slice-aggregate-element-table c = search needs

@@ -21,7 +21,7 @@ use Rattle.elements.proofs.Filling.{triangles-length, straps-length}
 use Rattle.pieces.specs.Counted.{Corners, PieceRoots, UsedMarked}
 use Rattle.pieces.proofs.Laws.{spans-by-tables}
 use Rattle.work.specs.Places.{CornersIn, EndsIn, SidesIn}
-use Rattle.split.specs.Straddling.{spansBy, PiecesTold}
+use Rattle.straddlers.specs.Straddling.{spansBy, PiecesTold}
 
 -- ---- corners name particles
 

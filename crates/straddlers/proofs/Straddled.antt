@@ -24,7 +24,7 @@ use Rattle.mesh.specs.declared.Rooms.{Rooms}
 use Rattle.mesh.proofs.Lists.{particles-length, edges-length, log-length, mesh-path, world-path}
 use Rattle.work.specs.Working.{Within, Went, WorksBeside}
 use Rattle.work.specs.Places.{EndsIn, SidesIn}
-use Rattle.split.specs.Straddling.{acrossBy, PiecesTold, EdgesMarked, SidesMarked}
+use Rattle.straddlers.specs.Straddling.{acrossBy, PiecesTold, EdgesMarked, SidesMarked}
 use Rattle.work.specs.Removal.{marked, markedOf, goneWords, GoneTo}
 use Rattle.work.specs.declared.Ran.{Ran}
 use Rattle.work.specs.declared.Ran.the-variants.{Refused, Done}

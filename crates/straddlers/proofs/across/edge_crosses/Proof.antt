@@ -1,8 +1,8 @@
--- `split::straddlers::edge_crosses` meets its contract: an element stays, and of another edge the ends tell. Assumes nothing.
-use Rattle.split.proofs.PieceMasks.{told-element, told-other, ends-read}
+-- `straddlers::across::edge_crosses` meets its contract: an element stays, and of another edge the ends tell. Assumes nothing.
+use Rattle.straddlers.proofs.PieceMasks.{told-element, told-other, ends-read}
 use borrow.Author.Needs.{needs}
-use Rattle.split.proofs.straddlers.edge_crosses.Statement.{statement}
-use Rattle.split.proofs.straddlers.edge_crosses.Tie as tie
+use Rattle.straddlers.proofs.across.edge_crosses.Statement.{statement}
+use Rattle.straddlers.proofs.across.edge_crosses.Tie as tie
 
 mul-a : tie.Need-mul-a
 mul-a c = search needs

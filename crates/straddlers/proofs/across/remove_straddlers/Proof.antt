@@ -1,6 +1,6 @@
--- `split::straddlers::remove_straddlers` meets its contract: the tables of pieces, the masks, and the removal of what they mark. Assumes nothing.
-use Rattle.split.proofs.Straddled.{straddlers-gone, nothing-gone}
-use Rattle.split.proofs.PieceTables.{corners-wide, ends-wide, sides-wide}
+-- `straddlers::across::remove_straddlers` meets its contract: the tables of pieces, the masks, and the removal of what they mark. Assumes nothing.
+use Rattle.straddlers.proofs.Straddled.{straddlers-gone, nothing-gone}
+use Rattle.straddlers.proofs.PieceTables.{corners-wide, ends-wide, sides-wide}
 use Rattle.elements.specs.Table.{kindIs}
 use Rattle.elements.specs.declared.Kind.{Kind as KindCase}
 use Rattle.elements.specs.declared.Kind.the-variants.{Triangles as TrianglesCase, Straps as StrapsCase, Nothing as NothingCase}
@@ -14,8 +14,8 @@ use mathlib.Core.List.{[], _∷_}
 use Prim.Native.Nat.{ℕ}
 use native.Mathlib.Omega.{arith}
 use borrow.Author.Needs.{needs}
-use Rattle.split.proofs.straddlers.remove_straddlers.Statement.{statement}
-use Rattle.split.proofs.straddlers.remove_straddlers.Tie as tie
+use Rattle.straddlers.proofs.across.remove_straddlers.Statement.{statement}
+use Rattle.straddlers.proofs.across.remove_straddlers.Tie as tie
 
 -- a kind that is one of the first two is not the third
 some-elements : (kind : KindCase) → OneOf (0 ∷ 1 ∷ []) (tagOf Kind.the-type kind) → kindIs kind ≡ Nothing → ⊥

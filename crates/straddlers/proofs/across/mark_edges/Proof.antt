@@ -1,8 +1,8 @@
--- `split::straddlers::mark_edges` meets its contract: the loop over the edges is `Marking` and `Counting` of proofs/PieceMasks.antt. Assumes nothing.
+-- `straddlers::across::mark_edges` meets its contract: the loop over the edges is `Marking` and `Counting` of proofs/PieceMasks.antt. Assumes nothing.
 use borrow.Author.Needs.{needs}
 use Rattle.work.proofs.Removals.{Marking, Counting, marking-start, marking-step, counting-start, counting-step, counting-few, mark-small}
-use Rattle.split.proofs.PieceMasks.{edges-marked}
-use Rattle.split.specs.Straddling.{edgeCrosses}
+use Rattle.straddlers.proofs.PieceMasks.{edges-marked}
+use Rattle.straddlers.specs.Straddling.{edgeCrosses}
 use Rattle.elements.specs.Table.{kindIs}
 use mathlib.Core.List.{[]}
 use mathlib.Core.Path.{ap, _∙_}
@@ -10,8 +10,8 @@ use mathlib.Core.Bool.{Bool}
 use Rattle.lists.specs.Lists.{pick}
 use Prim.Native.Nat.{_-_}
 use native.Mathlib.Omega.{arith}
-use Rattle.split.proofs.straddlers.mark_edges.Statement.{statement}
-use Rattle.split.proofs.straddlers.mark_edges.Tie as tie
+use Rattle.straddlers.proofs.across.mark_edges.Statement.{statement}
+use Rattle.straddlers.proofs.across.mark_edges.Tie as tie
 
 abbrev Inv-loop : tie.InvT-loop
 Inv-loop kind n parent used ends mask₀ count₀ i₀ mask count i = Marking (edgeCrosses (kindIs kind) parent used ends []) n mask₀ mask i × Counting (edgeCrosses (kindIs kind) parent used ends []) i count

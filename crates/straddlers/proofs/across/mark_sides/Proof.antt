@@ -1,12 +1,12 @@
--- `split::straddlers::mark_sides` meets its contract: the loop over the entries is `Marking` of proofs/PieceMasks.antt. Assumes nothing.
-use Rattle.split.proofs.PieceMasks.{sides-read, sides-marked, side-told}
+-- `straddlers::across::mark_sides` meets its contract: the loop over the entries is `Marking` of proofs/PieceMasks.antt. Assumes nothing.
+use Rattle.straddlers.proofs.PieceMasks.{sides-read, sides-marked, side-told}
 use borrow.Author.Needs.{needs}
 use Rattle.work.proofs.Removals.{Marking, marking-start, marking-step}
-use Rattle.split.specs.Straddling.{sideCrosses}
+use Rattle.straddlers.specs.Straddling.{sideCrosses}
 use Prim.Native.Nat.{_-_}
 use native.Mathlib.Omega.{arith}
-use Rattle.split.proofs.straddlers.mark_sides.Statement.{statement}
-use Rattle.split.proofs.straddlers.mark_sides.Tie as tie
+use Rattle.straddlers.proofs.across.mark_sides.Statement.{statement}
+use Rattle.straddlers.proofs.across.mark_sides.Tie as tie
 
 abbrev Inv-loop : tie.InvT-loop
 Inv-loop n parent used outline mask₀ c i₀ mask i = Marking (sideCrosses parent used outline) n mask₀ mask i

@@ -1,8 +1,8 @@
--- `split::straddlers::apart` meets its contract: one test behind the other. Assumes nothing.
-use Rattle.split.proofs.PieceMasks.{spans-first, spans-second, spans-roots}
+-- `straddlers::across::apart` meets its contract: one test behind the other. Assumes nothing.
+use Rattle.straddlers.proofs.PieceMasks.{spans-first, spans-second, spans-roots}
 use borrow.Author.Needs.{needs}
-use Rattle.split.proofs.straddlers.apart.Statement.{statement}
-use Rattle.split.proofs.straddlers.apart.Tie as tie
+use Rattle.straddlers.proofs.across.apart.Statement.{statement}
+use Rattle.straddlers.proofs.across.apart.Tie as tie
 
 mul-if1 : tie.Need-mul-if1
 mul-if1 c = search needs

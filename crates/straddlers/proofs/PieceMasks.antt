@@ -17,7 +17,7 @@ use Rattle.model.specs.Elements.{Kind, Triangles, Straps, Nothing, element?}
 use Rattle.mesh.specs.At.{edgeRow}
 use Rattle.rewire.specs.Edges.{ElementIs}
 use Rattle.work.specs.Places.{SidesIn}
-use Rattle.split.specs.Straddling.{spansBy, acrossBy, edgeCrosses, sideCrosses, EdgeReads, EdgeTold, EdgesMarked, SidesMarked}
+use Rattle.straddlers.specs.Straddling.{spansBy, acrossBy, edgeCrosses, sideCrosses, EdgeReads, EdgeTold, EdgesMarked, SidesMarked}
 use Rattle.work.specs.Removal.{marked, markedOf}
 use Rattle.work.proofs.Removals.{Marking, Counting}
 
