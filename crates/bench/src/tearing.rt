@@ -3,7 +3,7 @@ ghost use mathlib.Core.Path.{_≡_};
 ghost use Rattle.model.specs.Calls.{splitCall, straddlersCall, cutCall, crackCall};
 ghost use Rattle.mesh.specs.Given.{given, meshOf, sizesFit, roomsOf, asRooms};
 ghost use Rattle.mesh.specs.Filled.{lent};
-ghost use Rattle.cut.specs.Marking.{bladeFrom};
+ghost use Rattle.marks.specs.Marking.{bladeFrom};
 ghost use Rattle.answer.specs.Answered.{Answered, frontOf};
 use answer::Answer;
 use blade::Point;

@@ -200,7 +200,7 @@ fn finish_facets(
     let mut measures = [0.0f32; 2048];
     let mut sides = [0usize; 2048];
     let mut groups = [0usize; 2048];
-    if cut::marks::any_split(k.log, log) {
+    if marks::particles::any_split(k.log, log) {
         let ran = cut::facets::split_pinched(
             k,
             room,
@@ -254,7 +254,7 @@ fn finish_plain(
     requires { ⌜ Ready room k (lent (now points) (now roots) (now corners) (now volumes) (now ends) (now lengths) (now outline) (now log)) (meshAt k (now points) (now roots) (now corners) (now volumes) (now ends) (now lengths) (now outline)) × Logged (k .log) (now log) × (kindIs kind ≡ Triangles → ⊥) ⌝ }
     ensures { λ r. ⌜ Works (crackEnd (kindIs kind)) room (worldAt k (now (points .entry)) (now (roots .entry)) (now (corners .entry)) (now (volumes .entry)) (now (ends .entry)) (now (lengths .entry)) (now (outline .entry)) (now (log .entry))) (λ q. worldAt q (now (points .entry)) (now (roots .entry)) (now (corners .entry)) (now (volumes .entry)) (now (ends .exit)) (now (lengths .exit)) (now (outline .exit)) (now (log .exit))) r ⌝ }
 {
-    if cut::marks::any_split(k.log, log) {
+    if marks::particles::any_split(k.log, log) {
         return straddlers::across::remove_straddlers(
             kind,
             k,

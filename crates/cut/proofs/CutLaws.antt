@@ -26,7 +26,7 @@ use Rattle.work.specs.declared.Ran.the-variants.{Refused, Done}
 use Rattle.work.proofs.Placed.{particles-count, corners-in}
 use Rattle.work.proofs.Runs.{works-stay, works-then, works-refused, works-known}
 use Rattle.cut.specs.declared.facets.Parting.the-variants.{Free, Blade as BladeFrom}
-use Rattle.cut.specs.Marking.{bladeFrom, candidateEnds, CandidateRoom, CandidatesMarked, NearMarked, pinchedEnds, PinchedRoom, PinchedMarked}
+use Rattle.marks.specs.Marking.{bladeFrom, candidateEnds, CandidateRoom, CandidatesMarked, NearMarked, pinchedEnds, PinchedRoom, PinchedMarked}
 use Rattle.cut.specs.Running.{sidesIn, splitIn, Chosen}
 use Rattle.cut.proofs.RunLaws.{chosen-rising, works-when, splitTo, places-at}
 

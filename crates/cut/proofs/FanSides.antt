@@ -21,8 +21,8 @@ use Rattle.split.proofs.Below.{table-below, fan-corners}
 use Rattle.work.proofs.Placed.{particles-count}
 use Rattle.cut.specs.declared.facets.Parting.{Parting}
 use Rattle.cut.specs.declared.facets.Parting.the-variants.{Free, Blade as BladeFrom}
-use Rattle.cut.specs.Marking.{bladeFrom}
-use Rattle.cut.specs.Sided.{SidesRoom, SidesBy}
+use Rattle.marks.specs.Marking.{bladeFrom}
+use Rattle.marks.specs.Sided.{SidesRoom, SidesBy}
 use Rattle.cut.specs.Running.{sidesIn, SidesFor}
 use Rattle.cut.proofs.RunLaws.{places-at}
 

@@ -33,7 +33,7 @@ use Rattle.work.specs.declared.Ran.the-variants.{Refused, Done}
 use Rattle.work.proofs.Runs.{works-stay, works-then, works-refused}
 use Rattle.elements.proofs.Measures.{sift-agree}
 use Rattle.cut.specs.declared.facets.Parting.{Parting}
-use Rattle.cut.specs.Marking.{Marks, PlacesIn, marked?}
+use Rattle.marks.specs.Marking.{Marks, PlacesIn, marked?}
 use Rattle.cut.specs.Running.{sidesIn, splitIn, splitIf, chosen}
 
 -- ---- the particles that are chosen

@@ -35,7 +35,7 @@ use Rattle.work.proofs.Placed.{particles-count}
 use Rattle.work.specs.declared.Ran.{Ran}
 use Rattle.work.specs.declared.Ran.the-variants.{Refused, Done}
 use Rattle.cut.specs.declared.facets.Parting.the-variants.{Blade as BladeFrom}
-use Rattle.cut.specs.Marking.{bladeFrom}
+use Rattle.marks.specs.Marking.{bladeFrom}
 use Rattle.cut.specs.Running.{sidesIn, splitIn, splitIf}
 use Rattle.cut.specs.Snapping.{beyond, slackBeyond, SlackFrom, EdgesHere, snapIf}
 use Rattle.cut.proofs.SteadyRuns.{Steady}

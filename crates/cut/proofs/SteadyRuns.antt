@@ -22,7 +22,7 @@ use Rattle.work.specs.Working.{Within, Roomed, Ready, Works}
 use Rattle.work.specs.declared.Ran.{Ran}
 use Rattle.work.specs.declared.Ran.the-variants.{Refused, Done}
 use Rattle.work.proofs.Runs.{works-stay, works-then, works-refused, works-as}
-use Rattle.cut.specs.Marking.{marked?}
+use Rattle.marks.specs.Marking.{marked?}
 use Rattle.cut.specs.Running.{chosen}
 use Rattle.cut.proofs.RunLaws.{chosen-none, chosen-step, chosen-more}
 

@@ -14,7 +14,7 @@ use Rattle.model.specs.Cut.{bladeSides}
 use Rattle.mesh.specs.declared.Counts.{Counts}
 use Rattle.elements.specs.Table.{Cornered}
 use Rattle.opening.specs.Opened.{CornersBelow}
-use Rattle.cut.specs.Marking.{PlacesIn, bladeFrom, marked?}
+use Rattle.marks.specs.Marking.{PlacesIn, bladeFrom, marked?}
 use Rattle.cut.specs.declared.facets.Parting.{Parting}
 use Rattle.cut.specs.declared.facets.Parting.the-variants.{Free, Blade as BladeFrom}
 use Rattle.work.specs.Working.{Logged}

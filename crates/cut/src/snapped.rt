@@ -9,7 +9,7 @@ ghost use Rattle.mesh.specs.At.{meshAt};
 ghost use Rattle.mesh.specs.Log.{worldAt};
 ghost use Rattle.mesh.specs.Filled.{lent};
 ghost use Rattle.work.specs.Working.{Ready, Works};
-ghost use Rattle.cut.specs.Marking.{bladeFrom};
+ghost use Rattle.marks.specs.Marking.{bladeFrom};
 ghost use Rattle.cut.specs.Running.{TablesLong, chosen, Chosen};
 ghost use Rattle.cut.specs.Snapping.{EdgeHere, SlackAt, EdgesHere, SlackFrom, snapIf, Snappable};
 use crate::facets::Parting;

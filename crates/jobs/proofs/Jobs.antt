@@ -25,7 +25,7 @@ use Rattle.split.specs.Tables.{SidesGiven}
 use Rattle.work.specs.declared.Ran.{Ran}
 use Rattle.work.specs.declared.Ran.the-variants.{Refused as Stopped}
 use Rattle.blade.specs.declared.Point.{Point}
-use Rattle.cut.specs.Marking.{bladeFrom}
+use Rattle.marks.specs.Marking.{bladeFrom}
 use Rattle.answer.specs.Framed.{Begun, Came}
 use Rattle.answer.proofs.Begun.{began-passed, began-ready}
 use Rattle.answer.proofs.Calls.{came-begun, came-worked, unlogged}

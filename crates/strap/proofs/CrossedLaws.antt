@@ -24,8 +24,8 @@ use Rattle.work.specs.Working.{Within, Went}
 use Rattle.work.specs.declared.Ran.{Ran}
 use Rattle.work.specs.declared.Ran.the-variants.{Refused, Done}
 use Rattle.work.proofs.Placed.{ends-in}
-use Rattle.cut.specs.Marking.{Marks, MarkedBy}
-use Rattle.cut.proofs.MarkLaws.{marked-one}
+use Rattle.marks.specs.Marking.{Marks, MarkedBy}
+use Rattle.marks.proofs.MarkLaws.{marked-one}
 use Rattle.strap.specs.Shares.{Stands}
 use Rattle.strap.specs.Plans.{planned, PlanRoom, PlanIs, InsertableRoom, InsertableIs}
 use Rattle.strap.specs.Bends.{EndsBelow, BendsRoom, BendsMarked}

@@ -30,7 +30,7 @@ use Rattle.work.specs.Working.{Ready, Went, Logged}
 use Rattle.work.specs.declared.Ran.{Ran}
 use Rattle.work.specs.declared.Ran.the-variants.{Done}
 use Rattle.work.proofs.Placed.{ends-in}
-use Rattle.cut.specs.Marking.{bladeFrom}
+use Rattle.marks.specs.Marking.{bladeFrom}
 use Rattle.strap.specs.Shares.{Stands}
 use Rattle.strap.specs.Bends.{EndsBelow}
 use Rattle.strap.specs.Crossings.{crossed-in, CrossingsAre}

@@ -23,7 +23,7 @@ use Rattle.work.specs.declared.Ran.{Ran}
 use Rattle.work.specs.declared.Ran.the-variants.{Refused, Done}
 use Rattle.work.proofs.Placed.{edges-count}
 use Rattle.split.proofs.StepLaws.{world-mesh}
-use Rattle.cut.specs.Marking.{bladeFrom}
+use Rattle.marks.specs.Marking.{bladeFrom}
 use Rattle.strap.specs.Crossed.{ranOf}
 use Rattle.strap.specs.Segments.{AfterTold, BladeCrossed}
 use Rattle.strap.proofs.CrossedStart.{marks-none, all-went, all-marked, all-ready, all-logged}

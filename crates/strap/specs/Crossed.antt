@@ -18,7 +18,7 @@ use Rattle.elements.specs.Workers.{marked}
 use Rattle.work.specs.Working.{Ready, Went, Logged}
 use Rattle.work.specs.declared.Ran.{Ran}
 use Rattle.work.specs.declared.Ran.the-variants.{Done}
-use Rattle.cut.specs.Marking.{Marks}
+use Rattle.marks.specs.Marking.{Marks}
 
 -- the run of a strap cut at work, the bend edges to go, and the ends to split
 abbrev pub ranOf : Strapping → Run

@@ -5,7 +5,7 @@ ghost use Rattle.mesh.specs.Log.{worldAt};
 ghost use Rattle.mesh.specs.Filled.{lent};
 ghost use Rattle.elements.specs.Table.{kindIs};
 ghost use Rattle.work.specs.Working.{Ready, Works, Logged};
-ghost use Rattle.cut.specs.Marking.{bladeFrom};
+ghost use Rattle.marks.specs.Marking.{bladeFrom};
 use blade::Point;
 use elements::Kind;
 use mesh::Counts;

@@ -6,7 +6,7 @@ ghost use Rattle.mesh.specs.At.{meshAt};
 ghost use Rattle.mesh.specs.Log.{worldAt};
 ghost use Rattle.mesh.specs.Filled.{lent};
 ghost use Rattle.work.specs.Working.{Ready, Works, Logged};
-ghost use Rattle.cut.specs.Marking.{bladeFrom};
+ghost use Rattle.marks.specs.Marking.{bladeFrom};
 ghost use Rattle.cut.specs.Running.{TablesLong};
 ghost use Rattle.strap.specs.Crossed.{CrossRoom};
 ghost use Rattle.strap.specs.Segments.{MarksLent, AfterTold, BladeCrossed};

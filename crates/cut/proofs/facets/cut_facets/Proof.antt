@@ -2,7 +2,7 @@
 use Rattle.work.proofs.Runs.{works-known}
 use Rattle.cut.proofs.CutLaws.{candidate-room, chosen-room, candidates-work, facets-refused, facets-unsplit, facets-split}
 use Rattle.cut.proofs.RunLaws.{within-at, ready-at, entries-at, words-at}
-use Rattle.cut.specs.Marking.{bladeFrom}
+use Rattle.marks.specs.Marking.{bladeFrom}
 use Rattle.cut.specs.declared.facets.Parting.the-variants.{Blade as BladeFrom}
 use Rattle.model.specs.Elements.{Triangles}
 use Rattle.mesh.proofs.Agree.{lent-path}
