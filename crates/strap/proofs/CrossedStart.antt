@@ -31,11 +31,11 @@ use Rattle.work.specs.declared.Ran.{Ran}
 use Rattle.work.specs.declared.Ran.the-variants.{Done}
 use Rattle.work.proofs.Placed.{ends-in}
 use Rattle.marks.specs.Marking.{bladeFrom}
-use Rattle.strap.specs.Shares.{Stands}
-use Rattle.strap.specs.Bends.{EndsBelow}
-use Rattle.strap.specs.Crossings.{crossed-in, CrossingsAre}
-use Rattle.strap.specs.Crossed.{ranOf, StrapMarks, Crosses, CrossTold, CrossingsIn}
-use Rattle.strap.proofs.CrossedRuns.{entries-to, words-to, ready-to}
+use Rattle.insert.specs.Shares.{Stands}
+use Rattle.crossing.specs.Bends.{EndsBelow}
+use Rattle.crossing.specs.Crossings.{crossed-in, CrossingsAre}
+use Rattle.crossing.specs.Crossed.{ranOf, StrapMarks, Crosses, CrossTold, CrossingsIn}
+use Rattle.crossing.proofs.CrossedRuns.{entries-to, words-to, ready-to}
 
 -- ---- nothing is marked
 

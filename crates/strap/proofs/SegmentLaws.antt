@@ -30,8 +30,8 @@ use Rattle.work.proofs.Placed.{particles-count}
 use Rattle.split.proofs.StepLaws.{world-mesh}
 use Rattle.cut.specs.Running.{chosen, Chosen}
 use Rattle.cut.proofs.RunLaws.{chosen-rising}
-use Rattle.strap.specs.Crossed.{ranOf, bendsOf, StrapMarks}
-use Rattle.strap.specs.Unbent.{UnbentRoom, MarksOf, UnbentTold}
+use Rattle.crossing.specs.Crossed.{ranOf, bendsOf, StrapMarks}
+use Rattle.crossing.specs.Unbent.{UnbentRoom, MarksOf, UnbentTold}
 use Rattle.strap.specs.Segments.{MarksLent, AfterTold}
 
 -- ---- the marked places as a list

@@ -24,10 +24,10 @@ use Rattle.work.specs.declared.Ran.the-variants.{Refused, Done}
 use Rattle.work.proofs.Placed.{edges-count}
 use Rattle.split.proofs.StepLaws.{world-mesh}
 use Rattle.marks.specs.Marking.{bladeFrom}
-use Rattle.strap.specs.Crossed.{ranOf}
+use Rattle.crossing.specs.Crossed.{ranOf}
 use Rattle.strap.specs.Segments.{AfterTold, BladeCrossed}
 use Rattle.strap.proofs.CrossedStart.{marks-none, all-went, all-marked, all-ready, all-logged}
-use Rattle.strap.proofs.BendNumbers.{marked-there}
+use Rattle.crossing.proofs.BendNumbers.{marked-there}
 
 -- what is left of a cut only goes on
 after-onward : (B : Blade) (S : Strapping) → Onward (ranOf S) (afterCrossings B S)
