@@ -1,6 +1,6 @@
-// What each list of a mesh becomes in a split: particles copied, elements rewired, other edges, straddlers. (The boundary: crate facets.)
+// What each list of a mesh becomes in a split: particles copied, elements rewired, other edges, straddlers. (The boundary: crate boundary.)
 pub mod edges;
 pub mod fans;
 pub mod held;
 pub mod particles;
-pub mod straddlers;
+pub mod straddling;

@@ -15,8 +15,8 @@ use Rattle.elements.specs.declared.Kind.{Kind as KindCase}
 use Rattle.elements.specs.declared.Kind.the-variants.{Triangles as TrianglesCase, Straps as StrapsCase, Nothing as NothingCase}
 use Rattle.elements.specs.Table.{kindIs}
 use Rattle.work.specs.Rows.{GrownTo, SideRoom}
-use Rattle.facets.specs.Following.{SidesFollowed, SidesRoom}
-use Rattle.facets.specs.Faces.{FaceRoom, FacetsGrown, allFacets}
+use Rattle.boundary.specs.Following.{SidesFollowed, SidesRoom}
+use Rattle.boundary.specs.Faces.{FaceRoom, FacetsGrown, allFacets}
 use Rattle.work.specs.declared.Grown.{Grown}
 use Rattle.work.specs.declared.Grown.the-variants.{Rows}
 use Rattle.split.specs.Settling.{FacetsAsked, FacetsTold, BoundaryAsked, BoundaryTold}

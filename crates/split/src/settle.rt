@@ -33,7 +33,7 @@ fn open_facets(
     ensures { λ r. ⌜ FacetsTold (kindIs kind) v before n count b room (now (numbers .entry)) (now (verts .entry)) (now (groups .entry)) (now (corners .entry)) (now (outline .entry)) (now (outline .exit)) r ⌝ }
 {
     match kind {
-        Kind::Triangles => facets::faces::crack_facets(
+        Kind::Triangles => boundary::facets::crack_facets(
             v,
             before,
             n,
@@ -71,7 +71,7 @@ fn open_boundary(
     ensures { λ r. ⌜ BoundaryTold (kindIs kind) v before n count b room (now (numbers .entry)) (now (verts .entry)) (now (groups .entry)) (now (points .entry)) (now (corners .entry)) (now (outline .entry)) (now (outline .exit)) r ⌝ }
 {
     let k = elements::corners_per(kind);
-    facets::boundary::follow_boundary(
+    boundary::entries::follow_boundary(
         v,
         before,
         k,
@@ -174,7 +174,7 @@ fn drop_straddlers(
     requires { ⌜ DropAsked (kindIs kind) room k before n count extra (length (now verts)) (length (now groups)) (length (now corners)) (length (now ends)) (length (now lengths)) (length (now log)) × (2048 ≤ length (now mask)) ⌝ }
     ensures { λ r. ⌜ Dropped (kindIs kind) room k v before n count extra rows (now (verts .entry)) (now (groups .entry)) (now (corners .entry)) (now (ends .entry)) (now (ends .exit)) (now (lengths .entry)) (now (lengths .exit)) (now (log .entry)) (now (log .exit)) r ⌝ }
 {
-    let s = rewire::straddlers::mark_straddlers(
+    let s = rewire::straddling::mark_straddlers(
         kind,
         v,
         before,
