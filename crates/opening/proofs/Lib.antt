@@ -3,4 +3,4 @@ pub mod Rings
 pub mod Weights
 pub mod Towards
 pub mod Tables
-pub mod Names
+pub mod NameLaws

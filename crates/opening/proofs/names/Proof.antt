@@ -1,5 +1,5 @@
 -- `opening::names` meets its contract: by cases of the first end. Assumes nothing.
-use Rattle.opening.proofs.Names.{named-first, named-second}
+use Rattle.opening.proofs.NameLaws.{named-first, named-second}
 use Rattle.opening.proofs.names.Statement.{statement}
 use Rattle.opening.proofs.names.Tie as tie
 
