@@ -41,7 +41,7 @@ pub fn straddlers(
         log.len(),
     );
     let none = [0usize; 0];
-    let ran = jobs::calls::run(
+    let ran = perform::calls::run(
         Job::Straddlers,
         &none,
         room,
@@ -107,7 +107,7 @@ pub fn split(
         outline.len(),
         log.len(),
     );
-    let ran = jobs::calls::run(
+    let ran = perform::calls::run(
         Job::Split(v),
         sides,
         room,
@@ -175,7 +175,7 @@ pub fn cut(
         log.len(),
     );
     let none = [0usize; 0];
-    let ran = jobs::calls::run(
+    let ran = perform::calls::run(
         Job::Cut(b0, b1, f),
         &none,
         room,
@@ -248,7 +248,7 @@ pub fn crack(
         outline.len(),
         log.len(),
     );
-    let ran = jobs::calls::run(
+    let ran = perform::calls::run(
         Job::Crack(minimum),
         torn,
         room,

@@ -23,9 +23,10 @@ use Rattle.work.specs.declared.Ran.the-variants.{Refused as Stopped}
 use Rattle.answer.specs.Framed.{RoomsLent, BeginAsked, Begun, Came}
 use Rattle.answer.proofs.Begun.{begin-asked, begun-by}
 use Rattle.jobs.specs.Jobs.{jobNumbers, jobArguments, jobRun, jobCall}
-use Rattle.jobs.specs.Asks.{JobAsked}
+use Rattle.perform.specs.Asks.{JobAsked}
 use Rattle.jobs.specs.declared.Job.{Job}
-use Rattle.jobs.proofs.Jobs.{job-lent, job-refused, job-asked, job-came}
+use Rattle.jobs.proofs.Jobs.{job-lent}
+use Rattle.perform.proofs.Performed.{job-refused, job-asked, job-came}
 use Rattle.image.specs.Image.{imageOf, imageSized}
 use Rattle.bench_c.specs.Given.{SmallCode}
 use Rattle.bench_c.specs.Torn.{meshReply, BothReplied, OutcomeReplied}

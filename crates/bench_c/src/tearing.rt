@@ -79,7 +79,7 @@ fn reply_work(
 {
     let mut words = [0usize; 24576];
     let k = crate::placing::image_counts(bytes);
-    let ran = jobs::calls::work(
+    let ran = perform::calls::work(
         job,
         list,
         k,

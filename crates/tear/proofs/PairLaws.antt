@@ -28,11 +28,11 @@ use Rattle.work.proofs.Placed.{particles-count}
 use Rattle.split.proofs.Below.{Few, Cornering, element-corners}
 use Rattle.split.proofs.Fitted.{all-few}
 use Rattle.work.specs.Working.{Logged}
 use Rattle.tear.specs.Families.{MeshIn, pairIs, CurrentRoom, CurrentTold}
-use Rattle.crack.specs.Cracks.{PairReady, PairBelow, PairNow}
+use Rattle.tear.specs.Pairs.{PairReady, PairBelow, PairNow}
 use Rattle.tear.specs.declared.families.Pair.{Pair}
 use Rattle.tear.specs.declared.families.Pair.the-variants.{None, Ends}
 use Rattle.tear.proofs.TriedLaws.{elements-here}
 
 -- ---- its particles are there
 

@@ -1,11 +1,11 @@
--- `jobs::calls::work` meets its contract: the kind of the mesh, and the worker of each job. Assumes nothing.
+-- `perform::calls::work` meets its contract: the kind of the mesh, and the worker of each job. Assumes nothing.
 use mathlib.Core.Path.{refl}
 use native.Mathlib.Omega.{arith}
 use borrow.Author.Needs.{needs}
 use Rattle.jobs.specs.declared.Job.the-variants.{Straddlers, Split, Cut, Crack}
-use Rattle.jobs.proofs.Asked.{straddlers-room, job-works, split-given}
-use Rattle.jobs.proofs.calls.work.Statement.{statement}
-use Rattle.jobs.proofs.calls.work.Tie as tie
+use Rattle.perform.proofs.Worked.{straddlers-room, job-works, split-given}
+use Rattle.perform.proofs.calls.work.Statement.{statement}
+use Rattle.perform.proofs.calls.work.Tie as tie
 
 kind-of-requires : tie.Need-kind-of-requires
 kind-of-requires c κs = let P = c .before .before .before .before .before .before .before .before .before .before .pre .0 in omega (arith, P .counts .edges, P .rooms .ends)

@@ -1,10 +1,10 @@
--- `crack::edges::pair_now` meets its contract: the table of all elements, then the pair that the log and it tell of. Assumes nothing.
+-- `tear::edge::pair_now` meets its contract: the table of all elements, then the pair that the log and it tell of. Assumes nothing.
 use native.Mathlib.Omega.{arith}
 use borrow.Author.Needs.{needs}
 use Rattle.elements.specs.Table.{kindIs}
-use Rattle.crack.proofs.PairLaws.{pair-room, pair-told}
-use Rattle.crack.proofs.edges.pair_now.Statement.{statement}
-use Rattle.crack.proofs.edges.pair_now.Tie as tie
+use Rattle.tear.proofs.PairLaws.{pair-room, pair-told}
+use Rattle.tear.proofs.edge.pair_now.Statement.{statement}
+use Rattle.tear.proofs.edge.pair_now.Tie as tie
 
 slice-aggregate-element-table : tie.Need-slice-aggregate-element-table
 slice-aggregate-element-table c = search needs

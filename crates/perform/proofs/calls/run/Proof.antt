@@ -1,11 +1,11 @@
--- `jobs::calls::run` meets its contract: the refusal, or what the work came to. Assumes nothing.
+-- `perform::calls::run` meets its contract: the refusal, or what the work came to. Assumes nothing.
 use mathlib.Core.Path.{refl, _∙_}
 use Rattle.mesh.specs.Given.{given}
 use Rattle.mesh.proofs.Agree.{lent-path}
 use Rattle.answer.proofs.Begun.{rooms-lent, roomed-still}
-use Rattle.jobs.proofs.Jobs.{job-refused, job-asked, job-came}
-use Rattle.jobs.proofs.calls.run.Statement.{statement}
-use Rattle.jobs.proofs.calls.run.Tie as tie
+use Rattle.perform.proofs.Performed.{job-refused, job-asked, job-came}
+use Rattle.perform.proofs.calls.run.Statement.{statement}
+use Rattle.perform.proofs.calls.run.Tie as tie
 
 begin-requires : tie.Need-begin-requires
 begin-requires c κs = let A = c .before .before .before .before .before .before .before .before .before .before .before .before .before .before .before .before .before .before .before .before .before .before .before .args in rooms-lent (A .points .now) (A .roots .now) (A .corners .now) (A .volumes .now) (A .ends .now) (A .lengths .now) (A .outline .now) (A .log .now) (c .before .before .before .before .before .before .before .before .before .before .before .before .before .before .before .before .before .before .before .before .before .before .before .pre)

@@ -1,11 +1,11 @@
--- `jobs::calls::begin` meets its contract: the checks, and the copy. Assumes nothing.
+-- `perform::calls::begin` meets its contract: the checks, and the copy. Assumes nothing.
 use borrow.Author.Needs.{needs}
 use Rattle.mesh.specs.Given.{given, meshOf, asRooms}
 use Rattle.answer.proofs.Begun.{begin-asked, begun-by}
 use Rattle.jobs.specs.Jobs.{jobNumbers, jobArguments}
 use Rattle.jobs.proofs.Jobs.{job-lent}
-use Rattle.jobs.proofs.calls.begin.Statement.{statement}
-use Rattle.jobs.proofs.calls.begin.Tie as tie
+use Rattle.perform.proofs.calls.begin.Statement.{statement}
+use Rattle.perform.proofs.calls.begin.Tie as tie
 
 judge-requires : tie.Need-judge-requires
 judge-requires c κs = search needs

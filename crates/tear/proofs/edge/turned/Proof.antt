@@ -1,10 +1,10 @@
--- `crack::edges::turned` meets its contract: the loads of both ways tell it. Assumes nothing.
+-- `tear::edge::turned` meets its contract: the loads of both ways tell it. Assumes nothing.
 use borrow.Author.Needs.{needs}
 use Rattle.elements.specs.Table.{kindIs}
 use Rattle.mesh.specs.At.{meshAt}
-use Rattle.crack.proofs.OpenLaws.{ready-back, turned-is}
-use Rattle.crack.proofs.edges.turned.Statement.{statement}
-use Rattle.crack.proofs.edges.turned.Tie as tie
+use Rattle.tear.proofs.TurnLaws.{ready-back, turned-is}
+use Rattle.tear.proofs.edge.turned.Statement.{statement}
+use Rattle.tear.proofs.edge.turned.Tie as tie
 
 way-load-requires : tie.Need-way-load-requires
 way-load-requires c κs = c .before .before .before .before .before .before .before .before .pre
