@@ -21,10 +21,10 @@ use Rattle.mesh.specs.Given.{Given, Lent, meshOf, sizes, sizesFit, roomsOf, asR
 use Rattle.mesh.specs.Filled.{Fits, Holds, lent}
 use Rattle.mesh.specs.declared.Counts.{Counts}
 use Rattle.mesh.specs.declared.Rooms.{Rooms}
-use Rattle.mesh.proofs.Joined.{sizes-told}
-use Rattle.mesh.proofs.Accepted.{lentOf, SizedInput, input-fits}
+use Rattle.judge.proofs.Joined.{sizes-told}
+use Rattle.judge.proofs.Accepted.{lentOf, SizedInput, input-fits}
 use Rattle.mesh.proofs.Lists.{particles-length, edges-length}
-use Rattle.split.specs.Working.{Roomed, Ready}
+use Rattle.work.specs.Working.{Roomed, Ready}
 use Rattle.answer.specs.Framed.{copyNeed, begunWith, RoomsLent, BeginAsked, Begun}
 
 -- ---- counts

@@ -18,12 +18,12 @@ use Rattle.mesh.specs.Given.{Given, Lent, meshOf, roomsOf, asRooms}
 use Rattle.mesh.specs.Filled.{Filled}
 use Rattle.mesh.specs.declared.Counts.{Counts}
 use Rattle.mesh.specs.declared.Rooms.{Rooms}
-use Rattle.mesh.proofs.Accepted.{rooms-fit}
+use Rattle.judge.proofs.Accepted.{rooms-fit}
 use Rattle.mesh.proofs.Agree.{agree, Zero, zeros}
 use Rattle.mesh.proofs.Lists.{particles-length, edges-length, log-length}
-use Rattle.split.specs.Working.{Within, Went, Works}
-use Rattle.split.specs.declared.Ran.{Ran}
-use Rattle.split.specs.declared.Ran.the-variants.{Refused as Stopped, Done as Ended}
+use Rattle.work.specs.Working.{Within, Went, Works}
+use Rattle.work.specs.declared.Ran.{Ran}
+use Rattle.work.specs.declared.Ran.the-variants.{Refused as Stopped, Done as Ended}
 use Rattle.answer.specs.Answered.{shown, countsOf, Answered}
 use Rattle.answer.specs.Framed.{wordsChange, begunWith, Begun, RanFits, RanWithin, Came, Finished}
 use Rattle.answer.specs.declared.Answer.{Answer}

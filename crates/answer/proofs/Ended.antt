@@ -10,8 +10,8 @@ use Rattle.mesh.specs.Log.{World, logAt, worldAt}
 use Rattle.mesh.specs.Given.{Lent}
 use Rattle.mesh.specs.Filled.{Filled, Fits}
 use Rattle.mesh.specs.declared.Counts.{Counts}
-use Rattle.split.specs.declared.Ran.{Ran}
-use Rattle.split.specs.declared.Ran.the-variants.{Refused as Stopped, Done as Ended}
+use Rattle.work.specs.declared.Ran.{Ran}
+use Rattle.work.specs.declared.Ran.the-variants.{Refused as Stopped, Done as Ended}
 use Rattle.answer.specs.Answered.{nothing}
 use Rattle.answer.specs.Framed.{wordsChange, RanFits, Finished}
 use Rattle.answer.specs.declared.Answer.the-variants.{Refused, Done}

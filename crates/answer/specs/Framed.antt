@@ -15,9 +15,9 @@ use Rattle.mesh.specs.Given.{Given, Lent, sizes, sizesFit, asRooms}
 use Rattle.mesh.specs.Filled.{Filled, Fits}
 use Rattle.mesh.specs.declared.Counts.{Counts}
 use Rattle.mesh.specs.declared.Rooms.{Rooms}
-use Rattle.split.specs.Working.{Within}
-use Rattle.split.specs.declared.Ran.{Ran}
-use Rattle.split.specs.declared.Ran.the-variants.{Refused as Stopped, Done as Ended}
+use Rattle.work.specs.Working.{Within}
+use Rattle.work.specs.declared.Ran.{Ran}
+use Rattle.work.specs.declared.Ran.the-variants.{Refused as Stopped, Done as Ended}
 use Rattle.answer.specs.Answered.{nothing, shown, answerOf}
 use Rattle.answer.specs.declared.Answer.{Answer}
 use Rattle.answer.specs.declared.Answer.the-variants.{Refused, Done}

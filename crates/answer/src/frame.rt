@@ -10,7 +10,7 @@ ghost use Rattle.answer.specs.Framed.{copyNeed, BeginAsked, Begun, RanFi
 use crate::Answer;
 use mesh::Counts;
 use mesh::Rooms;
-use split::Ran;
+use work::Ran;
 
 // 5, 6 or 7 if the copy of an input with these counts lacks room for particles, edges or boundary, else 0.
 pub fn lacking(k: Counts, room: Rooms) -> usize

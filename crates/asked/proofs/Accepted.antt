@@ -18,7 +18,7 @@ use Rattle.model.specs.Valid.{named, rootOk, cornersOk, endsOk, sideOk, indices
 use Rattle.model.specs.Elements.{Kind, Triangles, Straps, Nothing, Element, kindOf, elementsOf, cornersOf, endsOf, structural?, strapElement, trianglesFrom, strapsFrom, cornersPer, facetOthers, sum, restMeasure, restMeasureOf}
 use Rattle.mesh.specs.At.{triangleRow, trianglesAt, edgesAt, meshAt}
 use Rattle.mesh.specs.Given.{Given, meshOf, sizes}
-use Rattle.mesh.proofs.Joined.{Sized, sizes-told}
+use Rattle.judge.proofs.Joined.{Sized, sizes-told}
 use Rattle.mesh.proofs.Lists.{particles-length, edges-length}
 use Rattle.elements.specs.declared.Kind.{Kind as KindCase}
 use Rattle.elements.specs.Table.{kindIs, elementsIn, KindFound, Cornered, Tabled, TableRoom, FanTabled, MarkRoom, MeasuredWithin}

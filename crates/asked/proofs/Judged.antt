@@ -10,8 +10,8 @@ use Rattle.lists.specs.Lists.{pick, all}
 use Rattle.model.specs.Valid.{numbersFit, indicesFit}
 use Rattle.model.specs.Calls.{sidesOk, refusal}
 use Rattle.mesh.specs.Given.{Given, meshOf, sizesFit}
-use Rattle.mesh.specs.Checks.{thenCheck, firstFrom, faultOf}
-use Rattle.mesh.proofs.Joined.{then-zero, then-stays}
+use Rattle.judge.specs.Checks.{thenCheck, firstFrom, faultOf}
+use Rattle.judge.proofs.Joined.{then-zero, then-stays}
 use Rattle.asked.specs.Accepted.{Accepted, FanFound}
 use Rattle.asked.specs.Beside.{withNumbers}
 use Rattle.asked.proofs.Accepted.{particles-count}

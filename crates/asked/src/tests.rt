@@ -7,7 +7,7 @@ ghost use Rattle.lists.specs.Lists.{all};
 ghost use Rattle.model.specs.Calls.{strictly, pointOk, fractionOk};
 ghost use Rattle.asked.specs.Beside.{withNumbers};
 use blade::Point;
-use mesh::tests;
+use judge::tests;
 
 // Are both numbers of a point in range?
 pub fn point_fits(p: Point) -> bool

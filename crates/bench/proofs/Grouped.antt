@@ -19,7 +19,7 @@ use Rattle.model.specs.Split.{openingOf}
 use Rattle.model.specs.Calls.{sidesOk, refusal}
 use Rattle.model.specs.Reads.{Read, refused, value, orRefused, grouped, opensCall}
 use Rattle.mesh.specs.Given.{Given, meshOf, sizesFit}
-use Rattle.mesh.specs.Checks.{faultOf}
+use Rattle.judge.specs.Checks.{faultOf}
 use Rattle.elements.proofs.Found.{fan-of}
 use Rattle.reach.specs.Opens.{Opens}
 use Rattle.reach.proofs.Opening.{lent-by, opens-opening}

@@ -17,9 +17,9 @@ use Rattle.model.specs.Cut.{Blade}
 use Rattle.model.specs.Calls.{pointOk, bladeOk, refusal, strictly, particlesOk}
 use Rattle.model.specs.Reads.{refused, value, orRefused, bladeCall, piecesCall, restMeasureCall, restMeasureOfCall}
 use Rattle.mesh.specs.Given.{Given, meshOf, sizesFit}
-use Rattle.mesh.specs.Checks.{thenCheck, faultOf}
-use Rattle.mesh.proofs.Joined.{then-zero}
-use Rattle.mesh.proofs.Refusals.{fault-refuses}
+use Rattle.judge.specs.Checks.{thenCheck, faultOf}
+use Rattle.judge.proofs.Joined.{then-zero}
+use Rattle.judge.proofs.Refusals.{fault-refuses}
 use Rattle.asked.specs.Accepted.{Accepted}
 use Rattle.asked.proofs.Accepted.{particles-count}
 use Rattle.asked.proofs.Judged.{arguments-refuse, accepted}

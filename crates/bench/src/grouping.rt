@@ -7,7 +7,7 @@ ghost use Rattle.fan.specs.Groups.{groupsOf, countOf};
 ghost use Rattle.reach.specs.Opens.{Opens};
 ghost use Rattle.model.specs.Reads.{opensCall};
 ghost use Rattle.mesh.specs.Given.{given, meshOf, sizesFit};
-ghost use Rattle.mesh.specs.Checks.{faultOf};
+ghost use Rattle.judge.specs.Checks.{faultOf};
 ghost use Rattle.bench.specs.Fans.{FanAsked, GroupsFilled, WalkAsked};
 ghost use Rattle.bench.specs.Answers.{groupsEntry, GroupsAnswered, truthOf};
 use crate::Count;
@@ -66,7 +66,7 @@ fn mesh_groups(
     let k = f.k;
     let n = f.fan;
     let fit = tests::sides_fit(v, points.len() / 6, sides, n);
-    let ok = mesh::tests::both(fit, sides.len() <= groups.len());
+    let ok = judge::tests::both(fit, sides.len() <= groups.len());
     if ok {
         let end = n * k;
         return Count::Counted(fill_groups(&fan_verts[..end], k, v, f.others, sides, groups));
@@ -90,7 +90,7 @@ pub fn groups(
 ) -> Count
     ensures { λ r. ⌜ GroupsAnswered (groupsEntry (sizesFit (given (now (points .entry)) (now (roots .entry)) (now (corners .entry)) (now (volumes .entry)) (now (ends .entry)) (now (lengths .entry)) (now (outline .entry)))) (meshOf (given (now (points .entry)) (now (roots .entry)) (now (corners .entry)) (now (volumes .entry)) (now (ends .entry)) (now (lengths .entry)) (now (outline .entry)))) v (now (sides .entry)) (length (now (groups .entry)))) (length (now (groups .entry))) r (now (groups .exit)) ⌝ }
 {
-    let code = mesh::checks::judge(points, roots, corners, volumes, ends, lengths, outline);
+    let code = judge::checks::judge(points, roots, corners, volumes, ends, lengths, outline);
     if code != 0 {
         columns::clear_usize(0, groups);
         return Count::Refused(code);
@@ -200,7 +200,7 @@ pub fn opens_without_confetti(
 ) -> Truth
     ensures { λ r. ⌜ r ≡ truthOf (opensCall (sizesFit (given (now (points .entry)) (now (roots .entry)) (now (corners .entry)) (now (volumes .entry)) (now (ends .entry)) (now (lengths .entry)) (now (outline .entry)))) (meshOf (given (now (points .entry)) (now (roots .entry)) (now (corners .entry)) (now (volumes .entry)) (now (ends .entry)) (now (lengths .entry)) (now (outline .entry)))) v (now (sides .entry)) minimum) ⌝ }
 {
-    let code = mesh::checks::judge(points, roots, corners, volumes, ends, lengths, outline);
+    let code = judge::checks::judge(points, roots, corners, volumes, ends, lengths, outline);
     if code != 0 {
         return Truth::Refused(code);
     }

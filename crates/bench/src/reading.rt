@@ -31,9 +31,9 @@ pub fn root(x: f32) -> Number
 pub fn blade_hit(b0: Point, b1: Point, p: Point, q: Point) -> Tested
     ensures { λ r. ⌜ r ≡ testedOf (bladeCall (record { from = b0; to = b1 }) p q) ⌝ }
 {
-    let z = mesh::tests::both(tests::point_fits(b0), tests::point_fits(b1));
-    let z = mesh::tests::both(z, tests::point_fits(p));
-    let z = mesh::tests::both(z, tests::point_fits(q));
+    let z = judge::tests::both(tests::point_fits(b0), tests::point_fits(b1));
+    let z = judge::tests::both(z, tests::point_fits(p));
+    let z = judge::tests::both(z, tests::point_fits(q));
     if z {
         return Tested::Tested(blade::blade_hit(b0, b1, p, q));
     }
@@ -87,7 +87,7 @@ pub fn pieces(
 ) -> Count
     ensures { λ r. ⌜ r ≡ countOf (piecesCall (sizesFit (given (now (points .entry)) (now (roots .entry)) (now (corners .entry)) (now (volumes .entry)) (now (ends .entry)) (now (lengths .entry)) (now (outline .entry)))) (meshOf (given (now (points .entry)) (now (roots .entry)) (now (corners .entry)) (now (volumes .entry)) (now (ends .entry)) (now (lengths .entry)) (now (outline .entry))))) ⌝ }
 {
-    let code = mesh::checks::judge(points, roots, corners, volumes, ends, lengths, outline);
+    let code = judge::checks::judge(points, roots, corners, volumes, ends, lengths, outline);
     if code != 0 {
         return Count::Refused(code);
     }
@@ -137,7 +137,7 @@ pub fn rest_measure(
 ) -> Number
     ensures { λ r. ⌜ r ≡ numberOf (restMeasureCall (sizesFit (given (now (points .entry)) (now (roots .entry)) (now (corners .entry)) (now (volumes .entry)) (now (ends .entry)) (now (lengths .entry)) (now (outline .entry)))) (meshOf (given (now (points .entry)) (now (roots .entry)) (now (corners .entry)) (now (volumes .entry)) (now (ends .entry)) (now (lengths .entry)) (now (outline .entry))))) ⌝ }
 {
-    let code = mesh::checks::judge(points, roots, corners, volumes, ends, lengths, outline);
+    let code = judge::checks::judge(points, roots, corners, volumes, ends, lengths, outline);
     if code != 0 {
         return Number::Refused(code);
     }
@@ -190,9 +190,9 @@ pub fn rest_measure_of(
 ) -> Number
     ensures { λ r. ⌜ r ≡ numberOf (restMeasureOfCall (sizesFit (given (now (points .entry)) (now (roots .entry)) (now (corners .entry)) (now (volumes .entry)) (now (ends .entry)) (now (lengths .entry)) (now (outline .entry)))) (meshOf (given (now (points .entry)) (now (roots .entry)) (now (corners .entry)) (now (volumes .entry)) (now (ends .entry)) (now (lengths .entry)) (now (outline .entry)))) (now (list .entry))) ⌝ }
 {
-    let code = mesh::checks::judge(points, roots, corners, volumes, ends, lengths, outline);
+    let code = judge::checks::judge(points, roots, corners, volumes, ends, lengths, outline);
     let ok = tests::rising_below(list, points.len() / 6);
-    let code = mesh::tests::first(code, ok, 4);
+    let code = judge::tests::first(code, ok, 4);
     if code != 0 {
         return Number::Refused(code);
     }

@@ -3,7 +3,7 @@ ghost use mathlib.Core.Path.{_≡_};
 ghost use Rattle.model.specs.Calls.{splitCall, straddlersCall, cutCall, crackCall};
 ghost use Rattle.mesh.specs.Given.{given, meshOf, sizesFit, roomsOf, asRooms};
 ghost use Rattle.mesh.specs.Filled.{lent};
-ghost use Rattle.cut.specs.Marking.{bladeFrom};
+ghost use Rattle.marks.specs.Marking.{bladeFrom};
 ghost use Rattle.answer.specs.Answered.{Answered, frontOf};
 use answer::Answer;
 use blade::Point;
@@ -41,7 +41,7 @@ pub fn straddlers(
         log.len(),
     );
     let none = [0usize; 0];
-    let ran = jobs::calls::run(
+    let ran = perform::calls::run(
         Job::Straddlers,
         &none,
         room,
@@ -107,7 +107,7 @@ pub fn split(
         outline.len(),
         log.len(),
     );
-    let ran = jobs::calls::run(
+    let ran = perform::calls::run(
         Job::Split(v),
         sides,
         room,
@@ -175,7 +175,7 @@ pub fn cut(
         log.len(),
     );
     let none = [0usize; 0];
-    let ran = jobs::calls::run(
+    let ran = perform::calls::run(
         Job::Cut(b0, b1, f),
         &none,
         room,
@@ -248,7 +248,7 @@ pub fn crack(
         outline.len(),
         log.len(),
     );
-    let ran = jobs::calls::run(
+    let ran = perform::calls::run(
         Job::Crack(minimum),
         torn,
         room,

@@ -12,7 +12,7 @@ use Rattle.lists.proofs.Sifts.{and-true}
 use Rattle.blade.specs.declared.Point.{Point}
 use Rattle.model.specs.Calls.{Outcome, bladeOk, cutCall, crackCall}
 use Rattle.mesh.specs.Given.{meshOf}
-use Rattle.cut.specs.Marking.{bladeFrom}
+use Rattle.marks.specs.Marking.{bladeFrom}
 use Rattle.jobs.specs.Jobs.{jobNumbers, jobCall}
 use Rattle.jobs.specs.declared.Job.the-variants.{Cut, Crack}
 use Rattle.jobs.proofs.Jobs.{cut-is, crack-is}

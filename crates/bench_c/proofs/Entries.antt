@@ -18,10 +18,10 @@ use Rattle.model.specs.Run.{Rooms as RoomsOf, start}
 use Rattle.model.specs.Calls.{Outcome, unless, outcome, sidesOk, trianglesLent, refusal, splitCall}
 use Rattle.model.specs.Calls.{refused as turnedDown}
 use Rattle.model.specs.Reads.{refused}
-use Rattle.mesh.specs.Checks.{thenCheck}
+use Rattle.judge.specs.Checks.{thenCheck}
 use Rattle.mesh.specs.Given.{meshOf, asRooms}
 use Rattle.mesh.specs.declared.Rooms.{Rooms}
-use Rattle.mesh.proofs.Joined.{then-zero}
+use Rattle.judge.proofs.Joined.{then-zero}
 use Rattle.jobs.specs.Jobs.{jobNumbers, jobArguments, jobCall}
 use Rattle.jobs.specs.declared.Job.{Job}
 use Rattle.jobs.specs.declared.Job.the-variants.{Straddlers, Split}

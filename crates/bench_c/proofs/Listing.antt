@@ -18,7 +18,7 @@ use Rattle.model.specs.Elements.{restMeasureOf}
 use Rattle.model.specs.Calls.{present, strictly, particlesOk, refusal}
 use Rattle.model.specs.Reads.{Read, refused, orRefused, restMeasureOfCall}
 use Rattle.mesh.specs.Given.{Given, meshOf, sizesFit}
-use Rattle.mesh.proofs.Joined.{Sized, sizes-told}
+use Rattle.judge.proofs.Joined.{Sized, sizes-told}
 use Rattle.asked.proofs.Accepted.{particles-count}
 use Rattle.bench.specs.declared.Number.{Number}
 use Rattle.bench.specs.Answers.{numberOf}

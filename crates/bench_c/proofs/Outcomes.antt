@@ -15,9 +15,9 @@ use Rattle.model.specs.Reads.{Read, refused, value}
 use Rattle.mesh.specs.Log.{World, wordsIn, logAt, worldAt}
 use Rattle.mesh.specs.declared.Counts.{Counts}
 use Rattle.mesh.specs.declared.Rooms.{Rooms as Given-Rooms}
-use Rattle.split.specs.Working.{Within, Roomed}
-use Rattle.split.specs.declared.Ran.{Ran}
-use Rattle.split.specs.declared.Ran.the-variants.{Refused as Stopped, Done as Ended}
+use Rattle.work.specs.Working.{Within, Roomed}
+use Rattle.work.specs.declared.Ran.{Ran}
+use Rattle.work.specs.declared.Ran.the-variants.{Refused as Stopped, Done as Ended}
 use Rattle.answer.specs.Framed.{wordsChange, Came}
 use Rattle.answer.specs.declared.Answer.{Answer}
 use Rattle.answer.specs.declared.Answer.the-variants.{Refused, Done}

@@ -22,7 +22,7 @@ use Rattle.model.specs.Pieces.{opensWithoutConfetti}
 use Rattle.model.specs.Reads.{Read, refused, value, orRefused, opensCall}
 use Rattle.mesh.specs.At.{triangleRow, trianglesAt, meshAt}
 use Rattle.mesh.specs.Given.{Given, meshOf, sizesFit}
-use Rattle.mesh.proofs.Joined.{Sized, sizes-told}
+use Rattle.judge.proofs.Joined.{Sized, sizes-told}
 use Rattle.mesh.proofs.Lists.{edges-length}
 use Rattle.lists.proofs.Stores.{tab-length}
 use Rattle.elements.proofs.Filling.{triangles-length, straps-length}

@@ -17,16 +17,16 @@ use Rattle.mesh.specs.Given.{Given, Lent, sizesFit, meshOf, sizes, asRooms}
 use Rattle.mesh.specs.Filled.{lent}
 use Rattle.mesh.specs.declared.Counts.{Counts}
 use Rattle.mesh.specs.declared.Rooms.{Rooms}
-use Rattle.split.specs.Working.{Roomed, Ready, Works}
-use Rattle.split.specs.declared.Ran.{Ran}
-use Rattle.split.specs.declared.Ran.the-variants.{Refused as Stopped}
-use Rattle.cut.specs.Running.{Logged}
+use Rattle.work.specs.Working.{Roomed, Ready, Works, Logged}
+use Rattle.work.specs.declared.Ran.{Ran}
+use Rattle.work.specs.declared.Ran.the-variants.{Refused as Stopped}
 use Rattle.answer.specs.Framed.{RoomsLent, BeginAsked, Begun, Came}
 use Rattle.answer.proofs.Begun.{begin-asked, begun-by}
 use Rattle.jobs.specs.Jobs.{jobNumbers, jobArguments, jobRun, jobCall}
-use Rattle.jobs.specs.Asks.{JobAsked}
+use Rattle.perform.specs.Asks.{JobAsked}
 use Rattle.jobs.specs.declared.Job.{Job}
-use Rattle.jobs.proofs.Jobs.{job-lent, job-refused, job-asked, job-came}
+use Rattle.jobs.proofs.Jobs.{job-lent}
+use Rattle.perform.proofs.Performed.{job-refused, job-asked, job-came}
 use Rattle.image.specs.Image.{imageOf, imageSized}
 use Rattle.bench_c.specs.Given.{SmallCode}
 use Rattle.bench_c.specs.Torn.{meshReply, BothReplied, OutcomeReplied}

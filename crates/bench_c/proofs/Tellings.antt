@@ -12,8 +12,8 @@ use Rattle.lists.specs.Lists.{pick}
 use Rattle.model.specs.Reads.{refused, value}
 use Rattle.mesh.specs.declared.Counts.{Counts}
 use Rattle.mesh.specs.Log.{logAt}
-use Rattle.split.specs.declared.Ran.{Ran}
-use Rattle.split.specs.declared.Ran.the-variants.{Done}
+use Rattle.work.specs.declared.Ran.{Ran}
+use Rattle.work.specs.declared.Ran.the-variants.{Done}
 use Rattle.answer.specs.Framed.{wordsChange}
 use Rattle.image.specs.Words.{written, putWords, bitsIn}
 use Rattle.image.specs.Image.{imageWords}

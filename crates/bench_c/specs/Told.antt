@@ -9,8 +9,8 @@ use Rattle.model.specs.Reads.{Read, refused, value}
 use Rattle.mesh.specs.Log.{logAt}
 use Rattle.mesh.specs.declared.Counts.{Counts}
 use Rattle.mesh.specs.declared.Rooms.{Rooms}
-use Rattle.split.specs.declared.Ran.{Ran}
-use Rattle.split.specs.declared.Ran.the-variants.{Refused, Done}
+use Rattle.work.specs.declared.Ran.{Ran}
+use Rattle.work.specs.declared.Ran.the-variants.{Refused, Done}
 use Rattle.answer.specs.Framed.{wordsChange}
 use Rattle.image.specs.Words.{wordAt}
 use Rattle.image.specs.Stores.{blockWords}

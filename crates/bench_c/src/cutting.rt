@@ -30,7 +30,7 @@ pub extern "C" fn bench_cut(
 fn words_few(n: usize) -> bool
     ensures { λ r. ⌜ r ≡ wordsFew n ⌝ }
 {
-    mesh::tests::both(n % 4 == 0, n <= 8192)
+    judge::tests::both(n % 4 == 0, n <= 8192)
 }
 
 // A mesh image cracked across torn edges, a word for each, with a minimum piece.

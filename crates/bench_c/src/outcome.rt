@@ -9,7 +9,7 @@ ghost use Rattle.image.specs.Words.{written};
 ghost use Rattle.bench_c.specs.Torn.{BothReplied};
 ghost use Rattle.bench_c.specs.Told.{doneWords, meshTold, logTold, Tellable, Telling};
 use mesh::Counts;
-use split::Ran;
+use work::Ran;
 
 // A refusal: every byte of the answer and of the log is 0.
 pub fn refuse(code: usize, out: &mut [u8], log: &mut [u8]) -> u32

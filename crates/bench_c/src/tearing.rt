@@ -79,7 +79,7 @@ fn reply_work(
 {
     let mut words = [0usize; 24576];
     let k = crate::placing::image_counts(bytes);
-    let ran = jobs::calls::work(
+    let ran = perform::calls::work(
         job,
         list,
         k,
@@ -194,8 +194,8 @@ pub fn reply_job(
 {
     if image::image_sized(bytes) {
         let room = rooms_in(rooms, log.len());
-        let right = mesh::tests::both(read, rooms.len() == 16);
-        let code = mesh::tests::first(judge(job, list, room, bytes), right, 4);
+        let right = judge::tests::both(read, rooms.len() == 16);
+        let code = judge::tests::first(judge(job, list, room, bytes), right, 4);
         if code != 0 {
             return crate::outcome::refuse(code, out, log);
         }

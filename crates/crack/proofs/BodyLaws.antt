@@ -35,12 +35,12 @@ use Rattle.mesh.specs.Given.{Lent, asRooms}
 use Rattle.mesh.specs.Filled.{lent}
 use Rattle.mesh.specs.declared.Counts.{Counts}
 use Rattle.mesh.specs.declared.Rooms.{Rooms}
-use Rattle.split.specs.Steps.{SettleRoom, CornersIn, EndsIn, SidesIn}
-use Rattle.split.specs.Working.{Within, Roomed, Ready, Works}
-use Rattle.split.specs.declared.Ran.{Ran}
-use Rattle.split.specs.declared.Ran.the-variants.{Refused, Done}
-use Rattle.split.proofs.Placed.{corners-in, ends-in, sides-in}
-use Rattle.split.proofs.Runs.{works-stay, works-as, works-then, works-refused, works-known}
+use Rattle.work.specs.Working.{SettleRoom, Within, Roomed, Ready, Works}
+use Rattle.work.specs.Places.{CornersIn, EndsIn, SidesIn}
+use Rattle.work.specs.declared.Ran.{Ran}
+use Rattle.work.specs.declared.Ran.the-variants.{Refused, Done}
+use Rattle.work.proofs.Placed.{corners-in, ends-in, sides-in}
+use Rattle.work.proofs.Runs.{works-stay, works-as, works-then, works-refused, works-known}
 use Rattle.tear.specs.Loads.{LoadsRead}
 use Rattle.crack.specs.Bodies.{EndsKept, endsListed, CracksTold, crackTurns, crackEnd}
 

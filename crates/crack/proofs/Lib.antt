@@ -1,5 +1,4 @@
 -- A crack across torn edges: its laws and its proofs.
-pub mod PairLaws
 pub mod OpenLaws
 pub mod BodyLaws
 pub mod ListedLaws

@@ -13,10 +13,10 @@ use Rattle.mesh.specs.Log.{World, worldAt}
 use Rattle.mesh.specs.Filled.{lent}
 use Rattle.mesh.specs.declared.Counts.{Counts}
 use Rattle.mesh.specs.declared.Rooms.{Rooms}
-use Rattle.split.specs.Working.{Ready}
-use Rattle.split.specs.declared.Ran.{Ran}
-use Rattle.split.specs.declared.Ran.the-variants.{Refused, Done}
-use Rattle.split.proofs.Placed.{triangles-count}
+use Rattle.work.specs.Working.{Ready}
+use Rattle.work.specs.declared.Ran.{Ran}
+use Rattle.work.specs.declared.Ran.the-variants.{Refused, Done}
+use Rattle.work.proofs.Placed.{triangles-count}
 use Rattle.crack.specs.Bodies.{endsListed, CracksRoom, CracksTold}
 use Rattle.crack.proofs.BodyLaws.{cracks-none, cracks-then, cracks-refused, cracks-ready, cracks-entries, cracks-words, cracks-triangles, ends-step, ends-rest}
 

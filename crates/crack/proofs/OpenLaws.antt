@@ -34,16 +34,17 @@ use Rattle.mesh.specs.declared.Counts.{Counts}
 use Rattle.mesh.specs.declared.Rooms.{Rooms}
 use Rattle.mesh.specs.Filled.{lent}
 use Rattle.elements.specs.Table.{TableRoom}
-use Rattle.split.specs.Working.{Within, Ready, Works}
+use Rattle.work.specs.Working.{Within, Ready, Works}
 use Rattle.split.specs.Tables.{FanGrouped, FanSided, GroupsFound, openedBy}
-use Rattle.split.specs.declared.Ran.{Ran}
-use Rattle.split.specs.declared.Ran.the-variants.{Done}
-use Rattle.split.proofs.Runs.{works-stay, works-as}
+use Rattle.work.specs.declared.Ran.{Ran}
+use Rattle.work.specs.declared.Ran.the-variants.{Done}
+use Rattle.work.proofs.Runs.{works-stay, works-as}
 use Rattle.split.proofs.TabledLaws.{inverse-at, opening-found, fan-grouped, splits-so}
-use Rattle.split.proofs.Placed.{particles-count}
+use Rattle.work.proofs.Placed.{particles-count}
 use Rattle.tear.specs.Ways.{twoBy}
-use Rattle.tear.specs.Tried.{WayReady, WayRead, WayLoad, OpensRoom}
-use Rattle.crack.specs.Cracks.{PairReady, PairBelow, PairNow, openWay, WayAsked, OpenedTo, TriedTo, EndsTold, Turned, PairTold, CrackTold}
+use Rattle.tear.specs.Tried.{WayReady, WayRead, OpensRoom}
+use Rattle.tear.specs.Pairs.{PairReady, PairBelow, PairNow, Turned}
+use Rattle.crack.specs.Cracks.{openWay, WayAsked, OpenedTo, TriedTo, EndsTold, PairTold, CrackTold}
 use Rattle.tear.specs.Families.{pairIs}
 use Rattle.tear.specs.declared.families.Pair.{Pair}
 use Rattle.tear.specs.declared.families.Pair.the-variants.{None, Ends}
@@ -242,27 +243,6 @@ order-taken K ls min M x y t e =
     let F : Way → Bool = λ (z : Way). opensWithoutConfetti K M min (z .opening) in
     order-first F (wayOf K ls M x y) (wayOf K ls M y x) (twoSided M x (map (farSide M x y) (fanOf K M x))) (twoSided M y (map (farSide M y x) (fanOf K M y)))
     ∙ ap (λ (b : Bool). pick b (firstOf (find F (wayAt K ls M y x)) (find F (wayAt K ls M x y))) (firstOf (find F (wayAt K ls M x y)) (find F (wayAt K ls M y x)))) (sym e)
-
--- which goes first, by the loads of both
-pub turned-is : (K : Kind) (x y : ℕ) (k : Counts) (loads : List Float) (M : Mesh) (p q : Float) → WayLoad K x y k loads M p → WayLoad K y x k loads M q → (t : Bool) → t ≡ ahead (totalCmp q p) (ltb y x)
-    → Turned K x y (k .triangles) loads M t
-turned-is K x y k loads M p q X Y t o = record { is = λ ls h. o ∙ ap₂ (λ (a b : Float). ahead (totalCmp a b) (ltb y x)) (Y .is ls h) (X .is ls h) }
-
--- the way from the other end is ready as well
-pub ready-back : (v w : ℕ) (k : Counts) (lp lc lv le ll : ℕ) (M : Mesh) → WayReady v w k lp lc lv le ll M → WayReady w v k lp lc lv le ll M
-ready-back v w k lp lc lv le ll M A =
-    record {
-      v-in = A .w-in;
-      w-in = A .v-in;
-      few-triangles = A .few-triangles;
-      few-edges = A .few-edges;
-      points = A .points;
-      corners = A .corners;
-      volumes = A .volumes;
-      ends = A .ends;
-      lengths = A .lengths;
-      indices = A .indices;
-    }
 
 module _ (K : Kind) (min x y : ℕ) (ab : ℕ × ℕ) (loads : List Float) (k : Counts) (L : Rooms) (W : World) (t : Bool) (N : Turned K x y (k .triangles) loads (W .mesh) t) (at : Counts → World) (r : Ran) where
   -- what is cracked by

@@ -15,9 +15,8 @@ use Rattle.model.specs.Crack.{loadsOf, crackEdge, tornEnds}
 use Rattle.mesh.specs.Log.{World}
 use Rattle.mesh.specs.declared.Counts.{Counts}
 use Rattle.mesh.specs.declared.Rooms.{Rooms}
-use Rattle.split.specs.Working.{Works}
-use Rattle.split.specs.declared.Ran.{Ran}
-use Rattle.cut.specs.Running.{Logged}
+use Rattle.work.specs.Working.{Works, Logged}
+use Rattle.work.specs.declared.Ran.{Ran}
 use Rattle.tear.specs.Tried.{LoadsLong}
 
 -- ---- the ends of the torn edges in the input

@@ -8,13 +8,12 @@ ghost use Rattle.model.specs.Crack.{crack};
 ghost use Rattle.mesh.specs.At.{meshAt};
 ghost use Rattle.mesh.specs.Log.{worldAt};
 ghost use Rattle.mesh.specs.Filled.{lent};
-ghost use Rattle.split.specs.Working.{Ready, Works};
-ghost use Rattle.cut.specs.Running.{Logged};
+ghost use Rattle.work.specs.Working.{Ready, Works, Logged};
 ghost use Rattle.crack.specs.Bodies.{EndsRoom, EndsKept, endsListed, CracksRoom, CracksTold, crackTurns, crackEnd};
 use elements::Kind;
 use mesh::Counts;
 use mesh::Rooms;
-use split::Ran;
+use work::Ran;
 
 // Keeps the ends of the first e edges in two tables, as a crack changes their block.
 fn keep_ends(e: usize, ends: &[usize], from: &mut [usize], to: &mut [usize])
@@ -201,7 +200,7 @@ fn finish_facets(
     let mut measures = [0.0f32; 2048];
     let mut sides = [0usize; 2048];
     let mut groups = [0usize; 2048];
-    if cut::marks::any_split(k.log, log) {
+    if marks::particles::any_split(k.log, log) {
         let ran = cut::facets::split_pinched(
             k,
             room,
@@ -223,7 +222,7 @@ fn finish_facets(
         let Ran::Done(next) = ran else {
             return ran;
         };
-        return split::straddlers::remove_straddlers(
+        return straddlers::across::remove_straddlers(
             Kind::Triangles,
             next,
             room,
@@ -255,8 +254,8 @@ fn finish_plain(
     requires { ⌜ Ready room k (lent (now points) (now roots) (now corners) (now volumes) (now ends) (now lengths) (now outline) (now log)) (meshAt k (now points) (now roots) (now corners) (now volumes) (now ends) (now lengths) (now outline)) × Logged (k .log) (now log) × (kindIs kind ≡ Triangles → ⊥) ⌝ }
     ensures { λ r. ⌜ Works (crackEnd (kindIs kind)) room (worldAt k (now (points .entry)) (now (roots .entry)) (now (corners .entry)) (now (volumes .entry)) (now (ends .entry)) (now (lengths .entry)) (now (outline .entry)) (now (log .entry))) (λ q. worldAt q (now (points .entry)) (now (roots .entry)) (now (corners .entry)) (now (volumes .entry)) (now (ends .exit)) (now (lengths .exit)) (now (outline .exit)) (now (log .exit))) r ⌝ }
 {
-    if cut::marks::any_split(k.log, log) {
-        return split::straddlers::remove_straddlers(
+    if marks::particles::any_split(k.log, log) {
+        return straddlers::across::remove_straddlers(
             kind,
             k,
             room,

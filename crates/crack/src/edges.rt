@@ -9,59 +9,21 @@ ghost use Rattle.mesh.specs.Log.{worldAt};
 ghost use Rattle.mesh.specs.Filled.{lent};
 ghost use Rattle.model.specs.Split.{openingOf};
 ghost use Rattle.model.specs.Crack.{twoSided};
-ghost use Rattle.split.specs.Working.{Ready};
+ghost use Rattle.work.specs.Working.{Ready, Logged};
 ghost use Rattle.split.specs.Tables.{FanSided};
-ghost use Rattle.cut.specs.Running.{Logged};
-ghost use Rattle.tear.specs.Tried.{WayReady, LoadsLong};
+ghost use Rattle.tear.specs.Tried.{LoadsLong};
 ghost use Rattle.tear.specs.Torn.{TearAsked};
-ghost use Rattle.crack.specs.Cracks.{PairReady, PairNow, WayAsked, OpenedTo, TriedTo, EndsTold, Turned, PairTold, CrackTold};
+ghost use Rattle.crack.specs.Cracks.{WayAsked, OpenedTo, TriedTo, EndsTold, PairTold, CrackTold};
 use elements::Kind;
 use mesh::Counts;
 use mesh::Rooms;
-use split::Ran;
 use tear::families::Pair;
+use work::Ran;
 
 // What trying a way came to: it doesn't open, or what its split came to.
 pub enum Tried {
     Not,
     Tore(Ran),
-}
-
-// The particles that now stand for the torn edge (a, b), if any: the elements are read into a table for it.
-fn pair_now(
-    kind: Kind,
-    a: usize,
-    b: usize,
-    k: Counts,
-    points: &[f32],
-    roots: &[usize],
-    corners: &[usize],
-    volumes: &[f32],
-    ends: &[usize],
-    lengths: &[f32],
-    outline: &[usize],
-    log: &[usize],
-) -> Pair
-    requires { ⌜ PairReady k (length (now corners)) (length (now volumes)) (length (now ends)) (length (now lengths)) (length (now log)) (meshAt k (now points) (now roots) (now corners) (now volumes) (now ends) (now lengths) (now outline)) × Logged (k .log) (now log) ⌝ }
-    ensures { λ r. ⌜ PairNow (kindIs kind) a b (k .particles) (worldAt k (now (points .entry)) (now (roots .entry)) (now (corners .entry)) (now (volumes .entry)) (now (ends .entry)) (now (lengths .entry)) (now (outline .entry)) (now (log .entry))) r ⌝ }
-{
-    let mut numbers = [0usize; 2048];
-    let mut verts = [0usize; 4096];
-    let mut measures = [0.0f32; 2048];
-    let n = elements::element_table(
-        kind,
-        k.triangles,
-        k.edges,
-        corners,
-        volumes,
-        ends,
-        lengths,
-        &mut numbers,
-        &mut verts,
-        &mut measures,
-    );
-    let per = elements::corners_per(kind);
-    tear::families::current_pair(a, b, k.log, log, per, n, &verts, k.edges, ends)
 }
 
 // Splits v by the sides of its fan across the edge (x, y), if each group then reaches the minimum piece.
@@ -295,55 +257,6 @@ fn crack_ends(
     }
 }
 
-// Whether the way at y goes before the way at x: the higher mean load does, then the lower number.
-fn turned(
-    kind: Kind,
-    x: usize,
-    y: usize,
-    k: Counts,
-    loads: &[f32],
-    points: &[f32],
-    roots: &[usize],
-    corners: &[usize],
-    volumes: &[f32],
-    ends: &[usize],
-    lengths: &[f32],
-    outline: &[usize],
-) -> bool
-    requires { ⌜ WayReady x y k (length (now points)) (length (now corners)) (length (now volumes)) (length (now ends)) (length (now lengths)) (meshAt k (now points) (now roots) (now corners) (now volumes) (now ends) (now lengths) (now outline)) × LoadsLong (kindIs kind) k (length (now loads)) ⌝ }
-    ensures { λ r. ⌜ Turned (kindIs kind) x y (k .triangles) (now (loads .entry)) (meshAt k (now (points .entry)) (now (roots .entry)) (now (corners .entry)) (now (volumes .entry)) (now (ends .entry)) (now (lengths .entry)) (now (outline .entry))) r ⌝ }
-{
-    let p = tear::tried::way_load(
-        kind,
-        x,
-        y,
-        k,
-        loads,
-        points,
-        roots,
-        corners,
-        volumes,
-        ends,
-        lengths,
-        outline,
-    );
-    let q = tear::tried::way_load(
-        kind,
-        y,
-        x,
-        k,
-        loads,
-        points,
-        roots,
-        corners,
-        volumes,
-        ends,
-        lengths,
-        outline,
-    );
-    tear::ways::goes_first(q, y, p, x)
-}
-
 // Cracks the pair (x, y), which stands for the torn edge (a, b): the end with the higher mean load is tried first, then the one with the lower number.
 fn crack_pair(
     kind: Kind,
@@ -369,7 +282,7 @@ fn crack_pair(
         (worldAt k (now (points .entry)) (now (roots .entry)) (now (corners .entry)) (now (volumes .entry)) (now (ends .entry)) (now (lengths .entry)) (now (outline .entry)) (now (log .entry)))
         (λ q. worldAt q (now (points .exit)) (now (roots .exit)) (now (corners .exit)) (now (volumes .entry)) (now (ends .exit)) (now (lengths .exit)) (now (outline .exit)) (now (log .exit))) r ⌝ }
 {
-    let other = turned(
+    let other = tear::edge::turned(
         kind,
         x,
         y,
@@ -430,7 +343,7 @@ pub fn crack_edge(
         (worldAt k (now (points .entry)) (now (roots .entry)) (now (corners .entry)) (now (volumes .entry)) (now (ends .entry)) (now (lengths .entry)) (now (outline .entry)) (now (log .entry)))
         (λ q. worldAt q (now (points .exit)) (now (roots .exit)) (now (corners .exit)) (now (volumes .entry)) (now (ends .exit)) (now (lengths .exit)) (now (outline .exit)) (now (log .exit))) r ⌝ }
 {
-    let pair = pair_now(
+    let pair = tear::edge::pair_now(
         kind,
         a,
         b,

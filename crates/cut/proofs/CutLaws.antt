@@ -19,15 +19,15 @@ use Rattle.mesh.specs.Log.{World, worldOf, wordsOf, worldAt}
 use Rattle.mesh.specs.Given.{Lent}
 use Rattle.mesh.specs.declared.Counts.{Counts}
 use Rattle.mesh.specs.declared.Rooms.{Rooms}
-use Rattle.split.specs.Steps.{CornersIn}
-use Rattle.split.specs.Working.{Within, Ready, Works}
-use Rattle.split.specs.declared.Ran.{Ran}
-use Rattle.split.specs.declared.Ran.the-variants.{Refused, Done}
-use Rattle.split.proofs.Placed.{particles-count, corners-in}
-use Rattle.split.proofs.Runs.{works-stay, works-then, works-refused, works-known}
+use Rattle.work.specs.Places.{CornersIn}
+use Rattle.work.specs.Working.{Within, Ready, Works, Logged}
+use Rattle.work.specs.declared.Ran.{Ran}
+use Rattle.work.specs.declared.Ran.the-variants.{Refused, Done}
+use Rattle.work.proofs.Placed.{particles-count, corners-in}
+use Rattle.work.proofs.Runs.{works-stay, works-then, works-refused, works-known}
 use Rattle.cut.specs.declared.facets.Parting.the-variants.{Free, Blade as BladeFrom}
-use Rattle.cut.specs.Marking.{bladeFrom, candidateEnds, CandidateRoom, CandidatesMarked, NearMarked, pinchedEnds, PinchedRoom, PinchedMarked}
-use Rattle.cut.specs.Running.{sidesIn, splitIn, Logged, Chosen}
+use Rattle.marks.specs.Marking.{bladeFrom, candidateEnds, CandidateRoom, CandidatesMarked, NearMarked, pinchedEnds, PinchedRoom, PinchedMarked}
+use Rattle.cut.specs.Running.{sidesIn, splitIn, Chosen}
 use Rattle.cut.proofs.RunLaws.{chosen-rising, works-when, splitTo, places-at}
 
 -- ---- the marked

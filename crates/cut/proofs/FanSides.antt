@@ -15,14 +15,14 @@ use Rattle.mesh.specs.declared.Counts.{Counts}
 use Rattle.mesh.specs.declared.Rooms.{Rooms}
 use Rattle.elements.specs.Table.{Tabled}
 use Rattle.opening.specs.Opened.{CornersBelow}
-use Rattle.split.specs.Working.{Ready}
+use Rattle.work.specs.Working.{Ready}
 use Rattle.split.specs.Tables.{FanRead, FanSided}
 use Rattle.split.proofs.Below.{table-below, fan-corners}
-use Rattle.split.proofs.Placed.{particles-count}
+use Rattle.work.proofs.Placed.{particles-count}
 use Rattle.cut.specs.declared.facets.Parting.{Parting}
 use Rattle.cut.specs.declared.facets.Parting.the-variants.{Free, Blade as BladeFrom}
-use Rattle.cut.specs.Marking.{bladeFrom}
-use Rattle.cut.specs.Sided.{SidesRoom, SidesBy}
+use Rattle.marks.specs.Marking.{bladeFrom}
+use Rattle.marks.specs.Sided.{SidesRoom, SidesBy}
 use Rattle.cut.specs.Running.{sidesIn, SidesFor}
 use Rattle.cut.proofs.RunLaws.{places-at}
 

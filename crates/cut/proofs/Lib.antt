@@ -1,6 +1,4 @@
 -- Laws of the cut along a blade.
-pub mod MarkLaws
-pub mod SideLaws
 pub mod RunLaws
 pub mod FanSides
 pub mod CutLaws

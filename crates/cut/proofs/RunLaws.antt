@@ -27,13 +27,13 @@ use Rattle.mesh.specs.Log.{World, worldOf, wordsOf}
 use Rattle.mesh.specs.Given.{Lent, asRooms}
 use Rattle.mesh.specs.declared.Counts.{Counts}
 use Rattle.mesh.specs.declared.Rooms.{Rooms}
-use Rattle.split.specs.Working.{Within, Roomed, Ready, Went, Works}
-use Rattle.split.specs.declared.Ran.{Ran}
-use Rattle.split.specs.declared.Ran.the-variants.{Refused, Done}
-use Rattle.split.proofs.Runs.{works-stay, works-then, works-refused}
+use Rattle.work.specs.Working.{Within, Roomed, Ready, Went, Works}
+use Rattle.work.specs.declared.Ran.{Ran}
+use Rattle.work.specs.declared.Ran.the-variants.{Refused, Done}
+use Rattle.work.proofs.Runs.{works-stay, works-then, works-refused}
 use Rattle.elements.proofs.Measures.{sift-agree}
 use Rattle.cut.specs.declared.facets.Parting.{Parting}
-use Rattle.cut.specs.Marking.{Marks, PlacesIn, marked?}
+use Rattle.marks.specs.Marking.{Marks, PlacesIn, marked?}
 use Rattle.cut.specs.Running.{sidesIn, splitIn, splitIf, chosen}
 
 -- ---- the particles that are chosen

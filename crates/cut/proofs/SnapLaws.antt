@@ -30,13 +30,13 @@ use Rattle.mesh.specs.At.{meshAt}
 use Rattle.mesh.specs.Given.{Lent, asRooms}
 use Rattle.mesh.specs.declared.Counts.{Counts}
 use Rattle.mesh.specs.declared.Rooms.{Rooms}
-use Rattle.split.specs.Working.{Within, Ready, Went, Works}
-use Rattle.split.proofs.Placed.{particles-count}
-use Rattle.split.specs.declared.Ran.{Ran}
-use Rattle.split.specs.declared.Ran.the-variants.{Refused, Done}
+use Rattle.work.specs.Working.{Within, Ready, Went, Works, Logged}
+use Rattle.work.proofs.Placed.{particles-count}
+use Rattle.work.specs.declared.Ran.{Ran}
+use Rattle.work.specs.declared.Ran.the-variants.{Refused, Done}
 use Rattle.cut.specs.declared.facets.Parting.the-variants.{Blade as BladeFrom}
-use Rattle.cut.specs.Marking.{bladeFrom}
-use Rattle.cut.specs.Running.{sidesIn, splitIn, splitIf, Logged}
+use Rattle.marks.specs.Marking.{bladeFrom}
+use Rattle.cut.specs.Running.{sidesIn, splitIn, splitIf}
 use Rattle.cut.specs.Snapping.{beyond, slackBeyond, SlackFrom, EdgesHere, snapIf}
 use Rattle.cut.proofs.SteadyRuns.{Steady}
 

@@ -18,11 +18,11 @@ use Rattle.mesh.specs.Log.{World, worldOf, wordsOf}
 use Rattle.mesh.specs.Given.{Lent, asRooms}
 use Rattle.mesh.specs.declared.Counts.{Counts}
 use Rattle.mesh.specs.declared.Rooms.{Rooms}
-use Rattle.split.specs.Working.{Within, Roomed, Ready, Works}
-use Rattle.split.specs.declared.Ran.{Ran}
-use Rattle.split.specs.declared.Ran.the-variants.{Refused, Done}
-use Rattle.split.proofs.Runs.{works-stay, works-then, works-refused, works-as}
-use Rattle.cut.specs.Marking.{marked?}
+use Rattle.work.specs.Working.{Within, Roomed, Ready, Works}
+use Rattle.work.specs.declared.Ran.{Ran}
+use Rattle.work.specs.declared.Ran.the-variants.{Refused, Done}
+use Rattle.work.proofs.Runs.{works-stay, works-then, works-refused, works-as}
+use Rattle.marks.specs.Marking.{marked?}
 use Rattle.cut.specs.Running.{chosen}
 use Rattle.cut.proofs.RunLaws.{chosen-none, chosen-step, chosen-more}
 

@@ -8,16 +8,16 @@ use lib.Ieee.{Float}
 use Rattle.lists.specs.Lists.{pick, sift, upTo}
 use Rattle.model.specs.Mesh.{Mesh}
 use Rattle.model.specs.Elements.{Kind, Element, cornersPer, fanOf}
-use Rattle.model.specs.Run.{Entry, Run}
+use Rattle.model.specs.Run.{Run}
 use Rattle.model.specs.Split.{splitBySides}
 use Rattle.model.specs.Cut.{bladeSides}
-use Rattle.mesh.specs.Log.{wordsOf, logAt}
 use Rattle.mesh.specs.declared.Counts.{Counts}
 use Rattle.elements.specs.Table.{Cornered}
 use Rattle.opening.specs.Opened.{CornersBelow}
-use Rattle.cut.specs.Marking.{PlacesIn, bladeFrom, marked?}
+use Rattle.marks.specs.Marking.{PlacesIn, bladeFrom, marked?}
 use Rattle.cut.specs.declared.facets.Parting.{Parting}
 use Rattle.cut.specs.declared.facets.Parting.the-variants.{Free, Blade as BladeFrom}
+use Rattle.work.specs.Working.{Logged}
 
 -- the sides of v's fan: all 0, or by a blade
 unfoldable pub sidesIn : Parting → Kind → Mesh → ℕ → List ℕ
@@ -48,11 +48,6 @@ pub record TablesLong (ln lk lm ls lg : ℕ) : Type 0 where
 -- the particles below p that are marked, rising
 unfoldable pub chosen : ℕ → List ℕ → List ℕ
 chosen p marks = sift (marked? marks) (upTo p)
-
--- the words of the first l entries are those of a log
-pub record Logged (l : ℕ) (log : List ℕ) : Type 0 where
-  pub entries : List Entry
-  pub words : logAt l log ≡ map wordsOf entries
 
 -- a log; and the first p particles are there and have marks
 pub record Chosen (p : ℕ) (k : Counts) (log : List ℕ) (lm : ℕ) : Type 0 where

@@ -12,7 +12,7 @@ use Rattle.model.specs.Run.{Run}
 use Rattle.model.specs.Cut.{Blade, slack, splitSnapped}
 use Rattle.mesh.specs.At.{edgeRow, edgesAt}
 use Rattle.mesh.specs.declared.Counts.{Counts}
-use Rattle.cut.specs.Running.{Logged}
+use Rattle.work.specs.Working.{Logged}
 
 -- ---- slack edges
 

@@ -8,18 +8,18 @@ ghost use Rattle.mesh.specs.At.{meshAt};
 ghost use Rattle.mesh.specs.Log.{worldAt};
 ghost use Rattle.mesh.specs.Filled.{lent};
 ghost use Rattle.elements.specs.Table.{kindIs};
-ghost use Rattle.split.specs.Working.{Ready, Works};
-ghost use Rattle.cut.specs.Marking.{bladeFrom};
-ghost use Rattle.cut.specs.Sided.{SidesRoom};
-ghost use Rattle.cut.specs.Running.{splitIn, splitIf, SidesFor, TablesLong, chosen, Logged, Chosen};
-use crate::marks;
-use crate::sides::blade_sides;
+ghost use Rattle.work.specs.Working.{Ready, Works, Logged};
+ghost use Rattle.marks.specs.Marking.{bladeFrom};
+ghost use Rattle.marks.specs.Sided.{SidesRoom};
+ghost use Rattle.cut.specs.Running.{splitIn, splitIf, SidesFor, TablesLong, chosen, Chosen};
 use blade::Point;
 use elements::Kind;
+use marks::particles;
+use marks::sides::blade_sides;
 use mesh::Counts;
 use mesh::Rooms;
-use split::Ran;
 use split::step::split_tabled;
+use work::Ran;
 
 // How a fan is parted: no element from another by its side, or by the blade.
 pub enum Parting {
@@ -190,8 +190,8 @@ pub fn split_pinched(
     requires { ⌜ Ready room k (lent (now points) (now roots) (now corners) (now volumes) (now ends) (now lengths) (now outline) (now log)) (meshAt k (now points) (now roots) (now corners) (now volumes) (now ends) (now lengths) (now outline)) × Logged (k .log) (now log) × (1024 ≤ length (now marks)) × TablesLong (length (now numbers)) (length (now verts)) (length (now measures)) (length (now sides)) (length (now groups)) ⌝ }
     ensures { λ r. ⌜ Works (splitPinched Triangles) room (worldAt k (now (points .entry)) (now (roots .entry)) (now (corners .entry)) (now (volumes .entry)) (now (ends .entry)) (now (lengths .entry)) (now (outline .entry)) (now (log .entry))) (λ q. worldAt q (now (points .exit)) (now (roots .exit)) (now (corners .exit)) (now (volumes .entry)) (now (ends .exit)) (now (lengths .exit)) (now (outline .exit)) (now (log .exit))) r ⌝ }
 {
-    marks::mark_near(k.log, log, groups);
-    marks::mark_pinched(k.triangles, corners, groups, marks);
+    particles::mark_near(k.log, log, groups);
+    particles::mark_pinched(k.triangles, corners, groups, marks);
     split_marked(
         Parting::Free,
         Kind::Triangles,
@@ -239,7 +239,7 @@ pub fn cut_facets(
     requires { ⌜ Ready room k (lent (now points) (now roots) (now corners) (now volumes) (now ends) (now lengths) (now outline) (now log)) (meshAt k (now points) (now roots) (now corners) (now volumes) (now ends) (now lengths) (now outline)) × Logged (k .log) (now log) × (1024 ≤ length (now marks)) × TablesLong (length (now numbers)) (length (now verts)) (length (now measures)) (length (now sides)) (length (now groups)) ⌝ }
     ensures { λ r. ⌜ Works (cutFacets (bladeFrom b0 b1)) room (worldAt k (now (points .entry)) (now (roots .entry)) (now (corners .entry)) (now (volumes .entry)) (now (ends .entry)) (now (lengths .entry)) (now (outline .entry)) (now (log .entry))) (λ q. worldAt q (now (points .exit)) (now (roots .exit)) (now (corners .exit)) (now (volumes .entry)) (now (ends .exit)) (now (lengths .exit)) (now (outline .exit)) (now (log .exit))) r ⌝ }
 {
-    marks::mark_candidates(b0, b1, k.triangles, points, corners, marks);
+    particles::mark_candidates(b0, b1, k.triangles, points, corners, marks);
     let ran = split_marked(
         Parting::Blade(b0, b1),
         Kind::Triangles,
@@ -264,7 +264,7 @@ pub fn cut_facets(
     let Ran::Done(counts) = ran else {
         return ran;
     };
-    if marks::any_split(counts.log, log) {
+    if particles::any_split(counts.log, log) {
         return split_pinched(
             counts,
             room,

@@ -1,5 +1,3 @@
-// The cut along a blade, over the lent blocks: particles marked, the sides of a fan, and the whole cut.
+// The cut of triangles along a blade, over the lent blocks; and the ends of straps that a cut snapped to.
 pub mod facets;
-pub mod marks;
-pub mod sides;
 pub mod snapped;

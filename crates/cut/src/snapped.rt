@@ -8,8 +8,8 @@ ghost use Rattle.model.specs.Cut.{splitSnapped};
 ghost use Rattle.mesh.specs.At.{meshAt};
 ghost use Rattle.mesh.specs.Log.{worldAt};
 ghost use Rattle.mesh.specs.Filled.{lent};
-ghost use Rattle.split.specs.Working.{Ready, Works};
-ghost use Rattle.cut.specs.Marking.{bladeFrom};
+ghost use Rattle.work.specs.Working.{Ready, Works};
+ghost use Rattle.marks.specs.Marking.{bladeFrom};
 ghost use Rattle.cut.specs.Running.{TablesLong, chosen, Chosen};
 ghost use Rattle.cut.specs.Snapping.{EdgeHere, SlackAt, EdgesHere, SlackFrom, snapIf, Snappable};
 use crate::facets::Parting;
@@ -18,7 +18,7 @@ use blade::Point;
 use elements::Kind;
 use mesh::Counts;
 use mesh::Rooms;
-use split::Ran;
+use work::Ran;
 
 // Is one of two particles `from` or one behind it?
 fn one_beyond(from: usize, x: usize, y: usize) -> bool

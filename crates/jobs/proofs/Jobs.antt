@@ -1,37 +1,18 @@
--- A call from its beginning to its end, whatever is to be done: refused, or begun and worked on, it comes to the model's outcome.
+-- The calls that give a mesh are those of the model; each only goes on, and its right arguments have room for the triangles.
 use Prim.Native.Nat.{ℕ}
-use mathlib.Core.Path.{_≡_, refl, sym, ap, subst}
-use mathlib.Core.Bool.{Bool, true, _&&_}
-use mathlib.Core.List.{List, []}
-use lib.Dec.{eqb, ltb}
-use lib.ListN.{length}
+use mathlib.Core.Path.{_≡_, refl}
+use mathlib.Core.Bool.{Bool, true}
+use mathlib.Core.List.{List}
 use lib.Ieee.{Float}
-use borrow.Author.Tests.{ltb-true, eqb-true}
-use Rattle.lists.specs.Lists.{tab, all}
-use Rattle.lists.proofs.Sifts.{and-true, all-get}
+use Rattle.lists.proofs.Sifts.{and-true}
 use Rattle.model.specs.Mesh.{Mesh}
-use Rattle.model.specs.Elements.{Kind, kindOf, fanOf}
+use Rattle.model.specs.Elements.{Kind}
 use Rattle.model.specs.Run.{Run, Rooms as RoomsOf}
-use Rattle.model.specs.Calls.{sidesOk, fractionOk, trianglesLent, refusal, splitCall, straddlersCall, cutCall, crackCall}
+use Rattle.model.specs.Calls.{sidesOk, fractionOk, trianglesLent, splitCall, straddlersCall, cutCall, crackCall}
 use Rattle.model.proofs.Steps.{Onward, sides-onward, straddlers-onward, cut-onward, crack-onward}
-use Rattle.mesh.specs.At.{meshAt}
-use Rattle.mesh.specs.Log.{World, logAt, worldAt}
-use Rattle.mesh.specs.Given.{Given, meshOf, sizes, sizesFit, asRooms}
-use Rattle.mesh.specs.Filled.{lent}
-use Rattle.mesh.specs.declared.Counts.{Counts}
-use Rattle.mesh.specs.declared.Rooms.{Rooms}
-use Rattle.split.specs.Working.{Roomed, Ready, Works}
-use Rattle.split.specs.Tables.{SidesGiven}
-use Rattle.split.specs.declared.Ran.{Ran}
-use Rattle.split.specs.declared.Ran.the-variants.{Refused as Stopped}
 use Rattle.blade.specs.declared.Point.{Point}
-use Rattle.cut.specs.Marking.{bladeFrom}
-use Rattle.cut.specs.Running.{Logged}
-use Rattle.answer.specs.Framed.{Begun, Came}
-use Rattle.answer.proofs.Begun.{began-passed, began-ready}
-use Rattle.answer.proofs.Calls.{came-begun, came-worked, unlogged}
-use Rattle.jobs.specs.Jobs.{jobNumbers, jobArguments, jobRun, jobCall}
-use Rattle.jobs.specs.Asks.{JobAsked}
+use Rattle.marks.specs.Marking.{bladeFrom}
+use Rattle.jobs.specs.Jobs.{jobArguments, jobRun, jobCall}
 use Rattle.jobs.specs.declared.Job.{Job}
 use Rattle.jobs.specs.declared.Job.the-variants.{Straddlers, Split, Cut, Crack}
 
@@ -68,57 +49,3 @@ job-lent Straddlers ls L M e = e
 job-lent (Split v) ls L M e = and-true (sidesOk M v ls) (trianglesLent L M) e .1
 job-lent (Cut b0 b1 f) ls L M e = and-true (fractionOk f) (trianglesLent L M) e .1
 job-lent (Crack min) ls L M e = e
-
--- right sides are given
-sides-given : (M : Mesh) (v : ℕ) (sides : List ℕ) → sidesOk M v sides ≡ true → SidesGiven (kindOf M) M v sides
-unfolding sidesOk
-sides-given M v sides e =
-    let fit = and-true (ltb v (length (M .particles)) && all (λ s. ltb s 2) sides) (eqb (length sides) (length (fanOf (kindOf M) M v))) e in
-    let here = and-true (ltb v (length (M .particles))) (all (λ s. ltb s 2) sides) (fit .0) in
-    record {
-      here = ltb-true _ _ (here .0);
-      every = eqb-true _ _ (fit .1);
-      two = λ i h. ltb-true _ _ (all-get (λ s. ltb s 2) sides i 0 (here .1) h);
-    }
-
--- and are what the worker asks
-pub job-given : (j : Job) (ls : List ℕ) (L : RoomsOf) (M : Mesh) → jobArguments j ls L M ≡ true → JobAsked j ls M
-job-given Straddlers ls L M e = tt
-job-given (Split v) ls L M e = sides-given M v ls (and-true (sidesOk M v ls) (trianglesLent L M) e .0)
-job-given (Cut b0 b1 f) ls L M e = tt
-job-given (Crack min) ls L M e = tt
-
--- ---- every job
-
--- no entries are a log
-nothing-logged : (g : List ℕ) → Logged 0 g
-unfolding logAt tab
-nothing-logged g = record { entries = []; words = refl }
-
-module _ (j : Job) (ls : List ℕ) (G : Given) {R : Rooms} {begun : ℕ} where
-  -- a refusal
-  pub job-refused : {held : Mesh} → Begun (refusal (sizesFit G) (meshOf G) (jobNumbers j) (jobArguments j ls (asRooms R) (meshOf G))) R (meshOf G) held begun → (begun ≡ 0 → ⊥)
-      → (at : Counts → World) → Came (jobCall j ls (sizesFit G) (meshOf G) (asRooms R)) R at (Stopped begun)
-  unfolding jobCall
-  job-refused B h at = came-begun (jobRun j ls (kindOf (meshOf G))) (job-onward j ls (kindOf (meshOf G))) G B at h
-
-  -- the copy may be worked on
-  pub job-asked : (p : List Float) (r c : List ℕ) (v : List Float) (e : List ℕ) (l : List Float) (o g : List ℕ)
-      → Begun (refusal (sizesFit G) (meshOf G) (jobNumbers j) (jobArguments j ls (asRooms R) (meshOf G))) R (meshOf G) (meshAt (sizes G) p r c v e l o) begun → begun ≡ 0 → Roomed R (lent p r c v e l o g)
-      → Ready R (sizes G) (lent p r c v e l o g) (meshAt (sizes G) p r c v e l o) × Logged 0 g × JobAsked j ls (meshAt (sizes G) p r c v e l o)
-  job-asked p r c v e l o g B z rooms =
-      let ok = began-passed G (jobNumbers j) (jobArguments j ls (asRooms R) (meshOf G)) B z .asked in (
-        began-ready G (jobNumbers j) (jobArguments j ls (asRooms R) (meshOf G)) B z (lent p r c v e l o g) (job-lent j ls (asRooms R) (meshOf G)) rooms,
-        nothing-logged g,
-        subst (JobAsked j ls) (sym (B .copied z)) (job-given j ls (asRooms R) (meshOf G) ok),
-      )
-
-  -- and what the work came to is the outcome
-  pub job-came : (p₁ : List Float) (r₁ c₁ : List ℕ) (v₁ : List Float) (e₁ : List ℕ) (l₁ : List Float) (o₁ g₁ : List ℕ) (p : List Float) (r c : List ℕ) (v : List Float) (e : List ℕ) (l : List Float) (o g : List ℕ) (ran : Ran)
-      → Begun (refusal (sizesFit G) (meshOf G) (jobNumbers j) (jobArguments j ls (asRooms R) (meshOf G))) R (meshOf G) (meshAt (sizes G) p₁ r₁ c₁ v₁ e₁ l₁ o₁) begun → begun ≡ 0
-      → Works (jobRun j ls (kindOf (meshAt (sizes G) p₁ r₁ c₁ v₁ e₁ l₁ o₁))) R (worldAt (sizes G) p₁ r₁ c₁ v₁ e₁ l₁ o₁ g₁) (λ k. worldAt k p r c v e l o g) ran
-      → Came (jobCall j ls (sizesFit G) (meshOf G) (asRooms R)) R (λ k. worldAt k p r c v e l o g) ran
-  unfolding jobCall
-  job-came p₁ r₁ c₁ v₁ e₁ l₁ o₁ g₁ p r c v e l o g ran B z W =
-      came-worked (jobRun j ls (kindOf (meshOf G))) (job-onward j ls (kindOf (meshOf G))) G B p r c v e l o g _ ran (unlogged (sizes G) p₁ r₁ c₁ v₁ e₁ l₁ o₁ g₁ refl) z
-      (subst (λ (K : Kind). Works (jobRun j ls K) R (worldAt (sizes G) p₁ r₁ c₁ v₁ e₁ l₁ o₁ g₁) (λ k. worldAt k p r c v e l o g) ran) (ap kindOf (B .copied z)) W)

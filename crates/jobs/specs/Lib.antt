@@ -1,3 +1,2 @@
--- The calls that give a mesh, and what their workers ask.
+-- The calls that give a mesh.
 pub mod Jobs
-pub mod Asks

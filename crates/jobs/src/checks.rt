@@ -15,7 +15,7 @@ fn numbers_fit(job: Job) -> bool
         Job::Straddlers => true,
         Job::Split(_) => true,
         Job::Cut(b0, b1, _) => {
-            mesh::tests::both(asked::tests::point_fits(b0), asked::tests::point_fits(b1))
+            judge::tests::both(asked::tests::point_fits(b0), asked::tests::point_fits(b1))
         }
         Job::Crack(_) => true,
     }
@@ -84,9 +84,9 @@ fn arguments_fit(
                 in_lengths,
                 in_outline,
             );
-            mesh::tests::both(fit, lent)
+            judge::tests::both(fit, lent)
         }
-        Job::Cut(_, _, f) => mesh::tests::both(asked::tests::fraction_fits(f), lent),
+        Job::Cut(_, _, f) => judge::tests::both(asked::tests::fraction_fits(f), lent),
         Job::Crack(_) => lent,
     }
 }
@@ -106,7 +106,7 @@ pub fn judge(
 ) -> usize
     ensures { λ r. ⌜ r ≡ refusal (sizesFit (given (now («in_points» .entry)) (now («in_roots» .entry)) (now («in_corners» .entry)) (now («in_volumes» .entry)) (now («in_ends» .entry)) (now («in_lengths» .entry)) (now («in_outline» .entry)))) (meshOf (given (now («in_points» .entry)) (now («in_roots» .entry)) (now («in_corners» .entry)) (now («in_volumes» .entry)) (now («in_ends» .entry)) (now («in_lengths» .entry)) (now («in_outline» .entry)))) (jobNumbers job) (jobArguments job (now (list .entry)) (asRooms room) (meshOf (given (now («in_points» .entry)) (now («in_roots» .entry)) (now («in_corners» .entry)) (now («in_volumes» .entry)) (now («in_ends» .entry)) (now («in_lengths» .entry)) (now («in_outline» .entry))))) ⌝ }
 {
-    let fault = mesh::checks::judge(
+    let fault = judge::checks::judge(
         in_points,
         in_roots,
         in_corners,
@@ -131,5 +131,5 @@ pub fn judge(
         in_lengths,
         in_outline,
     );
-    mesh::tests::first(code, ok, 4)
+    judge::tests::first(code, ok, 4)
 }

@@ -1,5 +1,4 @@
-// The calls that give a mesh, said once for all: the checks, the copy of the input, and the work on it.
-pub mod calls;
+// The calls that give a mesh, said once for all: what each is asked to do, and its checks. (Crate perform does it.)
 pub mod checks;
 
 use blade::Point;

@@ -1,7 +1,8 @@
--- Laws of the words on lists: of chains, tables and stores, tests on lists and their steps, rows, and labels. Assumes nothing.
+-- Laws of the words on lists: of chains, tables and stores, tests on lists and their steps, walks, rows, and labels. Assumes nothing.
 pub mod Chains
 pub mod Stores
 pub mod Sifts
 pub mod Rows
 pub mod Steps
+pub mod Walks
 pub mod Labelled

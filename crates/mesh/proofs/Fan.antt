@@ -43,7 +43,7 @@ group-old (x ∷ es) [] e g k q h = absurd (omega arith)
 group-old (x ∷ es) (y ∷ gs) e g k q h = ap (pick (eqb x k) y) (group-old es gs e g k (omega arith) h)
 
 -- v for v changes nothing
-replaced-self : (v p : ℕ) → replaced v v p ≡ p
+pub replaced-self : (v p : ℕ) → replaced v v p ≡ p
 replaced-self v p = by (ℕ-discrete p v)
   where
     by : Dec (p ≡ v) → replaced v v p ≡ p

@@ -1,7 +1,6 @@
--- Seven blocks of columns read as a mesh, the log beside them, and the checks that refuse an input.
+-- Seven blocks of columns read as a mesh, the log beside them, and what a call fills.
 pub mod At
 pub mod Log
 pub mod Given
 pub mod Filled
-pub mod Checks
 pub mod Workers

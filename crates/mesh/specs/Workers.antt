@@ -1,18 +1,14 @@
 -- Helpers that only the contracts of inner functions and their proofs need: a row copied, marked edges gone, corners rewired, a row's ends, and the room for it. No entry's statement names them.
 use Prim.Native.Nat.{ℕ, _+_, _/_, _≤_, _<_}
 use mathlib.Core.Path.{_≡_}
-use mathlib.Core.Bool.{Bool, true}
 use mathlib.Core.List.{List, [], _∷_, _++_}
 use lib.ListN.{length, getD}
 use lib.Dec.{eqb}
 use lib.Ieee.{Float}
-use Rattle.lists.specs.Lists.{pick, keep, keptOf, mapAt, all}
-use Rattle.columns.specs.Block.{cell}
+use Rattle.lists.specs.Lists.{pick, keep, keptOf, mapAt}
 use Rattle.model.specs.Mesh.{Particle, Triangle, Edge, blank}
 use Rattle.model.specs.Split.{weighed}
-use Rattle.model.specs.Valid.{named, rootOk, cornersOk, triangleOk}
-use Rattle.mesh.specs.At.{particlesAt, trianglesAt}
-use Rattle.mesh.specs.Given.{Given, sizesFit}
+use Rattle.mesh.specs.At.{edgeRow, trianglesAt}
 use Rattle.mesh.specs.declared.EdgeRow.{EdgeRow}
 
 -- the particles with a copy of v behind them, of mass m and inverse mass w
@@ -29,25 +25,9 @@ groupOf (e ∷ es) (g ∷ gs) k = pick (eqb e k) g (groupOf es gs k)
 abbrev pub edgeOf : EdgeRow → Edge
 edgeOf r = record { a = r .a; b = r .b; structural = r .structural; torn = r .torn; rest = r .rest; initial = r .initial; impulse = r .impulse; stress = r .stress }
 
--- the ends in row k of a block with columns of R places name two different ones of n particles
-unfoldable pub pairOk : ℕ → ℕ → List ℕ → ℕ → Bool
-pairOk n R s k = named n (cell 0 R s 0 k ∷ cell 0 R s 1 k ∷ [])
-
--- r tells whether the roots of n particles fit, whatever stands in their other block
-abbrev pub RootsTold : ℕ → List ℕ → Bool → Type 0
-RootsTold n roots r = (points : List Float) → r ≡ all (rootOk n) (particlesAt n points roots)
-
--- r tells whether the corners of t triangles fit, whatever stands in their other block
-abbrev pub CornersTold : ℕ → ℕ → List ℕ → Bool → Type 0
-CornersTold n t corners r = (volumes : List Float) → r ≡ all (cornersOk n) (trianglesAt t corners volumes)
-
--- r tells whether the numbers of t triangles fit, whatever stands in their other block
-abbrev pub VolumesTold : ℕ → List Float → Bool → Type 0
-VolumesTold t volumes r = (corners : List ℕ) → r ≡ all triangleOk (trianglesAt t corners volumes)
-
--- the sizes of an input fit, where nothing has refused it
-abbrev pub SizedUnless : ℕ → Given → Type 0
-SizedUnless code G = code ≡ 0 → sizesFit G ≡ true
+-- edge j of the blocks of edges
+abbrev pub rowAt : List ℕ → List Float → ℕ → Edge
+rowAt ends lengths j = edgeRow (length ends / 4) (length lengths / 4) ends lengths j
 
 -- n particles have room in blocks of lp and lr places
 pub record ParticleRoom (n lp lr : ℕ) : Type 0 where

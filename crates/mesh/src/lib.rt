@@ -1,7 +1,5 @@
-// Seven blocks of columns held as a mesh, with the log beside them: its rows changed, the whole copied and finished, its input checked.
-pub mod checks;
+// Seven blocks of columns held as a mesh, with the log beside them: its rows changed, the whole copied and finished.
 pub mod rows;
-pub mod tests;
 pub mod whole;
 
 // How many of each list's places are in use.

@@ -53,7 +53,7 @@ pub fn append_edge(n: usize, row: EdgeRow, ends: &mut [usize], lengths: &mut [f3
 }
 
 // The number that stands for v in group g, where n particles were there before the copies.
-fn copy_for(v: usize, n: usize, g: usize) -> usize
+pub fn copy_for(v: usize, n: usize, g: usize) -> usize
     requires { ⌜ (0 < n) × (n + g ≤ 65536) ⌝ }
     ensures { λ r. ⌜ r ≡ copyFor v n g ⌝ }
 {
@@ -61,7 +61,7 @@ fn copy_for(v: usize, n: usize, g: usize) -> usize
 }
 
 // Puts w for v at place e of a list.
-fn replace_at(s: &mut [usize], e: usize, v: usize, w: usize)
+pub fn replace_at(s: &mut [usize], e: usize, v: usize, w: usize)
     requires { ⌜ e < length (now s) ⌝ }
     ensures { λ _. ⌜ now (s .exit) ≡ set (now (s .entry)) e (replaced v w (getD (now (s .entry)) e 0)) ⌝ }
 {

@@ -15,7 +15,7 @@ use Rattle.lists.proofs.Sifts.{and-true, true-and, sift-ext, any-get, any-made,
 use Rattle.fan.proofs.Shared.{row-end}
 use Rattle.model.specs.Split.{Part, Opening, ring, parted}
 use Rattle.opening.specs.Opened.{partAt, blankPart, Ringed, RingRoom, ringFrom}
-use Rattle.opening.proofs.Walks.{not-so, sift-sift, sift-every, least-none, least-some, head-passes, behind-upTo, not-empty, some-stands, any-stands, any-one, stands-made-of}
+use Rattle.lists.proofs.Walks.{not-so, sift-sift, sift-every, least-none, least-some, head-passes, behind-upTo, not-empty, some-stands, any-stands, any-one, stands-made-of}
 
 -- the corners of row i
 abbrev pub rowOf : ℕ → List ℕ → ℕ → List ℕ

@@ -11,9 +11,10 @@ use Rattle.blade.specs.declared.Point.{Point}
 use Rattle.blade.specs.Points.{dotOf, lengthOf}
 use Rattle.model.specs.Mesh.{Mesh}
 use Rattle.model.specs.Elements.{besides}
-use Rattle.model.specs.Split.{Opening, Best, better, scoreOf, scored, weightOf, totalOf, ring, parted, toward}
+use Rattle.model.specs.Split.{Opening, Best, better, scoreOf, scored, weightOf, totalOf, ring, parted, toward, copyFor}
 use Rattle.opening.specs.Opened.{partAt, Ringed, Weighted, RingRoom, ringFrom, restIn, RestsIn, CornersBelow}
 use Rattle.opening.specs.declared.Best.{Best as BestCase}
+use mathlib.Core.Logic.{_⊎_}
 
 -- does group g hold x
 pub record RingHas (x g n k : ℕ) (verts groups : List ℕ) (r : Bool) : Type 0 where
@@ -93,3 +94,7 @@ pub record TowardRoom (x v n k : ℕ) (verts groups : List ℕ) (points : List F
 pub record TowardIs (x v n k : ℕ) (verts groups : List ℕ) (points : List Float) (r : ℕ) : Type 0 where
   pub is : (O : Opening) (M : Mesh) (p : ℕ) → Ringed k O n verts groups → O .v ≡ v → RestsIn M p points → p ≤ length points / 6 → x < p → v < p → CornersBelow p n k verts
       → r ≡ toward M O x
+
+-- the number that stands for v in group g, of so many groups
+pub record CopyIs (v before count g r : ℕ) : Type 0 where
+  pub is : (g ≡ 0) ⊎ (g < count) → r ≡ copyFor v before g

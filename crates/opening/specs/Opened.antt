@@ -67,3 +67,11 @@ RestsIn M p points = (w : ℕ) → w < p → restOf M w ≡ restIn points w
 -- the corners of all parts name some of the first p particles
 abbrev pub CornersBelow : ℕ → ℕ → ℕ → List ℕ → Type 0
 CornersBelow p n k verts = (i : ℕ) → i < n * k → getD verts i 0 < p
+
+-- an opening in tables, and a mesh whose first p particles rest as the points say
+pub record OpeningIn (O : Opening) (M : Mesh) (v before k n count p : ℕ) (verts groups : List ℕ) (points : List Float) : Type 0 where
+  pub at : O .v ≡ v
+  pub before-is : O .before ≡ before
+  pub count-is : O .count ≡ count
+  pub ringed : Ringed k O n verts groups
+  pub rests : RestsIn M p points

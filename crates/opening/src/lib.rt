@@ -1,11 +1,12 @@
 // A split to be made, read off the tables of a fan and its groups: weights, rings, directions.
 ghost use mathlib.Core.Path.{_≡_};
 ghost use Prim.Native.Nat.{_+_, _*_, _/_, _<_, _≤_};
+ghost use mathlib.Core.List.{[], _∷_};
 ghost use lib.ListN.{length, take, drop};
 ghost use Rattle.lists.specs.Lists.{stands};
 ghost use Rattle.opening.specs.Opened.{RingRoom, massBy, restIn};
 ghost use Rattle.model.specs.Split.{better as betterOf};
-ghost use Rattle.opening.specs.Answers.{RingHas, NextGroup, InRing, Meets, Parted, WeightIs, WeightsAre, scoreBy, bestIs, RowRoom, BestIn, FanRoom, FanBest, TowardRoom, TowardIs};
+ghost use Rattle.opening.specs.Answers.{RingHas, NextGroup, InRing, Meets, Parted, WeightIs, WeightsAre, scoreBy, bestIs, RowRoom, BestIn, FanRoom, FanBest, TowardRoom, TowardIs, CopyIs};
 use blade::Point;
 
 // The best score so far, and its group.
@@ -272,4 +273,28 @@ pub fn group_toward(
         group: 0,
     };
     fan_best(none, dir, v, home, n, k, verts, groups, points).group
+}
+
+// The number that stands for v in group g, where `before` particles were there before the copies.
+pub fn copy_number(v: usize, before: usize, count: usize, g: usize) -> usize
+    requires { ⌜ before + count ≤ 65536 ⌝ }
+    ensures { λ r. ⌜ CopyIs v before count g r ⌝ }
+{
+    if g == 0 {
+        return v;
+    }
+    if g < count {
+        return before + g - 1;
+    }
+    v
+}
+
+// Is v one of the ends x and y?
+pub fn names(v: usize, x: usize, y: usize) -> bool
+    ensures { λ r. ⌜ r ≡ stands v (x ∷ y ∷ []) ⌝ }
+{
+    if x == v {
+        return true;
+    }
+    y == v
 }

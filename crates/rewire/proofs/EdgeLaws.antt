@@ -25,14 +25,17 @@ use Rattle.model.specs.Mesh.{Edge, Mesh, blankEdge}
 use Rattle.model.specs.Elements.{Kind, element?, endsOf, farEnd, besides, restOf}
 use Rattle.model.specs.Split.{Part, Opening, Best, better, scoreOf, scored, toward, ring, edgeGroups, copyFor, moved, calm, stayed, doubled, otherEdges}
 use Rattle.mesh.specs.At.{edgeRow, edgesAt}
-use Rattle.opening.specs.Opened.{partAt, Ringed, ringFrom}
-use Rattle.opening.specs.Answers.{NextGroup}
+use Rattle.opening.specs.Opened.{partAt, Ringed, ringFrom, OpeningIn}
+use Rattle.opening.specs.Answers.{NextGroup, CopyIs}
 use Rattle.opening.proofs.Rings.{ring-next, ring-first}
 use Rattle.opening.proofs.Weights.{fan-tab}
-use Rattle.rewire.specs.Stages.{OpeningIn, GrownTo, EdgesGrown}
-use Rattle.rewire.specs.RoomsB.{rowAt, Between, CopyIs, EndsMoved, SameRows, CopiesGrown, EdgeSettled}
-use Rattle.rewire.specs.declared.Grown.{Grown}
-use Rattle.rewire.specs.declared.Grown.the-variants.{Lacking, Rows}
+use Rattle.rewire.specs.Stages.{EdgesGrown}
+use Rattle.work.specs.Rows.{GrownTo, Between}
+use Rattle.mesh.specs.Workers.{rowAt}
+use Rattle.rewire.specs.Edges.{EndsMoved, SameRows, CopiesGrown, EdgeSettled}
+use Rattle.work.specs.declared.Grown.{Grown}
+use Rattle.work.specs.declared.Grown.the-variants.{Lacking, Rows}
+use Rattle.work.proofs.Grows.{grown-all}
 
 -- ---- tests of one edge
 
@@ -398,12 +401,6 @@ groups-some M O x g l e = ap (λ (s : List ℕ). orElse s (toward M O x ∷ []))
 groups-none : (M : Mesh) (O : Opening) (x : ℕ) → ring O x ≡ [] → edgeGroups M O x ≡ toward M O x ∷ []
 unfolding edgeGroups
 groups-none M O x e = ap (λ (s : List ℕ). orElse s (toward M O x ∷ [])) e
-
--- rows that are all there
-pub grown-all : {A : Type 0} (r room : ℕ) (l : List A) (rows : ℕ → List A) → length (rows r) ≡ r → r ≤ room → rows r ≡ l → GrownTo (Rows r) room l rows
-grown-all r room l rows m h e =
-    let many : r ≡ length l = sym m ∙ ap length e in
-    (le-leb (length l) room (subst (λ (z : ℕ). z ≤ room) many h), many, e)
 
 module _ (K : Kind) (i v before k n count p m room : ℕ) (verts groups : List ℕ) (points : List Float) (ends : List ℕ) (lengths : List Float) (inside : i < m) (few : m ≤ room) (wide : room ≤ length ends / 4) where
   -- an edge that is no other edge

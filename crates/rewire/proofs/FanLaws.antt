@@ -6,7 +6,6 @@ use native.Mathlib.Decide.{ℕ-discrete}
 use native.Mathlib.Omega.{arith}
 use mathlib.Core.Path.{_≡_, refl, sym, ap, ap₂, _∙_, subst}
 use mathlib.Core.Bool.{Bool, true, false}
-use mathlib.Core.Logic.{⊎-elim}
 use mathlib.Core.List.{List, [], _∷_, map}
 use lib.ListN.{length, getD, set, take, length-set}
 use lib.Seq.{length-take-le, getD-take, ext-getD}
@@ -16,7 +15,7 @@ use borrow.Author.Tests.{eq-eqb, ne-eqb}
 use Rattle.lists.specs.Lists.{pick, mapAt}
 use Rattle.lists.specs.Labels.{replaced}
 use Rattle.lists.proofs.Sifts.{tab-ext}
-use Rattle.lists.proofs.Stores.{map-at, replaced-case}
+use Rattle.lists.proofs.Stores.{map-at}
 use Rattle.lists.proofs.Rows.{rows-map, mapAt-mapAt, mapAt-ext, mapAt-same}
 use Rattle.columns.specs.Block.{cell}
 use Rattle.model.specs.Mesh.{Triangle, Edge}
@@ -24,10 +23,10 @@ use Rattle.model.specs.Split.{Part, Opening, groupAt, rewiredStraps, retargeted
 use Rattle.mesh.specs.At.{edgeRow, edgesAt}
 use Rattle.mesh.specs.Workers.{groupOf, Mapped, FanOk}
 use Rattle.mesh.proofs.Lists.{turned, unturned}
-use Rattle.mesh.proofs.Fan.{rewired-as}
+use Rattle.mesh.proofs.Fan.{rewired-as, replaced-self}
 use Rattle.opening.specs.Opened.{blankPart}
 use Rattle.rewire.specs.Stages.{PartsBy, TrianglesRewired, StrapsRewired}
-use Rattle.rewire.specs.RoomsA.{PartsRoom, EndsMapped}
+use Rattle.rewire.specs.Particles.{PartsRoom, EndsMapped}
 
 -- ---- the tables and the parts of an opening
 
@@ -128,11 +127,7 @@ group-at (p ∷ ps) k = ap (pick (eqb (p .number) k) (p .group)) (group-at ps k)
 
 -- ---- straps
 
--- v for v changes no number
-pub replaced-self : (v x : ℕ) → replaced v v x ≡ x
-replaced-self v x = ⊎-elim (λ d. d .1 ∙ sym (d .0)) (λ d. d .1) (replaced-case v v x)
-
--- nor an edge
+-- v for v changes no edge
 moved-self : (v : ℕ) (e : Edge) → moved v v e ≡ e
 moved-self v e =
     λ i.

@@ -13,7 +13,7 @@ use Rattle.elements.proofs.Held.{holdsBoth, both-true, both-false}
 use Rattle.model.specs.Mesh.{Triangle, Edge}
 use Rattle.model.specs.Elements.{Triangles, Straps, Nothing, Element, cornersOf, endsOf, structural?, strapElement, trianglesFrom, strapsFrom, elementsOf, held}
 use Rattle.mesh.specs.At.{trianglesAt, edgesAt, triangleRow, edgeRow}
-use Rattle.rewire.specs.RoomsB.{bothIn, triangleHolds, strapHolds, HeldTold}
+use Rattle.rewire.specs.Edges.{bothIn, triangleHolds, strapHolds, HeldTold}
 
 -- ---- one row
 

@@ -1,8 +1,6 @@
 -- Laws of what each list of a mesh becomes in a split.
 pub mod ParticleLaws
 pub mod FanLaws
-pub mod BoundaryLaws
 pub mod EdgeLaws
 pub mod HeldLaws
 pub mod StraddlerLaws
-pub mod FacetLaws

@@ -27,7 +27,7 @@ use Rattle.mesh.proofs.Lists.{particles-length}
 use Rattle.opening.specs.Opened.{massBy}
 use Rattle.opening.proofs.Weights.{mass-by}
 use Rattle.rewire.specs.Stages.{WeightedBy, ParticlesCopied}
-use Rattle.rewire.specs.RoomsA.{CopyRoom, Weighed}
+use Rattle.rewire.specs.Particles.{CopyRoom, Weighed}
 
 -- ---- v with another mass
 

@@ -19,12 +19,13 @@ use Rattle.columns.specs.Block.{cell}
 use Rattle.columns.proofs.Cells.{col-0, col-1}
 use Rattle.opening.specs.Answers.{Parted}
 use Rattle.opening.specs.Opened.{Ringed}
-use Rattle.opening.proofs.Walks.{not-so, sift-same}
+use Rattle.lists.proofs.Walks.{not-so, sift-same}
 use Rattle.model.specs.Mesh.{Edge, Mesh, blankEdge}
 use Rattle.model.specs.Elements.{Kind, element?, endsOf, held, cornersPer}
 use Rattle.model.specs.Split.{Opening, copies, made, parted, straddles}
 use Rattle.mesh.specs.At.{edgesAt}
-use Rattle.rewire.specs.RoomsB.{rowAt, ElementIs, copiesBy, HeldTold, Straddling, StraddleTold, StraddlersMarked}
+use Rattle.mesh.specs.Workers.{rowAt}
+use Rattle.rewire.specs.Edges.{ElementIs, copiesBy, HeldTold, Straddling, StraddleTold, StraddlersMarked}
 use Rattle.rewire.proofs.EdgeLaws.{edges-many, edges-get}
 
 -- ---- v and its copies

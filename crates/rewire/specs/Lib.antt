@@ -1,4 +1,4 @@
 -- What each list of a mesh becomes in a split, as the workers promise it.
 pub mod Stages
-pub mod RoomsA
-pub mod RoomsB
+pub mod Particles
+pub mod Edges

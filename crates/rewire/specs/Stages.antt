@@ -1,19 +1,17 @@
 -- The stages of a split, each the model's equation on one list. Only contracts between workers need this file. Definitions only.
 use Prim.Native.Nat.{ℕ, _+_, _-_, _/_, _<_, _≤_}
 use mathlib.Core.Path.{_≡_}
-use mathlib.Core.Bool.{true, false}
 use mathlib.Core.List.{List, map}
 use lib.ListN.{length, getD, take}
-use lib.Dec.{leb}
 use lib.Ieee.{Float}
 use Rattle.lists.specs.Lists.{upTo}
 use Rattle.model.specs.Mesh.{Mesh}
 use Rattle.model.specs.Elements.{Kind, Triangles, Straps}
-use Rattle.model.specs.Split.{Opening, weightOf, totalOf, copied, rewiredTriangles, rewiredStraps, otherEdges, followed}
-use Rattle.mesh.specs.At.{particlesAt, trianglesAt, edgesAt, boundaryAt}
-use Rattle.opening.specs.Opened.{Ringed, Numbered, RestsIn}
-use Rattle.rewire.specs.declared.Grown.{Grown}
-use Rattle.rewire.specs.declared.Grown.the-variants.{Lacking, Rows}
+use Rattle.model.specs.Split.{Opening, weightOf, totalOf, copied, rewiredTriangles, rewiredStraps, otherEdges}
+use Rattle.mesh.specs.At.{particlesAt, trianglesAt, edgesAt}
+use Rattle.opening.specs.Opened.{Numbered, OpeningIn}
+use Rattle.work.specs.declared.Grown.{Grown}
+use Rattle.work.specs.Rows.{GrownTo}
 
 -- ---- 1: particles
 
@@ -50,28 +48,10 @@ pub record StrapsRewired (v before n : ℕ) (numbers groups ends ends′ : List 
       (O : Opening) (e : ℕ) (lengths : List Float) → PartsBy O v before n numbers groups → e ≤ length ends / 4
       → edgesAt e ends′ lengths ≡ rewiredStraps Straps O (edgesAt e ends lengths)
 
--- ---- 3 to 6: an opening in tables, and a mesh whose first p particles rest as the points say
-
-pub record OpeningIn (O : Opening) (M : Mesh) (v before k n count p : ℕ) (verts groups : List ℕ) (points : List Float) : Type 0 where
-  pub at : O .v ≡ v
-  pub before-is : O .before ≡ before
-  pub count-is : O .count ≡ count
-  pub ringed : Ringed k O n verts groups
-  pub rests : RestsIn M p points
-
--- rows that grew from e to what the list l is, where `room` is enough for it
-abbrev pub GrownTo : {A : Type 0} → Grown → ℕ → List A → (ℕ → List A) → Type 0
-GrownTo Lacking room l rows = leb (length l) room ≡ false
-GrownTo (Rows r) room l rows = (leb (length l) room ≡ true) × (r ≡ length l) × (rows r ≡ l)
+-- ---- 3: other edges
 
 -- the other edges at v stay in the lowest of their groups, and their copies stand behind the edges
 pub record EdgesGrown (K : Kind) (v before k n count p e room : ℕ) (verts groups : List ℕ) (points : List Float) (ends ends′ : List ℕ) (lengths lengths′ : List Float) (r : Grown) : Type 0 where
   pub edges :
       (O : Opening) (M : Mesh) → OpeningIn O M v before k n count p verts groups points
       → GrownTo r room (otherEdges K M O (edgesAt e ends lengths)) (λ m. edgesAt m ends′ lengths′)
-
--- the boundary entries at v follow, and the crack facets stand behind them
-pub record SidesFollowed (v before k n count p b : ℕ) (verts groups : List ℕ) (points : List Float) (outline outline′ : List ℕ) : Type 0 where
-  pub sides :
-      (O : Opening) (M : Mesh) → OpeningIn O M v before k n count p verts groups points
-      → boundaryAt b outline′ ≡ map (followed M O) (boundaryAt b outline)

@@ -8,12 +8,12 @@ ghost use Rattle.lists.specs.Labels.{replaced};
 ghost use Rattle.model.specs.Elements.{element?, endsOf, farEnd};
 ghost use Rattle.model.specs.Split.{moved as movedOf, calm as calmOf};
 ghost use Rattle.elements.specs.Table.{kindIs};
-ghost use Rattle.mesh.specs.Workers.{EdgeRoom, edgeOf};
+ghost use Rattle.mesh.specs.Workers.{EdgeRoom, edgeOf, rowAt};
 ghost use Rattle.rewire.specs.Stages.{EdgesGrown};
-ghost use Rattle.rewire.specs.RoomsB.{rowAt, ElementIs, CopyIs, EndsMoved, CopyRoom, CopiesGrown, SettleRoom, EdgeSettled, EdgesRoom};
-use crate::Grown;
+ghost use Rattle.rewire.specs.Edges.{ElementIs, EndsMoved, CopyRoom, CopiesGrown, SettleRoom, EdgeSettled, EdgesRoom};
 use elements::Kind;
 use mesh::EdgeRow;
+use work::Grown;
 
 // w for v.
 fn swapped(x: usize, v: usize, w: usize) -> usize
@@ -23,20 +23,6 @@ fn swapped(x: usize, v: usize, w: usize) -> usize
         return w;
     }
     x
-}
-
-// The number that stands for v in group g, where `before` particles were there before the copies.
-pub fn copy_number(v: usize, before: usize, count: usize, g: usize) -> usize
-    requires { ⌜ before + count ≤ 65536 ⌝ }
-    ensures { λ r. ⌜ CopyIs v before count g r ⌝ }
-{
-    if g == 0 {
-        return v;
-    }
-    if g < count {
-        return before + g - 1;
-    }
-    v
 }
 
 // Edge i.
@@ -148,7 +134,7 @@ fn append_copies(
         if rows == room {
             return Grown::Lacking;
         }
-        let w = copy_number(v, before, count, g);
+        let w = opening::copy_number(v, before, count, g);
         let copy = copied(row, v, w);
         mesh::rows::append_edge(rows, copy, ends, lengths);
         rows += 1;
@@ -185,7 +171,7 @@ fn settle_edge(
     let x = far_end(v, row);
     let first = opening::next_group(x, 0, count, n, k, verts, groups);
     if first < count {
-        move_ends(i, v, copy_number(v, before, count, first), ends);
+        move_ends(i, v, opening::copy_number(v, before, count, first), ends);
         return append_copies(
             row,
             x,
@@ -204,7 +190,7 @@ fn settle_edge(
         );
     }
     let toward = opening::group_toward(x, v, n, k, verts, groups, points);
-    move_ends(i, v, copy_number(v, before, count, toward), ends);
+    move_ends(i, v, opening::copy_number(v, before, count, toward), ends);
     Grown::Rows(m)
 }
 

@@ -1,11 +1,9 @@
 // The elements of a fan: each has the copy of its group for v.
-ghost use mathlib.Core.Path.{_≡_};
-ghost use Prim.Native.Nat.{_+_, _/_, _<_, _≤_};
-ghost use lib.ListN.{length, getD, set};
-ghost use Rattle.lists.specs.Labels.{replaced};
-ghost use Rattle.model.specs.Split.{copyFor, onlyAt, moved};
+ghost use Prim.Native.Nat.{_+_, _/_, _<_};
+ghost use lib.ListN.{length};
+ghost use Rattle.model.specs.Split.{onlyAt, moved};
 ghost use Rattle.rewire.specs.Stages.{TrianglesRewired, StrapsRewired};
-ghost use Rattle.rewire.specs.RoomsA.{PartsRoom, EndsMapped};
+ghost use Rattle.rewire.specs.Particles.{PartsRoom, EndsMapped};
 
 // Puts the copies of the groups for v in the corners of the fan's triangles.
 pub fn rewire_triangles(
@@ -22,32 +20,14 @@ pub fn rewire_triangles(
     mesh::rows::rewire(v, before, &numbers[..n], &groups[..n], corners);
 }
 
-// The number that stands for v in group g, where so many particles were there before the copies.
-pub fn copy_for(v: usize, before: usize, g: usize) -> usize
-    requires { ⌜ (0 < before) × (before + g ≤ 65536) ⌝ }
-    ensures { λ r. ⌜ r ≡ copyFor v before g ⌝ }
-{
-    if g == 0 { v } else { before + g - 1 }
-}
-
-// Puts w for v at place e of a list.
-pub fn replace_at(s: &mut [usize], e: usize, v: usize, w: usize)
-    requires { ⌜ e < length (now s) ⌝ }
-    ensures { λ _. ⌜ now (s .exit) ≡ set (now (s .entry)) e (replaced v w (getD (now (s .entry)) e 0)) ⌝ }
-{
-    if s[e] == v {
-        s[e] = w;
-    }
-}
-
 // Puts w for v at the ends of edge e.
 fn move_ends(e: usize, v: usize, w: usize, ends: &mut [usize])
     requires { ⌜ e < length (now ends) / 4 ⌝ }
     ensures { λ _. ⌜ EndsMapped (onlyAt e (moved v w)) (now (ends .entry)) (now (ends .exit)) ⌝ }
 {
     let f = ends.len() / 4 + e;
-    replace_at(ends, e, v, w);
-    replace_at(ends, f, v, w);
+    mesh::rows::replace_at(ends, e, v, w);
+    mesh::rows::replace_at(ends, f, v, w);
 }
 
 // Puts the copies of the groups for v at the ends of the fan's straps.
@@ -65,7 +45,7 @@ pub fn rewire_straps(
     let mut i: usize = 0;
     while i < n {
         let e = numbers[i];
-        let w = copy_for(v, before, groups[i]);
+        let w = mesh::rows::copy_for(v, before, groups[i]);
         move_ends(e, v, w, ends);
         i += 1;
     }

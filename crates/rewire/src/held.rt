@@ -5,7 +5,7 @@ ghost use Prim.Native.Nat.{_/_, _<_, _≤_};
 ghost use lib.ListN.{length};
 ghost use Rattle.lists.specs.Lists.{stands, any, upTo};
 ghost use Rattle.elements.specs.Table.{kindIs};
-ghost use Rattle.rewire.specs.RoomsB.{triangleHolds, strapHolds, HeldTold};
+ghost use Rattle.rewire.specs.Edges.{triangleHolds, strapHolds, HeldTold};
 use elements::Kind;
 
 // Is w one of the corners a, b and c?
@@ -15,7 +15,7 @@ fn among(w: usize, a: usize, b: usize, c: usize) -> bool
     if a == w {
         return true;
     }
-    crate::boundary::names(w, b, c)
+    opening::names(w, b, c)
 }
 
 // Does triangle i hold both x and y?
@@ -44,8 +44,8 @@ fn strap_holds(x: usize, y: usize, i: usize, ends: &[usize]) -> bool
     }
     let a = ends[i];
     let b = ends[n + i];
-    if crate::boundary::names(x, a, b) {
-        return crate::boundary::names(y, a, b);
+    if opening::names(x, a, b) {
+        return opening::names(y, a, b);
     }
     false
 }

@@ -1,14 +1,6 @@
-// What each list of a mesh becomes in a split: particles copied, elements rewired, other edges, straddlers, boundary, crack facets.
-pub mod boundary;
+// What each list of a mesh becomes in a split: particles copied, elements rewired, other edges, straddlers. (The boundary: crate boundary.)
 pub mod edges;
-pub mod facets;
 pub mod fans;
 pub mod held;
 pub mod particles;
-pub mod straddlers;
-
-// How many rows a list has after rows were appended, or that there is no room for them.
-pub enum Grown {
-    Lacking,
-    Rows(usize),
-}
+pub mod straddling;

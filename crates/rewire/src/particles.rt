@@ -2,7 +2,7 @@
 ghost use Prim.Native.Nat.{_/_, _<_};
 ghost use lib.ListN.{length};
 ghost use Rattle.rewire.specs.Stages.{ParticlesCopied};
-ghost use Rattle.rewire.specs.RoomsA.{CopyRoom, Weighed};
+ghost use Rattle.rewire.specs.Particles.{CopyRoom, Weighed};
 
 // Gives v mass m and inverse mass w.
 fn weigh(v: usize, m: f32, w: f32, points: &mut [f32])

@@ -17,17 +17,16 @@ use Rattle.model.specs.Run.{split}
 use Rattle.model.specs.Split.{Opening, made, straddles, splitEntries, goneEntries}
 use Rattle.mesh.specs.At.{edgesAt}
 use Rattle.mesh.specs.Log.{Words, wordsOf, logAt}
-use Rattle.mesh.specs.Workers.{Removed}
+use Rattle.mesh.specs.Workers.{Removed, rowAt}
 use Rattle.mesh.proofs.Lists.{edges-length}
 use Rattle.mesh.specs.declared.Counts.{Counts}
 use Rattle.mesh.specs.declared.Rooms.{Rooms}
-use Rattle.rewire.specs.RoomsB.{rowAt, Straddling, StraddlersMarked}
+use Rattle.rewire.specs.Edges.{Straddling, StraddlersMarked}
 use Rattle.split.specs.Steps.{loggedOf}
-use Rattle.split.specs.Straddling.{marked, markedOf, goneWords}
+use Rattle.work.specs.Removal.{marked, markedOf, goneWords}
 use Rattle.split.specs.Settling.{copyWords, SplitAsked, SplitNoted, DropAsked, Dropped}
-use Rattle.split.specs.declared.Ran.the-variants.{Refused, Done}
-use Rattle.split.proofs.NoteLaws.{gone-words, gone-count}
-use Rattle.split.proofs.PieceMasks.{mark-eqb}
+use Rattle.work.specs.declared.Ran.the-variants.{Refused, Done}
+use Rattle.work.proofs.Removals.{gone-words, gone-count, mark-eqb}
 
 -- ---- the copies in the log
 

@@ -20,18 +20,21 @@ use Rattle.model.specs.Calls.{tooSmall}
 use Rattle.mesh.specs.At.{particlesAt, edgesAt, boundaryAt, meshAt}
 use Rattle.mesh.specs.declared.Counts.{Counts}
 use Rattle.mesh.specs.declared.Rooms.{Rooms}
-use Rattle.opening.specs.Opened.{partAt, blankPart, RestsIn}
+use Rattle.opening.specs.Opened.{partAt, blankPart, RestsIn, OpeningIn}
 use Rattle.opening.specs.Answers.{WeightsAre}
 use Rattle.opening.proofs.Weights.{ringed-grouped}
-use Rattle.rewire.specs.Stages.{PartsBy, TrianglesRewired, StrapsRewired, ParticlesCopied, OpeningIn, GrownTo, EdgesGrown}
-use Rattle.rewire.specs.RoomsA.{PartsRoom}
-use Rattle.rewire.specs.RoomsB.{rowAt, EdgesRoom}
-use Rattle.rewire.specs.declared.Grown.{Grown}
-use Rattle.rewire.specs.declared.Grown.the-variants.{Lacking as NoRoom, Rows}
-use Rattle.rewire.proofs.FanLaws.{replaced-self}
+use Rattle.rewire.specs.Stages.{PartsBy, TrianglesRewired, StrapsRewired, ParticlesCopied, EdgesGrown}
+use Rattle.work.specs.Rows.{GrownTo}
+use Rattle.rewire.specs.Particles.{PartsRoom}
+use Rattle.mesh.specs.Workers.{rowAt}
+use Rattle.rewire.specs.Edges.{EdgesRoom}
+use Rattle.work.specs.declared.Grown.{Grown}
+use Rattle.work.specs.declared.Grown.the-variants.{Lacking as NoRoom, Rows}
+use Rattle.mesh.proofs.Fan.{replaced-self}
 use Rattle.rewire.proofs.EdgeLaws.{edges-many, edges-get}
 use Rattle.split.specs.Tables.{Opens, TablesFit}
-use Rattle.split.specs.Steps.{EndsIn, GrowRoom, GrowthTold}
+use Rattle.work.specs.Places.{EndsIn}
+use Rattle.split.specs.Steps.{GrowRoom, GrowthTold}
 use Rattle.split.specs.Growing.{StrapsNamed, ElementsRoom, ElementsRewired, ShareRoom, SharedOut}
 use Rattle.split.specs.declared.Grew.the-variants.{Lacking, Longest}
 

@@ -2,8 +2,6 @@
 pub mod Below
 pub mod Fitted
 pub mod FanLaws
-pub mod Placed
-pub mod Runs
 pub mod Stepping
 pub mod GrowLaws
 pub mod NamedLaws
@@ -13,6 +11,3 @@ pub mod NoteLaws
 pub mod OutlineLaws
 pub mod SettleLaws
 pub mod DropLaws
-pub mod PieceMasks
-pub mod PieceTables
-pub mod Straddled

@@ -6,19 +6,11 @@ use Prim.Native.Nat.{ℕ, _+_, _-_, _<_, _≤_}
 use native.Mathlib.Omega.{arith}
 use borrow.Author.Tests.{leb-true, leb-false, le-leb, lt-leb}
 use lib.Dec.{leb}
-use lib.ListN.{length, length-map}
-use lib.Ieee.{Float}
-use Rattle.lists.specs.Lists.{pick, sift, tab, upTo}
-use Rattle.lists.proofs.Sifts.{map-tab}
+use lib.ListN.{length}
+use Rattle.lists.specs.Lists.{tab, upTo}
 use Rattle.lists.proofs.Steps.{tab-step}
-use Rattle.opening.proofs.Walks.{sift-same}
-use Rattle.model.specs.Mesh.{Edge}
-use Rattle.model.specs.Run.{edge}
-use Rattle.model.specs.Split.{goneEntries}
-use Rattle.mesh.specs.At.{edgesAt}
-use Rattle.mesh.specs.Log.{Words, wordsOf, logAt}
-use Rattle.rewire.specs.RoomsB.{rowAt}
-use Rattle.split.specs.Straddling.{marked, markedOf, goneWords, EdgesNoted}
+use Rattle.mesh.specs.Log.{Words, logAt}
+use Rattle.work.specs.Removal.{markedOf, goneWords, EdgesNoted}
 use Rattle.split.specs.Settling.{copyWords, CopiesNoted, SplitNoted}
 
 -- ---- copies
@@ -68,40 +60,6 @@ split-noted v before m at e mask ends log log₁ log₂ r A B =
           B .entries ∙ ap (λ (w : List Words). w ++ map (goneWords ends) (markedOf mask e)) (A .noted)
           ∙ append-assoc (logAt at log) (map (copyWords v before) (upTo m)) (map (goneWords ends) (markedOf mask e));
     }
-
--- ---- marked edges as the model's
-
-module _ {A B : Type 0} (p : B → Bool) (f : A → B) where
-  pick-map : (t : Bool) (a : A) (l : List A) → pick t (f a ∷ map f l) (map f l) ≡ map f (pick t (a ∷ l) l)
-  pick-map true a l = refl
-  pick-map false a l = refl
-
-  -- a sift of what f makes
-  sift-map : (l : List A) → sift p (map f l) ≡ map f (sift (λ a. p (f a)) l)
-  unfolding sift
-  sift-map [] = refl
-  sift-map (a ∷ l) = rw (sift-map l) (pick-map (p (f a)) a (sift (λ a. p (f a)) l))
-
--- the rows that pass, by their numbers
-sift-rows : {A : Type 0} (p : A → Bool) (mask : List ℕ) (n : ℕ) (row : ℕ → A) → ((j : ℕ) → j < n → marked mask j ≡ p (row j)) → sift p (tab n row) ≡ map row (markedOf mask n)
-unfolding markedOf upTo
-sift-rows p mask n row h =
-    ap (sift p) (sym (map-tab row n (λ k. k))) ∙ sift-map p row (tab n (λ k. k))
-    ∙ ap (map row) (sift-same (λ k. p (row k)) (marked mask) n (λ k. k) (λ j l. sym (h j l)))
-
-module _ (p : Edge → Bool) (mask ends : List ℕ) (lengths : List Float) where
-  words-of : (l : List ℕ) → map wordsOf (map (λ (e : Edge). edge (e .a) (e .b)) (map (rowAt ends lengths) l)) ≡ map (goneWords ends) l
-  words-of [] = refl
-  words-of (j ∷ l) = ap (λ (t : List Words). goneWords ends j ∷ t) (words-of l)
-
-  -- the marked edges are those that p tells of
-  pub gone-words : (n : ℕ) → ((j : ℕ) → j < n → marked mask j ≡ p (rowAt ends lengths j)) → map wordsOf (goneEntries p (edgesAt n ends lengths)) ≡ map (goneWords ends) (markedOf mask n)
-  unfolding goneEntries edgesAt
-  gone-words n h = ap (λ (l : List Edge). map wordsOf (map (λ (e : Edge). edge (e .a) (e .b)) l)) (sift-rows p mask n (rowAt ends lengths) h) ∙ words-of (markedOf mask n)
-
-  -- as many
-  pub gone-count : (n : ℕ) → ((j : ℕ) → j < n → marked mask j ≡ p (rowAt ends lengths j)) → length (goneEntries p (edgesAt n ends lengths)) ≡ length (markedOf mask n)
-  gone-count n h = sym (length-map (goneEntries p (edgesAt n ends lengths)) wordsOf) ∙ ap length (gone-words n h) ∙ length-map (markedOf mask n) (goneWords ends)
 
 -- ---- room
 

@@ -14,11 +14,11 @@ use Rattle.mesh.specs.At.{sideRow, boundaryAt}
 use Rattle.elements.specs.declared.Kind.{Kind as KindCase}
 use Rattle.elements.specs.declared.Kind.the-variants.{Triangles as TrianglesCase, Straps as StrapsCase, Nothing as NothingCase}
 use Rattle.elements.specs.Table.{kindIs}
-use Rattle.rewire.specs.Stages.{GrownTo, SidesFollowed}
-use Rattle.rewire.specs.RoomsA.{SidesRoom}
-use Rattle.rewire.specs.RoomsB.{FaceRoom, SideRoom, FacetsGrown, allFacets}
-use Rattle.rewire.specs.declared.Grown.{Grown}
-use Rattle.rewire.specs.declared.Grown.the-variants.{Rows}
+use Rattle.work.specs.Rows.{GrownTo, SideRoom}
+use Rattle.boundary.specs.Following.{SidesFollowed, SidesRoom}
+use Rattle.boundary.specs.Faces.{FaceRoom, FacetsGrown, allFacets}
+use Rattle.work.specs.declared.Grown.{Grown}
+use Rattle.work.specs.declared.Grown.the-variants.{Rows}
 use Rattle.split.specs.Settling.{FacetsAsked, FacetsTold, BoundaryAsked, BoundaryTold}
 
 -- as many entries as rows

@@ -20,16 +20,17 @@ use Rattle.mesh.proofs.Lists.{log-length, mesh-path, world-path}
 use Rattle.mesh.specs.declared.Counts.{Counts}
 use Rattle.mesh.specs.declared.Rooms.{Rooms}
 use Rattle.opening.specs.Opened.{RestsIn}
-use Rattle.rewire.specs.Stages.{GrownTo}
-use Rattle.rewire.specs.RoomsB.{Straddling}
-use Rattle.rewire.specs.declared.Grown.{Grown}
-use Rattle.rewire.specs.declared.Grown.the-variants.{Lacking, Rows}
-use Rattle.split.specs.Working.{Within}
+use Rattle.work.specs.Rows.{GrownTo}
+use Rattle.rewire.specs.Edges.{Straddling}
+use Rattle.work.specs.declared.Grown.{Grown}
+use Rattle.work.specs.declared.Grown.the-variants.{Lacking, Rows}
+use Rattle.work.specs.Working.{Within, SettleRoom}
 use Rattle.split.specs.Tables.{Opens, TablesFit}
-use Rattle.split.specs.Steps.{SidesIn, loggedOf, settledWorld, SettleRoom}
+use Rattle.work.specs.Places.{SidesIn}
+use Rattle.split.specs.Steps.{loggedOf, settledWorld}
 use Rattle.split.specs.Settling.{BoundaryIn, BoundaryAsked, BoundaryTold, DropAsked, EdgesDropped, Dropped, SettleAsked, SettledFor}
-use Rattle.split.specs.declared.Ran.{Ran}
-use Rattle.split.specs.declared.Ran.the-variants.{Refused, Done}
+use Rattle.work.specs.declared.Ran.{Ran}
+use Rattle.work.specs.declared.Ran.the-variants.{Refused, Done}
 
 -- ---- rooms that lack
 

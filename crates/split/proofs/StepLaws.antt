@@ -14,17 +14,18 @@ use Rattle.mesh.specs.Log.{World, logAt, worldAt}
 use Rattle.mesh.specs.Filled.{lent}
 use Rattle.mesh.specs.declared.Counts.{Counts}
 use Rattle.mesh.specs.declared.Rooms.{Rooms}
-use Rattle.split.specs.Working.{Ready}
+use Rattle.work.specs.Working.{Ready}
 use Rattle.split.specs.Tables.{FanGrouped, openedBy, Opens, TablesFit}
-use Rattle.split.specs.Steps.{EndsIn, GrowRoom, grownCounts, GrewTo, GrowthTold, SettledTo, Stepped}
+use Rattle.work.specs.Places.{EndsIn}
+use Rattle.split.specs.Steps.{GrowRoom, grownCounts, GrewTo, GrowthTold, SettledTo, Stepped}
 use Rattle.split.specs.Growing.{StrapsNamed}
 use Rattle.split.specs.Settling.{SettleAsked, SettledFor}
 use Rattle.split.proofs.Fitted.{opens-by, tables-fit}
 use Rattle.split.proofs.NamedLaws.{straps-named}
-use Rattle.split.proofs.Placed.{particles-count, triangles-count, edges-count, ends-in, sides-in}
+use Rattle.work.proofs.Placed.{particles-count, triangles-count, edges-count, ends-in, sides-in}
 use Rattle.split.proofs.Stepping.{longestWorld, stepped-lacking, stepped-settled}
-use Rattle.split.specs.declared.Ran.{Ran}
-use Rattle.split.specs.declared.Ran.the-variants.{Refused}
+use Rattle.work.specs.declared.Ran.{Ran}
+use Rattle.work.specs.declared.Ran.the-variants.{Refused}
 use Rattle.split.specs.declared.Grew.{Grew}
 use Rattle.split.specs.declared.Grew.the-variants.{Lacking, Longest}
 

@@ -15,11 +15,11 @@ use Rattle.mesh.specs.Log.{World, Words, wordsOf, worldOf}
 use Rattle.mesh.specs.Given.{asRooms}
 use Rattle.mesh.specs.declared.Counts.{Counts}
 use Rattle.mesh.specs.declared.Rooms.{Rooms}
-use Rattle.split.specs.Working.{Within, Went, Works}
+use Rattle.work.specs.Working.{Within, Went, Works}
 use Rattle.split.specs.Steps.{GrewTo, loggedOf, settledWorld, SettledTo, needOf, splitWorld, Stepped}
-use Rattle.split.proofs.Runs.{room-enough, needBehind, StepTold, went-step}
-use Rattle.split.specs.declared.Ran.{Ran}
-use Rattle.split.specs.declared.Ran.the-variants.{Refused, Done}
+use Rattle.work.proofs.Runs.{room-enough, needBehind, StepTold, went-step}
+use Rattle.work.specs.declared.Ran.{Ran}
+use Rattle.work.specs.declared.Ran.the-variants.{Refused, Done}
 use Rattle.split.specs.declared.Grew.the-variants.{Lacking}
 
 -- the first half lacks room: so does the step

@@ -25,15 +25,15 @@ use Rattle.mesh.specs.declared.Rooms.{Rooms}
 use Rattle.elements.specs.Table.{Tabled}
 use Rattle.opening.specs.Opened.{openingBy}
 use Rattle.opening.proofs.Tables.{opening-is}
-use Rattle.split.specs.Working.{Ready, Works}
+use Rattle.work.specs.Working.{Ready, Works}
 use Rattle.split.specs.Tables.{FanGrouped, FanSided, FanLent, FanRead, SidesLent, SidesGiven, GroupsFound, openedBy}
 use Rattle.split.specs.Steps.{Stepped}
 use Rattle.split.proofs.Fitted.{grid-is}
-use Rattle.split.proofs.Placed.{particles-count}
+use Rattle.work.proofs.Placed.{particles-count}
 use Rattle.split.proofs.Stepping.{works-split, works-unsplit}
 use Rattle.split.proofs.StepLaws.{world-mesh}
-use Rattle.split.specs.declared.Ran.{Ran}
-use Rattle.split.specs.declared.Ran.the-variants.{Done}
+use Rattle.work.specs.declared.Ran.{Ran}
+use Rattle.work.specs.declared.Ran.the-variants.{Done}
 
 -- the inverse mass of a particle, by its place
 pub inverse-at : (k : Counts) (points : List Float) (roots corners : List ℕ) (volumes : List Float) (ends : List ℕ) (lengths : List Float) (outline : List ℕ) (v : ℕ) → v < k .particles

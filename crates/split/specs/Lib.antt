@@ -1,7 +1,5 @@
 -- A split, step by step, over the lent blocks.
-pub mod Working
 pub mod Tables
 pub mod Steps
 pub mod Growing
 pub mod Settling
-pub mod Straddling

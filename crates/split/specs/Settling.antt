@@ -15,13 +15,15 @@ use Rattle.mesh.specs.Workers.{EdgeRoom}
 use Rattle.mesh.specs.declared.Counts.{Counts}
 use Rattle.mesh.specs.declared.Rooms.{Rooms}
 use Rattle.opening.specs.Opened.{Ringed, Numbered, RingRoom, RestsIn, CornersBelow}
-use Rattle.rewire.specs.Stages.{GrownTo}
-use Rattle.rewire.specs.RoomsB.{Straddling, StraddleRoom}
-use Rattle.rewire.specs.declared.Grown.{Grown}
-use Rattle.split.specs.Steps.{SidesIn, loggedOf, SettleRoom, SettlingTold}
-use Rattle.split.specs.Straddling.{markedOf, goneWords, NoteRoom}
-use Rattle.split.specs.declared.Ran.{Ran}
-use Rattle.split.specs.declared.Ran.the-variants.{Refused, Done}
+use Rattle.work.specs.Rows.{GrownTo}
+use Rattle.rewire.specs.Edges.{Straddling, StraddleRoom}
+use Rattle.work.specs.declared.Grown.{Grown}
+use Rattle.work.specs.Places.{SidesIn}
+use Rattle.split.specs.Steps.{loggedOf, SettlingTold}
+use Rattle.work.specs.Working.{SettleRoom}
+use Rattle.work.specs.Removal.{markedOf, goneWords, NoteRoom}
+use Rattle.work.specs.declared.Ran.{Ran}
+use Rattle.work.specs.declared.Ran.the-variants.{Refused, Done}
 
 -- ---- 5 and 6: boundary and crack facets
 

@@ -9,32 +9,16 @@ use Rattle.model.specs.Elements.{Kind}
 use Rattle.model.specs.Run.{Entry, Need}
 use Rattle.model.specs.Split.{Opening, atLongest, settled, straddles, splitEntries, goneEntries}
 use Rattle.model.specs.Calls.{tooSmall}
-use Rattle.columns.specs.Block.{cell}
 use Rattle.mesh.specs.Log.{World, wordsOf}
 use Rattle.mesh.specs.Given.{asRooms}
 use Rattle.mesh.specs.declared.Counts.{Counts}
 use Rattle.mesh.specs.declared.Rooms.{Rooms}
-use Rattle.split.specs.Working.{Within}
+use Rattle.work.specs.Working.{Within}
 use Rattle.split.specs.Tables.{Opens}
-use Rattle.split.specs.declared.Ran.{Ran}
-use Rattle.split.specs.declared.Ran.the-variants.{Refused, Done}
+use Rattle.work.specs.declared.Ran.{Ran}
+use Rattle.work.specs.declared.Ran.the-variants.{Refused, Done}
 use Rattle.split.specs.declared.Grew.{Grew}
 use Rattle.split.specs.declared.Grew.the-variants.{Lacking, Longest}
-
--- the ends of the first e edges, and of the first b boundary entries, are among p particles
-pub record EndsIn (p e : ℕ) (ends : List ℕ) : Type 0 where
-  pub first : (j : ℕ) → j < e → cell 0 (length ends / 4) ends 0 j < p
-  pub second : (j : ℕ) → j < e → cell 0 (length ends / 4) ends 1 j < p
-
-pub record SidesIn (p b : ℕ) (outline : List ℕ) : Type 0 where
-  pub first : (j : ℕ) → j < b → cell 0 (length outline / 2) outline 0 j < p
-  pub second : (j : ℕ) → j < b → cell 0 (length outline / 2) outline 1 j < p
-
--- the corners of the first t triangles are among p particles
-pub record CornersIn (p t : ℕ) (corners : List ℕ) : Type 0 where
-  pub first : (j : ℕ) → j < t → cell 0 (length corners / 3) corners 0 j < p
-  pub second : (j : ℕ) → j < t → cell 0 (length corners / 3) corners 1 j < p
-  pub third : (j : ℕ) → j < t → cell 0 (length corners / 3) corners 2 j < p
 
 -- ---- parts 1 to 3
 
@@ -90,21 +74,6 @@ SettledTo K O L extra W at (Done k) =
 -- for every split that the tables hold, and whatever stands in the block of roots
 pub record SettlingTold (K : Kind) (L : Rooms) (extra v before n count : ℕ) (numbers verts : List ℕ) (measures : List Float) (groups : List ℕ) (W : List ℕ → World) (at : List ℕ → Counts → World) (r : Ran) : Type 0 where
   pub told : (O : Opening) (roots : List ℕ) → Opens K O v before n count numbers verts measures groups → SettledTo K O L extra (W roots) (at roots) r
-
--- what parts 4 to 6 and the removal of straddlers ask of the counts, the rooms and the lengths of the blocks
-pub record SettleRoom (L : Rooms) (k : Counts) (lc lv le ll lo lg : ℕ) : Type 0 where
-  pub counts : Within k L
-  pub few-particles : L .particles ≤ 1024
-  pub few-triangles : L .triangles ≤ 1024
-  pub few-edges : L .edges ≤ 2048
-  pub few-boundary : L .boundary ≤ 2048
-  pub few-log : L .log ≤ 4096
-  pub corners : L .triangles ≤ lc / 3
-  pub volumes : L .triangles ≤ lv / 2
-  pub ends : L .edges ≤ le / 4
-  pub lengths : L .edges ≤ ll / 4
-  pub outline : L .boundary ≤ lo / 2
-  pub log : L .log ≤ lg / 6
 
 -- ---- the whole
 

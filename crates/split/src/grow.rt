@@ -4,13 +4,14 @@ ghost use lib.ListN.{length};
 ghost use Rattle.elements.specs.Table.{kindIs};
 ghost use Rattle.mesh.specs.At.{meshAt};
 ghost use Rattle.split.specs.Tables.{TablesFit};
-ghost use Rattle.split.specs.Steps.{EndsIn, GrowRoom, GrowthTold};
+ghost use Rattle.work.specs.Places.{EndsIn};
+ghost use Rattle.split.specs.Steps.{GrowRoom, GrowthTold};
 ghost use Rattle.split.specs.Growing.{StrapsNamed, ElementsRoom, ElementsRewired, ShareRoom, SharedOut};
 use crate::Grew;
 use elements::Kind;
 use mesh::Counts;
 use mesh::Rooms;
-use rewire::Grown;
+use work::Grown;
 
 // Puts the copies of the groups for v in the elements of the fan, triangles or straps.
 fn rewire_elements(

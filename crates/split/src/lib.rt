@@ -1,17 +1,8 @@
-// A split over the lent blocks: one particle by the groups of its fan, and the straddlers across pieces.
+// A split over the lent blocks: one particle by the groups of its fan.
 pub mod fans;
 pub mod grow;
 pub mod settle;
 pub mod step;
-pub mod straddlers;
-
-use mesh::Counts;
-
-// What a step came to: the number of the room that lacks, or the new counts.
-pub enum Ran {
-    Refused(usize),
-    Done(Counts),
-}
 
 // What the first half of a split came to: the number of the room that lacks, or the number of edges at their longest.
 pub enum Grew {

@@ -8,11 +8,11 @@ ghost use Rattle.mesh.specs.At.{edgesAt};
 ghost use Rattle.mesh.specs.Log.{worldAt};
 ghost use Rattle.mesh.specs.Workers.{Removed};
 ghost use Rattle.split.specs.Settling.{FacetsAsked, FacetsTold, BoundaryAsked, BoundaryTold, CopiesNoted, SplitAsked, SplitNoted, MarkedRoom, DropAsked, Dropped, SettleAsked, SettledFor};
-use crate::Ran;
 use elements::Kind;
 use mesh::Counts;
 use mesh::Rooms;
-use rewire::Grown;
+use work::Grown;
+use work::Ran;
 
 // Where the elements are triangles, appends the crack facets to the b entries of the outline.
 fn open_facets(
@@ -33,7 +33,7 @@ fn open_facets(
     ensures { λ r. ⌜ FacetsTold (kindIs kind) v before n count b room (now (numbers .entry)) (now (verts .entry)) (now (groups .entry)) (now (corners .entry)) (now (outline .entry)) (now (outline .exit)) r ⌝ }
 {
     match kind {
-        Kind::Triangles => rewire::facets::crack_facets(
+        Kind::Triangles => boundary::facets::crack_facets(
             v,
             before,
             n,
@@ -71,7 +71,7 @@ fn open_boundary(
     ensures { λ r. ⌜ BoundaryTold (kindIs kind) v before n count b room (now (numbers .entry)) (now (verts .entry)) (now (groups .entry)) (now (points .entry)) (now (corners .entry)) (now (outline .entry)) (now (outline .exit)) r ⌝ }
 {
     let k = elements::corners_per(kind);
-    rewire::boundary::follow_boundary(
+    boundary::entries::follow_boundary(
         v,
         before,
         k,
@@ -138,7 +138,7 @@ fn note_split(
     ensures { λ r. ⌜ SplitNoted v before m at e (now (mask .entry)) (now (ends .entry)) (now (log .entry)) (now (log .exit)) r ⌝ }
 {
     note_copies(v, before, m, at, log);
-    crate::straddlers::note_edges(mask, e, at + m, ends, log)
+    work::removal::note_edges(mask, e, at + m, ends, log)
 }
 
 // Removes the s marked edges from the first e, and returns how many are left; where none is marked there is nothing to move.
@@ -174,7 +174,7 @@ fn drop_straddlers(
     requires { ⌜ DropAsked (kindIs kind) room k before n count extra (length (now verts)) (length (now groups)) (length (now corners)) (length (now ends)) (length (now lengths)) (length (now log)) × (2048 ≤ length (now mask)) ⌝ }
     ensures { λ r. ⌜ Dropped (kindIs kind) room k v before n count extra rows (now (verts .entry)) (now (groups .entry)) (now (corners .entry)) (now (ends .entry)) (now (ends .exit)) (now (lengths .entry)) (now (lengths .exit)) (now (log .entry)) (now (log .exit)) r ⌝ }
 {
-    let s = rewire::straddlers::mark_straddlers(
+    let s = rewire::straddling::mark_straddlers(
         kind,
         v,
         before,

@@ -10,14 +10,14 @@ ghost use Rattle.model.specs.Split.{splitBySides};
 ghost use Rattle.mesh.specs.At.{meshAt};
 ghost use Rattle.mesh.specs.Log.{worldAt};
 ghost use Rattle.mesh.specs.Filled.{lent};
-ghost use Rattle.split.specs.Working.{Ready, Works};
+ghost use Rattle.work.specs.Working.{Ready, Works};
 ghost use Rattle.split.specs.Tables.{FanGrouped, FanSided, openedBy, SidesGiven};
 ghost use Rattle.split.specs.Steps.{Stepped};
 use crate::Grew;
-use crate::Ran;
 use elements::Kind;
 use mesh::Counts;
 use mesh::Rooms;
+use work::Ran;
 
 // Splits v by the groups of its fan. `extra` entries more must have room in the log: the caller writes them.
 pub fn split_opened(

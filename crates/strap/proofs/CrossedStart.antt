@@ -26,17 +26,16 @@ use Rattle.mesh.specs.Given.{Lent, asRooms}
 use Rattle.mesh.specs.declared.Counts.{Counts}
 use Rattle.mesh.specs.declared.Rooms.{Rooms}
 use Rattle.mesh.proofs.Lists.{edges-length}
-use Rattle.split.specs.Working.{Ready, Went}
-use Rattle.split.specs.declared.Ran.{Ran}
-use Rattle.split.specs.declared.Ran.the-variants.{Done}
-use Rattle.split.proofs.Placed.{ends-in}
-use Rattle.cut.specs.Marking.{bladeFrom}
-use Rattle.cut.specs.Running.{Logged}
-use Rattle.strap.specs.Shares.{Stands}
-use Rattle.strap.specs.Bends.{EndsBelow}
-use Rattle.strap.specs.Crossings.{crossed-in, CrossingsAre}
-use Rattle.strap.specs.Crossed.{ranOf, StrapMarks, Crosses, CrossTold, CrossingsIn}
-use Rattle.strap.proofs.CrossedRuns.{entries-to, words-to, ready-to}
+use Rattle.work.specs.Working.{Ready, Went, Logged}
+use Rattle.work.specs.declared.Ran.{Ran}
+use Rattle.work.specs.declared.Ran.the-variants.{Done}
+use Rattle.work.proofs.Placed.{ends-in}
+use Rattle.marks.specs.Marking.{bladeFrom}
+use Rattle.insert.specs.Shares.{Stands}
+use Rattle.crossing.specs.Bends.{EndsBelow}
+use Rattle.crossing.specs.Crossings.{crossed-in, CrossingsAre}
+use Rattle.crossing.specs.Crossed.{ranOf, StrapMarks, Crosses, CrossTold, CrossingsIn}
+use Rattle.crossing.proofs.CrossedRuns.{entries-to, words-to, ready-to}
 
 -- ---- nothing is marked
 

@@ -8,9 +8,9 @@ use Rattle.mesh.specs.declared.Rooms.{Rooms}
 use Rattle.elements.specs.Table.{kindIs}
 use Rattle.elements.specs.declared.Kind.{Kind}
 use Rattle.elements.specs.declared.Kind.the-variants.{Triangles, Straps, Nothing}
-use Rattle.split.specs.Working.{Within, Works}
-use Rattle.split.specs.declared.Ran.{Ran}
-use Rattle.split.specs.declared.Ran.the-variants.{Done}
+use Rattle.work.specs.Working.{Within, Works}
+use Rattle.work.specs.declared.Ran.{Ran}
+use Rattle.work.specs.declared.Ran.the-variants.{Done}
 
 module _ (B : Blade) (f : Float) (L : Rooms) (W : World) (at : Counts → World) (kind : Kind) where
   -- a worker that cuts a mesh of kind K

@@ -22,16 +22,16 @@ use Rattle.mesh.specs.Given.{Lent, asRooms}
 use Rattle.mesh.specs.Filled.{lent}
 use Rattle.mesh.specs.declared.Counts.{Counts}
 use Rattle.mesh.specs.declared.Rooms.{Rooms}
-use Rattle.split.specs.Working.{Within, Roomed, Ready, Went, Works}
-use Rattle.split.specs.Straddling.{marked, markedOf}
-use Rattle.split.specs.declared.Ran.{Ran}
-use Rattle.split.specs.declared.Ran.the-variants.{Refused, Done}
-use Rattle.split.proofs.Placed.{particles-count}
+use Rattle.work.specs.Working.{Within, Roomed, Ready, Went, Works, Logged}
+use Rattle.work.specs.Removal.{marked, markedOf}
+use Rattle.work.specs.declared.Ran.{Ran}
+use Rattle.work.specs.declared.Ran.the-variants.{Refused, Done}
+use Rattle.work.proofs.Placed.{particles-count}
 use Rattle.split.proofs.StepLaws.{world-mesh}
-use Rattle.cut.specs.Running.{chosen, Logged, Chosen}
+use Rattle.cut.specs.Running.{chosen, Chosen}
 use Rattle.cut.proofs.RunLaws.{chosen-rising}
-use Rattle.strap.specs.Crossed.{ranOf, bendsOf, StrapMarks}
-use Rattle.strap.specs.Unbent.{UnbentRoom, MarksOf, UnbentTold}
+use Rattle.crossing.specs.Crossed.{ranOf, bendsOf, StrapMarks}
+use Rattle.crossing.specs.Unbent.{UnbentRoom, MarksOf, UnbentTold}
 use Rattle.strap.specs.Segments.{MarksLent, AfterTold}
 
 -- ---- the marked places as a list

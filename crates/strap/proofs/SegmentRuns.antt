@@ -18,17 +18,16 @@ use Rattle.mesh.specs.Given.{Lent, asRooms}
 use Rattle.mesh.specs.Filled.{lent}
 use Rattle.mesh.specs.declared.Counts.{Counts}
 use Rattle.mesh.specs.declared.Rooms.{Rooms}
-use Rattle.split.specs.Working.{Within, Ready, Went, Works}
-use Rattle.split.specs.declared.Ran.{Ran}
-use Rattle.split.specs.declared.Ran.the-variants.{Refused, Done}
-use Rattle.split.proofs.Placed.{edges-count}
+use Rattle.work.specs.Working.{Within, Ready, Went, Works, Logged}
+use Rattle.work.specs.declared.Ran.{Ran}
+use Rattle.work.specs.declared.Ran.the-variants.{Refused, Done}
+use Rattle.work.proofs.Placed.{edges-count}
 use Rattle.split.proofs.StepLaws.{world-mesh}
-use Rattle.cut.specs.Marking.{bladeFrom}
-use Rattle.cut.specs.Running.{Logged}
-use Rattle.strap.specs.Crossed.{ranOf}
+use Rattle.marks.specs.Marking.{bladeFrom}
+use Rattle.crossing.specs.Crossed.{ranOf}
 use Rattle.strap.specs.Segments.{AfterTold, BladeCrossed}
 use Rattle.strap.proofs.CrossedStart.{marks-none, all-went, all-marked, all-ready, all-logged}
-use Rattle.strap.proofs.BendNumbers.{marked-there}
+use Rattle.crossing.proofs.BendNumbers.{marked-there}
 
 -- what is left of a cut only goes on
 after-onward : (B : Blade) (S : Strapping) → Onward (ranOf S) (afterCrossings B S)

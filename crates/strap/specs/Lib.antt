@@ -1,11 +1,2 @@
--- The cut of straps, step by step, over the lent blocks.
-pub mod Shares
-pub mod Plans
-pub mod Sides
-pub mod Inserts
-pub mod Bends
-pub mod Steps
-pub mod Crossings
-pub mod Unbent
-pub mod Crossed
+-- The cut of straps, over the lent blocks.
 pub mod Segments

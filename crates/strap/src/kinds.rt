@@ -4,14 +4,13 @@ ghost use Rattle.mesh.specs.At.{meshAt};
 ghost use Rattle.mesh.specs.Log.{worldAt};
 ghost use Rattle.mesh.specs.Filled.{lent};
 ghost use Rattle.elements.specs.Table.{kindIs};
-ghost use Rattle.split.specs.Working.{Ready, Works};
-ghost use Rattle.cut.specs.Marking.{bladeFrom};
-ghost use Rattle.cut.specs.Running.{Logged};
+ghost use Rattle.work.specs.Working.{Ready, Works, Logged};
+ghost use Rattle.marks.specs.Marking.{bladeFrom};
 use blade::Point;
 use elements::Kind;
 use mesh::Counts;
 use mesh::Rooms;
-use split::Ran;
+use work::Ran;
 
 // Triangles are split along the blade, straps are cut across it; a mesh of neither kind stays as it is. All tables of a cut are here, once.
 pub fn cut(

@@ -5,15 +5,15 @@ ghost use Rattle.model.specs.Cut.{cutSegments};
 ghost use Rattle.mesh.specs.At.{meshAt};
 ghost use Rattle.mesh.specs.Log.{worldAt};
 ghost use Rattle.mesh.specs.Filled.{lent};
-ghost use Rattle.split.specs.Working.{Ready, Works};
-ghost use Rattle.cut.specs.Marking.{bladeFrom};
-ghost use Rattle.cut.specs.Running.{TablesLong, Logged};
-ghost use Rattle.strap.specs.Crossed.{CrossRoom};
+ghost use Rattle.work.specs.Working.{Ready, Works, Logged};
+ghost use Rattle.marks.specs.Marking.{bladeFrom};
+ghost use Rattle.cut.specs.Running.{TablesLong};
+ghost use Rattle.crossing.specs.Crossed.{CrossRoom};
 ghost use Rattle.strap.specs.Segments.{MarksLent, AfterTold, BladeCrossed};
 use blade::Point;
 use mesh::Counts;
 use mesh::Rooms;
-use split::Ran;
+use work::Ran;
 
 // Finds the crossings of the blade with the straps, and does them in turn, until one lacks room.
 fn cross_blade(
@@ -38,8 +38,8 @@ fn cross_blade(
     requires { ⌜ CrossRoom room k (now points) (now roots) (now ends) (now lengths) (now outline) (now log) (length (now bends)) (length (now snapped)) × Logged (k .log) (now log) × (2048 ≤ length (now numbers)) × (2048 ≤ length (now ts)) × (1024 ≤ length (now first)) × (1024 ≤ length (now second)) ⌝ }
     ensures { λ r. ⌜ BladeCrossed b0 b1 f room k (now (points .entry)) (now (roots .entry)) (now (ends .entry)) (now (lengths .entry)) (now (outline .entry)) (now (log .entry)) (now (bends .entry)) (now (snapped .entry)) (now (points .exit)) (now (roots .exit)) (now (ends .exit)) (now (lengths .exit)) (now (outline .exit)) (now (log .exit)) (now (bends .exit)) (now (snapped .exit)) r ⌝ }
 {
-    let m = crate::crossings::find_crossings(b0, b1, k.edges, points, ends, numbers, ts);
-    crate::crossed::cross_all(
+    let m = crossing::crossings::find_crossings(b0, b1, k.edges, points, ends, numbers, ts);
+    crossing::crossed::cross_all(
         f,
         m,
         numbers,
@@ -84,7 +84,7 @@ pub fn after_crossings(
     ensures { λ r. ⌜ AfterTold (bladeFrom b0 b1) room (k .edges) (worldAt k (now (points .entry)) (now (roots .entry)) (now (corners .entry)) (now (volumes .entry)) (now (ends .entry)) (now (lengths .entry)) (now (outline .entry)) (now (log .entry))) (λ q. worldAt q (now (points .exit)) (now (roots .exit)) (now (corners .exit)) (now (volumes .entry)) (now (ends .exit)) (now (lengths .exit)) (now (outline .exit)) (now (log .exit))) (now (bends .entry)) (now (snapped .entry)) r ⌝ }
 {
     let p = k.particles;
-    let ran = crate::unbent::remove_bends(bends, groups, k, room, ends, lengths, outline, log);
+    let ran = crossing::unbent::remove_bends(bends, groups, k, room, ends, lengths, outline, log);
     match ran {
         Ran::Refused(c) => Ran::Refused(c),
         Ran::Done(left) => cut::snapped::split_all_snapped(

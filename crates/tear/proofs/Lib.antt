@@ -6,3 +6,5 @@ pub mod WayLaws
 pub mod TearLaws
 pub mod TornLaws
 pub mod TriedLaws
+pub mod PairLaws
+pub mod TurnLaws

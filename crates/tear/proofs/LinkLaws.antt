@@ -23,9 +23,9 @@ use Rattle.mesh.specs.At.{triangleRow, trianglesAt, meshAt}
 use Rattle.mesh.specs.Given.{Lent}
 use Rattle.mesh.specs.declared.Counts.{Counts}
 use Rattle.mesh.specs.declared.Rooms.{Rooms}
-use Rattle.split.specs.Steps.{EndsIn}
-use Rattle.split.specs.Working.{Ready}
-use Rattle.split.proofs.Placed.{particles-count, ends-in}
+use Rattle.work.specs.Places.{EndsIn}
+use Rattle.work.specs.Working.{Ready}
+use Rattle.work.proofs.Placed.{particles-count, ends-in}
 use Rattle.tear.specs.Loads.{endSum, FirstFrom, Linked, Numbered}
 
 -- ---- linking

@@ -21,7 +21,7 @@ use Rattle.model.specs.Mesh.{Particle, Edge}
 use Rattle.model.specs.Cut.{slack}
 use Rattle.model.specs.Crack.{hurt}
 use Rattle.mesh.specs.At.{edgeRow, edgesAt, particleRow, particlesAt}
-use Rattle.rewire.specs.RoomsB.{copiesBy}
+use Rattle.rewire.specs.Edges.{copiesBy}
 use Rattle.tear.specs.Tears.{bridgesBy, slackBy, Slackened, madeBy, Damaged}
 
 -- ---- bridges

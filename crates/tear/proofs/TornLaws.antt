@@ -24,14 +24,14 @@ use Rattle.mesh.specs.declared.Counts.{Counts}
 use Rattle.mesh.specs.declared.Rooms.{Rooms}
 use Rattle.mesh.proofs.Lists.{mesh-path, world-path}
 use Rattle.mesh.specs.Filled.{lent}
-use Rattle.split.specs.Working.{Within, Ready, Works}
+use Rattle.work.specs.Working.{Within, Ready, Works}
 use Rattle.split.specs.Tables.{FanGrouped, openedBy}
-use Rattle.split.proofs.Placed.{particles-count}
+use Rattle.work.proofs.Placed.{particles-count}
 use Rattle.tear.specs.Torn.{TearRoom, TearDone, TearTold, TearAsked}
 use Rattle.split.specs.Steps.{loggedOf, settledWorld, needOf, splitWorld, Stepped}
-use Rattle.split.proofs.Runs.{needBehind, went-step, works-known}
-use Rattle.split.specs.declared.Ran.{Ran}
-use Rattle.split.specs.declared.Ran.the-variants.{Refused, Done}
+use Rattle.work.proofs.Runs.{needBehind, went-step, works-known}
+use Rattle.work.specs.declared.Ran.{Ran}
+use Rattle.work.specs.declared.Ran.the-variants.{Refused, Done}
 use Rattle.tear.specs.Tears.{bridgesBy, slackBy, Slackened, madeBy, Damaged}
 
 -- ---- the mesh behind it

@@ -20,7 +20,7 @@ use Rattle.reach.specs.Opens.{Opens}
 use Rattle.reach.proofs.Opening.{lent-by, opens-is}
 use Rattle.opening.specs.Opened.{openingBy, CornersBelow}
 use Rattle.split.specs.Tables.{FanLent, FanRead, openedBy}
-use Rattle.split.proofs.Placed.{particles-count, triangles-count, edges-count}
+use Rattle.work.proofs.Placed.{particles-count, triangles-count, edges-count}
 use Rattle.split.proofs.Fitted.{all-few}
 use Rattle.split.proofs.Below.{Few, rowsOf, table-below, fan-corners, fan-number}
 use Rattle.split.proofs.GrowLaws.{rests-at}

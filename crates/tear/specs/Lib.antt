@@ -5,3 +5,4 @@ pub mod Ways
 pub mod Tears
 pub mod Torn
 pub mod Tried
+pub mod Pairs

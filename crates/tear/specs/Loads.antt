@@ -12,7 +12,7 @@ use Rattle.model.specs.Trace.{Sound}
 use Rattle.model.specs.Crack.{stressBetween, triangleLoad, loadsOf}
 use Rattle.mesh.specs.At.{triangleRow, trianglesAt, edgesAt}
 use Rattle.mesh.specs.Workers.{EdgeRoom}
-use Rattle.split.specs.Steps.{EndsIn}
+use Rattle.work.specs.Places.{EndsIn}
 
 -- the sum of the ends of edge i: the number of its bucket
 abbrev pub endSum : List ℕ → ℕ → ℕ

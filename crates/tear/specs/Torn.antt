@@ -9,8 +9,8 @@ use Rattle.model.specs.Run.{opened}
 use Rattle.mesh.specs.Log.{logAt, wordsOf}
 use Rattle.mesh.specs.Workers.{EdgeRoom}
 use Rattle.mesh.specs.declared.Counts.{Counts}
-use Rattle.split.specs.declared.Ran.{Ran}
-use Rattle.split.specs.declared.Ran.the-variants.{Done}
+use Rattle.work.specs.declared.Ran.{Ran}
+use Rattle.work.specs.declared.Ran.the-variants.{Done}
 use Rattle.tear.specs.Tears.{Slackened, DamageRoom, Damaged}
 
 -- an entry has room behind l, e edges stand in their blocks, and x, y and the copies in theirs

@@ -9,13 +9,13 @@ ghost use Rattle.model.specs.Crack.{torn};
 ghost use Rattle.mesh.specs.At.{meshAt};
 ghost use Rattle.mesh.specs.Log.{worldAt};
 ghost use Rattle.mesh.specs.Filled.{lent};
-ghost use Rattle.split.specs.Working.{Ready, Works};
+ghost use Rattle.work.specs.Working.{Ready, Works};
 ghost use Rattle.split.specs.Tables.{FanGrouped, openedBy};
 ghost use Rattle.tear.specs.Torn.{TearRoom, TearTold, TearAsked};
 use elements::Kind;
 use mesh::Counts;
 use mesh::Rooms;
-use split::Ran;
+use work::Ran;
 
 // Notes the torn edge (a, b) behind the log of a split that left the counts q, slackens its bridges and damages x, y and the copies.
 fn finish_tear(

@@ -1,5 +1,5 @@
 -- `asked::tests::point_fits` meets its contract. Assumes nothing.
-use Rattle.mesh.proofs.Joined.{and-next}
+use Rattle.judge.proofs.Joined.{and-next}
 use borrow.Author.Needs.{needs}
 use Rattle.asked.proofs.tests.point_fits.Statement.{statement}
 use Rattle.asked.proofs.tests.point_fits.Tie as tie

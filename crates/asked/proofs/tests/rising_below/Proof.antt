@@ -1,5 +1,5 @@
 -- `asked::tests::rising_below` meets its contract. Assumes nothing.
-use Rattle.mesh.proofs.Joined.{and-next}
+use Rattle.judge.proofs.Joined.{and-next}
 use borrow.Author.Needs.{needs}
 use Rattle.asked.proofs.tests.rising_below.Statement.{statement}
 use Rattle.asked.proofs.tests.rising_below.Tie as tie

@@ -3,7 +3,7 @@ use Rattle.lists.specs.Lists.{all}
 use lib.ListN.{length}
 use lib.Dec.{eqb, ltb}
 use mathlib.Core.Bool.{_&&_}
-use Rattle.mesh.proofs.Joined.{and-next}
+use Rattle.judge.proofs.Joined.{and-next}
 use mathlib.Core.Path.{refl}
 use borrow.Author.Needs.{needs}
 use Rattle.asked.proofs.tests.sides_fit.Statement.{statement}

@@ -2,7 +2,7 @@
 use Rattle.mesh.specs.Given.{given}
 use Rattle.bench.proofs.Grouped.{grid-is, fan-asked, groups-answered, groups-refused, four-of}
 use Rattle.asked.proofs.Judged.{accepted, sides-ok}
-use Rattle.mesh.proofs.Joined.{and-next}
+use Rattle.judge.proofs.Joined.{and-next}
 use Rattle.lists.proofs.Sifts.{and-true}
 use borrow.Author.Tests.{leb-true}
 use lib.Seq.{length-take-le}

@@ -1,6 +1,6 @@
 -- `bench::reading::blade_hit` meets its contract: four points tested, then the blade test. Assumes nothing.
 use Rattle.bench.proofs.Refusing.{blade-refuses, blade-answers}
-use Rattle.mesh.proofs.Joined.{and-next}
+use Rattle.judge.proofs.Joined.{and-next}
 use borrow.Author.Needs.{needs}
 use Rattle.bench.proofs.reading.blade_hit.Statement.{statement}
 use Rattle.bench.proofs.reading.blade_hit.Tie as tie

@@ -8,7 +8,7 @@ use Rattle.mesh.specs.declared.Rooms.{Rooms}
 use Rattle.mesh.proofs.Agree.{lent-path}
 use Rattle.answer.proofs.Begun.{roomed}
 use Rattle.answer.proofs.Calls.{came-fits, answered}
-use Rattle.cut.specs.Marking.{bladeFrom}
+use Rattle.marks.specs.Marking.{bladeFrom}
 use Rattle.jobs.specs.Jobs.{jobCall}
 use Rattle.jobs.specs.declared.Job.the-variants.{Cut}
 use Rattle.bench.proofs.tearing.cut.Statement.{statement}

@@ -1,6 +1,6 @@
 -- `crack::body::crack_facets` meets its contract: the end comes behind the torn edges. Assumes nothing.
 use mathlib.Core.Path.{refl, _∙_}
-use Rattle.split.proofs.Runs.{works-known}
+use Rattle.work.proofs.Runs.{works-known}
 use Rattle.model.specs.Elements.{Triangles}
 use Rattle.mesh.specs.Log.{worldAt}
 use Rattle.mesh.proofs.Agree.{lent-path}

@@ -13,9 +13,9 @@ use Rattle.elements.specs.Table.{kindIs}
 use Rattle.mesh.specs.Log.{World, worldAt}
 use Rattle.mesh.specs.declared.Counts.{Counts}
 use Rattle.mesh.specs.declared.Rooms.{Rooms}
-use Rattle.split.specs.Working.{Within}
-use Rattle.split.specs.declared.Ran.{Ran}
-use Rattle.split.specs.declared.Ran.the-variants.{Done}
+use Rattle.work.specs.Working.{Within}
+use Rattle.work.specs.declared.Ran.{Ran}
+use Rattle.work.specs.declared.Ran.the-variants.{Done}
 use Rattle.crack.specs.Cracks.{CrackTold}
 use Rattle.crack.specs.Bodies.{endsListed, CracksTold}
 use Rattle.crack.proofs.BodyLaws.{cracks-none}

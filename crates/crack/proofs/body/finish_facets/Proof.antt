@@ -5,7 +5,7 @@ use Rattle.model.specs.Elements.{Triangles}
 use Rattle.model.proofs.Indexed.{pinched-indexed}
 use Rattle.mesh.specs.Log.{worldAt}
 use Rattle.mesh.proofs.Agree.{lent-path}
-use Rattle.split.proofs.Runs.{beside, works-stay, works-known}
+use Rattle.work.proofs.Runs.{beside, works-stay, works-known}
 use Rattle.cut.proofs.CutLaws.{near-room}
 use Rattle.crack.proofs.BodyLaws.{left-ready, straddlers-room, end-refused, end-done, end-unsplit}
 use borrow.Author.Needs.{needs}

@@ -2,8 +2,8 @@
 use mathlib.Core.Path.{refl}
 use Rattle.elements.specs.Table.{kindIs}
 use Rattle.mesh.specs.Log.{worldAt}
-use Rattle.split.specs.declared.Ran.the-variants.{Done}
-use Rattle.split.proofs.Runs.{beside, works-stay}
+use Rattle.work.specs.declared.Ran.the-variants.{Done}
+use Rattle.work.proofs.Runs.{beside, works-stay}
 use Rattle.cut.proofs.CutLaws.{near-room}
 use Rattle.crack.proofs.BodyLaws.{straddlers-room, unpinched, end-done, end-unsplit}
 use borrow.Author.Needs.{needs}

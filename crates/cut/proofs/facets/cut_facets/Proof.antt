@@ -1,8 +1,8 @@
 -- `cut::facets::cut_facets` meets its contract. The candidates lack room; or nothing split; or the pinched are split behind them. Assumes nothing.
-use Rattle.split.proofs.Runs.{works-known}
+use Rattle.work.proofs.Runs.{works-known}
 use Rattle.cut.proofs.CutLaws.{candidate-room, chosen-room, candidates-work, facets-refused, facets-unsplit, facets-split}
 use Rattle.cut.proofs.RunLaws.{within-at, ready-at, entries-at, words-at}
-use Rattle.cut.specs.Marking.{bladeFrom}
+use Rattle.marks.specs.Marking.{bladeFrom}
 use Rattle.cut.specs.declared.facets.Parting.the-variants.{Blade as BladeFrom}
 use Rattle.model.specs.Elements.{Triangles}
 use Rattle.mesh.proofs.Agree.{lent-path}

@@ -1,8 +1,8 @@
 -- `cut::facets::split_marked` meets its contract. The invariant: the marked particles so far are split, no step lacked room, and the tables are as long as ever. Assumes nothing.
 use Rattle.cut.proofs.RunLaws.{splitTo, run-none, run-next, run-end, run-all, ready-at, grown-at}
-use Rattle.split.proofs.Placed.{particles-count}
-use Rattle.split.specs.declared.Ran.the-variants.{Done}
-use Rattle.split.specs.Working.{Works}
+use Rattle.work.proofs.Placed.{particles-count}
+use Rattle.work.specs.declared.Ran.the-variants.{Done}
+use Rattle.work.specs.Working.{Works}
 use Rattle.elements.specs.Table.{kindIs}
 use Rattle.mesh.proofs.Agree.{lent-path}
 use Rattle.mesh.specs.Log.{worldAt}

@@ -1,12 +1,12 @@
 -- `cut::snapped::split_all_snapped` meets its contract. The invariant: the marked particles so far are split, no step lacked room, and the tables are as long as ever. Assumes nothing.
 use Rattle.cut.proofs.SteadyRuns.{stepsTo, steps-none, steps-next, steps-end, steps-all, steps-ready, steps-grown, steps-entries, steps-words}
 use Rattle.cut.proofs.SnapLaws.{snap-steady}
-use Rattle.cut.specs.Marking.{bladeFrom}
+use Rattle.marks.specs.Marking.{bladeFrom}
 use Rattle.cut.specs.Snapping.{snapIf}
 use Rattle.model.specs.Cut.{splitSnapped}
-use Rattle.split.proofs.Placed.{particles-count}
-use Rattle.split.specs.declared.Ran.the-variants.{Done}
-use Rattle.split.specs.Working.{Works}
+use Rattle.work.proofs.Placed.{particles-count}
+use Rattle.work.specs.declared.Ran.the-variants.{Done}
+use Rattle.work.specs.Working.{Works}
 use Rattle.mesh.proofs.Agree.{lent-path}
 use Rattle.mesh.specs.Log.{worldAt}
 use Rattle.mesh.specs.Filled.{lent}

@@ -2,7 +2,7 @@
 use mathlib.Core.Path.{refl}
 use borrow.Author.Needs.{needs}
 use Rattle.mesh.specs.Given.{given}
-use Rattle.mesh.proofs.Joined.{and-next}
+use Rattle.judge.proofs.Joined.{and-next}
 use Rattle.jobs.specs.declared.Job.the-variants.{Straddlers, Split, Cut, Crack}
 use Rattle.jobs.proofs.Asked.{room-test, job-fits}
 use Rattle.jobs.proofs.checks.arguments_fit.Statement.{statement}

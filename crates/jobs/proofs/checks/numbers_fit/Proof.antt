@@ -1,7 +1,7 @@
 -- `jobs::checks::numbers_fit` meets its contract. Assumes nothing.
 use mathlib.Core.Path.{sym, ap, _∙_}
 use borrow.Author.Needs.{needs}
-use Rattle.mesh.proofs.Joined.{and-next}
+use Rattle.judge.proofs.Joined.{and-next}
 use Rattle.jobs.specs.Jobs.{jobNumbers}
 use Rattle.jobs.proofs.checks.numbers_fit.Statement.{statement}
 use Rattle.jobs.proofs.checks.numbers_fit.Tie as tie

@@ -1,9 +1,8 @@
 -- `rewire::edges::settle_edge` meets its contract: no other edge, one with groups, or one that goes where it points. Assumes nothing.
 use Rattle.rewire.proofs.EdgeLaws.{test-at, far-below, settled-none, settled-some, settled-toward}
-use Rattle.rewire.specs.RoomsB.{rowAt}
+use Rattle.mesh.specs.Workers.{rowAt, edgeOf}
 use Rattle.elements.specs.Table.{kindIs}
 use Rattle.model.specs.Elements.{farEnd}
-use Rattle.mesh.specs.Workers.{edgeOf}
 use borrow.Author.Tests.{not-true, not-false}
 use mathlib.Core.Bool.{true, false}
 use mathlib.Core.Path.{_∙_, sym, ap}

@@ -1,6 +1,6 @@
 -- `rewire::held::any_triangle` meets its contract. The invariant: no triangle so far holds both. Assumes nothing.
 use Rattle.rewire.proofs.HeldLaws.{passed-none, passed-more, passed-here, passed-all}
-use Rattle.rewire.specs.RoomsB.{triangleHolds}
+use Rattle.rewire.specs.Edges.{triangleHolds}
 use Rattle.lists.specs.Lists.{any, upTo}
 use mathlib.Core.Path.{_≡_, sym, _∙_}
 use mathlib.Core.Bool.{false}

@@ -1,6 +1,6 @@
 -- `strap::kinds::cut` meets its contract: each kind by its own cut in the tables that are here, and neither kind by none. Assumes nothing.
 use Rattle.strap.proofs.KindLaws.{cut-triangles, cut-straps, cut-nothing}
-use Rattle.cut.specs.Marking.{bladeFrom}
+use Rattle.marks.specs.Marking.{bladeFrom}
 use Rattle.mesh.specs.Log.{worldAt}
 use native.Mathlib.Omega.{arith}
 use borrow.Author.Needs.{needs}

@@ -1,7 +1,7 @@
 -- `strap::segments::after_crossings` meets its contract: the bend edges go, and then the ends are split. Assumes nothing.
 use mathlib.Core.Path.{refl, _∙_}
 use native.Mathlib.Omega.{arith}
-use Rattle.cut.specs.Marking.{bladeFrom}
+use Rattle.marks.specs.Marking.{bladeFrom}
 use Rattle.mesh.proofs.Agree.{lent-path}
 use Rattle.strap.proofs.SegmentLaws.{unbent-room, ready-left, chosen-left, after-refused, after-done}
 use borrow.Author.Needs.{needs}

@@ -1,5 +1,5 @@
 -- `strap::segments::cross_blade` meets its contract: the crossings are found in two lent tables, and done in turn. Assumes nothing.
-use Rattle.strap.proofs.CrossedLaws.{crossings-room}
+use Rattle.crossing.proofs.CrossedLaws.{crossings-room}
 use Rattle.strap.proofs.CrossedStart.{found-inside}
 use mathlib.Core.Path.{refl}
 use borrow.Author.Needs.{needs}

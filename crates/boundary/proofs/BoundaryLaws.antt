@@ -1,0 +1,354 @@
+-- Laws of the boundary in a split: the first part that holds an entry, the group that it follows, and the loop over the entries. Assumes nothing.
+use Prim.Native.Nat.{ℕ, zero, suc, _+_, _*_, _-_, _/_, _≤_, _<_, zero-le, suc-le-suc}
+use native.Mathlib.Nat.{le-of-suc-le-suc, not-suc-le-zero}
+use native.Mathlib.Decide.{ℕ-discrete}
+use native.Mathlib.Omega.{arith}
+use mathlib.Core.Path.{_≡_, refl, sym, ap, ap₂, _∙_, subst}
+use mathlib.Core.Bool.{Bool, true, false, _&&_}
+use mathlib.Core.List.{List, [], _∷_}
+use mathlib.Core.Option.{none, some}
+use lib.ListN.{length, getD, set, take, drop, length-set}
+use lib.Dec.{eqb}
+use lib.Ieee.{Float, nan, lt, neg}
+use borrow.Author.Tests.{eq-eqb, ne-eqb}
+use Rattle.lists.specs.Lists.{pick, stands, all, find, fold, tab}
+use Rattle.lists.specs.Labels.{replaced}
+use Rattle.lists.proofs.Sifts.{pick-by, tab-ext, map-tab}
+use Rattle.lists.proofs.Stores.{tab-length, tab-at}
+use Rattle.float.specs.Numbers.{largest}
+use Rattle.blade.specs.declared.Point.{Point}
+use Rattle.columns.specs.Block.{cell}
+use Rattle.columns.proofs.Cells.{col-0, col-1}
+use Rattle.model.specs.Mesh.{Particle, Side, Mesh, blank}
+use Rattle.model.specs.Elements.{restOf, besides, sideEnds}
+use Rattle.model.specs.Split.{Part, Opening, copyFor, Best, better, scoreOf, scored, toward, sideGroup, turned, followed}
+use Rattle.mesh.specs.At.{particlesAt, sideRow, boundaryAt}
+use Rattle.mesh.proofs.Lists.{turned as turned-at, unturned}
+use Rattle.opening.specs.Opened.{partAt, blankPart, Ringed, RestsIn, CornersBelow, OpeningIn}
+use Rattle.opening.specs.Answers.{TowardIs}
+use Rattle.boundary.specs.Following.{SidesFollowed, rowHolds, FirstHolder, InReach, SideRoom, SideGroupIs, CopiesSmall, SideCopyIs, EntryFollowed, SidesRoom}
+use Rattle.mesh.proofs.Fan.{replaced-self}
+
+-- ---- the first that passes
+
+module _ {A : Type 0} (p : A → Bool) (d : A) where
+  -- it is found
+  find-first : (l : List A) (i : ℕ) → i < length l → ((j : ℕ) → j < i → p (getD l j d) ≡ false) → p (getD l i d) ≡ true → find p l ≡ some (getD l i d)
+  unfolding find
+  find-first [] i h e t = absurd (not-suc-le-zero h)
+  find-first (a ∷ l) zero h e t = rw t
+  find-first (a ∷ l) (suc i) h e t = rw (e 0 (suc-le-suc zero-le)) (find-first l i (le-of-suc-le-suc h) (λ j q. e (suc j) (suc-le-suc q)) t)
+
+  -- none is
+  find-nothing : (l : List A) → ((j : ℕ) → j < length l → p (getD l j d) ≡ false) → find p l ≡ none
+  unfolding find
+  find-nothing [] e = refl
+  find-nothing (a ∷ l) e = rw (e 0 (suc-le-suc zero-le)) (find-nothing l (λ j q. e (suc j) (suc-le-suc q)))
+
+-- does a part hold both ends of (x, y)
+abbrev holding : ℕ → ℕ → Part → Bool
+holding x y p = all (λ z. stands z (p .corners)) (x ∷ y ∷ [])
+
+-- the second of two tests
+and-last : (s t : Bool) → s && (t && true) ≡ s && t
+and-last true true = refl
+and-last true false = refl
+and-last false t = refl
+
+module _ {k n : ℕ} {verts groups : List ℕ} (O : Opening) (R : Ringed k O n verts groups) (x y : ℕ) where
+  -- by its row
+  holding-row : (i : ℕ) → i < n → holding x y (partAt O i) ≡ rowHolds x y k verts i
+  unfolding all
+  holding-row i h =
+      and-last (stands x (partAt O i .corners)) (stands y (partAt O i .corners))
+      ∙ ap (λ (l : List ℕ). stands x l && stands y l) (R .corners-are i h)
+
+  -- the part that an entry follows
+  follows-first : (i : ℕ) → FirstHolder x y n k verts i → i < n → find (holding x y) (O .fan) ≡ some (partAt O i)
+  follows-first i F h =
+      let s = R .size in
+      find-first (holding x y) blankPart (O .fan) i (omega arith) (λ j l. holding-row j (omega arith) ∙ F .earlier j l) (holding-row i h ∙ F .here h)
+
+  -- no part
+  follows-none : (i : ℕ) → FirstHolder x y n k verts i → n ≤ i → find (holding x y) (O .fan) ≡ none
+  follows-none i F h =
+      let s = R .size in
+      let w = F .within in
+      find-nothing (holding x y) blankPart (O .fan) (λ j l. holding-row j (omega arith) ∙ F .earlier j (omega arith))
+
+  -- its group
+  pub side-held : (M : Mesh) (i : ℕ) → FirstHolder x y n k verts i → i < n → getD groups i 0 ≡ sideGroup M O (record { a = x; b = y })
+  unfolding sideGroup
+  side-held M i F h = rw (follows-first i F h) (sym (R .group-is i h))
+
+  -- the group that points to the other end
+  pub side-far : (M : Mesh) (i z r : ℕ) → FirstHolder x y n k verts i → n ≤ i → pick (eqb x (O .v)) y x ≡ z → r ≡ toward M O z → r ≡ sideGroup M O (record { a = x; b = y })
+  unfolding sideGroup
+  side-far M i z r F h e q = rw (follows-none i F h, e) q
+
+-- ---- no group that is pointed to is larger than the groups
+
+module _ (M : Mesh) (v bound : ℕ) (dir : Point) where
+  -- after the corners of one part
+  corners-small : (g : ℕ) → g ≤ bound → (l : List ℕ) (b : Best) → b .group ≤ bound → fold (λ (c : Best) w. better c (scoreOf M v dir w) g) b l .group ≤ bound
+  unfolding fold
+  corners-small g h [] b e = e
+  corners-small g h (w ∷ l) b e =
+      corners-small g h l (better b (scoreOf M v dir w) g)
+      (pick-by (λ (c : Best). c .group ≤ bound) (lt (b .score) (scoreOf M v dir w)) {x = record { score = scoreOf M v dir w; group = g }} {y = b} h e)
+
+  -- after all parts
+  parts-small : (ps : List Part) → ((i : ℕ) → i < length ps → getD ps i blankPart .group ≤ bound) → (b : Best) → b .group ≤ bound → fold (scored M v dir) b ps .group ≤ bound
+  unfolding fold scored
+  parts-small [] h b e = e
+  parts-small (p ∷ ps) h b e =
+      parts-small ps (λ i l. h (suc i) (suc-le-suc l)) (scored M v dir b p) (corners-small (p .group) (h 0 (suc-le-suc zero-le)) (besides v (p .corners)) b e)
+
+-- the group that points best
+toward-small : (M : Mesh) (O : Opening) (x bound : ℕ) → ((i : ℕ) → i < length (O .fan) → partAt O i .group ≤ bound) → toward M O x ≤ bound
+unfolding toward
+toward-small M O x bound h = parts-small M (O .v) bound _ (O .fan) h (record { score = neg largest; group = 0 }) zero-le
+
+-- some opening has these tables
+tableOpening : ℕ → ℕ → ℕ → List ℕ → List ℕ → ℕ → Opening
+tableOpening v n k verts groups count =
+    record { v = v; before = 0; fan = tab n (λ i. record { number = 0; corners = take k (drop (i * k) verts); measure = nan; group = getD groups i 0 }); count = count }
+
+-- it has them
+table-ringed : (v n k : ℕ) (verts groups : List ℕ) (count : ℕ) → ((i : ℕ) → i < n → getD groups i 0 < count) → Ringed k (tableOpening v n k verts groups count) n verts groups
+unfolding tableOpening
+table-ringed v n k verts groups count h =
+    record {
+      size = tab-length n _;
+      corners-are = λ i l. ap (λ (p : Part). p .corners) (tab-at n _ i blankPart l);
+      group-is = λ i l. ap (λ (p : Part). p .group) (tab-at n _ i blankPart l);
+      below = h;
+    }
+
+-- some mesh rests as the block says
+blockMesh : List Float → Mesh
+blockMesh points = record { particles = particlesAt (length points / 6) points []; triangles = []; edges = []; boundary = [] }
+
+-- it does
+block-rests : (points : List Float) → RestsIn (blockMesh points) (length points / 6) points
+unfolding blockMesh restOf particlesAt
+block-rests points w h = ap (λ (p : Particle). record { x = p .rest-x; y = p .rest-y }) (tab-at (length points / 6) _ w blank h)
+
+-- what points best is no larger than the groups
+toward-low :
+    {x v n k : ℕ} {verts groups : List ℕ} {points : List Float} {r : ℕ} → TowardIs x v n k verts groups points r → x < length points / 6 → v < length points / 6
+    → CornersBelow (length points / 6) n k verts → (bound : ℕ) → ((i : ℕ) → i < n → getD groups i 0 ≤ bound) → r ≤ bound
+unfolding tableOpening
+toward-low {x} {v} {n} {k} {verts} {groups} {points} {r} T hx hv hc bound h =
+    let O = tableOpening v n k verts groups (suc bound) in
+    let R : Ringed k O n verts groups = table-ringed v n k verts groups (suc bound) (λ i l. suc-le-suc (h i l)) in
+    let e : r ≡ toward (blockMesh points) O x = T .is O (blockMesh points) (length points / 6) R refl (block-rests points) (omega arith) hx hv hc in
+    let s = R .size in
+    subst (λ (q : ℕ). q ≤ bound) (sym e)
+    (toward-small (blockMesh points) O x bound (λ i l. let m : i < n = omega arith in subst (λ (q : ℕ). q ≤ bound) (sym (R .group-is i m)) (h i m)))
+
+-- ---- the group that an entry follows
+
+module _ {x y v n k : ℕ} {verts groups : List ℕ} {points : List Float} where
+  -- of the first part that holds it
+  pub side-here : {i : ℕ} → FirstHolder x y n k verts i → i < n → SideGroupIs x y v n k verts groups points (getD groups i 0)
+  side-here {i} F h = record { is = λ O M p R q r I. side-held O R x y M i F h; small = λ bound l. l i h }
+
+  -- the one that points to the second end
+  pub side-second :
+      {i r : ℕ} → FirstHolder x y n k verts i → n ≤ i → SideRoom x y v n k verts groups points → x ≡ v → TowardIs y v n k verts groups points r
+      → SideGroupIs x y v n k verts groups points r
+  side-second {i} {r} F h S e T =
+      record {
+        is = λ O M p R q rs I. side-far O R x y M i y r F h (rw (eq-eqb x (O .v) (e ∙ sym q))) (T .is O M p R q rs (I .rests-in) (I .y-in) (I .v-in) (I .corners-in));
+        small = toward-low T (S .reach .y-in) (S .reach .v-in) (S .reach .corners-in);
+      }
+
+  -- the one that points to the first end
+  pub side-first :
+      {i r : ℕ} → FirstHolder x y n k verts i → n ≤ i → SideRoom x y v n k verts groups points → (x ≡ v → ⊥) → TowardIs x v n k verts groups points r
+      → SideGroupIs x y v n k verts groups points r
+  side-first {i} {r} F h S e T =
+      record {
+        is = λ O M p R q rs I. side-far O R x y M i x r F h (rw (ne-eqb x (O .v) (λ d. e (d ∙ q)))) (T .is O M p R q rs (I .rests-in) (I .x-in) (I .v-in) (I .corners-in));
+        small = toward-low T (S .reach .x-in) (S .reach .v-in) (S .reach .corners-in);
+      }
+
+-- ---- an entry with what stands for v in it
+
+-- by the names that the tables have
+followed-as : (O : Opening) (M : Mesh) (v before : ℕ) (s : Side) → O .v ≡ v → O .before ≡ before
+    → followed M O s ≡ pick (stands v (sideEnds s)) (turned v (copyFor v before (sideGroup M O s)) s) s
+unfolding followed
+followed-as O M v before s e f = ap₂ (λ (u b : ℕ). pick (stands u (sideEnds s)) (turned u (copyFor u b (sideGroup M O s)) s) s) e f
+
+-- v for v changes no entry
+turned-self : (v : ℕ) (s : Side) → turned v v s ≡ s
+turned-self v s = λ i. record { a = replaced-self v (s .a) i; b = replaced-self v (s .b) i }
+
+module _ {x y v before k n : ℕ} {verts groups : List ℕ} {points : List Float} where
+  -- the copy of its group, where v is an end of it
+  pub copy-at : {g r : ℕ} → stands v (x ∷ y ∷ []) ≡ true → SideGroupIs x y v n k verts groups points g → r ≡ copyFor v before g → SideCopyIs x y v before k n verts groups points r
+  copy-at {g} {r} t G e =
+      record {
+        is =
+            λ O M count p B I.
+            let s : Side = record { a = x; b = y } in
+            let q : g ≡ sideGroup M O s = G .is O M p (B .ringed) (B .at) (B .rests) I in
+            ap (λ (w : ℕ). turned v w s) (e ∙ ap (copyFor v before) q)
+            ∙ sym (followed-as O M v before s (B .at) (B .before-is) ∙ ap (λ (b : Bool). pick b (turned v (copyFor v before (sideGroup M O s)) s) s) t);
+      }
+
+  -- v itself, where it is not
+  pub copy-none : stands v (x ∷ y ∷ []) ≡ false → SideCopyIs x y v before k n verts groups points v
+  copy-none t =
+      record {
+        is =
+            λ O M count p B I.
+            let s : Side = record { a = x; b = y } in
+            turned-self v s
+            ∙ sym (followed-as O M v before s (B .at) (B .before-is) ∙ ap (λ (b : Bool). pick b (turned v (copyFor v before (sideGroup M O s)) s) s) t);
+      }
+
+  -- a copy is small
+  pub copy-small : {g : ℕ} → CopiesSmall before n groups → SideGroupIs x y v n k verts groups points g → before + g ≤ 65536
+  copy-small {g} C G = let l = C .low in omega (arith, G .small (65536 - before) (λ i h. omega (arith, C .small i h)))
+
+-- two replacements turn one entry
+module _ (i v w : ℕ) (s s₁ s₂ : List ℕ) (he : i < length s / 2) (q₁ : s₁ ≡ set s i (replaced v w (getD s i 0)))
+    (q₂ : s₂ ≡ set s₁ (length s / 2 + i) (replaced v w (getD s₁ (length s / 2 + i) 0))) where
+  -- the first, by its column
+  p₁ : s₁ ≡ set s (0 * (length s / 2) + i) (replaced v w (getD s (0 * (length s / 2) + i) 0))
+  p₁ = let z : 0 * (length s / 2) + i ≡ i = omega arith in rw z q₁
+
+  -- the second, by its column
+  p₂ : s₂ ≡ set s₁ (1 * (length s / 2) + i) (replaced v w (getD s₁ (1 * (length s / 2) + i) 0))
+  p₂ = let z : 1 * (length s / 2) + i ≡ length s / 2 + i = omega arith in rw z q₂
+
+  -- at an entry, each end for itself
+  ends-turned : (k : ℕ) → k < length s / 2
+      → sideRow (length s / 2) s₂ k
+      ≡ record { a = pick (eqb k i) (replaced v w (cell 0 (length s / 2) s 0 k)) (cell 0 (length s / 2) s 0 k); b = pick (eqb k i) (replaced v w (cell 0 (length s / 2) s 1 k)) (cell 0 (length s / 2) s 1 k) }
+  ends-turned k hk =
+      let l₁ : length s₁ ≡ length s = ap length q₁ ∙ simp length-set in
+      let i₁ : 0 * (length s / 2) + i < length s = omega arith in
+      let i₂ : 1 * (length s / 2) + i < length s₁ = omega (arith, l₁) in
+      let a : cell 0 (length s / 2) s₂ 0 k ≡ _ = unturned (length s / 2) i v w 1 s₁ s₂ he i₂ p₂ 0 k hk (λ q. omega arith) ∙ turned-at (length s / 2) i v w 0 s s₁ he i₁ p₁ k hk in
+      let b₁ : cell 0 (length s / 2) s₁ 1 k ≡ cell 0 (length s / 2) s 1 k = unturned (length s / 2) i v w 0 s s₁ he i₁ p₁ 1 k hk (λ q. omega arith) in
+      let b : cell 0 (length s / 2) s₂ 1 k ≡ _ = turned-at (length s / 2) i v w 1 s₁ s₂ he i₂ p₂ k hk ∙ ap (λ (x : ℕ). pick (eqb k i) (replaced v w x) x) b₁ in
+      (λ j. record { a = a j; b = b j })
+
+  -- entry i follows
+  pub entry-followed :
+      {before k n : ℕ} {verts groups : List ℕ} {points : List Float} → SideCopyIs (getD s i 0) (getD s (length s / 2 + i) 0) v before k n verts groups points w
+      → EntryFollowed i v before k n verts groups points s s₂
+  entry-followed C =
+      let row : sideRow (length s / 2) s i ≡ record { a = getD s i 0; b = getD s (length s / 2 + i) 0 } = λ j. record { a = col-0 0 (length s / 2) s i j; b = col-1 0 (length s / 2) s i j } in
+      record {
+        here =
+            λ O M count p B I.
+            (ends-turned i he
+            ∙ ap (λ (t : Bool). record { a = pick t (replaced v w (cell 0 (length s / 2) s 0 i)) (cell 0 (length s / 2) s 0 i); b = pick t (replaced v w (cell 0 (length s / 2) s 1 i)) (cell 0 (length s / 2) s 1 i) }) (eq-eqb i i refl))
+            ∙ ap (turned v w) row
+            ∙ C .is O M count p B I
+            ∙ ap (followed M O) (sym row);
+        others =
+            λ j hj ne.
+            ends-turned j hj
+            ∙ ap (λ (t : Bool). record { a = pick t (replaced v w (cell 0 (length s / 2) s 0 j)) (cell 0 (length s / 2) s 0 j); b = pick t (replaced v w (cell 0 (length s / 2) s 1 j)) (cell 0 (length s / 2) s 1 j) }) (ne-eqb j i ne);
+      }
+
+-- ---- the loop over the entries
+
+-- at the head of the loop: the first i entries follow, and the rest is as it was
+pub record Following (v before k n count p b : ℕ) (verts groups : List ℕ) (points : List Float) (s₀ s : List ℕ) (i : ℕ) : Type 0 where
+  pub below : i ≤ b
+  pub long : length s ≡ length s₀
+  pub done : (j : ℕ) → j < i → (O : Opening) (M : Mesh) → OpeningIn O M v before k n count p verts groups points → sideRow (length s₀ / 2) s j ≡ followed M O (sideRow (length s₀ / 2) s₀ j)
+  pub rest : (j : ℕ) → i ≤ j → j < length s₀ / 2 → sideRow (length s₀ / 2) s j ≡ sideRow (length s₀ / 2) s₀ j
+
+module _ {v before k n count p b : ℕ} {verts groups : List ℕ} {points : List Float} {s₀ : List ℕ} (R : SidesRoom v before k n count p b verts groups points s₀) where
+  -- before the first turn
+  pub following-start : Following v before k n count p b verts groups points s₀ s₀ 0
+  following-start = record { below = zero-le; long = refl; done = λ j h. absurd (not-suc-le-zero h); rest = λ j h l. refl }
+
+  -- the copies are small
+  pub copies-small : CopiesSmall before n groups
+  copies-small = let s = R .small in record { some = R .some; low = omega arith; small = λ i h. omega (arith, R .below i h) }
+
+  module _ {s : List ℕ} {i : ℕ} (F : Following v before k n count p b verts groups points s₀ s i) where
+    -- as many places
+    half : length s / 2 ≡ length s₀ / 2
+    half = ap (λ (l : ℕ). l / 2) (F .long)
+
+    -- the next entry lies in the block
+    pub entry-in : i < b → i < length s / 2
+    entry-in h = let e = half in let l = R .entries in omega arith
+
+    -- it is in reach, in as many particles as rest in the block
+    reach : i < b → (q : ℕ) → p ≤ q → q ≤ length points / 6 → InReach q (getD s i 0) (getD s (length s / 2 + i) 0) v n k verts points
+    reach h q low high =
+        let e = half in
+        let l = R .entries in
+        let row = F .rest i (omega arith) (omega arith) in
+        let a : getD s i 0 ≡ cell 0 (length s₀ / 2) s₀ 0 i = sym (col-0 0 (length s₀ / 2) s i) ∙ ap (λ (t : Side). t .a) row in
+        let c : getD s (length s / 2 + i) 0 ≡ cell 0 (length s₀ / 2) s₀ 1 i =
+        ap (λ (m : ℕ). getD s (m + i) 0) e ∙ sym (col-1 0 (length s₀ / 2) s i) ∙ ap (λ (t : Side). t .b) row in
+        let v-in = R .v-in in
+        record {
+          rests-in = high;
+          x-in = omega (arith, R .a-in i h);
+          y-in = omega (arith, R .b-in i h);
+          v-in = omega arith;
+          corners-in = λ j m. omega (arith, R .corners-in j m);
+        }
+
+    -- what the turn requires
+    pub side-room : i < b → SideRoom (getD s i 0) (getD s (length s / 2 + i) 0) v n k verts groups points
+    side-room h = record { room = R .room; reach = reach h (length points / 6) (R .rests-in) (omega arith) }
+
+    -- a turn has one entry more follow
+    pub following-more : {s′ : List ℕ} → i < b → EntryFollowed i v before k n verts groups points s s′ → length s′ ≡ length s → Following v before k n count p b verts groups points s₀ s′ (i + 1)
+    following-more {s′} h E l =
+        let e = half in
+        let w = R .entries in
+        record {
+          below = omega arith;
+          long = l ∙ F .long;
+          done = λ j m O M B. by j m O M B (ℕ-discrete j i);
+          rest = λ j m m′. other j m′ (λ q. omega arith) ∙ F .rest j (omega arith) m′;
+        }
+      where
+        other : (j : ℕ) → j < length s₀ / 2 → (j ≡ i → ⊥) → sideRow (length s₀ / 2) s′ j ≡ sideRow (length s₀ / 2) s j
+        other j m ne = subst (λ (r : ℕ). sideRow r s′ j ≡ sideRow r s j) half (E .others j (let e = half in omega arith) ne)
+
+        by : (j : ℕ) → j < i + 1 → (O : Opening) (M : Mesh) → OpeningIn O M v before k n count p verts groups points → Dec (j ≡ i)
+            → sideRow (length s₀ / 2) s′ j ≡ followed M O (sideRow (length s₀ / 2) s₀ j)
+        by j m O M B (yes q) =
+            let w = R .entries in
+            rw q
+            (subst (λ (r : ℕ). sideRow r s′ i ≡ followed M O (sideRow r s i)) half (E .here O M count p B (reach h p (omega arith) (R .rests-in)))
+            ∙ ap (followed M O) (F .rest i (omega arith) (omega arith)))
+        by j m O M B (no q) = let w = R .entries in let u = F .below in other j (omega arith) q ∙ F .done j (omega (arith, q)) O M B
+
+    -- after the last turn
+    pub following-done : b ≤ i → SidesFollowed v before k n count p b verts groups points s₀ s
+    unfolding boundaryAt
+    following-done h =
+        record {
+          sides =
+              λ O M B.
+              ap (λ (r : ℕ). tab b (sideRow r s)) half ∙ tab-ext b _ _ (λ j l. F .done j (omega arith) O M B)
+              ∙ sym (map-tab (followed M O) b (sideRow (length s₀ / 2) s₀));
+        }
+
+-- ---- the rows that were passed
+
+module _ {x y n k : ℕ} {verts : List ℕ} {i : ℕ} (passed : (j : ℕ) → j < i → rowHolds x y k verts j ≡ false) where
+  -- a row that holds both is the first
+  pub holder-here : i < n → rowHolds x y k verts i ≡ true → FirstHolder x y n k verts i
+  holder-here h e = record { within = omega arith; earlier = passed; here = λ l. e }
+
+  -- no row does
+  pub holder-none : n ≤ i → FirstHolder x y n k verts n
+  holder-none h = record { within = omega arith; earlier = λ j l. passed j (omega arith); here = λ l. absurd (omega arith) }

@@ -1,0 +1,3 @@
+-- What the boundary becomes in a split.
+pub mod Following
+pub mod Faces

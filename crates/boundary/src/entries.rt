@@ -1,0 +1,125 @@
+// The boundary in a split: each entry at v follows the first part of the fan that holds it, or else the group that points to its other end.
+ghost use mathlib.Core.Path.{_≡_};
+ghost use Prim.Native.Nat.{_+_, _*_, _/_, _<_, _≤_};
+ghost use lib.ListN.{length, getD};
+ghost use Rattle.opening.specs.Opened.{RingRoom};
+ghost use Rattle.boundary.specs.Following.{SidesFollowed, rowHolds, FirstHolder, SideRoom, SideGroupIs, CopiesSmall, SideCopyIs, EntryFollowed, SidesRoom};
+
+// Does part i hold both x and y?
+fn part_holds(x: usize, y: usize, k: usize, i: usize, verts: &[usize]) -> bool
+    requires { ⌜ i * k + k ≤ length (now verts) ⌝ }
+    ensures { λ r. ⌜ r ≡ rowHolds x y k (now (verts .entry)) i ⌝ }
+{
+    if elements::holds(x, k, i, verts) {
+        return elements::holds(y, k, i, verts);
+    }
+    false
+}
+
+// The first of n parts that holds both x and y, or n where none does.
+fn first_holder(x: usize, y: usize, n: usize, k: usize, verts: &[usize]) -> usize
+    requires { ⌜ RingRoom n k (length (now verts)) n ⌝ }
+    ensures { λ r. ⌜ FirstHolder x y n k (now (verts .entry)) r ⌝ }
+{
+    let mut i: usize = 0;
+    while i < n {
+        if part_holds(x, y, k, i, verts) {
+            return i;
+        }
+        i += 1;
+    }
+    n
+}
+
+// The group that the boundary entry (x, y) at v follows.
+fn side_group(
+    x: usize,
+    y: usize,
+    v: usize,
+    n: usize,
+    k: usize,
+    verts: &[usize],
+    groups: &[usize],
+    points: &[f32],
+) -> usize
+    requires { ⌜ SideRoom x y v n k (now verts) (now groups) (now points) ⌝ }
+    ensures { λ r. ⌜ SideGroupIs x y v n k (now (verts .entry)) (now (groups .entry)) (now (points .entry)) r ⌝ }
+{
+    let i = first_holder(x, y, n, k, verts);
+    if i < n {
+        return groups[i];
+    }
+    if x == v {
+        return opening::group_toward(y, v, n, k, verts, groups, points);
+    }
+    opening::group_toward(x, v, n, k, verts, groups, points)
+}
+
+// What stands for v in the boundary entry (x, y): the copy of the group that it follows; v itself where v is no end of it.
+fn side_copy(
+    x: usize,
+    y: usize,
+    v: usize,
+    before: usize,
+    k: usize,
+    n: usize,
+    verts: &[usize],
+    groups: &[usize],
+    points: &[f32],
+) -> usize
+    requires { ⌜ SideRoom x y v n k (now verts) (now groups) (now points) × CopiesSmall before n (now groups) ⌝ }
+    ensures { λ r. ⌜ SideCopyIs x y v before k n (now (verts .entry)) (now (groups .entry)) (now (points .entry)) r ⌝ }
+{
+    if opening::names(v, x, y) {
+        let g = side_group(x, y, v, n, k, verts, groups, points);
+        return mesh::rows::copy_for(v, before, g);
+    }
+    v
+}
+
+// Boundary entry i follows its group.
+fn follow_entry(
+    i: usize,
+    v: usize,
+    before: usize,
+    k: usize,
+    n: usize,
+    verts: &[usize],
+    groups: &[usize],
+    points: &[f32],
+    outline: &mut [usize],
+)
+    requires { ⌜ (i < length (now outline) / 2) × SideRoom (getD (now outline) i 0) (getD (now outline) (length (now outline) / 2 + i) 0) v n k (now verts) (now groups) (now points) × CopiesSmall before n (now groups) ⌝ }
+    ensures { λ _. ⌜ EntryFollowed i v before k n (now (verts .entry)) (now (groups .entry)) (now (points .entry)) (now (outline .entry)) (now (outline .exit)) ⌝ }
+{
+    let j = outline.len() / 2 + i;
+    let x = outline[i];
+    let y = outline[j];
+    let w = side_copy(x, y, v, before, k, n, verts, groups, points);
+    mesh::rows::replace_at(outline, i, v, w);
+    mesh::rows::replace_at(outline, j, v, w);
+}
+
+// Each of the first b boundary entries that names v follows its group.
+pub fn follow_boundary(
+    v: usize,
+    before: usize,
+    k: usize,
+    n: usize,
+    count: usize,
+    p: usize,
+    b: usize,
+    verts: &[usize],
+    groups: &[usize],
+    points: &[f32],
+    outline: &mut [usize],
+)
+    requires { ⌜ SidesRoom v before k n count p b (now verts) (now groups) (now points) (now outline) ⌝ }
+    ensures { λ _. ⌜ SidesFollowed v before k n count p b (now (verts .entry)) (now (groups .entry)) (now (points .entry)) (now (outline .entry)) (now (outline .exit)) ⌝ }
+{
+    let mut i: usize = 0;
+    while i < b {
+        follow_entry(i, v, before, k, n, verts, groups, points, outline);
+        i += 1;
+    }
+}

@@ -1,0 +1,94 @@
+// The crossings of a strap cut, one after the other over the lent blocks.
+ghost use mathlib.Core.Path.{_≡_};
+ghost use mathlib.Core.List.{[], _∷_};
+ghost use Prim.Native.Nat.{_<_, _≤_};
+ghost use lib.ListN.{length};
+ghost use Rattle.crossing.specs.Crossings.{crossed-in};
+ghost use Rattle.crossing.specs.Crossed.{CrossRoom, CrossTold, CrossingsIn};
+use insert::plan;
+use mesh::Counts;
+use mesh::Rooms;
+use work::Ran;
+
+// One crossing: inserted, with the bend edges over its segment marked; or its near end is marked to be split.
+fn cross(
+    f: f32,
+    number: usize,
+    t: f32,
+    k: Counts,
+    room: Rooms,
+    points: &mut [f32],
+    roots: &mut [usize],
+    ends: &mut [usize],
+    lengths: &mut [f32],
+    outline: &mut [usize],
+    log: &mut [usize],
+    bends: &mut [usize],
+    snapped: &mut [usize],
+    first: &mut [usize],
+    second: &mut [usize],
+) -> Ran
+    requires { ⌜ CrossRoom room k (now points) (now roots) (now ends) (now lengths) (now outline) (now log) (length (now bends)) (length (now snapped)) × (number < k .edges) × (1024 ≤ length (now first)) × (1024 ≤ length (now second)) ⌝ }
+    ensures { λ r. ⌜ CrossTold f (record { number = number; t = t } ∷ []) room k (now (points .entry)) (now (roots .entry)) (now (ends .entry)) (now (lengths .entry)) (now (outline .entry)) (now (log .entry)) (now (bends .entry)) (now (snapped .entry)) (now (points .exit)) (now (roots .exit)) (now (ends .exit)) (now (lengths .exit)) (now (outline .exit)) (now (log .exit)) (now (bends .exit)) (now (snapped .exit)) r ⌝ }
+{
+    let plan = plan::plan_at(f, number, t, k.particles, k.edges, points, ends, lengths);
+    let row = plan.row;
+    if plan::insertable(f, t, plan, points) {
+        crate::bends::mark_bends(row.a, row.b, k.edges, ends, bends, first, second);
+        return insert::step::insert(plan, k, room, points, roots, ends, lengths, outline, log);
+    }
+    let near = plan::near_end(row.a, row.b, t);
+    snapped[near] = 1;
+    Ran::Done(k)
+}
+
+// All crossings in turn, until one lacks room.
+pub fn cross_all(
+    f: f32,
+    m: usize,
+    numbers: &[usize],
+    ts: &[f32],
+    k: Counts,
+    room: Rooms,
+    points: &mut [f32],
+    roots: &mut [usize],
+    ends: &mut [usize],
+    lengths: &mut [f32],
+    outline: &mut [usize],
+    log: &mut [usize],
+    bends: &mut [usize],
+    snapped: &mut [usize],
+    first: &mut [usize],
+    second: &mut [usize],
+) -> Ran
+    requires { ⌜ CrossRoom room k (now points) (now roots) (now ends) (now lengths) (now outline) (now log) (length (now bends)) (length (now snapped)) × CrossingsIn m (now numbers) (length (now ts)) k (now log) × (1024 ≤ length (now first)) × (1024 ≤ length (now second)) ⌝ }
+    ensures { λ r. ⌜ CrossTold f (crossed-in m (now (numbers .entry)) (now (ts .entry))) room k (now (points .entry)) (now (roots .entry)) (now (ends .entry)) (now (lengths .entry)) (now (outline .entry)) (now (log .entry)) (now (bends .entry)) (now (snapped .entry)) (now (points .exit)) (now (roots .exit)) (now (ends .exit)) (now (lengths .exit)) (now (outline .exit)) (now (log .exit)) (now (bends .exit)) (now (snapped .exit)) r ⌝ }
+{
+    let mut counts = k;
+    let mut i: usize = 0;
+    while i < m {
+        let ran = cross(
+            f,
+            numbers[i],
+            ts[i],
+            counts,
+            room,
+            points,
+            roots,
+            ends,
+            lengths,
+            outline,
+            log,
+            bends,
+            snapped,
+            first,
+            second,
+        );
+        let Ran::Done(next) = ran else {
+            return ran;
+        };
+        counts = next;
+        i += 1;
+    }
+    Ran::Done(counts)
+}

@@ -1,0 +1,8 @@
+-- Laws of one insertion into a strap.
+pub mod ShareLaws
+pub mod PlanLaws
+pub mod Passes
+pub mod SideLaws
+pub mod StoreLaws
+pub mod InsertLaws
+pub mod StepLaws

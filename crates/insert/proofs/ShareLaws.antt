@@ -1,0 +1,109 @@
+-- Laws of shares: the test of one strap, and the lengths of straps added one by one. Assumes nothing.
+use Prim.Native.Nat.{ℕ, _+_, _*_, _/_, _<_}
+use mathlib.Core.Path.{_≡_, refl, sym, ap, ap₂, _∙_}
+use mathlib.Core.Bool.{Bool, true, false, _&&_}
+use mathlib.Core.List.{List, [], _∷_, _++_, map, map-append, append-nil}
+use lib.ListN.{length, getD}
+use lib.Dec.{eqb}
+use lib.Ieee.{Float, nan, lt}
+use borrow.Author.Tests.{eq-eqb, ne-eqb}
+use Rattle.lists.specs.Lists.{pick, stands, sift, tab}
+use Rattle.lists.proofs.Stores.{tab-at}
+use Rattle.lists.proofs.Steps.{sift-step}
+use Rattle.float.specs.Numbers.{plus, zero32, shareOf}
+use Rattle.columns.specs.Block.{cell}
+use Rattle.columns.proofs.Cells.{col-0, col-1}
+use Rattle.model.specs.Mesh.{Particle, Edge, blank}
+use Rattle.model.specs.Elements.{sum, particle}
+use Rattle.model.specs.Cut.{strapsAt, strapShare}
+use Rattle.mesh.specs.At.{particleRow, particlesAt, edgesAt}
+use Rattle.mesh.specs.Workers.{rowAt}
+use Rattle.elements.proofs.Measures.{sum-push, sum-none}
+use Rattle.insert.specs.Shares.{strapAt, StrapTold, totalAt, ShareIs}
+
+-- ---- one edge
+
+pick-self : (t : Bool) → t ≡ pick t true false
+pick-self true = refl
+pick-self false = refl
+
+module _ (v i : ℕ) (ends : List ℕ) where
+  -- what the program reads of edge i
+  strap-is : (B : List Float) → strapAt v (rowAt ends B i) ≡ eqb (getD ends (2 * (length ends / 4) + i) 0) 1 && stands v (getD ends i 0 ∷ getD ends (length ends / 4 + i) 0 ∷ [])
+  unfolding cell
+  strap-is B =
+      ap₂ (λ (a b : ℕ). eqb (getD ends (2 * (length ends / 4) + i) 0) 1 && stands v (a ∷ b ∷ [])) (col-0 0 (length ends / 4) ends i) (col-1 0 (length ends / 4) ends i)
+
+  -- no strap
+  pub told-none : (getD ends (2 * (length ends / 4) + i) 0 ≡ 1 → ⊥) → StrapTold v i ends false
+  told-none n = record { is = λ B. ap (λ (t : Bool). t && stands v (getD ends i 0 ∷ getD ends (length ends / 4 + i) 0 ∷ [])) (sym (ne-eqb _ 1 n)) ∙ sym (strap-is B) }
+
+  module _ (e : getD ends (2 * (length ends / 4) + i) 0 ≡ 1) where
+    a-strap : stands v (getD ends i 0 ∷ getD ends (length ends / 4 + i) 0 ∷ []) ≡ eqb (getD ends (2 * (length ends / 4) + i) 0) 1 && stands v (getD ends i 0 ∷ getD ends (length ends / 4 + i) 0 ∷ [])
+    a-strap = ap (λ (t : Bool). t && stands v (getD ends i 0 ∷ getD ends (length ends / 4 + i) 0 ∷ [])) (sym (eq-eqb _ 1 e))
+
+    -- one whose first end is v
+    pub told-first : getD ends i 0 ≡ v → StrapTold v i ends true
+    told-first q = record { is = λ B. ap (λ (t : Bool). pick t true (stands v (getD ends (length ends / 4 + i) 0 ∷ []))) (sym (eq-eqb _ v q)) ∙ a-strap ∙ sym (strap-is B) }
+
+    -- one whose first end is another
+    pub told-second : (getD ends i 0 ≡ v → ⊥) → StrapTold v i ends (eqb (getD ends (length ends / 4 + i) 0) v)
+    told-second q =
+        record {
+          is =
+              λ B.
+              pick-self (eqb (getD ends (length ends / 4 + i) 0) v)
+              ∙ ap (λ (t : Bool). pick t true (stands v (getD ends (length ends / 4 + i) 0 ∷ []))) (sym (ne-eqb _ v q)) ∙ a-strap ∙ sym (strap-is B);
+        }
+
+-- ---- the sum
+
+module _ (v : ℕ) (ends : List ℕ) (lengths : List Float) where
+  pub total-none : totalAt v (edgesAt 0 ends lengths) ≡ zero32
+  unfolding totalAt edgesAt tab sift
+  total-none = sum-none
+
+  -- one more edge
+  pub total-step : (i : ℕ) (t : Bool) → t ≡ strapAt v (rowAt ends lengths i)
+      → totalAt v (edgesAt (i + 1) ends lengths) ≡ pick t (plus (totalAt v (edgesAt i ends lengths)) (rowAt ends lengths i .initial)) (totalAt v (edgesAt i ends lengths))
+  unfolding totalAt edgesAt
+  total-step i t e =
+      ap (λ (l : List Edge). sum (map (λ (x : Edge). x .initial) l)) (sift-step (strapAt v) (rowAt ends lengths) i ∙ ap (λ (b : Bool). sift (strapAt v) (tab i (rowAt ends lengths)) ++ pick b (rowAt ends lengths i ∷ []) []) (sym e))
+      ∙ by t
+    where
+      by : (b : Bool) → sum (map (λ (x : Edge). x .initial) (sift (strapAt v) (tab i (rowAt ends lengths)) ++ pick b (rowAt ends lengths i ∷ []) []))
+          ≡ pick b (plus (sum (map (λ (x : Edge). x .initial) (sift (strapAt v) (tab i (rowAt ends lengths))))) (rowAt ends lengths i .initial)) (sum (map (λ (x : Edge). x .initial) (sift (strapAt v) (tab i (rowAt ends lengths)))))
+      by true = ap sum (map-append (λ (x : Edge). x .initial) (sift (strapAt v) (tab i (rowAt ends lengths))) (rowAt ends lengths i ∷ [])) ∙ sum-push _ (rowAt ends lengths i .initial)
+      by false = ap (λ (l : List Edge). sum (map (λ (x : Edge). x .initial) l)) (append-nil (sift (strapAt v) (tab i (rowAt ends lengths))))
+
+  -- the length as the program reads it
+  pub initial-read : (i : ℕ) → getD lengths (length lengths / 4 + i) nan ≡ rowAt ends lengths i .initial
+  initial-read i = sym (col-1 nan (length lengths / 4) lengths i)
+
+  -- a strap's length is added, and no other edge's
+  pub total-taken : (i : ℕ) (s : Float) (t : Bool) → s ≡ totalAt v (edgesAt i ends lengths) → StrapTold v i ends t → t ≡ true
+      → plus s (getD lengths (length lengths / 4 + i) nan) ≡ totalAt v (edgesAt (i + 1) ends lengths)
+  total-taken i s t q T e = ap₂ plus q (initial-read i) ∙ sym (total-step i true (sym e ∙ T .is lengths))
+
+  pub total-left : (i : ℕ) (s : Float) (t : Bool) → s ≡ totalAt v (edgesAt i ends lengths) → StrapTold v i ends t → t ≡ false → s ≡ totalAt v (edgesAt (i + 1) ends lengths)
+  total-left i s t q T e = q ∙ sym (total-step i false (sym e ∙ T .is lengths))
+
+-- ---- the share
+
+-- the mass of v, as the program reads it
+pub mass-read : (v n : ℕ) (points : List Float) (roots : List ℕ) → v < n → getD points (4 * (length points / 6) + v) nan ≡ getD (particlesAt n points roots) v blank .mass
+unfolding particlesAt cell
+mass-read v n points roots h = ap (λ (p : Particle). p .mass) (sym (tab-at n (particleRow (length points / 6) (length roots / 2) points roots) v blank h))
+
+pub share-is : (v : ℕ) (len : Float) (e : ℕ) (points : List Float) (ends : List ℕ) (lengths : List Float) (total : Float) (t : Bool) → total ≡ totalAt v (edgesAt e ends lengths) → lt zero32 total ≡ t
+    → ShareIs v len e points ends lengths (pick t (shareOf (getD points (4 * (length points / 6) + v) nan) len total) zero32)
+unfolding totalAt strapShare strapsAt
+share-is v len e points ends lengths total t q d =
+    record {
+      is =
+          λ M n roots S h.
+          let w : total ≡ totalAt v (M .edges) = q ∙ ap (totalAt v) (sym (S .edges-are)) in
+          let m : getD points (4 * (length points / 6) + v) nan ≡ particle M v .mass = mass-read v n points roots h ∙ ap (λ (l : List Particle). getD l v blank .mass) (sym (S .particles-are)) in
+          ap (λ (b : Bool). pick b (shareOf (getD points (4 * (length points / 6) + v) nan) len total) zero32) (sym d)
+          ∙ ap₂ (λ (x y : Float). pick (lt zero32 y) (shareOf x len y) zero32) m w;
+    }

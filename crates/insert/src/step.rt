@@ -1,0 +1,66 @@
+// An insertion as one step: the rooms are tested in their order, then every list is written, and the log.
+ghost use mathlib.Core.Path.{_≡_};
+ghost use lib.ListN.{length};
+ghost use lib.Ieee.{binary32, toBits};
+ghost use Rattle.insert.specs.Steps.{StepRoom, InsertTold};
+use crate::plan::Plan;
+use mesh::Counts;
+use mesh::Rooms;
+use work::Grown;
+use work::Ran;
+
+// The bits of a number.
+fn bits_of(x: f32) -> usize
+    ensures { λ r. ⌜ r ≡ toBits binary32 x ⌝ }
+{
+    if x != x {
+        return 2143289344;
+    }
+    f32::to_bits(x) as usize
+}
+
+// The insertion that is planned, in the mesh whose counts are k.
+pub fn insert(
+    plan: Plan,
+    k: Counts,
+    room: Rooms,
+    points: &mut [f32],
+    roots: &mut [usize],
+    ends: &mut [usize],
+    lengths: &mut [f32],
+    outline: &mut [usize],
+    log: &mut [usize],
+) -> Ran
+    requires { ⌜ StepRoom plan k room (length (now points)) (length (now roots)) (length (now ends)) (length (now lengths)) (length (now outline)) (length (now log)) ⌝ }
+    ensures { λ r. ⌜ InsertTold plan room k (now (points .entry)) (now (roots .entry)) (now (ends .entry)) (now (lengths .entry)) (now (outline .entry)) (now (log .entry)) (now (points .exit)) (now (roots .exit)) (now (ends .exit)) (now (lengths .exit)) (now (outline .exit)) (now (log .exit)) r ⌝ }
+{
+    let row = plan.row;
+    let a = row.a;
+    let b = row.b;
+    let n = plan.before;
+    let e = k.edges;
+    let g = k.log;
+    if room.particles < n + 2 {
+        return Ran::Refused(5);
+    }
+    if room.edges < e + 1 {
+        return Ran::Refused(6);
+    }
+    let grown = crate::sides::insert_sides(a, b, n, n + 1, k.boundary, room.boundary, outline);
+    let Grown::Rows(sides) = grown else {
+        return Ran::Refused(7);
+    };
+    if room.log < g + 1 {
+        return Ran::Refused(8);
+    }
+    crate::particles::insert_particles(plan, points, roots);
+    crate::edges::insert_edges(plan, e, ends, lengths);
+    mesh::rows::note(g, 3, a, b, n, n + 1, bits_of(plan.at), log);
+    Ran::Done(Counts {
+        particles: n + 2,
+        triangles: k.triangles,
+        edges: e + 1,
+        boundary: sides,
+        log: g + 1,
+    })
+}

@@ -1,0 +1,5 @@
+-- The laws of the checks, and what an accepted input tells.
+pub mod Joined
+pub mod Checked
+pub mod Refusals
+pub mod Accepted

@@ -1,0 +1,45 @@
+-- `judge::checks::indices_fit` meets its contract: the roots, the corners and two lists of ends. Assumes nothing.
+use native.Mathlib.Omega.{arith}
+use mathlib.Core.Path.{refl, _∙_}
+use Rattle.judge.proofs.Joined.{and-next, sizes-told}
+use Rattle.judge.proofs.Checked.{indices-told}
+use borrow.Author.Needs.{needs}
+use Rattle.judge.proofs.checks.indices_fit.Statement.{statement}
+use Rattle.judge.proofs.checks.indices_fit.Tie as tie
+
+roots-fit-requires : tie.Need-roots-fit-requires
+roots-fit-requires c κs = let s = sizes-told _ _ _ _ _ _ _ (c .before .before .before .before .before .before .before .pre) in omega (arith, s .particles)
+
+corners-fit-requires : tie.Need-corners-fit-requires
+corners-fit-requires c κs = search needs
+
+both-requires : tie.Need-both-requires
+both-requires c κs = search needs
+
+pairs-fit-requires : tie.Need-pairs-fit-requires
+pairs-fit-requires c κs = search needs
+
+both-requires-2 : tie.Need-both-requires-2
+both-requires-2 c κs = search needs
+
+pairs-fit-requires-2 : tie.Need-pairs-fit-requires-2
+pairs-fit-requires-2 c κs = search needs
+
+both-requires-3 : tie.Need-both-requires-3
+both-requires-3 c κs = search needs
+
+returns : tie.Need-returns
+returns c = and-next _ _ _ _ _ (c .both3 .ensures) (and-next _ _ _ _ _ (c .before .before .both2 .ensures) (c .before .before .before .before .both .ensures) refl) refl ∙ indices-told _ _ _ _ _ (c .before .before .before .before .before .before .roots-fit .ensures) (c .before .before .before .before .before .corners-fit .ensures) (c .before .before .before .pairs-fit .ensures) (c .before .pairs-fit2 .ensures)
+
+pub indices-fit-spec : {M : Type 1} → statement M
+indices-fit-spec =
+    tie.close
+    (tie.spec
+    roots-fit-requires
+    corners-fit-requires
+    both-requires
+    pairs-fit-requires
+    both-requires-2
+    pairs-fit-requires-2
+    both-requires-3
+    returns)

@@ -1,0 +1,21 @@
+-- `judge::checks::judge_numbers` meets its contract: a refusal that is there stays, else the test decides. Assumes nothing.
+use mathlib.Core.Path.{refl}
+use Rattle.judge.proofs.Joined.{then-next, then-stays}
+use borrow.Author.Needs.{needs}
+use Rattle.judge.proofs.checks.judge_numbers.Statement.{statement}
+use Rattle.judge.proofs.checks.judge_numbers.Tie as tie
+
+returns : tie.Need-returns
+returns c = then-stays _ _ 2 (c .if1 .taken)
+
+numbers-fit-requires : tie.Need-numbers-fit-requires
+numbers-fit-requires c κs = c .before .before .before .before .before .before .before .before .pre (c .if1 .left)
+
+first-requires : tie.Need-first-requires
+first-requires c κs = search needs
+
+returns-2 : tie.Need-returns-2
+returns-2 c = then-next _ _ _ _ _ 2 (c .first .ensures) refl (c .before .numbers-fit .ensures)
+
+pub judge-numbers-spec : {M : Type 1} → statement M
+judge-numbers-spec = tie.close (tie.spec returns numbers-fit-requires first-requires returns-2)

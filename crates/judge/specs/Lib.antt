@@ -1,0 +1,3 @@
+-- The checks that refuse an input mesh.
+pub mod Checks
+pub mod Told

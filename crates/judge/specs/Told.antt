@@ -1,0 +1,31 @@
+-- What the test of a block's rows tells, and what is known where nothing refused. Only contracts between these functions need this file. Definitions only.
+use Prim.Native.Nat.{ℕ}
+use mathlib.Core.Path.{_≡_}
+use mathlib.Core.Bool.{Bool, true}
+use mathlib.Core.List.{List, [], _∷_}
+use lib.Ieee.{Float}
+use Rattle.lists.specs.Lists.{all}
+use Rattle.columns.specs.Block.{cell}
+use Rattle.model.specs.Valid.{named, rootOk, cornersOk, triangleOk}
+use Rattle.mesh.specs.At.{particlesAt, trianglesAt}
+use Rattle.mesh.specs.Given.{Given, sizesFit}
+
+-- the ends in row k of a block with columns of R places name two different ones of n particles
+unfoldable pub pairOk : ℕ → ℕ → List ℕ → ℕ → Bool
+pairOk n R s k = named n (cell 0 R s 0 k ∷ cell 0 R s 1 k ∷ [])
+
+-- r tells whether the roots of n particles fit, whatever stands in their other block
+abbrev pub RootsTold : ℕ → List ℕ → Bool → Type 0
+RootsTold n roots r = (points : List Float) → r ≡ all (rootOk n) (particlesAt n points roots)
+
+-- r tells whether the corners of t triangles fit, whatever stands in their other block
+abbrev pub CornersTold : ℕ → ℕ → List ℕ → Bool → Type 0
+CornersTold n t corners r = (volumes : List Float) → r ≡ all (cornersOk n) (trianglesAt t corners volumes)
+
+-- r tells whether the numbers of t triangles fit, whatever stands in their other block
+abbrev pub VolumesTold : ℕ → List Float → Bool → Type 0
+VolumesTold t volumes r = (corners : List ℕ) → r ≡ all triangleOk (trianglesAt t corners volumes)
+
+-- the sizes of an input fit, where nothing has refused it
+abbrev pub SizedUnless : ℕ → Given → Type 0
+SizedUnless code G = code ≡ 0 → sizesFit G ≡ true

@@ -1,0 +1,3 @@
+-- Laws of marks of particles, and of the sides of a fan.
+pub mod MarkLaws
+pub mod SideLaws

@@ -1,0 +1,3 @@
+-- Marks of particles, and the sides of a fan by the blade.
+pub mod Marking
+pub mod Sided

@@ -1,0 +1,107 @@
+-- Marks of particles: the candidates of a cut, the particles near a split, and the pinched. Only contracts between workers need this file. Definitions only.
+use Prim.Native.Nat.{ℕ, _/_, _<_, _≤_}
+use mathlib.Core.Path.{_≡_}
+use mathlib.Core.Bool.{Bool, not}
+use mathlib.Core.List.{List, [], _∷_, map}
+use lib.ListN.{length, getD}
+use lib.Dec.{eqb}
+use lib.Ieee.{Float, nan}
+use Rattle.lists.specs.Lists.{pick, stands, any, each, pairs, empty}
+use Rattle.blade.specs.declared.Point.{Point}
+use Rattle.blade.specs.Blade.{bladeHit}
+use Rattle.columns.specs.Block.{cell}
+use Rattle.model.specs.Mesh.{Mesh}
+use Rattle.model.specs.Elements.{Triangles, Element, placeOf, elementsOf}
+use Rattle.model.specs.Run.{Run, splitsOf}
+use Rattle.model.specs.Cut.{Blade, hit?, ifMet, splitEnds, nearCorners}
+use Rattle.mesh.specs.At.{trianglesAt}
+use Rattle.mesh.specs.Log.{Words, wordsOf, logAt}
+use Rattle.work.specs.Places.{CornersIn}
+
+-- ---- marks
+
+-- exactly the listed are marked with 1, the others with 0
+pub record Marks (listed marks : List ℕ) : Type 0 where
+  pub mark : (k : ℕ) → k < length marks → getD marks k 0 ≡ pick (stands k listed) 1 0
+
+-- the listed are marked with 1, the others as they were
+pub record MarkedBy (listed marks marks′ : List ℕ) : Type 0 where
+  pub mark : (k : ℕ) → k < length marks → getD marks′ k 0 ≡ pick (stands k listed) 1 (getD marks k 0)
+
+-- ---- places
+
+-- where particle w is, by the block of points
+abbrev pub placeIn : List Float → ℕ → Point
+placeIn points w = record { x = cell nan (length points / 6) points 0 w; y = cell nan (length points / 6) points 1 w }
+
+-- the first p particles of M are where the block says
+abbrev pub PlacesIn : Mesh → ℕ → List Float → Type 0
+PlacesIn M p points = (w : ℕ) → w < p → placeOf M w ≡ placeIn points w
+
+-- the blade from b0 to b1
+abbrev pub bladeFrom : Point → Point → Blade
+bladeFrom b0 b1 = record { from = b0; to = b1 }
+
+-- ---- candidates
+
+-- the ends of a pair of corners that the blade meets, by the block of points
+unfoldable pub metIn : Blade → List Float → ℕ × ℕ → List ℕ
+metIn B points xy = pick (hit? (bladeHit (B .from) (B .to) (placeIn points (xy .0)) (placeIn points (xy .1)))) (xy .0 ∷ xy .1 ∷ []) []
+
+-- the same of all pairs of a triangle's corners
+unfoldable pub metOf : Blade → List Float → List ℕ → List ℕ
+metOf B points corners = each (metIn B points) (pairs corners)
+
+-- every end of a triangle's side that the blade meets: `candidates` are these, rising
+unfoldable pub candidateEnds : Blade → Mesh → List ℕ
+candidateEnds B M = each (λ (e : Element). each (ifMet B M) (pairs (e .corners))) (elementsOf Triangles M)
+
+-- the corners of t triangles stand in the block, and name particles of the block of points
+pub record CandidateRoom (t : ℕ) (corners : List ℕ) (lp : ℕ) : Type 0 where
+  pub long : t ≤ length corners / 3
+  pub corners-in : CornersIn (lp / 6) t corners
+
+-- the candidates of every mesh of these triangles and places are marked
+pub record CandidatesMarked (B : Blade) (t : ℕ) (points : List Float) (corners marks : List ℕ) : Type 0 where
+  pub marked : (M : Mesh) (p : ℕ) (volumes : List Float) → PlacesIn M p points → CornersIn p t corners → M .triangles ≡ trianglesAt t corners volumes → Marks (candidateEnds B M) marks
+
+-- ---- the log
+
+-- does an entry's first word tell of a split
+abbrev pub splitWords : Words → Bool
+splitWords w = eqb (w .kind) 1
+
+-- the copy and the source that an entry tells of
+unfoldable pub endsIn : Words → List ℕ
+endsIn w = pick (splitWords w) (w .a ∷ w .b ∷ []) []
+
+-- the copies and sources of every run with this log are marked
+pub record NearMarked (l : ℕ) (log near : List ℕ) : Type 0 where
+  pub marked : (R : Run) → logAt l log ≡ map wordsOf (R .log) → Marks (splitEnds R) near
+
+-- r says whether anything split in a run with this log
+pub record SplitFound (l : ℕ) (log : List ℕ) (r : Bool) : Type 0 where
+  pub is : (R : Run) → logAt l log ≡ map wordsOf (R .log) → r ≡ not (empty (splitsOf (R .log)))
+
+-- ---- pinched
+
+-- is w marked
+abbrev pub marked? : List ℕ → ℕ → Bool
+marked? marks w = eqb (getD marks w 0) 1
+
+-- the corners of a row with a marked one
+unfoldable pub nearRow : List ℕ → List ℕ → List ℕ
+nearRow near corners = pick (any (marked? near) corners) corners []
+
+-- every corner of a triangle that touches a copy or its source: `pinched` are these, rising
+unfoldable pub pinchedEnds : Run → List ℕ
+pinchedEnds R = each (nearCorners (splitEnds R)) (elementsOf Triangles (R .mesh))
+
+-- the corners of t triangles stand in the block, and name particles that may be near
+pub record PinchedRoom (t : ℕ) (corners : List ℕ) (ln : ℕ) : Type 0 where
+  pub long : t ≤ length corners / 3
+  pub corners-in : CornersIn ln t corners
+
+-- the pinched of every run of these triangles are marked, where the near are
+pub record PinchedMarked (t : ℕ) (corners near marks : List ℕ) : Type 0 where
+  pub marked : (R : Run) (volumes : List Float) → R .mesh .triangles ≡ trianglesAt t corners volumes → CornersIn (length near) t corners → Marks (splitEnds R) near → Marks (pinchedEnds R) marks

@@ -1,0 +1,168 @@
+// Marks of particles: the candidates of a cut, the particles near a split, and the pinched.
+ghost use mathlib.Core.Path.{_≡_};
+ghost use mathlib.Core.List.{[], _∷_};
+ghost use Prim.Native.Nat.{_/_, _<_, _≤_};
+ghost use lib.ListN.{length};
+ghost use Rattle.lists.specs.Lists.{any};
+ghost use Rattle.marks.specs.Marking.{MarkedBy, placeIn, bladeFrom, metIn, metOf, CandidateRoom, CandidatesMarked, NearMarked, SplitFound, marked?, nearRow, PinchedRoom, PinchedMarked};
+use blade::Hit;
+use blade::Point;
+
+// Where particle w is.
+pub fn place(w: usize, points: &[f32]) -> Point
+    requires { ⌜ w < length (now points) / 6 ⌝ }
+    ensures { λ r. ⌜ r ≡ placeIn (now (points .entry)) w ⌝ }
+{
+    let size = points.len() / 6;
+    let next = size + w;
+    Point {
+        x: points[w],
+        y: points[next],
+    }
+}
+
+// Marks w with 1, if it has a place.
+fn mark(w: usize, marks: &mut [usize])
+    ensures { λ _. ⌜ MarkedBy (w ∷ []) (now (marks .entry)) (now (marks .exit)) ⌝ }
+{
+    if w < marks.len() {
+        marks[w] = 1;
+    }
+}
+
+// Marks x and y, if the blade meets the side from x to y.
+fn mark_pair(b0: Point, b1: Point, x: usize, y: usize, points: &[f32], marks: &mut [usize])
+    requires { ⌜ (x < length (now points) / 6) × (y < length (now points) / 6) ⌝ }
+    ensures { λ _. ⌜ MarkedBy (metIn (bladeFrom b0 b1) (now (points .entry)) (x, y)) (now (marks .entry)) (now (marks .exit)) ⌝ }
+{
+    let hit = blade::blade_hit(b0, b1, place(x, points), place(y, points));
+    let Hit::Hit(_) = hit else {
+        return;
+    };
+    mark(x, marks);
+    mark(y, marks);
+}
+
+// The same of each side of a triangle.
+fn mark_sides(
+    b0: Point,
+    b1: Point,
+    x: usize,
+    y: usize,
+    z: usize,
+    points: &[f32],
+    marks: &mut [usize],
+)
+    requires { ⌜ (x < length (now points) / 6) × (y < length (now points) / 6) × (z < length (now points) / 6) ⌝ }
+    ensures { λ _. ⌜ MarkedBy (metOf (bladeFrom b0 b1) (now (points .entry)) (x ∷ y ∷ z ∷ [])) (now (marks .entry)) (now (marks .exit)) ⌝ }
+{
+    mark_pair(b0, b1, x, y, points, marks);
+    mark_pair(b0, b1, x, z, points, marks);
+    mark_pair(b0, b1, y, z, points, marks);
+}
+
+// Marks each particle that ends a side that the blade meets, of the first t triangles, and no other.
+pub fn mark_candidates(
+    b0: Point,
+    b1: Point,
+    t: usize,
+    points: &[f32],
+    corners: &[usize],
+    marks: &mut [usize],
+)
+    requires { ⌜ CandidateRoom t (now corners) (length (now points)) ⌝ }
+    ensures { λ _. ⌜ CandidatesMarked (bladeFrom b0 b1) t (now (points .entry)) (now (corners .entry)) (now (marks .exit)) ⌝ }
+{
+    columns::clear_usize(0, marks);
+    let size = corners.len() / 3;
+    let mut i: usize = 0;
+    while i < t {
+        let second = size + i;
+        let third = 2 * size + i;
+        mark_sides(
+            b0,
+            b1,
+            corners[i],
+            corners[second],
+            corners[third],
+            points,
+            marks,
+        );
+        i += 1;
+    }
+}
+
+// Marks the copy and the source of each split of the first l entries of the log, and no other.
+pub fn mark_near(l: usize, log: &[usize], near: &mut [usize])
+    requires { ⌜ l ≤ length (now log) / 6 ⌝ }
+    ensures { λ _. ⌜ NearMarked l (now (log .entry)) (now (near .exit)) ⌝ }
+{
+    columns::clear_usize(0, near);
+    let mut i: usize = 0;
+    while i < l {
+        let at = 6 * i;
+        if log[at] == 1 {
+            mark(log[at + 1], near);
+            mark(log[at + 2], near);
+        }
+        i += 1;
+    }
+}
+
+// Do the first l entries of the log tell of a split?
+pub fn any_split(l: usize, log: &[usize]) -> bool
+    requires { ⌜ l ≤ length (now log) / 6 ⌝ }
+    ensures { λ r. ⌜ SplitFound l (now (log .entry)) r ⌝ }
+{
+    let mut i: usize = 0;
+    while i < l {
+        let at = 6 * i;
+        if log[at] == 1 {
+            return true;
+        }
+        i += 1;
+    }
+    false
+}
+
+// Is one of three particles marked?
+fn one_near(x: usize, y: usize, z: usize, near: &[usize]) -> bool
+    requires { ⌜ (x < length (now near)) × (y < length (now near)) × (z < length (now near)) ⌝ }
+    ensures { λ r. ⌜ r ≡ any (marked? (now (near .entry))) (x ∷ y ∷ z ∷ []) ⌝ }
+{
+    if near[x] == 1 {
+        return true;
+    }
+    if near[y] == 1 {
+        return true;
+    }
+    near[z] == 1
+}
+
+// Marks all three, if one of them is near.
+fn mark_three(x: usize, y: usize, z: usize, near: &[usize], marks: &mut [usize])
+    requires { ⌜ (x < length (now near)) × (y < length (now near)) × (z < length (now near)) ⌝ }
+    ensures { λ _. ⌜ MarkedBy (nearRow (now (near .entry)) (x ∷ y ∷ z ∷ [])) (now (marks .entry)) (now (marks .exit)) ⌝ }
+{
+    if one_near(x, y, z, near) {
+        mark(x, marks);
+        mark(y, marks);
+        mark(z, marks);
+    }
+}
+
+// Marks the corners of each of the first t triangles with a near corner, and no other.
+pub fn mark_pinched(t: usize, corners: &[usize], near: &[usize], marks: &mut [usize])
+    requires { ⌜ PinchedRoom t (now corners) (length (now near)) ⌝ }
+    ensures { λ _. ⌜ PinchedMarked t (now (corners .entry)) (now (near .entry)) (now (marks .exit)) ⌝ }
+{
+    columns::clear_usize(0, marks);
+    let size = corners.len() / 3;
+    let mut i: usize = 0;
+    while i < t {
+        let second = size + i;
+        let third = 2 * size + i;
+        mark_three(corners[i], corners[second], corners[third], near, marks);
+        i += 1;
+    }
+}

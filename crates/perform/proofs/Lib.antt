@@ -1,0 +1,3 @@
+-- The laws of a call performed. Assumes nothing.
+pub mod Performed
+pub mod Worked

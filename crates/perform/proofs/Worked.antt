@@ -1,0 +1,66 @@
+-- What each worker asks and gives, from what a call asks and promises of its work.
+use Prim.Native.Nat.{ℕ}
+use mathlib.Core.Path.{_≡_, sym, _∙_, subst}
+use mathlib.Core.List.{List}
+use lib.ListN.{length}
+use lib.Ieee.{Float}
+use Rattle.model.specs.Elements.{Kind, kindOf}
+use Rattle.mesh.specs.At.{meshAt}
+use Rattle.mesh.specs.Log.{World}
+use Rattle.mesh.specs.Filled.{lent}
+use Rattle.mesh.specs.declared.Counts.{Counts}
+use Rattle.mesh.specs.declared.Rooms.{Rooms}
+use Rattle.elements.specs.declared.Kind.{Kind as KindCase}
+use Rattle.elements.specs.Table.{kindIs, KindFound}
+use Rattle.work.specs.Working.{Ready, Works, SettleRoom}
+use Rattle.split.specs.Tables.{SidesGiven}
+use Rattle.work.specs.Places.{CornersIn, EndsIn, SidesIn}
+use Rattle.work.specs.declared.Ran.{Ran}
+use Rattle.work.proofs.Placed.{corners-in, ends-in, sides-in}
+use Rattle.jobs.specs.Jobs.{jobRun}
+use Rattle.perform.specs.Asks.{JobAsked}
+use Rattle.jobs.specs.declared.Job.{Job}
+use Rattle.jobs.specs.declared.Job.the-variants.{Split}
+
+module _ (k : Counts) (R : Rooms) (p : List Float) (r c : List ℕ) (v : List Float) (e : List ℕ) (l : List Float) (o g : List ℕ) where
+  -- the kind that was found is that of the mesh in the blocks
+  kind-found : (kind : KindCase) → KindFound (k .triangles) (k .edges) e kind → kindIs kind ≡ kindOf (meshAt k p r c v e l o)
+  unfolding kindOf meshAt
+  kind-found kind F = F .is c v l
+
+  -- straddlers may be removed
+  pub straddlers-room : Ready R k (lent p r c v e l o g) (meshAt k p r c v e l o)
+      → SettleRoom R k (length c) (length v) (length e) (length l) (length o) (length g) × CornersIn (k .particles) (k .triangles) c × EndsIn (k .particles) (k .edges) e × SidesIn (k .particles) (k .boundary) o
+  straddlers-room A =
+      let Q = A .rooms in (
+        record {
+          counts = A .counts;
+          few-particles = Q .few-particles;
+          few-triangles = Q .few-triangles;
+          few-edges = Q .few-edges;
+          few-boundary = Q .few-boundary;
+          few-log = Q .few-log;
+          corners = Q .corners;
+          volumes = Q .volumes;
+          ends = Q .ends;
+          lengths = Q .lengths;
+          outline = Q .outline;
+          log = Q .log;
+        },
+        corners-in k p r c v e l o (A .indices),
+        ends-in k p r c v e l o (A .indices),
+        sides-in k p r c v e l o (A .indices),
+      )
+
+  module _ (job j : Job) (arm : job ≡ j) (ls : List ℕ) (kind : KindCase) (F : KindFound (k .triangles) (k .edges) e kind) where
+    -- a job is done by the worker of the arm that names it, for the kind that was found
+    pub job-works : {W : World} {then : Counts → World} {ran : Ran} → Works (jobRun j ls (kindIs kind)) R W then ran → Works (jobRun job ls (kindOf (meshAt k p r c v e l o))) R W then ran
+    job-works {W} {then} {ran} done =
+        subst (λ (x : Job). Works (jobRun x ls (kindOf (meshAt k p r c v e l o))) R W then ran) (sym arm)
+        (subst (λ (K : Kind). Works (jobRun j ls K) R W then ran) (kind-found kind F) done)
+
+    -- sides are given for that kind
+    pub split-given : (at : ℕ) → j ≡ Split at → JobAsked job ls (meshAt k p r c v e l o) → SidesGiven (kindIs kind) (meshAt k p r c v e l o) at ls
+    split-given at q S =
+        subst (λ (K : Kind). SidesGiven K (meshAt k p r c v e l o) at ls) (sym (kind-found kind F))
+        (subst (λ (x : Job). JobAsked x ls (meshAt k p r c v e l o)) (arm ∙ q) S)

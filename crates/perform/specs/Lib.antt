@@ -1,0 +1,2 @@
+-- What the workers of a call ask.
+pub mod Asks

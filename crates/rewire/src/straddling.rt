@@ -1,0 +1,111 @@
+// Straddlers: edges between two neighbours of v with no common group, which no element holds.
+ghost use mathlib.Core.Path.{_≡_};
+ghost use Prim.Native.Nat.{_<_, _≤_};
+ghost use lib.ListN.{length};
+ghost use Rattle.lists.specs.Lists.{pick, stands};
+ghost use Rattle.elements.specs.Table.{kindIs};
+ghost use Rattle.rewire.specs.Edges.{copiesBy, StraddleRoom, StraddleTold, StraddlersMarked};
+use elements::Kind;
+
+// Is w v or one of its copies?
+fn is_copy(w: usize, v: usize, before: usize, count: usize) -> bool
+    ensures { λ r. ⌜ r ≡ stands w (copiesBy v before count) ⌝ }
+{
+    if w == v {
+        return true;
+    }
+    if w < before {
+        return false;
+    }
+    if count == 0 {
+        return false;
+    }
+    w - before < count - 1
+}
+
+// Does edge i straddle?
+fn straddles(
+    kind: Kind,
+    i: usize,
+    v: usize,
+    before: usize,
+    n: usize,
+    count: usize,
+    t: usize,
+    e: usize,
+    verts: &[usize],
+    groups: &[usize],
+    corners: &[usize],
+    ends: &[usize],
+) -> bool
+    requires { ⌜ StraddleRoom (kindIs kind) n t e (length (now verts)) (length (now groups)) (length (now corners)) (length (now ends)) × (i < e) ⌝ }
+    ensures { λ r. ⌜ StraddleTold (kindIs kind) i v before n count t e (now (verts .entry)) (now (groups .entry)) (now (corners .entry)) (now (ends .entry)) r ⌝ }
+{
+    let c = ends.len() / 4;
+    let a = ends[i];
+    let b = ends[c + i];
+    if crate::edges::is_element(kind, ends[2 * c + i]) {
+        return false;
+    }
+    if is_copy(a, v, before, count) {
+        return false;
+    }
+    if is_copy(b, v, before, count) {
+        return false;
+    }
+    let k = elements::corners_per(kind);
+    if !opening::parted(a, b, n, k, verts, groups) {
+        return false;
+    }
+    !crate::held::held(kind, a, b, t, e, corners, ends)
+}
+
+// 1 if t, else 0.
+fn mark(t: bool) -> usize
+    ensures { λ r. ⌜ r ≡ pick t 1 0 ⌝ }
+{
+    if t { 1 } else { 0 }
+}
+
+// Marks the straddlers among the first e edges with 1, the others with 0; returns how many straddle.
+pub fn mark_straddlers(
+    kind: Kind,
+    v: usize,
+    before: usize,
+    n: usize,
+    count: usize,
+    t: usize,
+    e: usize,
+    verts: &[usize],
+    groups: &[usize],
+    corners: &[usize],
+    ends: &[usize],
+    mask: &mut [usize],
+) -> usize
+    requires { ⌜ StraddleRoom (kindIs kind) n t e (length (now verts)) (length (now groups)) (length (now corners)) (length (now ends)) × (e ≤ length (now mask)) ⌝ }
+    ensures { λ r. ⌜ StraddlersMarked (kindIs kind) v before n count t e (now (verts .entry)) (now (groups .entry)) (now (corners .entry)) (now (ends .entry)) (now (mask .exit)) r ⌝ }
+{
+    let mut marked: usize = 0;
+    let mut i: usize = 0;
+    while i < e {
+        let gone = straddles(
+            kind,
+            i,
+            v,
+            before,
+            n,
+            count,
+            t,
+            e,
+            verts,
+            groups,
+            corners,
+            ends,
+        );
+        let m = mark(gone);
+        mask[i] = m;
+        marked += m;
+        i += 1;
+    }
+    marked
+}

@@ -1,0 +1,97 @@
+// A torn edge before a way is tried: the pair that stands for it now, and which of its ends goes first.
+ghost use lib.ListN.{length};
+ghost use Rattle.elements.specs.Table.{kindIs};
+ghost use Rattle.mesh.specs.At.{meshAt};
+ghost use Rattle.mesh.specs.Log.{worldAt};
+ghost use Rattle.work.specs.Working.{Logged};
+ghost use Rattle.tear.specs.Tried.{WayReady, LoadsLong};
+ghost use Rattle.tear.specs.Pairs.{PairReady, PairNow, Turned};
+use crate::families::Pair;
+use elements::Kind;
+use mesh::Counts;
+
+// The particles that now stand for the torn edge (a, b), if any: the elements are read into a table for it.
+pub fn pair_now(
+    kind: Kind,
+    a: usize,
+    b: usize,
+    k: Counts,
+    points: &[f32],
+    roots: &[usize],
+    corners: &[usize],
+    volumes: &[f32],
+    ends: &[usize],
+    lengths: &[f32],
+    outline: &[usize],
+    log: &[usize],
+) -> Pair
+    requires { ⌜ PairReady k (length (now corners)) (length (now volumes)) (length (now ends)) (length (now lengths)) (length (now log)) (meshAt k (now points) (now roots) (now corners) (now volumes) (now ends) (now lengths) (now outline)) × Logged (k .log) (now log) ⌝ }
+    ensures { λ r. ⌜ PairNow (kindIs kind) a b (k .particles) (worldAt k (now (points .entry)) (now (roots .entry)) (now (corners .entry)) (now (volumes .entry)) (now (ends .entry)) (now (lengths .entry)) (now (outline .entry)) (now (log .entry))) r ⌝ }
+{
+    let mut numbers = [0usize; 2048];
+    let mut verts = [0usize; 4096];
+    let mut measures = [0.0f32; 2048];
+    let n = elements::element_table(
+        kind,
+        k.triangles,
+        k.edges,
+        corners,
+        volumes,
+        ends,
+        lengths,
+        &mut numbers,
+        &mut verts,
+        &mut measures,
+    );
+    let per = elements::corners_per(kind);
+    crate::families::current_pair(a, b, k.log, log, per, n, &verts, k.edges, ends)
+}
+
+// Whether the way at y goes before the way at x: the higher mean load does, then the lower number.
+pub fn turned(
+    kind: Kind,
+    x: usize,
+    y: usize,
+    k: Counts,
+    loads: &[f32],
+    points: &[f32],
+    roots: &[usize],
+    corners: &[usize],
+    volumes: &[f32],
+    ends: &[usize],
+    lengths: &[f32],
+    outline: &[usize],
+) -> bool
+    requires { ⌜ WayReady x y k (length (now points)) (length (now corners)) (length (now volumes)) (length (now ends)) (length (now lengths)) (meshAt k (now points) (now roots) (now corners) (now volumes) (now ends) (now lengths) (now outline)) × LoadsLong (kindIs kind) k (length (now loads)) ⌝ }
+    ensures { λ r. ⌜ Turned (kindIs kind) x y (k .triangles) (now (loads .entry)) (meshAt k (now (points .entry)) (now (roots .entry)) (now (corners .entry)) (now (volumes .entry)) (now (ends .entry)) (now (lengths .entry)) (now (outline .entry))) r ⌝ }
+{
+    let p = crate::tried::way_load(
+        kind,
+        x,
+        y,
+        k,
+        loads,
+        points,
+        roots,
+        corners,
+        volumes,
+        ends,
+        lengths,
+        outline,
+    );
+    let q = crate::tried::way_load(
+        kind,
+        y,
+        x,
+        k,
+        loads,
+        points,
+        roots,
+        corners,
+        volumes,
+        ends,
+        lengths,
+        outline,
+    );
+    crate::ways::goes_first(q, y, p, x)
+}

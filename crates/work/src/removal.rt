@@ -1,0 +1,55 @@
+// Marked edges and boundary entries go from the lent blocks, and each such edge is noted by its ends.
+ghost use Prim.Native.Nat.{_<_};
+ghost use lib.ListN.{length};
+ghost use Rattle.work.specs.Removal.{NoteRoom, EdgesNoted, GoneRoom, GoneTo};
+use crate::Ran;
+use mesh::Counts;
+use mesh::Rooms;
+
+// Notes the marked edges among the first n, by their ends, behind the `at` entries of the log; returns how many entries there are.
+pub fn note_edges(mask: &[usize], n: usize, at: usize, ends: &[usize], log: &mut [usize]) -> usize
+    requires { ⌜ NoteRoom (now mask) n at (length (now ends)) (length (now log)) ⌝ }
+    ensures { λ r. ⌜ EdgesNoted (now (mask .entry)) n at (now (ends .entry)) (now (log .entry)) (now (log .exit)) r ⌝ }
+{
+    let c = ends.len() / 4;
+    let mut w = at;
+    let mut i: usize = 0;
+    while i < n {
+        if mask[i] == 1 {
+            mesh::rows::note(w, 2, ends[i], ends[c + i], 0, 0, 0, log);
+            w += 1;
+        }
+        i += 1;
+    }
+    w
+}
+
+// Removes the marked edges and boundary entries, and notes the s edges, if the log has room.
+pub fn remove_marked(
+    k: Counts,
+    room: Rooms,
+    s: usize,
+    edge_mask: &[usize],
+    side_mask: &[usize],
+    ends: &mut [usize],
+    lengths: &mut [f32],
+    outline: &mut [usize],
+    log: &mut [usize],
+) -> Ran
+    requires { ⌜ GoneRoom room k s (now «edge_mask») (length (now «side_mask»)) (length (now ends)) (length (now lengths)) (length (now outline)) (length (now log)) ⌝ }
+    ensures { λ r. ⌜ GoneTo room k (now («edge_mask» .entry)) (now («side_mask» .entry)) (now (ends .entry)) (now (ends .exit)) (now (lengths .entry)) (now (lengths .exit)) (now (outline .entry)) (now (outline .exit)) (now (log .entry)) (now (log .exit)) r ⌝ }
+{
+    if room.log - k.log < s {
+        return Ran::Refused(8);
+    }
+    let g = note_edges(edge_mask, k.edges, k.log, ends, log);
+    let e = mesh::rows::remove_edges(edge_mask, k.edges, ends, lengths);
+    let b = columns::keep_block_usize(side_mask, k.boundary, 2, outline.len() / 2, outline);
+    Ran::Done(Counts {
+        particles: k.particles,
+        triangles: k.triangles,
+        edges: e,
+        boundary: b,
+        log: g,
+    })
+}
