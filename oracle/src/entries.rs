@@ -1,6 +1,7 @@
 //! The C functions of docs/C-FUNCTIONS.md: declarations, tables of those that are there, and the
 //! one safe way to call them.
 use crate::image::{Image, bytes_of};
+use std::sync::atomic::{AtomicBool, Ordering};
 
 /// The type of a C function by its arguments: `bytes` is a pointer and a length, `number` a u32; last stands what it fills, the
 /// bytes of an `answer`, or those of a `mesh` and of its log.
@@ -119,7 +120,24 @@ impl Entry {
         matches!(self, Entry::Split | Entry::Straddlers | Entry::Cut | Entry::Crack)
     }
 }
+/// Whether `--partial` was among the words: what the archive lacks is left out then, and is no failure.
+static PARTIAL: AtomicBool = AtomicBool::new(false);
+pub fn set_partial() {
+    PARTIAL.store(true, Ordering::Relaxed);
+}
 impl Table {
+    /// Says which of these entries are not there. Gives how many of them are failures: all, as nothing is compared that is not there,
+    /// or none with `--partial`.
+    pub fn lacking(&self, entries: &[Entry]) -> usize {
+        let names: Vec<&str> = entries.iter().filter(|&&e| !self.has(e)).map(|e| e.name()).collect();
+        if names.is_empty() {
+            return 0;
+        }
+        let partial = PARTIAL.load(Ordering::Relaxed);
+        let how = if partial { "left out" } else { "NOT COMPARED, a failure (--partial leaves them out)" };
+        println!("not in the archive, {how}: {}", names.join(", "));
+        if partial { 0 } else { names.len() }
+    }
     pub fn has(&self, e: Entry) -> bool {
         match e {
             Entry::Root => self.root.is_some(),

@@ -1,5 +1,5 @@
-//! compare [--self] [--only reading|tearing|NAME] SEED RANDOM LARGE LIMIT DAMAGED: each C function
-//! that is there, on so many inputs of each kind, against document 01's checks and the published Rust.
+//! compare [--self] [--only reading|tearing|NAME] SEED RANDOM LARGE LIMIT DAMAGED: each C function, on
+//! so many inputs of each kind, against document 01's checks and the published Rust. One that the archive lacks is a failure.
 //! faults [SEED [NAME]]: plants each fault in the second writing; every one must be found.
 use crate::entries::{ENTRIES, Entry, Input, Table, archive, call};
 use crate::expect::{Expected, expected, fault};
@@ -104,7 +104,7 @@ pub fn run(words: &[String]) -> i32 {
     println!("{}, cases from {seed} on", if own { "the second writing behind the C functions" } else { "the archive" });
     for &e in &entries {
         if !t.has(e) {
-            println!("  {:29} not compared: it is not in the archive", e.name());
+            println!("  {:29} not in the archive", e.name());
             continue;
         }
         let mut total = [0; 9];
@@ -132,6 +132,7 @@ pub fn run(words: &[String]) -> i32 {
         println!("  {:29} {} accepted, {}", e.name(), n[0], refusals(*e, n));
     }
     let there = entries.iter().filter(|&&e| t.has(e)).count();
+    failures += t.lacking(&entries);
     println!("{there} functions compared, {} not there; {failures} failures", entries.len() - there);
     (failures > 0) as i32
 }

@@ -413,8 +413,8 @@ fn text(side: &Side, h: &History) -> String {
 
 // ---- the program ----------------------------------------------------------------------------
 
-/// The functions asked for, and the names of those that are left out.
-fn functions(own: bool, fill: bool) -> (Table, Vec<&'static str>) {
+/// The functions asked for.
+fn functions(own: bool, fill: bool) -> Table {
     plant(Fault::Nothing);
     let (mut t, mine) = (if own { table() } else { archive() }, table());
     if fill {
@@ -422,8 +422,9 @@ fn functions(own: bool, fill: bool) -> (Table, Vec<&'static str>) {
         t.split = t.split.or(mine.split);
         t.crack = t.crack.or(mine.crack);
         t.straddlers = t.straddlers.or(mine.straddlers);
+        t.pieces = t.pieces.or(mine.pieces);
     }
-    (t, CALLS.into_iter().filter(|&e| !t.has(e)).map(|e| e.name()).collect())
+    t
 }
 /// Plays histories up to the first that fails, which is made small and told.
 fn search(
@@ -517,12 +518,16 @@ fn asked(given: &[String]) -> Option<Asked> {
 }
 pub fn run(given: &[String]) -> i32 {
     let Some(Asked { own, fill, mistakes, count, seed }) = asked(given) else { return usage() };
-    let (table, lacking) = functions(own, fill);
+    let table = functions(own, fill);
+    // The four calls, and one that takes each result as its input.
+    if table.lacking(&[&CALLS[..], &[Entry::Pieces]].concat()) > 0 {
+        println!("no histories");
+        return 1;
+    }
     let there: Vec<Entry> = CALLS.into_iter().filter(|&e| table.has(e)).collect();
-    let left_out = if lacking.is_empty() { "nothing".into() } else { lacking.join(", ") };
     if there.is_empty() {
-        println!("no histories: the archive has none of {left_out}");
-        return 0;
+        println!("no histories: none of the calls is there");
+        return 1;
     }
     if !mistakes.is_empty() {
         return planted(&table, &there, &mistakes, seed..seed + count);
@@ -535,10 +540,7 @@ pub fn run(given: &[String]) -> i32 {
     }
     let (n, t, failures) = (seen.histories, &seen.tally, failed.is_some() as i32);
     let met = seen.shares[10];
-    println!(
-        "{n} histories, {} steps, {} copies, {met} met the bound; left out: {left_out}; {failures} failures",
-        t.steps, t.copies
-    );
+    println!("{n} histories, {} steps, {} copies, {met} met the bound; {failures} failures", t.steps, t.copies);
     failures
 }
 fn usage() -> i32 {

@@ -12,8 +12,15 @@ mod sheets;
 mod stack;
 mod vectors;
 
+use crate::entries;
+
 /// Runs the program and gives its exit code.
 pub fn start(words: &[String]) -> i32 {
+    if words.iter().any(|w| w == "--partial") {
+        entries::set_partial();
+        let others: Vec<String> = words.iter().filter(|w| *w != "--partial").cloned().collect();
+        return start(&others);
+    }
     let Some((name, rest)) = words.split_first() else {
         eprintln!("oracle cases | check | fuzz | compare | faults | hanging | histories | replay | bench | vectors | cutlist | sheet");
         eprintln!("  | sheets | stack (see oracle/README.md)");

@@ -1,5 +1,5 @@
 //! sheets COUNT [PROGRAM] [--seed N]: random and damaged sheets through the oracle's cutlist and
-//! through a compiled program (default target/bin/cutlist), standard input to standard output.
+//! through a compiled program (default: cutlist as `run` compiles it), standard input to standard output.
 //! sheet read FILE, sheet write < TEXT > FILE: a sheet as text and back.
 use crate::api::Blade;
 use crate::inputs::{long_blade, rope, soup};
@@ -328,7 +328,10 @@ pub fn run(words: &[String]) -> i32 {
         return 2;
     };
     let root = std::env::var("ORACLE_ROOT").unwrap_or(".".into());
-    let program = rest.get(1).cloned().unwrap_or(format!("{root}/target/bin/cutlist"));
+    let Some(program) = rest.get(1).cloned().or(std::env::var("ORACLE_CUTLIST").ok()) else {
+        eprintln!("sheets: no program is named");
+        return 2;
+    };
     let first = seed * 1_000_000_000;
     let (met, failed) = match all(&program, first..first + count, threads()) {
         Ok(r) => r,
