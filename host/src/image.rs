@@ -121,14 +121,14 @@ mod tests {
             mass: number(k + 4),
             inverse_mass: number(k + 5),
             root: k + 6,
-            damaged: k % 2 == 0,
+            damaged: k < 25,
         };
         let triangle =
             |k: u32| Triangle { corners: [k, k + 1, k + 2], rest_volume: number(k + 3), stress: number(k + 4) };
         let edge = |k: u32| Edge {
             ends: [k, k + 1],
-            structural: k % 2 == 0,
-            torn: k % 2 == 1,
+            structural: k < 75,
+            torn: k > 65,
             rest_length: number(k + 2),
             initial_rest_length: number(k + 3),
             impulse: number(k + 4),

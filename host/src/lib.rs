@@ -23,13 +23,17 @@
 
 mod ask;
 mod calls;
+mod draw;
 mod image;
 mod mesh;
+mod pieces;
 mod refusal;
 mod tear;
 
 pub use ask::{Groups, blade_hit, root};
+pub use draw::{draw_cut, draw_mesh, tell};
 pub use mesh::{Edge, Mesh, Particle, Triangle};
+pub use pieces::Piece;
 pub use refusal::Refusal;
 pub use tear::{Event, Rooms, Torn};
 

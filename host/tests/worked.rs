@@ -221,3 +221,28 @@ fn a_thread_of_one_mebibyte() {
     let thread = std::thread::Builder::new().stack_size(1 << 20).spawn(calls).unwrap();
     assert_eq!(thread.join().unwrap(), (1, 484.0));
 }
+
+/// The pieces that are listed are as many as the bench counts, also where they meet in a corner only, and weigh what the mesh weighs.
+#[test]
+fn pieces_as_the_bench_counts_them() {
+    let mut corner = Mesh::new();
+    for (x, y) in [(0.0, 0.0), (2.0, 0.0), (2.0, 2.0), (4.0, 2.0), (4.0, 4.0)] {
+        corner.add_particle(x, y);
+    }
+    corner.add_triangle(0, 1, 2);
+    corner.add_triangle(2, 3, 4);
+    let mut meshes = vec![Mesh::new(), square(), corner];
+    for k in 0..6 {
+        let slant = k as f32;
+        meshes.push(grid(5).cut([-1.0, slant, 6.0, 5.0 - slant], 0.1).unwrap().mesh);
+    }
+    for m in meshes {
+        // `list_pieces` holds its number to the bench's.
+        let pieces = m.list_pieces().unwrap();
+        let weight: f32 = pieces.iter().map(|p| p.mass).sum();
+        let whole: f32 = m.particles.iter().map(|p| p.mass).sum();
+        assert!((weight - whole).abs() < 1e-3, "{weight} of {whole}");
+        let measure: f32 = pieces.iter().map(|p| p.measure).sum();
+        assert!((measure - m.rest_measure().unwrap()).abs() < 1e-3);
+    }
+}
