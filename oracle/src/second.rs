@@ -222,7 +222,7 @@ pub fn opens_within(
     })
 }
 
-/// Document 01's pieces: sets of elements that chains of shared particles join.
+/// The pieces of R8.3: sets of elements that chains of shared particles join.
 pub fn pieces(m: &Mesh) -> u32 {
     let k = kind(m);
     let all: Vec<Vec<u32>> = elements(m, k).iter().map(|&e| corners(m, k, e)).collect();
