@@ -12,7 +12,7 @@ use std::fmt;
 /// let why = lone.pieces().unwrap_err();
 /// assert_eq!(why, Refusal::BadIndex);
 /// assert_eq!(why.number(), 3);
-/// assert!(why.to_string().contains("no particle"));
+/// assert!(why.to_string().contains("a particle that is not there"));
 /// ```
 #[derive(Clone, Copy, Debug, PartialEq, Eq, Hash)]
 #[non_exhaustive]
@@ -114,7 +114,7 @@ impl fmt::Display for Refusal {
         f.write_str(match self {
             Refusal::BadCount => "there are too many particles, triangles, edges or boundary entries",
             Refusal::BadNumber => "a number is too large, is not finite, or is below 0 where it must not be",
-            Refusal::BadIndex => "something names a particle that is not there, so no particle, or names one twice",
+            Refusal::BadIndex => "something names a particle that is not there, or names one twice",
             Refusal::BadArgument => "an argument of the call is bad",
             Refusal::NoParticleRoom => "there are not enough places for the particles",
             Refusal::NoEdgeRoom => "there are not enough places for the edges",
