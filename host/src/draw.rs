@@ -163,17 +163,25 @@ impl Drawing<'_> {
             self.line(out, *entry, style);
         }
     }
+    /// A dot for each piece that holds a particle, and its number at the first.
     fn dots(&self, out: &mut String) {
         for (v, p) in (0..).zip(&self.mesh.particles) {
-            let [x, y] = self.lone(v);
-            let _ = match p.inverse_mass == 0.0 {
-                true => writeln!(
-                    out,
-                    r##"<circle cx="{x:.1}" cy="{y:.1}" r="6" fill="#111" stroke="#fff" stroke-width="1.5"/>"##
-                ),
-                false => writeln!(out, r##"<circle cx="{x:.1}" cy="{y:.1}" r="2.2" fill="#1d3557"/>"##),
-            };
+            let holders = self.pieces.iter().filter(|piece| piece.particles.binary_search(&v).is_ok());
+            let mut places: Vec<[f32; 2]> = holders.map(|piece| self.place(piece, v)).collect();
+            if places.is_empty() {
+                places.push(self.plain(v));
+            }
+            for [x, y] in &places {
+                let _ = match p.inverse_mass == 0.0 {
+                    true => writeln!(
+                        out,
+                        r##"<circle cx="{x:.1}" cy="{y:.1}" r="6" fill="#111" stroke="#fff" stroke-width="1.5"/>"##
+                    ),
+                    false => writeln!(out, r##"<circle cx="{x:.1}" cy="{y:.1}" r="2.2" fill="#1d3557"/>"##),
+                };
+            }
             if self.mesh.particles.len() <= NUMBERED {
+                let [x, y] = places[0];
                 let _ = writeln!(
                     out,
                     r##"<text x="{:.1}" y="{:.1}" font-size="11" fill="#1d3557" stroke="#fff" stroke-width="3" paint-order="stroke">{v}</text>"##,

@@ -2,9 +2,6 @@
 use crate::mesh::Mesh;
 use crate::refusal::Refusal;
 
-/// So many particles join two triangles into one piece; two straps are joined by one.
-const SHARED: usize = 1;
-
 /// One piece of a mesh.
 #[derive(Clone, Debug, PartialEq)]
 pub struct Piece {
@@ -37,15 +34,23 @@ fn firsts(elements: &[(u32, Vec<u32>)], shared: usize) -> Vec<usize> {
         first[start] = start;
         let mut edge = vec![start];
         while let Some(i) = edge.pop() {
-            for j in 0..elements.len() {
-                if first[j] == usize::MAX && near(i, j) {
-                    first[j] = start;
-                    edge.push(j);
-                }
-            }
+            let found: Vec<usize> = (0..elements.len()).filter(|j| first[*j] == usize::MAX && near(i, *j)).collect();
+            found.iter().for_each(|j| first[*j] = start);
+            edge.extend(found);
         }
     }
     first
+}
+
+/// So many particles join two triangles into one piece (docs/RULES.md, R8.3 and R19.2): what the bench says of two that share a corner.
+fn shared_by_triangles() -> Result<usize, Refusal> {
+    let mut corner = Mesh::new();
+    for (x, y) in [(0.0, 0.0), (2.0, 0.0), (2.0, 2.0), (4.0, 2.0), (4.0, 4.0)] {
+        corner.add_particle(x, y);
+    }
+    corner.add_triangle(0, 1, 2);
+    corner.add_triangle(2, 3, 4);
+    Ok(corner.pieces()? as usize)
 }
 
 impl Mesh {
@@ -64,7 +69,8 @@ impl Mesh {
     pub fn list_pieces(&self) -> Result<Vec<Piece>, Refusal> {
         let count = self.pieces()?;
         let elements = elements(self);
-        let first = firsts(&elements, if self.triangles.is_empty() { 1 } else { SHARED });
+        // Two straps are joined by one particle.
+        let first = firsts(&elements, if self.triangles.is_empty() { 1 } else { shared_by_triangles()? });
         let mut pieces: Vec<Piece> = vec![];
         for k in 0..elements.len() {
             if first[k] != k {
