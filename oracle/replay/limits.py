@@ -1,7 +1,7 @@
 #!/usr/bin/env python3
 """Writes limits.txt: every refusal that a reading entry can meet, at the limit and one past it, in the form of the fixed list.
 
-The expected refusals are document 01's, by hand; `oracle/run replay read oracle/replay/limits.txt` holds every answer to the
+The expected refusals are those of docs/RULES.md, R3, by hand; `oracle/run replay read oracle/replay/limits.txt` holds every answer to the
 Rust. f32 next above 1,048,576 is 1,048,576.125, next above 4,194,304 is 4,194,304.5.
 """
 import struct
@@ -18,7 +18,7 @@ def word(n):
 
 
 def square():
-    """The square of document 01: the columns of its blocks, each a list of numbers."""
+    """The square of R15.7: the columns of its blocks, each a list of numbers."""
     return {
         "points": [[0, 4, 4, 0], [0, 0, 4, 4], [0, 4, 4, 0], [0, 0, 4, 4], [1] * 4, [1] * 4],
         "roots": [[0, 1, 2, 3], [0] * 4],

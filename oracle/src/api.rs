@@ -1,6 +1,6 @@
 //! The oracle in plain columns. Everything that decides a result is the source's own text; this
 //! file converts, derives the order of the log and the room per step from the journal, and adds
-//! document 01's own parts: checks, refusals for room, pieces.
+//! the bench's own parts (R1.3): checks, refusals for room, pieces.
 use crate::dynamics::soft_body::tearing::access::{self, PlainLog};
 use crate::dynamics::soft_body::*;
 use crate::journal::{self, BOUNDARY, EDGES, Op, PARTICLES};
@@ -322,7 +322,7 @@ impl Rooms {
         Rooms { particles: MAX_PARTICLES, edges: MAX_EDGES, boundary: MAX_BOUNDARY, log: MAX_LOG };
 }
 impl Outcome {
-    /// Document 01: the first step that does not fit refuses, with 5 before 6, 7, 8. 0 if all fit.
+    /// R4.2: the first step that does not fit refuses, with 5 before 6, 7, 8. 0 if all fit.
     pub fn refusal(&self, r: Rooms) -> u32 {
         for s in &self.steps {
             for (need, room, limit, no) in [
@@ -485,7 +485,7 @@ pub fn kind(m: &Mesh) -> u32 {
     access::kind(&m.to_body(None))
 }
 
-/// Document 01's cut entry read word for word: `cut_facets` or `cut_segments`, nothing after it.
+/// The cut entry of R9.10: `cut_facets` or `cut_segments`, nothing after it.
 pub fn cut(m: &Mesh, blade: Blade, fraction: f32) -> Outcome {
     let _g = journal::LOCK.lock().unwrap_or_else(|e| e.into_inner());
     journal::set_fraction(fraction);
@@ -581,7 +581,7 @@ pub fn blade_hit(blade: Blade, px: f32, py: f32, qx: f32, qy: f32) -> Option<f32
     access::blade_hit(blade.ends(), Vector::new(px, py), Vector::new(qx, qy))
 }
 
-/// Document 01's pieces, which are bodies from request L2 on: the crate's own `connected_pieces` on the elements alone. It
+/// The pieces of R8.3, which are bodies from request L2 on: the crate's own `connected_pieces` on the elements alone. It
 /// would also join by other edges and boundary, so these are taken away, and lone particles are not counted.
 pub fn bodies(m: &Mesh) -> u32 {
     let mut b = m.to_body(None);
@@ -610,7 +610,7 @@ pub fn pieces(m: &Mesh) -> u32 {
     labels.iter().collect::<HashSet<_>>().len() as u32
 }
 
-/// Checks 1 to 3 of document 01 on a mesh.
+/// Checks 1 to 3 (R3.2 to R3.4) on a mesh.
 pub fn check_mesh(m: &Mesh) -> u32 {
     let (np, nt, ne, nb) = (m.px.len(), m.ta.len(), m.ea.len(), m.ba.len());
     let lengths = [(np, MAX_PARTICLES), (nt, MAX_TRIANGLES), (ne, MAX_EDGES), (nb, MAX_BOUNDARY)];

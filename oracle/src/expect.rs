@@ -1,4 +1,4 @@
-//! What a C function must answer: the refusal by a plain reading of document 01's checks 1 to 4
+//! What a C function must answer: the refusal by a plain reading of the checks 1 to 4 (docs/RULES.md, R3)
 //! (the source checks nothing), the words by the published Rust.
 use crate::api;
 use crate::entries::{Entry, Got, Raw};

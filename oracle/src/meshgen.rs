@@ -1,4 +1,4 @@
-//! Random meshes and calls, all of them accepted by checks 1 to 4 of document 01.
+//! Random meshes and calls, all of them accepted by checks 1 to 4 (docs/RULES.md, R3).
 use crate::api::*;
 use crate::rng::Rng;
 use crate::vectors::{Call, Case};
@@ -65,7 +65,7 @@ pub fn mesh(r: &mut Rng) -> Mesh {
     m
 }
 
-/// Document 01's fan of three triangles at particle 0, two of which share a facet.
+/// R15.1: the fan of three triangles at particle 0, two of which share a facet.
 pub fn document_fan() -> Mesh {
     let mut m = Mesh::default();
     for (x, y) in [(0., 0.), (1., 0.), (1., 1.), (0., 1.), (-1., 0.), (-1., -1.)] {
@@ -76,7 +76,7 @@ pub fn document_fan() -> Mesh {
     }
     m
 }
-/// Document 01's three straps at a shared end.
+/// R15.2: three straps at a shared end.
 pub fn document_straps() -> Mesh {
     let mut m = Mesh::default();
     for i in 0..4 {
@@ -544,7 +544,7 @@ pub fn grid(w: u32, h: u32, r: &mut Rng, jitter: f32) -> Mesh {
     m
 }
 
-/// Large calls, up to the limits of document 01.
+/// Large calls, up to the limits of R2.9.
 pub fn big_case(seed: u64) -> Case {
     let mut r = Rng::new(seed ^ 0xb16_b16);
     let r = &mut r;

@@ -1,4 +1,4 @@
-//! Document 01's sheet and listing, from bytes to text. Ours, not the crate's.
+//! Sheet and listing (docs/RULES.md, R13 and R14), from bytes to text. Ours, not the crate's.
 use crate::api::*;
 
 pub struct Limits {

@@ -86,7 +86,7 @@ pub fn second(c: &Case) -> Answer {
     }
 }
 
-/// Checks 1 to 4 of document 01 on a call, in that order; 0 if it passes. Ours (the source checks
+/// Checks 1 to 4 (docs/RULES.md, R3) on a call, in that order; 0 if it passes. Ours (the source checks
 /// nothing). "Particle absent" is read as: the particle argument, and each of a particle list.
 pub fn check_call(c: &Case) -> u32 {
     let no = check_mesh(&c.mesh);
@@ -121,7 +121,7 @@ pub fn check_call(c: &Case) -> u32 {
 fn h(x: f32) -> String {
     format!("{:08x}", x.to_bits())
 }
-/// One NaN for all in results: document 01 counts any two as equal.
+/// One NaN for all in results: R1.4 counts any two as equal.
 fn one_nan(m: &Mesh) -> Mesh {
     let mut m = m.clone();
     for c in m.floats_mut() {

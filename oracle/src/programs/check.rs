@@ -1,4 +1,4 @@
-//! Every case under document 01's "Cases to hold".
+//! Every case to hold, R15 of docs/RULES.md.
 use crate::api::*;
 use crate::meshgen::{document_fan, document_straps};
 use crate::sheet::{self, Sheet};
@@ -11,7 +11,7 @@ impl T {
             println!("agrees   {name}");
         } else {
             self.1 += 1;
-            println!("DIFFERS  {name}: got {got:?}, document 01 says {want:?}");
+            println!("DIFFERS  {name}: got {got:?}, R15 says {want:?}");
         }
     }
 }

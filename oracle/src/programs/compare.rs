@@ -1,5 +1,5 @@
 //! compare [--self] [--only reading|tearing|NAME] SEED RANDOM LARGE LIMIT DAMAGED: each C function, on
-//! so many inputs of each kind, against document 01's checks and the published Rust. One that the archive lacks is a failure.
+//! so many inputs of each kind, against the checks of docs/RULES.md, R3, and the published Rust. One that the archive lacks is a failure.
 //! faults [SEED [NAME]]: plants each fault in the second writing; every one must be found.
 use crate::entries::{ENTRIES, Entry, Input, Table, archive, call};
 use crate::expect::{Expected, expected, fault};

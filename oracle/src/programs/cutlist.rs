@@ -1,4 +1,4 @@
-//! cutlist [whole] < sheet: document 01's program, by the published Rust; `whole` uses the crate's
+//! cutlist [whole] < sheet: the program of R14, by the published Rust; `whole` uses the crate's
 //! `cut_topology` in the place of the cut entry.
 use crate::sheet;
 use std::io::Read;

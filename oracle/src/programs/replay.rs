@@ -32,7 +32,7 @@ fn plain(image: Mesh, args: Args) -> Raw {
     i.out = need(&i);
     i.raw()
 }
-/// Document 01's cases for the entries that give a mesh.
+/// The cases to hold (R15) for the entries that give a mesh.
 fn document_tearing() -> Vec<Raw> {
     let fan = document_fan();
     let mut pinned = fan.clone();
@@ -64,7 +64,7 @@ fn document_tearing() -> Vec<Raw> {
         plain(square, Args::Straddlers),
     ]
 }
-/// Document 01's cases for the entries that read.
+/// The cases to hold (R15) for the entries that read.
 fn document() -> Vec<Raw> {
     let fan = document_fan();
     let straps = document_straps();

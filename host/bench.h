@@ -1,0 +1,97 @@
+/* The C functions of the Reckonhedge cutting bench; docs/C-FUNCTIONS.md tells the whole.
+ *
+ * Numbers in byte runs are little-endian words of 4 bytes; an f32 is the word of its bit pattern. A run of bytes is a pointer and a length; where the
+ * length is 0 the pointer may be NULL. Each function answers a refusal number, 0 if it accepts, and writes every byte of `out` (and `log`): its answer and 0
+ * behind it, nothing but 0 on a refusal. It reads and writes nothing else, keeps nothing between calls and takes no heap: threads may call at once.
+ * What is written must not overlap what is read, nor `out` overlap `log`. x86-64 only. Give the calling thread 1 MiB of stack. */
+#ifndef BENCH_H
+#define BENCH_H
+
+#include <stddef.h>
+#include <stdint.h>
+
+#ifdef __cplusplus
+extern "C" {
+#endif
+
+/* The most that a mesh can have. */
+#define BENCH_MAX_PARTICLES 1024u
+#define BENCH_MAX_TRIANGLES 1024u
+#define BENCH_MAX_EDGES 2048u
+#define BENCH_MAX_BOUNDARY 2048u
+/* The most entries of a log, and the most torn edges that one call takes. */
+#define BENCH_MAX_LOG 4096u
+#define BENCH_MAX_TORN 2048u
+
+/* The refusal numbers. */
+enum bench_refusal {
+    BENCH_ACCEPTED = 0,
+    BENCH_BAD_COUNT = 1,         /* a count is above its limit, or the image's length is not the one that its counts ask for */
+    BENCH_BAD_NUMBER = 2,        /* a number of mesh, blade or point is not finite or out of range, or a flag is not 0 or 1 */
+    BENCH_BAD_INDEX = 3,         /* an index or root names no particle, or an element, edge or boundary entry names one twice */
+    BENCH_BAD_ARGUMENT = 4,      /* a bad argument beside the mesh, or too few bytes for the answer */
+    BENCH_NO_PARTICLE_ROOM = 5,  /* the particles need more places than were lent, or than the limit */
+    BENCH_NO_EDGE_ROOM = 6,      /* so do the edges, at their longest in a step */
+    BENCH_NO_BOUNDARY_ROOM = 7,  /* so do the boundary entries */
+    BENCH_NO_LOG_ROOM = 8,       /* so do the log entries */
+    BENCH_BAD_SHEET = 9          /* a sheet is cut short, has bytes left over or a spare bit that is 1, or does not fit the lent bytes */
+};
+
+/* The kinds of a log entry, its first word; behind it stand a, b, p, q and the bits of t. */
+enum bench_log_kind {
+    BENCH_LOG_SPLIT = 1,    /* particle a is a new copy of particle b */
+    BENCH_LOG_REMOVED = 2,  /* the edge from a to b went, by the numbers of that moment */
+    BENCH_LOG_INSERTED = 3, /* the strap from a to b was cut through at t: it is now the straps a to p and q to b */
+    BENCH_LOG_OPENED = 4    /* the torn edge that was a to b in the input opened */
+};
+#define BENCH_LOG_ENTRY_WORDS 6u
+#define BENCH_LOG_ENTRY_BYTES 24u
+
+/* The bytes of the image of a mesh with p particles, t triangles, e edges and b boundary entries. */
+#define BENCH_IMAGE_BYTES(p, t, e, b) \
+    ((size_t)4 * ((size_t)4 + (size_t)8 * (size_t)(p) + (size_t)5 * (size_t)(t) + (size_t)8 * (size_t)(e) + (size_t)2 * (size_t)(b)))
+/* The result bytes that suffice for a call that gives a mesh, lent so many places: two words and an image. */
+#define BENCH_RESULT_BYTES(p, t, e, b) ((size_t)8 + BENCH_IMAGE_BYTES(p, t, e, b))
+
+/* The minimum piece that the bench offers for a crack. */
+#define BENCH_MINIMUM_PIECE 3u
+
+/* The square root of the f32 with these bits, correctly rounded: one word. Below 0 or not finite: 4. */
+uint32_t bench_root(uint32_t bits, uint8_t *out, size_t out_len);
+
+/* Does the blade x0 y0 x1 y1 hit the edge px py qx qy (8 words)? Two words: 1 and the bits of the fraction t along the edge, or 0 and 0. */
+uint32_t bench_blade_hit(const uint8_t *words, size_t words_len, uint8_t *out, size_t out_len);
+
+/* The groups of the fan of particle v under these sides, a byte 0 or 1 for each fan element: the number of groups, then each element's group. */
+uint32_t bench_groups(const uint8_t *image, size_t image_len, uint32_t v, const uint8_t *sides, size_t sides_len, uint8_t *out, size_t out_len);
+
+/* The rest volume of all triangles, or the initial rest length of all straps: one word, the bits of an f32. */
+uint32_t bench_rest_measure(const uint8_t *image, size_t image_len, uint8_t *out, size_t out_len);
+
+/* The same over the elements whose particles all stand in a strictly rising list, a word each. */
+uint32_t bench_rest_measure_of(const uint8_t *image, size_t image_len, const uint8_t *list, size_t list_len, uint8_t *out, size_t out_len);
+
+/* Would each group at v reach at least `minimum` elements (0 counts as 1) without v? One word, 1 or 0. */
+uint32_t bench_opens_without_confetti(const uint8_t *image, size_t image_len, uint32_t v, const uint8_t *sides, size_t sides_len, uint32_t minimum, uint8_t *out, size_t out_len);
+
+/* The number of pieces: one word. */
+uint32_t bench_pieces(const uint8_t *image, size_t image_len, uint8_t *out, size_t out_len);
+
+/* Splits particle v by the sides of its fan. `rooms` is 4 words, the places lent for particles, triangles, edges, boundary; `out` gets two words
+ * (1 if anything was split or inserted, else 0; the number of log entries) and the image of the new mesh, `log` 6 words an entry. */
+uint32_t bench_split(const uint8_t *image, size_t image_len, uint32_t v, const uint8_t *sides, size_t sides_len, const uint8_t *rooms, size_t rooms_len, uint8_t *out, size_t out_len, uint8_t *log, size_t log_len);
+
+/* Removes each edge, other than a strap, whose ends lie in two pieces. Answers as bench_split; the first word stays 0. */
+uint32_t bench_straddlers(const uint8_t *image, size_t image_len, const uint8_t *rooms, size_t rooms_len, uint8_t *out, size_t out_len, uint8_t *log, size_t log_len);
+
+/* Cuts along a blade of 4 words, x0 y0 x1 y1; `fraction`, the bits of an f32 from 0 to 0.5, keeps insertions that far from a strap's ends. Answers as bench_split. */
+uint32_t bench_cut(const uint8_t *image, size_t image_len, const uint8_t *blade, size_t blade_len, uint32_t fraction, const uint8_t *rooms, size_t rooms_len, uint8_t *out, size_t out_len, uint8_t *log, size_t log_len);
+
+/* Opens a crack across each torn edge, a word each, in the list's order; no group may fall below `minimum` elements. Answers as bench_split. */
+uint32_t bench_crack(const uint8_t *image, size_t image_len, const uint8_t *torn, size_t torn_len, uint32_t minimum, const uint8_t *rooms, size_t rooms_len, uint8_t *out, size_t out_len, uint8_t *log, size_t log_len);
+
+#ifdef __cplusplus
+}
+#endif
+
+#endif

@@ -1,0 +1,378 @@
+//! Pictures of meshes and of cuts, as SVG.
+use crate::mesh::Mesh;
+use crate::pieces::Piece;
+use crate::refusal::Refusal;
+use crate::tear::{Event, Torn};
+use std::fmt::Write;
+
+/// The side of a drawing, and the space around it.
+const SIDE: f32 = 420.0;
+const MARGIN: f32 = 24.0;
+const HEAD: f32 = 40.0;
+const LINE: f32 = 22.0;
+/// Up to so many particles are numbered; so many pieces have a line in a legend.
+const NUMBERED: usize = 40;
+const LISTED: usize = 10;
+/// The colours of pieces, in turn; none is near the blade's red.
+const COLOURS: [&str; 10] =
+    ["#8ecae6", "#ffc857", "#95d5a0", "#c3aed6", "#f4a988", "#7fd1c7", "#d9c79e", "#9db4f0", "#c7d36f", "#e6b8cf"];
+const BLADE: &str = "#d00000";
+
+/// Where things stand in a drawing, which is SIDE wide and as high as the mesh asks for.
+struct Frame {
+    low: [f32; 2],
+    scale: f32,
+    shift: [f32; 2],
+    high: f32,
+}
+impl Frame {
+    /// The frame that holds all these meshes, with a tenth of the side free around them.
+    fn around(meshes: &[&Mesh]) -> Frame {
+        let points = || meshes.iter().flat_map(|m| m.particles.iter().map(|p| p.position));
+        if points().next().is_none() {
+            return Frame { low: [0.0; 2], scale: 1.0, shift: [0.0; 2], high: 0.3 * SIDE };
+        }
+        let bound = |k: usize, start: f32, pick: fn(f32, f32) -> f32| points().fold(start, |x, p| pick(x, p[k]));
+        let low = [0, 1].map(|k| bound(k, f32::INFINITY, f32::min));
+        let wide = [0, 1].map(|k| bound(k, f32::NEG_INFINITY, f32::max) - low[k]);
+        let scale = 0.8 * SIDE / wide[0].max(wide[1]).max(1e-6);
+        let high = (wide[1] * scale + 0.2 * SIDE).max(0.3 * SIDE);
+        Frame { low, scale, shift: [(SIDE - wide[0] * scale) / 2.0, (high - wide[1] * scale) / 2.0], high }
+    }
+    /// A place of the mesh in the drawing; y goes up in a mesh and down in a picture.
+    fn at(&self, p: [f32; 2]) -> [f32; 2] {
+        let x = (p[0] - self.low[0]) * self.scale + self.shift[0];
+        let y = (p[1] - self.low[1]) * self.scale + self.shift[1];
+        [x, self.high - y]
+    }
+}
+
+fn mean(points: &[[f32; 2]]) -> [f32; 2] {
+    let n = points.len().max(1) as f32;
+    [0, 1].map(|k| points.iter().map(|p| p[k]).sum::<f32>() / n)
+}
+/// From a by a length towards b.
+fn towards(a: [f32; 2], b: [f32; 2], length: f32) -> [f32; 2] {
+    let d = [b[0] - a[0], b[1] - a[1]];
+    let far = d[0].hypot(d[1]);
+    if far < 1e-6 { a } else { [a[0] + d[0] / far * length, a[1] + d[1] / far * length] }
+}
+
+/// A number with up to three places.
+fn short(x: f32) -> String {
+    let s = format!("{x:.3}");
+    s.trim_end_matches('0').trim_end_matches('.').to_string()
+}
+fn many(n: usize, one: &str, more: &str) -> String {
+    format!("{n} {}", if n == 1 { one } else { more })
+}
+
+/// One drawing: a mesh, its pieces, and where each particle of each piece is drawn.
+struct Drawing<'a> {
+    mesh: &'a Mesh,
+    pieces: &'a [Piece],
+    frame: &'a Frame,
+    /// How far things that were parted are drawn apart.
+    gap: f32,
+}
+impl Drawing<'_> {
+    fn corners(&self, element: u32) -> Vec<u32> {
+        match self.mesh.triangles.get(element as usize) {
+            Some(t) => t.corners.to_vec(),
+            None => self.mesh.edges[element as usize].ends.to_vec(),
+        }
+    }
+    fn plain(&self, v: u32) -> [f32; 2] {
+        self.frame.at(self.mesh.particles[v as usize].position)
+    }
+    /// Whether another particle of its piece stands at the same place: a slit, as the two were one.
+    fn slit(&self, piece: &Piece, v: u32) -> bool {
+        let place = |v: &u32| self.mesh.particles[*v as usize].position;
+        piece.particles.iter().filter(|u| place(u) == place(&v)).count() > 1
+    }
+    /// Where a particle of a piece is drawn: the piece moved off the middle, and a side of a slit drawn back into its elements.
+    fn place(&self, piece: &Piece, v: u32) -> [f32; 2] {
+        let mut at = self.plain(v);
+        if self.gap == 0.0 {
+            return at;
+        }
+        if self.slit(piece, v) {
+            let own: Vec<[f32; 2]> = piece
+                .elements
+                .iter()
+                .map(|e| self.corners(*e))
+                .filter(|c| c.contains(&v))
+                .map(|c| mean(&c.iter().map(|u| self.plain(*u)).collect::<Vec<_>>()))
+                .collect();
+            at = towards(at, mean(&own), self.gap);
+        }
+        if self.pieces.len() < 2 {
+            return at;
+        }
+        let whole = mean(&(0..self.mesh.particles.len() as u32).map(|v| self.plain(v)).collect::<Vec<_>>());
+        let middle = mean(&piece.particles.iter().map(|v| self.plain(*v)).collect::<Vec<_>>());
+        let moved = towards(whole, middle, 1.5 * self.gap);
+        [at[0] + moved[0] - whole[0], at[1] + moved[1] - whole[1]]
+    }
+    /// Where a particle is drawn by itself: in the first piece that holds it.
+    fn lone(&self, v: u32) -> [f32; 2] {
+        match self.pieces.iter().find(|p| p.particles.binary_search(&v).is_ok()) {
+            Some(piece) => self.place(piece, v),
+            None => self.plain(v),
+        }
+    }
+    fn line(&self, out: &mut String, [a, b]: [u32; 2], style: &str) {
+        let ([x0, y0], [x1, y1]) = (self.lone(a), self.lone(b));
+        let _ = writeln!(out, r#"<line x1="{x0:.1}" y1="{y0:.1}" x2="{x1:.1}" y2="{y1:.1}" {style}/>"#);
+    }
+    fn elements(&self, out: &mut String) {
+        let straps = self.mesh.triangles.is_empty();
+        for (piece, colour) in self.pieces.iter().zip(COLOURS.iter().cycle()) {
+            for element in &piece.elements {
+                let at: Vec<[f32; 2]> = self.corners(*element).iter().map(|v| self.place(piece, *v)).collect();
+                let points: Vec<String> = at.iter().map(|[x, y]| format!("{x:.1},{y:.1}")).collect();
+                let points = points.join(" ");
+                let _ = match straps {
+                    true => writeln!(
+                        out,
+                        r##"<polyline points="{points}" fill="none" stroke="#444" stroke-width="11" stroke-linecap="round"/><polyline points="{points}" fill="none" stroke="{colour}" stroke-width="8" stroke-linecap="round"/>"##
+                    ),
+                    false => writeln!(
+                        out,
+                        r##"<polygon points="{points}" fill="{colour}" stroke="#fff" stroke-width="1.2" stroke-linejoin="round"/>"##
+                    ),
+                };
+            }
+        }
+    }
+    fn lines(&self, out: &mut String) {
+        let straps = self.mesh.triangles.is_empty();
+        for e in &self.mesh.edges {
+            match (straps, e.structural) {
+                (true, true) => {}
+                (false, true) => self.line(out, e.ends, r##"stroke="#4a5560" stroke-width="1.4""##),
+                (_, false) => self.line(out, e.ends, r##"stroke="#6b7680" stroke-width="1" stroke-dasharray="4 3""##),
+            }
+        }
+        for entry in &self.mesh.boundary {
+            let style = if straps {
+                r##"stroke="#1d3557" stroke-width="1.2""##
+            } else {
+                r##"stroke="#1d3557" stroke-width="2.6" stroke-linecap="round""##
+            };
+            self.line(out, *entry, style);
+        }
+    }
+    /// A dot for each piece that holds a particle, and its number at the first.
+    fn dots(&self, out: &mut String) {
+        for (v, p) in (0..).zip(&self.mesh.particles) {
+            let holders = self.pieces.iter().filter(|piece| piece.particles.binary_search(&v).is_ok());
+            let mut places: Vec<[f32; 2]> = holders.map(|piece| self.place(piece, v)).collect();
+            if places.is_empty() {
+                places.push(self.plain(v));
+            }
+            for [x, y] in &places {
+                let _ = match p.inverse_mass == 0.0 {
+                    true => writeln!(
+                        out,
+                        r##"<circle cx="{x:.1}" cy="{y:.1}" r="6" fill="#111" stroke="#fff" stroke-width="1.5"/>"##
+                    ),
+                    false => writeln!(out, r##"<circle cx="{x:.1}" cy="{y:.1}" r="2.2" fill="#1d3557"/>"##),
+                };
+            }
+            if self.mesh.particles.len() <= NUMBERED {
+                let [x, y] = places[0];
+                let _ = writeln!(
+                    out,
+                    r##"<text x="{:.1}" y="{:.1}" font-size="11" fill="#1d3557" stroke="#fff" stroke-width="3" paint-order="stroke">{v}</text>"##,
+                    x + 6.0,
+                    y - 6.0
+                );
+            }
+        }
+    }
+    fn blade(&self, out: &mut String, [x0, y0, x1, y1]: [f32; 4], id: &str) {
+        let ([ax, ay], [bx, by]) = (self.frame.at([x0, y0]), self.frame.at([x1, y1]));
+        if self.gap > 0.0 {
+            let _ = writeln!(
+                out,
+                r##"<g clip-path="url(#{id})"><line x1="{ax:.1}" y1="{ay:.1}" x2="{bx:.1}" y2="{by:.1}" stroke="{BLADE}" stroke-opacity="0.5" stroke-width="1.2" stroke-dasharray="2 5"/></g>"##
+            );
+            return;
+        }
+        let _ = writeln!(
+            out,
+            r##"<g clip-path="url(#{id})"><line x1="{ax:.1}" y1="{ay:.1}" x2="{bx:.1}" y2="{by:.1}" stroke="{BLADE}" stroke-width="2.4" stroke-linecap="round"/><circle cx="{ax:.1}" cy="{ay:.1}" r="4" fill="{BLADE}"/><circle cx="{bx:.1}" cy="{by:.1}" r="4" fill="#fff" stroke="{BLADE}" stroke-width="2"/></g>"##
+        );
+    }
+}
+
+/// What a picture shows in one panel.
+struct Panel<'a> {
+    title: String,
+    mesh: &'a Mesh,
+    pieces: Vec<Piece>,
+    blade: [f32; 4],
+    gap: f32,
+    /// What stands in the legend behind the pieces.
+    notes: Vec<String>,
+}
+impl Panel<'_> {
+    fn legend(&self) -> Vec<(Option<&'static str>, String)> {
+        let straps = self.mesh.triangles.is_empty();
+        let mut lines: Vec<(Option<&str>, String)> = vec![];
+        for (k, p) in self.pieces.iter().enumerate().take(LISTED) {
+            let n = p.elements.len();
+            let what = if straps { many(n, "strap", "straps") } else { many(n, "triangle", "triangles") };
+            let measure = if straps { "length" } else { "area" };
+            lines.push((
+                Some(COLOURS[k % COLOURS.len()]),
+                format!("piece {}: {what}, {measure} {}, mass {}", k + 1, short(p.measure), short(p.mass)),
+            ));
+        }
+        if self.pieces.len() > LISTED {
+            lines.push((None, format!("and {} more", many(self.pieces.len() - LISTED, "piece", "pieces"))));
+        }
+        lines.extend(self.notes.iter().map(|note| (None, note.clone())));
+        lines
+    }
+    fn svg(&self, out: &mut String, frame: &Frame, left: f32, id: &str) {
+        let d = Drawing { mesh: self.mesh, pieces: &self.pieces, frame, gap: self.gap };
+        let high = frame.high;
+        let _ = writeln!(out, r##"<g transform="translate({left:.0},{MARGIN})">"##);
+        let _ = writeln!(
+            out,
+            r##"<text x="0" y="18" font-size="17" font-weight="bold" fill="#222">{}</text>"##,
+            self.title
+        );
+        let _ = writeln!(
+            out,
+            r##"<g transform="translate(0,{HEAD})"><clipPath id="{id}"><rect width="{SIDE}" height="{high:.0}"/></clipPath><rect width="{SIDE}" height="{high:.0}" rx="8" fill="#f8f9fb" stroke="#d5dae0"/>"##
+        );
+        d.elements(out);
+        d.lines(out);
+        d.blade(out, self.blade, id);
+        d.dots(out);
+        let _ = writeln!(out, "</g>");
+        for (k, (colour, text)) in (1..).zip(self.legend()) {
+            let y = HEAD + high + LINE * k as f32 + 4.0;
+            if let Some(colour) = colour {
+                let _ = writeln!(
+                    out,
+                    r##"<rect x="0" y="{:.0}" width="14" height="14" rx="3" fill="{colour}" stroke="#667"/>"##,
+                    y - 12.0
+                );
+            }
+            let _ = writeln!(out, r##"<text x="22" y="{y:.0}" font-size="14" fill="#222">{text}</text>"##);
+        }
+        let _ = writeln!(out, "</g>");
+    }
+}
+
+/// The panels beside each other, on one scale.
+fn picture(panels: &[Panel]) -> String {
+    let frame = Frame::around(&panels.iter().map(|p| p.mesh).collect::<Vec<_>>());
+    let wide = MARGIN + panels.len() as f32 * (SIDE + MARGIN);
+    let lines = panels.iter().map(|p| p.legend().len()).max().unwrap_or(0);
+    let high = 2.0 * MARGIN + HEAD + frame.high + LINE * lines as f32;
+    let mut out = format!(
+        r##"<svg xmlns="http://www.w3.org/2000/svg" viewBox="0 0 {wide:.0} {high:.0}" width="{wide:.0}" height="{high:.0}" font-family="Helvetica, Arial, sans-serif">
+<rect width="100%" height="100%" fill="#fff"/>
+"##
+    );
+    for (k, panel) in panels.iter().enumerate() {
+        panel.svg(&mut out, &frame, MARGIN + k as f32 * (SIDE + MARGIN), &format!("panel{k}"));
+    }
+    out + "</svg>\n"
+}
+
+/// How often each kind of entry stands in a log, in words.
+fn summary(events: &[Event]) -> String {
+    let count = |kind: fn(&Event) -> bool| events.iter().filter(|e| kind(e)).count();
+    let copies = count(|e| matches!(e, Event::Split { .. }));
+    let gone = count(|e| matches!(e, Event::Removed { .. }));
+    let through = count(|e| matches!(e, Event::Inserted { .. }));
+    let mut parts = vec![];
+    if copies > 0 {
+        parts.push(many(copies, "new copy of a particle", "new copies of particles"));
+    }
+    if through > 0 {
+        parts.push(many(through, "strap cut through", "straps cut through"));
+    }
+    if gone > 0 {
+        parts.push(many(gone, "edge removed", "edges removed"));
+    }
+    parts.join(", ")
+}
+
+/// The edges, other than elements, whose ends lie in two pieces.
+fn straddlers(mesh: &Mesh, pieces: &[Piece]) -> usize {
+    let of = |v: u32| pieces.iter().position(|p| p.particles.binary_search(&v).is_ok());
+    let between = |[a, b]: [u32; 2]| of(a).zip(of(b)).is_some_and(|(p, q)| p != q);
+    mesh.edges.iter().filter(|e| between(e.ends)).count()
+}
+
+/// A mesh with a blade, as SVG: triangles or straps coloured by piece, the outline, pins as black dots, the blade in red (its first end full).
+///
+/// ```
+/// # let mut mesh = cutting_bench::Mesh::new();
+/// # for (x, y) in [(0.0, 0.0), (4.0, 0.0), (4.0, 4.0)] { mesh.add_particle(x, y); }
+/// mesh.add_triangle(0, 1, 2);
+/// let svg = cutting_bench::draw_mesh(&mesh, [0.0, 1.0, 4.0, 1.0])?;
+/// assert_eq!(svg.matches("<polygon").count(), 1);
+/// # Ok::<(), cutting_bench::Refusal>(())
+/// ```
+pub fn draw_mesh(mesh: &Mesh, blade: [f32; 4]) -> Result<String, Refusal> {
+    let pieces = mesh.list_pieces()?;
+    let title = many(pieces.len(), "piece", "pieces");
+    Ok(picture(&[Panel { title, mesh, pieces, blade, gap: 0.0, notes: vec![] }]))
+}
+
+/// A mesh and what a cut made of it, beside each other, as SVG; what was parted is drawn slightly apart, and a legend tells the pieces and their masses.
+///
+/// ```
+/// # let mut mesh = cutting_bench::Mesh::new();
+/// # for (x, y) in [(0.0, 0.0), (4.0, 0.0), (4.0, 4.0), (0.0, 4.0)] { mesh.add_particle(x, y); }
+/// # mesh.add_triangle(0, 1, 2);
+/// # mesh.add_triangle(0, 2, 3);
+/// let blade = [-1.0, -1.0, 5.0, 5.0];
+/// let svg = cutting_bench::draw_cut(&mesh, blade, &mesh.cut(blade, 0.1)?)?;
+/// assert!(svg.contains("after the cut: 2 pieces"));
+/// # Ok::<(), cutting_bench::Refusal>(())
+/// ```
+pub fn draw_cut(mesh: &Mesh, blade: [f32; 4], torn: &Torn) -> Result<String, Refusal> {
+    let (old, new) = (mesh.list_pieces()?, torn.mesh.list_pieces()?);
+    let counted = |pieces: &[Piece]| many(pieces.len(), "piece", "pieces");
+    let changed = if torn.events.is_empty() { ", nothing changed" } else { "" };
+    let titles = [format!("before: {}", counted(&old)), format!("after the cut: {}{changed}", counted(&new))];
+    let mut notes = vec![];
+    if !torn.events.is_empty() {
+        notes.push(summary(&torn.events));
+    }
+    match straddlers(&torn.mesh, &new) {
+        0 => {}
+        n => notes.push(format!("{} two pieces (a straddler)", many(n, "edge still joins", "edges still join"))),
+    }
+    let [first, second] = titles;
+    Ok(picture(&[
+        Panel { title: first, mesh, pieces: old, blade, gap: 0.0, notes: vec![] },
+        Panel { title: second, mesh: &torn.mesh, pieces: new, blade, gap: 7.0, notes },
+    ]))
+}
+
+/// What happened, in words.
+///
+/// ```
+/// use cutting_bench::{tell, Event};
+/// assert_eq!(tell(&Event::Split { copy: 4, source: 0 }), "particle 0 was split; 4 is the copy");
+/// ```
+pub fn tell(event: &Event) -> String {
+    match event {
+        Event::Split { copy, source } => format!("particle {source} was split; {copy} is the copy"),
+        Event::Removed { a, b } => format!("the edge from {a} to {b} went"),
+        Event::Inserted { a, b, p, q, .. } => {
+            format!("the strap from {a} to {b} was cut through; {p} and {q} are the new ends")
+        }
+        Event::Opened { a, b } => format!("the torn edge from {a} to {b} opened"),
+    }
+}

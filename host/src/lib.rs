@@ -1,0 +1,41 @@
+//! The Reckonhedge cutting bench for a Rust host.
+//!
+//! A [`Mesh`] of foam triangles or of webbing straps is cut along a blade, cracked across torn edges, split at a particle or freed of straddlers; each call
+//! gives a [`Torn`], the new mesh with what happened, or a [`Refusal`] in words. The work is done by the bench's C functions (`host/bench.h`), whose
+//! sources are proved; this crate packs and unpacks, and decides nothing.
+//!
+//! ```
+//! use cutting_bench::{Event, Mesh};
+//! let mut foam = Mesh::new();
+//! for (x, y) in [(0.0, 0.0), (4.0, 0.0), (4.0, 4.0), (0.0, 4.0)] {
+//!     foam.add_particle(x, y);
+//! }
+//! foam.add_triangle(0, 1, 2);
+//! foam.add_triangle(0, 2, 3);
+//! let torn = foam.cut([-1.0, -1.0, 5.0, 5.0], 0.1)?;
+//! assert_eq!(torn.events, [Event::Split { copy: 4, source: 0 }, Event::Split { copy: 5, source: 2 }]);
+//! assert_eq!(torn.mesh.pieces()?, 2);
+//! # Ok::<(), cutting_bench::Refusal>(())
+//! ```
+//!
+//! A call takes up to 826 KB of stack: the threads of the standard library (2 MiB) have enough, a thread of its own size should have 1 MiB.
+#![deny(unsafe_code, missing_docs)]
+
+mod ask;
+mod calls;
+mod draw;
+mod image;
+mod mesh;
+mod pieces;
+mod refusal;
+mod tear;
+
+pub use ask::{Groups, blade_hit, root};
+pub use draw::{draw_cut, draw_mesh, tell};
+pub use mesh::{Edge, Mesh, Particle, Triangle};
+pub use pieces::Piece;
+pub use refusal::Refusal;
+pub use tear::{Event, Rooms, Torn};
+
+/// The minimum piece that the bench offers for a crack.
+pub const MINIMUM_PIECE: u32 = 3;
