@@ -6,7 +6,7 @@ use mathlib.Core.List.{List, [], _∷_, _++_, map}
 use native.Mathlib.Omega.{arith}
 use borrow.Author.Tests.{leb-true}
 use lib.Dec.{T, leb, eqb}
-use lib.ListN.{length, getD, drop, replicate, length-map}
+use lib.ListN.{length, getD, take, drop, replicate, length-map}
 use lib.Seq.{take-at}
 use lib.Ieee.{Float, nan, inf, binary32, fits, nanBits, ofBits}
 use lib.Ieee.Bits.{ofBits-fits}
@@ -267,7 +267,8 @@ module _ (lent logged a n : ℕ) (M : Mesh) (F : Few M) (out : List ℕ) (is : o
       let z = replicate {A = ℕ} (lent - length (bytesIn (a ∷ n ∷ ws))) 0 in
       let d : drop 8 out ≡ bytesIn ws ++ z = ap (drop 8) is in
       let k : length (bytesIn ws) ≡ 4 * imageWords (length (M .particles)) (length (M .triangles)) (length (M .edges)) (length (M .boundary)) = bytes-length ws ∙ ap (λ (m : ℕ). 4 * m) (image-long M) in
-      rw (p, t, e, b, d) (take-at (bytesIn ws) z _ k)
+      let m = 4 * imageWords (length (M .particles)) (length (M .triangles)) (length (M .edges)) (length (M .boundary)) in
+      rw (p, t, e, b) (ap (take m) d ∙ take-at (bytesIn ws) z m k)
 
   pub entries-back : (more : List Entry) (log : List ℕ) → n ≡ length more → Word n → log ≡ written logged (wordsIn (map wordsOf more)) → entriesIn out log ≡ bytesIn (wordsIn (map wordsOf more))
   unfolding entriesIn written padded
