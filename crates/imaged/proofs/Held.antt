@@ -2,29 +2,27 @@
 use Prim.Native.Nat.{ℕ, zero, suc, _+_, _*_, _<_, _≤_}
 use mathlib.Core.Path.{_≡_, refl, sym, ap, _∙_, subst}
 use mathlib.Core.Bool.{Bool, true, false, _&&_}
-use mathlib.Core.List.{List, [], _∷_, _++_, map, append-nil, append-assoc}
+use mathlib.Core.List.{List, [], _∷_, _++_, append-nil, append-assoc}
 use native.Mathlib.Omega.{arith}
 use borrow.Author.Tests.{ltb-true, le-leb, eq-eqb}
-use lib.Dec.{ltb}
 use lib.ListN.{length, getD, length-append, length-map, List·getD-append}
 use lib.Ieee.{Float, nan, inf, fin, binary32, toBits, isNan, le, lt, eq}
 use Rattle.lists.specs.Lists.{all}
 use Rattle.float.specs.Numbers.{absOf}
 use Rattle.float.specs.Ranges.{finite?, number?, volume?, notBelow0?}
-use Rattle.columns.specs.Block.{stack}
 use Rattle.model.specs.Mesh.{Particle, Triangle, Edge, Side, Mesh}
 use Rattle.model.specs.Valid.{flag?, particleOk, triangleOk, edgeOk, numbersFit}
 use Rattle.model.specs.Trace.{All, Sound}
 use Rattle.model.proofs.Laws.{and-true, all-over, all-map, all-from}
 use Rattle.model.proofs.Indexed.{Pair, Indexed}
 use Rattle.model.proofs.Accepted.{accepted-indexed}
-use Rattle.mesh.specs.Given.{Given, given, meshOf}
+use Rattle.mesh.specs.Given.{given, meshOf}
 use Rattle.mesh.specs.Filled.{pointOf, rootOf, cornerOf, volumeOf, endOf, lengthOf, sideOf}
 use Rattle.image.specs.Words.{wordAt, wordsFrom, numbersFrom, bitsIn}
 use Rattle.image.specs.Image.{imageWords, imageFits, blocksIn, imageOf, countsWithin, imageSized, imageWordsOf}
 use Rattle.image.proofs.Words.{bytes-length}
 use Rattle.image.proofs.Sizes.{sizes-are}
-use Rattle.lineage.specs.History.{Particle32, Triangle32, Edge32, Stored, Accepted, Few}
+use Rattle.lineage.specs.History.{Particle32, Triangle32, Edge32, Accepted, Few}
 use Rattle.imaged.specs.Bytes.{bytesIn, imageBytes}
 use Rattle.imaged.proofs.Words.{Word, Plain, word-of, words-there, numbers-there, stack-all}
 use Rattle.imaged.proofs.Packed.{packedOf, packed-held, points-long, roots-long, corners-long, volumes-long, ends-long, lengths-long, outline-long}
@@ -204,7 +202,7 @@ module _ (ws A C : List ℕ) (at n : ℕ) (a : length A ≡ at) where
 -- ---- the image of a mesh
 
 -- the counts of a mesh
-abbrev countsFirst : Mesh → List ℕ
+abbrev pub countsFirst : Mesh → List ℕ
 countsFirst M = length (M .particles) ∷ length (M .triangles) ∷ length (M .edges) ∷ length (M .boundary) ∷ []
 
 module _ (M : Mesh) where
@@ -255,17 +253,20 @@ module _ (M : Mesh) where
       ap length image-words
       ∙ omega (arith, length-append (countsFirst M ++ bitsIn (packedOf M .points) ++ packedOf M .roots ++ packedOf M .corners ++ bitsIn (packedOf M .volumes) ++ packedOf M .ends ++ bitsIn (packedOf M .lengths)) (packedOf M .outline), long-lengths, outline-long M)
 
+  -- it begins with the counts
+  pub count-first : (i : ℕ) → i < 4 → getD (imageWordsOf M) i 0 ≡ getD (countsFirst M) i 0
+  count-first i h =
+      let G = packedOf M in
+      let rest = bitsIn (G .points) ++ (G .roots ++ (G .corners ++ (bitsIn (G .volumes) ++ (G .ends ++ (bitsIn (G .lengths) ++ G .outline))))) in
+      ap (λ (u : List ℕ). getD u i 0) (image-words ∙ at-points (countsFirst M) (bitsIn (G .points)) (G .roots) (G .corners) (bitsIn (G .volumes)) (G .ends) (bitsIn (G .lengths)) (G .outline))
+      ∙ List·getD-append (countsFirst M) rest 0 i h
+
 module _ (M : Mesh) (W : Writable M) (F : Few M) where
   -- each count is read as it is
   count-at : (i : ℕ) → i < 4 → Word (getD (countsFirst M) i 0) → wordAt (imageBytes M) i ≡ getD (countsFirst M) i 0
   count-at i h w =
-      let G = packedOf M in
-      let rest = bitsIn (G .points) ++ (G .roots ++ (G .corners ++ (bitsIn (G .volumes) ++ (G .ends ++ (bitsIn (G .lengths) ++ G .outline))))) in
-      let is : imageWordsOf M ≡ countsFirst M ++ rest = image-words M ∙ at-points (countsFirst M) (bitsIn (G .points)) (G .roots) (G .corners) (bitsIn (G .volumes)) (G .ends) (bitsIn (G .lengths)) (G .outline) in
-      let g : getD (countsFirst M ++ rest) i 0 ≡ getD (countsFirst M) i 0 = List·getD-append (countsFirst M) rest 0 i h in
-      ap (λ (s : List ℕ). wordAt s i) (sym (append-nil (imageBytes M)))
-      ∙ (ap (λ (u : List ℕ). wordAt (bytesIn u ++ []) i) is
-      ∙ (word-of (countsFirst M ++ rest) [] i (omega (arith, length-append (countsFirst M) rest)) (subst Word (sym g) w) ∙ g))
+      let g = count-first M i h in
+      ap (λ (s : List ℕ). wordAt s i) (sym (append-nil (imageBytes M))) ∙ (word-of (imageWordsOf M) [] i (omega (arith, image-long M)) (subst Word (sym g) w) ∙ g)
 
   read-particles : wordAt (imageBytes M) 0 ≡ length (M .particles)
   read-particles = count-at 0 (omega arith) (omega (arith, F .particles))

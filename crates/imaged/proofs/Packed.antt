@@ -1,16 +1,15 @@
 -- Blocks that are just as long as the columns of a mesh hold that mesh. Assumes nothing.
-use Prim.Native.Nat.{ℕ, zero, suc, _-_, _*_, _/_, _<_, _≤_}
+use Prim.Native.Nat.{ℕ, zero, suc, _-_, _*_, _/_}
 use mathlib.Core.Path.{_≡_, refl, sym, ap, ap₂, _∙_, subst}
-use mathlib.Core.List.{List, [], _∷_, _++_, map, append-nil}
+use mathlib.Core.List.{List, [], _++_, map, append-nil}
 use native.Mathlib.Omega.{arith}
 use lib.ListN.{length, replicate, length-map}
-use lib.Ieee.{Float}
 use Rattle.lists.specs.Lists.{padded, each}
 use Rattle.float.specs.Numbers.{zero32}
 use Rattle.columns.specs.Block.{stack, blockOf}
-use Rattle.model.specs.Mesh.{Particle, Triangle, Edge, Side, Mesh}
+use Rattle.model.specs.Mesh.{Mesh}
 use Rattle.mesh.specs.At.{meshAt}
-use Rattle.mesh.specs.Log.{World, worldOf}
+use Rattle.mesh.specs.Log.{worldOf}
 use Rattle.mesh.specs.Given.{Given, Lent, given, sizes, meshOf}
 use Rattle.mesh.specs.Filled.{Filled, lent, pointOf, rootOf, cornerOf, volumeOf, endOf, lengthOf, sideOf}
 use Rattle.mesh.specs.declared.Counts.{Counts}

@@ -1,15 +1,15 @@
 -- Words written as bytes, read back. Assumes nothing.
-use Prim.Native.Nat.{ℕ, zero, suc, _+_, _*_, _/_, _%_, _<_, _≤_}
-use mathlib.Core.Path.{_≡_, refl, sym, ap, _∙_, subst}
-use mathlib.Core.Bool.{Bool, true, false}
-use mathlib.Core.List.{List, [], _∷_, _++_, map, append-assoc}
+use Prim.Native.Nat.{ℕ, zero, suc, _+_, _*_, _/_, _%_, _<_}
+use mathlib.Core.Path.{_≡_, sym, ap, _∙_, subst}
+use mathlib.Core.Bool.{false}
+use mathlib.Core.List.{List, [], _∷_, _++_, append-assoc}
 use native.Mathlib.Omega.{arith}
 use lib.Dec.{T}
 use lib.ListN.{length, getD, length-append, length-map, List·getD-append}
 use lib.Seq.{getD-append-add}
-use lib.Ieee.{Float, nan, inf, fin, binary32, fits, isNan, ofBits, toBits, nanBits}
+use lib.Ieee.{Float, nan, binary32, fits, isNan, ofBits, toBits, nanBits}
 use lib.Ieee.Bits.{ofBits-toBits, toBits-lt, nanBits-is}
-use Rattle.lists.specs.Lists.{pick, tab, each}
+use Rattle.lists.specs.Lists.{tab, each}
 use Rattle.lists.proofs.Stores.{map-at}
 use Rattle.columns.specs.Block.{stack}
 use Rattle.columns.proofs.Rows.{tab-ext, tab-of}

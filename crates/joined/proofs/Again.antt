@@ -5,13 +5,11 @@ use mathlib.Core.Bool.{Bool, true, not}
 use mathlib.Core.List.{List}
 use native.Mathlib.Omega.{arith}
 use borrow.Author.Tests.{eq-eqb, le-leb, leb-true}
-use lib.Dec.{T}
 use lib.ListN.{length}
-use lib.Ieee.{binary32, fits}
 use Rattle.lists.specs.Lists.{pick, tab}
 use Rattle.columns.specs.Block.{cell}
 use Rattle.columns.proofs.Rows.{tab-length}
-use Rattle.model.specs.Mesh.{Particle, Triangle, Edge, Side, Mesh}
+use Rattle.model.specs.Mesh.{Particle, Side, Mesh}
 use Rattle.model.specs.Elements.{cornersOf, endsOf}
 use Rattle.model.specs.Valid.{numbersFit, indicesFit}
 use Rattle.model.specs.Calls.{refusal}
@@ -29,7 +27,7 @@ use Rattle.joined.proofs.Histories.{told, stores-told}
 
 -- ---- what f32 columns hold
 
-all-tab : {A : Type 0} (P : A → Type 0) (n : ℕ) (f : ℕ → A) → ((k : ℕ) → P (f k)) → All P (tab n f)
+pub all-tab : {A : Type 0} (P : A → Type 0) (n : ℕ) (f : ℕ → A) → ((k : ℕ) → P (f k)) → All P (tab n f)
 unfolding tab
 all-tab P zero f h = tt
 all-tab P (suc n) f h = (h 0, all-tab P n (λ k. f (suc k)) (λ k. h (suc k)))
