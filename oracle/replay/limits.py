@@ -87,12 +87,17 @@ whole = image(square())
 for cut in (0, 15, 16, len(whole) - 1):
     call("bench_pieces", [hexed(whole[:cut])], 4, 1)
 call("bench_pieces", [hexed(whole + b"\0")], 4, 1)
-for column, x, refusal in ((0, 1048576, 0), (0, -1048576, 0), (0, NEXT, 2), (1, -NEXT, 2), (2, NEXT, 2), (3, NEXT, 2), (4, NEXT, 2),
+# The last word of each block in turn is missing.
+end = 16
+for block, columns in square().items():
+    end += 4 * sum(len(column) for column in columns)
+    call("bench_pieces", [hexed(whole[:end - 4] + whole[end:])], 4, 1)
+for column, x, refusal in ((0, 1048576, 0), (0, -1048576, 0), (0, NEXT, 2), (1, -NEXT, 2), (2, NEXT, 2), (2, -NEXT, 2), (3, NEXT, 2), (4, NEXT, 2),
                            (5, 1e30, 0), (5, INF, 2), (4, NAN, 2), (0, INF, 2), (5, NAN, 2)):
     pieces(changed("points", column, 0, x), refusal, 1)
 for column, x, refusal in ((0, -4194304, 0), (0, 4194304, 0), (0, NEXT_VOLUME, 2), (1, NEXT, 2), (1, NAN, 2)):
     pieces(changed("volumes", column, 0, x), refusal, 1)
-for column, x, refusal in ((0, -0.0, 0), (0, TINY, 2), (1, TINY, 2), (0, 1048576, 0), (1, NEXT, 2), (2, -NEXT, 2), (3, -INF, 2)):
+for column, x, refusal in ((0, -0.0, 0), (0, TINY, 2), (1, TINY, 2), (1, -1, 2), (0, 1048576, 0), (1, NEXT, 2), (2, NEXT, 2), (2, -NEXT, 2), (3, -INF, 2)):
     pieces(changed("lengths", column, 0, x), refusal, 1)
 for block, column, x, refusal in (("roots", 1, 1, 0), ("roots", 1, 2, 2), ("ends", 2, 2, 2), ("ends", 3, 1, 0), ("ends", 3, 2, 2),
                                   ("roots", 0, 3, 0), ("roots", 0, 4, 3), ("corners", 0, 3, 0), ("corners", 0, 4, 3), ("corners", 0, 1, 3),

@@ -1,41 +1,66 @@
 #!/usr/bin/env python3
-"""Packs the list of calls for the program replay: oracle/replay/pack.py [--only NAME,NAME..] LIST.. > crates/replay/stdin
+"""Packs the lists of calls for the program replay: oracle/replay/pack.py [--only NAME,NAME..] LIST.. > crates/replay/stdin
 
-A call of the list (oracle/README.md, 'The fixed lists') becomes eight little-endian words of 4 bytes: kind, particle, minimum,
-bytes of the image, bytes of the arguments, bytes of the expected words, bytes lent, refusal; then those bytes.
+A call of a list (oracle/README.md, 'The fixed lists') becomes eleven little-endian words of 4 bytes: kind, a particle or a number, minimum,
+bytes of the image, of the arguments, of the rooms, of the expected result and of the expected log, bytes lent for result and log, refusal;
+then those bytes. A call that only reads has no rooms and no log.
 """
 import struct
 import sys
 
 KINDS = ["bench_root", "bench_blade_hit", "bench_groups", "bench_rest_measure", "bench_rest_measure_of",
-         "bench_opens_without_confetti", "bench_pieces"]
+         "bench_opens_without_confetti", "bench_pieces", "bench_split", "bench_straddlers", "bench_cut", "bench_crack"]
 
 
 def raw(text):
     return b"" if text == "-" else bytes.fromhex(text)
 
 
+def words(text):
+    return b"".join(struct.pack("<I", int(w, 16)) for w in text.split())
+
+
+def decimal(text):
+    return int(text)
+
+
+def hexadecimal(text):
+    return int(text, 16)
+
+
+# What stands between the name and the bytes lent, by kind: the parts of a call, each with its reader.
+IMAGE, ARGS, ROOMS = ("image", raw), ("args", raw), ("rooms", raw)
+NUMBER, BITS, MINIMUM = ("number", decimal), ("number", hexadecimal), ("minimum", decimal)
+PARTS = {
+    "bench_root": [BITS],
+    "bench_blade_hit": [ARGS],
+    "bench_groups": [IMAGE, NUMBER, ARGS],
+    "bench_rest_measure": [IMAGE],
+    "bench_rest_measure_of": [IMAGE, ARGS],
+    "bench_opens_without_confetti": [IMAGE, NUMBER, ARGS, MINIMUM],
+    "bench_pieces": [IMAGE],
+    "bench_split": [IMAGE, NUMBER, ARGS, ROOMS],
+    "bench_straddlers": [IMAGE, ROOMS],
+    "bench_cut": [IMAGE, ARGS, BITS, ROOMS],
+    "bench_crack": [IMAGE, ARGS, MINIMUM, ROOMS],
+}
+
+
 def packed(line):
-    given, wanted = [part.split() for part in line.split("=")]
-    kind, args = KINDS.index(given[0]), given[1:-1]
-    lent, refusal = int(given[-1]), int(wanted[0])
-    words = b"".join(struct.pack("<I", int(w, 16)) for w in wanted[1:])
-    v = minimum = 0
-    image = rest = b""
-    if kind == 0:
-        v = int(args[0], 16)
-    elif kind == 1:
-        rest = raw(args[0])
-    else:
-        image = raw(args[0])
-        if kind in (2, 5):
-            v, rest = int(args[1]), raw(args[2])
-        if kind == 5:
-            minimum = int(args[3])
-        if kind == 4:
-            rest = raw(args[1])
-    head = struct.pack("<8I", kind, v, minimum, len(image), len(rest), len(words), lent, refusal)
-    return head + image + rest + words
+    given, wanted = line.split("=")
+    name, *given = given.split()
+    parts = PARTS[name]
+    if len(given) != len(parts) + (2 if ROOMS in parts else 1):
+        sys.exit("a call of %s with %d parts" % (name, len(given)))
+    c = {"number": 0, "minimum": 0, "image": b"", "args": b"", "rooms": b""}
+    for (part, read), text in zip(parts, given):
+        c[part] = read(text)
+    lent = [int(n) for n in given[len(parts):]] + [0]
+    refusal, _, answer = wanted.strip().partition(" ")
+    result, _, log = answer.partition("|")
+    runs = [c["image"], c["args"], c["rooms"], words(result), words(log)]
+    head = [KINDS.index(name), c["number"], c["minimum"]] + [len(r) for r in runs] + lent[:2] + [int(refusal)]
+    return struct.pack("<11I", *head) + b"".join(runs)
 
 
 args, only = sys.argv[1:], KINDS

@@ -6,16 +6,20 @@ ghost use lib.ListN.{length};
 use libc::STDIN_FILENO;
 use libc::STDOUT_FILENO;
 
-// One call of the list: where its parts begin in the bytes, and what is expected.
+// One call of the list: where its parts begin in the bytes (the image, the arguments beside it, the rooms, the words of the result and
+// of the log that are expected), how many bytes are lent for result and log, and the refusal that is expected.
 struct Call {
     kind: usize,
     number: usize,
     minimum: usize,
     image: usize,
     args: usize,
+    rooms: usize,
     words: usize,
+    noted: usize,
     next: usize,
     lent: usize,
+    lent_log: usize,
     refusal: usize,
 }
 
@@ -26,10 +30,10 @@ enum Step {
 }
 
 // Room for the list.
-fn room() -> [u8; 524288]
-    ensures { λ r. ⌜ 524288 ≡ length r ⌝ }
+fn room() -> [u8; 589824]
+    ensures { λ r. ⌜ 589824 ≡ length r ⌝ }
 {
-    [0; 524288]
+    [0; 589824]
 }
 
 fn wide(x: u8) -> usize
@@ -54,16 +58,18 @@ fn word(bytes: &[u8], i: usize) -> usize
         + 16777216 * wide(bytes[i + 3])
 }
 
-// The call that begins at place i. Eight words come first: its kind, a particle or a number, a minimum, how many bytes the
-// image, the arguments and the expected words have, the bytes lent, and the refusal.
+// The call that begins at place i. Eleven words come first: its kind, a particle or a number, a minimum, how many bytes the
+// image, the arguments, the rooms, the expected result and the expected log have, the bytes lent for both, and the refusal.
 fn call_at(bytes: &[u8], i: usize) -> Step {
     if 4294967296 < i {
         return Step::End;
     }
-    let image = i + 32;
+    let image = i + 44;
     let args = image + word(bytes, i + 12);
-    let words = args + word(bytes, i + 16);
-    let next = words + word(bytes, i + 20);
+    let rooms = args + word(bytes, i + 16);
+    let words = rooms + word(bytes, i + 20);
+    let noted = words + word(bytes, i + 24);
+    let next = noted + word(bytes, i + 28);
     if bytes.len() < next {
         return Step::End;
     }
@@ -73,14 +79,17 @@ fn call_at(bytes: &[u8], i: usize) -> Step {
         minimum: word(bytes, i + 8),
         image,
         args,
+        rooms,
         words,
+        noted,
         next,
-        lent: word(bytes, i + 24),
-        refusal: word(bytes, i + 28),
+        lent: word(bytes, i + 32),
+        lent_log: word(bytes, i + 36),
+        refusal: word(bytes, i + 40),
     })
 }
 
-// Asks the C function of this kind, and returns its refusal number.
+// Asks the C function of this kind, one that reads, and returns its refusal number.
 fn asked(
     kind: usize,
     number: usize,
@@ -115,6 +124,51 @@ fn asked(
     99
 }
 
+// Asks the C function of this kind, one that gives a mesh, and returns its refusal number.
+fn torn(
+    kind: usize,
+    number: usize,
+    minimum: usize,
+    image: &[u8],
+    args: &[u8],
+    rooms: &[u8],
+    out: &mut [u8],
+    log: &mut [u8],
+) -> u32 {
+    let v = (number % 4294967296) as u32;
+    let least = (minimum % 4294967296) as u32;
+    if kind == 7 {
+        return bench_c::tearing::bench_split(image, v, args, rooms, out, log);
+    }
+    if kind == 8 {
+        return bench_c::tearing::bench_straddlers(image, rooms, out, log);
+    }
+    if kind == 9 {
+        return bench_c::cutting::bench_cut(image, args, v, rooms, out, log);
+    }
+    if kind == 10 {
+        return bench_c::cutting::bench_crack(image, args, least, rooms, out, log);
+    }
+    99
+}
+
+// Either of them.
+fn answer(
+    kind: usize,
+    number: usize,
+    minimum: usize,
+    image: &[u8],
+    args: &[u8],
+    rooms: &[u8],
+    out: &mut [u8],
+    log: &mut [u8],
+) -> u32 {
+    if kind < 7 {
+        return asked(kind, number, minimum, image, args, out);
+    }
+    torn(kind, number, minimum, image, args, rooms, out, log)
+}
+
 // Do the bytes of out stand in want, and 0 behind them?
 fn same(want: &[u8], out: &[u8]) -> bool {
     let mut i: usize = 0;
@@ -133,48 +187,114 @@ fn same(want: &[u8], out: &[u8]) -> bool {
     want.len() <= out.len()
 }
 
-// Is the answer to this call, with these result bytes lent, the one that the list has?
-fn passes(c: Call, image: &[u8], args: &[u8], want: &[u8], out: &mut [u8]) -> bool {
+// Is the answer to this call, with these bytes lent for result and log, the one that the list has?
+fn passes(
+    c: Call,
+    image: &[u8],
+    args: &[u8],
+    rooms: &[u8],
+    want: &[u8],
+    want_log: &[u8],
+    out: &mut [u8],
+    log: &mut [u8],
+) -> bool {
     let kind = c.kind;
     let number = c.number;
     let minimum = c.minimum;
     let refusal = c.refusal;
-    let r = asked(kind, number, minimum, image, args, out);
+    let r = answer(kind, number, minimum, image, args, rooms, out, log);
     if r as usize != refusal {
         return false;
     }
-    same(want, out)
+    if same(want, out) {
+        return same(want_log, log);
+    }
+    false
 }
 
-// Takes the call's parts out of the bytes.
-fn tried(bytes: &[u8], c: Call, out: &mut [u8]) -> bool {
-    let image = c.image;
-    let args = c.args;
+// The same with all the bytes that there are for result and log: the call's are the first of them.
+fn lent(
+    c: Call,
+    image: &[u8],
+    args: &[u8],
+    rooms: &[u8],
+    want: &[u8],
+    want_log: &[u8],
+    out: &mut [u8],
+    log: &mut [u8],
+) -> bool {
+    let n = c.lent;
+    let m = c.lent_log;
+    if out.len() < n {
+        return false;
+    }
+    if log.len() < m {
+        return false;
+    }
+    passes(
+        c,
+        image,
+        args,
+        rooms,
+        want,
+        want_log,
+        &mut out[..n],
+        &mut log[..m],
+    )
+}
+
+// Takes the call's rooms and what is expected out of the bytes.
+fn expected(
+    bytes: &[u8],
+    c: Call,
+    image: &[u8],
+    args: &[u8],
+    out: &mut [u8],
+    log: &mut [u8],
+) -> bool {
+    let rooms = c.rooms;
     let words = c.words;
+    let noted = c.noted;
     let next = c.next;
-    let lent = c.lent;
-    if args < image {
+    if words < rooms {
         return false;
     }
-    if words < args {
+    if noted < words {
         return false;
     }
-    if next < words {
+    if next < noted {
         return false;
     }
     if bytes.len() < next {
         return false;
     }
-    if out.len() < lent {
+    lent(
+        c,
+        image,
+        args,
+        &bytes[rooms..words],
+        &bytes[words..noted],
+        &bytes[noted..next],
+        out,
+        log,
+    )
+}
+
+// Takes the call's image and arguments out of the bytes.
+fn tried(bytes: &[u8], c: Call, out: &mut [u8], log: &mut [u8]) -> bool {
+    let image = c.image;
+    let args = c.args;
+    let rooms = c.rooms;
+    if args < image {
         return false;
     }
-    passes(
-        c,
-        &bytes[image..args],
-        &bytes[args..words],
-        &bytes[words..next],
-        &mut out[..lent],
-    )
+    if rooms < args {
+        return false;
+    }
+    if bytes.len() < rooms {
+        return false;
+    }
+    expected(bytes, c, &bytes[image..args], &bytes[args..rooms], out, log)
 }
 
 // A line for a call that got another answer.
@@ -185,7 +305,7 @@ fn differs(call: usize) {
 }
 
 // All calls of the list, and how many passed.
-fn replay(bytes: &[u8], out: &mut [u8]) {
+fn replay(bytes: &[u8], out: &mut [u8], log: &mut [u8]) {
     let mut at: usize = 0;
     let mut calls: usize = 0;
     let mut passed: usize = 0;
@@ -195,7 +315,7 @@ fn replay(bytes: &[u8], out: &mut [u8]) {
             break;
         };
         at = c.next;
-        if tried(bytes, c, out) {
+        if tried(bytes, c, out, log) {
             passed += 1;
         } else {
             differs(calls);
@@ -209,15 +329,16 @@ fn replay(bytes: &[u8], out: &mut [u8]) {
 }
 
 // Reads the list into the lent bytes, and replays it.
-fn run(bytes: &mut [u8], out: &mut [u8]) {
+fn run(bytes: &mut [u8], out: &mut [u8], log: &mut [u8]) {
     let n = io::read_full(STDIN_FILENO, bytes);
     if n <= bytes.len() {
-        replay(&bytes[..n], out);
+        replay(&bytes[..n], out, log);
     }
 }
 
 fn main() {
     let mut space = room();
-    let mut out = [170u8; 256];
-    run(&mut space, &mut out);
+    let mut out = [170u8; 32880];
+    let mut log = [170u8; 1056];
+    run(&mut space, &mut out, &mut log);
 }

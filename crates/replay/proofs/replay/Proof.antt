@@ -16,10 +16,11 @@ use Rattle.replay.proofs.differs.Reads as differs-reads
 use Rattle.replay.proofs.tried.Reads as tried-reads
 
 abbrev Inv-loop : tie.InvT-loop
-Inv-loop bytes out₀ at₀ calls₀ passed₀ t8 t9 out at calls passed = (calls ≤ 100000) × (passed ≤ calls) × (length out ≡ length out₀)
+Inv-loop bytes out₀ log₀ at₀ calls₀ passed₀ t9 t10 out log at calls passed =
+    (calls ≤ 100000) × (passed ≤ calls) × (length out ≡ length out₀) × (length log ≡ length log₀)
 
 abbrev μ-loop : tie.MeasureT-loop
-μ-loop bytes out₀ at₀ calls₀ passed₀ t8 t9 out at calls passed = 100000 - calls
+μ-loop bytes out₀ log₀ at₀ calls₀ passed₀ t9 t10 out log at calls passed = 100000 - calls
 
 loop-holds : tie.Need-loop-holds Inv-loop μ-loop
 loop-holds c = search needs
@@ -50,8 +51,9 @@ loop-less c = search needs
 
 loop-again : tie.Need-loop-again Inv-loop μ-loop
 loop-again c =
-    let L = c .before .before .before .before .before .before .before .before .before .before .loop in
-    (omega arith, ⊎-elim (λ w. omega arith) (λ w. omega arith) (c .if1 .came), c .before .before .before .tried .kept .1 .1 .0 ∙ L .inv .2)
+    let L = c .before .before .before .before .before .before .before .before .before .before .before .before .before .loop in
+    let K = c .before .before .before .before .before .tried .kept in
+    (omega arith, ⊎-elim (λ w. omega arith) (λ w. omega arith) (c .if1 .came), K .1 .1 .0 ∙ L .inv .2, K .1 .1 .1 .0 ∙ L .inv .3)
 
 print-decimal-requires : tie.Need-print-decimal-requires Inv-loop μ-loop
 print-decimal-requires c κs = search needs
@@ -73,6 +75,9 @@ write-all-requires-2 c κs = search needs
 
 same-length : tie.Need-same-length Inv-loop μ-loop
 same-length c = c .before .before .before .before .before .before .before .loop .inv .2
+
+same-length-2 : tie.Need-same-length-2 Inv-loop μ-loop
+same-length-2 c = c .before .before .before .before .before .before .before .loop .inv .3
 
 returns : tie.Need-returns Inv-loop μ-loop
 returns c = search needs
@@ -100,4 +105,5 @@ replay-spec =
     slice-aggregate-write-all-2
     write-all-requires-2
     same-length
+    same-length-2
     returns)
