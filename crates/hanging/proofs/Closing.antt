@@ -65,15 +65,15 @@ past-pinned M x l = ap (λ (p : Particle). eq (p .inv) zero32) (List·getD-eq-de
 -- ---- the closing pass under way
 
 -- From S the pass has come to R: of the particles that it has seen, and of all that are new since, each is pinned or joined; and the copies logged since are new.
-record Under (S : Run) (seen : List ℕ) (R : Run) : Type 0 where
-  indexed : Indexed (R .mesh)
-  more : length (S .mesh .particles) ≤ length (R .mesh .particles)
-  firm : (x : ℕ) → (stands x seen ≡ true) ⊎ (length (S .mesh .particles) ≤ x) → Firm (R .mesh) x
-  behind : List Entry
-  log : R .log ≡ S .log ++ behind
-  copies : All (λ (cs : ℕ × ℕ). length (S .mesh .particles) ≤ cs .0) (splitsOf behind)
+pub record Under (S : Run) (seen : List ℕ) (R : Run) : Type 0 where
+  pub indexed : Indexed (R .mesh)
+  pub more : length (S .mesh .particles) ≤ length (R .mesh .particles)
+  pub firm : (x : ℕ) → (stands x seen ≡ true) ⊎ (length (S .mesh .particles) ≤ x) → Firm (R .mesh) x
+  pub behind : List Entry
+  pub log : R .log ≡ S .log ++ behind
+  pub copies : All (λ (cs : ℕ × ℕ). length (S .mesh .particles) ≤ cs .0) (splitsOf behind)
 
-begun : (S : Run) → Indexed (S .mesh) → Under S [] S
+pub begun : (S : Run) → Indexed (S .mesh) → Under S [] S
 unfolding splitsOf each
 begun S X =
     record {
@@ -176,10 +176,10 @@ module _ (S : Run) (seen : List ℕ) (R : Run) (U : Under S seen R) (v : ℕ) wh
       by false e X = stayed e
 
 -- all of a list in their turns
-abbrev Passed : Run → List ℕ → List ℕ → Run → Type 0
+abbrev pub Passed : Run → List ℕ → List ℕ → Run → Type 0
 Passed S seen l R = (out : List ℕ) × (Under S out R × ((x : ℕ) → (stands x seen ≡ true) ⊎ (stands x l ≡ true) → stands x out ≡ true))
 
-pass : (S : Run) (l seen : List ℕ) (R : Run) → Under S seen R → Passed S seen l (fold (splitFree Triangles) R l)
+pub pass : (S : Run) (l seen : List ℕ) (R : Run) → Under S seen R → Passed S seen l (fold (splitFree Triangles) R l)
 unfolding fold
 pass S [] seen R U = (seen, (U, λ x c. ⊎-elim (λ e. e) (λ e. absurd (false-true e)) c))
 pass S (v ∷ l) seen R U =
@@ -193,7 +193,7 @@ pass S (v ∷ l) seen R U =
 
 -- ---- of whom it is said
 
-or-first : (a b : Bool) → a ≡ true → a || b ≡ true
+pub or-first : (a b : Bool) → a ≡ true → a || b ≡ true
 or-first true b e = refl
 or-first false b e = absurd (false-true e)
 
@@ -215,7 +215,7 @@ near-stands ends x w s k (t ∷ ts) (suc i) H K =
     let r = near-stands ends x w s (suc k) ts i (record { there = omega arith; holds = H .holds }) (record { there = omega arith; holds = K .holds }) in
     stands-append x (nearCorners ends (triangleElement k t)) (each (nearCorners ends) (trianglesFrom (suc k) ts)) ∙ or-true (stands x (nearCorners ends (triangleElement k t))) _ r
 
-touching-pinched : (S : Run) → Indexed (S .mesh) → (x : ℕ) → Touching S x → stands x (pinched Triangles S) ≡ true
+pub touching-pinched : (S : Run) → Indexed (S .mesh) → (x : ℕ) → Touching S x → stands x (pinched Triangles S) ≡ true
 unfolding pinched elementsOf
 touching-pinched S X x T =
     rising-stands (length (S .mesh .particles)) (each (nearCorners (splitEnds S)) (trianglesFrom 0 (S .mesh .triangles))) x

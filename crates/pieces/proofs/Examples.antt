@@ -7,7 +7,7 @@ use lib.Ieee.{isNan, neg, add, sub, mul, div, lt, le, eq, ne, ofInt, ofBits}
 use Rattle.float.specs.Numbers.{one, half}
 use Rattle.model.specs.Run.{split, edge as removed}
 use Rattle.model.specs.Starred.{triangle, edge, tenth, limits, listingMesh, blade}
-use Rattle.pieces.specs.Examples.{counts, said, toldOf, onePin, twoPins, triangles, straps}
+use Rattle.pieces.specs.Examples.{counts, said, toldOf, onePin, twoPins, letterMesh, triangles, straps}
 use Rattle.lists.specs.Lists.{any, all, sift, siftAt, find, fold, each, pairs, mapAt, tab, upTo, rising, distinct, disjoint, padded, keep, keptOf, nth}
 use Rattle.lists.specs.Labels.{merged, joinPair, joinRow, joinRows, labelled}
 use Rattle.float.specs.Numbers.{absOf, maxOf, invOf}
@@ -62,3 +62,9 @@ pub pinned-both : toldOf (cutCall true twoPins (blade (negsuc 0) (negsuc 0) (pos
     ≡ said [] 4 (1, 1)
 unfolding any all sift siftAt find fold each pairs mapAt tab upTo rising distinct disjoint padded keep keptOf nth merged joinPair joinRow joinRows labelled absOf maxOf invOf finite? number? volume? notBelow0? floorRoot rootUnits signOf sumOf centroidOf lerpOf lengthOf bladeHit labelsOf numberOne numberSide numbered groupsOf countOf particleOk triangleOk edgeOk numbersFit named rootOk cornersOk endsOk sideOk indicesFit placeOf restOf besides sum kindBy kindOf trianglesFrom strapsFrom elementsOf held restMeasure restMeasureOf fanOf gridOf partsOf openingOf splits? made weightOf totalOf massOf portion copied groupAt rewiredTriangles rewiredStraps ring scoreOf scored toward edgeGroups stayed doubled otherEdges parted straddles sideGroup followed faceOn facetsAt crackFacets atLongest settled splitEntries goneEntries splitMade splitStep splitBySides bodyLabels bodies pieceLabels pieceCount sharedOf pieces bodyOf spans across? withoutStraddlers straddlersGone removeStraddlers reachLabels labelsAt membersOf reachOf opensWithoutConfetti meets leftOf keptSide bladeSides splitByBlade splitEnds nearCorners pinched splitFree splitPinched candidates cutFacets crossings nearEnd strapsAt strapShare insertionOf wanted? insertable sideAlong bends numbersOf bendsOver lightened between insertedParticles halfOf insertedEdges shortened appended insertedSides insertedMesh insertStep insertedAt snappedAt crossed unbent slackened splitSnapped afterCrossings cutSegments cut largestStress stressBetween triangleLoad loadsOf family crossPairs currentOf currentPair beyond farSide meanLoad twoSided wayAt waysOf damagedAt torn crackBy crackPair crackEdge tornEnds crack start stepTo splitsOf changed sidesOk strictly particlesOk refusal tooSmall firstFault outcome cutCall crackCall splitCall straddlersCall bladeCall groupsCall restMeasureCall restMeasureOfCall opensCall piecesCall stateCall isNan neg add sub mul div lt le eq ne ofInt ofBits
 pinned-both = refl
+
+-- "I cut exactly along the line on the lesson page and it says one piece, but the halves slide apart": the square cut along its diagonal, from the pin to the far
+-- corner, is one body and two pieces
+pub letter-parts : toldOf (cutCall true letterMesh (blade (pos 0) (pos 0) (pos 1) (pos 1)) tenth limits) ≡ said (split 4 2 ∷ []) 5 (1, 2)
+unfolding any all sift siftAt find fold each pairs mapAt tab upTo rising distinct disjoint padded keep keptOf nth merged joinPair joinRow joinRows labelled absOf maxOf invOf finite? number? volume? notBelow0? floorRoot rootUnits signOf sumOf centroidOf lerpOf lengthOf bladeHit labelsOf numberOne numberSide numbered groupsOf countOf particleOk triangleOk edgeOk numbersFit named rootOk cornersOk endsOk sideOk indicesFit placeOf restOf besides sum kindBy kindOf trianglesFrom strapsFrom elementsOf held restMeasure restMeasureOf fanOf gridOf partsOf openingOf splits? made weightOf totalOf massOf portion copied groupAt rewiredTriangles rewiredStraps ring scoreOf scored toward edgeGroups stayed doubled otherEdges parted straddles sideGroup followed faceOn facetsAt crackFacets atLongest settled splitEntries goneEntries splitMade splitStep splitBySides bodyLabels bodies pieceLabels pieceCount sharedOf pieces bodyOf spans across? withoutStraddlers straddlersGone removeStraddlers reachLabels labelsAt membersOf reachOf opensWithoutConfetti meets leftOf keptSide bladeSides splitByBlade splitEnds nearCorners pinched splitFree splitPinched candidates cutFacets crossings nearEnd strapsAt strapShare insertionOf wanted? insertable sideAlong bends numbersOf bendsOver lightened between insertedParticles halfOf insertedEdges shortened appended insertedSides insertedMesh insertStep insertedAt snappedAt crossed unbent slackened splitSnapped afterCrossings cutSegments cut largestStress stressBetween triangleLoad loadsOf family crossPairs currentOf currentPair beyond farSide meanLoad twoSided wayAt waysOf damagedAt torn crackBy crackPair crackEdge tornEnds crack start stepTo splitsOf changed sidesOk strictly particlesOk refusal tooSmall firstFault outcome cutCall crackCall splitCall straddlersCall bladeCall groupsCall restMeasureCall restMeasureOfCall opensCall piecesCall stateCall isNan neg add sub mul div lt le eq ne ofInt ofBits
+letter-parts = refl

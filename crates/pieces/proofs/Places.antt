@@ -248,6 +248,17 @@ module _ (n k : ℕ) (verts : List ℕ) where
         subst (λ (l : List ℕ). Tied (Met n k verts t f) l) (sym d)
         (met-skip (omega arith) link-at (met-join (omega arith) l here facet J (subst (λ (m : ℕ). Tied (Met n k verts t m) p) u T)))
 
+    -- the same, where the two elements are known by other terms
+    pub walk-pass-at : {i j : ℕ} {p q : List ℕ} → i ≡ t / k → j ≡ (e - 1) / k → rowsShare k verts i j ≡ false → q ≡ p → Tied (Met n k verts t e) p → Tied (Met n k verts t f) q
+    walk-pass-at {i} {j} a b no-facet d T =
+        walk-pass (subst (λ (y : ℕ). rowsShare k verts (t / k) y ≡ false) b (subst (λ (x : ℕ). rowsShare k verts x j ≡ false) a no-facet)) d T
+
+    pub walk-join-at : {i j : ℕ} {p q r : List ℕ} → i ≡ t / k → j ≡ (e - 1) / k → t < n * k → rowsShare k verts i j ≡ true → Joined p i j r → q ≡ r
+        → Tied (Met n k verts t e) p → Tied (Met n k verts t f) q
+    walk-join-at {i} {j} {p} {q} {r} a b l facet J d T =
+        walk-join l (subst (λ (y : ℕ). rowsShare k verts (t / k) y ≡ true) b (subst (λ (x : ℕ). rowsShare k verts x j ≡ true) a facet))
+        (subst (λ (y : ℕ). Joined p (t / k) y r) b (subst (λ (x : ℕ). Joined p x j r) a J)) d T
+
 -- ---- the pairs that are met, and the elements that share a facet
 
 module _ {n k : ℕ} {es : List Element} {verts : List ℕ} (C : Cornered k es n verts) (plain : Plain es) (two : 2 ≤ k) where

@@ -3,13 +3,13 @@ use Prim.Native.Nat.{ℕ}
 use mathlib.Core.List.{List, [], _∷_}
 use lib.IntN.{pos}
 use lib.ListN.{length}
-use Rattle.float.specs.Numbers.{zero32, one}
+use Rattle.float.specs.Numbers.{zero32, one, half}
 use Rattle.blade.specs.declared.Point.{Point}
 use Rattle.model.specs.Mesh.{Particle, Triangle, Edge, Mesh}
 use Rattle.model.specs.Pieces.{pieces, bodies}
 use Rattle.model.specs.Run.{Entry}
 use Rattle.model.specs.Calls.{Outcome, refused, done}
-use Rattle.model.specs.Starred.{point, free, listingMesh}
+use Rattle.model.specs.Starred.{point, free, triangle, listingMesh}
 
 -- so many bodies, and so many pieces
 abbrev pub counts : Mesh → ℕ × ℕ
@@ -44,6 +44,17 @@ onePin = sheetWith (pinned 0 (point (pos 0) (pos 0))) (free 2 (point (pos 4) (po
 
 abbrev pub twoPins : Mesh
 twoPins = sheetWith (pinned 0 (point (pos 0) (pos 0))) (pinned 2 (point (pos 4) (pos 4)))
+
+-- the letter's sheet: a square of two triangles that meet on its diagonal, pinned at one end of it
+abbrev pub letterMesh : Mesh
+letterMesh =
+    record {
+      particles =
+          pinned 0 (point (pos 0) (pos 0)) ∷ free 1 (point (pos 1) (pos 0)) ∷ free 2 (point (pos 1) (pos 1)) ∷ free 3 (point (pos 0) (pos 1)) ∷ [];
+      triangles = triangle 0 1 2 half ∷ triangle 0 2 3 half ∷ [];
+      edges = [];
+      boundary = [];
+    }
 
 -- five particles under triangles, or under straps
 abbrev pub under : List Triangle → List Edge → Mesh

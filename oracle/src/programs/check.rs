@@ -94,6 +94,13 @@ pub fn run() -> i32 {
     let want = "tear 1\nsplit 4 0\nsplit 5 2\nedge 1 3\nparticles 6\npieces 2\n".to_string();
     t.is("the listing (cut entry word for word)", sheet::cutlist(&bytes, false), want.clone());
     t.is("the listing (with cut_topology instead)", sheet::cutlist(&bytes, true), want);
+    let mut pinned = listing.clone();
+    pinned.particles[0].2 = 1;
+    let halves = "tear 1\nsplit 4 2\nedge 1 3\nparticles 5\npieces 2\n".to_string();
+    t.is("the same with particle 0 pinned (L2)", sheet::cutlist(&sheet::write(&pinned), false), halves);
+    pinned.particles[2].2 = 1;
+    let whole = "tear 1\nparticles 4\npieces 1\n".to_string();
+    t.is("the same with 0 and 2 pinned (L2)", sheet::cutlist(&sheet::write(&pinned), false), whole);
     let (m, blade) = sheet::mesh(&listing);
     for (name, o) in [("cut", cut(&m, blade, 0.1)), ("cut_topology", cut_whole(&m, blade, 0.1))] {
         t.is(&format!("edges at the end ({name})"), o.mesh.edges(), vec![(0, 2), (4, 5)]);

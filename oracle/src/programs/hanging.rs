@@ -1,4 +1,4 @@
-//! hanging [--self] [--fault NAME | --fault all] [COUNT [SEED]]: no halves left hanging by a corner (request L9), on random cuts
+//! hanging letter | [--self] [--fault NAME | --fault all] [COUNT [SEED]]: no halves left hanging by a corner (request L9), on random cuts
 //! and cracks of triangles by the C functions. When the closing pass begins is seen in the published Rust, which runs the same
 //! call; the verdict is from the words that come back.
 use crate::api::{self, Blade, MAX_BOUNDARY, MAX_EDGES, MAX_LOG, MAX_PARTICLES, MAX_TRIANGLES, Mesh, check_mesh};
@@ -9,6 +9,7 @@ use crate::inputs::{self, Kind};
 use crate::journal::{Begins, pass_began};
 use crate::meshgen;
 use crate::rng::Rng;
+use crate::sheet::{self, Sheet};
 use crate::shrink::shrink;
 use crate::vectors::{args_line, write_mesh};
 use crate::wrapped::table;
@@ -180,6 +181,69 @@ fn broken(t: &Table, i: &Input, tally: &mut Tally) -> Option<String> {
     None
 }
 
+// ---- the letter -----------------------------------------------------------------------------
+
+/// Twice the area of a triangle, above 0 where its corners go round against the clock.
+fn twice_area(t: &[u32; 3], points: &[(i32, i32)]) -> i32 {
+    let [(ax, ay), (bx, by), (cx, cy)] = t.map(|k| points[k as usize]);
+    (bx - ax) * (cy - ay) - (by - ay) * (cx - ax)
+}
+/// Sheets of so many particles at whole points below `side`, in every order, with these triangles, particle 0 pinned and every blade between
+/// two such points: the first whose cut leaves one body in two pieces, and how many were looked at. With three particles no triangle is
+/// flat; with more each goes round against the clock, so that two on one side do not lie over each other.
+fn first_parted(n: u32, triangles: &[[u32; 3]], side: u32) -> (Option<Sheet>, u64) {
+    let places = side * side;
+    let at = |k: u32| ((k % side) as i32, (k / side) as i32);
+    let mut looked = 0;
+    for code in 0..places.pow(n) {
+        let points: Vec<(i32, i32)> = (0..n).map(|i| at(code / places.pow(i) % places)).collect();
+        let proper = |t: &[u32; 3]| if n == 3 { twice_area(t, &points) != 0 } else { twice_area(t, &points) > 0 };
+        if !triangles.iter().all(proper) {
+            continue;
+        }
+        for blade in 0..places * places {
+            let ((x0, y0), (x1, y1)) = (at(blade % places), at(blade / places));
+            let s = Sheet {
+                particles: points.iter().zip(0..).map(|(&(x, y), i)| (x, y, (i == 0) as u32)).collect(),
+                triangles: triangles.to_vec(),
+                edges: vec![],
+                boundary: vec![],
+                blade: [x0, y0, x1, y1],
+            };
+            let (m, blade) = sheet::mesh(&s);
+            looked += 1;
+            let after = api::cut(&m, blade, 0.1).mesh;
+            if api::bodies(&after) == 1 && api::pieces(&after) == 2 && api::pieces(&m) == 1 {
+                return (Some(s), looked);
+            }
+        }
+    }
+    (None, looked)
+}
+/// The smallest sheet of the letter ("it says one piece, but the halves slide apart"): none has three particles, and of those with four
+/// and two triangles the first is printed.
+fn letter() -> i32 {
+    let orders = [[0, 1, 2], [0, 2, 1], [1, 0, 2], [1, 2, 0], [2, 0, 1], [2, 1, 0]];
+    let mut looked = 0;
+    for order in orders {
+        let (found, n) = first_parted(3, &[[0, 1, 2], order], 3);
+        looked += n;
+        if let Some(s) = found {
+            print!("three particles:\n{}", sheet::text(&s));
+            return 1;
+        }
+    }
+    println!("# none of {looked} sheets with three particles, one of them pinned, and two triangles");
+    let (found, n) = first_parted(4, &[[0, 1, 2], [0, 2, 3]], 2);
+    let Some(s) = found else { return 1 };
+    println!("# four particles and two triangles: number {n}");
+    print!("{}", sheet::text(&s));
+    let (m, blade) = sheet::mesh(&s);
+    let after = api::cut(&m, blade, 0.1).mesh;
+    println!("# bodies {}, pieces {}", api::bodies(&after), api::pieces(&after));
+    0
+}
+
 // ---- the program ----------------------------------------------------------------------------
 
 /// The first number from `seed` on that breaks the statement, and why.
@@ -197,6 +261,9 @@ fn show(t: &Table, number: u64) {
 }
 pub fn run(words: &[String]) -> i32 {
     let mut rest: Vec<&str> = words.iter().map(String::as_str).collect();
+    if rest.first() == Some(&"letter") {
+        return letter();
+    }
     let own = rest.first() == Some(&"--self");
     if own {
         rest.remove(0);

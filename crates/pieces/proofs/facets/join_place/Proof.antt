@@ -4,11 +4,11 @@ use native.Mathlib.Omega.{arith}
 use mathlib.Core.Path.{_≡_, refl, sym, _∙_, ap, subst}
 use mathlib.Core.List.{List}
 use mathlib.Core.Logic.{⊎-elim}
-use Prim.Native.Nat.{ℕ, _*_, _<_, _≤_, _-_}
+use Prim.Native.Nat.{ℕ, _*_, _/_, _<_, _≤_, _-_}
 use lib.ListN.{length}
 use Rattle.pieces.specs.Tables.{Tied}
 use Rattle.pieces.specs.Places.{Met}
-use Rattle.pieces.proofs.Places.{place-in, met-skip, met-next, Has, walk-has, walk-pass, walk-join}
+use Rattle.pieces.proofs.Places.{place-in, met-skip, met-next, Has, walk-has, walk-pass-at, walk-join-at}
 use Rattle.pieces.proofs.facets.join_place.Statement.{statement}
 use Rattle.pieces.proofs.facets.join_place.Tie as tie
 
@@ -18,19 +18,19 @@ Inv-loop n k verts link t parent₀ i e₀ parent e = (e ≤ t) × Has n k verts
 abbrev μ-loop : tie.MeasureT-loop
 μ-loop n k verts link t parent₀ i e₀ parent e = e
 
-div-i : tie.Need-div-i Inv-loop μ-loop
-div-i c = let P = c .before .before .before .pre in omega (arith, P .rows .some)
+element-of-requires : tie.Need-element-of-requires Inv-loop μ-loop
+element-of-requires c κs = c .before .before .before .pre .rows .some
 
 mul-e : tie.Need-mul-e Inv-loop μ-loop
-mul-e c = let P = c .before .before .before .pre in omega (arith, P .inside, P .link-room)
+mul-e c = let P = c .before .before .before .before .pre in omega (arith, P .inside, P .link-room)
 
 shared-slice-read-e : tie.Need-shared-slice-read-e Inv-loop μ-loop
-shared-slice-read-e c = let P = c .before .before .before .before .pre in omega (arith, P .inside, P .link-room)
+shared-slice-read-e c = let P = c .before .before .before .before .before .pre in omega (arith, P .inside, P .link-room)
 
 loop-holds : tie.Need-loop-holds Inv-loop μ-loop
 loop-holds c =
-    let A = c .before .before .before .before .args in
-    let P = c .before .before .before .before .pre in
+    let A = c .before .before .before .before .before .args in
+    let P = c .before .before .before .before .before .pre in
     let L = P .linked .at (A .t) (P .inside) in
     let m : A .t ≤ A .t = omega arith in
     (L .below, L .has, refl, met-skip (A .n) (A .k) (A .verts .now) m L (P .tied))
@@ -38,53 +38,62 @@ loop-holds c =
 sub-s : tie.Need-sub-s Inv-loop μ-loop
 sub-s c = search needs
 
-div-j : tie.Need-div-j Inv-loop μ-loop
-div-j c = let P = c .before .before .before .before .before .before .pre in omega (arith, P .rows .some)
+element-of-requires-2 : tie.Need-element-of-requires-2 Inv-loop μ-loop
+element-of-requires-2 c κs = c .before .before .before .before .before .before .before .pre .rows .some
 
 rows-share-requires : tie.Need-rows-share-requires Inv-loop μ-loop
 rows-share-requires c κs =
-    let A = c .before .before .before .before .before .before .args in
-    let P = c .before .before .before .before .before .before .pre in
-    let L = c .before .loop in
+    let A = c .before .before .before .before .before .before .before .before .args in
+    let P = c .before .before .before .before .before .before .before .before .pre in
+    let L = c .before .before .loop in
+    let E = c .before .before .before .before .element-of in
     let h = P .inside in
-    let g = L .inv .0 in
-    (P .rows, place-in (A .n) (A .k) (A .t) (P .rows .some) h, place-in (A .n) (A .k) (L .e - 1) (P .rows .some) (omega arith))
+    let g = L .inv .0 in (
+      P .rows,
+      subst (λ (x : ℕ). x < A .n) (sym (E .ensures)) (place-in (A .n) (A .k) (A .t) (P .rows .some) h),
+      subst (λ (x : ℕ). x < A .n) (sym (c .element-of2 .ensures)) (place-in (A .n) (A .k) (L .e - 1) (P .rows .some) (omega arith)),
+    )
 
 join-requires : tie.Need-join-requires Inv-loop μ-loop
 join-requires c κs =
-    let A = c .before .before .before .before .before .before .before .before .before .args in
-    let P = c .before .before .before .before .before .before .before .before .before .pre in
-    let L = c .before .before .before .before .loop in
+    let A = c .before .before .before .before .before .before .before .before .before .before .before .args in
+    let P = c .before .before .before .before .before .before .before .before .before .before .before .pre in
+    let L = c .before .before .before .before .before .loop in
+    let E = c .before .before .before .before .before .before .before .element-of in
+    let D = c .before .before .before .element-of2 in
     let h = P .inside in
     let g = L .inv .0 in
-    let a = place-in (A .n) (A .k) (A .t) (P .rows .some) h in
-    let b = place-in (A .n) (A .k) (L .e - 1) (P .rows .some) (omega arith) in
+    let a = subst (λ (x : ℕ). x < A .n) (sym (E .ensures)) (place-in (A .n) (A .k) (A .t) (P .rows .some) h) in
+    let b = subst (λ (x : ℕ). x < A .n) (sym (D .ensures)) (place-in (A .n) (A .k) (L .e - 1) (P .rows .some) (omega arith)) in
     (omega (arith, P .long, L .inv .2), omega (arith, P .long, L .inv .2), L .inv .3 .down)
 
 mul-e-2 : tie.Need-mul-e-2 Inv-loop μ-loop
 mul-e-2 c =
-    let P = c .before .before .before .before .before .before .before .before .pre in
-    let L = c .before .before .before .loop in
+    let P = c .before .before .before .before .before .before .before .before .before .before .pre in
+    let L = c .before .before .before .before .loop in
     omega (arith, P .inside, P .link-room, L .inv .0)
 
 shared-slice-read-e-2 : tie.Need-shared-slice-read-e-2 Inv-loop μ-loop
 shared-slice-read-e-2 c =
-    let P = c .before .before .before .before .before .before .before .before .before .pre in
-    let L = c .before .before .before .before .loop in
+    let P = c .before .before .before .before .before .before .before .before .before .before .before .pre in
+    let L = c .before .before .before .before .before .loop in
     omega (arith, P .inside, P .link-room, L .inv .0)
 
 loop-less : tie.Need-loop-less Inv-loop μ-loop
 loop-less c =
-    let P = c .before .before .before .before .before .before .before .before .before .pre in
-    let L = c .before .before .before .before .loop in
-    let h : L .e - 1 < c .before .before .before .before .before .before .before .before .before .args .n * c .before .before .before .before .before .before .before .before .before .args .k = omega (arith, P .inside, L .inv .0) in
+    let A = c .before .before .before .before .before .before .before .before .before .before .before .args in
+    let P = c .before .before .before .before .before .before .before .before .before .before .before .pre in
+    let L = c .before .before .before .before .before .loop in
+    let h : L .e - 1 < A .n * A .k = omega (arith, P .inside, L .inv .0) in
     omega (arith, P .linked .at (L .e - 1) h .below)
 
 loop-again : tie.Need-loop-again Inv-loop μ-loop
 loop-again c =
-    let A = c .before .before .before .before .before .before .before .before .before .args in
-    let P = c .before .before .before .before .before .before .before .before .before .pre in
-    let L = c .before .before .before .before .loop in
+    let A = c .before .before .before .before .before .before .before .before .before .before .before .args in
+    let P = c .before .before .before .before .before .before .before .before .before .before .before .pre in
+    let L = c .before .before .before .before .before .loop in
+    let E = c .before .before .before .before .before .before .before .element-of in
+    let D = c .before .before .before .element-of2 in
     let S = c .before .before .rows-share in
     let verts = A .verts .now in
     let l : 0 < L .e = search needs in
@@ -97,13 +106,13 @@ loop-again c =
       omega arith,
       walk-has (A .n) (A .k) verts l g (L .inv .1) K,
       ap (λ (p : List ℕ). length p) (w .5) ∙ w .2 .ensures .long ∙ L .inv .2,
-      walk-join (A .n) (A .k) verts l g (L .inv .1) K (P .inside) (sym (S .ensures) ∙ w .0 .taken) (w .2 .ensures) (w .5) (L .inv .3),
+      walk-join-at (A .n) (A .k) verts l g (L .inv .1) K (E .ensures) (D .ensures) (P .inside) (sym (S .ensures) ∙ w .0 .taken) (w .2 .ensures) (w .5) (L .inv .3),
     ))
     (λ w. (
       omega arith,
       walk-has (A .n) (A .k) verts l g (L .inv .1) K,
       ap (λ (p : List ℕ). length p) (w .1) ∙ L .inv .2,
-      walk-pass (A .n) (A .k) verts l g (L .inv .1) K (sym (S .ensures) ∙ w .0 .left) (w .1) (L .inv .3),
+      walk-pass-at (A .n) (A .k) verts l g (L .inv .1) K (E .ensures) (D .ensures) (sym (S .ensures) ∙ w .0 .left) (w .1) (L .inv .3),
     ))
     (c .before .if1 .came)
 
@@ -112,7 +121,7 @@ same-length c = c .before .loop .inv .2
 
 returns : tie.Need-returns Inv-loop μ-loop
 returns c =
-    let A = c .before .before .before .before .before .before .args in
+    let A = c .before .before .before .before .before .before .before .args in
     let L = c .before .loop in
     let z : L .e ≡ 0 = omega arith in
     met-next (A .n) (A .k) (A .verts .now) (subst (λ (m : ℕ). Tied (Met (A .n) (A .k) (A .verts .now) (A .t) m) (L .parent)) z (L .inv .3))
@@ -123,12 +132,12 @@ join-place-spec =
     (tie.spec
     Inv-loop
     μ-loop
-    div-i
+    element-of-requires
     mul-e
     shared-slice-read-e
     loop-holds
     sub-s
-    div-j
+    element-of-requires-2
     rows-share-requires
     join-requires
     mul-e-2
