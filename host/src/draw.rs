@@ -121,8 +121,13 @@ impl Drawing<'_> {
             None => self.plain(v),
         }
     }
+    /// A line between two particles, drawn in the piece that holds both if there is one.
     fn line(&self, out: &mut String, [a, b]: [u32; 2], style: &str) {
-        let ([x0, y0], [x1, y1]) = (self.lone(a), self.lone(b));
+        let both = |piece: &&Piece| [a, b].iter().all(|v| piece.particles.binary_search(v).is_ok());
+        let ([x0, y0], [x1, y1]) = match self.pieces.iter().find(both) {
+            Some(piece) => (self.place(piece, a), self.place(piece, b)),
+            None => (self.lone(a), self.lone(b)),
+        };
         let _ = writeln!(out, r#"<line x1="{x0:.1}" y1="{y0:.1}" x2="{x1:.1}" y2="{y1:.1}" {style}/>"#);
     }
     fn elements(&self, out: &mut String) {
