@@ -6,7 +6,7 @@ use mathlib.Core.Bool.{Bool, true, false}
 use mathlib.Core.List.{List}
 use Rattle.model.specs.Calls.{refusal}
 use Rattle.mesh.specs.Given.{Given, meshOf}
-use Rattle.mesh.specs.Checks.{thenCheck, faultOf}
+use Rattle.judge.specs.Checks.{thenCheck, faultOf}
 use Rattle.asked.proofs.Judged.{arguments-refuse}
 use Rattle.image.specs.Image.{imageOf, imageSized}
 use Rattle.bench_c.proofs.Replying.{refusal-small}

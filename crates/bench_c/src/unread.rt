@@ -3,7 +3,7 @@ ghost use mathlib.Core.Path.{_≡_};
 ghost use mathlib.Core.Bool.{true, false};
 ghost use Rattle.model.specs.Calls.{refusal};
 ghost use Rattle.mesh.specs.Given.{meshOf};
-ghost use Rattle.mesh.specs.Checks.{faultOf};
+ghost use Rattle.judge.specs.Checks.{faultOf};
 ghost use Rattle.image.specs.Image.{imageOf, imageSized};
 
 // The fault of the mesh of an image that has the sizes of one, or 0.
@@ -35,7 +35,7 @@ fn image_fault(bytes: &[u8]) -> usize
         &mut lengths,
         &mut outline,
     );
-    mesh::checks::judge(
+    judge::checks::judge(
         &points[..p6],
         &roots[..p2],
         &corners[..t3],
@@ -51,7 +51,7 @@ pub fn unread(bytes: &[u8]) -> usize
     ensures { λ r. ⌜ r ≡ refusal (imageSized (now (bytes .entry))) (meshOf (imageOf (now (bytes .entry)))) true false ⌝ }
 {
     if image::image_sized(bytes) {
-        return mesh::tests::first(image_fault(bytes), false, 4);
+        return judge::tests::first(image_fault(bytes), false, 4);
     }
     1
 }
