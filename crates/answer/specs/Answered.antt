@@ -27,7 +27,7 @@ shown (done M l c) = worldOf M l
 abbrev pub countsOf : Mesh → List Entry → Counts
 countsOf M l = record { particles = length (M .particles); triangles = length (M .triangles); edges = length (M .edges); boundary = length (M .boundary); log = length l }
 
--- document 01's number; or the counts, and whether anything was split or inserted
+-- the refusal number; or the counts, and whether anything was split or inserted
 abbrev pub answerOf : Outcome → Answer
 answerOf (refused n) = Refused n
 answerOf (done M l c) = Done (countsOf M l) c

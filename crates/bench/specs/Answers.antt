@@ -1,4 +1,4 @@
--- What each case of an entry's answer means: document 01's refusal number, or the value that the model's call gives. Definitions only.
+-- What each case of an entry's answer means: the refusal number (docs/RULES.md, R3), or the value that the model's call gives. Definitions only.
 use Prim.Native.Nat.{ℕ}
 use mathlib.Core.Path.{_≡_}
 use mathlib.Core.Bool.{Bool, true, _&&_}

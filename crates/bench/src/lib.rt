@@ -1,4 +1,4 @@
-// The public entries of the bench. Each checks for itself, answers document 01's refusal number, and never touches the mesh it reads.
+// The public entries of the bench. Each checks for itself, answers a refusal number (docs/RULES.md, R3), and never touches the mesh it reads.
 use blade::Hit;
 
 pub mod grouping;

@@ -1,4 +1,4 @@
--- The starred blade and root cases of document 01, as one statement over their list, which antt computes. Assumes nothing.
+-- The starred blade and root cases of docs/RULES.md (R15), as one statement over their list, which antt computes. Assumes nothing.
 use mathlib.Core.Path.{_≡_, refl}
 use mathlib.Core.List.{map}
 use lib.Ieee.{ofInt, neg, add, sub, mul, div, lt, le, eq}

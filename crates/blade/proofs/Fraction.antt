@@ -211,6 +211,7 @@ zero-over s b p =
     let hi : lt one r ≡ false = ap (λ (z : Float). lt one z) (v .2) ∙ zero-low s (v .0) (v .1) (v .3 ∙ zero-mul (down (v .1))) in
     subst (λ (z : Float). Near z 0 b) (sym (stays r lo hi))
     record {
+      divides = p;
       sign = s;
       units = 0;
       value = wider r s h;

@@ -1,4 +1,4 @@
--- The starred cases of document 01 on the blade and the root, and three of its remarks. Definitions only; proofs/Cases.antt proves them all in one statement.
+-- The starred cases on the blade and the root (docs/RULES.md, R15.3 and R15.5), and three remarks (R9.2, R9.3). Definitions only; proofs/Cases.antt proves them all in one statement.
 use mathlib.Core.List.{List, [], _∷_}
 use mathlib.Core.Bool.{true, false}
 use lib.IntN.{ℤ, pos, negsuc}

@@ -1,4 +1,4 @@
-// Document 01's program: reads a sheet on standard input, and prints the listing of its cut, or the line of its refusal.
+// The program of docs/RULES.md, R14: reads a sheet on standard input, and prints the listing of its cut, or the line of its refusal.
 ghost use mathlib.Core.Path.{_≡_};
 ghost use Prim.Native.Nat.{_≤_};
 ghost use lib.ListN.{length, take};

@@ -75,4 +75,4 @@ close a b p h = go (eq-or-lt-of-le h)
 pub near : (a b : ℕ) → 0 < b → a ≤ b → Near (round binary32 false a b) a b
 near a b p h =
     let c = close a b p h in
-    record { sign = false; units = c .0; value = c .1; only-zero = λ t. absurd t; at-most = c .2; at-least = c .3 }
+    record { divides = p; sign = false; units = c .0; value = c .1; only-zero = λ t. absurd t; at-most = c .2; at-least = c .3 }

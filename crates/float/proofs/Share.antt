@@ -117,7 +117,7 @@ share-bounded m w t s v a b g q j hm hw ht big le pos' small is fine =
     let u-le : grid binary32 P g ≤ 2 ^ 169 = not-past P g 1 169 pos' (lit< tt) (lit< tt) (share-le P b g (2 ^ 20) D p-le le) in
     (grid binary32 P g, subst (λ (z : Float). HasValue z r (grid binary32 P g) D) (sym y-is) (round-sized r P g (lt-of-le-of-lt u-le (lit< tt))), u-le)
 
--- ---- the share of document 01: a total that is above 0 and below an infinity, and a weight from 0 to the total
+-- ---- the share of a mass (docs/RULES.md, R7.3): a total that is above 0 and below an infinity, and a weight from 0 to the total
 total-finite : (t : Float) (n : ℕ) (d : ℤ) → lt zero32 t ≡ true → le t (fin false n d) ≡ true → finite? t ≡ true
 unfolding le lt eq finite?
 total-finite nan n d p l = absurd (true≢false (sym p))

@@ -1,4 +1,4 @@
--- f32 numbers: the four operations, each rounded once, the numbers that document 01 and the source name, the inverse, and a share of a mass. Definitions only.
+-- f32 numbers: the four operations, each rounded once, the numbers that docs/RULES.md and the source name, the inverse, and a share of a mass. Definitions only.
 use Prim.Native.Nat.{ℕ}
 use mathlib.Core.Bool.{false, _&&_, cond}
 use lib.IntN.{pos, negsuc}

@@ -1,4 +1,4 @@
--- The ranges of document 01: every number is finite, of magnitude at most 1,048,576, a rest volume's at most 4,194,304; a rest length is at least 0. Definitions only.
+-- The ranges of docs/RULES.md, R2.10: every number is finite, of magnitude at most 1,048,576, a rest volume's at most 4,194,304; a rest length is at least 0. Definitions only.
 use mathlib.Core.Bool.{Bool, true, false}
 use lib.IntN.{pos}
 use lib.Ieee.{Float, nan, inf, fin, le}

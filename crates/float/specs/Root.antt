@@ -87,7 +87,7 @@ rootOf nan = Refused
 rootOf (inf s) = Refused
 rootOf (fin s m e) = rootAt s (inUnits m e) (fin s m e)
 
--- document 01's number for an answer: 0 for a root, 4 where there is none
+-- the refusal number of an answer (docs/RULES.md, R3.10): 0 for a root, 4 where there is none
 abbrev pub rootRefusal : Rooted → ℕ
 rootRefusal (Value r) = 0
 rootRefusal Refused = 4

@@ -1,5 +1,5 @@
 -- A float that is a whole number. Definitions only.
-use Prim.Native.Nat.{ℕ, _+_, _*_, _^_, _≤_}
+use Prim.Native.Nat.{ℕ, _+_, _*_, _^_, _≤_, _<_}
 use lib.Dec.{T}
 use mathlib.Core.Path.{_≡_}
 use mathlib.Core.Bool.{Bool, true, false}
@@ -19,8 +19,9 @@ pub record Is (x : Float) (z : ℤ) : Type 0 where
   pub value : HasValue x sign size 1
   pub is : signed sign size ≡ z
 
--- x is within 1 / 16,777,216 of the fraction a / b, and not below zero. x is `units` times 2 ^ -149, and 2 ^ 125 such units are 1 / 16,777,216.
+-- x is within 1 / 16,777,216 of the fraction a / b, which is a number as b is not 0, and not below zero. x is `units` times 2 ^ -149, and 2 ^ 125 such units are 1 / 16,777,216.
 pub record Near (x : Float) (a b : ℕ) : Type 0 where
+  pub divides : 0 < b
   pub sign : Bool
   pub units : ℕ
   pub value : HasValue x sign units (2 ^ 149)

@@ -1,4 +1,4 @@
-// The ranges that document 01 allows for the numbers of a mesh.
+// The ranges (docs/RULES.md, R2.10) of the numbers of a mesh.
 ghost use mathlib.Core.Path.{_≡_};
 ghost use Rattle.float.specs.Ranges.{finite?, number?, volume?, notBelow0?};
 

@@ -102,7 +102,7 @@ none-hangs M F U Triangles x i j H K =
 none-hangs M F U Straps x i j H K = ahead (strap-share M x i j H K) stay
 none-hangs M F U Nothing x i j H K = absurd (not-suc-le-zero (H .0))
 
--- After an accepted cut of triangles in which no corner was pinched, and after which no particle of a triangle is pinned, the count of pieces is document 01's.
+-- After an accepted cut of triangles in which no corner was pinched, and after which no particle of a triangle is pinned, the count of pieces is that of bodies.
 pub cut-counts : (sized : Bool) (M : Mesh) (B : Blade) (f : Float) (L : Rooms) (M′ : Mesh) (log : List Entry) (c : Bool) → kindOf M ≡ Triangles → Unpinched M → cutCall sized M B f L ≡ done M′ log c
     → Unpinned M′ → pieces M′ ≡ bodies M′
 cut-counts sized M B f L M′ log c k P e U =

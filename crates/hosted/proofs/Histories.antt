@@ -14,9 +14,9 @@ use Rattle.mesh.specs.Given.{meshOf}
 use Rattle.mesh.specs.Log.{wordsOf, wordsIn}
 use Rattle.image.specs.Words.{bytesOf}
 use Rattle.image.specs.Image.{imageOf, imageSized}
-use Rattle.lineage.specs.History.{Called, History}
+use Rattle.lineage.specs.History.{Called, History, Afternoon}
 use Rattle.lineage.specs.History as H
-use Rattle.lineage.proofs.Histories.{line-of}
+use Rattle.lineage.proofs.Histories.{line-of, afternoon}
 use Rattle.joined.proofs.Again.{by-arguments}
 use Rattle.joined.proofs.Histories.{words-join}
 use Rattle.imaged.specs.Bytes.{bytesIn}
@@ -50,6 +50,10 @@ images-told (calling {M = M} s out log h e X) =
       is = ap (λ (x : List ℕ). x ++ entriesIn out log) (T .is) ∙ (ap (λ (x : List ℕ). bytesIn (wordsIn (map wordsOf (T .log))) ++ x) (N .entries) ∙ sym (bytes-join (T .log) (N .more)));
     }
 images-told (moving h W) = let T = images-told h in record { log = T .log; history = H.moving (T .history) W; is = T .is }
+
+-- demand 3 of the image that came back: the bytes of the logs are those of a log that all of it holds with
+pub images-afternoon : {M₀ M : Mesh} {bytes : List ℕ} → Images M₀ M bytes → (log : List Entry) × ((bytes ≡ bytesIn (wordsIn (map wordsOf log))) × Afternoon M₀ M log)
+images-afternoon h = let T = images-told h in (T .log, (T .is, afternoon (T .history)))
 
 -- The image that a C function gave back of an image of triangles is refused by no further function with 1, nor with 2 or 3 for the mesh: for the numbers (2) and the arguments (4) of that function alone, or for room.
 pub image-accepted : (s out log : List ℕ) → Replying s out log → 0 < length (meshOf (imageOf s) .triangles)

@@ -7,8 +7,9 @@ use Rattle.model.specs.Mesh.{Mesh}
 use Rattle.model.specs.Run.{Entry}
 use Rattle.mesh.specs.Log.{wordsOf, wordList, wordsIn}
 use Rattle.answer.specs.Answered.{frontOf}
-use Rattle.lineage.specs.History.{Called, History, HostStores}
+use Rattle.lineage.specs.History.{Called, History, HostStores, Afternoon}
 use Rattle.lineage.specs.History as H
+use Rattle.lineage.proofs.Histories.{afternoon}
 use Rattle.joined.specs.Entries.{Entries, first, calling, moving, HostHolds, held, rooms}
 use Rattle.joined.proofs.Join.{joined}
 
@@ -44,3 +45,7 @@ unfolding told
 stores-told (first b) S = S
 stores-told (calling G D h e A) S = stores-told h S
 stores-told (moving h W) S = (stores-told h (S .0), S .1)
+
+-- demand 3 of what the entries left: the fronts that they handed back are the words of a log that all of it holds with
+pub entries-afternoon : {M₀ M : Mesh} {words : List ℕ} → Entries M₀ M words → (log : List Entry) × ((words ≡ wordsIn (map wordsOf log)) × Afternoon M₀ M log)
+entries-afternoon h = let T = told h in (T .log, (T .is, afternoon (T .history)))

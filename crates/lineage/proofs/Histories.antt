@@ -1,4 +1,4 @@
--- The theorems on histories of triangle meshes: `traced-always`, `held-always`, `copies-held`, `particles-bounded`, `runs-bounded`, `room-suffices`. Assumes nothing.
+-- The theorems on histories of triangle meshes: `traced-always`, `held-always`, `copies-held`, `particles-bounded`, `afternoon`, `runs-bounded`, `room-suffices`. Assumes nothing.
 use mathlib.Core.Path.{_≡_, refl, sym, _∙_, ap, subst}
 use mathlib.Core.Bool.{Bool, true, false, not, _&&_, _||_}
 use mathlib.Core.Logic.{_⊎_, inl, inr, ⊎-elim}
@@ -25,7 +25,7 @@ use Rattle.model.proofs.Traced.{origin-append}
 use Rattle.model.proofs.Kept.{accepted-sound, outcome-done, unless-done, no-refusal, cut-keeps, crack-keeps, split-keeps, straddlers-keep}
 use Rattle.model.proofs.Splitting.{Sided, sides-accepted}
 use Rattle.model.proofs.Laws.{and-true, false-true, all-over, all-append, each-append}
-use Rattle.lineage.specs.History.{Begins, Moved, History, Called, cutting, cracking, splitting, removing, first, calling, moving, rootsOf, Lasting, inUse, mostParticles, EveryRun, Within, Unrefused, Roomy}
+use Rattle.lineage.specs.History.{Begins, Moved, History, Called, cutting, cracking, splitting, removing, first, calling, moving, rootsOf, Lasting, inUse, mostParticles, Afternoon, EveryRun, Within, Unrefused, Roomy}
 use Rattle.lineage.proofs.Induction.{sides-kept, cut-kept, crack-kept, Kept as KeptBySteps}
 use Rattle.lineage.proofs.Counting.{among, among-room, among-most}
 use Rattle.lineage.proofs.Grown.{Grown, grown-same, grown-then, column, rootsBy, roots-by, map-all, map-ext, Growing, growing-start, growing-kept}
@@ -239,6 +239,10 @@ particles-bounded {M₀} {M} h = grown-most M₀ M (line-of h .grown)
 pub in-use-most : (M : Mesh) → inUse M ≤ 3 * length (M .triangles)
 unfolding inUse
 in-use-most M = let h = among-most (length (M .particles)) (each cornersOf (M .triangles)) in let e = three-each (M .triangles) in omega arith
+
+-- After any history: all of demand 3.
+pub afternoon : {M₀ M : Mesh} {log : List Entry} → History M₀ M log → Afternoon M₀ M log
+afternoon h = record { lasting = traced-always h; held = copies-held h; bounded = particles-bounded h }
 
 -- ---- room
 

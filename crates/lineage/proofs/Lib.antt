@@ -14,7 +14,7 @@ pub mod Sums
 pub mod Masses
 -- what a call gives is accepted again
 pub mod Again
--- which does not go for straps
+-- which does not go for straps, computed
 pub mod Strapped
 -- a weightless group under a positive total gets mass 0 and so a pinned copy
 pub mod Weightless

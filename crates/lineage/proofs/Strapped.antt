@@ -1,6 +1,7 @@
 -- Strap results may go out of range: a cut that is accepted, and whose result is refused with 2 as input. Assumes nothing.
--- Three particles and two straps: the cut strap's mass goes half to each end's part, so an end that keeps another strap gets more than it gave. With one strap an end is left with half of its part of the
--- whole, which is in range.
+-- A cut strap's mass goes half to each end's part, so an end that keeps another strap may get more than it gave. The first case is plain: it goes out of range by 65,536. The second is the smallest in
+-- particles and straps: two straps between the same two particles, out of range by the roundings alone. (One strap's results stay in range: each end is left with its half of its part of a sum of at most
+-- 2,097,152, and each rounding keeps it at most 1,048,576.)
 use mathlib.Core.Path.{_≡_, refl}
 use mathlib.Core.Bool.{true}
 use mathlib.Core.List.{[], _∷_}
@@ -45,3 +46,32 @@ strap-cut = refl
 pub strap-out-of-range : refusal true too-heavy true true ≡ 2
 unfolding all finite? number? volume? notBelow0? absOf particleOk triangleOk edgeOk numbersFit named rootOk cornersOk endsOk sideOk indicesFit refusal ofBits neg lt le eq
 strap-out-of-range = refl
+
+-- two straps between the same two particles of mass 1,048,576: of length 1 + 171 / 8,388,608, and of length 1.625
+abbrev pub one-pair : Mesh
+one-pair =
+    mesh
+    (particle 0x00000000 0x00000000 0x00000000 0x00000000 0x49800000 0x35800000 0 0 ∷ particle 0x41000000 0x00000000 0x41000000 0x00000000 0x49800000 0x35800000 1 0 ∷ [])
+    []
+    (edge 0 1 1 0 0x3f8000ab 0x3f8000ab 0 0 ∷ edge 0 1 1 0 0x3fd00000 0x3fd00000 0 0 ∷ [])
+    []
+
+-- behind the cut particle 0 has mass 1,048,576.125
+abbrev pub just-too-heavy : Mesh
+just-too-heavy =
+    mesh
+    (particle 0x00000000 0x00000000 0x00000000 0x00000000 0x49800001 0x357ffffe 0 0 ∷ particle 0x41000000 0x00000000 0x41000000 0x00000000 0xbd800000 0xc1800000 1 0
+    ∷ particle 0x41000000 0x00000000 0x41000000 0x00000000 0x48c30cd1 0x3627ff76 2 0 ∷ particle 0x41000000 0x00000000 0x41000000 0x00000000 0x00000000 0x00000000 3 0
+    ∷ particle 0x41000000 0x00000000 0x41000000 0x00000000 0x491e7998 0x35cec554 4 0 ∷ particle 0x41000000 0x00000000 0x41000000 0x00000000 0x00000000 0x00000000 5 0 ∷ [])
+    []
+    (edge 0 2 1 0 0x3f8000ab 0x3f8000ab 0 0 ∷ edge 0 4 1 0 0x3fd00000 0x3fd00000 0 0 ∷ edge 3 1 1 0 0 0 0 0 ∷ edge 5 1 1 0 0 0 0 0 ∷ [])
+    []
+
+-- the mesh is accepted, and both straps are cut at their end, with fraction 0
+pub pair-cut : cutCall true one-pair (blade 0x41000000 0xbf800000 0x41000000 0x3f800000) (bits 0) (rooms 1024 1024 2048 2048 4096) ≡ done just-too-heavy (insert 0 1 2 3 (bits 0x3f800000) ∷ insert 0 1 4 5 (bits 0x3f800000) ∷ []) true
+unfolding all finite? number? volume? notBelow0? absOf particleOk triangleOk edgeOk numbersFit named rootOk cornersOk endsOk sideOk indicesFit refusal ofBits neg lt le eq ne add sub mul div isNan any sift fold each mapAt tab upTo rising invOf lerpOf bladeHit placeOf restOf besides sum kindBy kindOf strapsFrom elementsOf meets crossings nearEnd strapsAt strapShare insertionOf wanted? insertable sideAlong bends numbersOf bendsOver lightened between insertedParticles halfOf insertedEdges insertedSides insertedMesh insertStep insertedAt crossed unbent afterCrossings cutSegments cut start stepTo changed tooSmall firstFault outcome cutCall
+pair-cut = refl
+
+pub pair-out-of-range : refusal true just-too-heavy true true ≡ 2
+unfolding all finite? number? volume? notBelow0? absOf particleOk triangleOk edgeOk numbersFit named rootOk cornersOk endsOk sideOk indicesFit refusal ofBits neg lt le eq
+pair-out-of-range = refl

@@ -17,7 +17,7 @@ use Rattle.model.specs.Pieces.{removeStraddlers}
 use Rattle.model.specs.Cut.{Blade, cut}
 use Rattle.model.specs.Crack.{crack}
 use Rattle.model.specs.Calls.{sidesOk, firstFault, refused, done, cutCall, crackCall, splitCall, straddlersCall}
-use Rattle.model.specs.Trace.{All, Sound, tracedBack}
+use Rattle.model.specs.Trace.{All, Sound, tracedBack, Hold}
 
 -- the first mesh: it has a triangle, it is accepted, and each particle is its own root
 pub record Begins (M : Mesh) : Type 0 where
@@ -68,6 +68,12 @@ inUse M = length (rising (length (M .particles)) (each cornersOf (M .triangles))
 -- the most particles that a history from M₀ can have: the first number, plus three per triangle, less those in use at first
 unfoldable pub mostParticles : Mesh → ℕ
 mostParticles M₀ = length (M₀ .particles) + 3 * length (M₀ .triangles) - inUse M₀
+
+-- Demand 3, whole, of a mesh that a history from M₀ has come to: the triangles last; every particle past the first number belongs to one; and so there are no more than the most.
+pub record Afternoon (M₀ M : Mesh) (log : List Entry) : Type 0 where
+  pub lasting : Lasting M₀ M log
+  pub held : (x : ℕ) → length (M₀ .particles) ≤ x → x < length (M .particles) → Hold x (M .triangles)
+  pub bounded : length (M .particles) ≤ mostParticles M₀
 
 -- P of the run of every call on M: whether the call is then done, or refused for any room. (A split has a side, 0 or 1, for each triangle at v: others are refused before.)
 pub record EveryRun (P : Run → Type 0) (M : Mesh) : Type 0 where

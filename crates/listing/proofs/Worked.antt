@@ -1,4 +1,4 @@
--- Document 01's worked listing, byte for byte, of the model's cut of the worked mesh; the listing of its worked strap; a refusal; and numbers. Assumes nothing.
+-- The worked listing (docs/RULES.md, R15.7), byte for byte, of the model's cut of the worked mesh; the listing of its worked strap; a refusal; and numbers. Assumes nothing.
 use Prim.Native.Nat.{ℕ}
 use mathlib.Core.Path.{_≡_, refl, ap, _∙_}
 use mathlib.Core.Bool.{true}
@@ -41,7 +41,7 @@ strap-listing = refl
 
 -- ---- from the mesh to the bytes
 
--- what is printed depends only on what document 01 says of a result
+-- what is printed depends only on what the worked case says of a result
 abbrev printed-said : Said → List ℕ
 printed-said (no-mesh code) = refusedBytes code
 printed-said (told t) = listingBytes (map wordsOf (t .log)) (t .particles) (t .pieces)

@@ -1,4 +1,4 @@
--- What the program prints, byte for byte: document 01's listing of a cut, and its line of a refusal. Definitions only.
+-- What the program prints, byte for byte: the listing of a cut (docs/RULES.md, R14), and its line of a refusal. Definitions only.
 use Prim.Native.Nat.{ℕ, zero, suc, _+_, _-_, _*_, _/_, _%_}
 use mathlib.Core.Bool.{Bool, _&&_}
 use mathlib.Core.List.{List, [], _∷_, _++_, map}

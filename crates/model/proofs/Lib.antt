@@ -10,6 +10,8 @@ pub mod Splitting
 -- the same for every call; a mesh of nothing stays unchanged
 pub mod Kept
 pub mod Nothing
+-- which numbers have a root
+pub mod Roots
 -- the first step that lacks room decides
 pub mod Steps
 -- `toward` is the source's `group_toward`

@@ -22,5 +22,5 @@ pub mod Calls
 pub mod Reads
 -- the words of the theorems on triangles: traced back, and every copy held
 pub mod Trace
--- the starred cases of document 01, and its worked meshes
+-- the starred cases of docs/RULES.md (R15), and the worked meshes
 pub mod Starred

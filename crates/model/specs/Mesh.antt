@@ -1,4 +1,4 @@
--- A mesh, as document 01 has it. Nothing here speaks of columns. Definitions only.
+-- A mesh (docs/RULES.md, R2). Nothing here speaks of columns. Definitions only.
 use Prim.Native.Nat.{ℕ}
 use mathlib.Core.List.{List}
 use lib.Ieee.{Float}

@@ -48,7 +48,7 @@ touch a b = any (λ x. stands x b) a
 unfoldable pub bodyLabels : List Element → List ℕ
 bodyLabels es = labelled (λ i j. touch (cornersAt es i) (cornersAt es j)) (length es)
 
--- how many bodies a mesh has: document 01's count of pieces
+-- how many bodies a mesh has (docs/RULES.md, R8.3)
 unfoldable pub bodies : Mesh → ℕ
 bodies M = length (distinct (bodyLabels (elementsOf (kindOf M) M)))
 

@@ -8,7 +8,7 @@ use lib.Ieee.{Float, eq}
 use Rattle.lists.specs.Lists.{pick}
 use Rattle.float.specs.declared.root.Rooted.{Rooted}
 use Rattle.float.specs.declared.root.Rooted.the-variants.{Value, Refused}
-use Rattle.float.specs.Root.{rootOf}
+use Rattle.float.specs.Root.{rootOf, rootRefusal}
 use Rattle.blade.specs.declared.Point.{Point}
 use Rattle.blade.specs.declared.Hit.{Hit}
 use Rattle.blade.specs.Blade.{bladeHit}
@@ -27,15 +27,20 @@ pub data Read (A : Type 0) : Type 0 where
   refused : ℕ → Read A
   value : A → Read A
 
+-- the number of a refusal, or 0
+abbrev pub refusalIn : {A : Type 0} → Read A → ℕ
+refusalIn (refused n) = n
+refusalIn (value a) = 0
+
 -- the value, unless a check refuses
 abbrev pub orRefused : {A : Type 0} → ℕ → A → Read A
 orRefused zero a = value a
 orRefused (suc n) a = refused (suc n)
 
--- a root of a number below 0 or not finite: 4
+-- a root of a number below 0 or not finite: the number that crate float gives it
 abbrev pub rooted : Rooted → Read Float
 rooted (Value r) = value r
-rooted Refused = refused 4
+rooted Refused = refused (rootRefusal Refused)
 
 -- the root of x
 abbrev pub rootCall : Float → Read Float

@@ -1,4 +1,4 @@
--- The starred cases of document 01, and its two worked meshes: the strap of length 8 and the listing's. Definitions only; proofs/Starred.antt proves them.
+-- The starred cases of docs/RULES.md (R15), and the two worked meshes: the strap of length 8 and the listing's. Definitions only; proofs/Starred.antt proves them.
 use Prim.Native.Nat.{ℕ}
 use mathlib.Core.Bool.{Bool, true, false}
 use mathlib.Core.List.{List, [], _∷_}
@@ -120,7 +120,7 @@ blade x0 y0 x1 y1 = record { from = point x0 y0; to = point x1 y1 }
 
 -- ---- the starred cases
 
--- all twelve, in the order of document 01
+-- all twelve, in that order
 abbrev pub starred : List Case
 starred =
     -- sides 0,0,0 give groups 0,0,1; sides 1,0,0 give 2,0,1; strap sides 0,1,0 at a shared end give 0,1,0

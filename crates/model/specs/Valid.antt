@@ -1,4 +1,4 @@
--- Which meshes are accepted: document 01, 'What a mesh holds', and the refusals 2 and 3. Definitions only.
+-- Which meshes are accepted: docs/RULES.md, R2.9 and R2.10, and the refusals 2 and 3. Definitions only.
 use Prim.Native.Nat.{ℕ}
 use mathlib.Core.Bool.{Bool, true, not, _&&_}
 use mathlib.Core.List.{List, [], _∷_}

@@ -168,7 +168,7 @@ two-corners Triangles = omega arith
 two-corners Straps = omega arith
 two-corners Nothing = omega arith
 
--- the piece count is never below the count of bodies, that of document 01
+-- the piece count is never below the count of bodies
 pub finer : (M : Mesh) → bodies M ≤ pieces M
 unfolding pieces bodies
 finer M = bodies-fewer (cornersPer (kindOf M)) (elementsOf (kindOf M) M) (two-corners (kindOf M))

@@ -28,7 +28,7 @@ toldOf (done M l c) = said l (length (M .particles)) (counts M)
 abbrev pub pinned : ℕ → Point → Particle
 pinned n p = record { x = p .x; y = p .y; rest-x = p .x; rest-y = p .y; mass = one; inv = zero32; root = n; damaged = 0 }
 
--- document 01's listing mesh with other particles 0 and 2
+-- the worked listing's mesh with other particles 0 and 2
 abbrev pub sheetWith : Particle → Particle → Mesh
 sheetWith p q =
     record {

@@ -1,4 +1,4 @@
--- Document 01's worked sheet: 46 bytes, 4 spare bits, and what it holds; a sheet without bytes gets 9.
+-- The worked sheet (docs/RULES.md, R15.7): 46 bytes, 4 spare bits, and what it holds; a sheet without bytes gets 9.
 use Prim.Native.Nat.{ℕ}
 use mathlib.Core.Path.{_≡_, refl}
 use mathlib.Core.List.{List, [], _∷_}

@@ -1,4 +1,4 @@
--- Document 01: what reading a sheet gives. The mesh that a sheet is, its blade, the rooms, and what is left in the lent blocks. Definitions only.
+-- What reading a sheet gives (docs/RULES.md, R13.4). The mesh that a sheet is, its blade, the rooms, and what is left in the lent blocks. Definitions only.
 use Prim.Native.Nat.{ℕ, _/_}
 use mathlib.Core.Path.{_≡_}
 use mathlib.Core.Bool.{cond, _&&_}

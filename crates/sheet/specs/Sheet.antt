@@ -1,4 +1,4 @@
--- Document 01, "Sheet and listing": the layout, a sheet's meaning, and what each sheet and each writing is answered. Definitions only.
+-- Sheets (docs/RULES.md, R13): the layout, a sheet's meaning, and what each sheet and each writing is answered. Definitions only.
 use Prim.Native.Nat.{ℕ, zero, suc, _+_, _-_, _*_, _/_}
 use mathlib.Core.Path.{_≡_}
 use mathlib.Core.Bool.{Bool, true, false, cond, not, _&&_, _||_}
@@ -106,11 +106,11 @@ pub record FitSheet (s : Sheet) : Type 0 where
 unfoldable pub above : Counts → Counts → Bool
 above limits c = ltb (limits .particles) (c .particles) || (ltb (limits .triangles) (c .triangles) || (ltb (limits .edges) (c .edges) || ltb (limits .boundary) (c .boundary)))
 
--- document 01's limits
+-- the limits of docs/RULES.md, R2.9
 abbrev pub most : Counts
 most = record { particles = 1024; triangles = 1024; edges = 2048; boundary = 2048 }
 
--- a count is above document 01's limit
+-- a count is above its limit
 abbrev pub tooMany : Counts → Bool
 tooMany c = above most c
 
@@ -149,7 +149,7 @@ seenWith limits c s =
     (Refused 9))
     (Refused 9))
 
--- what the bytes of a sheet are answered, where the caller's limits hold besides document 01's: a short header 9; then as above
+-- what the bytes of a sheet are answered, where the caller's limits hold besides those of every mesh: a short header 9; then as above
 unfoldable pub seenOf : Counts → List ℕ → Seen
 seenOf limits s = cond (ltb (length s) 6) (Refused 9) (seenWith limits (countsAt (bitsOf s)) s)
 

@@ -58,7 +58,7 @@ fn exceeds(limits: Counts, c: Counts) -> bool
     limits.boundary < c.boundary
 }
 
-// Whether a count is above document 01's limit.
+// Whether a count is above its limit.
 fn too_many(c: Counts) -> bool
     ensures { λ r. ⌜ r ≡ tooMany c ⌝ }
 {
@@ -73,7 +73,7 @@ fn too_many(c: Counts) -> bool
     )
 }
 
-// Whether a count is above document 01's limit or the caller's.
+// Whether a count is above its limit or the caller's.
 fn refused_counts(limits: Counts, c: Counts) -> bool
     ensures { λ r. ⌜ r ≡ (tooMany c || above limits c) ⌝ }
 {

@@ -86,13 +86,14 @@ verts-below p n k es verts a C room t h =
 record Few (n k : ℕ) : Type 0 where
   pub width : (1 ≤ k) × (k ≤ 3)
   pub few : n ≤ 2048
+  pub short : n ≤ 512
   pub narrow : n * k ≤ 1024
 
 few-of : (K : Kind) (ts : List Triangle) (es : List Edge) (n : ℕ) → length ts ≤ 128 → length es ≤ 512 → n ≡ length (elementsIn K ts es) → Few n (cornersPer K)
 unfolding elementsIn
-few-of Triangles ts es n t e c = let h = triangles-length 0 ts in record { width = (omega arith, omega arith); few = omega arith; narrow = omega arith }
-few-of Straps ts es n t e c = let h = straps-length 0 es in record { width = (omega arith, omega arith); few = omega arith; narrow = omega arith }
-few-of Nothing ts es n t e c = record { width = (omega arith, omega arith); few = omega arith; narrow = omega arith }
+few-of Triangles ts es n t e c = let h = triangles-length 0 ts in record { width = (omega arith, omega arith); few = omega arith; short = omega arith; narrow = omega arith }
+few-of Straps ts es n t e c = let h = straps-length 0 es in record { width = (omega arith, omega arith); few = omega arith; short = omega arith; narrow = omega arith }
+few-of Nothing ts es n t e c = record { width = (omega arith, omega arith); few = omega arith; short = omega arith; narrow = omega arith }
 
 triangles-count : (n : ℕ) (C : List ℕ) (U : List Float) → length (trianglesAt n C U) ≡ n
 unfolding trianglesAt
@@ -122,6 +123,10 @@ module _ (k : Counts) (C : List ℕ) (U : List Float) (E : List ℕ) (L : List F
     few-told : Few n (cornersPer (kindIs kind))
     few-told =
         few-of (kindIs kind) (trianglesAt (k .triangles) C U) (edgesAt (k .edges) E L) n (omega (arith, triangles-count (k .triangles) C U, A .few-triangles)) (omega (arith, edges-count (k .edges) E L, A .few-edges)) (T .cornered .count)
+
+    -- 512 labels are enough
+    pub short-told : n ≤ 512
+    short-told = few-told .short
 
     -- the corners of the table name particles
     corners-told : 1024 ≤ length Y → Corners n per Y 256

@@ -1,4 +1,4 @@
--- Document 01's worked sheet as the program reads and lists it, byte for byte; a file without bytes. Assumes nothing.
+-- The worked sheet (docs/RULES.md, R15.7) as the program reads and lists it, byte for byte; a file without bytes. Assumes nothing.
 use Prim.Native.Nat.{ℕ}
 use mathlib.Core.Path.{_≡_, refl, ap, _∙_}
 use mathlib.Core.Bool.{true}

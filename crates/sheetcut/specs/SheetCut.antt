@@ -1,4 +1,4 @@
--- Document 01's program `cutlist` as a function of bytes: the cut of a sheet, and what is printed of it. Definitions only.
+-- The program `cutlist` (docs/RULES.md, R14) as a function of bytes: the cut of a sheet, and what is printed of it. Definitions only.
 use Prim.Native.Nat.{ℕ, _≤_}
 use mathlib.Core.Bool.{true}
 use mathlib.Core.List.{List}

@@ -1,4 +1,4 @@
-// Document 01's program from bytes to bytes: a sheet is read, cut and listed.
+// The program of docs/RULES.md, R14, from bytes to bytes: a sheet is read, cut and listed.
 ghost use mathlib.Core.Path.{_≡_};
 ghost use mathlib.Core.List.{[]};
 ghost use lib.ListN.{length, getD};
@@ -268,7 +268,7 @@ fn list_whole(sheet: &[u8], c: SheetCounts, out: &mut [u8]) -> Written
     )
 }
 
-// Document 01's program from bytes to bytes: the listing of the cut of a sheet, or the line of its refusal, and 0 behind it.
+// The program from bytes to bytes: the listing of the cut of a sheet, or the line of its refusal, and 0 behind it.
 pub fn list_cut(bytes: &[u8], out: &mut [u8]) -> Written
     ensures { λ r. ⌜ Told (listed (now (bytes .entry))) (length (now (out .entry))) (now (out .exit)) r ⌝ }
 {

@@ -1,4 +1,4 @@
-// A tour of the bench: what it answers about the worked mesh of document 01, the paper's two worked cuts, a refusal, a split and a crack.
+// A tour of the bench: what it answers about the worked mesh of docs/RULES.md, R15, the two worked cuts, a refusal, a split and a crack.
 ghost use mathlib.Core.Path.{_≡_};
 ghost use lib.ListN.{length};
 use answer::Answer;

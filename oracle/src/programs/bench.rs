@@ -185,7 +185,7 @@ fn tearing_rows() -> Vec<Rows> {
         ),
     ]
 }
-/// The body that `connected_pieces` counts: elements alone.
+/// The body that `connected_pieces` counts: elements alone. It goes by shared particles, ours by shared sides: the Rust has no such count.
 fn elements_alone(m: &Mesh) -> SoftBody {
     let mut b = m.to_body(None);
     let straps = kind(m) == 2;

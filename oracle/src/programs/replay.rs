@@ -1,5 +1,6 @@
 //! replay write reading|tearing > FILE: a fixed list of small calls of the C functions that read, or
 //! that give a mesh, with the Rust's answers.
+//! replay again FILE > OTHER: its calls with today's answers, and one more for each wrong variant that none of them fails.
 //! replay read FILE: the Rust, the archive and every wrong variant of the second writing against it.
 use crate::api::Mesh;
 use crate::entries::{Args, ENTRIES, Entry, Input, Lending, Raw, Table, archive, call};
@@ -226,11 +227,37 @@ pub fn run(words: &[String]) -> i32 {
             0
         }
         [w, file] if w == "read" => read(file),
+        [w, file] if w == "again" => again(file),
         _ => {
-            eprintln!("replay write reading|tearing > FILE | replay read FILE");
+            eprintln!("replay write reading|tearing > FILE | replay read FILE | replay again FILE > OTHER");
             2
         }
     }
+}
+/// The same calls with the answers of today, and behind them a call for each wrong variant that none of them fails.
+fn again(file: &str) -> i32 {
+    let text = std::fs::read_to_string(file).expect("the list");
+    let mut calls = vec![];
+    for l in text.lines() {
+        if l.starts_with('#') {
+            println!("{l}");
+            continue;
+        }
+        let c = parse(l).0;
+        println!("{}", line(&c));
+        calls.push(c);
+    }
+    let tearing = calls.iter().any(|c| c.entry.tears());
+    for f in faults(tearing) {
+        plant(f);
+        if !calls.iter().any(|c| fails(&table(), c)) {
+            let more = smallest(&table(), tearing);
+            more.iter().for_each(|c| println!("{}", line(c)));
+            calls.extend(more);
+        }
+    }
+    plant(Fault::Nothing);
+    0
 }
 /// Lines whose answer the table does not give; `None` if it has none of their entries.
 fn differ(t: &Table, list: &[(Raw, Expected)]) -> Option<usize> {
