@@ -2,7 +2,8 @@
 //!
 //! A [`Mesh`] of foam triangles or of webbing straps is cut along a blade, cracked across torn edges, split at a particle or freed of straddlers; each call
 //! gives a [`Torn`], the new mesh with what happened, or a [`Refusal`] in words. The work is done by the bench's C functions (`host/bench.h`), whose
-//! sources are proved; this crate packs and unpacks, and decides nothing.
+//! sources are proved; this crate packs and unpacks, and decides nothing
+//! (but what is a sheet, as long as the bench has no C functions for that).
 //!
 //! ```
 //! use cutting_bench::{Event, Mesh};
@@ -26,16 +27,21 @@ mod calls;
 mod draw;
 mod image;
 mod mesh;
+mod packed;
 mod pieces;
 mod refusal;
+mod sheet;
 mod tear;
+mod text;
 
 pub use ask::{Groups, blade_hit, root};
 pub use draw::{draw_cut, draw_mesh, tell};
 pub use mesh::{Edge, Mesh, Particle, Triangle};
 pub use pieces::Piece;
 pub use refusal::Refusal;
+pub use sheet::{Sheet, SheetEdge, SheetParticle};
 pub use tear::{Event, Rooms, Torn};
+pub use text::TextError;
 
 /// The minimum piece that the bench offers for a crack.
 pub const MINIMUM_PIECE: u32 = 3;

@@ -42,7 +42,7 @@ fn firsts(elements: &[(u32, Vec<u32>)], shared: usize) -> Vec<usize> {
     first
 }
 
-/// So many particles join two triangles into one piece (docs/RULES.md, R8.3 and R19.2): what the bench says of two that share a corner.
+/// So many particles join two triangles into one piece (docs/RULES.md, R8.3): what the bench says of two that share a corner.
 fn shared_by_triangles() -> Result<usize, Refusal> {
     let mut corner = Mesh::new();
     for (x, y) in [(0.0, 0.0), (2.0, 0.0), (2.0, 2.0), (4.0, 2.0), (4.0, 4.0)] {

@@ -37,7 +37,7 @@ faults! {
     MinimumLess: Both,
     /// Pieces are joined by edges and boundary too.
     PiecesByEdges: Reading,
-    /// A shared corner is taken for a facet when counting pieces, as document 01 did.
+    /// A shared corner is taken for a facet when counting pieces, as the count of bodies does.
     PiecesByCorner: Reading,
     /// Triangles are joined that share exactly two particles: a doubled one is a piece of its own.
     PiecesExactly: Reading,

@@ -1,0 +1,114 @@
+//! The trainer's tool: sheets as text, as pictures, cut and explained. `host/run sheet` lists what it does.
+use cutting_bench::{Refusal, Sheet, draw_cut, draw_mesh, tell};
+use std::error::Error;
+use std::fs;
+use std::io::{self, Write};
+use std::process::ExitCode;
+
+const USAGE: &str = "\
+host/run sheet text FILE             a sheet as lines that one can read
+host/run sheet write TEXT > FILE     the sheet of such lines
+host/run sheet draw FILE > x.svg     a picture: pieces coloured, pins black, the blade red
+host/run sheet cut FILE              the cut told in words: what happened, the pieces and their masses
+host/run sheet cut FILE --draw       before and after, beside each other, as a picture (> x.svg)
+host/run sheet explain N             what the line `refused N` means
+FILE is a sheet, or its text if its name ends in .text. A cut cuts straps no nearer to an end than a tenth of them.
+";
+/// The insertion fraction of the program cutlist.
+const FRACTION: f32 = 0.1;
+
+type Outcome = Result<Vec<u8>, Box<dyn Error>>;
+
+/// The sheet of a file, or of its text.
+fn open(file: &str) -> Result<Sheet, Box<dyn Error>> {
+    let bytes = fs::read(file).map_err(|why| format!("{file}: {why}"))?;
+    match file.ends_with(".text") {
+        true => Ok(String::from_utf8(bytes)?.parse()?),
+        false => Ok(Sheet::read(&bytes)?),
+    }
+}
+
+/// The cut of a sheet in words.
+fn tell_cut(sheet: &Sheet) -> Result<String, Refusal> {
+    let torn = sheet.mesh()?.cut(sheet.blade.map(|x| x as f32), FRACTION)?;
+    let mut out: Vec<String> = torn.events.iter().map(tell).collect();
+    if torn.events.is_empty() {
+        out.push("nothing was cut".to_string());
+    }
+    let pieces = torn.mesh.list_pieces()?;
+    let pieces_word = if pieces.len() == 1 { "piece" } else { "pieces" };
+    out.push(format!("{} particles, {} {pieces_word}", torn.mesh.particles.len(), pieces.len()));
+    let (element, measure) = if torn.mesh.triangles.is_empty() { ("strap", "length") } else { ("triangle", "area") };
+    for (k, p) in (1..).zip(&pieces) {
+        let plural = if p.elements.len() == 1 { "" } else { "s" };
+        out.push(format!(
+            "piece {k}: {} {element}{plural}, {measure} {}, mass {}",
+            p.elements.len(),
+            p.measure,
+            p.mass
+        ));
+    }
+    Ok(out.join("\n") + "\n")
+}
+
+/// A refusal in words.
+fn explain(number: &str) -> Result<String, Box<dyn Error>> {
+    match number.parse().map(Refusal::of) {
+        Ok(Some(Refusal::Other(n))) => Err(format!("no refusal has the number {n}: they go from 1 to 9").into()),
+        Ok(Some(why)) => Ok(format!("refused {number}: {why}.\n{}\n", why.advice())),
+        Ok(None) => Ok("0: accepted.\n".to_string()),
+        Err(_) => Err(format!("{number} is no number").into()),
+    }
+}
+
+fn sheet(words: &[&str]) -> Option<Outcome> {
+    let draw = |file: &str| -> Outcome {
+        let s = open(file)?;
+        Ok(draw_mesh(&s.mesh()?, s.blade.map(|x| x as f32))?.into_bytes())
+    };
+    let draw_both = |file: &str| -> Outcome {
+        let s = open(file)?;
+        let (mesh, blade) = (s.mesh()?, s.blade.map(|x| x as f32));
+        Ok(draw_cut(&mesh, blade, &mesh.cut(blade, FRACTION)?)?.into_bytes())
+    };
+    let write = |file: &str| -> Outcome {
+        let text = fs::read_to_string(file).map_err(|why| format!("{file}: {why}"))?;
+        let sheet: Sheet = text.parse()?;
+        sheet.write().map_err(|why| match sheet.misnamed() {
+            Some(what) if why == Refusal::BadIndex => format!("refused {}: {what}", why.number()).into(),
+            _ => why.into(),
+        })
+    };
+    Some(match words {
+        ["text", file] => open(file).map(|s| s.to_string().into_bytes()),
+        ["write", file] => write(file),
+        ["draw", file] => draw(file),
+        ["cut", file] => open(file).and_then(|s| Ok(tell_cut(&s)?.into_bytes())),
+        ["cut", file, "--draw"] | ["cut", "--draw", file] => draw_both(file),
+        ["explain", number] => explain(number).map(String::into_bytes),
+        _ => return None,
+    })
+}
+
+fn main() -> ExitCode {
+    let words: Vec<String> = std::env::args().skip(1).collect();
+    let words: Vec<&str> = words.iter().map(String::as_str).collect();
+    let Some(outcome) = words.split_first().filter(|(first, _)| **first == "sheet").and_then(|(_, rest)| sheet(rest))
+    else {
+        eprint!("{USAGE}");
+        return ExitCode::from(2);
+    };
+    match outcome {
+        Ok(bytes) => match io::stdout().write_all(&bytes) {
+            Ok(()) => ExitCode::SUCCESS,
+            Err(_) => ExitCode::from(1),
+        },
+        Err(why) => {
+            match why.downcast_ref::<Refusal>() {
+                Some(refusal) => eprintln!("refused {}: {refusal}.\n{}", refusal.number(), refusal.advice()),
+                None => eprintln!("{why}"),
+            }
+            ExitCode::from(1)
+        }
+    }
+}
