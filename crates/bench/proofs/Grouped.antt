@@ -1,23 +1,25 @@
 -- The groups of a fan in tables are those of the definitions, and so is what they reach.
-use Prim.Native.Nat.{ℕ, _*_, _/_, _<_, _≤_}
+use Prim.Native.Nat.{ℕ, zero, suc, _+_, _*_, _/_, _<_, _≤_}
 use native.Mathlib.Omega.{arith}
 use mathlib.Core.Path.{_≡_, refl, sym, _∙_, ap, ap₂, subst}
-use mathlib.Core.Bool.{Bool, true, false, _&&_}
+use mathlib.Core.Bool.{Bool, true, false, not, _&&_}
 use mathlib.Core.List.{List, [], _++_}
 use lib.Dec.{eqb, leb, ltb}
-use lib.ListN.{length, getD, take, drop}
+use lib.ListN.{length, getD, take, drop, set, length-set, length-replicate}
 use lib.Seq.{length-take-le, length-front, take-at}
 use borrow.Author.Tests.{ltb-true, eqb-true}
 use Rattle.lists.specs.Lists.{pick, all, each, padded}
 use Rattle.lists.proofs.Sifts.{and-true, all-get}
-use Rattle.fan.specs.Fan.{Fan, fan}
-use Rattle.fan.specs.Groups.{groupsOf, countOf}
+use Rattle.fan.specs.Fan.{Fan, fan, size}
+use Rattle.fan.specs.Groups.{Numbered, numberOne, numberSide, numbered, groupsOf, countOf, labelsOf}
 use Rattle.fan.specs.Calls.{Fits, Counted as GroupsCounted}
+use Rattle.model.specs.Mesh.{Mesh}
+use Rattle.model.specs.Valid.{numbersFit, indicesFit}
 use Rattle.model.specs.Elements.{Element, kindOf, fanOf, gridOf, cornersPer}
 use Rattle.model.specs.Pieces.{opensWithoutConfetti}
 use Rattle.model.specs.Split.{openingOf}
 use Rattle.model.specs.Calls.{sidesOk, refusal}
-use Rattle.model.specs.Reads.{Read, refused, value, orRefused, grouped, opensCall}
+use Rattle.model.specs.Reads.{Read, refused, value, orRefused, grouped, groupsCall, opensCall}
 use Rattle.mesh.specs.Given.{Given, meshOf, sizesFit}
 use Rattle.judge.specs.Checks.{faultOf}
 use Rattle.elements.proofs.Found.{fan-of}
@@ -25,7 +27,7 @@ use Rattle.reach.specs.Opens.{Opens}
 use Rattle.reach.proofs.Opening.{lent-by, opens-opening}
 use Rattle.asked.specs.Accepted.{FanFound}
 use Rattle.bench.specs.Fans.{FanAsked, GroupsFilled, WalkAsked}
-use Rattle.bench.specs.Answers.{truthOf, groupsEntry, groupCount, groupsShown, GroupsAnswered}
+use Rattle.bench.specs.Answers.{truthOf, placedIn, groupCount, groupsShown, GroupsAnswered}
 use Rattle.bench.specs.declared.Count.the-variants.{Refused as CountRefused, Counted}
 use Rattle.bench.specs.declared.Truth.the-variants.{Refused as TruthRefused, Holds}
 use Rattle.asked.proofs.Judged.{decided}
@@ -100,17 +102,55 @@ walked {F} {n} {k} {v} {verts} {count} {minimum} {r} gs old size l h C O =
     subst (λ (m : ℕ). Opens n k v verts (groupsOf F) m minimum r) (C .count-is)
     (subst (λ (t : List ℕ). Opens n k v verts t count minimum r) (front-is gs old size l h ∙ C .groups-are) O)
 
+-- ---- a group for each side
+
+pick-long : (b : Bool) (x y : Numbered) (m : ℕ) → length (x .groups) ≡ m → length (y .groups) ≡ m → length (pick b x y .groups) ≡ m
+pick-long true x y m h k = h
+pick-long false x y m h k = k
+
+one-long : (p : List ℕ) (i : ℕ) (N : Numbered) → length (numberOne p i N .groups) ≡ length (N .groups)
+unfolding numberOne
+one-long p i N =
+    pick-long (eqb (getD p i 0) i) (record { groups = set (N .groups) i (N .count); count = N .count + 1 })
+    (record { groups = set (N .groups) i (getD (N .groups) (getD p i 0) 0); count = N .count }) _ (length-set (N .groups) i _) (length-set (N .groups) i _)
+
+side-long : (sides p : List ℕ) (s m i : ℕ) (N : Numbered) → length (numberSide sides p s m i N .groups) ≡ length (N .groups)
+unfolding numberSide
+side-long sides p s zero i N = refl
+side-long sides p s (suc m) i N = side-long sides p s m (suc i) _ ∙ pick-long (eqb (getD sides i 0) s) (numberOne p i N) N _ (one-long p i N) refl
+
+pub groups-long : (F : Fan) → length (groupsOf F) ≡ length (F .sides)
+unfolding groupsOf numbered
+groups-long F = side-long (F .sides) (labelsOf F) 1 (size F) 0 _ ∙ side-long (F .sides) (labelsOf F) 0 (size F) 0 _ ∙ length-replicate (size F) 0
+
 -- ---- answers
+
+-- the checks, with a test more for the lent table
+placed-or : (lent : ℕ) (a b c s l : Bool) (gs : List ℕ × ℕ) → leb (length (gs .0)) lent ≡ l
+    → placedIn lent (orRefused (pick a 1 (pick b 2 (pick c 3 (pick (not s) 4 0)))) gs) ≡ orRefused (pick a 1 (pick b 2 (pick c 3 (pick (not (s && l)) 4 0)))) gs
+placed-or lent true b c s l gs e = refl
+placed-or lent false true c s l gs e = refl
+placed-or lent false false true s l gs e = refl
+placed-or lent false false false false l gs e = refl
+placed-or lent false false false true true gs e = ap (λ (t : Bool). pick t (value gs) (refused 4)) e
+placed-or lent false false false true false gs e = ap (λ (t : Bool). pick t (value gs) (refused 4)) e
+
+-- what a table of so many places is told of the groups' call
+pub placed-is : (z : Bool) (M : Mesh) (v : ℕ) (sides : List ℕ) (lent : ℕ) → placedIn lent (groupsCall z M v sides)
+    ≡ orRefused (refusal z M true (sidesOk M v sides && leb (length sides) lent)) (grouped (gridOf (kindOf M) v (fanOf (kindOf M) M v) sides))
+unfolding groupsCall refusal gridOf
+placed-is z M v sides lent =
+    placed-or lent (not z) (not (numbersFit M && true)) (not (indicesFit M)) (sidesOk M v sides) (leb (length sides) lent) _
+    (ap (λ (n : ℕ). leb n lent) (groups-long (gridOf (kindOf M) v (fanOf (kindOf M) M v) sides)))
 
 -- what a table of groups and its count answer, where the fan in its table is the definition's
 pub groups-answered : (G : Given) (v : ℕ) (sides : List ℕ) (lent : ℕ) (t : Bool) (F : Fan) (table : List ℕ) (r : ℕ) → faultOf G ≡ 0 → t ≡ (sidesOk (meshOf G) v sides && leb (length sides) lent) → t ≡ true
     → F ≡ gridOf (kindOf (meshOf G)) v (fanOf (kindOf (meshOf G)) (meshOf G) v) sides → GroupsFilled F lent table r
-    → GroupsAnswered (groupsEntry (sizesFit G) (meshOf G) v sides lent) lent (Counted r) table
-unfolding groupsEntry
+    → GroupsAnswered (groupsCall (sizesFit G) (meshOf G) v sides) lent (Counted r) table
 groups-answered G v sides lent t F table r z e said same filled =
     let F′ = gridOf (kindOf (meshOf G)) v (fanOf (kindOf (meshOf G)) (meshOf G) v) sides in
-    let o : orRefused (refusal (sizesFit G) (meshOf G) true (sidesOk (meshOf G) v sides && leb (length sides) lent)) (grouped F′) ≡ value (grouped F′)
-    = value-by 0 _ (grouped F′) (grouped F′) (sym (decided G _ z ∙ ap (λ (b : Bool). pick b 0 4) (sym e ∙ said))) refl refl in
+    let o : placedIn lent (groupsCall (sizesFit G) (meshOf G) v sides) ≡ value (grouped F′)
+    = placed-is (sizesFit G) (meshOf G) v sides lent ∙ value-by 0 _ (grouped F′) (grouped F′) (sym (decided G _ z ∙ ap (λ (b : Bool). pick b 0 4) (sym e ∙ said))) refl refl in
     record {
       answer = ap Counted (filled .count-is ∙ ap countOf same) ∙ sym (ap groupCount o);
       table-is = filled .table-is ∙ ap (λ (f : Fan). padded lent 0 (groupsOf f)) same ∙ sym (ap (λ (x : Read (List ℕ × ℕ)). padded lent 0 (groupsShown x)) o);
@@ -118,11 +158,10 @@ groups-answered G v sides lent t F table r z e said same filled =
 
 -- a refusal: the table is zeroed
 pub groups-refused : (G : Given) (v : ℕ) (sides : List ℕ) (lent code : ℕ) (table : List ℕ) → code ≡ refusal (sizesFit G) (meshOf G) true (sidesOk (meshOf G) v sides && leb (length sides) lent) → (code ≡ 0 → ⊥)
-    → table ≡ padded lent 0 [] → GroupsAnswered (groupsEntry (sizesFit G) (meshOf G) v sides lent) lent (CountRefused code) table
-unfolding groupsEntry
+    → table ≡ padded lent 0 [] → GroupsAnswered (groupsCall (sizesFit G) (meshOf G) v sides) lent (CountRefused code) table
 groups-refused G v sides lent code table e h zeroed =
     let F = gridOf (kindOf (meshOf G)) v (fanOf (kindOf (meshOf G)) (meshOf G) v) sides in
-    let o : orRefused (refusal (sizesFit G) (meshOf G) true (sidesOk (meshOf G) v sides && leb (length sides) lent)) (grouped F) ≡ refused code = refuse-by code _ (grouped F) e h in
+    let o : placedIn lent (groupsCall (sizesFit G) (meshOf G) v sides) ≡ refused code = placed-is (sizesFit G) (meshOf G) v sides lent ∙ refuse-by code _ (grouped F) e h in
     record { answer = sym (ap groupCount o); table-is = zeroed ∙ sym (ap (λ (x : Read (List ℕ × ℕ)). padded lent 0 (groupsShown x)) o) }
 
 -- bad arguments are refusal 4

@@ -1,17 +1,14 @@
 -- What each case of an entry's answer means: the refusal number (docs/RULES.md, R3), or the value that the model's call gives. Definitions only.
 use Prim.Native.Nat.{ℕ}
 use mathlib.Core.Path.{_≡_}
-use mathlib.Core.Bool.{Bool, true, _&&_}
+use mathlib.Core.Bool.{Bool}
 use mathlib.Core.List.{List, []}
 use lib.ListN.{length}
 use lib.Dec.{leb}
 use lib.Ieee.{Float}
-use Rattle.lists.specs.Lists.{padded}
+use Rattle.lists.specs.Lists.{pick, padded}
 use Rattle.blade.specs.declared.Hit.{Hit}
-use Rattle.model.specs.Mesh.{Mesh}
-use Rattle.model.specs.Elements.{kindOf, fanOf, gridOf}
-use Rattle.model.specs.Calls.{sidesOk, refusal}
-use Rattle.model.specs.Reads.{Read, refused, value, orRefused, grouped}
+use Rattle.model.specs.Reads.{Read, refused, value}
 use Rattle.bench.specs.declared.Number.{Number}
 use Rattle.bench.specs.declared.Number.the-variants.{Refused as NumberRefused, Value}
 use Rattle.bench.specs.declared.Count.{Count}
@@ -41,10 +38,12 @@ abbrev pub testedOf : Read Hit → Tested
 testedOf (refused n) = TestRefused n
 testedOf (value x) = TestedAs x
 
--- ---- groups: a table is lent for them, and one with fewer places than the fan has elements is a bad argument
+-- ---- groups: a table is lent for them
 
-unfoldable pub groupsEntry : Bool → Mesh → ℕ → List ℕ → ℕ → Read (List ℕ × ℕ)
-groupsEntry sized M v sides lent = orRefused (refusal sized M true (sidesOk M v sides && leb (length sides) lent)) (grouped (gridOf (kindOf M) v (fanOf (kindOf M) M v) sides))
+-- a table with fewer places than there are groups to show, one for each element of the fan, is a bad argument
+abbrev pub placedIn : ℕ → Read (List ℕ × ℕ) → Read (List ℕ × ℕ)
+placedIn lent (refused n) = refused n
+placedIn lent (value gs) = pick (leb (length (gs .0)) lent) (value gs) (refused 4)
 
 -- the answer is the number of groups
 abbrev pub groupCount : Read (List ℕ × ℕ) → Count
@@ -56,7 +55,7 @@ abbrev pub groupsShown : Read (List ℕ × ℕ) → List ℕ
 groupsShown (refused n) = []
 groupsShown (value gs) = gs .0
 
--- the answer, and every place of the lent table: the groups, and 0 behind them
+-- the answer to a call of o, and every place of the lent table: the groups, and 0 behind them
 pub record GroupsAnswered (o : Read (List ℕ × ℕ)) (lent : ℕ) (r : Count) (table : List ℕ) : Type 0 where
-  pub answer : r ≡ groupCount o
-  pub table-is : table ≡ padded lent 0 (groupsShown o)
+  pub answer : r ≡ groupCount (placedIn lent o)
+  pub table-is : table ≡ padded lent 0 (groupsShown (placedIn lent o))

@@ -5,11 +5,11 @@ ghost use lib.ListN.{length};
 ghost use Rattle.fan.specs.Fan.{fan};
 ghost use Rattle.fan.specs.Groups.{groupsOf, countOf};
 ghost use Rattle.reach.specs.Opens.{Opens};
-ghost use Rattle.model.specs.Reads.{opensCall};
+ghost use Rattle.model.specs.Reads.{groupsCall, opensCall};
 ghost use Rattle.mesh.specs.Given.{given, meshOf, sizesFit};
 ghost use Rattle.judge.specs.Checks.{faultOf};
 ghost use Rattle.bench.specs.Fans.{FanAsked, GroupsFilled, WalkAsked};
-ghost use Rattle.bench.specs.Answers.{groupsEntry, GroupsAnswered, truthOf};
+ghost use Rattle.bench.specs.Answers.{GroupsAnswered, truthOf};
 use crate::Count;
 use crate::Truth;
 use asked::tables;
@@ -47,7 +47,7 @@ fn mesh_groups(
     groups: &mut [usize],
 ) -> Count
     requires { ⌜ faultOf (given (now points) (now roots) (now corners) (now volumes) (now ends) (now lengths) (now outline)) ≡ 0 ⌝ }
-    ensures { λ r. ⌜ GroupsAnswered (groupsEntry (sizesFit (given (now (points .entry)) (now (roots .entry)) (now (corners .entry)) (now (volumes .entry)) (now (ends .entry)) (now (lengths .entry)) (now (outline .entry)))) (meshOf (given (now (points .entry)) (now (roots .entry)) (now (corners .entry)) (now (volumes .entry)) (now (ends .entry)) (now (lengths .entry)) (now (outline .entry)))) v (now (sides .entry)) (length (now (groups .entry)))) (length (now (groups .entry))) r (now (groups .exit)) ⌝ }
+    ensures { λ r. ⌜ GroupsAnswered (groupsCall (sizesFit (given (now (points .entry)) (now (roots .entry)) (now (corners .entry)) (now (volumes .entry)) (now (ends .entry)) (now (lengths .entry)) (now (outline .entry)))) (meshOf (given (now (points .entry)) (now (roots .entry)) (now (corners .entry)) (now (volumes .entry)) (now (ends .entry)) (now (lengths .entry)) (now (outline .entry)))) v (now (sides .entry))) (length (now (groups .entry))) r (now (groups .exit)) ⌝ }
 {
     let mut verts = [0usize; 4096];
     let mut fan_verts = [0usize; 4096];
@@ -88,7 +88,7 @@ pub fn groups(
     sides: &[usize],
     groups: &mut [usize],
 ) -> Count
-    ensures { λ r. ⌜ GroupsAnswered (groupsEntry (sizesFit (given (now (points .entry)) (now (roots .entry)) (now (corners .entry)) (now (volumes .entry)) (now (ends .entry)) (now (lengths .entry)) (now (outline .entry)))) (meshOf (given (now (points .entry)) (now (roots .entry)) (now (corners .entry)) (now (volumes .entry)) (now (ends .entry)) (now (lengths .entry)) (now (outline .entry)))) v (now (sides .entry)) (length (now (groups .entry)))) (length (now (groups .entry))) r (now (groups .exit)) ⌝ }
+    ensures { λ r. ⌜ GroupsAnswered (groupsCall (sizesFit (given (now (points .entry)) (now (roots .entry)) (now (corners .entry)) (now (volumes .entry)) (now (ends .entry)) (now (lengths .entry)) (now (outline .entry)))) (meshOf (given (now (points .entry)) (now (roots .entry)) (now (corners .entry)) (now (volumes .entry)) (now (ends .entry)) (now (lengths .entry)) (now (outline .entry)))) v (now (sides .entry))) (length (now (groups .entry))) r (now (groups .exit)) ⌝ }
 {
     let code = judge::checks::judge(points, roots, corners, volumes, ends, lengths, outline);
     if code != 0 {

@@ -3,14 +3,15 @@ use Prim.Native.Nat.{ℕ, _/_, _%_, _≤_, _*_, _+_}
 use native.Mathlib.Omega.{arith}
 use mathlib.Core.Path.{_≡_, sym, ap, subst, _∙_}
 use mathlib.Core.Bool.{Bool, true, false}
-use mathlib.Core.List.{List}
+use mathlib.Core.List.{List, []}
 use lib.ListN.{length}
 use lib.Dec.{eqb, leb}
 use lib.Ieee.{Float}
 use borrow.Author.Tests.{eq-eqb, ne-eqb, leb-true}
 use Rattle.lists.proofs.Sifts.{and-true}
 use Rattle.blade.specs.declared.Point.{Point}
-use Rattle.model.specs.Calls.{Outcome, bladeOk, cutCall, crackCall}
+use Rattle.model.specs.Calls.{Outcome, refusal, bladeOk, cutCall, crackCall}
+use Rattle.model.specs.Reads.{refused}
 use Rattle.mesh.specs.Given.{meshOf}
 use Rattle.marks.specs.Marking.{bladeFrom}
 use Rattle.jobs.specs.Jobs.{jobNumbers, jobCall}
@@ -19,51 +20,52 @@ use Rattle.jobs.proofs.Jobs.{cut-is, crack-is}
 use Rattle.image.specs.Words.{wordsFrom, numberOf}
 use Rattle.image.specs.Image.{imageOf, imageSized}
 use Rattle.bench_c.specs.Replies.{pointAt}
-use Rattle.bench_c.specs.Torn.{OutcomeReplied, withRooms, roomsIn, ifRead, cutOutcome, wordsFew, crackOutcome}
+use Rattle.bench_c.specs.Torn.{BothReplied, OutcomeReplied, withRooms, roomsIn, ifRead, cutOutcome, wordsFew, crackOutcome}
 
 module _ (s rooms : List ℕ) (lent logged x : ℕ) (out log : List ℕ) where
   -- bytes that were read
   read-replied : (b : Bool) (o : Outcome) → b ≡ true → OutcomeReplied o lent logged x out log → OutcomeReplied (ifRead b s o) lent logged x out log
   read-replied b o e h = subst (λ (z : Bool). OutcomeReplied (ifRead z s o) lent logged x out log) (sym e) h
 
-  -- bytes that could not be read are a bad argument, whatever was to be done
-  misread-replied : (b : Bool) (o called : Outcome) → b ≡ false → OutcomeReplied (withRooms s rooms false true called) lent logged x out log → OutcomeReplied (ifRead b s o) lent logged x out log
-  unfolding withRooms
-  misread-replied b o called e h = subst (λ (z : Bool). OutcomeReplied (ifRead z s o) lent logged x out log) (sym e) h
+  -- bytes that could not be read are a bad argument
+  misread-replied : (b : Bool) (o : Outcome) (code : ℕ) → b ≡ false → code ≡ refusal (imageSized s) (meshOf (imageOf s)) true false → BothReplied (refused code) [] lent logged x out log → OutcomeReplied (ifRead b s o) lent logged x out log
+  misread-replied b o code e f h =
+      subst (λ (z : Bool). OutcomeReplied (ifRead z s o) lent logged x out log) (sym e) (subst (λ (n : ℕ). BothReplied (refused n) [] lent logged x out log) f h)
 
   -- ---- the cut
 
   module _ (blade : List ℕ) (bits : ℕ) where
-    pub cut-misread : (called : Outcome) → (length blade ≡ 16 → ⊥) → OutcomeReplied (withRooms s rooms false true called) lent logged x out log → OutcomeReplied (cutOutcome s blade bits rooms logged) lent logged x out log
+    pub cut-misread : (code : ℕ) → (length blade ≡ 16 → ⊥) → code ≡ refusal (imageSized s) (meshOf (imageOf s)) true false → BothReplied (refused code) [] lent logged x out log → OutcomeReplied (cutOutcome s blade bits rooms logged) lent logged x out log
     unfolding cutOutcome
-    cut-misread called n h = misread-replied (eqb (length blade) 16) _ called (ne-eqb (length blade) 16 n) h
+    cut-misread code n f h = misread-replied (eqb (length blade) 16) _ code (ne-eqb (length blade) 16 n) f h
 
     pub cut-replied : (b0 b1 : Point) (f : Float) (ls : List ℕ) → length blade ≡ 16 → b0 ≡ pointAt blade 0 → b1 ≡ pointAt blade 2 → f ≡ numberOf bits
-        → OutcomeReplied (withRooms s rooms true (jobNumbers (Cut b0 b1 f)) (jobCall (Cut b0 b1 f) ls (imageSized s) (meshOf (imageOf s)) (roomsIn rooms logged))) lent logged x out log
+        → OutcomeReplied (withRooms s rooms (jobNumbers (Cut b0 b1 f)) (jobCall (Cut b0 b1 f) ls (imageSized s) (meshOf (imageOf s)) (roomsIn rooms logged))) lent logged x out log
         → OutcomeReplied (cutOutcome s blade bits rooms logged) lent logged x out log
     unfolding cutOutcome
     cut-replied b0 b1 f ls n e0 e1 ef h =
-        let told : Point → Point → Float → Outcome = λ p q y. withRooms s rooms true (bladeOk (bladeFrom p q)) (cutCall (imageSized s) (meshOf (imageOf s)) (bladeFrom p q) y (roomsIn rooms logged)) in
+        let told : Point → Point → Float → Outcome = λ p q y. withRooms s rooms (bladeOk (bladeFrom p q)) (cutCall (imageSized s) (meshOf (imageOf s)) (bladeFrom p q) y (roomsIn rooms logged)) in
         read-replied (eqb (length blade) 16) _ (eq-eqb (length blade) 16 n)
         (subst (λ (o : Outcome). OutcomeReplied o lent logged x out log)
-        (ap (withRooms s rooms true (bladeOk (bladeFrom b0 b1))) (cut-is b0 b1 f ls (imageSized s) (meshOf (imageOf s)) (roomsIn rooms logged))
+        (ap (withRooms s rooms (bladeOk (bladeFrom b0 b1))) (cut-is b0 b1 f ls (imageSized s) (meshOf (imageOf s)) (roomsIn rooms logged))
         ∙ ap (λ (p : Point). told p b1 f) e0 ∙ ap (λ (q : Point). told (pointAt blade 0) q f) e1 ∙ ap (told (pointAt blade 0) (pointAt blade 2)) ef)
         h)
 
   -- ---- the crack
 
   module _ (torn : List ℕ) (min : ℕ) where
-    pub crack-misread : (b : Bool) → b ≡ wordsFew (length torn) → b ≡ false → (called : Outcome) → OutcomeReplied (withRooms s rooms false true called) lent logged x out log → OutcomeReplied (crackOutcome s torn min rooms logged) lent logged x out log
+    pub crack-misread : (b : Bool) (code : ℕ) → b ≡ wordsFew (length torn) → b ≡ false → code ≡ refusal (imageSized s) (meshOf (imageOf s)) true false → BothReplied (refused code) [] lent logged x out log
+        → OutcomeReplied (crackOutcome s torn min rooms logged) lent logged x out log
     unfolding crackOutcome
-    crack-misread b e n called h = misread-replied (wordsFew (length torn)) _ called (sym e ∙ n) h
+    crack-misread b code e n f h = misread-replied (wordsFew (length torn)) _ code (sym e ∙ n) f h
 
     pub crack-replied : (b : Bool) (ls : List ℕ) → b ≡ wordsFew (length torn) → b ≡ true → ls ≡ wordsFrom torn 0 (length torn / 4)
-        → OutcomeReplied (withRooms s rooms true (jobNumbers (Crack min)) (jobCall (Crack min) ls (imageSized s) (meshOf (imageOf s)) (roomsIn rooms logged))) lent logged x out log
+        → OutcomeReplied (withRooms s rooms (jobNumbers (Crack min)) (jobCall (Crack min) ls (imageSized s) (meshOf (imageOf s)) (roomsIn rooms logged))) lent logged x out log
         → OutcomeReplied (crackOutcome s torn min rooms logged) lent logged x out log
     unfolding crackOutcome
     crack-replied b ls e y l h =
         read-replied (wordsFew (length torn)) _ (sym e ∙ y)
-        (subst (λ (o : Outcome). OutcomeReplied (withRooms s rooms true true o) lent logged x out log)
+        (subst (λ (o : Outcome). OutcomeReplied (withRooms s rooms true o) lent logged x out log)
         (crack-is min ls (imageSized s) (meshOf (imageOf s)) (roomsIn rooms logged) ∙ ap (λ (t : List ℕ). crackCall (imageSized s) (meshOf (imageOf s)) t min (roomsIn rooms logged)) l)
         h)
 

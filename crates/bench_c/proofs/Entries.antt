@@ -1,4 +1,4 @@
--- Laws of the C functions that give a mesh: rooms, arguments that could not be read, and the job that each is. Assumes nothing.
+-- Laws of the C functions that give a mesh: rooms, and the job that each is. Assumes nothing.
 use Prim.Native.Nat.{ℕ, zero, suc, _/_, _<_, min}
 use native.Mathlib.Omega.{arith}
 use mathlib.Core.Path.{_≡_, refl, sym, ap, subst, _∙_}
@@ -9,7 +9,6 @@ use lib.ListN.{length, take}
 use lib.Dec.{eqb}
 use borrow.Author.Tests.{eqb-true, ne-eqb}
 use Rattle.lists.specs.Lists.{pick}
-use Rattle.lists.proofs.Sifts.{and-true}
 use Rattle.model.specs.Mesh.{Mesh}
 use Rattle.model.specs.Elements.{kindOf}
 use Rattle.model.specs.Valid.{numbersFit, indicesFit}
@@ -57,7 +56,7 @@ made-as : (s : List ℕ) (logged : ℕ) (R : Rooms) → R ≡ roomsGiven s logge
 unfolding roomsGiven
 made-as s logged R e = ap asRooms e
 
--- ---- the checks, and what could not be read
+-- ---- the checks, and rooms that could not be read
 
 -- what the checks refuse, or 4
 argument-told : (z : Bool) (M : Mesh) (numbers arguments : Bool) → thenCheck (refusal z M numbers arguments) false 4 ≡ refusal z M numbers false
@@ -86,14 +85,18 @@ told-small b code h = by (eqb code 0) b
     by true false = omega arith
     by false b = h
 
-module _ (j : Job) (ls s rooms : List ℕ) (read : Bool) (R : Rooms) (lent logged x : ℕ) (out log : List ℕ) where
+module _ (j : Job) (ls s rooms : List ℕ) (R : Rooms) (lent logged x : ℕ) (out log : List ℕ) where
   abbrev called : Outcome
   called = jobCall j ls (imageSized s) (meshOf (imageOf s)) (roomsIn rooms logged)
 
   abbrev answered : Outcome
-  answered = withRooms s rooms read (jobNumbers j) called
+  answered = withRooms s rooms (jobNumbers j) called
 
-  module _ (code right-code : ℕ) (right : Bool) (e : code ≡ checked j ls s R) (w : right ≡ read && eqb (length rooms) 16) (q : right-code ≡ thenCheck code right 4) where
+  -- the rooms are four words
+  abbrev right : Bool
+  right = eqb (length rooms) 16
+
+  module _ (code right-code : ℕ) (e : code ≡ checked j ls s R) (q : right-code ≡ thenCheck code right 4) where
     -- a refusal is small
     pub job-small : right-code < 256
     job-small = let h = told-small right code (checked-small j ls s R code e) in omega (arith, q, h)
@@ -103,9 +106,9 @@ module _ (j : Job) (ls s rooms : List ℕ) (read : Bool) (R : Rooms) (lent logge
       by-rooms : right ≡ true → jobCall j ls (imageSized s) (meshOf (imageOf s)) (asRooms R) ≡ answered
       unfolding withRooms
       by-rooms t =
-          let n = eqb-true (length rooms) 16 (and-true read (eqb (length rooms) 16) (sym w ∙ t) .1) in
+          let n = eqb-true (length rooms) 16 t in
           ap (jobCall j ls (imageSized s) (meshOf (imageOf s))) (made-as rooms logged R (made n))
-          ∙ sym (ap (λ (b : Bool). pick b called (turnedDown (refusal (imageSized s) (meshOf (imageOf s)) (jobNumbers j) false))) (sym w ∙ t))
+          ∙ sym (ap (λ (b : Bool). pick b called (turnedDown (refusal (imageSized s) (meshOf (imageOf s)) (jobNumbers j) false))) t)
 
       -- nothing refused
       pub job-accepted : right-code ≡ 0 → checked j ls s R ≡ 0
@@ -114,7 +117,7 @@ module _ (j : Job) (ls s rooms : List ℕ) (read : Bool) (R : Rooms) (lent logge
       pub job-replied : right-code ≡ 0 → OutcomeReplied (jobCall j ls (imageSized s) (meshOf (imageOf s)) (asRooms R)) lent logged x out log → OutcomeReplied answered lent logged x out log
       job-replied z h = subst (λ (o : Outcome). OutcomeReplied o lent logged x out log) (by-rooms (then-zero code right 4 (λ d. omega arith) (sym q ∙ z) .1)) h
 
-      -- a check refused, or something could not be read
+      -- a check refused, or the rooms could not be read
       pub job-turned : (right-code ≡ 0 → ⊥) → BothReplied (refused right-code) [] lent logged x out log → OutcomeReplied answered lent logged x out log
       unfolding withRooms
       job-turned ne h = by right refl
@@ -128,14 +131,14 @@ module _ (j : Job) (ls s rooms : List ℕ) (read : Bool) (R : Rooms) (lent logge
               let same : right-code ≡ refusal (imageSized s) (meshOf (imageOf s)) (jobNumbers j) false =
               q ∙ ap (λ (b : Bool). thenCheck code b 4) t ∙ ap (λ (n : ℕ). thenCheck n false 4) e ∙ argument-told (imageSized s) (meshOf (imageOf s)) (jobNumbers j) (jobArguments j ls (asRooms R) (meshOf (imageOf s))) in
               subst (λ (o : Outcome). OutcomeReplied o lent logged x out log)
-              (sym (ap (λ (b : Bool). pick b called (turnedDown (refusal (imageSized s) (meshOf (imageOf s)) (jobNumbers j) false))) (sym w ∙ t)))
+              (sym (ap (λ (b : Bool). pick b called (turnedDown (refusal (imageSized s) (meshOf (imageOf s)) (jobNumbers j) false))) t))
               (subst (λ (n : ℕ). BothReplied (refused n) [] lent logged x out log) same h)
 
 -- no image of a mesh: nothing else is looked at
-pub job-unsized : (j : Job) (ls s rooms : List ℕ) (read : Bool) (lent logged x : ℕ) (out log : List ℕ) (z : Bool) → z ≡ imageSized s → z ≡ false → BothReplied (refused 1) [] lent logged x out log
-    → OutcomeReplied (withRooms s rooms read (jobNumbers j) (jobCall j ls (imageSized s) (meshOf (imageOf s)) (roomsIn rooms logged))) lent logged x out log
+pub job-unsized : (j : Job) (ls s rooms : List ℕ) (lent logged x : ℕ) (out log : List ℕ) (z : Bool) → z ≡ imageSized s → z ≡ false → BothReplied (refused 1) [] lent logged x out log
+    → OutcomeReplied (withRooms s rooms (jobNumbers j) (jobCall j ls (imageSized s) (meshOf (imageOf s)) (roomsIn rooms logged))) lent logged x out log
 unfolding withRooms jobCall refusal
-job-unsized j ls s rooms read lent logged x out log z e f h = by (read && eqb (length rooms) 16)
+job-unsized j ls s rooms lent logged x out log z e f h = by (eqb (length rooms) 16)
   where
     by : (b : Bool) → OutcomeReplied (pick b (jobCall j ls (imageSized s) (meshOf (imageOf s)) (roomsIn rooms logged)) (turnedDown (refusal (imageSized s) (meshOf (imageOf s)) (jobNumbers j) false))) lent logged x out log
     by true = subst (λ (y : Bool). OutcomeReplied (jobCall j ls y (meshOf (imageOf s)) (roomsIn rooms logged)) lent logged x out log) (sym f ∙ e) h
@@ -143,11 +146,11 @@ job-unsized j ls s rooms read lent logged x out log z e f h = by (read && eqb (l
 
 -- ---- the job of each
 
-pub straddlers-replied : (ls s rooms : List ℕ) (lent logged x : ℕ) (out log : List ℕ) → OutcomeReplied (withRooms s rooms true (jobNumbers Straddlers) (jobCall Straddlers ls (imageSized s) (meshOf (imageOf s)) (roomsIn rooms logged))) lent logged x out log
+pub straddlers-replied : (ls s rooms : List ℕ) (lent logged x : ℕ) (out log : List ℕ) → OutcomeReplied (withRooms s rooms (jobNumbers Straddlers) (jobCall Straddlers ls (imageSized s) (meshOf (imageOf s)) (roomsIn rooms logged))) lent logged x out log
     → OutcomeReplied (straddlersOutcome s rooms logged) lent logged x out log
 unfolding straddlersOutcome
 straddlers-replied ls s rooms lent logged x out log h =
-    subst (λ (o : Outcome). OutcomeReplied (withRooms s rooms true true o) lent logged x out log) (straddlers-is ls (imageSized s) (meshOf (imageOf s)) (roomsIn rooms logged)) h
+    subst (λ (o : Outcome). OutcomeReplied (withRooms s rooms true o) lent logged x out log) (straddlers-is ls (imageSized s) (meshOf (imageOf s)) (roomsIn rooms logged)) h
 
 -- a bad argument is refused, whatever the run
 unless-either : (z : Bool) (M : Mesh) (x y : Outcome) → unless (refusal z M true false) x ≡ unless (refusal z M true false) y
@@ -187,10 +190,10 @@ split-capped s w r sides t L c e = by (imageSized s) refl
         subst (λ (z : Bool). splitCall z (meshOf (imageOf s)) w t L ≡ splitCall z (meshOf (imageOf s)) w sides L) (sym h) (split-unsized (meshOf (imageOf s)) w t sides L)
 
 pub split-replied : (s : List ℕ) (w n : ℕ) (sides t rooms : List ℕ) (lent logged x : ℕ) (out log : List ℕ) → Capped (length sides) 2049 n → t ≡ take n sides
-    → OutcomeReplied (withRooms s rooms true (jobNumbers (Split w)) (jobCall (Split w) t (imageSized s) (meshOf (imageOf s)) (roomsIn rooms logged))) lent logged x out log
+    → OutcomeReplied (withRooms s rooms (jobNumbers (Split w)) (jobCall (Split w) t (imageSized s) (meshOf (imageOf s)) (roomsIn rooms logged))) lent logged x out log
     → OutcomeReplied (splitOutcome s w sides rooms logged) lent logged x out log
 unfolding splitOutcome
 split-replied s w n sides t rooms lent logged x out log c e h =
-    subst (λ (o : Outcome). OutcomeReplied (withRooms s rooms true true o) lent logged x out log)
+    subst (λ (o : Outcome). OutcomeReplied (withRooms s rooms true o) lent logged x out log)
     (split-is w t (imageSized s) (meshOf (imageOf s)) (roomsIn rooms logged) ∙ split-capped s w n sides t (roomsIn rooms logged) c e)
     h

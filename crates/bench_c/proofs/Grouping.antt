@@ -1,24 +1,23 @@
--- Laws of the C function on groups: they are as many as the sides, and the entry's answer and table are the reply. Assumes nothing.
+-- Laws of the C function on groups: the entry's answer and table are the reply. Assumes nothing.
 use Prim.Native.Nat.{ℕ, zero, suc, _+_, _-_, _*_, _≤_, _<_}
 use native.Mathlib.Omega.{arith}
 use mathlib.Core.Path.{_≡_, refl, sym, ap, subst, _∙_}
 use mathlib.Core.Logic.{⊎-elim}
 use mathlib.Core.Bool.{Bool, true, false, _&&_}
 use mathlib.Core.List.{List, [], _∷_}
-use lib.ListN.{length, getD, take, set, replicate, length-set, length-replicate, length-take}
+use lib.ListN.{length, take, replicate, length-take}
 use lib.Dec.{eqb, leb}
 use lib.Seq.{take-at, length-take-le}
 use borrow.Author.Tests.{le-leb}
 use Rattle.lists.specs.Lists.{pick, padded}
-use Rattle.fan.specs.Fan.{Fan, size}
-use Rattle.fan.specs.Groups.{Numbered, numberOne, numberSide, numbered, groupsOf, labelsOf}
 use Rattle.model.specs.Mesh.{Mesh}
 use Rattle.model.specs.Elements.{kindOf, fanOf, gridOf}
 use Rattle.model.specs.Calls.{sidesOk, refusal}
 use Rattle.model.specs.Reads.{Read, refused, value, orRefused, grouped, groupsCall}
 use Rattle.mesh.specs.Given.{Given, meshOf, sizesFit}
 use Rattle.bench.specs.declared.Count.{Count}
-use Rattle.bench.specs.Answers.{groupsEntry, groupCount, groupsShown, GroupsAnswered}
+use Rattle.bench.specs.Answers.{placedIn, groupCount, groupsShown, GroupsAnswered}
+use Rattle.bench.proofs.Grouped.{groups-long, placed-is}
 use Rattle.image.specs.Words.{written}
 use Rattle.image.specs.Image.{imageOf, imageSized}
 use Rattle.bench_c.specs.Replies.{Replied, groupsWords, groupsReply}
@@ -47,44 +46,22 @@ told-small a b ws e h = subst (λ (o : Count). SmallCode (groupsTold o ws)) e h
 pub told-as : (a b : Count) (ws : List ℕ) (lent r : ℕ) (out : List ℕ) → a ≡ b → Replied (groupsTold b ws) lent r out → Replied (groupsTold a ws) lent r out
 told-as a b ws lent r out e h = subst (λ (o : Count). Replied (groupsTold o ws) lent r out) (sym e) h
 
--- ---- a group for each side
-
-pick-long : (b : Bool) (x y : Numbered) (m : ℕ) → length (x .groups) ≡ m → length (y .groups) ≡ m → length (pick b x y .groups) ≡ m
-pick-long true x y m h k = h
-pick-long false x y m h k = k
-
-one-long : (p : List ℕ) (i : ℕ) (N : Numbered) → length (numberOne p i N .groups) ≡ length (N .groups)
-unfolding numberOne
-one-long p i N =
-    pick-long (eqb (getD p i 0) i) (record { groups = set (N .groups) i (N .count); count = N .count + 1 })
-    (record { groups = set (N .groups) i (getD (N .groups) (getD p i 0) 0); count = N .count }) _ (length-set (N .groups) i _) (length-set (N .groups) i _)
-
-side-long : (sides p : List ℕ) (s m i : ℕ) (N : Numbered) → length (numberSide sides p s m i N .groups) ≡ length (N .groups)
-unfolding numberSide
-side-long sides p s zero i N = refl
-side-long sides p s (suc m) i N = side-long sides p s m (suc i) _ ∙ pick-long (eqb (getD sides i 0) s) (numberOne p i N) N _ (one-long p i N) refl
-
-groups-long : (F : Fan) → length (groupsOf F) ≡ length (F .sides)
-unfolding groupsOf numbered
-groups-long F = side-long (F .sides) (labelsOf F) 1 (size F) 0 _ ∙ side-long (F .sides) (labelsOf F) 0 (size F) 0 _ ∙ length-replicate (size F) 0
-
 -- ---- the entry on an image
 
 pub groups-on : (s : List ℕ) (G : Given) (v : ℕ) (sides : List ℕ) (lent : ℕ) (r : Count) (table : List ℕ) → imageSized s ≡ true → G ≡ imageOf s
-    → GroupsAnswered (groupsEntry (sizesFit G) (meshOf G) v sides lent) lent r table → GroupsAnswered (groupsEntry (imageSized s) (meshOf (imageOf s)) v sides lent) lent r table
+    → GroupsAnswered (groupsCall (sizesFit G) (meshOf G) v sides) lent r table → GroupsAnswered (groupsCall (imageSized s) (meshOf (imageOf s)) v sides) lent r table
 groups-on s G v sides lent r table h e f =
-    subst (λ (b : Bool). GroupsAnswered (groupsEntry b (meshOf (imageOf s)) v sides lent) lent r table) (sized-input s h)
-    (subst (λ (H : Given). GroupsAnswered (groupsEntry (sizesFit H) (meshOf H) v sides lent) lent r table) e f)
+    subst (λ (b : Bool). GroupsAnswered (groupsCall b (meshOf (imageOf s)) v sides) lent r table) (sized-input s h)
+    (subst (λ (H : Given). GroupsAnswered (groupsCall (sizesFit H) (meshOf H) v sides) lent r table) e f)
 
-and-so : (a b : Bool) → b ≡ true → a && b ≡ a
-and-so true b h = h
-and-so false b h = refl
+placed-or : (lent c : ℕ) (gs : List ℕ × ℕ) → length (gs .0) ≤ lent → placedIn lent (orRefused c gs) ≡ orRefused c gs
+placed-or lent zero gs h = ap (λ (b : Bool). pick b (value gs) (refused 4)) (le-leb (length (gs .0)) lent h)
+placed-or lent (suc c) gs h = refl
 
 -- a table that has a place for each side is no bad argument
-entry-call : (z : Bool) (M : Mesh) (v : ℕ) (t : List ℕ) → length t ≤ 2049 → groupsEntry z M v t 2049 ≡ groupsCall z M v t
-unfolding groupsEntry groupsCall
-entry-call z M v t h =
-    ap (λ (b : Bool). orRefused (refusal z M true b) (grouped (gridOf (kindOf M) v (fanOf (kindOf M) M v) t))) (and-so (sidesOk M v t) (leb (length t) 2049) (le-leb (length t) 2049 h))
+placed-call : (z : Bool) (M : Mesh) (v : ℕ) (t : List ℕ) → length t ≤ 2049 → placedIn 2049 (groupsCall z M v t) ≡ groupsCall z M v t
+unfolding groupsCall gridOf
+placed-call z M v t h = let l = groups-long (gridOf (kindOf M) v (fanOf (kindOf M) M v) t) in placed-or 2049 (refusal z M true (sidesOk M v t)) _ (omega (arith, l, h))
 
 calls-refused : (z : Bool) (M : Mesh) (v : ℕ) (t sides : List ℕ) → sidesOk M v t ≡ false → sidesOk M v sides ≡ false → groupsCall z M v t ≡ groupsCall z M v sides
 unfolding groupsCall
@@ -116,19 +93,19 @@ small-or : (c : ℕ) (gs : List ℕ × ℕ) (ws : List ℕ) → c < 256 → Smal
 small-or zero gs ws h = omega arith
 small-or (suc c) gs ws h = h
 
-pub groups-small : (z : Bool) (M : Mesh) (v : ℕ) (t : List ℕ) (lent : ℕ) (a : Count) (table ws : List ℕ) → GroupsAnswered (groupsEntry z M v t lent) lent a table → SmallCode (groupsTold a ws)
-unfolding groupsEntry
-groups-small z M v t lent a table ws A = rw (A .answer) (small-or _ _ ws (refusal-small z M true (sidesOk M v t && leb (length t) lent)))
+pub groups-small : (z : Bool) (M : Mesh) (v : ℕ) (t : List ℕ) (lent : ℕ) (a : Count) (table ws : List ℕ) → GroupsAnswered (groupsCall z M v t) lent a table → SmallCode (groupsTold a ws)
+groups-small z M v t lent a table ws A =
+    rw (A .answer ∙ ap groupCount (placed-is z M v t lent)) (small-or _ _ ws (refusal-small z M true (sidesOk M v t && leb (length t) lent)))
 
 pub groups-replied : (s : List ℕ) (v n : ℕ) (sides t : List ℕ) (lent r : ℕ) (a : Count) (table out : List ℕ) → imageSized s ≡ true → Capped (length sides) 2049 n → t ≡ take n sides
-    → GroupsAnswered (groupsEntry (imageSized s) (meshOf (imageOf s)) v t 2049) 2049 a table → Replied (groupsTold a (take n table)) lent r out → Replied (groupsReply s v sides) lent r out
+    → GroupsAnswered (groupsCall (imageSized s) (meshOf (imageOf s)) v t) 2049 a table → Replied (groupsTold a (take n table)) lent r out → Replied (groupsReply s v sides) lent r out
 unfolding groupsReply
 groups-replied s v n sides t lent r a table out z c e A h =
     let w = capped-within c in
     let m = capped-most c in
     let l : length t ≡ n = ap length e ∙ length-take-le n sides w in
     let o : Read (List ℕ × ℕ) = groupsCall (imageSized s) (meshOf (imageOf s)) v t in
-    let q : groupsEntry (imageSized s) (meshOf (imageOf s)) v t 2049 ≡ o = entry-call (imageSized s) (meshOf (imageOf s)) v t (omega arith) in
+    let q : placedIn 2049 o ≡ o = placed-call (imageSized s) (meshOf (imageOf s)) v t (omega arith) in
     replied-as (groupsTold a (take n table)) _ lent r out
     (ap (λ (x : Count). groupsTold x (take n table)) (A .answer ∙ ap groupCount q)
     ∙ ap (λ (x : List ℕ). groupsTold (groupCount o) (take n x)) (A .table-is ∙ ap (λ (x : Read (List ℕ × ℕ)). padded 2049 0 (groupsShown x)) q)

@@ -7,6 +7,7 @@ pub mod Listing
 pub mod Places
 pub mod Shown
 pub mod Tellings
+pub mod Misread
 pub mod Outcomes
 pub mod Tearings
 pub mod Entries

@@ -13,7 +13,6 @@ use Rattle.lists.specs.Lists.{pick, all}
 use Rattle.lists.proofs.Sifts.{and-true}
 use Rattle.lists.proofs.Stores.{tab-length}
 use Rattle.model.specs.Mesh.{Mesh}
-use Rattle.model.specs.Valid.{numbersFit, indicesFit}
 use Rattle.model.specs.Elements.{restMeasureOf}
 use Rattle.model.specs.Calls.{present, strictly, particlesOk, refusal}
 use Rattle.model.specs.Reads.{Read, refused, orRefused, restMeasureOfCall}
@@ -96,25 +95,6 @@ words-capped s b m n h c =
 pub words-within : (m n : ℕ) → Capped (m / 4) 1025 n → 4 * (0 + n) ≤ m
 words-within m n c = let w = capped-within c in omega arith
 
--- two equal particles don't rise
-refused-as : {A : Type 0} (z : Bool) (M : Mesh) (x : A) → orRefused (refusal z M true false) x ≡ refused (refusal z M true false)
-unfolding refusal
-refused-as {A} z M x = by (not z) (not (numbersFit M && true)) (not (indicesFit M))
-  where
-    by : (a b c : Bool) → orRefused (pick a 1 (pick b 2 (pick c 3 4))) x ≡ refused (pick a 1 (pick b 2 (pick c 3 4)))
-    by true b c = refl
-    by false true c = refl
-    by false false true = refl
-    by false false false = refl
-
-two-wrong : (M : Mesh) → particlesOk M (0 ∷ 0 ∷ []) ≡ false
-unfolding particlesOk strictly
-two-wrong M = refl
-
-pub two-refused : (z : Bool) (M : Mesh) → restMeasureOfCall z M (0 ∷ 0 ∷ []) ≡ refused (refusal z M true false)
-unfolding restMeasureOfCall
-two-refused z M = ap (λ (b : Bool). orRefused (refusal z M true b) (restMeasureOf M (0 ∷ 0 ∷ []))) (two-wrong M) ∙ refused-as z M (restMeasureOf M (0 ∷ 0 ∷ []))
-
 -- ---- the reply
 
 small-or : (n : ℕ) (x : Float) → n < 256 → SmallCode (numberReply (numberOf (orRefused n x)))
@@ -136,15 +116,15 @@ measure-of-replied s list n t lent r a out z w c e f h =
     ∙ sym (ap (λ (b : Bool). pick b (numberWords o) (refused (refusal (imageSized s) M true false))) (eq-eqb (length list % 4) 0 w)))
     h
 
-pub measure-of-ragged : (s list : List ℕ) (lent r : ℕ) (a : Number) (out : List ℕ) → (length list % 4 ≡ 0 → ⊥)
-    → a ≡ numberOf (restMeasureOfCall (imageSized s) (meshOf (imageOf s)) (0 ∷ 0 ∷ [])) → Replied (numberReply a) lent r out → Replied (measureOfReply s list) lent r out
+-- bytes that are no words
+pub measure-of-ragged : (s list : List ℕ) (code lent r : ℕ) (out : List ℕ) → (length list % 4 ≡ 0 → ⊥)
+    → code ≡ refusal (imageSized s) (meshOf (imageOf s)) true false → Replied (refused code) lent r out → Replied (measureOfReply s list) lent r out
 unfolding measureOfReply
-measure-of-ragged s list lent r a out w f h =
+measure-of-ragged s list code lent r out w f h =
     let M = meshOf (imageOf s) in
     let o : Read Float = restMeasureOfCall (imageSized s) M (wordsFrom list 0 (length list / 4)) in
-    replied-as (numberReply a) _ lent r out
-    (ap numberReply (f ∙ ap numberOf (two-refused (imageSized s) M))
-    ∙ sym (ap (λ (b : Bool). pick b (numberWords o) (refused (refusal (imageSized s) M true false))) (ne-eqb (length list % 4) 0 w)))
+    replied-as (refused code) _ lent r out
+    (ap refused f ∙ sym (ap (λ (b : Bool). pick b (numberWords o) (refused (refusal (imageSized s) M true false))) (ne-eqb (length list % 4) 0 w)))
     h
 
 -- either way, a refusal that comes before the arguments

@@ -52,17 +52,17 @@ OutcomeReplied o lent logged r out log = BothReplied (meshReply o) (logReply o) 
 abbrev pub roomsIn : List ℕ → ℕ → Rooms
 roomsIn s logged = record { particles = min 1024 (wordAt s 0); triangles = min 1024 (wordAt s 1); edges = min 2048 (wordAt s 2); boundary = min 2048 (wordAt s 3); log = min 4096 (logged / 24) }
 
--- the outcome o of a call on an image, beside arguments that could be read or not, and numbers that are right or not; what could not be read is a bad argument, and so are rooms that are no four words
-unfoldable pub withRooms : List ℕ → List ℕ → Bool → Bool → Outcome → Outcome
-withRooms s rooms read numbers o = pick (read && eqb (length rooms) 16) o (turnedDown (refusal (imageSized s) (meshOf (imageOf s)) numbers false))
+-- the outcome o of a call on an image, beside numbers that are right or not; rooms that are no four words are a bad argument
+unfoldable pub withRooms : List ℕ → List ℕ → Bool → Outcome → Outcome
+withRooms s rooms numbers o = pick (eqb (length rooms) 16) o (turnedDown (refusal (imageSized s) (meshOf (imageOf s)) numbers false))
 
 -- the split of particle v of the mesh that an image is, by sides, a byte for each
 unfoldable pub splitOutcome : List ℕ → ℕ → List ℕ → List ℕ → ℕ → Outcome
-splitOutcome s v sides rooms logged = withRooms s rooms true true (splitCall (imageSized s) (meshOf (imageOf s)) v sides (roomsIn rooms logged))
+splitOutcome s v sides rooms logged = withRooms s rooms true (splitCall (imageSized s) (meshOf (imageOf s)) v sides (roomsIn rooms logged))
 
 -- the removal of straddlers across its pieces
 unfoldable pub straddlersOutcome : List ℕ → List ℕ → ℕ → Outcome
-straddlersOutcome s rooms logged = withRooms s rooms true true (straddlersCall (imageSized s) (meshOf (imageOf s)) (roomsIn rooms logged))
+straddlersOutcome s rooms logged = withRooms s rooms true (straddlersCall (imageSized s) (meshOf (imageOf s)) (roomsIn rooms logged))
 
 -- the outcome o, if the bytes beside an image are as they should be; else they are a bad argument
 abbrev pub ifRead : Bool → List ℕ → Outcome → Outcome
@@ -75,7 +75,7 @@ bladeIn blade = record { from = pointAt blade 0; to = pointAt blade 2 }
 -- the cut along a blade of 16 bytes, with the insertion fraction of a word
 unfoldable pub cutOutcome : List ℕ → List ℕ → ℕ → List ℕ → ℕ → Outcome
 cutOutcome s blade f rooms logged =
-    ifRead (eqb (length blade) 16) s (withRooms s rooms true (bladeOk (bladeIn blade)) (cutCall (imageSized s) (meshOf (imageOf s)) (bladeIn blade) (numberOf f) (roomsIn rooms logged)))
+    ifRead (eqb (length blade) 16) s (withRooms s rooms (bladeOk (bladeIn blade)) (cutCall (imageSized s) (meshOf (imageOf s)) (bladeIn blade) (numberOf f) (roomsIn rooms logged)))
 
 -- the bytes are at most 2,048 whole words
 abbrev pub wordsFew : ℕ → Bool
@@ -84,4 +84,4 @@ wordsFew n = eqb (n % 4) 0 && leb n 8192
 -- the crack of torn edges, a word for each, with a minimum piece
 unfoldable pub crackOutcome : List ℕ → List ℕ → ℕ → List ℕ → ℕ → Outcome
 crackOutcome s torn min rooms logged =
-    ifRead (wordsFew (length torn)) s (withRooms s rooms true true (crackCall (imageSized s) (meshOf (imageOf s)) (wordsFrom torn 0 (length torn / 4)) min (roomsIn rooms logged)))
+    ifRead (wordsFew (length torn)) s (withRooms s rooms true (crackCall (imageSized s) (meshOf (imageOf s)) (wordsFrom torn 0 (length torn / 4)) min (roomsIn rooms logged)))

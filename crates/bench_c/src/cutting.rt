@@ -4,7 +4,7 @@ ghost use lib.ListN.{length};
 ghost use Rattle.bench_c.specs.Torn.{OutcomeReplied, cutOutcome, crackOutcome, wordsFew};
 use jobs::Job;
 
-// A mesh image cut along a blade of four words, with the insertion fraction of a word. The job looks at no list; beside a blade that is no blade, any job tells the refusals of the mesh.
+// A mesh image cut along a blade of four words, with the insertion fraction of a word. The job looks at no list.
 #[no_mangle]
 pub extern "C" fn bench_cut(
     bytes: &[u8],
@@ -16,14 +16,14 @@ pub extern "C" fn bench_cut(
 ) -> u32
     ensures { λ r. ⌜ OutcomeReplied (cutOutcome (now (bytes .entry)) (now (blade .entry)) fraction (now (rooms .entry)) (length (now (log .entry)))) (length (now (out .entry))) (length (now (log .entry))) r (now (out .exit)) (now (log .exit)) ⌝ }
 {
-    let none = [0usize; 1];
     if blade.len() != 16 {
-        return crate::tearing::reply_job(Job::Straddlers, &none, false, bytes, rooms, out, log);
+        return crate::outcome::refuse(crate::unread::unread(bytes), out, log);
     }
+    let none = [0usize; 1];
     let b0 = crate::leaves::point_at(blade, 0);
     let b1 = crate::leaves::point_at(blade, 2);
     let f = image::number_of(fraction as usize);
-    crate::tearing::reply_job(Job::Cut(b0, b1, f), &none, true, bytes, rooms, out, log)
+    crate::tearing::reply_job(Job::Cut(b0, b1, f), &none, bytes, rooms, out, log)
 }
 
 // Are so many bytes at most 2,048 whole words?
@@ -45,19 +45,18 @@ pub extern "C" fn bench_crack(
 ) -> u32
     ensures { λ r. ⌜ OutcomeReplied (crackOutcome (now (bytes .entry)) (now (torn .entry)) minimum (now (rooms .entry)) (length (now (log .entry)))) (length (now (out .entry))) (length (now (log .entry))) r (now (out .exit)) (now (log .exit)) ⌝ }
 {
-    let mut numbers = [0usize; 2048];
     if words_few(torn.len()) {
+        let mut numbers = [0usize; 2048];
         let n = torn.len() / 4;
         image::words_into(torn, 0, n, &mut numbers);
         return crate::tearing::reply_job(
             Job::Crack(minimum as usize),
             &numbers[..n],
-            true,
             bytes,
             rooms,
             out,
             log,
         );
     }
-    crate::tearing::reply_job(Job::Straddlers, &numbers, false, bytes, rooms, out, log)
+    crate::outcome::refuse(crate::unread::unread(bytes), out, log)
 }

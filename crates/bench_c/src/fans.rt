@@ -3,10 +3,10 @@ ghost use mathlib.Core.Path.{_≡_};
 ghost use mathlib.Core.Bool.{true};
 ghost use Prim.Native.Nat.{_≤_};
 ghost use lib.ListN.{length, take};
-ghost use Rattle.model.specs.Reads.{opensCall};
+ghost use Rattle.model.specs.Reads.{groupsCall, opensCall};
 ghost use Rattle.mesh.specs.Given.{meshOf};
 ghost use Rattle.image.specs.Image.{imageOf, imageSized};
-ghost use Rattle.bench.specs.Answers.{truthOf, groupsEntry, GroupsAnswered};
+ghost use Rattle.bench.specs.Answers.{truthOf, GroupsAnswered};
 ghost use Rattle.bench_c.specs.Replies.{Replied, opensReply, groupsReply};
 ghost use Rattle.bench_c.specs.Given.{Capped};
 use bench::Count;
@@ -113,7 +113,7 @@ pub extern "C" fn bench_opens_without_confetti(
 // The groups at a particle of an image that has the sizes of a mesh.
 fn image_groups(bytes: &[u8], v: usize, sides: &[usize], groups: &mut [usize]) -> Count
     requires { ⌜ imageSized (now bytes) ≡ true ⌝ }
-    ensures { λ r. ⌜ GroupsAnswered (groupsEntry (imageSized (now (bytes .entry))) (meshOf (imageOf (now (bytes .entry)))) v (now (sides .entry)) (length (now (groups .entry)))) (length (now (groups .entry))) r (now (groups .exit)) ⌝ }
+    ensures { λ r. ⌜ GroupsAnswered (groupsCall (imageSized (now (bytes .entry))) (meshOf (imageOf (now (bytes .entry)))) v (now (sides .entry))) (length (now (groups .entry))) r (now (groups .exit)) ⌝ }
 {
     let mut points = [0.0f32; 6144];
     let mut roots = [0usize; 2048];

@@ -8,3 +8,4 @@ pub mod outcome;
 pub mod placing;
 pub mod reply;
 pub mod tearing;
+pub mod unread;

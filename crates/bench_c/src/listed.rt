@@ -53,20 +53,19 @@ fn image_measure_of(bytes: &[u8], list: &[usize]) -> Number
     )
 }
 
-// The measure of a list of particles of a mesh image. No list of more than 1,024 rises, so 1,025 words tell; two equal ones stand for bytes that are no words.
+// The measure of a list of particles of a mesh image. No list of more than 1,024 rises, so 1,025 words tell.
 #[no_mangle]
 pub extern "C" fn bench_rest_measure_of(bytes: &[u8], list: &[u8], out: &mut [u8]) -> u32
     ensures { λ r. ⌜ Replied (measureOfReply (now (bytes .entry)) (now (list .entry))) (length (now (out .entry))) r (now (out .exit)) ⌝ }
 {
+    if list.len() % 4 != 0 {
+        return crate::reply::reply_refused(crate::unread::unread(bytes), out);
+    }
     if image::image_sized(bytes) {
-        if list.len() % 4 == 0 {
-            let mut words = [0usize; 1025];
-            let n = crate::fans::capped(list.len() / 4, 1025);
-            image::words_into(list, 0, n, &mut words);
-            return crate::reply::reply_number(image_measure_of(bytes, &words[..n]), out);
-        }
-        let bad = [0usize; 2];
-        return crate::reply::reply_number(image_measure_of(bytes, &bad), out);
+        let mut words = [0usize; 1025];
+        let n = crate::fans::capped(list.len() / 4, 1025);
+        image::words_into(list, 0, n, &mut words);
+        return crate::reply::reply_number(image_measure_of(bytes, &words[..n]), out);
     }
     crate::reply::reply_refused(1, out)
 }

@@ -180,22 +180,20 @@ fn rooms_in(rooms: &[u8], logged: usize) -> Rooms
     }
 }
 
-// A job on an image, with the rooms of four words. Other rooms, and other arguments that could not be read, are bad ones.
+// A job on an image, with the rooms of four words. Other rooms are bad ones.
 pub fn reply_job(
     job: Job,
     list: &[usize],
-    read: bool,
     bytes: &[u8],
     rooms: &[u8],
     out: &mut [u8],
     log: &mut [u8],
 ) -> u32
-    ensures { λ r. ⌜ OutcomeReplied (withRooms (now (bytes .entry)) (now (rooms .entry)) read (jobNumbers job) (jobCall job (now (list .entry)) (imageSized (now (bytes .entry))) (meshOf (imageOf (now (bytes .entry)))) (roomsIn (now (rooms .entry)) (length (now (log .entry)))))) (length (now (out .entry))) (length (now (log .entry))) r (now (out .exit)) (now (log .exit)) ⌝ }
+    ensures { λ r. ⌜ OutcomeReplied (withRooms (now (bytes .entry)) (now (rooms .entry)) (jobNumbers job) (jobCall job (now (list .entry)) (imageSized (now (bytes .entry))) (meshOf (imageOf (now (bytes .entry)))) (roomsIn (now (rooms .entry)) (length (now (log .entry)))))) (length (now (out .entry))) (length (now (log .entry))) r (now (out .exit)) (now (log .exit)) ⌝ }
 {
     if image::image_sized(bytes) {
         let room = rooms_in(rooms, log.len());
-        let right = judge::tests::both(read, rooms.len() == 16);
-        let code = judge::tests::first(judge(job, list, room, bytes), right, 4);
+        let code = judge::tests::first(judge(job, list, room, bytes), rooms.len() == 16, 4);
         if code != 0 {
             return crate::outcome::refuse(code, out, log);
         }
@@ -215,7 +213,7 @@ pub extern "C" fn bench_straddlers(
     ensures { λ r. ⌜ OutcomeReplied (straddlersOutcome (now (bytes .entry)) (now (rooms .entry)) (length (now (log .entry)))) (length (now (out .entry))) (length (now (log .entry))) r (now (out .exit)) (now (log .exit)) ⌝ }
 {
     let none = [0usize; 1];
-    reply_job(Job::Straddlers, &none, true, bytes, rooms, out, log)
+    reply_job(Job::Straddlers, &none, bytes, rooms, out, log)
 }
 
 // Particle v of a mesh image split by the sides of its fan. More than 2,048 sides are too many for any fan, so 2,049 of them tell.
@@ -236,7 +234,6 @@ pub extern "C" fn bench_split(
     reply_job(
         Job::Split(v as usize),
         &numbers[..n],
-        true,
         bytes,
         rooms,
         out,

@@ -1,6 +1,6 @@
 -- Strap results may go out of range: a cut that is accepted, and whose result is refused with 2 as input. Assumes nothing.
 -- A cut strap's mass goes half to each end's part, so an end that keeps another strap may get more than it gave. The first case is plain: it goes out of range by 65,536. The second is the smallest in
--- particles and straps: two straps between the same two particles, out of range by the roundings alone. (One strap's results stay in range: each end is left with its half of its part of a sum of at most
+-- particles and straps: two straps between the same two particles, out of range by the roundings alone. (One strap's results stay in range, which is not proved here: each end is left with its half of its part of a sum of at most
 -- 2,097,152, and each rounding keeps it at most 1,048,576.)
 use mathlib.Core.Path.{_≡_, refl}
 use mathlib.Core.Bool.{true}

@@ -4,6 +4,7 @@ use mathlib.Core.Path.{sym}
 use lib.ListN.{length}
 use lib.Seq.{length-take-le}
 use borrow.Author.Needs.{needs}
+use Rattle.bench_c.proofs.Misread.{unread-small}
 use Rattle.bench_c.proofs.Cuttings.{few-words, crack-misread, crack-replied}
 use Rattle.bench_c.proofs.cutting.bench_crack.Statement.{statement}
 use Rattle.bench_c.proofs.cutting.bench_crack.Tie as tie
@@ -27,28 +28,28 @@ reply-job-requires : tie.Need-reply-job-requires
 reply-job-requires c κs = search needs
 
 same-length : tie.Need-same-length
-same-length c = c .before .before .before .before .reply-job .kept .1 .1 .1 .1 .1 .0
+same-length c = c .before .before .before .before .reply-job .kept .1 .1 .1 .1 .0
 
 same-length-2 : tie.Need-same-length-2
-same-length-2 c = c .before .before .before .before .reply-job .kept .1 .1 .1 .1 .1 .1 .0
+same-length-2 c = c .before .before .before .before .reply-job .kept .1 .1 .1 .1 .1 .0
 
 returns : tie.Need-returns
 returns c = let A = c .before .before .before .before .before .before .before .before .before .before .before .before .before .before .before .before .before .before .args in crack-replied (A .bytes .now) (A .rooms .now) _ _ _ _ _ (A .torn .now) (A .minimum) _ _ (c .before .before .before .before .before .before .before .before .before .before .before .before .words-few .ensures) (c .before .before .before .before .before .before .before .before .before .before .before .if1 .taken) (c .before .before .before .before .before .before .before .before .before .words-into .ensures) (c .before .before .before .before .reply-job .ensures)
 
-slice-aggregate-reply-job-2 : tie.Need-slice-aggregate-reply-job-2
-slice-aggregate-reply-job-2 c = search needs
+unread-requires : tie.Need-unread-requires
+unread-requires c κs = search needs
 
-reply-job-requires-2 : tie.Need-reply-job-requires-2
-reply-job-requires-2 c κs = search needs
+refuse-requires : tie.Need-refuse-requires
+refuse-requires c κs = unread-small _ _ (c .before .before .unread .ensures)
 
 same-length-3 : tie.Need-same-length-3
-same-length-3 c = c .before .before .before .before .reply-job2 .kept .1 .1 .1 .1 .1 .0
+same-length-3 c = c .before .before .before .before .refuse .kept .1 .0
 
 same-length-4 : tie.Need-same-length-4
-same-length-4 c = c .before .before .before .before .reply-job2 .kept .1 .1 .1 .1 .1 .1 .0
+same-length-4 c = c .before .before .before .before .refuse .kept .1 .1 .0
 
 returns-2 : tie.Need-returns-2
-returns-2 c = let A = c .before .before .before .before .before .before .before .before .before .before .before .before .before .before .before .args in crack-misread (A .bytes .now) (A .rooms .now) _ _ _ _ _ (A .torn .now) (A .minimum) _ (c .before .before .before .before .before .before .before .before .before .words-few .ensures) (c .before .before .before .before .before .before .before .before .if1 .left) _ (c .before .before .before .before .reply-job2 .ensures)
+returns-2 c = let A = c .before .before .before .before .before .before .before .before .before .before .before .before .before .before .before .args in crack-misread (A .bytes .now) (A .rooms .now) _ _ _ _ _ (A .torn .now) (A .minimum) _ _ (c .before .before .before .before .before .before .before .before .before .words-few .ensures) (c .before .before .before .before .before .before .before .before .if1 .left) (c .before .before .before .before .before .before .before .unread .ensures) (c .before .before .before .before .refuse .ensures)
 
 pub bench-crack-spec : {M : Type 1} → statement M
 bench-crack-spec =
@@ -63,8 +64,8 @@ bench-crack-spec =
     same-length
     same-length-2
     returns
-    slice-aggregate-reply-job-2
-    reply-job-requires-2
+    unread-requires
+    refuse-requires
     same-length-3
     same-length-4
     returns-2)

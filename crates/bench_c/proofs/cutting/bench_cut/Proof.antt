@@ -1,24 +1,25 @@
 -- `bench_c::cutting::bench_cut` meets its contract: a bad argument, or the job on the blade and the fraction that were read. Assumes nothing.
 use native.Mathlib.Omega.{arith}
 use borrow.Author.Needs.{needs}
+use Rattle.bench_c.proofs.Misread.{unread-small}
 use Rattle.bench_c.proofs.Cuttings.{cut-misread, cut-replied}
 use Rattle.bench_c.proofs.cutting.bench_cut.Statement.{statement}
 use Rattle.bench_c.proofs.cutting.bench_cut.Tie as tie
 
-slice-aggregate-reply-job : tie.Need-slice-aggregate-reply-job
-slice-aggregate-reply-job c = search needs
+unread-requires : tie.Need-unread-requires
+unread-requires c κs = search needs
 
-reply-job-requires : tie.Need-reply-job-requires
-reply-job-requires c κs = search needs
+refuse-requires : tie.Need-refuse-requires
+refuse-requires c κs = unread-small _ _ (c .before .before .unread .ensures)
 
 same-length : tie.Need-same-length
-same-length c = c .before .before .before .before .reply-job .kept .1 .1 .1 .1 .1 .0
+same-length c = c .before .before .before .before .refuse .kept .1 .0
 
 same-length-2 : tie.Need-same-length-2
-same-length-2 c = c .before .before .before .before .reply-job .kept .1 .1 .1 .1 .1 .1 .0
+same-length-2 c = c .before .before .before .before .refuse .kept .1 .1 .0
 
 returns : tie.Need-returns
-returns c = let A = c .before .before .before .before .before .before .before .before .before .before .before .before .before .before .args in cut-misread (A .bytes .now) (A .rooms .now) _ _ _ _ _ (A .blade .now) (A .fraction) _ (c .before .before .before .before .before .before .before .before .if1 .taken) (c .before .before .before .before .reply-job .ensures)
+returns c = let A = c .before .before .before .before .before .before .before .before .before .before .before .before .before .before .args in cut-misread (A .bytes .now) (A .rooms .now) _ _ _ _ _ (A .blade .now) (A .fraction) _ (c .before .before .before .before .before .before .before .before .if1 .taken) (c .before .before .before .before .before .before .before .unread .ensures) (c .before .before .before .before .refuse .ensures)
 
 point-at-requires : tie.Need-point-at-requires
 point-at-requires c κs = omega (arith, c .if1 .left)
@@ -29,35 +30,35 @@ point-at-requires-2 c κs = omega (arith, c .before .if1 .left)
 number-of-requires : tie.Need-number-of-requires
 number-of-requires c κs = search needs
 
-slice-aggregate-reply-job-2 : tie.Need-slice-aggregate-reply-job-2
-slice-aggregate-reply-job-2 c = search needs
+slice-aggregate-reply-job : tie.Need-slice-aggregate-reply-job
+slice-aggregate-reply-job c = search needs
 
-reply-job-requires-2 : tie.Need-reply-job-requires-2
-reply-job-requires-2 c κs = search needs
+reply-job-requires : tie.Need-reply-job-requires
+reply-job-requires c κs = search needs
 
 same-length-3 : tie.Need-same-length-3
-same-length-3 c = c .before .before .before .before .reply-job2 .kept .1 .1 .1 .1 .1 .0
+same-length-3 c = c .before .before .before .before .reply-job .kept .1 .1 .1 .1 .0
 
 same-length-4 : tie.Need-same-length-4
-same-length-4 c = c .before .before .before .before .reply-job2 .kept .1 .1 .1 .1 .1 .1 .0
+same-length-4 c = c .before .before .before .before .reply-job .kept .1 .1 .1 .1 .1 .0
 
 returns-2 : tie.Need-returns-2
-returns-2 c = let A = c .before .before .before .before .before .before .before .before .before .before .before .before .before .before .before .before .before .args in cut-replied (A .bytes .now) (A .rooms .now) _ _ _ _ _ (A .blade .now) (A .fraction) _ _ _ _ (c .before .before .before .before .before .before .before .before .before .before .before .if1 .left) (c .before .before .before .before .before .before .before .before .before .before .point-at .ensures) (c .before .before .before .before .before .before .before .before .before .point-at2 .ensures) (c .before .before .before .before .before .before .before .before .number-of .ensures) (c .before .before .before .before .reply-job2 .ensures)
+returns-2 c = let A = c .before .before .before .before .before .before .before .before .before .before .before .before .before .before .before .before .before .args in cut-replied (A .bytes .now) (A .rooms .now) _ _ _ _ _ (A .blade .now) (A .fraction) _ _ _ _ (c .before .before .before .before .before .before .before .before .before .before .before .if1 .left) (c .before .before .before .before .before .before .before .before .before .before .point-at .ensures) (c .before .before .before .before .before .before .before .before .before .point-at2 .ensures) (c .before .before .before .before .before .before .before .before .number-of .ensures) (c .before .before .before .before .reply-job .ensures)
 
 pub bench-cut-spec : {M : Type 1} → statement M
 bench-cut-spec =
     tie.close
     (tie.spec
-    slice-aggregate-reply-job
-    reply-job-requires
+    unread-requires
+    refuse-requires
     same-length
     same-length-2
     returns
     point-at-requires
     point-at-requires-2
     number-of-requires
-    slice-aggregate-reply-job-2
-    reply-job-requires-2
+    slice-aggregate-reply-job
+    reply-job-requires
     same-length-3
     same-length-4
     returns-2)

@@ -11,10 +11,10 @@ reply-job-requires : tie.Need-reply-job-requires
 reply-job-requires c κs = search needs
 
 same-length : tie.Need-same-length
-same-length c = c .before .before .before .before .reply-job .kept .1 .1 .1 .1 .1 .0
+same-length c = c .before .before .before .before .reply-job .kept .1 .1 .1 .1 .0
 
 same-length-2 : tie.Need-same-length-2
-same-length-2 c = c .before .before .before .before .reply-job .kept .1 .1 .1 .1 .1 .1 .0
+same-length-2 c = c .before .before .before .before .reply-job .kept .1 .1 .1 .1 .1 .0
 
 returns : tie.Need-returns
 returns c = straddlers-replied _ (c .before .before .before .before .before .before .before .before .before .before .before .before .args .bytes .now) (c .before .before .before .before .before .before .before .before .before .before .before .before .args .rooms .now) _ _ _ _ _ (c .before .before .before .before .reply-job .ensures)
