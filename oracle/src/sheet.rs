@@ -8,6 +8,8 @@ pub struct Limits {
     pub boundary: usize,
 }
 pub const CUTLIST: Limits = Limits { particles: 128, triangles: 128, edges: 256, boundary: 256 };
+/// What a sheet may have outside of cutlist: the limits of `bench_sheet`.
+#[allow(dead_code)]
 pub const MESH: Limits =
     Limits { particles: MAX_PARTICLES, triangles: MAX_TRIANGLES, edges: MAX_EDGES, boundary: MAX_BOUNDARY };
 
@@ -127,7 +129,7 @@ pub fn write(s: &Sheet) -> Vec<u8> {
     bits.chunks(8).map(|c| c.iter().enumerate().fold(0, |x, (i, b)| x | b << (7 - i))).collect()
 }
 
-/// The sheet as lines that one can read (README.md, "Sheets").
+/// The sheet as lines that one can read (host/README.md has the form).
 pub fn text(s: &Sheet) -> String {
     let mut out = String::new();
     for &(x, y, pinned) in &s.particles {
@@ -145,44 +147,6 @@ pub fn text(s: &Sheet) -> String {
     let [x0, y0, x1, y1] = s.blade;
     out + &format!("blade {x0} {y0} {x1} {y1}\n")
 }
-/// The sheet of such lines, in any order of lists; what is wrong with them otherwise.
-pub fn parse(text: &str) -> Result<Sheet, String> {
-    let mut s = Sheet::default();
-    let mut blades = 0;
-    for (at, line) in text.lines().enumerate() {
-        let w: Vec<&str> = line.split('#').next().unwrap_or("").split_whitespace().collect();
-        let Some((&name, rest)) = w.split_first() else { continue };
-        let wrong = |why: &str| format!("line {}: {why}", at + 1);
-        let flag = match (name, rest.last()) {
-            ("particle", Some(&"pinned")) | ("edge", Some(&"structural")) => 1,
-            _ => 0,
-        };
-        let numbers: Result<Vec<i32>, _> = rest[..rest.len() - flag].iter().map(|w| w.parse::<i32>()).collect();
-        let n = numbers.map_err(|_| wrong("not a number"))?;
-        let whole = matches!(name, "particle" | "blade");
-        if n.iter().any(|k| !if whole { -1024..=1023 } else { 0..=1023 }.contains(k)) {
-            return Err(wrong("a number that the bits cannot hold"));
-        }
-        let flag = flag as u32;
-        match (name, n.as_slice()) {
-            ("particle", &[x, y]) => s.particles.push((x, y, flag)),
-            ("triangle", &[a, b, c]) => s.triangles.push([a as u32, b as u32, c as u32]),
-            ("edge", &[a, b]) => s.edges.push((a as u32, b as u32, flag)),
-            ("boundary", &[a, b]) => s.boundary.push((a as u32, b as u32)),
-            ("blade", &[x0, y0, x1, y1]) => {
-                s.blade = [x0, y0, x1, y1];
-                blades += 1;
-            }
-            _ => return Err(wrong("no line of a sheet")),
-        }
-    }
-    let fits = [(s.particles.len(), 2047), (s.triangles.len(), 2047), (s.edges.len(), 4095), (s.boundary.len(), 4095)];
-    match fits.iter().all(|(n, most)| n <= most) && blades == 1 {
-        true => Ok(s),
-        false => Err("there must be one blade, and counts that the bits can hold".into()),
-    }
-}
-
 pub fn mesh(s: &Sheet) -> (Mesh, Blade) {
     let mut m = Mesh::default();
     for &(x, y, pinned) in &s.particles {

@@ -122,12 +122,6 @@ pub fn run() -> i32 {
         print!(" {b:02x}");
     }
     println!();
-    let commented = format!("# the listing's sheet\n\n{}", sheet::text(&listing).replace("edge", "  edge"));
-    t.is("the sheet as text and back", sheet::parse(&commented), Ok(listing.clone()));
-    t.is("a text without a blade", sheet::parse("particle 0 0").is_err(), true);
-    t.is("a number that the bits cannot hold", sheet::parse("particle 1024 0\nblade 0 0 1 1").is_err(), true);
-    let (well, badly) = super::sheets::round_trips(2000);
-    t.is("2,000 random sheets as text and back", (well > 1000, badly), (true, 0));
     println!("{} cases, {} differ", t.0, t.1);
     (t.1 > 0) as i32
 }

@@ -22,7 +22,7 @@ pub fn start(words: &[String]) -> i32 {
         return start(&others);
     }
     let Some((name, rest)) = words.split_first() else {
-        eprintln!("oracle cases | check | fuzz | compare | faults | hanging | histories | replay | bench | vectors | cutlist | sheet");
+        eprintln!("oracle cases | check | fuzz | compare | faults | hanging | histories | replay | bench | vectors | cutlist");
         eprintln!("  | sheets | stack (see oracle/README.md)");
         return 2;
     };
@@ -38,7 +38,6 @@ pub fn start(words: &[String]) -> i32 {
         "bench" => bench::run(rest),
         "vectors" => vectors::run(rest),
         "cutlist" => cutlist::run(rest),
-        "sheet" => sheets::sheet(rest),
         "sheets" => sheets::run(rest),
         "stack" => stack::run(rest),
         _ => {

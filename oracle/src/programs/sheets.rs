@@ -1,11 +1,10 @@
 //! sheets COUNT [PROGRAM] [--seed N]: random and damaged sheets through the oracle's cutlist and
 //! through a compiled program (default: cutlist as `run` compiles it), standard input to standard output.
-//! sheet read FILE, sheet write < TEXT > FILE: a sheet as text and back.
 use crate::api::Blade;
 use crate::inputs::{long_blade, rope, soup};
 use crate::meshgen;
 use crate::rng::Rng;
-use crate::sheet::{CUTLIST, MESH, Sheet, counts, cutlist, length, parse, read, text, write};
+use crate::sheet::{CUTLIST, Sheet, counts, cutlist, length, read, write};
 use std::collections::BTreeMap;
 use std::io::{Read, Write};
 use std::ops::Range;
@@ -350,48 +349,4 @@ pub fn run(words: &[String]) -> i32 {
     let lacking = if lacking.is_empty() { "nothing".into() } else { lacking.join("; ") };
     println!("{count} sheets, no difference; not met: {lacking}");
     0
-}
-
-// ---- sheets as text -------------------------------------------------------------------------
-
-pub fn sheet(words: &[String]) -> i32 {
-    match words {
-        [w, file] if w == "read" => match read(&std::fs::read(file).expect("the sheet"), &MESH) {
-            Ok(s) => {
-                print!("{}", text(&s));
-                0
-            }
-            Err(n) => {
-                eprintln!("refused {n}");
-                1
-            }
-        },
-        [w] if w == "write" => {
-            let mut given = String::new();
-            std::io::stdin().read_to_string(&mut given).expect("standard input");
-            match parse(&given) {
-                Ok(s) => {
-                    std::io::stdout().write_all(&write(&s)).expect("standard output");
-                    0
-                }
-                Err(why) => {
-                    eprintln!("{why}");
-                    1
-                }
-            }
-        }
-        _ => {
-            eprintln!("sheet read FILE | sheet write < TEXT > FILE");
-            2
-        }
-    }
-}
-/// How many of the random sheets that can be read come back from their text, byte for byte, and how
-/// many do not.
-pub fn round_trips(count: u64) -> (u64, u64) {
-    let sheets = (0..count).map(random).filter_map(|b| read(&b, &CUTLIST).ok().map(|s| (b, s)));
-    sheets.fold((0, 0), |(well, badly), (bytes, s)| match parse(&text(&s)) {
-        Ok(again) if again == s && write(&again) == bytes => (well + 1, badly),
-        _ => (well, badly + 1),
-    })
 }
