@@ -2,3 +2,4 @@
 pub mod Begun
 pub mod Ended
 pub mod Calls
+pub mod Front

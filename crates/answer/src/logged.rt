@@ -29,10 +29,10 @@ pub fn changed(n: usize, log: &[usize]) -> bool
 }
 
 // The first n entries of a log, or as many as it has.
-pub fn log_front(n: usize, log: &mut [usize]) -> &mut [usize]
+pub fn log_front(n: usize, log: &[usize]) -> &[usize]
     ensures { λ r. ⌜ now r ≡ frontOf n (now (log .entry)) ⌝ }
 {
     let most = log.len() / 6;
     let end = 6 * mesh::whole::least(n, most);
-    &mut log[..end]
+    &log[..end]
 }

@@ -282,7 +282,7 @@ pub fn crack(
 }
 
 // The filled front of a log, which a call that gives a mesh told n entries of: those entries, or as many as it has.
-pub fn log_front(n: usize, log: &mut [usize]) -> &mut [usize]
+pub fn log_front(n: usize, log: &[usize]) -> &[usize]
     ensures { λ r. ⌜ now r ≡ frontOf n (now (log .entry)) ⌝ }
 {
     answer::logged::log_front(n, log)

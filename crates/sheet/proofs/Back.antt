@@ -148,7 +148,7 @@ unfolding FitAll allBelow
 below-col ws k h [] f = refl
 below-col ws k h (r ∷ rs) f = rw (lt-ltb (getD r k 0) (2 ^ getD ws k 0) (fit-at ws r k (f .0) h), below-col ws k h rs (f .1))
 
-fit-length : (ws r : List ℕ) → Fit ws r → length r ≡ length ws
+pub fit-length : (ws r : List ℕ) → Fit ws r → length r ≡ length ws
 unfolding Fit
 fit-length [] [] f = refl
 fit-length [] (x ∷ r) f = absurd f
@@ -171,7 +171,7 @@ fit-col2 rs f =
     let q : allBelow 1024 (col 1 rs) ≡ true = below-col boundaryW 1 (omega arith) rs f in
     rw (p, q)
 
-blade-below : (d : List ℕ) → Fit bladeW d → allBelow 2048 d ≡ true
+pub blade-below : (d : List ℕ) → Fit bladeW d → allBelow 2048 d ≡ true
 unfolding Fit allBelow
 blade-below [] f = absurd f
 blade-below (x ∷ []) f = absurd (f .1)
@@ -184,7 +184,7 @@ module _ (s : List ℕ) (c : Counts) (a : Accepted s c) where
   inside : endOf c ≤ length (bitsOf s)
   inside = let g = a .long in omega (arith, length-bitsOf s)
 
-  fit-p : FitAll particleW (sheetWith c (bitsOf s) .particles)
+  pub fit-p : FitAll particleW (sheetWith c (bitsOf s) .particles)
   unfolding sheetWith total
   fit-p = fit-read particleW (c .particles) (drop 46 (bitsOf s)) (bits-drop 46 (bitsOf s) (bits-bitsOf s)) (omega (arith, inside, length-drop 46 (bitsOf s)))
 
@@ -200,7 +200,7 @@ module _ (s : List ℕ) (c : Counts) (a : Accepted s c) where
   unfolding sheetWith total
   fit-b = fit-read boundaryW (c .boundary) (drop (atBoundary c) (bitsOf s)) (bits-drop (atBoundary c) (bitsOf s) (bits-bitsOf s)) (omega (arith, inside, length-drop (atBoundary c) (bitsOf s)))
 
-  fit-d : Fit bladeW (sheetWith c (bitsOf s) .blade)
+  pub fit-d : Fit bladeW (sheetWith c (bitsOf s) .blade)
   unfolding sheetWith total
   fit-d = fit-unpack bladeW (drop (atBlade c) (bitsOf s)) (bits-drop (atBlade c) (bitsOf s) (bits-bitsOf s)) (omega (arith, inside, length-drop (atBlade c) (bitsOf s)))
 
@@ -219,7 +219,7 @@ module _ (s : List ℕ) (c : Counts) (a : Accepted s c) where
         rows-cols2 10 10 (h .boundary) fit-b,
       )
 
-  kept : countsOf (sheetWith c (bitsOf s)) ≡ c
+  pub kept : countsOf (sheetWith c (bitsOf s)) ≡ c
   unfolding sheetWith
   kept = rw (length-read particleW (c .particles) (drop 46 (bitsOf s)), length-read triangleW (c .triangles) (drop (atTriangles c) (bitsOf s)), length-read edgeW (c .edges) (drop (atEdges c) (bitsOf s)), length-read boundaryW (c .boundary) (drop (atBoundary c) (bitsOf s)))
 

@@ -62,6 +62,13 @@ module _ (limits : Counts) (s : List ℕ) (L : Lent) (nb : ℕ) (c d : Counts) (
   pub held : Held s d L nb
   held = subst (λ (x : Counts). Held s x L nb) (passed .4) held-here
 
+-- room found is room for the same counts
+pub room-same : (c d : Counts) (L : Lent) (nb : ℕ) → roomFor c L nb ≡ Whole d → c ≡ d
+unfolding roomFor
+room-same c d L nb h =
+    roomy ((leb (c .triangles) (L .corners / 3) && leb (c .triangles) (L .volumes / 2)) && leb 4 nb) (leb (c .particles) (L .points / 6) && leb (c .particles) (L .roots / 2))
+    (leb (c .edges) (L .ends / 4) && leb (c .edges) (L .lengths / 4)) (leb (c .boundary) (L .outline / 2)) c d h .4
+
 -- the answer where the sheet is whole
 pub lent-room : (limits : Counts) (s : List ℕ) (L : Lent) (nb : ℕ) (c : Counts) (r : Seen) → seenOf limits s ≡ Whole c → r ≡ roomFor c L nb → r ≡ lentOf (seenOf limits s) L nb
 unfolding lentOf

@@ -11,3 +11,5 @@ pub mod Entering
 pub mod Agree
 pub mod Cases
 pub mod CoordLaws
+pub mod WholeLaws
+pub mod Undo

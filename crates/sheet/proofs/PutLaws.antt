@@ -65,7 +65,7 @@ module _ (k : Columns) where
       (atTriangles (countsIn k)) (writeRows triangleW (rowsOf (k .t0 ∷ k .t1 ∷ k .t2 ∷ []) 0 (length (k .t0)))))
       (atEdges (countsIn k)) (writeRows edgeW (rowsOf (k .e0 ∷ k .e1 ∷ k .structural ∷ []) 0 (length (k .e0)))))
       (atBoundary (countsIn k)) (writeRows (10 ∷ 10 ∷ 0 ∷ []) (rowsOf (k .b0 ∷ k .b1 ∷ k .b1 ∷ []) 0 (length (k .b0)))))
-      (atBlade (countsIn k)) (pack bladeW (getD (k .blade) 0 0 ∷ getD (k .blade) 1 0 ∷ getD (k .blade) 2 0 ∷ getD (k .blade) 3 0 ∷ []))
+      (atBlade (countsIn k)) (pack bladeW (k .blade))
       ≡ sets l 0 (sheetBits (sheetFrom k))
   unfolding sheetBits total
   put-sheet l =
@@ -95,7 +95,6 @@ module _ (k : Columns) where
       let hb : length (H ++ P ++ T ++ E ++ B) ≡ atBlade c = omega (arith, length-append (H ++ P ++ T ++ E) B) in
       rw (
         pairs (k .b0) (k .b1) 0 (length (k .b0)),
-        pack-blade (k .blade),
         sets-then l 0 46 H P (omega arith),
         sets-then l 0 (atTriangles c) (H ++ P) T (omega arith),
         sets-then l 0 (atEdges c) (H ++ P ++ T) E (omega arith),

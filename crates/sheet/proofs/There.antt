@@ -122,7 +122,7 @@ module _ (k : Columns) (out : List ℕ) (h : answerOf k (length out) ≡ 0) (w :
   g : Good k (length out)
   g = good k (length out) h
 
-  pub sheet-bytes : List ℕ
+  unfoldable pub sheet-bytes : List ℕ
   sheet-bytes = take (bytesOf (countsIn k)) out
 
   pub sheet-bytes-bits : bitsOf sheet-bytes ≡ sheetBits (sheetFrom k) ++ replicate (8 * bytesOf (countsIn k) - endOf (countsIn k)) 0

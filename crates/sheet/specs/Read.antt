@@ -5,7 +5,8 @@ use mathlib.Core.Bool.{cond, _&&_}
 use mathlib.Core.List.{List, [], map}
 use lib.ListN.{length, getD}
 use lib.Dec.{eqb, leb}
-use lib.Ieee.{Float, binary32, ofInt}
+use lib.Ieee.{Float, binary32, ofInt, toSigned, ne}
+use lib.IntN.{ℤ}
 use Rattle.lists.specs.Lists.{pick, mapAt, padded}
 use Rattle.float.specs.Numbers.{zero32, one, half, minus, times, absOf}
 use Rattle.blade.specs.declared.Point.{Point}
@@ -17,7 +18,7 @@ use Rattle.mesh.specs.Given as G
 use Rattle.mesh.specs.Filled as F
 use Rattle.mesh.specs.declared.Counts as M
 use Rattle.bits.specs.Bits.{bitsOf}
-use Rattle.sheet.specs.Sheet.{Sheet, coord, sheetWith, seenOf}
+use Rattle.sheet.specs.Sheet.{Sheet, Wholes, coord, sheetWith, seenOf}
 use Rattle.sheet.specs.declared.Counts.{Counts}
 use Rattle.sheet.specs.declared.Seen.{Seen}
 use Rattle.sheet.specs.declared.Seen.the-variants.{Whole, Refused}
@@ -94,6 +95,33 @@ meshOfSheet s =
 -- the blade of a sheet: x0, y0, x1, y1
 unfoldable pub bladeOfSheet : Sheet → List Float
 bladeOfSheet s = map floatOf (s .blade)
+
+-- ---- the whole numbers of a mesh and a blade, as a writer takes them
+
+-- the whole number that a coordinate is, as `x as i64` gives it
+abbrev pub wholeOf : Float → ℤ
+wholeOf x = toSigned 63 x
+
+-- 1 if pinned: an inverse mass of 0
+unfoldable pub pinnedOf : Float → ℕ
+pinnedOf inv = pick (ne inv zero32) 0 1
+
+-- the columns of a mesh and a blade
+unfoldable pub wholesOf : Mesh → List Float → Wholes
+wholesOf m blade = record {
+  x = map (λ (p : Particle). wholeOf (p .x)) (m .particles);
+  y = map (λ (p : Particle). wholeOf (p .y)) (m .particles);
+  pinned = map (λ (p : Particle). pinnedOf (p .inv)) (m .particles);
+  t0 = map (λ (t : Triangle). t .a) (m .triangles);
+  t1 = map (λ (t : Triangle). t .b) (m .triangles);
+  t2 = map (λ (t : Triangle). t .c) (m .triangles);
+  e0 = map (λ (e : Edge). e .a) (m .edges);
+  e1 = map (λ (e : Edge). e .b) (m .edges);
+  structural = map (λ (e : Edge). e .structural) (m .edges);
+  b0 = map (λ (s : Side). s .a) (m .boundary);
+  b1 = map (λ (s : Side). s .b) (m .boundary);
+  blade = map wholeOf blade;
+}
 
 -- ---- what a reading leaves
 

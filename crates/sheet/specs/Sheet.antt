@@ -2,7 +2,7 @@
 use Prim.Native.Nat.{ℕ, zero, suc, _+_, _-_, _*_, _/_}
 use mathlib.Core.Path.{_≡_}
 use mathlib.Core.Bool.{Bool, true, false, cond, not, _&&_, _||_}
-use mathlib.Core.List.{List, [], _∷_, _++_}
+use mathlib.Core.List.{List, [], _∷_, _++_, map}
 use lib.ListN.{length, drop, getD}
 use lib.Dec.{ltb, leb, eqb}
 use lib.IntN.{ℤ, pos, negsuc, subℕ}
@@ -158,7 +158,7 @@ unfoldable pub allBelow : ℕ → List ℕ → Bool
 allBelow m [] = true
 allBelow m (x ∷ xs) = ltb x m && allBelow m xs
 
--- what a writer is handed: a column for each field
+-- a column for each field
 pub record Columns : Type 0 where
   pub x : List ℕ
   pub y : List ℕ
@@ -172,6 +172,38 @@ pub record Columns : Type 0 where
   pub b0 : List ℕ
   pub b1 : List ℕ
   pub blade : List ℕ
+
+-- what a writer is handed: a column for each field, coordinates as whole numbers
+pub record Wholes : Type 0 where
+  pub x : List ℤ
+  pub y : List ℤ
+  pub pinned : List ℕ
+  pub t0 : List ℕ
+  pub t1 : List ℕ
+  pub t2 : List ℕ
+  pub e0 : List ℕ
+  pub e1 : List ℕ
+  pub structural : List ℕ
+  pub b0 : List ℕ
+  pub b1 : List ℕ
+  pub blade : List ℤ
+
+-- their fields; a coordinate that 11 bits cannot hold has 2048, which is refused with 2
+abbrev pub fieldsOf : Wholes → Columns
+fieldsOf w = record {
+  x = map fieldOf (w .x);
+  y = map fieldOf (w .y);
+  pinned = w .pinned;
+  t0 = w .t0;
+  t1 = w .t1;
+  t2 = w .t2;
+  e0 = w .e0;
+  e1 = w .e1;
+  structural = w .structural;
+  b0 = w .b0;
+  b1 = w .b1;
+  blade = map fieldOf (w .blade);
+}
 
 -- the sheet that columns are
 abbrev pub sheetFrom : Columns → Sheet

@@ -1,14 +1,15 @@
 // Bit-packed sheets.
 ghost use mathlib.Core.Path.{_≡_};
-ghost use mathlib.Core.List.{[], _∷_};
+ghost use mathlib.Core.List.{[], _∷_, map};
 ghost use mathlib.Core.Bool.{_||_};
 ghost use Prim.Native.Nat.{ℕ, _+_, _-_, _*_, _/_, _%_, _^_, _<_, _≤_};
 ghost use lib.ListN.{length, take, drop, getD, set, replicate};
 ghost use lib.Seq.{sets};
 ghost use Rattle.bits.specs.Bits.{bitsOf, num, fieldAt};
 ghost use Rattle.bits.specs.Rows.{total, unpack, pack, readRows, writeRows, columnAt, rowsOf};
+ghost use Rattle.bits.specs.Places.{TableIn, FourIn};
 ghost use Rattle.lists.specs.Lists.{padded};
-ghost use Rattle.sheet.specs.Sheet.{countsAt, endOf, bytesOf, above, tooMany, spareOf, pairOK, seenOf, allBelow, allOK, rowOK, Columns, even3, evenOf, fit3, fitOf, sheetFrom, sheetBits, namesOK, answerOf, WriteDone, sheetWith, coord, fieldOf};
+ghost use Rattle.sheet.specs.Sheet.{countsAt, endOf, bytesOf, above, tooMany, spareOf, pairOK, seenOf, allBelow, allOK, rowOK, Columns, even3, evenOf, fit3, fitOf, sheetFrom, sheetBits, namesOK, answerOf, WriteDone, sheetWith, coord, fieldOf, fieldsOf, particleW, bladeW};
 ghost use Rattle.sheet.specs.Work.{rowAt, okAt, namesAt, Small, CountsRead, RowsIn, Framed, Put, Even};
 
 pub mod read;
@@ -265,9 +266,79 @@ fn fits3(l: usize, m: usize, n: usize, a: &[usize], b: &[usize], c: &[usize]) ->
     }
 }
 
+// Every whole number of a column has a field.
+fn whole_fit(a: &[i64]) -> bool
+    ensures { λ r. ⌜ r ≡ allBelow 2048 (map fieldOf (now (a .entry))) ⌝ }
+{
+    let mut i = 0;
+    while i < a.len() {
+        if field_of(a[i]) < 2048 {
+            i += 1;
+        } else {
+            return false;
+        }
+    }
+    true
+}
+
+// The columns of particles have one length.
+fn same_particles(x: &[i64], y: &[i64], pinned: &[usize]) -> bool
+    ensures { λ r. ⌜ r ≡ even3 (map fieldOf (now (x .entry))) (map fieldOf (now (y .entry))) (now (pinned .entry)) ⌝ }
+{
+    if y.len() == x.len() {
+        pinned.len() == x.len()
+    } else {
+        false
+    }
+}
+
+// The bits can hold each number of the particles.
+fn particles_fit(x: &[i64], y: &[i64], pinned: &[usize]) -> bool
+    ensures { λ r. ⌜ r ≡ fit3 2048 2048 2 (map fieldOf (now (x .entry))) (map fieldOf (now (y .entry))) (now (pinned .entry)) ⌝ }
+{
+    if whole_fit(x) {
+        if whole_fit(y) {
+            below(pinned, 2)
+        } else {
+            false
+        }
+    } else {
+        false
+    }
+}
+
+// Writes the rows of particles.
+fn put_particles(s: &mut [u8], x: &[i64], y: &[i64], pinned: &[usize])
+    requires { ⌜ TableIn (now s) 46 11 11 1 (map fieldOf (now x)) (map fieldOf (now y)) (now pinned) ⌝ }
+    ensures { λ _. ⌜ bitsOf (now (s .exit)) ≡ sets (bitsOf (now (s .entry))) 46 (writeRows particleW (rowsOf (map fieldOf (now (x .entry)) ∷ map fieldOf (now (y .entry)) ∷ now (pinned .entry) ∷ []) 0 (length (map fieldOf (now (x .entry)))))) ⌝ }
+{
+    let n = x.len();
+    let mut i = 0;
+    let mut pos: usize = 46;
+    while i < n {
+        let across = field_of(x[i]);
+        let up = field_of(y[i]);
+        bits::put_row(s, pos, 11, 11, 1, across, up, pinned[i]);
+        i += 1;
+        pos += 23;
+    }
+}
+
+// Writes the four coordinates of the blade at bit `at`.
+fn put_blade(s: &mut [u8], at: usize, blade: &[i64])
+    requires { ⌜ FourIn (now s) at 11 11 × (length (now blade) ≡ 4) ⌝ }
+    ensures { λ _. ⌜ bitsOf (now (s .exit)) ≡ sets (bitsOf (now (s .entry))) at (pack bladeW (map fieldOf (now (blade .entry)))) ⌝ }
+{
+    let x0 = field_of(blade[0]);
+    let y0 = field_of(blade[1]);
+    let x1 = field_of(blade[2]);
+    let y1 = field_of(blade[3]);
+    bits::put_four(s, at, 11, 11, x0, y0, x1, y1);
+}
+
 fn all_same(
-    x: &[usize],
-    y: &[usize],
+    x: &[i64],
+    y: &[i64],
     pinned: &[usize],
     t0: &[usize],
     t1: &[usize],
@@ -277,11 +348,11 @@ fn all_same(
     structural: &[usize],
     b0: &[usize],
     b1: &[usize],
-    blade: &[usize],
+    blade: &[i64],
 ) -> bool
-    ensures { λ r. ⌜ r ≡ evenOf (record { x = now (x .entry); y = now (y .entry); pinned = now (pinned .entry); t0 = now (t0 .entry); t1 = now (t1 .entry); t2 = now (t2 .entry); e0 = now (e0 .entry); e1 = now (e1 .entry); structural = now (structural .entry); b0 = now (b0 .entry); b1 = now (b1 .entry); blade = now (blade .entry) }) ⌝ }
+    ensures { λ r. ⌜ r ≡ evenOf (fieldsOf (record { x = now (x .entry); y = now (y .entry); pinned = now (pinned .entry); t0 = now (t0 .entry); t1 = now (t1 .entry); t2 = now (t2 .entry); e0 = now (e0 .entry); e1 = now (e1 .entry); structural = now (structural .entry); b0 = now (b0 .entry); b1 = now (b1 .entry); blade = now (blade .entry) })) ⌝ }
 {
-    if same3(x, y, pinned) {
+    if same_particles(x, y, pinned) {
         if same3(t0, t1, t2) {
             if same3(e0, e1, structural) {
                 if same3(b0, b1, b1) {
@@ -301,8 +372,8 @@ fn all_same(
 }
 
 fn all_fit(
-    x: &[usize],
-    y: &[usize],
+    x: &[i64],
+    y: &[i64],
     pinned: &[usize],
     t0: &[usize],
     t1: &[usize],
@@ -312,15 +383,15 @@ fn all_fit(
     structural: &[usize],
     b0: &[usize],
     b1: &[usize],
-    blade: &[usize],
+    blade: &[i64],
 ) -> bool
-    ensures { λ r. ⌜ r ≡ fitOf (record { x = now (x .entry); y = now (y .entry); pinned = now (pinned .entry); t0 = now (t0 .entry); t1 = now (t1 .entry); t2 = now (t2 .entry); e0 = now (e0 .entry); e1 = now (e1 .entry); structural = now (structural .entry); b0 = now (b0 .entry); b1 = now (b1 .entry); blade = now (blade .entry) }) ⌝ }
+    ensures { λ r. ⌜ r ≡ fitOf (fieldsOf (record { x = now (x .entry); y = now (y .entry); pinned = now (pinned .entry); t0 = now (t0 .entry); t1 = now (t1 .entry); t2 = now (t2 .entry); e0 = now (e0 .entry); e1 = now (e1 .entry); structural = now (structural .entry); b0 = now (b0 .entry); b1 = now (b1 .entry); blade = now (blade .entry) })) ⌝ }
 {
-    if fits3(2048, 2048, 2, x, y, pinned) {
+    if particles_fit(x, y, pinned) {
         if fits3(1024, 1024, 1024, t0, t1, t2) {
             if fits3(1024, 1024, 2, e0, e1, structural) {
                 if fits3(1024, 1024, 1024, b0, b1, b1) {
-                    below(blade, 2048)
+                    whole_fit(blade)
                 } else {
                     false
                 }
@@ -338,8 +409,8 @@ fn all_fit(
 // Writes a whole sheet into bytes that are 0.
 fn put_all(
     s: &mut [u8],
-    x: &[usize],
-    y: &[usize],
+    x: &[i64],
+    y: &[i64],
     pinned: &[usize],
     t0: &[usize],
     t1: &[usize],
@@ -349,10 +420,10 @@ fn put_all(
     structural: &[usize],
     b0: &[usize],
     b1: &[usize],
-    blade: &[usize],
+    blade: &[i64],
 )
-    requires { ⌜ Put (record { x = now x; y = now y; pinned = now pinned; t0 = now t0; t1 = now t1; t2 = now t2; e0 = now e0; e1 = now e1; structural = now structural; b0 = now b0; b1 = now b1; blade = now blade }) (now s) ⌝ }
-    ensures { λ _. ⌜ bitsOf (now (s .exit)) ≡ padded (8 * length (now (s .entry))) 0 (sheetBits (sheetFrom (record { x = now (x .entry); y = now (y .entry); pinned = now (pinned .entry); t0 = now (t0 .entry); t1 = now (t1 .entry); t2 = now (t2 .entry); e0 = now (e0 .entry); e1 = now (e1 .entry); structural = now (structural .entry); b0 = now (b0 .entry); b1 = now (b1 .entry); blade = now (blade .entry) }))) ⌝ }
+    requires { ⌜ Put (fieldsOf (record { x = now x; y = now y; pinned = now pinned; t0 = now t0; t1 = now t1; t2 = now t2; e0 = now e0; e1 = now e1; structural = now structural; b0 = now b0; b1 = now b1; blade = now blade })) (now s) ⌝ }
+    ensures { λ _. ⌜ bitsOf (now (s .exit)) ≡ padded (8 * length (now (s .entry))) 0 (sheetBits (sheetFrom (fieldsOf (record { x = now (x .entry); y = now (y .entry); pinned = now (pinned .entry); t0 = now (t0 .entry); t1 = now (t1 .entry); t2 = now (t2 .entry); e0 = now (e0 .entry); e1 = now (e1 .entry); structural = now (structural .entry); b0 = now (b0 .entry); b1 = now (b1 .entry); blade = now (blade .entry) })))) ⌝ }
 {
     let p = x.len();
     let t = t0.len();
@@ -363,16 +434,16 @@ fn put_all(
     let at_b = at_e + e * 21;
     let at_d = at_b + b * 20;
     bits::put_four(s, 0, 11, 12, p, t, e, b);
-    bits::put_rows(s, 46, 11, 11, 1, x, y, pinned);
+    put_particles(s, x, y, pinned);
     bits::put_rows(s, at_t, 10, 10, 10, t0, t1, t2);
     bits::put_rows(s, at_e, 10, 10, 1, e0, e1, structural);
     bits::put_rows(s, at_b, 10, 10, 0, b0, b1, b1);
-    bits::put_four(s, at_d, 11, 11, blade[0], blade[1], blade[2], blade[3]);
+    put_blade(s, at_d, blade);
 }
 
 fn names_all(
-    x: &[usize],
-    y: &[usize],
+    x: &[i64],
+    y: &[i64],
     pinned: &[usize],
     t0: &[usize],
     t1: &[usize],
@@ -382,10 +453,10 @@ fn names_all(
     structural: &[usize],
     b0: &[usize],
     b1: &[usize],
-    blade: &[usize],
+    blade: &[i64],
 ) -> bool
-    requires { ⌜ Even (record { x = now x; y = now y; pinned = now pinned; t0 = now t0; t1 = now t1; t2 = now t2; e0 = now e0; e1 = now e1; structural = now structural; b0 = now b0; b1 = now b1; blade = now blade }) ⌝ }
-    ensures { λ r. ⌜ r ≡ namesOK (sheetFrom (record { x = now (x .entry); y = now (y .entry); pinned = now (pinned .entry); t0 = now (t0 .entry); t1 = now (t1 .entry); t2 = now (t2 .entry); e0 = now (e0 .entry); e1 = now (e1 .entry); structural = now (structural .entry); b0 = now (b0 .entry); b1 = now (b1 .entry); blade = now (blade .entry) })) ⌝ }
+    requires { ⌜ Even (fieldsOf (record { x = now x; y = now y; pinned = now pinned; t0 = now t0; t1 = now t1; t2 = now t2; e0 = now e0; e1 = now e1; structural = now structural; b0 = now b0; b1 = now b1; blade = now blade })) ⌝ }
+    ensures { λ r. ⌜ r ≡ namesOK (sheetFrom (fieldsOf (record { x = now (x .entry); y = now (y .entry); pinned = now (pinned .entry); t0 = now (t0 .entry); t1 = now (t1 .entry); t2 = now (t2 .entry); e0 = now (e0 .entry); e1 = now (e1 .entry); structural = now (structural .entry); b0 = now (b0 .entry); b1 = now (b1 .entry); blade = now (blade .entry) }))) ⌝ }
 {
     let p = x.len();
     if names_in(true, p, t0, t1, t2) {
@@ -402,8 +473,8 @@ fn names_all(
 // What a writer answers with m bytes lent.
 fn refusal(
     m: usize,
-    x: &[usize],
-    y: &[usize],
+    x: &[i64],
+    y: &[i64],
     pinned: &[usize],
     t0: &[usize],
     t1: &[usize],
@@ -413,9 +484,9 @@ fn refusal(
     structural: &[usize],
     b0: &[usize],
     b1: &[usize],
-    blade: &[usize],
+    blade: &[i64],
 ) -> usize
-    ensures { λ r. ⌜ r ≡ answerOf (record { x = now (x .entry); y = now (y .entry); pinned = now (pinned .entry); t0 = now (t0 .entry); t1 = now (t1 .entry); t2 = now (t2 .entry); e0 = now (e0 .entry); e1 = now (e1 .entry); structural = now (structural .entry); b0 = now (b0 .entry); b1 = now (b1 .entry); blade = now (blade .entry) }) m ⌝ }
+    ensures { λ r. ⌜ r ≡ answerOf (fieldsOf (record { x = now (x .entry); y = now (y .entry); pinned = now (pinned .entry); t0 = now (t0 .entry); t1 = now (t1 .entry); t2 = now (t2 .entry); e0 = now (e0 .entry); e1 = now (e1 .entry); structural = now (structural .entry); b0 = now (b0 .entry); b1 = now (b1 .entry); blade = now (blade .entry) })) m ⌝ }
 {
     if all_same(x, y, pinned, t0, t1, t2, e0, e1, structural, b0, b1, blade) {
         let c = Counts {
@@ -441,11 +512,11 @@ fn refusal(
     }
 }
 
-// Writes a sheet: 0, or a refusal's number with every lent byte 0.
+// Writes a sheet, whose coordinates are whole numbers: 0, or a refusal's number with every lent byte 0.
 pub fn write(
     out: &mut [u8],
-    x: &[usize],
-    y: &[usize],
+    x: &[i64],
+    y: &[i64],
     pinned: &[usize],
     t0: &[usize],
     t1: &[usize],
@@ -455,9 +526,9 @@ pub fn write(
     structural: &[usize],
     b0: &[usize],
     b1: &[usize],
-    blade: &[usize],
+    blade: &[i64],
 ) -> usize
-    ensures { λ r. ⌜ WriteDone (record { x = now (x .entry); y = now (y .entry); pinned = now (pinned .entry); t0 = now (t0 .entry); t1 = now (t1 .entry); t2 = now (t2 .entry); e0 = now (e0 .entry); e1 = now (e1 .entry); structural = now (structural .entry); b0 = now (b0 .entry); b1 = now (b1 .entry); blade = now (blade .entry) }) (now (out .entry)) (now (out .exit)) r ⌝ }
+    ensures { λ r. ⌜ WriteDone (fieldsOf (record { x = now (x .entry); y = now (y .entry); pinned = now (pinned .entry); t0 = now (t0 .entry); t1 = now (t1 .entry); t2 = now (t2 .entry); e0 = now (e0 .entry); e1 = now (e1 .entry); structural = now (structural .entry); b0 = now (b0 .entry); b1 = now (b1 .entry); blade = now (blade .entry) })) (now (out .entry)) (now (out .exit)) r ⌝ }
 {
     bits::blank(out);
     let r = refusal(

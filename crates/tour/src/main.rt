@@ -175,7 +175,7 @@ fn say_entries(log: &[usize]) {
 }
 
 // The bench hands back the filled front of a lent log, n entries long.
-fn say_log(n: usize, log: &mut [usize]) {
+fn say_log(n: usize, log: &[usize]) {
     let front = bench::tearing::log_front(n, log);
     say(b"log, as it happened:\n");
     say_entries(front);

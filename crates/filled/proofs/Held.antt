@@ -1,0 +1,121 @@
+-- Filled blocks, read back with the counts of what they were filled with, hold that mesh.
+use Prim.Native.Nat.{ℕ, _-_, _*_, _/_, _<_, _≤_}
+use mathlib.Core.Path.{_≡_, refl, ap, _∙_}
+use mathlib.Core.List.{List, [], _∷_, map}
+use native.Mathlib.Omega.{arith}
+use lib.ListN.{length, getD, replicate, length-map, length-append}
+use lib.Ieee.{Float, nan}
+use Rattle.lists.specs.Lists.{padded, each}
+use Rattle.lists.proofs.Stores.{map-at}
+use Rattle.float.specs.Numbers.{zero32}
+use Rattle.columns.specs.Block.{cell, blockOf}
+use Rattle.columns.proofs.Rows.{tab-ext, tab-of}
+use Rattle.model.specs.Mesh.{Side, blank, blankTriangle, blankEdge}
+use Rattle.mesh.specs.At.{particleRow, triangleRow, edgeRow, sideRow, particlesAt, trianglesAt, edgesAt, boundaryAt, meshAt}
+use Rattle.mesh.specs.Log.{World, Words, wordList, wordsIn}
+use Rattle.mesh.specs.Given.{Lent}
+use Rattle.mesh.specs.Filled.{Filled, Fits, lent, pointOf, rootOf, cornerOf, volumeOf, endOf, lengthOf, sideOf}
+use Rattle.filled.specs.Counts.{countsIn}
+use Rattle.filled.proofs.Cells.{block-long, block-cell, block-least}
+
+-- a boundary entry for places that none has
+abbrev blankSide : Side
+blankSide = record { a = 0; b = 0 }
+
+-- a block whose columns are the fields f 0, f 1, .. of the rows l
+module _ {A B : Type 0} (z : B) (len w : ℕ) (f : ℕ → A → B) (l : List A) (s : List B) (is : s ≡ blockOf len w (len / w) z (λ k. map (f k) l)) (fits : length l ≤ len / w) (room : w * (len / w) ≤ len) where
+  few : (j : ℕ) → length (map (f j) l) ≤ len / w
+  few j = omega (arith, length-map l (f j))
+
+  -- has the places that were lent
+  pub field-long : length s ≡ len
+  field-long = ap length is ∙ block-long z len w (len / w) (λ k. map (f k) l) few room
+
+  -- and in column c, at place k, the field of row k
+  pub field-cell : (d : B) (a : A) (c k : ℕ) → c < w → k < length l → cell d (length s / w) s c k ≡ f c (getD l k a)
+  field-cell d a c k h q =
+      let e : length s / w ≡ len / w = ap (λ (n : ℕ). n / w) field-long in
+      ap (λ (n : ℕ). cell d n s c k) e
+      ∙ (ap (λ (x : List B). cell d (len / w) x c k) is
+      ∙ (block-cell z len w (len / w) (λ k. map (f k) l) few room d c k h (omega (arith, length-map l (f c))) ∙ map-at (f c) l k a d q))
+
+-- rows that stand in a block that kept its length have room there
+rows-fit : {A B : Type 0} (z : B) (len w : ℕ) (f : ℕ → A → B) (l : List A) (s : List B) → s ≡ blockOf len w (len / w) z (λ k. map (f k) l) → length s ≡ len → w * length l ≤ len
+rows-fit z len w f l s is kept = omega (arith, block-least z len w (len / w) (length l) (λ k. map (f k) l) (λ j. length-map l (f j)), ap length is, kept)
+
+words-long : (l : List Words) → length (wordsIn l) ≡ 6 * length l
+unfolding each
+words-long [] = refl
+words-long (e ∷ l) = omega (arith, length-append (wordList e) (wordsIn l), words-long l)
+
+log-fits : (n : ℕ) (l : List Words) (g : List ℕ) → g ≡ padded n 0 (wordsIn l) → length g ≡ n → 6 * length l ≤ n
+unfolding padded
+log-fits n l g is kept = omega (arith, ap length is, length-append (wordsIn l) (replicate {A = ℕ} (n - length (wordsIn l)) 0), words-long l, kept)
+
+-- lent blocks keep their lengths
+module _ (W : World) (L : Lent) (p : List Float) (r c : List ℕ) (v : List Float) (e : List ℕ) (l : List Float) (o g : List ℕ) (F : Filled W L p r c v e l o g) (kept : lent p r c v e l o g ≡ L) where
+  -- so what they were filled with has room in them
+  pub filled-fits : Fits (countsIn W) L
+  filled-fits =
+      let M = W .mesh in
+      record {
+        points = omega (arith, rows-fit zero32 (L .points) 6 pointOf (M .particles) p (F .points) (ap (λ (x : Lent). x .points) kept));
+        roots = omega (arith, rows-fit 0 (L .roots) 2 rootOf (M .particles) r (F .roots) (ap (λ (x : Lent). x .roots) kept));
+        corners = omega (arith, rows-fit 0 (L .corners) 3 cornerOf (M .triangles) c (F .corners) (ap (λ (x : Lent). x .corners) kept));
+        volumes = omega (arith, rows-fit zero32 (L .volumes) 2 volumeOf (M .triangles) v (F .volumes) (ap (λ (x : Lent). x .volumes) kept));
+        ends = omega (arith, rows-fit 0 (L .ends) 4 endOf (M .edges) e (F .ends) (ap (λ (x : Lent). x .ends) kept));
+        lengths = omega (arith, rows-fit zero32 (L .lengths) 4 lengthOf (M .edges) l (F .lengths) (ap (λ (x : Lent). x .lengths) kept));
+        outline = omega (arith, rows-fit 0 (L .outline) 2 sideOf (M .boundary) o (F .outline) (ap (λ (x : Lent). x .outline) kept));
+        log = omega (arith, log-fits (L .log) (W .log) g (F .log) (ap (λ (x : Lent). x .log) kept));
+      }
+
+  particles-held : particlesAt (length (W .mesh .particles)) p r ≡ W .mesh .particles
+  unfolding particlesAt
+  particles-held =
+      let rows = W .mesh .particles in
+      let x : (j k : ℕ) → j < 6 → k < length rows → cell nan (length p / 6) p j k ≡ pointOf j (getD rows k blank) =
+      λ j k h q. field-cell zero32 (L .points) 6 pointOf rows p (F .points) (filled-fits .points) (omega arith) nan blank j k h q in
+      let y : (j k : ℕ) → j < 2 → k < length rows → cell 0 (length r / 2) r j k ≡ rootOf j (getD rows k blank) =
+      λ j k h q. field-cell 0 (L .roots) 2 rootOf rows r (F .roots) (filled-fits .roots) (omega arith) 0 blank j k h q in
+      tab-ext (length rows) (particleRow (length p / 6) (length r / 2) p r) (λ k. getD rows k blank)
+      (λ k q. rw (x 0 k (omega arith) q, x 1 k (omega arith) q, x 2 k (omega arith) q, x 3 k (omega arith) q, x 4 k (omega arith) q, x 5 k (omega arith) q, y 0 k (omega arith) q, y 1 k (omega arith) q) refl)
+      ∙ tab-of rows blank
+
+  triangles-held : trianglesAt (length (W .mesh .triangles)) c v ≡ W .mesh .triangles
+  unfolding trianglesAt
+  triangles-held =
+      let rows = W .mesh .triangles in
+      let x : (j k : ℕ) → j < 3 → k < length rows → cell 0 (length c / 3) c j k ≡ cornerOf j (getD rows k blankTriangle) =
+      λ j k h q. field-cell 0 (L .corners) 3 cornerOf rows c (F .corners) (filled-fits .corners) (omega arith) 0 blankTriangle j k h q in
+      let y : (j k : ℕ) → j < 2 → k < length rows → cell nan (length v / 2) v j k ≡ volumeOf j (getD rows k blankTriangle) =
+      λ j k h q. field-cell zero32 (L .volumes) 2 volumeOf rows v (F .volumes) (filled-fits .volumes) (omega arith) nan blankTriangle j k h q in
+      tab-ext (length rows) (triangleRow (length c / 3) (length v / 2) c v) (λ k. getD rows k blankTriangle)
+      (λ k q. rw (x 0 k (omega arith) q, x 1 k (omega arith) q, x 2 k (omega arith) q, y 0 k (omega arith) q, y 1 k (omega arith) q) refl)
+      ∙ tab-of rows blankTriangle
+
+  edges-held : edgesAt (length (W .mesh .edges)) e l ≡ W .mesh .edges
+  unfolding edgesAt
+  edges-held =
+      let rows = W .mesh .edges in
+      let x : (j k : ℕ) → j < 4 → k < length rows → cell 0 (length e / 4) e j k ≡ endOf j (getD rows k blankEdge) =
+      λ j k h q. field-cell 0 (L .ends) 4 endOf rows e (F .ends) (filled-fits .ends) (omega arith) 0 blankEdge j k h q in
+      let y : (j k : ℕ) → j < 4 → k < length rows → cell nan (length l / 4) l j k ≡ lengthOf j (getD rows k blankEdge) =
+      λ j k h q. field-cell zero32 (L .lengths) 4 lengthOf rows l (F .lengths) (filled-fits .lengths) (omega arith) nan blankEdge j k h q in
+      tab-ext (length rows) (edgeRow (length e / 4) (length l / 4) e l) (λ k. getD rows k blankEdge)
+      (λ k q. rw (x 0 k (omega arith) q, x 1 k (omega arith) q, x 2 k (omega arith) q, x 3 k (omega arith) q, y 0 k (omega arith) q, y 1 k (omega arith) q, y 2 k (omega arith) q, y 3 k (omega arith) q) refl)
+      ∙ tab-of rows blankEdge
+
+  boundary-held : boundaryAt (length (W .mesh .boundary)) o ≡ W .mesh .boundary
+  unfolding boundaryAt
+  boundary-held =
+      let rows = W .mesh .boundary in
+      let x : (j k : ℕ) → j < 2 → k < length rows → cell 0 (length o / 2) o j k ≡ sideOf j (getD rows k blankSide) =
+      λ j k h q. field-cell 0 (L .outline) 2 sideOf rows o (F .outline) (filled-fits .outline) (omega arith) 0 blankSide j k h q in
+      tab-ext (length rows) (sideRow (length o / 2) o) (λ k. getD rows k blankSide)
+      (λ k q. rw (x 0 k (omega arith) q, x 1 k (omega arith) q) refl)
+      ∙ tab-of rows blankSide
+
+  -- and read back they are that mesh
+  pub mesh-held : meshAt (countsIn W) p r c v e l o ≡ W .mesh
+  unfolding meshAt
+  mesh-held = rw (particles-held, triangles-held, edges-held, boundary-held) refl

@@ -1,0 +1,3 @@
+-- What filled blocks hold.
+pub mod Cells
+pub mod Held

@@ -1,0 +1,2 @@
+-- Definitions that the laws of filled blocks name.
+pub mod Counts

@@ -1,0 +1,1 @@
+// What filled blocks hold: see proofs/. There is no code here.

@@ -1,0 +1,2 @@
+-- A history told by what the entries promise.
+pub mod Entries
