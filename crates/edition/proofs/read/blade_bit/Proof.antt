@@ -1,0 +1,1 @@
+use Rattle.edition.proofs.read.blade_bit.Tie as tie

@@ -1,0 +1,1 @@
+use Rattle.edition.proofs.read.read.Tie as tie

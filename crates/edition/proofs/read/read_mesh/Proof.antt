@@ -1,0 +1,1 @@
+use Rattle.edition.proofs.read.read_mesh.Tie as tie
