@@ -1,24 +1,22 @@
 -- The filled front of a log: what `log_front` hands back of the log that a call left, where it is asked for as many entries as the call told.
-use Prim.Native.Nat.{ℕ, suc, _+_, _-_, _*_, _/_, _≤_, min}
-use mathlib.Core.Path.{_≡_, refl, sym, ap, _∙_, subst}
-use mathlib.Core.List.{List, [], _∷_, _++_, map}
+use Prim.Native.Nat.{ℕ, _+_, _-_, _*_, _/_, min}
+use mathlib.Core.Path.{_≡_, refl, sym, ap, _∙_}
+use mathlib.Core.List.{List, [], _∷_, map}
 use mathlib.Core.Bool.{Bool}
 use native.Mathlib.Omega.{arith}
 use lib.ListN.{length, take, replicate, length-append, length-replicate, length-map}
 use lib.Seq.{take-at}
 use lib.Ieee.{Float}
 use Rattle.lists.specs.Lists.{padded, each}
-use Rattle.model.specs.Mesh.{Mesh}
-use Rattle.model.specs.Run.{Entry}
 use Rattle.model.specs.Calls.{Outcome, refused, done}
 use Rattle.mesh.specs.Log.{Words, wordsOf, wordList, wordsIn}
 use Rattle.mesh.specs.Given.{Lent}
 use Rattle.mesh.specs.declared.Counts.{Counts}
-use Rattle.answer.specs.declared.Answer.the-variants.{Refused, Done}
+use Rattle.answer.specs.declared.Answer.the-variants.{Done}
 use Rattle.answer.specs.Answered.{Answered, shown, countsOf, frontOf}
 
 -- six words for each entry
-words-long : (l : List Words) → length (wordsIn l) ≡ 6 * length l
+pub words-long : (l : List Words) → length (wordsIn l) ≡ 6 * length l
 unfolding each
 words-long [] = refl
 words-long (e ∷ l) = omega (arith, length-append (wordList e) (wordsIn l), words-long l)

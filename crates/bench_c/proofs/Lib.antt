@@ -1,4 +1,4 @@
--- The laws of replies, of an image that is loaded or read into blocks, of the sides, groups and lists beside it, and of jobs.
+-- The laws of replies (any two agree: Agree), of an image that is loaded or read into blocks, of the sides, groups and lists beside it, and of jobs.
 pub mod Replying
 pub mod Loading
 pub mod Siding
@@ -11,3 +11,4 @@ pub mod Outcomes
 pub mod Tearings
 pub mod Entries
 pub mod Cuttings
+pub mod Agree

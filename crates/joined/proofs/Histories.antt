@@ -19,7 +19,7 @@ pub record Told (M₀ M : Mesh) (words : List ℕ) : Type 0 where
   pub is : words ≡ wordsIn (map wordsOf log)
 
 -- the words of logs one behind the other
-words-join : (l m : List Entry) → wordsIn (map wordsOf (l ++ m)) ≡ wordsIn (map wordsOf l) ++ wordsIn (map wordsOf m)
+pub words-join : (l m : List Entry) → wordsIn (map wordsOf (l ++ m)) ≡ wordsIn (map wordsOf l) ++ wordsIn (map wordsOf m)
 unfolding each
 words-join [] m = refl
 words-join (e ∷ l) m = rw (words-join l m) (sym (append-assoc (wordList (wordsOf e)) (wordsIn (map wordsOf l)) (wordsIn (map wordsOf m))))

@@ -33,12 +33,12 @@ done-of (refused n) k b e = let z : _≡_ {A = ℕ} 0 1 = cc in absurd (omega ar
 done-of (done M more c) k b e = let s : c ≡ b = cc in record { mesh = M; more = more; is = ap (λ (x : Bool). done M more x) s; counts = cc }
 
 -- a refusal is not done
-not-done : (n : ℕ) (M : Mesh) (l : List Entry) (c : Bool) → refused n ≡ done M l c → ⊥
+pub not-done : (n : ℕ) (M : Mesh) (l : List Entry) (c : Bool) → refused n ≡ done M l c → ⊥
 not-done n M l c e = let z : _≡_ {A = ℕ} 0 1 = cc in omega arith
 
 -- a call that is done passed the test of sizes
 module _ (L : Rooms) (M : Mesh) (call : Bool → Outcome) (off : call false ≡ refused 1) (is : (M′ : Mesh) (more : List Entry) (c : Bool) → call true ≡ done M′ more c → Called L M M′ more) where
-  sized-call : (sized : Bool) (M′ : Mesh) (more : List Entry) (c : Bool) → call sized ≡ done M′ more c → Called L M M′ more
+  pub sized-call : (sized : Bool) (M′ : Mesh) (more : List Entry) (c : Bool) → call sized ≡ done M′ more c → Called L M M′ more
   sized-call true M′ more c e = is M′ more c e
   sized-call false M′ more c e = absurd (not-done 1 M′ more c (sym off ∙ e))
 

@@ -63,6 +63,7 @@ pub data Entries (M₀ : Mesh) : Mesh → List ℕ → Type 0 where
 pub record Held32 (G : Given) : Type 0 where
   pub points : (i : ℕ) → T (fits binary32 (getD (G .points) i nan))
   pub volumes : (i : ℕ) → T (fits binary32 (getD (G .volumes) i nan))
+  pub lengths : (i : ℕ) → T (fits binary32 (getD (G .lengths) i nan))
 
 -- the host puts such numbers into the mesh, at first and in each move
 abbrev pub HostHolds : {M₀ M : Mesh} {words : List ℕ} → Entries M₀ M words → Type 0
@@ -79,3 +80,7 @@ pub record Packed (G : Given) (k : Counts) : Type 0 where
   pub ends : length (G .ends) ≡ 4 * k .edges
   pub lengths : length (G .lengths) ≡ 4 * k .edges
   pub outline : length (G .outline) ≡ 2 * k .boundary
+
+-- the rows of a mesh, counted
+abbrev pub rowsIn : Mesh → Counts
+rowsIn M = record { particles = length (M .particles); triangles = length (M .triangles); edges = length (M .edges); boundary = length (M .boundary); log = 0 }

@@ -1,6 +1,6 @@
 -- What a call on triangles gives is accepted again: its numbers are in range, and it is no longer than the rooms. `accepted-again` says so of each call. Assumes nothing.
 use mathlib.Core.Path.{_≡_, refl, sym, _∙_, ap, subst}
-use mathlib.Core.Bool.{Bool, true, false, not, _&&_}
+use mathlib.Core.Bool.{Bool, true, false, not, _&&_, cond}
 use mathlib.Core.List.{List, [], _∷_, _++_, map}
 use Prim.Native.Nat.{ℕ, suc, _-_, _<_, _≤_}
 use native.Mathlib.Omega.{arith}
@@ -10,10 +10,11 @@ use borrow.Author.Tests.{leb-true, ltb-false, eq-eqb, ne-eqb}
 use lib.IntN.{pos}
 use lib.Dec.{T, eqb, ltb}
 use lib.ListN.{length, getD, length-map}
-use lib.Ieee.{Float, binary32, fits, le}
+use lib.Ieee.{Float, binary32, fits, le, neg}
+use lib.Ieee.Fits.{div-fits}
 use Rattle.lists.specs.Lists.{pick, stands, all, mapAt, each, upTo, rest}
 use Rattle.lists.proofs.Sifts.{sift-length}
-use Rattle.float.specs.Numbers.{zero32, absOf, invOf}
+use Rattle.float.specs.Numbers.{zero32, one, tiny, over, absOf, invOf}
 use Rattle.float.specs.Ranges.{finite?, number?, volume?, notBelow0?}
 use Rattle.float.proofs.Limits.{limit-finite}
 use Rattle.model.specs.Mesh.{Particle, Triangle, Edge, Side, Mesh, blank}
@@ -32,7 +33,7 @@ use Rattle.model.proofs.Kept.{accepted-sound, unless-done, no-refusal, Passed}
 use Rattle.model.proofs.Accepted.{accepted-indexed, indexed-accepted, cut-accepted, crack-accepted, split-accepted, straddlers-accepted}
 use Rattle.model.proofs.Indexed.{Pair, Indexed, Ends, Sides}
 use Rattle.model.proofs.Laws.{and-true, both, pick-both, all-in, all-over, all-append, all-map, all-mapAt, all-eachOf, all-sift, all-below, all-from, all-to, all-yes, length-mapAt}
-use Rattle.lineage.specs.History.{Stored, Called, cutting, cracking, splitting, removing, Moved, History, first, calling, moving, HostStores, Accepted, Again}
+use Rattle.lineage.specs.History.{Particle32, Triangle32, Edge32, Stored, Called, cutting, cracking, splitting, removing, Moved, History, first, calling, moving, HostStores, Accepted, Again}
 use Rattle.lineage.proofs.Induction.{Sided, Behind, nothing-more, tearing, Kept}
 use Rattle.lineage.proofs.Grown.{Grown, Growing, growing-start, growing-kept}
 use Rattle.lineage.proofs.Histories.{kind-of, called-run, line-of}
@@ -42,15 +43,15 @@ use Rattle.lineage.proofs.Masses.{VolumeOk, mass-ok}
 
 -- ---- a mesh whose numbers are in range and stored
 
--- a particle, a triangle, an edge whose numbers are in range, with a mass and a volume that f32 holds
+-- a particle, a triangle, an edge whose numbers are in range, and each one that f32 holds
 abbrev FineParticle : Particle → Type 0
-FineParticle p = (particleOk p ≡ true) × T (fits binary32 (p .mass))
+FineParticle p = (particleOk p ≡ true) × Particle32 p
 
 abbrev FineTriangle : Triangle → Type 0
-FineTriangle t = (triangleOk t ≡ true) × T (fits binary32 (t .volume))
+FineTriangle t = (triangleOk t ≡ true) × Triangle32 t
 
 abbrev FineEdge : Edge → Type 0
-FineEdge e = edgeOk e ≡ true
+FineEdge e = (edgeOk e ≡ true) × Edge32 e
 
 -- all of a mesh, of at most 1,024 triangles
 pub record Fine (M : Mesh) : Type 0 where
@@ -70,9 +71,9 @@ fine-of M e S few =
     let p = and-true (all particleOk (M .particles) && all triangleOk (M .triangles)) (all edgeOk (M .edges)) e in
     let q = and-true (all particleOk (M .particles)) (all triangleOk (M .triangles)) (p .0) in
     record {
-      particles = all-both (λ (x : Particle). particleOk x ≡ true) (λ (x : Particle). T (fits binary32 (x .mass))) (M .particles) (all-from particleOk (λ (x : Particle). particleOk x ≡ true) (λ x u. u) (M .particles) (q .0)) (S .masses);
-      triangles = all-both (λ (x : Triangle). triangleOk x ≡ true) (λ (x : Triangle). T (fits binary32 (x .volume))) (M .triangles) (all-from triangleOk (λ (x : Triangle). triangleOk x ≡ true) (λ x u. u) (M .triangles) (q .1)) (S .volumes);
-      edges = all-from edgeOk FineEdge (λ x u. u) (M .edges) (p .1);
+      particles = all-both (λ (x : Particle). particleOk x ≡ true) Particle32 (M .particles) (all-from particleOk (λ (x : Particle). particleOk x ≡ true) (λ x u. u) (M .particles) (q .0)) (S .particles);
+      triangles = all-both (λ (x : Triangle). triangleOk x ≡ true) Triangle32 (M .triangles) (all-from triangleOk (λ (x : Triangle). triangleOk x ≡ true) (λ x u. u) (M .triangles) (q .1)) (S .triangles);
+      edges = all-both (λ (x : Edge). edgeOk x ≡ true) Edge32 (M .edges) (all-from edgeOk (λ (x : Edge). edgeOk x ≡ true) (λ x u. u) (M .edges) (p .1)) (S .edges);
       few = few;
     }
 
@@ -81,10 +82,11 @@ unfolding numbersFit
 of-fine M F = (
   both (all particleOk (M .particles) && all triangleOk (M .triangles)) (all edgeOk (M .edges))
       (both (all particleOk (M .particles)) (all triangleOk (M .triangles)) (all-to particleOk FineParticle (λ x u. u .0) (M .particles) (F .particles)) (all-to triangleOk FineTriangle (λ x u. u .0) (M .triangles) (F .triangles)))
-      (all-to edgeOk FineEdge (λ x u. u) (M .edges) (F .edges)),
+      (all-to edgeOk FineEdge (λ x u. u .0) (M .edges) (F .edges)),
   record {
-    masses = all-over FineParticle (λ (x : Particle). T (fits binary32 (x .mass))) (λ x u. u .1) (M .particles) (F .particles);
-    volumes = all-over FineTriangle (λ (x : Triangle). T (fits binary32 (x .volume))) (λ x u. u .1) (M .triangles) (F .triangles);
+    particles = all-over FineParticle Particle32 (λ x u. u .1) (M .particles) (F .particles);
+    triangles = all-over FineTriangle Triangle32 (λ x u. u .1) (M .triangles) (F .triangles);
+    edges = all-over FineEdge Edge32 (λ x u. u .1) (M .edges) (F .edges);
   },
 )
 
@@ -123,6 +125,25 @@ hurt-ok p e =
     let S = tests p e in
     to-seven (number? (p .x)) (number? (p .y)) (number? (p .rest-x)) (number? (p .rest-y)) (number? (p .mass)) (finite? (p .inv)) (flag? 1) (S .places) (S .mass) (S .inv) refl
 
+-- the same of numbers that f32 holds
+weighed-32 : (p : Particle) (m w : Float) → Particle32 p → T (fits binary32 m) → T (fits binary32 w) → Particle32 (weighed m w p)
+weighed-32 p m w h n i = record { x = h .x; y = h .y; rest-x = h .rest-x; rest-y = h .rest-y; mass = n; inv = i }
+
+hurt-32 : (p : Particle) → Particle32 p → Particle32 (hurt p)
+hurt-32 p h = record { x = h .x; y = h .y; rest-x = h .rest-x; rest-y = h .rest-y; mass = h .mass; inv = h .inv }
+
+zero-32 : T (fits binary32 zero32)
+unfolding fits
+zero-32 = tt
+
+inverse-fits : (x : Float) → T (fits binary32 (invOf x))
+unfolding invOf
+inverse-fits x = by (le (neg tiny) x && le x tiny)
+  where
+    by : (b : Bool) → T (fits binary32 (cond b zero32 (over one x)))
+    by true = zero-32
+    by false = div-fits binary32 one x
+
 -- ---- edges
 
 zero-number : number? zero32 ≡ true
@@ -145,13 +166,16 @@ unfolding edgeOk
 stress-number e h =
     and-true (flag? (e .structural) && flag? (e .torn) && number? (e .rest) && number? (e .initial) && notBelow0? (e .rest) && notBelow0? (e .initial) && number? (e .impulse)) (number? (e .stress)) h .1
 
-moved-ok : (v w : ℕ) (e : Edge) → edgeOk e ≡ true → edgeOk (moved v w e) ≡ true
+loaded-32 : (e : Edge) (i s : Float) → Edge32 e → T (fits binary32 i) → T (fits binary32 s) → Edge32 (loaded e i s)
+loaded-32 e i s h n m = record { rest = h .rest; initial = h .initial; impulse = n; stress = m }
+
+moved-ok : (v w : ℕ) (e : Edge) → FineEdge e → FineEdge (moved v w e)
 unfolding edgeOk
-moved-ok v w e h = h
+moved-ok v w e h = (h .0, record { rest = h .1 .rest; initial = h .1 .initial; impulse = h .1 .impulse; stress = h .1 .stress })
 
 turned-ok : (v w : ℕ) (t : Triangle) → FineTriangle t → FineTriangle (retargeted v w t)
 unfolding triangleOk
-turned-ok v w t h = h
+turned-ok v w t h = (h .0, record { volume = h .1 .volume; stress = h .1 .stress })
 
 -- ---- one split
 
@@ -161,13 +185,15 @@ module _ (M : Mesh) (F : Fine M) (v : ℕ) (sides : List ℕ) (every : length si
 
   volumes : All VolumeOk (M .triangles)
   unfolding triangleOk
-  volumes = all-over FineTriangle VolumeOk (λ t u. (u .1, and-true (volume? (t .volume)) (number? (t .stress)) (u .0) .0)) (M .triangles) (F .triangles)
+  volumes = all-over FineTriangle VolumeOk (λ t u. (u .1 .volume, and-true (volume? (t .volume)) (number? (t .stress)) (u .0) .0)) (M .triangles) (F .triangles)
 
   portion-fine : (g : ℕ) → g < O .count → (p : Particle) → FineParticle p → FineParticle (portion O g p)
   unfolding portion O number?
   portion-fine g l p u =
-      let m = mass-ok M (F .few) volumes v sides every (p .mass) (u .1) (tests p (u .0) .mass) g l in
-      (weighed-ok p (massOf O (p .mass) g) (invOf (massOf O (p .mass) g)) (u .0) (m .0) (inverse-finite (massOf O (p .mass) g) (m .1) (limit-finite (massOf O (p .mass) g) 1 (pos 20) (m .0))), m .1)
+      let m = mass-ok M (F .few) volumes v sides every (p .mass) (u .1 .mass) (tests p (u .0) .mass) g l in (
+        weighed-ok p (massOf O (p .mass) g) (invOf (massOf O (p .mass) g)) (u .0) (m .0) (inverse-finite (massOf O (p .mass) g) (m .1) (limit-finite (massOf O (p .mass) g) 1 (pos 20) (m .0))),
+        weighed-32 p (massOf O (p .mass) g) (invOf (massOf O (p .mass) g)) (u .1) (m .1) (inverse-fits (massOf O (p .mass) g)),
+      )
 
   two : 2 ≤ O .count
   unfolding O
@@ -199,7 +225,7 @@ module _ (M : Mesh) (F : Fine M) (v : ℕ) (sides : List ℕ) (every : length si
   doubled-fine e u =
       let gs = rest (edgeGroups M O (farEnd (O .v) e)) in
       pick-both (All FineEdge) (other? Triangles O e) (map (λ g. calm (moved (O .v) (copyOf O g) e)) gs) []
-      (all-map (λ g. Unit {0}) FineEdge (λ g. calm (moved (O .v) (copyOf O g) e)) (λ g w. loaded-ok (moved (O .v) (copyOf O g) e) zero32 (e .stress) (moved-ok (O .v) (copyOf O g) e u) zero-number (stress-number e u)) gs (all-yes (λ g. Unit {0}) (λ g. tt) gs))
+      (all-map (λ g. Unit {0}) FineEdge (λ g. calm (moved (O .v) (copyOf O g) e)) (λ g w. let m = moved-ok (O .v) (copyOf O g) e u in (loaded-ok (moved (O .v) (copyOf O g) e) zero32 (e .stress) (m .0) zero-number (stress-number e (u .0)), loaded-32 (moved (O .v) (copyOf O g) e) zero32 (e .stress) (m .1) zero-32 (u .1 .stress))) gs (all-yes (λ g. Unit {0}) (λ g. tt) gs))
       tt
 
   edges-fine : All FineEdge (otherEdges Triangles M O (rewiredStraps Triangles O (M .edges)))
@@ -224,7 +250,7 @@ module _ (M : Mesh) (F : Fine M) (v : ℕ) (sides : List ℕ) (every : length si
 
 -- what is done behind a split
 slack-ok : (e : Edge) → FineEdge e → FineEdge (slack e)
-slack-ok e u = loaded-ok e zero32 zero32 u zero-number zero-number
+slack-ok e u = (loaded-ok e zero32 zero32 (u .0) zero-number zero-number, loaded-32 e zero32 zero32 (u .1) zero-32 zero-32)
 
 torn-fine : (O : Opening) (xy : ℕ × ℕ) (M : Mesh) → Fine M → Fine (torn O xy M)
 unfolding torn damagedAt slackened
@@ -233,7 +259,7 @@ torn-fine O xy M F =
     record {
       particles =
           all-mapAt FineParticle FineParticle (λ i p. pick (stands i (xy .0 ∷ xy .1 ∷ made O)) (hurt p) p)
-          (λ i p u. pick-both FineParticle (stands i (xy .0 ∷ xy .1 ∷ made O)) (hurt p) p (hurt-ok p (u .0), u .1) u) (M .particles) (F .particles);
+          (λ i p u. pick-both FineParticle (stands i (xy .0 ∷ xy .1 ∷ made O)) (hurt p) p (hurt-ok p (u .0), hurt-32 p (u .1)) u) (M .particles) (F .particles);
       triangles = F .triangles;
       edges = all-map FineEdge FineEdge (λ (e : Edge). pick (bridges O other e) (slack e) e) (λ e u. pick-both FineEdge (bridges O other e) (slack e) e (slack-ok e u) u) (M .edges) (F .edges);
       few = F .few;
@@ -258,15 +284,16 @@ fine-kept =
 
 -- ---- a run that is done fits the rooms
 
--- a mesh has room
-pub record Fits (L : Rooms) (M : Mesh) : Type 0 where
+-- a mesh and a log have room
+pub record Fits (L : Rooms) (M : Mesh) (l : List Entry) : Type 0 where
   pub particles : length (M .particles) ≤ L .particles
   pub edges : length (M .edges) ≤ L .edges
   pub boundary : length (M .boundary) ≤ L .boundary
+  pub log : length l ≤ L .log
 
--- the last step's need covers the mesh
+-- the last step's need covers the mesh and the log
 pub record Covered (R : Run) : Type 0 where
-  pub rooms : (L : Rooms) → firstFault L (R .needs) ≡ 0 → Fits L (R .mesh)
+  pub rooms : (L : Rooms) → firstFault L (R .needs) ≡ 0 → Fits L (R .mesh) (R .log)
 
 second-zero : (a b : ℕ) → pick (eqb a 0) b a ≡ 0 → b ≡ 0
 second-zero a b e =
@@ -282,23 +309,24 @@ first-zero a e =
       | no n ↦ absurd (n (sym (ap (λ t. pick t 0 a) (ne-eqb a 0 n)) ∙ e))
     ]
 
-small-zero : (L : Rooms) (N : Need) → tooSmall L N ≡ 0 → (N .particles ≤ L .particles) × (N .edges ≤ L .edges) × (N .boundary ≤ L .boundary)
+small-zero : (L : Rooms) (N : Need) → tooSmall L N ≡ 0 → (N .particles ≤ L .particles) × (N .edges ≤ L .edges) × (N .boundary ≤ L .boundary) × (N .log ≤ L .log)
 unfolding tooSmall
 small-zero L N e =
     let u = by (ltb (L .particles) (N .particles)) (ltb (L .edges) (N .edges)) (ltb (L .boundary) (N .boundary)) (ltb (L .log) (N .log)) e in
-    (ltb-false (L .particles) (N .particles) (u .0), ltb-false (L .edges) (N .edges) (u .1), ltb-false (L .boundary) (N .boundary) (u .2))
+    (ltb-false (L .particles) (N .particles) (u .0), ltb-false (L .edges) (N .edges) (u .1), ltb-false (L .boundary) (N .boundary) (u .2), ltb-false (L .log) (N .log) (u .3))
   where
-    by : (a b c d : Bool) → _≡_ {A = ℕ} (pick a 5 (pick b 6 (pick c 7 (pick d 8 0)))) 0 → (a ≡ false) × (b ≡ false) × (c ≡ false)
+    by : (a b c d : Bool) → _≡_ {A = ℕ} (pick a 5 (pick b 6 (pick c 7 (pick d 8 0)))) 0 → (a ≡ false) × (b ≡ false) × (c ≡ false) × (d ≡ false)
     by true b c d e = absurd (omega arith)
     by false true c d e = absurd (omega arith)
     by false false true d e = absurd (omega arith)
-    by false false false d e = (refl, refl, refl)
+    by false false false true e = absurd (omega arith)
+    by false false false false e = (refl, refl, refl, refl)
 
-one-fits : (L : Rooms) (N : Need) (M : Mesh) → length (M .particles) ≤ N .particles → length (M .edges) ≤ N .edges → length (M .boundary) ≤ N .boundary → firstFault L (N ∷ []) ≡ 0 → Fits L M
+one-fits : (L : Rooms) (N : Need) (M : Mesh) (l : List Entry) → length (M .particles) ≤ N .particles → length (M .edges) ≤ N .edges → length (M .boundary) ≤ N .boundary → length l ≤ N .log → firstFault L (N ∷ []) ≡ 0 → Fits L M l
 unfolding firstFault
-one-fits L N M p e b z =
+one-fits L N M l p e b g z =
     let u = small-zero L N (first-zero (tooSmall L N) z) in
-    record { particles = le-trans p (u .0); edges = le-trans e (u .1); boundary = le-trans b (u .2) }
+    record { particles = le-trans p (u .0); edges = le-trans e (u .1); boundary = le-trans b (u .2); log = le-trans g (u .3) }
 
 covered-step : (R : Run) (M : Mesh) (l : List Entry) (e b : ℕ) → length (M .edges) ≤ e → length (M .boundary) ≤ b → Covered (stepTo R M l e b)
 unfolding stepTo
@@ -307,7 +335,8 @@ covered-step R M l e b u w =
       rooms = λ L z.
           let N : Need = record { particles = length (M .particles); edges = e; boundary = b; log = length (R .log ++ l) } in
           let same : length (M .particles) ≤ length (M .particles) = omega arith in
-          one-fits L N M same u w (second-zero (firstFault L (R .needs)) (firstFault L (N ∷ [])) (sym (fault-front L (R .needs) (N ∷ [])) ∙ z));
+          let all : length (R .log ++ l) ≤ length (R .log ++ l) = omega arith in
+          one-fits L N M (R .log ++ l) same u w all (second-zero (firstFault L (R .needs)) (firstFault L (N ∷ [])) (sym (fault-front L (R .needs) (N ∷ [])) ∙ z));
     }
 
 covered-start : (M : Mesh) → Covered (start M)
@@ -316,7 +345,8 @@ covered-start M =
     let p : length (M .particles) ≤ length (M .particles) = omega arith in
     let e : length (M .edges) ≤ length (M .edges) = omega arith in
     let b : length (M .boundary) ≤ length (M .boundary) = omega arith in
-    record { rooms = λ L z. one-fits L _ M p e b z }
+    let g : 0 ≤ 0 = omega arith in
+    record { rooms = λ L z. one-fits L _ M [] p e b g z }
 
 -- what is done behind a split leaves the number of edges and the boundary
 behind-length : (O : Opening) (f : Mesh → Mesh) → Behind O f → (M : Mesh) → (length (f M .edges) ≡ length (M .edges)) × (length (f M .boundary) ≡ length (M .boundary))
@@ -363,15 +393,15 @@ called-checked L M (splitting {M′} {more} {c} v sides e) =
 called-checked L M (removing {M′} {more} {c} e) =
     passed L M M′ true true (no-refusal true M true (trianglesLent L M) (unless-done _ (outcome L (removeStraddlers (kindOf M) (start M))) M′ more c e .0)) (straddlers-accepted true M L M′ more c e)
 
--- What a done call gives of a mesh of at most 1,024 triangles is accepted as input again: its numbers and indices pass, and it is no longer than the rooms.
-pub accepted-again : (L : Rooms) (M : Mesh) {M′ : Mesh} {more : List Entry} → 0 < length (M .triangles) → length (M .triangles) ≤ 1024 → Stored M → Called L M M′ more → Again L M′
+-- What a done call gives of a mesh of at most 1,024 triangles is accepted as input again: its numbers and indices pass, and it is no longer than the rooms, nor is its log.
+pub accepted-again : (L : Rooms) (M : Mesh) {M′ : Mesh} {more : List Entry} → 0 < length (M .triangles) → length (M .triangles) ≤ 1024 → Stored M → Called L M M′ more → Again L M′ more
 unfolding start
-accepted-again L M {M′} some few S C =
+accepted-again L M {M′} {more} some few S C =
     let k = kind-of M some in
     let H = called-checked L M C in
-    let F : Fine M′ = called-run (λ R. Fine (R .mesh)) fine-kept M (fine-of M (H .numbers) S few) k L Fine (λ R F z. F) C in
-    let fits : Fits L M′ = called-run Covered covered-kept M (covered-start M) k L (Fits L) (λ R Y z. Y .rooms L z) C in
-    let G : Grown M M′ = called-run (Growing M) (growing-kept M) M (growing-start M (accepted-sound M (H .before))) k L (Grown M) (λ R G z. G .grown) C in
+    let F : Fine M′ = called-run (λ R. Fine (R .mesh)) fine-kept M (fine-of M (H .numbers) S few) k L (λ N l. Fine N) (λ R F z. F) C in
+    let fits : Fits L M′ more = called-run Covered covered-kept M (covered-start M) k L (Fits L) (λ R Y z. Y .rooms L z) C in
+    let G : Grown M M′ = called-run (Growing M) (growing-kept M) M (growing-start M (accepted-sound M (H .before))) k L (λ N l. Grown M N) (λ R G z. G .grown) C in
     let N = of-fine M′ F in
     record {
       accepted = record { numbers = N .0; stored = N .1; indices = H .after };
@@ -379,6 +409,7 @@ accepted-again L M {M′} some few S C =
       triangles = le-trans (le-of-eq (G .count)) (leb-true (length (M .triangles)) (L .triangles) (H .lent));
       edges = fits .edges;
       boundary = fits .boundary;
+      entries = fits .log;
     }
 
 -- ---- after any history

@@ -1,4 +1,4 @@
--- The theorems on histories of triangle meshes: `traced-always`, `held-always`, `particles-bounded`, `runs-bounded`, `room-suffices`. Assumes nothing.
+-- The theorems on histories of triangle meshes: `traced-always`, `held-always`, `copies-held`, `particles-bounded`, `runs-bounded`, `room-suffices`. Assumes nothing.
 use mathlib.Core.Path.{_≡_, refl, sym, _∙_, ap, subst}
 use mathlib.Core.Bool.{Bool, true, false, not, _&&_, _||_}
 use mathlib.Core.Logic.{_⊎_, inl, inr, ⊎-elim}
@@ -73,12 +73,14 @@ outcome-room L R M l c e = by (firstFault L (R .needs)) e
     by zero d = refl
     by (suc n) d = ap numbered d
 
--- what a run that lacks no room has, by what each step keeps, the mesh of a call that is done has
-module _ (P : Run → Type 0) (K : KeptBySteps P) (M : Mesh) (p : P (start M)) (k : kindOf M ≡ Triangles) (L : Rooms) (Q : Mesh → Type 0) (has : (R : Run) → P R → firstFault L (R .needs) ≡ 0 → Q (R .mesh)) where
-  run-has : (R : Run) (M′ : Mesh) (l : List Entry) (c : Bool) → P R → outcome L R ≡ done M′ l c → Q M′
-  run-has R M′ l c r e = subst Q (outcome-done L R M′ l c e .0) (has R r (outcome-room L R M′ l c e))
+-- what a run that lacks no room has, by what each step keeps, the mesh and the log of a call that is done have
+module _ (P : Run → Type 0) (K : KeptBySteps P) (M : Mesh) (p : P (start M)) (k : kindOf M ≡ Triangles) (L : Rooms) (Q : Mesh → List Entry → Type 0) (has : (R : Run) → P R → firstFault L (R .needs) ≡ 0 → Q (R .mesh) (R .log)) where
+  run-has : (R : Run) (M′ : Mesh) (l : List Entry) (c : Bool) → P R → outcome L R ≡ done M′ l c → Q M′ l
+  run-has R M′ l c r e =
+      let d = outcome-done L R M′ l c e in
+      subst (Q M′) (d .1) (subst (λ (N : Mesh). Q N (R .log)) (d .0) (has R r (outcome-room L R M′ l c e)))
 
-  pub called-run : {M′ : Mesh} {more : List Entry} → Called L M M′ more → Q M′
+  pub called-run : {M′ : Mesh} {more : List Entry} → Called L M M′ more → Q M′ more
   unfolding cutCall crackCall splitCall straddlersCall
   called-run (cutting {M′} {more} {c} B f e) =
       run-has _ M′ more c (every-run P K M p k .cuts B f) (unless-done (refusal true M (bladeOk B) (fractionOk f && trianglesLent L M)) _ M′ more c e .1)
@@ -138,7 +140,7 @@ module _ {M₀ M : Mesh} {log : List Entry} (I : Line M₀ M log) where
       }
 
   line-called : (L : Rooms) (M′ : Mesh) (more : List Entry) → Called L M M′ more → Line M₀ M′ (log ++ more)
-  line-called L M′ more C = let k = kind-now in line-call M′ more (called-keeps L M k C) (called-run (Growing M) (growing-kept M) M started k L (λ N. Grown M N) (λ R G z. G .grown) C)
+  line-called L M′ more C = let k = kind-now in line-call M′ more (called-keeps L M k C) (called-run (Growing M) (growing-kept M) M started k L (λ N l. Grown M N) (λ R G z. G .grown) C)
 
   line-moved : (M′ : Mesh) → Moved M M′ → Line M₀ M′ log
   line-moved M′ W =
@@ -182,6 +184,10 @@ traced-always {M₀} {M} h =
 -- Every copy in the logs belongs to a triangle.
 pub held-always : {M₀ M : Mesh} {log : List Entry} → History M₀ M log → All (λ (cs : ℕ × ℕ). Hold (cs .0) (M .triangles)) (splitsOf log)
 held-always h = line-of h .copies
+
+-- Every particle past the first number belongs to a triangle, be it told of in a log or not.
+pub copies-held : {M₀ M : Mesh} {log : List Entry} → History M₀ M log → (x : ℕ) → length (M₀ .particles) ≤ x → x < length (M .particles) → Hold x (M .triangles)
+copies-held h x past there = line-of h .grown .fresh x past there
 
 -- ---- the number of particles
 

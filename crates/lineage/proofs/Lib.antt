@@ -14,6 +14,8 @@ pub mod Sums
 pub mod Masses
 -- what a call gives is accepted again
 pub mod Again
+-- which does not go for straps
+pub mod Strapped
 -- a weightless group under a positive total gets mass 0 and so a pinned copy
 pub mod Weightless
 -- a history, computed, in which the bound is reached

@@ -3,13 +3,15 @@ use mathlib.Core.Path.{_≡_, refl}
 use mathlib.Core.Bool.{true, false}
 use mathlib.Core.List.{[], _∷_}
 use lib.IntN.{pos, negsuc}
-use lib.Dec.{lit<, lit≤}
+use Prim.Native.Nat.{ℕ}
+use lib.Dec.{T, lit<, lit≤}
 use lib.ListN.{length}
-use lib.Ieee.{fin, neg, add, sub, mul, div, lt, le, eq, ne, ofInt, fits}
+use lib.Ieee.{binary32, fin, neg, add, sub, mul, div, lt, le, eq, ne, ofInt, fits}
 use Rattle.lists.specs.Lists.{any, all, sift, siftAt, find, fold, each, pairs, mapAt, tab, upTo, rising, distinct, disjoint}
 use Rattle.lists.specs.Labels.{merged, joinPair, joinRow, joinRows, labelled}
 use Rattle.float.specs.Numbers.{zero32, half, absOf, maxOf, invOf}
 use Rattle.float.specs.Ranges.{finite?, number?, volume?, notBelow0?}
+use Rattle.blade.specs.declared.Point.{Point}
 use Rattle.fan.specs.Groups.{labelsOf, numberOne, numberSide, numbered, groupsOf, countOf}
 use Rattle.model.specs.Mesh.{Particle, Mesh}
 use Rattle.model.specs.Valid.{particleOk, triangleOk, edgeOk, numbersFit, named, rootOk, cornersOk, endsOk, sideOk, indicesFit}
@@ -18,7 +20,7 @@ use Rattle.model.specs.Split.{partsOf, openingOf, splits?, made, weightOf, tota
 use Rattle.model.specs.Run.{split, start, stepTo, splitsOf, changed}
 use Rattle.model.specs.Calls.{sidesOk, refusal, tooSmall, firstFault, done, outcome, splitCall}
 use Rattle.model.specs.Starred.{point, free, triangle, limits}
-use Rattle.lineage.specs.History.{Stored, Accepted, Begins, splitting, History, first, calling, inUse, mostParticles}
+use Rattle.lineage.specs.History.{Particle32, Stored, Accepted, Begins, splitting, History, first, calling, inUse, mostParticles}
 use Rattle.lineage.proofs.Again.{accepted-always}
 
 -- two triangles with particle 0 alone in common
@@ -53,9 +55,19 @@ split-there : splitCall true joined 0 (0 ∷ 0 ∷ []) limits ≡ done apart (sp
 unfolding neg add sub mul div lt le eq ne ofInt any all sift siftAt find fold each pairs mapAt tab upTo rising distinct disjoint merged joinPair joinRow joinRows labelled absOf maxOf invOf finite? number? volume? notBelow0? labelsOf numberOne numberSide numbered groupsOf countOf particleOk triangleOk edgeOk numbersFit named rootOk cornersOk endsOk sideOk indicesFit sum kindBy kindOf trianglesFrom elementsOf held fanOf gridOf partsOf openingOf splits? made weightOf totalOf massOf portion copied groupAt rewiredTriangles rewiredStraps ring edgeGroups stayed doubled otherEdges parted straddles sideGroup followed faceOn facetsAt crackFacets atLongest settled splitEntries goneEntries splitMade splitStep splitBySides start stepTo splitsOf changed sidesOk refusal tooSmall firstFault outcome splitCall
 split-there = refl
 
+-- a free particle whose coordinates f32 holds
+free-32 : (n : ℕ) (p : Point) → T (fits binary32 (p .x)) → T (fits binary32 (p .y)) → Particle32 (free n p)
+unfolding fits
+free-32 n p x y = record { x = x; y = y; rest-x = x; rest-y = y; mass = tt; inv = tt }
+
 joined-stored : Stored joined
 unfolding fits ofInt
-joined-stored = record { masses = (tt, (tt, (tt, (tt, (tt, tt))))); volumes = (tt, (tt, tt)) }
+joined-stored =
+    record {
+      particles = (free-32 0 _ tt tt, (free-32 1 _ tt tt, (free-32 2 _ tt tt, (free-32 3 _ tt tt, (free-32 4 _ tt tt, tt)))));
+      triangles = (record { volume = tt; stress = tt }, (record { volume = tt; stress = tt }, tt));
+      edges = tt;
+    }
 
 -- a history of one split
 pub one-split : History joined apart (split 5 0 ∷ [])

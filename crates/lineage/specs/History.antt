@@ -93,10 +93,30 @@ pub record Roomy (L : Rooms) (M : Mesh) : Type 0 where
   pub splits : (sized : Bool) (v : ℕ) (sides : List ℕ) → splitCall sized M v sides L ≡ refused 5 → ⊥
   pub straddlers : (sized : Bool) → straddlersCall sized M L ≡ refused 5 → ⊥
 
--- every mass and every rest volume is a number that f32 holds, as the columns of a mesh can have no other
+-- every number of a particle, a triangle, an edge is one that f32 holds, as the columns of a mesh can have no other
+pub record Particle32 (p : Particle) : Type 0 where
+  pub x : T (fits binary32 (p .x))
+  pub y : T (fits binary32 (p .y))
+  pub rest-x : T (fits binary32 (p .rest-x))
+  pub rest-y : T (fits binary32 (p .rest-y))
+  pub mass : T (fits binary32 (p .mass))
+  pub inv : T (fits binary32 (p .inv))
+
+pub record Triangle32 (t : Triangle) : Type 0 where
+  pub volume : T (fits binary32 (t .volume))
+  pub stress : T (fits binary32 (t .stress))
+
+pub record Edge32 (e : Edge) : Type 0 where
+  pub rest : T (fits binary32 (e .rest))
+  pub initial : T (fits binary32 (e .initial))
+  pub impulse : T (fits binary32 (e .impulse))
+  pub stress : T (fits binary32 (e .stress))
+
+-- so is every number of a mesh
 pub record Stored (M : Mesh) : Type 0 where
-  pub masses : All (λ (p : Particle). T (fits binary32 (p .mass))) (M .particles)
-  pub volumes : All (λ (t : Triangle). T (fits binary32 (t .volume))) (M .triangles)
+  pub particles : All Particle32 (M .particles)
+  pub triangles : All Triangle32 (M .triangles)
+  pub edges : All Edge32 (M .edges)
 
 -- the host puts such numbers into the mesh, at first and in each move
 abbrev pub HostStores : {M₀ M : Mesh} {log : List Entry} → History M₀ M log → Type 0
@@ -104,16 +124,24 @@ HostStores {M₀} (first b) = Stored M₀
 HostStores (calling L h C) = HostStores h
 HostStores (moving {M′ = M′} h W) = HostStores h × Stored M′
 
+-- a mesh within the limits on counts, which refusal 1 lets pass
+pub record Few (M : Mesh) : Type 0 where
+  pub particles : length (M .particles) ≤ 1024
+  pub triangles : length (M .triangles) ≤ 1024
+  pub edges : length (M .edges) ≤ 2048
+  pub boundary : length (M .boundary) ≤ 2048
+
 -- a mesh that refusals 2 and 3 let pass
 pub record Accepted (M : Mesh) : Type 0 where
   pub numbers : numbersFit M ≡ true
   pub stored : Stored M
   pub indices : indicesFit M ≡ true
 
--- and that is no longer than the rooms: as rooms are within the limits, refusal 1 lets it pass too
-pub record Again (L : Rooms) (M : Mesh) : Type 0 where
+-- and that is no longer than the rooms, nor is its log: as rooms are within the limits, refusal 1 lets it pass too
+pub record Again (L : Rooms) (M : Mesh) (log : List Entry) : Type 0 where
   pub accepted : Accepted M
   pub particles : length (M .particles) ≤ L .particles
   pub triangles : length (M .triangles) ≤ L .triangles
   pub edges : length (M .edges) ≤ L .edges
   pub boundary : length (M .boundary) ≤ L .boundary
+  pub entries : length log ≤ L .log

@@ -1,0 +1,2 @@
+-- A history told by what the C functions promise.
+pub mod Images

@@ -1,0 +1,4 @@
+-- An image read back.
+pub mod Words
+pub mod Packed
+pub mod Held

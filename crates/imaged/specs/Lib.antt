@@ -1,0 +1,2 @@
+-- Definitions that the laws of images read back name.
+pub mod Bytes
