@@ -4,4 +4,6 @@ pub mod Sides
 pub mod Found
 pub mod Meshes
 pub mod Entering
+pub mod Putting
+pub mod Agree
 pub mod Cases

@@ -1,0 +1,1 @@
+use Rattle.edition.proofs.write.long_own.Tie as tie

@@ -1,0 +1,1 @@
+use Rattle.edition.proofs.write.put_all.Tie as tie

@@ -1,0 +1,1 @@
+use Rattle.edition.proofs.write.write.Tie as tie
