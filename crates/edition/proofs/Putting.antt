@@ -4,7 +4,7 @@ use mathlib.Core.Path.{_≡_, refl, sym, ap, ap₂, _∙_, subst}
 use mathlib.Core.Bool.{Bool, true, false, cond, _&&_}
 use mathlib.Core.List.{List, [], _∷_, _++_, append-assoc, append-nil}
 use native.Mathlib.Omega.{arith}
-use borrow.Author.Tests.{le-leb}
+use borrow.Author.Tests.{le-leb, leb-true}
 use lib.Dec.{ltb, leb}
 use lib.ListN.{length, getD, replicate, length-append}
 use lib.Seq.{sets}
@@ -19,7 +19,8 @@ use Rattle.outline.specs.Rows.{rows3, row3}
 use Rattle.sheet.specs.Sheet.{Sheet, Columns, sheetFrom, countsIn, particleW, triangleW, edgeW, bladeW, endOf, bytesOf, evenOf, tooMany, fitOf, namesOK}
 use Rattle.sheet.specs.Sheet as S
 use Rattle.sheet.specs.declared.Counts.{Counts}
-use Rattle.sheet.proofs.PutLaws.{length-rowsOf, sets-zeros, not-many, accepted}
+use Rattle.sheet.specs.Work.{Even, Small}
+use Rattle.sheet.proofs.PutLaws.{length-rowsOf, sets-zeros, even-from, not-many, accepted}
 use Rattle.sheet.proofs.There.{limits}
 use Rattle.edition.specs.Edition.{header2W, sheet2Bits, ownOf, bytesIn}
 use Rattle.edition.specs.Writing.{answerOf, putOf}
@@ -150,3 +151,56 @@ module _ (k : Columns) (m : ℕ) where
     pub late : ltb 2048 (length (ownOf (sheetFrom k))) ≡ false → (b : Bool) → leb (bytesIn true (countsIn k)) m ≡ b → cond b 0 9 ≡ answerOf k m
     unfolding answerOf
     late h b q = let w = passed in rw (w .0, w .1, w .2, w .3, h, q)
+
+-- ---- what was accepted, and what is left
+
+accepted6 : (a b c d l e : Bool) → _≡_ {A = ℕ} (cond a (cond b 1 (cond c (cond d (cond l 1 (cond e 0 9)) 3) 2)) 1) 0 → (a ≡ true) × (b ≡ false) × (c ≡ true) × (d ≡ true) × (l ≡ false) × (e ≡ true)
+accepted6 false b c d l e h = absurd (omega arith)
+accepted6 true true c d l e h = absurd (omega arith)
+accepted6 true false false d l e h = absurd (omega arith)
+accepted6 true false true false l e h = absurd (omega arith)
+accepted6 true false true true true e h = absurd (omega arith)
+accepted6 true false true true false false h = absurd (omega arith)
+accepted6 true false true true false true h = (refl, refl, refl, refl, refl, refl)
+
+-- columns that are accepted
+pub record Good (k : Columns) (m : ℕ) : Type 0 where
+  pub even : Even k
+  pub counts : Small (countsIn k)
+  pub few : tooMany (countsIn k) ≡ false
+  pub fit : fitOf k ≡ true
+  pub names : namesOK (sheetFrom k) ≡ true
+  pub short : ltb 2048 (length (ownOf (sheetFrom k))) ≡ false
+  pub room : bytesIn true (countsIn k) ≤ m
+
+pub good : (k : Columns) (m : ℕ) → answerOf k m ≡ 0 → Good k m
+unfolding answerOf
+good k m h =
+    let w = accepted6 (evenOf k) (tooMany (countsIn k)) (fitOf k) (namesOK (sheetFrom k)) (ltb 2048 (length (ownOf (sheetFrom k)))) (leb (bytesIn true (countsIn k)) m) h in
+    record { even = even-from k (w .0); counts = not-many (countsIn k) (w .1); few = w .1; fit = w .2; names = w .3; short = w .4; room = leb-true _ _ (w .5) }
+
+-- the parts were put into zeros
+pub put-done :
+    (k : Columns) (n m : ℕ) (b0 b1 b2 b3 b4 b5 b6 : List ℕ) → length (k .x) ≡ n → endOf (countsIn k) ≤ m + 1 → b0 ≡ replicate m 0
+    → b1 ≡ sets b0 0 (pack (11 ∷ 11 ∷ 11 ∷ []) (2047 ∷ n ∷ length (k .t0) ∷ [])) → b2 ≡ sets b1 33 (bits 12 (length (k .e0))) → b3 ≡ sets b2 45 (writeRows particleW (rowsOf (k .x ∷ k .y ∷ k .pinned ∷ []) 0 (length (k .x))))
+    → b4 ≡ sets b3 (45 + n * 23) (writeRows triangleW (rowsOf (k .t0 ∷ k .t1 ∷ k .t2 ∷ []) 0 (length (k .t0))))
+    → b5 ≡ sets b4 (45 + n * 23 + length (k .t0) * 30) (writeRows edgeW (rowsOf (k .e0 ∷ k .e1 ∷ k .structural ∷ []) 0 (length (k .e0))))
+    → b6 ≡ sets b5 (45 + n * 23 + length (k .t0) * 30 + length (k .e0) * 21) (pack bladeW (k .blade)) → b6 ≡ padded m 0 (sheet2Bits (sheetFrom k))
+put-done k n m b0 b1 b2 b3 b4 b5 b6 x h e0 e1 e2 e3 e4 e5 e6 =
+    e6 ∙ (ap (λ (b : List ℕ). sets b (45 + n * 23 + length (k .t0) * 30 + length (k .e0) * 21) (pack bladeW (k .blade)))
+    (e5 ∙ ap (λ (b : List ℕ). sets b (45 + n * 23 + length (k .t0) * 30) (writeRows edgeW (rowsOf (k .e0 ∷ k .e1 ∷ k .structural ∷ []) 0 (length (k .e0)))))
+    (e4 ∙ ap (λ (b : List ℕ). sets b (45 + n * 23) (writeRows triangleW (rowsOf (k .t0 ∷ k .t1 ∷ k .t2 ∷ []) 0 (length (k .t0)))))
+    (e3 ∙ ap (λ (b : List ℕ). sets b 45 (writeRows particleW (rowsOf (k .x ∷ k .y ∷ k .pinned ∷ []) 0 (length (k .x)))))
+    (e2 ∙ ap (λ (b : List ℕ). sets b 33 (bits 12 (length (k .e0))))
+    (e1 ∙ ap (λ (b : List ℕ). sets b 0 (pack (11 ∷ 11 ∷ 11 ∷ []) (2047 ∷ n ∷ length (k .t0) ∷ []))) e0)))))
+    ∙ (put-second k (replicate m 0) n x ∙ put-zeros k m h))
+
+-- what a refusal leaves, and what is left else
+pub put-none : (r : ℕ) (s : Sheet) (m : ℕ) → (r ≡ 0 → ⊥) → replicate m 0 ≡ padded m 0 (putOf r s)
+unfolding putOf padded
+put-none zero s m h = absurd (h refl)
+put-none (suc r) s m h = let e : m - zero ≡ m = omega arith in rw e
+
+pub put-some : (s : Sheet) → sheet2Bits s ≡ putOf 0 s
+unfolding putOf
+put-some s = refl

@@ -64,15 +64,7 @@ fn own_sides(s: &[u8], c: Counts, start: usize, block: &mut [usize]) -> usize
     let mut third = [0usize; 2048];
     let at = start + c.particles * 23;
     if c.triangles == 0 {
-        return strap_sides(
-            s,
-            at,
-            c.edges,
-            &mut first,
-            &mut second,
-            &mut third,
-            block,
-        );
+        return strap_sides(s, at, c.edges, &mut first, &mut second, &mut third, block);
     }
     triangle_sides(
         s,

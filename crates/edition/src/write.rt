@@ -72,7 +72,11 @@ fn refusal(
         edges: e0.len(),
         boundary: 0,
     };
-    if (sheet::end_bit(c) - 1 + 7) / 8 <= m { 0 } else { 9 }
+    if (sheet::end_bit(c) - 1 + 7) / 8 <= m {
+        0
+    } else {
+        9
+    }
 }
 
 // Writes a whole sheet into bytes that are 0.
@@ -137,19 +141,7 @@ pub fn write(
         blade,
     );
     if r == 0 {
-        put_all(
-            out,
-            x,
-            y,
-            pinned,
-            t0,
-            t1,
-            t2,
-            e0,
-            e1,
-            structural,
-            blade,
-        );
+        put_all(out, x, y, pinned, t0, t1, t2, e0, e1, structural, blade);
         return 0;
     }
     r

@@ -17,7 +17,7 @@ read-mesh-requires : tie.Need-read-mesh-requires
 read-mesh-requires c κs = c .before .before .before .before .before .before .before .before .before .before .before .before .before .before .before .before .before .before .before .before .before .before .before .pre .mesh
 
 finish-all-requires : tie.Need-finish-all-requires
-finish-all-requires c κs = 
+finish-all-requires c κs =
     let q = c .before .before .before .before .before .before .before .before .before .before .before .before .before .before .before .before .before .before .before .before .before .before .before .before .before .before .before .before .before .before .before .before .before .before .before .before .before .before .before .before .before .before .before .before .before .before .pre .mesh .room in
     let m = c .before .before .before .before .before .before .before .before .before .before .before .before .before .before .before .before .before .before .before .before .before .before .read-mesh in
     record { points = omega (arith, q .points, m .kept .1 .1 .1 .0); roots = omega (arith, q .roots, m .kept .1 .1 .1 .1 .0); corners = omega (arith, q .corners, m .kept .1 .1 .1 .1 .1 .0); volumes = omega (arith, q .volumes, m .kept .1 .1 .1 .1 .1 .1 .0); ends = omega (arith, q .ends, m .kept .1 .1 .1 .1 .1 .1 .1 .0); lengths = omega (arith, q .lengths, m .kept .1 .1 .1 .1 .1 .1 .1 .1 .0); outline = omega (arith, q .outline, m .kept .1 .1 .1 .1 .1 .1 .1 .1 .1 .0); log = omega arith }
@@ -50,7 +50,7 @@ same-length-9 : tie.Need-same-length-9
 same-length-9 c = c .before .before .before .before .before .before .before .before .before .before .before .before .before .before .before .before .before .before .before .before .before .before .before .before .before .before .before .before .before .before .before .before .before .before .before .before .before .before .before .before .before .before .before .before .before .before .before .before .before .read-blade .kept .1 .1 .0
 
 returns : tie.Need-returns
-returns c = 
+returns c =
     let m = c .before .before .before .before .before .before .before .before .before .before .before .before .before .before .before .before .before .before .before .before .before .before .before .before .before .before .before .before .before .before .before .before .before .before .before .before .before .before .before .read-mesh in (
       filled-same _ _ _ _ _ _ _ _ (world-same _ _ _ _ _ _ _ _ _ _ refl (m .ensures)) (λ i. record { points = m .kept .1 .1 .1 .0 i; roots = m .kept .1 .1 .1 .1 .0 i; corners = m .kept .1 .1 .1 .1 .1 .0 i; volumes = m .kept .1 .1 .1 .1 .1 .1 .0 i; ends = m .kept .1 .1 .1 .1 .1 .1 .1 .0 i; lengths = m .kept .1 .1 .1 .1 .1 .1 .1 .1 .0 i; outline = m .kept .1 .1 .1 .1 .1 .1 .1 .1 .1 .0 i; log = length (c .before .before .before .before .before .before .before .before .before .before .before .before .before .before .before .before .before .before .before .before .before .before .before .before .before .before .before .before .before .before .before .before .before .before .before .before .before .before .before .before .before .before .before .before .before .before .before .before .before .before .before .before .before .before .before .before .before .before .before .before .before .before .before .args .log .now) }) (c .before .before .before .before .before .before .before .before .before .before .before .before .before .before .before .before .finish-all .ensures),
       blade-here (c .before .before .before .before .before .before .before .before .before .before .before .before .before .before .before .before .before .before .before .before .before .before .before .before .before .before .before .before .before .before .before .before .before .before .before .before .before .before .before .before .before .before .before .before .before .before .before .before .before .before .before .before .before .before .before .before .before .before .before .before .before .before .before .args .s .now) (c .before .before .before .before .before .before .before .before .before .before .before .before .before .before .before .before .before .before .before .before .before .before .before .before .before .before .before .before .before .before .before .before .before .before .before .before .before .before .before .before .before .before .before .before .before .before .before .before .before .before .before .before .before .before .before .before .before .before .before .before .before .before .before .pre .mesh .typed) _ _ _ (c .before .before .before .before .before .before .before .before .before .before .before .before .before .before .before .before .before .before .before .before .before .before .before .before .before .before .before .before .before .before .before .before .before .before .before .before .before .before .before .before .before .before .before .before .before .before .before .before .before .before .before .blade-bit .ensures .is) (c .before .before .before .before .before .before .before .before .before .before .before .before .before .before .before .before .before .before .before .before .before .before .before .before .before .before .before .before .before .before .before .before .before .before .before .before .before .before .before .before .before .before .before .before .before .before .before .before .before .read-blade .ensures),

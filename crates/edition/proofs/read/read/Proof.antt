@@ -31,7 +31,7 @@ slice-aggregate-accept : tie.Need-slice-aggregate-accept
 slice-aggregate-accept c = search needs
 
 accept-requires : tie.Need-accept-requires
-accept-requires c κs = 
+accept-requires c κs =
     let a = c .before .before .before .before .before .before .before .before .before .before .before .before .before .before .before .before .before .before .before .before .before .before .before .before .before .before .before .before .before .before .args in
     let k = c .before .before .before .before .before .before .before .before .before .before .before .before .before .before .before .before .before .before .look-into in
     held (a .limits) (a .s .now) _ (lent (a .points .now) (a .roots .now) (a .corners .now) (a .volumes .now) (a .ends .now) (a .lengths .now) (a .outline .now) []) (length (a .blade .now)) _ _ _ _ (sym (k .ensures .answer) ∙ c .before .before .before .before .before .before .before .before .before .before .before .before .before .before .before .seen .given .1) (sym (c .before .before .before .before .before .before .before .before .before .before .before .before .before .room .ensures) ∙ c .before .before .before .before .before .before .before .before .before .before .before .lent .given .1) (omega (arith, k .kept .1 .1 .0))
@@ -78,7 +78,7 @@ same-length-9 c = c .before .before .before .before .before .before .before .bef
 
 returns : tie.Need-returns
 unfolding worldOf bladeLeft
-returns c = 
+returns c =
     let a = c .before .before .before .before .before .before .before .before .before .before .before .before .before .before .before .before .before .before .before .before .before .before .before .before .before .before .before .before .before .before .before .before .before .before .before .before .before .before .before .before .before .before .before .before .before .before .before .before .before .args in
     record {
       answer = lent-room (a .limits) (a .s .now) (lent (a .points .now) (a .roots .now) (a .corners .now) (a .volumes .now) (a .ends .now) (a .lengths .now) (a .outline .now) (a .log .now)) (length (a .blade .now)) _ _ _ (sym (c .before .before .before .before .before .before .before .before .before .before .before .before .before .before .before .before .before .before .before .before .before .before .before .before .before .before .before .before .before .before .before .before .before .before .before .before .before .look-into .ensures .answer) ∙ c .before .before .before .before .before .before .before .before .before .before .before .before .before .before .before .before .before .before .before .before .before .before .before .before .before .before .before .before .before .before .before .before .before .before .seen .given .1) (sym (c .before .before .before .before .before .before .before .before .before .before .before .before .before .before .before .before .before .before .before .before .before .before .before .before .before .before .before .before .before .before .lent .given .1) ∙ (c .before .before .before .before .before .before .before .before .before .before .before .before .before .before .before .before .before .before .before .before .before .before .before .before .before .before .before .before .before .before .before .before .room .ensures ∙ room-log _ _ (lent (a .points .now) (a .roots .now) (a .corners .now) (a .volumes .now) (a .ends .now) (a .lengths .now) (a .outline .now) (a .log .now)) (length (a .blade .now))));
@@ -115,7 +115,7 @@ same-length-18 c = c .before .before .before .before .before .before .before .be
 
 returns-2 : tie.Need-returns-2
 unfolding worldOf bladeLeft
-returns-2 c = 
+returns-2 c =
     let a = c .before .before .before .before .before .before .before .before .before .before .before .before .before .before .before .before .before .before .before .before .before .before .before .before .before .before .before .before .before .before .before .before .before .before .before .before .before .before .before .before .before .before .before .before .before .before .before .before .args in
     record {
       answer = lent-room (a .limits) (a .s .now) (lent (a .points .now) (a .roots .now) (a .corners .now) (a .volumes .now) (a .ends .now) (a .lengths .now) (a .outline .now) (a .log .now)) (length (a .blade .now)) _ _ _ (sym (c .before .before .before .before .before .before .before .before .before .before .before .before .before .before .before .before .before .before .before .before .before .before .before .before .before .before .before .before .before .before .before .before .before .before .before .before .look-into .ensures .answer) ∙ c .before .before .before .before .before .before .before .before .before .before .before .before .before .before .before .before .before .before .before .before .before .before .before .before .before .before .before .before .before .before .before .before .before .seen .given .1) (sym (c .before .before .before .before .before .before .before .before .before .before .before .before .before .before .before .before .before .before .before .before .before .before .before .before .before .before .before .before .before .lent2 .given .1) ∙ (c .before .before .before .before .before .before .before .before .before .before .before .before .before .before .before .before .before .before .before .before .before .before .before .before .before .before .before .before .before .before .before .room .ensures ∙ room-log _ _ (lent (a .points .now) (a .roots .now) (a .corners .now) (a .volumes .now) (a .ends .now) (a .lengths .now) (a .outline .now) (a .log .now)) (length (a .blade .now))));
@@ -152,7 +152,7 @@ same-length-27 c = c .before .before .before .before .before .before .before .be
 
 returns-3 : tie.Need-returns-3
 unfolding worldOf bladeLeft
-returns-3 c = 
+returns-3 c =
     let a = c .before .before .before .before .before .before .before .before .before .before .before .before .before .before .before .before .before .before .before .before .before .before .before .before .before .before .before .before .before .before .before .before .before .before .before .before .before .before .before .before .before .before .before .before .args in
     record {
       answer = lent-refused (a .limits) (a .s .now) (lent (a .points .now) (a .roots .now) (a .corners .now) (a .volumes .now) (a .ends .now) (a .lengths .now) (a .outline .now) (a .log .now)) (length (a .blade .now)) _ (sym (c .before .before .before .before .before .before .before .before .before .before .before .before .before .before .before .before .before .before .before .before .before .before .before .before .before .before .before .before .before .before .before .before .look-into .ensures .answer) ∙ c .before .before .before .before .before .before .before .before .before .before .before .before .before .before .before .before .before .before .before .before .before .before .before .before .before .before .before .before .before .seen2 .given .1);

@@ -22,21 +22,21 @@ add-at-e : tie.Need-add-at-e
 add-at-e c = omega (arith, mesh-few (c .before .before .before .before .before .before .before .before .before .before .before .pre), c .before .start-bit .ensures)
 
 read-particles-requires : tie.Need-read-particles-requires
-read-particles-requires c κs = 
+read-particles-requires c κs =
     let q = c .before .before .before .before .before .before .before .before .before .before .before .before .before .pre in
     let f = mesh-few q in
     let e = c .before .before .before .start-bit .ensures in
     record { rows = record { room = omega arith; small = omega arith }; room = record { points = q .room .points; roots = q .room .roots } }
 
 read-triangles-requires : tie.Need-read-triangles-requires
-read-triangles-requires c κs = 
+read-triangles-requires c κs =
     let q = c .before .before .before .before .before .before .before .before .before .before .before .before .before .before .before .before .before .before .before .before .before .pre in
     let f = mesh-few q in
     let e = c .before .before .before .before .before .before .before .before .before .before .before .start-bit .ensures in
     record { rows = record { room = omega arith; small = omega arith }; names = mesh-names q (c .before .before .before .before .before .before .before .before .before .before .before .start-bit .result) e .0; points = omega (arith, q .room .points, c .before .before .before .before .before .before .before .read-particles .kept .1 .1 .1 .0); corners = q .room .corners; volumes = q .room .volumes }
 
 read-edges-requires : tie.Need-read-edges-requires
-read-edges-requires c κs = 
+read-edges-requires c κs =
     let q = c .before .before .before .before .before .before .before .before .before .before .before .before .before .before .before .before .before .before .before .before .before .before .before .before .before .before .before .before .before .pre in
     let f = mesh-few q in
     let e = c .before .before .before .before .before .before .before .before .before .before .before .before .before .before .before .before .before .before .before .start-bit .ensures in
@@ -67,7 +67,7 @@ same-length-7 : tie.Need-same-length-7
 same-length-7 c = c .before .before .copy-sides .kept .1 .1 .0
 
 returns : tie.Need-returns
-returns c = 
+returns c =
     let a = c .before .before .before .before .before .before .before .before .before .before .before .before .before .before .before .before .before .before .before .before .before .before .before .before .before .before .before .before .before .before .before .before .before .before .before .before .before .before .args in
     let q = c .before .before .before .before .before .before .before .before .before .before .before .before .before .before .before .before .before .before .before .before .before .before .before .before .before .before .before .before .before .before .before .before .before .before .before .before .before .before .pre in
     mesh-here (a .s .now) (q .typed) (a .c) _ _ _ _ _ _ _ (a .found .now) (c .before .before .before .before .before .before .before .before .before .before .before .before .before .before .before .before .before .before .before .before .before .before .before .before .before .before .before .before .start-bit .result) (c .before .before .before .before .before .before .before .before .before .before .before .before .before .before .before .before .before .before .before .before .before .before .before .before .before .before .before .before .start-bit .ensures) (q .particles) (q .triangles) (q .edges) (c .before .before .before .before .before .before .before .before .before .before .before .before .before .before .before .before .before .before .before .before .before .before .before .before .read-particles .ensures) (c .before .before .before .before .before .before .before .before .before .before .before .before .before .before .before .before .read-triangles .ensures) (c .before .before .before .before .before .before .before .before .read-edges .ensures) (c .before .before .copy-sides .ensures) (q .sides)
