@@ -134,7 +134,7 @@ module _ (l : List ℕ) (h : AllBits l) (two : second l ≡ true) (room : 45 ≤
   all-zeros (suc n) zero = omega arith
   all-zeros (suc n) (suc i) = all-zeros n i
 
-  first-bits : AllBits (asFirst l)
+  pub first-bits : AllBits (asFirst l)
   unfolding asFirst
   first-bits = all-append A (replicate 12 0 ++ D) (bits-take 34 (drop 11 l) (bits-drop 11 l h)) (all-append (replicate 12 0) D (all-zeros 12) (bits-drop 45 l h))
 
@@ -146,7 +146,7 @@ module _ (l : List ℕ) (h : AllBits l) (two : second l ≡ true) (room : 45 ≤
       let d : drop 34 (A ++ (z ++ D)) ≡ z ++ D = drop-at A (z ++ D) 34 A-long in
       ap (λ (x : List ℕ). num (take 12 x)) d ∙ ap num (take-at z D 12 (length-replicate {A = ℕ} 12 0)) ∙ num-zeros 12
 
-  first-long : length (asFirst l) ≡ length l + 1
+  pub first-long : length (asFirst l) ≡ length l + 1
   unfolding asFirst
   first-long =
       let z = replicate {A = ℕ} 12 0 in

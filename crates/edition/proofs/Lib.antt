@@ -5,5 +5,6 @@ pub mod Found
 pub mod Meshes
 pub mod Entering
 pub mod Putting
+pub mod Trips
 pub mod Agree
 pub mod Cases
