@@ -3,11 +3,11 @@ use mathlib.Core.Path.{_≡_, refl, sym, _∙_, ap, subst}
 use mathlib.Core.Bool.{true, false}
 use mathlib.Core.Logic.{inl, inr, ⊎-elim}
 use mathlib.Core.List.{List}
-use Prim.Native.Nat.{ℕ, suc, _+_, _*_, _/_, _-_, _<_, _≤_}
+use Prim.Native.Nat.{ℕ, suc, _+_, _*_, _/_, _%_, _-_, _<_, _≤_}
 use native.Mathlib.Omega.{arith}
 use native.Mathlib.Nat.{not-suc-le-zero, mul-add-div-right, div-eq-of-lt, div-lt-iff-lt-mul}
 use native.Mathlib.Decide.{ℕ-discrete, decLt}
-use borrow.Author.Tests.{eq-eqb, eqb-true}
+use borrow.Author.Tests.{eq-eqb, ne-eqb, eqb-true, lt-ltb}
 use lib.Dec.{eqb}
 use lib.ListN.{length, getD, set, length-set}
 use Rattle.lists.specs.Lists.{stands, upTo}
@@ -30,7 +30,7 @@ use Rattle.reach.proofs.Tables.{row-is}
 use Rattle.model.specs.Pieces.{pieceLabels, pieceCount}
 use Rattle.pieces.specs.Classes.{Share, Classes}
 use Rattle.pieces.specs.Counted.{PiecesCounted}
-use Rattle.pieces.specs.Places.{rowsShare, LastBefore, Linked, Heads, Met, tops}
+use Rattle.pieces.specs.Places.{rowsShare, LastBefore, Linked, Heads, walked, Met, tops}
 use Rattle.pieces.proofs.Counts.{upTo-once, classes-map}
 use Rattle.pieces.proofs.Pieces.{sift-differ, sharing, Facet, sharing-share, share-sharing, share-turned, facet-shares, share-facets, count-only}
 
@@ -110,6 +110,7 @@ module _ (n k : ℕ) (verts : List ℕ) where
         earlier = M .earlier;
         before = M .before;
         inside = M .inside;
+        walks = M .walks;
         met = ⊎-elim (λ l. inl l) (λ q. inr (q .0, (let g = q .1 in omega arith))) (M .met);
         same = M .same;
         first = M .first;
@@ -125,6 +126,7 @@ module _ (n k : ℕ) (verts : List ℕ) where
         earlier = M .earlier;
         before = M .before;
         inside = M .inside;
+        walks = M .walks;
         met = ⊎-elim (λ l. inl l) (λ q. inr (q .0, h (q .0) (q .1))) (M .met);
         same = M .same;
         first = M .first;
@@ -168,11 +170,11 @@ module _ (n k : ℕ) (verts : List ℕ) where
       T
 
   -- and whose element does: the two are joined
-  pub met-join : {t s : ℕ} {p q : List ℕ} → s < t → t < n * k → getD verts s 0 ≡ getD verts t 0 → rowsShare k verts (t / k) (s / k) ≡ true
+  pub met-join : {t s : ℕ} {p q : List ℕ} → s < t → t < n * k → walked k t ≡ true → getD verts s 0 ≡ getD verts t 0 → rowsShare k verts (t / k) (s / k) ≡ true
       → Joined p (t / k) (s / k) q → Tied (Met n k verts t (suc s)) p → Tied (Met n k verts t s) q
-  met-join {t} {s} o l same facet J T =
+  met-join {t} {s} o l walks same facet J T =
       tied-join (t / k) (s / k) T J (λ a b M. met-wider (omega arith) a b M)
-      (record { later = t; earlier = s; before = o; inside = l; met = inr (refl, omega arith); same = same; first = refl; second = refl; shared = facet })
+      (record { later = t; earlier = s; before = o; inside = l; walks = walks; met = inr (refl, omega arith); same = same; first = refl; second = refl; shared = facet })
       (λ a b M.
       elim (ℕ-discrete (M .later) t) [
         | yes i ↦
@@ -193,6 +195,7 @@ module _ (n k : ℕ) (verts : List ℕ) where
         earlier = M .earlier;
         before = M .before;
         inside = M .inside;
+        walks = M .walks;
         met = inl (⊎-elim (λ l. omega arith) (λ q. let e = q .0 in omega arith) (M .met));
         same = M .same;
         first = M .first;
@@ -205,10 +208,53 @@ module _ (n k : ℕ) (verts : List ℕ) where
         earlier = M .earlier;
         before = M .before;
         inside = M .inside;
+        walks = M .walks;
         met = ⊎-elim
             (λ l.
             elim (ℕ-discrete (M .later) t) [
               | yes i ↦ inr (i, omega arith)
+              | no i ↦ inl (omega arith)
+            ])
+            (λ q. let e = q .0 in let g = q .1 in let o = M .before in absurd (omega arith))
+            (M .met);
+        same = M .same;
+        first = M .first;
+        second = M .second;
+        shared = M .shared;
+      })
+      T
+
+  -- a place that no walk begins from meets nothing
+  pub met-unwalked : {t : ℕ} {p : List ℕ} → walked k t ≡ false → Tied (Met n k verts t t) p → Tied (Met n k verts (t + 1) (t + 1)) p
+  met-unwalked {t} off T =
+      tied-map
+      (λ a b M.
+      record {
+        later = M .later;
+        earlier = M .earlier;
+        before = M .before;
+        inside = M .inside;
+        walks = M .walks;
+        met = inl (⊎-elim (λ l. omega arith) (λ q. let e = q .0 in omega arith) (M .met));
+        same = M .same;
+        first = M .first;
+        second = M .second;
+        shared = M .shared;
+      })
+      (λ a b M.
+      record {
+        later = M .later;
+        earlier = M .earlier;
+        before = M .before;
+        inside = M .inside;
+        walks = M .walks;
+        met = ⊎-elim
+            (λ l.
+            elim (ℕ-discrete (M .later) t) [
+              | yes i ↦
+                  let d : walked k t ≡ true = subst (λ (x : ℕ). walked k x ≡ true) i (M .walks) in
+                  let z : _≡_ {A = ℕ} 0 1 = cc in
+                  absurd (omega arith)
               | no i ↦ inl (omega arith)
             ])
             (λ q. let e = q .0 in let g = q .1 in let o = M .before in absurd (omega arith))
@@ -241,25 +287,34 @@ module _ (n k : ℕ) (verts : List ℕ) where
         subst (λ (l : List ℕ). Tied (Met n k verts t f) l) (sym d)
         (met-skip (omega arith) link-at (met-pass no-facet (subst (λ (m : ℕ). Tied (Met n k verts t m) p) u T)))
 
-    pub walk-join : {p q r : List ℕ} → t < n * k → rowsShare k verts (t / k) ((e - 1) / k) ≡ true → Joined p (t / k) ((e - 1) / k) r → q ≡ r
+    pub walk-join : {p q r : List ℕ} → t < n * k → walked k t ≡ true → rowsShare k verts (t / k) ((e - 1) / k) ≡ true → Joined p (t / k) ((e - 1) / k) r → q ≡ r
         → Tied (Met n k verts t e) p → Tied (Met n k verts t f) q
-    walk-join {p} l facet J d T =
+    walk-join {p} l walks facet J d T =
         let u : e ≡ suc (e - 1) = omega arith in
         subst (λ (l : List ℕ). Tied (Met n k verts t f) l) (sym d)
-        (met-skip (omega arith) link-at (met-join (omega arith) l here facet J (subst (λ (m : ℕ). Tied (Met n k verts t m) p) u T)))
+        (met-skip (omega arith) link-at (met-join (omega arith) l walks here facet J (subst (λ (m : ℕ). Tied (Met n k verts t m) p) u T)))
 
     -- the same, where the two elements are known by other terms
     pub walk-pass-at : {i j : ℕ} {p q : List ℕ} → i ≡ t / k → j ≡ (e - 1) / k → rowsShare k verts i j ≡ false → q ≡ p → Tied (Met n k verts t e) p → Tied (Met n k verts t f) q
     walk-pass-at {i} {j} a b no-facet d T =
         walk-pass (subst (λ (y : ℕ). rowsShare k verts (t / k) y ≡ false) b (subst (λ (x : ℕ). rowsShare k verts x j ≡ false) a no-facet)) d T
 
-    pub walk-join-at : {i j : ℕ} {p q r : List ℕ} → i ≡ t / k → j ≡ (e - 1) / k → t < n * k → rowsShare k verts i j ≡ true → Joined p i j r → q ≡ r
+    pub walk-join-at : {i j : ℕ} {p q r : List ℕ} → i ≡ t / k → j ≡ (e - 1) / k → t < n * k → walked k t ≡ true → rowsShare k verts i j ≡ true → Joined p i j r → q ≡ r
         → Tied (Met n k verts t e) p → Tied (Met n k verts t f) q
-    walk-join-at {i} {j} {p} {q} {r} a b l facet J d T =
-        walk-join l (subst (λ (y : ℕ). rowsShare k verts (t / k) y ≡ true) b (subst (λ (x : ℕ). rowsShare k verts x j ≡ true) a facet))
+    walk-join-at {i} {j} {p} {q} {r} a b l walks facet J d T =
+        walk-join l walks (subst (λ (y : ℕ). rowsShare k verts (t / k) y ≡ true) b (subst (λ (x : ℕ). rowsShare k verts x j ≡ true) a facet))
         (subst (λ (y : ℕ). Joined p (t / k) y r) b (subst (λ (x : ℕ). Joined p x j r) a J)) d T
 
 -- ---- the pairs that are met, and the elements that share a facet
+
+-- every corner but the third of a triangle is the start of a walk
+walked-other : (k t : ℕ) → (k ≡ 3 → ⊥) → walked k t ≡ true
+unfolding walked
+walked-other k t d = rw (ne-eqb k 3 d)
+
+walked-three : (k a c : ℕ) → k ≡ 3 → c < 2 → walked k (a * k + c) ≡ true
+unfolding walked
+walked-three k a c e l = let h : (a * 3 + c) % 3 < 2 = omega arith in rw e (lt-ltb ((a * 3 + c) % 3) 2 h)
 
 module _ {n k : ℕ} {es : List Element} {verts : List ℕ} (C : Cornered k es n verts) (plain : Plain es) (two : 2 ≤ k) where
   share-is : (i j : ℕ) → i < n → j < n → rowsShare k verts i j ≡ sharing k es i j
@@ -273,16 +328,43 @@ module _ {n k : ℕ} {es : List Element} {verts : List ℕ} (C : Cornered k es n
       let m : b < n = subst (λ (x : ℕ). x < n) (M .second) (place-in n k (M .earlier) (omega arith) (let h = M .inside in omega arith)) in
       ahead (sharing-share k es plain a b (omega (arith, C .count)) (omega (arith, C .count)) (sym (share-is a b l m) ∙ M .shared)) stay
 
+  -- of an element's corners that are in another one is the start of a walk
+  chosen : (a b : ℕ) (S : Share k es a b) → (c : ℕ) × ((c < k) × ((walked k (a * k + c) ≡ true) × (stands (getD verts (a * k + c) 0) (S .particles) ≡ true)))
+  chosen a b S =
+      let enough = S .enough in
+      let ps = S .particles in
+      let x = getD ps 0 0 in
+      let tx : stands x ps ≡ true = stands-made x ps 0 (omega arith) refl in
+      let u = corner-held C a x (S .first, S .in-first x tx) in
+      let cu = u .1 .0 in
+      elim (ℕ-discrete k 3) [
+        | no d ↦ (u .0, (cu, (walked-other k (a * k + u .0) d, rw (u .1 .1) tx)))
+        | yes e ↦
+            let l : 1 < length ps = omega arith in
+            let y = getD ps 1 0 in
+            let ty : stands y ps ≡ true = stands-made y ps 1 l refl in
+            let w = corner-held C a y (S .first, S .in-first y ty) in
+            let cw = w .1 .0 in
+            elim (decLt (u .0) 2) [
+              | yes o ↦ (u .0, (cu, (walked-three k a (u .0) e o, rw (u .1 .1) tx)))
+              | no o ↦
+                  elim (ℕ-discrete (u .0) (w .0)) [
+                    | yes s ↦
+                        let q : x ≡ y = sym (u .1 .1) ∙ ap (λ (c : ℕ). getD verts (a * k + c) 0) s ∙ w .1 .1 in
+                        absurd (let z = once-same ps (S .differ) 0 1 (omega arith) l q in omega arith)
+                    | no s ↦ (w .0, (cw, (walked-three k a (w .0) e (omega arith), rw (w .1 .1) ty)))
+                  ]
+            ]
+      ]
+
   -- two elements, the later first, are met at a particle of both
   met-below : (a b : ℕ) → b < a → Share k es a b → Met n k verts (n * k) (n * k) a b
   met-below a b o S =
       let la : a < n = omega (arith, C .count, S .first) in
       let lb : b < n = omega (arith, C .count, S .second) in
-      let enough = S .enough in
-      let x = getD (S .particles) 0 0 in
-      let t : stands x (S .particles) ≡ true = stands-made x (S .particles) 0 (omega arith) refl in
-      let u = corner-held C a x (S .first, S .in-first x t) in
-      let w = corner-held C b x (S .second, S .in-second x t) in
+      let u = chosen a b S in
+      let x = getD verts (a * k + u .0) 0 in
+      let w = corner-held C b x (S .second, S .in-second x (u .1 .1 .1)) in
       let cu = u .1 .0 in
       let cw = w .1 .0 in
       let in-row : a * k + u .0 < n * k = omega (arith, row-before k a n la) in
@@ -291,8 +373,9 @@ module _ {n k : ℕ} {es : List Element} {verts : List ℕ} (C : Cornered k es n
         earlier = b * k + w .0;
         before = omega (arith, row-before k b a o);
         inside = in-row;
+        walks = u .1 .1 .0;
         met = inl in-row;
-        same = w .1 .1 ∙ sym (u .1 .1);
+        same = w .1 .1;
         first = place-of k a (u .0) cu;
         second = place-of k b (w .0) cw;
         shared = share-is a b la lb ∙ share-sharing k es plain a b S;

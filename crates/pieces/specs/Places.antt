@@ -1,13 +1,13 @@
 -- Only proofs and the contracts between workers need this file: the places of a table, each linked to the last before it with the same particle, and
 -- the pairs of elements that a walk along these links meets. Definitions only.
-use Prim.Native.Nat.{ℕ, suc, _*_, _/_, _<_, _≤_}
+use Prim.Native.Nat.{ℕ, suc, _*_, _/_, _%_, _<_, _≤_}
 use mathlib.Core.Path.{_≡_}
 use mathlib.Core.Bool.{Bool, true}
 use mathlib.Core.Logic.{_⊎_}
 use mathlib.Core.List.{List}
-use lib.Dec.{eqb}
+use lib.Dec.{eqb, ltb}
 use lib.ListN.{length, getD}
-use Rattle.lists.specs.Lists.{sift, upTo}
+use Rattle.lists.specs.Lists.{pick, sift, upTo}
 use Rattle.pieces.specs.Tables.{Tied}
 use Rattle.reach.specs.Walk.{row, Rows}
 use Rattle.model.specs.Pieces.{together}
@@ -40,12 +40,18 @@ pub record LinkRoom (m : ℕ) (verts : List ℕ) (particles links : ℕ) : Type 
 
 -- ---- pairs
 
--- Elements a and b share a facet and stand at two places with the same particle, of which the later is below m, or is m and the earlier not below e.
+-- Is the walk begun from place t? Of a triangle's corners the third is left out: two triangles that share two particles share one of any two corners.
+unfoldable pub walked : ℕ → ℕ → Bool
+walked k t = pick (eqb k 3) (ltb (t % 3) 2) true
+
+-- Elements a and b share a facet and stand at two places with the same particle, of which the later is one that a walk begins from and is below m, or is m and the
+-- earlier not below e.
 pub record Met (n k : ℕ) (verts : List ℕ) (m e a b : ℕ) : Type 0 where
   pub later : ℕ
   pub earlier : ℕ
   pub before : earlier < later
   pub inside : later < n * k
+  pub walks : walked k later ≡ true
   pub met : (later < m) ⊎ ((later ≡ m) × (e ≤ earlier))
   pub same : getD verts earlier 0 ≡ getD verts later 0
   pub first : later / k ≡ a
@@ -58,6 +64,7 @@ pub record PlaceStep (n k : ℕ) (verts link : List ℕ) (t : ℕ) (parent : Lis
   pub link-room : n * k ≤ length link
   pub linked : Linked verts link (n * k)
   pub inside : t < n * k
+  pub walks : walked k t ≡ true
   pub long : length parent ≡ n
   pub tied : Tied (Met n k verts t t) parent
 

@@ -8,7 +8,7 @@ ghost use Rattle.pieces.specs.Tables.{Tied};
 ghost use Rattle.reach.specs.Walk.{Rows};
 ghost use Rattle.model.specs.Pieces.{sharedOf};
 ghost use Rattle.pieces.specs.Counted.{Lent, PiecesCounted};
-ghost use Rattle.pieces.specs.Places.{rowsShare, Linked, LinkRoom, Met, PlaceStep, AllPlaces, tops};
+ghost use Rattle.pieces.specs.Places.{rowsShare, Linked, LinkRoom, walked, Met, PlaceStep, AllPlaces, tops};
 
 // How many of a stand in b.
 fn shared(a: &[usize], b: &[usize]) -> usize
@@ -83,6 +83,16 @@ fn join_place(n: usize, k: usize, verts: &[usize], link: &[usize], t: usize, par
     }
 }
 
+// Is the walk begun from place t? Of a triangle's corners the third is left out: two triangles that share two particles share one of any two corners.
+fn begins_walk(k: usize, t: usize) -> bool
+    ensures { λ r. ⌜ r ≡ walked k t ⌝ }
+{
+    if k == 3 {
+        return t % 3 < 2;
+    }
+    true
+}
+
 // Joins all elements that share a facet, and no more.
 fn join_places(n: usize, k: usize, verts: &[usize], link: &[usize], parent: &mut [usize])
     requires { ⌜ AllPlaces n k (now verts) (now link) (length (now parent)) ⌝ }
@@ -92,7 +102,9 @@ fn join_places(n: usize, k: usize, verts: &[usize], link: &[usize], parent: &mut
     let m = n * k;
     let mut t = 0;
     while t < m {
-        join_place(n, k, verts, link, t, parent);
+        if begins_walk(k, t) {
+            join_place(n, k, verts, link, t, parent);
+        }
         t += 1;
     }
 }

@@ -106,7 +106,7 @@ loop-again c =
       omega arith,
       walk-has (A .n) (A .k) verts l g (L .inv .1) K,
       ap (λ (p : List ℕ). length p) (w .5) ∙ w .2 .ensures .long ∙ L .inv .2,
-      walk-join-at (A .n) (A .k) verts l g (L .inv .1) K (E .ensures) (D .ensures) (P .inside) (sym (S .ensures) ∙ w .0 .taken) (w .2 .ensures) (w .5) (L .inv .3),
+      walk-join-at (A .n) (A .k) verts l g (L .inv .1) K (E .ensures) (D .ensures) (P .inside) (P .walks) (sym (S .ensures) ∙ w .0 .taken) (w .2 .ensures) (w .5) (L .inv .3),
     ))
     (λ w. (
       omega arith,
