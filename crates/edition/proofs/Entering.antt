@@ -1,7 +1,7 @@
 -- How an accepted reading begins: what the answer to a sheet tells, and the room that was found. Assumes nothing.
-use Prim.Native.Nat.{ℕ, _+_, _*_, _/_, _≤_}
+use Prim.Native.Nat.{ℕ, _/_, _≤_}
 use mathlib.Core.Path.{_≡_, refl, sym, ap, _∙_, subst}
-use mathlib.Core.Bool.{Bool, true, false, cond, _&&_, _||_}
+use mathlib.Core.Bool.{Bool, true, false, cond, _&&_}
 use mathlib.Core.List.{List}
 use native.Mathlib.Omega.{arith}
 use borrow.Author.Tests.{leb-true, ltb-false}
@@ -17,7 +17,7 @@ use Rattle.sheet.specs.declared.Seen.the-variants.{Whole as TypedWhole, Refused
 use Rattle.sheet.proofs.PutLaws.{both, neither}
 use Rattle.edition.specs.Edition.{bitsIn, sheetOf, overlong, typedSeen, seenIn, seenOf}
 use Rattle.edition.specs.Reading.{roomFor, lentOf}
-use Rattle.edition.specs.Work.{TypedIn, Held}
+use Rattle.edition.specs.Work.{Held}
 use Rattle.edition.specs.declared.Seen.{Seen}
 use Rattle.edition.specs.declared.Seen.the-variants.{Whole, Refused}
 use Rattle.edition.proofs.Starts.{typed-in}

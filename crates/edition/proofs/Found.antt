@@ -1,27 +1,23 @@
 -- The outline that a sheet is read with, and the answer to the sheet, from what the workers found. Assumes nothing.
 use Prim.Native.Nat.{ℕ, zero, suc, _+_, _*_, _/_, _≤_}
 use mathlib.Core.Path.{_≡_, refl, sym, ap, ap₂, _∙_, subst}
-use mathlib.Core.Bool.{Bool, true, false, not, _||_}
-use mathlib.Core.List.{List, [], _∷_}
+use mathlib.Core.Bool.{Bool, true, false, not}
+use mathlib.Core.List.{List}
 use native.Mathlib.Omega.{arith}
-use lib.Dec.{ltb}
 use lib.ListN.{length, take, drop}
 use lib.Seq.{length-take-le}
-use Rattle.lists.specs.Lists.{pick}
 use Rattle.bits.specs.Bits.{bitsOf}
 use Rattle.bits.specs.Rows.{readRows}
 use Rattle.bits.proofs.RowLaws.{length-read}
 use Rattle.outline.specs.Outline.{outlineOf, outlineOfTriangles, outlineOfStraps, sameSides, settled}
 use Rattle.outline.specs.Rows.{sidesAt, Listed, Even, SettledBy}
 use Rattle.outline.specs.declared.Settled.{Settled}
-use Rattle.sheet.specs.Sheet.{countsAt, sheetWith, endOf, triangleW, edgeW, boundaryW, atTriangles, atEdges, atBoundary}
+use Rattle.sheet.specs.Sheet.{sheetWith, endOf, triangleW, edgeW, boundaryW, atTriangles, atEdges, atBoundary}
 use Rattle.sheet.specs.declared.Counts.{Counts}
-use Rattle.sheet.specs.declared.Seen.{Seen as Typed}
 use Rattle.sheet.specs.declared.Seen.the-variants.{Whole as TypedWhole, Refused as TypedRefused}
 use Rattle.sheet.proofs.There.{limits}
 use Rattle.edition.specs.Edition.{second, bitsIn, typedOf, sheetOf, ownOf, outlineIn, replacedIn, bytesIn, overlong, typedSeen, seenIn, seenOf}
 use Rattle.edition.specs.Work.{startOf, TypedIn, OutlineFound}
-use Rattle.edition.specs.declared.Seen.{Seen}
 use Rattle.edition.specs.declared.Seen.the-variants.{Whole, Refused}
 use Rattle.edition.proofs.Starts.{starts-at, header-bits}
 use Rattle.edition.proofs.Sides.{own-few, sides-long}

@@ -1,21 +1,19 @@
 -- The lists that rows by their places make, and an outline from a block, are the mesh of the sheet as it is read. Assumes nothing.
-use Prim.Native.Nat.{ℕ, _+_, _*_, _/_, _≤_}
+use Prim.Native.Nat.{ℕ, _+_, _*_, _≤_}
 use mathlib.Core.Path.{_≡_, refl, sym, ap, _∙_, subst}
 use mathlib.Core.Bool.{Bool, true, false}
-use mathlib.Core.List.{List, [], _∷_, map}
+use mathlib.Core.List.{List, [], _∷_}
 use native.Mathlib.Omega.{arith}
 use lib.ListN.{length, drop}
 use lib.Seq.{drop-drop}
 use lib.Ieee.{Float}
 use Rattle.lists.specs.Lists.{tab, padded}
 use Rattle.float.specs.Numbers.{zero32}
-use Rattle.blade.specs.declared.Point.{Point}
-use Rattle.model.specs.Mesh.{Particle, Triangle, Edge, Side, Mesh}
-use Rattle.mesh.specs.At.{particlesAt, trianglesAt, edgesAt, boundaryAt, meshAt}
+use Rattle.mesh.specs.At.{particlesAt, trianglesAt, edgesAt, meshAt}
 use Rattle.bits.specs.Bits.{bitsOf, fieldAt}
-use Rattle.bits.specs.Rows.{total, unpack, readRows}
+use Rattle.bits.specs.Rows.{unpack, readRows}
 use Rattle.outline.specs.Rows.{sidesAt}
-use Rattle.sheet.specs.Sheet.{Sheet, countsAt, sheetWith, particleW, triangleW, edgeW, bladeW, atTriangles, atEdges, atBlade}
+use Rattle.sheet.specs.Sheet.{countsAt, sheetWith, particleW, triangleW, edgeW, atTriangles, atEdges, atBlade}
 use Rattle.sheet.specs.Work.{okAt, pointIn, particleBits, triangleBits, edgeBits}
 use Rattle.sheet.specs.Read.{particlesFrom, trianglesFrom, edgesFrom, boundaryFrom, placeIn, meshOfSheet, bladeOfSheet, floatOf, countsFor}
 use Rattle.sheet.specs.declared.Counts.{Counts}

@@ -1,24 +1,22 @@
 -- Laws of a sheet written in the second edition, part by part, and of what a writer answers. Assumes nothing.
-use Prim.Native.Nat.{ℕ, zero, suc, _+_, _-_, _*_, _/_, _≤_, _<_}
-use mathlib.Core.Path.{_≡_, refl, sym, ap, ap₂, _∙_, subst}
-use mathlib.Core.Bool.{Bool, true, false, cond, _&&_}
+use Prim.Native.Nat.{ℕ, zero, suc, _+_, _-_, _*_, _≤_}
+use mathlib.Core.Path.{_≡_, refl, sym, ap, ap₂, _∙_}
+use mathlib.Core.Bool.{Bool, true, false, cond}
 use mathlib.Core.List.{List, [], _∷_, _++_, append-assoc, append-nil}
 use native.Mathlib.Omega.{arith}
 use borrow.Author.Tests.{le-leb, leb-true}
 use lib.Dec.{ltb, leb}
-use lib.ListN.{length, getD, replicate, length-append}
+use lib.ListN.{length, replicate, length-append}
 use lib.Seq.{sets}
 use Rattle.lists.specs.Lists.{tab, padded}
 use Rattle.columns.proofs.Rows.{tab-ext}
 use Rattle.bits.specs.Bits.{bits}
 use Rattle.bits.specs.Rows.{total, pack, writeRows, rowsOf}
-use Rattle.bits.proofs.Laws.{length-bits}
 use Rattle.bits.proofs.RowLaws.{sets-then, length-pack, length-writeRows}
 use Rattle.outline.specs.Outline.{outlineOf}
 use Rattle.outline.specs.Rows.{rows3, row3}
 use Rattle.sheet.specs.Sheet.{Sheet, Columns, sheetFrom, countsIn, particleW, triangleW, edgeW, bladeW, endOf, bytesOf, evenOf, tooMany, fitOf, namesOK}
 use Rattle.sheet.specs.Sheet as S
-use Rattle.sheet.specs.declared.Counts.{Counts}
 use Rattle.sheet.specs.Work.{Even, Small}
 use Rattle.sheet.proofs.PutLaws.{length-rowsOf, sets-zeros, even-from, not-many, accepted}
 use Rattle.sheet.proofs.There.{limits}

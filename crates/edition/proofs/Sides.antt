@@ -1,13 +1,12 @@
 -- Rows of names read as columns, and the sides of an outline's block as boundary entries. Assumes nothing.
-use Prim.Native.Nat.{ℕ, zero, suc, _+_, _*_, _/_, _≤_}
-use mathlib.Core.Path.{_≡_, refl, sym, ap, ap₂, _∙_, subst}
-use mathlib.Core.Bool.{Bool, true, false}
+use Prim.Native.Nat.{ℕ, zero, suc, _+_, _*_, _≤_}
+use mathlib.Core.Path.{_≡_, refl, sym, ap, _∙_}
 use mathlib.Core.List.{List, [], _∷_, _++_, map}
 use native.Mathlib.Omega.{arith}
 use lib.ListN.{length, take, drop, length-append, length-map}
 use lib.Seq.{drop-drop, take-at}
 use lib.Dec.{eqb}
-use Rattle.lists.specs.Lists.{pick, tab, sift, each}
+use Rattle.lists.specs.Lists.{tab, sift, each}
 use Rattle.lists.proofs.Sifts.{sift-length}
 use Rattle.columns.proofs.Rows.{tab-ext, tab-length, map-tab}
 use Rattle.model.specs.Mesh.{Side}
@@ -16,9 +15,9 @@ use Rattle.bits.specs.Bits.{fieldAt}
 use Rattle.bits.specs.Rows.{total, unpack, readRows, columnAt}
 use Rattle.bits.proofs.RowLaws.{length-column}
 use Rattle.outline.specs.Outline.{at, facesOf, single, outlineOfTriangles, outlineOfStraps, outlineOf}
-use Rattle.outline.specs.Rows.{rows3, row3, sidesAt}
+use Rattle.outline.specs.Rows.{rows3, sidesAt}
 use Rattle.sheet.specs.Sheet.{boundaryW}
-use Rattle.sheet.specs.Read.{boundaryFrom, sideFrom}
+use Rattle.sheet.specs.Read.{boundaryFrom}
 use Rattle.sheet.specs.Work.{sideBits}
 use Rattle.sheet.proofs.MeshReads.{read-tab}
 

@@ -1,5 +1,5 @@
 -- Places behind the header of a sheet of either edition, and what a whole sheet tells. Assumes nothing.
-use Prim.Native.Nat.{ℕ, _+_, _-_, _*_, _/_, _≤_}
+use Prim.Native.Nat.{ℕ, _+_, _-_, _*_, _≤_}
 use mathlib.Core.Path.{_≡_, refl, sym, ap, _∙_, subst}
 use mathlib.Core.Bool.{Bool, true, false, cond, _||_}
 use mathlib.Core.List.{List}
@@ -14,10 +14,10 @@ use Rattle.sheet.specs.Sheet.{countsAt, sheetWith, tooMany, above, namesOK, end
 use Rattle.sheet.specs.Work.{okAt}
 use Rattle.sheet.specs.declared.Counts.{Counts}
 use Rattle.sheet.specs.declared.Seen.the-variants.{Whole as TypedWhole, Refused as TypedRefused}
-use Rattle.sheet.proofs.PutLaws.{neither, not-many}
+use Rattle.sheet.proofs.PutLaws.{neither}
 use Rattle.sheet.proofs.SeenLaws.{names-at}
 use Rattle.sheet.proofs.MeshReads.{names-parts}
-use Rattle.edition.specs.Edition.{second, asFirst, bitsIn, bytesIn, endIn, spareIn, typedWith, typedSeen}
+use Rattle.edition.specs.Edition.{second, asFirst, bitsIn, bytesIn, spareIn, typedWith, typedSeen}
 use Rattle.edition.specs.Work.{startOf, TypedIn}
 use Rattle.edition.proofs.Editions.{behind, rows-behind}
 

@@ -1,15 +1,15 @@
 -- On bytes, in the second edition: what was written is read as what was handed in, and what is read is written again byte for byte. Assumes nothing.
-use Prim.Native.Nat.{ℕ, zero, suc, _+_, _-_, _*_, _/_, _^_, _<_, _≤_}
+use Prim.Native.Nat.{ℕ, zero, suc, _+_, _-_, _*_, _^_, _<_, _≤_}
 use mathlib.Core.Path.{_≡_, refl, sym, ap, ap₂, _∙_, subst}
-use mathlib.Core.Bool.{Bool, true, false, cond, _&&_, _||_}
+use mathlib.Core.Bool.{Bool, true, false}
 use mathlib.Core.List.{List, [], _∷_, _++_}
 use native.Mathlib.Omega.{arith}
 use native.Mathlib.Nat.{zero-div}
 use borrow.Author.Tests.{le-ltb, le-leb, eq-eqb}
-use lib.Dec.{eqb, ltb, leb}
-use lib.ListN.{length, take, drop, getD, replicate, length-append, length-drop, length-replicate, take-append-drop}
-use lib.Seq.{take-append-add, take-at, drop-at, take-all, length-take-le}
-use Rattle.lists.specs.Lists.{pick, padded}
+use lib.Dec.{ltb, leb}
+use lib.ListN.{length, take, drop, getD, replicate, length-drop, length-replicate, take-append-drop}
+use lib.Seq.{take-append-add, drop-at, take-all, length-take-le}
+use Rattle.lists.specs.Lists.{padded}
 use Rattle.bits.specs.Bits.{bits, bitsOf, num, fieldAt}
 use Rattle.bits.specs.Rows.{total, Fit, FitAll, rowsOf, col}
 use Rattle.bits.proofs.Laws.{length-bitsOf, bits-num}
@@ -18,21 +18,21 @@ use Rattle.mesh.specs.Given.{Lent}
 use Rattle.mesh.specs.Filled.{Filled}
 use lib.Ieee.{Float}
 use Rattle.sheet.specs.Sheet.{Sheet, Columns, sheetFrom, columnsOf, countsIn, countsOf, countsAt, headerOf, sheetWith, sheetBits, particleW, triangleW, edgeW, boundaryW, bladeW, atTriangles, atEdges, atBoundary, atBlade, endOf, bytesOf, even3, evenOf, fit3, fitOf, allBelow, tooMany, above, namesOK, FitSheet}
-use Rattle.sheet.specs.Read.{meshOfSheet, bladeOfSheet}
+use Rattle.sheet.specs.Read.{meshOfSheet}
 use Rattle.sheet.specs.declared.Counts.{Counts}
 use Rattle.sheet.specs.declared.Seen.the-variants.{Whole as TypedWhole}
 use Rattle.sheet.proofs.PutLaws as F
 use Rattle.sheet.proofs.There.{fit-sheet, bitsOf-take, num-zeros, limits}
 use Rattle.sheet.proofs.Trip.{counts-read}
 use Rattle.sheet.proofs.Back.{bitsOf-inj, length-col, rows-cols3, rows-cols2, below-col, fit-length, blade-below}
-use Rattle.edition.specs.Edition.{second, asFirst, bitsIn, sheet2Bits, bounded, ownOf, outlineIn, typedOf, sheetOf, bytesIn, endIn, spareIn, overlong, typedWith, typedSeen, seenIn, seenOf}
+use Rattle.edition.specs.Edition.{second, bitsIn, sheet2Bits, bounded, ownOf, outlineIn, typedOf, sheetOf, bytesIn, endIn, typedWith, typedSeen, seenIn, seenOf}
 use Rattle.edition.specs.Reading.{roomFor, lentOf, worldOf, ReadDone}
 use Rattle.edition.specs.Writing.{Handed, columnsFrom, answerOf, putOf, WriteDone}
-use Rattle.edition.specs.Work.{startOf, TypedIn}
+use Rattle.edition.specs.Work.{TypedIn}
 use Rattle.edition.specs.declared.Seen.{Seen}
 use Rattle.edition.specs.declared.Seen.the-variants.{Whole}
 use Rattle.edition.proofs.Editions.{bits-in, is-second, second-read, written-read, read-written, first-bits, first-long}
-use Rattle.edition.proofs.Starts.{in-second, typed-in, header-bits, reach}
+use Rattle.edition.proofs.Starts.{in-second, typed-in, header-bits}
 use Rattle.edition.proofs.Entering.{outlined, seen-whole-tells}
 use Rattle.edition.proofs.Putting.{Good, good, length-second, put-some}
 

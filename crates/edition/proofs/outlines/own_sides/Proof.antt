@@ -1,8 +1,6 @@
 -- `edition::outlines::own_sides` meets its contract. Assumes nothing.
 use Prim.Native.Nat.{_+_, _*_, _≤_}
-use mathlib.Core.Path.{_≡_, sym, _∙_}
 use native.Mathlib.Omega.{arith}
-use borrow.Author.Tests.{eqb-true}
 use Rattle.bits.specs.Bits.{bitsOf}
 use Rattle.sheet.proofs.There.{limits}
 use Rattle.edition.proofs.Starts.{reach, start-most}

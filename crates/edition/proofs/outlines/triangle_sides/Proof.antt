@@ -6,7 +6,6 @@ use Rattle.bits.specs.Bits.{bitsOf}
 use Rattle.outline.specs.Outline.{outlineOfTriangles}
 use Rattle.edition.proofs.Sides.{read-rows}
 use Rattle.edition.proofs.Found.{even-taken, listed-same}
-use borrow.Author.Needs.{needs}
 use Rattle.edition.proofs.outlines.triangle_sides.Statement.{statement}
 use Rattle.edition.proofs.outlines.triangle_sides.Tie as tie
 

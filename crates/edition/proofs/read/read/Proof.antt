@@ -1,7 +1,7 @@
 -- `edition::read::read` meets its contract. What is accepted is read, and what is refused leaves 0. Assumes nothing.
 use Prim.Native.Nat.{_≤_}
 use native.Mathlib.Omega.{arith}
-use mathlib.Core.Path.{_≡_, sym, _∙_}
+use mathlib.Core.Path.{sym, _∙_}
 use mathlib.Core.List.{[]}
 use lib.ListN.{length}
 use Rattle.mesh.specs.Filled.{lent}

@@ -1,7 +1,5 @@
 -- `edition::read::read_mesh` meets its contract. Assumes nothing.
-use Prim.Native.Nat.{_+_, _*_}
 use native.Mathlib.Omega.{arith}
-use Rattle.bits.specs.Bits.{bitsOf}
 use Rattle.edition.proofs.Meshes.{mesh-here, mesh-few, mesh-names}
 use Rattle.edition.proofs.read.read_mesh.Statement.{statement}
 use Rattle.edition.proofs.read.read_mesh.Tie as tie

@@ -1,6 +1,6 @@
 -- `edition::read::room` meets its contract. Assumes nothing.
 use Rattle.edition.specs.Reading.{roomFor}
-use mathlib.Core.Path.{_≡_, _∙_, sym}
+use mathlib.Core.Path.{_∙_, sym}
 use borrow.Author.Tests.{le-leb, lt-leb}
 use borrow.Author.Needs.{needs}
 use Rattle.edition.proofs.read.room.Statement.{statement}

@@ -1,6 +1,6 @@
 -- `edition::typed::look_second` meets its contract. Assumes nothing.
 use Rattle.sheet.specs.declared.Counts.{Counts}
-use Rattle.edition.proofs.Editions.{counts-second, names-second, second-with}
+use Rattle.edition.proofs.Editions.{counts-second, second-with}
 use Rattle.bits.proofs.Laws.{length-bitsOf}
 use Rattle.bits.specs.Bits.{bitsOf}
 use native.Mathlib.Omega.{arith}
