@@ -11,3 +11,4 @@ pub mod Outcomes
 pub mod Tearings
 pub mod Entries
 pub mod Cuttings
+pub mod Texting

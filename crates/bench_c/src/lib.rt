@@ -7,4 +7,5 @@ pub mod meshes;
 pub mod outcome;
 pub mod placing;
 pub mod reply;
+pub mod sheets;
 pub mod tearing;

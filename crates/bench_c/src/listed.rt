@@ -68,5 +68,5 @@ pub extern "C" fn bench_rest_measure_of(bytes: &[u8], list: &[u8], out: &mut [u8
         let bad = [0usize; 2];
         return crate::reply::reply_number(image_measure_of(bytes, &bad), out);
     }
-    crate::reply::reply_refused(1, out)
+    replies::reply_refused(1, out)
 }
