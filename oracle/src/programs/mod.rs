@@ -7,7 +7,7 @@ mod cutlist;
 mod fuzz;
 mod histories;
 mod replay;
-mod sheets;
+pub mod sheets;
 mod stack;
 mod vectors;
 
