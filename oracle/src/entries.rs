@@ -17,6 +17,8 @@ type Slice = c_type!(bytes answer);
 type Sides = c_type!(bytes number bytes answer);
 type List = c_type!(bytes bytes answer);
 type Opens = c_type!(bytes number bytes number answer);
+/// Image, particle.
+type Around = c_type!(bytes number answer);
 /// Image, rooms.
 type Removal = c_type!(bytes bytes mesh);
 /// Image, particle, sides, rooms.
@@ -34,6 +36,10 @@ pub struct Table {
     pub rest_measure_of: Option<List>,
     pub opens: Option<Opens>,
     pub pieces: Option<Slice>,
+    pub fan: Option<Around>,
+    pub sheet: Option<Slice>,
+    pub sheet_write: Option<Slice>,
+    pub list_cut: Option<Slice>,
     pub split: Option<Split>,
     pub straddlers: Option<Removal>,
     pub cut: Option<Tear>,
@@ -65,11 +71,23 @@ pub fn archive() -> Table {
         rest_measure_of: linked!("bench_rest_measure_of", bench_rest_measure_of as List),
         opens: linked!("bench_opens_without_confetti", bench_opens_without_confetti as Opens),
         pieces: linked!("bench_pieces", bench_pieces as Slice),
+        fan: linked!("bench_fan", bench_fan as Around),
+        sheet: linked!("bench_sheet", bench_sheet as Slice),
+        sheet_write: linked!("bench_sheet_write", bench_sheet_write as Slice),
+        list_cut: linked!("bench_list_cut", bench_list_cut as Slice),
         split: linked!("bench_split", bench_split as Split),
         straddlers: linked!("bench_straddlers", bench_straddlers as Removal),
         cut: linked!("bench_cut", bench_cut as Tear),
         crack: linked!("bench_crack", bench_crack as Tear),
     }
+}
+
+/// The number of the archive's layout; `None` if it does not tell.
+pub fn layout() -> Option<u32> {
+    let f: Option<unsafe extern "C" fn() -> u32> =
+        linked!("bench_layout", bench_layout as unsafe extern "C" fn() -> u32);
+    // SAFETY: it takes nothing.
+    f.map(|f| unsafe { f() })
 }
 
 #[derive(Clone, Copy, Debug, PartialEq, Eq, PartialOrd, Ord)]
@@ -85,8 +103,12 @@ pub enum Entry {
     Straddlers,
     Cut,
     Crack,
+    Fan,
+    Sheet,
+    SheetWrite,
+    ListCut,
 }
-pub const ENTRIES: [Entry; 11] = [
+pub const ENTRIES: [Entry; 15] = [
     Entry::Root,
     Entry::BladeHit,
     Entry::Groups,
@@ -98,7 +120,24 @@ pub const ENTRIES: [Entry; 11] = [
     Entry::Straddlers,
     Entry::Cut,
     Entry::Crack,
+    Entry::Fan,
+    Entry::Sheet,
+    Entry::SheetWrite,
+    Entry::ListCut,
 ];
+/// The functions that read a mesh, those that give one, and those that a host has fans and sheets from.
+#[derive(Clone, Copy, Debug, PartialEq, Eq)]
+pub enum Group {
+    Reading,
+    Tearing,
+    Hosting,
+}
+pub const GROUPS: [Group; 3] = [Group::Reading, Group::Tearing, Group::Hosting];
+impl Group {
+    pub fn name(self) -> &'static str {
+        ["reading", "tearing", "hosting"][self as usize]
+    }
+}
 impl Entry {
     pub fn name(self) -> &'static str {
         match self {
@@ -113,11 +152,31 @@ impl Entry {
             Entry::Straddlers => "bench_straddlers",
             Entry::Cut => "bench_cut",
             Entry::Crack => "bench_crack",
+            Entry::Fan => "bench_fan",
+            Entry::Sheet => "bench_sheet",
+            Entry::SheetWrite => "bench_sheet_write",
+            Entry::ListCut => "bench_list_cut",
         }
     }
     /// Whether it gives a mesh and a log.
     pub fn tears(self) -> bool {
         matches!(self, Entry::Split | Entry::Straddlers | Entry::Cut | Entry::Crack)
+    }
+    /// What kind of function it is.
+    pub fn group(self) -> Group {
+        match self {
+            _ if self.tears() => Group::Tearing,
+            Entry::Fan | Entry::Sheet | Entry::SheetWrite | Entry::ListCut => Group::Hosting,
+            _ => Group::Reading,
+        }
+    }
+    /// Whether it is about a sheet.
+    pub fn sheets(self) -> bool {
+        matches!(self, Entry::Sheet | Entry::SheetWrite | Entry::ListCut)
+    }
+    /// Whether it takes no image.
+    pub fn meshless(self) -> bool {
+        self.sheets() || matches!(self, Entry::Root | Entry::BladeHit)
     }
 }
 /// Whether `--partial` was among the words: what the archive lacks is left out then, and is no failure.
@@ -151,6 +210,10 @@ impl Table {
             Entry::Straddlers => self.straddlers.is_some(),
             Entry::Cut => self.cut.is_some(),
             Entry::Crack => self.crack.is_some(),
+            Entry::Fan => self.fan.is_some(),
+            Entry::Sheet => self.sheet.is_some(),
+            Entry::SheetWrite => self.sheet_write.is_some(),
+            Entry::ListCut => self.list_cut.is_some(),
         }
     }
 }
@@ -170,6 +233,10 @@ pub enum Args {
     Straddlers,
     Cut { blade: [u32; 4], length: Option<usize>, fraction: u32 },
     Crack { torn: Vec<u32>, length: Option<usize>, minimum: u32 },
+    Fan { v: u32 },
+    Sheet { bytes: Vec<u8> },
+    SheetWrite { fields: Vec<u32>, length: Option<usize> },
+    ListCut { bytes: Vec<u8> },
 }
 /// What is lent to an entry that gives a mesh: places for particles, triangles, edges and boundary
 /// entries, and the bytes of the log. `length` is that of the rooms' bytes where it isn't 16.
@@ -202,6 +269,10 @@ impl Input {
             Args::Straddlers => Entry::Straddlers,
             Args::Cut { .. } => Entry::Cut,
             Args::Crack { .. } => Entry::Crack,
+            Args::Fan { .. } => Entry::Fan,
+            Args::Sheet { .. } => Entry::Sheet,
+            Args::SheetWrite { .. } => Entry::SheetWrite,
+            Args::ListCut { .. } => Entry::ListCut,
         }
     }
     /// The call as the C function gets it.
@@ -215,11 +286,13 @@ impl Input {
                 image(bytes_of(list, *length))
             }
             Args::Cut { blade, length, .. } => image(bytes_of(blade, *length)),
-            Args::RestMeasure | Args::Pieces | Args::Straddlers => image(vec![]),
+            Args::Sheet { bytes } | Args::ListCut { bytes } => (bytes.clone(), vec![]),
+            Args::SheetWrite { fields, length } => (bytes_of(fields, *length), vec![]),
+            Args::RestMeasure | Args::Pieces | Args::Straddlers | Args::Fan { .. } => image(vec![]),
         };
         let (number, minimum) = match self.args {
             Args::Root { bits } => (bits, 0),
-            Args::Groups { v, .. } | Args::Split { v, .. } => (v, 0),
+            Args::Groups { v, .. } | Args::Split { v, .. } | Args::Fan { v } => (v, 0),
             Args::Opens { v, minimum, .. } => (v, minimum),
             Args::Cut { fraction, .. } => (fraction, 0),
             Args::Crack { minimum, .. } => (0, minimum),
@@ -238,7 +311,7 @@ impl Input {
 #[derive(Clone, Debug, PartialEq)]
 pub struct Raw {
     pub entry: Entry,
-    /// The image, or the blade's words where there is no image.
+    /// The image; where there is none, the blade's words, the sheet or its fields.
     pub first: Vec<u8>,
     /// The sides, the list, the blade's ends or the torn edges.
     pub second: Vec<u8>,
@@ -313,6 +386,10 @@ fn invoke_at(t: &Table, c: &Raw, given: [&[u8]; 3], out: &mut [u8], log: &mut [u
             Entry::Straddlers => t.straddlers?(pa, na, pr, nr, po, no, pl, nl),
             Entry::Cut => t.cut?(pa, na, pb, nb, c.number, pr, nr, po, no, pl, nl),
             Entry::Crack => t.crack?(pa, na, pb, nb, c.minimum, pr, nr, po, no, pl, nl),
+            Entry::Fan => t.fan?(pa, na, c.number, po, no),
+            Entry::Sheet => t.sheet?(pa, na, po, no),
+            Entry::SheetWrite => t.sheet_write?(pa, na, po, no),
+            Entry::ListCut => t.list_cut?(pa, na, po, no),
         }
     })
 }

@@ -4,6 +4,7 @@ use crate::api;
 use crate::entries::{Entry, Got, Raw};
 use crate::image::{bytes_of, read, words, words_of};
 use crate::second;
+use crate::sheet::{self, MESH, Sheet};
 
 #[derive(Clone, Debug, PartialEq)]
 pub enum Expected {
@@ -122,6 +123,64 @@ fn torn(c: &Raw) -> Expected {
     }
 }
 
+// ---- sheets ---------------------------------------------------------------------------------
+
+/// Bytes of an answer that is not made of words, as words with 0 behind; the refusal where they do not fit.
+fn fitting_bytes(bytes: &[u8], out: usize, no: u32) -> Expected {
+    match out < bytes.len() {
+        true => Refused(no),
+        false => Words(words_of(&[bytes, &[0; 3]].concat()), vec![]),
+    }
+}
+fn sheet_read(bytes: &[u8], out: usize) -> Expected {
+    let s = match sheet::read(bytes, &MESH) {
+        Ok(s) => s,
+        Err(no) => return Refused(no),
+    };
+    let (m, b) = sheet::mesh(&s);
+    match api::check_mesh(&m) {
+        0 => fitting([vec![0], [b.x0, b.y0, b.x1, b.y1].map(f32::to_bits).to_vec(), words(&m)].concat(), out),
+        no => Refused(no),
+    }
+}
+/// The sheet of some fields, or 1 and 2 of a writer.
+pub fn sheet_of(fields: &[u8]) -> Result<Sheet, u32> {
+    let w = words_of(fields);
+    let counts: Vec<u64> = w.iter().take(4).map(|&n| n as u64).collect();
+    let [np, nt, ne, nb] = counts[..] else { return Err(1) };
+    let long = 4 * (8 + 3 * np + 3 * nt + 3 * ne + 2 * nb);
+    if fields.len() as u64 != long || MESH.above([np, nt, ne, nb].map(|n| n as usize)).next().is_some() {
+        return Err(1);
+    }
+    let mut rest = w[4..].iter().copied();
+    let mut column = |n: u64| -> Vec<u32> { rest.by_ref().take(n as usize).collect() };
+    let [x, y, pinned] = [np; 3].map(&mut column);
+    let [a, b, c] = [nt; 3].map(&mut column);
+    let [d, e, structural] = [ne; 3].map(&mut column);
+    let [f, g] = [nb; 2].map(&mut column);
+    let blade = column(4);
+    let signed = |l: &[u32]| l.iter().all(|&x| (-1024..=1023).contains(&(x as i32)));
+    let below = |l: &[u32], most: u32| l.iter().all(|&x| x < most);
+    let held = [&x, &y, &blade].iter().all(|l| signed(l)) && [&pinned, &structural].iter().all(|l| below(l, 2));
+    if !held || [&a, &b, &c, &d, &e, &f, &g].iter().any(|l| !below(l, 1024)) {
+        return Err(2);
+    }
+    Ok(Sheet {
+        particles: (0..np as usize).map(|i| (x[i] as i32, y[i] as i32, pinned[i])).collect(),
+        triangles: (0..nt as usize).map(|i| [a[i], b[i], c[i]]).collect(),
+        edges: (0..ne as usize).map(|i| (d[i], e[i], structural[i])).collect(),
+        boundary: (0..nb as usize).map(|i| (f[i], g[i])).collect(),
+        blade: [0, 1, 2, 3].map(|k| blade[k] as i32),
+    })
+}
+fn sheet_write(fields: &[u8], out: usize) -> Expected {
+    match sheet_of(fields) {
+        Ok(s) if api::check_mesh(&sheet::mesh(&s).0) == 3 => Refused(3),
+        Ok(s) => fitting_bytes(&sheet::write(&s), out, 9),
+        Err(no) => Refused(no),
+    }
+}
+
 pub fn expected(c: &Raw) -> Expected {
     if c.entry.tears() {
         return torn(c);
@@ -129,6 +188,9 @@ pub fn expected(c: &Raw) -> Expected {
     match c.entry {
         Entry::Root => return root(c.number, c.out),
         Entry::BladeHit => return blade_hit(&c.first, c.out),
+        Entry::Sheet => return sheet_read(&c.first, c.out),
+        Entry::SheetWrite => return sheet_write(&c.first, c.out),
+        Entry::ListCut => return fitting_bytes(sheet::cutlist(&c.first, false).as_bytes(), c.out, 4),
         _ => {}
     }
     let Some(m) = read(&c.first) else { return Refused(1) };
@@ -161,6 +223,10 @@ pub fn expected(c: &Raw) -> Expected {
         }
         Entry::RestMeasure => vec![api::rest_measure(&m).to_bits()],
         Entry::Pieces => vec![api::pieces(&m)],
+        Entry::Fan if (v as usize) < m.px.len() => {
+            let fan = api::fan(&m, v);
+            [vec![fan.len() as u32], fan].concat()
+        }
         _ => return Refused(4),
     };
     fitting(words, c.out)
@@ -188,7 +254,8 @@ fn differs(of: &str, words: &[u32], got: &[u8]) -> Option<String> {
     let bytes = bytes_of(words, Some(got.len()));
     let wrong = (0..bytes.len()).find(|&k| bytes[k] != got[k])?;
     Some(match wrong < 4 * words.len() {
-        true => format!("{of}word {} is {:08x}", wrong / 4, words_of(got)[wrong / 4]),
+        // The bytes may end inside a word.
+        true => format!("{of}word {} is {:08x}", wrong / 4, words_of(&[got, &[0; 3]].concat())[wrong / 4]),
         false => format!("{of}byte {wrong} is {:02x} behind the answer", got[wrong]),
     })
 }

@@ -1,12 +1,14 @@
 //! Mistakes that can be planted in the second writing, to see that the comparison finds them.
+use crate::entries::Group;
 use std::sync::atomic::{AtomicUsize, Ordering};
 
-/// The entries in which a fault must be found: those that read, those that give a mesh, or each of the two.
+/// The entries in which a fault must be found: those of a group, or those that read and those that give a mesh.
 #[derive(Clone, Copy, PartialEq, Eq)]
 enum In {
     Reading,
     Tearing,
     Both,
+    Hosting,
 }
 /// The faults, and where each must be found.
 macro_rules! faults {
@@ -135,11 +137,56 @@ faults! {
     BladeAfterThree: Tearing,
     /// The bytes behind the log's entries are left as they were.
     DirtyLog: Tearing,
+    /// A fan is told from its last element on.
+    FanTurned: Hosting,
+    /// A fan of straps counts structural edges, not places in the list.
+    StrapsCounted: Hosting,
+    /// An edge that is no strap is in the fan.
+    FanOfEdges: Hosting,
+    /// An absent particle has an empty fan.
+    AbsentFan: Hosting,
+    /// The blade of a sheet stands behind its mesh.
+    BladeBehind: Hosting,
+    /// The first word of a sheet's answer is left out.
+    FirstWordGone: Hosting,
+    /// A coordinate is read without its sign.
+    SignLost: Hosting,
+    /// A pinned particle is read as free.
+    PinLost: Hosting,
+    /// A spare bit that is 1 passes.
+    SparePasses: Hosting,
+    /// Bytes behind a sheet pass.
+    TailPasses: Hosting,
+    /// 3 of a sheet is found before 9.
+    NamesFirst: Hosting,
+    /// A sheet is held to the program's limits, or a listing to those of a mesh.
+    OtherLimits: Hosting,
+    /// A coordinate of 1,024 is written.
+    CoordinateWraps: Hosting,
+    /// A flag of 2 is written.
+    FlagWraps: Hosting,
+    /// Fields of another length are written.
+    FieldsPass: Hosting,
+    /// 3 of the fields is found before 2.
+    FieldNamesFirst: Hosting,
+    /// A sheet is written as far as the bytes go.
+    SheetCutOff: Hosting,
+    /// A listing is written as far as the bytes go.
+    ListingCutOff: Hosting,
+    /// The lines of a listing are in the log's order.
+    ListingUnsorted: Hosting,
+    /// The bytes behind an answer are left as they were.
+    DirtyHosting: Hosting,
 }
-/// Those of the entries that give a mesh, or of those that read.
-pub fn faults(tearing: bool) -> Vec<Fault> {
-    let other = if tearing { In::Reading } else { In::Tearing };
-    FAULTS.iter().filter(|(_, place)| *place != other).map(|f| f.0).collect()
+/// Those of a group of entries.
+pub fn faults(group: Group) -> Vec<Fault> {
+    let there = |place: In| match place {
+        In::Reading => group == Group::Reading,
+        In::Tearing => group == Group::Tearing,
+        In::Both => group != Group::Hosting,
+        In::Hosting => group == Group::Hosting,
+    };
+    FAULTS.iter().filter(|(_, place)| there(*place)).map(|f| f.0).collect()
 }
 
 static PLANTED: AtomicUsize = AtomicUsize::new(0);

@@ -2,10 +2,12 @@
 use crate::api::*;
 use crate::entries::{Args, Entry, Input, Lending};
 use crate::expect::{checked, outcome, result_words};
-use crate::image::{Image, bytes_of};
+use crate::image::{Image, bytes_of, words};
 use crate::meshgen;
+use crate::programs::sheets;
 use crate::rng::Rng;
 use crate::second;
+use crate::sheet::{self, MESH, Sheet};
 
 #[derive(Clone, Copy, Debug, PartialEq, Eq)]
 pub enum Kind {
@@ -21,7 +23,7 @@ pub fn input(entry: Entry, kind: Kind, seed: u64) -> Input {
     let mut r = Rng::new(seed ^ (entry as u64) << 56 ^ (kind as u64) << 48);
     let r = &mut r;
     let mesh = match (entry, kind) {
-        (Entry::Root | Entry::BladeHit, _) => Mesh::default(),
+        _ if entry.meshless() => Mesh::default(),
         (_, Kind::Large) if entry.tears() => seasoned(r),
         (_, Kind::Large) => large(r),
         (_, Kind::Limit) => at_limit(r),
@@ -33,7 +35,7 @@ pub fn input(entry: Entry, kind: Kind, seed: u64) -> Input {
     let mut i = Input { image: Image::new(mesh), args, lending: Lending::default(), out: 0 };
     let need = if entry.tears() { lend(r, &mut i) } else { need(&i) };
     i.out = match kind {
-        Kind::Limit => r.pick(&[need, need, need, need + 1, need - 1, 0]),
+        Kind::Limit => r.pick(&[need, need, need, need + 1, need.saturating_sub(1), 0]),
         _ => need + r.pick(&[0, 0, 1, 3, 4, 17, 200]),
     };
     if kind == Kind::Damaged {
@@ -49,6 +51,16 @@ pub fn need(i: &Input) -> usize {
     match &i.args {
         Args::Groups { sides, .. } => 4 + 4 * sides.len(),
         Args::BladeHit { .. } => 8,
+        Args::Fan { v } => 4 + 4 * second::fan(&i.image.mesh, second::kind(&i.image.mesh), *v).len(),
+        Args::Sheet { bytes } => match sheet::read(bytes, &MESH) {
+            Ok(s) => 4 * (5 + words(&sheet::mesh(&s).0).len()),
+            Err(_) => 4 * 9,
+        },
+        Args::SheetWrite { fields, .. } => {
+            let counts: Vec<usize> = fields.iter().take(4).map(|&n| n as usize % 5000).collect();
+            counts.try_into().map_or(12, |c| sheet::length(c).div_ceil(8))
+        }
+        Args::ListCut { bytes } => sheet::cutlist(bytes, false).len(),
         _ if i.entry().tears() => torn_need(i, &run(i)),
         _ => 4,
     }
@@ -118,6 +130,10 @@ pub fn args(r: &mut Rng, entry: Entry, kind: Kind, m: &Mesh) -> Args {
             Args::Opens { v, sides: sides(r, m, v), minimum }
         }
         Entry::Pieces => Args::Pieces,
+        Entry::Fan => Args::Fan { v },
+        Entry::Sheet => Args::Sheet { bytes: sheet_bytes(r, kind) },
+        Entry::ListCut => Args::ListCut { bytes: sheet_bytes(r, kind) },
+        Entry::SheetWrite => Args::SheetWrite { fields: fields(&whole_sheet(r, kind)), length: None },
         Entry::Split => Args::Split { v, sides: sides(r, m, v) },
         Entry::Straddlers => Args::Straddlers,
         Entry::Cut => {
@@ -152,6 +168,64 @@ pub fn args(r: &mut Rng, entry: Entry, kind: Kind, m: &Mesh) -> Args {
         }
     }
 }
+// ---- sheets ---------------------------------------------------------------------------------
+
+/// The fields of a sheet as words: the counts, then column behind column.
+pub fn fields(s: &Sheet) -> Vec<u32> {
+    let mut w: Vec<u32> =
+        [s.particles.len(), s.triangles.len(), s.edges.len(), s.boundary.len()].map(|n| n as u32).to_vec();
+    w.extend(s.particles.iter().map(|p| p.0 as u32));
+    w.extend(s.particles.iter().map(|p| p.1 as u32));
+    w.extend(s.particles.iter().map(|p| p.2));
+    (0..3).for_each(|k| w.extend(s.triangles.iter().map(|t| t[k])));
+    w.extend(s.edges.iter().map(|e| e.0));
+    w.extend(s.edges.iter().map(|e| e.1));
+    w.extend(s.edges.iter().map(|e| e.2));
+    w.extend(s.boundary.iter().map(|b| b.0));
+    w.extend(s.boundary.iter().map(|b| b.1));
+    w.extend(s.blade.map(|x| x as u32));
+    w
+}
+/// The bytes of a sheet: any of the random ones; a large one; one at a limit of a mesh or of the program.
+fn sheet_bytes(r: &mut Rng, kind: Kind) -> Vec<u8> {
+    match kind {
+        Kind::Random => sheets::random(r.below(u32::MAX) as u64),
+        _ => sheet::write(&whole_sheet(r, kind)),
+    }
+}
+/// A sheet whose fields fit their bits. At a limit, one list is as long as a mesh or the program takes, or one entry longer, or a
+/// coordinate is at the end of its range.
+fn whole_sheet(r: &mut Rng, kind: Kind) -> Sheet {
+    let mesh = match kind {
+        Kind::Large => large(r),
+        _ => meshgen::mesh(r),
+    };
+    let whole = |x: f32| (x * 3.0).round().clamp(-1024.0, 1023.0) as i32;
+    let mut s = Sheet {
+        particles: (0..mesh.px.len()).map(|i| (whole(mesh.px[i]), whole(mesh.py[i]), r.chance(5) as u32)).collect(),
+        triangles: mesh.triangles().into_iter().map(|(a, b, c)| [a, b, c]).collect(),
+        edges: (0..mesh.ea.len()).map(|i| (mesh.ea[i], mesh.eb[i], mesh.structural[i])).collect(),
+        boundary: mesh.boundary(),
+        blade: [0; 4].map(|_| r.range(-20, 20)),
+    };
+    if kind == Kind::Limit {
+        while s.particles.len() < 3 {
+            s.particles.push((s.particles.len() as i32, 1, 0));
+        }
+        let more = r.below(2) as usize;
+        let full = |n: usize| n + more;
+        let most = r.pick(&[[MAX_PARTICLES, MAX_TRIANGLES, MAX_EDGES, MAX_BOUNDARY], [128, 128, 256, 256]]);
+        match r.below(5) {
+            0 => s.particles.resize(full(most[0]).max(s.particles.len()), (1, 2, 0)),
+            1 => s.triangles.resize(full(most[1]), [0, 1, 2]),
+            2 => s.edges.resize(full(most[2]), (0, 1, 0)),
+            3 => s.boundary.resize(full(most[3]), (1, 2)),
+            _ => s.particles[0] = (r.pick(&[-1024, 1023]), r.pick(&[-1024, 1023]), 1),
+        }
+    }
+    s
+}
+
 /// A particle with a large fan among a few taken at random.
 fn busy(r: &mut Rng, m: &Mesh) -> u32 {
     let k = second::kind(m);
@@ -431,7 +505,7 @@ const BAD_NUMBERS: [u32; 12] = [
 ];
 /// One fault of those that checks 1 to 4 look for (now and then it misses).
 fn damage(r: &mut Rng, i: &mut Input) {
-    let arguments = matches!(i.entry(), Entry::Root | Entry::BladeHit) || r.chance(3);
+    let arguments = i.entry().meshless() || r.chance(3);
     if arguments {
         return damage_arguments(r, i);
     }
@@ -508,6 +582,38 @@ fn damage_lending(r: &mut Rng, i: &mut Input) {
         _ => i.lending.places[1] = r.pick(&[0, triangles / 2, triangles.saturating_sub(1)]),
     }
 }
+/// A bit turned, bytes missing or too many, another count.
+fn damage_sheet(r: &mut Rng, bytes: &mut Vec<u8>) {
+    let n = bytes.len() as u32;
+    match r.below(6) {
+        0 if n > 0 => bytes.truncate(r.below(n) as usize),
+        1 => bytes.push(r.pick(&[0, 1, 255])),
+        2 => bytes.truncate(r.pick(&[0, 1, 5, 6])),
+        3 if n > 0 => bytes[n as usize - 1] |= r.pick(&[1, 1, 2, 8]),
+        4 if n > 5 => bytes[r.below(6) as usize] ^= 1 << r.below(8),
+        _ if n > 0 => bytes[r.below(n) as usize] ^= 1 << r.below(8),
+        _ => {}
+    }
+}
+/// A count, a coordinate, a flag or a name that is none, or another length.
+fn damage_fields(r: &mut Rng, w: &mut Vec<u32>, length: &mut Option<usize>) {
+    let n = w.len() as u32;
+    // As many particles as there can be, whatever the count says by now.
+    let particles = w[0].min((n - 8) / 3);
+    match r.below(6) {
+        0 => *length = Some((4 * n as usize + 4 - r.pick(&[0, 1, 3, 5, 8])).min(4 * n as usize + 4)),
+        1 => w[r.below(4) as usize] = r.pick(&[0, particles + 1, 1025, 2049, 1 << 31, u32::MAX]),
+        2 if particles > 0 => {
+            w[4 + r.below(2 * particles) as usize] = r.pick(&[1024, 1023, u32::MAX - 1024, u32::MAX - 1023, 1 << 31])
+        }
+        3 if particles > 0 => w[4 + (2 * particles + r.below(particles)) as usize] = r.pick(&[2, 3, u32::MAX]),
+        4 => w[(n - 1 - r.below(4)) as usize] = r.pick(&[1024, u32::MAX - 1024, 1023, u32::MAX]),
+        _ => {
+            let k = 4 + r.below(n - 4);
+            w[k as usize] = r.pick(&[particles, particles.wrapping_sub(1), 1023, 1024, 2047, u32::MAX])
+        }
+    }
+}
 fn damage_arguments(r: &mut Rng, i: &mut Input) {
     if i.entry().tears() && (i.entry() == Entry::Straddlers || r.chance(3)) {
         return damage_lending(r, i);
@@ -515,7 +621,10 @@ fn damage_arguments(r: &mut Rng, i: &mut Input) {
     let n = i.image.mesh.px.len() as u32;
     let need = need(i);
     match &mut i.args {
-        _ if r.chance(4) => i.out = r.pick(&[0, 1, need - 1, need - 4, need / 2]),
+        _ if r.chance(4) => i.out = r.pick(&[0, 1, need.saturating_sub(1), need.saturating_sub(4), need / 2]),
+        Args::Fan { v } => *v = r.pick(&[n, n + 1, 1024, 1 << 31, u32::MAX]),
+        Args::Sheet { bytes } | Args::ListCut { bytes } => damage_sheet(r, bytes),
+        Args::SheetWrite { fields, length } => damage_fields(r, fields, length),
         Args::BladeHit { words, length } => match r.below(3) {
             0 => *length = Some(r.pick(&[0, 1, 4, 28, 31, 33, 36, 64])),
             _ => words[r.below(8) as usize] = r.pick(&BAD_NUMBERS),

@@ -161,6 +161,12 @@ fn without(i: &Input, list: usize, from: usize, to: usize) -> Option<Input> {
                 !lost.get(k - 1).copied().unwrap_or(false)
             });
         }
+        Args::Fan { v } if list == 0 => {
+            if dropped(*v) {
+                return None;
+            }
+            *v = renumber(*v);
+        }
         Args::RestMeasureOf { list: l, length } if list == 0 && length.is_none() => {
             l.retain(|&p| !dropped(p));
             l.iter_mut().for_each(|p| *p = renumber(*p));
@@ -180,7 +186,7 @@ fn without(i: &Input, list: usize, from: usize, to: usize) -> Option<Input> {
 fn length(a: &mut Args) -> Option<&mut Option<usize>> {
     match a {
         Args::BladeHit { length, .. } | Args::Cut { length, .. } => Some(length),
-        Args::RestMeasureOf { length, .. } | Args::Crack { length, .. } => Some(length),
+        Args::RestMeasureOf { length, .. } | Args::Crack { length, .. } | Args::SheetWrite { length, .. } => Some(length),
         _ => None,
     }
 }

@@ -223,6 +223,10 @@ pub fn args_line(out: &mut String, a: &Args) {
         Args::Straddlers => writeln!(out, "straddlers"),
         Args::Cut { blade, fraction, .. } => writeln!(out, "cut {} {fraction:08x}", hex_words(blade)),
         Args::Crack { torn, minimum, .. } => writeln!(out, "crack {minimum} {}", list(torn)),
+        Args::Fan { v } => writeln!(out, "fan {v}"),
+        Args::Sheet { bytes } => writeln!(out, "sheet {}", list(bytes)),
+        Args::SheetWrite { fields, .. } => writeln!(out, "sheet_write {}", list(fields)),
+        Args::ListCut { bytes } => writeln!(out, "list_cut {}", list(bytes)),
     }
     .unwrap();
 }
@@ -232,7 +236,7 @@ pub fn write_input(out: &mut String, seed: u64, i: &Input, want: &Expected) {
     write_mesh(out, &i.image.mesh);
     args_line(out, &i.args);
     let (length, list_bytes) = match i.args {
-        Args::BladeHit { length, .. } => (length, None),
+        Args::BladeHit { length, .. } | Args::SheetWrite { length, .. } => (length, None),
         Args::RestMeasureOf { length, .. } | Args::Cut { length, .. } | Args::Crack { length, .. } => {
             (i.image.length, length)
         }

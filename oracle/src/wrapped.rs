@@ -39,6 +39,10 @@ pub fn table() -> Table {
         rest_measure_of: c_function!(rest_measure_of: bytes bytes answer),
         opens: c_function!(opens: bytes number bytes number answer),
         pieces: c_function!(pieces: bytes answer),
+        fan: c_function!(fan: bytes number answer),
+        sheet: c_function!(sheet: bytes answer),
+        sheet_write: Some(sheet_write),
+        list_cut: Some(list_cut),
         split: c_function!(split: bytes number bytes bytes mesh),
         straddlers: c_function!(straddlers: bytes bytes mesh),
         cut: c_function!(cut: bytes bytes number bytes mesh),
@@ -64,7 +68,7 @@ unsafe fn lent<'a>(p: *const u8, n: usize) -> &'a [u8] {
 unsafe fn give(answer: Answer, p: *mut u8, n: usize) -> u32 {
     let out = unsafe { std::slice::from_raw_parts_mut(p, n) };
     let answer = answer.and_then(|w| if 4 * w.len() > n { Err(4) } else { Ok(w) });
-    if !(has(DirtyTail) || has(DirtyRefusal) && answer.is_err()) {
+    if !(has(DirtyTail) || has(DirtyHosting) || has(DirtyRefusal) && answer.is_err()) {
         out.fill(0);
     }
     if has(WritesPast) {
@@ -97,6 +101,25 @@ unsafe fn give_both(answer: Torn, (p, n): (*mut u8, usize), (log, k): (*mut u8, 
         words
     });
     unsafe { give(words, p, n) }
+}
+
+/// The same for an answer of bytes that are no words; the number where they do not fit, unless as many as fit are given.
+/// # Safety
+/// `n` bytes stand at `p`.
+unsafe fn give_bytes(answer: Result<Vec<u8>, u32>, (p, n): (*mut u8, usize), short: u32, cut: bool) -> u32 {
+    let out = unsafe { std::slice::from_raw_parts_mut(p, n) };
+    if !has(DirtyHosting) {
+        out.fill(0);
+    }
+    match answer {
+        Ok(bytes) if bytes.len() <= n || cut => {
+            let k = bytes.len().min(n);
+            out[..k].copy_from_slice(&bytes[..k]);
+            0
+        }
+        Ok(_) => short,
+        Err(no) => no,
+    }
 }
 
 // ---- checks 1 to 3, by places in the image --------------------------------------------------
@@ -298,6 +321,192 @@ fn pieces(image: &[u8]) -> Answer {
 fn sides_meet(a: &[u32], b: &[u32]) -> bool {
     let sides = |t: &[u32]| [(t[0], t[1]), (t[1], t[2]), (t[2], t[0])];
     sides(a).iter().any(|&(x, y)| sides(b).contains(&(y, x)))
+}
+
+// ---- fans and sheets ------------------------------------------------------------------------
+
+fn fan(image: &[u8], v: u32) -> Answer {
+    let m = judge(image)?;
+    if v as usize >= m.px.len() {
+        return if has(AbsentFan) { Ok(vec![0]) } else { Err(4) };
+    }
+    let straps = m.ta.is_empty();
+    let rows = if straps { m.ea.len() } else { m.ta.len() };
+    let (mut fan, mut counted) = (vec![], 0);
+    for i in 0..rows {
+        if straps && m.structural[i] == 0 && !has(FanOfEdges) {
+            continue;
+        }
+        let row = if straps { vec![m.ea[i], m.eb[i]] } else { vec![m.ta[i], m.tb[i], m.tc[i]] };
+        if row.contains(&v) {
+            fan.push(if straps && has(StrapsCounted) { counted } else { i as u32 });
+        }
+        counted += 1;
+    }
+    if has(FanTurned) {
+        fan.reverse();
+    }
+    fan.insert(0, fan.len() as u32);
+    Ok(fan)
+}
+
+/// Bits n of the bytes from bit `at` on.
+fn bits(s: &[u8], at: usize, n: usize) -> u32 {
+    (at..at + n).fold(0, |x, k| x << 1 | (s[k / 8] >> (7 - k % 8) & 1) as u32)
+}
+fn whole(x: u32) -> i32 {
+    if x < 1024 || has(SignLost) { x as i32 } else { x as i32 - 2048 }
+}
+/// The rows of a sheet within limits, each list with the width of its fields; the blade stands last.
+fn rows(s: &[u8], limits: [u32; 4]) -> Result<Vec<Vec<Vec<u32>>>, u32> {
+    const WIDTHS: [&[usize]; 5] = [&[11, 11, 1], &[10, 10, 10], &[10, 10, 1], &[10, 10], &[11, 11, 11, 11]];
+    if s.len() < 6 {
+        return Err(9);
+    }
+    let counts = [bits(s, 0, 11), bits(s, 11, 11), bits(s, 22, 12), bits(s, 34, 12)];
+    if (0..4).any(|k| counts[k] > limits[k]) {
+        return Err(1);
+    }
+    let number = |k: usize| if k < 4 { counts[k] as usize } else { 1 };
+    let end: usize = 46 + (0..5).map(|k| number(k) * WIDTHS[k].iter().sum::<usize>()).sum::<usize>();
+    let long = end.div_ceil(8);
+    if s.len() < long || s.len() > long && !has(TailPasses) {
+        return Err(9);
+    }
+    let mut at = 46;
+    let mut lists = vec![];
+    for (k, widths) in WIDTHS.into_iter().enumerate() {
+        let mut list = vec![];
+        for _ in 0..number(k) {
+            list.push(widths.iter().map(|&w| (bits(s, at, w), at += w).0).collect::<Vec<u32>>());
+        }
+        lists.push(list);
+    }
+    let spare = bits(s, end, 8 * long - end) != 0 && !has(SparePasses);
+    if spare && !(has(NamesFirst) && !named(&lists)) {
+        return Err(9);
+    }
+    if named(&lists) { Ok(lists) } else { Err(3) }
+}
+/// Every row of triangles, edges and boundary names particles, and none twice.
+fn named(lists: &[Vec<Vec<u32>>]) -> bool {
+    let good = |row: &[u32]| {
+        row.iter().all(|&x| (x as usize) < lists[0].len()) && (1..row.len()).all(|k| !row[..k].contains(&row[k]))
+    };
+    lists[1].iter().all(|r| good(r)) && lists[2].iter().chain(&lists[3]).all(|r| good(&r[..2]))
+}
+/// The mesh and the blade of a sheet's rows.
+fn sheet_mesh(lists: &[Vec<Vec<u32>>]) -> (Mesh, Blade) {
+    let mut m = Mesh::default();
+    let at = |i: u32| (whole(lists[0][i as usize][0]), whole(lists[0][i as usize][1]));
+    for r in &lists[0] {
+        m.particle(whole(r[0]) as f32, whole(r[1]) as f32, 1.0, r[2] == 1 && !has(PinLost));
+    }
+    for r in &lists[1] {
+        let ((ax, ay), (bx, by), (cx, cy)) = (at(r[0]), at(r[1]), at(r[2]));
+        let twice = ax * (by - cy) + bx * (cy - ay) + cx * (ay - by);
+        m.triangle(r[0], r[1], r[2], twice.abs() as f32 / 2.0);
+    }
+    for r in &lists[2] {
+        let ((ax, ay), (bx, by)) = (at(r[0]), at(r[1]));
+        let square = (ax - bx) as i64 * (ax - bx) as i64 + (ay - by) as i64 * (ay - by) as i64;
+        m.edge(r[0], r[1], r[2] == 1, (square as f32).sqrt());
+    }
+    lists[3].iter().for_each(|r| m.bound(r[0], r[1]));
+    let b: Vec<f32> = lists[4][0].iter().map(|&x| whole(x) as f32).collect();
+    (m, Blade::new(b[0], b[1], b[2], b[3]))
+}
+const PROGRAM: [u32; 4] = [128, 128, 256, 256];
+fn sheet(bytes: &[u8]) -> Answer {
+    let (m, b) = sheet_mesh(&rows(bytes, if has(OtherLimits) { PROGRAM } else { LIMITS })?);
+    let blade = [b.x0, b.y0, b.x1, b.y1].map(f32::to_bits).to_vec();
+    let first = if has(FirstWordGone) { vec![] } else { vec![0] };
+    Ok(if has(BladeBehind) { [first, image_words(&m), blade] } else { [first, blade, image_words(&m)] }.concat())
+}
+
+/// The bytes of the sheet whose fields are words, by bits put one behind the other.
+fn written(fields: &[u8]) -> Result<Vec<u8>, u32> {
+    let w = words_of(fields);
+    if fields.len() < 16 || (0..4).any(|k| w[k] > LIMITS[k]) {
+        return Err(1);
+    }
+    let n: Vec<usize> = w[..4].iter().map(|&x| x as usize).collect();
+    let long = 8 + 3 * n[0] + 3 * n[1] + 3 * n[2] + 2 * n[3];
+    if fields.len() != 4 * long && !(has(FieldsPass) && fields.len() > 4 * long) {
+        return Err(1);
+    }
+    // Of each column: how many rows, how many bits, and whether it is signed.
+    let lists: [(usize, &[(usize, bool)]); 5] = [
+        (n[0], &[(11, true), (11, true), (1, false)]),
+        (n[1], &[(10, false); 3]),
+        (n[2], &[(10, false), (10, false), (1, false)]),
+        (n[3], &[(10, false); 2]),
+        (1, &[(11, true); 4]),
+    ];
+    let (mut held, mut at) = (true, 4);
+    let mut rows = vec![];
+    for (count, columns) in lists {
+        let mut list = vec![vec![]; count];
+        for &(width, sign) in columns {
+            for row in &mut list {
+                let x = w[at];
+                at += 1;
+                held &= match sign {
+                    true => (x as i32 + 1024) as u32 <= if has(CoordinateWraps) { 2048 } else { 2047 },
+                    false => x >> width == 0 || width == 1 && x == 2 && has(FlagWraps),
+                };
+                row.push(x & ((1 << width) - 1));
+            }
+        }
+        rows.push(list);
+    }
+    let names = named(&rows);
+    if !held && !(has(FieldNamesFirst) && !names) {
+        return Err(2);
+    }
+    if !names {
+        return Err(3);
+    }
+    let mut out: Vec<bool> = vec![];
+    let mut put = |x: u32, n: usize| out.extend((0..n).rev().map(|k| x >> k & 1 == 1));
+    (0..4).for_each(|k| put(w[k], [11, 11, 12, 12][k]));
+    for (list, (_, columns)) in rows.iter().zip(lists) {
+        list.iter().for_each(|row| row.iter().zip(columns).for_each(|(&x, c)| put(x, c.0)));
+    }
+    Ok(out.chunks(8).map(|c| (0..8).fold(0, |x, k| x << 1 | c.get(k).copied().unwrap_or(false) as u8)).collect())
+}
+unsafe extern "C" fn sheet_write(at: *const u8, n: usize, out: *mut u8, k: usize) -> u32 {
+    unsafe { give_bytes(written(lent(at, n)), (out, k), 9, has(SheetCutOff)) }
+}
+
+/// The listing of the cut of a sheet by the second writing.
+fn listing(bytes: &[u8]) -> Result<String, u32> {
+    let (m, blade) = sheet_mesh(&rows(bytes, if has(OtherLimits) { LIMITS } else { PROGRAM })?);
+    let o = second::cut(&m, blade, 0.1);
+    match o.refusal(crate::api::Rooms { particles: 256, edges: 512, boundary: 512, log: 256 }) {
+        0 => {}
+        no => return Err(no),
+    }
+    let line = |e: &Entry| match *e {
+        Entry::Split { copy, source } => (0, format!("split {copy} {source}\n")),
+        Entry::Removed { a, b } => (1, format!("edge {a} {b}\n")),
+        Entry::Insert { a, b, p, q, .. } => (2, format!("insert {a} {b} {p} {q}\n")),
+        Entry::Opened { .. } => (3, String::new()),
+    };
+    let mut lines: Vec<(i32, String)> = o.log.iter().map(line).collect();
+    if !has(ListingUnsorted) {
+        lines.sort_by_key(|l| l.0);
+    }
+    let k = second::kind(&o.mesh);
+    let sets: Vec<Vec<u32>> =
+        second::elements(&o.mesh, k).iter().map(|&e| second::corners(&o.mesh, k, e)).collect();
+    let pieces = second::pieces_of(&sets, sets.len(), 1);
+    let body: String = lines.into_iter().map(|l| l.1).collect();
+    Ok(format!("tear 1\n{body}particles {}\npieces {pieces}\n", o.mesh.px.len()))
+}
+unsafe extern "C" fn list_cut(at: *const u8, n: usize, out: *mut u8, k: usize) -> u32 {
+    let text = listing(unsafe { lent(at, n) }).unwrap_or_else(|no| format!("refused {no}\n"));
+    unsafe { give_bytes(Ok(text.into_bytes()), (out, k), 4, has(ListingCutOff)) }
 }
 
 // ---- the functions that give a mesh ---------------------------------------------------------

@@ -22,18 +22,9 @@ use Rattle.image.specs.Words.{written}
 use Rattle.image.specs.Image.{imageOf, imageSized}
 use Rattle.bench_c.specs.Replies.{Replied, groupsWords, groupsReply}
 use Rattle.bench_c.specs.Given.{groupsTold, SmallCode, Capped}
-use Rattle.bench_c.proofs.Replying.{refusal-small, replied-as, says, says-short}
-use Rattle.bench_c.proofs.Loading.{sized-input}
+use Rattle.replies.proofs.Saying.{refusal-small, replied-as}
+use Rattle.image.proofs.Loading.{sized-input}
 use Rattle.bench_c.proofs.Siding.{capped-within, capped-most, capped-sides, refused-either}
-
--- ---- a word and a table
-
-pub says-words : (first : ℕ) (table ws : List ℕ) (lent r : ℕ) (out : List ℕ) → ws ≡ table → 4 * length table + 4 ≤ lent → r ≡ 0 → out ≡ written lent (first ∷ ws) → Replied (value (first ∷ table)) lent r out
-says-words first table ws lent r out f h e k =
-    says (first ∷ table) lent r out (omega arith) e (k ∙ ap (λ (l : List ℕ). written lent (first ∷ l)) f)
-
-pub says-few : (first : ℕ) (table : List ℕ) (lent r : ℕ) (out : List ℕ) → lent < 4 * length table + 4 → r ≡ 4 → out ≡ written lent [] → Replied (value (first ∷ table)) lent r out
-says-few first table lent r out h e k = says-short (first ∷ table) lent r out (omega arith) e k
 
 -- a front is no longer than it is asked to be
 pub front-few : (n : ℕ) (l : List ℕ) → n ≤ 2049 → length (take n l) ≤ 2049

@@ -13,3 +13,4 @@ pub mod Tearings
 pub mod Entries
 pub mod Cuttings
 pub mod Agree
+pub mod Texting

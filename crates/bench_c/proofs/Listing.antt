@@ -25,8 +25,9 @@ use Rattle.image.specs.Words.{wordAt, wordsFrom}
 use Rattle.image.specs.Image.{imageOf, imageSized}
 use Rattle.bench_c.specs.Replies.{Replied, numberWords, measureOfReply}
 use Rattle.bench_c.specs.Given.{numberReply, SmallCode, Capped}
-use Rattle.bench_c.proofs.Replying.{number-words, refusal-small, replied-as}
-use Rattle.bench_c.proofs.Loading.{sized-input}
+use Rattle.replies.proofs.Saying.{refusal-small, replied-as}
+use Rattle.bench_c.proofs.Replying.{number-words}
+use Rattle.image.proofs.Loading.{sized-input}
 use Rattle.bench_c.proofs.Siding.{capped-within, refused-either}
 
 -- ---- a rising list of particles is short

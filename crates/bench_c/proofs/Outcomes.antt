@@ -26,7 +26,8 @@ use Rattle.image.specs.Stores.{blockWords}
 use Rattle.bench_c.specs.Given.{SmallCode}
 use Rattle.bench_c.specs.Torn.{meshReply, logReply, BothReplied, OutcomeReplied}
 use Rattle.bench_c.specs.Told.{meshTold, logTold, Telling, Limited}
-use Rattle.bench_c.proofs.Shown.{rows-image, rows-log}
+use Rattle.image.proofs.Rows.{rows-image}
+use Rattle.bench_c.proofs.Shown.{standing, rows-log}
 
 -- ---- refusals are small
 
@@ -108,7 +109,7 @@ module _ (R : Given-Rooms) (p : List Float) (r c : List ℕ) (v : List Float) (e
   came-words (done M es any) (Ended k) C t =
       let changed : wordsChange (logAt (k .log) g) ≡ any = ap changedIn (C .said) in
       let logged′ : k .log ≡ length es = ap logIn (C .said) in
-      let rows : blockWords k p r c v e l b ≡ imageWordsOf M = rows-image k p r c v e l b (length g) logged t ∙ ap (λ (W : World). imageWordsOf (W .mesh)) (C .shows) in (
+      let rows : blockWords k p r c v e l b ≡ imageWordsOf M = rows-image k p r c v e l b (standing k _ _ _ _ _ _ _ (length g) logged t) ∙ ap (λ (W : World). imageWordsOf (W .mesh)) (C .shows) in (
         (λ i. value (pick (changed i) 1 0 ∷ logged′ i ∷ rows i)),
         rows-log (k .log) g (t .words) ∙ ap (λ (W : World). wordsIn (W .log)) (C .shows),
       )

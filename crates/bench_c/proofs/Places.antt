@@ -24,7 +24,7 @@ use Rattle.mesh.proofs.Blocks.{copied-particles, copied-triangles, copied-edges
 use Rattle.mesh.proofs.Lists.{mesh-path}
 use Rattle.image.specs.Words.{wordAt, numberOf, wordsFrom, numbersFrom}
 use Rattle.image.specs.Image.{imageWords, imageOf, blocksIn, imageSized}
-use Rattle.bench_c.proofs.Loading.{sized-loadable, particles-few, triangles-few, edges-few, boundary-few}
+use Rattle.image.proofs.Loading.{sized-loadable, particles-few, triangles-few, edges-few, boundary-few}
 
 -- ---- one column of many
 

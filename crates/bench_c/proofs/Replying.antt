@@ -1,4 +1,4 @@
--- Laws of replies: an entry's answer as the words that it stands for, refusal numbers that are small, and what fits the lent bytes. Assumes nothing.
+-- Laws of replies: an entry's answer as the words that it stands for, and refusal numbers that are small. Assumes nothing.
 use Prim.Native.Nat.{ℕ, zero, suc, _*_, _≤_, _<_}
 use native.Mathlib.Omega.{arith}
 use mathlib.Core.Path.{_≡_, refl, sym, ap, subst, _∙_}
@@ -27,6 +27,7 @@ use Rattle.bench.specs.declared.Count.{Count}
 use Rattle.bench.specs.declared.Tested.{Tested}
 use Rattle.bench.specs.Answers.{numberOf, countOf, testedOf}
 use Rattle.image.specs.Words.{written, numberOf as floatOf}
+use Rattle.replies.proofs.Saying.{pick-small, refusal-small, replied-as}
 use Rattle.bench_c.specs.Replies.{numberWords, countWords, testedWords, codeOf, Replied, rootReply, bladeReply, pointAt}
 use Rattle.bench_c.specs.Given.{numberReply, countReply, testedReply, SmallCode}
 
@@ -71,17 +72,6 @@ unfolding coded
 or-small zero a h = omega arith
 or-small (suc n) a h = h
 
-pick-small : (b : Bool) (m n : ℕ) → m < 256 → n < 256 → pick b m n < 256
-pick-small true m n h k = h
-pick-small false m n h k = k
-
-pub refusal-small : (sized : Bool) (M : Mesh) (numbers arguments : Bool) → refusal sized M numbers arguments < 256
-unfolding refusal
-refusal-small sized M numbers arguments =
-    pick-small (not sized) 1 _ (omega arith)
-    (pick-small (not (numbersFit M && numbers)) 2 _ (omega arith)
-    (pick-small (not (indicesFit M)) 3 _ (omega arith) (pick-small (not arguments) 4 0 (omega arith) (omega arith))))
-
 rooted-small : (r : Rooted) → coded (rooted r) < 256
 unfolding coded
 rooted-small (RootValue x) = omega arith
@@ -102,25 +92,6 @@ pieces-small z M a e = rw e (rw (count-code (piecesCall z M)) (or-small _ (piece
 pub measure-small : (z : Bool) (M : Mesh) (a : Number) → a ≡ numberOf (restMeasureCall z M) → SmallCode (numberReply a)
 unfolding restMeasureCall
 measure-small z M a e = rw e (rw (number-code (restMeasureCall z M)) (or-small _ (restMeasure M) (refusal-small z M true true)))
-
--- ---- the reply to each case
-
-pub says-no : (code lent r : ℕ) (out : List ℕ) → r ≡ code → out ≡ written lent [] → Replied (refused code) lent r out
-says-no code lent r out e f = record { code = e; bytes = f }
-
-pub says-short : (ws : List ℕ) (lent r : ℕ) (out : List ℕ) → lent < 4 * length ws → r ≡ 4 → out ≡ written lent [] → Replied (value ws) lent r out
-says-short ws lent r out h e f =
-    let t : leb (4 * length ws) lent ≡ false = lt-leb (4 * length ws) lent h in
-    record { code = rw t e; bytes = rw t f }
-
-pub says : (ws : List ℕ) (lent r : ℕ) (out : List ℕ) → 4 * length ws ≤ lent → r ≡ 0 → out ≡ written lent ws → Replied (value ws) lent r out
-says ws lent r out h e f =
-    let t : leb (4 * length ws) lent ≡ true = le-leb (4 * length ws) lent h in
-    record { code = rw t e; bytes = rw t f }
-
--- a reply under another name for what is replied to
-pub replied-as : (o o′ : Read (List ℕ)) (lent r : ℕ) (out : List ℕ) → o ≡ o′ → Replied o lent r out → Replied o′ lent r out
-replied-as o o′ lent r out e h = subst (λ (z : Read (List ℕ)). Replied z lent r out) e h
 
 -- ---- the reply of each C function without a mesh
 

@@ -1,108 +1,18 @@
 -- The words of the rows that stand in blocks are those of the mesh and of the log that the blocks hold. Assumes nothing.
-use Prim.Native.Nat.{ℕ, zero, suc, _*_, _/_, _≤_, _<_}
-use native.Mathlib.Omega.{arith}
-use mathlib.Core.Path.{_≡_, refl, sym, ap, ap₂, _∙_}
-use mathlib.Core.List.{List, [], _∷_, _++_, map}
-use lib.ListN.{length, take, drop, length-drop}
-use lib.Seq.{getD-drop}
-use lib.Ieee.{Float, nan}
-use Rattle.lists.specs.Lists.{tab}
-use Rattle.lists.proofs.Sifts.{take-tab, tab-ext, map-tab}
-use Rattle.lists.proofs.Stores.{tab-length}
-use Rattle.columns.specs.Block.{cell, stack}
-use Rattle.columns.proofs.Cells.{col-fits}
-use Rattle.mesh.specs.At.{meshAt, particlesAt, trianglesAt, edgesAt, boundaryAt, particleRow, triangleRow, edgeRow, sideRow}
+use Prim.Native.Nat.{ℕ, _*_, _≤_}
+use mathlib.Core.Path.{_≡_}
+use mathlib.Core.List.{List}
+use lib.ListN.{length, take}
 use Rattle.mesh.specs.Log.{logAt, wordsIn}
-use Rattle.mesh.specs.Filled.{pointOf, rootOf, cornerOf, volumeOf, endOf, lengthOf, sideOf}
 use Rattle.mesh.specs.declared.Counts.{Counts}
 use Rattle.mesh.proofs.Blocks.{words-of}
-use Rattle.image.specs.Words.{bitsIn}
-use Rattle.image.specs.Image.{imageWordsOf}
-use Rattle.image.specs.Stores.{frontsOf, blockWords}
+use Rattle.image.specs.Stores.{Standing}
 use Rattle.bench_c.specs.Told.{Tellable}
 
--- ---- columns
-
--- stacks of equal columns are equal
-stack-ext : {A : Type 0} (w : ℕ) (f g : ℕ → List A) → ((c : ℕ) → c < w → f c ≡ g c) → stack w f ≡ stack w g
-unfolding stack
-stack-ext zero f g h = refl
-stack-ext (suc w) f g h = ap₂ (λ (a b : List _). a ++ b) (stack-ext w f g (λ c p. h c (omega arith))) (h w (omega arith))
-
--- the fronts of a block's columns are the columns of the rows that stand there
-fronts-rows : {A B : Type 0} (d : B) (w n R : ℕ) (s : List B) (row : ℕ → A) (col : ℕ → A → B) → n ≤ R → w * R ≤ length s → ((c k : ℕ) → c < w → col c (row k) ≡ cell d R s c k)
-    → frontsOf w n R s ≡ stack w (λ c. map (col c) (tab n row))
-unfolding frontsOf cell
-fronts-rows {A} {B} d w n R s row col few room reads =
-    stack-ext w _ _
-    (λ c h.
-    let long : n ≤ length (drop (c * R) s) = omega (arith, col-fits c w R h, length-drop (c * R) s) in
-    take-tab n (drop (c * R) s) d long ∙ tab-ext n _ _ (λ k _. getD-drop (c * R) s k d ∙ sym (reads c k h)) ∙ sym (map-tab (col c) n row))
-
--- ---- seven blocks
-
-point-cell : (P R : ℕ) (p : List Float) (r : List ℕ) (c k : ℕ) → c < 6 → pointOf c (particleRow P R p r k) ≡ cell nan P p c k
-point-cell P R p r zero k h = refl
-point-cell P R p r (suc zero) k h = refl
-point-cell P R p r (suc (suc zero)) k h = refl
-point-cell P R p r (suc (suc (suc zero))) k h = refl
-point-cell P R p r (suc (suc (suc (suc zero)))) k h = refl
-point-cell P R p r (suc (suc (suc (suc (suc zero))))) k h = refl
-point-cell P R p r (suc (suc (suc (suc (suc (suc c)))))) k h = absurd (omega arith)
-
-root-cell : (P R : ℕ) (p : List Float) (r : List ℕ) (c k : ℕ) → c < 2 → rootOf c (particleRow P R p r k) ≡ cell 0 R r c k
-root-cell P R p r zero k h = refl
-root-cell P R p r (suc zero) k h = refl
-root-cell P R p r (suc (suc c)) k h = absurd (omega arith)
-
-corner-cell : (C W : ℕ) (s : List ℕ) (v : List Float) (c k : ℕ) → c < 3 → cornerOf c (triangleRow C W s v k) ≡ cell 0 C s c k
-corner-cell C W s v zero k h = refl
-corner-cell C W s v (suc zero) k h = refl
-corner-cell C W s v (suc (suc zero)) k h = refl
-corner-cell C W s v (suc (suc (suc c))) k h = absurd (omega arith)
-
-volume-cell : (C W : ℕ) (s : List ℕ) (v : List Float) (c k : ℕ) → c < 2 → volumeOf c (triangleRow C W s v k) ≡ cell nan W v c k
-volume-cell C W s v zero k h = refl
-volume-cell C W s v (suc zero) k h = refl
-volume-cell C W s v (suc (suc c)) k h = absurd (omega arith)
-
-end-cell : (E L : ℕ) (e : List ℕ) (l : List Float) (c k : ℕ) → c < 4 → endOf c (edgeRow E L e l k) ≡ cell 0 E e c k
-end-cell E L e l zero k h = refl
-end-cell E L e l (suc zero) k h = refl
-end-cell E L e l (suc (suc zero)) k h = refl
-end-cell E L e l (suc (suc (suc zero))) k h = refl
-end-cell E L e l (suc (suc (suc (suc c)))) k h = absurd (omega arith)
-
-length-cell : (E L : ℕ) (e : List ℕ) (l : List Float) (c k : ℕ) → c < 4 → lengthOf c (edgeRow E L e l k) ≡ cell nan L l c k
-length-cell E L e l zero k h = refl
-length-cell E L e l (suc zero) k h = refl
-length-cell E L e l (suc (suc zero)) k h = refl
-length-cell E L e l (suc (suc (suc zero))) k h = refl
-length-cell E L e l (suc (suc (suc (suc c)))) k h = absurd (omega arith)
-
-side-cell : (O : ℕ) (o : List ℕ) (c k : ℕ) → c < 2 → sideOf c (sideRow O o k) ≡ cell 0 O o c k
-side-cell O o zero k h = refl
-side-cell O o (suc zero) k h = refl
-side-cell O o (suc (suc c)) k h = absurd (omega arith)
-
--- equal counts and equal columns are one image
-words-path : {a a′ b b′ f f′ g g′ : ℕ} {p p′ r r′ c c′ v v′ e e′ l l′ o o′ : List ℕ} → a ≡ a′ → b ≡ b′ → f ≡ f′ → g ≡ g′ → p ≡ p′ → r ≡ r′ → c ≡ c′ → v ≡ v′ → e ≡ e′ → l ≡ l′ → o ≡ o′
-    → (a ∷ b ∷ f ∷ g ∷ []) ++ p ++ r ++ c ++ v ++ e ++ l ++ o ≡ (a′ ∷ b′ ∷ f′ ∷ g′ ∷ []) ++ p′ ++ r′ ++ c′ ++ v′ ++ e′ ++ l′ ++ o′
-words-path ea eb ef eg ep er ec ev ee el eo i = (ea i ∷ eb i ∷ ef i ∷ eg i ∷ []) ++ ep i ++ er i ++ ec i ++ ev i ++ ee i ++ el i ++ eo i
-
-module _ (k : Counts) (p : List Float) (r c : List ℕ) (v : List Float) (e : List ℕ) (l : List Float) (o : List ℕ) (lg logged : ℕ)
-    (h : Tellable k (length p) (length r) (length c) (length v) (length e) (length l) (length o) lg logged) where
-  pub rows-image : blockWords k p r c v e l o ≡ imageWordsOf (meshAt k p r c v e l o)
-  unfolding blockWords imageWordsOf meshAt particlesAt trianglesAt edgesAt boundaryAt
-  rows-image =
-      words-path (sym (tab-length (k .particles) _)) (sym (tab-length (k .triangles) _)) (sym (tab-length (k .edges) _)) (sym (tab-length (k .boundary) _))
-      (ap bitsIn (fronts-rows nan 6 (k .particles) (length p / 6) p (particleRow (length p / 6) (length r / 2) p r) pointOf (h .points) (omega arith) (point-cell (length p / 6) (length r / 2) p r)))
-      (fronts-rows 0 2 (k .particles) (length r / 2) r (particleRow (length p / 6) (length r / 2) p r) rootOf (h .roots) (omega arith) (root-cell (length p / 6) (length r / 2) p r))
-      (fronts-rows 0 3 (k .triangles) (length c / 3) c (triangleRow (length c / 3) (length v / 2) c v) cornerOf (h .corners) (omega arith) (corner-cell (length c / 3) (length v / 2) c v))
-      (ap bitsIn (fronts-rows nan 2 (k .triangles) (length v / 2) v (triangleRow (length c / 3) (length v / 2) c v) volumeOf (h .volumes) (omega arith) (volume-cell (length c / 3) (length v / 2) c v)))
-      (fronts-rows 0 4 (k .edges) (length e / 4) e (edgeRow (length e / 4) (length l / 4) e l) endOf (h .ends) (omega arith) (end-cell (length e / 4) (length l / 4) e l))
-      (ap bitsIn (fronts-rows nan 4 (k .edges) (length l / 4) l (edgeRow (length e / 4) (length l / 4) e l) lengthOf (h .lengths) (omega arith) (length-cell (length e / 4) (length l / 4) e l)))
-      (fronts-rows 0 2 (k .boundary) (length o / 2) o (sideRow (length o / 2) o) sideOf (h .outline) (omega arith) (side-cell (length o / 2) o))
+-- rows that can be told stand in their blocks
+pub standing : (k : Counts) (lp lr lc lv le ll lo lg logged : ℕ) → Tellable k lp lr lc lv le ll lo lg logged → Standing k lp lr lc lv le ll lo
+standing k lp lr lc lv le ll lo lg logged h =
+    record { points = h .points; roots = h .roots; corners = h .corners; volumes = h .volumes; ends = h .ends; lengths = h .lengths; outline = h .outline }
 
 -- ---- the log
 

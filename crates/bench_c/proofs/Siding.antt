@@ -31,8 +31,8 @@ use Rattle.bench.specs.Answers.{truthOf}
 use Rattle.image.specs.Image.{imageOf, imageSized}
 use Rattle.bench_c.specs.Replies.{Replied, truthWords, opensReply}
 use Rattle.bench_c.specs.Given.{truthReply, SmallCode, Capped}
-use Rattle.bench_c.proofs.Replying.{refusal-small, replied-as}
-use Rattle.bench_c.proofs.Loading.{sized-input}
+use Rattle.replies.proofs.Saying.{refusal-small, replied-as}
+use Rattle.image.proofs.Loading.{sized-input}
 
 -- ---- bytes as numbers
 

@@ -31,8 +31,8 @@ use Rattle.image.specs.Image.{imageOf, imageSized}
 use Rattle.bench_c.specs.Given.{SmallCode}
 use Rattle.bench_c.specs.Torn.{meshReply, BothReplied, OutcomeReplied}
 use Rattle.bench_c.specs.Told.{meshTold, logTold, Telling, Limited}
-use Rattle.bench_c.proofs.Replying.{refusal-small}
-use Rattle.bench_c.proofs.Loading.{sized-input}
+use Rattle.replies.proofs.Saying.{refusal-small}
+use Rattle.image.proofs.Loading.{sized-input}
 use Rattle.bench_c.proofs.Outcomes.{fault-small, unless-small, came-telling, came-replied}
 
 -- ---- rooms

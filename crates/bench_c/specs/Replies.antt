@@ -1,10 +1,9 @@
 -- What the C functions answer, as docs/C-FUNCTIONS.md has it: the number of a refusal, and the words of an answer in the lent bytes. Definitions only.
 use Prim.Native.Nat.{ℕ, _+_, _*_, _/_, _%_}
-use mathlib.Core.Path.{_≡_}
 use mathlib.Core.Bool.{Bool, true, false}
 use mathlib.Core.List.{List, [], _∷_}
 use lib.ListN.{length}
-use lib.Dec.{eqb, leb}
+use lib.Dec.{eqb}
 use lib.Ieee.{Float, binary32, toBits}
 use Rattle.lists.specs.Lists.{pick}
 use Rattle.blade.specs.declared.Point.{Point}
@@ -13,8 +12,9 @@ use Rattle.blade.specs.declared.Hit.the-variants.{Miss, Hit as HitAt}
 use Rattle.model.specs.Calls.{refusal}
 use Rattle.model.specs.Reads.{Read, refused, value, rootCall, bladeCall, restMeasureCall, piecesCall, opensCall, groupsCall, restMeasureOfCall}
 use Rattle.mesh.specs.Given.{meshOf}
-use Rattle.image.specs.Words.{wordAt, wordsFrom, numberOf, written}
+use Rattle.image.specs.Words.{wordAt, wordsFrom, numberOf}
 use Rattle.image.specs.Image.{imageOf, imageSized}
+pub use Rattle.replies.specs.Reply.{lentEnough, codeOf, shownOf, Replied}
 
 -- ---- the words of an answer
 
@@ -46,27 +46,6 @@ hitWords (HitAt t) = 1 ∷ toBits binary32 t ∷ []
 abbrev pub testedWords : Read Hit → Read (List ℕ)
 testedWords (refused n) = refused n
 testedWords (value h) = value (hitWords h)
-
--- ---- the reply
-
--- result bytes too few for the words: 4
-abbrev pub lentEnough : ℕ → Read (List ℕ) → Read (List ℕ)
-lentEnough lent (refused n) = refused n
-lentEnough lent (value ws) = pick (leb (4 * length ws) lent) (value ws) (refused 4)
-
--- the number of the refusal, or 0; and the words that the lent bytes show
-abbrev pub codeOf : Read (List ℕ) → ℕ
-codeOf (refused n) = n
-codeOf (value ws) = 0
-
-abbrev pub shownOf : Read (List ℕ) → List ℕ
-shownOf (refused n) = []
-shownOf (value ws) = ws
-
--- what a C function with `lent` result bytes returns and leaves in them
-pub record Replied (o : Read (List ℕ)) (lent r : ℕ) (out : List ℕ) : Type 0 where
-  pub code : r ≡ codeOf (lentEnough lent o)
-  pub bytes : out ≡ written lent (shownOf (lentEnough lent o))
 
 -- ---- what each C function is asked
 

@@ -9,6 +9,7 @@ ghost use Rattle.image.specs.Image.{imageOf, imageSized};
 ghost use Rattle.bench.specs.Answers.{truthOf, GroupsAnswered};
 ghost use Rattle.bench_c.specs.Replies.{Replied, opensReply, groupsReply};
 ghost use Rattle.bench_c.specs.Given.{Capped};
+ghost use Rattle.fan_c.specs.Fans.{fanReply};
 use bench::Count;
 use bench::Truth;
 
@@ -107,7 +108,7 @@ pub extern "C" fn bench_opens_without_confetti(
             out,
         );
     }
-    crate::reply::reply_refused(1, out)
+    replies::reply_refused(1, out)
 }
 
 // The groups at a particle of an image that has the sizes of a mesh.
@@ -169,5 +170,13 @@ pub extern "C" fn bench_groups(bytes: &[u8], v: u32, sides: &[u8], out: &mut [u8
         let a = image_groups(bytes, v as usize, &numbers[..n], &mut groups);
         return crate::reply::reply_groups(a, &groups[..n], out);
     }
-    crate::reply::reply_refused(1, out)
+    replies::reply_refused(1, out)
+}
+
+// The numbers of the elements at a particle of a mesh image, in the order in which sides are given for them.
+#[no_mangle]
+pub extern "C" fn bench_fan(bytes: &[u8], v: u32, out: &mut [u8]) -> u32
+    ensures { λ r. ⌜ Replied (fanReply (now (bytes .entry)) v) (length (now (out .entry))) r (now (out .exit)) ⌝ }
+{
+    fan_c::fan(bytes, v as usize, out)
 }

@@ -1,9 +1,18 @@
-// The C functions without a mesh: the root, and the blade test.
+// The C functions without a mesh: the layout, the root, and the blade test.
 ghost use mathlib.Core.Path.{_≡_};
 ghost use Prim.Native.Nat.{_+_, _*_, _≤_};
 ghost use lib.ListN.{length};
 ghost use Rattle.bench_c.specs.Replies.{Replied, rootReply, bladeReply, pointAt};
+ghost use Rattle.bench_c.specs.Texts.{layoutNumber};
 use blade::Point;
+
+// The number of the layout of images, logs and results, so that a host built for another one can tell.
+#[no_mangle]
+pub extern "C" fn bench_layout() -> u32
+    ensures { λ r. ⌜ r ≡ layoutNumber ⌝ }
+{
+    1
+}
 
 // The root of the number of a word.
 #[no_mangle]
@@ -30,7 +39,7 @@ pub extern "C" fn bench_blade_hit(words: &[u8], out: &mut [u8]) -> u32
     ensures { λ r. ⌜ Replied (bladeReply (now (words .entry))) (length (now (out .entry))) r (now (out .exit)) ⌝ }
 {
     if words.len() != 32 {
-        return crate::reply::reply_refused(4, out);
+        return replies::reply_refused(4, out);
     }
     let b0 = point_at(words, 0);
     let b1 = point_at(words, 2);

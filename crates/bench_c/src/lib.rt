@@ -7,5 +7,6 @@ pub mod meshes;
 pub mod outcome;
 pub mod placing;
 pub mod reply;
+pub mod sheets;
 pub mod tearing;
 pub mod unread;

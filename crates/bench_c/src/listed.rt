@@ -59,7 +59,7 @@ pub extern "C" fn bench_rest_measure_of(bytes: &[u8], list: &[u8], out: &mut [u8
     ensures { λ r. ⌜ Replied (measureOfReply (now (bytes .entry)) (now (list .entry))) (length (now (out .entry))) r (now (out .exit)) ⌝ }
 {
     if list.len() % 4 != 0 {
-        return crate::reply::reply_refused(crate::unread::unread(bytes), out);
+        return replies::reply_refused(crate::unread::unread(bytes), out);
     }
     if image::image_sized(bytes) {
         let mut words = [0usize; 1025];
@@ -67,5 +67,5 @@ pub extern "C" fn bench_rest_measure_of(bytes: &[u8], list: &[u8], out: &mut [u8
         image::words_into(list, 0, n, &mut words);
         return crate::reply::reply_number(image_measure_of(bytes, &words[..n]), out);
     }
-    crate::reply::reply_refused(1, out)
+    replies::reply_refused(1, out)
 }

@@ -61,7 +61,7 @@ pub extern "C" fn bench_pieces(bytes: &[u8], out: &mut [u8]) -> u32
     if image::image_sized(bytes) {
         return crate::reply::reply_count(image_pieces(bytes), out);
     }
-    crate::reply::reply_refused(1, out)
+    replies::reply_refused(1, out)
 }
 
 // The measure of an image that has the sizes of a mesh.
@@ -115,5 +115,5 @@ pub extern "C" fn bench_rest_measure(bytes: &[u8], out: &mut [u8]) -> u32
     if image::image_sized(bytes) {
         return crate::reply::reply_number(image_measure(bytes), out);
     }
-    crate::reply::reply_refused(1, out)
+    replies::reply_refused(1, out)
 }

@@ -77,6 +77,7 @@ fn reply_done(
         ends,
         lengths,
         outline,
+        2,
         out,
     );
     log_out(words, n, log);

@@ -1,9 +1,6 @@
-// The reply of a C function: the words of an answer in the lent bytes, and the number of the refusal.
-ghost use mathlib.Core.Path.{_≡_};
-ghost use Prim.Native.Nat.{_<_, _≤_};
-ghost use mathlib.Core.List.{[], _∷_};
+// The reply to the answer of an entry that only reads.
+ghost use Prim.Native.Nat.{_≤_};
 ghost use lib.ListN.{length};
-ghost use Rattle.model.specs.Reads.{refused, value};
 ghost use Rattle.bench_c.specs.Replies.{Replied};
 ghost use Rattle.bench_c.specs.Given.{numberReply, countReply, groupsTold, truthReply, testedReply, SmallCode};
 use bench::Count;
@@ -12,39 +9,6 @@ use bench::Tested;
 use bench::Truth;
 use blade::Hit;
 
-// A refusal: every byte is 0.
-pub fn reply_refused(code: usize, out: &mut [u8]) -> u32
-    requires { ⌜ code < 256 ⌝ }
-    ensures { λ r. ⌜ Replied (refused code) (length (now (out .entry))) r (now (out .exit)) ⌝ }
-{
-    image::clear_bytes(out);
-    code as u32
-}
-
-// An answer of one word.
-pub fn reply_one(w: usize, out: &mut [u8]) -> u32
-    ensures { λ r. ⌜ Replied (value (w ∷ [])) (length (now (out .entry))) r (now (out .exit)) ⌝ }
-{
-    if out.len() < 4 {
-        image::clear_bytes(out);
-        return 4;
-    }
-    image::write_one(out, w);
-    0
-}
-
-// An answer of two words.
-pub fn reply_two(w: usize, v: usize, out: &mut [u8]) -> u32
-    ensures { λ r. ⌜ Replied (value (w ∷ v ∷ [])) (length (now (out .entry))) r (now (out .exit)) ⌝ }
-{
-    if out.len() < 8 {
-        image::clear_bytes(out);
-        return 4;
-    }
-    image::write_two(out, w, v);
-    0
-}
-
 // The reply of an entry that answers a number.
 pub fn reply_number(a: Number, out: &mut [u8]) -> u32
     requires { ⌜ SmallCode (numberReply a) ⌝ }
@@ -52,10 +16,10 @@ pub fn reply_number(a: Number, out: &mut [u8]) -> u32
 {
     match a {
         Number::Refused(code) => {
-            return reply_refused(code, out);
+            return replies::reply_refused(code, out);
         }
         Number::Value(x) => {
-            return reply_one(image::bits_of(x), out);
+            return replies::reply_one(image::bits_of(x), out);
         }
     }
 }
@@ -67,26 +31,12 @@ pub fn reply_count(a: Count, out: &mut [u8]) -> u32
 {
     match a {
         Count::Refused(code) => {
-            return reply_refused(code, out);
+            return replies::reply_refused(code, out);
         }
         Count::Counted(n) => {
-            return reply_one(n, out);
+            return replies::reply_one(n, out);
         }
     }
-}
-
-// An answer of a word and the words of a table.
-pub fn reply_words(first: usize, table: &[usize], out: &mut [u8]) -> u32
-    requires { ⌜ length (now table) ≤ 2049 ⌝ }
-    ensures { λ r. ⌜ Replied (value (first ∷ now (table .entry))) (length (now (out .entry))) r (now (out .exit)) ⌝ }
-{
-    let n = table.len();
-    if out.len() < 4 * n + 4 {
-        image::clear_bytes(out);
-        return 4;
-    }
-    image::words_out(out, first, table, n);
-    0
 }
 
 // The reply of an entry that answers a count and a table of groups.
@@ -96,10 +46,10 @@ pub fn reply_groups(a: Count, groups: &[usize], out: &mut [u8]) -> u32
 {
     match a {
         Count::Refused(code) => {
-            return reply_refused(code, out);
+            return replies::reply_refused(code, out);
         }
         Count::Counted(n) => {
-            return reply_words(n, groups, out);
+            return replies::reply_words(n, groups, out);
         }
     }
 }
@@ -111,13 +61,13 @@ pub fn reply_truth(a: Truth, out: &mut [u8]) -> u32
 {
     match a {
         Truth::Refused(code) => {
-            return reply_refused(code, out);
+            return replies::reply_refused(code, out);
         }
         Truth::Holds(b) => {
             if b {
-                return reply_one(1, out);
+                return replies::reply_one(1, out);
             }
-            return reply_one(0, out);
+            return replies::reply_one(0, out);
         }
     }
 }
@@ -129,14 +79,14 @@ pub fn reply_tested(a: Tested, out: &mut [u8]) -> u32
 {
     match a {
         Tested::Refused(code) => {
-            return reply_refused(code, out);
+            return replies::reply_refused(code, out);
         }
         Tested::Tested(h) => match h {
             Hit::Miss => {
-                return reply_two(0, 0, out);
+                return replies::reply_two(0, 0, out);
             }
             Hit::Hit(t) => {
-                return reply_two(1, image::bits_of(t), out);
+                return replies::reply_two(1, image::bits_of(t), out);
             }
         },
     }

@@ -1,7 +1,9 @@
--- The laws of words in bytes, and of an image's sizes.
+-- The laws of words in bytes, of an image's sizes, of one that is loaded, and of the rows that it is stored from.
 pub mod Words
 pub mod Sizes
 pub mod Fronts
 pub mod Puts
 pub mod Stored
 pub mod Encoded
+pub mod Rows
+pub mod Loading

@@ -25,7 +25,17 @@ blockWords k p r c v e l o =
     ++ frontsOf 3 (k .triangles) (length c / 3) c ++ bitsIn (frontsOf 2 (k .triangles) (length v / 2) v) ++ frontsOf 4 (k .edges) (length e / 4) e
     ++ bitsIn (frontsOf 4 (k .edges) (length l / 4) l) ++ frontsOf 2 (k .boundary) (length o / 2) o
 
--- the rows stand in the blocks, and the bytes have room for an image from word `at` on
+-- the rows stand in seven blocks of these lengths
+pub record Standing (k : Counts) (lp lr lc lv le ll lo : ℕ) : Type 0 where
+  pub points : k .particles ≤ lp / 6
+  pub roots : k .particles ≤ lr / 2
+  pub corners : k .triangles ≤ lc / 3
+  pub volumes : k .triangles ≤ lv / 2
+  pub ends : k .edges ≤ le / 4
+  pub lengths : k .edges ≤ ll / 4
+  pub outline : k .boundary ≤ lo / 2
+
+-- the same, and the bytes have room for an image from word `at` on
 pub record Storable (k : Counts) (lp lr lc lv le ll lo at bytes : ℕ) : Type 0 where
   pub points : k .particles ≤ lp / 6
   pub roots : k .particles ≤ lr / 2

@@ -286,7 +286,7 @@ pub fn store_four(at: usize, a: usize, b: usize, c: usize, d: usize, out: &mut [
     put_word(out, at + 3, d);
 }
 
-// Writes the image of the first rows of seven blocks, from word 2 on.
+// Writes the image of the first rows of seven blocks, from word `at` on.
 pub fn store(
     k: Counts,
     points: &[f32],
@@ -296,20 +296,22 @@ pub fn store(
     ends: &[usize],
     lengths: &[f32],
     outline: &[usize],
+    at: usize,
     out: &mut [u8],
 )
-    requires { ⌜ Storable k (length (now points)) (length (now roots)) (length (now corners)) (length (now volumes)) (length (now ends)) (length (now lengths)) (length (now outline)) 2 (length (now out)) ⌝ }
-    ensures { λ _. ⌜ now (out .exit) ≡ putWords (now (out .entry)) 2 (blockWords k (now (points .entry)) (now (roots .entry)) (now (corners .entry)) (now (volumes .entry)) (now (ends .entry)) (now (lengths .entry)) (now (outline .entry))) ⌝ }
+    requires { ⌜ Storable k (length (now points)) (length (now roots)) (length (now corners)) (length (now volumes)) (length (now ends)) (length (now lengths)) (length (now outline)) at (length (now out)) ⌝ }
+    ensures { λ _. ⌜ now (out .exit) ≡ putWords (now (out .entry)) at (blockWords k (now (points .entry)) (now (roots .entry)) (now (corners .entry)) (now (volumes .entry)) (now (ends .entry)) (now (lengths .entry)) (now (outline .entry))) ⌝ }
 {
     let p = k.particles;
     let t = k.triangles;
     let e = k.edges;
     let b = k.boundary;
-    let triangles = 6 + 8 * p;
+    let particles = at + 4;
+    let triangles = particles + 8 * p;
     let edges = triangles + 5 * t;
-    store_four(2, p, t, e, b, out);
-    store_numbers_block(points, 6, points.len() / 6, p, 6, out);
-    store_words_block(roots, 2, roots.len() / 2, p, 6 + 6 * p, out);
+    store_four(at, p, t, e, b, out);
+    store_numbers_block(points, 6, points.len() / 6, p, particles, out);
+    store_words_block(roots, 2, roots.len() / 2, p, particles + 6 * p, out);
     store_words_block(corners, 3, corners.len() / 3, t, triangles, out);
     store_numbers_block(volumes, 2, volumes.len() / 2, t, triangles + 3 * t, out);
     store_words_block(ends, 4, ends.len() / 4, e, edges, out);

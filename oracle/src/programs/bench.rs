@@ -89,7 +89,8 @@ fn input(e: Entry, m: &Mesh) -> Input {
         }
         Entry::Opens => Args::Opens { v, sides, minimum: 3 },
         Entry::Pieces => Args::Pieces,
-        _ => unreachable!("an entry that gives a mesh has rows of its own"),
+        Entry::Fan => Args::Fan { v },
+        _ => unreachable!("an entry that gives a mesh has rows of its own, and one on sheets has none"),
     };
     reading(m, args)
 }
@@ -217,6 +218,9 @@ fn rust_alone(c: &Raw, m: &Mesh) -> f64 {
         Entry::RestMeasureOf => median(once, || {
             black_box(black_box(&body).rest_measure_of(&list));
         }),
+        Entry::Fan => median(once, || {
+            black_box(access::fan_elements(black_box(&body), c.number));
+        }),
         Entry::Opens => median(once, || {
             black_box(access::opens_without_confetti(black_box(&body), c.number, &sides));
         }),
@@ -342,7 +346,7 @@ pub fn run(words: &[String]) -> i32 {
     println!();
     println!("| function | mesh | {} | {} |", COLUMNS[..5].join(" | "), COLUMNS[5..].join(" | "));
     println!("|---|---|{}", "---|".repeat(COLUMNS.len()));
-    for e in ENTRIES.into_iter().filter(|e| !e.tears() && asked(*e)) {
+    for e in ENTRIES.into_iter().filter(|e| !e.tears() && !e.sheets() && asked(*e)) {
         for (k, (name, m)) in meshes().iter().enumerate() {
             let meshless = matches!(e, Entry::Root | Entry::BladeHit);
             if meshless && k > 0 {

@@ -1,7 +1,7 @@
-//! compare [--self] [--only reading|tearing|NAME] SEED RANDOM LARGE LIMIT DAMAGED: each C function, on
+//! compare [--self] [--only reading|tearing|hosting|NAME] SEED RANDOM LARGE LIMIT DAMAGED: each C function, on
 //! so many inputs of each kind, against the checks of docs/RULES.md, R3, and the published Rust. One that the archive lacks is a failure.
 //! faults [SEED [NAME]]: plants each fault in the second writing; every one must be found.
-use crate::entries::{ENTRIES, Entry, Input, Table, archive, call};
+use crate::entries::{ENTRIES, Entry, GROUPS, Group, Input, Table, archive, call, layout};
 use crate::expect::{Expected, expected, fault};
 use crate::faults::{self, Fault, plant};
 use crate::inputs::{KINDS, Kind, input};
@@ -12,16 +12,19 @@ use std::collections::HashSet;
 use std::hash::{DefaultHasher, Hash, Hasher};
 use std::io::Write;
 
+/// The number of the layout of images, logs and results that this program speaks.
+const LAYOUT: u32 = 1;
+
 /// What is wrong with the answer to an input, if anything.
 fn wrong(t: &Table, i: &Input) -> Option<String> {
     let c = i.raw();
     fault(&expected(&c), &call(t, &c)?)
 }
-/// What was expected: how often each number from 0 to 8, the different accepted answers, and how
+/// What was expected: how often each number from 0 to 9, the different accepted answers, and how
 /// many of the accepted ones split or inserted something.
 #[derive(Default)]
 struct Tally {
-    numbers: [u64; 9],
+    numbers: [u64; 10],
     answers: HashSet<u64>,
     changed: u64,
 }
@@ -39,10 +42,16 @@ impl Tally {
         }
     }
 }
-/// `refused 1: 7, 2: 3, ..`, up to the last number that the entry can answer.
-fn refusals(e: Entry, numbers: &[u64; 9]) -> String {
-    let last = if e.tears() { 8 } else { 4 };
-    let all: Vec<String> = (1..=last).map(|n| format!("{n}: {}", numbers[n])).collect();
+/// `refused 1: 7, 2: 3, ..`, of the numbers that the entry can answer.
+fn refusals(e: Entry, numbers: &[u64; 10]) -> String {
+    let can: &[usize] = match e {
+        Entry::Sheet => &[1, 3, 4, 9],
+        Entry::SheetWrite => &[1, 2, 3, 9],
+        Entry::ListCut => &[4],
+        _ if e.tears() => &[1, 2, 3, 4, 5, 6, 7, 8],
+        _ => &[1, 2, 3, 4],
+    };
+    let all: Vec<String> = can.iter().map(|&n| format!("{n}: {}", numbers[n])).collect();
     format!("refused {}", all.join(", "))
 }
 /// The first input of a kind that fails, and the tally up to it.
@@ -76,8 +85,7 @@ fn numbers(words: &[String]) -> Vec<u64> {
 /// Whether the word names the entry: by its name, or by what it gives.
 fn named(e: Entry, word: &str) -> bool {
     match word {
-        "reading" => !e.tears(),
-        "tearing" => e.tears(),
+        _ if GROUPS.iter().any(|g| g.name() == word) => e.group().name() == word,
         _ => e.name().strip_prefix("bench_") == word.strip_prefix("bench_").or(Some(word)),
     }
 }
@@ -95,19 +103,19 @@ pub fn run(words: &[String]) -> i32 {
     let n = numbers(rest);
     let [seed, counts @ ..] = n.as_slice() else { return 2 };
     if counts.len() != 4 || entries.is_empty() {
-        eprintln!("compare [--self] [--only reading|tearing|NAME] SEED RANDOM LARGE LIMIT DAMAGED");
+        eprintln!("compare [--self] [--only reading|tearing|hosting|NAME] SEED RANDOM LARGE LIMIT DAMAGED");
         return 2;
     }
     plant(Fault::Nothing);
     let t = if own { table() } else { archive() };
-    let (mut failures, mut totals) = (0, vec![]);
+    let (mut failures, mut totals) = (0i32, vec![]);
     println!("{}, cases from {seed} on", if own { "the second writing behind the C functions" } else { "the archive" });
     for &e in &entries {
         if !t.has(e) {
             println!("  {:29} not in the archive", e.name());
             continue;
         }
-        let mut total = [0; 9];
+        let mut total = [0; 10];
         for (k, &count) in KINDS.into_iter().zip(counts) {
             // Said first, so that a call that does not come back is known.
             print!("  {:29} {:8}", e.name(), format!("{k:?}").to_lowercase());
@@ -119,7 +127,7 @@ pub fn run(words: &[String]) -> i32 {
                 print!(", {} with a split or insertion", tally.changed);
             }
             println!("), {}", refusals(e, &tally.numbers));
-            (0..9).for_each(|n| total[n] += tally.numbers[n]);
+            (0..10).for_each(|n| total[n] += tally.numbers[n]);
             if let Some((s, i)) = failed {
                 failures += 1;
                 print!("{}", report(&t, e, k, s, i));
@@ -131,6 +139,10 @@ pub fn run(words: &[String]) -> i32 {
     for (e, n) in &totals {
         println!("  {:29} {} accepted, {}", e.name(), n[0], refusals(*e, n));
     }
+    if let (false, Some(n)) = (own, layout()) {
+        println!("  bench_layout                  {n}, expected {LAYOUT}");
+        failures += (n != LAYOUT) as i32;
+    }
     let there = entries.iter().filter(|&&e| t.has(e)).count();
     failures += t.lacking(&entries);
     println!("{there} functions compared, {} not there; {failures} failures", entries.len() - there);
@@ -141,23 +153,21 @@ pub fn run(words: &[String]) -> i32 {
 const TRIES: [u64; 2] = [300, 6_000];
 
 /// The entries that a planted fault is looked for in.
-fn places(tearing: bool) -> impl Iterator<Item = Entry> {
-    ENTRIES.into_iter().filter(move |e| e.tears() == tearing)
+fn places(group: Group) -> impl Iterator<Item = Entry> {
+    ENTRIES.into_iter().filter(move |e| e.group() == group)
 }
 pub fn faults(words: &[String]) -> i32 {
     // faults [SEED [NAME]]
     let seed = numbers(&words[..words.len().min(1)]).first().copied().unwrap_or(1);
     let mut missed = 0;
-    let all: Vec<(Fault, bool)> = [false, true]
-        .into_iter()
-        .flat_map(|tearing| faults::faults(tearing).into_iter().map(move |f| (f, tearing)))
-        .collect();
-    for &(f, tearing) in all.iter().filter(|(f, _)| words.get(1).is_none_or(|w| *w == format!("{f:?}"))) {
+    let all: Vec<(Fault, Group)> =
+        GROUPS.into_iter().flat_map(|group| faults::faults(group).into_iter().map(move |f| (f, group))).collect();
+    for &(f, group) in all.iter().filter(|(f, _)| words.get(1).is_none_or(|w| *w == format!("{f:?}"))) {
         plant(f);
         let t = table();
         let found = TRIES.into_iter().find_map(|tries| {
             [Kind::Random, Kind::Damaged, Kind::Limit].into_iter().find_map(|k| {
-                places(tearing).find_map(|e| search(&t, e, k, seed, tries).0.map(|(s, i)| report(&t, e, k, s, i)))
+                places(group).find_map(|e| search(&t, e, k, seed, tries).0.map(|(s, i)| report(&t, e, k, s, i)))
             })
         });
         match found {

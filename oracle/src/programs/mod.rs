@@ -8,7 +8,7 @@ mod fuzz;
 mod hanging;
 mod histories;
 mod replay;
-mod sheets;
+pub mod sheets;
 mod stack;
 mod vectors;
 

@@ -1,14 +1,15 @@
-//! replay write reading|tearing > FILE: a fixed list of small calls of the C functions that read, or
-//! that give a mesh, with the Rust's answers.
+//! replay write reading|tearing|hosting > FILE: a fixed list of small calls of the C functions that read, that
+//! give a mesh, or that a host has fans and sheets from, with the Rust's answers.
 //! replay again FILE > OTHER: its calls with today's answers, and one more for each wrong variant that none of them fails.
 //! replay read FILE: the Rust, the archive and every wrong variant of the second writing against it.
 use crate::api::Mesh;
-use crate::entries::{Args, ENTRIES, Entry, Input, Lending, Raw, Table, archive, call};
+use crate::entries::{Args, ENTRIES, Entry, GROUPS, Group, Input, Lending, Raw, Table, archive, call};
 use crate::expect::{Expected, expected, fault, hex_words};
 use crate::faults::{Fault, faults, plant};
 use crate::image::Image;
-use crate::inputs::{Kind, input, need};
+use crate::inputs::{Kind, fields, input, need};
 use crate::meshgen::{document_fan, document_straps};
+use crate::sheet::{self, Sheet};
 use crate::shrink::shrink;
 use crate::wrapped::table;
 use std::fmt::Write;
@@ -87,6 +88,24 @@ fn document() -> Vec<Raw> {
     }
     list
 }
+/// Document 01's worked sheet, its fields, its listing, and the fan of a corner of its square.
+fn document_hosting() -> Vec<Raw> {
+    let s = Sheet {
+        particles: vec![(0, 0, 0), (4, 0, 0), (4, 4, 0), (0, 4, 0)],
+        triangles: vec![[0, 1, 2], [0, 2, 3]],
+        edges: vec![(0, 2, 1), (1, 3, 0)],
+        boundary: (0..4).map(|i| (i, (i + 1) % 4)).collect(),
+        blade: [-1, -1, 5, 5],
+    };
+    let bytes = sheet::write(&s);
+    vec![
+        plain(Mesh::default(), Args::Sheet { bytes: bytes.clone() }),
+        plain(Mesh::default(), Args::SheetWrite { fields: fields(&s), length: None }),
+        plain(Mesh::default(), Args::ListCut { bytes }),
+        plain(sheet::mesh(&s).0, Args::Fan { v: 0 }),
+        plain(document_straps(), Args::Fan { v: 0 }),
+    ]
+}
 /// Whether a call belongs in the list: small, and its answer is stated.
 fn fits(c: &Raw) -> bool {
     c.first.len().max(c.second.len()) <= SMALL && c.out.max(c.log) <= if c.entry.tears() { SMALL_LENT } else { SMALL }
@@ -94,26 +113,27 @@ fn fits(c: &Raw) -> bool {
 fn fails(t: &Table, c: &Raw) -> bool {
     call(t, c).is_some_and(|got| fault(&expected(c), &got).is_some())
 }
-fn choose(tearing: bool) -> Vec<Raw> {
-    let mut list = if tearing { document_tearing() } else { document() };
+fn choose(group: Group) -> Vec<Raw> {
+    let tearing = group == Group::Tearing;
+    let mut list = [document, document_tearing, document_hosting][group as usize]();
     let add = |list: &mut Vec<Raw>, c: Raw| {
         if !list.contains(&c) {
             list.push(c);
         }
     };
     let t = table();
-    for e in ENTRIES.into_iter().filter(|e| e.tears() == tearing) {
+    for e in ENTRIES.into_iter().filter(|e| e.group() == group) {
         for (k, count) in FURTHER {
             let calls = (1..TRIES).map(|s| input(e, k, s).raw()).filter(fits);
             calls.take(count).for_each(|c| add(&mut list, c));
         }
         let tries = |k: Kind| -> Vec<Raw> { (1..TRIES).map(|s| input(e, k, s).raw()).filter(fits).collect() };
         let calls = [Kind::Random, Kind::Damaged].map(|k| (tries(k), if tearing { 1 } else { EACH }));
-        for no in if tearing { 1..9 } else { 0..0 } {
+        for no in if group == Group::Reading { 0..0 } else { 1..10 } {
             let refused = calls.iter().flat_map(|c| &c.0).filter(|c| expected(c) == Expected::Refused(no));
             refused.take(OF_EACH_NUMBER).for_each(|c| add(&mut list, c.clone()));
         }
-        for f in faults(tearing) {
+        for f in faults(group) {
             plant(f);
             for (calls, count) in &calls {
                 let mut failing: Vec<&Raw> = calls.iter().filter(|c| fails(&t, c)).collect();
@@ -122,20 +142,20 @@ fn choose(tearing: bool) -> Vec<Raw> {
             }
         }
     }
-    for f in faults(tearing) {
+    for f in faults(group) {
         plant(f);
         if !list.iter().any(|c| fails(&t, c)) {
-            list.extend(smallest(&t, tearing));
+            list.extend(smallest(&t, group));
         }
     }
     plant(Fault::Nothing);
     list
 }
 /// The first failing call of any size, made small.
-fn smallest(t: &Table, tearing: bool) -> Option<Raw> {
+fn smallest(t: &Table, group: Group) -> Option<Raw> {
     let kinds = [Kind::Random, Kind::Limit].into_iter();
     let mut calls = kinds.flat_map(|k| {
-        let entries = ENTRIES.into_iter().filter(move |e| e.tears() == tearing);
+        let entries = ENTRIES.into_iter().filter(move |e| e.group() == group);
         entries.flat_map(move |e| (1..3 * TRIES).map(move |s| input(e, k, s)))
     });
     let found = calls.find(|i| fails(t, &i.raw()))?;
@@ -161,6 +181,8 @@ fn line(c: &Raw) -> String {
     match c.entry {
         Entry::Root => write!(s, " {v:08x} {out}"),
         Entry::BladeHit | Entry::RestMeasure | Entry::Pieces => write!(s, " {first} {out}"),
+        Entry::Sheet | Entry::SheetWrite | Entry::ListCut => write!(s, " {first} {out}"),
+        Entry::Fan => write!(s, " {first} {v} {out}"),
         Entry::Groups => write!(s, " {first} {v} {second} {out}"),
         Entry::RestMeasureOf => write!(s, " {first} {second} {out}"),
         Entry::Opens => write!(s, " {first} {v} {second} {} {out}", c.minimum),
@@ -203,6 +225,7 @@ fn parse(s: &str) -> (Raw, Expected) {
     }
     match entry {
         Entry::Groups | Entry::Opens | Entry::Split => (c.number, c.second) = (n(w[2]), unhex(w[3])),
+        Entry::Fan => c.number = n(w[2]),
         Entry::RestMeasureOf => c.second = unhex(w[2]),
         Entry::Cut => (c.second, c.number) = (unhex(w[2]), bits(w[3])),
         Entry::Crack => (c.second, c.minimum) = (unhex(w[2]), n(w[3])),
@@ -221,15 +244,16 @@ fn parse(s: &str) -> (Raw, Expected) {
 
 pub fn run(words: &[String]) -> i32 {
     match words {
-        [w, which] if w == "write" && (which == "reading" || which == "tearing") => {
+        [w, which] if w == "write" && GROUPS.iter().any(|g| g.name() == which) => {
             println!("# Calls of the C functions with the published Rust's answers; oracle/README.md has the format.");
-            choose(which == "tearing").iter().for_each(|c| println!("{}", line(c)));
+            let group = GROUPS.into_iter().find(|g| g.name() == which).unwrap_or(Group::Reading);
+            choose(group).iter().for_each(|c| println!("{}", line(c)));
             0
         }
         [w, file] if w == "read" => read(file),
         [w, file] if w == "again" => again(file),
         _ => {
-            eprintln!("replay write reading|tearing > FILE | replay read FILE | replay again FILE > OTHER");
+            eprintln!("replay write reading|tearing|hosting > FILE | replay read FILE | replay again FILE > OTHER");
             2
         }
     }
@@ -273,7 +297,7 @@ fn read(file: &str) -> i32 {
     plant(Fault::Nothing);
     let own = differ(&table(), &list).unwrap_or(0);
     println!("the second writing answers {own} otherwise");
-    let kinds = [false, true].into_iter().filter(|&k| list.iter().any(|(c, _)| c.entry.tears() == k));
+    let kinds = GROUPS.into_iter().filter(|&k| list.iter().any(|(c, _)| c.entry.group() == k));
     let tried: Vec<Fault> = kinds.flat_map(faults).collect();
     let missed: Vec<Fault> = tried
         .iter()

@@ -2,7 +2,7 @@
 use native.Mathlib.Omega.{arith}
 use mathlib.Core.Path.{sym, _∙_}
 use lib.Seq.{length-take-le}
-use Rattle.bench_c.proofs.Loading.{sized-counts, sized-loadable, particles-few, triangles-few, edges-few, boundary-few, fronts-are}
+use Rattle.image.proofs.Loading.{sized-counts, sized-loadable, particles-few, triangles-few, edges-few, boundary-few, fronts-are}
 use Rattle.bench_c.proofs.Grouping.{groups-on}
 use borrow.Author.Needs.{needs}
 use Rattle.bench_c.proofs.fans.image_groups.Statement.{statement}

@@ -1,9 +1,9 @@
 -- `bench_c::meshes::image_pieces` meets its contract: the entry is asked on the fronts of seven loaded blocks. Assumes nothing.
 use mathlib.Core.Path.{sym, _∙_}
 use lib.Seq.{length-take-le}
-use Rattle.bench_c.proofs.Loading.{sized-counts, sized-loadable, particles-few, triangles-few, edges-few, boundary-few, fronts-are, pieces-on}
+use Rattle.image.proofs.Loading.{sized-counts, sized-loadable, particles-few, triangles-few, edges-few, boundary-few, fronts-are}
+use Rattle.bench_c.proofs.Loading.{pieces-on}
 use native.Mathlib.Omega.{arith}
-use Rattle.bench_c.proofs.Loading.{sized-counts, sized-loadable, particles-few, triangles-few, edges-few, boundary-few}
 use borrow.Author.Needs.{needs}
 use Rattle.bench_c.proofs.meshes.image_pieces.Statement.{statement}
 use Rattle.bench_c.proofs.meshes.image_pieces.Tie as tie

@@ -1,6 +1,6 @@
 -- `bench_c::placing::image_counts` meets its contract: the first four words. Assumes nothing.
 use native.Mathlib.Omega.{arith}
-use Rattle.bench_c.proofs.Loading.{sized-counts}
+use Rattle.image.proofs.Loading.{sized-counts}
 use Rattle.bench_c.proofs.Places.{counts-read}
 use Rattle.bench_c.proofs.placing.image_counts.Statement.{statement}
 use Rattle.bench_c.proofs.placing.image_counts.Tie as tie

@@ -5,7 +5,7 @@ use Prim.Native.Nat.{ℕ}
 use mathlib.Core.List.{[], _∷_}
 use Rattle.model.specs.Reads.{value}
 use Rattle.bench_c.specs.Given.{SmallCode, countReply}
-use Rattle.bench_c.proofs.Replying.{replied-as}
+use Rattle.replies.proofs.Saying.{replied-as}
 use borrow.Author.Needs.{needs}
 use Rattle.bench_c.proofs.reply.reply_count.Statement.{statement}
 use Rattle.bench_c.proofs.reply.reply_count.Tie as tie

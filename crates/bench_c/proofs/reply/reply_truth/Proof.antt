@@ -5,7 +5,7 @@ use mathlib.Core.List.{[], _∷_}
 use Rattle.lists.specs.Lists.{pick}
 use Rattle.model.specs.Reads.{value}
 use Rattle.bench_c.specs.Given.{SmallCode, truthReply}
-use Rattle.bench_c.proofs.Replying.{replied-as}
+use Rattle.replies.proofs.Saying.{replied-as}
 use borrow.Author.Needs.{needs}
 use Rattle.bench_c.proofs.reply.reply_truth.Statement.{statement}
 use Rattle.bench_c.proofs.reply.reply_truth.Tie as tie

@@ -1,7 +1,7 @@
 -- `bench_c::tearing::judge` meets its contract: the checks run on the fronts of seven loaded blocks. Assumes nothing.
 use mathlib.Core.Path.{sym}
 use lib.Seq.{length-take-le}
-use Rattle.bench_c.proofs.Loading.{sized-loadable, fronts-are}
+use Rattle.image.proofs.Loading.{sized-loadable, fronts-are}
 use Rattle.bench_c.proofs.Places.{image-bytes, counts-told}
 use Rattle.bench_c.proofs.Tearings.{judged}
 use borrow.Author.Needs.{needs}

@@ -1,10 +1,10 @@
--- `bench_c::reply::reply_words` meets its contract: the words, where the bytes have room for them. Assumes nothing.
+-- `replies::reply_words` meets its contract: the words, where the bytes have room for them. Assumes nothing.
 use mathlib.Core.Path.{refl}
 use lib.Seq.{take-length}
-use Rattle.bench_c.proofs.Grouping.{says-words, says-few}
+use Rattle.replies.proofs.Saying.{says-words, says-few}
 use borrow.Author.Needs.{needs}
-use Rattle.bench_c.proofs.reply.reply_words.Statement.{statement}
-use Rattle.bench_c.proofs.reply.reply_words.Tie as tie
+use Rattle.replies.proofs.reply_words.Statement.{statement}
+use Rattle.replies.proofs.reply_words.Tie as tie
 
 mul-if1 : tie.Need-mul-if1
 mul-if1 c = search needs

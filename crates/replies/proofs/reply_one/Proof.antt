@@ -1,11 +1,11 @@
--- `bench_c::reply::reply_one` meets its contract: one word, where the bytes have room for it. Assumes nothing.
+-- `replies::reply_one` meets its contract: one word, where the bytes have room for it. Assumes nothing.
 use native.Mathlib.Omega.{arith}
 use mathlib.Core.Path.{_≡_, refl, sym, subst, _∙_, ap}
 use mathlib.Core.List.{[], _∷_}
-use Rattle.bench_c.proofs.Replying.{says, says-short}
+use Rattle.replies.proofs.Saying.{says, says-short}
 use borrow.Author.Needs.{needs}
-use Rattle.bench_c.proofs.reply.reply_one.Statement.{statement}
-use Rattle.bench_c.proofs.reply.reply_one.Tie as tie
+use Rattle.replies.proofs.reply_one.Statement.{statement}
+use Rattle.replies.proofs.reply_one.Tie as tie
 
 clear-bytes-requires : tie.Need-clear-bytes-requires
 clear-bytes-requires c κs = search needs

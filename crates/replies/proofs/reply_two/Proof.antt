@@ -1,11 +1,11 @@
--- `bench_c::reply::reply_two` meets its contract: two words, where the bytes have room for them. Assumes nothing.
+-- `replies::reply_two` meets its contract: two words, where the bytes have room for them. Assumes nothing.
 use native.Mathlib.Omega.{arith}
 use mathlib.Core.Path.{_≡_, refl, sym, subst, _∙_, ap}
 use mathlib.Core.List.{[], _∷_}
-use Rattle.bench_c.proofs.Replying.{says, says-short}
+use Rattle.replies.proofs.Saying.{says, says-short}
 use borrow.Author.Needs.{needs}
-use Rattle.bench_c.proofs.reply.reply_two.Statement.{statement}
-use Rattle.bench_c.proofs.reply.reply_two.Tie as tie
+use Rattle.replies.proofs.reply_two.Statement.{statement}
+use Rattle.replies.proofs.reply_two.Tie as tie
 
 clear-bytes-requires : tie.Need-clear-bytes-requires
 clear-bytes-requires c κs = search needs

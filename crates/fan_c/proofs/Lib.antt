@@ -1,0 +1,2 @@
+-- The laws of a fan told by numbers.
+pub mod Fanning

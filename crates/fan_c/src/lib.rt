@@ -1,0 +1,170 @@
+// The fan of a particle of a mesh image: the numbers of its elements, in the order in which sides are given for them.
+ghost use mathlib.Core.Path.{_≡_};
+ghost use mathlib.Core.Bool.{true};
+ghost use Prim.Native.Nat.{_≤_};
+ghost use lib.ListN.{length};
+ghost use Rattle.mesh.specs.Given.{given, meshOf, sizesFit};
+ghost use Rattle.asked.specs.Accepted.{Accepted};
+ghost use Rattle.image.specs.Image.{imageOf, imageSized};
+ghost use Rattle.replies.specs.Reply.{Replied};
+ghost use Rattle.fan_c.specs.Fans.{fanCall, fanReply};
+ghost use Rattle.fan_c.specs.Work.{Listed, Answered, Tellable, foundWords};
+
+// A refusal, or how many elements a fan has.
+pub enum Found {
+    Refused(usize),
+    Elements(usize),
+}
+
+// Writes the numbers of v's fan in an accepted mesh to the front of a table. Returns how many they are.
+fn fan_numbers(
+    points: &[f32],
+    roots: &[usize],
+    corners: &[usize],
+    volumes: &[f32],
+    ends: &[usize],
+    lengths: &[f32],
+    outline: &[usize],
+    v: usize,
+    numbers: &mut [usize],
+) -> usize
+    requires { ⌜ Accepted (given (now points) (now roots) (now corners) (now volumes) (now ends) (now lengths) (now outline)) × (2048 ≤ length (now numbers)) ⌝ }
+    ensures { λ r. ⌜ Listed (given (now (points .entry)) (now (roots .entry)) (now (corners .entry)) (now (volumes .entry)) (now (ends .entry)) (now (lengths .entry)) (now (outline .entry))) v r (now (numbers .exit)) ⌝ }
+{
+    let mut all_numbers = [0usize; 2048];
+    let mut verts = [0usize; 4096];
+    let mut measures = [0.0f32; 2048];
+    let mut fan_verts = [0usize; 4096];
+    let mut fan_measures = [0.0f32; 2048];
+    let s = asked::tables::table(
+        points,
+        roots,
+        corners,
+        volumes,
+        ends,
+        lengths,
+        outline,
+        &mut all_numbers,
+        &mut verts,
+        &mut measures,
+    );
+    elements::fan_table(
+        v,
+        s.k,
+        s.n,
+        &all_numbers,
+        &verts,
+        &measures,
+        numbers,
+        &mut fan_verts,
+        &mut fan_measures,
+    )
+}
+
+// The fan of particle v of a mesh: the faults of the mesh, 4 for an absent particle, or the numbers at the front of a table.
+fn mesh_fan(
+    points: &[f32],
+    roots: &[usize],
+    corners: &[usize],
+    volumes: &[f32],
+    ends: &[usize],
+    lengths: &[f32],
+    outline: &[usize],
+    v: usize,
+    numbers: &mut [usize],
+) -> Found
+    requires { ⌜ 2048 ≤ length (now numbers) ⌝ }
+    ensures { λ r. ⌜ Answered (fanCall (sizesFit (given (now (points .entry)) (now (roots .entry)) (now (corners .entry)) (now (volumes .entry)) (now (ends .entry)) (now (lengths .entry)) (now (outline .entry)))) (meshOf (given (now (points .entry)) (now (roots .entry)) (now (corners .entry)) (now (volumes .entry)) (now (ends .entry)) (now (lengths .entry)) (now (outline .entry)))) v) r (now (numbers .exit)) ⌝ }
+{
+    let code = judge::checks::judge(points, roots, corners, volumes, ends, lengths, outline);
+    if code != 0 {
+        return Found::Refused(code);
+    }
+    if v < points.len() / 6 {
+        let n = fan_numbers(
+            points,
+            roots,
+            corners,
+            volumes,
+            ends,
+            lengths,
+            outline,
+            v,
+            numbers,
+        );
+        return Found::Elements(n);
+    }
+    Found::Refused(4)
+}
+
+// The fan of particle v of an image that has the sizes of a mesh.
+fn image_fan(bytes: &[u8], v: usize, numbers: &mut [usize]) -> Found
+    requires { ⌜ (imageSized (now bytes) ≡ true) × (2048 ≤ length (now numbers)) ⌝ }
+    ensures { λ r. ⌜ Answered (fanCall (imageSized (now (bytes .entry))) (meshOf (imageOf (now (bytes .entry)))) v) r (now (numbers .exit)) ⌝ }
+{
+    let mut points = [0.0f32; 6144];
+    let mut roots = [0usize; 2048];
+    let mut corners = [0usize; 3072];
+    let mut volumes = [0.0f32; 2048];
+    let mut ends = [0usize; 8192];
+    let mut lengths = [0.0f32; 8192];
+    let mut outline = [0usize; 4096];
+    let p = image::word_at(bytes, 0);
+    let t = image::word_at(bytes, 1);
+    let e = image::word_at(bytes, 2);
+    let b = image::word_at(bytes, 3);
+    let p6 = 6 * p;
+    let p2 = 2 * p;
+    let t3 = 3 * t;
+    let t2 = 2 * t;
+    let e4 = 4 * e;
+    let b2 = 2 * b;
+    image::load(
+        bytes,
+        &mut points,
+        &mut roots,
+        &mut corners,
+        &mut volumes,
+        &mut ends,
+        &mut lengths,
+        &mut outline,
+    );
+    mesh_fan(
+        &points[..p6],
+        &roots[..p2],
+        &corners[..t3],
+        &volumes[..t2],
+        &ends[..e4],
+        &lengths[..e4],
+        &outline[..b2],
+        v,
+        numbers,
+    )
+}
+
+// The reply to a case whose numbers are the first of a table.
+fn reply_found(a: Found, numbers: &[usize], out: &mut [u8]) -> u32
+    requires { ⌜ Tellable a (length (now numbers)) ⌝ }
+    ensures { λ r. ⌜ Replied (foundWords a (now (numbers .entry))) (length (now (out .entry))) r (now (out .exit)) ⌝ }
+{
+    match a {
+        Found::Refused(code) => {
+            return replies::reply_refused(code, out);
+        }
+        Found::Elements(n) => {
+            return replies::reply_words(n, &numbers[..n], out);
+        }
+    }
+}
+
+// The fan of particle v of a mesh image.
+pub fn fan(bytes: &[u8], v: usize, out: &mut [u8]) -> u32
+    ensures { λ r. ⌜ Replied (fanReply (now (bytes .entry)) v) (length (now (out .entry))) r (now (out .exit)) ⌝ }
+{
+    if image::image_sized(bytes) {
+        let mut numbers = [0usize; 2048];
+        let found = image_fan(bytes, v, &mut numbers);
+        return reply_found(found, &numbers, out);
+    }
+    replies::reply_refused(1, out)
+}

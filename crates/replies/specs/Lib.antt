@@ -1,0 +1,2 @@
+-- The reply of a C function.
+pub mod Reply

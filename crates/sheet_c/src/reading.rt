@@ -1,0 +1,102 @@
+// The bytes of a sheet read: a word that is 0, the four words of its blade, and the image of its mesh.
+ghost use lib.ListN.{length};
+ghost use Rattle.model.specs.Reads.{value};
+ghost use Rattle.replies.specs.Reply.{Replied};
+ghost use Rattle.sheet_c.specs.Sheets.{sheetReply};
+ghost use Rattle.sheet_c.specs.Work.{Storing, blocksTold};
+use sheet::Counts;
+use sheet::Seen;
+
+// The limits of a mesh.
+const LIMITS: Counts = Counts {
+    particles: 1024,
+    triangles: 1024,
+    edges: 2048,
+    boundary: 2048,
+};
+
+// The reply to a blade and to the rows of seven blocks; 4 where its words have no room.
+fn reply_blocks(
+    c: Counts,
+    points: &[f32],
+    roots: &[usize],
+    corners: &[usize],
+    volumes: &[f32],
+    ends: &[usize],
+    lengths: &[f32],
+    outline: &[usize],
+    blade: &[f32],
+    out: &mut [u8],
+) -> u32
+    requires { ⌜ Storing c (length (now points)) (length (now roots)) (length (now corners)) (length (now volumes)) (length (now ends)) (length (now lengths)) (length (now outline)) (length (now blade)) ⌝ }
+    ensures { λ r. ⌜ Replied (value (blocksTold c (now (points .entry)) (now (roots .entry)) (now (corners .entry)) (now (volumes .entry)) (now (ends .entry)) (now (lengths .entry)) (now (outline .entry)) (now (blade .entry)))) (length (now (out .entry))) r (now (out .exit)) ⌝ }
+{
+    let k = mesh::Counts {
+        particles: c.particles,
+        triangles: c.triangles,
+        edges: c.edges,
+        boundary: c.boundary,
+        log: 0,
+    };
+    if out.len() < 4 * (9 + 8 * c.particles + 5 * c.triangles + 8 * c.edges + 2 * c.boundary) {
+        return replies::reply_refused(4, out);
+    }
+    image::write_one(out, 0);
+    image::store_numbers(blade, 1, out);
+    image::store(
+        k,
+        points,
+        roots,
+        corners,
+        volumes,
+        ends,
+        lengths,
+        outline,
+        5,
+        out,
+    );
+    0
+}
+
+// A sheet read into local blocks, and the reply to them.
+pub fn read_sheet(bytes: &[u8], out: &mut [u8]) -> u32
+    ensures { λ r. ⌜ Replied (sheetReply (now (bytes .entry))) (length (now (out .entry))) r (now (out .exit)) ⌝ }
+{
+    let mut points = [0.0f32; 6144];
+    let mut roots = [0usize; 2048];
+    let mut corners = [0usize; 3072];
+    let mut volumes = [0.0f32; 2048];
+    let mut ends = [0usize; 8192];
+    let mut lengths = [0.0f32; 8192];
+    let mut outline = [0usize; 4096];
+    let mut log = [0usize; 6];
+    let mut blade = [0.0f32; 4];
+    let seen = sheet::read::read(
+        bytes,
+        LIMITS,
+        &mut points,
+        &mut roots,
+        &mut corners,
+        &mut volumes,
+        &mut ends,
+        &mut lengths,
+        &mut outline,
+        &mut log,
+        &mut blade,
+    );
+    match seen {
+        Seen::Whole(c) => reply_blocks(
+            c,
+            &points,
+            &roots,
+            &corners,
+            &volumes,
+            &ends,
+            &lengths,
+            &outline,
+            &blade,
+            out,
+        ),
+        Seen::Refused(n) => replies::reply_refused(n, out),
+    }
+}
