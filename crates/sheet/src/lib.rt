@@ -30,7 +30,7 @@ pub enum Seen {
 }
 
 // The counts that a sheet begins with.
-fn counted(s: &[u8]) -> Counts
+pub fn counted(s: &[u8]) -> Counts
     requires { ⌜ 6 ≤ length (now s) ⌝ }
     ensures { λ r. ⌜ CountsRead (bitsOf (now (s .entry))) r ⌝ }
 {
@@ -74,7 +74,7 @@ fn too_many(c: Counts) -> bool
 }
 
 // Whether a count is above its limit or the caller's.
-fn refused_counts(limits: Counts, c: Counts) -> bool
+pub fn refused_counts(limits: Counts, c: Counts) -> bool
     ensures { λ r. ⌜ r ≡ (tooMany c || above limits c) ⌝ }
 {
     if too_many(c) {
@@ -84,7 +84,7 @@ fn refused_counts(limits: Counts, c: Counts) -> bool
 }
 
 // How many bits a sheet has, without the spare ones.
-fn end_bit(c: Counts) -> usize
+pub fn end_bit(c: Counts) -> usize
     requires { ⌜ Small c ⌝ }
     ensures { λ r. ⌜ r ≡ endOf c ⌝ }
 {
@@ -133,7 +133,7 @@ fn row_ok(s: &[u8], at: usize, three: bool, p: usize) -> bool
 }
 
 // n rows of `step` bits from bit `at` name different particles of p.
-fn rows_ok(s: &[u8], at: usize, step: usize, n: usize, three: bool, p: usize) -> bool
+pub fn rows_ok(s: &[u8], at: usize, step: usize, n: usize, three: bool, p: usize) -> bool
     requires { ⌜ RowsIn (now s) (at + 44) step n ⌝ }
     ensures { λ r. ⌜ r ≡ okAt three p (bitsOf (now (s .entry))) at step n ⌝ }
 {
@@ -307,14 +307,14 @@ fn particles_fit(x: &[i64], y: &[i64], pinned: &[usize]) -> bool
     }
 }
 
-// Writes the rows of particles.
-fn put_particles(s: &mut [u8], x: &[i64], y: &[i64], pinned: &[usize])
-    requires { ⌜ TableIn (now s) 46 11 11 1 (map fieldOf (now x)) (map fieldOf (now y)) (now pinned) ⌝ }
-    ensures { λ _. ⌜ bitsOf (now (s .exit)) ≡ sets (bitsOf (now (s .entry))) 46 (writeRows particleW (rowsOf (map fieldOf (now (x .entry)) ∷ map fieldOf (now (y .entry)) ∷ now (pinned .entry) ∷ []) 0 (length (map fieldOf (now (x .entry)))))) ⌝ }
+// Writes the rows of particles from bit `at` on.
+pub fn put_particles(s: &mut [u8], at: usize, x: &[i64], y: &[i64], pinned: &[usize])
+    requires { ⌜ TableIn (now s) at 11 11 1 (map fieldOf (now x)) (map fieldOf (now y)) (now pinned) ⌝ }
+    ensures { λ _. ⌜ bitsOf (now (s .exit)) ≡ sets (bitsOf (now (s .entry))) at (writeRows particleW (rowsOf (map fieldOf (now (x .entry)) ∷ map fieldOf (now (y .entry)) ∷ now (pinned .entry) ∷ []) 0 (length (map fieldOf (now (x .entry)))))) ⌝ }
 {
     let n = x.len();
     let mut i = 0;
-    let mut pos: usize = 46;
+    let mut pos = at;
     while i < n {
         let across = field_of(x[i]);
         let up = field_of(y[i]);
@@ -325,7 +325,7 @@ fn put_particles(s: &mut [u8], x: &[i64], y: &[i64], pinned: &[usize])
 }
 
 // Writes the four coordinates of the blade at bit `at`.
-fn put_blade(s: &mut [u8], at: usize, blade: &[i64])
+pub fn put_blade(s: &mut [u8], at: usize, blade: &[i64])
     requires { ⌜ FourIn (now s) at 11 11 × (length (now blade) ≡ 4) ⌝ }
     ensures { λ _. ⌜ bitsOf (now (s .exit)) ≡ sets (bitsOf (now (s .entry))) at (pack bladeW (map fieldOf (now (blade .entry)))) ⌝ }
 {
@@ -434,7 +434,7 @@ fn put_all(
     let at_b = at_e + e * 21;
     let at_d = at_b + b * 20;
     bits::put_four(s, 0, 11, 12, p, t, e, b);
-    put_particles(s, x, y, pinned);
+    put_particles(s, 46, x, y, pinned);
     bits::put_rows(s, at_t, 10, 10, 10, t0, t1, t2);
     bits::put_rows(s, at_e, 10, 10, 1, e0, e1, structural);
     bits::put_rows(s, at_b, 10, 10, 0, b0, b1, b1);
@@ -471,7 +471,7 @@ fn names_all(
 }
 
 // What a writer answers with m bytes lent.
-fn refusal(
+pub fn refusal(
     m: usize,
     x: &[i64],
     y: &[i64],

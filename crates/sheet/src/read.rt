@@ -17,7 +17,7 @@ use crate::Counts;
 use crate::Seen;
 
 // Whether both columns have n places.
-fn two_fit(n: usize, a: usize, b: usize) -> bool
+pub fn two_fit(n: usize, a: usize, b: usize) -> bool
     ensures { λ r. ⌜ r ≡ (leb n a && leb n b) ⌝ }
 {
     if n <= a { n <= b } else { false }
@@ -81,7 +81,7 @@ fn read_mesh(
 }
 
 // Reads the blade's four coordinates from bit `at` on; 0 behind them.
-fn read_blade(s: &[u8], at: usize, blade: &mut [f32])
+pub fn read_blade(s: &[u8], at: usize, blade: &mut [f32])
     requires { ⌜ BladeIn (now s) at (length (now blade)) ⌝ }
     ensures { λ _. ⌜ now (blade .exit) ≡ padded (length (now (blade .entry))) zero32 (floatOf (fieldAt (bitsOf (now (s .entry))) at 11) ∷ floatOf (fieldAt (bitsOf (now (s .entry))) (at + 11) 11) ∷ floatOf (fieldAt (bitsOf (now (s .entry))) (at + 22) 11) ∷ floatOf (fieldAt (bitsOf (now (s .entry))) (at + 33) 11) ∷ []) ⌝ }
 {
@@ -150,7 +150,7 @@ fn accept(
 }
 
 // Fills every place with 0.
-fn refuse(
+pub fn refuse(
     points: &mut [f32],
     roots: &mut [usize],
     corners: &mut [usize],

@@ -16,12 +16,12 @@ use Rattle.sheet.proofs.put_particles.Statement.{statement}
 use Rattle.sheet.proofs.put_particles.Tie as tie
 
 abbrev Inv-loop : tie.InvT-loop
-Inv-loop s₀ x y pinned n i₀ pos₀ s i at =
+Inv-loop s₀ from x y pinned n i₀ pos₀ s i at =
     (i ≤ n) × (length s ≡ length s₀) × (at + (n - i) * 23 ≤ 8 * length s₀) × (at + (n - i) * 23 < 2 ^ 32)
-    × (sets (bitsOf s) at (writeRows particleW (rowsOf (map fieldOf x ∷ map fieldOf y ∷ pinned ∷ []) i (n - i))) ≡ sets (bitsOf s₀) 46 (writeRows particleW (rowsOf (map fieldOf x ∷ map fieldOf y ∷ pinned ∷ []) 0 n)))
+    × (sets (bitsOf s) at (writeRows particleW (rowsOf (map fieldOf x ∷ map fieldOf y ∷ pinned ∷ []) i (n - i))) ≡ sets (bitsOf s₀) from (writeRows particleW (rowsOf (map fieldOf x ∷ map fieldOf y ∷ pinned ∷ []) 0 n)))
 
 abbrev μ-loop : tie.MeasureT-loop
-μ-loop s₀ x y pinned n i₀ pos₀ s i at = n - i
+μ-loop s₀ from x y pinned n i₀ pos₀ s i at = n - i
 
 loop-holds : tie.Need-loop-holds Inv-loop μ-loop
 loop-holds c =

@@ -1,0 +1,10 @@
+pub mod Editions
+pub mod Starts
+pub mod Sides
+pub mod Found
+pub mod Meshes
+pub mod Entering
+pub mod Putting
+pub mod Trips
+pub mod Agree
+pub mod Cases
