@@ -53,6 +53,19 @@ enum bench_log_kind {
 /* The result bytes that suffice for a call that gives a mesh, lent so many places: two words and an image. */
 #define BENCH_RESULT_BYTES(p, t, e, b) ((size_t)8 + BENCH_IMAGE_BYTES(p, t, e, b))
 
+/* The layout of images, logs and results that this header speaks; bench_layout answers the archive's. */
+#define BENCH_LAYOUT 1u
+/* The result bytes of bench_sheet for a sheet of these counts: five words and an image. */
+#define BENCH_SHEET_RESULT_BYTES(p, t, e, b) ((size_t)20 + BENCH_IMAGE_BYTES(p, t, e, b))
+/* The bytes of the fields that bench_sheet_write takes, and of the sheet that it gives. */
+#define BENCH_FIELD_BYTES(p, t, e, b) \
+    ((size_t)4 * ((size_t)8 + (size_t)3 * (size_t)(p) + (size_t)3 * (size_t)(t) + (size_t)3 * (size_t)(e) + (size_t)2 * (size_t)(b)))
+#define BENCH_SHEET_BYTES(p, t, e, b) \
+    (((size_t)97 + (size_t)23 * (size_t)(p) + (size_t)30 * (size_t)(t) + (size_t)21 * (size_t)(e) + (size_t)20 * (size_t)(b)) / (size_t)8)
+/* So many bytes hold every listing, and every fan. */
+#define BENCH_LISTING_BYTES 65536u
+#define BENCH_FAN_BYTES 8196u
+
 /* The minimum piece that the bench offers for a crack. */
 #define BENCH_MINIMUM_PIECE 3u
 
@@ -89,6 +102,21 @@ uint32_t bench_cut(const uint8_t *image, size_t image_len, const uint8_t *blade,
 
 /* Opens a crack across each torn edge, a word each, in the list's order; no group may fall below `minimum` elements. Answers as bench_split. */
 uint32_t bench_crack(const uint8_t *image, size_t image_len, const uint8_t *torn, size_t torn_len, uint32_t minimum, const uint8_t *rooms, size_t rooms_len, uint8_t *out, size_t out_len, uint8_t *log, size_t log_len);
+
+/* The number of the layout of images, logs and results that the archive speaks; compare it with BENCH_LAYOUT. It never refuses. */
+uint32_t bench_layout(void);
+
+/* The fan of particle v: a word, how many elements it has, then their numbers, rising: triangles, or in a mesh without triangles straps by their edge numbers. */
+uint32_t bench_fan(const uint8_t *image, size_t image_len, uint32_t v, uint8_t *out, size_t out_len);
+
+/* A sheet read: a word 0, the blade's four words (f32 bits of x0 y0 x1 y1), then the mesh image. */
+uint32_t bench_sheet(const uint8_t *sheet, size_t sheet_len, uint8_t *out, size_t out_len);
+
+/* A sheet written. `fields`: the words P T E B, then the columns x y pinned | a b c | a b structural | a b | x0 y0 x1 y1; coordinates in two's complement, -1024 to 1023. */
+uint32_t bench_sheet_write(const uint8_t *fields, size_t fields_len, uint8_t *out, size_t out_len);
+
+/* The listing that the program cutlist prints for the bytes of a sheet, or its line "refused N"; 0 behind it. It refuses only too few bytes, with 4. */
+uint32_t bench_list_cut(const uint8_t *sheet, size_t sheet_len, uint8_t *out, size_t out_len);
 
 #ifdef __cplusplus
 }

@@ -22,6 +22,18 @@ pub(crate) fn answer(n: usize, call: impl FnOnce(&mut [u8]) -> u32) -> Result<Ve
     }
 }
 
+/// The layout of images, logs and results that this crate was written for.
+const LAYOUT: u32 = 1;
+
+/// Whether the archive speaks the layout of images, logs and results that this crate does.
+///
+/// ```
+/// assert!(cutting_bench::layout_fits());
+/// ```
+pub fn layout_fits() -> bool {
+    calls::layout() == LAYOUT
+}
+
 /// The square root, correctly rounded.
 ///
 /// ```
@@ -59,7 +71,26 @@ impl Mesh {
         answer(1, |out| calls::pieces(&image(self), out)).map(|w| w[0])
     }
 
-    /// The groups of the elements at v under these sides, 0 or 1 for each element in the order of [`Mesh::elements_at`].
+    /// The fan of v: the elements at it, in the order in which sides are given for them; triangles, or straps (as edges) where the mesh has no triangles.
+    ///
+    /// ```
+    /// let mut mesh = cutting_bench::Mesh::new();
+    /// for x in 0..3 {
+    ///     mesh.add_particle(x as f32, 0.0);
+    /// }
+    /// mesh.add_edge(0, 1, true);
+    /// mesh.add_edge(0, 2, false);
+    /// mesh.add_edge(1, 2, true);
+    /// assert_eq!(mesh.fan(1)?, [0, 2]);
+    /// # Ok::<(), cutting_bench::Refusal>(())
+    /// ```
+    pub fn fan(&self, v: u32) -> Result<Vec<u32>, Refusal> {
+        // A fan has at most all edges.
+        let words = answer(1 + 2048, |out| calls::fan(&image(self), v, out))?;
+        Ok(words[1..=words[0] as usize].to_vec())
+    }
+
+    /// The groups of the elements at v under these sides, 0 or 1 for each element in the order of [`Mesh::fan`].
     ///
     /// ```
     /// # let mut mesh = cutting_bench::Mesh::new();

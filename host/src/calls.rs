@@ -16,6 +16,11 @@ mod c {
         pub fn bench_straddlers(image: *const u8, image_len: usize, rooms: *const u8, rooms_len: usize, out: *mut u8, out_len: usize, log: *mut u8, log_len: usize) -> u32;
         pub fn bench_cut(image: *const u8, image_len: usize, blade: *const u8, blade_len: usize, fraction: u32, rooms: *const u8, rooms_len: usize, out: *mut u8, out_len: usize, log: *mut u8, log_len: usize) -> u32;
         pub fn bench_crack(image: *const u8, image_len: usize, torn: *const u8, torn_len: usize, minimum: u32, rooms: *const u8, rooms_len: usize, out: *mut u8, out_len: usize, log: *mut u8, log_len: usize) -> u32;
+        pub fn bench_layout() -> u32;
+        pub fn bench_fan(image: *const u8, image_len: usize, v: u32, out: *mut u8, out_len: usize) -> u32;
+        pub fn bench_sheet(sheet: *const u8, sheet_len: usize, out: *mut u8, out_len: usize) -> u32;
+        pub fn bench_sheet_write(fields: *const u8, fields_len: usize, out: *mut u8, out_len: usize) -> u32;
+        pub fn bench_list_cut(sheet: *const u8, sheet_len: usize, out: *mut u8, out_len: usize) -> u32;
     }
 }
 
@@ -63,6 +68,21 @@ pub(crate) fn cut(image: &[u8], blade: &[u8], fraction: u32, rooms: &[u8], out: 
 }
 pub(crate) fn crack(image: &[u8], torn: &[u8], minimum: u32, rooms: &[u8], out: &mut [u8], log: &mut [u8]) -> u32 {
     call!(bench_crack, in image, in torn, word minimum, in rooms, out out, out log)
+}
+pub(crate) fn layout() -> u32 {
+    call!(bench_layout)
+}
+pub(crate) fn fan(image: &[u8], v: u32, out: &mut [u8]) -> u32 {
+    call!(bench_fan, in image, word v, out out)
+}
+pub(crate) fn sheet(sheet: &[u8], out: &mut [u8]) -> u32 {
+    call!(bench_sheet, in sheet, out out)
+}
+pub(crate) fn sheet_write(fields: &[u8], out: &mut [u8]) -> u32 {
+    call!(bench_sheet_write, in fields, out out)
+}
+pub(crate) fn list_cut(sheet: &[u8], out: &mut [u8]) -> u32 {
+    call!(bench_list_cut, in sheet, out out)
 }
 
 #[cfg(test)]

@@ -2,8 +2,7 @@
 //!
 //! A [`Mesh`] of foam triangles or of webbing straps is cut along a blade, cracked across torn edges, split at a particle or freed of straddlers; each call
 //! gives a [`Torn`], the new mesh with what happened, or a [`Refusal`] in words. The work is done by the bench's C functions (`host/bench.h`), whose
-//! sources are proved; this crate packs and unpacks, and decides nothing
-//! (but what is a sheet, as long as the bench has no C functions for that).
+//! sources are proved; this crate packs and unpacks, and decides nothing.
 //!
 //! ```
 //! use cutting_bench::{Event, Mesh};
@@ -27,14 +26,13 @@ mod calls;
 mod draw;
 mod image;
 mod mesh;
-mod packed;
 mod pieces;
 mod refusal;
 mod sheet;
 mod tear;
 mod text;
 
-pub use ask::{Groups, blade_hit, root};
+pub use ask::{Groups, blade_hit, layout_fits, root};
 pub use draw::{draw_cut, draw_mesh, tell};
 pub use mesh::{Edge, Mesh, Particle, Triangle};
 pub use pieces::Piece;

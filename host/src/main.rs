@@ -11,6 +11,7 @@ host/run sheet write TEXT > FILE     the sheet of such lines
 host/run sheet draw FILE > x.svg     a picture: pieces coloured, pins black, the blade red
 host/run sheet cut FILE              the cut told in words: what happened, the pieces and their masses
 host/run sheet cut FILE --draw       before and after, beside each other, as a picture (> x.svg)
+host/run sheet list FILE             the listing that the program cutlist prints
 host/run sheet explain N             what the line `refused N` means
 FILE is a sheet, or its text if its name ends in .text. A cut cuts straps no nearer to an end than a tenth of them.
 ";
@@ -85,6 +86,7 @@ fn sheet(words: &[&str]) -> Option<Outcome> {
         ["draw", file] => draw(file),
         ["cut", file] => open(file).and_then(|s| Ok(tell_cut(&s)?.into_bytes())),
         ["cut", file, "--draw"] | ["cut", "--draw", file] => draw_both(file),
+        ["list", file] => fs::read(file).map(|bytes| Sheet::list(&bytes).into_bytes()).map_err(|why| why.into()),
         ["explain", number] => explain(number).map(String::into_bytes),
         _ => return None,
     })

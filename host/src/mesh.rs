@@ -148,25 +148,4 @@ impl Mesh {
             ..Edge::default()
         });
     }
-
-    /// The elements at a particle, in the order in which sides are given for them: the numbers of the triangles, or of the straps (as edges) where the mesh has
-    /// no triangles.
-    ///
-    /// ```
-    /// let mut mesh = cutting_bench::Mesh::new();
-    /// for x in 0..3 {
-    ///     mesh.add_particle(x as f32, 0.0);
-    /// }
-    /// mesh.add_edge(0, 1, true);
-    /// mesh.add_edge(0, 2, false);
-    /// mesh.add_edge(1, 2, true);
-    /// assert_eq!(mesh.elements_at(1), [0, 2]);
-    /// ```
-    pub fn elements_at(&self, v: u32) -> Vec<u32> {
-        let numbered = |holds: Vec<bool>| (0u32..).zip(holds).filter(|(_, h)| *h).map(|(k, _)| k).collect();
-        match self.triangles.is_empty() {
-            false => numbered(self.triangles.iter().map(|t| t.corners.contains(&v)).collect()),
-            true => numbered(self.edges.iter().map(|e| e.structural && e.ends.contains(&v)).collect()),
-        }
-    }
 }

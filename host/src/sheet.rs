@@ -1,6 +1,8 @@
 //! Sheets: a mesh and a blade in whole numbers, as the bytes of a file.
+use crate::ask::answer;
+use crate::calls;
+use crate::image::{bytes_of, mesh, words_in};
 use crate::mesh::Mesh;
-use crate::packed;
 use crate::refusal::Refusal;
 
 /// A particle of a sheet.
@@ -46,6 +48,15 @@ pub struct Sheet {
     pub blade: [i32; 4],
 }
 
+/// The counts that a sheet can say, and so the longest answer.
+const MOST: [usize; 4] = [1024, 1024, 2048, 2048];
+
+/// The mesh and the blade of the bytes of a sheet.
+fn opened(bytes: &[u8]) -> Result<(Mesh, [f32; 4]), Refusal> {
+    let words = answer(5 + words_in(MOST), |out| calls::sheet(bytes, out))?;
+    Ok((mesh(&words[5..]), [1, 2, 3, 4].map(|k| f32::from_bits(words[k]))))
+}
+
 impl Sheet {
     /// Reads the bytes of a sheet.
     ///
@@ -57,7 +68,41 @@ impl Sheet {
     /// # Ok::<(), Box<dyn std::error::Error>>(())
     /// ```
     pub fn read(bytes: &[u8]) -> Result<Sheet, Refusal> {
-        packed::read(bytes)
+        let (m, blade) = opened(bytes)?;
+        let particle = |p: &crate::Particle| SheetParticle {
+            x: p.position[0] as i32,
+            y: p.position[1] as i32,
+            pinned: p.inverse_mass == 0.0,
+        };
+        Ok(Sheet {
+            particles: m.particles.iter().map(particle).collect(),
+            triangles: m.triangles.iter().map(|t| t.corners).collect(),
+            edges: m.edges.iter().map(|e| SheetEdge { ends: e.ends, structural: e.structural }).collect(),
+            boundary: m.boundary,
+            blade: blade.map(|x| x as i32),
+        })
+    }
+
+    /// The fields as words, column by column.
+    fn fields(&self) -> Vec<u32> {
+        let (p, t, e, b) = (&self.particles, &self.triangles, &self.edges, &self.boundary);
+        let mut w: Vec<u32> =
+            [p.len(), t.len(), e.len(), b.len()].map(|n| u32::try_from(n).unwrap_or(u32::MAX)).to_vec();
+        w.extend(p.iter().map(|p| p.x as u32));
+        w.extend(p.iter().map(|p| p.y as u32));
+        w.extend(p.iter().map(|p| u32::from(p.pinned)));
+        for k in 0..3 {
+            w.extend(t.iter().map(|t| t[k]));
+        }
+        for k in 0..2 {
+            w.extend(e.iter().map(|e| e.ends[k]));
+        }
+        w.extend(e.iter().map(|e| u32::from(e.structural)));
+        for k in 0..2 {
+            w.extend(b.iter().map(|b| b[k]));
+        }
+        w.extend(self.blade.map(|x| x as u32));
+        w
     }
 
     /// The bytes of the sheet.
@@ -69,7 +114,13 @@ impl Sheet {
     /// # Ok::<(), Box<dyn std::error::Error>>(())
     /// ```
     pub fn write(&self) -> Result<Vec<u8>, Refusal> {
-        packed::write(self)
+        let fields = bytes_of(&self.fields());
+        let (p, t, e, b) = (self.particles.len(), self.triangles.len(), self.edges.len(), self.boundary.len());
+        let mut out = vec![0; (90 + 23 * p + 30 * t + 21 * e + 20 * b).div_ceil(8)];
+        match Refusal::of(calls::sheet_write(&fields, &mut out)) {
+            None => Ok(out),
+            Some(why) => Err(why),
+        }
     }
 
     /// The first element, edge or boundary entry that the bench refuses with 3, in words.
@@ -109,17 +160,22 @@ impl Sheet {
     /// # Ok::<(), Box<dyn std::error::Error>>(())
     /// ```
     pub fn mesh(&self) -> Result<Mesh, Refusal> {
-        let mut m = Mesh::new();
-        for p in &self.particles {
-            match p.pinned {
-                true => m.add_pin(p.x as f32, p.y as f32),
-                false => m.add_particle(p.x as f32, p.y as f32),
-            };
-        }
-        self.triangles.iter().for_each(|[a, b, c]| m.add_triangle(*a, *b, *c));
-        self.edges.iter().for_each(|e| m.add_edge(e.ends[0], e.ends[1], e.structural));
-        m.boundary = self.boundary.clone();
-        // The bench judges it.
-        m.pieces().map(|_| m)
+        opened(&self.write()?).map(|(mesh, _)| mesh)
+    }
+
+    /// What the program `cutlist` prints for the bytes of a sheet: the listing of its cut, or the line `refused` with a number.
+    ///
+    /// ```
+    /// use cutting_bench::Sheet;
+    /// assert_eq!(Sheet::list(&std::fs::read("../examples/worked.sheet")?), std::fs::read_to_string("../examples/worked.txt")?);
+    /// assert_eq!(Sheet::list(&[]), "refused 9\n");
+    /// # Ok::<(), std::io::Error>(())
+    /// ```
+    pub fn list(bytes: &[u8]) -> String {
+        // So many bytes hold every listing.
+        let mut out = vec![0; 65_536];
+        assert_eq!(calls::list_cut(bytes, &mut out), 0, "the bytes hold every listing");
+        out.truncate(out.iter().position(|b| *b == 0).unwrap_or(out.len()));
+        out.into_iter().map(char::from).collect()
     }
 }

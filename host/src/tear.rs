@@ -193,7 +193,7 @@ impl Mesh {
         torn(rooms, |lent, out, log| calls::crack(&image(self), &edges, minimum, lent, out, log))
     }
 
-    /// Splits particle v by the sides, 0 or 1, of the elements at it, in the order of [`Mesh::elements_at`].
+    /// Splits particle v by the sides, 0 or 1, of the elements at it, in the order of [`Mesh::fan`].
     ///
     /// ```
     /// use cutting_bench::{Event, Mesh};

@@ -71,6 +71,7 @@ fn every_listing() {
             Ok(sheet) => listing(&sheet.mesh().unwrap().cut(sheet.blade.map(|x| x as f32), 0.1).unwrap()),
         };
         assert_eq!(expected, beside(&name, "txt"), "{name}");
+        assert_eq!(Sheet::list(&bytes(&name)), expected, "{name}");
     }
 }
 

@@ -188,7 +188,7 @@ fn a_run_of_calls_with_the_default_rooms() {
         let torn = match k % 4 {
             0 => m.cut([-1.0, slant * 0.4, 11.0, 10.3 - slant * 0.3], 0.1),
             1 => m.crack(&[k, 3 * k, 5 * k + 1], MINIMUM_PIECE),
-            2 => m.split(k, &m.elements_at(k).iter().map(|e| (e % 2) as u8).collect::<Vec<u8>>()),
+            2 => m.split(k, &m.fan(k).unwrap().iter().map(|e| (e % 2) as u8).collect::<Vec<u8>>()),
             _ => m.straddlers(),
         }
         .unwrap();
@@ -214,8 +214,8 @@ fn a_thread_of_one_mebibyte() {
         m.cut([-1.0, 3.3, 23.0, 17.1], 0.1).unwrap();
         m.crack(&[100, 101, 102], MINIMUM_PIECE).unwrap();
         m.straddlers().unwrap();
-        m.split(30, &vec![0; m.elements_at(30).len()]).unwrap();
-        m.opens_without_confetti(30, &vec![0; m.elements_at(30).len()], 3).unwrap();
+        m.split(30, &vec![0; m.fan(30).unwrap().len()]).unwrap();
+        m.opens_without_confetti(30, &vec![0; m.fan(30).unwrap().len()], 3).unwrap();
         (m.pieces().unwrap(), m.rest_measure().unwrap())
     };
     let thread = std::thread::Builder::new().stack_size(1 << 20).spawn(calls).unwrap();
