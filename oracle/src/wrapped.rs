@@ -497,10 +497,7 @@ fn listing(bytes: &[u8]) -> Result<String, u32> {
     if !has(ListingUnsorted) {
         lines.sort_by_key(|l| l.0);
     }
-    let k = second::kind(&o.mesh);
-    let sets: Vec<Vec<u32>> =
-        second::elements(&o.mesh, k).iter().map(|&e| second::corners(&o.mesh, k, e)).collect();
-    let pieces = second::pieces_of(&sets, sets.len(), 1);
+    let pieces = second::pieces(&o.mesh);
     let body: String = lines.into_iter().map(|l| l.1).collect();
     Ok(format!("tear 1\n{body}particles {}\npieces {pieces}\n", o.mesh.px.len()))
 }

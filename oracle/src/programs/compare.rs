@@ -108,7 +108,7 @@ pub fn run(words: &[String]) -> i32 {
     }
     plant(Fault::Nothing);
     let t = if own { table() } else { archive() };
-    let (mut failures, mut totals) = (0i32, vec![]);
+    let (mut failures, mut totals) = (0, vec![]);
     println!("{}, cases from {seed} on", if own { "the second writing behind the C functions" } else { "the archive" });
     for &e in &entries {
         if !t.has(e) {
@@ -139,9 +139,10 @@ pub fn run(words: &[String]) -> i32 {
     for (e, n) in &totals {
         println!("  {:29} {} accepted, {}", e.name(), n[0], refusals(*e, n));
     }
-    if let (false, Some(n)) = (own, layout()) {
-        println!("  bench_layout                  {n}, expected {LAYOUT}");
-        failures += (n != LAYOUT) as i32;
+    if !own {
+        let n = layout();
+        println!("  bench_layout                  {n:?}, expected {LAYOUT}");
+        failures += (n != Some(LAYOUT)) as usize;
     }
     let there = entries.iter().filter(|&&e| t.has(e)).count();
     failures += t.lacking(&entries);

@@ -271,11 +271,11 @@ fn again(file: &str) -> i32 {
         println!("{}", line(&c));
         calls.push(c);
     }
-    let tearing = calls.iter().any(|c| c.entry.tears());
-    for f in faults(tearing) {
+    let group = calls.first().map_or(Group::Reading, |c: &Raw| c.entry.group());
+    for f in faults(group) {
         plant(f);
         if !calls.iter().any(|c| fails(&table(), c)) {
-            let more = smallest(&table(), tearing);
+            let more = smallest(&table(), group);
             more.iter().for_each(|c| println!("{}", line(c)));
             calls.extend(more);
         }
