@@ -88,7 +88,7 @@ fn document() -> Vec<Raw> {
     }
     list
 }
-/// Document 01's worked sheet, its fields, its listing, and the fan of a corner of its square.
+/// The worked sheet (R15.7), its fields, its listing, and the fan of a corner of its square.
 fn document_hosting() -> Vec<Raw> {
     let s = Sheet {
         particles: vec![(0, 0, 0), (4, 0, 0), (4, 4, 0), (0, 4, 0)],
