@@ -9,8 +9,8 @@ use Rattle.mesh.specs.Given.{Given, meshOf}
 use Rattle.judge.specs.Checks.{thenCheck, faultOf}
 use Rattle.asked.proofs.Judged.{arguments-refuse}
 use Rattle.image.specs.Image.{imageOf, imageSized}
-use Rattle.bench_c.proofs.Replying.{refusal-small}
-use Rattle.bench_c.proofs.Loading.{sized-input}
+use Rattle.replies.proofs.Saying.{refusal-small}
+use Rattle.image.proofs.Loading.{sized-input}
 
 -- the fault of loaded blocks is that of the image
 pub fault-on : (s : List ℕ) (G : Given) (code : ℕ) → G ≡ imageOf s → code ≡ faultOf G → code ≡ faultOf (imageOf s)

@@ -1,7 +1,7 @@
 -- `bench_c::unread::image_fault` meets its contract: the checks of a mesh run on the fronts of seven loaded blocks. Assumes nothing.
 use mathlib.Core.Path.{sym}
 use lib.Seq.{length-take-le}
-use Rattle.bench_c.proofs.Loading.{sized-loadable, fronts-are}
+use Rattle.image.proofs.Loading.{sized-loadable, fronts-are}
 use Rattle.bench_c.proofs.Places.{image-bytes, counts-told}
 use Rattle.bench_c.proofs.Misread.{fault-on}
 use borrow.Author.Needs.{needs}
