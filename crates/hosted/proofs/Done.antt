@@ -91,9 +91,9 @@ pick-firm true o n f h = f
 pick-firm false o n f h = some-number n h
 
 -- bytes beside an image that are not as they should be are refused
-rooms-firm : (s rooms : List ℕ) (read numbers : Bool) (o : Outcome) → Firm o → Firm (withRooms s rooms read numbers o)
+rooms-firm : (s rooms : List ℕ) (numbers : Bool) (o : Outcome) → Firm o → Firm (withRooms s rooms numbers o)
 unfolding withRooms
-rooms-firm s rooms read numbers o f = pick-firm (read && eqb (length rooms) 16) o (refusal (imageSized s) (meshOf (imageOf s)) numbers false) f (bad-refused (imageSized s) (meshOf (imageOf s)) numbers)
+rooms-firm s rooms numbers o f = pick-firm (eqb (length rooms) 16) o (refusal (imageSized s) (meshOf (imageOf s)) numbers false) f (bad-refused (imageSized s) (meshOf (imageOf s)) numbers)
 
 read-firm : (ok : Bool) (s : List ℕ) (o : Outcome) → Firm o → Firm (ifRead ok s o)
 read-firm ok s o f = pick-firm ok o (refusal (imageSized s) (meshOf (imageOf s)) true false) f (bad-refused (imageSized s) (meshOf (imageOf s)) true)
@@ -118,15 +118,15 @@ asked-firm : (s : List ℕ) (logged : ℕ) (o : Outcome) → Asked s logged o �
 unfolding cutOutcome crackOutcome splitOutcome straddlersOutcome
 asked-firm s logged o (cuts blade f rooms) =
     let c = cutCall (imageSized s) (meshOf (imageOf s)) (bladeIn blade) (numberOf f) (roomsIn rooms logged) in
-    read-firm (eqb (length blade) 16) s (withRooms s rooms true (bladeOk (bladeIn blade)) c) (rooms-firm s rooms true (bladeOk (bladeIn blade)) c (cut-firm (imageSized s) (meshOf (imageOf s)) (bladeIn blade) (numberOf f) (roomsIn rooms logged)))
+    read-firm (eqb (length blade) 16) s (withRooms s rooms (bladeOk (bladeIn blade)) c) (rooms-firm s rooms (bladeOk (bladeIn blade)) c (cut-firm (imageSized s) (meshOf (imageOf s)) (bladeIn blade) (numberOf f) (roomsIn rooms logged)))
 asked-firm s logged o (cracks torn min rooms) =
     let ts = wordsFrom torn 0 (length torn / 4) in
     let c = crackCall (imageSized s) (meshOf (imageOf s)) ts min (roomsIn rooms logged) in
-    read-firm (wordsFew (length torn)) s (withRooms s rooms true true c) (rooms-firm s rooms true true c (crack-firm (imageSized s) (meshOf (imageOf s)) ts min (roomsIn rooms logged)))
+    read-firm (wordsFew (length torn)) s (withRooms s rooms true c) (rooms-firm s rooms true c (crack-firm (imageSized s) (meshOf (imageOf s)) ts min (roomsIn rooms logged)))
 asked-firm s logged o (splits v sides rooms) =
-    rooms-firm s rooms true true (splitCall (imageSized s) (meshOf (imageOf s)) v sides (roomsIn rooms logged)) (split-firm (imageSized s) (meshOf (imageOf s)) v sides (roomsIn rooms logged))
+    rooms-firm s rooms true (splitCall (imageSized s) (meshOf (imageOf s)) v sides (roomsIn rooms logged)) (split-firm (imageSized s) (meshOf (imageOf s)) v sides (roomsIn rooms logged))
 asked-firm s logged o (straddlers rooms) =
-    rooms-firm s rooms true true (straddlersCall (imageSized s) (meshOf (imageOf s)) (roomsIn rooms logged)) (straddlers-firm (imageSized s) (meshOf (imageOf s)) (roomsIn rooms logged))
+    rooms-firm s rooms true (straddlersCall (imageSized s) (meshOf (imageOf s)) (roomsIn rooms logged)) (straddlers-firm (imageSized s) (meshOf (imageOf s)) (roomsIn rooms logged))
 
 -- ---- what is done is a call of a history
 
@@ -134,9 +134,9 @@ pick-done : (b : Bool) (o : Outcome) (n : ℕ) (M : Mesh) (l : List Entry) (c : 
 pick-done true o n M l c e = e
 pick-done false o n M l c e = absurd (not-done n M l c e)
 
-rooms-done : (s rooms : List ℕ) (read numbers : Bool) (o : Outcome) (M : Mesh) (l : List Entry) (c : Bool) → withRooms s rooms read numbers o ≡ done M l c → o ≡ done M l c
+rooms-done : (s rooms : List ℕ) (numbers : Bool) (o : Outcome) (M : Mesh) (l : List Entry) (c : Bool) → withRooms s rooms numbers o ≡ done M l c → o ≡ done M l c
 unfolding withRooms
-rooms-done s rooms read numbers o M l c e = pick-done (read && eqb (length rooms) 16) o (refusal (imageSized s) (meshOf (imageOf s)) numbers false) M l c e
+rooms-done s rooms numbers o M l c e = pick-done (eqb (length rooms) 16) o (refusal (imageSized s) (meshOf (imageOf s)) numbers false) M l c e
 
 read-done : (ok : Bool) (s : List ℕ) (o : Outcome) (M : Mesh) (l : List Entry) (c : Bool) → ifRead ok s o ≡ done M l c → o ≡ done M l c
 read-done ok s o M l c e = pick-done ok o (refusal (imageSized s) (meshOf (imageOf s)) true false) M l c e
@@ -172,7 +172,7 @@ asked-called s logged o (cuts blade f rooms) M′ more c e =
     let k = cutCall (imageSized s) M B (numberOf f) L in (
       rooms,
       sized-call L M (λ z. cutCall z M B (numberOf f) L) (cut-off L M B (numberOf f)) (λ N l x d. cutting B (numberOf f) d) (imageSized s) M′ more c
-          (rooms-done s rooms true (bladeOk B) k M′ more c (read-done (eqb (length blade) 16) s (withRooms s rooms true (bladeOk B) k) M′ more c e)),
+          (rooms-done s rooms (bladeOk B) k M′ more c (read-done (eqb (length blade) 16) s (withRooms s rooms (bladeOk B) k) M′ more c e)),
     )
 asked-called s logged o (cracks torn min rooms) M′ more c e =
     let M = meshOf (imageOf s) in
@@ -181,16 +181,16 @@ asked-called s logged o (cracks torn min rooms) M′ more c e =
     let k = crackCall (imageSized s) M ts min L in (
       rooms,
       sized-call L M (λ z. crackCall z M ts min L) (crack-off L M ts min) (λ N l x d. cracking ts min d) (imageSized s) M′ more c
-          (rooms-done s rooms true true k M′ more c (read-done (wordsFew (length torn)) s (withRooms s rooms true true k) M′ more c e)),
+          (rooms-done s rooms true k M′ more c (read-done (wordsFew (length torn)) s (withRooms s rooms true k) M′ more c e)),
     )
 asked-called s logged o (splits v sides rooms) M′ more c e =
     let M = meshOf (imageOf s) in
     let L = roomsIn rooms logged in
-    (rooms, sized-call L M (λ z. splitCall z M v sides L) (split-off L M v sides) (λ N l x d. splitting v sides d) (imageSized s) M′ more c (rooms-done s rooms true true (splitCall (imageSized s) M v sides L) M′ more c e))
+    (rooms, sized-call L M (λ z. splitCall z M v sides L) (split-off L M v sides) (λ N l x d. splitting v sides d) (imageSized s) M′ more c (rooms-done s rooms true (splitCall (imageSized s) M v sides L) M′ more c e))
 asked-called s logged o (straddlers rooms) M′ more c e =
     let M = meshOf (imageOf s) in
     let L = roomsIn rooms logged in
-    (rooms, sized-call L M (λ z. straddlersCall z M L) (straddlers-off L M) (λ N l x d. removing d) (imageSized s) M′ more c (rooms-done s rooms true true (straddlersCall (imageSized s) M L) M′ more c e))
+    (rooms, sized-call L M (λ z. straddlersCall z M L) (straddlers-off L M) (λ N l x d. removing d) (imageSized s) M′ more c (rooms-done s rooms true (straddlersCall (imageSized s) M L) M′ more c e))
 
 -- ---- what a reply of 0 shows
 
