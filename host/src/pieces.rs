@@ -42,15 +42,9 @@ fn firsts(elements: &[(u32, Vec<u32>)], shared: usize) -> Vec<usize> {
     first
 }
 
-/// So many particles join two triangles into one piece (docs/RULES.md, R8.3): what the bench says of two that share a corner.
-fn shared_by_triangles() -> Result<usize, Refusal> {
-    let mut corner = Mesh::new();
-    for (x, y) in [(0.0, 0.0), (2.0, 0.0), (2.0, 2.0), (4.0, 2.0), (4.0, 4.0)] {
-        corner.add_particle(x, y);
-    }
-    corner.add_triangle(0, 1, 2);
-    corner.add_triangle(2, 3, 4);
-    Ok(corner.pieces()? as usize)
+/// How many particles two elements share that lie in one piece (docs/RULES.md, R8.3): a triangle's side, or a strap's end.
+fn shared(m: &Mesh) -> usize {
+    if m.triangles.is_empty() { 1 } else { 2 }
 }
 
 impl Mesh {
@@ -69,8 +63,7 @@ impl Mesh {
     pub fn list_pieces(&self) -> Result<Vec<Piece>, Refusal> {
         let count = self.pieces()?;
         let elements = elements(self);
-        // Two straps are joined by one particle.
-        let first = firsts(&elements, if self.triangles.is_empty() { 1 } else { shared_by_triangles()? });
+        let first = firsts(&elements, shared(self));
         let mut pieces: Vec<Piece> = vec![];
         for k in 0..elements.len() {
             if first[k] != k {

@@ -9,7 +9,6 @@ pub struct Limits {
 }
 pub const CUTLIST: Limits = Limits { particles: 128, triangles: 128, edges: 256, boundary: 256 };
 /// What a sheet may have outside of cutlist: the limits of `bench_sheet`.
-#[allow(dead_code)]
 pub const MESH: Limits =
     Limits { particles: MAX_PARTICLES, triangles: MAX_TRIANGLES, edges: MAX_EDGES, boundary: MAX_BOUNDARY };
 
