@@ -1,7 +1,7 @@
 -- Laws of linked places: how links grow place by place, which pairs a walk along them meets, and that these pairs join the pieces. Assumes nothing.
 use mathlib.Core.Path.{_≡_, refl, sym, _∙_, ap, subst}
 use mathlib.Core.Bool.{true, false}
-use mathlib.Core.Logic.{inl, inr, ⊎-elim}
+use mathlib.Core.Logic.{_⊎_, inl, inr, ⊎-elim}
 use mathlib.Core.List.{List}
 use Prim.Native.Nat.{ℕ, suc, _+_, _*_, _/_, _%_, _-_, _<_, _≤_}
 use native.Mathlib.Omega.{arith}
@@ -24,7 +24,7 @@ use Rattle.elements.specs.Table.{Cornered}
 use Rattle.pieces.specs.Tables.{Tied}
 use Rattle.pieces.proofs.Corners.{row-before, corner-held}
 use Rattle.pieces.proofs.Distinct.{once-same}
-use Rattle.pieces.proofs.Trees.{tied-join, tied-flat}
+use Rattle.pieces.proofs.Trees.{tied-join, tied-one, tied-flat}
 use Rattle.reach.specs.Reached.{Plain}
 use Rattle.reach.proofs.Tables.{row-is}
 use Rattle.model.specs.Pieces.{pieceLabels, pieceCount}
@@ -185,6 +185,20 @@ module _ (n k : ℕ) (verts : List ℕ) where
         | no i ↦ inl (met-narrower a b M (λ q g. absurd (i q)))
       ])
 
+  -- and whose element has the same parent: the two are joined already
+  pub met-one : {t s : ℕ} {p : List ℕ} → t / k < length p → s / k < length p → getD p (t / k) 0 ≡ getD p (s / k) 0 → Tied (Met n k verts t (suc s)) p → Tied (Met n k verts t s) p
+  met-one {t} {s} l m same T =
+      tied-one (t / k) (s / k) T l m same (λ a b M. met-wider (omega arith) a b M)
+      (λ a b M.
+      elim (ℕ-discrete (M .later) t) [
+        | yes i ↦
+            elim (ℕ-discrete (M .earlier) s) [
+              | yes j ↦ inr (sym (M .first) ∙ ap (λ (x : ℕ). x / k) i, sym (M .second) ∙ ap (λ (x : ℕ). x / k) j)
+              | no j ↦ inl (met-narrower a b M (λ q g. omega arith))
+            ]
+        | no i ↦ inl (met-narrower a b M (λ q g. absurd (i q)))
+      ])
+
   -- all of a place: on to the next
   pub met-next : {t : ℕ} {p : List ℕ} → Tied (Met n k verts t 0) p → Tied (Met n k verts (t + 1) (t + 1)) p
   met-next {t} T =
@@ -298,6 +312,19 @@ module _ (n k : ℕ) (verts : List ℕ) where
     pub walk-pass-at : {i j : ℕ} {p q : List ℕ} → i ≡ t / k → j ≡ (e - 1) / k → rowsShare k verts i j ≡ false → q ≡ p → Tied (Met n k verts t e) p → Tied (Met n k verts t f) q
     walk-pass-at {i} {j} a b no-facet d T =
         walk-pass (subst (λ (y : ℕ). rowsShare k verts (t / k) y ≡ false) b (subst (λ (x : ℕ). rowsShare k verts x j ≡ false) a no-facet)) d T
+
+    -- what is not to be joined stays apart, or is joined already
+    pub walk-else-at : {i j : ℕ} {p q : List ℕ} → i ≡ t / k → j ≡ (e - 1) / k → i < length p → j < length p → (rowsShare k verts i j ≡ false) ⊎ (getD p i 0 ≡ getD p j 0) → q ≡ p
+        → Tied (Met n k verts t e) p → Tied (Met n k verts t f) q
+    walk-else-at {i} {j} {p} {q} a b l m w d T =
+        ⊎-elim (λ no-facet. walk-pass-at a b no-facet d T)
+        (λ same.
+        let u : e ≡ suc (e - 1) = omega arith in
+        subst (λ (x : List ℕ). Tied (Met n k verts t f) x) (sym d)
+        (met-skip (omega arith) link-at
+        (met-one (subst (λ (x : ℕ). x < length p) a l) (subst (λ (x : ℕ). x < length p) b m) (subst (λ (y : ℕ). getD p (t / k) 0 ≡ getD p y 0) b (subst (λ (x : ℕ). getD p x 0 ≡ getD p j 0) a same))
+        (subst (λ (v : ℕ). Tied (Met n k verts t v) p) u T))))
+        w
 
     pub walk-join-at : {i j : ℕ} {p q r : List ℕ} → i ≡ t / k → j ≡ (e - 1) / k → t < n * k → walked k t ≡ true → rowsShare k verts i j ≡ true → Joined p i j r → q ≡ r
         → Tied (Met n k verts t e) p → Tied (Met n k verts t f) q

@@ -7,7 +7,7 @@ use native.Mathlib.Omega.{arith}
 use native.Mathlib.Nat.{not-suc-le-zero}
 use native.Mathlib.Decide.{ℕ-discrete}
 use lib.ListN.{length, getD}
-use Rattle.lists.specs.Chain.{Chain, stay, ahead}
+use Rattle.lists.specs.Chain.{Chain, stay, ahead, back}
 use Rattle.lists.specs.Labels.{Lowest}
 use Rattle.lists.proofs.Chains.{chain-map, chain-keeps, chain-to}
 use Rattle.lists.proofs.Stores.{at-eq}
@@ -37,6 +37,16 @@ tied-join {R} {S} {p} {q} x y T J more here split =
           (λ c d u. ⊎-elim (λ v. chain-map (λ e f r. ahead (more e f r) stay) (T .sound c d v)) (λ e. rw (e .0, e .1) (ahead here stay)) u)
           (J .only a b up);
       done = λ a b s. ⊎-elim (λ r. chain-map (J .more) (T .done a b r)) (λ e. rw (e .0, e .1) (J .way)) (split a b s);
+    }
+
+-- a pair more, which has one parent already
+pub tied-one : {R S : ℕ → ℕ → Type 0} {p : List ℕ} (x y : ℕ) → Tied R p → x < length p → y < length p → getD p x 0 ≡ getD p y 0
+    → ((a b : ℕ) → R a b → S a b) → ((a b : ℕ) → S a b → R a b ⊎ ((a ≡ x) × (b ≡ y))) → Tied S p
+tied-one {R} {S} {p} x y T l m same more split =
+    record {
+      down = T .down;
+      sound = λ a b up. chain-map (λ e f r. ahead (more e f r) stay) (T .sound a b up);
+      done = λ a b s. ⊎-elim (λ r. T .done a b r) (λ e. rw (e .0, e .1) (ahead (l, same) (back (m, refl) stay))) (split a b s);
     }
 
 -- a flat table that keeps what is joined has the lowest of each chain

@@ -2,7 +2,7 @@
 -- the pairs of elements that a walk along these links meets. Definitions only.
 use Prim.Native.Nat.{ℕ, suc, _*_, _/_, _%_, _<_, _≤_}
 use mathlib.Core.Path.{_≡_}
-use mathlib.Core.Bool.{Bool, true}
+use mathlib.Core.Bool.{Bool, true, false}
 use mathlib.Core.Logic.{_⊎_}
 use mathlib.Core.List.{List}
 use lib.Dec.{eqb, ltb}
@@ -57,6 +57,11 @@ pub record Met (n k : ℕ) (verts : List ℕ) (m e a b : ℕ) : Type 0 where
   pub first : later / k ≡ a
   pub second : earlier / k ≡ b
   pub shared : rowsShare k verts a b ≡ true
+
+-- what is told of rows i and j beside a parent table: where they are to be joined they share a facet, and where not they share none or have one parent
+pub record ToJoin (k : ℕ) (verts : List ℕ) (i j : ℕ) (parent : List ℕ) (r : Bool) : Type 0 where
+  pub share : r ≡ true → rowsShare k verts i j ≡ true
+  pub else : r ≡ false → (rowsShare k verts i j ≡ false) ⊎ (getD parent i 0 ≡ getD parent j 0)
 
 -- what is asked where the elements met at place t are joined: those of the places before it are
 pub record PlaceStep (n k : ℕ) (verts link : List ℕ) (t : ℕ) (parent : List ℕ) : Type 0 where

@@ -8,7 +8,7 @@ ghost use Rattle.pieces.specs.Tables.{Tied};
 ghost use Rattle.reach.specs.Walk.{Rows};
 ghost use Rattle.model.specs.Pieces.{sharedOf};
 ghost use Rattle.pieces.specs.Counted.{Lent, PiecesCounted};
-ghost use Rattle.pieces.specs.Places.{rowsShare, Linked, LinkRoom, walked, Met, PlaceStep, AllPlaces, tops};
+ghost use Rattle.pieces.specs.Places.{rowsShare, Linked, LinkRoom, walked, Met, ToJoin, PlaceStep, AllPlaces, tops};
 
 // How many of a stand in b.
 fn shared(a: &[usize], b: &[usize]) -> usize
@@ -66,6 +66,17 @@ fn element_of(place: usize, k: usize) -> usize
     place / k
 }
 
+// Are the rows i and j to be joined? Where they have one parent they are already, and their corners are not looked at.
+fn to_join(n: usize, k: usize, verts: &[usize], i: usize, j: usize, parent: &[usize]) -> bool
+    requires { ⌜ Rows n k (length (now verts)) × (i < n) × (j < n) × (length (now parent) ≡ n) ⌝ }
+    ensures { λ r. ⌜ ToJoin k (now (verts .entry)) i j (now (parent .entry)) r ⌝ }
+{
+    if parent[i] == parent[j] {
+        return false;
+    }
+    rows_share(n, k, verts, i, j)
+}
+
 // Joins the element of place t to each that shares a facet with it and has the same particle at an earlier place.
 fn join_place(n: usize, k: usize, verts: &[usize], link: &[usize], t: usize, parent: &mut [usize])
     requires { ⌜ PlaceStep n k (now verts) (now link) t (now parent) ⌝ }
@@ -76,7 +87,7 @@ fn join_place(n: usize, k: usize, verts: &[usize], link: &[usize], t: usize, par
     while 0 < e {
         let s = e - 1;
         let j = element_of(s, k);
-        if rows_share(n, k, verts, i, j) {
+        if to_join(n, k, verts, i, j, parent) {
             crate::forest::join(parent, i, j);
         }
         e = link[s];

@@ -8,7 +8,7 @@ use Prim.Native.Nat.{ℕ, _*_, _/_, _<_, _≤_, _-_}
 use lib.ListN.{length}
 use Rattle.pieces.specs.Tables.{Tied}
 use Rattle.pieces.specs.Places.{Met}
-use Rattle.pieces.proofs.Places.{place-in, met-skip, met-next, Has, walk-has, walk-pass-at, walk-join-at}
+use Rattle.pieces.proofs.Places.{place-in, met-skip, met-next, Has, walk-has, walk-else-at, walk-join-at}
 use Rattle.pieces.proofs.facets.join_place.Statement.{statement}
 use Rattle.pieces.proofs.facets.join_place.Tie as tie
 
@@ -41,26 +41,28 @@ sub-s c = search needs
 element-of-requires-2 : tie.Need-element-of-requires-2 Inv-loop μ-loop
 element-of-requires-2 c κs = c .before .before .before .before .before .before .before .pre .rows .some
 
-rows-share-requires : tie.Need-rows-share-requires Inv-loop μ-loop
-rows-share-requires c κs =
-    let A = c .before .before .before .before .before .before .before .before .args in
-    let P = c .before .before .before .before .before .before .before .before .pre in
-    let L = c .before .before .loop in
-    let E = c .before .before .before .before .element-of in
+to-join-requires : tie.Need-to-join-requires Inv-loop μ-loop
+to-join-requires c κs =
+    let A = c .before .before .before .before .before .before .before .before .before .args in
+    let P = c .before .before .before .before .before .before .before .before .before .pre in
+    let L = c .before .before .before .loop in
+    let E = c .before .before .before .before .before .element-of in
+    let D = c .before .element-of2 in
     let h = P .inside in
     let g = L .inv .0 in (
       P .rows,
       subst (λ (x : ℕ). x < A .n) (sym (E .ensures)) (place-in (A .n) (A .k) (A .t) (P .rows .some) h),
-      subst (λ (x : ℕ). x < A .n) (sym (c .element-of2 .ensures)) (place-in (A .n) (A .k) (L .e - 1) (P .rows .some) (omega arith)),
+      subst (λ (x : ℕ). x < A .n) (sym (D .ensures)) (place-in (A .n) (A .k) (L .e - 1) (P .rows .some) (omega arith)),
+      L .inv .2 ∙ P .long,
     )
 
 join-requires : tie.Need-join-requires Inv-loop μ-loop
 join-requires c κs =
-    let A = c .before .before .before .before .before .before .before .before .before .before .before .args in
-    let P = c .before .before .before .before .before .before .before .before .before .before .before .pre in
-    let L = c .before .before .before .before .before .loop in
-    let E = c .before .before .before .before .before .before .before .element-of in
-    let D = c .before .before .before .element-of2 in
+    let A = c .before .before .before .before .before .before .before .before .before .before .before .before .args in
+    let P = c .before .before .before .before .before .before .before .before .before .before .before .before .pre in
+    let L = c .before .before .before .before .before .before .loop in
+    let E = c .before .before .before .before .before .before .before .before .element-of in
+    let D = c .before .before .before .before .element-of2 in
     let h = P .inside in
     let g = L .inv .0 in
     let a = subst (λ (x : ℕ). x < A .n) (sym (E .ensures)) (place-in (A .n) (A .k) (A .t) (P .rows .some) h) in
@@ -69,50 +71,54 @@ join-requires c κs =
 
 mul-e-2 : tie.Need-mul-e-2 Inv-loop μ-loop
 mul-e-2 c =
-    let P = c .before .before .before .before .before .before .before .before .before .before .pre in
-    let L = c .before .before .before .before .loop in
+    let P = c .before .before .before .before .before .before .before .before .before .before .before .pre in
+    let L = c .before .before .before .before .before .loop in
     omega (arith, P .inside, P .link-room, L .inv .0)
 
 shared-slice-read-e-2 : tie.Need-shared-slice-read-e-2 Inv-loop μ-loop
 shared-slice-read-e-2 c =
-    let P = c .before .before .before .before .before .before .before .before .before .before .before .pre in
-    let L = c .before .before .before .before .before .loop in
+    let P = c .before .before .before .before .before .before .before .before .before .before .before .before .pre in
+    let L = c .before .before .before .before .before .before .loop in
     omega (arith, P .inside, P .link-room, L .inv .0)
 
 loop-less : tie.Need-loop-less Inv-loop μ-loop
 loop-less c =
-    let A = c .before .before .before .before .before .before .before .before .before .before .before .args in
-    let P = c .before .before .before .before .before .before .before .before .before .before .before .pre in
-    let L = c .before .before .before .before .before .loop in
+    let A = c .before .before .before .before .before .before .before .before .before .before .before .before .args in
+    let P = c .before .before .before .before .before .before .before .before .before .before .before .before .pre in
+    let L = c .before .before .before .before .before .before .loop in
     let h : L .e - 1 < A .n * A .k = omega (arith, P .inside, L .inv .0) in
     omega (arith, P .linked .at (L .e - 1) h .below)
 
 loop-again : tie.Need-loop-again Inv-loop μ-loop
 loop-again c =
-    let A = c .before .before .before .before .before .before .before .before .before .before .before .args in
-    let P = c .before .before .before .before .before .before .before .before .before .before .before .pre in
-    let L = c .before .before .before .before .before .loop in
-    let E = c .before .before .before .before .before .before .before .element-of in
-    let D = c .before .before .before .element-of2 in
-    let S = c .before .before .rows-share in
+    let A = c .before .before .before .before .before .before .before .before .before .before .before .before .args in
+    let P = c .before .before .before .before .before .before .before .before .before .before .before .before .pre in
+    let L = c .before .before .before .before .before .before .loop in
+    let E = c .before .before .before .before .before .before .before .before .element-of in
+    let D = c .before .before .before .before .element-of2 in
+    let S = c .before .before .to-join in
     let verts = A .verts .now in
     let l : 0 < L .e = search needs in
     let g = L .inv .0 in
     let h : L .e - 1 < A .n * A .k = omega (arith, P .inside) in
     let K = P .linked .at (L .e - 1) h in
     let b = K .below in
+    let x = subst (λ (x : ℕ). x < A .n) (sym (E .ensures)) (place-in (A .n) (A .k) (A .t) (P .rows .some) (P .inside)) in
+    let y = subst (λ (x : ℕ). x < A .n) (sym (D .ensures)) (place-in (A .n) (A .k) (L .e - 1) (P .rows .some) h) in
+    let i = subst (λ (m : ℕ). E .result < m) (sym (L .inv .2 ∙ P .long)) x in
+    let j = subst (λ (m : ℕ). D .result < m) (sym (L .inv .2 ∙ P .long)) y in
     ⊎-elim
     (λ w. (
       omega arith,
       walk-has (A .n) (A .k) verts l g (L .inv .1) K,
       ap (λ (p : List ℕ). length p) (w .5) ∙ w .2 .ensures .long ∙ L .inv .2,
-      walk-join-at (A .n) (A .k) verts l g (L .inv .1) K (E .ensures) (D .ensures) (P .inside) (P .walks) (sym (S .ensures) ∙ w .0 .taken) (w .2 .ensures) (w .5) (L .inv .3),
+      walk-join-at (A .n) (A .k) verts l g (L .inv .1) K (E .ensures) (D .ensures) (P .inside) (P .walks) (S .ensures .share (w .0 .taken)) (w .2 .ensures) (w .5) (L .inv .3),
     ))
     (λ w. (
       omega arith,
       walk-has (A .n) (A .k) verts l g (L .inv .1) K,
       ap (λ (p : List ℕ). length p) (w .1) ∙ L .inv .2,
-      walk-pass-at (A .n) (A .k) verts l g (L .inv .1) K (E .ensures) (D .ensures) (sym (S .ensures) ∙ w .0 .left) (w .1) (L .inv .3),
+      walk-else-at (A .n) (A .k) verts l g (L .inv .1) K (E .ensures) (D .ensures) i j (S .ensures .else (w .0 .left)) (w .1) (L .inv .3),
     ))
     (c .before .if1 .came)
 
@@ -138,7 +144,7 @@ join-place-spec =
     loop-holds
     sub-s
     element-of-requires-2
-    rows-share-requires
+    to-join-requires
     join-requires
     mul-e-2
     shared-slice-read-e-2
