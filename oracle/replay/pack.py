@@ -9,7 +9,8 @@ import struct
 import sys
 
 KINDS = ["bench_root", "bench_blade_hit", "bench_groups", "bench_rest_measure", "bench_rest_measure_of",
-         "bench_opens_without_confetti", "bench_pieces", "bench_split", "bench_straddlers", "bench_cut", "bench_crack"]
+         "bench_opens_without_confetti", "bench_pieces", "bench_split", "bench_straddlers", "bench_cut", "bench_crack",
+         "bench_fan", "bench_sheet", "bench_sheet_write", "bench_list_cut"]
 
 
 def raw(text):
@@ -43,6 +44,10 @@ PARTS = {
     "bench_straddlers": [IMAGE, ROOMS],
     "bench_cut": [IMAGE, ARGS, BITS, ROOMS],
     "bench_crack": [IMAGE, ARGS, MINIMUM, ROOMS],
+    "bench_fan": [IMAGE, NUMBER],
+    "bench_sheet": [ARGS],
+    "bench_sheet_write": [ARGS],
+    "bench_list_cut": [ARGS],
 }
 
 
@@ -58,7 +63,8 @@ def packed(line):
     lent = [int(n) for n in given[len(parts):]] + [0]
     refusal, _, answer = wanted.strip().partition(" ")
     result, _, log = answer.partition("|")
-    runs = [c["image"], c["args"], c["rooms"], words(result), words(log)]
+    # Bytes that were lent are told as words: the last may have bytes of 0 behind them.
+    runs = [c["image"], c["args"], c["rooms"], words(result)[:lent[0]], words(log)]
     head = [KINDS.index(name), c["number"], c["minimum"]] + [len(r) for r in runs] + lent[:2] + [int(refusal)]
     return struct.pack("<11I", *head) + b"".join(runs)
 

@@ -6,13 +6,12 @@ ghost use lib.ListN.{length};
 use libc::STDIN_FILENO;
 use libc::STDOUT_FILENO;
 
-// One call of the list: where its parts begin in the bytes (the image, the arguments beside it, the rooms, the words of the result and
+// One call of the list: where its parts begin (the image first, the arguments beside it, the rooms, the words of the result and
 // of the log that are expected), how many bytes are lent for result and log, and the refusal that is expected.
 struct Call {
     kind: usize,
     number: usize,
     minimum: usize,
-    image: usize,
     args: usize,
     rooms: usize,
     words: usize,
@@ -29,11 +28,11 @@ enum Step {
     End,
 }
 
-// Room for the list.
-fn room() -> [u8; 589824]
-    ensures { λ r. ⌜ 589824 ≡ length r ⌝ }
+// Room for one call.
+fn room() -> [u8; 98304]
+    ensures { λ r. ⌜ 98304 ≡ length r ⌝ }
 {
-    [0; 589824]
+    [0; 98304]
 }
 
 fn wide(x: u8) -> usize
@@ -58,35 +57,45 @@ fn word(bytes: &[u8], i: usize) -> usize
         + 16777216 * wide(bytes[i + 3])
 }
 
-// The call that begins at place i. Eleven words come first: its kind, a particle or a number, a minimum, how many bytes the
-// image, the arguments, the rooms, the expected result and the expected log have, the bytes lent for both, and the refusal.
-fn call_at(bytes: &[u8], i: usize) -> Step {
-    if 4294967296 < i {
-        return Step::End;
-    }
-    let image = i + 44;
-    let args = image + word(bytes, i + 12);
-    let rooms = args + word(bytes, i + 16);
-    let words = rooms + word(bytes, i + 20);
-    let noted = words + word(bytes, i + 24);
-    let next = noted + word(bytes, i + 28);
-    if bytes.len() < next {
-        return Step::End;
-    }
-    Step::Call(Call {
-        kind: word(bytes, i),
-        number: word(bytes, i + 4),
-        minimum: word(bytes, i + 8),
-        image,
+// The call of eleven words: its kind, a particle or a number, a minimum, how many bytes the image, the arguments, the rooms, the
+// expected result and the expected log have, the bytes lent for both, and the refusal.
+fn call_of(head: &[u8]) -> Call {
+    let args = word(head, 12);
+    let rooms = args + word(head, 16);
+    let words = rooms + word(head, 20);
+    let noted = words + word(head, 24);
+    Call {
+        kind: word(head, 0),
+        number: word(head, 4),
+        minimum: word(head, 8),
         args,
         rooms,
         words,
         noted,
-        next,
-        lent: word(bytes, i + 32),
-        lent_log: word(bytes, i + 36),
-        refusal: word(bytes, i + 40),
-    })
+        next: noted + word(head, 28),
+        lent: word(head, 32),
+        lent_log: word(head, 36),
+        refusal: word(head, 40),
+    }
+}
+
+// Reads the next call of the list, its parts into the lent bytes. A list that ends within a call, or a call that they do not hold, is the end too.
+fn next_call(bytes: &mut [u8]) -> Step {
+    let mut head = [0u8; 44];
+    let n = io::read_full(STDIN_FILENO, &mut head);
+    if n < 44 {
+        return Step::End;
+    }
+    let c = call_of(&head);
+    let next = c.next;
+    if bytes.len() < next {
+        return Step::End;
+    }
+    let m = io::read_full(STDIN_FILENO, &mut bytes[..next]);
+    if m < next {
+        return Step::End;
+    }
+    Step::Call(c)
 }
 
 // Asks the C function of this kind, one that reads, and returns its refusal number.
@@ -152,7 +161,24 @@ fn torn(
     99
 }
 
-// Either of them.
+// Asks the C function of this kind, a fan or one on sheets, and returns its refusal number.
+fn hosted(kind: usize, number: usize, image: &[u8], args: &[u8], out: &mut [u8]) -> u32 {
+    if kind == 11 {
+        return bench_c::fans::bench_fan(image, (number % 4294967296) as u32, out);
+    }
+    if kind == 12 {
+        return bench_c::sheets::bench_sheet(args, out);
+    }
+    if kind == 13 {
+        return bench_c::sheets::bench_sheet_write(args, out);
+    }
+    if kind == 14 {
+        return bench_c::sheets::bench_list_cut(args, out);
+    }
+    99
+}
+
+// One of them.
 fn answer(
     kind: usize,
     number: usize,
@@ -166,7 +192,10 @@ fn answer(
     if kind < 7 {
         return asked(kind, number, minimum, image, args, out);
     }
-    torn(kind, number, minimum, image, args, rooms, out, log)
+    if kind < 11 {
+        return torn(kind, number, minimum, image, args, rooms, out, log);
+    }
+    hosted(kind, number, image, args, out)
 }
 
 // Do the bytes of out stand in want, and 0 behind them?
@@ -293,19 +322,15 @@ fn expected(
 
 // Takes the call's image and arguments out of the bytes.
 fn tried(bytes: &[u8], c: Call, out: &mut [u8], log: &mut [u8]) -> bool {
-    let image = c.image;
     let args = c.args;
     let rooms = c.rooms;
-    if args < image {
-        return false;
-    }
     if rooms < args {
         return false;
     }
     if bytes.len() < rooms {
         return false;
     }
-    expected(bytes, c, &bytes[image..args], &bytes[args..rooms], out, log)
+    expected(bytes, c, &bytes[..args], &bytes[args..rooms], out, log)
 }
 
 // A line for a call that got another answer.
@@ -315,17 +340,15 @@ fn differs(call: usize) {
     io::write_all(STDOUT_FILENO, b"\n");
 }
 
-// All calls of the list, and how many passed.
-fn replay(bytes: &[u8], out: &mut [u8], log: &mut [u8]) {
-    let mut at: usize = 0;
+// All calls of the list, each read into the lent bytes, and how many passed.
+fn replay(bytes: &mut [u8], out: &mut [u8], log: &mut [u8]) {
     let mut calls: usize = 0;
     let mut passed: usize = 0;
     while calls < 100000 {
-        let s = call_at(bytes, at);
+        let s = next_call(bytes);
         let Step::Call(c) = s else {
             break;
         };
-        at = c.next;
         if tried(bytes, c, out, log) {
             passed += 1;
         } else {
@@ -339,17 +362,9 @@ fn replay(bytes: &[u8], out: &mut [u8], log: &mut [u8]) {
     io::write_all(STDOUT_FILENO, b" calls answered as the Rust does\n");
 }
 
-// Reads the list into the lent bytes, and replays it.
-fn run(bytes: &mut [u8], out: &mut [u8], log: &mut [u8]) {
-    let n = io::read_full(STDIN_FILENO, bytes);
-    if n <= bytes.len() {
-        replay(&bytes[..n], out, log);
-    }
-}
-
 fn main() {
     let mut space = room();
     let mut out = [0u8; 32880];
     let mut log = [0u8; 1056];
-    run(&mut space, &mut out, &mut log);
+    replay(&mut space, &mut out, &mut log);
 }
