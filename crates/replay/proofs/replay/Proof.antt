@@ -1,7 +1,8 @@
--- `replay::replay` meets its contract. The invariant: no more calls have passed than were made. Assumes nothing.
-use mathlib.Core.Path.{_≡_, refl, _∙_}
+-- `replay::replay` meets its contract. The invariant: no more calls have passed than were made, and the lent bytes are as many as before. Assumes nothing.
+use mathlib.Core.Path.{_≡_, refl, _∙_, ap}
+use mathlib.Core.List.{List}
 use mathlib.Core.Logic.{⊎-elim}
-use Prim.Native.Nat.{_≤_, _-_}
+use Prim.Native.Nat.{ℕ, _≤_, _-_}
 use native.Mathlib.Omega.{arith}
 use lib.ListN.{length}
 use borrow.Author.Needs.{needs}
@@ -11,22 +12,22 @@ use Rattle.replay.proofs.replay.Reads as reads
 use Rattle.replay.proofs.replay.Lts as lts
 use Rattle.io.proofs.print_decimal.Reads as print-decimal-reads
 use Rattle.io.proofs.write_all.Reads as write-all-reads
-use Rattle.replay.proofs.call_at.Reads as call-at-reads
+use Rattle.replay.proofs.next_call.Reads as next-call-reads
 use Rattle.replay.proofs.differs.Reads as differs-reads
 use Rattle.replay.proofs.tried.Reads as tried-reads
 
 abbrev Inv-loop : tie.InvT-loop
-Inv-loop bytes out₀ log₀ at₀ calls₀ passed₀ t9 t10 out log at calls passed =
-    (calls ≤ 100000) × (passed ≤ calls) × (length out ≡ length out₀) × (length log ≡ length log₀)
+Inv-loop bytes₀ out₀ log₀ calls₀ passed₀ t9 t10 bytes out log calls passed =
+    (calls ≤ 100000) × (passed ≤ calls) × (length bytes ≡ length bytes₀) × (length out ≡ length out₀) × (length log ≡ length log₀)
 
 abbrev μ-loop : tie.MeasureT-loop
-μ-loop bytes out₀ log₀ at₀ calls₀ passed₀ t9 t10 out log at calls passed = 100000 - calls
+μ-loop bytes₀ out₀ log₀ calls₀ passed₀ t9 t10 bytes out log calls passed = 100000 - calls
 
 loop-holds : tie.Need-loop-holds Inv-loop μ-loop
 loop-holds c = search needs
 
-call-at-requires : tie.Need-call-at-requires Inv-loop μ-loop
-call-at-requires c κs = search needs
+next-call-requires : tie.Need-next-call-requires Inv-loop μ-loop
+next-call-requires c κs = search needs
 
 enum-known-s : tie.Need-enum-known-s Inv-loop μ-loop
 enum-known-s c = search needs
@@ -51,9 +52,10 @@ loop-less c = search needs
 
 loop-again : tie.Need-loop-again Inv-loop μ-loop
 loop-again c =
-    let L = c .before .before .before .before .before .before .before .before .before .before .before .before .before .loop in
+    let L = c .before .before .before .before .before .before .before .before .before .before .before .before .before .before .before .before .before .loop in
+    let N = c .before .before .before .before .before .before .before .before .before .before .before .before .before .before .next-call .kept in
     let K = c .before .before .before .before .before .tried .kept in
-    (omega arith, ⊎-elim (λ w. omega arith) (λ w. omega arith) (c .if1 .came), K .1 .1 .0 ∙ L .inv .2, K .1 .1 .1 .0 ∙ L .inv .3)
+    (omega arith, ⊎-elim (λ w. omega arith) (λ w. omega arith) (c .if1 .came), N .0 ∙ L .inv .2, K .1 .1 .0 ∙ L .inv .3, K .1 .1 .1 .0 ∙ L .inv .4)
 
 print-decimal-requires : tie.Need-print-decimal-requires Inv-loop μ-loop
 print-decimal-requires c κs = search needs
@@ -74,10 +76,15 @@ write-all-requires-2 : tie.Need-write-all-requires-2 Inv-loop μ-loop
 write-all-requires-2 c κs = search needs
 
 same-length : tie.Need-same-length Inv-loop μ-loop
-same-length c = c .before .before .before .before .before .before .before .loop .inv .2
+same-length c =
+    let L = c .before .before .before .before .before .before .before .loop in
+    ⊎-elim (λ w. ap (λ (l : List ℕ). length l) (w .1) ∙ L .inv .2) (λ w. ap (λ (l : List ℕ). length l) (w .7) ∙ w .2 .kept .0 ∙ L .inv .2) (c .before .before .before .before .before .before .loop-test .came)
 
 same-length-2 : tie.Need-same-length-2 Inv-loop μ-loop
 same-length-2 c = c .before .before .before .before .before .before .before .loop .inv .3
+
+same-length-3 : tie.Need-same-length-3 Inv-loop μ-loop
+same-length-3 c = c .before .before .before .before .before .before .before .loop .inv .4
 
 returns : tie.Need-returns Inv-loop μ-loop
 returns c = search needs
@@ -89,7 +96,7 @@ replay-spec =
     Inv-loop
     μ-loop
     loop-holds
-    call-at-requires
+    next-call-requires
     enum-known-s
     enum-told
     tried-requires
@@ -106,4 +113,5 @@ replay-spec =
     write-all-requires-2
     same-length
     same-length-2
+    same-length-3
     returns)
