@@ -3,6 +3,7 @@ use Prim.Native.Nat.{ℕ, _+_, _/_, _%_, _≤_, _<_, zero-le}
 use native.Mathlib.Numerals.{add-one}
 use native.Mathlib.Omega.{arith}
 use mathlib.Core.Path.{_≡_, refl, sym, ap, subst, _∙_}
+use mathlib.Core.Bool.{Bool, true, false}
 use mathlib.Core.List.{List, [], _∷_, _++_, append-nil, append-assoc}
 use lib.ListN.{length, getD, take, set, length-set, length-append, length-take}
 use lib.Seq.{take-suc, take-length}
@@ -13,7 +14,7 @@ use Rattle.mesh.specs.Log.{Words}
 use Rattle.columns.proofs.Sweep.{front-grows, Clearing, clear-start, clear-more, clear-done}
 use Rattle.listing.specs.declared.Written.{Written}
 use Rattle.listing.specs.declared.Written.the-variants.{Short, Bytes}
-use Rattle.listing.specs.Listing.{digit, decimal, spaced, line, tearWord, splitWord, edgeWord, insertWord, particlesWord, piecesWord, listingBytes}
+use Rattle.listing.specs.Listing.{digit, decimal, spaced, line, tearWord, splitWord, edgeWord, insertWord, particlesWord, piecesWord, replacedWord, replacedLine, listingBytes}
 use Rattle.listing.specs.Answers.{answerFor, shownFor, Wrote}
 use Rattle.listing.specs.Work.{Holds, Appends, Cleared, Finishes, entryLine}
 use Rattle.listing.proofs.Decimal.{decimal-small, decimal-more}
@@ -109,6 +110,15 @@ pub line-written : {word s s₁ s₂ s₃ : List ℕ} {at r₁ r₂ r₃ : Writt
 unfolding line
 line-written {word} l a b c = appends-as (appends-then (appends-then a b) c) (ap (λ (m : List ℕ). word ++ each spaced m ++ (10 ∷ [])) (take-length l))
 
+-- an outline that was not replaced has no line; one that was has it
+pub replaced-none : (t : Bool) (s : List ℕ) (at : Written) → t ≡ false → Appends (replacedLine t) s at s at
+unfolding replacedLine
+replaced-none t s at e = rw e (appends-none s at)
+
+pub replaced-line : {s s₁ : List ℕ} {at r₁ : Written} (t : Bool) → t ≡ true → Appends (line replacedWord []) s at s₁ r₁ → Appends (replacedLine t) s at s₁ r₁
+unfolding replacedLine
+replaced-line t e a = rw e a
+
 -- ---- the end of a text
 
 -- at the head of the loop that clears, where its start lies within s₀
@@ -155,15 +165,15 @@ holds-nothing s = (refl, refl)
 pub wrote : {text s s₁ s₂ : List ℕ} {r₁ r₂ : Written} → Appends text s (Bytes 0) s₁ r₁ → Finishes s₁ r₁ s₂ r₂ → length s₁ ≡ length s → Wrote text (length s) s₂ r₂
 wrote {text} {s} {s₁} {s₂} {r₁} {r₂} a f e = subst (λ (n : ℕ). Wrote text n s₂ r₂) e (f .finished text (a .appended [] (holds-nothing s)))
 
--- six pieces are the listing
-pub listing-written : {s s₁ s₂ s₃ s₄ s₅ s₆ : List ℕ} {at r₁ r₂ r₃ r₄ r₅ r₆ : Written} (log : List Words) (particles pieces : ℕ)
-    → Appends (line tearWord (1 ∷ [])) s at s₁ r₁ → Appends (each (entryLine splitWord 1 2) log) s₁ r₁ s₂ r₂ → Appends (each (entryLine edgeWord 2 2) log) s₂ r₂ s₃ r₃
-    → Appends (each (entryLine insertWord 3 4) log) s₃ r₃ s₄ r₄ → Appends (line particlesWord (particles ∷ [])) s₄ r₄ s₅ r₅ → Appends (line piecesWord (pieces ∷ [])) s₅ r₅ s₆ r₆
-    → Appends (listingBytes log particles pieces) s at s₆ r₆
+-- seven pieces are the listing
+pub listing-written : {s s₁ s₂ s₃ s₄ s₅ s₆ s₇ : List ℕ} {at r₁ r₂ r₃ r₄ r₅ r₆ r₇ : Written} (replaced : Bool) (log : List Words) (particles pieces : ℕ)
+    → Appends (line tearWord (1 ∷ [])) s at s₁ r₁ → Appends (replacedLine replaced) s₁ r₁ s₂ r₂ → Appends (each (entryLine splitWord 1 2) log) s₂ r₂ s₃ r₃
+    → Appends (each (entryLine edgeWord 2 2) log) s₃ r₃ s₄ r₄ → Appends (each (entryLine insertWord 3 4) log) s₄ r₄ s₅ r₅ → Appends (line particlesWord (particles ∷ [])) s₅ r₅ s₆ r₆
+    → Appends (line piecesWord (pieces ∷ [])) s₆ r₆ s₇ r₇ → Appends (listingBytes replaced log particles pieces) s at s₇ r₇
 unfolding listingBytes
-listing-written log particles pieces tear splits edges inserts counted last =
+listing-written replaced log particles pieces tear second splits edges inserts counted last =
     appends-then
     (appends-then
-    (appends-then (appends-then (appends-then tear (appends-as splits (split-lines log))) (appends-as edges (edge-lines log))) (appends-as inserts (insert-lines log)))
+    (appends-then (appends-then (appends-then (appends-then tear second) (appends-as splits (split-lines log))) (appends-as edges (edge-lines log))) (appends-as inserts (insert-lines log)))
     counted)
     last

@@ -82,9 +82,9 @@ insert-same (insert a b p q t) = refl
 insert-same (opened a b) = refl
 
 -- the listing of the words of a log is the listing of its entries
-pub listing-entries : (l : List Entry) (particles pieces : ℕ) → listingBytes (map wordsOf l) particles pieces ≡ listingOf l particles pieces
+pub listing-entries : (replaced : Bool) (l : List Entry) (particles pieces : ℕ) → listingBytes replaced (map wordsOf l) particles pieces ≡ listingOf replaced l particles pieces
 unfolding listingBytes listingOf
-listing-entries l particles pieces =
+listing-entries replaced l particles pieces =
     rw (kind-text 1 splitLine splitText split-same l, kind-text 2 edgeLine edgeText edge-same l, kind-text 3 insertLine insertText insert-same l)
 
 -- ---- an entry in the log

@@ -3,4 +3,5 @@ pub mod Decimal
 pub mod Entries
 pub mod Worked
 pub mod Appending
+pub mod Replaced
 pub mod Outcomes

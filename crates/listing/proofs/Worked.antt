@@ -1,7 +1,7 @@
 -- The worked listing (docs/RULES.md, R15.7), byte for byte, of the model's cut of the worked mesh; the listing of its worked strap; a refusal; and numbers. Assumes nothing.
 use Prim.Native.Nat.{ℕ}
 use mathlib.Core.Path.{_≡_, refl, ap, _∙_}
-use mathlib.Core.Bool.{true}
+use mathlib.Core.Bool.{Bool, true, false}
 use mathlib.Core.List.{List, [], _∷_, map}
 use lib.IntN.{pos, negsuc}
 use Rattle.lists.specs.Lists.{sift, each}
@@ -10,7 +10,7 @@ use Rattle.model.specs.Calls.{Outcome, refused, done, cutCall}
 use Rattle.model.specs.Starred.{quarter, tenth, limits, strapMesh, listingMesh, blade}
 use Rattle.model.proofs.Starred.{Said, no-mesh, told, said, listing-worked, strap-worked}
 use Rattle.mesh.specs.Log.{wordsOf}
-use Rattle.listing.specs.Listing.{decimalBy, decimal, line, ofKind, listingBytes, refusedBytes, printed}
+use Rattle.listing.specs.Listing.{decimalBy, decimal, line, ofKind, replacedLine, listingBytes, refusedBytes, printed}
 
 -- `tear 1`, `split 4 0`, `split 5 2`, `edge 1 3`, `particles 6`, `pieces 2`, a line each
 abbrev worked-bytes : List ℕ
@@ -23,9 +23,24 @@ worked-bytes =
     ∷ 112 ∷ 105 ∷ 101 ∷ 99 ∷ 101 ∷ 115 ∷ 32 ∷ 50 ∷ 10 ∷ []
 
 -- the log in the order of happening: copy 4 of 0, with which edge (1, 3) goes, then copy 5 of 2
-pub worked-listing : listingBytes (map wordsOf (split 4 0 ∷ edge 1 3 ∷ split 5 2 ∷ [])) 6 2 ≡ worked-bytes
-unfolding listingBytes ofKind sift each line decimal decimalBy
+pub worked-listing : listingBytes false (map wordsOf (split 4 0 ∷ edge 1 3 ∷ split 5 2 ∷ [])) 6 2 ≡ worked-bytes
+unfolding listingBytes replacedLine ofKind sift each line decimal decimalBy
 worked-listing = refl
+
+-- the same with the line of a replaced outline behind `tear 1`
+abbrev pub replaced-bytes : List ℕ
+replaced-bytes =
+    116 ∷ 101 ∷ 97 ∷ 114 ∷ 32 ∷ 49 ∷ 10
+    ∷ 111 ∷ 117 ∷ 116 ∷ 108 ∷ 105 ∷ 110 ∷ 101 ∷ 32 ∷ 114 ∷ 101 ∷ 112 ∷ 108 ∷ 97 ∷ 99 ∷ 101 ∷ 100 ∷ 10
+    ∷ 115 ∷ 112 ∷ 108 ∷ 105 ∷ 116 ∷ 32 ∷ 52 ∷ 32 ∷ 48 ∷ 10
+    ∷ 115 ∷ 112 ∷ 108 ∷ 105 ∷ 116 ∷ 32 ∷ 53 ∷ 32 ∷ 50 ∷ 10
+    ∷ 101 ∷ 100 ∷ 103 ∷ 101 ∷ 32 ∷ 49 ∷ 32 ∷ 51 ∷ 10
+    ∷ 112 ∷ 97 ∷ 114 ∷ 116 ∷ 105 ∷ 99 ∷ 108 ∷ 101 ∷ 115 ∷ 32 ∷ 54 ∷ 10
+    ∷ 112 ∷ 105 ∷ 101 ∷ 99 ∷ 101 ∷ 115 ∷ 32 ∷ 50 ∷ 10 ∷ []
+
+pub replaced-listing : listingBytes true (map wordsOf (split 4 0 ∷ edge 1 3 ∷ split 5 2 ∷ [])) 6 2 ≡ replaced-bytes
+unfolding listingBytes replacedLine ofKind sift each line decimal decimalBy
+replaced-listing = refl
 
 -- `tear 1`, `insert 0 1 2 3`, `particles 4`, `pieces 2`, a line each
 abbrev strap-bytes : List ℕ
@@ -35,8 +50,8 @@ strap-bytes =
     ∷ 112 ∷ 97 ∷ 114 ∷ 116 ∷ 105 ∷ 99 ∷ 108 ∷ 101 ∷ 115 ∷ 32 ∷ 52 ∷ 10
     ∷ 112 ∷ 105 ∷ 101 ∷ 99 ∷ 101 ∷ 115 ∷ 32 ∷ 50 ∷ 10 ∷ []
 
-strap-listing : listingBytes (map wordsOf (insert 0 1 2 3 quarter ∷ [])) 4 2 ≡ strap-bytes
-unfolding listingBytes ofKind sift each line decimal decimalBy
+strap-listing : listingBytes false (map wordsOf (insert 0 1 2 3 quarter ∷ [])) 4 2 ≡ strap-bytes
+unfolding listingBytes replacedLine ofKind sift each line decimal decimalBy
 strap-listing = refl
 
 -- ---- from the mesh to the bytes
@@ -44,18 +59,18 @@ strap-listing = refl
 -- what is printed depends only on what the worked case says of a result
 abbrev printed-said : Said → List ℕ
 printed-said (no-mesh code) = refusedBytes code
-printed-said (told t) = listingBytes (map wordsOf (t .log)) (t .particles) (t .pieces)
+printed-said (told t) = listingBytes false (map wordsOf (t .log)) (t .particles) (t .pieces)
 
-printed-as : (o : Outcome) → printed o ≡ printed-said (said o)
+printed-as : (o : Outcome) → printed false o ≡ printed-said (said o)
 printed-as (refused code) = refl
 printed-as (done M log changed) = refl
 
 -- the worked mesh, cut by (-1,-1) to (5,5)
-pub worked-printed : printed (cutCall true listingMesh (blade (negsuc 0) (negsuc 0) (pos 5) (pos 5)) tenth limits) ≡ worked-bytes
+pub worked-printed : printed false (cutCall true listingMesh (blade (negsuc 0) (negsuc 0) (pos 5) (pos 5)) tenth limits) ≡ worked-bytes
 worked-printed = printed-as (cutCall true listingMesh (blade (negsuc 0) (negsuc 0) (pos 5) (pos 5)) tenth limits) ∙ ap printed-said listing-worked ∙ worked-listing
 
 -- the worked strap, cut by (2,-1) to (2,1)
-pub strap-printed : printed (cutCall true strapMesh (blade (pos 2) (negsuc 0) (pos 2) (pos 1)) tenth limits) ≡ strap-bytes
+pub strap-printed : printed false (cutCall true strapMesh (blade (pos 2) (negsuc 0) (pos 2) (pos 1)) tenth limits) ≡ strap-bytes
 strap-printed = printed-as (cutCall true strapMesh (blade (pos 2) (negsuc 0) (pos 2) (pos 1)) tenth limits) ∙ ap printed-said strap-worked ∙ strap-listing
 
 -- ---- single lines and numbers

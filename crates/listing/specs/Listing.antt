@@ -1,6 +1,6 @@
 -- What the program prints, byte for byte: the listing of a cut (docs/RULES.md, R14), and its line of a refusal. Definitions only.
 use Prim.Native.Nat.{ℕ, zero, suc, _+_, _-_, _*_, _/_, _%_}
-use mathlib.Core.Bool.{Bool, _&&_}
+use mathlib.Core.Bool.{Bool, true, false, _&&_}
 use mathlib.Core.List.{List, [], _∷_, _++_, map}
 use lib.ListN.{length}
 use lib.Dec.{eqb, leb, ltb}
@@ -38,6 +38,10 @@ line word numbers = word ++ each spaced numbers ++ (10 ∷ [])
 -- `tear`
 abbrev pub tearWord : List ℕ
 tearWord = 116 ∷ 101 ∷ 97 ∷ 114 ∷ []
+
+-- `outline replaced`
+abbrev pub replacedWord : List ℕ
+replacedWord = 111 ∷ 117 ∷ 116 ∷ 108 ∷ 105 ∷ 110 ∷ 101 ∷ 32 ∷ 114 ∷ 101 ∷ 112 ∷ 108 ∷ 97 ∷ 99 ∷ 101 ∷ 100 ∷ []
 
 -- `split`
 abbrev pub splitWord : List ℕ
@@ -79,20 +83,25 @@ edgeLine e = line edgeWord (e .a ∷ e .b ∷ [])
 abbrev pub insertLine : Words → List ℕ
 insertLine e = line insertWord (e .a ∷ e .b ∷ e .p ∷ e .q ∷ [])
 
--- the whole listing: `tear 1`, the splits, the removed edges, the insertions, `particles N`, `pieces N`. Opened torn edges, which no cut has, get no line.
-unfoldable pub listingBytes : List Words → ℕ → ℕ → List ℕ
-listingBytes log particles pieces =
-    line tearWord (1 ∷ []) ++ each splitLine (ofKind 1 log) ++ each edgeLine (ofKind 2 log) ++ each insertLine (ofKind 3 log)
+-- the line `outline replaced` where the sheet's typed outline was replaced, and nothing else
+unfoldable pub replacedLine : Bool → List ℕ
+replacedLine true = line replacedWord []
+replacedLine false = []
+
+-- the whole listing: `tear 1`, `outline replaced` where it was, the splits, the removed edges, the insertions, `particles N`, `pieces N`. Opened torn edges, which no cut has, get no line.
+unfoldable pub listingBytes : Bool → List Words → ℕ → ℕ → List ℕ
+listingBytes replaced log particles pieces =
+    line tearWord (1 ∷ []) ++ replacedLine replaced ++ each splitLine (ofKind 1 log) ++ each edgeLine (ofKind 2 log) ++ each insertLine (ofKind 3 log)
     ++ line particlesWord (particles ∷ []) ++ line piecesWord (pieces ∷ [])
 
 -- what is printed on a refusal: the one line `refused N`
 unfoldable pub refusedBytes : ℕ → List ℕ
 refusedBytes code = line refusedWord (code ∷ [])
 
--- what is printed for the outcome of a cut: the listing of its log, its particles and its pieces, or the line of its refusal
-abbrev pub printed : Outcome → List ℕ
-printed (refused code) = refusedBytes code
-printed (done M log changed) = listingBytes (map wordsOf log) (length (M .particles)) (pieces M)
+-- what is printed for the outcome of a cut of a sheet whose outline was or was not replaced: the listing of its log, its particles and its pieces, or the line of its refusal alone
+abbrev pub printed : Bool → Outcome → List ℕ
+printed replaced (refused code) = refusedBytes code
+printed replaced (done M log changed) = listingBytes replaced (map wordsOf log) (length (M .particles)) (pieces M)
 
 -- ---- the same lines of a log's entries; proofs/Entries.antt proves that they are the lines of the entries' words
 
@@ -116,9 +125,9 @@ insertText (insert a b p q t) = line insertWord (a ∷ b ∷ p ∷ q ∷ [])
 insertText (opened a b) = []
 
 -- the listing of a log of entries
-unfoldable pub listingOf : List Entry → ℕ → ℕ → List ℕ
-listingOf log particles pieces =
-    line tearWord (1 ∷ []) ++ each splitText log ++ each edgeText log ++ each insertText log ++ line particlesWord (particles ∷ []) ++ line piecesWord (pieces ∷ [])
+unfoldable pub listingOf : Bool → List Entry → ℕ → ℕ → List ℕ
+listingOf replaced log particles pieces =
+    line tearWord (1 ∷ []) ++ replacedLine replaced ++ each splitText log ++ each edgeText log ++ each insertText log ++ line particlesWord (particles ∷ []) ++ line piecesWord (pieces ∷ [])
 
 -- ---- what digits mean
 

@@ -5,7 +5,7 @@ ghost use Prim.Native.Nat.{_+_, _*_, _≤_, _<_};
 ghost use lib.ListN.{length};
 ghost use Rattle.lists.specs.Lists.{each};
 ghost use Rattle.mesh.specs.Log.{logAt, entryRow};
-ghost use Rattle.listing.specs.Listing.{digit as digitByte, decimal, line, listingBytes, refusedBytes};
+ghost use Rattle.listing.specs.Listing.{digit as digitByte, decimal, line, replacedLine, listingBytes, refusedBytes};
 ghost use Rattle.listing.specs.Answers.{Wrote};
 ghost use Rattle.listing.specs.Work.{Appends, Cleared, Finishes, Listable, entryLine};
 
@@ -75,6 +75,17 @@ fn put_line(out: &mut [u8], at: Written, word: &[u8], numbers: &[usize]) -> Writ
     put_byte(out, at, b'\n')
 }
 
+// Writes the line of a replaced outline behind the text, where it was replaced.
+fn put_replaced(out: &mut [u8], at: Written, replaced: bool) -> Written
+    ensures { λ r. ⌜ Appends (replacedLine replaced) (now (out .entry)) at (now (out .exit)) r ⌝ }
+{
+    if replaced {
+        let none: [usize; 0] = [];
+        return put_line(out, at, b"outline replaced", &none);
+    }
+    at
+}
+
 // Writes the line of entry i of a log behind the text, where the entry is of the kind: the word and the first `count` of the entry's numbers.
 fn put_entry(
     out: &mut [u8],
@@ -142,8 +153,9 @@ fn finish(out: &mut [u8], at: Written) -> Written
     Written::Bytes(n)
 }
 
-// Writes the listing of a log, a count of particles and a count of pieces, and 0 behind it.
+// Writes the listing of a log, a count of particles and a count of pieces, with the line of a replaced outline or without, and 0 behind it.
 pub fn write_listing(
+    replaced: bool,
     entries: usize,
     log: &[usize],
     particles: usize,
@@ -151,10 +163,11 @@ pub fn write_listing(
     out: &mut [u8],
 ) -> Written
     requires { ⌜ 6 * entries ≤ length (now log) ⌝ }
-    ensures { λ r. ⌜ Wrote (listingBytes (logAt entries (now (log .entry))) particles pieces) (length (now (out .entry))) (now (out .exit)) r ⌝ }
+    ensures { λ r. ⌜ Wrote (listingBytes replaced (logAt entries (now (log .entry))) particles pieces) (length (now (out .entry))) (now (out .exit)) r ⌝ }
 {
     let edition = [1usize];
     let at = put_line(out, Written::Bytes(0), b"tear", &edition);
+    let at = put_replaced(out, at, replaced);
     let at = put_entries(out, at, b"split", 1, 2, entries, log);
     let at = put_entries(out, at, b"edge", 2, 2, entries, log);
     let at = put_entries(out, at, b"insert", 3, 4, entries, log);

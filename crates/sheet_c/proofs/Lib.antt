@@ -3,3 +3,4 @@ pub mod Sheeting
 pub mod Signs
 pub mod Fielding
 pub mod Agree
+pub mod Trips

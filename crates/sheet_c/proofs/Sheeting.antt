@@ -6,22 +6,36 @@ use mathlib.Core.Bool.{Bool, true, false, cond, _||_}
 use mathlib.Core.List.{List, [], _∷_, _++_}
 use lib.Dec.{ltb, eqb}
 use lib.Ieee.{Float}
-use lib.ListN.{length, take, length-append}
-use lib.Seq.{take-length}
+use lib.ListN.{length, take, drop, length-append, length-map}
+use lib.Seq.{take-at, take-length}
 use borrow.Author.Tests.{ltb-false, le-leb}
+use Rattle.lists.specs.Lists.{pick, padded}
+use Rattle.lists.proofs.Rows.{length-mapAt}
+use Rattle.float.specs.Numbers.{zero32}
 use Rattle.model.specs.Reads.{Read, refused, value}
+use Rattle.mesh.specs.At.{meshAt}
 use Rattle.mesh.specs.Given.{Lent}
 use Rattle.mesh.specs.Filled.{lent}
+use Rattle.mesh.specs.declared.Counts as M
+use Rattle.filled.specs.Counts.{countsIn}
+use Rattle.filled.proofs.Held.{mesh-held}
 use Rattle.bits.specs.Bits.{bitsOf}
-use Rattle.sheet.specs.Sheet.{sheetWith, seenOf, seenWith, above, tooMany, most, countsAt, bytesOf, spareOf, namesOK}
-use Rattle.sheet.specs.Read.{meshOfSheet, bladeOfSheet, countsFor, roomFor, lentOf, ReadDone}
+use Rattle.bits.specs.Rows.{unpack, readRows}
+use Rattle.bits.proofs.RowLaws.{length-read}
+use Rattle.sheet.specs.Sheet.{Sheet, sheetWith, above, tooMany, most, countsAt, countsOf, namesOK, particleW, triangleW, edgeW, bladeW, atTriangles, atEdges, atBlade}
+use Rattle.sheet.specs.Read.{floatOf, particlesFrom, trianglesFrom, edgesFrom, boundaryFrom, meshOfSheet, bladeOfSheet, countsFor}
 use Rattle.sheet.specs.declared.Counts.{Counts}
-use Rattle.sheet.specs.declared.Seen.{Seen}
-use Rattle.sheet.specs.declared.Seen.the-variants.{Whole, Refused}
-use Rattle.sheet.proofs.Back.{accepted-seen}
+use Rattle.sheet.specs.declared.Seen.{Seen as Typed}
+use Rattle.sheet.specs.declared.Seen.the-variants.{Whole as TypedWhole, Refused as TypedRefused}
 use Rattle.sheet.proofs.PutLaws.{neither}
-use Rattle.sheet.proofs.Undo.{read-mesh, read-blade}
-use Rattle.image.specs.Words.{written, putWords, bitsIn}
+use Rattle.edition.specs.Edition.{SheetRead, second, bitsIn, typedOf, sheetOf, bytesIn, spareIn, overlong, typedWith, typedSeen, seenIn, seenOf}
+use Rattle.edition.specs.Reading.{roomFor, lentOf, worldOf, bladeLeft, ReadDone}
+use Rattle.edition.specs.declared.Seen.{Seen}
+use Rattle.edition.specs.declared.Seen.the-variants.{Whole, Refused}
+use Rattle.edition.proofs.Starts.{typed-in}
+use Rattle.edition.proofs.Entering.{outlined, seen-whole-tells}
+use Rattle.image.specs.Words as W
+use Rattle.image.specs.Words.{written, putWords}
 use Rattle.image.specs.Image.{imageWordsOf}
 use Rattle.image.specs.Stores.{blockWords, Standing, Storable}
 use Rattle.image.proofs.Puts.{put-written, bits-length}
@@ -33,16 +47,19 @@ use Rattle.sheet_c.specs.Work.{Few, Storing, blocksTold}
 
 -- ---- the counts of a whole sheet
 
-few-counts : (c : Counts) → tooMany c ≡ false → Few c
+few-counts : (c : Counts) (n : ℕ) → tooMany c ≡ false → n ≤ 2048 → Few (outlined c n)
 unfolding above
-few-counts c e =
+few-counts c n e h =
     let u = neither (ltb 1024 (c .particles)) (ltb 1024 (c .triangles) || (ltb 2048 (c .edges) || ltb 2048 (c .boundary))) e in
     let v = neither (ltb 1024 (c .triangles)) (ltb 2048 (c .edges) || ltb 2048 (c .boundary)) (u .1) in
     let w = neither (ltb 2048 (c .edges)) (ltb 2048 (c .boundary)) (v .1) in
-    record { particles = ltb-false 1024 (c .particles) (u .0); triangles = ltb-false 1024 (c .triangles) (v .0); edges = ltb-false 2048 (c .edges) (w .0); boundary = ltb-false 2048 (c .boundary) (w .1) }
+    record { particles = ltb-false 1024 (c .particles) (u .0); triangles = ltb-false 1024 (c .triangles) (v .0); edges = ltb-false 2048 (c .edges) (w .0); boundary = h }
 
-seen-few : (s : List ℕ) (c : Counts) → seenOf most s ≡ Whole c → Few c
-seen-few s c e = few-counts c (accepted-seen most s c e .few)
+seen-few : (s : List ℕ) (c : Counts) (f : Bool) → seenOf most s ≡ Whole c f → Few c
+seen-few s c f e =
+    let a = seen-whole-tells most s c f e in
+    let d = countsAt (bitsIn (bitsOf s)) in
+    subst Few (sym (a .counts)) (few-counts d (length (sheetOf (bitsOf s) .sheet .boundary)) (typed-in most s d (a .typed) .few) (a .few))
 
 -- ---- room
 
@@ -56,9 +73,9 @@ pub record Ample (L : Lent) : Type 0 where
   pub lengths : L .lengths ≡ 8192
   pub outline : L .outline ≡ 4096
 
-room-whole : (c : Counts) (L : Lent) (nb : ℕ) → Few c → Ample L → nb ≡ 4 → roomFor c L nb ≡ Whole c
+room-whole : (c : Counts) (f : Bool) (L : Lent) (nb : ℕ) → Few c → Ample L → nb ≡ 4 → roomFor c f L nb ≡ Whole c f
 unfolding roomFor
-room-whole c L nb F A four =
+room-whole c f L nb F A four =
     rw
     (le-leb (c .triangles) (L .corners / 3) (omega (arith, A .corners, F .triangles)), le-leb (c .triangles) (L .volumes / 2) (omega (arith, A .volumes, F .triangles)), le-leb 4 nb (omega arith), le-leb (c .particles) (L .points / 6) (omega (arith, A .points, F .particles)), le-leb (c .particles) (L .roots / 2) (omega (arith, A .roots, F .particles)), le-leb (c .edges) (L .ends / 4) (omega (arith, A .ends, F .edges)), le-leb (c .edges) (L .lengths / 4) (omega (arith, A .lengths, F .edges)), le-leb (c .boundary) (L .outline / 2) (omega (arith, A .outline, F .boundary)))
     refl
@@ -70,27 +87,64 @@ lent-same s L nb A four = by (seenOf most s) refl
   where
     by : (x : Seen) → seenOf most s ≡ x → lentOf x L nb ≡ x
     by (Refused n) e = refl
-    by (Whole c) e = room-whole c L nb (seen-few s c e) A four
+    by (Whole c f) e = room-whole c f L nb (seen-few s c f e) A four
 
 -- ---- refusals are small
 
+SmallTyped : Typed → Type 0
+SmallTyped (TypedRefused n) = n < 256
+SmallTyped (TypedWhole c) = Unit {0}
+
 SmallSeen : Seen → Type 0
 SmallSeen (Refused n) = n < 256
-SmallSeen (Whole c) = Unit {0}
+SmallSeen (Whole c f) = Unit {0}
+
+cond-typed : (b : Bool) (x y : Typed) → SmallTyped x → SmallTyped y → SmallTyped (cond b x y)
+cond-typed true x y h k = h
+cond-typed false x y h k = k
 
 cond-small : (b : Bool) (x y : Seen) → SmallSeen x → SmallSeen y → SmallSeen (cond b x y)
 cond-small true x y h k = h
 cond-small false x y h k = k
 
+typed-small : (s : List ℕ) → SmallTyped (typedSeen most s)
+unfolding typedSeen typedWith SmallTyped
+typed-small s =
+    let d = countsAt (bitsIn (bitsOf s)) in
+    cond-typed (ltb (length s) 6) (TypedRefused 9) _ (omega arith)
+    (cond-typed (tooMany d || above most d) (TypedRefused 1) _ (omega arith)
+    (cond-typed (eqb (length s) (bytesIn (second (bitsOf s)) d)) _ (TypedRefused 9)
+    (cond-typed (eqb (spareIn d s) 0) _ (TypedRefused 9)
+    (cond-typed (namesOK (sheetWith d (bitsIn (bitsOf s)))) (TypedWhole d) (TypedRefused 3) tt (omega arith)) (omega arith)) (omega arith)))
+
 seen-small : (s : List ℕ) → SmallSeen (seenOf most s)
-unfolding seenOf seenWith SmallSeen
-seen-small s =
-    let d = countsAt (bitsOf s) in
-    cond-small (ltb (length s) 6) (Refused 9) _ (omega arith)
-    (cond-small (tooMany d || above most d) (Refused 1) _ (omega arith)
-    (cond-small (eqb (length s) (bytesOf d)) _ (Refused 9)
-    (cond-small (eqb (spareOf d (bitsOf s)) 0) _ (Refused 9)
-    (cond-small (namesOK (sheetWith d (bitsOf s))) (Whole d) (Refused 3) tt (omega arith)) (omega arith)) (omega arith)))
+unfolding seenIn SmallSeen SmallTyped
+seen-small s = by (typedSeen most s) (typed-small s)
+  where
+    by : (w : Typed) → SmallTyped w → SmallSeen (seenIn most s w)
+    by (TypedRefused n) h = h
+    by (TypedWhole c) h = cond-small (overlong most (length (sheetOf (bitsOf s) .sheet .boundary))) (Refused 1) _ (omega arith) tt
+
+-- ---- the mesh and the blade of a sheet as it is read
+
+-- the mesh has the counts that were told
+counts-mesh : (s : List ℕ) (c : Counts) (f : Bool) → seenOf most s ≡ Whole c f → countsIn (worldOf (Whole c f) (bitsOf s)) ≡ countsFor c
+unfolding worldOf meshOfSheet particlesFrom trianglesFrom edgesFrom boundaryFrom sheetOf typedOf sheetWith
+counts-mesh s c f e =
+    let l = bitsIn (bitsOf s) in
+    let d = countsAt l in
+    let h = sheetOf (bitsOf s) .sheet in
+    let p : length (h .particles) ≡ d .particles = length-read particleW (d .particles) (drop 46 l) in
+    let t : length (h .triangles) ≡ d .triangles = length-read triangleW (d .triangles) (drop (atTriangles d) l) in
+    let g : length (h .edges) ≡ d .edges = length-read edgeW (d .edges) (drop (atEdges d) l) in
+    let k : record { particles = length (h .particles); triangles = length (h .triangles); edges = length (h .edges); boundary = length (h .boundary) } ≡ c =
+    (λ i. record { particles = p i; triangles = t i; edges = g i; boundary = length (h .boundary) }) ∙ sym (seen-whole-tells most s c f e .counts) in
+    rw (length-mapAt _ (h .particles), length-map (h .triangles) _, length-map (h .edges) _, length-map (h .boundary) _) (ap countsFor k)
+
+-- the blade has four numbers
+blade-four : (l : List ℕ) → length (bladeOfSheet (sheetOf l .sheet)) ≡ 4
+unfolding bladeOfSheet sheetOf typedOf sheetWith unpack
+blade-four l = refl
 
 -- ---- what a reader left
 
@@ -115,16 +169,16 @@ module _ (s : List ℕ) (L : Lent) (r : Seen) (p : List Float) (q k : List ℕ) 
   sheet-refused n lent′ x out h f = replied-as (refused n) _ lent′ x out (ap (λ (z : Seen). sheetTold z s) (sym h ∙ read-is)) f
 
   -- a whole sheet
-  module _ (c : Counts) (w : r ≡ Whole c) (same : lent p q k v e l o g ≡ L) (four′ : length b′ ≡ 4) where
-    here : seenOf most s ≡ Whole c
+  module _ (c : Counts) (f : Bool) (w : r ≡ Whole c f) (same : lent p q k v e l o g ≡ L) (four′ : length b′ ≡ 4) where
+    here : seenOf most s ≡ Whole c f
     here = sym read-is ∙ w
 
-    whole-read : ReadDone most s L (Whole c) p q k v e l o g b b′
+    whole-read : ReadDone most s L (Whole c f) p q k v e l o g b b′
     whole-read = subst (λ (z : Seen). ReadDone most s L z p q k v e l o g b b′) w R
 
     stands-here : Standing (countsFor c) (length p) (length q) (length k) (length v) (length e) (length l) (length o)
     stands-here =
-        let F = seen-few s c here in
+        let F = seen-few s c f here in
         record {
           points = omega (arith, ap (λ (X : Lent). X .points) same, A .points, F .particles);
           roots = omega (arith, ap (λ (X : Lent). X .roots) same, A .roots, F .particles);
@@ -136,35 +190,46 @@ module _ (s : List ℕ) (L : Lent) (r : Seen) (p : List Float) (q k : List ℕ) 
         }
 
     pub sheet-storing : Storing c (length p) (length q) (length k) (length v) (length e) (length l) (length o) (length b′)
-    sheet-storing = record { few = seen-few s c here; stands = stands-here; four = four′ }
+    sheet-storing = record { few = seen-few s c f here; stands = stands-here; four = four′ }
 
-    blade-is : b′ ≡ bladeOfSheet (sheetWith c (bitsOf s))
-    blade-is = sym (ap (λ (n : ℕ). take n b′) (sym four′) ∙ take-length b′) ∙ read-blade most s L c p q k v e l o g b b′ whole-read same
+    mesh-is : meshAt (countsFor c) p q k v e l o ≡ meshOfSheet (sheetOf (bitsOf s) .sheet)
+    unfolding worldOf
+    mesh-is =
+        subst (λ (x : M.Counts). meshAt x p q k v e l o ≡ meshOfSheet (sheetOf (bitsOf s) .sheet)) (counts-mesh s c f here)
+        (mesh-held (worldOf (Whole c f) (bitsOf s)) L p q k v e l o g (whole-read .blocks) same)
 
-    words-are : blocksTold c p q k v e l o b′ ≡ sheetWords (sheetWith c (bitsOf s))
+    blade-is : b′ ≡ bladeOfSheet (sheetOf (bitsOf s) .sheet)
+    unfolding bladeLeft padded
+    blade-is =
+        sym (ap (λ (n : ℕ). take n b′) (sym four′) ∙ take-length b′)
+        ∙ (ap (λ (x : List Float). take 4 x) (whole-read .blade) ∙ take-at (bladeOfSheet (sheetOf (bitsOf s) .sheet)) _ 4 (blade-four (bitsOf s)))
+
+    words-are : (first : ℕ) → first ≡ pick f 1 0 → blocksTold first c p q k v e l o b′ ≡ sheetWords (sheetOf (bitsOf s))
     unfolding sheetWords
-    words-are =
-        ap₂ (λ (x : List Float) (y : List ℕ). (0 ∷ bitsIn x) ++ y) blade-is
-        (rows-image (countsFor c) p q k v e l o stands-here ∙ ap imageWordsOf (read-mesh most s L c p q k v e l o g b b′ whole-read same))
+    words-are first ef =
+        let z : first ≡ pick (sheetOf (bitsOf s) .replaced) 1 0 = ef ∙ ap (λ (x : Bool). pick x 1 0) (seen-whole-tells most s c f here .told) in
+        (λ i. (z i ∷ W.bitsIn (blade-is i)) ++ blockWords (countsFor c) p q k v e l o)
+        ∙ ap (λ (y : List ℕ). (pick (sheetOf (bitsOf s) .replaced) 1 0 ∷ W.bitsIn (bladeOfSheet (sheetOf (bitsOf s) .sheet))) ++ y)
+        (rows-image (countsFor c) p q k v e l o stands-here ∙ ap imageWordsOf mesh-is)
 
-    pub sheet-whole : (lent′ x : ℕ) (out : List ℕ) → Replied (value (blocksTold c p q k v e l o b′)) lent′ x out → Replied (sheetReply s) lent′ x out
+    pub sheet-whole : (first : ℕ) → first ≡ pick f 1 0 → (lent′ x : ℕ) (out : List ℕ) → Replied (value (blocksTold first c p q k v e l o b′)) lent′ x out → Replied (sheetReply s) lent′ x out
     unfolding sheetReply
-    sheet-whole lent′ x out f =
-        replied-as (value (blocksTold c p q k v e l o b′)) _ lent′ x out (ap (λ (z : List ℕ). value z) words-are ∙ ap (λ (z : Seen). sheetTold z s) (sym w ∙ read-is)) f
+    sheet-whole first ef lent′ x out h =
+        replied-as (value (blocksTold first c p q k v e l o b′)) _ lent′ x out (ap (λ (z : List ℕ). value z) (words-are first ef) ∙ ap (λ (z : Seen). sheetTold z s) (sym w ∙ read-is)) h
 
 -- ---- the words of blocks
 
-module _ (c : Counts) (p : List Float) (q k : List ℕ) (v : List Float) (e : List ℕ) (l : List Float) (o : List ℕ) (b : List Float)
+module _ (first : ℕ) (c : Counts) (p : List Float) (q k : List ℕ) (v : List Float) (e : List ℕ) (l : List Float) (o : List ℕ) (b : List Float)
     (S : Storing c (length p) (length q) (length k) (length v) (length e) (length l) (length o) (length b)) where
-  blocks-long : length (blocksTold c p q k v e l o b) ≡ 9 + 8 * c .particles + 5 * c .triangles + 8 * c .edges + 2 * c .boundary
+  blocks-long : length (blocksTold first c p q k v e l o b) ≡ 9 + 8 * c .particles + 5 * c .triangles + 8 * c .edges + 2 * c .boundary
   blocks-long =
       let n = block-words-long (countsFor c) p q k v e l o (S .stands) in
-      let m = length-append (0 ∷ bitsIn b) (blockWords (countsFor c) p q k v e l o) in
+      let m = length-append (first ∷ W.bitsIn b) (blockWords (countsFor c) p q k v e l o) in
       m ∙ omega (arith, n, bits-length b, S .four)
 
   pub blocks-short : (lent′ x : ℕ) (out : List ℕ) → lent′ < 4 * (9 + 8 * c .particles + 5 * c .triangles + 8 * c .edges + 2 * c .boundary) → Replied (refused 4) lent′ x out
-      → Replied (value (blocksTold c p q k v e l o b)) lent′ x out
-  blocks-short lent′ x out h f = says-short (blocksTold c p q k v e l o b) lent′ x out (omega (arith, blocks-long, h)) (f .code) (f .bytes)
+      → Replied (value (blocksTold first c p q k v e l o b)) lent′ x out
+  blocks-short lent′ x out h f = says-short (blocksTold first c p q k v e l o b) lent′ x out (omega (arith, blocks-long, h)) (f .code) (f .bytes)
 
   pub blocks-storable : (bytes lent′ : ℕ) → bytes ≡ lent′ → 4 * (9 + 8 * c .particles + 5 * c .triangles + 8 * c .edges + 2 * c .boundary) ≤ lent′
       → Storable (countsFor c) (length p) (length q) (length k) (length v) (length e) (length l) (length o) 5 bytes
@@ -173,13 +238,13 @@ module _ (c : Counts) (p : List Float) (q k : List ℕ) (v : List Float) (e : Li
       record { points = T .points; roots = T .roots; corners = T .corners; volumes = T .volumes; ends = T .ends; lengths = T .lengths; outline = T .outline; room = omega (arith, same, room) }
 
   pub blocks-replied : (lent′ x : ℕ) (out₁ out₂ out : List ℕ) → 4 * (9 + 8 * c .particles + 5 * c .triangles + 8 * c .edges + 2 * c .boundary) ≤ lent′
-      → out₁ ≡ written lent′ (0 ∷ []) → out₂ ≡ putWords out₁ 1 (bitsIn b) → out ≡ putWords out₂ 5 (blockWords (countsFor c) p q k v e l o) → x ≡ 0
-      → Replied (value (blocksTold c p q k v e l o b)) lent′ x out
+      → out₁ ≡ written lent′ (first ∷ []) → out₂ ≡ putWords out₁ 1 (W.bitsIn b) → out ≡ putWords out₂ 5 (blockWords (countsFor c) p q k v e l o) → x ≡ 0
+      → Replied (value (blocksTold first c p q k v e l o b)) lent′ x out
   blocks-replied lent′ x out₁ out₂ out room e₁ e₂ e₃ ex =
       let n = block-words-long (countsFor c) p q k v e l o (S .stands) in
       let m = bits-length b in
-      let w₂ : out₂ ≡ written lent′ (0 ∷ bitsIn b) = e₂ ∙ ap (λ (t : List ℕ). putWords t 1 (bitsIn b)) e₁ ∙ put-written lent′ (0 ∷ []) (bitsIn b) 1 refl (omega (arith, m, S .four, room)) in
-      let w₃ : out ≡ written lent′ (blocksTold c p q k v e l o b)
+      let w₂ : out₂ ≡ written lent′ (first ∷ W.bitsIn b) = e₂ ∙ ap (λ (t : List ℕ). putWords t 1 (W.bitsIn b)) e₁ ∙ put-written lent′ (first ∷ []) (W.bitsIn b) 1 refl (omega (arith, m, S .four, room)) in
+      let w₃ : out ≡ written lent′ (blocksTold first c p q k v e l o b)
       = e₃ ∙ ap (λ (t : List ℕ). putWords t 5 (blockWords (countsFor c) p q k v e l o)) w₂
-      ∙ put-written lent′ (0 ∷ bitsIn b) (blockWords (countsFor c) p q k v e l o) 5 (omega (arith, m, S .four)) (omega (arith, n, room)) in
-      says (blocksTold c p q k v e l o b) lent′ x out (omega (arith, blocks-long, room)) ex w₃
+      ∙ put-written lent′ (first ∷ W.bitsIn b) (blockWords (countsFor c) p q k v e l o) 5 (omega (arith, m, S .four)) (omega (arith, n, room)) in
+      says (blocksTold first c p q k v e l o b) lent′ x out (omega (arith, blocks-long, room)) ex w₃

@@ -1,11 +1,13 @@
-// The bytes of a sheet read: a word that is 0, the four words of its blade, and the image of its mesh.
+// The bytes of a sheet of either edition read: whether its outline was replaced, the four words of its blade, and the image of its mesh.
+ghost use mathlib.Core.Path.{_≡_};
 ghost use lib.ListN.{length};
+ghost use Rattle.lists.specs.Lists.{pick};
 ghost use Rattle.model.specs.Reads.{value};
 ghost use Rattle.replies.specs.Reply.{Replied};
 ghost use Rattle.sheet_c.specs.Sheets.{sheetReply};
 ghost use Rattle.sheet_c.specs.Work.{Storing, blocksTold};
+use edition::Seen;
 use sheet::Counts;
-use sheet::Seen;
 
 // The limits of a mesh.
 const LIMITS: Counts = Counts {
@@ -15,8 +17,16 @@ const LIMITS: Counts = Counts {
     boundary: 2048,
 };
 
-// The reply to a blade and to the rows of seven blocks; 4 where its words have no room.
+// The word of a truth.
+fn flag(b: bool) -> usize
+    ensures { λ r. ⌜ r ≡ pick b 1 0 ⌝ }
+{
+    if b { 1 } else { 0 }
+}
+
+// The reply to a first word, to a blade and to the rows of seven blocks; 4 where its words have no room.
 fn reply_blocks(
+    first: usize,
     c: Counts,
     points: &[f32],
     roots: &[usize],
@@ -29,7 +39,7 @@ fn reply_blocks(
     out: &mut [u8],
 ) -> u32
     requires { ⌜ Storing c (length (now points)) (length (now roots)) (length (now corners)) (length (now volumes)) (length (now ends)) (length (now lengths)) (length (now outline)) (length (now blade)) ⌝ }
-    ensures { λ r. ⌜ Replied (value (blocksTold c (now (points .entry)) (now (roots .entry)) (now (corners .entry)) (now (volumes .entry)) (now (ends .entry)) (now (lengths .entry)) (now (outline .entry)) (now (blade .entry)))) (length (now (out .entry))) r (now (out .exit)) ⌝ }
+    ensures { λ r. ⌜ Replied (value (blocksTold first c (now (points .entry)) (now (roots .entry)) (now (corners .entry)) (now (volumes .entry)) (now (ends .entry)) (now (lengths .entry)) (now (outline .entry)) (now (blade .entry)))) (length (now (out .entry))) r (now (out .exit)) ⌝ }
 {
     let k = mesh::Counts {
         particles: c.particles,
@@ -41,7 +51,7 @@ fn reply_blocks(
     if out.len() < 4 * (9 + 8 * c.particles + 5 * c.triangles + 8 * c.edges + 2 * c.boundary) {
         return replies::reply_refused(4, out);
     }
-    image::write_one(out, 0);
+    image::write_one(out, first);
     image::store_numbers(blade, 1, out);
     image::store(
         k,
@@ -71,7 +81,7 @@ pub fn read_sheet(bytes: &[u8], out: &mut [u8]) -> u32
     let mut outline = [0usize; 4096];
     let mut log = [0usize; 6];
     let mut blade = [0.0f32; 4];
-    let seen = sheet::read::read(
+    let seen = edition::read::read(
         bytes,
         LIMITS,
         &mut points,
@@ -85,7 +95,8 @@ pub fn read_sheet(bytes: &[u8], out: &mut [u8]) -> u32
         &mut blade,
     );
     match seen {
-        Seen::Whole(c) => reply_blocks(
+        Seen::Whole(c, replaced) => reply_blocks(
+            flag(replaced),
             c,
             &points,
             &roots,

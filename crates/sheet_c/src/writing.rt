@@ -1,13 +1,12 @@
-// The fields of a sheet, as words, written to its bytes.
+// The fields of a sheet, as words, written to its bytes, in the second edition.
 ghost use mathlib.Core.Path.{_≡_};
 ghost use mathlib.Core.Bool.{_&&_};
 ghost use Prim.Native.Nat.{_+_, _*_, _≤_, _<_};
 ghost use lib.ListN.{length, take};
 ghost use Rattle.image.specs.Words.{wordAt};
-ghost use Rattle.image.specs.Image.{countsWithin};
-ghost use Rattle.sheet.specs.Sheet.{fieldsOf, WriteDone};
+ghost use Rattle.edition.specs.Writing.{WriteDone};
 ghost use Rattle.sheet_c.specs.Fields.{signedOf, signedFrom, fieldsFit, besides, SheetWritten};
-ghost use Rattle.sheet_c.specs.Work.{FieldsRoom};
+ghost use Rattle.sheet_c.specs.Work.{fieldsFew, FieldsRoom};
 
 // The whole number that a word is in two's complement.
 fn signed(word: usize) -> i64
@@ -32,31 +31,47 @@ fn signed_into(bytes: &[u8], at: usize, n: usize, out: &mut [i64])
     }
 }
 
-// The bytes are as many as the four counts say.
+// The bytes are as many as the three counts say.
 fn fields_fit(fields: &[u8]) -> bool
     ensures { λ r. ⌜ r ≡ fieldsFit (now (fields .entry)) ⌝ }
 {
-    if fields.len() < 16 {
+    if fields.len() < 12 {
         return false;
     }
     let p = image::word_at(fields, 0);
     let t = image::word_at(fields, 1);
     let e = image::word_at(fields, 2);
-    let b = image::word_at(fields, 3);
-    fields.len() == 4 * (8 + 3 * p + 3 * t + 3 * e + 2 * b)
+    fields.len() == 4 * (7 + 3 * p + 3 * t + 3 * e)
 }
 
-// The same, and the counts are within the limits.
+// The counts are within the limits.
+fn fields_few(fields: &[u8]) -> bool
+    requires { ⌜ 12 ≤ length (now fields) ⌝ }
+    ensures { λ r. ⌜ r ≡ fieldsFew (now (fields .entry)) ⌝ }
+{
+    let p = image::word_at(fields, 0);
+    let t = image::word_at(fields, 1);
+    let e = image::word_at(fields, 2);
+    if 1024 < p {
+        return false;
+    }
+    if 1024 < t {
+        return false;
+    }
+    e <= 2048
+}
+
+// Both.
 fn fields_ok(fields: &[u8]) -> bool
-    ensures { λ r. ⌜ r ≡ (fieldsFit (now (fields .entry)) && countsWithin (now (fields .entry))) ⌝ }
+    ensures { λ r. ⌜ r ≡ (fieldsFit (now (fields .entry)) && fieldsFew (now (fields .entry))) ⌝ }
 {
     if fields_fit(fields) {
-        return image::counts_within(fields);
+        return fields_few(fields);
     }
     false
 }
 
-// Reads the columns of triangles, edges and boundary entries, and writes the sheet of these and of the columns of particles and the blade beside them.
+// Reads the columns of triangles and edges, and writes the sheet of these and of the columns of particles and the blade beside them.
 fn write_elements(
     fields: &[u8],
     x: &[i64],
@@ -66,7 +81,7 @@ fn write_elements(
     out: &mut [u8],
 ) -> usize
     requires { ⌜ FieldsRoom (now fields) ⌝ }
-    ensures { λ r. ⌜ WriteDone (fieldsOf (besides (now (fields .entry)) (wordAt (now (fields .entry)) 0) (wordAt (now (fields .entry)) 1) (wordAt (now (fields .entry)) 2) (wordAt (now (fields .entry)) 3) (now (x .entry)) (now (y .entry)) (now (pinned .entry)) (now (blade .entry)))) (now (out .entry)) (now (out .exit)) r ⌝ }
+    ensures { λ r. ⌜ WriteDone (besides (now (fields .entry)) (wordAt (now (fields .entry)) 0) (wordAt (now (fields .entry)) 1) (wordAt (now (fields .entry)) 2) (now (x .entry)) (now (y .entry)) (now (pinned .entry)) (now (blade .entry))) (now (out .entry)) (now (out .exit)) r ⌝ }
 {
     let mut t0 = [0usize; 1024];
     let mut t1 = [0usize; 1024];
@@ -74,23 +89,17 @@ fn write_elements(
     let mut e0 = [0usize; 2048];
     let mut e1 = [0usize; 2048];
     let mut structural = [0usize; 2048];
-    let mut b0 = [0usize; 2048];
-    let mut b1 = [0usize; 2048];
     let t = image::word_at(fields, 1);
     let e = image::word_at(fields, 2);
-    let b = image::word_at(fields, 3);
-    let at_t = 4 + 3 * image::word_at(fields, 0);
+    let at_t = 3 + 3 * image::word_at(fields, 0);
     let at_e = at_t + 3 * t;
-    let at_b = at_e + 3 * e;
     image::words_into(fields, at_t, t, &mut t0);
     image::words_into(fields, at_t + t, t, &mut t1);
     image::words_into(fields, at_t + 2 * t, t, &mut t2);
     image::words_into(fields, at_e, e, &mut e0);
     image::words_into(fields, at_e + e, e, &mut e1);
     image::words_into(fields, at_e + 2 * e, e, &mut structural);
-    image::words_into(fields, at_b, b, &mut b0);
-    image::words_into(fields, at_b + b, b, &mut b1);
-    sheet::write(
+    edition::write::write(
         out,
         x,
         y,
@@ -101,8 +110,6 @@ fn write_elements(
         &e0[..e],
         &e1[..e],
         &structural[..e],
-        &b0[..b],
-        &b1[..b],
         blade,
     )
 }
@@ -118,9 +125,9 @@ fn write_fields(fields: &[u8], out: &mut [u8]) -> usize
     let mut blade = [0i64; 4];
     let p = image::word_at(fields, 0);
     let at_blade = fields.len() / 4 - 4;
-    signed_into(fields, 4, p, &mut x);
-    signed_into(fields, 4 + p, p, &mut y);
-    image::words_into(fields, 4 + 2 * p, p, &mut pinned);
+    signed_into(fields, 3, p, &mut x);
+    signed_into(fields, 3 + p, p, &mut y);
+    image::words_into(fields, 3 + 2 * p, p, &mut pinned);
     signed_into(fields, at_blade, 4, &mut blade);
     write_elements(fields, &x[..p], &y[..p], &pinned[..p], &blade, out)
 }

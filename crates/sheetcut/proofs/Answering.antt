@@ -36,15 +36,15 @@ module _ (a : Answer) (c : List ℕ) (v : List Float) (e : List ℕ) (l : List F
   done-listable k changed g q h = subst (λ (x : Answer). Listable x c v e l g) q h
 
   -- the text of a refusal
-  pub refused-text : (n : ℕ) (g : List ℕ) (lent : ℕ) (s : List ℕ) (r : Written) → a ≡ Refused n → Told (refusedBytes n) lent s r → Told (textOf a c v e l g) lent s r
-  refused-text n g lent s r q w = subst (λ (x : Answer). Told (textOf x c v e l g) lent s r) (sym q) w
+  pub refused-text : (f : Bool) (n : ℕ) (g : List ℕ) (lent : ℕ) (s : List ℕ) (r : Written) → a ≡ Refused n → Told (refusedBytes n) lent s r → Told (textOf f a c v e l g) lent s r
+  refused-text f n g lent s r q w = subst (λ (x : Answer). Told (textOf f x c v e l g) lent s r) (sym q) w
 
   -- the text of counts
   pub done-text :
-      (k : Counts) (changed : Bool) (found : ℕ) (g : List ℕ) (lent : ℕ) (s : List ℕ) (r : Written) → a ≡ Done k changed → found ≡ piecesIn (trianglesAt (k .triangles) c v) (edgesAt (k .edges) e l)
-      → Told (listingBytes (logAt (k .log) g) (k .particles) found) lent s r → Told (textOf a c v e l g) lent s r
-  done-text k changed found g lent s r q p w =
-      subst (λ (x : Answer). Told (textOf x c v e l g) lent s r) (sym q) (subst (λ (n : ℕ). Told (listingBytes (logAt (k .log) g) (k .particles) n) lent s r) p w)
+      (f : Bool) (k : Counts) (changed : Bool) (found : ℕ) (g : List ℕ) (lent : ℕ) (s : List ℕ) (r : Written) → a ≡ Done k changed → found ≡ piecesIn (trianglesAt (k .triangles) c v) (edgesAt (k .edges) e l)
+      → Told (listingBytes f (logAt (k .log) g) (k .particles) found) lent s r → Told (textOf f a c v e l g) lent s r
+  done-text f k changed found g lent s r q p w =
+      subst (λ (x : Answer). Told (textOf f x c v e l g) lent s r) (sym q) (subst (λ (n : ℕ). Told (listingBytes f (logAt (k .log) g) (k .particles) n) lent s r) p w)
 
 -- ---- the answer of a cut
 
@@ -106,9 +106,9 @@ module _ (L : Lent) (p : List Float) (r c : List ℕ) (v : List Float) (e : List
           omega (arith, H .log, few .log, length-map log wordsOf),
         )
 
-    done-printed : listingBytes (logAt (length log) g) (length (M .particles)) (piecesIn (trianglesAt (length (M .triangles)) c v) (edgesAt (length (M .edges)) e l))
-        ≡ listingBytes (map wordsOf log) (length (M .particles)) (pieces M)
-    done-printed = λ i. listingBytes (log-is i) (length (M .particles)) ((ap₂ piecesIn triangles-are edges-are ∙ pieces-in M) i)
+    done-printed : (f : Bool) → listingBytes f (logAt (length log) g) (length (M .particles)) (piecesIn (trianglesAt (length (M .triangles)) c v) (edgesAt (length (M .edges)) e l))
+        ≡ listingBytes f (map wordsOf log) (length (M .particles)) (pieces M)
+    done-printed f = λ i. listingBytes f (log-is i) (length (M .particles)) ((ap₂ piecesIn triangles-are edges-are ∙ pieces-in M) i)
 
   -- an answer whose mesh has indices that fit can be listed
   pub answered-listable : (o : Outcome) (a : Answer) → Answered o L a p r c v e l b g → Modest L → ((M : Mesh) (log : List Entry) (changed : Bool) → o ≡ done M log changed → indicesFit M ≡ true) → Listable a c v e l (length g)
@@ -116,9 +116,9 @@ module _ (L : Lent) (p : List Float) (r c : List ℕ) (v : List Float) (e : List
   answered-listable (done M log changed) a A few ok = subst (λ (x : Answer). Listable x c v e l (length g)) (sym (A .answer)) (done-countable M log (A .blocks) few (ok M log changed refl))
 
   -- and its text is what is printed for the outcome
-  pub answered-text : (o : Outcome) (a : Answer) → Answered o L a p r c v e l b g → textOf a c v e l g ≡ printed o
-  answered-text (refused n) a A = ap (λ (x : Answer). textOf x c v e l g) (A .answer)
-  answered-text (done M log changed) a A = ap (λ (x : Answer). textOf x c v e l g) (A .answer) ∙ done-printed M log (A .blocks)
+  pub answered-text : (f : Bool) (o : Outcome) (a : Answer) → Answered o L a p r c v e l b g → textOf f a c v e l g ≡ printed f o
+  answered-text f (refused n) a A = ap (λ (x : Answer). textOf f x c v e l g) (A .answer)
+  answered-text f (done M log changed) a A = ap (λ (x : Answer). textOf f x c v e l g) (A .answer) ∙ done-printed M log (A .blocks) f
 
 -- ---- with the places that the program lends
 
@@ -140,6 +140,6 @@ module _ (sized : Bool) (M : Mesh) (B : Blade) (f : Float) (a : Answer) (p : Lis
   cut-listable = answered-listable places p r c v e l b g same (cutCall sized M B f (asRooms (roomsOf places))) a A places-modest (λ N log changed q. cut-accepted sized M B f (asRooms (roomsOf places)) N log changed q)
 
   -- and the text is what is printed for the cut
-  pub cut-text : f ≡ fraction → textOf a c v e l g ≡ printed (cutCall sized M B fraction rooms)
-  cut-text q =
-      answered-text places p r c v e l b g same (cutCall sized M B f (asRooms (roomsOf places))) a A ∙ ap (λ (x : Float). printed (cutCall sized M B x (asRooms (roomsOf places)))) q
+  pub cut-text : (t : Bool) → f ≡ fraction → textOf t a c v e l g ≡ printed t (cutCall sized M B fraction rooms)
+  cut-text t q =
+      answered-text places p r c v e l b g same t (cutCall sized M B f (asRooms (roomsOf places))) a A ∙ ap (λ (x : Float). printed t (cutCall sized M B x (asRooms (roomsOf places)))) q

@@ -1,6 +1,6 @@
 -- A cut with the places that the program lends, and its listing; from the cut of fronts to the cut of a sheet, and to what the program prints. Assumes nothing.
 use Prim.Native.Nat.{ℕ}
-use mathlib.Core.Path.{_≡_, sym, _∙_, subst}
+use mathlib.Core.Path.{_≡_, sym, ap, _∙_, subst}
 use mathlib.Core.Bool.{Bool}
 use mathlib.Core.List.{List}
 use lib.ListN.{length, getD}
@@ -13,10 +13,11 @@ use Rattle.mesh.specs.Filled.{lent}
 use Rattle.answer.specs.Answered.{Answered}
 use Rattle.answer.specs.declared.Answer.{Answer}
 use Rattle.bits.specs.Bits.{bitsOf}
-use Rattle.sheet.specs.Sheet.{sheetWith, seenOf}
+use Rattle.edition.specs.Edition.{sheetOf, seenOf}
 use Rattle.sheet.specs.declared.Counts.{Counts}
-use Rattle.sheet.specs.declared.Seen.{Seen}
-use Rattle.sheet.specs.declared.Seen.the-variants.{Whole, Refused}
+use Rattle.edition.specs.declared.Seen.{Seen}
+use Rattle.edition.specs.declared.Seen.the-variants.{Whole, Refused}
+use Rattle.edition.proofs.Entering.{seen-whole-tells}
 use Rattle.listing.specs.Listing.{printed, refusedBytes}
 use Rattle.listing.specs.declared.Written.{Written}
 use Rattle.sheetcut.specs.SheetCut.{limits, rooms, fraction, cutOf, cutSeen, listed, Told}
@@ -36,29 +37,38 @@ module _ (sized : Bool) (M : Mesh) (B : Blade) (f : Float) (a : Answer) (L : Len
   lent-listable = cut-listable sized M B f a p r c v e l b g (kept ∙ same) answered-places
 
   -- and the text is what is printed for the cut
-  pub lent-listed : (n : ℕ) (s : List ℕ) (w : Written) → f ≡ fraction → Told (textOf a c v e l g) n s w → Told (printed (cutCall sized M B fraction rooms)) n s w
-  lent-listed n s w q W = subst (λ (t : List ℕ). Told t n s w) (cut-text sized M B f a p r c v e l b g (kept ∙ same) answered-places q) W
+  pub lent-listed : (t : Bool) (n : ℕ) (s : List ℕ) (w : Written) → f ≡ fraction → Told (textOf t a c v e l g) n s w → Told (printed t (cutCall sized M B fraction rooms)) n s w
+  lent-listed t n s w q W = subst (λ (x : List ℕ). Told x n s w) (cut-text sized M B f a p r c v e l b g (kept ∙ same) answered-places t q) W
 
 -- ---- the cut of a sheet
 
 -- the blocks of a whole sheet can be cut
-pub whole-cuttable : (s : List ℕ) (c : Counts) (L : Lent) (blade : ℕ) → seenOf limits s ≡ Whole c → Ample L → blade ≡ 4 → Cuttable c L blade
-whole-cuttable s c L blade seen A four =
-    let F = seen-few s c seen in
+pub whole-cuttable : (s : List ℕ) (c : Counts) (f : Bool) (L : Lent) (blade : ℕ) → seenOf limits s ≡ Whole c f → Ample L → blade ≡ 4 → Cuttable c L blade
+whole-cuttable s c f L blade seen A four =
+    let F = seen-few s c f seen in
     record { few-particles = F .particles; few-triangles = F .triangles; few-edges = F .edges; few-boundary = F .boundary; ample = A; four = four }
 
 -- what was printed for the cut of the fronts is what is printed for the sheet
 pub fronts-listed :
-    (s : List ℕ) (c : Counts) (P : List Float) (R C : List ℕ) (U : List Float) (E : List ℕ) (N : List Float) (O : List ℕ) (b : List Float) → FrontsRead s c P R C U E N O b → (n : ℕ) (t : List ℕ) (w : Written)
-    → Told (printed (cutCall (sizesFit (fronts c P R C U E N O)) (meshOf (fronts c P R C U E N O)) (record { from = record { x = getD b 0 nan; y = getD b 1 nan }; to = record { x = getD b 2 nan; y = getD b 3 nan } }) fraction rooms)) n t w
-    → Told (printed (cutOf (sheetWith c (bitsOf s)))) n t w
-fronts-listed s c P R C U E N O b D n t w W = subst (λ (o : Outcome). Told (printed o) n t w) (fronts-cut s c P R C U E N O b D) W
+    (s : List ℕ) (c : Counts) (P : List Float) (R C : List ℕ) (U : List Float) (E : List ℕ) (N : List Float) (O : List ℕ) (b : List Float) → FrontsRead s c P R C U E N O b → (f : Bool) (n : ℕ) (t : List ℕ) (w : Written)
+    → Told (printed f (cutCall (sizesFit (fronts c P R C U E N O)) (meshOf (fronts c P R C U E N O)) (record { from = record { x = getD b 0 nan; y = getD b 1 nan }; to = record { x = getD b 2 nan; y = getD b 3 nan } }) fraction rooms)) n t w
+    → Told (printed f (cutOf (sheetOf (bitsOf s) .sheet))) n t w
+fronts-listed s c P R C U E N O b D f n t w W = subst (λ (o : Outcome). Told (printed f o) n t w) (fronts-cut s c P R C U E N O b D) W
+
+-- what the program prints for a whole sheet: its cut as it is read, with the line where its typed outline was replaced
+pub listed-whole : (s : List ℕ) (c : Counts) (f : Bool) → seenOf limits s ≡ Whole c f → listed s ≡ printed f (cutOf (sheetOf (bitsOf s) .sheet))
+unfolding cutSeen
+listed-whole s c f e =
+    ap (λ (x : Seen). printed (sheetOf (bitsOf s) .replaced) (cutSeen x s)) e ∙ ap (λ (t : Bool). printed t (cutOf (sheetOf (bitsOf s) .sheet))) (sym (seen-whole-tells limits s c f e .told))
+
+-- and for a refused one: its number alone
+pub listed-refused : (s : List ℕ) (n : ℕ) → seenOf limits s ≡ Refused n → listed s ≡ refusedBytes n
+unfolding cutSeen
+listed-refused s n e = ap (λ (x : Seen). printed (sheetOf (bitsOf s) .replaced) (cutSeen x s)) e
 
 -- what was printed for a whole sheet, or for a refused one, is what the program prints
-pub whole-listed : (s : List ℕ) (c : Counts) (n : ℕ) (t : List ℕ) (w : Written) → seenOf limits s ≡ Whole c → Told (printed (cutOf (sheetWith c (bitsOf s)))) n t w → Told (listed s) n t w
-unfolding cutSeen
-whole-listed s c n t w e W = subst (λ (x : Seen). Told (printed (cutSeen x s)) n t w) (sym e) W
+pub whole-listed : (s : List ℕ) (c : Counts) (f : Bool) (n : ℕ) (t : List ℕ) (w : Written) → seenOf limits s ≡ Whole c f → Told (printed f (cutOf (sheetOf (bitsOf s) .sheet))) n t w → Told (listed s) n t w
+whole-listed s c f n t w e W = subst (λ (x : List ℕ). Told x n t w) (sym (listed-whole s c f e)) W
 
 pub refused-listed : (s : List ℕ) (code n : ℕ) (t : List ℕ) (w : Written) → seenOf limits s ≡ Refused code → Told (refusedBytes code) n t w → Told (listed s) n t w
-unfolding cutSeen
-refused-listed s code n t w e W = subst (λ (x : Seen). Told (printed (cutSeen x s)) n t w) (sym e) W
+refused-listed s code n t w e W = subst (λ (x : List ℕ). Told x n t w) (sym (listed-refused s code e)) W

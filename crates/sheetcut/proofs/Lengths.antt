@@ -12,7 +12,7 @@ use Rattle.lists.specs.Lists.{pick, sift, each, tab}
 use Rattle.lists.proofs.Sifts.{sift-length}
 use Rattle.lists.proofs.Stores.{tab-length}
 use Rattle.mesh.specs.Log.{Words, entryRow, logAt}
-use Rattle.listing.specs.Listing.{digit, decimal, spaced, line, ofKind, splitLine, edgeLine, insertLine, listingBytes, refusedBytes, tearWord, splitWord, edgeWord, insertWord, particlesWord, piecesWord, refusedWord}
+use Rattle.listing.specs.Listing.{digit, decimal, spaced, line, ofKind, splitLine, edgeLine, insertLine, listingBytes, refusedBytes, replacedWord, replacedLine, tearWord, splitWord, edgeWord, insertWord, particlesWord, piecesWord, refusedWord}
 use Rattle.listing.specs.declared.Written.{Written}
 use Rattle.listing.specs.declared.Written.the-variants.{Short, Bytes}
 use Rattle.listing.proofs.Decimal.{decimal-small, decimal-more}
@@ -99,22 +99,29 @@ log-length : (n : ℕ) (g : List ℕ) → length (logAt n g) ≡ n
 unfolding logAt
 log-length n g = tab-length n (entryRow g)
 
-six : (a b c d e f : List ℕ) → length (a ++ b ++ c ++ d ++ e ++ f) ≡ length a + length b + length c + length d + length e + length f
-six a b c d e f = simp length-append
+-- the line of a replaced outline, or none
+replaced-long : (replaced : Bool) → length (replacedLine replaced) ≤ 17
+unfolding replacedLine
+replaced-long true = line-long replacedWord [] tt
+replaced-long false = omega arith
 
-pub listing-few : (n : ℕ) (g : List ℕ) (particles found : ℕ) → n ≤ 256 → ((j : ℕ) → Wide (getD g j 0)) → Wide particles → Wide found → length (listingBytes (logAt n g) particles found) ≤ 65536
+seven : (a b c d e f g : List ℕ) → length (a ++ b ++ c ++ d ++ e ++ f ++ g) ≡ length a + length b + length c + length d + length e + length f + length g
+seven a b c d e f g = simp length-append
+
+pub listing-few : (replaced : Bool) (n : ℕ) (g : List ℕ) (particles found : ℕ) → n ≤ 256 → ((j : ℕ) → Wide (getD g j 0)) → Wide particles → Wide found → length (listingBytes replaced (logAt n g) particles found) ≤ 65536
 unfolding listingBytes
-listing-few n g particles found few words p q =
+listing-few replaced n g particles found few words p q =
     let log = logAt n g in
     let h = log-listable n g words in
     let k : length log ≤ 256 = omega (arith, log-length n g) in
     let t = line-long tearWord (1 ∷ []) (omega arith, tt) in
+    let o = replaced-long replaced in
     let s = kind-long 1 splitLine 48 (λ e w. line-long splitWord (e .a ∷ e .b ∷ []) (w .0, (w .1, tt))) log h in
     let r = kind-long 2 edgeLine 47 (λ e w. line-long edgeWord (e .a ∷ e .b ∷ []) (w .0, (w .1, tt))) log h in
     let i = kind-long 3 insertLine 91 (λ e w. line-long insertWord (e .a ∷ e .b ∷ e .p ∷ e .q ∷ []) (w .0, (w .1, (w .2, (w .3, tt))))) log h in
     let m = line-long particlesWord (particles ∷ []) (p, tt) in
     let z = line-long piecesWord (found ∷ []) (q, tt) in
-    omega (arith, six (line tearWord (1 ∷ [])) (each splitLine (ofKind 1 log)) (each edgeLine (ofKind 2 log)) (each insertLine (ofKind 3 log)) (line particlesWord (particles ∷ [])) (line piecesWord (found ∷ [])))
+    omega (arith, seven (line tearWord (1 ∷ [])) (replacedLine replaced) (each splitLine (ofKind 1 log)) (each edgeLine (ofKind 2 log)) (each insertLine (ofKind 3 log)) (line particlesWord (particles ∷ [])) (line piecesWord (found ∷ [])))
 
 -- the line of a refusal
 pub refused-few : (n : ℕ) → Wide n → length (refusedBytes n) ≤ 65536

@@ -4,6 +4,7 @@ pub mod Fillings
 pub mod Counting
 pub mod Answering
 pub mod Reading
-pub mod Longest
 pub mod Cutting
+pub mod Longest
+pub mod Replaced
 pub mod Worked

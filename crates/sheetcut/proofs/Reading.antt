@@ -23,21 +23,26 @@ use Rattle.mesh.specs.Filled.{Filled, Fits, pointOf, rootOf, cornerOf, volumeOf
 use Rattle.mesh.specs.declared.Counts as M
 use Rattle.bits.specs.Bits.{bitsOf, fieldAt}
 use Rattle.bits.proofs.RowLaws.{length-read}
-use Rattle.sheet.specs.Sheet.{sheetWith, seenOf, seenWith, above, tooMany, countsAt, bytesOf, spareOf, namesOK, particleW, triangleW, edgeW, boundaryW, atTriangles, atEdges, atBoundary, atBlade}
-use Rattle.sheet.specs.Read.{floatOf, particlesFrom, trianglesFrom, edgesFrom, boundaryFrom, placeIn, meshOfSheet, countsFor, roomFor, lentOf, worldOf, bladeLeft, ReadDone}
+use Rattle.sheet.specs.Sheet.{Sheet, sheetWith, above, tooMany, countsAt, namesOK, particleW, triangleW, edgeW, atTriangles, atEdges, atBlade}
+use Rattle.sheet.specs.Read.{floatOf, particlesFrom, trianglesFrom, edgesFrom, boundaryFrom, placeIn, meshOfSheet, bladeOfSheet, countsFor}
 use Rattle.sheet.specs.declared.Counts.{Counts}
-use Rattle.sheet.specs.declared.Seen.{Seen}
-use Rattle.sheet.specs.declared.Seen.the-variants.{Whole, Refused}
+use Rattle.sheet.specs.declared.Seen.the-variants.{Whole as TypedWhole, Refused as TypedRefused}
 use Rattle.sheet.proofs.Back.{never}
 use Rattle.sheet.proofs.PutLaws.{neither}
 use Rattle.sheet.proofs.MeshReads.{blade-read}
+use Rattle.edition.specs.Edition.{second, bitsIn, typedOf, sheetOf, bytesIn, spareIn, typedWith, typedSeen, seenOf}
+use Rattle.edition.specs.Reading.{roomFor, lentOf, worldOf, bladeLeft, ReadDone}
+use Rattle.edition.specs.declared.Seen.{Seen}
+use Rattle.edition.specs.declared.Seen.the-variants.{Whole, Refused}
+use Rattle.edition.proofs.Entering.{seen-whole-tells}
 use Rattle.sheetcut.specs.SheetCut.{limits, rooms, fraction, bladeOf, cutOf}
 use Rattle.sheetcut.specs.Work.{Exact, Ample, fronts, FrontsRead}
 use Rattle.sheetcut.proofs.Fillings.{block-long, countsIn, mesh-filled}
 
 -- ---- the counts
 
-whole : (a b d x y z : Bool) (k c : Counts) → cond a (Refused 9) (cond (b || d) (Refused 1) (cond x (cond y (cond z (Whole k) (Refused 3)) (Refused 9)) (Refused 9))) ≡ Whole c → (d ≡ false) × (k ≡ c)
+whole : (a b d x y z : Bool) (k c : Counts) → cond a (TypedRefused 9) (cond (b || d) (TypedRefused 1) (cond x (cond y (cond z (TypedWhole k) (TypedRefused 3)) (TypedRefused 9)) (TypedRefused 9))) ≡ TypedWhole c
+    → (d ≡ false) × (k ≡ c)
 whole true b d x y z k c e = absurd (never 9 c e)
 whole false true d x y z k c e = absurd (never 1 c e)
 whole false false true x y z k c e = absurd (never 1 c e)
@@ -62,16 +67,31 @@ not-above c e =
     record { particles = ltb-false 128 (c .particles) (u .0); triangles = ltb-false 128 (c .triangles) (v .0); edges = ltb-false 256 (c .edges) (w .0); boundary = ltb-false 256 (c .boundary) (w .1) }
 
 -- a whole sheet keeps the limits
-pub seen-few : (s : List ℕ) (c : Counts) → seenOf limits s ≡ Whole c → Few c
-unfolding seenOf seenWith
-seen-few s c e =
-    let d = countsAt (bitsOf s) in
-    let w = whole (ltb (length s) 6) (tooMany d) (above limits d) (eqb (length s) (bytesOf d)) (eqb (spareOf d (bitsOf s)) 0) (namesOK (sheetWith d (bitsOf s))) d c e in
+typed-few : (s : List ℕ) (c : Counts) → typedSeen limits s ≡ TypedWhole c → Few c
+unfolding typedSeen typedWith
+typed-few s c e =
+    let l = bitsOf s in
+    let d = countsAt (bitsIn l) in
+    let w = whole (ltb (length s) 6) (tooMany d) (above limits d) (eqb (length s) (bytesIn (second l) d)) (eqb (spareIn d s) 0) (namesOK (sheetWith d (bitsIn l))) d c e in
     subst Few (w .1) (not-above d (w .0))
 
+pub seen-few : (s : List ℕ) (c : Counts) (f : Bool) → seenOf limits s ≡ Whole c f → Few c
+seen-few s c f e =
+    let w = seen-whole-tells limits s c f e in
+    let F = typed-few s (countsAt (bitsIn (bitsOf s))) (w .typed) in
+    let p = ap (λ (x : Counts). x .particles) (w .counts) in
+    let t = ap (λ (x : Counts). x .triangles) (w .counts) in
+    let g = ap (λ (x : Counts). x .edges) (w .counts) in
+    let b = ap (λ (x : Counts). x .boundary) (w .counts) in
+    record { particles = omega (arith, F .particles); triangles = omega (arith, F .triangles); edges = omega (arith, F .edges); boundary = omega (arith, w .within) }
+
+-- and tells whether its typed outline was replaced
+pub seen-told : (s : List ℕ) (c : Counts) (f : Bool) → seenOf limits s ≡ Whole c f → seenOf limits s ≡ Whole c (sheetOf (bitsOf s) .replaced)
+seen-told s c f e = e ∙ ap (λ (t : Bool). Whole c t) (seen-whole-tells limits s c f e .told)
+
 -- the mesh of a sheet with an empty log
-abbrev world-read : Counts → List ℕ → World
-world-read c l = record { mesh = meshOfSheet (sheetWith c l); log = [] }
+abbrev world-read : List ℕ → World
+world-read l = record { mesh = meshOfSheet (sheetOf l .sheet); log = [] }
 
 -- each list has as many entries as rows
 particles-long : (rows : List (List ℕ)) → length (particlesFrom rows) ≡ length rows
@@ -91,15 +111,18 @@ unfolding boundaryFrom
 boundary-long rows = length-map rows _
 
 -- so the mesh has as many as the counts say
-mesh-counts : (c : Counts) (l : List ℕ) → countsIn (world-read c l) ≡ countsFor c
-unfolding meshOfSheet sheetWith
-mesh-counts c l =
-    let S = sheetWith c l in
+mesh-counts : (s : List ℕ) (c : Counts) (f : Bool) → seenOf limits s ≡ Whole c f → countsIn (world-read (bitsOf s)) ≡ countsFor c
+unfolding meshOfSheet sheetWith sheetOf typedOf
+mesh-counts s c f seen =
+    let m = bitsIn (bitsOf s) in
+    let d = countsAt m in
+    let S : Sheet = sheetOf (bitsOf s) .sheet in
+    let w = seen-whole-tells limits s c f seen .counts in
     let place = placeIn (particlesFrom (S .particles)) in
-    let p = particles-long (S .particles) ∙ length-read particleW (c .particles) (drop 46 l) in
-    let t = triangles-long place (S .triangles) ∙ length-read triangleW (c .triangles) (drop (atTriangles c) l) in
-    let e = edges-long place (S .edges) ∙ length-read edgeW (c .edges) (drop (atEdges c) l) in
-    let b = boundary-long (S .boundary) ∙ length-read boundaryW (c .boundary) (drop (atBoundary c) l) in
+    let p = particles-long (S .particles) ∙ length-read particleW (d .particles) (drop 46 m) ∙ sym (ap (λ (x : Counts). x .particles) w) in
+    let t = triangles-long place (S .triangles) ∙ length-read triangleW (d .triangles) (drop (atTriangles d) m) ∙ sym (ap (λ (x : Counts). x .triangles) w) in
+    let e = edges-long place (S .edges) ∙ length-read edgeW (d .edges) (drop (atEdges d) m) ∙ sym (ap (λ (x : Counts). x .edges) w) in
+    let b = boundary-long (S .boundary) ∙ sym (ap (λ (x : Counts). x .boundary) w) in
     λ i. record { particles = p i; triangles = t i; edges = e i; boundary = b i; log = 0 }
 
 -- ---- sizes
@@ -120,9 +143,9 @@ exact-sizes c L F X =
     true-and (true-and (true-and p t) e) o
 
 -- and have room for the sheet
-exact-room : (c : Counts) (L : Lent) (nb : ℕ) → Exact c L → nb ≡ 4 → roomFor c L nb ≡ Whole c
+exact-room : (c : Counts) (f : Bool) (L : Lent) (nb : ℕ) → Exact c L → nb ≡ 4 → roomFor c f L nb ≡ Whole c f
 unfolding roomFor
-exact-room c L nb X four =
+exact-room c f L nb X four =
     rw
     (le-leb (c .triangles) (L .corners / 3) (omega (arith, X .corners)), le-leb (c .triangles) (L .volumes / 2) (omega (arith, X .volumes)), le-leb 4 nb (omega arith), le-leb (c .particles) (L .points / 6) (omega (arith, X .points)), le-leb (c .particles) (L .roots / 2) (omega (arith, X .roots)), le-leb (c .edges) (L .ends / 4) (omega (arith, X .ends)), le-leb (c .edges) (L .lengths / 4) (omega (arith, X .lengths)), le-leb (c .boundary) (L .outline / 2) (omega (arith, X .outline)))
     refl
@@ -144,6 +167,14 @@ exact-fits c L X =
 padded-four : (n : ℕ) (x y z w : Float) → n ≡ 4 → padded n zero32 (x ∷ y ∷ z ∷ w ∷ []) ≡ x ∷ y ∷ z ∷ w ∷ []
 unfolding padded
 padded-four n x y z w e = ap (λ (k : ℕ). x ∷ y ∷ z ∷ w ∷ replicate (k - 4) zero32) e
+
+-- the four numbers of a sheet's blade
+abbrev fourOf : List ℕ → ℕ → List Float
+fourOf m at = floatOf (fieldAt m at 11) ∷ floatOf (fieldAt m (at + 11) 11) ∷ floatOf (fieldAt m (at + 22) 11) ∷ floatOf (fieldAt m (at + 33) 11) ∷ []
+
+blade-four : (l : List ℕ) → fourOf (bitsIn l) (atBlade (countsAt (bitsIn l))) ≡ bladeOfSheet (sheetOf l .sheet)
+unfolding sheetOf typedOf bladeOfSheet
+blade-four l = blade-read (countsAt (bitsIn l)) (bitsIn l)
 
 -- ---- fronts
 
@@ -169,18 +200,18 @@ exact-fronts c P R C U E N O G F A =
 -- ---- what was read
 
 module _ (s : List ℕ) (c : Counts) (L : Lent) (r : Seen) (P : List Float) (R C : List ℕ) (U : List Float) (E : List ℕ) (N : List Float) (O G : List ℕ) (b b′ : List Float)
-    (D : ReadDone limits s L r P R C U E N O G b b′) (seen : seenOf limits s ≡ Whole c) (X : Exact c L) (four : length b ≡ 4) where
+    (D : ReadDone limits s L r P R C U E N O G b b′) (seen : seenOf limits s ≡ Whole c (sheetOf (bitsOf s) .replaced)) (X : Exact c L) (four : length b ≡ 4) where
   -- the sheet was read whole
-  read-whole : r ≡ Whole c
+  read-whole : r ≡ Whole c (sheetOf (bitsOf s) .replaced)
   unfolding lentOf
-  read-whole = D .answer ∙ (ap (λ (x : Seen). lentOf x L (length b)) seen ∙ exact-room c L (length b) X four)
+  read-whole = D .answer ∙ (ap (λ (x : Seen). lentOf x L (length b)) seen ∙ exact-room c (sheetOf (bitsOf s) .replaced) L (length b) X four)
 
-  read-filled : Filled (world-read c (bitsOf s)) L P R C U E N O G
+  read-filled : Filled (world-read (bitsOf s)) L P R C U E N O G
   unfolding worldOf
   read-filled = subst (λ (x : Seen). Filled (worldOf x (bitsOf s)) L P R C U E N O G) read-whole (D .blocks)
 
-  read-fits : Fits (countsIn (world-read c (bitsOf s))) L
-  read-fits = subst (λ (k : M.Counts). Fits k L) (sym (mesh-counts c (bitsOf s))) (exact-fits c L X)
+  read-fits : Fits (countsIn (world-read (bitsOf s))) L
+  read-fits = subst (λ (k : M.Counts). Fits k L) (sym (mesh-counts s c (sheetOf (bitsOf s) .replaced) seen)) (exact-fits c L X)
 
   -- the lengths of the blocks are those that were lent
   lengths-are : Lent
@@ -190,7 +221,7 @@ module _ (s : List ℕ) (c : Counts) (L : Lent) (r : Seen) (P : List Float) (R C
   unfolding lengths-are
   still =
       let F = read-filled in
-      let W = world-read c (bitsOf s) in
+      let W = world-read (bitsOf s) in
       let H = read-fits in
       λ i.
       record {
@@ -210,9 +241,9 @@ module _ (s : List ℕ) (c : Counts) (L : Lent) (r : Seen) (P : List Float) (R C
   -- the sizes fit
   pub read-sized : sizesFit (given P R C U E N O) ≡ true
   unfolding lengths-are
-  read-sized = exact-sizes c lengths-are (seen-few s c seen) exact-still
+  read-sized = exact-sizes c lengths-are (seen-few s c (sheetOf (bitsOf s) .replaced) seen) exact-still
 
-  read-sizes : sizes (given P R C U E N O) ≡ countsIn (world-read c (bitsOf s))
+  read-sizes : sizes (given P R C U E N O) ≡ countsIn (world-read (bitsOf s))
   unfolding lengths-are
   read-sizes =
       let Y = exact-still in
@@ -221,20 +252,20 @@ module _ (s : List ℕ) (c : Counts) (L : Lent) (r : Seen) (P : List Float) (R C
       let e : length E / 4 ≡ c .edges = omega (arith, Y .ends) in
       let o : length O / 2 ≡ c .boundary = omega (arith, Y .outline) in
       let h : sizes (given P R C U E N O) ≡ countsFor c = λ i. record { particles = p i; triangles = t i; edges = e i; boundary = o i; log = 0 } in
-      h ∙ sym (mesh-counts c (bitsOf s))
+      h ∙ sym (mesh-counts s c (sheetOf (bitsOf s) .replaced) seen)
 
   -- the mesh is the sheet's
-  pub read-mesh : meshOf (given P R C U E N O) ≡ meshOfSheet (sheetWith c (bitsOf s))
+  pub read-mesh : meshOf (given P R C U E N O) ≡ meshOfSheet (sheetOf (bitsOf s) .sheet)
   unfolding meshOf
-  read-mesh = ap (λ (k : M.Counts). meshAt k P R C U E N O) read-sizes ∙ mesh-filled (world-read c (bitsOf s)) L P R C U E N O G read-filled read-fits
+  read-mesh = ap (λ (k : M.Counts). meshAt k P R C U E N O) read-sizes ∙ mesh-filled (world-read (bitsOf s)) L P R C U E N O G read-filled read-fits
 
-  -- the blade's four numbers
-  read-blade : b′ ≡ floatOf (fieldAt (bitsOf s) (atBlade c) 11) ∷ floatOf (fieldAt (bitsOf s) (atBlade c + 11) 11) ∷ floatOf (fieldAt (bitsOf s) (atBlade c + 22) 11) ∷ floatOf (fieldAt (bitsOf s) (atBlade c + 33) 11) ∷ []
+  -- the blade is the sheet's
+  read-blade : b′ ≡ bladeOfSheet (sheetOf (bitsOf s) .sheet)
   unfolding bladeLeft
   read-blade =
       D .blade
       ∙ (ap (λ (x : Seen). padded (length b) zero32 (bladeLeft x (bitsOf s))) read-whole
-      ∙ (ap (padded (length b) zero32) (sym (blade-read c (bitsOf s))) ∙ padded-four (length b) _ _ _ _ four))
+      ∙ (ap (padded (length b) zero32) (sym (blade-four (bitsOf s))) ∙ (padded-four (length b) _ _ _ _ four ∙ blade-four (bitsOf s))))
 
   -- whatever stands behind the fronts
   module _ (tp : List Float) (tr tc : List ℕ) (tu : List Float) (te : List ℕ) (tn : List Float) (to : List ℕ) where
@@ -247,7 +278,7 @@ module _ (s : List ℕ) (c : Counts) (L : Lent) (r : Seen) (P : List Float) (R C
 
     -- the fronts are the sheet's mesh, and the blade is the sheet's
     pub fronts-read : FrontsRead s c (P ++ tp) (R ++ tr) (C ++ tc) (U ++ tu) (E ++ te) (N ++ tn) (O ++ to) b′
-    fronts-read = record { sized = ap (λ (x : Given). sizesFit x) fronts-are ∙ read-sized; mesh = ap meshOf fronts-are ∙ read-mesh; blade = read-blade ∙ blade-read c (bitsOf s) }
+    fronts-read = record { sized = ap (λ (x : Given). sizesFit x) fronts-are ∙ read-sized; mesh = ap meshOf fronts-are ∙ read-mesh; blade = read-blade }
 
 -- four numbers of a list, by their places
 four-at : (b : List Float) (x y z w : Float) → b ≡ x ∷ y ∷ z ∷ w ∷ [] → _≡_ {A = Blade} (record { from = record { x = getD b 0 nan; y = getD b 1 nan }; to = record { x = getD b 2 nan; y = getD b 3 nan } }) (bladeOf (x ∷ y ∷ z ∷ w ∷ []))
@@ -257,8 +288,8 @@ four-at b x y z w e = ap (λ (l : List Float). record { from = record { x = getD
 pub fronts-cut :
     (s : List ℕ) (c : Counts) (P : List Float) (R C : List ℕ) (U : List Float) (E : List ℕ) (N : List Float) (O : List ℕ) (b : List Float) → FrontsRead s c P R C U E N O b
     → cutCall (sizesFit (fronts c P R C U E N O)) (meshOf (fronts c P R C U E N O)) (record { from = record { x = getD b 0 nan; y = getD b 1 nan }; to = record { x = getD b 2 nan; y = getD b 3 nan } }) fraction rooms
-    ≡ cutOf (sheetWith c (bitsOf s))
+    ≡ cutOf (sheetOf (bitsOf s) .sheet)
 unfolding cutOf
 fronts-cut s c P R C U E N O b D =
-    let e = four-at b _ _ _ _ (D .blade ∙ sym (blade-read c (bitsOf s))) ∙ ap bladeOf (blade-read c (bitsOf s)) in
+    let e = four-at b _ _ _ _ (D .blade ∙ sym (blade-four (bitsOf s))) ∙ ap bladeOf (blade-four (bitsOf s)) in
     λ i. cutCall (D .sized i) (D .mesh i) (e i) fraction rooms

@@ -1,7 +1,7 @@
--- The worked sheet (docs/RULES.md, R15.7) as the program reads and lists it, byte for byte; a file without bytes. Assumes nothing.
+-- The worked sheet (docs/RULES.md, R15.7) as the program reads and lists it, byte for byte, in both editions and with a typed outline that is replaced; a file without bytes. Assumes nothing.
 use Prim.Native.Nat.{ℕ}
 use mathlib.Core.Path.{_≡_, refl, ap, _∙_}
-use mathlib.Core.Bool.{true}
+use mathlib.Core.Bool.{Bool, true, false}
 use mathlib.Core.List.{List, [], _∷_, map}
 use lib.IntN.{pos, negsuc}
 use lib.ListN.{length}
@@ -12,14 +12,17 @@ use Rattle.model.specs.Starred.{tenth, listingMesh, blade}
 use Rattle.mesh.specs.Log.{wordsOf}
 use Rattle.bits.specs.Bits.{bits, bitsOf, num}
 use Rattle.bits.specs.Rows.{total, unpack, readRows}
-use Rattle.sheet.specs.Sheet.{sheetWith, seenOf, seenWith, allOK, rowOK, pairOK, above}
+use Rattle.sheet.specs.Sheet.{Sheet, sheetWith, allOK, rowOK, pairOK, above}
 use Rattle.sheet.specs.Read.{meshOfSheet, bladeOfSheet}
-use Rattle.sheet.specs.declared.Seen.{Seen}
-use Rattle.sheet.specs.declared.Seen.the-variants.{Whole}
-use Rattle.sheet.proofs.Cases.{worked, workedCounts, worked-mesh, worked-blade, empty-seen}
+use Rattle.sheet.proofs.Cases.{worked, workedCounts, worked-mesh, worked-blade}
+use Rattle.outline.specs.Outline.{single, outlineOf, outlineOfTriangles, within, sameSides, settled as settledOutline}
+use Rattle.edition.specs.Edition.{asFirst, bitsIn, outlineIn, replacedIn, typedOf, sheetOf, typedWith, typedSeen, seenIn, seenOf}
+use Rattle.edition.specs.declared.Seen.the-variants.{Whole, Refused}
+use Rattle.edition.proofs.Cases.{worked2, worked2-read, short}
 use Rattle.listing.specs.Listing.{printed, listingBytes, refusedBytes}
-use Rattle.listing.proofs.Worked.{worked-listing, worked-refused}
-use Rattle.sheetcut.specs.SheetCut.{limits, rooms, fraction, bladeOf, cutOf, cutSeen, listed}
+use Rattle.listing.proofs.Worked.{replaced-bytes, worked-listing, replaced-listing, worked-refused}
+use Rattle.sheetcut.specs.SheetCut.{limits, rooms, fraction, bladeOf, cutOf, listed}
+use Rattle.sheetcut.proofs.Cutting.{listed-whole, listed-refused}
 -- opened
 use Rattle.lists.specs.Lists.{any, all, sift, siftAt, find, fold, each, pairs, mapAt, tab, upTo, rising, distinct, disjoint, padded, keep, keptOf, nth}
 use Rattle.lists.specs.Labels.{merged, joinPair, joinRow, joinRows, labelled}
@@ -54,10 +57,27 @@ worked-bytes =
 
 -- ---- from the bytes to the mesh
 
--- the worked sheet is whole under the program's limits
-worked-seen : seenOf limits worked ≡ Whole workedCounts
-unfolding worked workedCounts seenOf seenWith bitsOf bits num sheetWith readRows unpack total allOK rowOK pairOK above
+-- it is whole under the program's limits in both editions, and not replaced; typed without (3, 0) it is replaced
+worked-seen : seenOf limits worked ≡ Whole workedCounts false
+unfolding worked workedCounts seenIn typedSeen typedWith sheetOf replacedIn outlineIn typedOf bitsIn sheetWith bitsOf bits num readRows unpack total sameSides within any all outlineOf outlineOfTriangles single sift each settledOutline allOK rowOK pairOK above
 worked-seen = refl
+
+worked2-seen : seenOf limits worked2 ≡ Whole workedCounts false
+unfolding worked2 workedCounts seenIn typedSeen typedWith sheetOf replacedIn outlineIn typedOf bitsIn asFirst sheetWith bitsOf bits num readRows unpack total outlineOf outlineOfTriangles single sift each allOK rowOK pairOK above
+worked2-seen = refl
+
+short-seen : seenOf limits short ≡ Whole workedCounts true
+unfolding short workedCounts seenIn typedSeen typedWith sheetOf replacedIn outlineIn typedOf bitsIn sheetWith bitsOf bits num readRows unpack total sameSides within any all outlineOf outlineOfTriangles single sift each settledOutline allOK rowOK pairOK above
+short-seen = refl
+
+-- and is read as the same sheet each time
+worked-read : sheetOf (bitsOf worked) .sheet ≡ sheetWith workedCounts (bitsOf worked)
+unfolding worked workedCounts sheetOf outlineIn typedOf bitsIn sheetWith bitsOf bits num readRows unpack total sameSides within any all outlineOf outlineOfTriangles single sift each settledOutline
+worked-read = refl
+
+short-read : sheetOf (bitsOf short) .sheet ≡ sheetWith workedCounts (bitsOf worked)
+unfolding worked workedCounts short sheetOf outlineIn typedOf bitsIn sheetWith bitsOf bits num readRows unpack total sameSides within any all outlineOf outlineOfTriangles single sift each settledOutline
+short-read = refl
 
 -- the fraction is the f32 that the worked cases of the model cut with
 fraction-tenth : fraction ≡ tenth
@@ -85,14 +105,14 @@ abbrev said : Outcome → Said
 said (refused n) = no-mesh n
 said (done M l c) = told l (length (M .particles)) (pieces M)
 
--- what is printed depends on nothing else
-abbrev printed-said : Said → List ℕ
-printed-said (no-mesh n) = refusedBytes n
-printed-said (told l n k) = listingBytes (map wordsOf l) n k
+-- what is printed depends on nothing else but the outline's line
+abbrev printed-said : Bool → Said → List ℕ
+printed-said f (no-mesh n) = refusedBytes n
+printed-said f (told l n k) = listingBytes f (map wordsOf l) n k
 
-printed-as : (o : Outcome) → printed o ≡ printed-said (said o)
-printed-as (refused n) = refl
-printed-as (done M l c) = refl
+printed-as : (f : Bool) (o : Outcome) → printed f o ≡ printed-said f (said o)
+printed-as f (refused n) = refl
+printed-as f (done M l c) = refl
 
 -- with the rooms that the program lends: split 4 0, edge 1 3, split 5 2; 6 particles, 2 pieces
 worked-cut : said (cutCall true listingMesh (blade (negsuc 0) (negsuc 0) (pos 5) (pos 5)) tenth rooms) ≡ told (split 4 0 ∷ edge 1 3 ∷ split 5 2 ∷ []) 6 2
@@ -104,16 +124,30 @@ sheet-cut : cutOf (sheetWith workedCounts (bitsOf worked)) ≡ cutCall true list
 unfolding cutOf
 sheet-cut = λ i. cutCall true (mesh-listing i) (blade-listing i) (fraction-tenth i) rooms
 
+-- what is printed of a sheet that is read as this one
+read-printed : (f : Bool) (S : Sheet) → S ≡ sheetWith workedCounts (bitsOf worked) → printed f (cutOf S) ≡ listingBytes f (map wordsOf (split 4 0 ∷ edge 1 3 ∷ split 5 2 ∷ [])) 6 2
+read-printed f S e =
+    ap (λ (x : Sheet). printed f (cutOf x)) e
+    ∙ (ap (printed f) sheet-cut ∙ (printed-as f (cutCall true listingMesh (blade (negsuc 0) (negsuc 0) (pos 5) (pos 5)) tenth rooms) ∙ ap (printed-said f) worked-cut))
+
 -- what the program prints for the worked sheet of 46 bytes
 pub worked-listed : listed worked ≡ worked-bytes
-unfolding cutSeen
-worked-listed =
-    ap (λ (x : Seen). printed (cutSeen x worked)) worked-seen
-    ∙ (ap printed sheet-cut ∙ (printed-as (cutCall true listingMesh (blade (negsuc 0) (negsuc 0) (pos 5) (pos 5)) tenth rooms) ∙ (ap printed-said worked-cut ∙ worked-listing)))
+worked-listed = listed-whole worked workedCounts false worked-seen ∙ (read-printed false (sheetOf (bitsOf worked) .sheet) worked-read ∙ worked-listing)
+
+-- the same for its 36 bytes in the second edition
+pub worked2-listed : listed worked2 ≡ worked-bytes
+worked2-listed = listed-whole worked2 workedCounts false worked2-seen ∙ (read-printed false (sheetOf (bitsOf worked2) .sheet) (worked2-read ∙ worked-read) ∙ worked-listing)
+
+-- typed without (3, 0): the same with the line `outline replaced` behind `tear 1`
+pub short-listed : listed short ≡ replaced-bytes
+short-listed = listed-whole short workedCounts true short-seen ∙ (read-printed true (sheetOf (bitsOf short) .sheet) short-read ∙ replaced-listing)
 
 -- ---- refusals
 
+empty-seen : seenOf limits [] ≡ Refused 9
+unfolding seenIn typedSeen
+empty-seen = refl
+
 -- a file without bytes: `refused 9`
 pub empty-listed : listed [] ≡ 114 ∷ 101 ∷ 102 ∷ 117 ∷ 115 ∷ 101 ∷ 100 ∷ 32 ∷ 57 ∷ 10 ∷ []
-unfolding cutSeen
-empty-listed = ap (λ (x : Seen). printed (cutSeen x [])) (empty-seen limits) ∙ worked-refused
+empty-listed = listed-refused [] 9 empty-seen ∙ worked-refused

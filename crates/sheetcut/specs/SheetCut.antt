@@ -9,16 +9,17 @@ use Rattle.model.specs.Run.{Rooms}
 use Rattle.model.specs.Cut.{Blade}
 use Rattle.model.specs.Calls.{Outcome, refused, cutCall}
 use Rattle.bits.specs.Bits.{bitsOf}
-use Rattle.sheet.specs.Sheet.{Sheet, sheetWith, seenOf}
+use Rattle.sheet.specs.Sheet.{Sheet}
 use Rattle.sheet.specs.Read.{meshOfSheet, bladeOfSheet}
 use Rattle.sheet.specs.declared.Counts.{Counts}
-use Rattle.sheet.specs.declared.Seen.{Seen}
-use Rattle.sheet.specs.declared.Seen.the-variants.{Whole, Refused}
+use Rattle.edition.specs.Edition.{sheetOf, seenOf}
+use Rattle.edition.specs.declared.Seen.{Seen}
+use Rattle.edition.specs.declared.Seen.the-variants.{Whole, Refused}
 use Rattle.listing.specs.Listing.{printed}
 use Rattle.listing.specs.Answers.{Wrote}
 use Rattle.listing.specs.declared.Written.{Written}
 
--- a sheet has at most 128 particles, 128 triangles, 256 edges and 256 boundary entries
+-- a sheet has at most 128 particles, 128 triangles, 256 edges and 256 boundary entries, typed or its own
 abbrev pub limits : Counts
 limits = record { particles = 128; triangles = 128; edges = 256; boundary = 256 }
 
@@ -38,18 +39,18 @@ bladeOf l = record { from = record { x = getD l 0 zero32; y = getD l 1 zero32 };
 unfoldable pub cutOf : Sheet → Outcome
 cutOf s = cutCall true (meshOfSheet s) (bladeOf (bladeOfSheet s)) fraction rooms
 
--- what a look at bytes comes to: the refusal of the sheet, or the cut of it
+-- what a look at bytes comes to: the refusal of the sheet, or the cut of it as it is read, with the outline that it has then
 unfoldable pub cutSeen : Seen → List ℕ → Outcome
 cutSeen (Refused n) s = refused n
-cutSeen (Whole c) s = cutOf (sheetWith c (bitsOf s))
+cutSeen (Whole c replaced) s = cutOf (sheetOf (bitsOf s) .sheet)
 
--- the cut of the sheet that bytes are
+-- the cut of the sheet of either edition that bytes are
 abbrev pub sheetCut : List ℕ → Outcome
 sheetCut s = cutSeen (seenOf limits s) s
 
--- the bytes that the program prints for the bytes that it reads
+-- the bytes that the program prints for the bytes that it reads: those of the cut, with the line `outline replaced` where the sheet's typed outline was
 abbrev pub listed : List ℕ → List ℕ
-listed s = printed (sheetCut s)
+listed s = printed (sheetOf (bitsOf s) .replaced) (sheetCut s)
 
 -- what is told of a text that was to be written: the answer and every lent byte; and 65,536 bytes are always enough for it
 pub record Told (text : List ℕ) (lent : ℕ) (s : List ℕ) (r : Written) : Type 0 where

@@ -1,7 +1,7 @@
 -- What the workers ask and promise. Only the contracts between workers need this file. Definitions only.
 use Prim.Native.Nat.{ℕ, _*_, _/_, _≤_}
 use mathlib.Core.Path.{_≡_}
-use mathlib.Core.Bool.{true}
+use mathlib.Core.Bool.{Bool, true}
 use mathlib.Core.List.{List}
 use lib.ListN.{length, take}
 use lib.Ieee.{Float}
@@ -19,10 +19,10 @@ use Rattle.answer.specs.declared.Answer.{Answer}
 use Rattle.answer.specs.declared.Answer.the-variants.{Refused, Done}
 use Rattle.listing.specs.Listing.{listingBytes, refusedBytes}
 use Rattle.bits.specs.Bits.{bitsOf}
-use Rattle.sheet.specs.Sheet.{sheetWith, seenOf}
 use Rattle.sheet.specs.Read.{meshOfSheet, bladeOfSheet}
 use Rattle.sheet.specs.declared.Counts as S
-use Rattle.sheet.specs.declared.Seen.the-variants.{Whole}
+use Rattle.edition.specs.Edition.{sheetOf, seenOf}
+use Rattle.edition.specs.declared.Seen.the-variants.{Whole}
 use Rattle.sheetcut.specs.SheetCut.{limits}
 
 -- the pieces of triangles and edges: `pieces` reads no more of a mesh
@@ -46,10 +46,10 @@ abbrev pub Listable : Answer → List ℕ → List Float → List ℕ → List F
 Listable (Refused n) c v e l g = Unit {0}
 Listable (Done k changed) c v e l g = Countable k c v e l × (6 * k .log ≤ g) × (k .log ≤ 256)
 
--- the text of an answer, from the blocks that it goes with
-abbrev pub textOf : Answer → List ℕ → List Float → List ℕ → List Float → List ℕ → List ℕ
-textOf (Refused n) c v e l g = refusedBytes n
-textOf (Done k changed) c v e l g = listingBytes (logAt (k .log) g) (k .particles) (piecesIn (trianglesAt (k .triangles) c v) (edgesAt (k .edges) e l))
+-- the text of an answer, from the blocks that it goes with, with the line of a replaced outline or without
+abbrev pub textOf : Bool → Answer → List ℕ → List Float → List ℕ → List Float → List ℕ → List ℕ
+textOf replaced (Refused n) c v e l g = refusedBytes n
+textOf replaced (Done k changed) c v e l g = listingBytes replaced (logAt (k .log) g) (k .particles) (piecesIn (trianglesAt (k .triangles) c v) (edgesAt (k .edges) e l))
 
 -- ---- a sheet on its way
 
@@ -75,7 +75,7 @@ pub record Ample (L : Lent) : Type 0 where
 
 -- a sheet that is whole, blocks that have room for it, and four places for its blade
 pub record Roomy (s : List ℕ) (c : S.Counts) (L : Lent) (blade : ℕ) : Type 0 where
-  pub seen : seenOf limits s ≡ Whole c
+  pub seen : seenOf limits s ≡ Whole c (sheetOf (bitsOf s) .replaced)
   pub ample : Ample L
   pub four : blade ≡ 4
 
@@ -96,5 +96,5 @@ fronts c p r k v e l o =
 -- the fronts are an input whose sizes fit and whose mesh is the sheet's; the blade is the sheet's
 pub record FrontsRead (s : List ℕ) (c : S.Counts) (p : List Float) (r k : List ℕ) (v : List Float) (e : List ℕ) (l : List Float) (o : List ℕ) (b : List Float) : Type 0 where
   pub sized : sizesFit (fronts c p r k v e l o) ≡ true
-  pub mesh : meshOf (fronts c p r k v e l o) ≡ meshOfSheet (sheetWith c (bitsOf s))
-  pub blade : b ≡ bladeOfSheet (sheetWith c (bitsOf s))
+  pub mesh : meshOf (fronts c p r k v e l o) ≡ meshOfSheet (sheetOf (bitsOf s) .sheet)
+  pub blade : b ≡ bladeOfSheet (sheetOf (bitsOf s) .sheet)

@@ -6,8 +6,8 @@ ghost use lib.Ieee.{nan};
 ghost use Rattle.model.specs.Calls.{cutCall};
 ghost use Rattle.mesh.specs.Given.{given, meshOf, sizesFit};
 ghost use Rattle.bits.specs.Bits.{bitsOf};
-ghost use Rattle.sheet.specs.Sheet.{sheetWith, seenOf};
-ghost use Rattle.sheet.specs.declared.Seen.the-variants.{Whole};
+ghost use Rattle.edition.specs.Edition.{sheetOf, seenOf};
+ghost use Rattle.edition.specs.declared.Seen.the-variants.{Whole};
 ghost use Rattle.listing.specs.Listing.{printed};
 ghost use Rattle.mesh.specs.At.{trianglesAt, edgesAt};
 ghost use Rattle.mesh.specs.Filled.{lent};
@@ -15,10 +15,10 @@ ghost use Rattle.sheetcut.specs.SheetCut.{fraction as tenth, rooms, limi
 ghost use Rattle.sheetcut.specs.Work.{piecesIn, Countable, Listable, textOf, Roomy, Cuttable, fronts, FrontsRead};
 use answer::Answer;
 use blade::Point;
+use edition::Seen;
 use listing::Written;
 use mesh::Counts;
 use sheet::Counts as SheetCounts;
-use sheet::Seen;
 
 // The most that a sheet may have.
 const LIMITS: SheetCounts = SheetCounts {
@@ -71,8 +71,9 @@ fn count_pieces(
     pieces::facets::count_pieces(n, per, &verts, &mut last, &mut link, &mut labels[..n])
 }
 
-// Writes the listing of an answer that goes with the blocks, or the line of its refusal.
+// Writes the listing of an answer that goes with the blocks, with the line of a replaced outline or without, or the line of its refusal.
 fn list_answer(
+    replaced: bool,
     a: Answer,
     corners: &[usize],
     volumes: &[f32],
@@ -82,13 +83,13 @@ fn list_answer(
     out: &mut [u8],
 ) -> Written
     requires { ⌜ Listable a (now corners) (now volumes) (now ends) (now lengths) (length (now log)) ⌝ }
-    ensures { λ r. ⌜ Told (textOf a (now (corners .entry)) (now (volumes .entry)) (now (ends .entry)) (now (lengths .entry)) (now (log .entry))) (length (now (out .entry))) (now (out .exit)) r ⌝ }
+    ensures { λ r. ⌜ Told (textOf replaced a (now (corners .entry)) (now (volumes .entry)) (now (ends .entry)) (now (lengths .entry)) (now (log .entry))) (length (now (out .entry))) (now (out .exit)) r ⌝ }
 {
     match a {
         Answer::Refused(n) => listing::write_refused(n, out),
         Answer::Done(k, changed) => {
             let found = count_pieces(k, corners, volumes, ends, lengths);
-            listing::write_listing(k.log, log, k.particles, found, out)
+            listing::write_listing(replaced, k.log, log, k.particles, found, out)
         }
     }
 }
@@ -116,7 +117,7 @@ fn read_fronts(
     let e = 4 * c.edges;
     let o = 2 * c.boundary;
     let mut log = [0usize; 6];
-    sheet::read::read(
+    edition::read::read(
         sheet,
         LIMITS,
         &mut points[..p],
@@ -133,6 +134,7 @@ fn read_fronts(
 
 // Cuts a mesh along a blade, with the fraction and the places that the program lends, and writes the listing.
 fn list_blocks(
+    replaced: bool,
     b0: Point,
     b1: Point,
     points: &[f32],
@@ -144,7 +146,7 @@ fn list_blocks(
     outline: &[usize],
     out: &mut [u8],
 ) -> Written
-    ensures { λ r. ⌜ Told (printed (cutCall (sizesFit (given (now (points .entry)) (now (roots .entry)) (now (corners .entry)) (now (volumes .entry)) (now (ends .entry)) (now (lengths .entry)) (now (outline .entry)))) (meshOf (given (now (points .entry)) (now (roots .entry)) (now (corners .entry)) (now (volumes .entry)) (now (ends .entry)) (now (lengths .entry)) (now (outline .entry)))) (record { from = b0; to = b1 }) tenth rooms)) (length (now (out .entry))) (now (out .exit)) r ⌝ }
+    ensures { λ r. ⌜ Told (printed replaced (cutCall (sizesFit (given (now (points .entry)) (now (roots .entry)) (now (corners .entry)) (now (volumes .entry)) (now (ends .entry)) (now (lengths .entry)) (now (outline .entry)))) (meshOf (given (now (points .entry)) (now (roots .entry)) (now (corners .entry)) (now (volumes .entry)) (now (ends .entry)) (now (lengths .entry)) (now (outline .entry)))) (record { from = b0; to = b1 }) tenth rooms)) (length (now (out .entry))) (now (out .exit)) r ⌝ }
 {
     let mut cut_points = [0.0f32; 1536];
     let mut cut_roots = [0usize; 512];
@@ -175,6 +177,7 @@ fn list_blocks(
         &mut log,
     );
     list_answer(
+        replaced,
         a,
         &cut_corners,
         &cut_volumes,
@@ -187,6 +190,7 @@ fn list_blocks(
 
 // Cuts the mesh with counts c at the fronts of blocks along a blade, and writes the listing.
 fn list_fronts(
+    replaced: bool,
     c: SheetCounts,
     points: &[f32],
     roots: &[usize],
@@ -199,7 +203,7 @@ fn list_fronts(
     out: &mut [u8],
 ) -> Written
     requires { ⌜ Cuttable c (lent (now points) (now roots) (now corners) (now volumes) (now ends) (now lengths) (now outline) []) (length (now blade)) ⌝ }
-    ensures { λ r. ⌜ Told (printed (cutCall (sizesFit (fronts c (now (points .entry)) (now (roots .entry)) (now (corners .entry)) (now (volumes .entry)) (now (ends .entry)) (now (lengths .entry)) (now (outline .entry)))) (meshOf (fronts c (now (points .entry)) (now (roots .entry)) (now (corners .entry)) (now (volumes .entry)) (now (ends .entry)) (now (lengths .entry)) (now (outline .entry)))) (record { from = record { x = getD (now (blade .entry)) 0 nan; y = getD (now (blade .entry)) 1 nan }; to = record { x = getD (now (blade .entry)) 2 nan; y = getD (now (blade .entry)) 3 nan } }) tenth rooms)) (length (now (out .entry))) (now (out .exit)) r ⌝ }
+    ensures { λ r. ⌜ Told (printed replaced (cutCall (sizesFit (fronts c (now (points .entry)) (now (roots .entry)) (now (corners .entry)) (now (volumes .entry)) (now (ends .entry)) (now (lengths .entry)) (now (outline .entry)))) (meshOf (fronts c (now (points .entry)) (now (roots .entry)) (now (corners .entry)) (now (volumes .entry)) (now (ends .entry)) (now (lengths .entry)) (now (outline .entry)))) (record { from = record { x = getD (now (blade .entry)) 0 nan; y = getD (now (blade .entry)) 1 nan }; to = record { x = getD (now (blade .entry)) 2 nan; y = getD (now (blade .entry)) 3 nan } }) tenth rooms)) (length (now (out .entry))) (now (out .exit)) r ⌝ }
 {
     let p = 6 * c.particles;
     let r = 2 * c.particles;
@@ -216,6 +220,7 @@ fn list_fronts(
         y: blade[3],
     };
     list_blocks(
+        replaced,
         b0,
         b1,
         &points[..p],
@@ -229,10 +234,10 @@ fn list_fronts(
     )
 }
 
-// Cuts a whole sheet with counts c, and writes the listing.
-fn list_whole(sheet: &[u8], c: SheetCounts, out: &mut [u8]) -> Written
-    requires { ⌜ seenOf most (now sheet) ≡ Whole c ⌝ }
-    ensures { λ r. ⌜ Told (printed (cutOf (sheetWith c (bitsOf (now (sheet .entry)))))) (length (now (out .entry))) (now (out .exit)) r ⌝ }
+// Cuts a whole sheet with counts c, whose typed outline was replaced or not, and writes the listing.
+fn list_whole(sheet: &[u8], c: SheetCounts, replaced: bool, out: &mut [u8]) -> Written
+    requires { ⌜ seenOf most (now sheet) ≡ Whole c replaced ⌝ }
+    ensures { λ r. ⌜ Told (printed replaced (cutOf (sheetOf (bitsOf (now (sheet .entry))) .sheet))) (length (now (out .entry))) (now (out .exit)) r ⌝ }
 {
     let mut points = [0.0f32; 768];
     let mut roots = [0usize; 256];
@@ -255,6 +260,7 @@ fn list_whole(sheet: &[u8], c: SheetCounts, out: &mut [u8]) -> Written
         &mut blade,
     );
     list_fronts(
+        replaced,
         c,
         &points,
         &roots,
@@ -272,9 +278,9 @@ fn list_whole(sheet: &[u8], c: SheetCounts, out: &mut [u8]) -> Written
 pub fn list_cut(bytes: &[u8], out: &mut [u8]) -> Written
     ensures { λ r. ⌜ Told (listed (now (bytes .entry))) (length (now (out .entry))) (now (out .exit)) r ⌝ }
 {
-    let seen = sheet::look(bytes, LIMITS);
+    let seen = edition::look(bytes, LIMITS);
     match seen {
-        Seen::Whole(c) => list_whole(bytes, c, out),
+        Seen::Whole(c, replaced) => list_whole(bytes, c, replaced, out),
         Seen::Refused(n) => listing::write_refused(n, out),
     }
 }

@@ -1,4 +1,4 @@
--- `listing::write_listing` meets its contract: six pieces from nothing on, then the end. Assumes nothing.
+-- `listing::write_listing` meets its contract: seven pieces from nothing on, then the end. Assumes nothing.
 use Rattle.listing.proofs.Appending.{listing-written, wrote}
 use Rattle.mesh.specs.Log.{logAt}
 use mathlib.Core.Path.{_∙_}
@@ -14,6 +14,9 @@ slice-aggregate-put-line-2 c = search needs
 
 put-line-requires : tie.Need-put-line-requires
 put-line-requires c κs = search needs
+
+put-replaced-requires : tie.Need-put-replaced-requires
+put-replaced-requires c κs = search needs
 
 slice-aggregate-put-entries : tie.Need-slice-aggregate-put-entries
 slice-aggregate-put-entries c = search needs
@@ -55,15 +58,15 @@ finish-requires : tie.Need-finish-requires
 finish-requires c κs = search needs
 
 same-length : tie.Need-same-length
-same-length c = c .before .before .finish .kept .0 ∙ c .before .before .before .before .before .before .put-line3 .kept .0 ∙ c .before .before .before .before .before .before .before .before .before .before .before .before .put-line2 .kept .0 ∙ c .before .before .before .before .before .before .before .before .before .before .before .before .before .before .before .before .before .before .put-entries3 .kept .0 ∙ c .before .before .before .before .before .before .before .before .before .before .before .before .before .before .before .before .before .before .before .before .before .before .before .put-entries2 .kept .0 ∙ c .before .before .before .before .before .before .before .before .before .before .before .before .before .before .before .before .before .before .before .before .before .before .before .before .before .before .before .before .put-entries .kept .0 ∙ c .before .before .before .before .before .before .before .before .before .before .before .before .before .before .before .before .before .before .before .before .before .before .before .before .before .before .before .before .before .before .before .before .before .put-line .kept .0
+same-length c = c .before .before .finish .kept .0 ∙ c .before .before .before .before .before .before .put-line3 .kept .0 ∙ c .before .before .before .before .before .before .before .before .before .before .before .before .put-line2 .kept .0 ∙ c .before .before .before .before .before .before .before .before .before .before .before .before .before .before .before .before .before .before .put-entries3 .kept .0 ∙ c .before .before .before .before .before .before .before .before .before .before .before .before .before .before .before .before .before .before .before .before .before .before .before .put-entries2 .kept .0 ∙ c .before .before .before .before .before .before .before .before .before .before .before .before .before .before .before .before .before .before .before .before .before .before .before .before .before .before .before .before .put-entries .kept .0 ∙ c .before .before .before .before .before .before .before .before .before .before .before .before .before .before .before .before .before .before .before .before .before .before .before .before .before .before .before .before .before .before .before .before .before .put-replaced .kept .0 ∙ c .before .before .before .before .before .before .before .before .before .before .before .before .before .before .before .before .before .before .before .before .before .before .before .before .before .before .before .before .before .before .before .before .before .before .before .before .before .put-line .kept .0
 
 returns : tie.Need-returns
-returns c = let a = c .before .before .before .before .before .before .before .before .before .before .before .before .before .before .before .before .before .before .before .before .before .before .before .before .before .before .before .before .before .before .before .before .before .before .before .before .before .before .before .args in
+returns c = let a = c .before .before .before .before .before .before .before .before .before .before .before .before .before .before .before .before .before .before .before .before .before .before .before .before .before .before .before .before .before .before .before .before .before .before .before .before .before .before .before .before .before .before .before .args in
     wrote
-    (listing-written (logAt (a .entries) (a .log .now)) (a .particles) (a .pieces) (c .before .before .before .before .before .before .before .before .before .before .before .before .before .before .before .before .before .before .before .before .before .before .before .before .before .before .before .before .before .before .before .before .before .put-line .ensures) (c .before .before .before .before .before .before .before .before .before .before .before .before .before .before .before .before .before .before .before .before .before .before .before .before .before .before .before .before .put-entries .ensures) (c .before .before .before .before .before .before .before .before .before .before .before .before .before .before .before .before .before .before .before .before .before .before .before .put-entries2 .ensures)
+    (listing-written (a .replaced) (logAt (a .entries) (a .log .now)) (a .particles) (a .pieces) (c .before .before .before .before .before .before .before .before .before .before .before .before .before .before .before .before .before .before .before .before .before .before .before .before .before .before .before .before .before .before .before .before .before .before .before .before .before .put-line .ensures) (c .before .before .before .before .before .before .before .before .before .before .before .before .before .before .before .before .before .before .before .before .before .before .before .before .before .before .before .before .before .before .before .before .before .put-replaced .ensures) (c .before .before .before .before .before .before .before .before .before .before .before .before .before .before .before .before .before .before .before .before .before .before .before .before .before .before .before .before .put-entries .ensures) (c .before .before .before .before .before .before .before .before .before .before .before .before .before .before .before .before .before .before .before .before .before .before .before .put-entries2 .ensures)
     (c .before .before .before .before .before .before .before .before .before .before .before .before .before .before .before .before .before .before .put-entries3 .ensures) (c .before .before .before .before .before .before .before .before .before .before .before .before .put-line2 .ensures) (c .before .before .before .before .before .before .put-line3 .ensures))
     (c .before .before .finish .ensures)
-    (c .before .before .before .before .before .before .put-line3 .kept .0 ∙ c .before .before .before .before .before .before .before .before .before .before .before .before .put-line2 .kept .0 ∙ c .before .before .before .before .before .before .before .before .before .before .before .before .before .before .before .before .before .before .put-entries3 .kept .0 ∙ c .before .before .before .before .before .before .before .before .before .before .before .before .before .before .before .before .before .before .before .before .before .before .before .put-entries2 .kept .0 ∙ c .before .before .before .before .before .before .before .before .before .before .before .before .before .before .before .before .before .before .before .before .before .before .before .before .before .before .before .before .put-entries .kept .0 ∙ c .before .before .before .before .before .before .before .before .before .before .before .before .before .before .before .before .before .before .before .before .before .before .before .before .before .before .before .before .before .before .before .before .before .put-line .kept .0)
+    (c .before .before .before .before .before .before .put-line3 .kept .0 ∙ c .before .before .before .before .before .before .before .before .before .before .before .before .put-line2 .kept .0 ∙ c .before .before .before .before .before .before .before .before .before .before .before .before .before .before .before .before .before .before .put-entries3 .kept .0 ∙ c .before .before .before .before .before .before .before .before .before .before .before .before .before .before .before .before .before .before .before .before .before .before .before .put-entries2 .kept .0 ∙ c .before .before .before .before .before .before .before .before .before .before .before .before .before .before .before .before .before .before .before .before .before .before .before .before .before .before .before .before .put-entries .kept .0 ∙ c .before .before .before .before .before .before .before .before .before .before .before .before .before .before .before .before .before .before .before .before .before .before .before .before .before .before .before .before .before .before .before .before .before .put-replaced .kept .0 ∙ c .before .before .before .before .before .before .before .before .before .before .before .before .before .before .before .before .before .before .before .before .before .before .before .before .before .before .before .before .before .before .before .before .before .before .before .before .before .put-line .kept .0)
 
 pub write-listing-spec : {M : Type 1} → statement M
 write-listing-spec =
@@ -72,6 +75,7 @@ write-listing-spec =
     slice-aggregate-put-line
     slice-aggregate-put-line-2
     put-line-requires
+    put-replaced-requires
     slice-aggregate-put-entries
     put-entries-requires
     slice-aggregate-put-entries-2

@@ -25,7 +25,7 @@ same-length : tie.Need-same-length
 same-length c = search needs
 
 returns : tie.Need-returns
-returns c = refused-text _ _ _ _ _ _ _ _ _ _ (c .before .before .before .before .before .a .given .1) (record { wrote = c .before .before .write-refused .ensures; enough = refused-few _ (search needs) })
+returns c = refused-text _ _ _ _ _ _ _ _ _ _ _ (c .before .before .before .before .before .a .given .1) (record { wrote = c .before .before .write-refused .ensures; enough = refused-few _ (search needs) })
 
 same-length-2 : tie.Need-same-length-2
 same-length-2 c = search needs
@@ -33,7 +33,7 @@ same-length-2 c = search needs
 returns-2 : tie.Need-returns-2
 returns-2 c =
     let H = done-listable _ _ _ _ _ _ _ _ (c .before .before .before .before .before .before .a2 .given .1) (c .before .before .before .before .before .before .before .before .before .before .before .before .before .before .pre) in
-    done-text _ _ _ _ _ _ _ _ _ _ _ _ (c .before .before .before .before .before .before .a2 .given .1) (c .before .before .before .before .count-pieces .ensures) (record { wrote = c .before .before .write-listing .ensures; enough = listing-few _ _ _ _ (H .2) (λ j. omega (arith, c .before .before .before .before .before .before .before .before .before .shared-slice-known5 .given j)) (omega (arith, H .0 .few-particles)) (omega (arith, c .before .before .before .before .count-pieces .ok)) })
+    done-text _ _ _ _ _ _ _ _ _ _ _ _ _ (c .before .before .before .before .before .before .a2 .given .1) (c .before .before .before .before .count-pieces .ensures) (record { wrote = c .before .before .write-listing .ensures; enough = listing-few _ _ _ _ _ (H .2) (λ j. omega (arith, c .before .before .before .before .before .before .before .before .before .shared-slice-known5 .given j)) (omega (arith, H .0 .few-particles)) (omega (arith, c .before .before .before .before .count-pieces .ok)) })
 
 pub list-answer-spec : {M : Type 1} → statement M
 list-answer-spec =

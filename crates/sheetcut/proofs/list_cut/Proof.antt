@@ -26,7 +26,7 @@ same-length : tie.Need-same-length
 same-length c = search needs
 
 returns : tie.Need-returns
-returns c = whole-listed (c .before .before .before .before .before .before .before .before .before .before .args .bytes .now) _ _ _ _ (sym (c .before .before .before .before .before .before .before .look .ensures) ∙ c .before .before .before .before .before .seen .given .1) (c .before .before .list-whole .ensures)
+returns c = whole-listed (c .before .before .before .before .before .before .before .before .before .before .args .bytes .now) _ _ _ _ _ (sym (c .before .before .before .before .before .before .before .look .ensures) ∙ c .before .before .before .before .before .seen .given .1) (c .before .before .list-whole .ensures)
 
 same-length-2 : tie.Need-same-length-2
 same-length-2 c = search needs

@@ -24,17 +24,17 @@ mul-e c = search needs
 mul-o : tie.Need-mul-o
 mul-o c = search needs
 
-shared-slice-read-t20 : tie.Need-shared-slice-read-t20
-shared-slice-read-t20 c = search needs
+shared-slice-read-t21 : tie.Need-shared-slice-read-t21
+shared-slice-read-t21 c = search needs
 
-shared-slice-read-t22 : tie.Need-shared-slice-read-t22
-shared-slice-read-t22 c = search needs
+shared-slice-read-t23 : tie.Need-shared-slice-read-t23
+shared-slice-read-t23 c = search needs
 
-shared-slice-read-t20-2 : tie.Need-shared-slice-read-t20-2
-shared-slice-read-t20-2 c = search needs
+shared-slice-read-t21-2 : tie.Need-shared-slice-read-t21-2
+shared-slice-read-t21-2 c = search needs
 
-shared-slice-read-t22-2 : tie.Need-shared-slice-read-t22-2
-shared-slice-read-t22-2 c = search needs
+shared-slice-read-t23-2 : tie.Need-shared-slice-read-t23-2
+shared-slice-read-t23-2 c = search needs
 
 slice-aggregate-list-blocks : tie.Need-slice-aggregate-list-blocks
 slice-aggregate-list-blocks c = let H = c .before .before .before .before .before .before .before .before .before .before .before .before .before .before .before .before .before .before .before .before .pre in sym (length-take-le _ _ (omega (arith, H .few-particles, H .ample .points)))
@@ -76,10 +76,10 @@ list-fronts-spec =
     mul-v
     mul-e
     mul-o
-    shared-slice-read-t20
-    shared-slice-read-t22
-    shared-slice-read-t20-2
-    shared-slice-read-t22-2
+    shared-slice-read-t21
+    shared-slice-read-t23
+    shared-slice-read-t21-2
+    shared-slice-read-t23-2
     slice-aggregate-list-blocks
     slice-aggregate-list-blocks-2
     slice-aggregate-list-blocks-3

@@ -1,6 +1,7 @@
 -- `sheetcut::list_whole` meets its contract: the sheet is read into blocks, whose fronts are cut. Assumes nothing.
 use borrow.Author.Needs.{needs}
 use mathlib.Core.Path.{refl, _∙_}
+use Rattle.sheetcut.proofs.Reading.{seen-told}
 use Rattle.sheetcut.proofs.Cutting.{whole-cuttable, fronts-listed}
 use Rattle.sheetcut.proofs.list_whole.Statement.{statement}
 use Rattle.sheetcut.proofs.list_whole.Tie as tie
@@ -30,7 +31,7 @@ slice-aggregate-read-fronts-8 : tie.Need-slice-aggregate-read-fronts-8
 slice-aggregate-read-fronts-8 c = search needs
 
 read-fronts-requires : tie.Need-read-fronts-requires
-read-fronts-requires c κs = record { seen = c .before .before .before .before .before .before .before .before .before .before .pre; ample = record { points = refl; roots = refl; corners = refl; volumes = refl; ends = refl; lengths = refl; outline = refl }; four = refl }
+read-fronts-requires c κs = record { seen = seen-told _ _ _ (c .before .before .before .before .before .before .before .before .before .before .pre); ample = record { points = refl; roots = refl; corners = refl; volumes = refl; ends = refl; lengths = refl; outline = refl }; four = refl }
 
 slice-aggregate-list-fronts : tie.Need-slice-aggregate-list-fronts
 slice-aggregate-list-fronts c = search needs
@@ -59,7 +60,7 @@ slice-aggregate-list-fronts-8 c = search needs
 list-fronts-requires : tie.Need-list-fronts-requires
 list-fronts-requires c κs =
     let W = c .before .before .before .before .before .before .before .before .before .before .before .before .before .before .before .before .before .read-fronts in
-    whole-cuttable (c .before .before .before .before .before .before .before .before .before .before .before .before .before .before .before .before .before .before .before .before .before .before .before .before .before .before .before .before .args .sheet .now) (c .before .before .before .before .before .before .before .before .before .before .before .before .before .before .before .before .before .before .before .before .before .before .before .before .before .before .before .before .args .c) _ _ (c .before .before .before .before .before .before .before .before .before .before .before .before .before .before .before .before .before .before .before .before .before .before .before .before .before .before .before .before .pre) (record { points = W .kept .1 .1 .0; roots = W .kept .1 .1 .1 .0; corners = W .kept .1 .1 .1 .1 .0; volumes = W .kept .1 .1 .1 .1 .1 .0; ends = W .kept .1 .1 .1 .1 .1 .1 .0; lengths = W .kept .1 .1 .1 .1 .1 .1 .1 .0; outline = W .kept .1 .1 .1 .1 .1 .1 .1 .1 .0 }) (W .kept .1 .1 .1 .1 .1 .1 .1 .1 .1 .0)
+    whole-cuttable (c .before .before .before .before .before .before .before .before .before .before .before .before .before .before .before .before .before .before .before .before .before .before .before .before .before .before .before .before .args .sheet .now) (c .before .before .before .before .before .before .before .before .before .before .before .before .before .before .before .before .before .before .before .before .before .before .before .before .before .before .before .before .args .c) _ _ _ (c .before .before .before .before .before .before .before .before .before .before .before .before .before .before .before .before .before .before .before .before .before .before .before .before .before .before .before .before .pre) (record { points = W .kept .1 .1 .0; roots = W .kept .1 .1 .1 .0; corners = W .kept .1 .1 .1 .1 .0; volumes = W .kept .1 .1 .1 .1 .1 .0; ends = W .kept .1 .1 .1 .1 .1 .1 .0; lengths = W .kept .1 .1 .1 .1 .1 .1 .1 .0; outline = W .kept .1 .1 .1 .1 .1 .1 .1 .1 .0 }) (W .kept .1 .1 .1 .1 .1 .1 .1 .1 .1 .0)
 
 same-length : tie.Need-same-length
 same-length c = search needs
@@ -67,7 +68,7 @@ same-length c = search needs
 returns : tie.Need-returns
 returns c =
     let W = c .before .before .before .before .before .before .before .before .before .before .before .before .before .before .before .before .before .before .before .before .read-fronts in
-    fronts-listed (c .before .before .before .before .before .before .before .before .before .before .before .before .before .before .before .before .before .before .before .before .before .before .before .before .before .before .before .before .before .before .before .args .sheet .now) (c .before .before .before .before .before .before .before .before .before .before .before .before .before .before .before .before .before .before .before .before .before .before .before .before .before .before .before .before .before .before .before .args .c) (W .last .1 .1 .0) (W .last .1 .1 .1 .0) (W .last .1 .1 .1 .1 .0) (W .last .1 .1 .1 .1 .1 .0) (W .last .1 .1 .1 .1 .1 .1 .0) (W .last .1 .1 .1 .1 .1 .1 .1 .0) (W .last .1 .1 .1 .1 .1 .1 .1 .1 .0) (W .last .1 .1 .1 .1 .1 .1 .1 .1 .1 .0) (W .ensures) _ _ _ (c .before .before .list-fronts .ensures)
+    fronts-listed (c .before .before .before .before .before .before .before .before .before .before .before .before .before .before .before .before .before .before .before .before .before .before .before .before .before .before .before .before .before .before .before .args .sheet .now) (c .before .before .before .before .before .before .before .before .before .before .before .before .before .before .before .before .before .before .before .before .before .before .before .before .before .before .before .before .before .before .before .args .c) (W .last .1 .1 .0) (W .last .1 .1 .1 .0) (W .last .1 .1 .1 .1 .0) (W .last .1 .1 .1 .1 .1 .0) (W .last .1 .1 .1 .1 .1 .1 .0) (W .last .1 .1 .1 .1 .1 .1 .1 .0) (W .last .1 .1 .1 .1 .1 .1 .1 .1 .0) (W .last .1 .1 .1 .1 .1 .1 .1 .1 .1 .0) (W .ensures) _ _ _ _ (c .before .before .list-fronts .ensures)
 
 pub list-whole-spec : {M : Type 1} → statement M
 list-whole-spec =

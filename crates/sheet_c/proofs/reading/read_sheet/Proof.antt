@@ -39,6 +39,9 @@ read-requires c κs = search needs
 enum-known-seen : tie.Need-enum-known-seen
 enum-known-seen c = search needs
 
+flag-requires : tie.Need-flag-requires
+flag-requires c κs = search needs
+
 slice-aggregate-reply-blocks : tie.Need-slice-aggregate-reply-blocks
 slice-aggregate-reply-blocks c = search needs
 
@@ -64,7 +67,7 @@ slice-aggregate-reply-blocks-8 : tie.Need-slice-aggregate-reply-blocks-8
 slice-aggregate-reply-blocks-8 c = search needs
 
 reply-blocks-requires : tie.Need-reply-blocks-requires
-reply-blocks-requires c κs = let W = (c .before .before .before .before .before .before .before .before .before .before .before .before .before .before .before .before .before .before .before .before .before) .read in sheet-storing ((c .before .before .before .before .before .before .before .before .before .before .before .before .before .before .before .before .before .before .before .before .before .before .before .before .before .before .before .before .before .before .before .before .before) .args .bytes .now) _ _ _ _ _ _ _ _ _ _ _ _ (W .ensures) (record { points = refl; roots = refl; corners = refl; volumes = refl; ends = refl; lengths = refl; outline = refl }) refl _ ((c .before .before .before .before .before .before .before .before .before .before) .seen .given .1) (lent-path (W .kept .1 .1 .0) (W .kept .1 .1 .1 .0) (W .kept .1 .1 .1 .1 .0) (W .kept .1 .1 .1 .1 .1 .0) (W .kept .1 .1 .1 .1 .1 .1 .0) (W .kept .1 .1 .1 .1 .1 .1 .1 .0) (W .kept .1 .1 .1 .1 .1 .1 .1 .1 .0) (W .kept .1 .1 .1 .1 .1 .1 .1 .1 .1 .0)) (W .kept .1 .1 .1 .1 .1 .1 .1 .1 .1 .1 .0)
+reply-blocks-requires c κs = let W = (c .before .before .before .before .before .before .before .before .before .before .before .before .before .before .before .before .before .before .before .before .before .before) .read in sheet-storing ((c .before .before .before .before .before .before .before .before .before .before .before .before .before .before .before .before .before .before .before .before .before .before .before .before .before .before .before .before .before .before .before .before .before .before) .args .bytes .now) _ _ _ _ _ _ _ _ _ _ _ _ (W .ensures) (record { points = refl; roots = refl; corners = refl; volumes = refl; ends = refl; lengths = refl; outline = refl }) refl _ _ ((c .before .before .before .before .before .before .before .before .before .before .before) .seen .given .1) (lent-path (W .kept .1 .1 .0) (W .kept .1 .1 .1 .0) (W .kept .1 .1 .1 .1 .0) (W .kept .1 .1 .1 .1 .1 .0) (W .kept .1 .1 .1 .1 .1 .1 .0) (W .kept .1 .1 .1 .1 .1 .1 .1 .0) (W .kept .1 .1 .1 .1 .1 .1 .1 .1 .0) (W .kept .1 .1 .1 .1 .1 .1 .1 .1 .1 .0)) (W .kept .1 .1 .1 .1 .1 .1 .1 .1 .1 .1 .0)
 
 enum-known-seen-2 : tie.Need-enum-known-seen-2
 enum-known-seen-2 c = search needs
@@ -76,7 +79,7 @@ same-length : tie.Need-same-length
 same-length c = search needs
 
 returns : tie.Need-returns
-returns c = let W = (c .before .before .before .before .before .before .before .before .before .before .before .before .before .before .before .before .before .before .before .before .before .before .before .before) .read in sheet-whole ((c .before .before .before .before .before .before .before .before .before .before .before .before .before .before .before .before .before .before .before .before .before .before .before .before .before .before .before .before .before .before .before .before .before .before .before .before) .args .bytes .now) _ _ _ _ _ _ _ _ _ _ _ _ (W .ensures) (record { points = refl; roots = refl; corners = refl; volumes = refl; ends = refl; lengths = refl; outline = refl }) refl _ ((c .before .before .before .before .before .before .before .before .before .before .before .before .before) .seen .given .1) (lent-path (W .kept .1 .1 .0) (W .kept .1 .1 .1 .0) (W .kept .1 .1 .1 .1 .0) (W .kept .1 .1 .1 .1 .1 .0) (W .kept .1 .1 .1 .1 .1 .1 .0) (W .kept .1 .1 .1 .1 .1 .1 .1 .0) (W .kept .1 .1 .1 .1 .1 .1 .1 .1 .0) (W .kept .1 .1 .1 .1 .1 .1 .1 .1 .1 .0)) (W .kept .1 .1 .1 .1 .1 .1 .1 .1 .1 .1 .0) _ _ _ ((c .before .before) .reply-blocks .ensures)
+returns c = let W = (c .before .before .before .before .before .before .before .before .before .before .before .before .before .before .before .before .before .before .before .before .before .before .before .before .before) .read in sheet-whole ((c .before .before .before .before .before .before .before .before .before .before .before .before .before .before .before .before .before .before .before .before .before .before .before .before .before .before .before .before .before .before .before .before .before .before .before .before .before) .args .bytes .now) _ _ _ _ _ _ _ _ _ _ _ _ (W .ensures) (record { points = refl; roots = refl; corners = refl; volumes = refl; ends = refl; lengths = refl; outline = refl }) refl _ _ ((c .before .before .before .before .before .before .before .before .before .before .before .before .before .before) .seen .given .1) (lent-path (W .kept .1 .1 .0) (W .kept .1 .1 .1 .0) (W .kept .1 .1 .1 .1 .0) (W .kept .1 .1 .1 .1 .1 .0) (W .kept .1 .1 .1 .1 .1 .1 .0) (W .kept .1 .1 .1 .1 .1 .1 .1 .0) (W .kept .1 .1 .1 .1 .1 .1 .1 .1 .0) (W .kept .1 .1 .1 .1 .1 .1 .1 .1 .1 .0)) (W .kept .1 .1 .1 .1 .1 .1 .1 .1 .1 .1 .0) _ ((c .before .before .before .before .before .before .before .before .before .before .before .before) .flag .ensures) _ _ _ ((c .before .before) .reply-blocks .ensures)
 
 same-length-2 : tie.Need-same-length-2
 same-length-2 c = search needs
@@ -99,6 +102,7 @@ read-sheet-spec =
     slice-aggregate-read-9
     read-requires
     enum-known-seen
+    flag-requires
     slice-aggregate-reply-blocks
     slice-aggregate-reply-blocks-2
     slice-aggregate-reply-blocks-3

@@ -40,7 +40,7 @@ same-length : tie.Need-same-length
 same-length c = search needs
 
 returns : tie.Need-returns
-returns c = let A = (c .before .before .before .before .before .before .before .before .before .before .before .before .before .before .before .before .before .before) .args in blocks-short (A .c) (A .points .now) (A .roots .now) (A .corners .now) (A .volumes .now) (A .ends .now) (A .lengths .now) (A .outline .now) (A .blade .now) ((c .before .before .before .before .before .before .before .before .before .before .before .before .before .before .before .before .before .before) .pre) _ _ _ ((c .before .before .before .before) .if1 .taken) ((c .before .before) .reply-refused .ensures)
+returns c = let A = (c .before .before .before .before .before .before .before .before .before .before .before .before .before .before .before .before .before .before) .args in blocks-short (A .first) (A .c) (A .points .now) (A .roots .now) (A .corners .now) (A .volumes .now) (A .ends .now) (A .lengths .now) (A .outline .now) (A .blade .now) ((c .before .before .before .before .before .before .before .before .before .before .before .before .before .before .before .before .before .before) .pre) _ _ _ ((c .before .before .before .before) .if1 .taken) ((c .before .before) .reply-refused .ensures)
 
 write-one-requires : tie.Need-write-one-requires
 write-one-requires c κs = omega (arith, (c .before) .if1 .left)
@@ -49,13 +49,13 @@ store-numbers-requires : tie.Need-store-numbers-requires
 store-numbers-requires c κs = omega (arith, (c .before .before .before .before .before) .if1 .left, (c .before .before .before .before .before .before .before .before .before .before .before .before .before .before .before .before .before .before .before) .pre .four, (c .before .before .before) .write-one .kept .0)
 
 store-requires : tie.Need-store-requires
-store-requires c κs = let A = (c .before .before .before .before .before .before .before .before .before .before .before .before .before .before .before .before .before .before .before .before .before .before .before) .args in blocks-storable (A .c) (A .points .now) (A .roots .now) (A .corners .now) (A .volumes .now) (A .ends .now) (A .lengths .now) (A .outline .now) (A .blade .now) ((c .before .before .before .before .before .before .before .before .before .before .before .before .before .before .before .before .before .before .before .before .before .before .before) .pre) _ _ ((c .before .before .before) .store-numbers .kept .1 .1 .0 ∙ (c .before .before .before .before .before .before .before) .write-one .kept .0) ((c .before .before .before .before .before .before .before .before .before) .if1 .left)
+store-requires c κs = let A = (c .before .before .before .before .before .before .before .before .before .before .before .before .before .before .before .before .before .before .before .before .before .before .before) .args in blocks-storable (A .first) (A .c) (A .points .now) (A .roots .now) (A .corners .now) (A .volumes .now) (A .ends .now) (A .lengths .now) (A .outline .now) (A .blade .now) ((c .before .before .before .before .before .before .before .before .before .before .before .before .before .before .before .before .before .before .before .before .before .before .before) .pre) _ _ ((c .before .before .before) .store-numbers .kept .1 .1 .0 ∙ (c .before .before .before .before .before .before .before) .write-one .kept .0) ((c .before .before .before .before .before .before .before .before .before) .if1 .left)
 
 same-length-2 : tie.Need-same-length-2
 same-length-2 c = (c .before .before) .store .kept .1 .1 .1 .1 .1 .1 .1 .1 .1 .0 ∙ (c .before .before .before .before .before .before) .store-numbers .kept .1 .1 .0 ∙ (c .before .before .before .before .before .before .before .before .before .before) .write-one .kept .0
 
 returns-2 : tie.Need-returns-2
-returns-2 c = let A = (c .before .before .before .before .before .before .before .before .before .before .before .before .before .before .before .before .before .before .before .before .before .before .before .before .before .before) .args in blocks-replied (A .c) (A .points .now) (A .roots .now) (A .corners .now) (A .volumes .now) (A .ends .now) (A .lengths .now) (A .outline .now) (A .blade .now) ((c .before .before .before .before .before .before .before .before .before .before .before .before .before .before .before .before .before .before .before .before .before .before .before .before .before .before) .pre) _ _ _ _ _ ((c .before .before .before .before .before .before .before .before .before .before .before .before) .if1 .left) ((c .before .before .before .before .before .before .before .before .before .before) .write-one .ensures) ((c .before .before .before .before .before .before) .store-numbers .ensures) ((c .before .before) .store .ensures) refl
+returns-2 c = let A = (c .before .before .before .before .before .before .before .before .before .before .before .before .before .before .before .before .before .before .before .before .before .before .before .before .before .before) .args in blocks-replied (A .first) (A .c) (A .points .now) (A .roots .now) (A .corners .now) (A .volumes .now) (A .ends .now) (A .lengths .now) (A .outline .now) (A .blade .now) ((c .before .before .before .before .before .before .before .before .before .before .before .before .before .before .before .before .before .before .before .before .before .before .before .before .before .before) .pre) _ _ _ _ _ ((c .before .before .before .before .before .before .before .before .before .before .before .before) .if1 .left) ((c .before .before .before .before .before .before .before .before .before .before) .write-one .ensures) ((c .before .before .before .before .before .before) .store-numbers .ensures) ((c .before .before) .store .ensures) refl
 
 pub reply-blocks-spec : {M : Type 1} → statement M
 reply-blocks-spec =

@@ -16,9 +16,6 @@ word-at-requires-2 c κs = search needs
 word-at-requires-3 : tie.Need-word-at-requires-3
 word-at-requires-3 c κs = search needs
 
-word-at-requires-4 : tie.Need-word-at-requires-4
-word-at-requires-4 c κs = search needs
-
 mul-result : tie.Need-mul-result
 mul-result c = search needs
 
@@ -40,14 +37,8 @@ add-result-3 c = search needs
 mul-result-4 : tie.Need-mul-result-4
 mul-result-4 c = search needs
 
-add-result-4 : tie.Need-add-result-4
-add-result-4 c = search needs
-
-mul-result-5 : tie.Need-mul-result-5
-mul-result-5 c = search needs
-
 returns-2 : tie.Need-returns-2
-returns-2 c = fields-as _ _ _ _ _ ((c .before .before .before) .word-at .ensures .0) ((c .before .before) .word-at2 .ensures .0) ((c .before) .word-at3 .ensures .0) ((c) .word-at4 .ensures .0) ((c .before .before .before .before) .if1 .left)
+returns-2 c = fields-as _ _ _ _ ((c .before .before) .word-at .ensures .0) ((c .before) .word-at2 .ensures .0) ((c) .word-at3 .ensures .0) ((c .before .before .before) .if1 .left)
 
 pub fields-fit-spec : {M : Type 1} → statement M
 fields-fit-spec =
@@ -57,7 +48,6 @@ fields-fit-spec =
     word-at-requires
     word-at-requires-2
     word-at-requires-3
-    word-at-requires-4
     mul-result
     add-result
     mul-result-2
@@ -65,6 +55,4 @@ fields-fit-spec =
     mul-result-3
     add-result-3
     mul-result-4
-    add-result-4
-    mul-result-5
     returns-2)

@@ -1,4 +1,4 @@
--- `sheet_c::writing::write_elements` meets its contract: eight columns are read, and the sheet is written. Assumes nothing.
+-- `sheet_c::writing::write_elements` meets its contract: six columns are read, and the sheet is written. Assumes nothing.
 use native.Mathlib.Omega.{arith}
 use mathlib.Core.Path.{sym}
 use lib.Seq.{length-take-le}
@@ -16,143 +16,107 @@ word-at-requires-2 c κs = omega (arith, (c .before .before .before .before) .pr
 word-at-requires-3 : tie.Need-word-at-requires-3
 word-at-requires-3 c κs = omega (arith, (c .before .before .before .before .before) .pre .long)
 
-word-at-requires-4 : tie.Need-word-at-requires-4
-word-at-requires-4 c κs = omega (arith, (c .before .before .before .before .before .before) .pre .long)
-
 mul-at-t : tie.Need-mul-at-t
-mul-at-t c = omega (arith, (c .before .before .before) .word-at .ensures .1, (c .before .before) .word-at2 .ensures .1, (c .before) .word-at3 .ensures .1, (c) .word-at4 .ensures .1)
+mul-at-t c = omega (arith, (c .before .before) .word-at .ensures .1, (c .before) .word-at2 .ensures .1, (c) .word-at3 .ensures .1)
 
 add-at-t : tie.Need-add-at-t
-add-at-t c = omega (arith, (c .before .before .before) .word-at .ensures .1, (c .before .before) .word-at2 .ensures .1, (c .before) .word-at3 .ensures .1, (c) .word-at4 .ensures .1)
+add-at-t c = omega (arith, (c .before .before) .word-at .ensures .1, (c .before) .word-at2 .ensures .1, (c) .word-at3 .ensures .1)
 
 mul-at-e : tie.Need-mul-at-e
-mul-at-e c = omega (arith, (c .before .before .before) .word-at .ensures .1, (c .before .before) .word-at2 .ensures .1, (c .before) .word-at3 .ensures .1, (c) .word-at4 .ensures .1)
+mul-at-e c = omega (arith, (c .before .before) .word-at .ensures .1, (c .before) .word-at2 .ensures .1, (c) .word-at3 .ensures .1)
 
 add-at-e : tie.Need-add-at-e
-add-at-e c = omega (arith, (c .before .before .before) .word-at .ensures .1, (c .before .before) .word-at2 .ensures .1, (c .before) .word-at3 .ensures .1, (c) .word-at4 .ensures .1)
-
-mul-at-b : tie.Need-mul-at-b
-mul-at-b c = omega (arith, (c .before .before .before) .word-at .ensures .1, (c .before .before) .word-at2 .ensures .1, (c .before) .word-at3 .ensures .1, (c) .word-at4 .ensures .1)
-
-add-at-b : tie.Need-add-at-b
-add-at-b c = omega (arith, (c .before .before .before) .word-at .ensures .1, (c .before .before) .word-at2 .ensures .1, (c .before) .word-at3 .ensures .1, (c) .word-at4 .ensures .1)
+add-at-e c = omega (arith, (c .before .before) .word-at .ensures .1, (c .before) .word-at2 .ensures .1, (c) .word-at3 .ensures .1)
 
 slice-aggregate-words-into : tie.Need-slice-aggregate-words-into
 slice-aggregate-words-into c = search needs
 
 words-into-requires : tie.Need-words-into-requires
-words-into-requires c κs = (omega (arith, (c .before .before .before .before) .word-at .ensures .0, (c .before .before .before) .word-at2 .ensures .0, (c .before .before) .word-at3 .ensures .0, (c .before) .word-at4 .ensures .0, (c .before .before .before .before .before .before .before .before) .pre .long, (c .before .before .before .before .before .before .before .before) .pre .particles, (c .before .before .before .before .before .before .before .before) .pre .triangles, (c .before .before .before .before .before .before .before .before) .pre .edges, (c .before .before .before .before .before .before .before .before) .pre .boundary), omega (arith, (c .before .before .before .before) .word-at .ensures .0, (c .before .before .before) .word-at2 .ensures .0, (c .before .before) .word-at3 .ensures .0, (c .before) .word-at4 .ensures .0, (c .before .before .before .before .before .before .before .before) .pre .long, (c .before .before .before .before .before .before .before .before) .pre .particles, (c .before .before .before .before .before .before .before .before) .pre .triangles, (c .before .before .before .before .before .before .before .before) .pre .edges, (c .before .before .before .before .before .before .before .before) .pre .boundary))
+words-into-requires c κs = (omega (arith, (c .before .before .before) .word-at .ensures .0, (c .before .before) .word-at2 .ensures .0, (c .before) .word-at3 .ensures .0, (c .before .before .before .before .before .before .before) .pre .long, (c .before .before .before .before .before .before .before) .pre .particles, (c .before .before .before .before .before .before .before) .pre .triangles, (c .before .before .before .before .before .before .before) .pre .edges), omega (arith, (c .before .before .before) .word-at .ensures .0, (c .before .before) .word-at2 .ensures .0, (c .before) .word-at3 .ensures .0, (c .before .before .before .before .before .before .before) .pre .long, (c .before .before .before .before .before .before .before) .pre .particles, (c .before .before .before .before .before .before .before) .pre .triangles, (c .before .before .before .before .before .before .before) .pre .edges))
 
 add-words-into : tie.Need-add-words-into
-add-words-into c = omega (arith, (c .before .before .before .before .before .before) .word-at .ensures .1, (c .before .before .before .before .before) .word-at2 .ensures .1, (c .before .before .before .before) .word-at3 .ensures .1, (c .before .before .before) .word-at4 .ensures .1)
+add-words-into c = omega (arith, (c .before .before .before .before .before) .word-at .ensures .1, (c .before .before .before .before) .word-at2 .ensures .1, (c .before .before .before) .word-at3 .ensures .1)
 
 slice-aggregate-words-into-2 : tie.Need-slice-aggregate-words-into-2
 slice-aggregate-words-into-2 c = search needs
 
 words-into-requires-2 : tie.Need-words-into-requires-2
-words-into-requires-2 c κs = (omega (arith, (c .before .before .before .before .before .before .before) .word-at .ensures .0, (c .before .before .before .before .before .before) .word-at2 .ensures .0, (c .before .before .before .before .before) .word-at3 .ensures .0, (c .before .before .before .before) .word-at4 .ensures .0, (c .before .before .before .before .before .before .before .before .before .before .before) .pre .long, (c .before .before .before .before .before .before .before .before .before .before .before) .pre .particles, (c .before .before .before .before .before .before .before .before .before .before .before) .pre .triangles, (c .before .before .before .before .before .before .before .before .before .before .before) .pre .edges, (c .before .before .before .before .before .before .before .before .before .before .before) .pre .boundary), omega (arith, (c .before .before .before .before .before .before .before) .word-at .ensures .0, (c .before .before .before .before .before .before) .word-at2 .ensures .0, (c .before .before .before .before .before) .word-at3 .ensures .0, (c .before .before .before .before) .word-at4 .ensures .0, (c .before .before .before .before .before .before .before .before .before .before .before) .pre .long, (c .before .before .before .before .before .before .before .before .before .before .before) .pre .particles, (c .before .before .before .before .before .before .before .before .before .before .before) .pre .triangles, (c .before .before .before .before .before .before .before .before .before .before .before) .pre .edges, (c .before .before .before .before .before .before .before .before .before .before .before) .pre .boundary))
+words-into-requires-2 c κs = (omega (arith, (c .before .before .before .before .before .before) .word-at .ensures .0, (c .before .before .before .before .before) .word-at2 .ensures .0, (c .before .before .before .before) .word-at3 .ensures .0, (c .before .before .before .before .before .before .before .before .before .before) .pre .long, (c .before .before .before .before .before .before .before .before .before .before) .pre .particles, (c .before .before .before .before .before .before .before .before .before .before) .pre .triangles, (c .before .before .before .before .before .before .before .before .before .before) .pre .edges), omega (arith, (c .before .before .before .before .before .before) .word-at .ensures .0, (c .before .before .before .before .before) .word-at2 .ensures .0, (c .before .before .before .before) .word-at3 .ensures .0, (c .before .before .before .before .before .before .before .before .before .before) .pre .long, (c .before .before .before .before .before .before .before .before .before .before) .pre .particles, (c .before .before .before .before .before .before .before .before .before .before) .pre .triangles, (c .before .before .before .before .before .before .before .before .before .before) .pre .edges))
 
 mul-words-into : tie.Need-mul-words-into
-mul-words-into c = omega (arith, (c .before .before .before .before .before .before .before .before .before) .word-at .ensures .1, (c .before .before .before .before .before .before .before .before) .word-at2 .ensures .1, (c .before .before .before .before .before .before .before) .word-at3 .ensures .1, (c .before .before .before .before .before .before) .word-at4 .ensures .1)
+mul-words-into c = omega (arith, (c .before .before .before .before .before .before .before .before) .word-at .ensures .1, (c .before .before .before .before .before .before .before) .word-at2 .ensures .1, (c .before .before .before .before .before .before) .word-at3 .ensures .1)
 
 add-words-into-2 : tie.Need-add-words-into-2
-add-words-into-2 c = omega (arith, (c .before .before .before .before .before .before .before .before .before) .word-at .ensures .1, (c .before .before .before .before .before .before .before .before) .word-at2 .ensures .1, (c .before .before .before .before .before .before .before) .word-at3 .ensures .1, (c .before .before .before .before .before .before) .word-at4 .ensures .1)
+add-words-into-2 c = omega (arith, (c .before .before .before .before .before .before .before .before) .word-at .ensures .1, (c .before .before .before .before .before .before .before) .word-at2 .ensures .1, (c .before .before .before .before .before .before) .word-at3 .ensures .1)
 
 slice-aggregate-words-into-3 : tie.Need-slice-aggregate-words-into-3
 slice-aggregate-words-into-3 c = search needs
 
 words-into-requires-3 : tie.Need-words-into-requires-3
-words-into-requires-3 c κs = (omega (arith, (c .before .before .before .before .before .before .before .before .before .before) .word-at .ensures .0, (c .before .before .before .before .before .before .before .before .before) .word-at2 .ensures .0, (c .before .before .before .before .before .before .before .before) .word-at3 .ensures .0, (c .before .before .before .before .before .before .before) .word-at4 .ensures .0, (c .before .before .before .before .before .before .before .before .before .before .before .before .before .before) .pre .long, (c .before .before .before .before .before .before .before .before .before .before .before .before .before .before) .pre .particles, (c .before .before .before .before .before .before .before .before .before .before .before .before .before .before) .pre .triangles, (c .before .before .before .before .before .before .before .before .before .before .before .before .before .before) .pre .edges, (c .before .before .before .before .before .before .before .before .before .before .before .before .before .before) .pre .boundary), omega (arith, (c .before .before .before .before .before .before .before .before .before .before) .word-at .ensures .0, (c .before .before .before .before .before .before .before .before .before) .word-at2 .ensures .0, (c .before .before .before .before .before .before .before .before) .word-at3 .ensures .0, (c .before .before .before .before .before .before .before) .word-at4 .ensures .0, (c .before .before .before .before .before .before .before .before .before .before .before .before .before .before) .pre .long, (c .before .before .before .before .before .before .before .before .before .before .before .before .before .before) .pre .particles, (c .before .before .before .before .before .before .before .before .before .before .before .before .before .before) .pre .triangles, (c .before .before .before .before .before .before .before .before .before .before .before .before .before .before) .pre .edges, (c .before .before .before .before .before .before .before .before .before .before .before .before .before .before) .pre .boundary))
+words-into-requires-3 c κs = (omega (arith, (c .before .before .before .before .before .before .before .before .before) .word-at .ensures .0, (c .before .before .before .before .before .before .before .before) .word-at2 .ensures .0, (c .before .before .before .before .before .before .before) .word-at3 .ensures .0, (c .before .before .before .before .before .before .before .before .before .before .before .before .before) .pre .long, (c .before .before .before .before .before .before .before .before .before .before .before .before .before) .pre .particles, (c .before .before .before .before .before .before .before .before .before .before .before .before .before) .pre .triangles, (c .before .before .before .before .before .before .before .before .before .before .before .before .before) .pre .edges), omega (arith, (c .before .before .before .before .before .before .before .before .before) .word-at .ensures .0, (c .before .before .before .before .before .before .before .before) .word-at2 .ensures .0, (c .before .before .before .before .before .before .before) .word-at3 .ensures .0, (c .before .before .before .before .before .before .before .before .before .before .before .before .before) .pre .long, (c .before .before .before .before .before .before .before .before .before .before .before .before .before) .pre .particles, (c .before .before .before .before .before .before .before .before .before .before .before .before .before) .pre .triangles, (c .before .before .before .before .before .before .before .before .before .before .before .before .before) .pre .edges))
 
 slice-aggregate-words-into-4 : tie.Need-slice-aggregate-words-into-4
 slice-aggregate-words-into-4 c = search needs
 
 words-into-requires-4 : tie.Need-words-into-requires-4
-words-into-requires-4 c κs = (omega (arith, (c .before .before .before .before .before .before .before .before .before .before .before .before .before) .word-at .ensures .0, (c .before .before .before .before .before .before .before .before .before .before .before .before) .word-at2 .ensures .0, (c .before .before .before .before .before .before .before .before .before .before .before) .word-at3 .ensures .0, (c .before .before .before .before .before .before .before .before .before .before) .word-at4 .ensures .0, (c .before .before .before .before .before .before .before .before .before .before .before .before .before .before .before .before .before) .pre .long, (c .before .before .before .before .before .before .before .before .before .before .before .before .before .before .before .before .before) .pre .particles, (c .before .before .before .before .before .before .before .before .before .before .before .before .before .before .before .before .before) .pre .triangles, (c .before .before .before .before .before .before .before .before .before .before .before .before .before .before .before .before .before) .pre .edges, (c .before .before .before .before .before .before .before .before .before .before .before .before .before .before .before .before .before) .pre .boundary), omega (arith, (c .before .before .before .before .before .before .before .before .before .before .before .before .before) .word-at .ensures .0, (c .before .before .before .before .before .before .before .before .before .before .before .before) .word-at2 .ensures .0, (c .before .before .before .before .before .before .before .before .before .before .before) .word-at3 .ensures .0, (c .before .before .before .before .before .before .before .before .before .before) .word-at4 .ensures .0, (c .before .before .before .before .before .before .before .before .before .before .before .before .before .before .before .before .before) .pre .long, (c .before .before .before .before .before .before .before .before .before .before .before .before .before .before .before .before .before) .pre .particles, (c .before .before .before .before .before .before .before .before .before .before .before .before .before .before .before .before .before) .pre .triangles, (c .before .before .before .before .before .before .before .before .before .before .before .before .before .before .before .before .before) .pre .edges, (c .before .before .before .before .before .before .before .before .before .before .before .before .before .before .before .before .before) .pre .boundary))
+words-into-requires-4 c κs = (omega (arith, (c .before .before .before .before .before .before .before .before .before .before .before .before) .word-at .ensures .0, (c .before .before .before .before .before .before .before .before .before .before .before) .word-at2 .ensures .0, (c .before .before .before .before .before .before .before .before .before .before) .word-at3 .ensures .0, (c .before .before .before .before .before .before .before .before .before .before .before .before .before .before .before .before) .pre .long, (c .before .before .before .before .before .before .before .before .before .before .before .before .before .before .before .before) .pre .particles, (c .before .before .before .before .before .before .before .before .before .before .before .before .before .before .before .before) .pre .triangles, (c .before .before .before .before .before .before .before .before .before .before .before .before .before .before .before .before) .pre .edges), omega (arith, (c .before .before .before .before .before .before .before .before .before .before .before .before) .word-at .ensures .0, (c .before .before .before .before .before .before .before .before .before .before .before) .word-at2 .ensures .0, (c .before .before .before .before .before .before .before .before .before .before) .word-at3 .ensures .0, (c .before .before .before .before .before .before .before .before .before .before .before .before .before .before .before .before) .pre .long, (c .before .before .before .before .before .before .before .before .before .before .before .before .before .before .before .before) .pre .particles, (c .before .before .before .before .before .before .before .before .before .before .before .before .before .before .before .before) .pre .triangles, (c .before .before .before .before .before .before .before .before .before .before .before .before .before .before .before .before) .pre .edges))
 
 add-words-into-3 : tie.Need-add-words-into-3
-add-words-into-3 c = omega (arith, (c .before .before .before .before .before .before .before .before .before .before .before .before .before .before .before) .word-at .ensures .1, (c .before .before .before .before .before .before .before .before .before .before .before .before .before .before) .word-at2 .ensures .1, (c .before .before .before .before .before .before .before .before .before .before .before .before .before) .word-at3 .ensures .1, (c .before .before .before .before .before .before .before .before .before .before .before .before) .word-at4 .ensures .1)
+add-words-into-3 c = omega (arith, (c .before .before .before .before .before .before .before .before .before .before .before .before .before .before) .word-at .ensures .1, (c .before .before .before .before .before .before .before .before .before .before .before .before .before) .word-at2 .ensures .1, (c .before .before .before .before .before .before .before .before .before .before .before .before) .word-at3 .ensures .1)
 
 slice-aggregate-words-into-5 : tie.Need-slice-aggregate-words-into-5
 slice-aggregate-words-into-5 c = search needs
 
 words-into-requires-5 : tie.Need-words-into-requires-5
-words-into-requires-5 c κs = (omega (arith, (c .before .before .before .before .before .before .before .before .before .before .before .before .before .before .before .before) .word-at .ensures .0, (c .before .before .before .before .before .before .before .before .before .before .before .before .before .before .before) .word-at2 .ensures .0, (c .before .before .before .before .before .before .before .before .before .before .before .before .before .before) .word-at3 .ensures .0, (c .before .before .before .before .before .before .before .before .before .before .before .before .before) .word-at4 .ensures .0, (c .before .before .before .before .before .before .before .before .before .before .before .before .before .before .before .before .before .before .before .before) .pre .long, (c .before .before .before .before .before .before .before .before .before .before .before .before .before .before .before .before .before .before .before .before) .pre .particles, (c .before .before .before .before .before .before .before .before .before .before .before .before .before .before .before .before .before .before .before .before) .pre .triangles, (c .before .before .before .before .before .before .before .before .before .before .before .before .before .before .before .before .before .before .before .before) .pre .edges, (c .before .before .before .before .before .before .before .before .before .before .before .before .before .before .before .before .before .before .before .before) .pre .boundary), omega (arith, (c .before .before .before .before .before .before .before .before .before .before .before .before .before .before .before .before) .word-at .ensures .0, (c .before .before .before .before .before .before .before .before .before .before .before .before .before .before .before) .word-at2 .ensures .0, (c .before .before .before .before .before .before .before .before .before .before .before .before .before .before) .word-at3 .ensures .0, (c .before .before .before .before .before .before .before .before .before .before .before .before .before) .word-at4 .ensures .0, (c .before .before .before .before .before .before .before .before .before .before .before .before .before .before .before .before .before .before .before .before) .pre .long, (c .before .before .before .before .before .before .before .before .before .before .before .before .before .before .before .before .before .before .before .before) .pre .particles, (c .before .before .before .before .before .before .before .before .before .before .before .before .before .before .before .before .before .before .before .before) .pre .triangles, (c .before .before .before .before .before .before .before .before .before .before .before .before .before .before .before .before .before .before .before .before) .pre .edges, (c .before .before .before .before .before .before .before .before .before .before .before .before .before .before .before .before .before .before .before .before) .pre .boundary))
+words-into-requires-5 c κs = (omega (arith, (c .before .before .before .before .before .before .before .before .before .before .before .before .before .before .before) .word-at .ensures .0, (c .before .before .before .before .before .before .before .before .before .before .before .before .before .before) .word-at2 .ensures .0, (c .before .before .before .before .before .before .before .before .before .before .before .before .before) .word-at3 .ensures .0, (c .before .before .before .before .before .before .before .before .before .before .before .before .before .before .before .before .before .before .before) .pre .long, (c .before .before .before .before .before .before .before .before .before .before .before .before .before .before .before .before .before .before .before) .pre .particles, (c .before .before .before .before .before .before .before .before .before .before .before .before .before .before .before .before .before .before .before) .pre .triangles, (c .before .before .before .before .before .before .before .before .before .before .before .before .before .before .before .before .before .before .before) .pre .edges), omega (arith, (c .before .before .before .before .before .before .before .before .before .before .before .before .before .before .before) .word-at .ensures .0, (c .before .before .before .before .before .before .before .before .before .before .before .before .before .before) .word-at2 .ensures .0, (c .before .before .before .before .before .before .before .before .before .before .before .before .before) .word-at3 .ensures .0, (c .before .before .before .before .before .before .before .before .before .before .before .before .before .before .before .before .before .before .before) .pre .long, (c .before .before .before .before .before .before .before .before .before .before .before .before .before .before .before .before .before .before .before) .pre .particles, (c .before .before .before .before .before .before .before .before .before .before .before .before .before .before .before .before .before .before .before) .pre .triangles, (c .before .before .before .before .before .before .before .before .before .before .before .before .before .before .before .before .before .before .before) .pre .edges))
 
 mul-words-into-2 : tie.Need-mul-words-into-2
-mul-words-into-2 c = omega (arith, (c .before .before .before .before .before .before .before .before .before .before .before .before .before .before .before .before .before .before) .word-at .ensures .1, (c .before .before .before .before .before .before .before .before .before .before .before .before .before .before .before .before .before) .word-at2 .ensures .1, (c .before .before .before .before .before .before .before .before .before .before .before .before .before .before .before .before) .word-at3 .ensures .1, (c .before .before .before .before .before .before .before .before .before .before .before .before .before .before .before) .word-at4 .ensures .1)
+mul-words-into-2 c = omega (arith, (c .before .before .before .before .before .before .before .before .before .before .before .before .before .before .before .before .before) .word-at .ensures .1, (c .before .before .before .before .before .before .before .before .before .before .before .before .before .before .before .before) .word-at2 .ensures .1, (c .before .before .before .before .before .before .before .before .before .before .before .before .before .before .before) .word-at3 .ensures .1)
 
 add-words-into-4 : tie.Need-add-words-into-4
-add-words-into-4 c = omega (arith, (c .before .before .before .before .before .before .before .before .before .before .before .before .before .before .before .before .before .before) .word-at .ensures .1, (c .before .before .before .before .before .before .before .before .before .before .before .before .before .before .before .before .before) .word-at2 .ensures .1, (c .before .before .before .before .before .before .before .before .before .before .before .before .before .before .before .before) .word-at3 .ensures .1, (c .before .before .before .before .before .before .before .before .before .before .before .before .before .before .before) .word-at4 .ensures .1)
+add-words-into-4 c = omega (arith, (c .before .before .before .before .before .before .before .before .before .before .before .before .before .before .before .before .before) .word-at .ensures .1, (c .before .before .before .before .before .before .before .before .before .before .before .before .before .before .before .before) .word-at2 .ensures .1, (c .before .before .before .before .before .before .before .before .before .before .before .before .before .before .before) .word-at3 .ensures .1)
 
 slice-aggregate-words-into-6 : tie.Need-slice-aggregate-words-into-6
 slice-aggregate-words-into-6 c = search needs
 
 words-into-requires-6 : tie.Need-words-into-requires-6
-words-into-requires-6 c κs = (omega (arith, (c .before .before .before .before .before .before .before .before .before .before .before .before .before .before .before .before .before .before .before) .word-at .ensures .0, (c .before .before .before .before .before .before .before .before .before .before .before .before .before .before .before .before .before .before) .word-at2 .ensures .0, (c .before .before .before .before .before .before .before .before .before .before .before .before .before .before .before .before .before) .word-at3 .ensures .0, (c .before .before .before .before .before .before .before .before .before .before .before .before .before .before .before .before) .word-at4 .ensures .0, (c .before .before .before .before .before .before .before .before .before .before .before .before .before .before .before .before .before .before .before .before .before .before .before) .pre .long, (c .before .before .before .before .before .before .before .before .before .before .before .before .before .before .before .before .before .before .before .before .before .before .before) .pre .particles, (c .before .before .before .before .before .before .before .before .before .before .before .before .before .before .before .before .before .before .before .before .before .before .before) .pre .triangles, (c .before .before .before .before .before .before .before .before .before .before .before .before .before .before .before .before .before .before .before .before .before .before .before) .pre .edges, (c .before .before .before .before .before .before .before .before .before .before .before .before .before .before .before .before .before .before .before .before .before .before .before) .pre .boundary), omega (arith, (c .before .before .before .before .before .before .before .before .before .before .before .before .before .before .before .before .before .before .before) .word-at .ensures .0, (c .before .before .before .before .before .before .before .before .before .before .before .before .before .before .before .before .before .before) .word-at2 .ensures .0, (c .before .before .before .before .before .before .before .before .before .before .before .before .before .before .before .before .before) .word-at3 .ensures .0, (c .before .before .before .before .before .before .before .before .before .before .before .before .before .before .before .before) .word-at4 .ensures .0, (c .before .before .before .before .before .before .before .before .before .before .before .before .before .before .before .before .before .before .before .before .before .before .before) .pre .long, (c .before .before .before .before .before .before .before .before .before .before .before .before .before .before .before .before .before .before .before .before .before .before .before) .pre .particles, (c .before .before .before .before .before .before .before .before .before .before .before .before .before .before .before .before .before .before .before .before .before .before .before) .pre .triangles, (c .before .before .before .before .before .before .before .before .before .before .before .before .before .before .before .before .before .before .before .before .before .before .before) .pre .edges, (c .before .before .before .before .before .before .before .before .before .before .before .before .before .before .before .before .before .before .before .before .before .before .before) .pre .boundary))
-
-slice-aggregate-words-into-7 : tie.Need-slice-aggregate-words-into-7
-slice-aggregate-words-into-7 c = search needs
-
-words-into-requires-7 : tie.Need-words-into-requires-7
-words-into-requires-7 c κs = (omega (arith, (c .before .before .before .before .before .before .before .before .before .before .before .before .before .before .before .before .before .before .before .before .before .before) .word-at .ensures .0, (c .before .before .before .before .before .before .before .before .before .before .before .before .before .before .before .before .before .before .before .before .before) .word-at2 .ensures .0, (c .before .before .before .before .before .before .before .before .before .before .before .before .before .before .before .before .before .before .before .before) .word-at3 .ensures .0, (c .before .before .before .before .before .before .before .before .before .before .before .before .before .before .before .before .before .before .before) .word-at4 .ensures .0, (c .before .before .before .before .before .before .before .before .before .before .before .before .before .before .before .before .before .before .before .before .before .before .before .before .before .before) .pre .long, (c .before .before .before .before .before .before .before .before .before .before .before .before .before .before .before .before .before .before .before .before .before .before .before .before .before .before) .pre .particles, (c .before .before .before .before .before .before .before .before .before .before .before .before .before .before .before .before .before .before .before .before .before .before .before .before .before .before) .pre .triangles, (c .before .before .before .before .before .before .before .before .before .before .before .before .before .before .before .before .before .before .before .before .before .before .before .before .before .before) .pre .edges, (c .before .before .before .before .before .before .before .before .before .before .before .before .before .before .before .before .before .before .before .before .before .before .before .before .before .before) .pre .boundary), omega (arith, (c .before .before .before .before .before .before .before .before .before .before .before .before .before .before .before .before .before .before .before .before .before .before) .word-at .ensures .0, (c .before .before .before .before .before .before .before .before .before .before .before .before .before .before .before .before .before .before .before .before .before) .word-at2 .ensures .0, (c .before .before .before .before .before .before .before .before .before .before .before .before .before .before .before .before .before .before .before .before) .word-at3 .ensures .0, (c .before .before .before .before .before .before .before .before .before .before .before .before .before .before .before .before .before .before .before) .word-at4 .ensures .0, (c .before .before .before .before .before .before .before .before .before .before .before .before .before .before .before .before .before .before .before .before .before .before .before .before .before .before) .pre .long, (c .before .before .before .before .before .before .before .before .before .before .before .before .before .before .before .before .before .before .before .before .before .before .before .before .before .before) .pre .particles, (c .before .before .before .before .before .before .before .before .before .before .before .before .before .before .before .before .before .before .before .before .before .before .before .before .before .before) .pre .triangles, (c .before .before .before .before .before .before .before .before .before .before .before .before .before .before .before .before .before .before .before .before .before .before .before .before .before .before) .pre .edges, (c .before .before .before .before .before .before .before .before .before .before .before .before .before .before .before .before .before .before .before .before .before .before .before .before .before .before) .pre .boundary))
-
-add-words-into-5 : tie.Need-add-words-into-5
-add-words-into-5 c = omega (arith, (c .before .before .before .before .before .before .before .before .before .before .before .before .before .before .before .before .before .before .before .before .before .before .before .before) .word-at .ensures .1, (c .before .before .before .before .before .before .before .before .before .before .before .before .before .before .before .before .before .before .before .before .before .before .before) .word-at2 .ensures .1, (c .before .before .before .before .before .before .before .before .before .before .before .before .before .before .before .before .before .before .before .before .before .before) .word-at3 .ensures .1, (c .before .before .before .before .before .before .before .before .before .before .before .before .before .before .before .before .before .before .before .before .before) .word-at4 .ensures .1)
-
-slice-aggregate-words-into-8 : tie.Need-slice-aggregate-words-into-8
-slice-aggregate-words-into-8 c = search needs
-
-words-into-requires-8 : tie.Need-words-into-requires-8
-words-into-requires-8 c κs = (omega (arith, (c .before .before .before .before .before .before .before .before .before .before .before .before .before .before .before .before .before .before .before .before .before .before .before .before .before) .word-at .ensures .0, (c .before .before .before .before .before .before .before .before .before .before .before .before .before .before .before .before .before .before .before .before .before .before .before .before) .word-at2 .ensures .0, (c .before .before .before .before .before .before .before .before .before .before .before .before .before .before .before .before .before .before .before .before .before .before .before) .word-at3 .ensures .0, (c .before .before .before .before .before .before .before .before .before .before .before .before .before .before .before .before .before .before .before .before .before .before) .word-at4 .ensures .0, (c .before .before .before .before .before .before .before .before .before .before .before .before .before .before .before .before .before .before .before .before .before .before .before .before .before .before .before .before .before) .pre .long, (c .before .before .before .before .before .before .before .before .before .before .before .before .before .before .before .before .before .before .before .before .before .before .before .before .before .before .before .before .before) .pre .particles, (c .before .before .before .before .before .before .before .before .before .before .before .before .before .before .before .before .before .before .before .before .before .before .before .before .before .before .before .before .before) .pre .triangles, (c .before .before .before .before .before .before .before .before .before .before .before .before .before .before .before .before .before .before .before .before .before .before .before .before .before .before .before .before .before) .pre .edges, (c .before .before .before .before .before .before .before .before .before .before .before .before .before .before .before .before .before .before .before .before .before .before .before .before .before .before .before .before .before) .pre .boundary), omega (arith, (c .before .before .before .before .before .before .before .before .before .before .before .before .before .before .before .before .before .before .before .before .before .before .before .before .before) .word-at .ensures .0, (c .before .before .before .before .before .before .before .before .before .before .before .before .before .before .before .before .before .before .before .before .before .before .before .before) .word-at2 .ensures .0, (c .before .before .before .before .before .before .before .before .before .before .before .before .before .before .before .before .before .before .before .before .before .before .before) .word-at3 .ensures .0, (c .before .before .before .before .before .before .before .before .before .before .before .before .before .before .before .before .before .before .before .before .before .before) .word-at4 .ensures .0, (c .before .before .before .before .before .before .before .before .before .before .before .before .before .before .before .before .before .before .before .before .before .before .before .before .before .before .before .before .before) .pre .long, (c .before .before .before .before .before .before .before .before .before .before .before .before .before .before .before .before .before .before .before .before .before .before .before .before .before .before .before .before .before) .pre .particles, (c .before .before .before .before .before .before .before .before .before .before .before .before .before .before .before .before .before .before .before .before .before .before .before .before .before .before .before .before .before) .pre .triangles, (c .before .before .before .before .before .before .before .before .before .before .before .before .before .before .before .before .before .before .before .before .before .before .before .before .before .before .before .before .before) .pre .edges, (c .before .before .before .before .before .before .before .before .before .before .before .before .before .before .before .before .before .before .before .before .before .before .before .before .before .before .before .before .before) .pre .boundary))
+words-into-requires-6 c κs = (omega (arith, (c .before .before .before .before .before .before .before .before .before .before .before .before .before .before .before .before .before .before) .word-at .ensures .0, (c .before .before .before .before .before .before .before .before .before .before .before .before .before .before .before .before .before) .word-at2 .ensures .0, (c .before .before .before .before .before .before .before .before .before .before .before .before .before .before .before .before) .word-at3 .ensures .0, (c .before .before .before .before .before .before .before .before .before .before .before .before .before .before .before .before .before .before .before .before .before .before) .pre .long, (c .before .before .before .before .before .before .before .before .before .before .before .before .before .before .before .before .before .before .before .before .before .before) .pre .particles, (c .before .before .before .before .before .before .before .before .before .before .before .before .before .before .before .before .before .before .before .before .before .before) .pre .triangles, (c .before .before .before .before .before .before .before .before .before .before .before .before .before .before .before .before .before .before .before .before .before .before) .pre .edges), omega (arith, (c .before .before .before .before .before .before .before .before .before .before .before .before .before .before .before .before .before .before) .word-at .ensures .0, (c .before .before .before .before .before .before .before .before .before .before .before .before .before .before .before .before .before) .word-at2 .ensures .0, (c .before .before .before .before .before .before .before .before .before .before .before .before .before .before .before .before) .word-at3 .ensures .0, (c .before .before .before .before .before .before .before .before .before .before .before .before .before .before .before .before .before .before .before .before .before .before) .pre .long, (c .before .before .before .before .before .before .before .before .before .before .before .before .before .before .before .before .before .before .before .before .before .before) .pre .particles, (c .before .before .before .before .before .before .before .before .before .before .before .before .before .before .before .before .before .before .before .before .before .before) .pre .triangles, (c .before .before .before .before .before .before .before .before .before .before .before .before .before .before .before .before .before .before .before .before .before .before) .pre .edges))
 
 array-share-prefix-t0 : tie.Need-array-share-prefix-t0
-array-share-prefix-t0 c = omega (arith, (c .before .before .before .before .before .before .before .before .before .before .before .before .before .before .before .before .before .before .before .before .before .before .before .before .before .before .before .before) .word-at .ensures .0, (c .before .before .before .before .before .before .before .before .before .before .before .before .before .before .before .before .before .before .before .before .before .before .before .before .before .before .before) .word-at2 .ensures .0, (c .before .before .before .before .before .before .before .before .before .before .before .before .before .before .before .before .before .before .before .before .before .before .before .before .before .before) .word-at3 .ensures .0, (c .before .before .before .before .before .before .before .before .before .before .before .before .before .before .before .before .before .before .before .before .before .before .before .before .before) .word-at4 .ensures .0, (c .before .before .before .before .before .before .before .before .before .before .before .before .before .before .before .before .before .before .before .before .before .before .before .before .before .before .before .before .before .before .before .before) .pre .long, (c .before .before .before .before .before .before .before .before .before .before .before .before .before .before .before .before .before .before .before .before .before .before .before .before .before .before .before .before .before .before .before .before) .pre .particles, (c .before .before .before .before .before .before .before .before .before .before .before .before .before .before .before .before .before .before .before .before .before .before .before .before .before .before .before .before .before .before .before .before) .pre .triangles, (c .before .before .before .before .before .before .before .before .before .before .before .before .before .before .before .before .before .before .before .before .before .before .before .before .before .before .before .before .before .before .before .before) .pre .edges, (c .before .before .before .before .before .before .before .before .before .before .before .before .before .before .before .before .before .before .before .before .before .before .before .before .before .before .before .before .before .before .before .before) .pre .boundary)
+array-share-prefix-t0 c = omega (arith, (c .before .before .before .before .before .before .before .before .before .before .before .before .before .before .before .before .before .before .before .before .before) .word-at .ensures .0, (c .before .before .before .before .before .before .before .before .before .before .before .before .before .before .before .before .before .before .before .before) .word-at2 .ensures .0, (c .before .before .before .before .before .before .before .before .before .before .before .before .before .before .before .before .before .before .before) .word-at3 .ensures .0, (c .before .before .before .before .before .before .before .before .before .before .before .before .before .before .before .before .before .before .before .before .before .before .before .before .before) .pre .long, (c .before .before .before .before .before .before .before .before .before .before .before .before .before .before .before .before .before .before .before .before .before .before .before .before .before) .pre .particles, (c .before .before .before .before .before .before .before .before .before .before .before .before .before .before .before .before .before .before .before .before .before .before .before .before .before) .pre .triangles, (c .before .before .before .before .before .before .before .before .before .before .before .before .before .before .before .before .before .before .before .before .before .before .before .before .before) .pre .edges)
 
 slice-aggregate-write : tie.Need-slice-aggregate-write
 slice-aggregate-write c = sym (length-take-le _ _ (array-share-prefix-t0 (c .before)))
 
 array-share-prefix-t1 : tie.Need-array-share-prefix-t1
-array-share-prefix-t1 c = omega (arith, (c .before .before .before .before .before .before .before .before .before .before .before .before .before .before .before .before .before .before .before .before .before .before .before .before .before .before .before .before .before) .word-at .ensures .0, (c .before .before .before .before .before .before .before .before .before .before .before .before .before .before .before .before .before .before .before .before .before .before .before .before .before .before .before .before) .word-at2 .ensures .0, (c .before .before .before .before .before .before .before .before .before .before .before .before .before .before .before .before .before .before .before .before .before .before .before .before .before .before .before) .word-at3 .ensures .0, (c .before .before .before .before .before .before .before .before .before .before .before .before .before .before .before .before .before .before .before .before .before .before .before .before .before .before) .word-at4 .ensures .0, (c .before .before .before .before .before .before .before .before .before .before .before .before .before .before .before .before .before .before .before .before .before .before .before .before .before .before .before .before .before .before .before .before .before) .pre .long, (c .before .before .before .before .before .before .before .before .before .before .before .before .before .before .before .before .before .before .before .before .before .before .before .before .before .before .before .before .before .before .before .before .before) .pre .particles, (c .before .before .before .before .before .before .before .before .before .before .before .before .before .before .before .before .before .before .before .before .before .before .before .before .before .before .before .before .before .before .before .before .before) .pre .triangles, (c .before .before .before .before .before .before .before .before .before .before .before .before .before .before .before .before .before .before .before .before .before .before .before .before .before .before .before .before .before .before .before .before .before) .pre .edges, (c .before .before .before .before .before .before .before .before .before .before .before .before .before .before .before .before .before .before .before .before .before .before .before .before .before .before .before .before .before .before .before .before .before) .pre .boundary)
+array-share-prefix-t1 c = omega (arith, (c .before .before .before .before .before .before .before .before .before .before .before .before .before .before .before .before .before .before .before .before .before .before) .word-at .ensures .0, (c .before .before .before .before .before .before .before .before .before .before .before .before .before .before .before .before .before .before .before .before .before) .word-at2 .ensures .0, (c .before .before .before .before .before .before .before .before .before .before .before .before .before .before .before .before .before .before .before .before) .word-at3 .ensures .0, (c .before .before .before .before .before .before .before .before .before .before .before .before .before .before .before .before .before .before .before .before .before .before .before .before .before .before) .pre .long, (c .before .before .before .before .before .before .before .before .before .before .before .before .before .before .before .before .before .before .before .before .before .before .before .before .before .before) .pre .particles, (c .before .before .before .before .before .before .before .before .before .before .before .before .before .before .before .before .before .before .before .before .before .before .before .before .before .before) .pre .triangles, (c .before .before .before .before .before .before .before .before .before .before .before .before .before .before .before .before .before .before .before .before .before .before .before .before .before .before) .pre .edges)
 
 slice-aggregate-write-2 : tie.Need-slice-aggregate-write-2
 slice-aggregate-write-2 c = sym (length-take-le _ _ (array-share-prefix-t1 (c .before)))
 
 array-share-prefix-t2 : tie.Need-array-share-prefix-t2
-array-share-prefix-t2 c = omega (arith, (c .before .before .before .before .before .before .before .before .before .before .before .before .before .before .before .before .before .before .before .before .before .before .before .before .before .before .before .before .before .before) .word-at .ensures .0, (c .before .before .before .before .before .before .before .before .before .before .before .before .before .before .before .before .before .before .before .before .before .before .before .before .before .before .before .before .before) .word-at2 .ensures .0, (c .before .before .before .before .before .before .before .before .before .before .before .before .before .before .before .before .before .before .before .before .before .before .before .before .before .before .before .before) .word-at3 .ensures .0, (c .before .before .before .before .before .before .before .before .before .before .before .before .before .before .before .before .before .before .before .before .before .before .before .before .before .before .before) .word-at4 .ensures .0, (c .before .before .before .before .before .before .before .before .before .before .before .before .before .before .before .before .before .before .before .before .before .before .before .before .before .before .before .before .before .before .before .before .before .before) .pre .long, (c .before .before .before .before .before .before .before .before .before .before .before .before .before .before .before .before .before .before .before .before .before .before .before .before .before .before .before .before .before .before .before .before .before .before) .pre .particles, (c .before .before .before .before .before .before .before .before .before .before .before .before .before .before .before .before .before .before .before .before .before .before .before .before .before .before .before .before .before .before .before .before .before .before) .pre .triangles, (c .before .before .before .before .before .before .before .before .before .before .before .before .before .before .before .before .before .before .before .before .before .before .before .before .before .before .before .before .before .before .before .before .before .before) .pre .edges, (c .before .before .before .before .before .before .before .before .before .before .before .before .before .before .before .before .before .before .before .before .before .before .before .before .before .before .before .before .before .before .before .before .before .before) .pre .boundary)
+array-share-prefix-t2 c = omega (arith, (c .before .before .before .before .before .before .before .before .before .before .before .before .before .before .before .before .before .before .before .before .before .before .before) .word-at .ensures .0, (c .before .before .before .before .before .before .before .before .before .before .before .before .before .before .before .before .before .before .before .before .before .before) .word-at2 .ensures .0, (c .before .before .before .before .before .before .before .before .before .before .before .before .before .before .before .before .before .before .before .before .before) .word-at3 .ensures .0, (c .before .before .before .before .before .before .before .before .before .before .before .before .before .before .before .before .before .before .before .before .before .before .before .before .before .before .before) .pre .long, (c .before .before .before .before .before .before .before .before .before .before .before .before .before .before .before .before .before .before .before .before .before .before .before .before .before .before .before) .pre .particles, (c .before .before .before .before .before .before .before .before .before .before .before .before .before .before .before .before .before .before .before .before .before .before .before .before .before .before .before) .pre .triangles, (c .before .before .before .before .before .before .before .before .before .before .before .before .before .before .before .before .before .before .before .before .before .before .before .before .before .before .before) .pre .edges)
 
 slice-aggregate-write-3 : tie.Need-slice-aggregate-write-3
 slice-aggregate-write-3 c = sym (length-take-le _ _ (array-share-prefix-t2 (c .before)))
 
 array-share-prefix-e0 : tie.Need-array-share-prefix-e0
-array-share-prefix-e0 c = omega (arith, (c .before .before .before .before .before .before .before .before .before .before .before .before .before .before .before .before .before .before .before .before .before .before .before .before .before .before .before .before .before .before .before) .word-at .ensures .0, (c .before .before .before .before .before .before .before .before .before .before .before .before .before .before .before .before .before .before .before .before .before .before .before .before .before .before .before .before .before .before) .word-at2 .ensures .0, (c .before .before .before .before .before .before .before .before .before .before .before .before .before .before .before .before .before .before .before .before .before .before .before .before .before .before .before .before .before) .word-at3 .ensures .0, (c .before .before .before .before .before .before .before .before .before .before .before .before .before .before .before .before .before .before .before .before .before .before .before .before .before .before .before .before) .word-at4 .ensures .0, (c .before .before .before .before .before .before .before .before .before .before .before .before .before .before .before .before .before .before .before .before .before .before .before .before .before .before .before .before .before .before .before .before .before .before .before) .pre .long, (c .before .before .before .before .before .before .before .before .before .before .before .before .before .before .before .before .before .before .before .before .before .before .before .before .before .before .before .before .before .before .before .before .before .before .before) .pre .particles, (c .before .before .before .before .before .before .before .before .before .before .before .before .before .before .before .before .before .before .before .before .before .before .before .before .before .before .before .before .before .before .before .before .before .before .before) .pre .triangles, (c .before .before .before .before .before .before .before .before .before .before .before .before .before .before .before .before .before .before .before .before .before .before .before .before .before .before .before .before .before .before .before .before .before .before .before) .pre .edges, (c .before .before .before .before .before .before .before .before .before .before .before .before .before .before .before .before .before .before .before .before .before .before .before .before .before .before .before .before .before .before .before .before .before .before .before) .pre .boundary)
+array-share-prefix-e0 c = omega (arith, (c .before .before .before .before .before .before .before .before .before .before .before .before .before .before .before .before .before .before .before .before .before .before .before .before) .word-at .ensures .0, (c .before .before .before .before .before .before .before .before .before .before .before .before .before .before .before .before .before .before .before .before .before .before .before) .word-at2 .ensures .0, (c .before .before .before .before .before .before .before .before .before .before .before .before .before .before .before .before .before .before .before .before .before .before) .word-at3 .ensures .0, (c .before .before .before .before .before .before .before .before .before .before .before .before .before .before .before .before .before .before .before .before .before .before .before .before .before .before .before .before) .pre .long, (c .before .before .before .before .before .before .before .before .before .before .before .before .before .before .before .before .before .before .before .before .before .before .before .before .before .before .before .before) .pre .particles, (c .before .before .before .before .before .before .before .before .before .before .before .before .before .before .before .before .before .before .before .before .before .before .before .before .before .before .before .before) .pre .triangles, (c .before .before .before .before .before .before .before .before .before .before .before .before .before .before .before .before .before .before .before .before .before .before .before .before .before .before .before .before) .pre .edges)
 
 slice-aggregate-write-4 : tie.Need-slice-aggregate-write-4
 slice-aggregate-write-4 c = sym (length-take-le _ _ (array-share-prefix-e0 (c .before)))
 
 array-share-prefix-e1 : tie.Need-array-share-prefix-e1
-array-share-prefix-e1 c = omega (arith, (c .before .before .before .before .before .before .before .before .before .before .before .before .before .before .before .before .before .before .before .before .before .before .before .before .before .before .before .before .before .before .before .before) .word-at .ensures .0, (c .before .before .before .before .before .before .before .before .before .before .before .before .before .before .before .before .before .before .before .before .before .before .before .before .before .before .before .before .before .before .before) .word-at2 .ensures .0, (c .before .before .before .before .before .before .before .before .before .before .before .before .before .before .before .before .before .before .before .before .before .before .before .before .before .before .before .before .before .before) .word-at3 .ensures .0, (c .before .before .before .before .before .before .before .before .before .before .before .before .before .before .before .before .before .before .before .before .before .before .before .before .before .before .before .before .before) .word-at4 .ensures .0, (c .before .before .before .before .before .before .before .before .before .before .before .before .before .before .before .before .before .before .before .before .before .before .before .before .before .before .before .before .before .before .before .before .before .before .before .before) .pre .long, (c .before .before .before .before .before .before .before .before .before .before .before .before .before .before .before .before .before .before .before .before .before .before .before .before .before .before .before .before .before .before .before .before .before .before .before .before) .pre .particles, (c .before .before .before .before .before .before .before .before .before .before .before .before .before .before .before .before .before .before .before .before .before .before .before .before .before .before .before .before .before .before .before .before .before .before .before .before) .pre .triangles, (c .before .before .before .before .before .before .before .before .before .before .before .before .before .before .before .before .before .before .before .before .before .before .before .before .before .before .before .before .before .before .before .before .before .before .before .before) .pre .edges, (c .before .before .before .before .before .before .before .before .before .before .before .before .before .before .before .before .before .before .before .before .before .before .before .before .before .before .before .before .before .before .before .before .before .before .before .before) .pre .boundary)
+array-share-prefix-e1 c = omega (arith, (c .before .before .before .before .before .before .before .before .before .before .before .before .before .before .before .before .before .before .before .before .before .before .before .before .before) .word-at .ensures .0, (c .before .before .before .before .before .before .before .before .before .before .before .before .before .before .before .before .before .before .before .before .before .before .before .before) .word-at2 .ensures .0, (c .before .before .before .before .before .before .before .before .before .before .before .before .before .before .before .before .before .before .before .before .before .before .before) .word-at3 .ensures .0, (c .before .before .before .before .before .before .before .before .before .before .before .before .before .before .before .before .before .before .before .before .before .before .before .before .before .before .before .before .before) .pre .long, (c .before .before .before .before .before .before .before .before .before .before .before .before .before .before .before .before .before .before .before .before .before .before .before .before .before .before .before .before .before) .pre .particles, (c .before .before .before .before .before .before .before .before .before .before .before .before .before .before .before .before .before .before .before .before .before .before .before .before .before .before .before .before .before) .pre .triangles, (c .before .before .before .before .before .before .before .before .before .before .before .before .before .before .before .before .before .before .before .before .before .before .before .before .before .before .before .before .before) .pre .edges)
 
 slice-aggregate-write-5 : tie.Need-slice-aggregate-write-5
 slice-aggregate-write-5 c = sym (length-take-le _ _ (array-share-prefix-e1 (c .before)))
 
 array-share-prefix-structural : tie.Need-array-share-prefix-structural
-array-share-prefix-structural c = omega (arith, (c .before .before .before .before .before .before .before .before .before .before .before .before .before .before .before .before .before .before .before .before .before .before .before .before .before .before .before .before .before .before .before .before .before) .word-at .ensures .0, (c .before .before .before .before .before .before .before .before .before .before .before .before .before .before .before .before .before .before .before .before .before .before .before .before .before .before .before .before .before .before .before .before) .word-at2 .ensures .0, (c .before .before .before .before .before .before .before .before .before .before .before .before .before .before .before .before .before .before .before .before .before .before .before .before .before .before .before .before .before .before .before) .word-at3 .ensures .0, (c .before .before .before .before .before .before .before .before .before .before .before .before .before .before .before .before .before .before .before .before .before .before .before .before .before .before .before .before .before .before) .word-at4 .ensures .0, (c .before .before .before .before .before .before .before .before .before .before .before .before .before .before .before .before .before .before .before .before .before .before .before .before .before .before .before .before .before .before .before .before .before .before .before .before .before) .pre .long, (c .before .before .before .before .before .before .before .before .before .before .before .before .before .before .before .before .before .before .before .before .before .before .before .before .before .before .before .before .before .before .before .before .before .before .before .before .before) .pre .particles, (c .before .before .before .before .before .before .before .before .before .before .before .before .before .before .before .before .before .before .before .before .before .before .before .before .before .before .before .before .before .before .before .before .before .before .before .before .before) .pre .triangles, (c .before .before .before .before .before .before .before .before .before .before .before .before .before .before .before .before .before .before .before .before .before .before .before .before .before .before .before .before .before .before .before .before .before .before .before .before .before) .pre .edges, (c .before .before .before .before .before .before .before .before .before .before .before .before .before .before .before .before .before .before .before .before .before .before .before .before .before .before .before .before .before .before .before .before .before .before .before .before .before) .pre .boundary)
+array-share-prefix-structural c = omega (arith, (c .before .before .before .before .before .before .before .before .before .before .before .before .before .before .before .before .before .before .before .before .before .before .before .before .before .before) .word-at .ensures .0, (c .before .before .before .before .before .before .before .before .before .before .before .before .before .before .before .before .before .before .before .before .before .before .before .before .before) .word-at2 .ensures .0, (c .before .before .before .before .before .before .before .before .before .before .before .before .before .before .before .before .before .before .before .before .before .before .before .before) .word-at3 .ensures .0, (c .before .before .before .before .before .before .before .before .before .before .before .before .before .before .before .before .before .before .before .before .before .before .before .before .before .before .before .before .before .before) .pre .long, (c .before .before .before .before .before .before .before .before .before .before .before .before .before .before .before .before .before .before .before .before .before .before .before .before .before .before .before .before .before .before) .pre .particles, (c .before .before .before .before .before .before .before .before .before .before .before .before .before .before .before .before .before .before .before .before .before .before .before .before .before .before .before .before .before .before) .pre .triangles, (c .before .before .before .before .before .before .before .before .before .before .before .before .before .before .before .before .before .before .before .before .before .before .before .before .before .before .before .before .before .before) .pre .edges)
 
 slice-aggregate-write-6 : tie.Need-slice-aggregate-write-6
 slice-aggregate-write-6 c = sym (length-take-le _ _ (array-share-prefix-structural (c .before)))
-
-array-share-prefix-b0 : tie.Need-array-share-prefix-b0
-array-share-prefix-b0 c = omega (arith, (c .before .before .before .before .before .before .before .before .before .before .before .before .before .before .before .before .before .before .before .before .before .before .before .before .before .before .before .before .before .before .before .before .before .before) .word-at .ensures .0, (c .before .before .before .before .before .before .before .before .before .before .before .before .before .before .before .before .before .before .before .before .before .before .before .before .before .before .before .before .before .before .before .before .before) .word-at2 .ensures .0, (c .before .before .before .before .before .before .before .before .before .before .before .before .before .before .before .before .before .before .before .before .before .before .before .before .before .before .before .before .before .before .before .before) .word-at3 .ensures .0, (c .before .before .before .before .before .before .before .before .before .before .before .before .before .before .before .before .before .before .before .before .before .before .before .before .before .before .before .before .before .before .before) .word-at4 .ensures .0, (c .before .before .before .before .before .before .before .before .before .before .before .before .before .before .before .before .before .before .before .before .before .before .before .before .before .before .before .before .before .before .before .before .before .before .before .before .before .before) .pre .long, (c .before .before .before .before .before .before .before .before .before .before .before .before .before .before .before .before .before .before .before .before .before .before .before .before .before .before .before .before .before .before .before .before .before .before .before .before .before .before) .pre .particles, (c .before .before .before .before .before .before .before .before .before .before .before .before .before .before .before .before .before .before .before .before .before .before .before .before .before .before .before .before .before .before .before .before .before .before .before .before .before .before) .pre .triangles, (c .before .before .before .before .before .before .before .before .before .before .before .before .before .before .before .before .before .before .before .before .before .before .before .before .before .before .before .before .before .before .before .before .before .before .before .before .before .before) .pre .edges, (c .before .before .before .before .before .before .before .before .before .before .before .before .before .before .before .before .before .before .before .before .before .before .before .before .before .before .before .before .before .before .before .before .before .before .before .before .before .before) .pre .boundary)
-
-slice-aggregate-write-7 : tie.Need-slice-aggregate-write-7
-slice-aggregate-write-7 c = sym (length-take-le _ _ (array-share-prefix-b0 (c .before)))
-
-array-share-prefix-b1 : tie.Need-array-share-prefix-b1
-array-share-prefix-b1 c = omega (arith, (c .before .before .before .before .before .before .before .before .before .before .before .before .before .before .before .before .before .before .before .before .before .before .before .before .before .before .before .before .before .before .before .before .before .before .before) .word-at .ensures .0, (c .before .before .before .before .before .before .before .before .before .before .before .before .before .before .before .before .before .before .before .before .before .before .before .before .before .before .before .before .before .before .before .before .before .before) .word-at2 .ensures .0, (c .before .before .before .before .before .before .before .before .before .before .before .before .before .before .before .before .before .before .before .before .before .before .before .before .before .before .before .before .before .before .before .before .before) .word-at3 .ensures .0, (c .before .before .before .before .before .before .before .before .before .before .before .before .before .before .before .before .before .before .before .before .before .before .before .before .before .before .before .before .before .before .before .before) .word-at4 .ensures .0, (c .before .before .before .before .before .before .before .before .before .before .before .before .before .before .before .before .before .before .before .before .before .before .before .before .before .before .before .before .before .before .before .before .before .before .before .before .before .before .before) .pre .long, (c .before .before .before .before .before .before .before .before .before .before .before .before .before .before .before .before .before .before .before .before .before .before .before .before .before .before .before .before .before .before .before .before .before .before .before .before .before .before .before) .pre .particles, (c .before .before .before .before .before .before .before .before .before .before .before .before .before .before .before .before .before .before .before .before .before .before .before .before .before .before .before .before .before .before .before .before .before .before .before .before .before .before .before) .pre .triangles, (c .before .before .before .before .before .before .before .before .before .before .before .before .before .before .before .before .before .before .before .before .before .before .before .before .before .before .before .before .before .before .before .before .before .before .before .before .before .before .before) .pre .edges, (c .before .before .before .before .before .before .before .before .before .before .before .before .before .before .before .before .before .before .before .before .before .before .before .before .before .before .before .before .before .before .before .before .before .before .before .before .before .before .before) .pre .boundary)
-
-slice-aggregate-write-8 : tie.Need-slice-aggregate-write-8
-slice-aggregate-write-8 c = sym (length-take-le _ _ (array-share-prefix-b1 (c .before)))
 
 write-requires : tie.Need-write-requires
 write-requires c κs = search needs
@@ -161,7 +125,7 @@ same-length : tie.Need-same-length
 same-length c = (c .before .before) .write .kept .0
 
 returns : tie.Need-returns
-returns c = let A = (c .before .before .before .before .before .before .before .before .before .before .before .before .before .before .before .before .before .before .before .before .before .before .before .before .before .before .before .before .before .before .before .before .before .before .before .before .before .before .before .before .before .before .before) .args in elements-written (A .fields .now) _ _ _ _ (A .x .now) (A .y .now) (A .pinned .now) (A .blade .now) _ _ _ _ _ _ _ _ _ _ _ ((c .before .before .before .before .before .before .before .before .before .before .before .before .before .before .before .before .before .before .before .before .before .before .before .before .before .before .before .before .before .before .before .before .before .before .before .before) .word-at4 .ensures .0) ((c .before .before .before .before .before .before .before .before .before .before .before .before .before .before .before .before .before .before .before .before .before .before .before .before .before .before .before .before .before .before .before .before .before .before .before .before .before .before .before) .word-at .ensures .0) ((c .before .before .before .before .before .before .before .before .before .before .before .before .before .before .before .before .before .before .before .before .before .before .before .before .before .before .before .before .before .before .before .before .before .before .before .before .before .before) .word-at2 .ensures .0) ((c .before .before .before .before .before .before .before .before .before .before .before .before .before .before .before .before .before .before .before .before .before .before .before .before .before .before .before .before .before .before .before .before .before .before .before .before .before) .word-at3 .ensures .0) (record { t0 = (c .before .before .before .before .before .before .before .before .before .before .before .before .before .before .before .before .before .before .before .before .before .before .before .before .before .before .before .before .before .before .before .before .before .before) .words-into .ensures; t1 = (c .before .before .before .before .before .before .before .before .before .before .before .before .before .before .before .before .before .before .before .before .before .before .before .before .before .before .before .before .before .before .before) .words-into2 .ensures; t2 = (c .before .before .before .before .before .before .before .before .before .before .before .before .before .before .before .before .before .before .before .before .before .before .before .before .before .before .before .before) .words-into3 .ensures; e0 = (c .before .before .before .before .before .before .before .before .before .before .before .before .before .before .before .before .before .before .before .before .before .before .before .before .before) .words-into4 .ensures; e1 = (c .before .before .before .before .before .before .before .before .before .before .before .before .before .before .before .before .before .before .before .before .before .before) .words-into5 .ensures; structural = (c .before .before .before .before .before .before .before .before .before .before .before .before .before .before .before .before .before .before .before) .words-into6 .ensures; b0 = (c .before .before .before .before .before .before .before .before .before .before .before .before .before .before .before .before) .words-into7 .ensures; b1 = (c .before .before .before .before .before .before .before .before .before .before .before .before .before) .words-into8 .ensures }) ((c .before .before) .write .ensures)
+returns c = let A = (c .before .before .before .before .before .before .before .before .before .before .before .before .before .before .before .before .before .before .before .before .before .before .before .before .before .before .before .before .before .before .before .before .before .before) .args in elements-written (A .fields .now) _ _ _ (A .x .now) (A .y .now) (A .pinned .now) (A .blade .now) _ _ _ _ _ _ _ _ _ ((c .before .before .before .before .before .before .before .before .before .before .before .before .before .before .before .before .before .before .before .before .before .before .before .before .before .before .before .before) .word-at3 .ensures .0) ((c .before .before .before .before .before .before .before .before .before .before .before .before .before .before .before .before .before .before .before .before .before .before .before .before .before .before .before .before .before .before) .word-at .ensures .0) ((c .before .before .before .before .before .before .before .before .before .before .before .before .before .before .before .before .before .before .before .before .before .before .before .before .before .before .before .before .before) .word-at2 .ensures .0) (record { t0 = (c .before .before .before .before .before .before .before .before .before .before .before .before .before .before .before .before .before .before .before .before .before .before .before .before .before .before) .words-into .ensures; t1 = (c .before .before .before .before .before .before .before .before .before .before .before .before .before .before .before .before .before .before .before .before .before .before .before) .words-into2 .ensures; t2 = (c .before .before .before .before .before .before .before .before .before .before .before .before .before .before .before .before .before .before .before .before) .words-into3 .ensures; e0 = (c .before .before .before .before .before .before .before .before .before .before .before .before .before .before .before .before .before) .words-into4 .ensures; e1 = (c .before .before .before .before .before .before .before .before .before .before .before .before .before .before) .words-into5 .ensures; structural = (c .before .before .before .before .before .before .before .before .before .before .before) .words-into6 .ensures }) ((c .before .before) .write .ensures)
 
 pub write-elements-spec : {M : Type 1} → statement M
 write-elements-spec =
@@ -170,13 +134,10 @@ write-elements-spec =
     word-at-requires
     word-at-requires-2
     word-at-requires-3
-    word-at-requires-4
     mul-at-t
     add-at-t
     mul-at-e
     add-at-e
-    mul-at-b
-    add-at-b
     slice-aggregate-words-into
     words-into-requires
     add-words-into
@@ -195,11 +156,6 @@ write-elements-spec =
     add-words-into-4
     slice-aggregate-words-into-6
     words-into-requires-6
-    slice-aggregate-words-into-7
-    words-into-requires-7
-    add-words-into-5
-    slice-aggregate-words-into-8
-    words-into-requires-8
     array-share-prefix-t0
     slice-aggregate-write
     array-share-prefix-t1
@@ -212,10 +168,6 @@ write-elements-spec =
     slice-aggregate-write-5
     array-share-prefix-structural
     slice-aggregate-write-6
-    array-share-prefix-b0
-    slice-aggregate-write-7
-    array-share-prefix-b1
-    slice-aggregate-write-8
     write-requires
     same-length
     returns)
