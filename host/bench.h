@@ -26,7 +26,7 @@ extern "C" {
 /* The refusal numbers. */
 enum bench_refusal {
     BENCH_ACCEPTED = 0,
-    BENCH_BAD_COUNT = 1,         /* a count is above its limit, or the image's length is not the one that its counts ask for */
+    BENCH_BAD_COUNT = 1,         /* a count, or a sheet's outline, is above its limit, or the image's length is not the one that its counts ask for */
     BENCH_BAD_NUMBER = 2,        /* a number of mesh, blade or point is not finite or out of range, or a flag is not 0 or 1 */
     BENCH_BAD_INDEX = 3,         /* an index or root names no particle, or an element, edge or boundary entry names one twice */
     BENCH_BAD_ARGUMENT = 4,      /* a bad argument beside the mesh, or too few bytes for the answer */
@@ -54,15 +54,13 @@ enum bench_log_kind {
 /* The result bytes that suffice for a call that gives a mesh, lent so many places: two words and an image. */
 #define BENCH_RESULT_BYTES(p, t, e, b) ((size_t)8 + BENCH_IMAGE_BYTES(p, t, e, b))
 
-/* The layout of images, logs and results that this header speaks; bench_layout answers the archive's. */
-#define BENCH_LAYOUT 1u
-/* The result bytes of bench_sheet for a sheet of these counts: five words and an image. */
+/* The layout of images, logs, fields and results that this header speaks; bench_layout answers the archive's. 2: the fields of a sheet have no boundary. */
+#define BENCH_LAYOUT 2u
+/* The result bytes of bench_sheet for a sheet of these counts, b those of the outline that it is read with: five words and an image. */
 #define BENCH_SHEET_RESULT_BYTES(p, t, e, b) ((size_t)20 + BENCH_IMAGE_BYTES(p, t, e, b))
-/* The bytes of the fields that bench_sheet_write takes, and of the sheet that it gives. */
-#define BENCH_FIELD_BYTES(p, t, e, b) \
-    ((size_t)4 * ((size_t)8 + (size_t)3 * (size_t)(p) + (size_t)3 * (size_t)(t) + (size_t)3 * (size_t)(e) + (size_t)2 * (size_t)(b)))
-#define BENCH_SHEET_BYTES(p, t, e, b) \
-    (((size_t)97 + (size_t)23 * (size_t)(p) + (size_t)30 * (size_t)(t) + (size_t)21 * (size_t)(e) + (size_t)20 * (size_t)(b)) / (size_t)8)
+/* The bytes of the fields that bench_sheet_write takes, and of the sheet that it gives, in the second edition. */
+#define BENCH_FIELD_BYTES(p, t, e) ((size_t)4 * ((size_t)7 + (size_t)3 * (size_t)(p) + (size_t)3 * (size_t)(t) + (size_t)3 * (size_t)(e)))
+#define BENCH_SHEET_BYTES(p, t, e) (((size_t)96 + (size_t)23 * (size_t)(p) + (size_t)30 * (size_t)(t) + (size_t)21 * (size_t)(e)) / (size_t)8)
 /* The bytes of a reader that is fed a sheet in parts. */
 #define BENCH_READER_BYTES 17301u
 /* So many bytes hold every listing, and every fan. */
@@ -106,13 +104,14 @@ uint32_t bench_cut(const uint8_t *image, size_t image_len, const uint8_t *blade,
 /* Opens a crack across each torn edge, a word each, in the list's order; no group may fall below `minimum` elements. Answers as bench_split. */
 uint32_t bench_crack(const uint8_t *image, size_t image_len, const uint8_t *torn, size_t torn_len, uint32_t minimum, const uint8_t *rooms, size_t rooms_len, uint8_t *out, size_t out_len, uint8_t *log, size_t log_len);
 
-/* The number of the layout of images, logs and results that the archive speaks; compare it with BENCH_LAYOUT. It never refuses. */
+/* The number of the layout of images, logs, fields and results that the archive speaks; compare it with BENCH_LAYOUT. It never refuses. */
 uint32_t bench_layout(void);
 
 /* The fan of particle v: a word, how many elements it has, then their numbers, rising: triangles, or in a mesh without triangles straps by their edge numbers. */
 uint32_t bench_fan(const uint8_t *image, size_t image_len, uint32_t v, uint8_t *out, size_t out_len);
 
-/* A sheet read: a word 0, the blade's four words (f32 bits of x0 y0 x1 y1), then the mesh image. */
+/* A sheet of either edition read: a word, 1 if its typed boundary was not the outline of the mesh and was replaced by it, else 0; the blade's four words
+ * (f32 bits of x0 y0 x1 y1); then the mesh image. An outline of more than 2,048 entries gets 1, behind 3. */
 uint32_t bench_sheet(const uint8_t *sheet, size_t sheet_len, uint8_t *out, size_t out_len);
 
 /* A sheet that comes in parts. `reader` is BENCH_READER_BYTES bytes that the host keeps between the calls; bytes of another length get 4, and stay.
@@ -125,7 +124,8 @@ uint32_t bench_sheet_feed(uint8_t *reader, size_t reader_len, const uint8_t *par
 /* Closes a reader, and answers as bench_sheet does for all that it was fed, in one piece. A closed one gets 10, however few the bytes of `out` are, and stays. */
 uint32_t bench_sheet_close(uint8_t *reader, size_t reader_len, uint8_t *out, size_t out_len);
 
-/* A sheet written. `fields`: the words P T E B, then the columns x y pinned | a b c | a b structural | a b | x0 y0 x1 y1; coordinates in two's complement, -1024 to 1023. */
+/* A sheet written, in the second edition. `fields`: the words P T E, then the columns x y pinned | a b c | a b structural | x0 y0 x1 y1; coordinates in two's
+ * complement, -1024 to 1023. No boundary: reading finds the outline of the mesh; one of more than 2,048 entries gets 1, behind 3. */
 uint32_t bench_sheet_write(const uint8_t *fields, size_t fields_len, uint8_t *out, size_t out_len);
 
 /* The listing that the program cutlist prints for the bytes of a sheet, or its line "refused N"; 0 behind it. It refuses only too few bytes, with 4. */

@@ -22,10 +22,10 @@ pub(crate) fn answer(n: usize, call: impl FnOnce(&mut [u8]) -> u32) -> Result<Ve
     }
 }
 
-/// The layout of images, logs and results that this crate was written for.
-const LAYOUT: u32 = 1;
+/// The layout of images, logs, fields and results that this crate was written for.
+const LAYOUT: u32 = 2;
 
-/// Whether the archive speaks the layout of images, logs and results that this crate does.
+/// Whether the archive speaks the layout of images, logs, fields and results that this crate does.
 ///
 /// ```
 /// assert!(cutting_bench::layout_fits());

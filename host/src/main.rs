@@ -7,7 +7,8 @@ use std::process::ExitCode;
 
 const USAGE: &str = "\
 host/run sheet text FILE             a sheet as lines that one can read
-host/run sheet write TEXT > FILE     the sheet of such lines
+host/run sheet write TEXT > FILE     the sheet of such lines; its boundary lines are left out, as the bench finds the outline
+host/run sheet write --first TEXT    the same in the first edition, with its boundary lines (for tests)
 host/run sheet draw FILE > x.svg     a picture: pieces coloured, pins black, the blade red
 host/run sheet cut FILE              the cut told in words: what happened, the pieces and their masses
 host/run sheet cut FILE --draw       before and after, beside each other, as a picture (> x.svg)
@@ -33,6 +34,9 @@ fn open(file: &str) -> Result<Sheet, Box<dyn Error>> {
 fn tell_cut(sheet: &Sheet) -> Result<String, Refusal> {
     let torn = sheet.mesh()?.cut(sheet.blade.map(|x| x as f32), FRACTION)?;
     let mut out: Vec<String> = torn.events.iter().map(tell).collect();
+    if sheet.replaced {
+        out.insert(0, "the typed outline is not that of the mesh, and was replaced".to_string());
+    }
     if torn.events.is_empty() {
         out.push("nothing was cut".to_string());
     }
@@ -72,17 +76,22 @@ fn sheet(words: &[&str]) -> Option<Outcome> {
         let (mesh, blade) = (s.mesh()?, s.blade.map(|x| x as f32));
         Ok(draw_cut(&mesh, blade, &mesh.cut(blade, FRACTION)?)?.into_bytes())
     };
-    let write = |file: &str| -> Outcome {
+    let write = |file: &str, first: bool| -> Outcome {
         let text = fs::read_to_string(file).map_err(|why| format!("{file}: {why}"))?;
         let sheet: Sheet = text.parse()?;
-        sheet.write().map_err(|why| match sheet.misnamed() {
+        let bytes = if first { sheet.write_first() } else { sheet.write() };
+        if !first && !sheet.boundary.is_empty() && sheet.mesh().is_ok_and(|mesh| mesh.boundary != sheet.boundary) {
+            eprintln!("{file}: its boundary lines are not the outline of the mesh; the sheet is read with the outline");
+        }
+        bytes.map_err(|why| match sheet.misnamed() {
             Some(what) if why == Refusal::BadIndex => format!("refused {}: {what}", why.number()).into(),
             _ => why.into(),
         })
     };
     Some(match words {
         ["text", file] => open(file).map(|s| s.to_string().into_bytes()),
-        ["write", file] => write(file),
+        ["write", "--first", file] | ["write", file, "--first"] => write(file, true),
+        ["write", file] => write(file, false),
         ["draw", file] => draw(file),
         ["cut", file] => open(file).and_then(|s| Ok(tell_cut(&s)?.into_bytes())),
         ["cut", file, "--draw"] | ["cut", "--draw", file] => draw_both(file),

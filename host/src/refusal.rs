@@ -90,7 +90,7 @@ impl Refusal {
     pub fn advice(self) -> &'static str {
         match self {
             Refusal::BadCount => {
-                "A mesh has at most 1,024 particles, 1,024 triangles, 2,048 edges and 2,048 boundary entries; the program cutlist takes 128, 128, 256 and 256."
+                "A mesh has at most 1,024 particles, 1,024 triangles, 2,048 edges and 2,048 boundary entries, those of a sheet's outline too; the program cutlist takes 128, 128, 256 and 256."
             }
             Refusal::BadNumber => {
                 "Coordinates, masses, lengths and stresses lie within 1,048,576 of 0, rest volumes within 4,194,304, rest lengths are not below 0; no number is infinite or missing. On a sheet coordinates are whole numbers from -1,024 to 1,023."

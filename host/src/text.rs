@@ -1,7 +1,7 @@
 //! A sheet as lines that one can read and write by hand.
 //!
 //! A line is `particle x y [pinned]`, `triangle a b c`, `edge a b [structural]`, `boundary a b` or `blade x0 y0 x1 y1`; `#` starts a comment. Lines of one kind keep
-//! their order, and there is one blade. Particles are numbered from 0 as they stand.
+//! their order, and there is one blade. Particles are numbered from 0 as they stand. A boundary need not be typed: the bench finds the outline of a mesh.
 use crate::sheet::{Sheet, SheetEdge, SheetParticle};
 use std::error::Error;
 use std::fmt;
@@ -27,6 +27,12 @@ impl Error for TextError {}
 
 impl fmt::Display for Sheet {
     fn fmt(&self, f: &mut fmt::Formatter<'_>) -> fmt::Result {
+        if self.replaced {
+            writeln!(
+                f,
+                "# outline replaced: the boundary that was typed is not the outline of the mesh, which stands here"
+            )?;
+        }
         for p in &self.particles {
             writeln!(f, "particle {} {}{}", p.x, p.y, if p.pinned { " pinned" } else { "" })?;
         }

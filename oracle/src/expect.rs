@@ -4,7 +4,7 @@ use crate::api;
 use crate::entries::{Entry, Got, Raw};
 use crate::image::{bytes_of, read, words, words_of};
 use crate::second;
-use crate::sheet::{self, MESH, Sheet};
+use crate::sheet::{self, Edition, MESH, Sheet};
 
 #[derive(Clone, Debug, PartialEq)]
 pub enum Expected {
@@ -133,50 +133,48 @@ fn fitting_bytes(bytes: &[u8], out: usize, no: u32) -> Expected {
     }
 }
 fn sheet_read(bytes: &[u8], out: usize) -> Expected {
-    let s = match sheet::read(bytes, &MESH) {
+    let (s, replaced) = match sheet::read(bytes, &MESH) {
         Ok(s) => s,
         Err(no) => return Refused(no),
     };
     let (m, b) = sheet::mesh(&s);
-    match api::check_mesh(&m) {
-        0 => fitting([vec![0], [b.x0, b.y0, b.x1, b.y1].map(f32::to_bits).to_vec(), words(&m)].concat(), out),
-        no => Refused(no),
-    }
+    let blade = [b.x0, b.y0, b.x1, b.y1].map(f32::to_bits).to_vec();
+    fitting([vec![replaced as u32], blade, words(&m)].concat(), out)
 }
-/// The sheet of some fields, or 1 and 2 of a writer.
+/// The sheet of some fields, without a boundary, or 1 and 2 of a writer.
 pub fn sheet_of(fields: &[u8]) -> Result<Sheet, u32> {
     let w = words_of(fields);
-    let counts: Vec<u64> = w.iter().take(4).map(|&n| n as u64).collect();
-    let [np, nt, ne, nb] = counts[..] else { return Err(1) };
-    let long = 4 * (8 + 3 * np + 3 * nt + 3 * ne + 2 * nb);
-    if fields.len() as u64 != long || MESH.above([np, nt, ne, nb].map(|n| n as usize)).next().is_some() {
+    let counts: Vec<u64> = w.iter().take(3).map(|&n| n as u64).collect();
+    let [np, nt, ne] = counts[..] else { return Err(1) };
+    let long = 4 * (7 + 3 * np + 3 * nt + 3 * ne);
+    if fields.len() as u64 != long || MESH.above([np, nt, ne, 0].map(|n| n as usize)).next().is_some() {
         return Err(1);
     }
-    let mut rest = w[4..].iter().copied();
+    let mut rest = w[3..].iter().copied();
     let mut column = |n: u64| -> Vec<u32> { rest.by_ref().take(n as usize).collect() };
     let [x, y, pinned] = [np; 3].map(&mut column);
     let [a, b, c] = [nt; 3].map(&mut column);
     let [d, e, structural] = [ne; 3].map(&mut column);
-    let [f, g] = [nb; 2].map(&mut column);
     let blade = column(4);
     let signed = |l: &[u32]| l.iter().all(|&x| (-1024..=1023).contains(&(x as i32)));
     let below = |l: &[u32], most: u32| l.iter().all(|&x| x < most);
     let held = [&x, &y, &blade].iter().all(|l| signed(l)) && [&pinned, &structural].iter().all(|l| below(l, 2));
-    if !held || [&a, &b, &c, &d, &e, &f, &g].iter().any(|l| !below(l, 1024)) {
+    if !held || [&a, &b, &c, &d, &e].iter().any(|l| !below(l, 1024)) {
         return Err(2);
     }
     Ok(Sheet {
         particles: (0..np as usize).map(|i| (x[i] as i32, y[i] as i32, pinned[i])).collect(),
         triangles: (0..nt as usize).map(|i| [a[i], b[i], c[i]]).collect(),
         edges: (0..ne as usize).map(|i| (d[i], e[i], structural[i])).collect(),
-        boundary: (0..nb as usize).map(|i| (f[i], g[i])).collect(),
+        boundary: vec![],
         blade: [0, 1, 2, 3].map(|k| blade[k] as i32),
     })
 }
 fn sheet_write(fields: &[u8], out: usize) -> Expected {
     match sheet_of(fields) {
         Ok(s) if api::check_mesh(&sheet::mesh(&s).0) == 3 => Refused(3),
-        Ok(s) => fitting_bytes(&sheet::write(&s), out, 9),
+        Ok(s) if sheet::outline(&s).len() > MESH.boundary => Refused(1),
+        Ok(s) => fitting_bytes(&sheet::write(&s, Edition::Second), out, 9),
         Err(no) => Refused(no),
     }
 }

@@ -177,6 +177,38 @@ faults! {
     ListingUnsorted: Hosting,
     /// The bytes behind an answer are left as they were.
     DirtyHosting: Hosting,
+    /// The sides of triangles are counted with their direction, so that inner ones stay.
+    OutlineDirected: Hosting,
+    /// Sides that two triangles hold are in the outline.
+    SharedSides: Hosting,
+    /// The outline is sorted.
+    OutlineSorted: Hosting,
+    /// A typed outline is compared as a list.
+    OutlineAsLists: Hosting,
+    /// A typed outline with a repeat is replaced.
+    RepeatsCounted: Hosting,
+    /// A typed outline stays where a side is missing.
+    OutlineOneWay: Hosting,
+    /// 1 for the outline is found before 3.
+    OutlineFirst: Hosting,
+    /// An outline of any length is read.
+    OutlineUnmeasured: Hosting,
+    /// The names of a typed outline are not looked at where it is replaced.
+    TypedUnnamed: Hosting,
+    /// The lists of a second-edition sheet are read from bit 46 on.
+    HeaderLate: Hosting,
+    /// A replaced outline is not told.
+    ReplacedUntold: Hosting,
+    /// A sheet is written whose outline is too long to be read.
+    LongWritten: Hosting,
+    /// A sheet is written in the first edition.
+    FirstWritten: Hosting,
+    /// The line `outline replaced` is always printed.
+    LineAlways: Hosting,
+    /// It is printed before `tear 1`.
+    LineBeforeTear: Hosting,
+    /// It is printed beside a refusal of the cut.
+    LineBesideRefusal: Hosting,
 }
 /// Those of a group of entries.
 pub fn faults(group: Group) -> Vec<Fault> {

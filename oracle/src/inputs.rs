@@ -7,7 +7,7 @@ use crate::meshgen;
 use crate::programs::sheets;
 use crate::rng::Rng;
 use crate::second;
-use crate::sheet::{self, MESH, Sheet};
+use crate::sheet::{self, Edition, MESH, Sheet};
 
 #[derive(Clone, Copy, Debug, PartialEq, Eq)]
 pub enum Kind {
@@ -53,12 +53,12 @@ pub fn need(i: &Input) -> usize {
         Args::BladeHit { .. } => 8,
         Args::Fan { v } => 4 + 4 * second::fan(&i.image.mesh, second::kind(&i.image.mesh), *v).len(),
         Args::Sheet { bytes } => match sheet::read(bytes, &MESH) {
-            Ok(s) => 4 * (5 + words(&sheet::mesh(&s).0).len()),
+            Ok((s, _)) => 4 * (5 + words(&sheet::mesh(&s).0).len()),
             Err(_) => 4 * 9,
         },
         Args::SheetWrite { fields, .. } => {
-            let counts: Vec<usize> = fields.iter().take(4).map(|&n| n as usize % 5000).collect();
-            counts.try_into().map_or(12, |c| sheet::length(c).div_ceil(8))
+            let counts: Vec<usize> = fields.iter().take(3).map(|&n| n as usize % 5000).chain([0]).collect();
+            counts.try_into().map_or(12, |c| Edition::Second.length(c).div_ceil(8))
         }
         Args::ListCut { bytes } => sheet::cutlist(bytes, false).len(),
         _ if i.entry().tears() => torn_need(i, &run(i)),
@@ -170,10 +170,9 @@ pub fn args(r: &mut Rng, entry: Entry, kind: Kind, m: &Mesh) -> Args {
 }
 // ---- sheets ---------------------------------------------------------------------------------
 
-/// The fields of a sheet as words: the counts, then column behind column.
+/// The fields of a sheet as words: the counts, then column behind column, without a boundary.
 pub fn fields(s: &Sheet) -> Vec<u32> {
-    let mut w: Vec<u32> =
-        [s.particles.len(), s.triangles.len(), s.edges.len(), s.boundary.len()].map(|n| n as u32).to_vec();
+    let mut w: Vec<u32> = [s.particles.len(), s.triangles.len(), s.edges.len()].map(|n| n as u32).to_vec();
     w.extend(s.particles.iter().map(|p| p.0 as u32));
     w.extend(s.particles.iter().map(|p| p.1 as u32));
     w.extend(s.particles.iter().map(|p| p.2));
@@ -181,17 +180,19 @@ pub fn fields(s: &Sheet) -> Vec<u32> {
     w.extend(s.edges.iter().map(|e| e.0));
     w.extend(s.edges.iter().map(|e| e.1));
     w.extend(s.edges.iter().map(|e| e.2));
-    w.extend(s.boundary.iter().map(|b| b.0));
-    w.extend(s.boundary.iter().map(|b| b.1));
     w.extend(s.blade.map(|x| x as u32));
     w
 }
 /// The bytes of a sheet: any of the random ones; a large one; one at a limit of a mesh or of the program.
 fn sheet_bytes(r: &mut Rng, kind: Kind) -> Vec<u8> {
-    match kind {
-        Kind::Random => sheets::random(r.below(u32::MAX) as u64),
-        _ => sheet::write(&whole_sheet(r, kind)),
+    if kind == Kind::Random {
+        return sheets::random(r.below(u32::MAX) as u64);
     }
+    let mut s = whole_sheet(r, kind);
+    if kind != Kind::Limit || r.chance(4) {
+        sheets::type_outline(r, &mut s);
+    }
+    sheet::write(&s, r.pick(&[Edition::First, Edition::Second]))
 }
 /// A sheet whose fields fit their bits. At a limit, one list is as long as a mesh or the program takes, or one entry longer, or a
 /// coordinate is at the end of its range.
@@ -215,7 +216,15 @@ fn whole_sheet(r: &mut Rng, kind: Kind) -> Sheet {
         let more = r.below(2) as usize;
         let full = |n: usize| n + more;
         let most = r.pick(&[[MAX_PARTICLES, MAX_TRIANGLES, MAX_EDGES, MAX_BOUNDARY], [128, 128, 256, 256]]);
-        match r.below(5) {
+        match r.below(7) {
+            // An outline as long as is taken, or a few sides longer.
+            5 | 6 => {
+                let sides = most[3] as u32 + r.below(4) - 1;
+                s = sheets::spread(r, sides);
+                if r.chance(6) {
+                    s.edges.push((0, r.pick(&[0, 1023]), 0));
+                }
+            }
             0 => s.particles.resize(full(most[0]).max(s.particles.len()), (1, 2, 0)),
             1 => s.triangles.resize(full(most[1]), [0, 1, 2]),
             2 => s.edges.resize(full(most[2]), (0, 1, 0)),
@@ -599,17 +608,17 @@ fn damage_sheet(r: &mut Rng, bytes: &mut Vec<u8>) {
 fn damage_fields(r: &mut Rng, w: &mut Vec<u32>, length: &mut Option<usize>) {
     let n = w.len() as u32;
     // As many particles as there can be, whatever the count says by now.
-    let particles = w[0].min((n - 8) / 3);
+    let particles = w[0].min((n - 7) / 3);
     match r.below(6) {
         0 => *length = Some((4 * n as usize + 4 - r.pick(&[0, 1, 3, 5, 8])).min(4 * n as usize + 4)),
-        1 => w[r.below(4) as usize] = r.pick(&[0, particles + 1, 1025, 2049, 1 << 31, u32::MAX]),
+        1 => w[r.below(3) as usize] = r.pick(&[0, particles + 1, 1025, 2049, 1 << 31, u32::MAX]),
         2 if particles > 0 => {
-            w[4 + r.below(2 * particles) as usize] = r.pick(&[1024, 1023, u32::MAX - 1024, u32::MAX - 1023, 1 << 31])
+            w[3 + r.below(2 * particles) as usize] = r.pick(&[1024, 1023, u32::MAX - 1024, u32::MAX - 1023, 1 << 31])
         }
-        3 if particles > 0 => w[4 + (2 * particles + r.below(particles)) as usize] = r.pick(&[2, 3, u32::MAX]),
+        3 if particles > 0 => w[3 + (2 * particles + r.below(particles)) as usize] = r.pick(&[2, 3, u32::MAX]),
         4 => w[(n - 1 - r.below(4)) as usize] = r.pick(&[1024, u32::MAX - 1024, 1023, u32::MAX]),
         _ => {
-            let k = 4 + r.below(n - 4);
+            let k = 3 + r.below(n - 3);
             w[k as usize] = r.pick(&[particles, particles.wrapping_sub(1), 1023, 1024, 2047, u32::MAX])
         }
     }

@@ -1,5 +1,6 @@
-//! Sheet and listing (docs/RULES.md, R13 and R14), from bytes to text. Ours, not the crate's.
+//! Sheets of both editions and the listing (docs/RULES.md, R13, R14 and R19), from bytes to text. Ours, not the crate's.
 use crate::api::*;
+use std::collections::{BTreeMap, BTreeSet};
 
 pub struct Limits {
     pub particles: usize,
@@ -21,8 +22,6 @@ pub struct Sheet {
     pub blade: [i32; 4],
 }
 
-/// Bits of the counts.
-const HEADER: usize = 46;
 struct Bits<'a> {
     bytes: &'a [u8],
     at: usize,
@@ -42,14 +41,42 @@ impl Bits<'_> {
     }
 }
 
-/// The counts in front of a sheet; `None` if it is too short for them.
+/// The two editions of sheets: with a boundary that is typed, and without.
+#[derive(Clone, Copy, Debug, PartialEq)]
+pub enum Edition {
+    First,
+    Second,
+}
+use Edition::{First, Second};
+impl Edition {
+    /// The edition of bytes: the second begins with eleven ones.
+    pub fn of(bytes: &[u8]) -> Edition {
+        if matches!(bytes, [0xff, b, ..] if b >> 5 == 7) { Second } else { First }
+    }
+    /// The bits in front of the lists.
+    fn header(self) -> usize {
+        match self {
+            First => 11 + 11 + 12 + 12,
+            Second => 11 + 11 + 11 + 12,
+        }
+    }
+    /// The bits of a sheet with these counts, before the spare ones.
+    pub fn length(self, [np, nt, ne, nb]: [usize; 4]) -> usize {
+        self.header() + np * 23 + nt * 30 + ne * 21 + nb * 20 + 44
+    }
+}
+
+/// The counts in front of a sheet, with none for a boundary that is not typed; `None` if it is too short for them.
 pub fn counts(bytes: &[u8]) -> Option<[usize; 4]> {
     let mut b = Bits { bytes, at: 0 };
-    (bytes.len() * 8 >= HEADER).then(|| [11, 11, 12, 12].map(|n| b.take(n) as usize))
-}
-/// The bits of a sheet with these counts, before the spare ones.
-pub fn length([np, nt, ne, nb]: [usize; 4]) -> usize {
-    HEADER + np * 23 + nt * 30 + ne * 21 + nb * 20 + 44
+    let mut next = |n: usize| b.take(n) as usize;
+    (bytes.len() >= 6).then(|| match Edition::of(bytes) {
+        First => [next(11), next(11), next(12), next(12)],
+        Second => {
+            next(11);
+            [next(11), next(11), next(12), 0]
+        }
+    })
 }
 impl Limits {
     /// The lists, in order, whose count is above its limit.
@@ -59,17 +86,19 @@ impl Limits {
     }
 }
 
-pub fn read(bytes: &[u8], l: &Limits) -> Result<Sheet, u32> {
+/// What the bytes say, before a name or an outline is looked at.
+pub fn typed(bytes: &[u8], l: &Limits) -> Result<Sheet, u32> {
     let counts = counts(bytes).ok_or(9u32)?;
     if l.above(counts).next().is_some() {
         return Err(1);
     }
-    let bits = length(counts);
+    let edition = Edition::of(bytes);
+    let bits = edition.length(counts);
     if bytes.len() != bits.div_ceil(8) {
         return Err(9);
     }
     let [np, nt, ne, nb] = counts;
-    let mut b = Bits { bytes, at: HEADER };
+    let mut b = Bits { bytes, at: edition.header() };
     let mut s = Sheet::default();
     for _ in 0..np {
         s.particles.push((b.signed(), b.signed(), b.take(1)));
@@ -92,17 +121,58 @@ pub fn read(bytes: &[u8], l: &Limits) -> Result<Sheet, u32> {
     Ok(s)
 }
 
-pub fn write(s: &Sheet) -> Vec<u8> {
+/// A side, whatever its direction.
+fn side((a, b): (u32, u32)) -> (u32, u32) {
+    (a.min(b), a.max(b))
+}
+/// The outline of a sheet whose names are sound: the sides of a single triangle, by triangle and then by side; without triangles the straps.
+pub fn outline(s: &Sheet) -> Vec<(u32, u32)> {
+    if s.triangles.is_empty() {
+        return s.edges.iter().filter(|e| e.2 == 1).map(|&(a, b, _)| (a, b)).collect();
+    }
+    let faces = || s.triangles.iter().flat_map(|&[a, b, c]| [(a, b), (b, c), (c, a)]);
+    let mut held = BTreeMap::new();
+    faces().for_each(|f| *held.entry(side(f)).or_insert(0) += 1);
+    faces().filter(|f| held[&side(*f)] == 1).collect()
+}
+/// Whether two outlines have the same sides: their order, direction and repeats do not count.
+pub fn same_sides(a: &[(u32, u32)], b: &[(u32, u32)]) -> bool {
+    let set = |l: &[(u32, u32)]| l.iter().map(|e| side(*e)).collect::<BTreeSet<_>>();
+    set(a) == set(b)
+}
+/// The sheet as it is read, and whether its typed outline was replaced.
+pub fn read(bytes: &[u8], l: &Limits) -> Result<(Sheet, bool), u32> {
+    let mut s = typed(bytes, l)?;
+    if check_mesh(&mesh(&s).0) == 3 {
+        return Err(3);
+    }
+    let own = outline(&s);
+    let stays = Edition::of(bytes) == First && same_sides(&s.boundary, &own);
+    if !stays {
+        s.boundary = own;
+    }
+    if s.boundary.len() > l.boundary {
+        return Err(1);
+    }
+    Ok((s, Edition::of(bytes) == First && !stays))
+}
+
+pub fn write(s: &Sheet, edition: Edition) -> Vec<u8> {
     let mut bits: Vec<u8> = vec![];
     let mut put = |x: u32, n: usize| {
         for k in (0..n).rev() {
             bits.push((x >> k & 1) as u8);
         }
     };
+    if edition == Second {
+        put(2047, 11);
+    }
     put(s.particles.len() as u32, 11);
     put(s.triangles.len() as u32, 11);
     put(s.edges.len() as u32, 12);
-    put(s.boundary.len() as u32, 12);
+    if edition == First {
+        put(s.boundary.len() as u32, 12);
+    }
     for &(x, y, p) in &s.particles {
         put(x as u32 & 2047, 11);
         put(y as u32 & 2047, 11);
@@ -118,9 +188,11 @@ pub fn write(s: &Sheet) -> Vec<u8> {
         put(b, 10);
         put(k, 1);
     }
-    for &(a, b) in &s.boundary {
-        put(a, 10);
-        put(b, 10);
+    if edition == First {
+        for &(a, b) in &s.boundary {
+            put(a, 10);
+            put(b, 10);
+        }
     }
     for k in s.blade {
         put(k as u32 & 2047, 11);
@@ -173,7 +245,7 @@ pub fn mesh(s: &Sheet) -> (Mesh, Blade) {
 /// `cut_topology` (`whole` true).
 pub fn cutlist(bytes: &[u8], whole: bool) -> String {
     let refused = |n: u32| format!("refused {n}\n");
-    let s = match read(bytes, &CUTLIST) {
+    let (s, replaced) = match read(bytes, &CUTLIST) {
         Ok(s) => s,
         Err(n) => return refused(n),
     };
@@ -187,7 +259,7 @@ pub fn cutlist(bytes: &[u8], whole: bool) -> String {
     if n != 0 {
         return refused(n);
     }
-    let mut out = String::from("tear 1\n");
+    let mut out = String::from(if replaced { "tear 1\noutline replaced\n" } else { "tear 1\n" });
     for e in &o.log {
         if let Entry::Split { copy, source } = e {
             out += &format!("split {copy} {source}\n");

@@ -357,23 +357,31 @@ fn bits(s: &[u8], at: usize, n: usize) -> u32 {
 fn whole(x: u32) -> i32 {
     if x < 1024 || has(SignLost) { x as i32 } else { x as i32 - 2048 }
 }
-/// The rows of a sheet within limits, each list with the width of its fields; the blade stands last.
-fn rows(s: &[u8], limits: [u32; 4]) -> Result<Vec<Vec<Vec<u32>>>, u32> {
+/// A list's rows.
+type Rows = Vec<Vec<u32>>;
+/// The rows of a sheet of either edition within limits, each list with the width of its fields, with the outline that it is read with; the blade stands last.
+/// And whether the typed outline was replaced.
+fn rows(s: &[u8], limits: [u32; 4]) -> Result<(Vec<Rows>, bool), u32> {
     const WIDTHS: [&[usize]; 5] = [&[11, 11, 1], &[10, 10, 10], &[10, 10, 1], &[10, 10], &[11, 11, 11, 11]];
     if s.len() < 6 {
         return Err(9);
     }
-    let counts = [bits(s, 0, 11), bits(s, 11, 11), bits(s, 22, 12), bits(s, 34, 12)];
+    let second = bits(s, 0, 11) == 2047;
+    let counts = match second {
+        true => [bits(s, 11, 11), bits(s, 22, 11), bits(s, 33, 12), 0],
+        false => [bits(s, 0, 11), bits(s, 11, 11), bits(s, 22, 12), bits(s, 34, 12)],
+    };
     if (0..4).any(|k| counts[k] > limits[k]) {
         return Err(1);
     }
+    let start = if second && !has(HeaderLate) { 45 } else { 46 };
     let number = |k: usize| if k < 4 { counts[k] as usize } else { 1 };
-    let end: usize = 46 + (0..5).map(|k| number(k) * WIDTHS[k].iter().sum::<usize>()).sum::<usize>();
+    let end: usize = start + (0..5).map(|k| number(k) * WIDTHS[k].iter().sum::<usize>()).sum::<usize>();
     let long = end.div_ceil(8);
     if s.len() < long || s.len() > long && !has(TailPasses) {
         return Err(9);
     }
-    let mut at = 46;
+    let mut at = start;
     let mut lists = vec![];
     for (k, widths) in WIDTHS.into_iter().enumerate() {
         let mut list = vec![];
@@ -382,21 +390,67 @@ fn rows(s: &[u8], limits: [u32; 4]) -> Result<Vec<Vec<Vec<u32>>>, u32> {
         }
         lists.push(list);
     }
+    let own = own_outline(&lists[1], &lists[2]);
+    let replaced = !second && !same_outline(&lists[3], &own);
+    let sound = named(&if has(TypedUnnamed) && replaced { with_outline(&lists, vec![]) } else { lists.clone() });
     let spare = bits(s, end, 8 * long - end) != 0 && !has(SparePasses);
-    if spare && !(has(NamesFirst) && !named(&lists)) {
+    if spare && !(has(NamesFirst) && !sound) {
         return Err(9);
     }
-    if named(&lists) { Ok(lists) } else { Err(3) }
+    let lists = if second || replaced { with_outline(&lists, own) } else { lists };
+    let over = lists[3].len() > limits[3] as usize && !has(OutlineUnmeasured);
+    match (sound, over) {
+        (false, true) if has(OutlineFirst) => Err(1),
+        (false, _) => Err(3),
+        (true, true) => Err(1),
+        (true, false) => Ok((lists, replaced)),
+    }
+}
+/// The lists of a sheet with another outline.
+fn with_outline(lists: &[Rows], outline: Rows) -> Vec<Rows> {
+    let mut lists = lists.to_vec();
+    lists[3] = outline;
+    lists
+}
+/// The sides that exactly one triangle holds, as its rows have them; of straps each one.
+fn own_outline(triangles: &[Vec<u32>], edges: &[Vec<u32>]) -> Rows {
+    if triangles.is_empty() {
+        return edges.iter().filter(|e| e[2] == 1).map(|e| e[..2].to_vec()).collect();
+    }
+    let mut own = vec![];
+    for t in triangles {
+        for (a, b) in [(t[0], t[1]), (t[1], t[2]), (t[2], t[0])] {
+            let directed = |u: &[u32]| (0..3).any(|k| (u[k], u[(k + 1) % 3]) == (a, b));
+            let holds =
+                |u: &&Vec<u32>| if has(OutlineDirected) { directed(u) } else { u.contains(&a) && u.contains(&b) };
+            if triangles.iter().filter(holds).count() == 1 || has(SharedSides) {
+                own.push(vec![a, b]);
+            }
+        }
+    }
+    if has(OutlineSorted) {
+        own.sort();
+    }
+    own
+}
+/// Every side of each list is, in either direction, in the other.
+fn same_outline(typed: &[Vec<u32>], own: &[Vec<u32>]) -> bool {
+    let among = |r: &[u32], l: &[Vec<u32>]| l.iter().any(|q| q[..] == *r || q[0] == r[1] && q[1] == r[0]);
+    match () {
+        _ if has(OutlineAsLists) => typed == own,
+        _ if has(RepeatsCounted) && typed.len() != own.len() => false,
+        _ => typed.iter().all(|r| among(r, own)) && (has(OutlineOneWay) || own.iter().all(|r| among(r, typed))),
+    }
 }
 /// Every row of triangles, edges and boundary names particles, and none twice.
-fn named(lists: &[Vec<Vec<u32>>]) -> bool {
+fn named(lists: &[Rows]) -> bool {
     let good = |row: &[u32]| {
         row.iter().all(|&x| (x as usize) < lists[0].len()) && (1..row.len()).all(|k| !row[..k].contains(&row[k]))
     };
     lists[1].iter().all(|r| good(r)) && lists[2].iter().chain(&lists[3]).all(|r| good(&r[..2]))
 }
 /// The mesh and the blade of a sheet's rows.
-fn sheet_mesh(lists: &[Vec<Vec<u32>>]) -> (Mesh, Blade) {
+fn sheet_mesh(lists: &[Rows]) -> (Mesh, Blade) {
     let mut m = Mesh::default();
     let at = |i: u32| (whole(lists[0][i as usize][0]), whole(lists[0][i as usize][1]));
     for r in &lists[0] {
@@ -418,20 +472,21 @@ fn sheet_mesh(lists: &[Vec<Vec<u32>>]) -> (Mesh, Blade) {
 }
 const PROGRAM: [u32; 4] = [128, 128, 256, 256];
 fn sheet(bytes: &[u8]) -> Answer {
-    let (m, b) = sheet_mesh(&rows(bytes, if has(OtherLimits) { PROGRAM } else { LIMITS })?);
+    let (lists, replaced) = rows(bytes, if has(OtherLimits) { PROGRAM } else { LIMITS })?;
+    let (m, b) = sheet_mesh(&lists);
     let blade = [b.x0, b.y0, b.x1, b.y1].map(f32::to_bits).to_vec();
-    let first = if has(FirstWordGone) { vec![] } else { vec![0] };
+    let first = if has(FirstWordGone) { vec![] } else { vec![(replaced && !has(ReplacedUntold)) as u32] };
     Ok(if has(BladeBehind) { [first, image_words(&m), blade] } else { [first, blade, image_words(&m)] }.concat())
 }
 
-/// The bytes of the sheet whose fields are words, by bits put one behind the other.
+/// The bytes of the sheet whose fields are words, in the second edition, by bits put one behind the other.
 fn written(fields: &[u8]) -> Result<Vec<u8>, u32> {
     let w = words_of(fields);
-    if fields.len() < 16 || (0..4).any(|k| w[k] > LIMITS[k]) {
+    if fields.len() < 12 || (0..3).any(|k| w[k] > LIMITS[k]) {
         return Err(1);
     }
-    let n: Vec<usize> = w[..4].iter().map(|&x| x as usize).collect();
-    let long = 8 + 3 * n[0] + 3 * n[1] + 3 * n[2] + 2 * n[3];
+    let n: Vec<usize> = w[..3].iter().map(|&x| x as usize).collect();
+    let long = 7 + 3 * n[0] + 3 * n[1] + 3 * n[2];
     if fields.len() != 4 * long && !(has(FieldsPass) && fields.len() > 4 * long) {
         return Err(1);
     }
@@ -440,10 +495,10 @@ fn written(fields: &[u8]) -> Result<Vec<u8>, u32> {
         (n[0], &[(11, true), (11, true), (1, false)]),
         (n[1], &[(10, false); 3]),
         (n[2], &[(10, false), (10, false), (1, false)]),
-        (n[3], &[(10, false); 2]),
+        (0, &[]),
         (1, &[(11, true); 4]),
     ];
-    let (mut held, mut at) = (true, 4);
+    let (mut held, mut at) = (true, 3);
     let mut rows = vec![];
     for (count, columns) in lists {
         let mut list = vec![vec![]; count];
@@ -467,9 +522,15 @@ fn written(fields: &[u8]) -> Result<Vec<u8>, u32> {
     if !names {
         return Err(3);
     }
+    if own_outline(&rows[1], &rows[2]).len() > LIMITS[3] as usize && !has(LongWritten) {
+        return Err(1);
+    }
     let mut out: Vec<bool> = vec![];
     let mut put = |x: u32, n: usize| out.extend((0..n).rev().map(|k| x >> k & 1 == 1));
-    (0..4).for_each(|k| put(w[k], [11, 11, 12, 12][k]));
+    match has(FirstWritten) {
+        true => [(w[0], 11), (w[1], 11), (w[2], 12), (0, 12)].into_iter().for_each(|(x, n)| put(x, n)),
+        false => [(2047, 11), (w[0], 11), (w[1], 11), (w[2], 12)].into_iter().for_each(|(x, n)| put(x, n)),
+    }
     for (list, (_, columns)) in rows.iter().zip(lists) {
         list.iter().for_each(|row| row.iter().zip(columns).for_each(|(&x, c)| put(x, c.0)));
     }
@@ -481,10 +542,12 @@ unsafe extern "C" fn sheet_write(at: *const u8, n: usize, out: *mut u8, k: usize
 
 /// The listing of the cut of a sheet by the second writing.
 fn listing(bytes: &[u8]) -> Result<String, u32> {
-    let (m, blade) = sheet_mesh(&rows(bytes, if has(OtherLimits) { LIMITS } else { PROGRAM })?);
+    let (lists, replaced) = rows(bytes, if has(OtherLimits) { LIMITS } else { PROGRAM })?;
+    let (m, blade) = sheet_mesh(&lists);
     let o = second::cut(&m, blade, 0.1);
     match o.refusal(crate::api::Rooms { particles: 256, edges: 512, boundary: 512, log: 256 }) {
         0 => {}
+        no if replaced && has(LineBesideRefusal) => return Ok(format!("outline replaced\nrefused {no}\n")),
         no => return Err(no),
     }
     let line = |e: &Entry| match *e {
@@ -499,7 +562,12 @@ fn listing(bytes: &[u8]) -> Result<String, u32> {
     }
     let pieces = second::pieces(&o.mesh);
     let body: String = lines.into_iter().map(|l| l.1).collect();
-    Ok(format!("tear 1\n{body}particles {}\npieces {pieces}\n", o.mesh.px.len()))
+    let head = match replaced || has(LineAlways) {
+        true if has(LineBeforeTear) => "outline replaced\ntear 1\n",
+        true => "tear 1\noutline replaced\n",
+        false => "tear 1\n",
+    };
+    Ok(format!("{head}{body}particles {}\npieces {pieces}\n", o.mesh.px.len()))
 }
 unsafe extern "C" fn list_cut(at: *const u8, n: usize, out: *mut u8, k: usize) -> u32 {
     let text = listing(unsafe { lent(at, n) }).unwrap_or_else(|no| format!("refused {no}\n"));

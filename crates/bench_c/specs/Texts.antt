@@ -7,9 +7,9 @@ use lib.Dec.{leb}
 use Rattle.lists.specs.Lists.{pick}
 use Rattle.listing.specs.Answers.{shownFor}
 
--- the number of the layout of images, logs and results that docs/C-FUNCTIONS.md has
+-- the number of the layout of images, logs, fields and results that docs/C-FUNCTIONS.md has: 2 since the fields of a sheet have no boundary
 unfoldable pub layoutNumber : ℕ
-layoutNumber = 1
+layoutNumber = 2
 
 -- what a C function with `lent` bytes for a text returns and leaves in them: the text and 0 behind it, or 4 and 0 alone where it does not fit
 pub record TextReplied (text : List ℕ) (lent r : ℕ) (out : List ℕ) : Type 0 where

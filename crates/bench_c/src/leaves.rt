@@ -6,12 +6,12 @@ ghost use Rattle.bench_c.specs.Replies.{Replied, rootReply, bladeReply, 
 ghost use Rattle.bench_c.specs.Texts.{layoutNumber};
 use blade::Point;
 
-// The number of the layout of images, logs and results, so that a host built for another one can tell.
+// The number of the layout of images, logs, fields and results, so that a host built for another one can tell.
 #[no_mangle]
 pub extern "C" fn bench_layout() -> u32
     ensures { λ r. ⌜ r ≡ layoutNumber ⌝ }
 {
-    1
+    2
 }
 
 // The root of the number of a word.

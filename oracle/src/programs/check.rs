@@ -1,7 +1,7 @@
 //! Every case to hold, R15 of docs/RULES.md.
 use crate::api::*;
 use crate::meshgen::{document_fan, document_straps};
-use crate::sheet::{self, Sheet};
+use crate::sheet::{self, Edition, Sheet};
 
 struct T(u32, u32);
 impl T {
@@ -24,6 +24,26 @@ fn strap(pa: (f32, f32), pb: (f32, f32), rest: f32) -> Mesh {
 }
 fn next(x: f32) -> f32 {
     f32::from_bits(x.to_bits() + 1)
+}
+
+/// The worked sheet in the second edition, and with outlines that were typed otherwise (L13).
+fn outlines(t: &mut T, listing: &Sheet, want: &str) {
+    let second = sheet::write(listing, Edition::Second);
+    t.is("in the second edition it has 36 bytes (L13)", second.len(), 36);
+    t.is("5 spare bits", second.len() * 8 - Edition::Second.length([4, 2, 2, 0]), 5);
+    t.is("it is read as the first", sheet::read(&second, &sheet::CUTLIST), Ok((listing.clone(), false)));
+    t.is("its listing is the same", sheet::cutlist(&second, false), want.to_string());
+    let replaced = want.replace("tear 1\n", "tear 1\noutline replaced\n");
+    let typed = |boundary: &[(u32, u32)]| {
+        let s = Sheet { boundary: boundary.to_vec(), ..listing.clone() };
+        sheet::cutlist(&sheet::write(&s, Edition::First), false)
+    };
+    t.is("typed in another order, turned", typed(&[(3, 0), (2, 1), (0, 1), (2, 3)]), want.to_string());
+    t.is("typed with a repeat", typed(&[(0, 1), (0, 1), (1, 2), (2, 3), (3, 0)]), want.to_string());
+    t.is("typed without (3, 0)", typed(&[(0, 1), (1, 2), (2, 3)]), replaced.clone());
+    t.is("typed with (0, 2) besides", typed(&[(0, 1), (1, 2), (2, 3), (3, 0), (0, 2)]), replaced.clone());
+    t.is("none typed", typed(&[]), replaced);
+    t.is("typed with (0, 4)", typed(&[(0, 1), (0, 4)]), "refused 3\n".to_string());
 }
 
 pub fn run() -> i32 {
@@ -87,20 +107,21 @@ pub fn run() -> i32 {
         boundary: vec![(0, 1), (1, 2), (2, 3), (3, 0)],
         blade: [-1, -1, 5, 5],
     };
-    let bytes = sheet::write(&listing);
+    let bytes = sheet::write(&listing, Edition::First);
     t.is("the sheet has 46 bytes", bytes.len(), 46);
     t.is("4 spare bits", bytes.len() * 8 - (46 + 4 * 23 + 2 * 30 + 2 * 21 + 4 * 20 + 44), 4);
-    t.is("read undoes write", sheet::read(&bytes, &sheet::CUTLIST), Ok(listing.clone()));
+    t.is("read undoes write", sheet::read(&bytes, &sheet::CUTLIST), Ok((listing.clone(), false)));
     let want = "tear 1\nsplit 4 0\nsplit 5 2\nedge 1 3\nparticles 6\npieces 2\n".to_string();
     t.is("the listing (cut entry word for word)", sheet::cutlist(&bytes, false), want.clone());
-    t.is("the listing (with cut_topology instead)", sheet::cutlist(&bytes, true), want);
+    t.is("the listing (with cut_topology instead)", sheet::cutlist(&bytes, true), want.clone());
+    outlines(&mut t, &listing, &want);
     let mut pinned = listing.clone();
     pinned.particles[0].2 = 1;
     let halves = "tear 1\nsplit 4 2\nedge 1 3\nparticles 5\npieces 2\n".to_string();
-    t.is("the same with particle 0 pinned (L2)", sheet::cutlist(&sheet::write(&pinned), false), halves);
+    t.is("the same with particle 0 pinned (L2)", sheet::cutlist(&sheet::write(&pinned, Edition::First), false), halves);
     pinned.particles[2].2 = 1;
     let whole = "tear 1\nparticles 4\npieces 1\n".to_string();
-    t.is("the same with 0 and 2 pinned (L2)", sheet::cutlist(&sheet::write(&pinned), false), whole);
+    t.is("the same with 0 and 2 pinned (L2)", sheet::cutlist(&sheet::write(&pinned, Edition::First), false), whole);
     let (m, blade) = sheet::mesh(&listing);
     for (name, o) in [("cut", cut(&m, blade, 0.1)), ("cut_topology", cut_whole(&m, blade, 0.1))] {
         t.is(&format!("edges at the end ({name})"), o.mesh.edges(), vec![(0, 2), (4, 5)]);

@@ -12,8 +12,8 @@ use std::collections::HashSet;
 use std::hash::{DefaultHasher, Hash, Hasher};
 use std::io::Write;
 
-/// The number of the layout of images, logs and results that this program speaks.
-const LAYOUT: u32 = 1;
+/// The number of the layout of images, logs, fields and results that this program speaks.
+const LAYOUT: u32 = 2;
 
 /// What is wrong with the answer to an input, if anything.
 fn wrong(t: &Table, i: &Input) -> Option<String> {

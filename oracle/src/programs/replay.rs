@@ -9,7 +9,7 @@ use crate::faults::{Fault, faults, plant};
 use crate::image::Image;
 use crate::inputs::{Kind, fields, input, need};
 use crate::meshgen::{document_fan, document_straps};
-use crate::sheet::{self, Sheet};
+use crate::sheet::{self, Edition, Sheet};
 use crate::shrink::shrink;
 use crate::wrapped::table;
 use std::fmt::Write;
@@ -88,7 +88,7 @@ fn document() -> Vec<Raw> {
     }
     list
 }
-/// The worked sheet (R15.7), its fields, its listing, and the fan of a corner of its square.
+/// The worked sheet (R15.7) in both editions and without its outline, its fields, its listings, and the fan of a corner of its square.
 fn document_hosting() -> Vec<Raw> {
     let s = Sheet {
         particles: vec![(0, 0, 0), (4, 0, 0), (4, 4, 0), (0, 4, 0)],
@@ -97,14 +97,18 @@ fn document_hosting() -> Vec<Raw> {
         boundary: (0..4).map(|i| (i, (i + 1) % 4)).collect(),
         blade: [-1, -1, 5, 5],
     };
-    let bytes = sheet::write(&s);
-    vec![
-        plain(Mesh::default(), Args::Sheet { bytes: bytes.clone() }),
+    let open = Sheet { boundary: vec![], ..s.clone() };
+    let mut list = vec![
         plain(Mesh::default(), Args::SheetWrite { fields: fields(&s), length: None }),
-        plain(Mesh::default(), Args::ListCut { bytes }),
         plain(sheet::mesh(&s).0, Args::Fan { v: 0 }),
         plain(document_straps(), Args::Fan { v: 0 }),
-    ]
+    ];
+    for (s, edition) in [(&s, Edition::First), (&s, Edition::Second), (&open, Edition::First)] {
+        let bytes = sheet::write(s, edition);
+        list.push(plain(Mesh::default(), Args::Sheet { bytes: bytes.clone() }));
+        list.push(plain(Mesh::default(), Args::ListCut { bytes }));
+    }
+    list
 }
 /// Whether a call belongs in the list: small, and its answer is stated.
 fn fits(c: &Raw) -> bool {

@@ -1,10 +1,10 @@
-//! sheets COUNT [PROGRAM] [--seed N]: random and damaged sheets through the oracle's cutlist and
+//! sheets COUNT [PROGRAM] [--seed N]: random and damaged sheets of both editions through the oracle's cutlist and
 //! through a compiled program (default: cutlist as `run` compiles it), standard input to standard output.
 use crate::api::Blade;
 use crate::inputs::{long_blade, rope, soup};
 use crate::meshgen;
 use crate::rng::Rng;
-use crate::sheet::{CUTLIST, Sheet, counts, cutlist, length, read, write};
+use crate::sheet::{CUTLIST, Edition, Sheet, counts, cutlist, outline, same_sides, typed, write};
 use std::collections::BTreeMap;
 use std::io::{Read, Write};
 use std::ops::Range;
@@ -19,19 +19,80 @@ pub fn random(seed: u64) -> Vec<u8> {
     let mut r = Rng::new(seed ^ 0x5ee7);
     let r = &mut r;
     let mut s = sound(r);
+    if !r.chance(4) {
+        type_outline(r, &mut s);
+    }
     if r.chance(5) {
         damage_fields(r, &mut s);
     }
-    let mut bytes = write(&s);
+    let mut bytes = write(&s, r.pick(&[Edition::First, Edition::Second]));
     if r.chance(6) {
         damage_bytes(r, &mut bytes);
     }
     bytes
 }
+/// Types an outline: that of the mesh, as it is or in another order, turned and with repeats; or with a side too few or too many, or none.
+pub fn type_outline(r: &mut Rng, s: &mut Sheet) {
+    s.boundary = outline(s);
+    let some = |r: &mut Rng, n: usize| r.below(n as u32) as usize;
+    if r.chance(2) {
+        for k in (1..s.boundary.len()).rev() {
+            let j = some(r, k + 1);
+            s.boundary.swap(j, k);
+        }
+    }
+    for e in &mut s.boundary {
+        if r.chance(4) {
+            *e = (e.1, e.0);
+        }
+    }
+    let (n, all) = (s.boundary.len(), s.particles.len() as u32);
+    match r.below(8) {
+        0 if n > 0 => drop(s.boundary.remove(some(r, n))),
+        1 if all > 1 => {
+            let a = r.below(all);
+            s.boundary.insert(some(r, n + 1), (a, (a + 1 + r.below(all - 1)) % all));
+        }
+        2 if n > 0 => {
+            let e = s.boundary[some(r, n)];
+            s.boundary.insert(some(r, n + 1), r.pick(&[e, (e.1, e.0)]));
+        }
+        3 => s.boundary.clear(),
+        _ => {}
+    }
+}
+/// Triangles that share no side, or some of them one each, so that the outline has so many sides; each particle is in many.
+pub fn spread(r: &mut Rng, sides: u32) -> Sheet {
+    // Around a ring, (i, i + 1, i + 3): each side of it is (j, j + 1), (j, j + 2) or (j, j + 3) in one triangle alone. A triangle over such a side with a
+    // particle far from both ends takes that side from the outline and adds two.
+    let ring = sides / 3;
+    let n = (ring.max(8) + 2).max(r.pick(&[0, sides * 3 / 8])).min(if sides > 256 { 1024 } else { 128 });
+    let over = sides % 3;
+    let place = |k: u32| ((k * 37 % 101) as i32 - 50, (k * 53 % 97) as i32 - 48, r.chance(9) as u32);
+    Sheet {
+        particles: (0..n).map(place).collect(),
+        triangles: (0..ring)
+            .map(|i| [i % n, (i + 1) % n, (i + 3) % n])
+            .chain((0..over).map(|k| [6 * k % n, (6 * k + 1) % n, (6 * k + n / 2) % n]))
+            .collect(),
+        edges: vec![],
+        boundary: vec![],
+        blade: [-60, r.range(-20, 20), 60, r.range(-20, 20)],
+    }
+}
+/// An outline about as long as cutlist takes, now and then beside a name that is none.
+fn rim(r: &mut Rng) -> Sheet {
+    let sides = 250 + r.below(14);
+    let mut s = spread(r, sides);
+    if r.chance(5) {
+        s.edges.push((0, r.pick(&[0, 1023]), 0));
+    }
+    s
+}
 /// A sheet of any shape, small or up to cutlist's limits (now and then beyond).
 fn sound(r: &mut Rng) -> Sheet {
     if r.chance(16) {
-        return [slit, crowd, book][r.below(3) as usize](r);
+        return [slit, crowd, book, rim][r.below(4) as usize](r);
     }
     let mesh = match r.below(12) {
         0 => {
@@ -196,52 +257,82 @@ fn printed(mut child: Child) -> std::io::Result<(Vec<u8>, ExitStatus)> {
     Ok((out, child.wait()?))
 }
 
-/// Everything that a sheet can come to. A cut cannot meet 6, as it copies or cuts an edge once at most and twice the edges are lent;
-/// cutlist cannot meet 2 or 4.
-const ROWS: [&str; 18] = [
-    "listing, nothing changed",
-    "listing, splits",
-    "listing, insertions",
-    "listing, splits and insertions",
-    "refused 9, short header",
-    "refused 9, ends early",
-    "refused 9, bytes left over",
-    "refused 9, a spare bit",
-    "refused 1, particles",
-    "refused 1, triangles",
-    "refused 1, edges",
-    "refused 1, boundary",
-    "refused 3, triangles",
-    "refused 3, edges",
-    "refused 3, boundary",
-    "refused 5",
-    "refused 7",
-    "refused 8",
+/// Everything that a sheet can come to, and whether one of the second edition can: it has no typed boundary. A cut cannot meet 6, as it copies or cuts an
+/// edge once at most and twice the edges are lent; cutlist cannot meet 2 or 4.
+const ROWS: [(&str, bool); 23] = [
+    ("listing, nothing changed", true),
+    ("listing, splits", true),
+    ("listing, insertions", true),
+    ("listing, splits and insertions", true),
+    ("listing, outline as typed", false),
+    ("listing, outline in another form", false),
+    ("listing, outline replaced", false),
+    ("refused 9, short header", true),
+    ("refused 9, ends early", true),
+    ("refused 9, bytes left over", true),
+    ("refused 9, a spare bit", true),
+    ("refused 1, particles", true),
+    ("refused 1, triangles", true),
+    ("refused 1, edges", true),
+    ("refused 1, boundary", false),
+    ("refused 1, outline", true),
+    ("refused 3, triangles", true),
+    ("refused 3, edges", true),
+    ("refused 3, boundary", false),
+    ("refused 3, and the outline too long", true),
+    ("refused 5", true),
+    ("refused 7", true),
+    ("refused 8", true),
 ];
 const COLUMNS: [&str; 4] = ["triangles", "straps", "neither", "unread"];
-/// The row and the column of a sheet, by its bytes and by what is printed.
-fn place(bytes: &[u8], want: &str) -> (String, usize) {
+/// The rows and the column of a sheet, by its bytes and by what is printed.
+fn place(bytes: &[u8], want: &str) -> (Vec<String>, usize) {
     let lists = ["particles", "triangles", "edges", "boundary"];
-    let sheet = read(bytes, &CUTLIST);
-    let column = match &sheet {
+    let said = typed(bytes, &CUTLIST);
+    let column = match &said {
         Err(_) => 3,
         Ok(s) if !s.triangles.is_empty() => 0,
         Ok(s) => 2 - s.edges.iter().any(|e| e.2 == 1) as usize,
     };
-    let row = match (want.trim_end(), counts(bytes)) {
-        ("refused 9", None) => "refused 9, short header".into(),
-        ("refused 9", Some(c)) => format!("refused 9, {}", misfit(bytes.len(), length(c).div_ceil(8))),
-        ("refused 1", Some(c)) => format!("refused 1, {}", lists[CUTLIST.above(c).next().expect("a long list")]),
-        ("refused 3", _) => format!("refused 3, {}", lists[1 + unsound(&sheet.expect("a sheet that is read"))]),
-        (w, _) if w.starts_with("refused") => w.into(),
-        (w, _) => match (w.contains("\nsplit "), w.contains("\ninsert ")) {
-            (false, false) => "listing, nothing changed".into(),
-            (true, false) => "listing, splits".into(),
-            (false, true) => "listing, insertions".into(),
-            (true, true) => "listing, splits and insertions".into(),
-        },
-    };
-    (row, column)
+    let edition = Edition::of(bytes);
+    let mut rows: Vec<String> = vec![];
+    match (want.trim_end(), counts(bytes)) {
+        ("refused 9", None) => rows.push("refused 9, short header".into()),
+        ("refused 9", Some(c)) => {
+            rows.push(format!("refused 9, {}", misfit(bytes.len(), edition.length(c).div_ceil(8))))
+        }
+        ("refused 1", Some(c)) => {
+            rows.push(format!("refused 1, {}", CUTLIST.above(c).next().map_or("outline", |k| lists[k])))
+        }
+        ("refused 3", _) => {
+            let s = said.expect("a sheet that is read");
+            rows.push(format!("refused 3, {}", lists[1 + unsound(&s)]));
+            if outline(&s).len() > CUTLIST.boundary {
+                rows.push("refused 3, and the outline too long".into());
+            }
+        }
+        (w, _) if w.starts_with("refused") => rows.push(w.into()),
+        (w, _) => {
+            rows.push(
+                match (w.contains("\nsplit "), w.contains("\ninsert ")) {
+                    (false, false) => "listing, nothing changed",
+                    (true, false) => "listing, splits",
+                    (false, true) => "listing, insertions",
+                    (true, true) => "listing, splits and insertions",
+                }
+                .into(),
+            );
+            let s = said.expect("a sheet that is read");
+            let own = outline(&s);
+            match edition {
+                Edition::Second => {}
+                _ if s.boundary == own => rows.push("listing, outline as typed".into()),
+                _ if same_sides(&s.boundary, &own) => rows.push("listing, outline in another form".into()),
+                _ => rows.push("listing, outline replaced".into()),
+            }
+        }
+    }
+    (rows, column + 4 * (edition == Edition::Second) as usize)
 }
 fn misfit(there: usize, asked: usize) -> &'static str {
     match there.cmp(&asked) {
@@ -262,20 +353,27 @@ fn unsound(s: &Sheet) -> usize {
     lists.into_iter().position(|b| b).expect("a list that is not sound")
 }
 /// The table of what was met; gives the rows that nothing met.
-fn print(met: &Met) -> Vec<&'static str> {
-    println!("{:32} {:>9} {:>9} {:>9} {:>9}", "", COLUMNS[0], COLUMNS[1], COLUMNS[2], COLUMNS[3]);
-    let others = met.keys().map(String::as_str).filter(|k| !ROWS.contains(k));
-    for row in ROWS.into_iter().chain(others) {
-        let n = met.get(row).copied().unwrap_or_default();
-        println!("{row:32} {:9} {:9} {:9} {:9}", n[0], n[1], n[2], n[3]);
+fn print(met: &Met) -> Vec<String> {
+    let line = |head: &str, cells: [String; 8]| {
+        let cells: String = cells.iter().map(|c| format!(" {c:>9}")).collect();
+        println!("{head:36}{cells}");
+    };
+    println!("{:36} {:39} second edition", "", "first edition");
+    line("", [0, 1, 2, 3, 0, 1, 2, 3].map(|k| COLUMNS[k].to_string()));
+    let others = met.keys().map(String::as_str).filter(|k| ROWS.iter().all(|r| r.0 != *k));
+    for row in ROWS.into_iter().map(|r| r.0).chain(others) {
+        line(row, met.get(row).copied().unwrap_or_default().map(|n| n.to_string()));
     }
-    ROWS.into_iter().filter(|r| !met.contains_key(*r)).collect()
+    let there = |row: &str, half: usize| met.get(row).is_some_and(|n| n[4 * half..][..4].iter().any(|&k| k > 0));
+    let both = ROWS.into_iter().flat_map(|(row, second)| [(row, 0)].into_iter().chain(second.then_some((row, 1))));
+    let told = |(row, half): (&str, usize)| format!("{row} ({} edition)", ["first", "second"][half]);
+    both.filter(|&(row, half)| !there(row, half)).map(told).collect()
 }
 
 /// What sheets came to: counts by row and column.
-type Met = BTreeMap<String, [u64; 4]>;
+type Met = BTreeMap<String, [u64; 8]>;
 /// One sheet: where it belongs in the table, or how the program differs from the Rust.
-fn tried(program: &str, bytes: &[u8]) -> std::io::Result<Result<(String, usize), String>> {
+fn tried(program: &str, bytes: &[u8]) -> std::io::Result<Result<(Vec<String>, usize), String>> {
     let child = started(program, bytes)?;
     // The Rust works while the program does.
     let want = cutlist(bytes, false);
@@ -296,7 +394,10 @@ fn all(program: &str, numbers: Range<u64>, threads: u64) -> std::io::Result<(Met
                 return Ok(());
             }
             match tried(program, &random(s))? {
-                Ok((row, column)) => met.lock().unwrap().entry(row).or_default()[column] += 1,
+                Ok((rows, column)) => {
+                    let mut met = met.lock().unwrap();
+                    rows.into_iter().for_each(|row| met.entry(row).or_default()[column] += 1);
+                }
                 Err(how) => {
                     failed.lock().unwrap().get_or_insert((s, how));
                 }
