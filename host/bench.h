@@ -34,7 +34,8 @@ enum bench_refusal {
     BENCH_NO_EDGE_ROOM = 6,      /* so do the edges, at their longest in a step */
     BENCH_NO_BOUNDARY_ROOM = 7,  /* so do the boundary entries */
     BENCH_NO_LOG_ROOM = 8,       /* so do the log entries */
-    BENCH_BAD_SHEET = 9          /* a sheet is cut short, has bytes left over or a spare bit that is 1, or does not fit the lent bytes */
+    BENCH_BAD_SHEET = 9,         /* a sheet is cut short, has bytes left over or a spare bit that is 1, or does not fit the lent bytes */
+    BENCH_READER_CLOSED = 10     /* a reader of sheets is closed */
 };
 
 /* The kinds of a log entry, its first word; behind it stand a, b, p, q and the bits of t. */
@@ -60,6 +61,8 @@ enum bench_log_kind {
 /* The bytes of the fields that bench_sheet_write takes, and of the sheet that it gives, in the second edition. */
 #define BENCH_FIELD_BYTES(p, t, e) ((size_t)4 * ((size_t)7 + (size_t)3 * (size_t)(p) + (size_t)3 * (size_t)(t) + (size_t)3 * (size_t)(e)))
 #define BENCH_SHEET_BYTES(p, t, e) (((size_t)96 + (size_t)23 * (size_t)(p) + (size_t)30 * (size_t)(t) + (size_t)21 * (size_t)(e)) / (size_t)8)
+/* The bytes of a reader that is fed a sheet in parts. */
+#define BENCH_READER_BYTES 17301u
 /* So many bytes hold every listing, and every fan. */
 #define BENCH_LISTING_BYTES 65536u
 #define BENCH_FAN_BYTES 8196u
@@ -110,6 +113,16 @@ uint32_t bench_fan(const uint8_t *image, size_t image_len, uint32_t v, uint8_t *
 /* A sheet of either edition read: a word, 1 if its typed boundary was not the outline of the mesh and was replaced by it, else 0; the blade's four words
  * (f32 bits of x0 y0 x1 y1); then the mesh image. An outline of more than 2,048 entries gets 1, behind 3. */
 uint32_t bench_sheet(const uint8_t *sheet, size_t sheet_len, uint8_t *out, size_t out_len);
+
+/* A sheet that comes in parts. `reader` is BENCH_READER_BYTES bytes that the host keeps between the calls; bytes of another length get 4, and stay.
+ * Opens a reader, whatever stood in its bytes: it was fed nothing. */
+uint32_t bench_sheet_open(uint8_t *reader, size_t reader_len);
+
+/* Feeds a part, of any length: 0, whatever the bytes are; 10 if the reader is closed. `reader` is all that it writes. */
+uint32_t bench_sheet_feed(uint8_t *reader, size_t reader_len, const uint8_t *part, size_t part_len);
+
+/* Closes a reader, and answers as bench_sheet does for all that it was fed, in one piece. A closed one gets 10, however few the bytes of `out` are, and stays. */
+uint32_t bench_sheet_close(uint8_t *reader, size_t reader_len, uint8_t *out, size_t out_len);
 
 /* A sheet written, in the second edition. `fields`: the words P T E, then the columns x y pinned | a b c | a b structural | x0 y0 x1 y1; coordinates in two's
  * complement, -1024 to 1023. No boundary: reading finds the outline of the mesh; one of more than 2,048 entries gets 1, behind 3. */

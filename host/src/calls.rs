@@ -19,6 +19,9 @@ mod c {
         pub fn bench_layout() -> u32;
         pub fn bench_fan(image: *const u8, image_len: usize, v: u32, out: *mut u8, out_len: usize) -> u32;
         pub fn bench_sheet(sheet: *const u8, sheet_len: usize, out: *mut u8, out_len: usize) -> u32;
+        pub fn bench_sheet_open(reader: *mut u8, reader_len: usize) -> u32;
+        pub fn bench_sheet_feed(reader: *mut u8, reader_len: usize, part: *const u8, part_len: usize) -> u32;
+        pub fn bench_sheet_close(reader: *mut u8, reader_len: usize, out: *mut u8, out_len: usize) -> u32;
         pub fn bench_sheet_write(fields: *const u8, fields_len: usize, out: *mut u8, out_len: usize) -> u32;
         pub fn bench_list_cut(sheet: *const u8, sheet_len: usize, out: *mut u8, out_len: usize) -> u32;
     }
@@ -77,6 +80,15 @@ pub(crate) fn fan(image: &[u8], v: u32, out: &mut [u8]) -> u32 {
 }
 pub(crate) fn sheet(sheet: &[u8], out: &mut [u8]) -> u32 {
     call!(bench_sheet, in sheet, out out)
+}
+pub(crate) fn sheet_open(reader: &mut [u8]) -> u32 {
+    call!(bench_sheet_open, out reader)
+}
+pub(crate) fn sheet_feed(reader: &mut [u8], part: &[u8]) -> u32 {
+    call!(bench_sheet_feed, out reader, in part)
+}
+pub(crate) fn sheet_close(reader: &mut [u8], out: &mut [u8]) -> u32 {
+    call!(bench_sheet_close, out reader, out out)
 }
 pub(crate) fn sheet_write(fields: &[u8], out: &mut [u8]) -> u32 {
     call!(bench_sheet_write, in fields, out out)

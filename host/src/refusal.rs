@@ -2,7 +2,7 @@
 use std::error::Error;
 use std::fmt;
 
-/// Why a call was refused, by the bench's numbers 1 to 9. `Display` says it in words.
+/// Why a call was refused, by the bench's numbers 1 to 10. `Display` says it in words.
 ///
 /// ```
 /// use cutting_bench::{Mesh, Refusal};
@@ -35,13 +35,15 @@ pub enum Refusal {
     NoLogRoom,
     /// 9: the bytes are no sheet, or a sheet is too long for the lent bytes.
     BadSheet,
+    /// 10: a reader of sheets is closed.
+    ReaderClosed,
     /// A number that this crate does not know.
     Other(u32),
 }
 
 impl Refusal {
     /// The refusals that the bench knows, in the order of their numbers.
-    pub const ALL: [Refusal; 9] = [
+    pub const ALL: [Refusal; 10] = [
         Refusal::BadCount,
         Refusal::BadNumber,
         Refusal::BadIndex,
@@ -51,6 +53,7 @@ impl Refusal {
         Refusal::NoBoundaryRoom,
         Refusal::NoLogRoom,
         Refusal::BadSheet,
+        Refusal::ReaderClosed,
     ];
 
     /// The refusal of a number; `None` for 0, which accepts.
@@ -104,6 +107,9 @@ impl Refusal {
             Refusal::BadSheet => {
                 "The file was cut short, has something behind its end, or was damaged on the way; or it is no sheet at all."
             }
+            Refusal::ReaderClosed => {
+                "A reader gives one sheet: open it again for the next one, before its first bytes come."
+            }
             Refusal::Other(_) => "This number is of another edition of the bench.",
         }
     }
@@ -121,6 +127,7 @@ impl fmt::Display for Refusal {
             Refusal::NoBoundaryRoom => "there are not enough places for the boundary entries",
             Refusal::NoLogRoom => "there are not enough places for the log",
             Refusal::BadSheet => "the bytes are not a whole sheet",
+            Refusal::ReaderClosed => "the reader of sheets is closed",
             Refusal::Other(n) => return write!(f, "refusal {n}, which is not known here"),
         })
     }

@@ -90,6 +90,28 @@ pub fn layout() -> Option<u32> {
     f.map(|f| unsafe { f() })
 }
 
+/// The three functions of a reader that is fed a sheet in parts; they change the bytes of the reader.
+#[derive(Clone, Copy)]
+pub struct Feeding {
+    pub open: unsafe extern "C" fn(*mut u8, usize) -> u32,
+    pub feed: unsafe extern "C" fn(*mut u8, usize, *const u8, usize) -> u32,
+    pub close: unsafe extern "C" fn(*mut u8, usize, *mut u8, usize) -> u32,
+}
+/// The archive's; `None` if one of them is not there.
+pub fn feeding() -> Option<Feeding> {
+    Some(Feeding {
+        open: linked!("bench_sheet_open", bench_sheet_open as unsafe extern "C" fn(*mut u8, usize) -> u32)?,
+        feed: linked!(
+            "bench_sheet_feed",
+            bench_sheet_feed as unsafe extern "C" fn(*mut u8, usize, *const u8, usize) -> u32
+        )?,
+        close: linked!(
+            "bench_sheet_close",
+            bench_sheet_close as unsafe extern "C" fn(*mut u8, usize, *mut u8, usize) -> u32
+        )?,
+    })
+}
+
 #[derive(Clone, Copy, Debug, PartialEq, Eq, PartialOrd, Ord)]
 pub enum Entry {
     Root,

@@ -1,8 +1,10 @@
-// The C functions on sheets: one read, one written, and the listing of its cut.
+// The C functions on sheets: one read, whole or in parts, one written, and the listing of its cut.
 ghost use lib.ListN.{length};
 ghost use Rattle.sheetcut.specs.SheetCut.{listed};
 ghost use Rattle.sheet_c.specs.Sheets.{sheetReply};
 ghost use Rattle.sheet_c.specs.Fields.{SheetWritten};
+ghost use Rattle.feeding.specs.Feeding.{OpenDone, FeedDone};
+ghost use Rattle.feed_c.specs.Closing.{Closed};
 ghost use Rattle.bench_c.specs.Replies.{Replied};
 ghost use Rattle.bench_c.specs.Texts.{TextReplied};
 use listing::Written;
@@ -13,6 +15,30 @@ pub extern "C" fn bench_sheet(sheet: &[u8], out: &mut [u8]) -> u32
     ensures { λ r. ⌜ Replied (sheetReply (now (sheet .entry))) (length (now (out .entry))) r (now (out .exit)) ⌝ }
 {
     sheet_c::reading::read_sheet(sheet, out)
+}
+
+// Opens a reader that is fed a sheet in parts.
+#[no_mangle]
+pub extern "C" fn bench_sheet_open(reader: &mut [u8]) -> u32
+    ensures { λ r. ⌜ OpenDone (now (reader .entry)) r (now (reader .exit)) ⌝ }
+{
+    feeding::open_reader(reader)
+}
+
+// Feeds it a part.
+#[no_mangle]
+pub extern "C" fn bench_sheet_feed(reader: &mut [u8], part: &[u8]) -> u32
+    ensures { λ r. ⌜ FeedDone (now (reader .entry)) (now (part .entry)) r (now (reader .exit)) ⌝ }
+{
+    feeding::feed_bytes(reader, part)
+}
+
+// Closes it: the blade and the mesh image of the whole sheet.
+#[no_mangle]
+pub extern "C" fn bench_sheet_close(reader: &mut [u8], out: &mut [u8]) -> u32
+    ensures { λ r. ⌜ Closed (now (reader .entry)) (now (reader .exit)) (length (now (out .entry))) r (now (out .exit)) ⌝ }
+{
+    feed_c::close_sheet(reader, out)
 }
 
 // The bytes of the sheet whose fields are words.
