@@ -55,10 +55,15 @@ pub struct Sheet {
 /// The counts that a sheet can have, and so the longest answer.
 const MOST: [usize; 4] = [1024, 1024, 2048, 2048];
 
-/// What the bytes of a sheet are: the mesh, the blade, and whether the outline was replaced.
-fn opened(bytes: &[u8]) -> Result<(Mesh, [f32; 4], bool), Refusal> {
-    let words = answer(5 + words_in(MOST), |out| calls::sheet(bytes, out))?;
+/// What a call that reads a sheet answers: the mesh, the blade, and whether the outline was replaced.
+fn taken(call: impl FnOnce(&mut [u8]) -> u32) -> Result<(Mesh, [f32; 4], bool), Refusal> {
+    let words = answer(5 + words_in(MOST), call)?;
     Ok((mesh(&words[5..]), [1, 2, 3, 4].map(|k| f32::from_bits(words[k])), words[0] == 1))
+}
+
+/// The same of the bytes of a sheet.
+fn opened(bytes: &[u8]) -> Result<(Mesh, [f32; 4], bool), Refusal> {
+    taken(|out| calls::sheet(bytes, out))
 }
 
 /// The sides of an outline, whatever their order, direction and repeats.
@@ -105,7 +110,12 @@ impl Sheet {
     /// # Ok::<(), Box<dyn std::error::Error>>(())
     /// ```
     pub fn read(bytes: &[u8]) -> Result<Sheet, Refusal> {
-        let (m, blade, replaced) = opened(bytes)?;
+        Sheet::told(|out| calls::sheet(bytes, out))
+    }
+
+    /// The sheet that a call answers with.
+    pub(crate) fn told(call: impl FnOnce(&mut [u8]) -> u32) -> Result<Sheet, Refusal> {
+        let (m, blade, replaced) = taken(call)?;
         let particle = |p: &crate::Particle| SheetParticle {
             x: p.position[0] as i32,
             y: p.position[1] as i32,

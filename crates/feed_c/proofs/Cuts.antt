@@ -2,8 +2,8 @@
 use Prim.Native.Nat.{ℕ}
 use native.Mathlib.Omega.{arith}
 use mathlib.Core.Path.{_≡_, sym, ap, subst, _∙_}
-use mathlib.Core.Bool.{Bool, true, false}
-use mathlib.Core.List.{List, [], _∷_}
+use mathlib.Core.Bool.{false}
+use mathlib.Core.List.{List, []}
 use lib.ListN.{length, take}
 use Rattle.model.specs.Reads.{Read, refused, value}
 use Rattle.bits.specs.Bits.{bitsOf}
@@ -19,10 +19,10 @@ use Rattle.replies.proofs.Saying.{replied-as}
 use Rattle.sheet_c.specs.Sheets.{sheetWords, sheetTold, sheetReply}
 use Rattle.feeding.specs.Parts.{Reader, fed, closed, closedBy, joined}
 use Rattle.feeding.specs.Feeding as F
-use Rattle.feeding.specs.Feeding.{size, keptIn, standing, shut, OpenDone, ShutDone, Keeps, Shut, Is, Feeds}
+use Rattle.feeding.specs.Feeding.{size, standing, OpenDone, FeedDone, Keeps, Shut, Is, Feeds}
 use Rattle.feeding.proofs.Bytes.{stands-open, stands-shut, stands-none, shut-not}
 use Rattle.feeding.proofs.Long.{Alike, same, both, alike-front}
-use Rattle.feeding.proofs.Cuts.{fed-keeps, shut-shuts}
+use Rattle.feeding.proofs.Cuts.{fed-keeps, late-feed, shut-shuts}
 use Rattle.feeding.proofs.Worked.{short-seen, nothing-seen}
 use Rattle.feed_c.specs.Closing.{closeReply, Closed, replyOf}
 use Rattle.feed_c.proofs.Closes.{reply-open, reply-late}
@@ -60,6 +60,11 @@ refused-first b b′ n lent r out e h C =
 -- behind the close: 10
 pub late-close : (b b′ : List ℕ) (lent r : ℕ) (out : List ℕ) → Shut b → Closed b b′ lent r out → (r ≡ 10) × (b′ ≡ b) × (out ≡ written lent [])
 late-close b b′ lent r out S C = refused-first b b′ 10 lent r out (stands-shut b (S .sized) (S .closed)) (λ z. omega arith) C
+
+-- so a feed and a close behind the close leave every byte of the reader
+pub late-leaves : (b part b′ b″ : List ℕ) (r r′ lent : ℕ) (out : List ℕ) → Shut b → FeedDone b part r b′ → Closed b b″ lent r′ out
+    → ((r ≡ 10) × (b′ ≡ b)) × ((r′ ≡ 10) × (b″ ≡ b) × (out ≡ written lent []))
+late-leaves b part b′ b″ r r′ lent out S F C = (late-feed b part b′ r S F, late-close b b″ lent r′ out S C)
 
 -- bytes of another length: 4
 pub no-close : (b b′ : List ℕ) (lent r : ℕ) (out : List ℕ) → (length b ≡ size → ⊥) → Closed b b′ lent r out → (r ≡ 4) × (b′ ≡ b) × (out ≡ written lent [])

@@ -4,7 +4,7 @@
 use crate::entries::{Args, Entry, FILL, Feeding, archive, feeding};
 use crate::inputs::{KINDS, input};
 use crate::rng::Rng;
-use crate::sheet::{self, Sheet};
+use crate::sheet::{self, Edition, Sheet};
 use std::collections::BTreeMap;
 use std::time::Instant;
 
@@ -144,23 +144,6 @@ impl Side {
 
 // ---- inputs ---------------------------------------------------------------------------------
 
-/// The bits of bytes, and back; the last byte is filled with 0.
-fn bits_of(bytes: &[u8]) -> Vec<u8> {
-    bytes.iter().flat_map(|b| (0..8).rev().map(move |k| b >> k & 1)).collect()
-}
-fn bytes_of(bits: &[u8]) -> Vec<u8> {
-    bits.chunks(8).map(|c| c.iter().enumerate().fold(0, |x, (i, b)| x | b << (7 - i))).collect()
-}
-/// A first-edition sheet that is as long as its counts ask, in the second edition: eleven ones, no boundary count and no boundary entries.
-fn in_second(bytes: &[u8]) -> Option<Vec<u8>> {
-    let bits = bits_of(bytes);
-    let [p, t, e, b] = sheet::counts(bytes)?;
-    let (lists, end) = (46 + 23 * p + 30 * t + 21 * e, 46 + 23 * p + 30 * t + 21 * e + 20 * b + 44);
-    if p > 1024 || bits.len() < end {
-        return None;
-    }
-    Some(bytes_of(&[&[1; 11][..], &bits[..34], &bits[46..lists], &bits[end - 44..end]].concat()))
-}
 /// A sheet with as many of everything as there can be.
 fn full(r: &mut Rng) -> Sheet {
     let two = |r: &mut Rng| {
@@ -178,7 +161,7 @@ fn full(r: &mut Rng) -> Sheet {
 /// The bytes that come: random sheets of either edition, damaged ones, full ones, with bytes behind the end or not.
 fn bytes(r: &mut Rng, number: u64) -> Vec<u8> {
     let mut s = match r.below(40) {
-        0 => sheet::write(&full(r)),
+        0 => sheet::write(&full(r), r.pick(&[Edition::First, Edition::Second])),
         1 => vec![],
         2 => [&[128, 16, 2, 0, 32, 0][..], &vec![r.below(256) as u8; 17_280 + r.below(20) as usize]].concat(),
         k => match input(Entry::Sheet, KINDS[k as usize % 4], number).args {
@@ -186,11 +169,6 @@ fn bytes(r: &mut Rng, number: u64) -> Vec<u8> {
             other => unreachable!("{other:?}"),
         },
     };
-    if r.chance(2)
-        && let Some(second) = in_second(&s)
-    {
-        s = second;
-    }
     match r.below(8) {
         0 => s.extend(vec![r.pick(&[0, 255]); r.pick(&[1, 1, 2, 7, 40]) as usize]),
         1 if r.chance(8) => s.extend(vec![r.below(256) as u8; r.below(40_000) as usize]),
@@ -363,10 +341,10 @@ fn need(model: &Model) -> usize {
 
 // ---- times ----------------------------------------------------------------------------------
 
-/// Nanoseconds of a feed of one byte: the mean of the first thousand, and of the last thousand before the reader is full.
-fn times(f: Feeding) -> [f64; 2] {
-    let (side, mut reader) = (Side::Archive(f), vec![0; SIZE]);
-    let mut best = [f64::MAX; 2];
+/// Nanoseconds of a feed of one byte, the mean of the first thousand and of the last thousand before the reader is full; and of one feed that fills it.
+fn times(f: Feeding) -> [f64; 3] {
+    let (side, mut reader, part) = (Side::Archive(f), vec![0; SIZE], vec![7; MOST]);
+    let mut best = [f64::MAX; 3];
     for _ in 0..20 {
         side.open(&mut reader);
         let mut thousand = || {
@@ -379,6 +357,10 @@ fn times(f: Feeding) -> [f64; 2] {
             thousand();
         });
         best[1] = best[1].min(thousand());
+        side.open(&mut reader);
+        let start = Instant::now();
+        assert_eq!(side.feed(&mut reader, &part), 0);
+        best[2] = best[2].min(start.elapsed().as_nanos() as f64);
     }
     best
 }
@@ -418,8 +400,10 @@ pub fn run(words: &[String]) -> i32 {
         }
     }
     if let Some(f) = archived {
-        let [first, last] = times(f);
-        println!("a feed of one byte: {first:.0} ns at the start, {last:.0} ns with 16,000 bytes kept");
+        let [first, last, all] = times(f);
+        println!(
+            "a feed of one byte: {first:.1} ns at the start, {last:.1} with 16,000 bytes kept; of 17,293 bytes: {all:.0}"
+        );
     }
     let closes: Vec<String> = met.closes.iter().map(|(n, times)| format!("{n}: {times}")).collect();
     println!("{count} readers as one whole read, {} feeds; closes by their answer: {}", met.feeds, closes.join(", "));
