@@ -27,6 +27,7 @@ use Rattle.edition.proofs.Starts.{in-second, in-first, typed-in, header-bits}
 use Rattle.edition.proofs.Putting.{length-second}
 use Rattle.mending.specs.Mending.{placedFrom, lawful, firsts, mendedBoundary, apart}
 use Rattle.mending.specs.Sheets.{mendedSheet, bytesFrom, bitsAs, sheetBytes, saidOf, Mending, mended, refused, mendWith, mendOf}
+use Rattle.mending.specs.Work.{Mendable}
 use Rattle.mending.proofs.Sheets.{mended-few, mended-fit, mended-names, mended-apart, sheet-same, sheet-once}
 
 -- ---- a sheet's bits are bits
@@ -123,7 +124,7 @@ bytes-small (suc n) l h e (suc i) = bytes-small n (drop 8 l) (bits-drop 8 l h) (
 -- ---- a sheet's bytes hold the sheet
 
 -- a sheet that an edition can hold: the second has no boundary entries
-pub Plain : Bool → Sheet → Type 0
+unfoldable pub Plain : Bool → Sheet → Type 0
 Plain true s = s .boundary ≡ []
 Plain false s = Unit {0}
 
@@ -249,11 +250,6 @@ typedCounts s = countsAt (bitsIn (bitsOf s))
 
 abbrev pub editionOf : List ℕ → Bool
 editionOf s = second (bitsOf s)
-
--- what the mender asks of bytes
-pub record Mendable (s : List ℕ) : Type 0 where
-  pub few : tooMany (typedCounts s) ≡ false
-  pub long : length s ≡ bytesIn (editionOf s) (typedCounts s)
 
 pub typed-is : (s : List ℕ) → typedOf (bitsOf s) ≡ sheetWith (typedCounts s) (bitsIn (bitsOf s))
 unfolding typedOf
