@@ -1,0 +1,2 @@
+-- Laws of the program's ends. Assumes nothing.
+pub mod Ending

@@ -1,0 +1,2 @@
+-- What the program prints, and the sheet that it writes.
+pub mod Printing
