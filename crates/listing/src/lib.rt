@@ -16,7 +16,7 @@ pub enum Written {
 }
 
 // Writes one byte behind the text.
-fn put_byte(out: &mut [u8], at: Written, b: u8) -> Written
+pub fn put_byte(out: &mut [u8], at: Written, b: u8) -> Written
     ensures { λ r. ⌜ Appends (b ∷ []) (now (out .entry)) at (now (out .exit)) r ⌝ }
 {
     let Written::Bytes(n) = at else {
@@ -30,7 +30,7 @@ fn put_byte(out: &mut [u8], at: Written, b: u8) -> Written
 }
 
 // Writes more text behind the text.
-fn put_text(out: &mut [u8], at: Written, text: &[u8]) -> Written
+pub fn put_text(out: &mut [u8], at: Written, text: &[u8]) -> Written
     ensures { λ r. ⌜ Appends (now (text .entry)) (now (out .entry)) at (now (out .exit)) r ⌝ }
 {
     let mut at = at;
@@ -51,7 +51,7 @@ fn digit(d: usize) -> u8
 }
 
 // Writes a number behind the text: the digits of its tenth, then the last digit.
-fn put_number(out: &mut [u8], at: Written, n: usize) -> Written
+pub fn put_number(out: &mut [u8], at: Written, n: usize) -> Written
     ensures { λ r. ⌜ Appends (decimal n) (now (out .entry)) at (now (out .exit)) r ⌝ }
 {
     if n < 10 {
@@ -131,7 +131,7 @@ fn clear_from(out: &mut [u8], from: usize)
 }
 
 // Puts 0 behind the text, or into every byte where the text does not fit.
-fn finish(out: &mut [u8], at: Written) -> Written
+pub fn finish(out: &mut [u8], at: Written) -> Written
     ensures { λ r. ⌜ Finishes (now (out .entry)) at (now (out .exit)) r ⌝ }
 {
     let Written::Bytes(n) = at else {
