@@ -17,7 +17,7 @@ use Rattle.listing.proofs.Decimal.{decimal-small, decimal-more}
 use Rattle.sheet.specs.Sheet.{Sheet, FitSheet, coord, particleW, triangleW, edgeW, boundaryW, bladeW}
 use Rattle.sheet.proofs.CoordLaws.{coord-low, coord-high}
 use Rattle.differing.specs.Differing.{Difference, counts, place, blades, listOf, sameRow, countDiffers, rowsDiffer, parts, differences, coordText, signed, textsOf, readingOf, apart, countWord, bladeWord, wordOf, pluralOf, lineOf, differenceText}
-use Rattle.differing.specs.Work.{readAt, sameReading, placeDiffers}
+use Rattle.differing.specs.Work.{readAt, sameReading, placeDiffers, Within}
 use Rattle.differing.specs.declared.Part.{Part}
 use Rattle.differing.specs.declared.Part.the-variants.{Particles, Triangles, Edges, Boundary}
 use Rattle.differing.proofs.Places.{rows-step}
@@ -215,13 +215,6 @@ few-rows (suc n) p k a b q h g u v =
     subst (λ (m : ℕ). Few m (rowsDiffer p k a b)) e (subst (Few (1 + n)) (sym (rows-step p k a b)) (few-both 1 n (placeDiffers p k r s) (rowsDiffer p (suc k) (rest a) (rest b)) one more))
 
 -- ---- two sheets within the limits
-
-pub record Within (s : Sheet) : Type 0 where
-  pub fits : FitSheet s
-  pub particles : length (s .particles) ≤ 128
-  pub triangles : length (s .triangles) ≤ 128
-  pub edges : length (s .edges) ≤ 256
-  pub boundary : length (s .boundary) ≤ 256
 
 module _ (a b : Sheet) (A : Within a) (B : Within b) where
   few-count : (p : Part) → length (listOf p a) < 10000 → length (listOf p b) < 10000 → Few 1 (countDiffers p a b)

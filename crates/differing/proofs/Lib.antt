@@ -6,3 +6,6 @@ pub mod Lengths
 pub mod Longest
 pub mod Printed
 pub mod Worked
+pub mod Writing
+pub mod Walking
+pub mod Wholes

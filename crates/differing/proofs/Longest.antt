@@ -82,7 +82,7 @@ counts-join a b h =
 
 -- ---- bytes that are too many
 
-not-above : (c : Counts) → above limits c ≡ false → (c .particles ≤ 128) × (c .triangles ≤ 128) × (c .edges ≤ 256) × (c .boundary ≤ 256)
+pub not-above : (c : Counts) → above limits c ≡ false → (c .particles ≤ 128) × (c .triangles ≤ 128) × (c .edges ≤ 256) × (c .boundary ≤ 256)
 unfolding above
 not-above c e =
     let a = neither (ltb 128 (c .particles)) (ltb 128 (c .triangles) || (ltb 256 (c .edges) || ltb 256 (c .boundary))) e in
