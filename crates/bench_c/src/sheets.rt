@@ -3,7 +3,7 @@ ghost use lib.ListN.{length};
 ghost use Rattle.sheetcut.specs.SheetCut.{listed};
 ghost use Rattle.sheet_c.specs.Sheets.{sheetReply};
 ghost use Rattle.sheet_c.specs.Fields.{SheetWritten};
-ghost use Rattle.bench_c.specs.Replies.{Replied};
+ghost use Rattle.reading_c.specs.Replies.{Replied};
 ghost use Rattle.bench_c.specs.Texts.{TextReplied};
 use listing::Written;
 
