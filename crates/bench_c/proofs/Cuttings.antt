@@ -19,7 +19,7 @@ use Rattle.jobs.specs.declared.Job.the-variants.{Cut, Crack}
 use Rattle.jobs.proofs.Jobs.{cut-is, crack-is}
 use Rattle.image.specs.Words.{wordsFrom, numberOf}
 use Rattle.image.specs.Image.{imageOf, imageSized}
-use Rattle.bench_c.specs.Replies.{pointAt}
+use Rattle.reading_c.specs.Replies.{pointAt}
 use Rattle.bench_c.specs.Torn.{BothReplied, OutcomeReplied, withRooms, roomsIn, ifRead, cutOutcome, wordsFew, crackOutcome}
 
 module _ (s rooms : List ℕ) (lent logged x : ℕ) (out log : List ℕ) where

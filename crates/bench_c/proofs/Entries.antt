@@ -27,10 +27,10 @@ use Rattle.jobs.specs.declared.Job.the-variants.{Straddlers, Split}
 use Rattle.jobs.proofs.Jobs.{straddlers-is, split-is}
 use Rattle.image.specs.Words.{wordAt}
 use Rattle.image.specs.Image.{imageOf, imageSized}
-use Rattle.bench_c.specs.Given.{Capped}
+use Rattle.reading_c.specs.Given.{Capped}
 use Rattle.bench_c.specs.Torn.{BothReplied, OutcomeReplied, withRooms, roomsIn, splitOutcome, straddlersOutcome}
 use Rattle.bench_c.specs.Told.{Limited, roomsGiven}
-use Rattle.bench_c.proofs.Siding.{capped-sides}
+use Rattle.reading_c.proofs.Siding.{capped-sides}
 use Rattle.bench_c.proofs.Tearings.{checked, checked-small, checked-replied}
 
 -- ---- rooms

@@ -1,13 +1,7 @@
--- The laws of replies (any two agree: Agree), of an image that is loaded or read into blocks, of the sides, groups and lists beside it, and of jobs.
-pub mod Replying
-pub mod Loading
-pub mod Siding
-pub mod Grouping
-pub mod Listing
+-- The laws of replies (any two agree: Agree), of an image that is read into blocks, and of jobs.
 pub mod Places
 pub mod Shown
 pub mod Tellings
-pub mod Misread
 pub mod Outcomes
 pub mod Tearings
 pub mod Entries

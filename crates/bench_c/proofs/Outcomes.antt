@@ -23,7 +23,7 @@ use Rattle.answer.specs.declared.Answer.{Answer}
 use Rattle.answer.specs.declared.Answer.the-variants.{Refused, Done}
 use Rattle.image.specs.Image.{imageWordsOf}
 use Rattle.image.specs.Stores.{blockWords}
-use Rattle.bench_c.specs.Given.{SmallCode}
+use Rattle.reading_c.specs.Given.{SmallCode}
 use Rattle.bench_c.specs.Torn.{meshReply, logReply, BothReplied, OutcomeReplied}
 use Rattle.bench_c.specs.Told.{meshTold, logTold, Telling, Limited}
 use Rattle.image.proofs.Rows.{rows-image}

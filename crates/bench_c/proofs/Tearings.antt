@@ -28,7 +28,7 @@ use Rattle.jobs.specs.declared.Job.{Job}
 use Rattle.jobs.proofs.Jobs.{job-lent}
 use Rattle.perform.proofs.Performed.{job-refused, job-asked, job-came}
 use Rattle.image.specs.Image.{imageOf, imageSized}
-use Rattle.bench_c.specs.Given.{SmallCode}
+use Rattle.reading_c.specs.Given.{SmallCode}
 use Rattle.bench_c.specs.Torn.{meshReply, BothReplied, OutcomeReplied}
 use Rattle.bench_c.specs.Told.{meshTold, logTold, Telling, Limited}
 use Rattle.replies.proofs.Saying.{refusal-small}

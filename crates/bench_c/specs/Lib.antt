@@ -1,6 +1,4 @@
--- What the C functions answer.
-pub mod Replies
-pub mod Given
+-- What the C functions answer that give a mesh or a text. (What those that read answer stands in crate reading_c.)
 pub mod Texts
 pub mod Torn
 pub mod Told

@@ -15,7 +15,7 @@ use Rattle.mesh.specs.Given.{meshOf}
 use Rattle.mesh.specs.Log.{wordsOf, wordsIn}
 use Rattle.image.specs.Words.{wordAt, wordsFrom, numberOf, written}
 use Rattle.image.specs.Image.{imageOf, imageSized, imageWordsOf}
-use Rattle.bench_c.specs.Replies.{lentEnough, codeOf, shownOf, pointAt}
+use Rattle.reading_c.specs.Replies.{lentEnough, codeOf, shownOf, pointAt}
 
 -- ---- the words of an outcome
 

@@ -17,11 +17,11 @@ pub extern "C" fn bench_cut(
     ensures { λ r. ⌜ OutcomeReplied (cutOutcome (now (bytes .entry)) (now (blade .entry)) fraction (now (rooms .entry)) (length (now (log .entry)))) (length (now (out .entry))) (length (now (log .entry))) r (now (out .exit)) (now (log .exit)) ⌝ }
 {
     if blade.len() != 16 {
-        return crate::outcome::refuse(crate::unread::unread(bytes), out, log);
+        return crate::outcome::refuse(reading_c::unread::unread(bytes), out, log);
     }
     let none = [0usize; 1];
-    let b0 = crate::leaves::point_at(blade, 0);
-    let b1 = crate::leaves::point_at(blade, 2);
+    let b0 = reading_c::leaves::point_at(blade, 0);
+    let b1 = reading_c::leaves::point_at(blade, 2);
     let f = image::number_of(fraction as usize);
     crate::tearing::reply_job(Job::Cut(b0, b1, f), &none, bytes, rooms, out, log)
 }
@@ -58,5 +58,5 @@ pub extern "C" fn bench_crack(
             log,
         );
     }
-    crate::outcome::refuse(crate::unread::unread(bytes), out, log)
+    crate::outcome::refuse(reading_c::unread::unread(bytes), out, log)
 }

@@ -1,10 +1,8 @@
 // The C functions without a mesh: the layout, the root, and the blade test.
 ghost use mathlib.Core.Path.{_≡_};
-ghost use Prim.Native.Nat.{_+_, _*_, _≤_};
 ghost use lib.ListN.{length};
-ghost use Rattle.bench_c.specs.Replies.{Replied, rootReply, bladeReply, pointAt};
+ghost use Rattle.reading_c.specs.Replies.{Replied, rootReply, bladeReply};
 ghost use Rattle.bench_c.specs.Texts.{layoutNumber};
-use blade::Point;
 
 // The number of the layout of images, logs, fields and results, so that a host built for another one can tell.
 #[no_mangle]
@@ -19,18 +17,7 @@ pub extern "C" fn bench_layout() -> u32
 pub extern "C" fn bench_root(bits: u32, out: &mut [u8]) -> u32
     ensures { λ r. ⌜ Replied (rootReply bits) (length (now (out .entry))) r (now (out .exit)) ⌝ }
 {
-    let x = image::number_of(bits as usize);
-    crate::reply::reply_number(bench::reading::root(x), out)
-}
-
-// The point of words i and i + 1.
-pub fn point_at(words: &[u8], i: usize) -> Point
-    requires { ⌜ 4 * i + 8 ≤ length (now words) ⌝ }
-    ensures { λ r. ⌜ r ≡ pointAt (now (words .entry)) i ⌝ }
-{
-    let x = image::number_of(image::word_at(words, i));
-    let y = image::number_of(image::word_at(words, i + 1));
-    Point { x: x, y: y }
+    reading_c::leaves::root(bits, out)
 }
 
 // The blade test on eight words.
@@ -38,12 +25,5 @@ pub fn point_at(words: &[u8], i: usize) -> Point
 pub extern "C" fn bench_blade_hit(words: &[u8], out: &mut [u8]) -> u32
     ensures { λ r. ⌜ Replied (bladeReply (now (words .entry))) (length (now (out .entry))) r (now (out .exit)) ⌝ }
 {
-    if words.len() != 32 {
-        return replies::reply_refused(4, out);
-    }
-    let b0 = point_at(words, 0);
-    let b1 = point_at(words, 2);
-    let p = point_at(words, 4);
-    let q = point_at(words, 6);
-    crate::reply::reply_tested(bench::reading::blade_hit(b0, b1, p, q), out)
+    reading_c::leaves::blade_hit(words, out)
 }

@@ -1,4 +1,4 @@
-// The C functions of the bench, on numbers and byte slices: each reads its bytes, calls the public entry or runs the job, and writes the answer.
+// The C functions of the bench, on numbers and byte slices: each reads its bytes, asks or runs the job, and writes the answer. An archive has the exported functions of its own crate alone, so those that read stand here too, and their bodies in crate reading_c.
 pub mod cutting;
 pub mod fans;
 pub mod leaves;
@@ -6,7 +6,5 @@ pub mod listed;
 pub mod meshes;
 pub mod outcome;
 pub mod placing;
-pub mod reply;
 pub mod sheets;
 pub mod tearing;
-pub mod unread;

@@ -5,7 +5,7 @@ ghost use Rattle.sheet_c.specs.Sheets.{sheetReply};
 ghost use Rattle.sheet_c.specs.Fields.{SheetWritten};
 ghost use Rattle.feeding.specs.Feeding.{OpenDone, FeedDone};
 ghost use Rattle.feed_c.specs.Closing.{Closed};
-ghost use Rattle.bench_c.specs.Replies.{Replied};
+ghost use Rattle.reading_c.specs.Replies.{Replied};
 ghost use Rattle.bench_c.specs.Texts.{TextReplied};
 use listing::Written;
 

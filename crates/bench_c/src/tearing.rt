@@ -229,8 +229,8 @@ pub extern "C" fn bench_split(
     ensures { λ r. ⌜ OutcomeReplied (splitOutcome (now (bytes .entry)) v (now (sides .entry)) (now (rooms .entry)) (length (now (log .entry)))) (length (now (out .entry))) (length (now (log .entry))) r (now (out .exit)) (now (log .exit)) ⌝ }
 {
     let mut numbers = [0usize; 2049];
-    let n = crate::fans::capped(sides.len(), 2049);
-    crate::fans::bytes_into(sides, n, &mut numbers);
+    let n = reading_c::fans::capped(sides.len(), 2049);
+    reading_c::fans::bytes_into(sides, n, &mut numbers);
     reply_job(
         Job::Split(v as usize),
         &numbers[..n],

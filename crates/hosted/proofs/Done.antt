@@ -36,7 +36,7 @@ use Rattle.joined.proofs.Again.{all-tab, stored}
 use Rattle.imaged.specs.Bytes.{bytesIn, imageBytes}
 use Rattle.imaged.proofs.Words.{Word, word-of}
 use Rattle.imaged.proofs.Held.{countsFirst, Writable, accepted-writable, image-long, count-first, image-held, image-sized}
-use Rattle.bench_c.specs.Replies.{codeOf, shownOf}
+use Rattle.replies.specs.Reply.{codeOf, shownOf}
 use Rattle.bench_c.specs.Torn.{beside, OutcomeReplied, roomsIn, bladeIn, wordsFew, ifRead, withRooms, cutOutcome, crackOutcome, splitOutcome, straddlersOutcome}
 use Rattle.hosted.specs.Images.{imageIn, entriesIn, Asked, cuts, cracks, splits, straddlers, Replying}
 

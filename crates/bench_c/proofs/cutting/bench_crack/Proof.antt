@@ -4,7 +4,7 @@ use mathlib.Core.Path.{sym}
 use lib.ListN.{length}
 use lib.Seq.{length-take-le}
 use borrow.Author.Needs.{needs}
-use Rattle.bench_c.proofs.Misread.{unread-small}
+use Rattle.reading_c.proofs.Asking.{unread-small}
 use Rattle.bench_c.proofs.Cuttings.{few-words, crack-misread, crack-replied}
 use Rattle.bench_c.proofs.cutting.bench_crack.Statement.{statement}
 use Rattle.bench_c.proofs.cutting.bench_crack.Tie as tie
@@ -40,7 +40,7 @@ unread-requires : tie.Need-unread-requires
 unread-requires c κs = search needs
 
 refuse-requires : tie.Need-refuse-requires
-refuse-requires c κs = unread-small _ _ (c .before .before .unread .ensures)
+refuse-requires c κs = unread-small _ _ _ (c .before .before .unread .ensures)
 
 same-length-3 : tie.Need-same-length-3
 same-length-3 c = c .before .before .before .before .refuse .kept .1 .0

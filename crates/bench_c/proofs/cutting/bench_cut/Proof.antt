@@ -1,7 +1,7 @@
 -- `bench_c::cutting::bench_cut` meets its contract: a bad argument, or the job on the blade and the fraction that were read. Assumes nothing.
 use native.Mathlib.Omega.{arith}
 use borrow.Author.Needs.{needs}
-use Rattle.bench_c.proofs.Misread.{unread-small}
+use Rattle.reading_c.proofs.Asking.{unread-small}
 use Rattle.bench_c.proofs.Cuttings.{cut-misread, cut-replied}
 use Rattle.bench_c.proofs.cutting.bench_cut.Statement.{statement}
 use Rattle.bench_c.proofs.cutting.bench_cut.Tie as tie
@@ -10,7 +10,7 @@ unread-requires : tie.Need-unread-requires
 unread-requires c κs = search needs
 
 refuse-requires : tie.Need-refuse-requires
-refuse-requires c κs = unread-small _ _ (c .before .before .unread .ensures)
+refuse-requires c κs = unread-small _ _ _ (c .before .before .unread .ensures)
 
 same-length : tie.Need-same-length
 same-length c = c .before .before .before .before .refuse .kept .1 .0

@@ -1,56 +1,16 @@
--- `bench_c::leaves::bench_blade_hit` meets its contract: the entry is asked on four points, and its answer written. Assumes nothing.
-use native.Mathlib.Omega.{arith}
-use mathlib.Core.Path.{_≡_, refl, sym, subst, _∙_, ap}
-use Rattle.bench_c.proofs.Replying.{blade-misread, blade-small, blade-replied}
+-- `bench_c::leaves::bench_blade_hit` meets its contract: the body is crate reading_c's. Assumes nothing.
 use borrow.Author.Needs.{needs}
 use Rattle.bench_c.proofs.leaves.bench_blade_hit.Statement.{statement}
 use Rattle.bench_c.proofs.leaves.bench_blade_hit.Tie as tie
 
-reply-refused-requires : tie.Need-reply-refused-requires
-reply-refused-requires c κs = search needs
+blade-hit-requires : tie.Need-blade-hit-requires
+blade-hit-requires c κs = search needs
 
 same-length : tie.Need-same-length
 same-length c = search needs
 
 returns : tie.Need-returns
-returns c = blade-misread _ _ _ _ ((c .before .before .before .before) .if1 .taken) ((c .before .before) .reply-refused .ensures)
-
-point-at-requires : tie.Need-point-at-requires
-point-at-requires c κs = search needs
-
-point-at-requires-2 : tie.Need-point-at-requires-2
-point-at-requires-2 c κs = search needs
-
-point-at-requires-3 : tie.Need-point-at-requires-3
-point-at-requires-3 c κs = search needs
-
-point-at-requires-4 : tie.Need-point-at-requires-4
-point-at-requires-4 c κs = search needs
-
-blade-hit-requires : tie.Need-blade-hit-requires
-blade-hit-requires c κs = search needs
-
-reply-tested-requires : tie.Need-reply-tested-requires
-reply-tested-requires c κs = blade-small _ _ _ _ ((c .before) .blade-hit .ensures)
-
-same-length-2 : tie.Need-same-length-2
-same-length-2 c = search needs
-
-returns-2 : tie.Need-returns-2
-returns-2 c = blade-replied _ _ _ _ _ _ _ _ _ ((c .before .before .before .before .before .before .before .before .before) .if1 .left) ((c .before .before .before .before .before .before .before .before) .point-at .ensures) ((c .before .before .before .before .before .before .before) .point-at2 .ensures) ((c .before .before .before .before .before .before) .point-at3 .ensures) ((c .before .before .before .before .before) .point-at4 .ensures) ((c .before .before .before .before) .blade-hit .ensures) ((c .before .before) .reply-tested .ensures)
+returns c = c .before .before .blade-hit .ensures
 
 pub bench-blade-hit-spec : {M : Type 1} → statement M
-bench-blade-hit-spec =
-    tie.close
-    (tie.spec
-    reply-refused-requires
-    same-length
-    returns
-    point-at-requires
-    point-at-requires-2
-    point-at-requires-3
-    point-at-requires-4
-    blade-hit-requires
-    reply-tested-requires
-    same-length-2
-    returns-2)
+bench-blade-hit-spec = tie.close (tie.spec blade-hit-requires same-length returns)

@@ -1,26 +1,16 @@
--- `bench_c::leaves::bench_root` meets its contract: the entry is asked, and its answer written. Assumes nothing.
-use native.Mathlib.Omega.{arith}
-use mathlib.Core.Path.{_≡_, refl, sym, subst, _∙_, ap}
-use Rattle.bench_c.proofs.Replying.{root-small, root-replied}
+-- `bench_c::leaves::bench_root` meets its contract: the body is crate reading_c's. Assumes nothing.
 use borrow.Author.Needs.{needs}
 use Rattle.bench_c.proofs.leaves.bench_root.Statement.{statement}
 use Rattle.bench_c.proofs.leaves.bench_root.Tie as tie
 
-number-of-requires : tie.Need-number-of-requires
-number-of-requires c κs = search needs
-
 root-requires : tie.Need-root-requires
 root-requires c κs = search needs
-
-reply-number-requires : tie.Need-reply-number-requires
-reply-number-requires c κs = root-small ((c .before .before) .number-of .result) _ ((c .before) .root .ensures)
 
 same-length : tie.Need-same-length
 same-length c = search needs
 
 returns : tie.Need-returns
-returns c = root-replied _ _ _ ((c .before .before .before .before .before) .number-of .result) _ _ ((c .before .before .before .before .before) .number-of .ensures) ((c .before .before .before .before) .root .ensures) ((c .before .before) .reply-number .ensures)
+returns c = c .before .before .root .ensures
 
 pub bench-root-spec : {M : Type 1} → statement M
-bench-root-spec =
-    tie.close (tie.spec number-of-requires root-requires reply-number-requires same-length returns)
+bench-root-spec = tie.close (tie.spec root-requires same-length returns)

@@ -1,7 +1,7 @@
 -- `bench_c::tearing::bench_split` meets its contract: it is the job on the capped sides. Assumes nothing.
 use mathlib.Core.Path.{sym}
 use lib.Seq.{length-take-le}
-use Rattle.bench_c.proofs.Siding.{capped-within, capped-most}
+use Rattle.reading_c.proofs.Siding.{capped-within, capped-most}
 use Rattle.bench_c.proofs.Entries.{split-replied}
 use borrow.Author.Needs.{needs}
 use native.Mathlib.Omega.{arith}

@@ -1,0 +1,92 @@
+-- Laws of the question for groups: the entry's answer and table, told, are the answer. Assumes nothing.
+use Prim.Native.Nat.{ℕ, zero, suc, _-_, _≤_, _<_}
+use native.Mathlib.Omega.{arith}
+use mathlib.Core.Path.{_≡_, refl, sym, ap, subst, _∙_}
+use mathlib.Core.Logic.{⊎-elim}
+use mathlib.Core.Bool.{Bool, true, false, _&&_}
+use mathlib.Core.List.{List, _∷_}
+use lib.ListN.{length, take, replicate, length-take}
+use lib.Dec.{leb}
+use lib.Seq.{take-at}
+use borrow.Author.Tests.{le-leb}
+use Rattle.lists.specs.Lists.{pick, padded}
+use Rattle.model.specs.Mesh.{Mesh}
+use Rattle.model.specs.Elements.{kindOf, fanOf, gridOf}
+use Rattle.model.specs.Calls.{sidesOk, refusal}
+use Rattle.model.specs.Reads.{Read, refused, value, orRefused, grouped, groupsCall}
+use Rattle.mesh.specs.Given.{meshOf}
+use Rattle.bench.specs.declared.Count.{Count}
+use Rattle.bench.specs.Answers.{placedIn, groupCount, groupsShown, GroupsAnswered}
+use Rattle.bench.proofs.Grouped.{groups-long, placed-is}
+use Rattle.image.specs.Image.{imageOf, imageSized}
+use Rattle.reading_c.specs.Replies.{Replied, groupsWords}
+use Rattle.reading_c.specs.Given.{groupsTold, SmallCode, Capped}
+use Rattle.replies.proofs.Saying.{refusal-small, replied-as}
+use Rattle.reading_c.proofs.Siding.{capped-sides, refused-either}
+
+-- a front is no longer than it is asked to be
+pub front-few : (n : ℕ) (l : List ℕ) → n ≤ 2049 → length (take n l) ≤ 2049
+front-few n l h = omega (arith, length-take n l)
+
+-- an answer in one of its cases
+pub told-small : (a b : Count) (ws : List ℕ) → a ≡ b → SmallCode (groupsTold a ws) → SmallCode (groupsTold b ws)
+told-small a b ws e h = subst (λ (o : Count). SmallCode (groupsTold o ws)) e h
+
+pub told-as : (a b : Count) (ws : List ℕ) (lent r : ℕ) (out : List ℕ) → a ≡ b → Replied (groupsTold b ws) lent r out → Replied (groupsTold a ws) lent r out
+told-as a b ws lent r out e h = subst (λ (o : Count). Replied (groupsTold o ws) lent r out) (sym e) h
+
+-- ---- the entry on a capped list
+
+placed-or : (lent c : ℕ) (gs : List ℕ × ℕ) → length (gs .0) ≤ lent → placedIn lent (orRefused c gs) ≡ orRefused c gs
+placed-or lent zero gs h = ap (λ (b : Bool). pick b (value gs) (refused 4)) (le-leb (length (gs .0)) lent h)
+placed-or lent (suc c) gs h = refl
+
+-- a table that has a place for each side is no bad argument
+placed-call : (z : Bool) (M : Mesh) (v : ℕ) (t : List ℕ) → length t ≤ 2049 → placedIn 2049 (groupsCall z M v t) ≡ groupsCall z M v t
+unfolding groupsCall gridOf
+placed-call z M v t h = let l = groups-long (gridOf (kindOf M) v (fanOf (kindOf M) M v) t) in placed-or 2049 (refusal z M true (sidesOk M v t)) _ (omega (arith, l, h))
+
+calls-refused : (z : Bool) (M : Mesh) (v : ℕ) (t sides : List ℕ) → sidesOk M v t ≡ false → sidesOk M v sides ≡ false → groupsCall z M v t ≡ groupsCall z M v sides
+unfolding groupsCall
+calls-refused z M v t sides e f =
+    let x : List ℕ × ℕ = grouped (gridOf (kindOf M) v (fanOf (kindOf M) M v) t) in
+    let y : List ℕ × ℕ = grouped (gridOf (kindOf M) v (fanOf (kindOf M) M v) sides) in
+    ap (λ (b : Bool). orRefused (refusal z M true b) x) e ∙ refused-either z M x y ∙ sym (ap (λ (b : Bool). orRefused (refusal z M true b) y) f)
+
+pub groups-capped : (s : List ℕ) (v r : ℕ) (sides t : List ℕ) → imageSized s ≡ true → Capped (length sides) 2049 r → t ≡ take r sides
+    → groupsCall (imageSized s) (meshOf (imageOf s)) v t ≡ groupsCall (imageSized s) (meshOf (imageOf s)) v sides
+groups-capped s v r sides t h c e =
+    ⊎-elim
+    (λ y. ap (λ (l : List ℕ). groupsCall (imageSized s) (meshOf (imageOf s)) v l) y)
+    (λ y. calls-refused (imageSized s) (meshOf (imageOf s)) v t sides (y .0) (y .1))
+    (capped-sides s v r sides t h c e)
+
+-- ---- the reply
+
+told-or : (c : ℕ) (gs : List ℕ × ℕ) (n : ℕ) → length (gs .0) ≡ n → groupsTold (groupCount (orRefused c gs)) (take n (padded 2049 0 (groupsShown (orRefused c gs)))) ≡ groupsWords (orRefused c gs)
+unfolding padded
+told-or zero gs n e = ap (λ (l : List ℕ). value (gs .1 ∷ l)) (take-at (gs .0) (replicate (2049 - length (gs .0)) 0) n e)
+told-or (suc c) gs n e = refl
+
+call-told : (z : Bool) (M : Mesh) (v : ℕ) (t : List ℕ) (n : ℕ) → length t ≡ n → groupsTold (groupCount (groupsCall z M v t)) (take n (padded 2049 0 (groupsShown (groupsCall z M v t)))) ≡ groupsWords (groupsCall z M v t)
+unfolding groupsCall gridOf
+call-told z M v t n e = told-or (refusal z M true (sidesOk M v t)) _ n (groups-long (gridOf (kindOf M) v (fanOf (kindOf M) M v) t) ∙ e)
+
+small-or : (c : ℕ) (gs : List ℕ × ℕ) (ws : List ℕ) → c < 256 → SmallCode (groupsTold (groupCount (orRefused c gs)) ws)
+small-or zero gs ws h = omega arith
+small-or (suc c) gs ws h = h
+
+pub groups-small : (z : Bool) (M : Mesh) (v : ℕ) (t : List ℕ) (lent : ℕ) (a : Count) (table ws : List ℕ) → GroupsAnswered (groupsCall z M v t) lent a table → SmallCode (groupsTold a ws)
+groups-small z M v t lent a table ws A =
+    rw (A .answer ∙ ap groupCount (placed-is z M v t lent)) (small-or _ _ ws (refusal-small z M true (sidesOk M v t && leb (length t) lent)))
+
+-- sides that are no more than the table has places
+pub groups-told : (z : Bool) (M : Mesh) (v : ℕ) (t : List ℕ) (lent r : ℕ) (a : Count) (table out : List ℕ) → length t ≤ 2049 → GroupsAnswered (groupsCall z M v t) 2049 a table
+    → Replied (groupsTold a (take (length t) table)) lent r out → Replied (groupsWords (groupsCall z M v t)) lent r out
+groups-told z M v t lent r a table out m A h =
+    let o : Read (List ℕ × ℕ) = groupsCall z M v t in
+    let q : placedIn 2049 o ≡ o = placed-call z M v t m in
+    replied-as (groupsTold a (take (length t) table)) _ lent r out
+    (ap (λ (x : Count). groupsTold x (take (length t) table)) (A .answer ∙ ap groupCount q)
+    ∙ ap (λ (x : List ℕ). groupsTold (groupCount o) (take (length t) x)) (A .table-is ∙ ap (λ (x : Read (List ℕ × ℕ)). padded 2049 0 (groupsShown x)) q)
+    ∙ call-told z M v t (length t) refl) h

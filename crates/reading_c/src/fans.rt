@@ -1,0 +1,62 @@
+// What the C functions on the fan of a particle of a mesh image answer. Their sides are bytes.
+ghost use mathlib.Core.Path.{_≡_};
+ghost use Prim.Native.Nat.{_≤_, _<_};
+ghost use lib.ListN.{length, take};
+ghost use Rattle.reading_c.specs.Replies.{Replied, opensReply, groupsReply};
+ghost use Rattle.reading_c.specs.Given.{Capped};
+use crate::Question;
+
+// A byte as a number.
+fn wide(x: u8) -> usize
+    ensures { λ r. ⌜ r ≡ x ⌝ }
+{
+    x as usize
+}
+
+// The smaller of a length and a limit.
+pub fn capped(n: usize, most: usize) -> usize
+    ensures { λ r. ⌜ Capped n most r ⌝ }
+{
+    if n <= most {
+        return n;
+    }
+    most
+}
+
+// Writes the first n bytes as numbers to the front of out.
+pub fn bytes_into(bytes: &[u8], n: usize, out: &mut [usize])
+    requires { ⌜ (n ≤ length (now bytes)) × (n ≤ length (now out)) ⌝ }
+    ensures { λ _. ⌜ take n (now (out .exit)) ≡ take n (now (bytes .entry)) ⌝ }
+{
+    let mut i: usize = 0;
+    while i < n {
+        out[i] = wide(bytes[i]);
+        i += 1;
+    }
+}
+
+// Whether sides open a particle of a mesh image without confetti. More than 2,048 sides are too many for any fan, so 2,049 of them tell.
+pub fn opens_without_confetti(
+    bytes: &[u8],
+    v: usize,
+    sides: &[u8],
+    minimum: usize,
+    out: &mut [u8],
+) -> u32
+    ensures { λ r. ⌜ Replied (opensReply (now (bytes .entry)) v (now (sides .entry)) minimum) (length (now (out .entry))) r (now (out .exit)) ⌝ }
+{
+    let mut numbers = [0usize; 2049];
+    let n = capped(sides.len(), 2049);
+    bytes_into(sides, n, &mut numbers);
+    crate::questions::image_asked(Question::Opens(v, minimum), &numbers[..n], bytes, out)
+}
+
+// The groups that sides make at a particle of a mesh image.
+pub fn groups(bytes: &[u8], v: usize, sides: &[u8], out: &mut [u8]) -> u32
+    ensures { λ r. ⌜ Replied (groupsReply (now (bytes .entry)) v (now (sides .entry))) (length (now (out .entry))) r (now (out .exit)) ⌝ }
+{
+    let mut numbers = [0usize; 2049];
+    let n = capped(sides.len(), 2049);
+    bytes_into(sides, n, &mut numbers);
+    crate::questions::image_asked(Question::Groups(v), &numbers[..n], bytes, out)
+}
