@@ -131,6 +131,9 @@ uint32_t bench_sheet_write(const uint8_t *fields, size_t fields_len, uint8_t *ou
 /* The listing that the program cutlist prints for the bytes of a sheet, or its line "refused N"; 0 behind it. It refuses only too few bytes, with 4. */
 uint32_t bench_list_cut(const uint8_t *sheet, size_t sheet_len, uint8_t *out, size_t out_len);
 
+/* The differences of two sheets that the program sheetdiff prints for their bytes, or its line "refused N"; 0 behind it. It refuses only too few bytes, with 4. */
+uint32_t bench_difference(const uint8_t *first, size_t first_len, const uint8_t *second, size_t second_len, uint8_t *out, size_t out_len);
+
 #ifdef __cplusplus
 }
 #endif

@@ -105,13 +105,21 @@ def some_sheet(rng):
 
 
 def changed(rng, sheet):
+    for _ in range(8):
+        s = one_change(rng, sheet)
+        if s != sheet:
+            break
+    return s
+
+
+def one_change(rng, sheet):
     s = [list(x) for x in sheet]
     k = rng.randrange(5)
     kind = rng.randrange(6)
     if k == 4:
         s[4][rng.randrange(4)] = rng.randrange(-1024, 1024)
     elif s[k] and kind == 0:
-        i, row = rng.randrange(len(s[k])), None
+        i = rng.randrange(len(s[k]))
         row = list(s[k][i])
         j = rng.randrange(len(row))
         row[j] = rng.randrange(-1024, 1024) if k == 0 and j < 2 else rng.randrange(2) if j == 2 and k != 1 else rng.randrange(max(1, len(s[0])))
@@ -130,7 +138,7 @@ def changed(rng, sheet):
 
 
 def damaged(rng, data):
-    kind = rng.randrange(40)
+    kind = rng.randrange(20)
     if kind == 0:
         return data[: rng.randrange(len(data) + 1)]
     if kind == 1:

@@ -24,6 +24,7 @@ mod c {
         pub fn bench_sheet_close(reader: *mut u8, reader_len: usize, out: *mut u8, out_len: usize) -> u32;
         pub fn bench_sheet_write(fields: *const u8, fields_len: usize, out: *mut u8, out_len: usize) -> u32;
         pub fn bench_list_cut(sheet: *const u8, sheet_len: usize, out: *mut u8, out_len: usize) -> u32;
+        pub fn bench_difference(first: *const u8, first_len: usize, second: *const u8, second_len: usize, out: *mut u8, out_len: usize) -> u32;
     }
 }
 
@@ -95,6 +96,9 @@ pub(crate) fn sheet_write(fields: &[u8], out: &mut [u8]) -> u32 {
 }
 pub(crate) fn list_cut(sheet: &[u8], out: &mut [u8]) -> u32 {
     call!(bench_list_cut, in sheet, out out)
+}
+pub(crate) fn difference(first: &[u8], second: &[u8], out: &mut [u8]) -> u32 {
+    call!(bench_difference, in first, in second, out out)
 }
 
 #[cfg(test)]

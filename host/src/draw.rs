@@ -365,6 +365,81 @@ pub fn draw_cut(mesh: &Mesh, blade: [f32; 4], torn: &Torn) -> Result<String, Ref
     ]))
 }
 
+/// The colours of what both meshes have, the first alone, and the second alone.
+const SHARED: [&str; 3] = ["#c9d0d8", "#1f77d0", "#e07b00"];
+
+/// Triangles, edges and particles by where they stand, as points to draw; pins by a point twice.
+fn shapes(mesh: &Mesh) -> Vec<Vec<[f32; 2]>> {
+    let at = |v: &u32| mesh.particles[*v as usize].position;
+    let mut all: Vec<Vec<[f32; 2]>> = mesh.triangles.iter().map(|t| t.corners.iter().map(at).collect()).collect();
+    all.extend(mesh.edges.iter().map(|e| e.ends.iter().map(at).collect()));
+    all.extend(mesh.particles.iter().map(|p| vec![p.position; 1 + 3 * usize::from(p.inverse_mass == 0.0)]));
+    all
+}
+/// The same shape, from whichever corner it is told.
+fn same(a: &[[f32; 2]], b: &[[f32; 2]]) -> bool {
+    a.len() == b.len() && a.iter().all(|p| b.contains(p)) && b.iter().all(|p| a.contains(p))
+}
+
+/// Two meshes in one picture, as SVG: grey what both have at a place, blue what only the first has, orange what only the second has.
+///
+/// ```
+/// # let mut a = cutting_bench::Mesh::new();
+/// # for (x, y) in [(0.0, 0.0), (4.0, 0.0), (4.0, 4.0)] { a.add_particle(x, y); }
+/// # a.add_triangle(0, 1, 2);
+/// let mut b = a.clone();
+/// b.particles[1].position[0] = 5.0;
+/// let svg = cutting_bench::draw_difference(&a, &b);
+/// assert_eq!(svg.matches("<polygon").count(), 2);
+/// assert!(svg.contains("only in the first: 2") && svg.contains("only in the second: 2"));
+/// ```
+pub fn draw_difference(first: &Mesh, second: &Mesh) -> String {
+    let frame = Frame::around(&[first, second]);
+    let (a, b) = (shapes(first), shapes(second));
+    let lone = |x: &[Vec<[f32; 2]>], y: &[Vec<[f32; 2]>], here: bool| -> Vec<Vec<[f32; 2]>> {
+        x.iter().filter(|s| y.iter().any(|t| same(s, t)) == here).cloned().collect()
+    };
+    let layers = [lone(&a, &b, true), lone(&a, &b, false), lone(&b, &a, false)];
+    let words = ["in both", "only in the first", "only in the second"];
+    let (wide, high) = (SIDE + 2.0 * MARGIN, frame.high + 2.0 * MARGIN + 3.0 * LINE);
+    let mut out = format!(
+        r##"<svg xmlns="http://www.w3.org/2000/svg" viewBox="0 0 {wide:.0} {high:.0}" width="{wide:.0}" height="{high:.0}" font-family="Helvetica, Arial, sans-serif">
+<rect width="100%" height="100%" fill="#fff"/>
+<g transform="translate({MARGIN},{MARGIN})">
+"##
+    );
+    for (layer, colour) in layers.iter().zip(SHARED) {
+        for shape in layer {
+            let points: Vec<String> =
+                shape.iter().map(|p| frame.at(*p)).map(|[x, y]| format!("{x:.1},{y:.1}")).collect();
+            let [x, y] = frame.at(shape[0]);
+            let _ = match shape.len() {
+                3 => writeln!(
+                    out,
+                    r##"<polygon points="{}" fill="{colour}" fill-opacity="0.35" stroke="{colour}" stroke-width="1.2"/>"##,
+                    points.join(" ")
+                ),
+                2 => writeln!(out, r##"<polyline points="{}" stroke="{colour}" stroke-width="2"/>"##, points.join(" ")),
+                n => writeln!(
+                    out,
+                    r##"<circle cx="{x:.1}" cy="{y:.1}" r="{}" fill="{colour}" stroke="#fff"/>"##,
+                    if n == 1 { 3 } else { 6 }
+                ),
+            };
+        }
+    }
+    for (k, ((layer, colour), word)) in (1..).zip(layers.iter().zip(SHARED).zip(words)) {
+        let y = frame.high + LINE * k as f32;
+        let _ = writeln!(
+            out,
+            r##"<rect x="0" y="{:.0}" width="14" height="14" rx="3" fill="{colour}"/><text x="22" y="{y:.0}" font-size="14" fill="#222">{word}: {}</text>"##,
+            y - 12.0,
+            layer.len()
+        );
+    }
+    out + "</g>\n</svg>\n"
+}
+
 /// What happened, in words.
 ///
 /// ```

@@ -34,7 +34,7 @@ mod tear;
 mod text;
 
 pub use ask::{Groups, blade_hit, layout_fits, root};
-pub use draw::{draw_cut, draw_mesh, tell};
+pub use draw::{draw_cut, draw_difference, draw_mesh, tell};
 pub use mesh::{Edge, Mesh, Particle, Triangle};
 pub use pieces::Piece;
 pub use reader::SheetReader;

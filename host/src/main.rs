@@ -1,5 +1,5 @@
 //! The trainer's tool: sheets as text, as pictures, cut and explained. `host/run sheet` lists what it does.
-use cutting_bench::{Refusal, Sheet, draw_cut, draw_mesh, tell};
+use cutting_bench::{Refusal, Sheet, draw_cut, draw_difference, draw_mesh, tell};
 use std::error::Error;
 use std::fs;
 use std::io::{self, Write};
@@ -13,6 +13,8 @@ host/run sheet draw FILE > x.svg     a picture: pieces coloured, pins black, the
 host/run sheet cut FILE              the cut told in words: what happened, the pieces and their masses
 host/run sheet cut FILE --draw       before and after, beside each other, as a picture (> x.svg)
 host/run sheet list FILE             the listing that the program cutlist prints
+host/run sheet diff FILE FILE        the differences of two sheets, as the program sheetdiff prints them
+host/run sheet diff FILE FILE --draw both meshes in one picture, what only one has in colour (> x.svg)
 host/run sheet explain N             what the line `refused N` means
 FILE is a sheet, or its text if its name ends in .text. A cut cuts straps no nearer to an end than a tenth of them.
 ";
@@ -88,6 +90,17 @@ fn sheet(words: &[&str]) -> Option<Outcome> {
             _ => why.into(),
         })
     };
+    let bytes = |file: &str| -> Outcome {
+        match file.ends_with(".text") {
+            true => Ok(open(file)?.write()?),
+            false => fs::read(file).map_err(|why| format!("{file}: {why}").into()),
+        }
+    };
+    let diff = |a: &str, b: &str| -> Outcome { Ok(Sheet::difference(&bytes(a)?, &bytes(b)?).into_bytes()) };
+    let draw_diff = |a: &str, b: &str| -> Outcome {
+        let (a, b) = (open(a)?, open(b)?);
+        Ok(draw_difference(&a.mesh()?, &b.mesh()?).into_bytes())
+    };
     Some(match words {
         ["text", file] => open(file).map(|s| s.to_string().into_bytes()),
         ["write", "--first", file] | ["write", file, "--first"] => write(file, true),
@@ -96,6 +109,8 @@ fn sheet(words: &[&str]) -> Option<Outcome> {
         ["cut", file] => open(file).and_then(|s| Ok(tell_cut(&s)?.into_bytes())),
         ["cut", file, "--draw"] | ["cut", "--draw", file] => draw_both(file),
         ["list", file] => fs::read(file).map(|bytes| Sheet::list(&bytes).into_bytes()).map_err(|why| why.into()),
+        ["diff", a, b, "--draw"] | ["diff", "--draw", a, b] => draw_diff(a, b),
+        ["diff", a, b] => diff(a, b),
         ["explain", number] => explain(number).map(String::into_bytes),
         _ => return None,
     })

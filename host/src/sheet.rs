@@ -259,10 +259,30 @@ impl Sheet {
     /// # Ok::<(), std::io::Error>(())
     /// ```
     pub fn list(bytes: &[u8]) -> String {
-        // So many bytes hold every listing.
-        let mut out = vec![0; 65_536];
-        assert_eq!(calls::list_cut(bytes, &mut out), 0, "the bytes hold every listing");
-        out.truncate(out.iter().position(|b| *b == 0).unwrap_or(out.len()));
-        out.into_iter().map(char::from).collect()
+        printed(|out| calls::list_cut(bytes, out))
     }
+
+    /// What the program `sheetdiff` prints for the bytes of two sheets: a line for each place at which they differ, with the first one's reading before the stroke, and
+    /// how many; or the line `refused` with a number.
+    ///
+    /// ```
+    /// use cutting_bench::Sheet;
+    /// let sheet = |name| std::fs::read(format!("../examples/differences/{name}.sheet"));
+    /// let told = Sheet::difference(&sheet("worked")?, &sheet("other")?);
+    /// assert_eq!(told, std::fs::read_to_string("../examples/differences/worked-other.txt")?);
+    /// assert_eq!(Sheet::difference(&sheet("other")?, &sheet("other")?), "0\n");
+    /// assert_eq!(Sheet::difference(&[], &sheet("other")?), "refused 9\n");
+    /// # Ok::<(), std::io::Error>(())
+    /// ```
+    pub fn difference(first: &[u8], second: &[u8]) -> String {
+        printed(|out| calls::difference(first, second, out))
+    }
+}
+
+/// The text that a call writes; so many bytes hold each.
+fn printed(call: impl FnOnce(&mut [u8]) -> u32) -> String {
+    let mut out = vec![0; 65_536];
+    assert_eq!(call(&mut out), 0, "the bytes hold every text");
+    out.truncate(out.iter().position(|b| *b == 0).unwrap_or(out.len()));
+    out.into_iter().map(char::from).collect()
 }

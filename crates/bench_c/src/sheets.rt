@@ -1,6 +1,7 @@
-// The C functions on sheets: one read, whole or in parts, one written, and the listing of its cut.
+// The C functions on sheets: one read, whole or in parts, one written, the listing of its cut, and the differences of two.
 ghost use lib.ListN.{length};
 ghost use Rattle.sheetcut.specs.SheetCut.{listed};
+ghost use Rattle.differing.specs.Differed.{differed};
 ghost use Rattle.sheet_c.specs.Sheets.{sheetReply};
 ghost use Rattle.sheet_c.specs.Fields.{SheetWritten};
 ghost use Rattle.feeding.specs.Feeding.{OpenDone, FeedDone};
@@ -55,6 +56,18 @@ pub extern "C" fn bench_list_cut(sheet: &[u8], out: &mut [u8]) -> u32
     ensures { λ r. ⌜ TextReplied (listed (now (sheet .entry))) (length (now (out .entry))) r (now (out .exit)) ⌝ }
 {
     let wrote = sheetcut::list_cut(sheet, out);
+    match wrote {
+        Written::Short => 4,
+        Written::Bytes(n) => 0,
+    }
+}
+
+// The differences of two sheets, as the program prints them.
+#[no_mangle]
+pub extern "C" fn bench_difference(first: &[u8], second: &[u8], out: &mut [u8]) -> u32
+    ensures { λ r. ⌜ TextReplied (differed (now (first .entry)) (now (second .entry))) (length (now (out .entry))) r (now (out .exit)) ⌝ }
+{
+    let wrote = differing::list_differences(first, second, out);
     match wrote {
         Written::Short => 4,
         Written::Bytes(n) => 0,
