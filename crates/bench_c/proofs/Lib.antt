@@ -7,4 +7,3 @@ pub mod Tearings
 pub mod Entries
 pub mod Cuttings
 pub mod Agree
-pub mod Texting

@@ -2,14 +2,14 @@
 ghost use mathlib.Core.Path.{_≡_};
 ghost use lib.ListN.{length};
 ghost use Rattle.reading_c.specs.Replies.{Replied, rootReply, bladeReply};
-ghost use Rattle.bench_c.specs.Texts.{layoutNumber};
+ghost use Rattle.text_c.specs.Texts.{layoutNumber};
 
 // The number of the layout of images, logs, fields and results, so that a host built for another one can tell.
 #[no_mangle]
 pub extern "C" fn bench_layout() -> u32
     ensures { λ r. ⌜ r ≡ layoutNumber ⌝ }
 {
-    2
+    text_c::layout()
 }
 
 // The root of the number of a word.

@@ -7,8 +7,7 @@ ghost use Rattle.sheet_c.specs.Fields.{SheetWritten};
 ghost use Rattle.feeding.specs.Feeding.{OpenDone, FeedDone};
 ghost use Rattle.feed_c.specs.Closing.{Closed};
 ghost use Rattle.reading_c.specs.Replies.{Replied};
-ghost use Rattle.bench_c.specs.Texts.{TextReplied};
-use listing::Written;
+ghost use Rattle.text_c.specs.Texts.{TextReplied};
 
 // The blade and the mesh image of a sheet.
 #[no_mangle]
@@ -55,11 +54,7 @@ pub extern "C" fn bench_sheet_write(fields: &[u8], out: &mut [u8]) -> u32
 pub extern "C" fn bench_list_cut(sheet: &[u8], out: &mut [u8]) -> u32
     ensures { λ r. ⌜ TextReplied (listed (now (sheet .entry))) (length (now (out .entry))) r (now (out .exit)) ⌝ }
 {
-    let wrote = sheetcut::list_cut(sheet, out);
-    match wrote {
-        Written::Short => 4,
-        Written::Bytes(n) => 0,
-    }
+    text_c::list_cut(sheet, out)
 }
 
 // The differences of two sheets, as the program prints them.
@@ -67,9 +62,5 @@ pub extern "C" fn bench_list_cut(sheet: &[u8], out: &mut [u8]) -> u32
 pub extern "C" fn bench_difference(first: &[u8], second: &[u8], out: &mut [u8]) -> u32
     ensures { λ r. ⌜ TextReplied (differed (now (first .entry)) (now (second .entry))) (length (now (out .entry))) r (now (out .exit)) ⌝ }
 {
-    let wrote = differing::list_differences(first, second, out);
-    match wrote {
-        Written::Short => 4,
-        Written::Bytes(n) => 0,
-    }
+    text_c::difference(first, second, out)
 }

@@ -1,0 +1,2 @@
+-- Laws of a reply that is a text.
+pub mod Texting

@@ -1,0 +1,2 @@
+-- The number of the layout, and texts through C.
+pub mod Texts
