@@ -62,6 +62,9 @@ enum bench_log_kind {
     ((size_t)4 * ((size_t)8 + (size_t)3 * (size_t)(p) + (size_t)3 * (size_t)(t) + (size_t)3 * (size_t)(e) + (size_t)2 * (size_t)(b)))
 #define BENCH_SHEET_BYTES(p, t, e, b) \
     (((size_t)97 + (size_t)23 * (size_t)(p) + (size_t)30 * (size_t)(t) + (size_t)21 * (size_t)(e) + (size_t)20 * (size_t)(b)) / (size_t)8)
+/* So many bytes hold every mended sheet, and every text of bench_mend. */
+#define BENCH_MENDED_BYTES 17292u
+#define BENCH_MEND_TEXT_BYTES 131072u
 /* So many bytes hold every listing, and every fan. */
 #define BENCH_LISTING_BYTES 65536u
 #define BENCH_FAN_BYTES 8196u
@@ -114,6 +117,10 @@ uint32_t bench_sheet(const uint8_t *sheet, size_t sheet_len, uint8_t *out, size_
 
 /* A sheet written. `fields`: the words P T E B, then the columns x y pinned | a b c | a b structural | a b | x0 y0 x1 y1; coordinates in two's complement, -1024 to 1023. */
 uint32_t bench_sheet_write(const uint8_t *fields, size_t fields_len, uint8_t *out, size_t out_len);
+
+/* A broken sheet of either edition mended: the mended sheet, the lines that say each drop, and in `counts` two words, how many bytes each of them has; 0 behind each.
+ * Refusals: 9 short header, 1 counts, 9 length, 4 too few lent bytes; every lent byte is then 0. */
+uint32_t bench_mend(const uint8_t *broken, size_t broken_len, uint8_t *mended, size_t mended_len, uint8_t *text, size_t text_len, uint8_t *counts, size_t counts_len);
 
 /* The listing that the program cutlist prints for the bytes of a sheet, or its line "refused N"; 0 behind it. It refuses only too few bytes, with 4. */
 uint32_t bench_list_cut(const uint8_t *sheet, size_t sheet_len, uint8_t *out, size_t out_len);

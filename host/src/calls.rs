@@ -20,6 +20,7 @@ mod c {
         pub fn bench_fan(image: *const u8, image_len: usize, v: u32, out: *mut u8, out_len: usize) -> u32;
         pub fn bench_sheet(sheet: *const u8, sheet_len: usize, out: *mut u8, out_len: usize) -> u32;
         pub fn bench_sheet_write(fields: *const u8, fields_len: usize, out: *mut u8, out_len: usize) -> u32;
+        pub fn bench_mend(broken: *const u8, broken_len: usize, mended: *mut u8, mended_len: usize, text: *mut u8, text_len: usize, counts: *mut u8, counts_len: usize) -> u32;
         pub fn bench_list_cut(sheet: *const u8, sheet_len: usize, out: *mut u8, out_len: usize) -> u32;
     }
 }
@@ -80,6 +81,9 @@ pub(crate) fn sheet(sheet: &[u8], out: &mut [u8]) -> u32 {
 }
 pub(crate) fn sheet_write(fields: &[u8], out: &mut [u8]) -> u32 {
     call!(bench_sheet_write, in fields, out out)
+}
+pub(crate) fn mend(broken: &[u8], mended: &mut [u8], text: &mut [u8], counts: &mut [u8]) -> u32 {
+    call!(bench_mend, in broken, out mended, out text, out counts)
 }
 pub(crate) fn list_cut(sheet: &[u8], out: &mut [u8]) -> u32 {
     call!(bench_list_cut, in sheet, out out)

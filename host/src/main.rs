@@ -12,6 +12,7 @@ host/run sheet draw FILE > x.svg     a picture: pieces coloured, pins black, the
 host/run sheet cut FILE              the cut told in words: what happened, the pieces and their masses
 host/run sheet cut FILE --draw       before and after, beside each other, as a picture (> x.svg)
 host/run sheet list FILE             the listing that the program cutlist prints
+host/run sheet mend FILE             what a broken sheet loses when it is mended, in words, with each row
 host/run sheet explain N             what the line `refused N` means
 FILE is a sheet, or its text if its name ends in .text. A cut cuts straps no nearer to an end than a tenth of them.
 ";
@@ -27,6 +28,17 @@ fn open(file: &str) -> Result<Sheet, Box<dyn Error>> {
         true => Ok(String::from_utf8(bytes)?.parse()?),
         false => Ok(Sheet::read(&bytes)?),
     }
+}
+
+/// What a broken sheet loses when it is mended.
+fn tell_mend(file: &str) -> Result<String, Box<dyn Error>> {
+    let bytes = fs::read(file).map_err(|why| format!("{file}: {why}"))?;
+    let mended = Sheet::mend(&bytes)?;
+    let mut out: Vec<String> = mended.dropped.iter().map(ToString::to_string).collect();
+    if out.is_empty() {
+        out.push("nothing goes".to_string());
+    }
+    Ok(out.join("\n") + "\n")
 }
 
 /// The cut of a sheet in words.
@@ -87,6 +99,7 @@ fn sheet(words: &[&str]) -> Option<Outcome> {
         ["cut", file] => open(file).and_then(|s| Ok(tell_cut(&s)?.into_bytes())),
         ["cut", file, "--draw"] | ["cut", "--draw", file] => draw_both(file),
         ["list", file] => fs::read(file).map(|bytes| Sheet::list(&bytes).into_bytes()).map_err(|why| why.into()),
+        ["mend", file] => tell_mend(file).map(String::into_bytes),
         ["explain", number] => explain(number).map(String::into_bytes),
         _ => return None,
     })
