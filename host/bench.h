@@ -63,6 +63,9 @@ enum bench_log_kind {
 #define BENCH_SHEET_BYTES(p, t, e) (((size_t)96 + (size_t)23 * (size_t)(p) + (size_t)30 * (size_t)(t) + (size_t)21 * (size_t)(e)) / (size_t)8)
 /* The bytes of a reader that is fed a sheet in parts. */
 #define BENCH_READER_BYTES 17301u
+/* So many bytes hold every mended sheet, and every text of bench_mend. */
+#define BENCH_MENDED_BYTES 17292u
+#define BENCH_MEND_TEXT_BYTES 131072u
 /* So many bytes hold every listing, and every fan. */
 #define BENCH_LISTING_BYTES 65536u
 #define BENCH_FAN_BYTES 8196u
@@ -127,6 +130,10 @@ uint32_t bench_sheet_close(uint8_t *reader, size_t reader_len, uint8_t *out, siz
 /* A sheet written, in the second edition. `fields`: the words P T E, then the columns x y pinned | a b c | a b structural | x0 y0 x1 y1; coordinates in two's
  * complement, -1024 to 1023. No boundary: reading finds the outline of the mesh; one of more than 2,048 entries gets 1, behind 3. */
 uint32_t bench_sheet_write(const uint8_t *fields, size_t fields_len, uint8_t *out, size_t out_len);
+
+/* A broken sheet of either edition mended: the mended sheet, the lines that say each drop, and in `counts` two words, how many bytes each of them has; 0 behind each.
+ * Refusals: 9 short header, 1 counts, 9 length, 4 too few lent bytes; every lent byte is then 0. */
+uint32_t bench_mend(const uint8_t *broken, size_t broken_len, uint8_t *mended, size_t mended_len, uint8_t *text, size_t text_len, uint8_t *counts, size_t counts_len);
 
 /* The listing that the program cutlist prints for the bytes of a sheet, or its line "refused N"; 0 behind it. It refuses only too few bytes, with 4. */
 uint32_t bench_list_cut(const uint8_t *sheet, size_t sheet_len, uint8_t *out, size_t out_len);

@@ -23,6 +23,7 @@ mod c {
         pub fn bench_sheet_feed(reader: *mut u8, reader_len: usize, part: *const u8, part_len: usize) -> u32;
         pub fn bench_sheet_close(reader: *mut u8, reader_len: usize, out: *mut u8, out_len: usize) -> u32;
         pub fn bench_sheet_write(fields: *const u8, fields_len: usize, out: *mut u8, out_len: usize) -> u32;
+        pub fn bench_mend(broken: *const u8, broken_len: usize, mended: *mut u8, mended_len: usize, text: *mut u8, text_len: usize, counts: *mut u8, counts_len: usize) -> u32;
         pub fn bench_list_cut(sheet: *const u8, sheet_len: usize, out: *mut u8, out_len: usize) -> u32;
         pub fn bench_difference(first: *const u8, first_len: usize, second: *const u8, second_len: usize, out: *mut u8, out_len: usize) -> u32;
     }
@@ -93,6 +94,9 @@ pub(crate) fn sheet_close(reader: &mut [u8], out: &mut [u8]) -> u32 {
 }
 pub(crate) fn sheet_write(fields: &[u8], out: &mut [u8]) -> u32 {
     call!(bench_sheet_write, in fields, out out)
+}
+pub(crate) fn mend(broken: &[u8], mended: &mut [u8], text: &mut [u8], counts: &mut [u8]) -> u32 {
+    call!(bench_mend, in broken, out mended, out text, out counts)
 }
 pub(crate) fn list_cut(sheet: &[u8], out: &mut [u8]) -> u32 {
     call!(bench_list_cut, in sheet, out out)

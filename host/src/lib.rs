@@ -25,6 +25,7 @@ mod ask;
 mod calls;
 mod draw;
 mod image;
+mod mend;
 mod mesh;
 mod pieces;
 mod reader;
@@ -35,6 +36,7 @@ mod text;
 
 pub use ask::{Groups, blade_hit, layout_fits, root};
 pub use draw::{draw_cut, draw_difference, draw_mesh, tell};
+pub use mend::{Dropped, List, Mended, Why};
 pub use mesh::{Edge, Mesh, Particle, Triangle};
 pub use pieces::Piece;
 pub use reader::SheetReader;

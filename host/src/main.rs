@@ -15,6 +15,7 @@ host/run sheet cut FILE --draw       before and after, beside each other, as a p
 host/run sheet list FILE             the listing that the program cutlist prints
 host/run sheet diff FILE FILE        the differences of two sheets, as the program sheetdiff prints them
 host/run sheet diff FILE FILE --draw both meshes in one picture, what only one has in colour (> x.svg)
+host/run sheet mend FILE             what a broken sheet loses when it is mended, in words, with each row
 host/run sheet explain N             what the line `refused N` means
 FILE is a sheet, or its text if its name ends in .text. A cut cuts straps no nearer to an end than a tenth of them.
 ";
@@ -30,6 +31,17 @@ fn open(file: &str) -> Result<Sheet, Box<dyn Error>> {
         true => Ok(String::from_utf8(bytes)?.parse()?),
         false => Ok(Sheet::read(&bytes)?),
     }
+}
+
+/// What a broken sheet loses when it is mended.
+fn tell_mend(file: &str) -> Result<String, Box<dyn Error>> {
+    let bytes = fs::read(file).map_err(|why| format!("{file}: {why}"))?;
+    let mended = Sheet::mend(&bytes)?;
+    let mut out: Vec<String> = mended.dropped.iter().map(ToString::to_string).collect();
+    if out.is_empty() {
+        out.push("nothing goes".to_string());
+    }
+    Ok(out.join("\n") + "\n")
 }
 
 /// The cut of a sheet in words.
@@ -111,6 +123,7 @@ fn sheet(words: &[&str]) -> Option<Outcome> {
         ["list", file] => fs::read(file).map(|bytes| Sheet::list(&bytes).into_bytes()).map_err(|why| why.into()),
         ["diff", a, b, "--draw"] | ["diff", "--draw", a, b] => draw_diff(a, b),
         ["diff", a, b] => diff(a, b),
+        ["mend", file] => tell_mend(file).map(String::into_bytes),
         ["explain", number] => explain(number).map(String::into_bytes),
         _ => return None,
     })

@@ -1,4 +1,4 @@
-// The C functions on sheets: one read, whole or in parts, one written, the listing of its cut, and the differences of two.
+// The C functions on sheets: one read, whole or in parts, one written, one mended, the listing of its cut, and the differences of two.
 ghost use lib.ListN.{length};
 ghost use Rattle.sheetcut.specs.SheetCut.{listed};
 ghost use Rattle.differing.specs.Differed.{differed};
@@ -6,6 +6,7 @@ ghost use Rattle.sheet_c.specs.Sheets.{sheetReply};
 ghost use Rattle.sheet_c.specs.Fields.{SheetWritten};
 ghost use Rattle.feeding.specs.Feeding.{OpenDone, FeedDone};
 ghost use Rattle.feed_c.specs.Closing.{Closed};
+ghost use Rattle.mend_c.specs.Mends.{MendReplied};
 ghost use Rattle.reading_c.specs.Replies.{Replied};
 ghost use Rattle.text_c.specs.Texts.{TextReplied};
 
@@ -47,6 +48,19 @@ pub extern "C" fn bench_sheet_write(fields: &[u8], out: &mut [u8]) -> u32
     ensures { λ r. ⌜ SheetWritten (now (fields .entry)) (now (out .entry)) (now (out .exit)) r ⌝ }
 {
     sheet_c::writing::write_sheet(fields, out)
+}
+
+// A broken sheet mended: the mended sheet, what is said, and how many bytes each has.
+#[no_mangle]
+pub extern "C" fn bench_mend(
+    broken: &[u8],
+    mended: &mut [u8],
+    text: &mut [u8],
+    counts: &mut [u8],
+) -> u32
+    ensures { λ r. ⌜ MendReplied (now (broken .entry)) (length (now (mended .entry))) (length (now (text .entry))) (length (now (counts .entry))) r (now (mended .exit)) (now (text .exit)) (now (counts .exit)) ⌝ }
+{
+    mend_c::mend(broken, mended, text, counts)
 }
 
 // The listing of the cut of a sheet, as the program prints it.

@@ -25,41 +25,16 @@ use Rattle.mender.specs.Answers.{fits, answerFor, bytesOf, textOf, MendDone}
 use Rattle.mender.specs.declared.Mended.{Mended}
 use Rattle.mender.specs.declared.Mended.the-variants.{Bytes, Short, Refused}
 use Rattle.mender.proofs.Done.{wrote-told, wrote-cut}
+use Rattle.mender.proofs.Ends.{padded-front, tell, refused-tell, small-code}
 use Rattle.mender.proofs.Lengths.{enough}
 use Rattle.mend.specs.Printing.{printed, isMended, Printed}
 
 counts : (n : ℕ) (l : List ℕ) → n ≤ length l → Counts n l
 counts n l h = (h, sym (length-take-le n l h))
 
-padded-front : (n : ℕ) (x : List ℕ) → take (length x) (padded {A = ℕ} n 0 x) ≡ x
-unfolding padded
-padded-front n x = take-at x (replicate (n - length x) 0) (length x) refl
-
-never : (M : Mended) (n k : ℕ) → Bytes n k ≡ M → M ≡ Short → ⊥
-never M n k e f = let z : _≡_ {A = ℕ} 0 1 = cc in omega arith
-
--- what an answer with numbers tells
-tell-by : (x y : Bool) (m t : List ℕ) (a b n k : ℕ) → leb (length m) a ≡ x → leb (length t) b ≡ y → Bytes n k ≡ pick (x && y) (Bytes (length m) (length t)) Short
-    → ((x && y) ≡ true) × (n ≡ length m) × (k ≡ length t) × (n ≤ a) × (k ≤ b)
-tell-by true true m t a b n k p q e = let i : n ≡ length m = cc in let j : k ≡ length t = cc in (refl, i, j, omega (arith, leb-true (length m) a p), omega (arith, leb-true (length t) b q))
-tell-by true false m t a b n k p q e = absurd (never Short n k e refl)
-tell-by false y m t a b n k p q e = absurd (never Short n k e refl)
-
-pub record Telling (M : Mending) (a b n k : ℕ) : Type 0 where
-  pub fit : fits M a b ≡ true
-  pub sheet : n ≡ length (bytesOf M)
-  pub text : k ≡ length (textOf M)
-  pub room : n ≤ a
-  pub room-text : k ≤ b
-  pub whole : true ≡ isMended M
-  pub said : textOf M ≡ printed M
-
-tell : (M : Mending) (a b n k : ℕ) → Bytes n k ≡ answerFor M a b → Telling M a b n k
-unfolding fits answerFor bytesOf textOf isMended printed
-tell (mended m t) a b n k e =
-    let w = tell-by (leb (length m) a) (leb (length t) b) m t a b n k refl refl e in
-    record { fit = w .0; sheet = w .1; text = w .2; room = w .3; room-text = w .4; whole = refl; said = refl }
-tell (refused c) a b n k e = absurd (let z : _≡_ {A = ℕ} 0 1 = cc in omega arith)
+says : (M : Mending) → M ≡ mended (bytesOf M) (textOf M) → (true ≡ isMended M) × (textOf M ≡ printed M)
+unfolding isMended printed
+says M e = (ap isMended (sym e), sym (ap printed e))
 
 pub whole-end : (s : List ℕ) (a b : ℕ) (out said : List ℕ) (r : Mended) (n k : ℕ) → MendDone s a b out said r → r ≡ Bytes n k → length out ≡ a → length said ≡ b
     → Counts n out × Counts k said × Printed s out said (record { whole = true; sheet = n; text = k })
@@ -72,31 +47,9 @@ whole-end s a b out said r n k d e lo ls =
     let l : 8 * n ≡ length (bitsOf m) = ap (λ (j : ℕ). 8 * j) (w .sheet) ∙ sym (length-bitsOf m) in
     let x : bitsOf (take n out) ≡ bitsOf m = bitsOf-take n out ∙ (ap (take (8 * n)) o ∙ (ap (λ (j : ℕ). take j (padded (8 * a) 0 (bitsOf m))) l ∙ padded-front (8 * a) (bitsOf m))) in
     let y : take k said ≡ textOf M = ap (take k) q ∙ (ap (λ (j : ℕ). take j (padded b 0 (textOf M))) (w .text) ∙ padded-front b (textOf M)) in
-    (counts n out (omega (arith, w .room)), counts k said (omega (arith, w .room-text)), record { whole = w .whole; sheet = x; text = y ∙ w .said })
+    (counts n out (omega (arith, w .room)), counts k said (omega (arith, w .room-text)), record { whole = says M (w .is) .0; sheet = x; text = y ∙ says M (w .is) .1 })
 
 -- ---- a refusal
-
-refused-by : (x : Bool) (m t : List ℕ) (n : ℕ) → Refused n ≡ pick x (Bytes (length m) (length t)) Short → ⊥
-refused-by true m t n e = let z : _≡_ {A = ℕ} 0 1 = cc in omega arith
-refused-by false m t n e = let z : _≡_ {A = ℕ} 0 1 = cc in omega arith
-
-refused-tell : (M : Mending) (a b n : ℕ) → Refused n ≡ answerFor M a b → M ≡ refused n
-unfolding answerFor
-refused-tell (mended m t) a b n e = absurd (refused-by (leb (length m) a && leb (length t) b) m t n e)
-refused-tell (refused c) a b n e = let i : n ≡ c = cc in ap refused (sym i)
-
-small-by : (a b x : Bool) (m t : List ℕ) (n : ℕ) → cond a (refused 9) (cond b (refused 1) (cond x (mended m t) (refused 9))) ≡ refused n → n < 10
-small-by true b x m t n e = let i : 9 ≡ n = cc in omega arith
-small-by false true x m t n e = let i : 1 ≡ n = cc in omega arith
-small-by false false true m t n e = absurd (let z : _≡_ {A = ℕ} 0 1 = cc in omega arith)
-small-by false false false m t n e = let i : 9 ≡ n = cc in omega arith
-
-small-code : (s : List ℕ) (n : ℕ) → mendOf s ≡ refused n → n < 10
-unfolding mendOf mendWith
-small-code s n e =
-    let l = bitsOf s in
-    let c = countsAt (bitsIn l) in
-    small-by (ltb (length s) 6) (tooMany c) (eqb (length s) (bytesIn (second l) c)) (sheetBytes (second l) (mendedSheet (typedOf l))) (saidOf (typedOf l)) n e
 
 line-long : (n : ℕ) → n < 10 → length (refusedBytes n) ≤ 20
 unfolding refusedBytes line each

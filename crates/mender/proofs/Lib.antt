@@ -6,3 +6,4 @@ pub mod Joined
 pub mod Done
 pub mod Agree
 pub mod Lengths
+pub mod Ends

@@ -1,0 +1,3 @@
+-- Laws of mending through C. Assumes nothing.
+pub mod Replying
+pub mod Agree

@@ -1,0 +1,2 @@
+-- Mending through C.
+pub mod Mends
