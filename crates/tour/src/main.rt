@@ -142,16 +142,22 @@ fn say_insert(a: usize, b: usize, p: usize, q: usize, bits: usize) {
 }
 
 // One entry of a log: its kind, and up to five words.
-fn say_entry(kind: usize, a: usize, b: usize, p: usize, q: usize, bits: usize) {
+fn say_entry(kind: u32, a: u32, b: u32, p: u32, q: u32, bits: u32) {
     if kind == 1 {
-        say_split(a, b);
+        say_split(a as usize, b as usize);
     } else if kind == 2 {
-        say_what(b"  edge ", a, b);
+        say_what(b"  edge ", a as usize, b as usize);
         say(b": it would join what came apart, and went\n");
     } else if kind == 3 {
-        say_insert(a, b, p, q, bits);
+        say_insert(
+            a as usize,
+            b as usize,
+            p as usize,
+            q as usize,
+            bits as usize,
+        );
     } else {
-        say_what(b"  opened ", a, b);
+        say_what(b"  opened ", a as usize, b as usize);
         say(b": the torn edge opened\n");
     }
 }
@@ -163,12 +169,12 @@ fn say_entries(log: &[u32]) {
     while i < n {
         let at = 6 * i;
         say_entry(
-            log[at] as usize,
-            log[at + 1] as usize,
-            log[at + 2] as usize,
-            log[at + 3] as usize,
-            log[at + 4] as usize,
-            log[at + 5] as usize,
+            log[at],
+            log[at + 1],
+            log[at + 2],
+            log[at + 3],
+            log[at + 4],
+            log[at + 5],
         );
         i += 1;
     }

@@ -20,21 +20,21 @@ slice-aggregate-read-loads-3 c = search needs
 read-loads-requires : tie.Need-read-loads-requires
 read-loads-requires c κs = let P = c .before .before .before .before .before .before .before .before .before .before .before .before .before .before .before .pre .0 in let A = c .before .before .before .before .before .before .before .before .before .before .before .before .before .before .before .args in
     let N = numbered (A .room) (A .k) (A .points .now) (A .roots .now) (A .corners .now) (A .volumes .now) (A .ends .now) (A .lengths .now) (A .outline .now) _ P in (
-  record {
-    corners = omega (arith, P .counts .triangles, P .rooms .corners);
-    volumes = omega (arith, P .counts .triangles, P .rooms .volumes);
-    edges = record { ends = omega (arith, P .counts .edges, P .rooms .ends); lengths = omega (arith, P .counts .edges, P .rooms .lengths) };
-  },
-  omega (arith, P .counts .triangles, P .rooms .few-triangles),
-  N,
-  record {
-    inside = omega (arith, P .counts .edges, P .rooms .ends);
-    below = N .ends-in;
-    long = omega arith;
-    empty = λ s h. getD-replicate 2048 s (A .k .edges) 0 h;
-    nexts = omega (arith, P .counts .edges, P .rooms .few-edges);
-  },
-)
+      record {
+        corners = omega (arith, P .counts .triangles, P .rooms .corners);
+        volumes = omega (arith, P .counts .triangles, P .rooms .volumes);
+        edges = record { ends = omega (arith, P .counts .edges, P .rooms .ends); lengths = omega (arith, P .counts .edges, P .rooms .lengths) };
+      },
+      omega (arith, P .counts .triangles, P .rooms .few-triangles),
+      N,
+      record {
+        inside = omega (arith, P .counts .edges, P .rooms .ends);
+        below = N .ends-in;
+        long = omega arith;
+        empty = λ s h. getD-replicate 2048 s (A .k .edges) 0 h;
+        nexts = omega (arith, P .counts .edges, P .rooms .few-edges);
+      },
+    )
 
 slice-aggregate-keep-ends : tie.Need-slice-aggregate-keep-ends
 slice-aggregate-keep-ends c = search needs
@@ -62,16 +62,16 @@ slice-aggregate-crack-listed-3 c = search needs
 crack-listed-requires : tie.Need-crack-listed-requires
 crack-listed-requires c κs = let P = c .before .before .before .before .before .before .before .before .before .before .before .before .before .before .before .before .before .before .before .before .before .before .before .before .before .before .before .before .before .before .before .before .before .before .before .pre in let A = c .before .before .before .before .before .before .before .before .before .before .before .before .before .before .before .before .before .before .before .before .before .before .before .before .before .before .before .before .before .before .before .before .before .before .before .args in let R = c .before .before .before .before .before .before .before .before .before .before .before .before .before .before .before .before .before .before .before .read-loads .kept in let K = c .before .before .before .before .before .before .before .before .before .before .before .before .keep-ends in
     let N = numbered (A .room) (A .k) (A .points .now) (A .roots .now) (A .corners .now) (A .volumes .now) (A .ends .now) (A .lengths .now) (A .outline .now) _ (P .0) in (
-  P .0,
-  record {
-    first = omega (arith, P .0 .counts .edges, P .0 .rooms .few-edges, K .kept .1 .1 .0, R .1 .1 .1 .1 .1 .1 .0);
-    second = omega (arith, P .0 .counts .edges, P .0 .rooms .few-edges, K .kept .1 .1 .1 .0, R .1 .1 .1 .1 .1 .1 .1 .0);
-    first-few = λ i l. omega (arith, K .ensures .first i l, N .ends-in .first i l);
-    second-few = λ i l. omega (arith, K .ensures .second i l, N .ends-in .second i l);
-    loads = record { long = λ q. omega (arith, P .0 .counts .triangles, P .0 .rooms .few-triangles, R .1 .1 .1 .1 .1 .1 .1 .1 .0) };
-    logged = P .1;
-  },
-)
+      P .0,
+      record {
+        first = omega (arith, P .0 .counts .edges, P .0 .rooms .few-edges, K .kept .1 .1 .0, R .1 .1 .1 .1 .1 .1 .0);
+        second = omega (arith, P .0 .counts .edges, P .0 .rooms .few-edges, K .kept .1 .1 .1 .0, R .1 .1 .1 .1 .1 .1 .1 .0);
+        first-few = λ i l. omega (arith, K .ensures .first i l, N .ends-in .first i l);
+        second-few = λ i l. omega (arith, K .ensures .second i l, N .ends-in .second i l);
+        loads = record { long = λ q. omega (arith, P .0 .counts .triangles, P .0 .rooms .few-triangles, R .1 .1 .1 .1 .1 .1 .1 .1 .0) };
+        logged = P .1;
+      },
+    )
 
 same-length : tie.Need-same-length
 same-length c = c .before .before .before .before .before .before .before .before .before .before .before .before .before .before .crack-listed .kept .1 .1 .1 .1 .1 .1 .1 .1 .1 .0
