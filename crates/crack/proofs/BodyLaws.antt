@@ -313,7 +313,3 @@ module _ (K : Kind) (min : ℕ) (is : List ℕ) where
 
     pub body-done : {at′ : Counts → World} (k : Counts) {s : Ran} → r ≡ Done k → Works (crackEnd K) L (at k) at′ s → Works (crack K min is) L W at′ s
     body-done k known G = works-as (λ R e. crack-is R) (works-then (works-known r (Done k) known F) G)
-
--- the whole by another name of its kind
-pub crack-as : (K : Kind) {K′ : Kind} → K ≡ K′ → (min : ℕ) (is : List ℕ) {L : Rooms} {W : World} {at : Counts → World} {r : Ran} → Works (crack K′ min is) L W at r → Works (crack K min is) L W at r
-crack-as K e min is {L} {W} {at} {r} F = subst (λ (x : Kind). Works (crack x min is) L W at r) (sym e) F
