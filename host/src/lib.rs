@@ -18,7 +18,7 @@
 //! # Ok::<(), cutting_bench::Refusal>(())
 //! ```
 //!
-//! A call takes some 820 KB of stack: the threads of the standard library (2 MiB) have enough, a thread of its own size should have 1 MiB.
+//! A call takes less than 512 KiB of stack: the threads of the standard library (2 MiB) have enough, a thread of its own size should have 1 MiB.
 #![deny(unsafe_code, missing_docs)]
 
 mod ask;

@@ -95,7 +95,7 @@ pub fn finish(
     ends: &mut [usize],
     lengths: &mut [f32],
     outline: &mut [usize],
-    log: &mut [usize],
+    log: &mut [u32],
 ) -> Answer
     requires { ⌜ RanFits ran (lent (now points) (now roots) (now corners) (now volumes) (now ends) (now lengths) (now outline) (now log)) ⌝ }
     ensures { λ r. ⌜ Finished ran
@@ -112,7 +112,7 @@ pub fn finish(
                 boundary: 0,
                 log: 0,
             };
-            mesh::whole::finish_all(
+            crate::closing::finish_all(
                 none,
                 points,
                 roots,
@@ -127,7 +127,7 @@ pub fn finish(
         }
         Ran::Done(k) => {
             let any = crate::logged::changed(k.log, log);
-            mesh::whole::finish_all(
+            crate::closing::finish_all(
                 k,
                 points,
                 roots,

@@ -1,4 +1,5 @@
 // A call that gives a mesh: it begins with a copy of the input, and ends with the answer and every lent place.
+mod closing;
 pub mod frame;
 pub mod logged;
 

@@ -7,14 +7,14 @@ ghost use Rattle.answer.specs.Framed.{kindChanges, wordsChange};
 ghost use Rattle.answer.specs.Answered.{frontOf};
 
 // Does an entry of this kind tell of something split or inserted?
-fn kind_changes(kind: usize) -> bool
+fn kind_changes(kind: u32) -> bool
     ensures { λ r. ⌜ r ≡ kindChanges kind ⌝ }
 {
     if kind == 1 { true } else { kind == 3 }
 }
 
 // Was anything split or inserted, by the first n entries of a log?
-pub fn changed(n: usize, log: &[usize]) -> bool
+pub fn changed(n: usize, log: &[u32]) -> bool
     requires { ⌜ n ≤ length (now log) / 6 ⌝ }
     ensures { λ r. ⌜ r ≡ wordsChange (logAt n (now (log .entry))) ⌝ }
 {
@@ -29,7 +29,7 @@ pub fn changed(n: usize, log: &[usize]) -> bool
 }
 
 // The first n entries of a log, or as many as it has.
-pub fn log_front(n: usize, log: &[usize]) -> &[usize]
+pub fn log_front(n: usize, log: &[u32]) -> &[u32]
     ensures { λ r. ⌜ now r ≡ frontOf n (now (log .entry)) ⌝ }
 {
     let most = log.len() / 6;

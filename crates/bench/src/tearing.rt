@@ -25,7 +25,7 @@ pub fn straddlers(
     ends: &mut [usize],
     lengths: &mut [f32],
     outline: &mut [usize],
-    log: &mut [usize],
+    log: &mut [u32],
 ) -> Answer
     ensures { λ r. ⌜ Answered (straddlersCall (sizesFit (given (now («in_points» .entry)) (now («in_roots» .entry)) (now («in_corners» .entry)) (now («in_volumes» .entry)) (now («in_ends» .entry)) (now («in_lengths» .entry)) (now («in_outline» .entry)))) (meshOf (given (now («in_points» .entry)) (now («in_roots» .entry)) (now («in_corners» .entry)) (now («in_volumes» .entry)) (now («in_ends» .entry)) (now («in_lengths» .entry)) (now («in_outline» .entry)))) (asRooms (roomsOf (lent (now (points .entry)) (now (roots .entry)) (now (corners .entry)) (now (volumes .entry)) (now (ends .entry)) (now (lengths .entry)) (now (outline .entry)) (now (log .entry)))))) (lent (now (points .entry)) (now (roots .entry)) (now (corners .entry)) (now (volumes .entry)) (now (ends .entry)) (now (lengths .entry)) (now (outline .entry)) (now (log .entry))) r
         (now (points .exit)) (now (roots .exit)) (now (corners .exit)) (now (volumes .exit)) (now (ends .exit)) (now (lengths .exit)) (now (outline .exit)) (now (log .exit)) ⌝ }
@@ -92,7 +92,7 @@ pub fn split(
     ends: &mut [usize],
     lengths: &mut [f32],
     outline: &mut [usize],
-    log: &mut [usize],
+    log: &mut [u32],
 ) -> Answer
     ensures { λ r. ⌜ Answered (splitCall (sizesFit (given (now («in_points» .entry)) (now («in_roots» .entry)) (now («in_corners» .entry)) (now («in_volumes» .entry)) (now («in_ends» .entry)) (now («in_lengths» .entry)) (now («in_outline» .entry)))) (meshOf (given (now («in_points» .entry)) (now («in_roots» .entry)) (now («in_corners» .entry)) (now («in_volumes» .entry)) (now («in_ends» .entry)) (now («in_lengths» .entry)) (now («in_outline» .entry)))) v (now (sides .entry)) (asRooms (roomsOf (lent (now (points .entry)) (now (roots .entry)) (now (corners .entry)) (now (volumes .entry)) (now (ends .entry)) (now (lengths .entry)) (now (outline .entry)) (now (log .entry)))))) (lent (now (points .entry)) (now (roots .entry)) (now (corners .entry)) (now (volumes .entry)) (now (ends .entry)) (now (lengths .entry)) (now (outline .entry)) (now (log .entry))) r
         (now (points .exit)) (now (roots .exit)) (now (corners .exit)) (now (volumes .exit)) (now (ends .exit)) (now (lengths .exit)) (now (outline .exit)) (now (log .exit)) ⌝ }
@@ -159,7 +159,7 @@ pub fn cut(
     ends: &mut [usize],
     lengths: &mut [f32],
     outline: &mut [usize],
-    log: &mut [usize],
+    log: &mut [u32],
 ) -> Answer
     ensures { λ r. ⌜ Answered (cutCall (sizesFit (given (now («in_points» .entry)) (now («in_roots» .entry)) (now («in_corners» .entry)) (now («in_volumes» .entry)) (now («in_ends» .entry)) (now («in_lengths» .entry)) (now («in_outline» .entry)))) (meshOf (given (now («in_points» .entry)) (now («in_roots» .entry)) (now («in_corners» .entry)) (now («in_volumes» .entry)) (now («in_ends» .entry)) (now («in_lengths» .entry)) (now («in_outline» .entry)))) (bladeFrom b0 b1) f (asRooms (roomsOf (lent (now (points .entry)) (now (roots .entry)) (now (corners .entry)) (now (volumes .entry)) (now (ends .entry)) (now (lengths .entry)) (now (outline .entry)) (now (log .entry)))))) (lent (now (points .entry)) (now (roots .entry)) (now (corners .entry)) (now (volumes .entry)) (now (ends .entry)) (now (lengths .entry)) (now (outline .entry)) (now (log .entry))) r
         (now (points .exit)) (now (roots .exit)) (now (corners .exit)) (now (volumes .exit)) (now (ends .exit)) (now (lengths .exit)) (now (outline .exit)) (now (log .exit)) ⌝ }
@@ -233,7 +233,7 @@ pub fn crack(
     ends: &mut [usize],
     lengths: &mut [f32],
     outline: &mut [usize],
-    log: &mut [usize],
+    log: &mut [u32],
 ) -> Answer
     ensures { λ r. ⌜ Answered (crackCall (sizesFit (given (now («in_points» .entry)) (now («in_roots» .entry)) (now («in_corners» .entry)) (now («in_volumes» .entry)) (now («in_ends» .entry)) (now («in_lengths» .entry)) (now («in_outline» .entry)))) (meshOf (given (now («in_points» .entry)) (now («in_roots» .entry)) (now («in_corners» .entry)) (now («in_volumes» .entry)) (now («in_ends» .entry)) (now («in_lengths» .entry)) (now («in_outline» .entry)))) (now (torn .entry)) minimum (asRooms (roomsOf (lent (now (points .entry)) (now (roots .entry)) (now (corners .entry)) (now (volumes .entry)) (now (ends .entry)) (now (lengths .entry)) (now (outline .entry)) (now (log .entry)))))) (lent (now (points .entry)) (now (roots .entry)) (now (corners .entry)) (now (volumes .entry)) (now (ends .entry)) (now (lengths .entry)) (now (outline .entry)) (now (log .entry))) r
         (now (points .exit)) (now (roots .exit)) (now (corners .exit)) (now (volumes .exit)) (now (ends .exit)) (now (lengths .exit)) (now (outline .exit)) (now (log .exit)) ⌝ }
@@ -282,7 +282,7 @@ pub fn crack(
 }
 
 // The filled front of a log, which a call that gives a mesh told n entries of: those entries, or as many as it has.
-pub fn log_front(n: usize, log: &[usize]) -> &[usize]
+pub fn log_front(n: usize, log: &[u32]) -> &[u32]
     ensures { λ r. ⌜ now r ≡ frontOf n (now (log .entry)) ⌝ }
 {
     answer::logged::log_front(n, log)

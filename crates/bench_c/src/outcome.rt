@@ -1,11 +1,11 @@
 // The reply of a C function that gives a mesh: the words of the answer and of the log in the lent bytes, and the number of the refusal.
 ghost use mathlib.Core.Path.{_≡_};
-ghost use Prim.Native.Nat.{_*_, _≤_, _<_};
+ghost use Prim.Native.Nat.{_+_, _*_, _≤_, _<_};
 ghost use mathlib.Core.List.{[]};
 ghost use lib.ListN.{length, take};
 ghost use Rattle.lists.specs.Lists.{pick};
 ghost use Rattle.model.specs.Reads.{refused, value};
-ghost use Rattle.image.specs.Words.{written};
+ghost use Rattle.image.specs.Words.{putWords, written};
 ghost use Rattle.bench_c.specs.Torn.{BothReplied};
 ghost use Rattle.bench_c.specs.Told.{doneWords, meshTold, logTold, Tellable, Telling};
 use mesh::Counts;
@@ -31,14 +31,26 @@ fn one_if(b: bool) -> usize
     0
 }
 
+// Writes words of a log from word `at` on.
+fn store_log(words: &[u32], at: usize, log: &mut [u8])
+    requires { ⌜ 4 * (at + length (now words)) ≤ length (now log) ⌝ }
+    ensures { λ _. ⌜ now (log .exit) ≡ putWords (now (log .entry)) at (now (words .entry)) ⌝ }
+{
+    let mut i: usize = 0;
+    while i < words.len() {
+        image::put_word(log, at + i, words[i] as usize);
+        i += 1;
+    }
+}
+
 // Writes the words of the first n entries of a log, and 0 behind them.
-fn log_out(words: &[usize], n: usize, log: &mut [u8])
+fn log_out(words: &[u32], n: usize, log: &mut [u8])
     requires { ⌜ (6 * n ≤ length (now words)) × (24 * n ≤ length (now log)) ⌝ }
     ensures { λ _. ⌜ now (log .exit) ≡ written (length (now (log .entry))) (take (6 * n) (now (words .entry))) ⌝ }
 {
     image::clear_bytes(log);
     let end = 6 * n;
-    image::store_words(&words[..end], 0, log);
+    store_log(&words[..end], 0, log);
 }
 
 // The reply to a mesh in seven blocks and a log; 4 where the answer's words have no room.
@@ -52,7 +64,7 @@ fn reply_done(
     ends: &[usize],
     lengths: &[f32],
     outline: &[usize],
-    words: &[usize],
+    words: &[u32],
     out: &mut [u8],
     log: &mut [u8],
 ) -> u32
@@ -94,7 +106,7 @@ pub fn reply_ran(
     ends: &[usize],
     lengths: &[f32],
     outline: &[usize],
-    words: &[usize],
+    words: &[u32],
     out: &mut [u8],
     log: &mut [u8],
 ) -> u32

@@ -77,7 +77,7 @@ fn reply_work(
     requires { ⌜ (imageSized (now bytes) ≡ true) × Limited room (length (now log)) × RoomsLent room (lent (now points) (now roots) (now corners) (now volumes) (now ends) (now lengths) (now outline) []) × Begun (refusal (imageSized (now bytes)) (meshOf (imageOf (now bytes))) (jobNumbers job) (jobArguments job (now list) (asRooms room) (meshOf (imageOf (now bytes))))) room (meshOf (imageOf (now bytes))) (meshAt (sizes (imageOf (now bytes))) (now points) (now roots) (now corners) (now volumes) (now ends) (now lengths) (now outline)) 0 ⌝ }
     ensures { λ r. ⌜ OutcomeReplied (jobCall job (now (list .entry)) (imageSized (now (bytes .entry))) (meshOf (imageOf (now (bytes .entry)))) (asRooms room)) (length (now (out .entry))) (length (now (log .entry))) r (now (out .exit)) (now (log .exit)) ⌝ }
 {
-    let mut words = [0usize; 24576];
+    let mut words = [0u32; 24576];
     let k = crate::placing::image_counts(bytes);
     let ran = perform::calls::work(
         job,

@@ -218,25 +218,6 @@ module _ (K : Kind) {L : Rooms} {W : World} (t : Bool) (found : (S : Run) → W 
   pub end-done : {at at′ : Counts → World} (r : Ran) (k : Counts) {s : Ran} → r ≡ Done k → t ≡ true → Works (splitPinched K) L W at r → Works (removeStraddlers K) L (at k) at′ s → Works (crackEnd K) L W at′ s
   end-done r k known e F G = end-split e (works-then (works-known r (Done k) known F) G)
 
--- no particle is pinched where the elements are no triangles
-pub unpinched : (K : Kind) → (K ≡ Triangles → ⊥) → {L : Rooms} {at : Counts → World} (k : Counts) → Within k L → Works (splitPinched K) L (at k) at (Done k)
-unfolding splitPinched
-unpinched Triangles n k b = absurd (n refl)
-unpinched Straps n k b = works-stay k b
-unpinched Nothing n k b = works-stay k b
-
--- straps are no triangles, and neither is nothing
-abbrev facets? : Kind → Bool
-facets? Triangles = true
-facets? Straps = false
-facets? Nothing = false
-
-pub straps-plain : Straps ≡ Triangles → ⊥
-straps-plain e = false≢true (ap facets? e)
-
-pub nothing-plain : Nothing ≡ Triangles → ⊥
-nothing-plain e = false≢true (ap facets? e)
-
 -- the end goes on from what is before it
 end-onward : (K : Kind) (S : Run) → Onward S (crackEnd K S)
 unfolding crackEnd
@@ -332,7 +313,3 @@ module _ (K : Kind) (min : ℕ) (is : List ℕ) where
 
     pub body-done : {at′ : Counts → World} (k : Counts) {s : Ran} → r ≡ Done k → Works (crackEnd K) L (at k) at′ s → Works (crack K min is) L W at′ s
     body-done k known G = works-as (λ R e. crack-is R) (works-then (works-known r (Done k) known F) G)
-
--- the whole by another name of its kind
-pub crack-as : (K : Kind) {K′ : Kind} → K ≡ K′ → (min : ℕ) (is : List ℕ) {L : Rooms} {W : World} {at : Counts → World} {r : Ran} → Works (crack K′ min is) L W at r → Works (crack K min is) L W at r
-crack-as K e min is {L} {W} {at} {r} F = subst (λ (x : Kind). Works (crack x min is) L W at r) (sym e) F

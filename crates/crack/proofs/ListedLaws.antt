@@ -29,7 +29,7 @@ pub record ListedTo (K : Kind) (min : ℕ) (is : List ℕ) (e : ℕ) (from to : 
 
 module _ (K : Kind) (min : ℕ) (is : List ℕ) (e : ℕ) (from to : List ℕ) (loads : List Float) (L : Rooms) (k₀ : Counts) (points₀ : List Float) (roots₀ corners₀ : List ℕ) (volumes : List Float) (ends₀ : List ℕ) (lengths₀ : List Float) (outline₀ log₀ : List ℕ)
     (Y : Ready L k₀ (lent points₀ roots₀ corners₀ volumes ends₀ lengths₀ outline₀ log₀) (meshAt k₀ points₀ roots₀ corners₀ volumes ends₀ lengths₀ outline₀))
-    (X : CracksRoom K e (length from) (length to) k₀ (length loads) log₀) where
+    (X : CracksRoom K e from to k₀ (length loads) log₀) where
   abbrev world₀ : World
   world₀ = worldAt k₀ points₀ roots₀ corners₀ volumes ends₀ lengths₀ outline₀ log₀
 
@@ -60,12 +60,14 @@ module _ (K : Kind) (min : ℕ) (is : List ℕ) (e : ℕ) (from to : List ℕ) (
         ∙ cracks-triangles K min (k₀ .triangles) (endsListed e from to (take i is)) loads L world₀ at k (O .told) (X .logged .entries) (X .logged .words)
         ∙ triangles-count k₀ points₀ roots₀ corners₀ volumes ends₀ lengths₀ outline₀
 
-    pub to-room : CracksRoom K e (length from) (length to) k (length loads) log
+    pub to-room : CracksRoom K e from to k (length loads) log
     unfolding worldAt
     to-room =
         record {
           first = X .first;
           second = X .second;
+          first-few = X .first-few;
+          second-few = X .second-few;
           loads = record { long = λ q. let h = X .loads .long q in let t = to-triangles in omega arith };
           logged = record {
             entries = cracks-entries K min (k₀ .triangles) (endsListed e from to (take i is)) loads L world₀ at k (O .told) (X .logged .entries) (X .logged .words);

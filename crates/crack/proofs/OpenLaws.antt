@@ -287,11 +287,11 @@ module _ (K : Kind) (min a b p t : ℕ) (loads : List Float) (L : Rooms) (W : Wo
 -- ---- over the blocks
 
 -- both ends of a pair that is there may be tried
-pub asked-first : (x y p : ℕ) → x < p → y < p → WayAsked x y x y p
-asked-first x y p h g = record { here = h; ends = record { x-in = h; y-in = g; other = sym (ap (λ (b : Bool). pick b y x) (eq-eqb x x refl)) } }
+pub asked-first : (x y a b p : ℕ) → a < 1024 → b < 1024 → x < p → y < p → WayAsked x y x y a b p
+asked-first x y a b p i j h g = record { here = h; ends = record { a-few = i; b-few = j; x-in = h; y-in = g; other = sym (ap (λ (b : Bool). pick b y x) (eq-eqb x x refl)) } }
 
-pub asked-second : (x y p : ℕ) → x < p → y < p → WayAsked y x x y p
-asked-second x y p h g = record { here = g; ends = record { x-in = h; y-in = g; other = by (ℕ-discrete y x) } }
+pub asked-second : (x y a b p : ℕ) → a < 1024 → b < 1024 → x < p → y < p → WayAsked y x x y a b p
+asked-second x y a b p i j h g = record { here = g; ends = record { a-few = i; b-few = j; x-in = h; y-in = g; other = by (ℕ-discrete y x) } }
   where
     by : Dec (y ≡ x) → x ≡ pick (eqb y x) y x
     by (yes e) = sym e ∙ sym (ap (λ (b : Bool). pick b y x) (eq-eqb y x e))
@@ -305,14 +305,14 @@ pub chosen-second : (t : Bool) (v a b : ℕ) → t ≡ false → v ≡ b → v �
 chosen-second t v a b e h = h ∙ ap (λ (s : Bool). pick s a b) (sym e)
 
 -- both in the order of a test
-asked-both : (t : Bool) (x y p : ℕ) → x < p → y < p → WayAsked (pick t y x) (pick t x y) x y p × WayAsked (pick t x y) (pick t y x) x y p
-asked-both true x y p h g = (asked-second x y p h g, asked-first x y p h g)
-asked-both false x y p h g = (asked-first x y p h g, asked-second x y p h g)
+asked-both : (t : Bool) (x y a b p : ℕ) → a < 1024 → b < 1024 → x < p → y < p → WayAsked (pick t y x) (pick t x y) x y a b p × WayAsked (pick t x y) (pick t y x) x y a b p
+asked-both true x y a b p i j h g = (asked-second x y a b p i j h g, asked-first x y a b p i j h g)
+asked-both false x y a b p i j h g = (asked-first x y a b p i j h g, asked-second x y a b p i j h g)
 
-pub asked-turned : (t : Bool) (x y p v w : ℕ) → v ≡ pick t y x → w ≡ pick t x y → x < p → y < p → WayAsked v w x y p × WayAsked w v x y p
-asked-turned t x y p v w e f h g =
-    subst (λ (z : ℕ). WayAsked v z x y p × WayAsked z v x y p) (sym f)
-    (subst (λ (z : ℕ). WayAsked z (pick t x y) x y p × WayAsked (pick t x y) z x y p) (sym e) (asked-both t x y p h g))
+pub asked-turned : (t : Bool) (x y a b p v w : ℕ) → v ≡ pick t y x → w ≡ pick t x y → a < 1024 → b < 1024 → x < p → y < p → WayAsked v w x y a b p × WayAsked w v x y a b p
+asked-turned t x y a b p v w e f i j h g =
+    subst (λ (z : ℕ). WayAsked v z x y a b p × WayAsked z v x y a b p) (sym f)
+    (subst (λ (z : ℕ). WayAsked z (pick t x y) x y a b p × WayAsked (pick t x y) z x y a b p) (sym e) (asked-both t x y a b p i j h g))
 
 module _ (L : Rooms) (k : Counts) (points : List Float) (roots corners : List ℕ) (volumes : List Float) (ends : List ℕ) (lengths : List Float) (outline log : List ℕ)
     (P : Ready L k (lent points roots corners volumes ends lengths outline log) (meshAt k points roots corners volumes ends lengths outline)) where
@@ -362,7 +362,7 @@ module _ (L : Rooms) (k : Counts) (points : List Float) (roots corners : List �
         indices = P .indices;
       }
 
-  module _ {v w x y : ℕ} (A : WayAsked v w x y (k .particles)) where
+  module _ {v w x y a b : ℕ} (A : WayAsked v w x y a b (k .particles)) where
     other-in : w < k .particles
     other-in = subst (λ (z : ℕ). z < k .particles) (sym (A .ends .other)) (pick-both (λ (z : ℕ). z < k .particles) (eqb v x) y x (A .ends .y-in) (A .ends .x-in))
 

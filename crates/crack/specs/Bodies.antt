@@ -38,10 +38,12 @@ endsListed e from to is = map (λ i. (getD from i 0, getD to i 0)) (sift (λ i. 
 
 -- ---- the torn edges in turn
 
--- the tables hold the ends of e edges and a load for each triangle; and a log
-pub record CracksRoom (K : Kind) (e lf lt : ℕ) (k : Counts) (lo : ℕ) (log : List ℕ) : Type 0 where
-  pub first : e ≤ lf
-  pub second : e ≤ lt
+-- the tables hold the ends of e edges, which are numbers of particles, and a load for each triangle; and a log
+pub record CracksRoom (K : Kind) (e : ℕ) (from to : List ℕ) (k : Counts) (lo : ℕ) (log : List ℕ) : Type 0 where
+  pub first : e ≤ length from
+  pub second : e ≤ length to
+  pub first-few : (i : ℕ) → i < e → getD from i 0 < 1024
+  pub second-few : (i : ℕ) → i < e → getD to i 0 < 1024
   pub loads : LoadsLong K k lo
   pub logged : Logged (k .log) log
 

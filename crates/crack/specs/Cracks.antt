@@ -28,10 +28,10 @@ use Rattle.crack.specs.declared.edges.Tried.the-variants.{Not, Tore}
 unfoldable pub openWay : Kind → List Float → ℕ → Mesh → ℕ → ℕ → Option Way
 openWay K ls min M v w = find (λ (p : Way). opensWithoutConfetti K M min (p .opening)) (wayAt K ls M v w)
 
--- v is there, an end of (x, y) whose other is w
-pub record WayAsked (v w x y p : ℕ) : Type 0 where
+-- v is there, an end of (x, y) whose other is w; (x, y) stands for the torn edge (a, b) of the input
+pub record WayAsked (v w x y a b p : ℕ) : Type 0 where
   pub here : v < p
-  pub ends : TearAsked v w x y p
+  pub ends : TearAsked v w x y a b p
 
 -- what was told of a split O across (x, y): it leaves confetti, and the blocks hold what they held; or it was made, and the torn edge (a, b) logged
 abbrev pub OpenedTo : Kind → ℕ → Opening → ℕ × ℕ → ℕ × ℕ → Rooms → Counts → World → (Counts → World) → Tried → Type 0

@@ -3,7 +3,6 @@ ghost use mathlib.Core.Path.{_≡_};
 ghost use mathlib.Core.List.{[], _∷_};
 ghost use lib.ListN.{length};
 ghost use Rattle.elements.specs.Table.{kindIs};
-ghost use Rattle.model.specs.Elements.{Triangles};
 ghost use Rattle.model.specs.Crack.{crack};
 ghost use Rattle.mesh.specs.At.{meshAt};
 ghost use Rattle.mesh.specs.Log.{worldAt};
@@ -13,6 +12,7 @@ ghost use Rattle.crack.specs.Bodies.{EndsRoom, EndsKept, endsListed, Cra
 use elements::Kind;
 use mesh::Counts;
 use mesh::Rooms;
+use strap::kinds::Pass;
 use work::Ran;
 
 // Keeps the ends of the first e edges in two tables, as a crack changes their block.
@@ -44,9 +44,9 @@ fn crack_numbered(
     ends: &mut [usize],
     lengths: &mut [f32],
     outline: &mut [usize],
-    log: &mut [usize],
+    log: &mut [u32],
 ) -> Ran
-    requires { ⌜ Ready room k (lent (now points) (now roots) (now corners) (now volumes) (now ends) (now lengths) (now outline) (now log)) (meshAt k (now points) (now roots) (now corners) (now volumes) (now ends) (now lengths) (now outline)) × CracksRoom (kindIs kind) e (length (now from)) (length (now to)) k (length (now loads)) (now log) ⌝ }
+    requires { ⌜ Ready room k (lent (now points) (now roots) (now corners) (now volumes) (now ends) (now lengths) (now outline) (now log)) (meshAt k (now points) (now roots) (now corners) (now volumes) (now ends) (now lengths) (now outline)) × CracksRoom (kindIs kind) e (now from) (now to) k (length (now loads)) (now log) ⌝ }
     ensures { λ r. ⌜ CracksTold (kindIs kind) minimum (k .triangles) (endsListed e (now (from .entry)) (now (to .entry)) (number ∷ [])) (now (loads .entry)) room (worldAt k (now (points .entry)) (now (roots .entry)) (now (corners .entry)) (now (volumes .entry)) (now (ends .entry)) (now (lengths .entry)) (now (outline .entry)) (now (log .entry))) (λ q. worldAt q (now (points .exit)) (now (roots .exit)) (now (corners .exit)) (now (volumes .entry)) (now (ends .exit)) (now (lengths .exit)) (now (outline .exit)) (now (log .exit))) r ⌝ }
 {
     if number >= e {
@@ -89,9 +89,9 @@ fn crack_listed(
     ends: &mut [usize],
     lengths: &mut [f32],
     outline: &mut [usize],
-    log: &mut [usize],
+    log: &mut [u32],
 ) -> Ran
-    requires { ⌜ Ready room k (lent (now points) (now roots) (now corners) (now volumes) (now ends) (now lengths) (now outline) (now log)) (meshAt k (now points) (now roots) (now corners) (now volumes) (now ends) (now lengths) (now outline)) × CracksRoom (kindIs kind) e (length (now from)) (length (now to)) k (length (now loads)) (now log) ⌝ }
+    requires { ⌜ Ready room k (lent (now points) (now roots) (now corners) (now volumes) (now ends) (now lengths) (now outline) (now log)) (meshAt k (now points) (now roots) (now corners) (now volumes) (now ends) (now lengths) (now outline)) × CracksRoom (kindIs kind) e (now from) (now to) k (length (now loads)) (now log) ⌝ }
     ensures { λ r. ⌜ CracksTold (kindIs kind) minimum (k .triangles) (endsListed e (now (from .entry)) (now (to .entry)) (now (torn .entry))) (now (loads .entry)) room (worldAt k (now (points .entry)) (now (roots .entry)) (now (corners .entry)) (now (volumes .entry)) (now (ends .entry)) (now (lengths .entry)) (now (outline .entry)) (now (log .entry))) (λ q. worldAt q (now (points .exit)) (now (roots .exit)) (now (corners .exit)) (now (volumes .entry)) (now (ends .exit)) (now (lengths .exit)) (now (outline .exit)) (now (log .exit))) r ⌝ }
 {
     let mut counts = k;
@@ -125,7 +125,7 @@ fn crack_listed(
     Ran::Done(counts)
 }
 
-// Cracks the torn edges of a list in turn, by their ends and the loads of the input.
+// Cracks the torn edges of a list in turn, by their ends and the loads of the input. The tables of the ends first hold the links that the loads are read by.
 fn crack_torn(
     kind: Kind,
     minimum: usize,
@@ -139,15 +139,14 @@ fn crack_torn(
     ends: &mut [usize],
     lengths: &mut [f32],
     outline: &mut [usize],
-    log: &mut [usize],
+    log: &mut [u32],
 ) -> Ran
     requires { ⌜ Ready room k (lent (now points) (now roots) (now corners) (now volumes) (now ends) (now lengths) (now outline) (now log)) (meshAt k (now points) (now roots) (now corners) (now volumes) (now ends) (now lengths) (now outline)) × Logged (k .log) (now log) ⌝ }
     ensures { λ r. ⌜ Works (crackTurns (kindIs kind) minimum (now (torn .entry))) room (worldAt k (now (points .entry)) (now (roots .entry)) (now (corners .entry)) (now (volumes .entry)) (now (ends .entry)) (now (lengths .entry)) (now (outline .entry)) (now (log .entry))) (λ q. worldAt q (now (points .exit)) (now (roots .exit)) (now (corners .exit)) (now (volumes .entry)) (now (ends .exit)) (now (lengths .exit)) (now (outline .exit)) (now (log .exit))) r ⌝ }
 {
-    let mut from = [0usize; 2048];
+    let mut from = [k.edges; 2048];
     let mut to = [0usize; 2048];
     let mut loads = [0.0f32; 1024];
-    keep_ends(k.edges, ends, &mut from, &mut to);
     tear::loads::read_loads(
         k.triangles,
         k.edges,
@@ -155,8 +154,11 @@ fn crack_torn(
         volumes,
         ends,
         lengths,
+        &mut from,
+        &mut to,
         &mut loads,
     );
+    keep_ends(k.edges, ends, &mut from, &mut to);
     crack_listed(
         kind,
         minimum,
@@ -178,8 +180,9 @@ fn crack_torn(
     )
 }
 
-// Behind the torn edges of triangles, if anything split: the pinched particles, and then the straddlers across pieces.
-fn finish_facets(
+// Behind the torn edges, if anything split: the pinched particles, and then the straddlers across pieces.
+fn finish(
+    kind: Kind,
     k: Counts,
     room: Rooms,
     points: &mut [f32],
@@ -189,19 +192,15 @@ fn finish_facets(
     ends: &mut [usize],
     lengths: &mut [f32],
     outline: &mut [usize],
-    log: &mut [usize],
+    log: &mut [u32],
 ) -> Ran
     requires { ⌜ Ready room k (lent (now points) (now roots) (now corners) (now volumes) (now ends) (now lengths) (now outline) (now log)) (meshAt k (now points) (now roots) (now corners) (now volumes) (now ends) (now lengths) (now outline)) × Logged (k .log) (now log) ⌝ }
-    ensures { λ r. ⌜ Works (crackEnd Triangles) room (worldAt k (now (points .entry)) (now (roots .entry)) (now (corners .entry)) (now (volumes .entry)) (now (ends .entry)) (now (lengths .entry)) (now (outline .entry)) (now (log .entry))) (λ q. worldAt q (now (points .exit)) (now (roots .exit)) (now (corners .exit)) (now (volumes .entry)) (now (ends .exit)) (now (lengths .exit)) (now (outline .exit)) (now (log .exit))) r ⌝ }
+    ensures { λ r. ⌜ Works (crackEnd (kindIs kind)) room (worldAt k (now (points .entry)) (now (roots .entry)) (now (corners .entry)) (now (volumes .entry)) (now (ends .entry)) (now (lengths .entry)) (now (outline .entry)) (now (log .entry))) (λ q. worldAt q (now (points .exit)) (now (roots .exit)) (now (corners .exit)) (now (volumes .entry)) (now (ends .exit)) (now (lengths .exit)) (now (outline .exit)) (now (log .exit))) r ⌝ }
 {
-    let mut marks = [0usize; 1024];
-    let mut numbers = [0usize; 2048];
-    let mut verts = [0usize; 4096];
-    let mut measures = [0.0f32; 2048];
-    let mut sides = [0usize; 2048];
-    let mut groups = [0usize; 2048];
     if marks::particles::any_split(k.log, log) {
-        let ran = cut::facets::split_pinched(
+        let ran = strap::kinds::run(
+            Pass::Pinched,
+            kind,
             k,
             room,
             points,
@@ -212,18 +211,12 @@ fn finish_facets(
             lengths,
             outline,
             log,
-            &mut marks,
-            &mut numbers,
-            &mut verts,
-            &mut measures,
-            &mut sides,
-            &mut groups,
         );
         let Ran::Done(next) = ran else {
             return ran;
         };
         return straddlers::across::remove_straddlers(
-            Kind::Triangles,
+            kind,
             next,
             room,
             corners,
@@ -237,142 +230,7 @@ fn finish_facets(
     Ran::Done(k)
 }
 
-// Behind the torn edges of any other mesh, if anything split: the straddlers across pieces.
-fn finish_plain(
-    kind: Kind,
-    k: Counts,
-    room: Rooms,
-    points: &[f32],
-    roots: &[usize],
-    corners: &[usize],
-    volumes: &[f32],
-    ends: &mut [usize],
-    lengths: &mut [f32],
-    outline: &mut [usize],
-    log: &mut [usize],
-) -> Ran
-    requires { ⌜ Ready room k (lent (now points) (now roots) (now corners) (now volumes) (now ends) (now lengths) (now outline) (now log)) (meshAt k (now points) (now roots) (now corners) (now volumes) (now ends) (now lengths) (now outline)) × Logged (k .log) (now log) × (kindIs kind ≡ Triangles → ⊥) ⌝ }
-    ensures { λ r. ⌜ Works (crackEnd (kindIs kind)) room (worldAt k (now (points .entry)) (now (roots .entry)) (now (corners .entry)) (now (volumes .entry)) (now (ends .entry)) (now (lengths .entry)) (now (outline .entry)) (now (log .entry))) (λ q. worldAt q (now (points .entry)) (now (roots .entry)) (now (corners .entry)) (now (volumes .entry)) (now (ends .exit)) (now (lengths .exit)) (now (outline .exit)) (now (log .exit))) r ⌝ }
-{
-    if marks::particles::any_split(k.log, log) {
-        return straddlers::across::remove_straddlers(
-            kind,
-            k,
-            room,
-            corners,
-            volumes,
-            ends,
-            lengths,
-            outline,
-            log,
-        );
-    }
-    Ran::Done(k)
-}
-
-// Cracks a mesh of triangles across torn edges of the input, each in turn, and then does what comes behind them.
-fn crack_facets(
-    minimum: usize,
-    torn: &[usize],
-    k: Counts,
-    room: Rooms,
-    points: &mut [f32],
-    roots: &mut [usize],
-    corners: &mut [usize],
-    volumes: &[f32],
-    ends: &mut [usize],
-    lengths: &mut [f32],
-    outline: &mut [usize],
-    log: &mut [usize],
-) -> Ran
-    requires { ⌜ Ready room k (lent (now points) (now roots) (now corners) (now volumes) (now ends) (now lengths) (now outline) (now log)) (meshAt k (now points) (now roots) (now corners) (now volumes) (now ends) (now lengths) (now outline)) × Logged (k .log) (now log) ⌝ }
-    ensures { λ r. ⌜ Works (crack Triangles minimum (now (torn .entry))) room (worldAt k (now (points .entry)) (now (roots .entry)) (now (corners .entry)) (now (volumes .entry)) (now (ends .entry)) (now (lengths .entry)) (now (outline .entry)) (now (log .entry))) (λ q. worldAt q (now (points .exit)) (now (roots .exit)) (now (corners .exit)) (now (volumes .entry)) (now (ends .exit)) (now (lengths .exit)) (now (outline .exit)) (now (log .exit))) r ⌝ }
-{
-    let ran = crack_torn(
-        Kind::Triangles,
-        minimum,
-        torn,
-        k,
-        room,
-        points,
-        roots,
-        corners,
-        volumes,
-        ends,
-        lengths,
-        outline,
-        log,
-    );
-    let Ran::Done(counts) = ran else {
-        return ran;
-    };
-    finish_facets(
-        counts,
-        room,
-        points,
-        roots,
-        corners,
-        volumes,
-        ends,
-        lengths,
-        outline,
-        log,
-    )
-}
-
-// The same of any other mesh.
-fn crack_plain(
-    kind: Kind,
-    minimum: usize,
-    torn: &[usize],
-    k: Counts,
-    room: Rooms,
-    points: &mut [f32],
-    roots: &mut [usize],
-    corners: &mut [usize],
-    volumes: &[f32],
-    ends: &mut [usize],
-    lengths: &mut [f32],
-    outline: &mut [usize],
-    log: &mut [usize],
-) -> Ran
-    requires { ⌜ Ready room k (lent (now points) (now roots) (now corners) (now volumes) (now ends) (now lengths) (now outline) (now log)) (meshAt k (now points) (now roots) (now corners) (now volumes) (now ends) (now lengths) (now outline)) × Logged (k .log) (now log) × (kindIs kind ≡ Triangles → ⊥) ⌝ }
-    ensures { λ r. ⌜ Works (crack (kindIs kind) minimum (now (torn .entry))) room (worldAt k (now (points .entry)) (now (roots .entry)) (now (corners .entry)) (now (volumes .entry)) (now (ends .entry)) (now (lengths .entry)) (now (outline .entry)) (now (log .entry))) (λ q. worldAt q (now (points .exit)) (now (roots .exit)) (now (corners .exit)) (now (volumes .entry)) (now (ends .exit)) (now (lengths .exit)) (now (outline .exit)) (now (log .exit))) r ⌝ }
-{
-    let ran = crack_torn(
-        kind,
-        minimum,
-        torn,
-        k,
-        room,
-        points,
-        roots,
-        corners,
-        volumes,
-        ends,
-        lengths,
-        outline,
-        log,
-    );
-    let Ran::Done(counts) = ran else {
-        return ran;
-    };
-    finish_plain(
-        kind,
-        counts,
-        room,
-        points,
-        roots,
-        corners,
-        volumes,
-        ends,
-        lengths,
-        outline,
-        log,
-    )
-}
-
-// Cracks the body across torn edges of the input, each in turn, and then does what comes behind them, by its kind.
+// Cracks the body across torn edges of the input, each in turn, and then does what comes behind them.
 pub fn crack_body(
     kind: Kind,
     minimum: usize,
@@ -386,55 +244,40 @@ pub fn crack_body(
     ends: &mut [usize],
     lengths: &mut [f32],
     outline: &mut [usize],
-    log: &mut [usize],
+    log: &mut [u32],
 ) -> Ran
     requires { ⌜ Ready room k (lent (now points) (now roots) (now corners) (now volumes) (now ends) (now lengths) (now outline) (now log)) (meshAt k (now points) (now roots) (now corners) (now volumes) (now ends) (now lengths) (now outline)) × Logged (k .log) (now log) ⌝ }
     ensures { λ r. ⌜ Works (crack (kindIs kind) minimum (now (torn .entry))) room (worldAt k (now (points .entry)) (now (roots .entry)) (now (corners .entry)) (now (volumes .entry)) (now (ends .entry)) (now (lengths .entry)) (now (outline .entry)) (now (log .entry))) (λ q. worldAt q (now (points .exit)) (now (roots .exit)) (now (corners .exit)) (now (volumes .entry)) (now (ends .exit)) (now (lengths .exit)) (now (outline .exit)) (now (log .exit))) r ⌝ }
 {
-    match kind {
-        Kind::Triangles => crack_facets(
-            minimum,
-            torn,
-            k,
-            room,
-            points,
-            roots,
-            corners,
-            volumes,
-            ends,
-            lengths,
-            outline,
-            log,
-        ),
-        Kind::Straps => crack_plain(
-            Kind::Straps,
-            minimum,
-            torn,
-            k,
-            room,
-            points,
-            roots,
-            corners,
-            volumes,
-            ends,
-            lengths,
-            outline,
-            log,
-        ),
-        Kind::Nothing => crack_plain(
-            Kind::Nothing,
-            minimum,
-            torn,
-            k,
-            room,
-            points,
-            roots,
-            corners,
-            volumes,
-            ends,
-            lengths,
-            outline,
-            log,
-        ),
-    }
+    let ran = crack_torn(
+        kind,
+        minimum,
+        torn,
+        k,
+        room,
+        points,
+        roots,
+        corners,
+        volumes,
+        ends,
+        lengths,
+        outline,
+        log,
+    );
+    let Ran::Done(counts) = ran else {
+        return ran;
+    };
+    finish(
+        kind,
+        counts,
+        room,
+        points,
+        roots,
+        corners,
+        volumes,
+        ends,
+        lengths,
+        outline,
+        log,
+    )
 }

@@ -50,9 +50,9 @@ fn open_way(
     ends: &mut [usize],
     lengths: &mut [f32],
     outline: &mut [usize],
-    log: &mut [usize],
+    log: &mut [u32],
 ) -> Tried
-    requires { ⌜ Ready room k (lent (now points) (now roots) (now corners) (now volumes) (now ends) (now lengths) (now outline) (now log)) (meshAt k (now points) (now roots) (now corners) (now volumes) (now ends) (now lengths) (now outline)) × FanSided (kindIs kind) (meshAt k (now points) (now roots) (now corners) (now volumes) (now ends) (now lengths) (now outline)) v n (now numbers) (now verts) (now measures) (now sides) × (twoSided (meshAt k (now points) (now roots) (now corners) (now volumes) (now ends) (now lengths) (now outline)) v (take n (now sides)) ≡ true) × TearAsked v w x y (k .particles) × (2048 ≤ length (now sides)) ⌝ }
+    requires { ⌜ Ready room k (lent (now points) (now roots) (now corners) (now volumes) (now ends) (now lengths) (now outline) (now log)) (meshAt k (now points) (now roots) (now corners) (now volumes) (now ends) (now lengths) (now outline)) × FanSided (kindIs kind) (meshAt k (now points) (now roots) (now corners) (now volumes) (now ends) (now lengths) (now outline)) v n (now numbers) (now verts) (now measures) (now sides) × (twoSided (meshAt k (now points) (now roots) (now corners) (now volumes) (now ends) (now lengths) (now outline)) v (take n (now sides)) ≡ true) × TearAsked v w x y a b (k .particles) × (2048 ≤ length (now sides)) ⌝ }
     ensures { λ r. ⌜ OpenedTo (kindIs kind) minimum (openingOf (kindIs kind) (meshAt k (now (points .entry)) (now (roots .entry)) (now (corners .entry)) (now (volumes .entry)) (now (ends .entry)) (now (lengths .entry)) (now (outline .entry))) v (take n (now (sides .entry)))) (a, b) (x, y) room k
         (worldAt k (now (points .entry)) (now (roots .entry)) (now (corners .entry)) (now (volumes .entry)) (now (ends .entry)) (now (lengths .entry)) (now (outline .entry)) (now (log .entry)))
         (λ q. worldAt q (now (points .exit)) (now (roots .exit)) (now (corners .exit)) (now (volumes .entry)) (now (ends .exit)) (now (lengths .exit)) (now (outline .exit)) (now (log .exit))) r ⌝ }
@@ -74,6 +74,7 @@ fn open_way(
         lengths,
         outline,
         &groups,
+        sides,
     ) {
         return Tried::Tore(tear::opens::tear_open(
             kind,
@@ -124,9 +125,9 @@ fn try_way(
     ends: &mut [usize],
     lengths: &mut [f32],
     outline: &mut [usize],
-    log: &mut [usize],
+    log: &mut [u32],
 ) -> Tried
-    requires { ⌜ Ready room k (lent (now points) (now roots) (now corners) (now volumes) (now ends) (now lengths) (now outline) (now log)) (meshAt k (now points) (now roots) (now corners) (now volumes) (now ends) (now lengths) (now outline)) × WayAsked v w x y (k .particles) ⌝ }
+    requires { ⌜ Ready room k (lent (now points) (now roots) (now corners) (now volumes) (now ends) (now lengths) (now outline) (now log)) (meshAt k (now points) (now roots) (now corners) (now volumes) (now ends) (now lengths) (now outline)) × WayAsked v w x y a b (k .particles) ⌝ }
     ensures { λ r. ⌜ TriedTo (kindIs kind) minimum v w (a, b) (x, y) room k
         (worldAt k (now (points .entry)) (now (roots .entry)) (now (corners .entry)) (now (volumes .entry)) (now (ends .entry)) (now (lengths .entry)) (now (outline .entry)) (now (log .entry)))
         (λ q. worldAt q (now (points .exit)) (now (roots .exit)) (now (corners .exit)) (now (volumes .entry)) (now (ends .exit)) (now (lengths .exit)) (now (outline .exit)) (now (log .exit))) r ⌝ }
@@ -201,9 +202,9 @@ fn crack_ends(
     ends: &mut [usize],
     lengths: &mut [f32],
     outline: &mut [usize],
-    log: &mut [usize],
+    log: &mut [u32],
 ) -> Ran
-    requires { ⌜ Ready room k (lent (now points) (now roots) (now corners) (now volumes) (now ends) (now lengths) (now outline) (now log)) (meshAt k (now points) (now roots) (now corners) (now volumes) (now ends) (now lengths) (now outline)) × WayAsked v w x y (k .particles) × WayAsked w v x y (k .particles) ⌝ }
+    requires { ⌜ Ready room k (lent (now points) (now roots) (now corners) (now volumes) (now ends) (now lengths) (now outline) (now log)) (meshAt k (now points) (now roots) (now corners) (now volumes) (now ends) (now lengths) (now outline)) × WayAsked v w x y a b (k .particles) × WayAsked w v x y a b (k .particles) ⌝ }
     ensures { λ r. ⌜ EndsTold (kindIs kind) minimum v w (a, b) (x, y) room
         (worldAt k (now (points .entry)) (now (roots .entry)) (now (corners .entry)) (now (volumes .entry)) (now (ends .entry)) (now (lengths .entry)) (now (outline .entry)) (now (log .entry)))
         (λ q. worldAt q (now (points .exit)) (now (roots .exit)) (now (corners .exit)) (now (volumes .entry)) (now (ends .exit)) (now (lengths .exit)) (now (outline .exit)) (now (log .exit))) r ⌝ }
@@ -275,9 +276,9 @@ fn crack_pair(
     ends: &mut [usize],
     lengths: &mut [f32],
     outline: &mut [usize],
-    log: &mut [usize],
+    log: &mut [u32],
 ) -> Ran
-    requires { ⌜ Ready room k (lent (now points) (now roots) (now corners) (now volumes) (now ends) (now lengths) (now outline) (now log)) (meshAt k (now points) (now roots) (now corners) (now volumes) (now ends) (now lengths) (now outline)) × LoadsLong (kindIs kind) k (length (now loads)) × (x < k .particles) × (y < k .particles) ⌝ }
+    requires { ⌜ Ready room k (lent (now points) (now roots) (now corners) (now volumes) (now ends) (now lengths) (now outline) (now log)) (meshAt k (now points) (now roots) (now corners) (now volumes) (now ends) (now lengths) (now outline)) × LoadsLong (kindIs kind) k (length (now loads)) × (x < k .particles) × (y < k .particles) × (a < 1024) × (b < 1024) ⌝ }
     ensures { λ r. ⌜ PairTold (kindIs kind) minimum (k .triangles) (a, b) (x, y) (now (loads .entry)) room
         (worldAt k (now (points .entry)) (now (roots .entry)) (now (corners .entry)) (now (volumes .entry)) (now (ends .entry)) (now (lengths .entry)) (now (outline .entry)) (now (log .entry)))
         (λ q. worldAt q (now (points .exit)) (now (roots .exit)) (now (corners .exit)) (now (volumes .entry)) (now (ends .exit)) (now (lengths .exit)) (now (outline .exit)) (now (log .exit))) r ⌝ }
@@ -336,9 +337,9 @@ pub fn crack_edge(
     ends: &mut [usize],
     lengths: &mut [f32],
     outline: &mut [usize],
-    log: &mut [usize],
+    log: &mut [u32],
 ) -> Ran
-    requires { ⌜ Ready room k (lent (now points) (now roots) (now corners) (now volumes) (now ends) (now lengths) (now outline) (now log)) (meshAt k (now points) (now roots) (now corners) (now volumes) (now ends) (now lengths) (now outline)) × Logged (k .log) (now log) × LoadsLong (kindIs kind) k (length (now loads)) ⌝ }
+    requires { ⌜ Ready room k (lent (now points) (now roots) (now corners) (now volumes) (now ends) (now lengths) (now outline) (now log)) (meshAt k (now points) (now roots) (now corners) (now volumes) (now ends) (now lengths) (now outline)) × Logged (k .log) (now log) × LoadsLong (kindIs kind) k (length (now loads)) × (a < 1024) × (b < 1024) ⌝ }
     ensures { λ r. ⌜ CrackTold (kindIs kind) minimum a b (k .triangles) (now (loads .entry)) room
         (worldAt k (now (points .entry)) (now (roots .entry)) (now (corners .entry)) (now (volumes .entry)) (now (ends .entry)) (now (lengths .entry)) (now (outline .entry)) (now (log .entry)))
         (λ q. worldAt q (now (points .exit)) (now (roots .exit)) (now (corners .exit)) (now (volumes .entry)) (now (ends .exit)) (now (lengths .exit)) (now (outline .exit)) (now (log .exit))) r ⌝ }

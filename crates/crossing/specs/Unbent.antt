@@ -9,17 +9,20 @@ use Rattle.model.specs.Cut.{unbent}
 use Rattle.mesh.specs.Log.{worldAt}
 use Rattle.mesh.specs.declared.Counts.{Counts}
 use Rattle.mesh.specs.declared.Rooms.{Rooms}
+use lib.ListN.{length}
+use Rattle.work.specs.Places.{EndsIn}
 use Rattle.work.specs.Working.{Within, Works}
 use Rattle.work.specs.Removal.{marked}
 use Rattle.work.specs.declared.Ran.{Ran}
 
 -- the counts are within the rooms, and the blocks have them; each edge has a mark
-pub record UnbentRoom (L : Rooms) (k : Counts) (bends le ll lo lg : ℕ) : Type 0 where
+pub record UnbentRoom (L : Rooms) (k : Counts) (bends : ℕ) (ends₀ : List ℕ) (ll lo lg : ℕ) : Type 0 where
   pub counts : Within k L
   pub few-edges : L .edges ≤ 2048
   pub few-boundary : L .boundary ≤ 2048
   pub marks : k .edges ≤ bends
-  pub ends : L .edges ≤ le / 4
+  pub ends : L .edges ≤ length ends₀ / 4
+  pub ends-in : EndsIn 1024 (k .edges) ends₀
   pub lengths : L .edges ≤ ll / 4
   pub outline : L .boundary ≤ lo / 2
   pub log : L .log ≤ lg / 6

@@ -10,13 +10,13 @@ use work::Grown;
 use work::Ran;
 
 // The bits of a number.
-fn bits_of(x: f32) -> usize
+fn bits_of(x: f32) -> u32
     ensures { λ r. ⌜ r ≡ toBits binary32 x ⌝ }
 {
     if x != x {
         return 2143289344;
     }
-    f32::to_bits(x) as usize
+    f32::to_bits(x)
 }
 
 // The insertion that is planned, in the mesh whose counts are k.
@@ -29,7 +29,7 @@ pub fn insert(
     ends: &mut [usize],
     lengths: &mut [f32],
     outline: &mut [usize],
-    log: &mut [usize],
+    log: &mut [u32],
 ) -> Ran
     requires { ⌜ StepRoom plan k room (length (now points)) (length (now roots)) (length (now ends)) (length (now lengths)) (length (now outline)) (length (now log)) ⌝ }
     ensures { λ r. ⌜ InsertTold plan room k (now (points .entry)) (now (roots .entry)) (now (ends .entry)) (now (lengths .entry)) (now (outline .entry)) (now (log .entry)) (now (points .exit)) (now (roots .exit)) (now (ends .exit)) (now (lengths .exit)) (now (outline .exit)) (now (log .exit)) r ⌝ }
@@ -55,7 +55,16 @@ pub fn insert(
     }
     crate::particles::insert_particles(plan, points, roots);
     crate::edges::insert_edges(plan, e, ends, lengths);
-    mesh::rows::note(g, 3, a, b, n, n + 1, bits_of(plan.at), log);
+    work::notes::note(
+        g,
+        3,
+        a as u32,
+        b as u32,
+        n as u32,
+        (n + 1) as u32,
+        bits_of(plan.at),
+        log,
+    );
     Ran::Done(Counts {
         particles: n + 2,
         triangles: k.triangles,

@@ -75,6 +75,20 @@ fn put_line(out: &mut [u8], at: Written, word: &[u8], numbers: &[usize]) -> Writ
     put_byte(out, at, b'\n')
 }
 
+// The same of words of a log.
+fn put_words(out: &mut [u8], at: Written, word: &[u8], words: &[u32]) -> Written
+    ensures { λ r. ⌜ Appends (line (now (word .entry)) (now (words .entry))) (now (out .entry)) at (now (out .exit)) r ⌝ }
+{
+    let mut at = put_text(out, at, word);
+    let mut i: usize = 0;
+    while i < words.len() {
+        let space = put_byte(out, at, b' ');
+        at = put_number(out, space, words[i] as usize);
+        i += 1;
+    }
+    put_byte(out, at, b'\n')
+}
+
 // Writes the line of a replaced outline behind the text, where it was replaced.
 fn put_replaced(out: &mut [u8], at: Written, replaced: bool) -> Written
     ensures { λ r. ⌜ Appends (replacedLine replaced) (now (out .entry)) at (now (out .exit)) r ⌝ }
@@ -91,9 +105,9 @@ fn put_entry(
     out: &mut [u8],
     at: Written,
     word: &[u8],
-    kind: usize,
+    kind: u32,
     count: usize,
-    log: &[usize],
+    log: &[u32],
     i: usize,
 ) -> Written
     requires { ⌜ Listable (6 * i + 6) (length (now log)) count ⌝ }
@@ -105,7 +119,7 @@ fn put_entry(
     }
     let from = place + 1;
     let end = from + count;
-    put_line(out, at, word, &log[from..end])
+    put_words(out, at, word, &log[from..end])
 }
 
 // Writes the lines of the entries of one kind behind the text, in the order of the log.
@@ -113,10 +127,10 @@ fn put_entries(
     out: &mut [u8],
     at: Written,
     word: &[u8],
-    kind: usize,
+    kind: u32,
     count: usize,
     entries: usize,
-    log: &[usize],
+    log: &[u32],
 ) -> Written
     requires { ⌜ Listable (6 * entries) (length (now log)) count ⌝ }
     ensures { λ r. ⌜ Appends (each (entryLine (now (word .entry)) kind count) (logAt entries (now (log .entry)))) (now (out .entry)) at (now (out .exit)) r ⌝ }
@@ -157,7 +171,7 @@ pub fn finish(out: &mut [u8], at: Written) -> Written
 pub fn write_listing(
     replaced: bool,
     entries: usize,
-    log: &[usize],
+    log: &[u32],
     particles: usize,
     pieces: usize,
     out: &mut [u8],

@@ -93,7 +93,7 @@ pub fn mark_candidates(
 }
 
 // Marks the copy and the source of each split of the first l entries of the log, and no other.
-pub fn mark_near(l: usize, log: &[usize], near: &mut [usize])
+pub fn mark_near(l: usize, log: &[u32], near: &mut [usize])
     requires { ⌜ l ≤ length (now log) / 6 ⌝ }
     ensures { λ _. ⌜ NearMarked l (now (log .entry)) (now (near .exit)) ⌝ }
 {
@@ -102,15 +102,15 @@ pub fn mark_near(l: usize, log: &[usize], near: &mut [usize])
     while i < l {
         let at = 6 * i;
         if log[at] == 1 {
-            mark(log[at + 1], near);
-            mark(log[at + 2], near);
+            mark(log[at + 1] as usize, near);
+            mark(log[at + 2] as usize, near);
         }
         i += 1;
     }
 }
 
 // Do the first l entries of the log tell of a split?
-pub fn any_split(l: usize, log: &[usize]) -> bool
+pub fn any_split(l: usize, log: &[u32]) -> bool
     requires { ⌜ l ≤ length (now log) / 6 ⌝ }
     ensures { λ r. ⌜ SplitFound l (now (log .entry)) r ⌝ }
 {

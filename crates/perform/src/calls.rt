@@ -14,6 +14,7 @@ use jobs::Job;
 use jobs::checks;
 use mesh::Counts;
 use mesh::Rooms;
+use strap::kinds::Pass;
 use work::Ran;
 
 // Copies the input of a call, unless a check or a room refuses it. Returns the refusal, or 0.
@@ -85,7 +86,7 @@ pub fn work(
     ends: &mut [usize],
     lengths: &mut [f32],
     outline: &mut [usize],
-    log: &mut [usize],
+    log: &mut [u32],
 ) -> Ran
     requires { ⌜ Ready room k (lent (now points) (now roots) (now corners) (now volumes) (now ends) (now lengths) (now outline) (now log)) (meshAt k (now points) (now roots) (now corners) (now volumes) (now ends) (now lengths) (now outline)) × Logged (k .log) (now log) × JobAsked job (now list) (meshAt k (now points) (now roots) (now corners) (now volumes) (now ends) (now lengths) (now outline)) ⌝ }
     ensures { λ r. ⌜ Works (jobRun job (now (list .entry)) (kindOf (meshAt k (now (points .entry)) (now (roots .entry)) (now (corners .entry)) (now (volumes .entry)) (now (ends .entry)) (now (lengths .entry)) (now (outline .entry))))) room
@@ -120,11 +121,9 @@ pub fn work(
             outline,
             log,
         ),
-        Job::Cut(b0, b1, f) => strap::kinds::cut(
+        Job::Cut(b0, b1, f) => strap::kinds::run(
+            Pass::Blade(b0, b1, f),
             kind,
-            b0,
-            b1,
-            f,
             k,
             room,
             points,
@@ -173,7 +172,7 @@ pub fn run(
     ends: &mut [usize],
     lengths: &mut [f32],
     outline: &mut [usize],
-    log: &mut [usize],
+    log: &mut [u32],
 ) -> Ran
     requires { ⌜ Roomed room (lent (now points) (now roots) (now corners) (now volumes) (now ends) (now lengths) (now outline) (now log)) ⌝ }
     ensures { λ r. ⌜ Came (jobCall job (now (list .entry)) (sizesFit (given (now («in_points» .entry)) (now («in_roots» .entry)) (now («in_corners» .entry)) (now («in_volumes» .entry)) (now («in_ends» .entry)) (now («in_lengths» .entry)) (now («in_outline» .entry)))) (meshOf (given (now («in_points» .entry)) (now («in_roots» .entry)) (now («in_corners» .entry)) (now («in_volumes» .entry)) (now («in_ends» .entry)) (now («in_lengths» .entry)) (now («in_outline» .entry)))) (asRooms room)) room

@@ -79,7 +79,7 @@ fn list_answer(
     volumes: &[f32],
     ends: &[usize],
     lengths: &[f32],
-    log: &[usize],
+    log: &[u32],
     out: &mut [u8],
 ) -> Written
     requires { ⌜ Listable a (now corners) (now volumes) (now ends) (now lengths) (length (now log)) ⌝ }
@@ -155,7 +155,7 @@ fn list_blocks(
     let mut cut_ends = [0usize; 2048];
     let mut cut_lengths = [0.0f32; 2048];
     let mut cut_outline = [0usize; 1024];
-    let mut log = [0usize; 1536];
+    let mut log = [0u32; 1536];
     let a = bench::tearing::cut(
         b0,
         b1,

@@ -83,7 +83,7 @@ none-removed mask e s ends lengths c z =
     }
 
 module _ (K : Kind) (L : Rooms) (k : Counts) (v before n count extra rows : ℕ) (verts groups corners ends : List ℕ) (lengths : List Float) (log : List ℕ)
-    (A : DropAsked K L k before n count extra (length verts) (length groups) (length corners) (length ends) (length lengths) (length log))
+    (A : DropAsked K L k v before n count extra (length verts) (length groups) (length corners) ends (length lengths) (length log))
     (mask : List ℕ) (s : ℕ) (D : StraddlersMarked K v before n count (k .triangles) (k .edges) verts groups corners ends mask s) where
   module _ (O : Opening) (M : Mesh) (volumes : List Float) (S : Straddling K O M v before n count (k .triangles) (k .edges) verts groups corners volumes ends lengths) where
     marks-are : (j : ℕ) → j < k .edges → marked mask j ≡ straddles K M O (rowAt ends lengths j)
@@ -113,15 +113,17 @@ module _ (K : Kind) (L : Rooms) (k : Counts) (v before n count extra rows : ℕ)
 
   module _ (f : leb ((count - 1) + s + extra) (L .log - k .log) ≡ true) where
     -- what noting the split asks
-    pub split-asked : 2048 ≤ length mask → SplitAsked before (count - 1) (k .log) (k .edges) mask (length ends) (length log)
+    pub split-asked : 2048 ≤ length mask → SplitAsked v before (count - 1) (k .log) (k .edges) mask ends (length log)
     split-asked h =
         let b : (count - 1) + s + extra ≤ L .log - k .log = leb-true _ _ f in
         record {
+          here = A .here;
           small = omega (arith, A .small);
           marked =
               record {
                 mask-long = omega (arith, A .few-edges);
                 ends-long = A .straddle .ends;
+                ends-in = A .ends-in;
                 log-long = omega (arith, counted-is mask s (k .edges) (D .counted), A .log-in, A .log-long);
               };
         }

@@ -5,6 +5,7 @@ pub mod FanLaws
 pub mod Stepping
 pub mod GrowLaws
 pub mod NamedLaws
+pub mod Longest
 pub mod StepLaws
 pub mod TabledLaws
 pub mod NoteLaws

@@ -26,7 +26,7 @@ use Rattle.work.specs.declared.Grown.{Grown}
 use Rattle.work.specs.declared.Grown.the-variants.{Lacking, Rows}
 use Rattle.work.specs.Working.{Within, SettleRoom}
 use Rattle.split.specs.Tables.{Opens, TablesFit}
-use Rattle.work.specs.Places.{SidesIn}
+use Rattle.work.specs.Places.{EndsIn, SidesIn}
 use Rattle.split.specs.Steps.{loggedOf, settledWorld}
 use Rattle.split.specs.Settling.{BoundaryIn, BoundaryAsked, BoundaryTold, DropAsked, EdgesDropped, Dropped, SettleAsked, SettledFor}
 use Rattle.work.specs.declared.Ran.{Ran}
@@ -45,10 +45,10 @@ lacks-8 L N p e b g = rw (le-ltb (L .particles) (N .particles) p, le-ltb (L .edg
 -- ---- what is asked
 
 -- tables that fit, with measures, meet what is asked
-pub settle-asked : (K : Kind) (L : Rooms) (k : Counts) (v before n count extra : ℕ) (numbers verts : List ℕ) (measures : List Float) (groups : List ℕ) (lp lc lv le ll : ℕ) (outline : List ℕ) (lg : ℕ)
-    → SettleRoom L k lc lv le ll (length outline) lg → k .particles ≡ before + count - 1 → k .particles ≤ lp / 6 → TablesFit K before (k .triangles) (k .edges) v n count numbers verts measures groups
-    → SidesIn before (k .boundary) outline → extra ≤ 1 → SettleAsked K L k v before n count extra numbers verts groups lp lc lv le ll outline lg
-settle-asked K L k v before n count extra numbers verts measures groups lp lc lv le ll outline lg R q p T S x =
+pub settle-asked : (K : Kind) (L : Rooms) (k : Counts) (v before n count extra : ℕ) (numbers verts : List ℕ) (measures : List Float) (groups : List ℕ) (lp lc lv : ℕ) (ends : List ℕ) (ll : ℕ) (outline : List ℕ) (lg : ℕ)
+    → SettleRoom L k lc lv (length ends) ll (length outline) lg → k .particles ≡ before + count - 1 → k .particles ≤ lp / 6 → TablesFit K before (k .triangles) (k .edges) v n count numbers verts measures groups
+    → EndsIn 1024 (k .edges) ends → SidesIn before (k .boundary) outline → extra ≤ 1 → SettleAsked K L k v before n count extra numbers verts groups lp lc lv ends ll outline lg
+settle-asked K L k v before n count extra numbers verts measures groups lp lc lv ends ll outline lg R q p T E S x =
     record {
       room = R;
       copied-all = q;
@@ -60,13 +60,14 @@ settle-asked K L k v before n count extra numbers verts measures groups lp lc lv
       in-triangles = T .in-triangles;
       below = T .below;
       corners-in = T .corners-in;
+      ends-in = E;
       sides = S;
       one-extra = x;
     }
 
 -- ---- the whole
 
-module _ (K : Kind) (L : Rooms) (k : Counts) (v before n count extra : ℕ) (numbers verts groups : List ℕ) (points : List Float) (corners : List ℕ) (volumes : List Float) (ends : List ℕ) (lengths : List Float) (outline log : List ℕ) (A : SettleAsked K L k v before n count extra numbers verts groups (length points) (length corners) (length volumes) (length ends) (length lengths) outline (length log)) where
+module _ (K : Kind) (L : Rooms) (k : Counts) (v before n count extra : ℕ) (numbers verts groups : List ℕ) (points : List Float) (corners : List ℕ) (volumes : List Float) (ends : List ℕ) (lengths : List Float) (outline log : List ℕ) (A : SettleAsked K L k v before n count extra numbers verts groups (length points) (length corners) (length volumes) ends (length lengths) outline (length log)) where
   -- what the boundary asks
   pub boundary-asked : BoundaryAsked K v before n count (k .boundary) (L .boundary) numbers verts groups (length points) (length corners) outline
   boundary-asked =
@@ -135,11 +136,13 @@ module _ (K : Kind) (L : Rooms) (k : Counts) (v before n count extra : ℕ) (num
       }
 
   -- what the removal of straddlers asks
-  pub drop-asked : DropAsked K L k before n count extra (length verts) (length groups) (length corners) (length ends) (length lengths) (length log)
+  pub drop-asked : DropAsked K L k v before n count extra (length verts) (length groups) (length corners) ends (length lengths) (length log)
   drop-asked =
       let C = A .room .counts in
       let R = A .room in
       record {
+        here = A .here;
+        ends-in = A .ends-in;
         straddle = record { ring = A .ring; corners = omega (arith, C .triangles, R .corners); ends = omega (arith, C .edges, R .ends) };
         few-edges = omega (arith, C .edges, R .few-edges);
         lengths = omega (arith, C .edges, R .lengths);

@@ -22,6 +22,8 @@ use Rattle.split.specs.Growing.{StrapsNamed}
 use Rattle.split.specs.Settling.{SettleAsked, SettledFor}
 use Rattle.split.proofs.Fitted.{opens-by, tables-fit}
 use Rattle.split.proofs.NamedLaws.{straps-named}
+use Rattle.split.proofs.Longest.{longest-ends}
+use Rattle.model.proofs.Accepted.{accepted-indexed}
 use Rattle.work.proofs.Placed.{particles-count, triangles-count, edges-count, ends-in, sides-in}
 use Rattle.split.proofs.Stepping.{longestWorld, stepped-lacking, stepped-settled}
 use Rattle.work.specs.declared.Ran.{Ran}
@@ -96,9 +98,9 @@ module _ (K : Kind) (L : Rooms) (k : Counts) (points : List Float) (roots corner
   opens = subst (λ (p : ℕ). Opens K O v p n count numbers verts measures groups) many (opens-by F)
 
   -- what the second half asks, where the first made room
-  pub settle-asked : (e extra lp lc le ll : ℕ) → extra ≤ 1 → k .particles + count - 1 ≤ L .particles → e ≤ L .edges → lp ≡ length points → lc ≡ length corners → le ≡ length ends → ll ≡ length lengths
-      → SettleAsked K L (grownCounts k (k .particles + count - 1) e) v (k .particles) n count extra numbers verts groups lp lc (length volumes) le ll outline (length log)
-  settle-asked e extra lp lc le ll x p q ep ec ee el =
+  pub settle-asked : (e extra lp lc : ℕ) (ends′ : List ℕ) (ll : ℕ) → extra ≤ 1 → k .particles + count - 1 ≤ L .particles → e ≤ L .edges → lp ≡ length points → lc ≡ length corners → length ends′ ≡ length ends → ll ≡ length lengths
+      → EndsIn (k .particles + (count - 1)) e ends′ → SettleAsked K L (grownCounts k (k .particles + count - 1) e) v (k .particles) n count extra numbers verts groups lp lc (length volumes) ends′ ll outline (length log)
+  settle-asked e extra lp lc ends′ ll x p q ep ec ee el E =
       let R = P .rooms in
       let C = P .counts in
       let T = tables-in in
@@ -126,6 +128,11 @@ module _ (K : Kind) (L : Rooms) (k : Counts) (points : List Float) (roots corner
         in-triangles = T .in-triangles;
         below = T .below;
         corners-in = T .corners-in;
+        ends-in =
+            record {
+              first = λ j l. omega (arith, E .first j l, T .two, R .few-particles);
+              second = λ j l. omega (arith, E .second j l, T .two, R .few-particles);
+            };
         sides = sides-in k points roots corners volumes ends lengths outline (P .indices);
         one-extra = x;
       }
@@ -142,6 +149,15 @@ module _ (K : Kind) (L : Rooms) (k : Counts) (points : List Float) (roots corner
     -- there was room for the particles and the edges
     pub room-made : (g : Grew) (e : ℕ) → Told g → g ≡ Longest e → (k .particles + count - 1 ≤ L .particles) × (e ≤ L .edges)
     room-made g e T′ q = let T : Told (Longest e) = subst Told q T′ in let G = grew (Longest e) T in (G .0, G .1)
+
+    -- the ends of the edges at their longest are there
+    pub ends-made : (g : Grew) (e : ℕ) → Told g → g ≡ Longest e → EndsIn (k .particles + (count - 1)) e ends′
+    unfolding meshAt
+    ends-made g e T′ q =
+        let T : Told (Longest e) = subst Told q T′ in
+        let G = grew (Longest e) T in
+        subst (λ (p : ℕ). EndsIn (p + (count - 1)) e ends′) many
+        (longest-ends K M v count n groups (F .two) (F .here) (F .groups-long) (F .below) (accepted-indexed M (P .indices)) e ends′ lengths′ (ap (λ (X : Mesh). X .edges) (G .2)))
 
     pub all-lacking : (g : Grew) (c extra : ℕ) → Told g → g ≡ Lacking c → Stepped K O L extra (worldAt k points roots corners volumes ends lengths outline log) (λ q. worldAt q points roots corners volumes ends lengths outline log) (Refused c)
     all-lacking g c extra T′ q =

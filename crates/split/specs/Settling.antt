@@ -18,7 +18,7 @@ use Rattle.opening.specs.Opened.{Ringed, Numbered, RingRoom, RestsIn, CornersBe
 use Rattle.work.specs.Rows.{GrownTo}
 use Rattle.rewire.specs.Edges.{Straddling, StraddleRoom}
 use Rattle.work.specs.declared.Grown.{Grown}
-use Rattle.work.specs.Places.{SidesIn}
+use Rattle.work.specs.Places.{EndsIn, SidesIn}
 use Rattle.split.specs.Steps.{loggedOf, SettlingTold}
 use Rattle.work.specs.Working.{SettleRoom}
 use Rattle.work.specs.Removal.{markedOf, goneWords, NoteRoom}
@@ -79,9 +79,10 @@ pub record CopiesNoted (v before m at : ℕ) (log log′ : List ℕ) : Type 0 wh
   pub noted : logAt (at + m) log′ ≡ logAt at log ++ map (copyWords v before) (upTo m)
 
 -- what noting m copies and then the marked among e edges asks
-pub record SplitAsked (before m at e : ℕ) (mask : List ℕ) (le lg : ℕ) : Type 0 where
+pub record SplitAsked (v before m at e : ℕ) (mask ends : List ℕ) (lg : ℕ) : Type 0 where
+  pub here : v < before
   pub small : before + m ≤ 65536
-  pub marked : NoteRoom mask e (at + m) le lg
+  pub marked : NoteRoom mask e (at + m) ends lg
 
 -- the copies and then the marked edges are noted, and the log has r entries
 pub record SplitNoted (v before m at e : ℕ) (mask ends log log′ : List ℕ) (r : ℕ) : Type 0 where
@@ -97,8 +98,10 @@ pub record MarkedRoom (mask : List ℕ) (e s le ll : ℕ) : Type 0 where
   pub rows : EdgeRoom e le ll
 
 -- what the removal of straddlers asks: tables that fit, few edges, and a log within its room
-pub record DropAsked (K : Kind) (L : Rooms) (k : Counts) (before n count extra lv lg lc le ll llog : ℕ) : Type 0 where
-  pub straddle : StraddleRoom K n (k .triangles) (k .edges) lv lg lc le
+pub record DropAsked (K : Kind) (L : Rooms) (k : Counts) (v before n count extra lv lg lc : ℕ) (ends : List ℕ) (ll llog : ℕ) : Type 0 where
+  pub here : v < before
+  pub straddle : StraddleRoom K n (k .triangles) (k .edges) lv lg lc (length ends)
+  pub ends-in : EndsIn 1024 (k .edges) ends
   pub few-edges : k .edges ≤ 2048
   pub lengths : k .edges ≤ ll / 4
   pub some : 1 ≤ count
@@ -132,8 +135,8 @@ pub record Dropped (K : Kind) (L : Rooms) (k : Counts) (v before n count extra r
 -- ---- the whole
 
 -- what parts 4 to 6 ask: the copies are there, and the tables of the fan fit the mesh before them
-pub record SettleAsked (K : Kind) (L : Rooms) (k : Counts) (v before n count extra : ℕ) (numbers verts groups : List ℕ) (lp lc lv le ll : ℕ) (outline : List ℕ) (lg : ℕ) : Type 0 where
-  pub room : SettleRoom L k lc lv le ll (length outline) lg
+pub record SettleAsked (K : Kind) (L : Rooms) (k : Counts) (v before n count extra : ℕ) (numbers verts groups : List ℕ) (lp lc lv : ℕ) (ends : List ℕ) (ll : ℕ) (outline : List ℕ) (lg : ℕ) : Type 0 where
+  pub room : SettleRoom L k lc lv (length ends) ll (length outline) lg
   pub copied-all : k .particles ≡ before + count - 1
   pub points : k .particles ≤ lp / 6
   pub here : v < before
@@ -143,6 +146,7 @@ pub record SettleAsked (K : Kind) (L : Rooms) (k : Counts) (v before n count ext
   pub in-triangles : K ≡ Triangles → (i : ℕ) → i < n → getD numbers i 0 < k .triangles
   pub below : (i : ℕ) → i < n → getD groups i 0 < count
   pub corners-in : CornersBelow before n (cornersPer K) verts
+  pub ends-in : EndsIn 1024 (k .edges) ends
   pub sides : SidesIn before (k .boundary) outline
   pub one-extra : extra ≤ 1
 

@@ -1,6 +1,6 @@
 // The second half of a split: straddlers go, the boundary follows, crack facets join it, and the log tells of it.
 ghost use mathlib.Core.Path.{_≡_};
-ghost use Prim.Native.Nat.{_+_, _/_, _≤_};
+ghost use Prim.Native.Nat.{_+_, _/_, _<_, _≤_};
 ghost use lib.ListN.{length};
 ghost use lib.Dec.{leb};
 ghost use Rattle.elements.specs.Table.{kindIs};
@@ -112,13 +112,13 @@ fn log_fits(free: usize, m: usize, s: usize, extra: usize) -> bool
 }
 
 // Notes m copies of v, which were appended to `before` particles, behind the entries.
-fn note_copies(v: usize, before: usize, m: usize, at: usize, log: &mut [usize])
-    requires { ⌜ (before + m ≤ 65536) × (at + m ≤ length (now log) / 6) ⌝ }
+fn note_copies(v: usize, before: usize, m: usize, at: usize, log: &mut [u32])
+    requires { ⌜ (before + m ≤ 65536) × (at + m ≤ length (now log) / 6) × (v < before) ⌝ }
     ensures { λ _. ⌜ CopiesNoted v before m at (now (log .entry)) (now (log .exit)) ⌝ }
 {
     let mut i: usize = 0;
     while i < m {
-        mesh::rows::note(at + i, 1, before + i, v, 0, 0, 0, log);
+        work::notes::note(at + i, 1, (before + i) as u32, v as u32, 0, 0, 0, log);
         i += 1;
     }
 }
@@ -132,9 +132,9 @@ fn note_split(
     e: usize,
     mask: &[usize],
     ends: &[usize],
-    log: &mut [usize],
+    log: &mut [u32],
 ) -> usize
-    requires { ⌜ SplitAsked before m at e (now mask) (length (now ends)) (length (now log)) ⌝ }
+    requires { ⌜ SplitAsked v before m at e (now mask) (now ends) (length (now log)) ⌝ }
     ensures { λ r. ⌜ SplitNoted v before m at e (now (mask .entry)) (now (ends .entry)) (now (log .entry)) (now (log .exit)) r ⌝ }
 {
     note_copies(v, before, m, at, log);
@@ -168,10 +168,10 @@ fn drop_straddlers(
     corners: &[usize],
     ends: &mut [usize],
     lengths: &mut [f32],
-    log: &mut [usize],
+    log: &mut [u32],
     mask: &mut [usize],
 ) -> Ran
-    requires { ⌜ DropAsked (kindIs kind) room k before n count extra (length (now verts)) (length (now groups)) (length (now corners)) (length (now ends)) (length (now lengths)) (length (now log)) × (2048 ≤ length (now mask)) ⌝ }
+    requires { ⌜ DropAsked (kindIs kind) room k v before n count extra (length (now verts)) (length (now groups)) (length (now corners)) (now ends) (length (now lengths)) (length (now log)) × (2048 ≤ length (now mask)) ⌝ }
     ensures { λ r. ⌜ Dropped (kindIs kind) room k v before n count extra rows (now (verts .entry)) (now (groups .entry)) (now (corners .entry)) (now (ends .entry)) (now (ends .exit)) (now (lengths .entry)) (now (lengths .exit)) (now (log .entry)) (now (log .exit)) r ⌝ }
 {
     let s = rewire::straddling::mark_straddlers(
@@ -222,10 +222,10 @@ pub fn settle(
     ends: &mut [usize],
     lengths: &mut [f32],
     outline: &mut [usize],
-    log: &mut [usize],
+    log: &mut [u32],
     mask: &mut [usize],
 ) -> Ran
-    requires { ⌜ SettleAsked (kindIs kind) room k v before n count extra (now numbers) (now verts) (now groups) (length (now points)) (length (now corners)) (length (now volumes)) (length (now ends)) (length (now lengths)) (now outline) (length (now log)) × (2048 ≤ length (now mask)) ⌝ }
+    requires { ⌜ SettleAsked (kindIs kind) room k v before n count extra (now numbers) (now verts) (now groups) (length (now points)) (length (now corners)) (length (now volumes)) (now ends) (length (now lengths)) (now outline) (length (now log)) × (2048 ≤ length (now mask)) ⌝ }
     ensures { λ r. ⌜ SettledFor (kindIs kind) room extra v before n count (now (numbers .entry)) (now (verts .entry)) (now (groups .entry)) (λ roots. worldAt k (now (points .entry)) roots (now (corners .entry)) (now (volumes .entry)) (now (ends .entry)) (now (lengths .entry)) (now (outline .entry)) (now (log .entry))) (λ roots q. worldAt q (now (points .entry)) roots (now (corners .entry)) (now (volumes .entry)) (now (ends .exit)) (now (lengths .exit)) (now (outline .exit)) (now (log .exit))) r ⌝ }
 {
     let grown = open_boundary(

@@ -39,7 +39,7 @@ pub fn split_opened(
     ends: &mut [usize],
     lengths: &mut [f32],
     outline: &mut [usize],
-    log: &mut [usize],
+    log: &mut [u32],
     mask: &mut [usize],
 ) -> Ran
     requires { ⌜ Ready room k (lent (now points) (now roots) (now corners) (now volumes) (now ends) (now lengths) (now outline) (now log)) (meshAt k (now points) (now roots) (now corners) (now volumes) (now ends) (now lengths) (now outline)) × FanGrouped (kindIs kind) (meshAt k (now points) (now roots) (now corners) (now volumes) (now ends) (now lengths) (now outline)) v n count (now numbers) (now verts) (now measures) (now groups) × (extra ≤ 1) × (2048 ≤ length (now mask)) ⌝ }
@@ -131,7 +131,7 @@ pub fn split_tabled(
     ends: &mut [usize],
     lengths: &mut [f32],
     outline: &mut [usize],
-    log: &mut [usize],
+    log: &mut [u32],
 ) -> Ran
     requires { ⌜ Ready room k (lent (now points) (now roots) (now corners) (now volumes) (now ends) (now lengths) (now outline) (now log)) (meshAt k (now points) (now roots) (now corners) (now volumes) (now ends) (now lengths) (now outline)) × FanSided (kindIs kind) (meshAt k (now points) (now roots) (now corners) (now volumes) (now ends) (now lengths) (now outline)) v n (now numbers) (now verts) (now measures) (now sides) × (2048 ≤ length (now sides)) × (2048 ≤ length (now groups)) ⌝ }
     ensures { λ r. ⌜ Works (splitBySides (kindIs kind) v (take n (now (sides .entry)))) room
@@ -169,8 +169,8 @@ pub fn split_tabled(
     Ran::Done(k)
 }
 
-// Splits v by a side for each element of its fan.
-pub fn split_by_sides(
+// Splits v by a side for each element of its fan, by tables of its own.
+fn split_fan(
     kind: Kind,
     v: usize,
     sides: &[usize],
@@ -183,7 +183,7 @@ pub fn split_by_sides(
     ends: &mut [usize],
     lengths: &mut [f32],
     outline: &mut [usize],
-    log: &mut [usize],
+    log: &mut [u32],
 ) -> Ran
     requires { ⌜ Ready room k (lent (now points) (now roots) (now corners) (now volumes) (now ends) (now lengths) (now outline) (now log)) (meshAt k (now points) (now roots) (now corners) (now volumes) (now ends) (now lengths) (now outline)) × SidesGiven (kindIs kind) (meshAt k (now points) (now roots) (now corners) (now volumes) (now ends) (now lengths) (now outline)) v (now sides) ⌝ }
     ensures { λ r. ⌜ Works (splitBySides (kindIs kind) v (now (sides .entry))) room
@@ -229,4 +229,60 @@ pub fn split_by_sides(
         outline,
         log,
     )
+}
+
+// Splits v by a side for each element of its fan, by their kind.
+pub fn split_by_sides(
+    kind: Kind,
+    v: usize,
+    sides: &[usize],
+    k: Counts,
+    room: Rooms,
+    points: &mut [f32],
+    roots: &mut [usize],
+    corners: &mut [usize],
+    volumes: &[f32],
+    ends: &mut [usize],
+    lengths: &mut [f32],
+    outline: &mut [usize],
+    log: &mut [u32],
+) -> Ran
+    requires { ⌜ Ready room k (lent (now points) (now roots) (now corners) (now volumes) (now ends) (now lengths) (now outline) (now log)) (meshAt k (now points) (now roots) (now corners) (now volumes) (now ends) (now lengths) (now outline)) × SidesGiven (kindIs kind) (meshAt k (now points) (now roots) (now corners) (now volumes) (now ends) (now lengths) (now outline)) v (now sides) ⌝ }
+    ensures { λ r. ⌜ Works (splitBySides (kindIs kind) v (now (sides .entry))) room
+        (worldAt k (now (points .entry)) (now (roots .entry)) (now (corners .entry)) (now (volumes .entry)) (now (ends .entry)) (now (lengths .entry)) (now (outline .entry)) (now (log .entry)))
+        (λ q. worldAt q (now (points .exit)) (now (roots .exit)) (now (corners .exit)) (now (volumes .entry)) (now (ends .exit)) (now (lengths .exit)) (now (outline .exit)) (now (log .exit))) r ⌝ }
+{
+    match kind {
+        Kind::Triangles => split_fan(
+            Kind::Triangles,
+            v,
+            sides,
+            k,
+            room,
+            points,
+            roots,
+            corners,
+            volumes,
+            ends,
+            lengths,
+            outline,
+            log,
+        ),
+        Kind::Straps => split_fan(
+            Kind::Straps,
+            v,
+            sides,
+            k,
+            room,
+            points,
+            roots,
+            corners,
+            volumes,
+            ends,
+            lengths,
+            outline,
+            log,
+        ),
+        Kind::Nothing => Ran::Done(k),
+    }
 }

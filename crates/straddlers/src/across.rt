@@ -131,7 +131,7 @@ pub fn remove_straddlers(
     ends: &mut [usize],
     lengths: &mut [f32],
     outline: &mut [usize],
-    log: &mut [usize],
+    log: &mut [u32],
 ) -> Ran
     requires { ⌜ SettleRoom room k (length (now corners)) (length (now volumes)) (length (now ends)) (length (now lengths)) (length (now outline)) (length (now log)) × CornersIn (k .particles) (k .triangles) (now corners) × EndsIn (k .particles) (k .edges) (now ends) × SidesIn (k .particles) (k .boundary) (now outline) ⌝ }
     ensures { λ r. ⌜ WorksBeside (removeStraddlers (kindIs kind)) room (λ points roots. worldAt k points roots (now (corners .entry)) (now (volumes .entry)) (now (ends .entry)) (now (lengths .entry)) (now (outline .entry)) (now (log .entry))) (λ points roots q. worldAt q points roots (now (corners .entry)) (now (volumes .entry)) (now (ends .exit)) (now (lengths .exit)) (now (outline .exit)) (now (log .exit))) r ⌝ }

@@ -26,7 +26,7 @@ use Rattle.work.specs.Working.{Within, Roomed, Ready, Went, Works, Logged}
 use Rattle.work.specs.Removal.{marked, markedOf}
 use Rattle.work.specs.declared.Ran.{Ran}
 use Rattle.work.specs.declared.Ran.the-variants.{Refused, Done}
-use Rattle.work.proofs.Placed.{particles-count}
+use Rattle.work.proofs.Placed.{particles-count, ends-in}
 use Rattle.split.proofs.StepLaws.{world-mesh}
 use Rattle.cut.specs.Running.{chosen, Chosen}
 use Rattle.cut.proofs.RunLaws.{chosen-rising}
@@ -72,7 +72,7 @@ module _ (L : Rooms) (k : Counts) (points : List Float) (roots corners : List �
   held-is = ap (λ (l : List _). record { mesh = meshAt k points roots corners volumes ends lengths outline; log = l }) (G .words)
 
   -- what the bend edges ask
-  pub unbent-room : (lb ls : ℕ) → MarksLent lb ls → UnbentRoom L k lb (length ends) (length lengths) (length outline) (length log)
+  pub unbent-room : (lb ls : ℕ) → MarksLent lb ls → UnbentRoom L k lb ends (length lengths) (length outline) (length log)
   unbent-room lb ls M =
       let R = P .rooms in
       let C = P .counts in
@@ -82,6 +82,9 @@ module _ (L : Rooms) (k : Counts) (points : List Float) (roots corners : List �
         few-boundary = R .few-boundary;
         marks = omega (arith, M .bends-long, C .edges, R .few-edges);
         ends = R .ends;
+        ends-in =
+            let E = ends-in k points roots corners volumes ends lengths outline (P .indices) in
+            record { first = λ j l. omega (arith, E .first j l, C .particles, R .few-particles); second = λ j l. omega (arith, E .second j l, C .particles, R .few-particles) };
         lengths = R .lengths;
         outline = R .outline;
         log = R .log;

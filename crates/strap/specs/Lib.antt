@@ -1,2 +1,3 @@
 -- The cut of straps, over the lent blocks.
 pub mod Segments
+pub mod Passes

@@ -27,7 +27,7 @@ use Rattle.elements.specs.Table.{HeldBoth}
 use Rattle.elements.proofs.Held.{held-is}
 use Rattle.tear.specs.declared.families.Pair.{Pair}
 use Rattle.tear.specs.declared.families.Pair.the-variants.{None, Ends}
-use Rattle.tear.specs.Families.{splitBy, splitsBy, sourceIn, FamilyFound, joinsBy, JoinTold, meet, MeshIn, MeetTold, FirstMet, pairIs, PairMet, CurrentTold}
+use Rattle.tear.specs.Families.{splitBy, splitsBy, sourceIn, FamilyFound, joinsBy, JoinTold, meet, MeshIn, MeetTold, FirstMet, pairIs, PairMet, FamiliesMet}
 
 -- ---- families
 
@@ -256,35 +256,14 @@ source-told log i l t e q = rw (eq-eqb (getD log (6 * i) 0) 1 e) q
 pub source-none : (log : List ℕ) (i : ℕ) (l : List ℕ) → (getD log (6 * i) 0 ≡ 1 → ⊥) → false ≡ sourceIn (entryRow log i) l
 source-none log i l n = rw (ne-eqb (getD log (6 * i) 0) 1 n)
 
--- ---- the current pair
-
--- the pairs of the families, as the definitions have them
-current-by : (a b l : ℕ) (log : List ℕ) (p : ℕ) (F : List ℕ) (q : ℕ) (G : List ℕ) → FamilyFound a l log p F → FamilyFound b l log q G
-    → (K : Kind) (R : Run) → logAt l log ≡ map wordsOf (R .log) → currentOf K (R .mesh) (crossPairs (take p F) (take q G)) ≡ currentPair K R (a, b)
-unfolding currentPair
-current-by a b l log p F q G f g K R e =
-    let s : splitsBy (logAt l log) ≡ splitsOf (R .log) = ap splitsBy e ∙ splits-by (R .log) in
-    ap₂ (λ (x y : List ℕ). currentOf K (R .mesh) (crossPairs x y)) (f .is ∙ ap (λ (t : List (ℕ × ℕ)). family t a) s) (g .is ∙ ap (λ (t : List (ℕ × ℕ)). family t b) s)
+-- ---- pairs of families
 
 module _ (a b l : ℕ) (log : List ℕ) (k n : ℕ) (verts : List ℕ) (e : ℕ) (ends : List ℕ) (p : ℕ) (F : List ℕ) (q : ℕ) (G : List ℕ) (f : FamilyFound a l log p F) (g : FamilyFound b l log q G) where
-  -- one element holds a pair
-  pub current-held : (r : Pair) (x y : ℕ) → r ≡ Ends x y → PairMet true (take p F) (take q G) k n verts e ends r → CurrentTold a b l log k n verts e ends (Ends x y)
-  unfolding currentOf
-  current-held r x y s P =
+  pub families-met : (i : Bool) (r : Pair) → PairMet i (take p F) (take q G) k n verts e ends r → FamiliesMet i a b l log k n verts e ends r
+  families-met i r P =
       record {
         is = λ K R lengths w I.
-            let h : find (meet true K (R .mesh)) (crossPairs (take p F) (take q G)) ≡ some (x, y) = sym (P .is K (R .mesh) lengths I) ∙ ap pairIs s in
-            sym (ap (λ (o : Option (ℕ × ℕ)). firstOf o (find (meet false K (R .mesh)) (crossPairs (take p F) (take q G)))) h) ∙ current-by a b l log p F q G f g K R w;
-      }
-
-  -- none does: the edges tell
-  pub current-joined : (r t : Pair) → r ≡ None → PairMet true (take p F) (take q G) k n verts e ends r → PairMet false (take p F) (take q G) k n verts e ends t → CurrentTold a b l log k n verts e ends t
-  unfolding currentOf
-  current-joined r t s P Q =
-      record {
-        is = λ K R lengths w I.
-            let h : find (meet true K (R .mesh)) (crossPairs (take p F) (take q G)) ≡ none = sym (P .is K (R .mesh) lengths I) ∙ ap pairIs s in
-            Q .is K (R .mesh) lengths I
-            ∙ sym (ap (λ (o : Option (ℕ × ℕ)). firstOf o (find (meet false K (R .mesh)) (crossPairs (take p F) (take q G)))) h)
-            ∙ current-by a b l log p F q G f g K R w;
+            let s : splitsBy (logAt l log) ≡ splitsOf (R .log) = ap splitsBy w ∙ splits-by (R .log) in
+            P .is K (R .mesh) lengths I
+            ∙ ap₂ (λ (x y : List ℕ). find (meet i K (R .mesh)) (crossPairs x y)) (f .is ∙ ap (λ (t : List (ℕ × ℕ)). family t a) s) (g .is ∙ ap (λ (t : List (ℕ × ℕ)). family t b) s);
       }

@@ -1,7 +1,7 @@
 -- Laws of the pair that stands for a torn edge: it is that of any run in the blocks, and its particles are there. Assumes nothing.
 use Prim.Native.Nat.{ℕ, _<_, _≤_}
 use native.Mathlib.Omega.{arith}
-use mathlib.Core.Path.{_≡_, refl, sym, ap, subst}
+use mathlib.Core.Path.{_≡_, refl, sym, _∙_, ap, subst}
 use mathlib.Core.Bool.{Bool, true, false, _&&_, _||_}
 use mathlib.Core.List.{List, [], _∷_}
 use mathlib.Core.Option.{Option, none, some}
@@ -28,8 +28,8 @@ use Rattle.work.proofs.Placed.{particles-count}
 use Rattle.split.proofs.Below.{Few, Cornering, element-corners}
 use Rattle.split.proofs.Fitted.{all-few}
 use Rattle.work.specs.Working.{Logged}
-use Rattle.tear.specs.Families.{MeshIn, pairIs, CurrentRoom, CurrentTold}
-use Rattle.tear.specs.Pairs.{PairReady, PairBelow, PairNow}
+use Rattle.tear.specs.Families.{MeshIn, meet, pairIs, CurrentRoom, FamiliesMet}
+use Rattle.tear.specs.Pairs.{PairReady, PairBelow, PairMetNow, PairNow}
 use Rattle.tear.specs.declared.families.Pair.{Pair}
 use Rattle.tear.specs.declared.families.Pair.the-variants.{None, Ends}
 use Rattle.tear.proofs.TriedLaws.{elements-here}
@@ -126,17 +126,53 @@ module _ (K : Kind) (k : Counts) (points : List Float) (roots corners : List ℕ
   unfolding meshAt
   mesh-in = record { cornered = elements-here K k points roots corners volumes ends lengths outline n per numbers verts measures T e; edges-are = refl }
 
-  pub pair-told : Logged (k .log) log → (a b : ℕ) (r : Pair) → CurrentTold a b (k .log) log per n verts (k .edges) ends r → PairNow K a b (k .particles) (worldAt k points roots corners volumes ends lengths outline log) r
+  pub met-told : (i : Bool) (a b : ℕ) (r : Pair) → FamiliesMet i a b (k .log) log per n verts (k .edges) ends r → PairMetNow i K a b (worldAt k points roots corners volumes ends lengths outline log) r
   unfolding worldAt
-  pair-told G a b r C =
-      let told : (R : Run) → worldAt k points roots corners volumes ends lengths outline log ≡ worldOf (R .mesh) (R .log) → pairIs r ≡ currentPair K R (a, b) =
-      λ R w. C .is K R lengths (ap (λ (X : World). X .log) w) (subst (λ (M : Mesh). MeshIn K M per n verts (k .edges) ends lengths) (ap (λ (X : World). X .mesh) w) mesh-in) in
-      let R : Run = record { mesh = Here; log = G .entries; needs = [] } in
-      let w : worldAt k points roots corners volumes ends lengths outline log ≡ worldOf (R .mesh) (R .log) = λ i. record { mesh = Here; log = G .words i } in
+  met-told i a b r C =
+      record {
+        is = λ R w. C .is K R lengths (ap (λ (X : World). X .log) w) (subst (λ (M : Mesh). MeshIn K M per n verts (k .edges) ends lengths) (ap (λ (X : World). X .mesh) w) mesh-in);
+      }
+
+-- the pair that stands for an edge: one that an element holds, or else one that an edge joins
+module _ (K : Kind) (k : Counts) (points : List Float) (roots corners : List ℕ) (volumes : List Float) (ends : List ℕ) (lengths : List Float) (outline log : List ℕ)
+    (P : PairReady k (length corners) (length volumes) (length ends) (length lengths) (length log) (meshAt k points roots corners volumes ends lengths outline)) (G : Logged (k .log) log) (a b : ℕ) where
+  abbrev Now : World
+  Now = worldAt k points roots corners volumes ends lengths outline log
+
+  pair-told : (r : Pair) → ((R : Run) → Now ≡ worldOf (R .mesh) (R .log) → pairIs r ≡ currentPair K R (a, b)) → PairNow K a b (k .particles) Now r
+  unfolding worldAt
+  pair-told r told =
+      let M = meshAt k points roots corners volumes ends lengths outline in
+      let R : Run = record { mesh = M; log = G .entries; needs = [] } in
+      let w : Now ≡ worldOf (R .mesh) (R .log) = λ i. record { mesh = M; log = G .words i } in
       record {
         is = told;
         below =
             pair-below (k .particles) r
             (subst (λ (m : ℕ). Found (Both m) (pairIs r)) (particles-count k points roots corners volumes ends lengths outline)
-            (subst (Found (Both (length (Here .particles)))) (sym (told R w)) (current-below K R (a, b) (accepted-indexed Here (P .indices)))));
+            (subst (Found (Both (length (M .particles)))) (sym (told R w)) (current-below K R (a, b) (accepted-indexed M (P .indices)))));
       }
+
+  -- the pairs of the families, as the definitions have them
+  pairs-of : Run → List (ℕ × ℕ)
+  pairs-of R = crossPairs (family (splitsOf (R .log)) a) (family (splitsOf (R .log)) b)
+
+  first-of : (R : Run) → firstOf (find (meet true K (R .mesh)) (pairs-of R)) (find (meet false K (R .mesh)) (pairs-of R)) ≡ currentPair K R (a, b)
+  unfolding currentPair currentOf pairs-of
+  first-of R = refl
+
+  pub told-held : (r : Pair) (x y : ℕ) → r ≡ Ends x y → PairMetNow true K a b Now r → PairNow K a b (k .particles) Now (Ends x y)
+  unfolding pairs-of
+  told-held r x y s C =
+      pair-told (Ends x y)
+      (λ R w.
+      let h : find (meet true K (R .mesh)) (pairs-of R) ≡ some (x, y) = sym (C .is R w) ∙ ap pairIs s in
+      sym (ap (λ (o : Option (ℕ × ℕ)). firstOf o (find (meet false K (R .mesh)) (pairs-of R))) h) ∙ first-of R)
+
+  pub told-joined : (r t : Pair) → r ≡ None → PairMetNow true K a b Now r → PairMetNow false K a b Now t → PairNow K a b (k .particles) Now t
+  unfolding pairs-of
+  told-joined r t s C D =
+      pair-told t
+      (λ R w.
+      let h : find (meet true K (R .mesh)) (pairs-of R) ≡ none = sym (C .is R w) ∙ ap pairIs s in
+      D .is R w ∙ sym (ap (λ (o : Option (ℕ × ℕ)). firstOf o (find (meet false K (R .mesh)) (pairs-of R))) h) ∙ first-of R)

@@ -131,7 +131,7 @@ module _ (K : Kind) (O : Opening) (a b : ℕ) (xy : ℕ × ℕ) (L : Rooms) (W :
 module _ (K : Kind) (L : Rooms) (k : Counts) (points : List Float) (roots corners : List ℕ) (volumes : List Float) (ends : List ℕ) (lengths : List Float) (outline log : List ℕ)
     (P : Ready L k (lent points roots corners volumes ends lengths outline log) (meshAt k points roots corners volumes ends lengths outline))
     {v n count : ℕ} {numbers verts : List ℕ} {measures : List Float} {groups : List ℕ}
-    (G : FanGrouped K (meshAt k points roots corners volumes ends lengths outline) v n count numbers verts measures groups) (w x y a b : ℕ) (T : TearAsked v w x y (k .particles))
+    (G : FanGrouped K (meshAt k points roots corners volumes ends lengths outline) v n count numbers verts measures groups) (w x y a b : ℕ) (T : TearAsked v w x y a b (k .particles))
     (points′ : List Float) (roots′ corners′ ends′ : List ℕ) (lengths′ : List Float) (outline′ log′ : List ℕ) where
   -- the split that is made
   abbrev theOpening : Opening
@@ -155,7 +155,7 @@ module _ (K : Kind) (L : Rooms) (k : Counts) (points : List Float) (roots corner
         ∙ ap (λ (m : ℕ). m + (count - 1)) (particles-count k points roots corners volumes ends lengths outline)
 
     pub tear-room : length roots′ ≡ length roots → length ends′ ≡ length ends → length lengths′ ≡ length lengths → length log′ ≡ length log
-        → TearRoom (q .edges) (q .log) x y (k .particles) count (length roots′) (length ends′) (length lengths′) (length log′)
+        → TearRoom (q .edges) (q .log) x y a b (k .particles) count (length roots′) (length ends′) (length lengths′) (length log′)
     tear-room er ee el eg =
         let S = stepped in
         let C = P .rooms in
@@ -164,6 +164,8 @@ module _ (K : Kind) (L : Rooms) (k : Counts) (points : List Float) (roots corner
         let n = copies-count in
         record {
           log = let h = S .2 in let g = C .log in omega arith;
+          a-few = T .a-few;
+          b-few = T .b-few;
           edges = record { ends = let h = H .edges in let g = C .ends in omega arith; lengths = let h = H .edges in let g = C .lengths in omega arith };
           marks = record {
             x-in = let h = T .x-in in let g = C .roots in omega arith;

@@ -10,8 +10,8 @@ use lib.Ieee.{Float}
 use Rattle.lists.specs.Lists.{pick, stands, any, each, find}
 use Rattle.model.specs.Mesh.{Mesh}
 use Rattle.model.specs.Elements.{Kind, elementsOf, held}
-use Rattle.model.specs.Run.{Run}
-use Rattle.model.specs.Crack.{family, joins, crossPairs, currentPair}
+use Rattle.model.specs.Run.{Run, splitsOf}
+use Rattle.model.specs.Crack.{family, joins, crossPairs}
 use Rattle.mesh.specs.At.{edgesAt}
 use Rattle.mesh.specs.Log.{Words, wordsOf, logAt}
 use Rattle.elements.specs.Table.{Cornered}
@@ -91,6 +91,8 @@ pub record CurrentRoom (l lg k n lk e le : ℕ) : Type 0 where
   pub few : l ≤ 4096
   pub meet : MeetRoom k n lk e le
 
--- the pair that stands for the torn edge (a, b) in any run with this log, these elements and these edges
-pub record CurrentTold (a b l : ℕ) (log : List ℕ) (k n : ℕ) (verts : List ℕ) (e : ℕ) (ends : List ℕ) (r : Pair) : Type 0 where
-  pub is : (K : Kind) (R : Run) (lengths : List Float) → logAt l log ≡ map wordsOf (R .log) → MeshIn K (R .mesh) k n verts e ends lengths → pairIs r ≡ currentPair K R (a, b)
+-- r is the first pair of the families of a and b that meets, in an element or at an edge, in whatever run has this log and this mesh
+pub record FamiliesMet (in-element : Bool) (a b l : ℕ) (log : List ℕ) (k n : ℕ) (verts : List ℕ) (e : ℕ) (ends : List ℕ) (r : Pair) : Type 0 where
+  pub is :
+      (K : Kind) (R : Run) (lengths : List Float) → logAt l log ≡ map wordsOf (R .log) → MeshIn K (R .mesh) k n verts e ends lengths
+      → pairIs r ≡ find (meet in-element K (R .mesh)) (crossPairs (family (splitsOf (R .log)) a) (family (splitsOf (R .log)) b))

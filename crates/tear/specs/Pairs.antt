@@ -10,12 +10,13 @@ use Rattle.float.specs.Order.{totalCmp}
 use Rattle.model.specs.Mesh.{Mesh}
 use Rattle.model.specs.Valid.{indicesFit}
 use Rattle.model.specs.Elements.{Kind, Triangles}
-use Rattle.model.specs.Run.{Run}
-use Rattle.model.specs.Crack.{currentPair, meanLoad, ahead}
+use Rattle.model.specs.Run.{Run, splitsOf}
+use Rattle.lists.specs.Lists.{find}
+use Rattle.model.specs.Crack.{family, crossPairs, currentPair, meanLoad, ahead}
 use Rattle.mesh.specs.Log.{World, worldOf}
 use Rattle.mesh.specs.declared.Counts.{Counts}
 use Rattle.elements.specs.Table.{TableRoom}
-use Rattle.tear.specs.Families.{pairIs}
+use Rattle.tear.specs.Families.{pairIs, meet}
 use Rattle.tear.specs.declared.families.Pair.{Pair}
 use Rattle.tear.specs.declared.families.Pair.the-variants.{None, Ends}
 
@@ -30,6 +31,10 @@ pub record PairReady (k : Counts) (lc lv le ll lg : ℕ) (M : Mesh) : Type 0 whe
 abbrev pub PairBelow : ℕ → Pair → Type 0
 PairBelow p None = Unit {0}
 PairBelow p (Ends x y) = (x < p) × (y < p)
+
+-- r is the first pair of the families of a and b that meets, in an element or at an edge, in whatever run the blocks hold
+pub record PairMetNow (in-element : Bool) (K : Kind) (a b : ℕ) (W : World) (r : Pair) : Type 0 where
+  pub is : (R : Run) → W ≡ worldOf (R .mesh) (R .log) → pairIs r ≡ find (meet in-element K (R .mesh)) (crossPairs (family (splitsOf (R .log)) a) (family (splitsOf (R .log)) b))
 
 -- r stands for the torn edge (a, b) in whatever run the blocks hold, and its particles are there
 pub record PairNow (K : Kind) (a b p : ℕ) (W : World) (r : Pair) : Type 0 where

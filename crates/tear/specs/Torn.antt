@@ -13,9 +13,11 @@ use Rattle.work.specs.declared.Ran.{Ran}
 use Rattle.work.specs.declared.Ran.the-variants.{Done}
 use Rattle.tear.specs.Tears.{Slackened, DamageRoom, Damaged}
 
--- an entry has room behind l, e edges stand in their blocks, and x, y and the copies in theirs
-pub record TearRoom (e l x y before count lr le ll lg : ℕ) : Type 0 where
+-- an entry has room behind l for the numbers a and b, e edges stand in their blocks, and x, y and the copies in theirs
+pub record TearRoom (e l x y a b before count lr le ll lg : ℕ) : Type 0 where
   pub log : l < lg / 6
+  pub a-few : a < 1024
+  pub b-few : b < 1024
   pub edges : EdgeRoom e le ll
   pub marks : DamageRoom x y before count lr
 
@@ -30,8 +32,10 @@ pub record TearTold (v before count w x y a b : ℕ) (q : Counts) (roots roots�
   pub counts : r ≡ Done (record { particles = q .particles; triangles = q .triangles; edges = q .edges; boundary = q .boundary; log = q .log + 1 })
   pub done : TearDone v before count w x y a b (q .edges) (q .log) roots roots′ ends lengths lengths′ log log′
 
--- x and y are there, and w is the one that is not v
-pub record TearAsked (v w x y p : ℕ) : Type 0 where
+-- x and y are there, and w is the one that is not v; a and b are numbers of particles of the input
+pub record TearAsked (v w x y a b p : ℕ) : Type 0 where
+  pub a-few : a < 1024
+  pub b-few : b < 1024
   pub x-in : x < p
   pub y-in : y < p
   pub other : w ≡ pick (eqb v x) y x

@@ -5,13 +5,14 @@ ghost use Rattle.mesh.specs.At.{meshAt};
 ghost use Rattle.mesh.specs.Log.{worldAt};
 ghost use Rattle.work.specs.Working.{Logged};
 ghost use Rattle.tear.specs.Tried.{WayReady, LoadsLong};
-ghost use Rattle.tear.specs.Pairs.{PairReady, PairNow, Turned};
+ghost use Rattle.tear.specs.Pairs.{PairReady, PairMetNow, PairNow, Turned};
 use crate::families::Pair;
 use elements::Kind;
 use mesh::Counts;
 
-// The particles that now stand for the torn edge (a, b), if any: the elements are read into a table for it.
-pub fn pair_now(
+// The first pair of the families of a and b that one element holds, or else the first that an edge joins. The elements and the families are read into tables for it.
+fn pair_met(
+    in_element: bool,
     kind: Kind,
     a: usize,
     b: usize,
@@ -23,10 +24,10 @@ pub fn pair_now(
     ends: &[usize],
     lengths: &[f32],
     outline: &[usize],
-    log: &[usize],
+    log: &[u32],
 ) -> Pair
     requires { ⌜ PairReady k (length (now corners)) (length (now volumes)) (length (now ends)) (length (now lengths)) (length (now log)) (meshAt k (now points) (now roots) (now corners) (now volumes) (now ends) (now lengths) (now outline)) × Logged (k .log) (now log) ⌝ }
-    ensures { λ r. ⌜ PairNow (kindIs kind) a b (k .particles) (worldAt k (now (points .entry)) (now (roots .entry)) (now (corners .entry)) (now (volumes .entry)) (now (ends .entry)) (now (lengths .entry)) (now (outline .entry)) (now (log .entry))) r ⌝ }
+    ensures { λ r. ⌜ PairMetNow «in_element» (kindIs kind) a b (worldAt k (now (points .entry)) (now (roots .entry)) (now (corners .entry)) (now (volumes .entry)) (now (ends .entry)) (now (lengths .entry)) (now (outline .entry)) (now (log .entry))) r ⌝ }
 {
     let mut numbers = [0usize; 2048];
     let mut verts = [0usize; 4096];
@@ -44,7 +45,60 @@ pub fn pair_now(
         &mut measures,
     );
     let per = elements::corners_per(kind);
-    crate::families::current_pair(a, b, k.log, log, per, n, &verts, k.edges, ends)
+    crate::families::family_pair(in_element, a, b, k.log, log, per, n, &verts, k.edges, ends)
+}
+
+// The particles that now stand for the torn edge (a, b), if any.
+pub fn pair_now(
+    kind: Kind,
+    a: usize,
+    b: usize,
+    k: Counts,
+    points: &[f32],
+    roots: &[usize],
+    corners: &[usize],
+    volumes: &[f32],
+    ends: &[usize],
+    lengths: &[f32],
+    outline: &[usize],
+    log: &[u32],
+) -> Pair
+    requires { ⌜ PairReady k (length (now corners)) (length (now volumes)) (length (now ends)) (length (now lengths)) (length (now log)) (meshAt k (now points) (now roots) (now corners) (now volumes) (now ends) (now lengths) (now outline)) × Logged (k .log) (now log) ⌝ }
+    ensures { λ r. ⌜ PairNow (kindIs kind) a b (k .particles) (worldAt k (now (points .entry)) (now (roots .entry)) (now (corners .entry)) (now (volumes .entry)) (now (ends .entry)) (now (lengths .entry)) (now (outline .entry)) (now (log .entry))) r ⌝ }
+{
+    let held = pair_met(
+        true,
+        kind,
+        a,
+        b,
+        k,
+        points,
+        roots,
+        corners,
+        volumes,
+        ends,
+        lengths,
+        outline,
+        log,
+    );
+    match held {
+        Pair::Ends(x, y) => Pair::Ends(x, y),
+        Pair::None => pair_met(
+            false,
+            kind,
+            a,
+            b,
+            k,
+            points,
+            roots,
+            corners,
+            volumes,
+            ends,
+            lengths,
+            outline,
+            log,
+        ),
+    }
 }
 
 // Whether the way at y goes before the way at x: the higher mean load does, then the lower number.

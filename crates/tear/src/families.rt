@@ -5,7 +5,7 @@ ghost use mathlib.Core.Bool.{_&&_};
 ghost use lib.Dec.{eqb};
 ghost use lib.ListN.{length};
 ghost use Rattle.mesh.specs.Log.{entryRow};
-ghost use Rattle.tear.specs.Families.{joinsBy, sourceIn, FamilyRoom, FamilyFound, JoinTold, MeetRoom, MeetTold, FirstMet, PairMet, CurrentRoom, CurrentTold};
+ghost use Rattle.tear.specs.Families.{joinsBy, sourceIn, FamilyRoom, FamilyFound, JoinTold, MeetRoom, MeetTold, FirstMet, PairMet, CurrentRoom, FamiliesMet};
 
 // Two particles, or none.
 pub enum Pair {
@@ -14,19 +14,19 @@ pub enum Pair {
 }
 
 // Is entry i a copy whose source stands in a list?
-fn has_source(i: usize, log: &[usize], list: &[usize]) -> bool
+fn has_source(i: usize, log: &[u32], list: &[usize]) -> bool
     requires { ⌜ i < length (now log) / 6 ⌝ }
     ensures { λ r. ⌜ r ≡ sourceIn (entryRow (now (log .entry)) i) (now (list .entry)) ⌝ }
 {
     let o = 6 * i;
     if log[o] == 1 {
-        return fan::stands_in(log[o + 2], list);
+        return fan::stands_in(log[o + 2] as usize, list);
     }
     false
 }
 
 // A particle, and each logged copy whose source is one of its family so far; returns how many they are.
-pub fn family(a: usize, l: usize, log: &[usize], found: &mut [usize]) -> usize
+pub fn family(a: usize, l: usize, log: &[u32], found: &mut [usize]) -> usize
     requires { ⌜ FamilyRoom l (length (now log)) (length (now found)) ⌝ }
     ensures { λ r. ⌜ FamilyFound a l (now (log .entry)) r (now (found .exit)) ⌝ }
 {
@@ -35,7 +35,7 @@ pub fn family(a: usize, l: usize, log: &[usize], found: &mut [usize]) -> usize
     let mut i: usize = 0;
     while i < l {
         if has_source(i, log, &found[..r]) {
-            found[r] = log[6 * i + 1];
+            found[r] = log[6 * i + 1] as usize;
             r += 1;
         }
         i += 1;
@@ -149,12 +149,13 @@ fn first_pair(
     Pair::None
 }
 
-// The first pair of the two families that one element holds, else the first that an edge joins.
-pub fn current_pair(
+// The first pair of the two families that one element holds, or else the first that an edge joins.
+pub fn family_pair(
+    in_element: bool,
     a: usize,
     b: usize,
     l: usize,
-    log: &[usize],
+    log: &[u32],
     k: usize,
     n: usize,
     verts: &[usize],
@@ -162,15 +163,11 @@ pub fn current_pair(
     ends: &[usize],
 ) -> Pair
     requires { ⌜ CurrentRoom l (length (now log)) k n (length (now verts)) e (length (now ends)) ⌝ }
-    ensures { λ r. ⌜ CurrentTold a b l (now (log .entry)) k n (now (verts .entry)) e (now (ends .entry)) r ⌝ }
+    ensures { λ r. ⌜ FamiliesMet «in_element» a b l (now (log .entry)) k n (now (verts .entry)) e (now (ends .entry)) r ⌝ }
 {
     let mut first = [0usize; 4097];
     let mut second = [0usize; 4097];
     let p = family(a, l, log, &mut first);
     let q = family(b, l, log, &mut second);
-    let held = first_pair(true, &first[..p], &second[..q], k, n, verts, e, ends);
-    match held {
-        Pair::Ends(x, y) => Pair::Ends(x, y),
-        Pair::None => first_pair(false, &first[..p], &second[..q], k, n, verts, e, ends),
-    }
+    first_pair(in_element, &first[..p], &second[..q], k, n, verts, e, ends)
 }

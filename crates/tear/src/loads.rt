@@ -124,7 +124,7 @@ fn linked_loads(
     }
 }
 
-// The loads of the first t triangles.
+// The loads of the first t triangles. The tables of links are lent: in the first of them every place holds e, and what stands in the other does not matter.
 pub fn read_loads(
     t: usize,
     e: usize,
@@ -132,13 +132,13 @@ pub fn read_loads(
     volumes: &[f32],
     ends: &[usize],
     lengths: &[f32],
+    heads: &mut [usize],
+    nexts: &mut [usize],
     loads: &mut [f32],
 )
-    requires { ⌜ LoadRoom (t ≤ length (now corners) / 3) (t ≤ length (now volumes) / 2) e (length (now ends)) (length (now lengths)) × (t ≤ length (now loads)) × Numbered t e (now corners) (now volumes) (now ends) ⌝ }
+    requires { ⌜ LoadRoom (t ≤ length (now corners) / 3) (t ≤ length (now volumes) / 2) e (length (now ends)) (length (now lengths)) × (t ≤ length (now loads)) × Numbered t e (now corners) (now volumes) (now ends) × LinkRoom e (now ends) (now heads) (length (now nexts)) ⌝ }
     ensures { λ _. ⌜ LoadsRead t e (now (corners .entry)) (now (volumes .entry)) (now (ends .entry)) (now (lengths .entry)) (now (loads .exit)) ⌝ }
 {
-    let mut heads = [e; 2048];
-    let mut nexts = [0usize; 2048];
-    link_edges(e, ends, &mut heads, &mut nexts);
-    linked_loads(t, e, corners, volumes, ends, lengths, &heads, &nexts, loads);
+    link_edges(e, ends, heads, nexts);
+    linked_loads(t, e, corners, volumes, ends, lengths, heads, nexts, loads);
 }

@@ -31,14 +31,14 @@ fn finish_tear(
     roots: &mut [usize],
     ends: &[usize],
     lengths: &mut [f32],
-    log: &mut [usize],
+    log: &mut [u32],
 ) -> Ran
-    requires { ⌜ TearRoom (q .edges) (q .log) x y before count (length (now roots)) (length (now ends)) (length (now lengths)) (length (now log)) ⌝ }
+    requires { ⌜ TearRoom (q .edges) (q .log) x y a b before count (length (now roots)) (length (now ends)) (length (now lengths)) (length (now log)) ⌝ }
     ensures { λ r. ⌜ TearTold v before count w x y a b q (now (roots .entry)) (now (roots .exit)) (now (ends .entry)) (now (lengths .entry)) (now (lengths .exit)) (now (log .entry)) (now (log .exit)) r ⌝ }
 {
     let e = q.edges;
     let l = q.log;
-    mesh::rows::note(l, 4, a, b, 0, 0, 0, log);
+    work::notes::note(l, 4, a as u32, b as u32, 0, 0, 0, log);
     crate::tears::slacken_bridges(v, before, count, w, e, ends, lengths);
     crate::tears::damage(x, y, before, count, roots);
     Ran::Done(Counts {
@@ -74,10 +74,10 @@ pub fn tear_open(
     ends: &mut [usize],
     lengths: &mut [f32],
     outline: &mut [usize],
-    log: &mut [usize],
+    log: &mut [u32],
     mask: &mut [usize],
 ) -> Ran
-    requires { ⌜ Ready room k (lent (now points) (now roots) (now corners) (now volumes) (now ends) (now lengths) (now outline) (now log)) (meshAt k (now points) (now roots) (now corners) (now volumes) (now ends) (now lengths) (now outline)) × FanGrouped (kindIs kind) (meshAt k (now points) (now roots) (now corners) (now volumes) (now ends) (now lengths) (now outline)) v n count (now numbers) (now verts) (now measures) (now groups) × TearAsked v w x y (k .particles) × (2048 ≤ length (now mask)) ⌝ }
+    requires { ⌜ Ready room k (lent (now points) (now roots) (now corners) (now volumes) (now ends) (now lengths) (now outline) (now log)) (meshAt k (now points) (now roots) (now corners) (now volumes) (now ends) (now lengths) (now outline)) × FanGrouped (kindIs kind) (meshAt k (now points) (now roots) (now corners) (now volumes) (now ends) (now lengths) (now outline)) v n count (now numbers) (now verts) (now measures) (now groups) × TearAsked v w x y a b (k .particles) × (2048 ≤ length (now mask)) ⌝ }
     ensures { λ r. ⌜ Works (splitMade (opened a b ∷ []) (torn (openedBy (kindIs kind) (meshAt k (now (points .entry)) (now (roots .entry)) (now (corners .entry)) (now (volumes .entry)) (now (ends .entry)) (now (lengths .entry)) (now (outline .entry))) v n count (now (groups .entry))) (x, y)) (kindIs kind) (openedBy (kindIs kind) (meshAt k (now (points .entry)) (now (roots .entry)) (now (corners .entry)) (now (volumes .entry)) (now (ends .entry)) (now (lengths .entry)) (now (outline .entry))) v n count (now (groups .entry)))) room
         (worldAt k (now (points .entry)) (now (roots .entry)) (now (corners .entry)) (now (volumes .entry)) (now (ends .entry)) (now (lengths .entry)) (now (outline .entry)) (now (log .entry)))
         (λ q. worldAt q (now (points .exit)) (now (roots .exit)) (now (corners .exit)) (now (volumes .entry)) (now (ends .exit)) (now (lengths .exit)) (now (outline .exit)) (now (log .exit))) r ⌝ }

@@ -1,5 +1,6 @@
 // One way to open an edge: the fan of one end in tables, with the sides across the edge, and their mean load.
 ghost use mathlib.Core.Path.{_≡_};
+ghost use Prim.Native.Nat.{_≤_};
 ghost use lib.ListN.{length};
 ghost use Rattle.elements.specs.Table.{kindIs, TableRoom};
 ghost use Rattle.mesh.specs.At.{meshAt};
@@ -91,7 +92,7 @@ pub fn way_load(
     crate::ways::mean_load(kind, n, &numbers, &sides, loads, lengths)
 }
 
-// Do the groups of the fan of v, with n elements, each reach the minimum piece through the elements of the mesh?
+// Do the groups of the fan of v, with n elements, each reach the minimum piece through the elements of the mesh? The queue is lent to work in: what stands in it does not matter.
 pub fn way_opens(
     kind: Kind,
     v: usize,
@@ -107,15 +108,15 @@ pub fn way_opens(
     lengths: &[f32],
     outline: &[usize],
     groups: &[usize],
+    queue: &mut [usize],
 ) -> bool
-    requires { ⌜ TableRoom (k .triangles) (k .edges) (length (now corners)) (length (now volumes)) (length (now ends)) (length (now lengths)) 2048 4096 2048 × OpensRoom n (length (fanOf (kindIs kind) (meshAt k (now points) (now roots) (now corners) (now volumes) (now ends) (now lengths) (now outline)) v)) (length (now groups)) ⌝ }
+    requires { ⌜ TableRoom (k .triangles) (k .edges) (length (now corners)) (length (now volumes)) (length (now ends)) (length (now lengths)) 2048 4096 2048 × OpensRoom n (length (fanOf (kindIs kind) (meshAt k (now points) (now roots) (now corners) (now volumes) (now ends) (now lengths) (now outline)) v)) (length (now groups)) × (2048 ≤ length (now queue)) ⌝ }
     ensures { λ r. ⌜ r ≡ opensWithoutConfetti (kindIs kind) (meshAt k (now (points .entry)) (now (roots .entry)) (now (corners .entry)) (now (volumes .entry)) (now (ends .entry)) (now (lengths .entry)) (now (outline .entry))) minimum (openedBy (kindIs kind) (meshAt k (now (points .entry)) (now (roots .entry)) (now (corners .entry)) (now (volumes .entry)) (now (ends .entry)) (now (lengths .entry)) (now (outline .entry))) v n count (now (groups .entry))) ⌝ }
 {
     let mut numbers = [0usize; 2048];
     let mut verts = [0usize; 4096];
     let mut measures = [0.0f32; 2048];
     let mut seen = [0usize; 2048];
-    let mut queue = [0usize; 2048];
     let m = elements::element_table(
         kind,
         k.triangles,
@@ -138,6 +139,6 @@ pub fn way_opens(
         count,
         minimum,
         &mut seen,
-        &mut queue,
+        queue,
     )
 }

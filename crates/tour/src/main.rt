@@ -142,22 +142,28 @@ fn say_insert(a: usize, b: usize, p: usize, q: usize, bits: usize) {
 }
 
 // One entry of a log: its kind, and up to five words.
-fn say_entry(kind: usize, a: usize, b: usize, p: usize, q: usize, bits: usize) {
+fn say_entry(kind: u32, a: u32, b: u32, p: u32, q: u32, bits: u32) {
     if kind == 1 {
-        say_split(a, b);
+        say_split(a as usize, b as usize);
     } else if kind == 2 {
-        say_what(b"  edge ", a, b);
+        say_what(b"  edge ", a as usize, b as usize);
         say(b": it would join what came apart, and went\n");
     } else if kind == 3 {
-        say_insert(a, b, p, q, bits);
+        say_insert(
+            a as usize,
+            b as usize,
+            p as usize,
+            q as usize,
+            bits as usize,
+        );
     } else {
-        say_what(b"  opened ", a, b);
+        say_what(b"  opened ", a as usize, b as usize);
         say(b": the torn edge opened\n");
     }
 }
 
 // All entries of a filled log, six words each.
-fn say_entries(log: &[usize]) {
+fn say_entries(log: &[u32]) {
     let n = log.len() / 6;
     let mut i: usize = 0;
     while i < n {
@@ -175,7 +181,7 @@ fn say_entries(log: &[usize]) {
 }
 
 // The bench hands back the filled front of a lent log, n entries long.
-fn say_log(n: usize, log: &[usize]) {
+fn say_log(n: usize, log: &[u32]) {
     let front = bench::tearing::log_front(n, log);
     say(b"log, as it happened:\n");
     say_entries(front);
@@ -202,7 +208,7 @@ fn say_counts(k: Counts) {
 }
 
 // Tells what a call answered, and the mesh and the log that it left in the lent blocks; returns whether it was accepted.
-fn tell(a: Answer, points: &[f32], ends: &[usize], outline: &[usize], log: &mut [usize]) -> bool {
+fn tell(a: Answer, points: &[f32], ends: &[usize], outline: &[usize], log: &mut [u32]) -> bool {
     match a {
         Answer::Refused(n) => {
             say_refused(n);
@@ -337,7 +343,7 @@ fn cut_strap(f: f32) {
     let mut roots = [0usize; 8];
     let mut ends = [0usize; 8];
     let mut lengths = [0.0f32; 8];
-    let mut log = [0usize; 12];
+    let mut log = [0u32; 12];
     let a = bench::tearing::cut(
         Point { x: 2.0, y: -1.0 },
         Point { x: 2.0, y: 1.0 },
@@ -376,7 +382,7 @@ fn cut_square() {
     let mut new_ends = [0usize; 12];
     let mut new_lengths = [0.0f32; 12];
     let mut new_outline = [0usize; 12];
-    let mut log = [0usize; 48];
+    let mut log = [0u32; 48];
     let a = bench::tearing::cut(
         Point { x: -1.0, y: -1.0 },
         Point { x: 5.0, y: 5.0 },
@@ -415,7 +421,7 @@ fn split_square() {
     let mut new_ends = [0usize; 12];
     let mut new_lengths = [0.0f32; 12];
     let mut new_outline = [0usize; 12];
-    let mut log = [0usize; 48];
+    let mut log = [0u32; 48];
     let a = bench::tearing::split(
         0,
         &[0, 1],
@@ -500,7 +506,7 @@ fn crack_row() {
     let mut roots = [0usize; 16];
     let mut ends = [0usize; 24];
     let mut lengths = [0.0f32; 24];
-    let mut log = [0usize; 12];
+    let mut log = [0u32; 12];
     let a = bench::tearing::crack(
         bench::tearing::minimum_piece(),
         &[2],

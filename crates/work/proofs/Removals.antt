@@ -133,7 +133,7 @@ module _ (mask : List ℕ) (n at : ℕ) (ends log₀ : List ℕ) where
       one-more = ap length (marked-take mask i m) ∙ length-append (markedOf mask i) (i ∷ [])
 
       -- there is room for one more
-      pub noting-room : NoteRoom mask n at (length ends) (length log₀) → w < length log / 6
+      pub noting-room : NoteRoom mask n at ends (length log₀) → w < length log / 6
       noting-room R = omega (arith, G .count, G .long, R .log-long, one-more, marked-most mask (i + 1) n (omega arith))
 
       pub noting-take : (log′ : List ℕ)
@@ -198,7 +198,7 @@ sides-kept mask n A A′ r B l =
 
 -- the blocks without the marked
 pub blocks-gone : (L : Rooms) (k : Counts) (s : ℕ) (edge-mask side-mask ends ends′ : List ℕ) (lengths lengths′ : List Float) (outline outline′ log log′ : List ℕ) (e b g : ℕ)
-    → GoneRoom L k s edge-mask (length side-mask) (length ends) (length lengths) (length outline) (length log) → s ≤ L .log - k .log
+    → GoneRoom L k s edge-mask (length side-mask) ends (length lengths) (length outline) (length log) → s ≤ L .log - k .log
     → EdgesNoted edge-mask (k .edges) (k .log) ends log log′ g → Removed edge-mask (k .edges) e (edgesAt (k .edges) ends lengths) (edgesAt e ends′ lengths′)
     → BlockKept 0 side-mask (k .boundary) 2 (length outline / 2) outline outline′ b → length outline′ ≡ length outline
     → BlocksGone L k (record { particles = k .particles; triangles = k .triangles; edges = e; boundary = b; log = g }) edge-mask side-mask ends ends′ lengths lengths′ outline outline′ log log′

@@ -12,6 +12,7 @@ use Rattle.mesh.specs.At.{edgesAt, boundaryAt}
 use Rattle.mesh.specs.Log.{Words, logAt}
 use Rattle.mesh.specs.declared.Counts.{Counts}
 use Rattle.mesh.specs.declared.Rooms.{Rooms}
+use Rattle.work.specs.Places.{EndsIn}
 use Rattle.work.specs.declared.Ran.{Ran}
 use Rattle.work.specs.declared.Ran.the-variants.{Refused, Done}
 
@@ -31,10 +32,11 @@ markedOf mask n = sift (marked mask) (upTo n)
 abbrev pub goneWords : List ℕ → ℕ → Words
 goneWords ends j = record { kind = 2; a = cell 0 (length ends / 4) ends 0 j; b = cell 0 (length ends / 4) ends 1 j; p = 0; q = 0; t = 0 }
 
--- what the notes of the marked edges among the first n ask, behind `at` entries
-pub record NoteRoom (mask : List ℕ) (n at le lg : ℕ) : Type 0 where
+-- what the notes of the marked edges among the first n ask, behind `at` entries: ends are numbers of particles, which a word holds
+pub record NoteRoom (mask : List ℕ) (n at : ℕ) (ends : List ℕ) (lg : ℕ) : Type 0 where
   pub mask-long : n ≤ length mask
-  pub ends-long : n ≤ le / 4
+  pub ends-long : n ≤ length ends / 4
+  pub ends-in : EndsIn 1024 n ends
   pub log-long : at + length (markedOf mask n) ≤ lg / 6
 
 -- the marked edges stand in the log behind the `at` entries, and it has r entries
@@ -43,11 +45,12 @@ pub record EdgesNoted (mask : List ℕ) (n at : ℕ) (ends log log′ : List ℕ
   pub entries : logAt r log′ ≡ logAt at log ++ map (goneWords ends) (markedOf mask n)
 
 -- what the removal of the marked asks, where s edges are marked
-pub record GoneRoom (L : Rooms) (k : Counts) (s : ℕ) (edge-mask : List ℕ) (side-mask le ll lo lg : ℕ) : Type 0 where
+pub record GoneRoom (L : Rooms) (k : Counts) (s : ℕ) (edge-mask : List ℕ) (side-mask : ℕ) (ends : List ℕ) (ll lo lg : ℕ) : Type 0 where
   pub marked-are : s ≡ length (markedOf edge-mask (k .edges))
   pub edge-mask-long : k .edges ≤ length edge-mask
   pub side-mask-long : k .boundary ≤ side-mask
-  pub ends-long : k .edges ≤ le / 4
+  pub ends-long : k .edges ≤ length ends / 4
+  pub ends-in : EndsIn 1024 (k .edges) ends
   pub lengths-long : k .edges ≤ ll / 4
   pub outline-long : k .boundary ≤ lo / 2
   pub log-in : k .log ≤ L .log

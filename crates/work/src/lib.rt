@@ -1,4 +1,5 @@
 // Workers over the lent blocks of a mesh: what a step came to, and the removal of marked rows, which several steps share.
+pub mod notes;
 pub mod removal;
 
 use mesh::Counts;

@@ -7,8 +7,8 @@ use mesh::Counts;
 use mesh::Rooms;
 
 // Notes the marked edges among the first n, by their ends, behind the `at` entries of the log; returns how many entries there are.
-pub fn note_edges(mask: &[usize], n: usize, at: usize, ends: &[usize], log: &mut [usize]) -> usize
-    requires { ⌜ NoteRoom (now mask) n at (length (now ends)) (length (now log)) ⌝ }
+pub fn note_edges(mask: &[usize], n: usize, at: usize, ends: &[usize], log: &mut [u32]) -> usize
+    requires { ⌜ NoteRoom (now mask) n at (now ends) (length (now log)) ⌝ }
     ensures { λ r. ⌜ EdgesNoted (now (mask .entry)) n at (now (ends .entry)) (now (log .entry)) (now (log .exit)) r ⌝ }
 {
     let c = ends.len() / 4;
@@ -16,7 +16,7 @@ pub fn note_edges(mask: &[usize], n: usize, at: usize, ends: &[usize], log: &mut
     let mut i: usize = 0;
     while i < n {
         if mask[i] == 1 {
-            mesh::rows::note(w, 2, ends[i], ends[c + i], 0, 0, 0, log);
+            crate::notes::note(w, 2, ends[i] as u32, ends[c + i] as u32, 0, 0, 0, log);
             w += 1;
         }
         i += 1;
@@ -34,9 +34,9 @@ pub fn remove_marked(
     ends: &mut [usize],
     lengths: &mut [f32],
     outline: &mut [usize],
-    log: &mut [usize],
+    log: &mut [u32],
 ) -> Ran
-    requires { ⌜ GoneRoom room k s (now «edge_mask») (length (now «side_mask»)) (length (now ends)) (length (now lengths)) (length (now outline)) (length (now log)) ⌝ }
+    requires { ⌜ GoneRoom room k s (now «edge_mask») (length (now «side_mask»)) (now ends) (length (now lengths)) (length (now outline)) (length (now log)) ⌝ }
     ensures { λ r. ⌜ GoneTo room k (now («edge_mask» .entry)) (now («side_mask» .entry)) (now (ends .entry)) (now (ends .exit)) (now (lengths .entry)) (now (lengths .exit)) (now (outline .entry)) (now (outline .exit)) (now (log .entry)) (now (log .exit)) r ⌝ }
 {
     if room.log - k.log < s {

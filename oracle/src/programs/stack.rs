@@ -1,6 +1,6 @@
 //! stack [FIRST [COUNT]]: the deepest stack that each C function took on COUNT inputs of each kind, in bytes, with the few
-//! that this program's own call takes. `bench_cut`, and those on fans and sheets, must stay below 512 KiB.
-use crate::entries::{ENTRIES, Entry, FILL, Group, Raw, Table, archive, invoke};
+//! that this program's own call takes. Each must stay below 512 KiB.
+use crate::entries::{ENTRIES, Entry, FILL, Raw, Table, archive, invoke};
 use crate::inputs::{KINDS, input};
 use std::hint::black_box;
 
@@ -40,24 +40,16 @@ pub fn run(words: &[String]) -> i32 {
     let n: Vec<u64> = words.iter().map(|w| w.parse().expect("a number")).collect();
     let (first, count) = (n.first().copied().unwrap_or(1), n.get(1).copied().unwrap_or(300));
     let t = archive();
-    let (mut cut, mut there, mut over) = (None, 0, 0);
+    let (mut there, mut over) = (0, 0);
     for e in ENTRIES {
         let Some(most) = deepest(&t, e, first, count) else { continue };
         println!("  {:29} {most:7} bytes of stack", e.name());
         there += 1;
-        if e == Entry::Cut {
-            cut = Some(most);
-        }
-        if e.group() == Group::Hosting && most >= LIMIT {
+        if most >= LIMIT {
             over += 1;
         }
     }
     let lacking = t.lacking(&ENTRIES);
-    let told = match cut {
-        None => "not there, so not held to",
-        Some(most) if most < LIMIT => "below",
-        Some(_) => "NOT below",
-    };
-    println!("{there} functions, bench_cut {told} {LIMIT} bytes of stack, {over} of those on fans and sheets not below");
-    (lacking > 0 || over > 0 || cut.is_some_and(|most| most >= LIMIT)) as i32
+    println!("{there} functions, {over} of them not below {LIMIT} bytes of stack, {lacking} not there");
+    (lacking > 0 || over > 0) as i32
 }

@@ -25,20 +25,20 @@ add-from c = search needs
 add-end : tie.Need-add-end
 add-end c = search needs
 
-mul-put-line : tie.Need-mul-put-line
-mul-put-line c = search needs
+mul-put-words : tie.Need-mul-put-words
+mul-put-words c = search needs
 
-sub-put-line : tie.Need-sub-put-line
-sub-put-line c = search needs
+sub-put-words : tie.Need-sub-put-words
+sub-put-words c = search needs
 
-part-put-line-start : tie.Need-part-put-line-start
-part-put-line-start c = search needs
+part-put-words-start : tie.Need-part-put-words-start
+part-put-words-start c = search needs
 
-part-put-line-end : tie.Need-part-put-line-end
-part-put-line-end c = search needs
+part-put-words-end : tie.Need-part-put-words-end
+part-put-words-end c = search needs
 
-put-line-requires : tie.Need-put-line-requires
-put-line-requires c κs = search needs
+put-words-requires : tie.Need-put-words-requires
+put-words-requires c κs = search needs
 
 same-length : tie.Need-same-length
 same-length c = search needs
@@ -47,7 +47,7 @@ returns-2 : tie.Need-returns-2
 returns-2 c =
     let a = c .before .before .before .before .before .before .before .before .before .before .args in
     let pre = c .before .before .before .before .before .before .before .before .before .before .pre in
-    appends-as (c .before .before .put-line .ensures) (entry-listed (a .word .now) (a .kind) (a .count) (a .log .now) (a .i) (pre .room) (pre .few) (c .before .before .before .before .before .if1 .left))
+    appends-as (c .before .before .put-words .ensures) (entry-listed (a .word .now) (a .kind) (a .count) (a .log .now) (a .i) (pre .room) (pre .few) (c .before .before .before .before .before .if1 .left))
 
 pub put-entry-spec : {M : Type 1} → statement M
 put-entry-spec =
@@ -59,10 +59,10 @@ put-entry-spec =
     returns
     add-from
     add-end
-    mul-put-line
-    sub-put-line
-    part-put-line-start
-    part-put-line-end
-    put-line-requires
+    mul-put-words
+    sub-put-words
+    part-put-words-start
+    part-put-words-end
+    put-words-requires
     same-length
     returns-2)

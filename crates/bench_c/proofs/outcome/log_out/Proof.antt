@@ -14,17 +14,17 @@ clear-bytes-requires c κs = search needs
 mul-end : tie.Need-mul-end
 mul-end c = search needs
 
-slice-aggregate-store-words : tie.Need-slice-aggregate-store-words
-slice-aggregate-store-words c = sym (length-take-le _ _ ((c .before .before .before .before .before .before .before) .pre .0))
+slice-aggregate-store-log : tie.Need-slice-aggregate-store-log
+slice-aggregate-store-log c = sym (length-take-le _ _ ((c .before .before .before .before .before .before .before) .pre .0))
 
-store-words-requires : tie.Need-store-words-requires
-store-words-requires c κs = omega (arith, (c .before .before .before .before .before .before .before .before) .pre .1, (c .before .before .before .before) .clear-bytes .kept .0, length-take-le (6 * (c .before .before .before .before .before .before .before .before) .args .n) ((c .before .before .before .before .before .before .before .before) .args .words .now) ((c .before .before .before .before .before .before .before .before) .pre .0))
+store-log-requires : tie.Need-store-log-requires
+store-log-requires c κs = omega (arith, (c .before .before .before .before .before .before .before .before) .pre .1, (c .before .before .before .before) .clear-bytes .kept .0, length-take-le (6 * (c .before .before .before .before .before .before .before .before) .args .n) ((c .before .before .before .before .before .before .before .before) .args .words .now) ((c .before .before .before .before .before .before .before .before) .pre .0))
 
 same-length : tie.Need-same-length
 same-length c = search needs
 
 returns : tie.Need-returns
-returns c = log-written _ _ _ _ (omega (arith, (c .before .before .before .before .before .before .before .before .before .before .before) .pre .1, length-take-le (6 * (c .before .before .before .before .before .before .before .before .before .before .before) .args .n) ((c .before .before .before .before .before .before .before .before .before .before .before) .args .words .now) ((c .before .before .before .before .before .before .before .before .before .before .before) .pre .0))) ((c .before .before .before .before .before .before .before) .clear-bytes .ensures) ((c .before .before) .store-words .ensures)
+returns c = log-written _ _ _ _ (omega (arith, (c .before .before .before .before .before .before .before .before .before .before .before) .pre .1, length-take-le (6 * (c .before .before .before .before .before .before .before .before .before .before .before) .args .n) ((c .before .before .before .before .before .before .before .before .before .before .before) .args .words .now) ((c .before .before .before .before .before .before .before .before .before .before .before) .pre .0))) ((c .before .before .before .before .before .before .before) .clear-bytes .ensures) ((c .before .before) .store-log .ensures)
 
 pub log-out-spec : {M : Type 1} → statement M
 log-out-spec =
@@ -32,7 +32,7 @@ log-out-spec =
     (tie.spec
     clear-bytes-requires
     mul-end
-    slice-aggregate-store-words
-    store-words-requires
+    slice-aggregate-store-log
+    store-log-requires
     same-length
     returns)

@@ -52,7 +52,7 @@ shared-slice-read-crack-edge-2 : tie.Need-shared-slice-read-crack-edge-2
 shared-slice-read-crack-edge-2 c = omega (arith, c .before .before .if1 .left, c .before .before .before .before .before .before .before .before .before .before .before .before .before .before .pre .1 .second)
 
 crack-edge-requires : tie.Need-crack-edge-requires
-crack-edge-requires c κs = let P = c .before .before .before .before .before .before .before .before .before .before .before .before .before .before .before .before .before .before .before .before .before .pre in (P .0, P .1 .logged, P .1 .loads)
+crack-edge-requires c κs = let P = c .before .before .before .before .before .before .before .before .before .before .before .before .before .before .before .before .before .before .before .before .before .pre in (P .0, P .1 .logged, P .1 .loads, P .1 .first-few (c .before .before .before .before .before .before .before .before .before .before .before .before .before .before .before .before .before .before .before .before .before .args .number) (omega (arith, c .before .before .before .before .before .before .before .before .before .if1 .left)), P .1 .second-few (c .before .before .before .before .before .before .before .before .before .before .before .before .before .before .before .before .before .before .before .before .before .args .number) (omega (arith, c .before .before .before .before .before .before .before .before .before .if1 .left)))
 
 same-length : tie.Need-same-length
 same-length c = c .before .before .before .before .before .before .before .before .before .before .before .before .before .before .crack-edge .kept .1 .1 .1 .1 .1 .1 .1 .0

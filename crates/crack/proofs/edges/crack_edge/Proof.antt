@@ -19,7 +19,7 @@ enum-known-pair c = search needs
 crack-pair-requires : tie.Need-crack-pair-requires
 crack-pair-requires c κs = let P = c .before .before .before .before .before .before .before .before .before .before .before .before .before .before .before .before .before .before .before .before .before .before .before .before .before .before .before .pre in let A = c .before .before .before .before .before .before .before .before .before .before .before .before .before .before .before .before .before .before .before .before .before .before .before .before .before .before .before .args in
     let E = edge-below (kindIs (A .kind)) (A .minimum) (A .a) (A .b) (A .k .particles) (A .k .triangles) (A .loads .now) (A .room) (worldAt (A .k) (A .points .now) (A .roots .now) (A .corners .now) (A .volumes .now) (A .ends .now) (A .lengths .now) (A .outline .now) (A .log .now)) _ (c .before .before .before .before .before .before .before .before .before .before .pair-now .ensures) _ _ (c .before .before .before .before .before .before .before .before .pair .given .1) in
-    (P .0, P .2, E .0, E .1)
+    (P .0, P .2, E .0, E .1, P .3, P .4)
 
 same-length : tie.Need-same-length
 same-length c = search needs

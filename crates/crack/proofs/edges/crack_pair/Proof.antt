@@ -11,7 +11,7 @@ turned-requires c κs = let P = c .before .before .before .before .before .befor
 
 crack-ends-requires : tie.Need-crack-ends-requires
 crack-ends-requires c κs = let P = c .before .before .before .before .before .before .before .before .before .before .before .before .before .before .before .before .before .before .before .before .before .before .before .before .before .pre in let A = c .before .before .before .before .before .before .before .before .before .before .before .before .before .before .before .before .before .before .before .before .before .before .before .before .before .args in let T = c .before .before .before .before .before .before .before .before .before .turned in
-    let both = asked-turned (T .result) (A .x) (A .y) (A .k .particles) _ _ (⊎-elim (λ z. chosen-first (T .result) _ _ _ (z .0 .taken) (z .1)) (λ z. chosen-second (T .result) _ _ _ (z .0 .left) (z .1)) (c .before .before .before .before .before .before .before .before .if1 .came)) (⊎-elim (λ z. chosen-first (T .result) _ _ _ (z .0 .taken) (z .1)) (λ z. chosen-second (T .result) _ _ _ (z .0 .left) (z .1)) (c .before .before .before .before .before .before .before .if2 .came)) (P .2) (P .3) in
+    let both = asked-turned (T .result) (A .x) (A .y) (A .a) (A .b) (A .k .particles) _ _ (⊎-elim (λ z. chosen-first (T .result) _ _ _ (z .0 .taken) (z .1)) (λ z. chosen-second (T .result) _ _ _ (z .0 .left) (z .1)) (c .before .before .before .before .before .before .before .before .if1 .came)) (⊎-elim (λ z. chosen-first (T .result) _ _ _ (z .0 .taken) (z .1)) (λ z. chosen-second (T .result) _ _ _ (z .0 .left) (z .1)) (c .before .before .before .before .before .before .before .if2 .came)) (P .4) (P .5) (P .2) (P .3) in
     (P .0, both .0, both .1)
 
 same-length : tie.Need-same-length

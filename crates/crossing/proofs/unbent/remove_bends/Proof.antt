@@ -18,7 +18,7 @@ clear-usize-requires c κs = search needs
 remove-marked-requires : tie.Need-remove-marked-requires
 remove-marked-requires c κs = let P = c .before .before .before .before .before .before .before .before .before .before .before .before .before .before .before .before .before .pre .0 in
     let C = P .counts in
-    record { marked-are = c .before .before .before .before .before .before .before .before .before .before .count-marked .ensures; edge-mask-long = P .marks; side-mask-long = omega (arith, C .boundary, P .few-boundary, c .before .before .before .before .before .before .before .before .before .before .before .before .before .before .before .before .before .pre .1, c .before .before .before .before .before .before .before .clear-usize .kept .1 .0); ends-long = omega (arith, C .edges, P .ends); lengths-long = omega (arith, C .edges, P .lengths); outline-long = omega (arith, C .boundary, P .outline); log-in = C .log; log-long = P .log }
+    record { marked-are = c .before .before .before .before .before .before .before .before .before .before .count-marked .ensures; edge-mask-long = P .marks; side-mask-long = omega (arith, C .boundary, P .few-boundary, c .before .before .before .before .before .before .before .before .before .before .before .before .before .before .before .before .before .pre .1, c .before .before .before .before .before .before .before .clear-usize .kept .1 .0); ends-long = omega (arith, C .edges, P .ends); ends-in = P .ends-in; lengths-long = omega (arith, C .edges, P .lengths); outline-long = omega (arith, C .boundary, P .outline); log-in = C .log; log-long = P .log }
 
 same-length : tie.Need-same-length
 same-length c = c .before .before .before .before .before .before .before .before .before .before .before .before .before .before .before .before .clear-usize .kept .1 .0

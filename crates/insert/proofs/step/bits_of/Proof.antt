@@ -1,9 +1,4 @@
 -- `insert::step::bits_of` meets its contract: a NaN has the pattern that the definition names. Assumes nothing.
-use native.Mathlib.Omega.{arith}
-use mathlib.Core.Path.{_≡_, refl, sym, subst, _∙_, ap}
-use lib.Dec.{T}
-use lib.Ieee.{binary32}
-use lib.Ieee.Bits.{toBits-lt}
 use Rattle.float.proofs.Patterns.{is-no-nan}
 use Rattle.insert.proofs.StepLaws.{nan-bits}
 use borrow.Author.Needs.{needs}
@@ -16,11 +11,8 @@ returns c = nan-bits ((c .before) .args .x) (c .if1 .taken)
 float-to-bits-result : tie.Need-float-to-bits-result
 float-to-bits-result c = is-no-nan ((c .before) .args .x) (c .if1 .left)
 
-cast-result : tie.Need-cast-result
-cast-result c = omega (arith, toBits-lt binary32 ((c .before) .args .x) (subst T (sym ((c .before) .good .0 .1)) tt))
-
 returns-2 : tie.Need-returns-2
 returns-2 c = search needs
 
 pub bits-of-spec : {M : Type 1} → statement M
-bits-of-spec = tie.close (tie.spec returns float-to-bits-result cast-result returns-2)
+bits-of-spec = tie.close (tie.spec returns float-to-bits-result returns-2)

@@ -4,7 +4,7 @@ use Rattle.marks.specs.Marking.{Marks, endsIn}
 use Rattle.mesh.specs.Log.{entryRow}
 use Rattle.lists.specs.Lists.{each, tab}
 use lib.ListN.{length}
-use Prim.Native.Nat.{_≤_, _-_}
+use Prim.Native.Nat.{_≤_, _-_, _+_, _*_}
 use mathlib.Core.Logic.{⊎-elim}
 use mathlib.Core.Path.{_≡_, refl, _∙_}
 use native.Mathlib.Omega.{arith}
@@ -41,6 +41,9 @@ mul-mark c = omega arith
 shared-slice-read-mark : tie.Need-shared-slice-read-mark Inv-loop μ-loop
 shared-slice-read-mark c = omega arith
 
+cast-mark : tie.Need-cast-mark Inv-loop μ-loop
+cast-mark c = omega (arith, c .shared-slice-known3 .given (6 * c .before .before .before .before .loop .i + 1))
+
 mark-requires : tie.Need-mark-requires Inv-loop μ-loop
 mark-requires c κs = omega arith
 
@@ -52,6 +55,9 @@ mul-mark-2 c = omega arith
 
 shared-slice-read-mark-2 : tie.Need-shared-slice-read-mark-2 Inv-loop μ-loop
 shared-slice-read-mark-2 c = omega arith
+
+cast-mark-2 : tie.Need-cast-mark-2 Inv-loop μ-loop
+cast-mark-2 c = omega (arith, c .shared-slice-known4 .given (6 * c .before .before .before .before .before .before .before .before .before .loop .i + 2))
 
 mark-requires-2 : tie.Need-mark-requires-2 Inv-loop μ-loop
 mark-requires-2 c κs = omega arith
@@ -93,10 +99,12 @@ mark-near-spec =
     add-mark
     mul-mark
     shared-slice-read-mark
+    cast-mark
     mark-requires
     add-mark-2
     mul-mark-2
     shared-slice-read-mark-2
+    cast-mark-2
     mark-requires-2
     add-i
     loop-less

@@ -20,6 +20,12 @@ add-note c = omega (arith, c .loop-test .taken, c .before .before .before .pre .
 add-note-2 : tie.Need-add-note-2 Inv-loop μ-loop
 add-note-2 c = omega (arith, c .loop-test .taken, c .before .before .before .pre .0)
 
+cast-note : tie.Need-cast-note Inv-loop μ-loop
+cast-note c = omega (arith, c .loop-test .taken, c .before .before .before .pre .0)
+
+cast-note-2 : tie.Need-cast-note-2 Inv-loop μ-loop
+cast-note-2 c = omega (arith, c .before .before .before .pre .0, c .before .before .before .pre .2)
+
 note-requires : tie.Need-note-requires Inv-loop μ-loop
 note-requires c κs = omega (arith, c .before .loop-test .taken, c .before .before .before .before .pre .1, c .before .before .loop .inv .long)
 
@@ -47,6 +53,8 @@ note-copies-spec =
     loop-holds
     add-note
     add-note-2
+    cast-note
+    cast-note-2
     note-requires
     add-i
     loop-less

@@ -1,91 +1,86 @@
--- `split::step::split_by_sides` meets its contract: the fan of v in tables, split by its sides. Assumes nothing.
-use native.Mathlib.Omega.{arith}
+-- `split::step::split_by_sides` meets its contract: each kind is split by tables of its own, and one of neither has no fan. Assumes nothing.
+use mathlib.Core.Path.{ap}
 use Rattle.elements.specs.Table.{kindIs}
-use Rattle.split.proofs.TabledLaws.{fan-lent, sides-few, sides-copied, sided-copied, sides-works}
+use Rattle.split.proofs.TabledLaws.{nothing-works, sides-as, given-as}
 use borrow.Author.Needs.{needs}
 use Rattle.split.proofs.step.split_by_sides.Statement.{statement}
 use Rattle.split.proofs.step.split_by_sides.Tie as tie
 
-slice-aggregate-fan-tables : tie.Need-slice-aggregate-fan-tables
-slice-aggregate-fan-tables c = search needs
+enum-told : tie.Need-enum-told
+enum-told c = search needs
 
-slice-aggregate-fan-tables-2 : tie.Need-slice-aggregate-fan-tables-2
-slice-aggregate-fan-tables-2 c = search needs
+split-fan-requires : tie.Need-split-fan-requires
+split-fan-requires c κs = let P = c .before .before .before .before .before .before .before .before .before .before .before .before .before .before .before .before .before .before .pre in (P .0, given-as (kindIs (c .before .before .before .before .before .before .before .before .before .before .before .before .before .before .before .before .before .before .args .kind)) (ap kindIs (c .before .before .before .before .before .before .before .enum-told .given .1)) (P .1))
 
-slice-aggregate-fan-tables-3 : tie.Need-slice-aggregate-fan-tables-3
-slice-aggregate-fan-tables-3 c = search needs
+enum-told-2 : tie.Need-enum-told-2
+enum-told-2 c = search needs
 
-fan-tables-requires : tie.Need-fan-tables-requires
-fan-tables-requires c κs = let P = c .before .before .before .before .before .before .before .before .before .before .before .before .before .before .before .pre in let A = c .before .before .before .before .before .before .before .before .before .before .before .before .before .before .before .args in
-    fan-lent (kindIs (A .kind)) (A .room) (A .k) (A .points .now) (A .roots .now) (A .corners .now) (A .volumes .now) (A .ends .now) (A .lengths .now) (A .outline .now) (A .log .now) (P .0) _ _ _ (omega arith) (omega arith) (omega arith)
+split-fan-requires-2 : tie.Need-split-fan-requires-2
+split-fan-requires-2 c κs = let P = c .before .before .before .before .before .before .before .before .before .before .before .before .before .before .before .before .before .before .pre in (P .0, given-as (kindIs (c .before .before .before .before .before .before .before .before .before .before .before .before .before .before .before .before .before .before .args .kind)) (ap kindIs (c .before .before .before .before .before .before .before .enum-told2 .given .1)) (P .1))
 
-slice-aggregate-copy-usize : tie.Need-slice-aggregate-copy-usize
-slice-aggregate-copy-usize c = search needs
-
-copy-usize-requires : tie.Need-copy-usize-requires
-copy-usize-requires c κs = let P = c .before .before .before .before .before .before .before .before .before .before .before .before .before .before .before .before .before .before .before .before .pre in let A = c .before .before .before .before .before .before .before .before .before .before .before .before .before .before .before .before .before .before .before .before .args in
-    omega (arith, sides-few (kindIs (A .kind)) (A .room) (A .k) (A .points .now) (A .roots .now) (A .corners .now) (A .volumes .now) (A .ends .now) (A .lengths .now) (A .outline .now) (A .log .now) (P .0) (c .before .before .before .before .fan-tables .ensures) (P .1))
-
-slice-aggregate-split-tabled : tie.Need-slice-aggregate-split-tabled
-slice-aggregate-split-tabled c = search needs
-
-slice-aggregate-split-tabled-2 : tie.Need-slice-aggregate-split-tabled-2
-slice-aggregate-split-tabled-2 c = search needs
-
-slice-aggregate-split-tabled-3 : tie.Need-slice-aggregate-split-tabled-3
-slice-aggregate-split-tabled-3 c = search needs
-
-slice-aggregate-split-tabled-4 : tie.Need-slice-aggregate-split-tabled-4
-slice-aggregate-split-tabled-4 c = search needs
-
-slice-aggregate-split-tabled-5 : tie.Need-slice-aggregate-split-tabled-5
-slice-aggregate-split-tabled-5 c = search needs
-
-split-tabled-requires : tie.Need-split-tabled-requires
-split-tabled-requires c κs = let P = c .before .before .before .before .before .before .before .before .before .before .before .before .before .before .before .before .before .before .before .before .before .before .before .before .before .before .before .before .before .before .before .before .before .before .pre in let A = c .before .before .before .before .before .before .before .before .before .before .before .before .before .before .before .before .before .before .before .before .before .before .before .before .before .before .before .before .before .before .before .before .before .before .args in
-    (P .0, sided-copied (kindIs (A .kind)) (A .room) (A .k) (A .points .now) (A .roots .now) (A .corners .now) (A .volumes .now) (A .ends .now) (A .lengths .now) (A .outline .now) (A .log .now) (P .0) (c .before .before .before .before .before .before .before .before .before .before .before .before .before .before .before .before .before .before .fan-tables .ensures) (P .1) (c .before .before .before .before .before .before .before .before .before .before .before .before .before .copy-usize .ensures) (omega (arith, c .before .before .before .before .before .before .before .before .before .before .before .before .before .copy-usize .kept .1 .0)) (omega (arith, c .before .before .before .before .before .before .before .before .before .before .before .before .before .before .before .before .before .before .fan-tables .kept .1 .1 .1 .1 .1 .1 .1 .1 .0)) (omega (arith, c .before .before .before .before .before .before .before .before .before .before .before .before .before .before .before .before .before .before .fan-tables .kept .1 .1 .1 .1 .1 .1 .1 .1 .1 .0)) (omega (arith, c .before .before .before .before .before .before .before .before .before .before .before .before .before .before .before .before .before .before .fan-tables .kept .1 .1 .1 .1 .1 .1 .1 .1 .1 .1 .0)), omega (arith, c .before .before .before .before .before .before .before .before .before .before .before .before .before .copy-usize .kept .1 .0), omega arith)
+enum-told-3 : tie.Need-enum-told-3
+enum-told-3 c = search needs
 
 same-length : tie.Need-same-length
-same-length c = c .before .before .before .before .before .before .before .before .before .before .before .before .before .before .before .before .split-tabled .kept .1 .1 .1 .1 .1 .1 .1 .1 .1 .1 .0
+same-length c = c .before .before .before .before .before .before .before .before .before .before .before .before .before .before .split-fan .kept .1 .1 .1 .1 .1 .0
 
 same-length-2 : tie.Need-same-length-2
-same-length-2 c = c .before .before .before .before .before .before .before .before .before .before .before .before .before .before .before .before .split-tabled .kept .1 .1 .1 .1 .1 .1 .1 .1 .1 .1 .1 .0
+same-length-2 c = c .before .before .before .before .before .before .before .before .before .before .before .before .before .before .split-fan .kept .1 .1 .1 .1 .1 .1 .0
 
 same-length-3 : tie.Need-same-length-3
-same-length-3 c = c .before .before .before .before .before .before .before .before .before .before .before .before .before .before .before .before .split-tabled .kept .1 .1 .1 .1 .1 .1 .1 .1 .1 .1 .1 .1 .0
+same-length-3 c = c .before .before .before .before .before .before .before .before .before .before .before .before .before .before .split-fan .kept .1 .1 .1 .1 .1 .1 .1 .0
 
 same-length-4 : tie.Need-same-length-4
-same-length-4 c = c .before .before .before .before .before .before .before .before .before .before .before .before .before .before .before .before .split-tabled .kept .1 .1 .1 .1 .1 .1 .1 .1 .1 .1 .1 .1 .1 .1 .0
+same-length-4 c = c .before .before .before .before .before .before .before .before .before .before .before .before .before .before .split-fan .kept .1 .1 .1 .1 .1 .1 .1 .1 .1 .0
 
 same-length-5 : tie.Need-same-length-5
-same-length-5 c = c .before .before .before .before .before .before .before .before .before .before .before .before .before .before .before .before .split-tabled .kept .1 .1 .1 .1 .1 .1 .1 .1 .1 .1 .1 .1 .1 .1 .1 .0
+same-length-5 c = c .before .before .before .before .before .before .before .before .before .before .before .before .before .before .split-fan .kept .1 .1 .1 .1 .1 .1 .1 .1 .1 .1 .0
 
 same-length-6 : tie.Need-same-length-6
-same-length-6 c = c .before .before .before .before .before .before .before .before .before .before .before .before .before .before .before .before .split-tabled .kept .1 .1 .1 .1 .1 .1 .1 .1 .1 .1 .1 .1 .1 .1 .1 .1 .0
+same-length-6 c = c .before .before .before .before .before .before .before .before .before .before .before .before .before .before .split-fan .kept .1 .1 .1 .1 .1 .1 .1 .1 .1 .1 .1 .0
 
 same-length-7 : tie.Need-same-length-7
-same-length-7 c = c .before .before .before .before .before .before .before .before .before .before .before .before .before .before .before .before .split-tabled .kept .1 .1 .1 .1 .1 .1 .1 .1 .1 .1 .1 .1 .1 .1 .1 .1 .1 .0
+same-length-7 c = c .before .before .before .before .before .before .before .before .before .before .before .before .before .before .split-fan .kept .1 .1 .1 .1 .1 .1 .1 .1 .1 .1 .1 .1 .0
 
 returns : tie.Need-returns
-returns c = let P = c .before .before .before .before .before .before .before .before .before .before .before .before .before .before .before .before .before .before .before .before .before .before .before .before .before .before .before .before .before .before .before .before .before .before .before .before .before .before .before .before .before .before .before .before .before .before .before .before .before .before .before .pre in let A = c .before .before .before .before .before .before .before .before .before .before .before .before .before .before .before .before .before .before .before .before .before .before .before .before .before .before .before .before .before .before .before .before .before .before .before .before .before .before .before .before .before .before .before .before .before .before .before .before .before .before .before .args in
-    sides-works (kindIs (A .kind)) (A .v) (sides-copied (kindIs (A .kind)) (A .room) (A .k) (A .points .now) (A .roots .now) (A .corners .now) (A .volumes .now) (A .ends .now) (A .lengths .now) (A .outline .now) (A .log .now) (P .0) (c .before .before .before .before .before .before .before .before .before .before .before .before .before .before .before .before .before .before .before .before .before .before .before .before .before .before .before .before .before .before .before .before .before .before .before .fan-tables .ensures) _ (P .1) (c .before .before .before .before .before .before .before .before .before .before .before .before .before .before .before .before .before .before .before .before .before .before .before .before .before .before .before .before .before .before .copy-usize .ensures)) (c .before .before .before .before .before .before .before .before .before .before .before .before .before .before .before .before .split-tabled .ensures)
+returns c = let A = c .before .before .before .before .before .before .before .before .before .before .before .before .before .before .before .before .before .before .before .before .before .before .before .before .before .before .before .before .before .before .before .before .before .args in sides-as (kindIs (A .kind)) (ap kindIs (c .before .before .before .before .before .before .before .before .before .before .before .before .before .before .before .before .before .before .before .before .before .before .enum-told .given .1)) (A .v) (A .sides .now) (c .before .before .before .before .before .before .before .before .before .before .before .before .before .before .split-fan .ensures)
+
+same-length-8 : tie.Need-same-length-8
+same-length-8 c = c .before .before .before .before .before .before .before .before .before .before .before .before .before .before .split-fan2 .kept .1 .1 .1 .1 .1 .0
+
+same-length-9 : tie.Need-same-length-9
+same-length-9 c = c .before .before .before .before .before .before .before .before .before .before .before .before .before .before .split-fan2 .kept .1 .1 .1 .1 .1 .1 .0
+
+same-length-10 : tie.Need-same-length-10
+same-length-10 c = c .before .before .before .before .before .before .before .before .before .before .before .before .before .before .split-fan2 .kept .1 .1 .1 .1 .1 .1 .1 .0
+
+same-length-11 : tie.Need-same-length-11
+same-length-11 c = c .before .before .before .before .before .before .before .before .before .before .before .before .before .before .split-fan2 .kept .1 .1 .1 .1 .1 .1 .1 .1 .1 .0
+
+same-length-12 : tie.Need-same-length-12
+same-length-12 c = c .before .before .before .before .before .before .before .before .before .before .before .before .before .before .split-fan2 .kept .1 .1 .1 .1 .1 .1 .1 .1 .1 .1 .0
+
+same-length-13 : tie.Need-same-length-13
+same-length-13 c = c .before .before .before .before .before .before .before .before .before .before .before .before .before .before .split-fan2 .kept .1 .1 .1 .1 .1 .1 .1 .1 .1 .1 .1 .0
+
+same-length-14 : tie.Need-same-length-14
+same-length-14 c = c .before .before .before .before .before .before .before .before .before .before .before .before .before .before .split-fan2 .kept .1 .1 .1 .1 .1 .1 .1 .1 .1 .1 .1 .1 .0
+
+returns-2 : tie.Need-returns-2
+returns-2 c = let A = c .before .before .before .before .before .before .before .before .before .before .before .before .before .before .before .before .before .before .before .before .before .before .before .before .before .before .before .before .before .before .before .before .before .args in sides-as (kindIs (A .kind)) (ap kindIs (c .before .before .before .before .before .before .before .before .before .before .before .before .before .before .before .before .before .before .before .before .before .before .enum-told2 .given .1)) (A .v) (A .sides .now) (c .before .before .before .before .before .before .before .before .before .before .before .before .before .before .split-fan2 .ensures)
+
+returns-3 : tie.Need-returns-3
+returns-3 c = let A = c .before .before .before .before .before .before .before .before .before .before .before .args in nothing-works (A .room) (A .k) (A .points .now) (A .roots .now) (A .corners .now) (A .volumes .now) (A .ends .now) (A .lengths .now) (A .outline .now) (A .log .now) (c .before .before .before .before .before .before .before .before .before .before .before .pre .0) (kindIs (A .kind)) (ap kindIs (c .enum-told3 .given .1)) (A .v) (A .sides .now) (c .before .before .before .before .before .before .before .before .before .before .before .pre .1)
 
 pub split-by-sides-spec : {M : Type 1} → statement M
 split-by-sides-spec =
     tie.close
     (tie.spec
-    slice-aggregate-fan-tables
-    slice-aggregate-fan-tables-2
-    slice-aggregate-fan-tables-3
-    fan-tables-requires
-    slice-aggregate-copy-usize
-    copy-usize-requires
-    slice-aggregate-split-tabled
-    slice-aggregate-split-tabled-2
-    slice-aggregate-split-tabled-3
-    slice-aggregate-split-tabled-4
-    slice-aggregate-split-tabled-5
-    split-tabled-requires
+    enum-told
+    split-fan-requires
+    enum-told-2
+    split-fan-requires-2
+    enum-told-3
     same-length
     same-length-2
     same-length-3
@@ -93,4 +88,13 @@ split-by-sides-spec =
     same-length-5
     same-length-6
     same-length-7
-    returns)
+    returns
+    same-length-8
+    same-length-9
+    same-length-10
+    same-length-11
+    same-length-12
+    same-length-13
+    same-length-14
+    returns-2
+    returns-3)

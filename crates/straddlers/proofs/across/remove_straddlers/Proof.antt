@@ -69,7 +69,7 @@ slice-aggregate-remove-marked-2 : tie.Need-slice-aggregate-remove-marked-2
 slice-aggregate-remove-marked-2 c = search needs
 
 remove-marked-requires : tie.Need-remove-marked-requires
-remove-marked-requires c κs = let S = c .before .before .before .before .before .before .before .before .before .before .before .before .before .before .before .before .before .before .before .before .before .before .before .before .before .before .before .before .before .before .before .before .pre .0 in let m = c .before .before .before .before .before .before .before .before .before .before .before .before .before .mark-edges .kept .1 .1 .1 .1 .1 .0 in let d = c .before .before .before .before .before .before .before .mark-sides .kept .1 .1 .1 .1 .0 in record { marked-are = c .before .before .before .before .before .before .before .before .before .before .before .before .before .mark-edges .ensures .counted; edge-mask-long = omega (arith, m, S .counts .edges, S .few-edges); side-mask-long = omega (arith, d, S .counts .boundary, S .few-boundary); ends-long = omega (arith, S .counts .edges, S .ends); lengths-long = omega (arith, S .counts .edges, S .lengths); outline-long = omega (arith, S .counts .boundary, S .outline); log-in = S .counts .log; log-long = S .log }
+remove-marked-requires c κs = let S = c .before .before .before .before .before .before .before .before .before .before .before .before .before .before .before .before .before .before .before .before .before .before .before .before .before .before .before .before .before .before .before .before .pre .0 in let E = c .before .before .before .before .before .before .before .before .before .before .before .before .before .before .before .before .before .before .before .before .before .before .before .before .before .before .before .before .before .before .before .before .pre .2 in let m = c .before .before .before .before .before .before .before .before .before .before .before .before .before .mark-edges .kept .1 .1 .1 .1 .1 .0 in let d = c .before .before .before .before .before .before .before .mark-sides .kept .1 .1 .1 .1 .0 in record { marked-are = c .before .before .before .before .before .before .before .before .before .before .before .before .before .mark-edges .ensures .counted; edge-mask-long = omega (arith, m, S .counts .edges, S .few-edges); side-mask-long = omega (arith, d, S .counts .boundary, S .few-boundary); ends-long = omega (arith, S .counts .edges, S .ends); ends-in = record { first = λ j l. omega (arith, E .first j l, S .counts .particles, S .few-particles); second = λ j l. omega (arith, E .second j l, S .counts .particles, S .few-particles) }; lengths-long = omega (arith, S .counts .edges, S .lengths); outline-long = omega (arith, S .counts .boundary, S .outline); log-in = S .counts .log; log-long = S .log }
 
 same-length : tie.Need-same-length
 same-length c = search needs

@@ -1,47 +1,35 @@
--- `tear::edge::pair_now` meets its contract: the table of all elements, then the pair that the log and it tell of. Assumes nothing.
-use native.Mathlib.Omega.{arith}
+-- `tear::edge::pair_now` meets its contract: a pair that an element holds, or else one that an edge joins. Assumes nothing.
 use borrow.Author.Needs.{needs}
 use Rattle.elements.specs.Table.{kindIs}
-use Rattle.tear.proofs.PairLaws.{pair-room, pair-told}
+use Rattle.tear.proofs.PairLaws.{told-held, told-joined}
 use Rattle.tear.proofs.edge.pair_now.Statement.{statement}
 use Rattle.tear.proofs.edge.pair_now.Tie as tie
 
-slice-aggregate-element-table : tie.Need-slice-aggregate-element-table
-slice-aggregate-element-table c = search needs
+pair-met-requires : tie.Need-pair-met-requires
+pair-met-requires c κs = search needs
 
-slice-aggregate-element-table-2 : tie.Need-slice-aggregate-element-table-2
-slice-aggregate-element-table-2 c = search needs
+enum-known-held : tie.Need-enum-known-held
+enum-known-held c = search needs
 
-slice-aggregate-element-table-3 : tie.Need-slice-aggregate-element-table-3
-slice-aggregate-element-table-3 c = search needs
+enum-told : tie.Need-enum-told
+enum-told c = search needs
 
-element-table-requires : tie.Need-element-table-requires
-element-table-requires c κs = let P = c .before .before .before .before .before .before .before .before .before .before .before .pre .0 .table in
-    record { few = P .few; corners = P .corners; volumes = P .volumes; ends = P .ends; lengths = P .lengths; numbers = (omega (arith, P .few .0), omega (arith, P .few .1)); verts = (omega (arith, P .few .0), omega (arith, P .few .1)); measures = (omega (arith, P .few .0), omega (arith, P .few .1)) }
-
-corners-per-requires : tie.Need-corners-per-requires
-corners-per-requires c κs = search needs
-
-slice-aggregate-current-pair : tie.Need-slice-aggregate-current-pair
-slice-aggregate-current-pair c = search needs
-
-current-pair-requires : tie.Need-current-pair-requires
-current-pair-requires c κs = let P = c .before .before .before .before .before .before .before .before .before .before .before .before .before .before .before .before .before .pre in let A = c .before .before .before .before .before .before .before .before .before .before .before .before .before .before .before .before .before .args in let T = c .before .before .before .before .before .element-table in
-    pair-room (kindIs (A .kind)) (A .k) (A .points .now) (A .roots .now) (A .corners .now) (A .volumes .now) (A .ends .now) (A .lengths .now) (A .outline .now) (A .log .now) (P .0) _ _ _ _ _ (T .ensures) (c .before .corners-per .ensures) (omega (arith, T .kept .1 .1 .1 .1 .1 .1 .1 .1 .0))
+pair-met-requires-2 : tie.Need-pair-met-requires-2
+pair-met-requires-2 c κs = search needs
 
 returns : tie.Need-returns
-returns c = let P = c .before .before .before .before .before .before .before .before .before .before .before .before .before .before .before .before .before .before .pre in let A = c .before .before .before .before .before .before .before .before .before .before .before .before .before .before .before .before .before .before .args in let T = c .before .before .before .before .before .before .element-table in
-    pair-told (kindIs (A .kind)) (A .k) (A .points .now) (A .roots .now) (A .corners .now) (A .volumes .now) (A .ends .now) (A .lengths .now) (A .outline .now) (A .log .now) (P .0) _ _ _ _ _ (T .ensures) (c .before .before .corners-per .ensures) (P .1) (A .a) (A .b) _ (c .current-pair .ensures)
+returns c = let S = c .before .before .before .before .before .before .before .before .before .before .before .before in let A = S .args in told-held (kindIs (A .kind)) (A .k) (A .points .now) (A .roots .now) (A .corners .now) (A .volumes .now) (A .ends .now) (A .lengths .now) (A .outline .now) (A .log .now) (S .pre .0) (S .pre .1) (A .a) (A .b) _ _ _ (c .before .held .given .1) (c .before .before .before .pair-met .ensures)
+
+returns-2 : tie.Need-returns-2
+returns-2 c = let S = c .before .before .before .before .before .before .before .before .before .before .before .before in let A = S .args in told-joined (kindIs (A .kind)) (A .k) (A .points .now) (A .roots .now) (A .corners .now) (A .volumes .now) (A .ends .now) (A .lengths .now) (A .outline .now) (A .log .now) (S .pre .0) (S .pre .1) (A .a) (A .b) _ _ (c .before .enum-told .given .1) (c .before .before .before .pair-met .ensures) (c .pair-met2 .ensures)
 
 pub pair-now-spec : {M : Type 1} → statement M
 pair-now-spec =
     tie.close
     (tie.spec
-    slice-aggregate-element-table
-    slice-aggregate-element-table-2
-    slice-aggregate-element-table-3
-    element-table-requires
-    corners-per-requires
-    slice-aggregate-current-pair
-    current-pair-requires
-    returns)
+    pair-met-requires
+    enum-known-held
+    enum-told
+    pair-met-requires-2
+    returns
+    returns-2)

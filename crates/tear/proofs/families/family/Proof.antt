@@ -1,4 +1,4 @@
-use Prim.Native.Nat.{_+_, _-_, _≤_}
+use Prim.Native.Nat.{_+_, _-_, _*_, _≤_}
 use mathlib.Core.Path.{sym, _∙_}
 use lib.ListN.{length, length-set, set}
 use native.Mathlib.Omega.{arith}
@@ -41,6 +41,9 @@ mul-found-2 c = search needs
 
 shared-slice-read-found : tie.Need-shared-slice-read-found Inv-loop μ-loop
 shared-slice-read-found c = search needs
+
+cast-found : tie.Need-cast-found Inv-loop μ-loop
+cast-found c = omega (arith, c .shared-slice-known2 .given (6 * c .before .before .before .before .before .loop .i + 1))
 
 mul-found-3 : tie.Need-mul-found-3 Inv-loop μ-loop
 mul-found-3 c = search needs
@@ -86,6 +89,7 @@ family-spec =
     add-found
     mul-found-2
     shared-slice-read-found
+    cast-found
     mul-found-3
     slice-write-found-2
     add-r

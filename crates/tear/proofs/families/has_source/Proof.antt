@@ -1,3 +1,5 @@
+use Prim.Native.Nat.{_+_, _*_}
+use native.Mathlib.Omega.{arith}
 use Rattle.tear.proofs.FamilyLaws.{source-told, source-none}
 use borrow.Author.Needs.{needs}
 use Rattle.tear.proofs.families.has_source.Statement.{statement}
@@ -21,6 +23,9 @@ mul-stands-in c = search needs
 shared-slice-read-stands-in : tie.Need-shared-slice-read-stands-in
 shared-slice-read-stands-in c = search needs
 
+cast-stands-in : tie.Need-cast-stands-in
+cast-stands-in c = omega (arith, c .shared-slice-known4 .given (6 * c .before .before .before .before .before .args .i + 2))
+
 stands-in-requires : tie.Need-stands-in-requires
 stands-in-requires c κs = search needs
 
@@ -40,6 +45,7 @@ has-source-spec =
     add-stands-in
     mul-stands-in
     shared-slice-read-stands-in
+    cast-stands-in
     stands-in-requires
     returns
     returns-2)

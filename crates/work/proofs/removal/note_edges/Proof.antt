@@ -1,7 +1,9 @@
 -- `work::removal::note_edges` meets its contract: the loop over the edges is `Noting` of proofs/PieceMasks.antt. Assumes nothing.
 use Rattle.work.proofs.Removals.{noting-took, noting-skipped, Noting, noting-start, noting-room, noting-done}
 use mathlib.Core.Logic.{⊎-elim}
-use Prim.Native.Nat.{_-_}
+use Prim.Native.Nat.{_-_, _/_}
+use lib.ListN.{length}
+use Rattle.columns.proofs.Cells.{col-0, col-1}
 use native.Mathlib.Omega.{arith}
 use Rattle.work.proofs.removal.note_edges.Statement.{statement}
 use Rattle.work.proofs.removal.note_edges.Tie as tie
@@ -27,6 +29,9 @@ mul-note c = omega (arith, c .before .before .loop-test .taken, c .before .befor
 shared-slice-read-note : tie.Need-shared-slice-read-note Inv-loop μ-loop
 shared-slice-read-note c = omega (arith, c .before .before .before .loop-test .taken, c .before .before .before .before .before .before .before .before .pre .ends-long)
 
+cast-note : tie.Need-cast-note Inv-loop μ-loop
+cast-note c = omega (arith, col-0 0 (length (c .before .before .before .before .before .before .before .before .args .ends .now) / 4) (c .before .before .before .before .before .before .before .before .args .ends .now) (c .before .before .before .before .loop .i), c .before .before .before .before .before .before .before .before .pre .ends-in .first (c .before .before .before .before .loop .i) (c .before .before .before .loop-test .taken))
+
 add-note : tie.Need-add-note Inv-loop μ-loop
 add-note c = omega (arith, c .before .before .before .loop-test .taken, c .before .before .before .before .before .before .before .before .pre .ends-long)
 
@@ -35,6 +40,9 @@ mul-note-2 c = omega (arith, c .before .before .before .loop-test .taken, c .bef
 
 shared-slice-read-note-2 : tie.Need-shared-slice-read-note-2 Inv-loop μ-loop
 shared-slice-read-note-2 c = omega (arith, c .before .before .before .before .loop-test .taken, c .before .before .before .before .before .before .before .before .before .pre .ends-long)
+
+cast-note-2 : tie.Need-cast-note-2 Inv-loop μ-loop
+cast-note-2 c = omega (arith, col-1 0 (length (c .before .before .before .before .before .before .before .before .before .args .ends .now) / 4) (c .before .before .before .before .before .before .before .before .before .args .ends .now) (c .before .before .before .before .before .loop .i), c .before .before .before .before .before .before .before .before .before .pre .ends-in .second (c .before .before .before .before .before .loop .i) (c .before .before .before .before .loop-test .taken))
 
 note-requires : tie.Need-note-requires Inv-loop μ-loop
 note-requires c κs = noting-room _ _ _ _ _ _ _ _ (c .before .before .before .before .before .before .loop .inv) (c .before .before .before .before .before .loop-test .taken) (c .before .before .before .if1 .taken) (c .before .before .before .before .before .before .before .before .before .before .pre)
@@ -68,9 +76,11 @@ note-edges-spec =
     shared-slice-read-if1
     mul-note
     shared-slice-read-note
+    cast-note
     add-note
     mul-note-2
     shared-slice-read-note-2
+    cast-note-2
     note-requires
     add-w
     add-i
