@@ -1,10 +1,10 @@
 #!/usr/bin/env python3
 """The program sheetdiff, which `rt check sheetdiff` builds, beside a second writing of docs/RULES.md, R13 and R23.
-  oracle/sheetdiff.py [COUNT] [SEED]    pairs of sheets that differ in little; then three faults that must be seen"""
+  oracle/sheetdiff.py [COUNT [SEED [PROGRAM]]]    pairs of sheets that differ in little; then three faults that must be seen"""
 import os, random, subprocess, sys, tempfile
 
 ROOT = os.path.dirname(os.path.dirname(os.path.abspath(__file__)))
-PROGRAM = os.path.join(ROOT, "target", "bin", "sheetdiff")
+PROGRAM = sys.argv[3] if len(sys.argv) > 3 else os.path.join(ROOT, "target", "bin", "sheetdiff")
 NAMES = ("particle", "triangle", "edge", "boundary")
 PLURALS = ("particles", "triangles", "edges", "boundary")
 
@@ -152,7 +152,7 @@ def damaged(rng, data):
 def main():
     count, seed = int((sys.argv + ["50000"])[1]), int((sys.argv + ["", "1"])[2])
     if not os.path.exists(PROGRAM):
-        sys.exit("sheetdiff.py: nothing was compared: rt check sheetdiff builds the program")
+        sys.exit("sheetdiff.py: nothing was compared: no program %s (rt check sheetdiff builds it)" % PROGRAM)
     rng = random.Random(seed)
     seen = {"to the shorter": 0, "readings exchanged": 0, "second first": 0}
     zeros = refused = wrong = 0
