@@ -399,7 +399,7 @@ module _ (s m t : List ℕ) (e : mendOf s ≡ mended m t) where
   unfolding broken typedOf
   mended-means = mended-is
 
-  -- mended-whole: with document 01's limits the mended bytes are whole before their outline is looked at
+  -- mended-whole: with the limits of every mesh the mended bytes are whole before their outline is looked at
   pub mended-whole : typedSeen most m ≡ Whole (countsAt (bitsIn (bitsOf m)))
   mended-whole = ap (typedSeen most) bytes ∙ (bytes-seen (editionOf s) (mendedSheet broken) plain fit′ few′ (mended-names broken fit few) ∙ ap (λ (c : Counts). Whole c) (sym mended-counts))
 
