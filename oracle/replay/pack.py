@@ -10,7 +10,7 @@ import sys
 
 KINDS = ["bench_root", "bench_blade_hit", "bench_groups", "bench_rest_measure", "bench_rest_measure_of",
          "bench_opens_without_confetti", "bench_pieces", "bench_split", "bench_straddlers", "bench_cut", "bench_crack",
-         "bench_fan", "bench_sheet", "bench_sheet_write", "bench_list_cut"]
+         "bench_fan", "bench_sheet", "bench_sheet_write", "bench_list_cut", "bench_layout"]
 
 
 def raw(text):
@@ -48,6 +48,7 @@ PARTS = {
     "bench_sheet": [ARGS],
     "bench_sheet_write": [ARGS],
     "bench_list_cut": [ARGS],
+    "bench_layout": [],
 }
 
 

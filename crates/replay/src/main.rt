@@ -161,7 +161,7 @@ fn torn(
     99
 }
 
-// Asks the C function of this kind, a fan or one on sheets, and returns its refusal number.
+// Asks the C function of this kind, a fan or one on sheets, and returns its refusal number; the layout's number is told as one.
 fn hosted(kind: usize, number: usize, image: &[u8], args: &[u8], out: &mut [u8]) -> u32 {
     if kind == 11 {
         return bench_c::fans::bench_fan(image, (number % 4294967296) as u32, out);
@@ -174,6 +174,9 @@ fn hosted(kind: usize, number: usize, image: &[u8], args: &[u8], out: &mut [u8])
     }
     if kind == 14 {
         return bench_c::sheets::bench_list_cut(args, out);
+    }
+    if kind == 15 {
+        return bench_c::leaves::bench_layout();
     }
     99
 }
