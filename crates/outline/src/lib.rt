@@ -1,4 +1,6 @@
 // The outline of triangles and straps, and a typed outline settled by it.
+mod links;
+
 ghost use mathlib.Core.Path.{_≡_};
 ghost use mathlib.Core.Bool.{_&&_};
 ghost use mathlib.Core.List.{List, [], _∷_, _++_};
@@ -8,6 +10,7 @@ ghost use lib.Dec.{eqb};
 ghost use Rattle.lists.specs.Lists.{pick, stands, any, sift};
 ghost use Rattle.outline.specs.Outline.{holds, facesOf, single, samePair, within, sameSides, settled, outlineOfTriangles, outlineOfStraps, outlineOf};
 ghost use Rattle.outline.specs.Rows.{rows3, row3, sidesAt, Even, Added, Listed, Held, SettledBy};
+ghost use Rattle.outline.specs.Links.{Linked};
 
 // How many sides an outline has now, and whether it was replaced.
 pub struct Settled {
@@ -39,13 +42,23 @@ fn holds_side(x: usize, y: usize, a: usize, b: usize, c: usize) -> bool
     }
 }
 
-// Whether exactly one of the triangles holds both x and y.
-fn single_side(x: usize, y: usize, a: &[usize], b: &[usize], c: &[usize]) -> bool
-    requires { ⌜ Even (length (now a)) (length (now b)) (length (now c)) ⌝ }
+// Whether exactly one of the triangles holds both x and y. Of the first m the corners are linked; the others are looked at one by one.
+fn single_side(
+    x: usize,
+    y: usize,
+    a: &[usize],
+    b: &[usize],
+    c: &[usize],
+    m: usize,
+    heads: &[u16],
+    links: &[u16],
+    sizes: &[u16],
+) -> bool
+    requires { ⌜ Linked (now a) (now b) (now c) m (now heads) (now links) × (length (now sizes) ≡ 1024) ⌝ }
     ensures { λ r. ⌜ r ≡ single (rows3 (now (a .entry)) (now (b .entry)) (now (c .entry))) (x ∷ y ∷ []) ⌝ }
 {
-    let mut n: usize = 0;
-    let mut i: usize = 0;
+    let mut n = links::side_holders(x, y, m, a, b, c, heads, links, sizes);
+    let mut i = m;
     while i < a.len() {
         if holds_side(x, y, a[i], b[i], c[i]) {
             n += 1;
@@ -77,18 +90,32 @@ fn add_faces(
     a: &[usize],
     b: &[usize],
     c: &[usize],
+    m: usize,
+    heads: &[u16],
+    links: &[u16],
+    sizes: &[u16],
     n: usize,
     outline: &mut [usize],
 ) -> usize
-    requires { ⌜ Even (length (now a)) (length (now b)) (length (now c)) × (i < length (now a)) × (n < 2 ^ 30) ⌝ }
+    requires { ⌜ Linked (now a) (now b) (now c) m (now heads) (now links) × (length (now sizes) ≡ 1024) × (i < length (now a)) × (n < 2 ^ 30) ⌝ }
     ensures { λ r. ⌜ Added (sift (single (rows3 (now (a .entry)) (now (b .entry)) (now (c .entry)))) (facesOf (row3 (now (a .entry)) (now (b .entry)) (now (c .entry)) i))) (now (outline .entry)) (now (outline .exit)) n r ⌝ }
 {
     let x = a[i];
     let y = b[i];
     let z = c[i];
-    let first = add_side(single_side(x, y, a, b, c), x, y, n, outline);
-    let second = add_side(single_side(y, z, a, b, c), y, z, first, outline);
-    add_side(single_side(z, x, a, b, c), z, x, second, outline)
+    let xy = single_side(x, y, a, b, c, m, heads, links, sizes);
+    let yz = single_side(y, z, a, b, c, m, heads, links, sizes);
+    let zx = single_side(z, x, a, b, c, m, heads, links, sizes);
+    let first = add_side(xy, x, y, n, outline);
+    let second = add_side(yz, y, z, first, outline);
+    add_side(zx, z, x, second, outline)
+}
+
+// n, or the most that it may be.
+fn at_most(n: usize, most: usize) -> usize
+    ensures { λ r. ⌜ (r ≤ n) × (r ≤ most) ⌝ }
+{
+    if n < most { n } else { most }
 }
 
 // Lists the outline of triangles, and returns how many sides it has. A block without room for them is left with some.
@@ -96,10 +123,15 @@ pub fn outline_triangles(a: &[usize], b: &[usize], c: &[usize], outline: &mut [u
     requires { ⌜ Even (length (now a)) (length (now b)) (length (now c)) ⌝ }
     ensures { λ r. ⌜ Listed (outlineOfTriangles (rows3 (now (a .entry)) (now (b .entry)) (now (c .entry)))) (now (outline .exit)) r ⌝ }
 {
+    let mut heads = [0u16; 1024];
+    let mut links = [0u16; 3072];
+    let mut sizes = [0u16; 1024];
+    let m = at_most(a.len(), 1024);
+    links::link_corners(3 * m, a, b, c, &mut heads, &mut links, &mut sizes);
     let mut n: usize = 0;
     let mut i: usize = 0;
     while i < a.len() {
-        n = add_faces(i, a, b, c, n, outline);
+        n = add_faces(i, a, b, c, m, &heads, &links, &sizes, n, outline);
         i += 1;
     }
     n
