@@ -12,16 +12,15 @@ use lib.Ieee.{Float, nan}
 use Rattle.lists.specs.Lists.{pick, stands, sift, tab}
 use Rattle.lists.proofs.Stores.{tab-length}
 use Rattle.lists.proofs.Sifts.{sift-append, tab-suc}
-use Rattle.float.specs.Numbers.{absOf}
 use Rattle.columns.specs.Block.{cell}
 use Rattle.model.specs.Mesh.{Triangle, Edge}
 use Rattle.model.specs.Elements.{Element, structural?, strapElement, trianglesFrom, strapsFrom, cornersPer}
-use Rattle.mesh.specs.At.{edgeRow, trianglesAt, edgesAt}
+use Rattle.mesh.specs.At.{edgeRow, edgesAt}
 use Rattle.elements.specs.Table.{Tabled, holding, kindIs, elementsIn}
 use Rattle.elements.specs.declared.Kind.{Kind as KindCase}
 use Rattle.elements.specs.declared.Kind.the-variants.{Triangles as TrianglesCase, Straps as StrapsCase, Nothing as NothingCase}
 use Rattle.elements.proofs.Tables.{tabled-none}
-use Rattle.elements.proofs.Filling.{Filling, filling-start, filling-push, front-two, front-three, triangleAt, triangles-more, strapAt, straps-push}
+use Rattle.elements.proofs.Filling.{Filling, filling-start, filling-push, front-two, strapAt, straps-push}
 
 -- ---- the tests
 

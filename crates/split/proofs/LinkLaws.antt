@@ -3,7 +3,7 @@ use Prim.Native.Nat.{ℕ, _+_, _-_, _/_, _<_, _≤_}
 use native.Mathlib.Decide.{ℕ-discrete}
 use native.Mathlib.Omega.{arith}
 use mathlib.Core.Path.{_≡_, refl, sym, ap, _∙_, subst}
-use mathlib.Core.Bool.{true, _&&_}
+use mathlib.Core.Bool.{_&&_}
 use mathlib.Core.List.{List, [], map}
 use lib.ListN.{length, getD, take}
 use lib.Seq.{length-take-le, getD-take}
@@ -15,8 +15,8 @@ use Rattle.columns.specs.Block.{cell}
 use Rattle.model.specs.Mesh.{Mesh}
 use Rattle.model.specs.Elements.{Kind, Triangles, Element, fanOf}
 use Rattle.model.specs.Valid.{indicesFit, rootOk, cornersOk, endsOk, sideOk}
-use Rattle.model.specs.Split.{Part, Opening, copyFor, atLongest, settled}
-use Rattle.mesh.specs.At.{trianglesAt, meshAt}
+use Rattle.model.specs.Split.{Part, Opening, copyFor, settled}
+use Rattle.mesh.specs.At.{meshAt}
 use Rattle.mesh.specs.Log.{World, worldAt}
 use Rattle.mesh.specs.Filled.{lent}
 use Rattle.mesh.specs.declared.Counts.{Counts}
@@ -127,6 +127,10 @@ heads-room {L = L} {k} {v} {count = count} {groups = groups} R F fits =
 split-triangles : (K : Kind) (O : Opening) (W : World) → length (splitWorld K O W .mesh .triangles) ≡ length (W .mesh .triangles)
 unfolding splitWorld settledWorld settled
 split-triangles K O W = longest-triangles K O (W .mesh)
+
+-- behind a worker that is done the next one finds what it asks
+pub linked-done : {K : Kind} {corners links : List ℕ} (r : Ran) (q : Counts) → LinkedAfter K corners links r → r ≡ Done q → Linked K (q .triangles) corners links
+linked-done {K} {corners} {links} r q X e = subst (λ (z : Ran). LinkedAfter K corners links z) e X
 
 -- ---- beside a mesh in blocks
 
