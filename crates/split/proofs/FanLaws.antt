@@ -12,32 +12,21 @@ use lib.Ieee.{Float, nan}
 use Rattle.lists.specs.Lists.{pick, stands, sift, tab}
 use Rattle.lists.proofs.Stores.{tab-length}
 use Rattle.lists.proofs.Sifts.{sift-append, tab-suc}
-use Rattle.float.specs.Numbers.{absOf}
 use Rattle.columns.specs.Block.{cell}
 use Rattle.model.specs.Mesh.{Triangle, Edge}
 use Rattle.model.specs.Elements.{Element, structural?, strapElement, trianglesFrom, strapsFrom, cornersPer}
-use Rattle.mesh.specs.At.{edgeRow, trianglesAt, edgesAt}
+use Rattle.mesh.specs.At.{edgeRow, edgesAt}
 use Rattle.elements.specs.Table.{Tabled, holding, kindIs, elementsIn}
 use Rattle.elements.specs.declared.Kind.{Kind as KindCase}
 use Rattle.elements.specs.declared.Kind.the-variants.{Triangles as TrianglesCase, Straps as StrapsCase, Nothing as NothingCase}
 use Rattle.elements.proofs.Tables.{tabled-none}
-use Rattle.elements.proofs.Filling.{Filling, filling-start, filling-push, front-two, front-three, triangleAt, triangles-more, strapAt, straps-push}
+use Rattle.elements.proofs.Filling.{Filling, filling-start, filling-push, front-two, strapAt, straps-push}
 
 -- ---- the tests
-
--- is v one of three, one of two
-pub three-first : (v x y z : ℕ) → x ≡ v → true ≡ stands v (x ∷ y ∷ z ∷ [])
-three-first v x y z e = rw (eq-eqb x v e)
-
-pub three-next : (v x y z : ℕ) → (x ≡ v → ⊥) → y ≡ v → true ≡ stands v (x ∷ y ∷ z ∷ [])
-three-next v x y z n e = rw (ne-eqb x v n, eq-eqb y v e)
 
 pick-self : (t : Bool) → t ≡ pick t true false
 pick-self true = refl
 pick-self false = refl
-
-pub three-last : (v x y z : ℕ) → (x ≡ v → ⊥) → (y ≡ v → ⊥) → eqb z v ≡ stands v (x ∷ y ∷ z ∷ [])
-three-last v x y z n m = rw (ne-eqb x v n, ne-eqb y v m) (pick-self (eqb z v))
 
 pub strap-other : (v s a b : ℕ) → (s ≡ 1 → ⊥) → false ≡ eqb s 1 && stands v (a ∷ b ∷ [])
 strap-other v s a b n = rw (ne-eqb s 1 n)
@@ -55,11 +44,6 @@ holding-more : (v : ℕ) (es : List Element) (e : Element) (s : Bool) → holdin
 unfolding sift
 holding-more v es e true = sift-append (λ (x : Element). stands v (x .corners)) es (e ∷ [])
 holding-more v es e false = sift-append (λ (x : Element). stands v (x .corners)) es []
-
--- triangle i of a block
-triangles-held : (v : ℕ) (C : List ℕ) (W : List Float) (i : ℕ)
-    → holding v (trianglesFrom 0 (trianglesAt (i + 1) C W)) ≡ holding v (trianglesFrom 0 (trianglesAt i C W)) ++ pick (stands v (triangleAt C W i .corners)) (triangleAt C W i ∷ []) []
-triangles-held v C W i = ap (holding v) (triangles-more C W i) ∙ holding-more v (trianglesFrom 0 (trianglesAt i C W)) (triangleAt C W i) true
 
 -- edge i of a block, as an element
 strap-read : (E : List ℕ) (L : List Float) (i : ℕ) → strapElement i (edgeRow (length E / 4) (length L / 4) E L i) ≡ strapAt E L i
@@ -103,31 +87,6 @@ module _ (v k : ℕ) (es ds : List Element) (i r o : ℕ) (N₀ K₀ : List ℕ)
   reading-take f K′ l hn hm lk c =
       let q : holding v ds ≡ holding v es ++ (e ∷ []) = more ∙ rw f refl in
       record { filling = rw q (filling-push k (holding v es) r o N₀ K₀ M₀ N K M e K′ (F .filling) l hn hm lk c); below = let b : r ≤ i = F .below in omega arith }
-
--- ---- the triangles
-
-abbrev pub FanTriangles : ℕ → List ℕ → List Float → ℕ → ℕ → ℕ → List ℕ → List ℕ → List Float → List ℕ → List ℕ → List Float → Type 0
-FanTriangles v C W i r o N₀ K₀ M₀ N K M = Reading v 3 (trianglesFrom 0 (trianglesAt i C W)) i r o N₀ K₀ M₀ N K M
-
-pub triangles-start : (v : ℕ) (C : List ℕ) (W : List Float) (N K : List ℕ) (M : List Float) → FanTriangles v C W 0 0 0 N K M N K M
-unfolding trianglesFrom trianglesAt tab sift
-triangles-start v C W N K M = record { filling = filling-start 3 N K M; below = omega arith }
-
-module _ (v : ℕ) (C : List ℕ) (W : List Float) (i r o : ℕ) (N₀ K₀ : List ℕ) (M₀ : List Float) (N K : List ℕ) (M : List Float) (F : FanTriangles v C W i r o N₀ K₀ M₀ N K M) where
-  pub triangles-skip : stands v (triangleAt C W i .corners) ≡ false → FanTriangles v C W (i + 1) r o N₀ K₀ M₀ N K M
-  triangles-skip f =
-      reading-skip v 3 (trianglesFrom 0 (trianglesAt i C W)) (trianglesFrom 0 (trianglesAt (i + 1) C W)) i r o N₀ K₀ M₀ N K M F (triangleAt C W i) (stands v (triangleAt C W i .corners)) (triangles-held v C W i) f
-
-  pub triangles-take : (x : Float) → stands v (triangleAt C W i .corners) ≡ true → r < length N → r < length M → o + 3 ≤ length K → x ≡ absOf (getD W i nan)
-      → FanTriangles v C W (i + 1) (r + 1) (o + 3) N₀ K₀ M₀ (set N r i)
-      (set (set (set K o (getD C i 0)) (o + 1) (getD C (length C / 3 + i) 0)) (o + 2) (getD C (2 * (length C / 3) + i) 0)) (set M r x)
-  triangles-take x f hn hm hk e =
-      rw e
-      (reading-take v 3 (trianglesFrom 0 (trianglesAt i C W)) (trianglesFrom 0 (trianglesAt (i + 1) C W)) i r o N₀ K₀ M₀ N K M F (triangleAt C W i) (stands v (triangleAt C W i .corners))
-      (triangles-held v C W i) f _ refl hn hm (simp length-set) (front-three K o (getD C i 0) (getD C (length C / 3 + i) 0) (getD C (2 * (length C / 3) + i) 0) hk))
-
-  pub triangles-done : (t : ℕ) → i ≤ t → t ≤ i → Tabled 3 (holding v (trianglesFrom 0 (trianglesAt t C W))) r N K M
-  triangles-done t g h = let q : t ≡ i = omega arith in rw q (F .filling .tabled)
 
 -- ---- the straps
 

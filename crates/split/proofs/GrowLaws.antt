@@ -97,7 +97,7 @@ module _ {K : Kind} {O : Opening} {v before n count : ℕ} {numbers verts : List
       }
 
 -- some opening has these numbers and groups
-tableOpening : ℕ → ℕ → ℕ → List ℕ → List ℕ → Opening
+pub tableOpening : ℕ → ℕ → ℕ → List ℕ → List ℕ → Opening
 tableOpening v before n numbers groups =
     record { v = v; before = before; fan = tab n (λ i. record { number = getD numbers i 0; corners = []; measure = nan; group = getD groups i 0 }); count = 0 }
 
@@ -107,7 +107,7 @@ module _ (v before n : ℕ) (numbers groups : List ℕ) (rises : (i j : ℕ) →
   unfolding tableOpening
   table-number i h = ap (λ (p : Part). p .number) (tab-at n _ i blankPart h)
 
-  table-parts : PartsBy (tableOpening v before n numbers groups) v before n numbers groups
+  pub table-parts : PartsBy (tableOpening v before n numbers groups) v before n numbers groups
   unfolding tableOpening
   table-parts =
       record {

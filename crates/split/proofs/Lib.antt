@@ -8,6 +8,7 @@ pub mod NamedLaws
 pub mod Longest
 pub mod StepLaws
 pub mod TabledLaws
+pub mod LinkLaws
 pub mod NoteLaws
 pub mod OutlineLaws
 pub mod SettleLaws

@@ -3,3 +3,4 @@ pub mod Tables
 pub mod Steps
 pub mod Growing
 pub mod Settling
+pub mod Linking

@@ -2,64 +2,17 @@
 ghost use mathlib.Core.Path.{_≡_};
 ghost use mathlib.Core.Bool.{_&&_};
 ghost use mathlib.Core.List.{[], _∷_};
-ghost use Prim.Native.Nat.{_≤_};
+ghost use Prim.Native.Nat.{_<_};
 ghost use lib.Dec.{eqb};
 ghost use lib.ListN.{length};
 ghost use Rattle.lists.specs.Lists.{stands};
-ghost use Rattle.mesh.specs.At.{trianglesAt, edgesAt};
+ghost use Rattle.mesh.specs.At.{edgesAt};
 ghost use Rattle.elements.specs.Table.{Tabled, holding, kindIs};
-ghost use Rattle.elements.specs.Workers.{TriangleRoom, StrapRoom};
-ghost use Rattle.model.specs.Elements.{cornersPer, trianglesFrom, strapsFrom};
+ghost use Rattle.elements.specs.Workers.{StrapRoom};
+ghost use Rattle.model.specs.Elements.{cornersPer, strapsFrom};
+ghost use Rattle.links.specs.Linked.{Linked};
 ghost use Rattle.split.specs.Tables.{FanLent, FanRead, SidesLent, GroupsFound};
 use elements::Kind;
-
-// Is v one of three corners?
-fn one_of_three(v: usize, x: usize, y: usize, z: usize) -> bool
-    ensures { λ r. ⌜ r ≡ stands v (x ∷ y ∷ z ∷ []) ⌝ }
-{
-    if x == v {
-        return true;
-    }
-    if y == v {
-        return true;
-    }
-    z == v
-}
-
-// The triangles that hold v, in tables, and how many they are.
-fn fan_triangles(
-    v: usize,
-    t: usize,
-    corners: &[usize],
-    volumes: &[f32],
-    numbers: &mut [usize],
-    verts: &mut [usize],
-    measures: &mut [f32],
-) -> usize
-    requires { ⌜ TriangleRoom t (length (now corners)) (length (now volumes)) (length (now numbers)) (length (now verts)) (length (now measures)) ⌝ }
-    ensures { λ r. ⌜ Tabled 3 (holding v (trianglesFrom 0 (trianglesAt t (now (corners .entry)) (now (volumes .entry))))) r (now (numbers .exit)) (now (verts .exit)) (now (measures .exit)) ⌝ }
-{
-    let c = corners.len() / 3;
-    let mut i: usize = 0;
-    let mut r: usize = 0;
-    let mut o: usize = 0;
-    while i < t {
-        let x = corners[i];
-        let y = corners[c + i];
-        let z = corners[2 * c + i];
-        if one_of_three(v, x, y, z) {
-            numbers[r] = i;
-            verts[o] = x;
-            verts[o + 1] = y;
-            verts[o + 2] = z;
-            measures[r] = float::abs::abs(volumes[i]);
-            o += 3;
-            r += 1;
-        }
-        i += 1;
-    }
-    r
-}
 
 // Is an edge from x to y a strap that holds v?
 fn strap_holds(v: usize, structural: usize, x: usize, y: usize) -> bool
@@ -108,7 +61,7 @@ fn fan_straps(
     r
 }
 
-// The numbers, corners and measures of the elements that hold v, and how many they are.
+// The numbers, corners and measures of the elements that hold v, and how many they are: triangles by walking from link to link, straps by looking at every edge.
 pub fn fan_tables(
     kind: Kind,
     v: usize,
@@ -121,12 +74,24 @@ pub fn fan_tables(
     numbers: &mut [usize],
     verts: &mut [usize],
     measures: &mut [f32],
+    links: &[u16],
 ) -> usize
-    requires { ⌜ FanLent t e (length (now corners)) (length (now volumes)) (length (now ends)) (length (now lengths)) (length (now numbers)) (length (now verts)) (length (now measures)) ⌝ }
+    requires { ⌜ FanLent t e (length (now corners)) (length (now volumes)) (length (now ends)) (length (now lengths)) (length (now numbers)) (length (now verts)) (length (now measures)) × Linked (kindIs kind) t (now corners) (now links) × (v < 1024) ⌝ }
     ensures { λ r. ⌜ FanRead (kindIs kind) v t e (now (corners .entry)) (now (volumes .entry)) (now (ends .entry)) (now (lengths .entry)) r (now (numbers .exit)) (now (verts .exit)) (now (measures .exit)) ⌝ }
 {
     match kind {
-        Kind::Triangles => fan_triangles(v, t, corners, volumes, numbers, verts, measures),
+        Kind::Triangles => links::fan_linked(
+            v,
+            t,
+            1024,
+            1024,
+            corners,
+            volumes,
+            links,
+            numbers,
+            verts,
+            measures,
+        ),
         Kind::Straps => fan_straps(v, e, ends, lengths, numbers, verts, measures),
         Kind::Nothing => 0,
     }

@@ -12,7 +12,9 @@ ghost use Rattle.mesh.specs.Log.{worldAt};
 ghost use Rattle.mesh.specs.Filled.{lent};
 ghost use Rattle.work.specs.Working.{Ready, Works};
 ghost use Rattle.split.specs.Tables.{FanGrouped, FanSided, openedBy, SidesGiven};
+ghost use Rattle.links.specs.Linked.{Linked};
 ghost use Rattle.split.specs.Steps.{Stepped};
+ghost use Rattle.split.specs.Linking.{LinkedAfter};
 use crate::Grew;
 use elements::Kind;
 use mesh::Counts;
@@ -41,11 +43,12 @@ pub fn split_opened(
     outline: &mut [usize],
     log: &mut [u32],
     mask: &mut [usize],
+    links: &mut [u16],
 ) -> Ran
-    requires { ⌜ Ready room k (lent (now points) (now roots) (now corners) (now volumes) (now ends) (now lengths) (now outline) (now log)) (meshAt k (now points) (now roots) (now corners) (now volumes) (now ends) (now lengths) (now outline)) × FanGrouped (kindIs kind) (meshAt k (now points) (now roots) (now corners) (now volumes) (now ends) (now lengths) (now outline)) v n count (now numbers) (now verts) (now measures) (now groups) × (extra ≤ 1) × (2048 ≤ length (now mask)) ⌝ }
+    requires { ⌜ Ready room k (lent (now points) (now roots) (now corners) (now volumes) (now ends) (now lengths) (now outline) (now log)) (meshAt k (now points) (now roots) (now corners) (now volumes) (now ends) (now lengths) (now outline)) × FanGrouped (kindIs kind) (meshAt k (now points) (now roots) (now corners) (now volumes) (now ends) (now lengths) (now outline)) v n count (now numbers) (now verts) (now measures) (now groups) × (extra ≤ 1) × (2048 ≤ length (now mask)) × Linked (kindIs kind) (k .triangles) (now corners) (now links) ⌝ }
     ensures { λ r. ⌜ Stepped (kindIs kind) (openedBy (kindIs kind) (meshAt k (now (points .entry)) (now (roots .entry)) (now (corners .entry)) (now (volumes .entry)) (now (ends .entry)) (now (lengths .entry)) (now (outline .entry))) v n count (now (groups .entry))) room extra
         (worldAt k (now (points .entry)) (now (roots .entry)) (now (corners .entry)) (now (volumes .entry)) (now (ends .entry)) (now (lengths .entry)) (now (outline .entry)) (now (log .entry)))
-        (λ q. worldAt q (now (points .exit)) (now (roots .exit)) (now (corners .exit)) (now (volumes .entry)) (now (ends .exit)) (now (lengths .exit)) (now (outline .exit)) (now (log .exit))) r ⌝ }
+        (λ q. worldAt q (now (points .exit)) (now (roots .exit)) (now (corners .exit)) (now (volumes .entry)) (now (ends .exit)) (now (lengths .exit)) (now (outline .exit)) (now (log .exit))) r × LinkedAfter (kindIs kind) (now (corners .exit)) (now (links .exit)) r ⌝ }
 {
     let before = k.particles;
     let t = k.triangles;
@@ -67,6 +70,7 @@ pub fn split_opened(
         corners,
         ends,
         lengths,
+        links,
     );
     match grew {
         Grew::Lacking(c) => Ran::Refused(c),
@@ -132,11 +136,12 @@ pub fn split_tabled(
     lengths: &mut [f32],
     outline: &mut [usize],
     log: &mut [u32],
+    links: &mut [u16],
 ) -> Ran
-    requires { ⌜ Ready room k (lent (now points) (now roots) (now corners) (now volumes) (now ends) (now lengths) (now outline) (now log)) (meshAt k (now points) (now roots) (now corners) (now volumes) (now ends) (now lengths) (now outline)) × FanSided (kindIs kind) (meshAt k (now points) (now roots) (now corners) (now volumes) (now ends) (now lengths) (now outline)) v n (now numbers) (now verts) (now measures) (now sides) × (2048 ≤ length (now sides)) × (2048 ≤ length (now groups)) ⌝ }
+    requires { ⌜ Ready room k (lent (now points) (now roots) (now corners) (now volumes) (now ends) (now lengths) (now outline) (now log)) (meshAt k (now points) (now roots) (now corners) (now volumes) (now ends) (now lengths) (now outline)) × FanSided (kindIs kind) (meshAt k (now points) (now roots) (now corners) (now volumes) (now ends) (now lengths) (now outline)) v n (now numbers) (now verts) (now measures) (now sides) × (2048 ≤ length (now sides)) × (2048 ≤ length (now groups)) × Linked (kindIs kind) (k .triangles) (now corners) (now links) ⌝ }
     ensures { λ r. ⌜ Works (splitBySides (kindIs kind) v (take n (now (sides .entry)))) room
         (worldAt k (now (points .entry)) (now (roots .entry)) (now (corners .entry)) (now (volumes .entry)) (now (ends .entry)) (now (lengths .entry)) (now (outline .entry)) (now (log .entry)))
-        (λ q. worldAt q (now (points .exit)) (now (roots .exit)) (now (corners .exit)) (now (volumes .entry)) (now (ends .exit)) (now (lengths .exit)) (now (outline .exit)) (now (log .exit))) r ⌝ }
+        (λ q. worldAt q (now (points .exit)) (now (roots .exit)) (now (corners .exit)) (now (volumes .entry)) (now (ends .exit)) (now (lengths .exit)) (now (outline .exit)) (now (log .exit))) r × LinkedAfter (kindIs kind) (now (corners .exit)) (now (links .exit)) r ⌝ }
 {
     let count = crate::fans::group_fan(kind, v, n, verts, sides, groups);
     if count < 2 {
@@ -164,6 +169,7 @@ pub fn split_tabled(
             outline,
             log,
             sides,
+            links,
         );
     }
     Ran::Done(k)
@@ -195,6 +201,8 @@ fn split_fan(
     let mut measures = [0.0f32; 2048];
     let mut own = [0usize; 2048];
     let mut groups = [0usize; 2048];
+    let mut links = [0u16; 4096];
+    links::link_mesh(kind, k.triangles, corners, &mut links);
     let n = crate::fans::fan_tables(
         kind,
         v,
@@ -207,6 +215,7 @@ fn split_fan(
         &mut numbers,
         &mut verts,
         &mut measures,
+        &links,
     );
     columns::copy_usize(sides, &mut own);
     split_tabled(
@@ -228,6 +237,7 @@ fn split_fan(
         lengths,
         outline,
         log,
+        &mut links,
     )
 }
 

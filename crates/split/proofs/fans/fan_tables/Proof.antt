@@ -1,40 +1,41 @@
--- `split::fans::fan_tables` meets its contract: the triangles that hold v, or the straps, or none. The laws are in proofs/FanLaws.antt.
+-- `split::fans::fan_tables` meets its contract: the triangles that hold v by the table of links, or the straps, or none. The laws are in proofs/FanLaws.antt and proofs/LinkLaws.antt. Assumes nothing.
 use native.Mathlib.Omega.{arith}
-use mathlib.Core.Path.{refl}
+use mathlib.Core.Path.{refl, ap}
 use borrow.Author.Needs.{needs}
 use Rattle.elements.specs.Table.{kindIs}
 use Rattle.split.proofs.Fitted.{fan-read}
 use Rattle.split.proofs.FanLaws.{held-triangles, held-straps, held-nothing}
+use Rattle.split.proofs.LinkLaws.{fan-walk}
 use Rattle.split.proofs.fans.fan_tables.Statement.{statement}
 use Rattle.split.proofs.fans.fan_tables.Tie as tie
 
 enum-told : tie.Need-enum-told
 enum-told c = search needs
 
-fan-triangles-requires : tie.Need-fan-triangles-requires
-fan-triangles-requires c κs = let P = c .before .before .before .before .before .before .before .before .before .before .before .before .pre in record { corners = P .corners; volumes = P .volumes; numbers = omega (arith, P .few .0, P .numbers); verts = omega (arith, P .few .0, P .verts); measures = omega (arith, P .few .0, P .measures) }
+fan-linked-requires : tie.Need-fan-linked-requires
+fan-linked-requires c κs = fan-walk (c .before .before .before .before .before .before .before .before .before .before .before .before .before .pre .0) (c .before .before .before .before .before .before .before .before .before .before .before .before .before .pre .1) (c .before .before .before .before .before .before .before .before .before .before .before .before .before .pre .2) (ap kindIs (c .before .before .before .enum-told .given .1))
 
 enum-told-2 : tie.Need-enum-told-2
 enum-told-2 c = search needs
 
 fan-straps-requires : tie.Need-fan-straps-requires
-fan-straps-requires c κs = let P = c .before .before .before .before .before .before .before .before .before .before .before .before .pre in record { ends = P .ends; lengths = P .lengths; numbers = omega (arith, P .few .1, P .numbers); verts = omega (arith, P .few .1, P .verts); measures = omega (arith, P .few .1, P .measures) }
+fan-straps-requires c κs = let P = c .before .before .before .before .before .before .before .before .before .before .before .before .before .pre .0 in record { ends = P .ends; lengths = P .lengths; numbers = omega (arith, P .few .1, P .numbers); verts = omega (arith, P .few .1, P .verts); measures = omega (arith, P .few .1, P .measures) }
 
 enum-told-3 : tie.Need-enum-told-3
 enum-told-3 c = search needs
 
 same-length : tie.Need-same-length
-same-length c = c .before .before .before .before .before .before .fan-triangles .kept .1 .1 .1 .1 .0
+same-length c = c .before .before .before .before .before .before .fan-linked .kept .1 .1 .1 .1 .1 .1 .1 .0
 
 same-length-2 : tie.Need-same-length-2
-same-length-2 c = c .before .before .before .before .before .before .fan-triangles .kept .1 .1 .1 .1 .1 .0
+same-length-2 c = c .before .before .before .before .before .before .fan-linked .kept .1 .1 .1 .1 .1 .1 .1 .1 .0
 
 same-length-3 : tie.Need-same-length-3
-same-length-3 c = c .before .before .before .before .before .before .fan-triangles .kept .1 .1 .1 .1 .1 .1 .0
+same-length-3 c = c .before .before .before .before .before .before .fan-linked .kept .1 .1 .1 .1 .1 .1 .1 .1 .1 .0
 
 returns : tie.Need-returns
-returns c = let A = c .before .before .before .before .before .before .before .before .before .before .before .before .before .before .before .before .before .before .before .args in let P = c .before .before .before .before .before .before .before .before .before .before .before .before .before .before .before .before .before .before .before .pre in
-    fan-read (kindIs (A .kind)) _ _ _ _ _ _ _ _ _ _ _ (P .few .0) (P .few .1) (held-triangles (A .kind) _ _ _ _ _ _ _ (c .before .before .before .before .before .before .before .before .before .before .enum-told .given .1) (c .before .before .before .before .before .before .fan-triangles .ensures))
+returns c = let A = c .before .before .before .before .before .before .before .before .before .before .before .before .before .before .before .before .before .before .before .before .args in let P = c .before .before .before .before .before .before .before .before .before .before .before .before .before .before .before .before .before .before .before .before .pre .0 in
+    fan-read (kindIs (A .kind)) _ _ _ _ _ _ _ _ _ _ _ (P .few .0) (P .few .1) (held-triangles (A .kind) _ _ _ _ _ _ _ (c .before .before .before .before .before .before .before .before .before .before .enum-told .given .1) (c .before .before .before .before .before .before .fan-linked .ensures))
 
 same-length-4 : tie.Need-same-length-4
 same-length-4 c = c .before .before .before .before .before .before .fan-straps .kept .1 .1 .1 .1 .0
@@ -46,11 +47,11 @@ same-length-6 : tie.Need-same-length-6
 same-length-6 c = c .before .before .before .before .before .before .fan-straps .kept .1 .1 .1 .1 .1 .1 .0
 
 returns-2 : tie.Need-returns-2
-returns-2 c = let A = c .before .before .before .before .before .before .before .before .before .before .before .before .before .before .before .before .before .before .before .args in let P = c .before .before .before .before .before .before .before .before .before .before .before .before .before .before .before .before .before .before .before .pre in
+returns-2 c = let A = c .before .before .before .before .before .before .before .before .before .before .before .before .before .before .before .before .before .before .before .before .args in let P = c .before .before .before .before .before .before .before .before .before .before .before .before .before .before .before .before .before .before .before .before .pre .0 in
     fan-read (kindIs (A .kind)) _ _ _ _ _ _ _ _ _ _ _ (P .few .0) (P .few .1) (held-straps (A .kind) _ _ _ _ _ _ _ (c .before .before .before .before .before .before .before .before .before .before .enum-told2 .given .1) (c .before .before .before .before .before .before .fan-straps .ensures))
 
 returns-3 : tie.Need-returns-3
-returns-3 c = let A = c .before .before .before .before .before .before .before .before .before .args in let P = c .before .before .before .before .before .before .before .before .before .pre in
+returns-3 c = let A = c .before .before .before .before .before .before .before .before .before .before .args in let P = c .before .before .before .before .before .before .before .before .before .before .pre .0 in
     fan-read (kindIs (A .kind)) _ _ _ _ _ _ _ _ _ _ _ (P .few .0) (P .few .1) (held-nothing (A .kind) _ _ _ _ _ _ _ (c .enum-told3 .given .1) refl)
 
 pub fan-tables-spec : {M : Type 1} → statement M
@@ -58,7 +59,7 @@ fan-tables-spec =
     tie.close
     (tie.spec
     enum-told
-    fan-triangles-requires
+    fan-linked-requires
     enum-told-2
     fan-straps-requires
     enum-told-3

@@ -1,0 +1,21 @@
+-- The table that a call keeps beside the lent blocks: 1,024 heads, and behind them three columns of 1,024 links. Straps have none. Definitions only.
+use Prim.Native.Nat.{ℕ, _/_, _≤_}
+use mathlib.Core.Path.{_≡_}
+use mathlib.Core.List.{List}
+use lib.ListN.{length}
+use Rattle.columns.specs.Block.{cell}
+use Rattle.model.specs.Elements.{Kind, Triangles}
+use Rattle.links.specs.Links.{LinksOf}
+use Rattle.links.specs.Rooms.{CornersApart}
+
+-- where the elements are triangles, the table is that of the first t triangles of the block
+pub record Linked (K : Kind) (t : ℕ) (corners links : List ℕ) : Type 0 where
+  pub long : K ≡ Triangles → 4096 ≤ length links
+  pub are : K ≡ Triangles → LinksOf 1024 3 1024 t (cell 0 (length corners / 3) corners) links
+
+-- where the elements are triangles, such a table can be built in lt places: there are at most 1,024 of them, their corners are among 1,024 particles, and none has one twice
+pub record Linkable (K : Kind) (t : ℕ) (corners : List ℕ) (lt : ℕ) : Type 0 where
+  pub few : t ≤ 1024
+  pub rows : t ≤ length corners / 3
+  pub long : K ≡ Triangles → 4096 ≤ lt
+  pub apart : K ≡ Triangles → CornersApart 1024 3 t (cell 0 (length corners / 3) corners)

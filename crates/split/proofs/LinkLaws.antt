@@ -1,0 +1,213 @@
+-- The table of fans beside a mesh in blocks: it can be built, it is what a fan is read from, and a split keeps it. Assumes nothing.
+use Prim.Native.Nat.{ℕ, _+_, _-_, _/_, _<_, _≤_}
+use native.Mathlib.Decide.{ℕ-discrete}
+use native.Mathlib.Omega.{arith}
+use mathlib.Core.Path.{_≡_, refl, sym, ap, _∙_, subst}
+use mathlib.Core.Bool.{_&&_}
+use mathlib.Core.List.{List, [], map}
+use lib.ListN.{length, getD, take}
+use lib.Seq.{length-take-le, getD-take}
+use lib.Ieee.{Float}
+use borrow.Author.Tests.{eq-eqb, ne-eqb}
+use Rattle.lists.specs.Lists.{all}
+use Rattle.model.proofs.Laws.{and-true}
+use Rattle.columns.specs.Block.{cell}
+use Rattle.model.specs.Mesh.{Mesh}
+use Rattle.model.specs.Elements.{Kind, Triangles, Element, fanOf}
+use Rattle.model.specs.Valid.{indicesFit, rootOk, cornersOk, endsOk, sideOk}
+use Rattle.model.specs.Split.{Part, Opening, copyFor, settled}
+use Rattle.mesh.specs.At.{meshAt}
+use Rattle.mesh.specs.Log.{World, worldAt}
+use Rattle.mesh.specs.Filled.{lent}
+use Rattle.mesh.specs.declared.Counts.{Counts}
+use Rattle.mesh.specs.declared.Rooms.{Rooms}
+use Rattle.links.specs.Links.{LinksOf, cornerAfter}
+use Rattle.links.specs.Rooms.{CornersApart, FanLinked, SplitRoom}
+use Rattle.links.specs.Linked.{Linked, Linkable}
+use Rattle.links.proofs.Accepted.{corners-apart, apart-below}
+use Rattle.links.proofs.Fanned.{fan-numbers}
+use Rattle.links.proofs.Same.{links-split}
+use Rattle.rewire.specs.Stages.{PartsBy, TrianglesRewired}
+use Rattle.rewire.specs.Particles.{PartsRoom}
+use Rattle.rewire.proofs.FanLaws.{numbers-are, groups-are}
+use Rattle.work.specs.Working.{Ready}
+use Rattle.work.proofs.Placed.{particles-count, triangles-count}
+use Rattle.work.specs.declared.Ran.{Ran}
+use Rattle.work.specs.declared.Ran.the-variants.{Refused, Done}
+use Rattle.split.specs.Tables.{FanGrouped, openedBy, TablesFit, FanLent, SidesGiven}
+use Rattle.split.specs.Steps.{GrowRoom, grownCounts, GrowthTold, settledWorld, splitWorld, Stepped}
+use Rattle.split.specs.Settling.{SettledFor}
+use Rattle.split.specs.Linking.{LinkedAfter, LinkedGrown, FanNamed, HeadsRoom}
+use Rattle.split.specs.declared.Grew.{Grew}
+use Rattle.split.specs.declared.Grew.the-variants.{Longest}
+use Rattle.split.proofs.GrowLaws.{tableOpening, table-parts, longest-triangles}
+use Rattle.split.proofs.StepLaws.{world-mesh, all-settled}
+use Rattle.split.proofs.TabledLaws.{fan-lent}
+
+-- ---- a fan read from the table
+
+-- what the walk asks
+pub fan-walk : {K : Kind} {v t e : ℕ} {corners links : List ℕ} {lv le ll ln lk lm : ℕ} → FanLent t e (length corners) lv le ll ln lk lm → Linked K t corners links → v < 1024 → K ≡ Triangles
+    → FanLinked v 1024 1024 t corners lv links ln lk lm
+fan-walk P L h e =
+    let few = P .few .0 in
+    record {
+      room = record { cells = few; rows = P .corners; columns = omega arith; table = L .long e; small = omega arith };
+      here = h;
+      linked = L .are e;
+      tables = record { corners = P .corners; volumes = P .volumes; numbers = omega (arith, P .numbers); verts = omega (arith, P .verts); measures = omega (arith, P .measures) };
+    }
+
+-- ---- the table through a split
+
+-- the fan's front in the tables is what the table is changed by
+pub split-room : {K : Kind} {v before t n rows : ℕ} {numbers groups corners links : List ℕ} → PartsRoom before n rows numbers groups → Linked K t corners links → FanNamed K v before t n numbers corners
+    → HeadsRoom v before t n (length corners) groups → K ≡ Triangles → SplitRoom v before 1024 3 1024 (length corners / 3) t (take n numbers) (take n groups) corners links
+split-room {v = v} {before} {t} {n} {numbers = numbers} {groups} P L F H e =
+    let ln : length (take n numbers) ≡ n = length-take-le n numbers (P .numbers-long) in
+    let lg : length (take n groups) ≡ n = length-take-le n groups (P .groups-long) in
+    record {
+      room = record { cells = H .few; rows = H .rows; columns = omega arith; table = L .long e; small = omega (arith, H .few) };
+      linked = L .are e;
+      apart = F .apart e;
+      here = H .here;
+      most = H .most;
+      few = omega arith;
+      fan = F .fan e;
+      paired = ln ∙ sym lg;
+      copies = λ i h. let l : i < n = omega arith in subst (λ (g : ℕ). copyFor v before g < 1024) (sym (getD-take n groups i 0 l)) (H .copies i l);
+    }
+
+-- the corners after it are those that the table is of
+pub links-rewired : {v before t n rows : ℕ} {numbers groups corners corners′ links′ : List ℕ} → PartsRoom before n rows numbers groups → t ≤ length corners / 3 → length corners′ ≡ length corners
+    → LinksOf 1024 3 1024 t (cornerAfter v before (take n numbers) (take n groups) (cell 0 (length corners / 3) corners)) links′ → TrianglesRewired v before n numbers groups corners corners′
+    → LinksOf 1024 3 1024 t (cell 0 (length corners′ / 3) corners′) links′
+links-rewired {v} {before} {t} {n} {rows} {numbers} {groups} {corners} {corners′} {links′} P h long L T =
+    links-split 1024 1024 t corners corners′ links′ O [] long
+    (subst (λ (a : ℕ). Of a (O .before) ns gs) (sym (B .at))
+    (subst (λ (b : ℕ). Of v b ns gs) (sym (B .before-is))
+    (subst (λ (m : List ℕ). Of v before m gs) (numbers-are B (P .numbers-long))
+    (subst (λ (m : List ℕ). Of v before (take n numbers) m) (groups-are B (P .groups-long)) L))))
+    (T .triangles O t [] B h)
+  where
+    O : Opening
+    O = tableOpening v before n numbers groups
+
+    B : PartsBy O v before n numbers groups
+    B = table-parts v before n numbers groups (P .rising)
+
+    ns : List ℕ
+    ns = map (λ (p : Part). p .number) (O .fan)
+
+    gs : List ℕ
+    gs = map (λ (p : Part). p .group) (O .fan)
+
+    Of : ℕ → ℕ → List ℕ → List ℕ → Type 0
+    Of a b m g = LinksOf 1024 3 1024 t (cornerAfter a b m g (cell 0 (length corners / 3) corners)) links′
+
+-- so the table is that of the block again
+pub linked-rewired : {K : Kind} {t : ℕ} {corners corners′ links links′ : List ℕ} → Linked K t corners links → length links′ ≡ length links → LinksOf 1024 3 1024 t (cell 0 (length corners′ / 3) corners′) links′
+    → Linked K t corners′ links′
+linked-rewired L long N = record { long = λ e. omega (arith, long, L .long e); are = λ e. N }
+
+-- v and every copy have heads, where there is room for the copies
+pub heads-room : {K : Kind} {L : Rooms} {k : Counts} {v n count lp lr lc le ll : ℕ} {numbers verts : List ℕ} {measures : List Float} {groups : List ℕ}
+    → GrowRoom L k lp lr lc le ll → TablesFit K (k .particles) (k .triangles) (k .edges) v n count numbers verts measures groups → count - 1 ≤ L .particles - k .particles
+    → HeadsRoom v (k .particles) (k .triangles) n lc groups
+heads-room {L = L} {k} {v} {count = count} {groups = groups} R F fits =
+    let few = R .few-particles in
+    let most = R .particles in
+    record { few = R .few-triangles; rows = R .corners; here = F .here; most = omega arith; copies = λ i h. copy (getD groups i 0) (F .below i h) (ℕ-discrete (getD groups i 0) 0) }
+  where
+    copy : (g : ℕ) → g < count → Dec (g ≡ 0) → copyFor v (k .particles) g < 1024
+    copy g l (yes q) = rw (eq-eqb g 0 q) (omega (arith, F .here, R .particles, R .few-particles))
+    copy g l (no q) = rw (ne-eqb g 0 q) (omega (arith, R .particles, R .few-particles, q))
+
+-- a split leaves as many triangles
+split-triangles : (K : Kind) (O : Opening) (W : World) → length (splitWorld K O W .mesh .triangles) ≡ length (W .mesh .triangles)
+unfolding splitWorld settledWorld settled
+split-triangles K O W = longest-triangles K O (W .mesh)
+
+-- behind a worker that is done the next one finds what it asks
+pub linked-done : {K : Kind} {corners links : List ℕ} (r : Ran) (q : Counts) → LinkedAfter K corners links r → r ≡ Done q → Linked K (q .triangles) corners links
+linked-done {K} {corners} {links} r q X e = subst (λ (z : Ran). LinkedAfter K corners links z) e X
+
+-- ---- beside a mesh in blocks
+
+module _ (K : Kind) (L : Rooms) (k : Counts) (points : List Float) (roots corners : List ℕ) (volumes : List Float) (ends : List ℕ) (lengths : List Float) (outline log : List ℕ)
+    (P : Ready L k (lent points roots corners volumes ends lengths outline log) (meshAt k points roots corners volumes ends lengths outline)) where
+  abbrev M : Mesh
+  M = meshAt k points roots corners volumes ends lengths outline
+
+  -- no triangle of the block has a corner twice
+  apart-ready : CornersApart (k .particles) 3 (k .triangles) (cell 0 (length corners / 3) corners)
+  unfolding indicesFit meshAt
+  apart-ready =
+      let n = length (M .particles) in
+      let p = and-true (all (rootOk n) (M .particles) && all (cornersOk n) (M .triangles) && all (endsOk n) (M .edges)) (all (sideOk n) (M .boundary)) (P .indices) in
+      let q = and-true (all (rootOk n) (M .particles) && all (cornersOk n) (M .triangles)) (all (endsOk n) (M .edges)) (p .0) in
+      let r = and-true (all (rootOk n) (M .particles)) (all (cornersOk n) (M .triangles)) (q .0) in
+      subst (λ (m : ℕ). CornersApart m 3 (k .triangles) (cell 0 (length corners / 3) corners)) (particles-count k points roots corners volumes ends lengths outline)
+      (corners-apart n (k .triangles) corners volumes (r .1))
+
+  -- the table can be built in lt places
+  pub linkable-ready : (lt : ℕ) → (K ≡ Triangles → 4096 ≤ lt) → Linkable K (k .triangles) corners lt
+  linkable-ready lt long =
+      let R = P .rooms in
+      let C = P .counts in
+      record {
+        few = omega (arith, C .triangles, R .few-triangles);
+        rows = omega (arith, C .triangles, R .corners);
+        long = long;
+        apart = λ e. apart-below (k .particles) 1024 3 (k .triangles) (cell 0 (length corners / 3) corners) (omega (arith, C .particles, R .few-particles)) apart-ready;
+      }
+
+  -- what reading the fan of v asks
+  pub fan-ready : {v : ℕ} {links : List ℕ} (ln lk lm : ℕ) → v < k .particles → Linked K (k .triangles) corners links → 2048 ≤ ln → 4096 ≤ lk → 2048 ≤ lm
+      → FanLent (k .triangles) (k .edges) (length corners) (length volumes) (length ends) (length lengths) ln lk lm × Linked K (k .triangles) corners links × (v < 1024)
+  fan-ready ln lk lm h X a b c =
+      (fan-lent K L k points roots corners volumes ends lengths outline log P ln lk lm a b c, X, omega (arith, h, P .counts .particles, P .rooms .few-particles))
+
+  -- v is among the particles, where sides are given for its fan
+  pub here-given : {v : ℕ} {sides : List ℕ} → SidesGiven K M v sides → v < k .particles
+  here-given {v} S = subst (λ (p : ℕ). v < p) (particles-count k points roots corners volumes ends lengths outline) (S .here)
+
+  -- the tables of a fan name the triangles that hold v
+  pub fan-named : {v n count : ℕ} {numbers verts : List ℕ} {measures : List Float} {groups : List ℕ} → FanGrouped K M v n count numbers verts measures groups → FanNamed K v (k .particles) (k .triangles) n numbers corners
+  unfolding meshAt
+  fan-named {v} F =
+      record {
+        apart = λ e. apart-ready;
+        fan = λ e. F .tabled .numbers-are ∙ ap (λ (X : Kind). map (λ (x : Element). x .number) (fanOf X M v)) e ∙ fan-numbers M (k .triangles) corners volumes v refl;
+      }
+
+  -- the step leaves as many triangles, so the table that its first half left is that of the block
+  linked-stepped : (O : Opening) (extra : ℕ) (points′ : List Float) (roots′ corners′ ends′ : List ℕ) (lengths′ : List Float) (outline′ log′ links′ : List ℕ) (r : Ran)
+      → Stepped K O L extra (worldAt k points roots corners volumes ends lengths outline log) (λ q. worldAt q points′ roots′ corners′ volumes ends′ lengths′ outline′ log′) r
+      → Linked K (k .triangles) corners′ links′ → LinkedAfter K corners′ links′ r
+  linked-stepped O extra points′ roots′ corners′ ends′ lengths′ outline′ log′ links′ (Refused c) S X = tt
+  linked-stepped O extra points′ roots′ corners′ ends′ lengths′ outline′ log′ links′ (Done q) S X = subst (λ (t : ℕ). Linked K t corners′ links′) (sym same) X
+    where
+      W : World
+      W = worldAt k points roots corners volumes ends lengths outline log
+
+      same : q .triangles ≡ k .triangles
+      same =
+          sym (triangles-count q points′ roots′ corners′ volumes ends′ lengths′ outline′)
+          ∙ ap (λ (X : Mesh). length (X .triangles)) (sym (world-mesh q points′ roots′ corners′ volumes ends′ lengths′ outline′ log′))
+          ∙ ap (λ (X : World). length (X .mesh .triangles)) (S .3)
+          ∙ split-triangles K O W
+          ∙ ap (λ (X : Mesh). length (X .triangles)) (world-mesh k points roots corners volumes ends lengths outline log)
+          ∙ triangles-count k points roots corners volumes ends lengths outline
+
+  -- the two halves make the step, and the table is what the first one left
+  pub settled-linked : {v n count : ℕ} {numbers verts : List ℕ} {measures : List Float} {groups : List ℕ} (F : FanGrouped K M v n count numbers verts measures groups)
+      (points′ : List Float) (roots′ corners′ ends′ : List ℕ) (lengths′ : List Float) (g : Grew) (e extra : ℕ) (ends″ : List ℕ) (lengths″ : List Float) (outline″ log″ links′ : List ℕ) (r : Ran)
+      → GrowthTold K L k v n count numbers verts measures groups (λ q vol out. meshAt q points roots corners vol ends lengths out) (λ q vol out. meshAt q points′ roots′ corners′ vol ends′ lengths′ out) g
+      → LinkedGrown K (k .triangles) corners′ links′ g → g ≡ Longest e
+      → SettledFor K L extra v (k .particles) n count numbers verts groups (λ s. worldAt (grownCounts k (k .particles + count - 1) e) points′ s corners′ volumes ends′ lengths′ outline log)
+      (λ s q. worldAt q points′ s corners′ volumes ends″ lengths″ outline″ log″) r
+      → Stepped K (openedBy K M v n count groups) L extra (worldAt k points roots corners volumes ends lengths outline log) (λ q. worldAt q points′ roots′ corners′ volumes ends″ lengths″ outline″ log″) r × LinkedAfter K corners′ links′ r
+  settled-linked {v} {n} {count} {groups = groups} F points′ roots′ corners′ ends′ lengths′ g e extra ends″ lengths″ outline″ log″ links′ r T X q S =
+      let Z = all-settled K L k points roots corners volumes ends lengths outline log P F points′ roots′ corners′ ends′ lengths′ g e extra ends″ lengths″ outline″ log″ r T q S in
+      (Z, linked-stepped (openedBy K M v n count groups) extra points′ roots′ corners′ ends″ lengths″ outline″ log″ links′ r Z (subst (λ (z : Grew). LinkedGrown K (k .triangles) corners′ links′ z) q X))
