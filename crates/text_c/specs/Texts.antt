@@ -9,7 +9,7 @@ use Rattle.listing.specs.Answers.{shownFor}
 use Rattle.listing.specs.declared.Written.{Written}
 use Rattle.listing.specs.declared.Written.the-variants.{Short, Bytes}
 
--- the number of the layout of images, logs, fields and results that docs/C-FUNCTIONS.md has: 2 since the fields of a sheet have no boundary
+-- the number of the layout of images, logs, fields and results that docs/C-FUNCTIONS.md has: 3 since the log of a cut marks its crossings and a blade test tells its hit point
 unfoldable pub layoutNumber : ℕ
 layoutNumber = 3
 
