@@ -31,6 +31,7 @@ use Rattle.model.specs.Crack.{largestStress, stressBetween, triangleLoad
 use Rattle.model.specs.Run.{start, stepTo, splitsOf, changed}
 use Rattle.model.specs.Calls.{sidesOk, strictly, particlesOk, refusal, tooSmall, firstFault, outcome, cutCall, crackCall, splitCall, straddlersCall}
 use Rattle.model.specs.Reads.{bladeCall, groupsCall, restMeasureCall, restMeasureOfCall, opensCall, piecesCall, stateCall}
+
 -- end
 
 pub starred-hold : map (λ (c : Case). c .asked) starred ≡ map (λ (c : Case). c .wanted) starred
