@@ -200,7 +200,7 @@ def starred(path):
     """Brings the names to unfold in proofs/Starred.antt up to date."""
     text = open(path).read()
     mods = opened()
-    uses = '-- opened\n' + ''.join('use %s.{%s}\n' % (mod, ', '.join(ns)) for mod, ns in mods) + '-- end\n'
+    uses = '-- opened\n' + ''.join('use %s.{%s}\n' % (mod, ', '.join(ns)) for mod, ns in mods) + '\n-- end\n'
     text = re.sub(r'-- opened\n.*?-- end\n', lambda m: uses, text, flags=re.S)
     line = 'unfolding ' + ' '.join(sum([ns for _, ns in mods], []) + IEEE) + '\n'
     open(path, 'w').write(re.sub(r'(?m)^unfolding .*\n', lambda m: line, text))
