@@ -38,12 +38,13 @@ enum bench_refusal {
     BENCH_READER_CLOSED = 10     /* a reader of sheets is closed */
 };
 
-/* The kinds of a log entry, its first word; behind it stand a, b, p, q and the bits of t. */
+/* The kinds of a log entry, its first word; behind it stand a, b, p, q and the bits of t; p and q of a crossing are the bits of its point's x and y. */
 enum bench_log_kind {
     BENCH_LOG_SPLIT = 1,    /* particle a is a new copy of particle b */
     BENCH_LOG_REMOVED = 2,  /* the edge from a to b went, by the numbers of that moment */
     BENCH_LOG_INSERTED = 3, /* the strap from a to b was cut through at t: it is now the straps a to p and q to b */
-    BENCH_LOG_OPENED = 4    /* the torn edge that was a to b in the input opened */
+    BENCH_LOG_OPENED = 4,   /* the torn edge that was a to b in the input opened */
+    BENCH_LOG_CROSSED = 5   /* the blade met the side from a to b of a triangle, or that strap, of the input, at the point and at t; before all other entries */
 };
 #define BENCH_LOG_ENTRY_WORDS 6u
 #define BENCH_LOG_ENTRY_BYTES 24u
@@ -54,8 +55,9 @@ enum bench_log_kind {
 /* The result bytes that suffice for a call that gives a mesh, lent so many places: two words and an image. */
 #define BENCH_RESULT_BYTES(p, t, e, b) ((size_t)8 + BENCH_IMAGE_BYTES(p, t, e, b))
 
-/* The layout of images, logs, fields and results that this header speaks; bench_layout answers the archive's. 2: the fields of a sheet have no boundary. */
-#define BENCH_LAYOUT 2u
+/* The layout of images, logs, fields and results that this header speaks; bench_layout answers the archive's. 2: the fields of a sheet have no boundary;
+ * 3: the log of a cut marks its crossings, and bench_blade_hit answers the hit point. */
+#define BENCH_LAYOUT 3u
 /* The result bytes of bench_sheet for a sheet of these counts, b those of the outline that it is read with: five words and an image. */
 #define BENCH_SHEET_RESULT_BYTES(p, t, e, b) ((size_t)20 + BENCH_IMAGE_BYTES(p, t, e, b))
 /* The bytes of the fields that bench_sheet_write takes, and of the sheet that it gives, in the second edition. */
@@ -76,7 +78,8 @@ enum bench_log_kind {
 /* The square root of the f32 with these bits, correctly rounded: one word. Below 0 or not finite: 4. */
 uint32_t bench_root(uint32_t bits, uint8_t *out, size_t out_len);
 
-/* Does the blade x0 y0 x1 y1 hit the edge px py qx qy (8 words)? Two words: 1 and the bits of the fraction t along the edge, or 0 and 0. */
+/* Does the blade x0 y0 x1 y1 hit the edge px py qx qy (8 words)? Four words: 1, the bits of the fraction t along the edge, and
+ * those of the hit point's x and y; or 0 0 0 0. */
 uint32_t bench_blade_hit(const uint8_t *words, size_t words_len, uint8_t *out, size_t out_len);
 
 /* The groups of the fan of particle v under these sides, a byte 0 or 1 for each fan element: the number of groups, then each element's group. */
@@ -101,7 +104,8 @@ uint32_t bench_split(const uint8_t *image, size_t image_len, uint32_t v, const u
 /* Removes each edge, other than a strap, whose ends lie in two pieces. Answers as bench_split; the first word stays 0. */
 uint32_t bench_straddlers(const uint8_t *image, size_t image_len, const uint8_t *rooms, size_t rooms_len, uint8_t *out, size_t out_len, uint8_t *log, size_t log_len);
 
-/* Cuts along a blade of 4 words, x0 y0 x1 y1; `fraction`, the bits of an f32 from 0 to 0.5, keeps insertions that far from a strap's ends. Answers as bench_split. */
+/* Cuts along a blade of 4 words, x0 y0 x1 y1; `fraction`, the bits of an f32 from 0 to 0.5, keeps insertions that far from a strap's ends. Answers as bench_split.
+ * The crossings of the blade with the mesh are marked in the log first, one entry for each element that finds one. */
 uint32_t bench_cut(const uint8_t *image, size_t image_len, const uint8_t *blade, size_t blade_len, uint32_t fraction, const uint8_t *rooms, size_t rooms_len, uint8_t *out, size_t out_len, uint8_t *log, size_t log_len);
 
 /* Opens a crack across each torn edge, a word each, in the list's order; no group may fall below `minimum` elements. Answers as bench_split. */

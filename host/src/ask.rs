@@ -23,7 +23,7 @@ pub(crate) fn answer(n: usize, call: impl FnOnce(&mut [u8]) -> u32) -> Result<Ve
 }
 
 /// The layout of images, logs, fields and results that this crate was written for.
-const LAYOUT: u32 = 2;
+const LAYOUT: u32 = 3;
 
 /// Whether the archive speaks the layout of images, logs, fields and results that this crate does.
 ///
@@ -45,16 +45,28 @@ pub fn root(x: f32) -> Result<f32, Refusal> {
     answer(1, |out| calls::root(x.to_bits(), out)).map(|w| f32::from_bits(w[0]))
 }
 
-/// Where the blade (x0, y0, x1, y1) hits the edge from p to q, as the fraction from p; `None` if it misses.
+/// Where a blade hits an edge.
+#[derive(Clone, Copy, Debug, PartialEq)]
+pub struct Hit {
+    /// How far from the edge's first end, as a fraction of the edge.
+    pub t: f32,
+    /// The point that the bench found on the blade: p + (q - p) t, each operation rounded.
+    pub at: [f32; 2],
+}
+
+/// Where the blade (x0, y0, x1, y1) hits the edge from p to q; `None` if it misses.
 ///
 /// ```
-/// use cutting_bench::blade_hit;
-/// assert_eq!(blade_hit([2.0, -1.0, 2.0, 1.0], [0.0, 0.0], [8.0, 0.0]), Ok(Some(0.25)));
+/// use cutting_bench::{blade_hit, Hit};
+/// let quarter = Hit { t: 0.25, at: [2.0, 0.0] };
+/// assert_eq!(blade_hit([2.0, -1.0, 2.0, 1.0], [0.0, 0.0], [8.0, 0.0]), Ok(Some(quarter)));
 /// assert_eq!(blade_hit([2.0, -1.0, 2.0, 1.0], [2.0, 0.0], [2.0, 5.0]), Ok(None));
 /// ```
-pub fn blade_hit(blade: [f32; 4], p: [f32; 2], q: [f32; 2]) -> Result<Option<f32>, Refusal> {
+pub fn blade_hit(blade: [f32; 4], p: [f32; 2], q: [f32; 2]) -> Result<Option<Hit>, Refusal> {
     let words: Vec<u32> = blade.iter().chain(&p).chain(&q).map(|x| x.to_bits()).collect();
-    answer(2, |out| calls::blade_hit(&bytes_of(&words), out)).map(|w| (w[0] == 1).then(|| f32::from_bits(w[1])))
+    let answer = answer(4, |out| calls::blade_hit(&bytes_of(&words), out))?;
+    let [t, x, y] = [answer[1], answer[2], answer[3]].map(f32::from_bits);
+    Ok((answer[0] == 1).then_some(Hit { t, at: [x, y] }))
 }
 
 impl Mesh {

@@ -196,6 +196,22 @@ impl Drawing<'_> {
             }
         }
     }
+    /// A dot on the blade for each point at which it crosses the mesh.
+    fn crossings(&self, out: &mut String, crossings: &[Event]) {
+        let mut drawn: Vec<[f32; 2]> = vec![];
+        for event in crossings {
+            let Event::Crossed { at, .. } = event else { continue };
+            if drawn.contains(at) {
+                continue;
+            }
+            drawn.push(*at);
+            let [x, y] = self.frame.at(*at);
+            let _ = writeln!(
+                out,
+                r##"<circle cx="{x:.1}" cy="{y:.1}" r="3.8" fill="{BLADE}" stroke="#fff" stroke-width="1.4"/>"##
+            );
+        }
+    }
     fn blade(&self, out: &mut String, [x0, y0, x1, y1]: [f32; 4], id: &str) {
         let ([ax, ay], [bx, by]) = (self.frame.at([x0, y0]), self.frame.at([x1, y1]));
         if self.gap > 0.0 {
@@ -218,6 +234,8 @@ struct Panel<'a> {
     mesh: &'a Mesh,
     pieces: Vec<Piece>,
     blade: [f32; 4],
+    /// The events of the cut along that blade whose crossings are shown.
+    crossings: &'a [Event],
     gap: f32,
     /// What stands in the legend behind the pieces.
     notes: Vec<String>,
@@ -257,6 +275,7 @@ impl Panel<'_> {
         d.elements(out);
         d.lines(out);
         d.blade(out, self.blade, id);
+        d.crossings(out, self.crossings);
         d.dots(out);
         let _ = writeln!(out, "</g>");
         for (k, (colour, text)) in (1..).zip(self.legend()) {
@@ -310,6 +329,24 @@ fn summary(events: &[Event]) -> String {
     parts.join(", ")
 }
 
+/// How many sides or straps the blade of a cut crosses, in words; nothing where it crosses none.
+fn crossed(torn: &Torn) -> Vec<String> {
+    let mut sides: Vec<[u32; 2]> = vec![];
+    for event in &torn.events {
+        if let Event::Crossed { a, b, .. } = event {
+            sides.push([*a.min(b), *a.max(b)]);
+        }
+    }
+    sides.sort_unstable();
+    // A side of two triangles is told by both; two straps may lie between the same ends.
+    let straps = torn.mesh.triangles.is_empty();
+    if !straps {
+        sides.dedup();
+    }
+    let what = if straps { many(sides.len(), "strap", "straps") } else { many(sides.len(), "side", "sides") };
+    if sides.is_empty() { vec![] } else { vec![format!("the blade crosses {what} (dots)")] }
+}
+
 /// The edges, other than elements, whose ends lie in two pieces.
 fn straddlers(mesh: &Mesh, pieces: &[Piece]) -> usize {
     let of = |v: u32| pieces.iter().position(|p| p.particles.binary_search(&v).is_ok());
@@ -330,10 +367,11 @@ fn straddlers(mesh: &Mesh, pieces: &[Piece]) -> usize {
 pub fn draw_mesh(mesh: &Mesh, blade: [f32; 4]) -> Result<String, Refusal> {
     let pieces = mesh.list_pieces()?;
     let title = many(pieces.len(), "piece", "pieces");
-    Ok(picture(&[Panel { title, mesh, pieces, blade, gap: 0.0, notes: vec![] }]))
+    Ok(picture(&[Panel { title, mesh, pieces, blade, crossings: &[], gap: 0.0, notes: vec![] }]))
 }
 
-/// A mesh and what a cut made of it, beside each other, as SVG; what was parted is drawn slightly apart, and a legend tells the pieces and their masses.
+/// A mesh and what a cut made of it, beside each other, as SVG: before, a dot on the blade where it crosses the mesh; after, what was parted is drawn slightly apart;
+/// a legend tells the pieces and their masses.
 ///
 /// ```
 /// # let mut mesh = cutting_bench::Mesh::new();
@@ -348,10 +386,11 @@ pub fn draw_mesh(mesh: &Mesh, blade: [f32; 4]) -> Result<String, Refusal> {
 pub fn draw_cut(mesh: &Mesh, blade: [f32; 4], torn: &Torn) -> Result<String, Refusal> {
     let (old, new) = (mesh.list_pieces()?, torn.mesh.list_pieces()?);
     let counted = |pieces: &[Piece]| many(pieces.len(), "piece", "pieces");
-    let changed = if torn.events.is_empty() { ", nothing changed" } else { "" };
+    let unchanged = torn.events.iter().all(Event::is_mark);
+    let changed = if unchanged { ", nothing changed" } else { "" };
     let titles = [format!("before: {}", counted(&old)), format!("after the cut: {}{changed}", counted(&new))];
     let mut notes = vec![];
-    if !torn.events.is_empty() {
+    if !unchanged {
         notes.push(summary(&torn.events));
     }
     match straddlers(&torn.mesh, &new) {
@@ -360,8 +399,8 @@ pub fn draw_cut(mesh: &Mesh, blade: [f32; 4], torn: &Torn) -> Result<String, Ref
     }
     let [first, second] = titles;
     Ok(picture(&[
-        Panel { title: first, mesh, pieces: old, blade, gap: 0.0, notes: vec![] },
-        Panel { title: second, mesh: &torn.mesh, pieces: new, blade, gap: 7.0, notes },
+        Panel { title: first, mesh, pieces: old, blade, crossings: &torn.events, gap: 0.0, notes: crossed(torn) },
+        Panel { title: second, mesh: &torn.mesh, pieces: new, blade, crossings: &[], gap: 7.0, notes },
     ]))
 }
 
@@ -454,5 +493,6 @@ pub fn tell(event: &Event) -> String {
             format!("the strap from {a} to {b} was cut through; {p} and {q} are the new ends")
         }
         Event::Opened { a, b } => format!("the torn edge from {a} to {b} opened"),
+        Event::Crossed { a, b, at: [x, y], .. } => format!("the blade crosses from {a} to {b} at ({x}, {y})"),
     }
 }

@@ -13,7 +13,9 @@
 //! foam.add_triangle(0, 1, 2);
 //! foam.add_triangle(0, 2, 3);
 //! let torn = foam.cut([-1.0, -1.0, 5.0, 5.0], 0.1)?;
-//! assert_eq!(torn.events, [Event::Split { copy: 4, source: 0 }, Event::Split { copy: 5, source: 2 }]);
+//! // Where the blade went comes first, then what it changed.
+//! assert_eq!(torn.events[0], Event::Crossed { a: 0, b: 1, at: [0.0, 0.0], t: 0.0 });
+//! assert_eq!(torn.events[4..], [Event::Split { copy: 4, source: 0 }, Event::Split { copy: 5, source: 2 }]);
 //! assert_eq!(torn.mesh.pieces()?, 2);
 //! # Ok::<(), cutting_bench::Refusal>(())
 //! ```
@@ -34,7 +36,7 @@ mod sheet;
 mod tear;
 mod text;
 
-pub use ask::{Groups, blade_hit, layout_fits, root};
+pub use ask::{Groups, Hit, blade_hit, layout_fits, root};
 pub use draw::{draw_cut, draw_difference, draw_mesh, tell};
 pub use mend::{Dropped, List, Mended, Why};
 pub use mesh::{Edge, Mesh, Particle, Triangle};

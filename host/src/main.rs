@@ -1,5 +1,5 @@
 //! The trainer's tool: sheets as text, as pictures, cut and explained. `host/run sheet` lists what it does.
-use cutting_bench::{Refusal, Sheet, draw_cut, draw_difference, draw_mesh, tell};
+use cutting_bench::{Event, Refusal, Sheet, draw_cut, draw_difference, draw_mesh, tell};
 use std::error::Error;
 use std::fs;
 use std::io::{self, Write};
@@ -10,8 +10,8 @@ host/run sheet text FILE             a sheet as lines that one can read
 host/run sheet write TEXT > FILE     the sheet of such lines; its boundary lines are left out, as the bench finds the outline
 host/run sheet write --first TEXT    the same in the first edition, with its boundary lines (for tests)
 host/run sheet draw FILE > x.svg     a picture: pieces coloured, pins black, the blade red
-host/run sheet cut FILE              the cut told in words: what happened, the pieces and their masses
-host/run sheet cut FILE --draw       before and after, beside each other, as a picture (> x.svg)
+host/run sheet cut FILE              the cut told in words: where the blade goes, what happened, the pieces and their masses
+host/run sheet cut FILE --draw       before and after, beside each other, as a picture (> x.svg), with a dot at each crossing
 host/run sheet list FILE             the listing that the program cutlist prints
 host/run sheet diff FILE FILE        the differences of two sheets, as the program sheetdiff prints them
 host/run sheet diff FILE FILE --draw both meshes in one picture, what only one has in colour (> x.svg)
@@ -51,7 +51,7 @@ fn tell_cut(sheet: &Sheet) -> Result<String, Refusal> {
     if sheet.replaced {
         out.insert(0, "the typed outline is not that of the mesh, and was replaced".to_string());
     }
-    if torn.events.is_empty() {
+    if torn.events.iter().all(Event::is_mark) {
         out.push("nothing was cut".to_string());
     }
     let pieces = torn.mesh.list_pieces()?;

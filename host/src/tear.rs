@@ -41,6 +41,30 @@ pub enum Event {
         /// Its second end in the input.
         b: u32,
     },
+    /// The blade of a cut met the side from `a` to `b` of a triangle of the input, or that strap. Each element that finds it tells it, so a side of two triangles is
+    /// told twice; all of them stand before the other events.
+    Crossed {
+        /// The first corner, as the side was tested.
+        a: u32,
+        /// The second.
+        b: u32,
+        /// The point of the blade.
+        at: [f32; 2],
+        /// How far from `a`, as a fraction of the side.
+        t: f32,
+    },
+}
+impl Event {
+    /// Whether it tells where a blade went, and no change of the mesh.
+    ///
+    /// ```
+    /// use cutting_bench::Event;
+    /// assert!(Event::Crossed { a: 0, b: 1, at: [2.0, 0.0], t: 0.25 }.is_mark());
+    /// assert!(!Event::Removed { a: 0, b: 1 }.is_mark());
+    /// ```
+    pub fn is_mark(&self) -> bool {
+        matches!(self, Event::Crossed { .. })
+    }
 }
 
 /// What a call that gives a mesh gives.
@@ -107,6 +131,10 @@ fn event(w: &[u32]) -> Event {
         2 => Event::Removed { a: w[1], b: w[2] },
         3 => Event::Inserted { a: w[1], b: w[2], p: w[3], q: w[4], t: f32::from_bits(w[5]) },
         4 => Event::Opened { a: w[1], b: w[2] },
+        5 => {
+            let [x, y, t] = [w[3], w[4], w[5]].map(f32::from_bits);
+            Event::Crossed { a: w[1], b: w[2], at: [x, y], t }
+        }
         kind => unreachable!("the bench logs no entry of kind {kind}"),
     }
 }
@@ -126,7 +154,7 @@ fn torn(rooms: Rooms, call: impl FnOnce(&[u8], &mut [u8], &mut [u8]) -> u32) -> 
 }
 
 impl Mesh {
-    /// Cuts the mesh along a blade (x0, y0, x1, y1). `fraction`, from 0 to 0.5, is how near to a strap's end, as a part of the strap, it is cut at the end itself; a mesh of
+    /// Cuts the mesh along a blade (x0, y0, x1, y1), and marks where the blade crosses it. `fraction`, from 0 to 0.5, is how near to a strap's end, as a part of the strap, it is cut at the end itself; a mesh of
     /// triangles does not read it.
     ///
     /// ```
@@ -136,7 +164,8 @@ impl Mesh {
     /// strap.add_particle(8.0, 0.0);
     /// strap.add_edge(0, 1, true);
     /// let torn = strap.cut([2.0, -1.0, 2.0, 1.0], 0.1)?;
-    /// assert_eq!(torn.events, [Event::Inserted { a: 0, b: 1, p: 2, q: 3, t: 0.25 }]);
+    /// let crossed = Event::Crossed { a: 0, b: 1, at: [2.0, 0.0], t: 0.25 };
+    /// assert_eq!(torn.events, [crossed, Event::Inserted { a: 0, b: 1, p: 2, q: 3, t: 0.25 }]);
     /// assert_eq!(torn.mesh.pieces()?, 2);
     /// # Ok::<(), cutting_bench::Refusal>(())
     /// ```

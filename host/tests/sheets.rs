@@ -99,12 +99,13 @@ fn listing(torn: &Torn, replaced: bool) -> String {
         lines.push("outline replaced".to_string());
     }
     let told = |e: &Event| match e {
+        Event::Crossed { .. } => unreachable!("crossings are not listed"),
         Event::Split { copy, source } => (0, format!("split {copy} {source}")),
         Event::Removed { a, b } => (1, format!("edge {a} {b}")),
         Event::Inserted { a, b, p, q, .. } => (2, format!("insert {a} {b} {p} {q}")),
         Event::Opened { .. } => unreachable!("no cut opens a torn edge"),
     };
-    let mut entries: Vec<(i32, String)> = torn.events.iter().map(told).collect();
+    let mut entries: Vec<(i32, String)> = torn.events.iter().filter(|e| !e.is_mark()).map(told).collect();
     entries.sort_by_key(|(kind, _)| *kind);
     lines.extend(entries.into_iter().map(|(_, line)| line));
     lines.push(format!("particles {}", torn.mesh.particles.len()));

@@ -1,5 +1,5 @@
 //! The worked cases of docs/RULES.md, every refusal of docs/C-FUNCTIONS.md by its example, and what the crate promises of rooms and stack.
-use cutting_bench::{Edge, Event, Groups, MINIMUM_PIECE, Mesh, Refusal, Rooms, blade_hit, root};
+use cutting_bench::{Edge, Event, Groups, Hit, MINIMUM_PIECE, Mesh, Refusal, Rooms, blade_hit, root};
 
 /// The worked square of foam: two triangles on a diagonal, an edge along it and one across.
 fn square() -> Mesh {
@@ -23,8 +23,17 @@ fn ends(m: &Mesh) -> Vec<[u32; 2]> {
 fn the_worked_square() {
     let foam = square();
     let torn = foam.cut(DIAGONAL, 0.1).unwrap();
-    let happened =
-        [Event::Split { copy: 4, source: 0 }, Event::Removed { a: 1, b: 3 }, Event::Split { copy: 5, source: 2 }];
+    let crossed = |a, b, at, t| Event::Crossed { a, b, at, t };
+    // The blade goes through two corners; the sides that end there are met, the diagonal, which lies along it, is not.
+    let happened = [
+        crossed(0, 1, [0.0, 0.0], 0.0),
+        crossed(1, 2, [4.0, 4.0], 1.0),
+        crossed(0, 3, [0.0, 0.0], 0.0),
+        crossed(2, 3, [4.0, 4.0], 0.0),
+        Event::Split { copy: 4, source: 0 },
+        Event::Removed { a: 1, b: 3 },
+        Event::Split { copy: 5, source: 2 },
+    ];
     assert_eq!(torn.events, happened);
     assert!(torn.changed);
     assert_eq!(torn.mesh.particles.len(), 6);
@@ -49,7 +58,12 @@ fn the_worked_strap() {
     let masses: Vec<f32> = torn.mesh.particles.iter().map(|p| p.mass).collect();
     assert_eq!(masses, [0.25, 0.75, 0.25, 0.75]);
     assert_eq!(ends(&torn.mesh), [[0, 2], [3, 1]]);
-    assert_eq!(torn.events, [Event::Inserted { a: 0, b: 1, p: 2, q: 3, t: 0.25 }]);
+    let crossed = Event::Crossed { a: 0, b: 1, at: [2.0, 0.0], t: 0.25 };
+    assert_eq!(torn.events, [crossed, Event::Inserted { a: 0, b: 1, p: 2, q: 3, t: 0.25 }]);
+    // Near a loose end the strap is crossed, and stays whole.
+    let near = strap.cut([0.5, -1.0, 0.5, 1.0], 0.1).unwrap();
+    assert_eq!(near.events, [Event::Crossed { a: 0, b: 1, at: [0.5, 0.0], t: 0.0625 }]);
+    assert_eq!((near.changed, near.mesh), (false, strap));
     assert_eq!(torn.mesh.particles[2].position, [2.0, 0.0]);
 }
 
@@ -85,8 +99,9 @@ fn straps_at_a_shared_end() {
 #[test]
 fn blade_and_root() {
     let along = |blade| blade_hit(blade, [0.0, 0.0], [8.0, 0.0]);
-    assert_eq!(along([2.0, -1.0, 2.0, 1.0]), Ok(Some(0.25)));
-    assert_eq!(along([2.0, 0.0, 2.0, 1.0]), Ok(Some(0.25)));
+    let quarter = Hit { t: 0.25, at: [2.0, 0.0] };
+    assert_eq!(along([2.0, -1.0, 2.0, 1.0]), Ok(Some(quarter)));
+    assert_eq!(along([2.0, 0.0, 2.0, 1.0]), Ok(Some(quarter)));
     assert_eq!(along([3.0, 3.0, 3.0, 3.0]), Ok(None));
     assert_eq!(blade_hit([2.0, -1.0, 2.0, 1.0], [2.0, 0.0], [2.0, 5.0]), Ok(None));
     assert_eq!([0.0, 4.0, 0.25].map(root), [Ok(0.0), Ok(2.0), Ok(0.5)]);
@@ -142,8 +157,11 @@ fn every_refusal_by_its_example() {
     assert_eq!(cut(Rooms { edges: 2, ..all }), Err(Refusal::NoEdgeRoom));
     assert_eq!(cut(Rooms { boundary: 4, ..all }), Err(Refusal::NoBoundaryRoom));
     assert_eq!(cut(Rooms { log: 1, ..all }), Err(Refusal::NoLogRoom));
+    // The marks of the four crossings come before a split that lacks a particle.
+    assert_eq!(cut(Rooms { particles: 4, log: 3, ..all }), Err(Refusal::NoLogRoom));
+    assert_eq!(cut(Rooms { particles: 4, log: 4, ..all }), Err(Refusal::NoParticleRoom));
     // Just enough.
-    assert_eq!(cut(Rooms { particles: 6, triangles: 2, edges: 3, boundary: 6, log: 3 }), Ok(3));
+    assert_eq!(cut(Rooms { particles: 6, triangles: 2, edges: 3, boundary: 6, log: 7 }), Ok(7));
 }
 
 #[test]

@@ -131,5 +131,6 @@ call("bench_opens_without_confetti", [hexed(nothing), "0", "-", "3"], 4, 0, [1])
 for bits, lent, refusal, words in ((0, 4, 0, [0]), (0x40800000, 4, 0, [0x40000000]), (0x3e800000, 4, 0, [0x3f000000]), (0x80000000, 4, 0, [0x80000000]),
                                    (0x80000001, 4, 4, []), (0x7f800000, 4, 4, []), (0xff800000, 4, 4, []), (0x7fc00000, 4, 4, []), (0x40800000, 3, 4, [])):
     call("bench_root", ["%08x" % bits], lent, refusal, words)
-for x, refusal, words in ((2, 0, [1, 0x3e800000]), (9, 0, [0, 0]), (1048576, 0, [0, 0]), (NEXT, 2, []), (NAN, 2, []), (-INF, 2, [])):
-    call("bench_blade_hit", [b"".join(number(c) for c in (x, -1, x, 1, 0, 0, 8, 0)).hex()], 8, refusal, words)
+for x, lent, refusal, words in ((2, 16, 0, [1, 0x3e800000, 0x40000000, 0]), (2, 15, 4, []), (9, 16, 0, [0] * 4), (1048576, 16, 0, [0] * 4), (9, 15, 4, []),
+                                (NEXT, 16, 2, []), (NAN, 16, 2, []), (-INF, 16, 2, [])):
+    call("bench_blade_hit", [b"".join(number(c) for c in (x, -1, x, 1, 0, 0, 8, 0)).hex()], lent, refusal, words)

@@ -261,12 +261,14 @@ impl Mesh {
     }
 }
 
+/// What happened, in the Rust's words; `Met` is the bench's own: the blade met the pair (a, b) at the point (x, y), at fraction t.
 #[derive(Copy, Clone, Debug)]
 pub enum Entry {
     Split { copy: u32, source: u32 },
     Removed { a: u32, b: u32 },
     Insert { a: u32, b: u32, p: u32, q: u32, t: f32 },
     Opened { a: u32, b: u32 },
+    Met { a: u32, b: u32, x: f32, y: f32, t: f32 },
 }
 impl PartialEq for Entry {
     fn eq(&self, o: &Self) -> bool {
@@ -278,6 +280,9 @@ impl PartialEq for Entry {
             (Insert { a, b, p, q, t }, Insert { a: e, b: f, p: g, q: h, t: u }) => {
                 (a, b, p, q, t.to_bits()) == (e, f, g, h, u.to_bits())
             }
+            (Met { a, b, x, y, t }, Met { a: c, b: d, x: v, y: w, t: u }) => {
+                (a, b, [x, y, t].map(f32::to_bits)) == (c, d, [v, w, u].map(f32::to_bits))
+            }
             _ => false,
         }
     }
@@ -286,6 +291,8 @@ impl PartialEq for Entry {
 #[derive(Copy, Clone, Debug, PartialEq, Eq)]
 pub enum StepKind {
     Copy,
+    /// The crossings of a cut are marked.
+    Mark,
     Split,
     Insert,
     Remove,
@@ -341,12 +348,22 @@ impl Outcome {
 }
 
 /// Puts the separate lists of the source into the order of happening and finds the steps. `opened`
-/// belongs to the first splits, one each (a crack opens by exactly one `split_vertex`).
-fn derive(start: &Mesh, ops: Vec<Op>, log: PlainLog, body: &SoftBody) -> (Vec<Entry>, Vec<Step>) {
-    let mut out: Vec<Entry> = vec![];
+/// belongs to the first splits, one each (a crack opens by exactly one `split_vertex`). The marks of a cut
+/// (request L3, a step of the bench's own) stand before all else.
+fn derive(
+    start: &Mesh,
+    marks: Option<Vec<Entry>>,
+    ops: Vec<Op>,
+    log: PlainLog,
+    body: &SoftBody,
+) -> (Vec<Entry>, Vec<Step>) {
     let mut steps = vec![];
     let (mut np, mut ne, mut nb) = (start.px.len(), start.ea.len(), start.ba.len());
     steps.push(Step { kind: StepKind::Copy, particles: np, edges: ne, boundary: nb, log: 0 });
+    if let Some(m) = &marks {
+        steps.push(Step { kind: StepKind::Mark, particles: np, edges: ne, boundary: nb, log: m.len() });
+    }
+    let mut out = marks.unwrap_or_default();
     let (mut splits, mut removed) = (log.splits.iter(), log.removed.iter());
     let (mut inserted, mut opened) = (log.inserted.iter(), log.opened.iter());
     let mut t = f32::NAN;
@@ -459,10 +476,24 @@ fn derive(start: &Mesh, ops: Vec<Op>, log: PlainLog, body: &SoftBody) -> (Vec<En
     (out, steps)
 }
 
-fn finish(start: &Mesh, body: SoftBody, log: PlainLog) -> Outcome {
+fn finish(start: &Mesh, marks: Option<Vec<Entry>>, body: SoftBody, log: PlainLog) -> Outcome {
     let changed = !log.splits.is_empty() || !log.inserted.is_empty();
-    let (log, steps) = derive(start, journal::take(), log, &body);
+    let (log, steps) = derive(start, marks, journal::take(), log, &body);
     Outcome { changed, mesh: Mesh::from_body(&body), log, steps }
+}
+
+/// The marks of a blade's crossings on a mesh, by `blade_hit` in the order of the source's loops, and every point that it computed for them.
+fn crossings(m: &Mesh, blade: Blade) -> (Vec<Entry>, Vec<Vector>) {
+    let (mut marks, mut points) = (vec![], vec![]);
+    journal::hits();
+    access::tested(&m.to_body(None), blade.ends(), |a, b, hit| {
+        points.extend(journal::hits());
+        if let Some(t) = hit {
+            let p = points.last().expect("the point of a hit");
+            marks.push(Entry::Met { a, b, x: p.x, y: p.y, t });
+        }
+    });
+    (marks, points)
 }
 
 #[derive(Copy, Clone, Debug)]
@@ -490,10 +521,14 @@ pub fn cut(m: &Mesh, blade: Blade, fraction: f32) -> Outcome {
     let _g = journal::LOCK.lock().unwrap_or_else(|e| e.into_inner());
     journal::set_fraction(fraction);
     assert_eq!(access::fraction().to_bits(), fraction.to_bits());
+    let (marks, points) = crossings(m, blade);
     journal::start();
     let mut b = m.to_body(None);
     let log = access::cut_core(&mut b, blade.ends());
-    finish(m, b, log)
+    // The cut itself computed the same points, one by one: it looks in this order.
+    let bits = |l: &[Vector]| l.iter().map(|p| (p.x.to_bits(), p.y.to_bits())).collect::<Vec<_>>();
+    assert_eq!(bits(&journal::hits()), bits(&points));
+    finish(m, Some(marks), b, log)
 }
 
 /// The crate's whole `cut_topology`: the same, then (if anything was split or inserted) `damaged`
@@ -523,7 +558,7 @@ pub fn cut_whole(m: &Mesh, blade: Blade, fraction: f32) -> Outcome {
         .collect();
     assert_eq!(inserted.iter().flat_map(|&[_, _, p, q]| [p, q]).collect::<Vec<_>>(), event.inserted_particles);
     let log = PlainLog { splits: event.split_particles, removed: event.removed_edges, inserted, opened: vec![] };
-    let (log, steps) = derive(m, ops, log, &b);
+    let (log, steps) = derive(m, Some(crossings(m, blade).0), ops, log, &b);
     Outcome { changed: true, mesh: Mesh::from_body(&b), log, steps }
 }
 
@@ -531,7 +566,7 @@ pub fn crack(m: &Mesh, torn: &[u32], min_piece: Option<u32>) -> Outcome {
     journal::start();
     let mut b = m.to_body(min_piece);
     let (done, log) = access::crack(&mut b, torn);
-    let o = finish(m, b, log);
+    let o = finish(m, None, b, log);
     assert_eq!(o.changed, done);
     o
 }
@@ -554,7 +589,7 @@ pub fn split_fan(m: &Mesh, v: u32, sides: &[u32]) -> Outcome {
     journal::start();
     let mut b = m.to_body(None);
     let (done, log) = access::split_fan(&mut b, v, &sides_of(sides));
-    let o = finish(m, b, log);
+    let o = finish(m, None, b, log);
     assert_eq!(o.changed, done);
     o
 }
@@ -568,7 +603,7 @@ pub fn straddlers(m: &Mesh) -> Outcome {
     journal::start();
     let mut b = m.to_body(None);
     let log = access::straddlers(&mut b);
-    finish(m, b, log)
+    finish(m, None, b, log)
 }
 
 pub fn rest_measure(m: &Mesh) -> f32 {
@@ -577,8 +612,13 @@ pub fn rest_measure(m: &Mesh) -> f32 {
 pub fn rest_measure_of(m: &Mesh, particles: &[u32]) -> f32 {
     m.to_body(None).rest_measure_of(particles)
 }
-pub fn blade_hit(blade: Blade, px: f32, py: f32, qx: f32, qy: f32) -> Option<f32> {
-    access::blade_hit(blade.ends(), Vector::new(px, py), Vector::new(qx, qy))
+/// The fraction of a hit, and the point that was tested.
+pub fn blade_hit(blade: Blade, p: [f32; 2], q: [f32; 2]) -> Option<(f32, [f32; 2])> {
+    journal::hits();
+    let t = access::blade_hit(blade.ends(), Vector::new(p[0], p[1]), Vector::new(q[0], q[1]))?;
+    // The benchmark keeps no record of points.
+    let hit = journal::hits().last().copied().unwrap_or(Vector::ZERO);
+    Some((t, [hit.x, hit.y]))
 }
 
 /// The pieces of R8.3, which are bodies from request L2 on: the crate's own `connected_pieces` on the elements alone. It

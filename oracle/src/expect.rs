@@ -39,8 +39,8 @@ fn blade_hit(bytes: &[u8], out: usize) -> Expected {
         return Refused(2);
     }
     let blade = api::Blade::new(w[0], w[1], w[2], w[3]);
-    let t = api::blade_hit(blade, w[4], w[5], w[6], w[7]);
-    fitting(t.map_or(vec![0, 0], |t| vec![1, t.to_bits()]), out)
+    let hit = api::blade_hit(blade, [w[4], w[5]], [w[6], w[7]]);
+    fitting(hit.map_or(vec![0; 4], |(t, [x, y])| [1, t.to_bits(), x.to_bits(), y.to_bits()].to_vec()), out)
 }
 
 /// Check 4 on a particle and its sides.
@@ -109,6 +109,7 @@ pub fn log_words(log: &[api::Entry]) -> Vec<u32> {
         api::Entry::Removed { a, b } => [2, a, b, 0, 0, 0],
         api::Entry::Insert { a, b, p, q, t } => [3, a, b, p, q, t.to_bits()],
         api::Entry::Opened { a, b } => [4, a, b, 0, 0, 0],
+        api::Entry::Met { a, b, x, y, t } => [5, a, b, x.to_bits(), y.to_bits(), t.to_bits()],
     };
     log.iter().flat_map(entry).collect()
 }

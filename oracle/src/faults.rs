@@ -53,6 +53,12 @@ faults! {
     BladeZero: Reading,
     /// Offsets of one sign whose product underflows are a miss.
     BladeSigns: Reading,
+    /// The hit point is computed exactly and rounded once.
+    ExactPoint: Both,
+    /// The hit point is computed as an insertion's is.
+    LerpPoint: Both,
+    /// The hit point's y stands before its x.
+    PointTurned: Reading,
     /// A rest volume keeps its sign.
     SignedVolume: Reading,
     /// A strap counts by its rest length.
@@ -137,6 +143,20 @@ faults! {
     BladeAfterThree: Tearing,
     /// The bytes behind the log's entries are left as they were.
     DirtyLog: Tearing,
+    /// A side that two triangles hold is marked once.
+    MarksOnce: Tearing,
+    /// Crossings are marked in the order of their particles.
+    MarksByParticle: Tearing,
+    /// A mark names its pair the other way round.
+    MarksTurned: Tearing,
+    /// The marks stand behind the splits.
+    MarksBehind: Tearing,
+    /// A strap that is crossed near an end has no mark.
+    SnappedUnmarked: Tearing,
+    /// A mark counts as a change.
+    MarksChange: Tearing,
+    /// Room for the marks is asked with the first split only.
+    MarksUnasked: Tearing,
     /// A fan is told from its last element on.
     FanTurned: Hosting,
     /// A fan of straps counts structural edges, not places in the list.
@@ -173,6 +193,10 @@ faults! {
     SheetCutOff: Hosting,
     /// A listing is written as far as the bytes go.
     ListingCutOff: Hosting,
+    /// The marks of crossings are listed.
+    MarksListed: Hosting,
+    /// A listing has a log of 256 entries.
+    ShortListing: Hosting,
     /// The lines of a listing are in the log's order.
     ListingUnsorted: Hosting,
     /// The bytes behind an answer are left as they were.

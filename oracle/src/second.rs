@@ -41,7 +41,8 @@ fn normal(b: Blade) -> V2 {
 pub fn offset(b: Blade, p: V2) -> f32 {
     dot(normal(b), sub(p, (b.x0, b.y0)))
 }
-pub fn blade_hit(b: Blade, p: V2, q: V2) -> Option<f32> {
+/// The fraction of a hit, and the point that was tested.
+pub fn blade_hit(b: Blade, p: V2, q: V2) -> Option<(f32, V2)> {
     let (dp, dq) = (offset(b, p), offset(b, q));
     if dp * dq > 0.0 || dp == dq {
         return None;
@@ -53,19 +54,28 @@ pub fn blade_hit(b: Blade, p: V2, q: V2) -> Option<f32> {
     if t > 1.0 {
         t = 1.0;
     }
-    let (s, end) = along(b, p, q, t);
-    if s >= 0.0 && s <= end { Some(t) } else { None }
-}
-/// How far along the blade the hit point lies, and where the blade ends.
-fn along(b: Blade, p: V2, q: V2, t: f32) -> (f32, f32) {
     let step = sub(q, p);
     let hit = add(p, (step.0 * t, step.1 * t));
+    let (s, end) = along(b, hit);
+    if s >= 0.0 && s <= end { Some((t, misplaced(p, q, t).unwrap_or(hit))) } else { None }
+}
+/// How far along the blade a hit point lies, and where the blade ends.
+fn along(b: Blade, hit: V2) -> (f32, f32) {
     let d = sub((b.x1, b.y1), (b.x0, b.y0));
     (dot(sub(hit, (b.x0, b.y0)), d), dot(d, d))
 }
-/// Whether the hit point lies strictly between the blade's ends (a mistake to rule out).
-pub fn blade_inside(b: Blade, p: V2, q: V2, t: f32) -> bool {
-    let (s, end) = along(b, p, q, t);
+/// Another hit point: exact but for one rounding, or as insertions have theirs (two mistakes).
+fn misplaced(p: V2, q: V2, t: f32) -> Option<V2> {
+    let exact = |p: f32, q: f32| (p as f64 + (q as f64 - p as f64) * t as f64) as f32;
+    match () {
+        _ if has(ExactPoint) => Some((exact(p.0, q.0), exact(p.1, q.1))),
+        _ if has(LerpPoint) => Some(lerp(p, q, t)),
+        _ => None,
+    }
+}
+/// Whether a hit point lies strictly between the blade's ends (a mistake to rule out).
+pub fn blade_inside(b: Blade, hit: V2) -> bool {
+    let (s, end) = along(b, hit);
     s > 0.0 && s < end
 }
 
@@ -269,7 +279,12 @@ impl Run {
         self.steps.push(Step { kind, particles, edges, boundary, log });
     }
     fn done(self) -> Outcome {
-        let changed = self.log.iter().any(|e| matches!(e, Entry::Split { .. } | Entry::Insert { .. }));
+        let changes = |e: &Entry| match e {
+            Entry::Split { .. } | Entry::Insert { .. } => true,
+            Entry::Met { .. } => has(MarksChange),
+            Entry::Removed { .. } | Entry::Opened { .. } => false,
+        };
+        let changed = self.log.iter().any(changes);
         Outcome { changed, mesh: self.m, log: self.log, steps: self.steps }
     }
     fn splits(&self) -> Vec<(u32, u32)> {
@@ -529,6 +544,32 @@ impl Run {
         }
     }
 
+    /// Request L3: each pair that the blade meets, elements by number and the pairs of each in their order.
+    fn marks(&self, k: Kind, blade: Blade, fraction: f32) -> Vec<Entry> {
+        let mut marks = vec![];
+        for e in elements(&self.m, k) {
+            let c = corners(&self.m, k, e);
+            for i in 0..c.len() {
+                for j in i + 1..c.len() {
+                    let (a, b) = if has(MarksTurned) { (c[j], c[i]) } else { (c[i], c[j]) };
+                    let Some((t, (x, y))) = blade_hit(blade, pos(&self.m, c[i]), pos(&self.m, c[j])) else { continue };
+                    if has(SnappedUnmarked) && k == Kind::Straps && !(t >= fraction && t <= 1.0 - fraction) {
+                        continue;
+                    }
+                    marks.push(Entry::Met { a, b, x, y, t });
+                }
+            }
+        }
+        if has(MarksOnce) || has(MarksByParticle) { misordered(marks) } else { marks }
+    }
+    /// The marks as a step of their own.
+    fn mark(&mut self, k: Kind, blade: Blade, fraction: f32) {
+        self.log = self.marks(k, blade, fraction);
+        if !has(MarksUnasked) {
+            self.step(StepKind::Mark, self.m.ea.len(), self.m.ba.len());
+        }
+    }
+
     fn cut_facets(&mut self, blade: Blade) {
         let k = Kind::Triangles;
         let n = self.m.px.len();
@@ -555,7 +596,7 @@ impl Run {
     fn cut_segments(&mut self, blade: Blade, fraction: f32) {
         let crossings: Vec<(usize, f32)> = (0..self.m.ea.len())
             .filter(|&i| self.m.structural[i] == 1)
-            .filter_map(|i| blade_hit(blade, pos(&self.m, self.m.ea[i]), pos(&self.m, self.m.eb[i])).map(|t| (i, t)))
+            .filter_map(|i| blade_hit(blade, pos(&self.m, self.m.ea[i]), pos(&self.m, self.m.eb[i])).map(|h| (i, h.0)))
             .collect();
         let mut marked = vec![false; self.m.ea.len()];
         let mut snapped = vec![false; self.m.px.len()];
@@ -905,12 +946,32 @@ impl Run {
 
 pub fn cut(m: &Mesh, blade: Blade, fraction: f32) -> Outcome {
     let mut r = Run::new(m);
+    r.mark(kind(m), blade, fraction);
+    let marks = r.log.len();
     match kind(m) {
         Kind::Triangles => r.cut_facets(blade),
         Kind::Straps => r.cut_segments(blade, fraction),
         Kind::Nothing => {}
     }
+    if has(MarksBehind) {
+        r.log.rotate_left(marks);
+    }
     r.done()
+}
+/// Marks of sides that were met already left out, or the marks by their particles (two mistakes).
+fn misordered(marks: Vec<Entry>) -> Vec<Entry> {
+    let side = |e: &Entry| match *e {
+        Entry::Met { a, b, .. } => (a.min(b), a.max(b)),
+        _ => unreachable!("a mark"),
+    };
+    let mut out = marks.clone();
+    if has(MarksByParticle) {
+        out.sort_by_key(side);
+    } else {
+        let mut seen = vec![];
+        out.retain(|e| (!seen.contains(&side(e)), seen.push(side(e))).0);
+    }
+    out
 }
 /// `cut_topology`'s further steps.
 pub fn cut_whole(m: &Mesh, blade: Blade, fraction: f32) -> Outcome {

@@ -255,7 +255,7 @@ pub fn cutlist(bytes: &[u8], whole: bool) -> String {
         return refused(n);
     }
     let o = if whole { cut_whole(&m, blade, 0.1) } else { cut(&m, blade, 0.1) };
-    let n = o.refusal(Rooms { particles: 256, edges: 512, boundary: 512, log: 256 });
+    let n = o.refusal(Rooms { particles: 256, edges: 512, boundary: 512, log: 640 });
     if n != 0 {
         return refused(n);
     }

@@ -33,7 +33,8 @@ pub enum Answer {
     Number(u32),
     /// Bits, since NaN and -0 matter.
     Float(u32),
-    Hit(Option<u32>),
+    /// The fraction and the point.
+    Hit(Option<[u32; 3]>),
     /// By checks 1 to 4.
     Refused(u32),
 }
@@ -57,7 +58,9 @@ pub fn oracle(c: &Case) -> Answer {
         Call::RestMeasure => Answer::Float(rest_measure(m).to_bits()),
         Call::RestMeasureOf { list } => Answer::Float(rest_measure_of(m, list).to_bits()),
         Call::Pieces => Answer::Number(pieces(m)),
-        Call::BladeHit { blade, p, q } => Answer::Hit(blade_hit(*blade, p[0], p[1], q[0], q[1]).map(f32::to_bits)),
+        Call::BladeHit { blade, p, q } => {
+            Answer::Hit(blade_hit(*blade, *p, *q).map(|(t, [x, y])| [t, x, y].map(f32::to_bits)))
+        }
     }
 }
 pub fn second(c: &Case) -> Answer {
@@ -81,7 +84,8 @@ pub fn second(c: &Case) -> Answer {
         Call::RestMeasureOf { list } => Answer::Float(x::rest_measure_of(m, list).to_bits()),
         Call::Pieces => Answer::Number(x::pieces(m)),
         Call::BladeHit { blade, p, q } => {
-            Answer::Hit(x::blade_hit(*blade, (p[0], p[1]), (q[0], q[1])).map(f32::to_bits))
+            let hit = x::blade_hit(*blade, (p[0], p[1]), (q[0], q[1]));
+            Answer::Hit(hit.map(|(t, (x, y))| [t, x, y].map(f32::to_bits)))
         }
     }
 }
@@ -193,6 +197,7 @@ pub fn write_case(out: &mut String, c: &Case, a: &Answer) {
                         Entry::Removed { a, b } => writeln!(out, "r {a} {b}"),
                         Entry::Insert { a, b, p, q, t } => writeln!(out, "i {a} {b} {p} {q} {}", h(*t)),
                         Entry::Opened { a, b } => writeln!(out, "o {a} {b}"),
+                        Entry::Met { a, b, x, y, t } => writeln!(out, "m {a} {b} {} {} {}", h(*x), h(*y), h(*t)),
                     }
                     .unwrap();
                 }
@@ -204,7 +209,7 @@ pub fn write_case(out: &mut String, c: &Case, a: &Answer) {
         Answer::Number(n) => writeln!(out, "answer number {n}").unwrap(),
         Answer::Float(b) => writeln!(out, "answer float {}", h(f32::from_bits(*b))).unwrap(),
         Answer::Hit(None) => writeln!(out, "answer miss").unwrap(),
-        Answer::Hit(Some(b)) => writeln!(out, "answer hit {}", h(f32::from_bits(*b))).unwrap(),
+        Answer::Hit(Some(w)) => writeln!(out, "answer hit {}", hex_words(w)).unwrap(),
     }
     writeln!(out, "end").unwrap();
 }

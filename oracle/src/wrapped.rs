@@ -242,14 +242,17 @@ fn blade_hit(words: &[u8]) -> Answer {
     let b = Blade::new(f[0], f[1], f[2], f[3]);
     let (p, q) = ((f[4], f[5]), (f[6], f[7]));
     let (dp, dq) = (second::offset(b, p), second::offset(b, q));
-    let mut t = second::blade_hit(b, p, q);
+    let mut hit = second::blade_hit(b, p, q);
     if has(BladeOpenEnd) {
-        t = t.filter(|&t| second::blade_inside(b, p, q, t));
+        hit = hit.filter(|h| second::blade_inside(b, h.1));
     }
     if has(BladeSigns) && (dp > 0.0) == (dq > 0.0) && dp != 0.0 && dq != 0.0 {
-        t = None;
+        hit = None;
     }
-    Ok(t.map_or(vec![0, 0], |t| vec![1, if has(BladeZero) { (t + 0.0).to_bits() } else { t.to_bits() }]))
+    let Some((t, (x, y))) = hit else { return Ok(vec![0; 4]) };
+    let t = if has(BladeZero) { t + 0.0 } else { t };
+    let (x, y) = if has(PointTurned) { (y, x) } else { (x, y) };
+    Ok([1, t.to_bits(), x.to_bits(), y.to_bits()].to_vec())
 }
 
 fn groups(image: &[u8], v: u32, sides: &[u8]) -> Answer {
@@ -545,7 +548,8 @@ fn listing(bytes: &[u8]) -> Result<String, u32> {
     let (lists, replaced) = rows(bytes, if has(OtherLimits) { LIMITS } else { PROGRAM })?;
     let (m, blade) = sheet_mesh(&lists);
     let o = second::cut(&m, blade, 0.1);
-    match o.refusal(crate::api::Rooms { particles: 256, edges: 512, boundary: 512, log: 256 }) {
+    let log = if has(ShortListing) { 256 } else { 640 };
+    match o.refusal(crate::api::Rooms { particles: 256, edges: 512, boundary: 512, log }) {
         0 => {}
         no if replaced && has(LineBesideRefusal) => return Ok(format!("outline replaced\nrefused {no}\n")),
         no => return Err(no),
@@ -554,7 +558,8 @@ fn listing(bytes: &[u8]) -> Result<String, u32> {
         Entry::Split { copy, source } => (0, format!("split {copy} {source}\n")),
         Entry::Removed { a, b } => (1, format!("edge {a} {b}\n")),
         Entry::Insert { a, b, p, q, .. } => (2, format!("insert {a} {b} {p} {q}\n")),
-        Entry::Opened { .. } => (3, String::new()),
+        Entry::Met { a, b, .. } if has(MarksListed) => (3, format!("met {a} {b}\n")),
+        Entry::Opened { .. } | Entry::Met { .. } => (3, String::new()),
     };
     let mut lines: Vec<(i32, String)> = o.log.iter().map(line).collect();
     if !has(ListingUnsorted) {
@@ -598,6 +603,7 @@ fn log_words(log: &[Entry]) -> Vec<u32> {
         Entry::Removed { a, b } => [2, a, b, 0, 0, 0],
         Entry::Insert { a, b, p, q, t } => [3, a, b, p, q, t.to_bits()],
         Entry::Opened { a, b } => [4, a, b, 0, 0, 0],
+        Entry::Met { a, b, x, y, t } => [5, a, b, x.to_bits(), y.to_bits(), t.to_bits()],
     };
     log.iter().flat_map(words).collect()
 }

@@ -30,11 +30,11 @@ clampHigh t = cond (lt one t) one t
 abbrev pub hitPoint : Point → Point → Float → Point
 hitPoint p w t = plusOf p (timesOf w t)
 
--- the fraction t is a hit where the hit point lies between the blade's ends, both included
+-- the fraction t is a hit where the hit point lies between the blade's ends, both included; the hit carries that point
 abbrev pub hitAt : Point → Point → Point → Point → Float → Hit
 hitAt d b0 p w t =
     let s = dotOf (minusOf (hitPoint p w t) b0) d in
-    cond (le zero32 s && le s (dotOf d d)) (HitAt t) Miss
+    cond (le zero32 s && le s (dotOf d d)) (HitAt t (hitPoint p w t)) Miss
 
 -- by the offsets dp of p and dq of q: a miss where both are on one side, or equal
 abbrev pub crossAt : Point → Point → Point → Point → Float → Float → Hit

@@ -10,10 +10,10 @@ pub struct Point {
     pub y: f32,
 }
 
-// A miss, or a hit with the fraction of the edge at which it lies.
+// A miss, or a hit with the fraction of the edge at which it lies and the point that was tested.
 pub enum Hit {
     Miss,
-    Hit(f32),
+    Hit(f32, Point),
 }
 
 pub fn plus(a: Point, b: Point) -> Point
@@ -123,7 +123,7 @@ fn hit_at(d: Point, b0: Point, p: Point, w: Point, t: f32) -> Hit
     };
     let s = dot(minus(hit, b0), d);
     if s >= 0.0 && s <= dot(d, d) {
-        return Hit::Hit(t);
+        return Hit::Hit(t, hit);
     }
     Hit::Miss
 }

@@ -25,7 +25,7 @@ fn note_hit(hit: Hit, i: usize, m: usize, numbers: &mut [usize], ts: &mut [f32])
     requires { ⌜ (m < length (now numbers)) × (m < length (now ts)) ⌝ }
     ensures { λ r. ⌜ HitNoted hit i m (now (numbers .entry)) (now (numbers .exit)) (now (ts .entry)) (now (ts .exit)) r ⌝ }
 {
-    let Hit::Hit(t) = hit else {
+    let Hit::Hit(t, _) = hit else {
         return m;
     };
     numbers[m] = i;

@@ -1,23 +1,11 @@
 // An insertion as one step: the rooms are tested in their order, then every list is written, and the log.
-ghost use mathlib.Core.Path.{_≡_};
 ghost use lib.ListN.{length};
-ghost use lib.Ieee.{binary32, toBits};
 ghost use Rattle.insert.specs.Steps.{StepRoom, InsertTold};
 use crate::plan::Plan;
 use mesh::Counts;
 use mesh::Rooms;
 use work::Grown;
 use work::Ran;
-
-// The bits of a number.
-fn bits_of(x: f32) -> u32
-    ensures { λ r. ⌜ r ≡ toBits binary32 x ⌝ }
-{
-    if x != x {
-        return 2143289344;
-    }
-    f32::to_bits(x)
-}
 
 // The insertion that is planned, in the mesh whose counts are k.
 pub fn insert(
@@ -62,7 +50,7 @@ pub fn insert(
         b as u32,
         n as u32,
         (n + 1) as u32,
-        bits_of(plan.at),
+        work::notes::bits_of(plan.at),
         log,
     );
     Ran::Done(Counts {

@@ -36,7 +36,7 @@ fn mark_pair(b0: Point, b1: Point, x: usize, y: usize, points: &[f32], marks: &m
     ensures { λ _. ⌜ MarkedBy (metIn (bladeFrom b0 b1) (now (points .entry)) (x, y)) (now (marks .entry)) (now (marks .exit)) ⌝ }
 {
     let hit = blade::blade_hit(b0, b1, place(x, points), place(y, points));
-    let Hit::Hit(_) = hit else {
+    let Hit::Hit(_, _) = hit else {
         return;
     };
     mark(x, marks);

@@ -5,7 +5,7 @@ use lib.ListN.{getD}
 use lib.Ieee.{Float, binary32, toBits}
 use Rattle.lists.specs.Lists.{tab, each}
 use Rattle.model.specs.Mesh.{Mesh}
-use Rattle.model.specs.Run.{Entry, split, edge, insert, opened}
+use Rattle.model.specs.Run.{Entry, split, edge, insert, opened, met}
 use Rattle.mesh.specs.At.{meshAt}
 use Rattle.mesh.specs.declared.Counts.{Counts}
 
@@ -18,12 +18,13 @@ pub record Words : Type 0 where
   pub q : ℕ
   pub t : ℕ
 
--- 1: copy and source; 2: the ends of a removed edge; 3: the ends, the two new particles and the bits of the fraction; 4: the ends of an opened torn edge; a word that an entry has no use for is 0
+-- 1: copy and source; 2: the ends of a removed edge; 3: the ends, the two new particles and the bits of the fraction; 4: the ends of an opened torn edge; 5: the ends of a pair that the blade met, and the bits of the hit point's x and y and of the fraction; a word that an entry has no use for is 0
 abbrev pub wordsOf : Entry → Words
 wordsOf (split c v) = record { kind = 1; a = c; b = v; p = 0; q = 0; t = 0 }
 wordsOf (edge a b) = record { kind = 2; a = a; b = b; p = 0; q = 0; t = 0 }
 wordsOf (insert a b p q t) = record { kind = 3; a = a; b = b; p = p; q = q; t = toBits binary32 t }
 wordsOf (opened a b) = record { kind = 4; a = a; b = b; p = 0; q = 0; t = 0 }
+wordsOf (met a b h t) = record { kind = 5; a = a; b = b; p = toBits binary32 (h .x); q = toBits binary32 (h .y); t = toBits binary32 t }
 
 -- the words of entry k of a log
 abbrev pub entryRow : List ℕ → ℕ → Words

@@ -14,7 +14,7 @@ use Rattle.blade.specs.Points.{centroidOf, lerpOf}
 use Rattle.blade.specs.Blade.{offsetOf, bladeHit}
 use Rattle.model.specs.Mesh.{Particle, Edge, Side, Mesh}
 use Rattle.model.specs.Elements.{Kind, Triangles, Straps, Nothing, Element, particle, edgeAt, placeOf, restOf, endsOf, farEnd, besides, sum, structural?, elementsOf, fanOf}
-use Rattle.model.specs.Run.{edge, insert, Run, stepTo, splitsOf}
+use Rattle.model.specs.Run.{Entry, edge, insert, met, Run, stepTo, splitsOf}
 use Rattle.model.specs.Split.{Opening, openingOf, made, weighed, onlyAt, splitStep, splitBySides}
 
 -- a blade from `from` to `to`
@@ -29,7 +29,7 @@ meets B M x y = bladeHit (B .from) (B .to) (placeOf M x) (placeOf M y)
 -- is it a hit
 abbrev pub hit? : Hit → Bool
 hit? Miss = false
-hit? (HitAt t) = true
+hit? (HitAt t p) = true
 
 -- a point's offset from the blade: above 0 to the left
 abbrev pub offset : Blade → Point → Float
@@ -105,7 +105,7 @@ pub record Crossing : Type 0 where
 -- a miss ends the look at that pair at once
 abbrev pub crossingAt : ℕ → Hit → List Crossing
 crossingAt i Miss = []
-crossingAt i (HitAt t) = record { number = i; t = t } ∷ []
+crossingAt i (HitAt t p) = record { number = i; t = t } ∷ []
 
 -- the crossings of the straps, in edge order
 unfoldable pub crossings : Blade → Mesh → List Crossing
@@ -327,8 +327,33 @@ afterCrossings B (strapping R marked snapped) = fold (splitSnapped B) (unbent ma
 unfoldable pub cutSegments : Blade → Float → Run → Run
 cutSegments B f R = afterCrossings B (fold (crossed f) (strapping R [] []) (crossings B (R .mesh)))
 
--- the one cut entry: `cut_facets` for triangles, `cut_segments` for straps
+-- ---- the marks of the crossings
+
+-- the mark of a pair that the blade meets: the pair as it was tested, the hit point and the fraction; a miss has none
+abbrev pub markAt : ℕ × ℕ → Hit → List Entry
+markAt xy Miss = []
+markAt xy (HitAt t p) = met (xy .0) (xy .1) p t ∷ []
+
+-- the mark of a pair of corners, if the blade meets it
+abbrev pub markOf : Blade → Mesh → ℕ × ℕ → List Entry
+markOf B M xy = markAt xy (meets B M (xy .0) (xy .1))
+
+-- the marks of the crossings on a mesh, elements by number and the pairs of each in their order: once for each element that finds it
+unfoldable pub marksOf : Kind → Blade → Mesh → List Entry
+marksOf k B M = each (λ (e : Element). each (markOf B M) (pairs (e .corners))) (elementsOf k M)
+
+-- they are noted in a step of their own, which changes nothing else
+unfoldable pub markedBy : Kind → Blade → Run → Run
+markedBy k B R = stepTo R (R .mesh) (marksOf k B (R .mesh)) (length (R .mesh .edges)) (length (R .mesh .boundary))
+
+-- ---- the one cut entry
+
+-- `cut_facets` for triangles, `cut_segments` for straps
+unfoldable pub cutAlong : Kind → Blade → Float → Run → Run
+cutAlong Triangles B f R = cutFacets B R
+cutAlong Straps B f R = cutSegments B f R
+cutAlong Nothing B f R = R
+
+-- the crossings are marked, and then the mesh is cut
 unfoldable pub cut : Kind → Blade → Float → Run → Run
-cut Triangles B f R = cutFacets B R
-cut Straps B f R = cutSegments B f R
-cut Nothing B f R = R
+cut k B f R = cutAlong k B f (markedBy k B R)

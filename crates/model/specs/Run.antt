@@ -4,15 +4,17 @@ use mathlib.Core.Bool.{Bool, true, false}
 use mathlib.Core.List.{List, [], _∷_, _++_}
 use lib.ListN.{length}
 use lib.Ieee.{Float}
+use Rattle.blade.specs.declared.Point.{Point}
 use Rattle.model.specs.Mesh.{Mesh}
 use Rattle.lists.specs.Lists.{any, each}
 
--- copy c of v; removed edge (a, b); (a, b) became (a, p) and (q, b) at t; the torn edge that was (a, b) in the input opened
+-- copy c of v; removed edge (a, b); (a, b) became (a, p) and (q, b) at t; the torn edge that was (a, b) in the input opened; the blade met the pair (a, b) at a point, at fraction t
 pub data Entry : Type 0 where
   split : ℕ → ℕ → Entry
   edge : ℕ → ℕ → Entry
   insert : ℕ → ℕ → ℕ → ℕ → Float → Entry
   opened : ℕ → ℕ → Entry
+  met : ℕ → ℕ → Point → Float → Entry
 
 -- the places that a step needs: particles, boundary and log behind it, edges (and boundary that goes) at their longest in it
 pub record Need : Type 0 where
@@ -63,6 +65,7 @@ splitOf (split c v) = (c, v) ∷ []
 splitOf (edge a b) = []
 splitOf (insert a b p q t) = []
 splitOf (opened a b) = []
+splitOf (met a b p t) = []
 
 -- of the whole log
 unfoldable pub splitsOf : List Entry → List (ℕ × ℕ)
@@ -74,6 +77,7 @@ changes (split c v) = true
 changes (edge a b) = false
 changes (insert a b p q t) = true
 changes (opened a b) = false
+changes (met a b p t) = false
 
 -- in the whole log
 unfoldable pub changed : Run → Bool

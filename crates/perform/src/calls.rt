@@ -1,6 +1,9 @@
 // A call that gives a mesh: its input copied to the lent blocks, and worked on there.
 ghost use mathlib.Core.List.{[]};
 ghost use Rattle.model.specs.Elements.{kindOf};
+ghost use Rattle.model.specs.Cut.{cut};
+ghost use Rattle.elements.specs.Table.{kindIs};
+ghost use Rattle.marks.specs.Marking.{bladeFrom};
 ghost use Rattle.model.specs.Calls.{refusal};
 ghost use Rattle.mesh.specs.At.{meshAt};
 ghost use Rattle.mesh.specs.Log.{worldAt};
@@ -10,6 +13,8 @@ ghost use Rattle.work.specs.Working.{Roomed, Ready, Works, Logged};
 ghost use Rattle.answer.specs.Framed.{RoomsLent, Begun, Came};
 ghost use Rattle.jobs.specs.Jobs.{jobNumbers, jobArguments, jobRun, jobCall};
 ghost use Rattle.perform.specs.Asks.{JobAsked};
+use blade::Point;
+use elements::Kind;
 use jobs::Job;
 use jobs::checks;
 use mesh::Counts;
@@ -73,6 +78,62 @@ pub fn begin(
     )
 }
 
+// The cut along a blade: its crossings are noted, and then the mesh is cut.
+fn cut_marked(
+    b0: Point,
+    b1: Point,
+    f: f32,
+    kind: Kind,
+    k: Counts,
+    room: Rooms,
+    points: &mut [f32],
+    roots: &mut [usize],
+    corners: &mut [usize],
+    volumes: &[f32],
+    ends: &mut [usize],
+    lengths: &mut [f32],
+    outline: &mut [usize],
+    log: &mut [u32],
+) -> Ran
+    requires { ⌜ Ready room k (lent (now points) (now roots) (now corners) (now volumes) (now ends) (now lengths) (now outline) (now log)) (meshAt k (now points) (now roots) (now corners) (now volumes) (now ends) (now lengths) (now outline)) × Logged (k .log) (now log) ⌝ }
+    ensures { λ r. ⌜ Works (cut (kindIs kind) (bladeFrom b0 b1) f) room
+        (worldAt k (now (points .entry)) (now (roots .entry)) (now (corners .entry)) (now (volumes .entry)) (now (ends .entry)) (now (lengths .entry)) (now (outline .entry)) (now (log .entry)))
+        (λ q. worldAt q (now (points .exit)) (now (roots .exit)) (now (corners .exit)) (now (volumes .entry)) (now (ends .exit)) (now (lengths .exit)) (now (outline .exit)) (now (log .exit))) r ⌝ }
+{
+    let ran = crossmarks::note_crossings(
+        kind,
+        b0,
+        b1,
+        k,
+        room,
+        points,
+        roots,
+        corners,
+        volumes,
+        ends,
+        lengths,
+        outline,
+        log,
+    );
+    let Ran::Done(counts) = ran else {
+        return ran;
+    };
+    strap::kinds::run(
+        Pass::Blade(b0, b1, f),
+        kind,
+        counts,
+        room,
+        points,
+        roots,
+        corners,
+        volumes,
+        ends,
+        lengths,
+        outline,
+        log,
+    )
+}
+
 // Does to the mesh in the lent blocks what is to be done.
 pub fn work(
     job: Job,
@@ -121,8 +182,10 @@ pub fn work(
             outline,
             log,
         ),
-        Job::Cut(b0, b1, f) => strap::kinds::run(
-            Pass::Blade(b0, b1, f),
+        Job::Cut(b0, b1, f) => cut_marked(
+            b0,
+            b1,
+            f,
             kind,
             k,
             room,

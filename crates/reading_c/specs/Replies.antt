@@ -38,10 +38,10 @@ abbrev pub groupsWords : Read (List ℕ × ℕ) → Read (List ℕ)
 groupsWords (refused n) = refused n
 groupsWords (value gs) = value (gs .1 ∷ gs .0)
 
--- a blade test: 1 and the bits of the fraction, or 0 and 0 for a miss
+-- a blade test: 1 and the bits of the fraction and of the hit point's x and y, or 0 0 0 0 for a miss
 abbrev pub hitWords : Hit → List ℕ
-hitWords Miss = 0 ∷ 0 ∷ []
-hitWords (HitAt t) = 1 ∷ toBits binary32 t ∷ []
+hitWords Miss = 0 ∷ 0 ∷ 0 ∷ 0 ∷ []
+hitWords (HitAt t p) = 1 ∷ toBits binary32 t ∷ toBits binary32 (p .x) ∷ toBits binary32 (p .y) ∷ []
 
 abbrev pub testedWords : Read Hit → Read (List ℕ)
 testedWords (refused n) = refused n

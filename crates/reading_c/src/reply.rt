@@ -83,10 +83,12 @@ pub fn reply_tested(a: Tested, out: &mut [u8]) -> u32
         }
         Tested::Tested(h) => match h {
             Hit::Miss => {
-                return replies::reply_two(0, 0, out);
+                let none = [0usize; 3];
+                return replies::reply_words(0, &none, out);
             }
-            Hit::Hit(t) => {
-                return replies::reply_two(1, image::bits_of(t), out);
+            Hit::Hit(t, p) => {
+                let found = [image::bits_of(t), image::bits_of(p.x), image::bits_of(p.y)];
+                return replies::reply_words(1, &found, out);
             }
         },
     }

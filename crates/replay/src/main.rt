@@ -368,6 +368,6 @@ fn replay(bytes: &mut [u8], out: &mut [u8], log: &mut [u8]) {
 fn main() {
     let mut space = room();
     let mut out = [0u8; 32880];
-    let mut log = [0u8; 1056];
+    let mut log = [0u8; 1200];
     replay(&mut space, &mut out, &mut log);
 }

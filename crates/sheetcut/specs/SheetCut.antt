@@ -23,9 +23,9 @@ use Rattle.listing.specs.declared.Written.{Written}
 abbrev pub limits : Counts
 limits = record { particles = 128; triangles = 128; edges = 256; boundary = 256 }
 
--- twice those particle, edge and boundary places are lent, as many triangle places, and 256 log entries
+-- twice those particle, edge and boundary places are lent, as many triangle places, and 640 log entries: those of a cut, and a mark for each pair of a triangle's corners
 abbrev pub rooms : Rooms
-rooms = record { particles = 256; triangles = 128; edges = 512; boundary = 512; log = 256 }
+rooms = record { particles = 256; triangles = 128; edges = 512; boundary = 512; log = 640 }
 
 -- the insertion fraction 0.1: the f32 with the bits 0x3dcccccd
 unfoldable pub fraction : Float

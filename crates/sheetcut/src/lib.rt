@@ -155,7 +155,7 @@ fn list_blocks(
     let mut cut_ends = [0usize; 2048];
     let mut cut_lengths = [0.0f32; 2048];
     let mut cut_outline = [0usize; 1024];
-    let mut log = [0u32; 1536];
+    let mut log = [0u32; 3840];
     let a = bench::tearing::cut(
         b0,
         b1,

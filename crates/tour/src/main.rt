@@ -120,13 +120,24 @@ fn say_split(copy: usize, source: usize) {
     say(b"\n");
 }
 
-// The fraction is told by the bits of an f32; those of 0.25 are 1,048,576,000.
+// The fraction is told by the bits of an f32; those of 0.25 are 1,048,576,000, those of 1 are 1,065,353,216, those of minus zero 2,147,483,648.
 fn say_fraction(bits: usize) {
     if bits == 1048576000 {
         say(b", at 0.25 of its length\n");
+    } else if bits == 1065353216 {
+        say(b", at its second end\n");
+    } else if bits % 2147483648 == 0 {
+        say(b", at its first end\n");
     } else {
         say(b", elsewhere\n");
     }
+}
+
+fn say_crossing(a: usize, b: usize, bits: usize) {
+    say_what(b"  crossed ", a, b);
+    say(b": the blade meets ");
+    say_pair(a, b);
+    say_fraction(bits);
 }
 
 fn say_insert(a: usize, b: usize, p: usize, q: usize, bits: usize) {
@@ -156,9 +167,11 @@ fn say_entry(kind: u32, a: u32, b: u32, p: u32, q: u32, bits: u32) {
             q as usize,
             bits as usize,
         );
-    } else {
+    } else if kind == 4 {
         say_what(b"  opened ", a as usize, b as usize);
         say(b": the torn edge opened\n");
+    } else {
+        say_crossing(a as usize, b as usize, bits as usize);
     }
 }
 

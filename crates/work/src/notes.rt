@@ -3,7 +3,18 @@ ghost use mathlib.Core.Path.{_≡_};
 ghost use Prim.Native.Nat.{_+_, _/_, _<_};
 ghost use mathlib.Core.List.{[], _∷_, _++_};
 ghost use lib.ListN.{length};
+ghost use lib.Ieee.{binary32, toBits};
 ghost use Rattle.mesh.specs.Log.{logAt};
+
+// The bits of a number.
+pub fn bits_of(x: f32) -> u32
+    ensures { λ r. ⌜ r ≡ toBits binary32 x ⌝ }
+{
+    if x != x {
+        return 2143289344;
+    }
+    f32::to_bits(x)
+}
 
 // Writes the six words of an entry behind the n that are there.
 pub fn note(n: usize, kind: u32, a: u32, b: u32, p: u32, q: u32, t: u32, log: &mut [u32])

@@ -1,5 +1,5 @@
 //! bench [--self] [--only NAME]: median times of the C functions, or of one, and of the published Rust on the same meshes.
-use crate::api::{Blade, Mesh, blade_hit, kind};
+use crate::api::{Blade, Mesh, kind};
 use crate::dynamics::soft_body::tearing::access;
 use crate::dynamics::soft_body::tearing::access::PlainLog;
 use crate::dynamics::soft_body::{SoftBody, SoftBodyEdgeKind};
@@ -9,6 +9,7 @@ use crate::fans::fans;
 use crate::image::{Image, words, words_of};
 use crate::inputs::{need, rope, soup};
 use crate::journal::set_fraction;
+use crate::math::Vector;
 use crate::meshgen::grid;
 use crate::rng::Rng;
 use crate::second;
@@ -207,7 +208,8 @@ fn rust_alone(c: &Raw, m: &Mesh) -> f64 {
         }),
         Entry::BladeHit => median(once, || {
             let w = black_box(&w);
-            black_box(blade_hit(Blade::new(w[0], w[1], w[2], w[3]), w[4], w[5], w[6], w[7]));
+            let (p, q) = (Vector::new(w[4], w[5]), Vector::new(w[6], w[7]));
+            black_box(access::blade_hit(Blade::new(w[0], w[1], w[2], w[3]).ends(), p, q));
         }),
         Entry::Groups => median(once, || {
             black_box(access::groups(black_box(&body), c.number, &sides));
@@ -264,7 +266,7 @@ fn torn(c: &Raw, body: &mut SoftBody) -> PlainLog {
         _ => access::straddlers(body),
     }
 }
-/// The same work as ours but for the room of each step and the order of the log: decoding, checks 1
+/// The same work as ours but for the room of each step, the order of the log and the marks of a cut: decoding, checks 1
 /// to 4, building the body, the source's function, the result's image, the log's words.
 fn torn_from_image(c: &Raw) -> Option<(Vec<u32>, Vec<u32>)> {
     let mut body = checked(c).ok()?.to_body(Some(c.minimum));
@@ -332,7 +334,7 @@ pub fn run(words: &[String]) -> i32 {
     println!();
     println!("\"Rust alone\": the published function on a body that stands ready. \"Rust from the image\": the same");
     println!("work as ours, that is decoding, checks 1 to 4, building the body, the published function; where a mesh");
-    println!("is given also its image and the log's words, but not the room of each step.");
+    println!("is given also its image and the log's words, but not the room of each step, nor the marks of a cut.");
     println!();
     println!(
         "\"The work apart\", where a mesh is given: ours less an idle call, in which nothing is split but decoding,"
@@ -388,7 +390,7 @@ fn torn_row(t: &Table, r: &Row, idle: Option<&Raw>) {
     let whole = |c: &Raw| {
         black_box(torn_from_image(c));
     };
-    row(t, &format!("{} ({entries} log entries)", r.name), &r.mesh, &r.call, whole, idle);
+    row(t, &format!("{} ({entries} log entries of the Rust)", r.name), &r.mesh, &r.call, whole, idle);
 }
 fn row(t: &Table, name: &str, m: &Mesh, c: &Raw, whole: impl Fn(&Raw), idle: Option<&Raw>) {
     let alone = rust_alone(c, m);

@@ -229,6 +229,9 @@ fn cuts_of_triangles(o: &mut Out) {
     // a centroid on the blade that falls to a side by rounding
     let c = tris(&[(0., 0.), (0., 1.), (1., 4.), (1., -1.)], &[[1, 2, 0], [0, 2, 3]]);
     o.put("a centroid on the blade", &c, cut_by([0., 0., 1., 5.], 0.1));
+    // a side that two triangles find, and points that are not the exact ones, rounded
+    let pinned = with(&q, |m| (m.px[0], m.py[1], m.px[2], m.py[2], m.inv) = (0.1, 0.7, 4.7, 4.9, vec![0.0; 4]));
+    o.put("pinned all around: marked and left whole", &pinned, cut_by([0.3, -0.7, 3.1, 5.], 0.1));
     o.section(4);
     o.put("a grid with all edges, blade along a line of particles", &grid(), cut_by([1., -1., 1., 2.], 0.1));
     o.put("a grid with all edges, slanted blade", &grid(), cut_by([0.9, -0.5, 1.2, 1.5], 0.1));
@@ -266,6 +269,7 @@ fn cuts_of_straps(o: &mut Out) {
     o.put("not pinned by the insertion before", &y, cut_by([4., -0.4, -2., 0.8], 0.1));
     let heavy = with(&y, |m| (m.mass[0], m.mass[1]) = (1048576.0, 1048576.0));
     o.put("a mass that goes out of range", &heavy, cut_by([6., -1., 6., 1.], 0.1));
+    o.put("near a loose end: marked and left whole", &st, cut_by([0.3, -1., 0.5, 1.], 0.1));
 }
 
 fn cracks(o: &mut Out) {
@@ -377,19 +381,22 @@ fn rooms(o: &mut Out) {
     let diagonal = || cut_by([-1., -1., 5., 5.], 0.1);
     let middle = || cut_by([6., -1., 6., 1.], 0.1);
     let lent = |particles, edges, boundary, log| Rooms { particles, edges, boundary, log };
-    o.room("5: the second split lacks a particle", &q, diagonal(), lent(5, 2, 6, 3));
-    o.room("6: edges at their longest", &q, diagonal(), lent(6, 2, 6, 3));
-    o.room("7: boundary", &q, diagonal(), lent(6, 3, 5, 3));
-    o.room("8: log", &q, diagonal(), lent(6, 3, 6, 2));
-    o.room("0: just enough", &q, diagonal(), lent(6, 3, 6, 3));
+    o.room("5: the second split lacks a particle", &q, diagonal(), lent(5, 2, 6, 7));
+    o.room("6: edges at their longest", &q, diagonal(), lent(6, 2, 6, 7));
+    o.room("7: boundary", &q, diagonal(), lent(6, 3, 5, 7));
+    o.room("8: log", &q, diagonal(), lent(6, 3, 6, 6));
+    o.room("0: just enough", &q, diagonal(), lent(6, 3, 6, 7));
     o.room("6: the copy of the input comes first", &q, diagonal(), lent(4, 1, 6, 3));
     o.room("6: an insertion lacks an edge", &r, middle(), lent(6, 6, 6, 9));
-    o.room("0: an insertion has just enough", &r, middle(), lent(6, 7, 5, 3));
-    o.room("8: the bend edges lack log", &r, middle(), lent(6, 7, 5, 2));
+    o.room("0: an insertion has just enough", &r, middle(), lent(6, 7, 5, 4));
+    o.room("8: the bend edges lack log", &r, middle(), lent(6, 7, 5, 3));
     o.room("5: three groups are one step", &three(), split(0, &[1, 0, 0]), lent(7, 9, 9, 0));
     o.room("8: three groups lack log", &three(), split(0, &[1, 0, 0]), lent(8, 9, 9, 1));
     o.room("8: an opened edge lacks log", &rope(&[(0., 0.), (1., 0.), (2., 0.), (3., 0.)]), crack_of(&[1], Some(1)), lent(9, 9, 9, 1));
     o.room("8: straddlers lack log", &two(), Call::Straddlers, lent(9, 9, 9, 0));
+    o.room("8: four marks come before a split that lacks a particle", &q, diagonal(), lent(4, 2, 4, 3));
+    o.room("5: the marks have just enough", &q, diagonal(), lent(4, 2, 4, 4));
+    o.room("8: the mark of a strap that is left whole", &rope(&[(0., 0.), (8., 0.)]), cut_by([0.3, -1., 0.5, 1.], 0.1), lent(9, 9, 9, 0));
 }
 
 pub fn run(words: &[String]) -> i32 {

@@ -77,15 +77,18 @@ pub fn run() -> i32 {
         t.is(&format!("one element, side {side}: unchanged"), (o.changed, o.mesh == one), (false, true));
     }
     let b = Blade::new(2., -1., 2., 1.);
-    t.is("blade (2,-1)-(2,1), edge (0,0)-(8,0): t is 0.25", blade_hit(b, 0., 0., 8., 0.), Some(0.25));
-    t.is("the same blade, edge (2,0)-(2,5): miss", blade_hit(b, 2., 0., 2., 5.), None);
-    t.is("blade (2,0)-(2,1), edge (0,0)-(8,0): hit", blade_hit(Blade::new(2., 0., 2., 1.), 0., 0., 8., 0.), Some(0.25));
-    t.is("blade (3,3)-(3,3), edge (0,0)-(8,0): miss", blade_hit(Blade::new(3., 3., 3., 3.), 0., 0., 8., 0.), None);
+    let met = Some((0.25, [2., 0.]));
+    let of = |b: Blade| blade_hit(b, [0., 0.], [8., 0.]);
+    t.is("blade (2,-1)-(2,1), edge (0,0)-(8,0): t is 0.25, at (2,0)", of(b), met);
+    t.is("the same blade, edge (2,0)-(2,5): miss", blade_hit(b, [2., 0.], [2., 5.]), None);
+    t.is("blade (2,0)-(2,1), edge (0,0)-(8,0): hit", of(Blade::new(2., 0., 2., 1.)), met);
+    t.is("blade (3,3)-(3,3), edge (0,0)-(8,0): miss", of(Blade::new(3., 3., 3., 3.)), None);
     let st = strap((0., 0.), (8., 0.), 8.0);
     let o = cut(&st, b, 0.1);
     t.is("that strap: masses", o.mesh.mass.clone(), vec![0.25, 0.75, 0.25, 0.75]);
     t.is("that strap: edges", o.mesh.edges(), vec![(0, 2), (3, 1)]);
-    t.is("that strap: log", o.log.clone(), vec![Entry::Insert { a: 0, b: 1, p: 2, q: 3, t: 0.25 }]);
+    let crossing = Entry::Met { a: 0, b: 1, x: 2., y: 0., t: 0.25 };
+    t.is("that strap: log", o.log.clone(), vec![crossing, Entry::Insert { a: 0, b: 1, p: 2, q: 3, t: 0.25 }]);
     t.is("roots of 0, 4, 0.25", [0f32.sqrt(), 4f32.sqrt(), 0.25f32.sqrt()], [0.0, 2.0, 0.5]);
     let mut many = Mesh::default();
     for i in 0..1024 {

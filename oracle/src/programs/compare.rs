@@ -13,7 +13,7 @@ use std::hash::{DefaultHasher, Hash, Hasher};
 use std::io::Write;
 
 /// The number of the layout of images, logs, fields and results that this program speaks.
-const LAYOUT: u32 = 2;
+const LAYOUT: u32 = 3;
 
 /// What is wrong with the answer to an input, if anything.
 fn wrong(t: &Table, i: &Input) -> Option<String> {

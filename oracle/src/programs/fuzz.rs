@@ -56,7 +56,7 @@ pub fn run(words: &[String]) -> i32 {
             Call::BladeHit { .. } => "call blade_hit",
         });
         match &a {
-            Answer::Hit(Some(b)) if *b == 0x8000_0000 => hit("hit with t = -0"),
+            Answer::Hit(Some([t, ..])) if *t == 0x8000_0000 => hit("hit with t = -0"),
             Answer::Hit(Some(_)) => hit("hit"),
             Answer::Hit(None) => hit("miss"),
             Answer::Flag(Some(true)) => hit("opens: yes"),
@@ -73,8 +73,8 @@ pub fn run(words: &[String]) -> i32 {
             if o.mesh != c.mesh {
                 hit("NOT CHANGED, YET THE MESH DIFFERS");
             }
-            if !o.log.is_empty() {
-                hit("NOT CHANGED, YET A LOG ENTRY");
+            if o.log.iter().any(|e| !matches!(e, Entry::Met { .. })) {
+                hit("NOT CHANGED, YET A LOG ENTRY OTHER THAN A MARK");
             }
         }
         let splits = o.log.iter().filter(|e| matches!(e, Entry::Split { .. })).count();
@@ -98,6 +98,12 @@ pub fn run(words: &[String]) -> i32 {
                     }
                 }
                 Entry::Opened { .. } => hit("entry opened"),
+                Entry::Met { x, y, t, .. } => {
+                    hit("entry met");
+                    if [x, y, t].iter().any(|x| x.is_nan()) {
+                        hit("A MARK THAT IS NO NUMBER");
+                    }
+                }
             }
         }
         for w in o.log.windows(2) {

@@ -91,8 +91,8 @@ fn rim(r: &mut Rng) -> Sheet {
 }
 /// A sheet of any shape, small or up to cutlist's limits (now and then beyond).
 fn sound(r: &mut Rng) -> Sheet {
-    if r.chance(16) {
-        return [slit, crowd, book, rim][r.below(4) as usize](r);
+    if r.chance(12) {
+        return [slit, crowd, book, rim, knot][r.below(5) as usize](r);
     }
     let mesh = match r.below(12) {
         0 => {
@@ -147,7 +147,25 @@ fn sound(r: &mut Rng) -> Sheet {
     }
     s
 }
-/// A strip slit lengthwise, with many edges across the diagonals: its log may be too long.
+/// Doubled triangles at one particle on the blade, each crossed at all its sides, and behind them a square slit along its diagonal, with many edges
+/// across: the log may be too long.
+fn knot(r: &mut Rng) -> Sheet {
+    let n = 48 + r.below(14);
+    let wing = |k: u32| [(1 + k as i32 % 8, 1 + k as i32 % 3, 0), (1 + k as i32 % 7, -1 - k as i32 % 2, 0)];
+    let square = [(10, 0, 0), (12, -2, 0), (14, 0, 0), (12, 2, 0)];
+    let s = 1 + 2 * n;
+    Sheet {
+        particles: [(0, 0, 0)].into_iter().chain((0..n).flat_map(wing)).chain(square).collect(),
+        triangles: (0..2 * n)
+            .map(|k| [0, 1 + 2 * (k % n), 2 + 2 * (k % n)])
+            .chain([[s, s + 1, s + 2], [s, s + 2, s + 3]])
+            .collect(),
+        edges: vec![(s + 1, s + 3, 0); r.pick(&[0, 256, 256])],
+        boundary: vec![],
+        blade: [-1, 0, 16, 0],
+    }
+}
+/// A strip slit lengthwise, with many edges across the diagonals: its log is long.
 fn slit(r: &mut Rng) -> Sheet {
     let n = 2 + r.below(14);
     let quad = |x: u32| [x, x + 1, n + x + 2, n + x + 1];

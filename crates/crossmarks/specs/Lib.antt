@@ -1,0 +1,2 @@
+-- The marks of a blade's crossings, as words of a log.
+pub mod Noting
