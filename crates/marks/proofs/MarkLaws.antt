@@ -20,7 +20,7 @@ use Rattle.columns.specs.Block.{cell}
 use Rattle.columns.proofs.Cells.{col-0, col-1}
 use Rattle.model.specs.Mesh.{Triangle, Mesh}
 use Rattle.model.specs.Elements.{Triangles, Element, cornersOf, trianglesFrom, elementsOf}
-use Rattle.model.specs.Run.{Entry, split, edge, insert, opened, Run, splitOf, splitsOf}
+use Rattle.model.specs.Run.{Entry, split, edge, insert, opened, met, Run, splitOf, splitsOf}
 use Rattle.model.specs.Cut.{Blade, hit?, meets, ifMet, splitEnds, nearCorners}
 use Rattle.mesh.specs.At.{trianglesAt}
 use Rattle.mesh.specs.Log.{wordsOf, entryRow, logAt}
@@ -211,6 +211,7 @@ words-ends (split c v ∷ l) = ap (λ (t : List ℕ). c ∷ v ∷ t) (words-ends
 words-ends (edge a b ∷ l) = words-ends l
 words-ends (insert a b p q t ∷ l) = words-ends l
 words-ends (opened a b ∷ l) = words-ends l
+words-ends (met a b p t ∷ l) = words-ends l
 
 -- does it have a split
 words-split : (l : List Entry) → any splitWords (map wordsOf l) ≡ not (empty (each splitOf l))
@@ -220,6 +221,7 @@ words-split (split c v ∷ l) = refl
 words-split (edge a b ∷ l) = words-split l
 words-split (insert a b p q t ∷ l) = words-split l
 words-split (opened a b ∷ l) = words-split l
+words-split (met a b p t ∷ l) = words-split l
 
 pub near-done : (l i : ℕ) (log near : List ℕ) → i ≡ l → Marks (each endsIn (tab i (entryRow log))) near → NearMarked l log near
 unfolding logAt splitEnds splitsOf
