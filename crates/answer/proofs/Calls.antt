@@ -9,7 +9,7 @@ use lib.Ieee.{Float}
 use Rattle.lists.specs.Lists.{any, tab}
 use Rattle.lists.proofs.Stores.{tab-length}
 use Rattle.model.specs.Mesh.{Mesh}
-use Rattle.model.specs.Run.{Entry, split, edge, insert, opened, Run, start, changes, changed}
+use Rattle.model.specs.Run.{Entry, split, edge, insert, opened, met, Run, start, changes, changed}
 use Rattle.model.specs.Calls.{firstFault, Outcome, refused, done, fitted, outcome, unless}
 use Rattle.model.proofs.Steps.{Onward, refused-early}
 use Rattle.mesh.specs.At.{meshAt, trianglesAt, boundaryAt}
@@ -39,6 +39,7 @@ words-tell (split c v ∷ l) = refl
 words-tell (edge a b ∷ l) = words-tell l
 words-tell (insert a b p q t ∷ l) = refl
 words-tell (opened a b ∷ l) = words-tell l
+words-tell (met a b p t ∷ l) = words-tell l
 
 -- ---- what a worker came to, and the outcome
 

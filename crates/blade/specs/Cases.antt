@@ -38,9 +38,9 @@ pub record Case : Type 0 where
 
 abbrev pub cases : List Case
 cases =
-    record { asked = blade (at (pos 2) (negsuc 0)) (at (pos 2) (pos 1)) (at (pos 0) (pos 0)) (at (pos 8) (pos 0)); wanted = hit (HitAt quarter) }
+    record { asked = blade (at (pos 2) (negsuc 0)) (at (pos 2) (pos 1)) (at (pos 0) (pos 0)) (at (pos 8) (pos 0)); wanted = hit (HitAt quarter (at (pos 2) (pos 0))) }
     ∷ record { asked = blade (at (pos 2) (negsuc 0)) (at (pos 2) (pos 1)) (at (pos 2) (pos 0)) (at (pos 2) (pos 5)); wanted = hit Miss }
-    ∷ record { asked = blade (at (pos 2) (pos 0)) (at (pos 2) (pos 1)) (at (pos 0) (pos 0)) (at (pos 8) (pos 0)); wanted = hit (HitAt quarter) }
+    ∷ record { asked = blade (at (pos 2) (pos 0)) (at (pos 2) (pos 1)) (at (pos 0) (pos 0)) (at (pos 8) (pos 0)); wanted = hit (HitAt quarter (at (pos 2) (pos 0))) }
     ∷ record { asked = blade (at (pos 3) (pos 3)) (at (pos 3) (pos 3)) (at (pos 0) (pos 0)) (at (pos 8) (pos 0)); wanted = hit Miss }
     ∷ record { asked = rootOf' (ofInt binary32 (pos 0)); wanted = rooted (Value (ofInt binary32 (pos 0))) }
     ∷ record { asked = rootOf' (ofInt binary32 (pos 4)); wanted = rooted (Value (ofInt binary32 (pos 2))) }
@@ -48,6 +48,6 @@ cases =
     ∷ record { asked = rootOf' (ofInt binary32 (negsuc 0)); wanted = rooted Refused }
     ∷ record { asked = rootOf' (fin true 0 (pos 0)); wanted = rooted (Value (fin true 0 (pos 0))) }
     -- t is minus zero; and two tiny offsets of one side, whose product underflows, count as a hit
-    ∷ record { asked = blade (at (pos 0) (pos 0)) (at (pos 1) (pos 0)) (at (pos 0) (pos 0)) (at (pos 0) (pos 1)); wanted = hit (HitAt (fin true 0 (pos 0))) }
-    ∷ record { asked = blade (at (pos 0) (pos 0)) (at (pos 1) (pos 0)) record { x = ofInt binary32 (pos 0); y = fin false 1 (negsuc 99) } record { x = ofInt binary32 (pos 1); y = fin false 1 (negsuc 100) }; wanted = hit (HitAt (ofInt binary32 (pos 1))) }
+    ∷ record { asked = blade (at (pos 0) (pos 0)) (at (pos 1) (pos 0)) (at (pos 0) (pos 0)) (at (pos 0) (pos 1)); wanted = hit (HitAt (fin true 0 (pos 0)) (at (pos 0) (pos 0))) }
+    ∷ record { asked = blade (at (pos 0) (pos 0)) (at (pos 1) (pos 0)) record { x = ofInt binary32 (pos 0); y = fin false 1 (negsuc 99) } record { x = ofInt binary32 (pos 1); y = fin false 1 (negsuc 100) }; wanted = hit (HitAt (ofInt binary32 (pos 1)) record { x = ofInt binary32 (pos 1); y = fin false 1 (negsuc 100) }) }
     ∷ []

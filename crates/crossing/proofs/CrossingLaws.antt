@@ -60,9 +60,9 @@ module _ (b0 b1 : Point) (i : ℕ) (points : List Float) (ends : List ℕ) where
 pub noted-miss : (hit : Hit) (i m : ℕ) (numbers : List ℕ) (ts : List Float) → hit ≡ Miss → HitNoted hit i m numbers numbers ts ts m
 noted-miss hit i m numbers ts e = record { is = sym (append-nil _) ∙ ap (λ (h : Hit). crossed-in m numbers ts ++ crossingAt i h) (sym e); least = omega arith; most = omega arith }
 
-pub noted-hit : (hit : Hit) (t : Float) (i m : ℕ) (numbers : List ℕ) (ts : List Float) → hit ≡ HitAt t → m < length numbers → m < length ts
+pub noted-hit : (hit : Hit) (t : Float) (p : Point) (i m : ℕ) (numbers : List ℕ) (ts : List Float) → hit ≡ HitAt t p → m < length numbers → m < length ts
     → HitNoted hit i m numbers (set numbers m i) ts (set ts m t) (m + 1)
-noted-hit hit t i m numbers ts e h l =
+noted-hit hit t p i m numbers ts e h l =
     record {
       is =
           rows-push m (λ j. record { number = getD numbers j 0; t = getD ts j nan }) (λ j. record { number = getD (set numbers m i) j 0; t = getD (set ts m t) j nan }) (record { number = i; t = t })

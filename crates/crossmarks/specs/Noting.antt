@@ -1,12 +1,11 @@
 -- Marks of crossings in the words of a log, read off lent blocks. Only contracts between workers need this file. Definitions only.
-use Prim.Native.Nat.{ℕ, _+_, _/_, _<_, _≤_}
+use Prim.Native.Nat.{ℕ, _+_, _*_, _/_, _<_, _≤_}
 use mathlib.Core.Path.{_≡_}
 use mathlib.Core.List.{List, [], _∷_, _++_, map}
-use lib.ListN.{length}
+use lib.ListN.{length, getD}
 use lib.Dec.{eqb}
 use lib.Ieee.{Float}
-use Rattle.lists.specs.Lists.{pick, each, pairs, upTo}
-use Rattle.columns.specs.Block.{cell}
+use Rattle.lists.specs.Lists.{pick, each, pairs, tab, upTo}
 use Rattle.blade.specs.Blade.{bladeHit}
 use Rattle.model.specs.Cut.{Blade, markAt}
 use Rattle.mesh.specs.Log.{Words, wordsOf, logAt}
@@ -24,37 +23,40 @@ rowMarks B points row = each (pairMarks B points) (pairs row)
 -- those of the first t triangles of a block
 unfoldable pub triangleMarks : Blade → List Float → ℕ → List ℕ → List Words
 triangleMarks B points t corners =
-    let R = length corners / 3 in
-    each (λ i. rowMarks B points (cell 0 R corners 0 i ∷ cell 0 R corners 1 i ∷ cell 0 R corners 2 i ∷ [])) (upTo t)
+    each (rowMarks B points) (tab t (λ i. getD corners i 0 ∷ getD corners (length corners / 3 + i) 0 ∷ getD corners (2 * (length corners / 3) + i) 0 ∷ []))
 
--- those of the straps among the first e edges of a block
+-- those of edge i of a block, if it is a strap
+unfoldable pub strapMark : Blade → List Float → List ℕ → ℕ → List Words
+strapMark B points ends i = pick (eqb (getD ends (2 * (length ends / 4) + i) 0) 1) (pairMarks B points (getD ends i 0, getD ends (length ends / 4 + i) 0)) []
+
+-- those of the first e edges
 unfoldable pub strapMarks : Blade → List Float → ℕ → List ℕ → List Words
-strapMarks B points e ends =
-    let R = length ends / 4 in
-    each (λ i. pick (eqb (cell 0 R ends 2 i) 1) (pairMarks B points (cell 0 R ends 0 i, cell 0 R ends 1 i)) []) (upTo e)
+strapMarks B points e ends = each (strapMark B points ends) (upTo e)
 
 -- behind the n entries of a log come these: r in all, and if the log has room for r they stand there
 pub record Noted (more : List Words) (n : ℕ) (log log′ : List ℕ) (r : ℕ) : Type 0 where
   pub count : r ≡ n + length more
   pub entries : r ≤ length log / 6 → logAt r log′ ≡ logAt n log ++ more
 
--- x and y have places among lp numbers, and n is small
+-- x and y have places among lp numbers, and all three are small
 pub record PairRoom (x y n lp : ℕ) : Type 0 where
   pub first : x < lp / 6
   pub second : y < lp / 6
   pub small : (x < 65536) × (y < 65536)
   pub few : n < 65536
 
--- the corners of t triangles have places, and n is small
+-- the corners of t triangles are among particles that have places, and all numbers are small
 pub record TriangleRoom (t n lp : ℕ) (corners : List ℕ) : Type 0 where
   pub columns : t ≤ length corners / 3
-  pub corners-in : CornersIn (lp / 6) t corners
-  pub small : CornersIn 1024 t corners
+  pub particles : ℕ
+  pub corners-in : CornersIn particles t corners
+  pub places : (particles ≤ 1024) × (particles ≤ lp / 6)
   pub few : (t ≤ 1024) × (n ≤ 4096)
 
--- the ends of e edges have places, and n is small
+-- the ends of e edges are among particles that have places, and all numbers are small
 pub record StrapRoom (e n lp : ℕ) (ends : List ℕ) : Type 0 where
   pub columns : e ≤ length ends / 4
-  pub ends-in : EndsIn (lp / 6) e ends
-  pub small : EndsIn 1024 e ends
+  pub particles : ℕ
+  pub ends-in : EndsIn particles e ends
+  pub places : (particles ≤ 1024) × (particles ≤ lp / 6)
   pub few : (e ≤ 2048) × (n ≤ 4096)

@@ -28,7 +28,8 @@ use Rattle.work.proofs.Runs.{works-stay, works-then, works-refused, works-known
 use Rattle.cut.specs.declared.facets.Parting.the-variants.{Free, Blade as BladeFrom}
 use Rattle.marks.specs.Marking.{bladeFrom, candidateEnds, CandidateRoom, CandidatesMarked, NearMarked, pinchedEnds, PinchedRoom, PinchedMarked}
 use Rattle.cut.specs.Running.{sidesIn, splitIn, Chosen}
-use Rattle.cut.proofs.RunLaws.{chosen-rising, works-when, splitTo, places-at}
+use Rattle.cut.proofs.RunLaws.{chosen-rising, works-when, splitTo}
+use Rattle.marks.proofs.MarkLaws.{places-at}
 
 -- ---- the marked
 

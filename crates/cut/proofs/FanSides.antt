@@ -24,7 +24,7 @@ use Rattle.cut.specs.declared.facets.Parting.the-variants.{Free, Blade a
 use Rattle.marks.specs.Marking.{bladeFrom}
 use Rattle.marks.specs.Sided.{SidesRoom, SidesBy}
 use Rattle.cut.specs.Running.{sidesIn, SidesFor}
-use Rattle.cut.proofs.RunLaws.{places-at}
+use Rattle.marks.proofs.MarkLaws.{places-at}
 
 -- ---- the sides of a fan
 

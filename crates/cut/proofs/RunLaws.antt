@@ -11,9 +11,7 @@ use lib.Ieee.{Float}
 use Rattle.lists.specs.Lists.{pick, stands, sift, fold, tab, upTo, rising}
 use Rattle.lists.proofs.Sifts.{pick-by, sift-append, fold-append, tab-take, upTo-length, upTo-at}
 use Rattle.lists.proofs.Steps.{sift-step}
-use Rattle.lists.proofs.Stores.{tab-at}
-use Rattle.model.specs.Mesh.{Particle, blank}
-use Rattle.model.specs.Elements.{Kind, placeOf}
+use Rattle.model.specs.Elements.{Kind}
 use Rattle.model.specs.Valid.{indicesFit}
 use Rattle.model.specs.Run.{Entry, Run, stepTo}
 use Rattle.model.specs.Split.{Opening, openingOf, splits?, splitMade, splitStep, splitBySides, settled, atLongest}
@@ -22,7 +20,6 @@ use Rattle.model.proofs.Steps.{Onward, onward-fold, sides-onward}
 use Rattle.model.proofs.Traced.{copied-length}
 use Rattle.model.proofs.Indexed.{Indexed, sides-indexed, fold-indexed}
 use Rattle.model.proofs.Accepted.{accepted-indexed, indexed-accepted}
-use Rattle.mesh.specs.At.{meshAt, particlesAt}
 use Rattle.mesh.specs.Log.{World, worldOf, wordsOf}
 use Rattle.mesh.specs.Given.{Lent, asRooms}
 use Rattle.mesh.specs.declared.Counts.{Counts}
@@ -33,7 +30,7 @@ use Rattle.work.specs.declared.Ran.the-variants.{Refused, Done}
 use Rattle.work.proofs.Runs.{works-stay, works-then, works-refused}
 use Rattle.elements.proofs.Measures.{sift-agree}
 use Rattle.cut.specs.declared.facets.Parting.{Parting}
-use Rattle.marks.specs.Marking.{Marks, PlacesIn, marked?}
+use Rattle.marks.specs.Marking.{Marks, marked?}
 use Rattle.cut.specs.Running.{sidesIn, splitIn, splitIf, chosen}
 
 -- ---- the particles that are chosen
@@ -190,10 +187,3 @@ module _ (w : Parting) (K : Kind) (L : Rooms) (marks : List ℕ) where
 
     pub words-at : at k .log ≡ map wordsOf entries-at
     words-at = ap (λ (x : World). x .log) (went-to .2)
-
--- ---- the places of a mesh in blocks
-
-pub places-at : (k : Counts) (points : List Float) (roots corners : List ℕ) (volumes : List Float) (ends : List ℕ) (lengths : List Float) (outline : List ℕ)
-    → PlacesIn (meshAt k points roots corners volumes ends lengths outline) (k .particles) points
-unfolding placeOf meshAt particlesAt
-places-at k points roots corners volumes ends lengths outline w h = ap (λ (p : Particle). record { x = p .x; y = p .y }) (tab-at (k .particles) _ w blank h)

@@ -19,7 +19,7 @@ use Rattle.model.specs.Elements.{Kind, Triangles, Element, kindOf, particle, co
 use Rattle.model.specs.Run.{Entry, Rooms, Run, start, stepTo, splitsOf}
 use Rattle.model.specs.Split.{Opening, openingOf, splits?, portion, onlyAt, copied, rewiredTriangles, atLongest, settled, straddles, splitEntries, goneEntries, splitMade, splitStep, splitBySides}
 use Rattle.model.specs.Pieces.{bodyLabels, across?, withoutStraddlers, straddlersGone, removeStraddlers}
-use Rattle.model.specs.Cut.{Blade, splitEnds, nearCorners, splitByBlade, candidates, pinched, splitFree, splitPinched, cutFacets, cut}
+use Rattle.model.specs.Cut.{Blade, splitEnds, nearCorners, splitByBlade, candidates, pinched, splitFree, splitPinched, cutFacets, markedBy, cutAlong, cut}
 use Rattle.model.specs.Crack.{loadsOf, tornEnds, crackEdge, crack}
 use Rattle.model.specs.Calls.{bladeOk, fractionOk, trianglesLent, outcome, done, cutCall, crackCall}
 use Rattle.model.specs.Trace.{All, Sound}
@@ -283,11 +283,11 @@ either : (S R : Run) (b : Bool) → empty (splitsOf (S .log)) ≡ b → Closed S
 either S R true e C = nobody S e
 either S R false e C = C
 
-cut-closed : (B : Blade) (M : Mesh) → Indexed M → Closed (cutBegins B M) (cutFacets B (start M))
-unfolding cutFacets cutBegins splitByBlade start
+cut-closed : (B : Blade) (M : Mesh) → Indexed M → Closed (cutBegins B M) (cutFacets B (markedBy Triangles B (start M)))
+unfolding cutFacets cutBegins splitByBlade markedBy stepTo start
 cut-closed B M X =
     let S = cutBegins B M in
-    let Y : Indexed (S .mesh) = fold-indexed (splitByBlade Triangles B) (λ R v Z. sides-indexed Triangles v _ R Z) (start M) (candidates B M) X in
+    let Y : Indexed (S .mesh) = fold-indexed (splitByBlade Triangles B) (λ R v Z. sides-indexed Triangles v _ R Z) (markedBy Triangles B (start M)) (candidates B M) X in
     either S (splitPinched Triangles S) (empty (splitsOf (S .log))) refl (pass-firm S Y)
 
 crack-closed : (min : ℕ) (is : List ℕ) (M : Mesh) → Indexed M → Closed (crackBegins min is M) (crack Triangles min is (start M))
@@ -302,9 +302,9 @@ crack-closed min is M X =
 
 -- ---- for the reader: the two runs begin the closing pass there, if anything split, and go on with it
 
-pub cut-begins : (B : Blade) (M : Mesh) → cutFacets B (start M) ≡ pick (empty (splitsOf (cutBegins B M .log))) (cutBegins B M) (splitPinched Triangles (cutBegins B M))
-unfolding cutFacets cutBegins start
-cut-begins B M = refl
+pub cut-begins : (B : Blade) (f : Float) (M : Mesh) → cut Triangles B f (start M) ≡ pick (empty (splitsOf (cutBegins B M .log))) (cutBegins B M) (splitPinched Triangles (cutBegins B M))
+unfolding cut cutAlong cutFacets cutBegins markedBy stepTo start
+cut-begins B f M = refl
 
 pub crack-begins : (min : ℕ) (is : List ℕ) (M : Mesh)
     → crack Triangles min is (start M) ≡ pick (empty (splitsOf (crackBegins min is M .log))) (crackBegins min is M) (removeStraddlers Triangles (splitPinched Triangles (crackBegins min is M)))
@@ -317,11 +317,11 @@ crack-begins min is M = refl
 -- the pass makes, is pinned or has all its triangles joined.
 pub cut-firm : (sized : Bool) (M : Mesh) (B : Blade) (f : Float) (L : Rooms) (M′ : Mesh) (log : List Entry) (c : Bool) → kindOf M ≡ Triangles → cutCall sized M B f L ≡ done M′ log c
     → (x : ℕ) → SpokenOf (cutBegins B M) log x → Firm M′ x
-unfolding cutCall cut
+unfolding cutCall cut cutAlong
 cut-firm sized M B f L M′ log c k e x s =
     let u = unless-done _ _ M′ log c e in
     let P = no-refusal sized M (bladeOk B) (fractionOk f && trianglesLent L M) (u .0) in
-    let d = outcome-done L (cutFacets B (start M)) M′ log c (subst (λ (q : Kind). outcome L (cut q B f (start M)) ≡ done M′ log c) k (u .1)) in
+    let d = outcome-done L (cutFacets B (markedBy Triangles B (start M))) M′ log c (subst (λ (q : Kind). outcome L (cut q B f (start M)) ≡ done M′ log c) k (u .1)) in
     subst (λ (N : Mesh). Firm N x) (d .0) (cut-closed B M (accepted-indexed M (P .indices)) x (subst (λ (l : List Entry). SpokenOf (cutBegins B M) l x) (sym (d .1)) s))
 
 -- the same for a crack

@@ -18,7 +18,7 @@ use Rattle.model.specs.Mesh.{Triangle, Edge, Mesh}
 use Rattle.model.specs.Elements.{Kind, Triangles, Element, kindOf, cornersOf, triangleElement, trianglesFrom, elementsOf}
 use Rattle.model.specs.Run.{Entry, Rooms, Run, start, stepTo, splitsOf}
 use Rattle.model.specs.Split.{Opening, openingOf, splits?, copyFor, groupAt, rewiredTriangles, straddles, atLongest, settled, splitEntries, goneEntries, splitMade, splitStep, splitBySides}
-use Rattle.model.specs.Cut.{Blade, splitEnds, nearCorners, splitByBlade, candidates, pinched, splitFree, splitPinched, cutFacets, cut}
+use Rattle.model.specs.Cut.{Blade, splitEnds, nearCorners, splitByBlade, candidates, pinched, splitFree, splitPinched, cutFacets, markedBy, cutAlong, cut}
 use Rattle.model.specs.Calls.{bladeOk, fractionOk, trianglesLent, outcome, done, cutCall}
 use Rattle.model.proofs.Traced.{copiesFrom, step-splits, splits-here, at-below, opening-fits}
 use Rattle.model.proofs.Indexed.{Indexed, sides-indexed}
@@ -295,11 +295,12 @@ nobody-near S x e c =
     by [] h y s = false-true s
     by (cs ∷ l) h y s = false-true h
 
-cut-fine : (B : Blade) (M : Mesh) → Indexed M → Unpinched M → (x : ℕ) → Firm (cutFacets B (start M) .mesh) x
-unfolding cutFacets start
+cut-fine : (B : Blade) (M : Mesh) → Indexed M → Unpinched M → (x : ℕ) → Firm (cutFacets B (markedBy Triangles B (start M)) .mesh) x
+unfolding cutFacets markedBy stepTo start
 cut-fine B M X U x =
-    let S = fold (splitByBlade Triangles B) (start M) (candidates B M) in
-    by S (cut-indexed B (candidates B M) (start M) X) (fine-cut B (candidates B M) (start M) X (λ y. inr (U y)) x) (empty (splitsOf (S .log))) refl
+    let R = markedBy Triangles B (start M) in
+    let S = fold (splitByBlade Triangles B) R (candidates B M) in
+    by S (cut-indexed B (candidates B M) R X) (fine-cut B (candidates B M) R X (λ y. inr (U y)) x) (empty (splitsOf (S .log))) refl
   where
     by : (S : Run) → Indexed (S .mesh) → Fine S x → (b : Bool) → empty (splitsOf (S .log)) ≡ b → Firm (pick b S (splitPinched Triangles S) .mesh) x
     by S Y F true e = inr (nobody-near S x e F)
@@ -310,9 +311,9 @@ cut-fine B M X U x =
 -- An accepted cut of triangles in which no corner was pinched: after it every particle, near or far, is pinned or has all its triangles joined.
 pub cut-all-firm : (sized : Bool) (M : Mesh) (B : Blade) (f : Float) (L : Rooms) (M′ : Mesh) (log : List Entry) (c : Bool) → kindOf M ≡ Triangles → Unpinched M → cutCall sized M B f L ≡ done M′ log c
     → (x : ℕ) → Firm M′ x
-unfolding cutCall cut
+unfolding cutCall cut cutAlong
 cut-all-firm sized M B f L M′ log c k U e x =
     let u = unless-done _ _ M′ log c e in
     let P = no-refusal sized M (bladeOk B) (fractionOk f && trianglesLent L M) (u .0) in
-    let d = outcome-done L (cutFacets B (start M)) M′ log c (subst (λ (q : Kind). outcome L (cut q B f (start M)) ≡ done M′ log c) k (u .1)) in
+    let d = outcome-done L (cutFacets B (markedBy Triangles B (start M))) M′ log c (subst (λ (q : Kind). outcome L (cut q B f (start M)) ≡ done M′ log c) k (u .1)) in
     subst (λ (N : Mesh). Firm N x) (d .0) (cut-fine B M (accepted-indexed M (P .indices)) U x)

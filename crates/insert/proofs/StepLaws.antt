@@ -5,9 +5,8 @@ use mathlib.Core.Path.{_≡_, refl, sym, ap, ap₂, _∙_, subst}
 use mathlib.Core.Bool.{true}
 use mathlib.Core.List.{List, [], _∷_, _++_, map, map-append}
 use lib.ListN.{length, length-append, length-map}
-use lib.Dec.{eqb, T}
-use lib.Ieee.{Float, binary32, ne, toBits}
-use lib.Ieee.Compare.{differs-from-itself}
+use lib.Dec.{eqb}
+use lib.Ieee.{Float, binary32, toBits}
 use borrow.Author.Tests.{ne-eqb, lt-ltb, le-ltb, leb-false, leb-true}
 use Rattle.lists.specs.Lists.{pick, mapAt, each}
 use Rattle.lists.proofs.Rows.{length-mapAt}
@@ -34,13 +33,6 @@ use Rattle.insert.specs.Sides.{SidesInserted}
 use Rattle.insert.specs.Inserts.{EdgesInserted, ParticlesInserted}
 use Rattle.insert.specs.Steps.{StepRoom, InsertTold}
 use Rattle.insert.specs.declared.plan.Plan.{Plan}
-
--- ---- the bits of a number
-
--- a number that differs from itself has the pattern that the definition names
-pub nan-bits : (x : Float) → ne x x ≡ true → 2143289344 ≡ toBits binary32 x
-unfolding toBits
-nan-bits x h = subst (λ (z : Float). 2143289344 ≡ toBits binary32 z) (sym (differs-from-itself x (subst T (sym h) tt))) refl
 
 -- ---- which room lacks
 

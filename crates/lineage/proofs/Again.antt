@@ -23,7 +23,7 @@ use Rattle.model.specs.Elements.{Triangles, kindOf, elementsOf, farEnd, endsOf,
 use Rattle.model.specs.Run.{Entry, Need, Rooms, Run, start, stepTo}
 use Rattle.model.specs.Split.{Opening, openingOf, splits?, made, weighed, massOf, portion, onlyAt, copied, groupAt, copyOf, retargeted, moved, rewiredTriangles, rewiredStraps, edgeGroups, other?, calm, stayed, doubled, otherEdges, straddles, atLongest, settled, splitMade, splitBySides}
 use Rattle.model.specs.Pieces.{across?, spans, bodyLabels, withoutStraddlers, straddlersGone, removeStraddlers}
-use Rattle.model.specs.Cut.{slack, slackened, cut}
+use Rattle.model.specs.Cut.{slack, slackened, markedBy, cut}
 use Rattle.model.specs.Crack.{hurt, damagedAt, bridges, torn, crack}
 use Rattle.model.specs.Calls.{bladeOk, fractionOk, sidesOk, trianglesLent, tooSmall, firstFault, outcome, cutCall, crackCall, splitCall, straddlersCall}
 use Rattle.model.specs.Trace.{All, Sound}
@@ -275,10 +275,11 @@ opening-fine M F O D y =
 
 -- every step of a run keeps the numbers in range
 pub fine-kept : Kept (λ R. Fine (R .mesh))
-unfolding splitMade stepTo removeStraddlers straddlersGone withoutStraddlers
+unfolding splitMade stepTo markedBy removeStraddlers straddlersGone withoutStraddlers
 fine-kept =
     record {
       split = λ R F O D y more none f B. behind-fine O f B (settled Triangles O (atLongest Triangles O (R .mesh))) (opening-fine (R .mesh) F O D y);
+      marks = λ R F B. F;
       straddlers = λ R F. record { particles = F .particles; triangles = F .triangles; edges = all-sift FineEdge _ (R .mesh .edges) (F .edges); few = F .few };
     }
 
@@ -355,7 +356,7 @@ behind-length O f nothing-more M = (refl, refl)
 behind-length O f (tearing xy) M = (length-map (M .edges) _, refl)
 
 pub covered-kept : Kept Covered
-unfolding splitMade removeStraddlers straddlersGone withoutStraddlers settled
+unfolding splitMade markedBy removeStraddlers straddlersGone withoutStraddlers settled
 covered-kept =
     record {
       split = λ R C O D y more none f B.
@@ -363,6 +364,7 @@ covered-kept =
           let n = behind-length O f B (settled Triangles O M) in
           let s = sift-length (λ (e : Edge). not (straddles Triangles M O e)) (M .edges) in
           covered-step R _ _ _ _ (le-trans (le-of-eq (n .0)) s) (le-of-eq (n .1));
+      marks = λ R C B. covered-step R (R .mesh) _ _ _ (omega arith) (omega arith);
       straddlers = λ R C.
           let es = elementsOf Triangles (R .mesh) in
           let ls = bodyLabels es in

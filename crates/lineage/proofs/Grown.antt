@@ -20,7 +20,7 @@ use Rattle.model.specs.Elements.{Triangles, particle, cornersOf}
 use Rattle.model.specs.Run.{Entry, Need, Run, start, stepTo, splitsOf, split as splitEntry}
 use Rattle.model.specs.Split.{Opening, splits?, made, copyFor, copyOf, portion, onlyAt, copied, groupAt, retargeted, rewiredTriangles, atLongest, settled, straddles, splitMade, splitStep}
 use Rattle.model.specs.Pieces.{withoutStraddlers, straddlersGone, removeStraddlers}
-use Rattle.model.specs.Cut.{slackened}
+use Rattle.model.specs.Cut.{slackened, markedBy}
 use Rattle.model.specs.Crack.{hurt, damagedAt, torn}
 use Rattle.model.specs.Trace.{All, Sound, Hold, Held}
 use Rattle.model.proofs.Traced.{Fitting, opening-fits, copiesFrom, step-splits, splits-here, copied-length, at-below, sound-step, Still, still-torn, all-any, Any}
@@ -274,9 +274,10 @@ straddlers-grown M M′ p t S =
     }
 
 pub growing-kept : (M : Mesh) → Kept (Growing M)
-unfolding splitMade after removeStraddlers straddlersGone withoutStraddlers
+unfolding splitMade after markedBy removeStraddlers straddlersGone withoutStraddlers
 growing-kept M =
     record {
       split = λ R G O D y more none f B. growing-step M R _ _ _ _ G (after-grown R (G .grown .sound) O D y f (behind-steady O f B));
+      marks = λ R G B. growing-step M R (R .mesh) _ _ _ G (grown-same (R .mesh) (G .grown .sound));
       straddlers = λ R G. growing-step M R _ _ _ _ G (straddlers-grown (R .mesh) _ refl refl (G .grown .sound));
     }

@@ -43,10 +43,10 @@ kind-of M u = by (M .triangles) u _
 
 -- any property that each step keeps holds of the run of each call
 every-run : (P : Run → Type 0) → KeptBySteps P → (M : Mesh) → P (start M) → kindOf M ≡ Triangles → EveryRun P M
-unfolding cut start
+unfolding start
 every-run P K M p k =
     record {
-      cuts = λ B f. subst (λ (q : Kind). P (cut q B f (start M))) (sym k) (cut-kept P K B (start M) p);
+      cuts = λ B f. subst (λ (q : Kind). P (cut q B f (start M))) (sym k) (cut-kept P K B f (start M) p);
       cracks = λ is min. subst (λ (q : Kind). P (crack q min is (start M))) (sym k) (crack-kept P K min is (start M) p);
       splits =
           λ v sides e.

@@ -1,4 +1,4 @@
--- What every split and every removal of straddlers keeps, a cut, a crack, a split and a removal keep: the one induction over runs on triangles. Assumes nothing.
+-- What every split, every mark of crossings and every removal of straddlers keeps, a cut, a crack, a split and a removal keep: the one induction over runs on triangles. Assumes nothing.
 use mathlib.Core.Path.{_≡_, refl, _∙_}
 use mathlib.Core.Bool.{Bool, true, false, Bool·beq}
 use mathlib.Core.List.{List, [], _∷_, map}
@@ -13,7 +13,7 @@ use Rattle.model.specs.Elements.{Triangles, Element, fanOf}
 use Rattle.model.specs.Run.{Entry, Run, splitsOf}
 use Rattle.model.specs.Split.{Opening, openingOf, splits?, splitMade, splitStep, splitBySides}
 use Rattle.model.specs.Pieces.{removeStraddlers}
-use Rattle.model.specs.Cut.{Blade, leftOf, keptSide, bladeSides, splitByBlade, splitFree, pinched, splitPinched, candidates, cutFacets}
+use Rattle.model.specs.Cut.{Blade, leftOf, keptSide, bladeSides, splitByBlade, splitFree, pinched, splitPinched, candidates, cutFacets, markedBy, cutAlong, cut}
 use Rattle.model.specs.Crack.{Way, beyond, farSide, twoSided, meanLoad, torn, crackBy, crackPair, crackEdge, currentPair, waysOf, wayAt, loadsOf, tornEnds, crack}
 use Rattle.model.specs.Trace.{All}
 use Rattle.model.proofs.Traced.{order-fits}
@@ -32,9 +32,10 @@ pub data Behind (O : Opening) : (Mesh → Mesh) → Type 0 where
   nothing-more : Behind O (λ M. M)
   tearing : (xy : ℕ × ℕ) → Behind O (torn O xy)
 
--- P is kept by each split that is made, and by the removal of straddlers
+-- P is kept by each split that is made, by the marks of crossings, and by the removal of straddlers
 pub record Kept (P : Run → Type 0) : Type 0 where
   pub split : (R : Run) → P R → (O : Opening) → Sided (R .mesh) O → splits? O (R .mesh) ≡ true → (more : List Entry) → splitsOf more ≡ [] → (f : Mesh → Mesh) → Behind O f → P (splitMade more f Triangles O R)
+  pub marks : (R : Run) → P R → (B : Blade) → P (markedBy Triangles B R)
   pub straddlers : (R : Run) → P R → P (removeStraddlers Triangles R)
 
 two-all : {A : Type 0} (f : A → ℕ) → ((a : A) → f a < 2) → (l : List A) → All (λ s. s < 2) (map f l)
@@ -93,13 +94,17 @@ module _ (P : Run → Type 0) (K : Kept P) where
       sides-kept R p v (map s raw) (length-map raw s ∙ length-map (fanOf Triangles (R .mesh) v) (leftOf B (R .mesh)))
       (two-all s (λ r. pick-two (Bool·beq r (keptSide B (R .mesh) v raw)) 0 1 (omega arith) (omega arith)) raw)
 
-  -- the cut
-  pub cut-kept : (B : Blade) (R : Run) → P R → P (cutFacets B R)
+  facets-kept : (B : Blade) (R : Run) → P R → P (cutFacets B R)
   unfolding cutFacets
-  cut-kept B R p =
+  facets-kept B R p =
       let S = fold (splitByBlade Triangles B) R (candidates B (R .mesh)) in
       let q = fold-kept (splitByBlade Triangles B) (blade-kept B) R (candidates B (R .mesh)) p in
       pick-kept (empty (splitsOf (S .log))) S (splitPinched Triangles S) q (pinched-kept S q)
+
+  -- the cut
+  pub cut-kept : (B : Blade) (f : Float) (R : Run) → P R → P (cut Triangles B f R)
+  unfolding cut cutAlong
+  cut-kept B f R p = facets-kept B (markedBy Triangles B R) (K .marks R p B)
 
   by-kept : (R : Run) → P R → (o : Option Way) → Found (λ (w : Way). Sided (R .mesh) (w .opening)) o → (ab xy : ℕ × ℕ) → P (crackBy Triangles o ab xy R)
   unfolding crackBy splitsOf each

@@ -7,16 +7,16 @@ use mathlib.Core.Bool.{true}
 use mathlib.Core.List.{[], _∷_}
 use lib.Ieee.{isNan, neg, add, sub, mul, div, lt, le, eq, ne, ofBits}
 use Rattle.model.specs.Mesh.{Mesh}
-use Rattle.model.proofs.Asked.{bits, blade, rooms, mesh, particle, edge}
-use Rattle.lists.specs.Lists.{any, all, sift, fold, each, mapAt, tab, upTo, rising}
+use Rattle.model.proofs.Asked.{bits, point, blade, rooms, mesh, particle, edge}
+use Rattle.lists.specs.Lists.{any, all, sift, fold, each, pairs, mapAt, tab, upTo, rising}
 use Rattle.float.specs.Numbers.{absOf, invOf}
 use Rattle.float.specs.Ranges.{finite?, number?, volume?, notBelow0?}
 use Rattle.blade.specs.Points.{lerpOf}
 use Rattle.blade.specs.Blade.{bladeHit}
 use Rattle.model.specs.Valid.{particleOk, triangleOk, edgeOk, numbersFit, named, rootOk, cornersOk, endsOk, sideOk, indicesFit}
 use Rattle.model.specs.Elements.{placeOf, restOf, besides, sum, kindBy, kindOf, strapsFrom, elementsOf}
-use Rattle.model.specs.Cut.{meets, crossings, nearEnd, strapsAt, strapShare, insertionOf, wanted?, insertable, sideAlong, bends, numbersOf, bendsOver, lightened, between, insertedParticles, halfOf, insertedEdges, insertedSides, insertedMesh, insertStep, insertedAt, crossed, unbent, afterCrossings, cutSegments, cut}
-use Rattle.model.specs.Run.{insert, start, stepTo, changed}
+use Rattle.model.specs.Cut.{meets, crossings, nearEnd, strapsAt, strapShare, insertionOf, wanted?, insertable, sideAlong, bends, numbersOf, bendsOver, lightened, between, insertedParticles, halfOf, insertedEdges, insertedSides, insertedMesh, insertStep, insertedAt, crossed, unbent, afterCrossings, cutSegments, marksOf, markedBy, cutAlong, cut}
+use Rattle.model.specs.Run.{insert, met, start, stepTo, changed}
 use Rattle.model.specs.Calls.{done, refusal, tooSmall, firstFault, outcome, cutCall}
 
 -- masses 1,048,576, 1,048,576 and 1; straps (0, 1) and (0, 2) of length 8
@@ -38,8 +38,8 @@ too-heavy =
     []
 
 -- the mesh is accepted, and cut across strap (0, 1) at 0.75
-pub strap-cut : cutCall true two-straps (blade 0x40c00000 0xbf800000 0x40c00000 0x3f800000) (bits 0x3dcccccd) (rooms 1024 1024 2048 2048 4096) ≡ done too-heavy (insert 0 1 3 4 (bits 0x3f400000) ∷ []) true
-unfolding all finite? number? volume? notBelow0? absOf particleOk triangleOk edgeOk numbersFit named rootOk cornersOk endsOk sideOk indicesFit refusal ofBits neg lt le eq ne add sub mul div isNan any sift fold each mapAt tab upTo rising invOf lerpOf bladeHit placeOf restOf besides sum kindBy kindOf strapsFrom elementsOf meets crossings nearEnd strapsAt strapShare insertionOf wanted? insertable sideAlong bends numbersOf bendsOver lightened between insertedParticles halfOf insertedEdges insertedSides insertedMesh insertStep insertedAt crossed unbent afterCrossings cutSegments cut start stepTo changed tooSmall firstFault outcome cutCall
+pub strap-cut : cutCall true two-straps (blade 0x40c00000 0xbf800000 0x40c00000 0x3f800000) (bits 0x3dcccccd) (rooms 1024 1024 2048 2048 4096) ≡ done too-heavy (met 0 1 (point 0x40c00000 0) (bits 0x3f400000) ∷ insert 0 1 3 4 (bits 0x3f400000) ∷ []) true
+unfolding all finite? number? volume? notBelow0? absOf particleOk triangleOk edgeOk numbersFit named rootOk cornersOk endsOk sideOk indicesFit refusal ofBits neg lt le eq ne add sub mul div isNan any sift fold each pairs mapAt tab upTo rising invOf lerpOf bladeHit placeOf restOf besides sum kindBy kindOf strapsFrom elementsOf meets crossings nearEnd strapsAt strapShare insertionOf wanted? insertable sideAlong bends numbersOf bendsOver lightened between insertedParticles halfOf insertedEdges insertedSides insertedMesh insertStep insertedAt crossed unbent afterCrossings cutSegments marksOf markedBy cutAlong cut start stepTo changed tooSmall firstFault outcome cutCall
 strap-cut = refl
 
 -- what the cut gave is refused with 2 as input
@@ -68,8 +68,8 @@ just-too-heavy =
     []
 
 -- the mesh is accepted, and both straps are cut at their end, with fraction 0
-pub pair-cut : cutCall true one-pair (blade 0x41000000 0xbf800000 0x41000000 0x3f800000) (bits 0) (rooms 1024 1024 2048 2048 4096) ≡ done just-too-heavy (insert 0 1 2 3 (bits 0x3f800000) ∷ insert 0 1 4 5 (bits 0x3f800000) ∷ []) true
-unfolding all finite? number? volume? notBelow0? absOf particleOk triangleOk edgeOk numbersFit named rootOk cornersOk endsOk sideOk indicesFit refusal ofBits neg lt le eq ne add sub mul div isNan any sift fold each mapAt tab upTo rising invOf lerpOf bladeHit placeOf restOf besides sum kindBy kindOf strapsFrom elementsOf meets crossings nearEnd strapsAt strapShare insertionOf wanted? insertable sideAlong bends numbersOf bendsOver lightened between insertedParticles halfOf insertedEdges insertedSides insertedMesh insertStep insertedAt crossed unbent afterCrossings cutSegments cut start stepTo changed tooSmall firstFault outcome cutCall
+pub pair-cut : cutCall true one-pair (blade 0x41000000 0xbf800000 0x41000000 0x3f800000) (bits 0) (rooms 1024 1024 2048 2048 4096) ≡ done just-too-heavy (met 0 1 (point 0x41000000 0) (bits 0x3f800000) ∷ met 0 1 (point 0x41000000 0) (bits 0x3f800000) ∷ insert 0 1 2 3 (bits 0x3f800000) ∷ insert 0 1 4 5 (bits 0x3f800000) ∷ []) true
+unfolding all finite? number? volume? notBelow0? absOf particleOk triangleOk edgeOk numbersFit named rootOk cornersOk endsOk sideOk indicesFit refusal ofBits neg lt le eq ne add sub mul div isNan any sift fold each pairs mapAt tab upTo rising invOf lerpOf bladeHit placeOf restOf besides sum kindBy kindOf strapsFrom elementsOf meets crossings nearEnd strapsAt strapShare insertionOf wanted? insertable sideAlong bends numbersOf bendsOver lightened between insertedParticles halfOf insertedEdges insertedSides insertedMesh insertStep insertedAt crossed unbent afterCrossings cutSegments marksOf markedBy cutAlong cut start stepTo changed tooSmall firstFault outcome cutCall
 pair-cut = refl
 
 pub pair-out-of-range : refusal true just-too-heavy true true ≡ 2

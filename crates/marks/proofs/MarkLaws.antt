@@ -18,11 +18,12 @@ use Rattle.blade.specs.declared.Hit.{Hit}
 use Rattle.blade.specs.Blade.{bladeHit}
 use Rattle.columns.specs.Block.{cell}
 use Rattle.columns.proofs.Cells.{col-0, col-1}
-use Rattle.model.specs.Mesh.{Triangle, Mesh}
-use Rattle.model.specs.Elements.{Triangles, Element, cornersOf, trianglesFrom, elementsOf}
-use Rattle.model.specs.Run.{Entry, split, edge, insert, opened, Run, splitOf, splitsOf}
+use Rattle.model.specs.Mesh.{Particle, Triangle, Mesh, blank}
+use Rattle.model.specs.Elements.{Triangles, Element, placeOf, cornersOf, trianglesFrom, elementsOf}
+use Rattle.model.specs.Run.{Entry, split, edge, insert, opened, met, Run, splitOf, splitsOf}
 use Rattle.model.specs.Cut.{Blade, hit?, meets, ifMet, splitEnds, nearCorners}
-use Rattle.mesh.specs.At.{trianglesAt}
+use Rattle.mesh.specs.At.{particlesAt, trianglesAt, meshAt}
+use Rattle.mesh.specs.declared.Counts.{Counts}
 use Rattle.mesh.specs.Log.{wordsOf, entryRow, logAt}
 use Rattle.work.specs.Places.{CornersIn}
 use Rattle.marks.specs.Marking.{Marks, MarkedBy, placeIn, PlacesIn, metIn, metOf, candidateEnds, CandidatesMarked, splitWords, endsIn, NearMarked, SplitFound, marked?, nearRow, pinchedEnds, PinchedMarked}
@@ -108,11 +109,11 @@ module _ {A : Type 0} (f : A → List ℕ) (row : ℕ → A) where
   pub rows-more : (i : ℕ) (m m′ : List ℕ) → length m′ ≡ length m → Marks (each f (tab i row)) m → MarkedBy (f (row i)) m m′ → Marks (each f (tab (i + 1) row)) m′
   rows-more i m m′ e A B = subst (λ (l : List ℕ). Marks l m′) (sym (each-step f row i)) (marks-more (each f (tab i row)) (f (row i)) m m′ e A B)
 
--- two lists of rows with the same marks
-each-tab : {A C : Type 0} (f : A → List ℕ) (g : C → List ℕ) (n : ℕ) (r : ℕ → A) (s : ℕ → C) → ((k : ℕ) → k < n → f (r k) ≡ g (s k)) → each f (tab n r) ≡ each g (tab n s)
+-- two tables of rows that make the same
+pub each-tab : {A C D : Type 0} (f : A → List D) (g : C → List D) (n : ℕ) (r : ℕ → A) (s : ℕ → C) → ((k : ℕ) → k < n → f (r k) ≡ g (s k)) → each f (tab n r) ≡ each g (tab n s)
 unfolding each tab
 each-tab f g zero r s h = refl
-each-tab f g (suc n) r s h = ap₂ _++_ (h 0 (suc-le-suc zero-le)) (each-tab f g n (λ k. r (suc k)) (λ k. s (suc k)) (λ k l. h (suc k) (suc-le-suc l)))
+each-tab f g (suc n) r s h = ap₂ {C = List _} _++_ (h 0 (suc-le-suc zero-le)) (each-tab f g n (λ k. r (suc k)) (λ k. s (suc k)) (λ k l. h (suc k) (suc-le-suc l)))
 
 -- ---- triangles
 
@@ -121,10 +122,10 @@ abbrev pub cornersAt : List ℕ → ℕ → List ℕ
 cornersAt corners i = getD corners i 0 ∷ getD corners (length corners / 3 + i) 0 ∷ getD corners (2 * (length corners / 3) + i) 0 ∷ []
 
 -- a triangle's corners are its element's
-triangles-each : (g : List ℕ → List ℕ) (i : ℕ) (ts : List Triangle) → each (λ (e : Element). g (e .corners)) (trianglesFrom i ts) ≡ each (λ (t : Triangle). g (cornersOf t)) ts
+triangles-each : {D : Type 0} (g : List ℕ → List D) (i : ℕ) (ts : List Triangle) → each (λ (e : Element). g (e .corners)) (trianglesFrom i ts) ≡ each (λ (t : Triangle). g (cornersOf t)) ts
 unfolding each trianglesFrom
 triangles-each g i [] = refl
-triangles-each g i (t ∷ ts) = ap (λ (l : List ℕ). g (cornersOf t) ++ l) (triangles-each g (suc i) ts)
+triangles-each {D} g i (t ∷ ts) = ap (λ (l : List D). g (cornersOf t) ++ l) (triangles-each g (suc i) ts)
 
 -- each corner that is read lies below p
 pub record RowBelow (p : ℕ) (corners : List ℕ) (i : ℕ) : Type 0 where
@@ -142,7 +143,7 @@ row-below p t corners i C h =
     }
 
 -- the rows that are read are the mesh's triangles
-rows-are : (f g : List ℕ → List ℕ) (M : Mesh) (t : ℕ) (corners : List ℕ) (volumes : List Float) → M .triangles ≡ trianglesAt t corners volumes → ((i : ℕ) → i < t → f (cornersAt corners i) ≡ g (cornersAt corners i))
+pub rows-are : {D : Type 0} (f g : List ℕ → List D) (M : Mesh) (t : ℕ) (corners : List ℕ) (volumes : List Float) → M .triangles ≡ trianglesAt t corners volumes → ((i : ℕ) → i < t → f (cornersAt corners i) ≡ g (cornersAt corners i))
     → each f (tab t (cornersAt corners)) ≡ each (λ (e : Element). g (e .corners)) (elementsOf Triangles M)
 unfolding elementsOf trianglesAt cell
 rows-are f g M t corners volumes e h =
@@ -156,6 +157,12 @@ rows-are f g M t corners volumes e h =
 -- the two cells of a particle's place, as a program reads them
 pub place-read : (points : List Float) (w : ℕ) → _≡_ {A = Point} (record { x = getD points w nan; y = getD points (length points / 6 + w) nan }) (placeIn points w)
 place-read points w = ap₂ (λ (x y : Float). record { x = x; y = y }) (sym (col-0 nan (length points / 6) points w)) (sym (col-1 nan (length points / 6) points w))
+
+-- the places of a mesh in blocks
+pub places-at : (k : Counts) (points : List Float) (roots corners : List ℕ) (volumes : List Float) (ends : List ℕ) (lengths : List Float) (outline : List ℕ)
+    → PlacesIn (meshAt k points roots corners volumes ends lengths outline) (k .particles) points
+unfolding placeOf meshAt particlesAt
+places-at k points roots corners volumes ends lengths outline w h = ap (λ (p : Particle). record { x = p .x; y = p .y }) (tab-at (k .particles) _ w blank h)
 
 module _ (B : Blade) (points : List Float) where
   -- a miss, and a hit
@@ -211,6 +218,7 @@ words-ends (split c v ∷ l) = ap (λ (t : List ℕ). c ∷ v ∷ t) (words-ends
 words-ends (edge a b ∷ l) = words-ends l
 words-ends (insert a b p q t ∷ l) = words-ends l
 words-ends (opened a b ∷ l) = words-ends l
+words-ends (met a b p t ∷ l) = words-ends l
 
 -- does it have a split
 words-split : (l : List Entry) → any splitWords (map wordsOf l) ≡ not (empty (each splitOf l))
@@ -220,6 +228,7 @@ words-split (split c v ∷ l) = refl
 words-split (edge a b ∷ l) = words-split l
 words-split (insert a b p q t ∷ l) = words-split l
 words-split (opened a b ∷ l) = words-split l
+words-split (met a b p t ∷ l) = words-split l
 
 pub near-done : (l i : ℕ) (log near : List ℕ) → i ≡ l → Marks (each endsIn (tab i (entryRow log))) near → NearMarked l log near
 unfolding logAt splitEnds splitsOf

@@ -14,10 +14,11 @@ use Rattle.model.specs.Mesh.{Particle, Edge, Side, Mesh, blankEdge}
 use Rattle.model.specs.Elements.{Kind, Triangles, Straps, Nothing, Element, edgeAt, structural?, strapElement, strapsFrom, elementsOf}
 use Rattle.model.specs.Run.{Run, stepTo}
 use Rattle.model.specs.Split.{onlyAt}
-use Rattle.model.specs.Cut.{Blade, meets, Crossing, crossingAt, crossings, Insertion, insertionOf, half-a, half-b, left-over, insertable, lightened, between, insertedParticles, halfOf, insertedEdges, same, shortened, appended, insertedSides, insertedMesh, insertStep, Strapping, strapping, insertedAt, snappedAt, crossed, unbent, splitSnapped, afterCrossings, cutSegments, cut}
+use Rattle.model.specs.Cut.{Blade, meets, Crossing, crossingAt, crossings, Insertion, insertionOf, half-a, half-b, left-over, insertable, lightened, between, insertedParticles, halfOf, insertedEdges, same, shortened, appended, insertedSides, insertedMesh, insertStep, Strapping, strapping, insertedAt, snappedAt, crossed, unbent, splitSnapped, afterCrossings, cutSegments, markedBy, cutAlong, cut}
 use Rattle.model.specs.Trace.{All, Sound}
 use Rattle.model.proofs.Indexed.{Pair, Indexed, Ends, Sides, wide, sound-wide, fold-indexed, facets-indexed, snapped-indexed}
 use Rattle.model.proofs.Steps.{runOf}
+use Rattle.model.proofs.Marks.{marked-mesh}
 use Rattle.model.proofs.Laws.{pick-both, all-over, all-append, all-mapAt, all-in, all-map, all-eachOf, all-siftAt, length-mapAt}
 
 -- ---- one insertion
@@ -160,7 +161,7 @@ straps-inside i (e ∷ es) =
 
 hit-inside : (n i : ℕ) → i < n → (h : Hit) → All (λ (c : Crossing). c .number < n) (crossingAt i h)
 hit-inside n i u Miss = tt
-hit-inside n i u (HitAt t) = (u, tt)
+hit-inside n i u (HitAt t p) = (u, tt)
 
 crossings-inside : (B : Blade) (M : Mesh) → All (λ (c : Crossing). c .number < length (M .edges)) (crossings B M)
 unfolding crossings elementsOf
@@ -179,10 +180,15 @@ unfolding afterCrossings runOf
 after-indexed B (strapping R marked snapped) X = fold-indexed (splitSnapped B) (λ Q v Y. snapped-indexed B Q v Y) (unbent marked R) (rising _ snapped) (unbent-indexed marked R X)
 
 -- a cut of any kind
-pub cut-indexed : (k : Kind) (B : Blade) (f : Float) (R : Run) → Indexed (R .mesh) → Indexed (cut k B f R .mesh)
-unfolding cut cutSegments runOf
-cut-indexed Triangles B f R X = facets-indexed B R X
-cut-indexed Straps B f R X =
+along-indexed : (k : Kind) (B : Blade) (f : Float) (R : Run) → Indexed (R .mesh) → Indexed (cutAlong k B f R .mesh)
+unfolding cutAlong cutSegments runOf
+along-indexed Triangles B f R X = facets-indexed B R X
+along-indexed Straps B f R X =
     let n = length (R .mesh .edges) in
     after-indexed B (fold (crossed f) (strapping R [] []) (crossings B (R .mesh))) (crossings-ready f n (strapping R [] []) (crossings B (R .mesh)) (crossings-inside B (R .mesh)) (X, omega arith) .0)
-cut-indexed Nothing B f R X = X
+along-indexed Nothing B f R X = X
+
+-- with its crossings marked
+pub cut-indexed : (k : Kind) (B : Blade) (f : Float) (R : Run) → Indexed (R .mesh) → Indexed (cut k B f R .mesh)
+unfolding cut
+cut-indexed k B f R X = along-indexed k B f (markedBy k B R) (subst Indexed (sym (marked-mesh k B R)) X)

@@ -12,10 +12,10 @@ use Rattle.lists.specs.Lists.{pick, stands, all}
 use Rattle.model.specs.Mesh.{Triangle, Mesh}
 use Rattle.model.specs.Valid.{numbersFit, named, rootOk, cornersOk, endsOk, sideOk, indicesFit}
 use Rattle.model.specs.Elements.{Kind, Triangles, kindOf}
-use Rattle.model.specs.Run.{Entry, Rooms, Run, start, changed}
+use Rattle.model.specs.Run.{Entry, Rooms, Run, start, stepTo, changed}
 use Rattle.model.specs.Split.{splitBySides}
 use Rattle.model.specs.Pieces.{removeStraddlers}
-use Rattle.model.specs.Cut.{Blade, cutFacets, cut}
+use Rattle.model.specs.Cut.{Blade, cutFacets, markedBy, cutAlong, cut}
 use Rattle.model.specs.Crack.{crack}
 use Rattle.model.specs.Calls.{bladeOk, fractionOk, sidesOk, trianglesLent, refusal, firstFault, Outcome, refused, done, fitted, outcome, unless, cutCall, crackCall, splitCall, straddlersCall}
 use Rattle.model.specs.Trace.{All, Sound, Traced, Held, Kept}
@@ -23,6 +23,7 @@ use Rattle.model.proofs.Traced.{start-traced, sides-traced, cut-traced,
 use Rattle.model.proofs.Holding.{start-held, sides-held, cut-held, crack-held, straddlers-held}
 use Rattle.model.proofs.Splitting.{Sided, sides-accepted}
 use Rattle.model.proofs.Laws.{and-true, false-true, stands-not}
+use Rattle.model.proofs.Marks.{marked-splits}
 
 -- ---- an accepted mesh
 
@@ -121,13 +122,23 @@ run-kept M L R M′ l c T H e =
 begun : (M : Mesh) → indicesFit M ≡ true → Traced M (start M)
 begun M e = start-traced M (accepted-sound M e)
 
+-- marks change neither triangles nor splits
+marked-traced : (M : Mesh) (B : Blade) (R : Run) → Traced M R → Traced M (markedBy Triangles B R)
+unfolding markedBy stepTo
+marked-traced M B R T = record { sound = T .sound; back = rw (marked-splits Triangles B R) (T .back) }
+
+marked-held : (B : Blade) (R : Run) → Held R → Held (markedBy Triangles B R)
+unfolding markedBy stepTo
+marked-held B R H = record { copies = rw (marked-splits Triangles B R) (H .copies) }
+
 pub cut-keeps : (sized : Bool) (M : Mesh) (B : Blade) (f : Float) (L : Rooms) (M′ : Mesh) (l : List Entry) (c : Bool)
     → kindOf M ≡ Triangles → cutCall sized M B f L ≡ done M′ l c → Kept M M′ l
-unfolding cutCall cut
+unfolding cutCall cut cutAlong
 cut-keeps sized M B f L M′ l c k e =
     let u = unless-done _ _ M′ l c e in
     let P = no-refusal sized M (bladeOk B) (fractionOk f && trianglesLent L M) (u .0) in
-    run-kept M L (cutFacets B (start M)) M′ l c (cut-traced M B (start M) (begun M (P .indices))) (cut-held B (start M) (start-held M)) (subst (λ (q : Kind). outcome L (cut q B f (start M)) ≡ done M′ l c) k (u .1))
+    let R = markedBy Triangles B (start M) in
+    run-kept M L (cutFacets B R) M′ l c (cut-traced M B R (marked-traced M B (start M) (begun M (P .indices)))) (cut-held B R (marked-held B (start M) (start-held M))) (subst (λ (q : Kind). outcome L (cut q B f (start M)) ≡ done M′ l c) k (u .1))
 
 pub crack-keeps : (sized : Bool) (M : Mesh) (is : List ℕ) (min : ℕ) (L : Rooms) (M′ : Mesh) (l : List Entry) (c : Bool)
     → kindOf M ≡ Triangles → crackCall sized M is min L ≡ done M′ l c → Kept M M′ l

@@ -2,6 +2,8 @@
 
 -- laws of lists
 pub mod Laws
+-- nothing reads the marks of a cut's crossings
+pub mod Marks
 -- a run of splits keeps the triangles: sound, and traced back the same; and every copy belongs to one
 pub mod Traced
 pub mod Holding

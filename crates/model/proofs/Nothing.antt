@@ -10,10 +10,10 @@ use Rattle.lists.specs.Lists.{pick, any, sift, find, fold, each, empty}
 use Rattle.float.specs.Numbers.{zero32}
 use Rattle.model.specs.Mesh.{Mesh}
 use Rattle.model.specs.Elements.{Kind, Nothing, particle, kindOf, elementsOf, fanOf}
-use Rattle.model.specs.Run.{Entry, Rooms, Run, start, splitsOf, changed}
+use Rattle.model.specs.Run.{Entry, Rooms, Run, start, stepTo, splitsOf, changed}
 use Rattle.model.specs.Split.{openingOf, splitBySides}
 use Rattle.model.specs.Pieces.{removeStraddlers}
-use Rattle.model.specs.Cut.{Blade, cut, splitPinched}
+use Rattle.model.specs.Cut.{Blade, marksOf, markedBy, cutAlong, cut, splitPinched}
 use Rattle.model.specs.Crack.{meanLoad, twoSided, wayAt, waysOf, crackBy, crackPair, crackEdge, currentPair, loadsOf, tornEnds, crack}
 use Rattle.model.specs.Calls.{bladeOk, fractionOk, sidesOk, trianglesLent, refusal, done, outcome, cutCall, crackCall, splitCall, straddlersCall}
 use Rattle.model.proofs.Splitting.{Sided, sides-accepted, one-element-stays}
@@ -73,12 +73,20 @@ run-stays M L R M′ l c e d =
     let u = outcome-done L (start M) M′ l c (subst (λ (Q : Run). outcome L Q ≡ done M′ l c) e d) in
     record { mesh = sym (u .0); log = sym (u .1); says = sym (u .2) }
 
+-- a cut finds no crossing to mark
+cut-stays : (M : Mesh) (B : Blade) (f : Float) (L : Rooms) (M′ : Mesh) (l : List Entry) (c : Bool) → outcome L (cut Nothing B f (start M)) ≡ done M′ l c → Unchanged M M′ l c
+unfolding cut cutAlong markedBy marksOf elementsOf each start stepTo changed any
+cut-stays M B f L M′ l c d =
+    let u = outcome-done L (cut Nothing B f (start M)) M′ l c d in
+    record { mesh = sym (u .0); log = sym (u .1); says = sym (u .2) }
+
 pub nothing-cut : (sized : Bool) (M : Mesh) (B : Blade) (f : Float) (L : Rooms) (M′ : Mesh) (l : List Entry) (c : Bool)
     → kindOf M ≡ Nothing → cutCall sized M B f L ≡ done M′ l c → Unchanged M M′ l c
-unfolding cutCall cut
+unfolding cutCall
 nothing-cut sized M B f L M′ l c k e =
-    run-stays M L (cut (kindOf M) B f (start M)) M′ l c (ap (λ (q : Kind). cut q B f (start M)) k)
-    (unless-done (refusal sized M (bladeOk B) (fractionOk f && trianglesLent L M)) (outcome L (cut (kindOf M) B f (start M))) M′ l c e .1)
+    cut-stays M B f L M′ l c
+    (subst (λ (q : Kind). outcome L (cut q B f (start M)) ≡ done M′ l c) k
+    (unless-done (refusal sized M (bladeOk B) (fractionOk f && trianglesLent L M)) (outcome L (cut (kindOf M) B f (start M))) M′ l c e .1))
 
 pub nothing-crack : (sized : Bool) (M : Mesh) (is : List ℕ) (min : ℕ) (L : Rooms) (M′ : Mesh) (l : List Entry) (c : Bool)
     → kindOf M ≡ Nothing → crackCall sized M is min L ≡ done M′ l c → Unchanged M M′ l c

@@ -6,12 +6,13 @@ use mathlib.Core.List.{List, [], _∷_, map}
 use lib.IntN.{pos, negsuc}
 use lib.ListN.{length}
 use lib.Ieee.{Float, fin, isNan, neg, add, sub, mul, div, lt, le, eq, ne, ofInt, ofBits}
+use Rattle.float.specs.Numbers.{zero32, one}
 use Rattle.model.specs.Mesh.{Particle}
 use Rattle.model.specs.Elements.{endsOf, sideEnds}
-use Rattle.model.specs.Run.{Entry, split, edge as removed, insert}
+use Rattle.model.specs.Run.{Entry, split, edge as removed, insert, met}
 use Rattle.model.specs.Calls.{Outcome, refused, done}
 use Rattle.model.specs.Reads.{refused as denied, value}
-use Rattle.model.specs.Starred.{Case, pinnedMesh, quarter, tenth, limits, strapMesh, listingMesh, blade, starred}
+use Rattle.model.specs.Starred.{Case, pinnedMesh, point, quarter, tenth, limits, strapMesh, listingMesh, blade, starred}
 -- opened
 use Rattle.lists.specs.Lists.{any, all, sift, siftAt, find, fold, each, pairs, mapAt, tab, upTo, rising, distinct, disjoint, padded, keep, keptOf, nth}
 use Rattle.lists.specs.Labels.{merged, joinPair, joinRow, joinRows, labelled}
@@ -70,7 +71,7 @@ said (done M l c) =
 abbrev rest-of : Float
 rest-of = fin false 3 (negsuc 1)
 
--- the strap of length 8, blade (2,-1) to (2,1), fraction 0.1: masses 0.25, 0.75, 0.25, 0.75; edges (0,2), (3,1); log 0 1 2 3
+-- the strap of length 8, blade (2,-1) to (2,1), fraction 0.1: masses 0.25, 0.75, 0.25, 0.75; edges (0,2), (3,1); the crossing at (2,0), then log 0 1 2 3
 pub strap-worked : said (cutCall true strapMesh (blade (pos 2) (negsuc 0) (pos 2) (pos 1)) tenth limits)
     ≡ told
     (record {
@@ -79,13 +80,13 @@ pub strap-worked : said (cutCall true strapMesh (blade (pos 2) (negsuc 0) (pos 2
       boundary = [];
       particles = 4;
       pieces = 2;
-      log = insert 0 1 2 3 quarter ∷ [];
+      log = met 0 1 (point (pos 2) (pos 0)) quarter ∷ insert 0 1 2 3 quarter ∷ [];
       changed = true;
     })
 unfolding any all sift siftAt find fold each pairs mapAt tab upTo rising distinct disjoint padded keep keptOf nth merged joinPair joinRow joinRows labelled absOf maxOf invOf finite? number? volume? notBelow0? floorRoot rootUnits signOf sumOf centroidOf lerpOf lengthOf bladeHit labelsOf numberOne numberSide numbered groupsOf countOf particleOk triangleOk edgeOk numbersFit named rootOk cornersOk endsOk sideOk indicesFit placeOf restOf besides sum kindBy kindOf trianglesFrom strapsFrom elementsOf held restMeasure restMeasureOf fanOf gridOf partsOf openingOf splits? made weightOf totalOf massOf portion copied groupAt rewiredTriangles rewiredStraps ring scoreOf scored toward edgeGroups stayed doubled otherEdges parted straddles sideGroup followed faceOn facetsAt crackFacets atLongest settled splitEntries goneEntries splitMade splitStep splitBySides sharedOf pieceLabels pieceCount pieces bodyLabels bodies bodyOf spans across? withoutStraddlers straddlersGone removeStraddlers reachLabels labelsAt membersOf reachOf opensWithoutConfetti meets leftOf keptSide bladeSides splitByBlade splitEnds nearCorners pinched splitFree splitPinched candidates cutFacets crossings nearEnd strapsAt strapShare insertionOf wanted? insertable sideAlong bends numbersOf bendsOver lightened between insertedParticles halfOf insertedEdges shortened appended insertedSides insertedMesh insertStep insertedAt snappedAt crossed unbent slackened splitSnapped afterCrossings cutSegments marksOf markedBy cutAlong cut largestStress stressBetween triangleLoad loadsOf family crossPairs currentOf currentPair beyond farSide meanLoad twoSided wayAt waysOf damagedAt torn crackBy crackPair crackEdge tornEnds crack start stepTo splitsOf changed sidesOk strictly particlesOk refusal tooSmall firstFault outcome cutCall crackCall splitCall straddlersCall bladeCall groupsCall restMeasureCall restMeasureOfCall opensCall piecesCall stateCall isNan neg add sub mul div lt le eq ne ofInt ofBits
 strap-worked = refl
 
--- the listing's mesh, blade (-1,-1) to (5,5), fraction 0.1: split 4 0, split 5 2, edge 1 3 (gone with the first split), 6 particles, 2 pieces
+-- the listing's mesh, blade (-1,-1) to (5,5), fraction 0.1: four sides met at 0 and 2, then split 4 0, split 5 2, edge 1 3 (gone with the first split), 6 particles, 2 pieces
 pub listing-worked : said (cutCall true listingMesh (blade (negsuc 0) (negsuc 0) (pos 5) (pos 5)) tenth limits)
     ≡ told
     (record {
@@ -95,7 +96,13 @@ pub listing-worked : said (cutCall true listingMesh (blade (negsuc 0) (negsuc 0)
       boundary = (0 ∷ 1 ∷ []) ∷ (1 ∷ 2 ∷ []) ∷ (5 ∷ 3 ∷ []) ∷ (3 ∷ 4 ∷ []) ∷ (2 ∷ 0 ∷ []) ∷ (4 ∷ 5 ∷ []) ∷ [];
       particles = 6;
       pieces = 2;
-      log = split 4 0 ∷ removed 1 3 ∷ split 5 2 ∷ [];
+      log =
+          met 0 1 (point (pos 0) (pos 0)) zero32 ∷ met 1 2 (point (pos 4) (pos 4)) one ∷ met 0 3 (point (pos 0) (pos 0)) (fin true 0 (pos 0))
+          ∷ met 2 3 (point (pos 4) (pos 4)) (fin true 0 (pos 0))
+          ∷ split 4 0
+          ∷ removed 1 3
+          ∷ split 5 2
+          ∷ [];
       changed = true;
     })
 unfolding any all sift siftAt find fold each pairs mapAt tab upTo rising distinct disjoint padded keep keptOf nth merged joinPair joinRow joinRows labelled absOf maxOf invOf finite? number? volume? notBelow0? floorRoot rootUnits signOf sumOf centroidOf lerpOf lengthOf bladeHit labelsOf numberOne numberSide numbered groupsOf countOf particleOk triangleOk edgeOk numbersFit named rootOk cornersOk endsOk sideOk indicesFit placeOf restOf besides sum kindBy kindOf trianglesFrom strapsFrom elementsOf held restMeasure restMeasureOf fanOf gridOf partsOf openingOf splits? made weightOf totalOf massOf portion copied groupAt rewiredTriangles rewiredStraps ring scoreOf scored toward edgeGroups stayed doubled otherEdges parted straddles sideGroup followed faceOn facetsAt crackFacets atLongest settled splitEntries goneEntries splitMade splitStep splitBySides sharedOf pieceLabels pieceCount pieces bodyLabels bodies bodyOf spans across? withoutStraddlers straddlersGone removeStraddlers reachLabels labelsAt membersOf reachOf opensWithoutConfetti meets leftOf keptSide bladeSides splitByBlade splitEnds nearCorners pinched splitFree splitPinched candidates cutFacets crossings nearEnd strapsAt strapShare insertionOf wanted? insertable sideAlong bends numbersOf bendsOver lightened between insertedParticles halfOf insertedEdges shortened appended insertedSides insertedMesh insertStep insertedAt snappedAt crossed unbent slackened splitSnapped afterCrossings cutSegments marksOf markedBy cutAlong cut largestStress stressBetween triangleLoad loadsOf family crossPairs currentOf currentPair beyond farSide meanLoad twoSided wayAt waysOf damagedAt torn crackBy crackPair crackEdge tornEnds crack start stepTo splitsOf changed sidesOk strictly particlesOk refusal tooSmall firstFault outcome cutCall crackCall splitCall straddlersCall bladeCall groupsCall restMeasureCall restMeasureOfCall opensCall piecesCall stateCall isNan neg add sub mul div lt le eq ne ofInt ofBits

@@ -14,7 +14,7 @@ use Rattle.model.specs.Elements.{Kind, Triangles, Straps, Nothing}
 use Rattle.model.specs.Run.{Entry, Need, Rooms, Run, stepTo, splitsOf}
 use Rattle.model.specs.Split.{Opening, openingOf, splits?, splitMade, splitStep, splitBySides}
 use Rattle.model.specs.Pieces.{straddlersGone, removeStraddlers}
-use Rattle.model.specs.Cut.{Blade, splitByBlade, splitFree, pinched, splitPinched, candidates, cutFacets, Crossing, crossings, insertable, insertStep, Strapping, strapping, insertedAt, snappedAt, crossed, unbent, splitSnapped, afterCrossings, cutSegments, cut}
+use Rattle.model.specs.Cut.{Blade, splitByBlade, splitFree, pinched, splitPinched, candidates, cutFacets, Crossing, crossings, insertable, insertStep, Strapping, strapping, insertedAt, snappedAt, crossed, unbent, splitSnapped, afterCrossings, cutSegments, markedBy, cutAlong, cut}
 use Rattle.model.specs.Crack.{Way, crackBy, crackPair, crackEdge, currentPair, loadsOf, tornEnds, crack}
 use Rattle.model.specs.Calls.{tooSmall, firstFault, refused, fitted, outcome}
 
@@ -133,11 +133,19 @@ after-onward : (B : Blade) (S : Strapping) → Onward (runOf S) (afterCrossings 
 unfolding afterCrossings runOf
 after-onward B (strapping R marked snapped) = onward-then (unbent-onward marked R) (onward-fold (splitSnapped B) (snapped-onward B) (unbent marked R) (rising _ snapped))
 
+pub along-onward : (k : Kind) (B : Blade) (f : Float) (R : Run) → Onward R (cutAlong k B f R)
+unfolding cutAlong cutSegments runOf
+along-onward Triangles B f R = facets-onward B R
+along-onward Straps B f R = onward-then (crossings-onward f (strapping R [] []) (crossings B (R .mesh))) (after-onward B _)
+along-onward Nothing B f R = onward-stay R
+
+pub marked-onward : (k : Kind) (B : Blade) (R : Run) → Onward R (markedBy k B R)
+unfolding markedBy
+marked-onward k B R = onward-step R _ _ _ _
+
 pub cut-onward : (k : Kind) (B : Blade) (f : Float) (R : Run) → Onward R (cut k B f R)
-unfolding cut cutSegments runOf
-cut-onward Triangles B f R = facets-onward B R
-cut-onward Straps B f R = onward-then (crossings-onward f (strapping R [] []) (crossings B (R .mesh))) (after-onward B _)
-cut-onward Nothing B f R = onward-stay R
+unfolding cut
+cut-onward k B f R = onward-then (marked-onward k B R) (along-onward k B f (markedBy k B R))
 
 by-onward : (k : Kind) (o : Option Way) (ab xy : ℕ × ℕ) (R : Run) → Onward R (crackBy k o ab xy R)
 unfolding crackBy

@@ -130,10 +130,10 @@ starred =
     -- pinned v: unchanged; one element: unchanged. (proofs/Splitting.antt has both for any mesh.)
     ∷ record { asked = meshes (splitCall true pinnedMesh 0 (1 ∷ 0 ∷ 0 ∷ []) limits); wanted = meshes (done pinnedMesh [] false) }
     ∷ record { asked = meshes (splitCall true fanMesh 1 (1 ∷ []) limits); wanted = meshes (done fanMesh [] false) }
-    -- blade (2,-1) to (2,1), edge (0,0) to (8,0): 0.25; edge (2,0) to (2,5): miss; blade (2,0) to (2,1): hit; blade (3,3) to (3,3): miss
-    ∷ record { asked = hit (bladeCall (blade (pos 2) (negsuc 0) (pos 2) (pos 1)) (point (pos 0) (pos 0)) (point (pos 8) (pos 0))); wanted = hit (value (HitAt quarter)) }
+    -- blade (2,-1) to (2,1), edge (0,0) to (8,0): 0.25 at (2,0); edge (2,0) to (2,5): miss; blade (2,0) to (2,1): hit; blade (3,3) to (3,3): miss
+    ∷ record { asked = hit (bladeCall (blade (pos 2) (negsuc 0) (pos 2) (pos 1)) (point (pos 0) (pos 0)) (point (pos 8) (pos 0))); wanted = hit (value (HitAt quarter (point (pos 2) (pos 0)))) }
     ∷ record { asked = hit (bladeCall (blade (pos 2) (negsuc 0) (pos 2) (pos 1)) (point (pos 2) (pos 0)) (point (pos 2) (pos 5))); wanted = hit (value Miss) }
-    ∷ record { asked = hit (bladeCall (blade (pos 2) (pos 0) (pos 2) (pos 1)) (point (pos 0) (pos 0)) (point (pos 8) (pos 0))); wanted = hit (value (HitAt quarter)) }
+    ∷ record { asked = hit (bladeCall (blade (pos 2) (pos 0) (pos 2) (pos 1)) (point (pos 0) (pos 0)) (point (pos 8) (pos 0))); wanted = hit (value (HitAt quarter (point (pos 2) (pos 0)))) }
     ∷ record { asked = hit (bladeCall (blade (pos 3) (pos 3) (pos 3) (pos 3)) (point (pos 0) (pos 0)) (point (pos 8) (pos 0))); wanted = hit (value Miss) }
     -- roots of 0, 4 and 0.25
     ∷ record { asked = float (rootCall zero32); wanted = float (value zero32) }

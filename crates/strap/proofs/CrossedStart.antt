@@ -73,7 +73,7 @@ straps-inside i (e ∷ es) =
 
 hit-inside : (n i : ℕ) → i < n → (h : Hit) → All (λ (c : Crossing). c .number < n) (crossingAt i h)
 hit-inside n i u Miss = tt
-hit-inside n i u (HitAt t) = (u, tt)
+hit-inside n i u (HitAt t p) = (u, tt)
 
 crossings-inside : (B : Blade) (M : Mesh) → All (λ (c : Crossing). c .number < length (M .edges)) (crossings B M)
 unfolding crossings elementsOf

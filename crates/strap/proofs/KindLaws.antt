@@ -2,7 +2,7 @@
 use mathlib.Core.Path.{_≡_, sym, subst}
 use lib.Ieee.{Float}
 use Rattle.model.specs.Elements.{Triangles as Facets}
-use Rattle.model.specs.Cut.{cutFacets, cutSegments, cut, splitPinched}
+use Rattle.model.specs.Cut.{cutFacets, cutSegments, cutAlong, splitPinched}
 use Rattle.marks.specs.Marking.{bladeFrom}
 use Rattle.blade.specs.declared.Point.{Point}
 use Rattle.mesh.specs.Log.{World}
@@ -24,11 +24,11 @@ module _ (L : Rooms) (W : World) (at : Counts → World) (pass : Pass) (kind : K
   Passes r p K = Works (passed p (kindIs K)) L W at r
 
   pub cut-triangles : (r : Ran) (b0 b1 : Point) (f : Float) → kind ≡ Triangles → pass ≡ BladeFrom b0 b1 f → Works (cutFacets (bladeFrom b0 b1)) L W at r → Passes r pass kind
-  unfolding cut
+  unfolding cutAlong
   cut-triangles r b0 b1 f e p F = subst (λ (q : Pass). Passes r q kind) (sym p) (subst (Passes r (BladeFrom b0 b1 f)) (sym e) (record { went = F .went }))
 
   pub cut-straps : (r : Ran) (b0 b1 : Point) (f : Float) → kind ≡ Straps → pass ≡ BladeFrom b0 b1 f → Works (cutSegments (bladeFrom b0 b1) f) L W at r → Passes r pass kind
-  unfolding cut
+  unfolding cutAlong
   cut-straps r b0 b1 f e p F = subst (λ (q : Pass). Passes r q kind) (sym p) (subst (Passes r (BladeFrom b0 b1 f)) (sym e) (record { went = F .went }))
 
   pub pinched-triangles : (r : Ran) → kind ≡ Triangles → pass ≡ Pinched → Works (splitPinched Facets) L W at r → Passes r pass kind
@@ -42,7 +42,7 @@ pinched-straps L at pass kind k e p w =
 
 -- nothing is done to a mesh of neither kind
 idle : (L : Rooms) (at : Counts → World) (k : Counts) → Within k L → (q : Pass) → Works (passed q (kindIs Nothing)) L (at k) at (Done k)
-unfolding cut splitPinched
+unfolding cutAlong splitPinched
 idle L at k w (BladeFrom b0 b1 f) = record { went = λ R h z. (z, w, h) }
 idle L at k w Pinched = record { went = λ R h z. (z, w, h) }
 

@@ -19,7 +19,7 @@ use Rattle.columns.proofs.Rows.{any-none, any-more, any-stops, any-end}
 use Rattle.columns.proofs.Sweep.{front-grows}
 use Rattle.model.specs.Mesh.{Edge, Mesh}
 use Rattle.model.specs.Elements.{Kind}
-use Rattle.model.specs.Run.{Entry, split, edge, insert, opened, Run, splitOf, splitsOf}
+use Rattle.model.specs.Run.{Entry, split, edge, insert, opened, met, Run, splitOf, splitsOf}
 use Rattle.model.specs.Crack.{family, joins, crossPairs, firstOf, currentOf, currentPair}
 use Rattle.mesh.specs.At.{edgeRow, edgesAt}
 use Rattle.mesh.specs.Log.{Words, wordsOf, entryRow, logAt}
@@ -37,6 +37,7 @@ split-by (split c v) = refl
 split-by (edge a b) = refl
 split-by (insert a b p q t) = refl
 split-by (opened a b) = refl
+split-by (met a b p t) = refl
 
 pub splits-by : (es : List Entry) → splitsBy (map wordsOf es) ≡ splitsOf es
 unfolding splitsBy splitsOf each

@@ -3,3 +3,4 @@ pub mod Runs
 pub mod Placed
 pub mod Grows
 pub mod Removals
+pub mod Bits

@@ -37,8 +37,10 @@ returns c =
     let at = c .before .before .before in
     let d = at .before .before .before .before .before .before .args .d in
     let t = at .before .before .before .before .before .before .args .t in
+    let p = at .before .before .before .before .before .before .args .p in
+    let w = at .before .before .before .before .before .before .args .w in
     let e = is-along at in
-    yes (le zero32 (along at) && le (along at) (dotOf d d)) (HitAt t) Miss
+    yes (le zero32 (along at) && le (along at) (dotOf d d)) (HitAt t (hitPoint p w t)) Miss
     (and-yes (ap (λ (z : Float). le zero32 z) (sym e) ∙ c .before .before .if1 .taken)
     (ap (λ (z : Float). le z (dotOf d d)) (sym e) ∙ ap (λ (z : Float). le (at .dot .result) z) (sym (c .before .dot2 .ensures)) ∙ c .if2 .taken))
 
@@ -48,8 +50,10 @@ returns-2 c =
     let at = c .before in
     let d = at .before .before .before .before .before .before .args .d in
     let t = at .before .before .before .before .before .before .args .t in
+    let p = at .before .before .before .before .before .before .args .p in
+    let w = at .before .before .before .before .before .before .args .w in
     let e = is-along at in
-    no (le zero32 (along at) && le (along at) (dotOf d d)) (HitAt t) Miss
+    no (le zero32 (along at) && le (along at) (dotOf d d)) (HitAt t (hitPoint p w t)) Miss
     (⊎-elim
     (λ w. and-no-2 (ap (λ (z : Float). le zero32 z) (sym e) ∙ w .0 .taken)
     (ap (λ (z : Float). le z (dotOf d d)) (sym e) ∙ ap (λ (z : Float). le (at .dot .result) z) (sym (w .1 .ensures)) ∙ w .2 .left))

@@ -47,7 +47,7 @@ same-length-2 c = search needs
 
 -- src/crossings.rt:24:1
 returns-2 : tie.Need-returns-2
-returns-2 c = noted-hit _ _ _ _ _ _ (c .before .hit .given .1) (c .before .before .before .pre .0) (c .before .before .before .pre .1)
+returns-2 c = noted-hit _ _ _ _ _ _ _ (c .before .hit .given .1) (c .before .before .before .pre .0) (c .before .before .before .pre .1)
 
 pub note-hit-spec : {M : Type 1} → statement M
 note-hit-spec =

@@ -1,9 +1,9 @@
--- `insert::step::bits_of` meets its contract: a NaN has the pattern that the definition names. Assumes nothing.
+-- `work::notes::bits_of` meets its contract: a NaN has the pattern that the definition names. Assumes nothing.
 use Rattle.float.proofs.Patterns.{is-no-nan}
-use Rattle.insert.proofs.StepLaws.{nan-bits}
+use Rattle.work.proofs.Bits.{nan-bits}
 use borrow.Author.Needs.{needs}
-use Rattle.insert.proofs.step.bits_of.Statement.{statement}
-use Rattle.insert.proofs.step.bits_of.Tie as tie
+use Rattle.work.proofs.notes.bits_of.Statement.{statement}
+use Rattle.work.proofs.notes.bits_of.Tie as tie
 
 returns : tie.Need-returns
 returns c = nan-bits ((c .before) .args .x) (c .if1 .taken)

@@ -1,0 +1,2 @@
+-- Laws of the marks of crossings.
+pub mod NotingLaws

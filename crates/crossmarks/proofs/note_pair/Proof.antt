@@ -1,0 +1,107 @@
+-- `crossmarks::note_pair` meets its contract. Assumes nothing.
+use Rattle.crossmarks.proofs.NotingLaws.{pair-miss, pair-written, pair-counted}
+use Rattle.marks.specs.Marking.{bladeFrom}
+use mathlib.Core.Path.{ap, _∙_}
+use mathlib.Core.Logic.{⊎-elim}
+use lib.ListN.{length}
+use native.Mathlib.Omega.{arith}
+use borrow.Author.Needs.{needs}
+use Rattle.crossmarks.proofs.note_pair.Statement.{statement}
+use Rattle.crossmarks.proofs.note_pair.Tie as tie
+use Rattle.crossmarks.proofs.note_pair.Reads as reads
+use Rattle.crossmarks.proofs.note_pair.Lts as lts
+use Rattle.blade.proofs.blade_hit.Reads as blade-hit-reads
+use Rattle.marks.proofs.particles.place.Reads as place-reads
+use Rattle.work.proofs.notes.bits_of.Reads as bits-of-reads
+use Rattle.work.proofs.notes.note.Reads as note-reads
+
+-- src/lib.rt:35:40
+place-requires : tie.Need-place-requires
+place-requires c κs = search needs
+
+-- src/lib.rt:35:58
+place-requires-2 : tie.Need-place-requires-2
+place-requires-2 c κs = search needs
+
+-- src/lib.rt:35:9
+blade-hit-requires : tie.Need-blade-hit-requires
+blade-hit-requires c κs = search needs
+
+-- src/lib.rt:36:18
+enum-known-hit : tie.Need-enum-known-hit
+enum-known-hit c = search needs
+
+-- src/lib.rt:37:9
+enum-told : tie.Need-enum-told
+enum-told c = search needs
+
+-- src/lib.rt:37:9
+returns : tie.Need-returns
+returns c =
+    let A = c .before .before .before .before .before .before .before .args in
+    pair-miss (bladeFrom (A .b0) (A .b1)) (A .points .now) (A .x) (A .y) _ _ _ (A .n) _ (c .before .before .before .before .place .ensures) (c .before .before .before .place2 .ensures) (c .before .before .blade-hit .ensures) (c .enum-told .given .1)
+
+-- src/lib.rt:40:13
+bits-of-requires : tie.Need-bits-of-requires
+bits-of-requires c κs = search needs
+
+-- src/lib.rt:41:13
+bits-of-requires-2 : tie.Need-bits-of-requires-2
+bits-of-requires-2 c κs = search needs
+
+-- src/lib.rt:42:33
+cast-note : tie.Need-cast-note
+cast-note c = search needs
+
+-- src/lib.rt:42:43
+cast-note-2 : tie.Need-cast-note-2
+cast-note-2 c = search needs
+
+-- src/lib.rt:42:65
+bits-of-requires-3 : tie.Need-bits-of-requires-3
+bits-of-requires-3 c κs = search needs
+
+-- src/lib.rt:42:9
+note-requires : tie.Need-note-requires
+note-requires c κs = search needs
+
+-- src/lib.rt:44:5
+add-result : tie.Need-add-result
+add-result c = search needs
+
+-- src/lib.rt:23:1
+same-length : tie.Need-same-length
+same-length c = ⊎-elim (λ w. ap length (w .8) ∙ w .5 .kept .1 .1 .1 .1 .1 .1 .1 .0) (λ w. ap length (w .1)) (c .if1 .came)
+
+-- src/lib.rt:23:1
+returns-2 : tie.Need-returns-2
+returns-2 c =
+    let A = c .before .before .before .before .before .before .before .before .before .args in
+    let P = c .before .before .before .before .before .before .place .ensures in
+    let Q = c .before .before .before .before .before .place2 .ensures in
+    let H = c .before .before .before .before .blade-hit .ensures in
+    let G = c .before .before .hit .given in
+    ⊎-elim
+    (λ w. pair-written (bladeFrom (A .b0) (A .b1)) (A .points .now) (A .x) (A .y) _ _ _ _ _ (A .n) _ _ _ _ _ _ P Q H (G .1) (w .1 .ensures) (w .2 .ensures) (w .3 .ensures) (w .5 .ensures) (w .8))
+    (λ w. pair-counted (bladeFrom (A .b0) (A .b1)) (A .points .now) (A .x) (A .y) _ _ _ _ _ (A .n) _ _ P Q H (G .1) (omega (arith, w .0 .left)))
+    (c .if1 .came)
+
+pub note-pair-spec : {M : Type 1} → statement M
+note-pair-spec =
+    tie.close
+    (tie.spec
+    place-requires
+    place-requires-2
+    blade-hit-requires
+    enum-known-hit
+    enum-told
+    returns
+    bits-of-requires
+    bits-of-requires-2
+    cast-note
+    cast-note-2
+    bits-of-requires-3
+    note-requires
+    add-result
+    same-length
+    returns-2)
