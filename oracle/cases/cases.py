@@ -90,6 +90,8 @@ def blade(w):
 def entry(w):
     if w[0] == 'i':
         return 'insert %s %s %s %s %s' % (*w[1:5], bits(w[5]))
+    if w[0] == 'm':
+        return 'met %s %s %s %s' % (*w[1:3], point(*w[3:5]), bits(w[5]))
     return {'s': 'split', 'r': 'removed', 'o': 'opened'}[w[0]] + ' %s %s' % (w[1], w[2])
 
 
@@ -135,7 +137,7 @@ def wanted(c):
     if a[0] == 'miss':
         return 'hit (value Miss)'
     if a[0] == 'hit':
-        return 'hit (value (HitAt %s))' % bits(a[1])
+        return 'hit (value (HitAt %s %s))' % (bits(a[1]), point(*a[2:4]))
     kind = {'groups': 'groups', 'opens': 'flag', 'pieces': 'number', 'rest_measure': 'float', 'rest_measure_of': 'float', 'blade_hit': 'hit'}.get(k)
     return '%s (denied %s)' % (kind, a[0]) if kind else 'meshes (refused %s)' % a[0]
 
@@ -162,7 +164,7 @@ use lib.Ieee.{%s}
 use Rattle.blade.specs.declared.Hit.the-variants.{Miss, Hit as HitAt}
 use Rattle.model.specs.Mesh.{Mesh}
 use Rattle.model.specs.Pieces.{defaultMinPiece}
-use Rattle.model.specs.Run.{split, edge as removed, insert, opened}
+use Rattle.model.specs.Run.{split, edge as removed, insert, opened, met}
 use Rattle.model.specs.Calls.{refused, done}
 use Rattle.model.specs.Reads.{refused as denied, value}
 use Rattle.model.specs.Starred.{Case, meshes, groups, flag, number, float, hit}
@@ -172,7 +174,7 @@ use Rattle.model.proofs.Asked.{bits, point, blade, rooms, mesh, particl
 
 def write(path, title, cases, names):
     mods = opened()
-    clash = {'mesh', 'particle', 'triangle', 'edge', 'side', 'groups', 'flag', 'number', 'float', 'hit', 'split', 'insert', 'opened'}
+    clash = {'mesh', 'particle', 'triangle', 'edge', 'side', 'groups', 'flag', 'number', 'float', 'hit', 'split', 'insert', 'opened', 'met'}
     text = HEAD % (title, ', '.join(IEEE))
     for mod, ns in mods:
         assert not clash & set(ns), clash & set(ns)
@@ -198,7 +200,7 @@ def starred(path):
     """Brings the names to unfold in proofs/Starred.antt up to date."""
     text = open(path).read()
     mods = opened()
-    uses = '-- opened\n' + ''.join('use %s.{%s}\n' % (mod, ', '.join(ns)) for mod, ns in mods) + '-- end\n'
+    uses = '-- opened\n' + ''.join('use %s.{%s}\n' % (mod, ', '.join(ns)) for mod, ns in mods) + '\n-- end\n'
     text = re.sub(r'-- opened\n.*?-- end\n', lambda m: uses, text, flags=re.S)
     line = 'unfolding ' + ' '.join(sum([ns for _, ns in mods], []) + IEEE) + '\n'
     open(path, 'w').write(re.sub(r'(?m)^unfolding .*\n', lambda m: line, text))

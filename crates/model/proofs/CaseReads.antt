@@ -7,7 +7,7 @@ use lib.Ieee.{isNan, neg, add, sub, mul, div, lt, le, eq, ne, ofInt, ofBits}
 use Rattle.blade.specs.declared.Hit.the-variants.{Miss, Hit as HitAt}
 use Rattle.model.specs.Mesh.{Mesh}
 use Rattle.model.specs.Pieces.{defaultMinPiece}
-use Rattle.model.specs.Run.{split, edge as removed, insert, opened}
+use Rattle.model.specs.Run.{split, edge as removed, insert, opened, met}
 use Rattle.model.specs.Calls.{refused, done}
 use Rattle.model.specs.Reads.{refused as denied, value}
 use Rattle.model.specs.Starred.{Case, meshes, groups, flag, number, float, hit}
@@ -25,7 +25,7 @@ use Rattle.model.specs.Valid.{particleOk, triangleOk, edgeOk, numbersFit
 use Rattle.model.specs.Elements.{placeOf, restOf, besides, sum, kindBy, kindOf, trianglesFrom, strapsFrom, elementsOf, held, restMeasure, restMeasureOf, fanOf, gridOf}
 use Rattle.model.specs.Split.{partsOf, openingOf, splits?, made, weightOf, totalOf, massOf, portion, copied, groupAt, rewiredTriangles, rewiredStraps, ring, scoreOf, scored, toward, edgeGroups, stayed, doubled, otherEdges, parted, straddles, sideGroup, followed, faceOn, facetsAt, crackFacets, atLongest, settled, splitEntries, goneEntries, splitMade, splitStep, splitBySides}
 use Rattle.model.specs.Pieces.{sharedOf, pieceLabels, pieceCount, pieces, bodyLabels, bodies, bodyOf, spans, across?, withoutStraddlers, straddlersGone, removeStraddlers, reachLabels, labelsAt, membersOf, reachOf, opensWithoutConfetti}
-use Rattle.model.specs.Cut.{meets, leftOf, keptSide, bladeSides, splitByBlade, splitEnds, nearCorners, pinched, splitFree, splitPinched, candidates, cutFacets, crossings, nearEnd, strapsAt, strapShare, insertionOf, wanted?, insertable, sideAlong, bends, numbersOf, bendsOver, lightened, between, insertedParticles, halfOf, insertedEdges, shortened, appended, insertedSides, insertedMesh, insertStep, insertedAt, snappedAt, crossed, unbent, slackened, splitSnapped, afterCrossings, cutSegments, cut}
+use Rattle.model.specs.Cut.{meets, leftOf, keptSide, bladeSides, splitByBlade, splitEnds, nearCorners, pinched, splitFree, splitPinched, candidates, cutFacets, crossings, nearEnd, strapsAt, strapShare, insertionOf, wanted?, insertable, sideAlong, bends, numbersOf, bendsOver, lightened, between, insertedParticles, halfOf, insertedEdges, shortened, appended, insertedSides, insertedMesh, insertStep, insertedAt, snappedAt, crossed, unbent, slackened, splitSnapped, afterCrossings, cutSegments, marksOf, markedBy, cutAlong, cut}
 use Rattle.model.specs.Crack.{largestStress, stressBetween, triangleLoad, loadsOf, family, crossPairs, currentOf, currentPair, beyond, farSide, meanLoad, twoSided, wayAt, waysOf, damagedAt, torn, crackBy, crackPair, crackEdge, tornEnds, crack}
 use Rattle.model.specs.Run.{start, stepTo, splitsOf, changed}
 use Rattle.model.specs.Calls.{sidesOk, strictly, particlesOk, refusal, tooSmall, firstFault, outcome, cutCall, crackCall, splitCall, straddlersCall}
@@ -205,7 +205,7 @@ case923 = record { asked = float (restMeasureOfCall true in908 (1 ∷ 6 ∷ []))
 
 -- starred: t is 0.25
 abbrev case924 : Case
-case924 = record { asked = hit (bladeCall (blade 0x40000000 0xbf800000 0x40000000 0x3f800000) (point 0x00000000 0x00000000) (point 0x41000000 0x00000000)); wanted = hit (value (HitAt (bits 0x3e800000))) }
+case924 = record { asked = hit (bladeCall (blade 0x40000000 0xbf800000 0x40000000 0x3f800000) (point 0x00000000 0x00000000) (point 0x41000000 0x00000000)); wanted = hit (value (HitAt (bits 0x3e800000) (point 0x40000000 0x00000000))) }
 
 -- starred: an edge along the blade misses
 abbrev case925 : Case
@@ -213,7 +213,7 @@ case925 = record { asked = hit (bladeCall (blade 0x40000000 0xbf800000 0x4000000
 
 -- starred: the blade's end is included
 abbrev case926 : Case
-case926 = record { asked = hit (bladeCall (blade 0x40000000 0x00000000 0x40000000 0x3f800000) (point 0x00000000 0x00000000) (point 0x41000000 0x00000000)); wanted = hit (value (HitAt (bits 0x3e800000))) }
+case926 = record { asked = hit (bladeCall (blade 0x40000000 0x00000000 0x40000000 0x3f800000) (point 0x00000000 0x00000000) (point 0x41000000 0x00000000)); wanted = hit (value (HitAt (bits 0x3e800000) (point 0x40000000 0x00000000))) }
 
 -- starred: a blade of one point misses
 abbrev case927 : Case
@@ -221,7 +221,7 @@ case927 = record { asked = hit (bladeCall (blade 0x40400000 0x40400000 0x4040000
 
 -- t is minus zero
 abbrev case928 : Case
-case928 = record { asked = hit (bladeCall (blade 0x00000000 0x00000000 0x3f800000 0x00000000) (point 0x00000000 0x00000000) (point 0x00000000 0x3f800000)); wanted = hit (value (HitAt (bits 0x80000000))) }
+case928 = record { asked = hit (bladeCall (blade 0x00000000 0x00000000 0x3f800000 0x00000000) (point 0x00000000 0x00000000) (point 0x00000000 0x3f800000)); wanted = hit (value (HitAt (bits 0x80000000) (point 0x00000000 0x00000000))) }
 
 -- an exact hit at the blade's end, missed by rounding
 abbrev case929 : Case
@@ -229,11 +229,11 @@ case929 = record { asked = hit (bladeCall (blade 0x3f800000 0xbf800000 0x4000000
 
 -- the same edge from its other end hits
 abbrev case930 : Case
-case930 = record { asked = hit (bladeCall (blade 0x3f800000 0xbf800000 0x40000000 0x00000000) (point 0x3f800000 0xc0e00000) (point 0x3f800000 0x40c00000)); wanted = hit (value (HitAt (bits 0x3eec4ec5))) }
+case930 = record { asked = hit (bladeCall (blade 0x3f800000 0xbf800000 0x40000000 0x00000000) (point 0x3f800000 0xc0e00000) (point 0x3f800000 0x40c00000)); wanted = hit (value (HitAt (bits 0x3eec4ec5) (point 0x3f800000 0xbf800000))) }
 
 -- tiny offsets of one sign
 abbrev case931 : Case
-case931 = record { asked = hit (bladeCall (blade 0x00000000 0x00000000 0x3f800000 0x00000000) (point 0x00000000 0x0da24260) (point 0x3f000000 0x0e224260)); wanted = hit (value (HitAt (bits 0x00000000))) }
+case931 = record { asked = hit (bladeCall (blade 0x00000000 0x00000000 0x3f800000 0x00000000) (point 0x00000000 0x0da24260) (point 0x3f000000 0x0e224260)); wanted = hit (value (HitAt (bits 0x00000000) (point 0x00000000 0x0da24260))) }
 
 -- a point out of range
 abbrev case932 : Case
@@ -241,7 +241,7 @@ case932 = record { asked = hit (bladeCall (blade 0x40000000 0xbf800000 0x4000000
 
 -- a point at the limit
 abbrev case933 : Case
-case933 = record { asked = hit (bladeCall (blade 0x40000000 0xbf800000 0x40000000 0x3f800000) (point 0x00000000 0x00000000) (point 0x49800000 0x00000000)); wanted = hit (value (HitAt (bits 0x36000000))) }
+case933 = record { asked = hit (bladeCall (blade 0x40000000 0xbf800000 0x40000000 0x3f800000) (point 0x00000000 0x00000000) (point 0x49800000 0x00000000)); wanted = hit (value (HitAt (bits 0x36000000) (point 0x40000000 0x00000000))) }
 
 -- a blade that is no number
 abbrev case934 : Case
@@ -251,5 +251,5 @@ abbrev pub cases : List Case
 cases = case901 ∷ case902 ∷ case903 ∷ case904 ∷ case905 ∷ case906 ∷ case907 ∷ case908 ∷ case909 ∷ case910 ∷ case911 ∷ case912 ∷ case913 ∷ case914 ∷ case915 ∷ case916 ∷ case917 ∷ case918 ∷ case919 ∷ case920 ∷ case921 ∷ case922 ∷ case923 ∷ case924 ∷ case925 ∷ case926 ∷ case927 ∷ case928 ∷ case929 ∷ case930 ∷ case931 ∷ case932 ∷ case933 ∷ case934 ∷ []
 
 pub agree : map (λ (c : Case). c .asked) cases ≡ map (λ (c : Case). c .wanted) cases
-unfolding any all sift siftAt find fold each pairs mapAt tab upTo rising distinct disjoint padded keep keptOf nth merged joinPair joinRow joinRows labelled absOf maxOf invOf finite? number? volume? notBelow0? floorRoot rootUnits signOf sumOf centroidOf lerpOf lengthOf bladeHit labelsOf numberOne numberSide numbered groupsOf countOf particleOk triangleOk edgeOk numbersFit named rootOk cornersOk endsOk sideOk indicesFit placeOf restOf besides sum kindBy kindOf trianglesFrom strapsFrom elementsOf held restMeasure restMeasureOf fanOf gridOf partsOf openingOf splits? made weightOf totalOf massOf portion copied groupAt rewiredTriangles rewiredStraps ring scoreOf scored toward edgeGroups stayed doubled otherEdges parted straddles sideGroup followed faceOn facetsAt crackFacets atLongest settled splitEntries goneEntries splitMade splitStep splitBySides sharedOf pieceLabels pieceCount pieces bodyLabels bodies bodyOf spans across? withoutStraddlers straddlersGone removeStraddlers reachLabels labelsAt membersOf reachOf opensWithoutConfetti meets leftOf keptSide bladeSides splitByBlade splitEnds nearCorners pinched splitFree splitPinched candidates cutFacets crossings nearEnd strapsAt strapShare insertionOf wanted? insertable sideAlong bends numbersOf bendsOver lightened between insertedParticles halfOf insertedEdges shortened appended insertedSides insertedMesh insertStep insertedAt snappedAt crossed unbent slackened splitSnapped afterCrossings cutSegments cut largestStress stressBetween triangleLoad loadsOf family crossPairs currentOf currentPair beyond farSide meanLoad twoSided wayAt waysOf damagedAt torn crackBy crackPair crackEdge tornEnds crack start stepTo splitsOf changed sidesOk strictly particlesOk refusal tooSmall firstFault outcome cutCall crackCall splitCall straddlersCall bladeCall groupsCall restMeasureCall restMeasureOfCall opensCall piecesCall stateCall isNan neg add sub mul div lt le eq ne ofInt ofBits
+unfolding any all sift siftAt find fold each pairs mapAt tab upTo rising distinct disjoint padded keep keptOf nth merged joinPair joinRow joinRows labelled absOf maxOf invOf finite? number? volume? notBelow0? floorRoot rootUnits signOf sumOf centroidOf lerpOf lengthOf bladeHit labelsOf numberOne numberSide numbered groupsOf countOf particleOk triangleOk edgeOk numbersFit named rootOk cornersOk endsOk sideOk indicesFit placeOf restOf besides sum kindBy kindOf trianglesFrom strapsFrom elementsOf held restMeasure restMeasureOf fanOf gridOf partsOf openingOf splits? made weightOf totalOf massOf portion copied groupAt rewiredTriangles rewiredStraps ring scoreOf scored toward edgeGroups stayed doubled otherEdges parted straddles sideGroup followed faceOn facetsAt crackFacets atLongest settled splitEntries goneEntries splitMade splitStep splitBySides sharedOf pieceLabels pieceCount pieces bodyLabels bodies bodyOf spans across? withoutStraddlers straddlersGone removeStraddlers reachLabels labelsAt membersOf reachOf opensWithoutConfetti meets leftOf keptSide bladeSides splitByBlade splitEnds nearCorners pinched splitFree splitPinched candidates cutFacets crossings nearEnd strapsAt strapShare insertionOf wanted? insertable sideAlong bends numbersOf bendsOver lightened between insertedParticles halfOf insertedEdges shortened appended insertedSides insertedMesh insertStep insertedAt snappedAt crossed unbent slackened splitSnapped afterCrossings cutSegments marksOf markedBy cutAlong cut largestStress stressBetween triangleLoad loadsOf family crossPairs currentOf currentPair beyond farSide meanLoad twoSided wayAt waysOf damagedAt torn crackBy crackPair crackEdge tornEnds crack start stepTo splitsOf changed sidesOk strictly particlesOk refusal tooSmall firstFault outcome cutCall crackCall splitCall straddlersCall bladeCall groupsCall restMeasureCall restMeasureOfCall opensCall piecesCall stateCall isNan neg add sub mul div lt le eq ne ofInt ofBits
 agree = refl

@@ -7,7 +7,7 @@ use lib.Ieee.{isNan, neg, add, sub, mul, div, lt, le, eq, ne, ofInt, ofBits}
 use Rattle.blade.specs.declared.Hit.the-variants.{Miss, Hit as HitAt}
 use Rattle.model.specs.Mesh.{Mesh}
 use Rattle.model.specs.Pieces.{defaultMinPiece}
-use Rattle.model.specs.Run.{split, edge as removed, insert, opened}
+use Rattle.model.specs.Run.{split, edge as removed, insert, opened, met}
 use Rattle.model.specs.Calls.{refused, done}
 use Rattle.model.specs.Reads.{refused as denied, value}
 use Rattle.model.specs.Starred.{Case, meshes, groups, flag, number, float, hit}
@@ -25,7 +25,7 @@ use Rattle.model.specs.Valid.{particleOk, triangleOk, edgeOk, numbersFit
 use Rattle.model.specs.Elements.{placeOf, restOf, besides, sum, kindBy, kindOf, trianglesFrom, strapsFrom, elementsOf, held, restMeasure, restMeasureOf, fanOf, gridOf}
 use Rattle.model.specs.Split.{partsOf, openingOf, splits?, made, weightOf, totalOf, massOf, portion, copied, groupAt, rewiredTriangles, rewiredStraps, ring, scoreOf, scored, toward, edgeGroups, stayed, doubled, otherEdges, parted, straddles, sideGroup, followed, faceOn, facetsAt, crackFacets, atLongest, settled, splitEntries, goneEntries, splitMade, splitStep, splitBySides}
 use Rattle.model.specs.Pieces.{sharedOf, pieceLabels, pieceCount, pieces, bodyLabels, bodies, bodyOf, spans, across?, withoutStraddlers, straddlersGone, removeStraddlers, reachLabels, labelsAt, membersOf, reachOf, opensWithoutConfetti}
-use Rattle.model.specs.Cut.{meets, leftOf, keptSide, bladeSides, splitByBlade, splitEnds, nearCorners, pinched, splitFree, splitPinched, candidates, cutFacets, crossings, nearEnd, strapsAt, strapShare, insertionOf, wanted?, insertable, sideAlong, bends, numbersOf, bendsOver, lightened, between, insertedParticles, halfOf, insertedEdges, shortened, appended, insertedSides, insertedMesh, insertStep, insertedAt, snappedAt, crossed, unbent, slackened, splitSnapped, afterCrossings, cutSegments, cut}
+use Rattle.model.specs.Cut.{meets, leftOf, keptSide, bladeSides, splitByBlade, splitEnds, nearCorners, pinched, splitFree, splitPinched, candidates, cutFacets, crossings, nearEnd, strapsAt, strapShare, insertionOf, wanted?, insertable, sideAlong, bends, numbersOf, bendsOver, lightened, between, insertedParticles, halfOf, insertedEdges, shortened, appended, insertedSides, insertedMesh, insertStep, insertedAt, snappedAt, crossed, unbent, slackened, splitSnapped, afterCrossings, cutSegments, marksOf, markedBy, cutAlong, cut}
 use Rattle.model.specs.Crack.{largestStress, stressBetween, triangleLoad, loadsOf, family, crossPairs, currentOf, currentPair, beyond, farSide, meanLoad, twoSided, wayAt, waysOf, damagedAt, torn, crackBy, crackPair, crackEdge, tornEnds, crack}
 use Rattle.model.specs.Run.{start, stepTo, splitsOf, changed}
 use Rattle.model.specs.Calls.{sidesOk, strictly, particlesOk, refusal, tooSmall, firstFault, outcome, cutCall, crackCall, splitCall, straddlersCall}
@@ -41,19 +41,19 @@ in1101 =
 
 -- 5: the second split lacks a particle
 abbrev case1101 : Case
-case1101 = record { asked = meshes (cutCall true in1101 (blade 0xbf800000 0xbf800000 0x40a00000 0x40a00000) (bits 0x3dcccccd) (rooms 5 1024 2 6 3)); wanted = meshes (refused 6) }
+case1101 = record { asked = meshes (cutCall true in1101 (blade 0xbf800000 0xbf800000 0x40a00000 0x40a00000) (bits 0x3dcccccd) (rooms 5 1024 2 6 7)); wanted = meshes (refused 6) }
 
 -- 6: edges at their longest
 abbrev case1102 : Case
-case1102 = record { asked = meshes (cutCall true in1101 (blade 0xbf800000 0xbf800000 0x40a00000 0x40a00000) (bits 0x3dcccccd) (rooms 6 1024 2 6 3)); wanted = meshes (refused 6) }
+case1102 = record { asked = meshes (cutCall true in1101 (blade 0xbf800000 0xbf800000 0x40a00000 0x40a00000) (bits 0x3dcccccd) (rooms 6 1024 2 6 7)); wanted = meshes (refused 6) }
 
 -- 7: boundary
 abbrev case1103 : Case
-case1103 = record { asked = meshes (cutCall true in1101 (blade 0xbf800000 0xbf800000 0x40a00000 0x40a00000) (bits 0x3dcccccd) (rooms 6 1024 3 5 3)); wanted = meshes (refused 7) }
+case1103 = record { asked = meshes (cutCall true in1101 (blade 0xbf800000 0xbf800000 0x40a00000 0x40a00000) (bits 0x3dcccccd) (rooms 6 1024 3 5 7)); wanted = meshes (refused 7) }
 
 -- 8: log
 abbrev case1104 : Case
-case1104 = record { asked = meshes (cutCall true in1101 (blade 0xbf800000 0xbf800000 0x40a00000 0x40a00000) (bits 0x3dcccccd) (rooms 6 1024 3 6 2)); wanted = meshes (refused 8) }
+case1104 = record { asked = meshes (cutCall true in1101 (blade 0xbf800000 0xbf800000 0x40a00000 0x40a00000) (bits 0x3dcccccd) (rooms 6 1024 3 6 6)); wanted = meshes (refused 8) }
 
 abbrev out1105 : Mesh
 out1105 =
@@ -65,7 +65,7 @@ out1105 =
 
 -- 0: just enough
 abbrev case1105 : Case
-case1105 = record { asked = meshes (cutCall true in1101 (blade 0xbf800000 0xbf800000 0x40a00000 0x40a00000) (bits 0x3dcccccd) (rooms 6 1024 3 6 3)); wanted = meshes (done out1105 (split 4 0 ∷ removed 1 3 ∷ split 5 2 ∷ []) true) }
+case1105 = record { asked = meshes (cutCall true in1101 (blade 0xbf800000 0xbf800000 0x40a00000 0x40a00000) (bits 0x3dcccccd) (rooms 6 1024 3 6 7)); wanted = meshes (done out1105 (met 0 1 (point 0x00000000 0x00000000) (bits 0x00000000) ∷ met 1 2 (point 0x40800000 0x40800000) (bits 0x3f800000) ∷ met 0 3 (point 0x00000000 0x00000000) (bits 0x80000000) ∷ met 2 3 (point 0x40800000 0x40800000) (bits 0x80000000) ∷ split 4 0 ∷ removed 1 3 ∷ split 5 2 ∷ []) true) }
 
 -- 6: the copy of the input comes first
 abbrev case1106 : Case
@@ -85,11 +85,11 @@ case1107 = record { asked = meshes (cutCall true in1107 (blade 0x40c00000 0xbf80
 
 -- 0: an insertion has just enough
 abbrev case1108 : Case
-case1108 = record { asked = meshes (cutCall true in1107 (blade 0x40c00000 0xbf800000 0x40c00000 0x3f800000) (bits 0x3dcccccd) (rooms 6 1024 7 5 3)); wanted = meshes (refused 8) }
+case1108 = record { asked = meshes (cutCall true in1107 (blade 0x40c00000 0xbf800000 0x40c00000 0x3f800000) (bits 0x3dcccccd) (rooms 6 1024 7 5 4)); wanted = meshes (refused 8) }
 
 -- 8: the bend edges lack log
 abbrev case1109 : Case
-case1109 = record { asked = meshes (cutCall true in1107 (blade 0x40c00000 0xbf800000 0x40c00000 0x3f800000) (bits 0x3dcccccd) (rooms 6 1024 7 5 2)); wanted = meshes (refused 8) }
+case1109 = record { asked = meshes (cutCall true in1107 (blade 0x40c00000 0xbf800000 0x40c00000 0x3f800000) (bits 0x3dcccccd) (rooms 6 1024 7 5 3)); wanted = meshes (refused 8) }
 
 abbrev in1110 : Mesh
 in1110 =
@@ -131,9 +131,29 @@ in1113 =
 abbrev case1113 : Case
 case1113 = record { asked = meshes (straddlersCall true in1113 (rooms 9 1024 9 9 0)); wanted = meshes (refused 8) }
 
+-- 8: four marks come before a split that lacks a particle
+abbrev case1114 : Case
+case1114 = record { asked = meshes (cutCall true in1101 (blade 0xbf800000 0xbf800000 0x40a00000 0x40a00000) (bits 0x3dcccccd) (rooms 4 1024 2 4 3)); wanted = meshes (refused 8) }
+
+-- 5: the marks have just enough
+abbrev case1115 : Case
+case1115 = record { asked = meshes (cutCall true in1101 (blade 0xbf800000 0xbf800000 0x40a00000 0x40a00000) (bits 0x3dcccccd) (rooms 4 1024 2 4 4)); wanted = meshes (refused 5) }
+
+abbrev in1116 : Mesh
+in1116 =
+    mesh
+    (particle 0x00000000 0x00000000 0x00000000 0x00000000 0x3f800000 0x3f800000 0 0 ∷ particle 0x41000000 0x00000000 0x41000000 0x00000000 0x3f800000 0x3f800000 1 0 ∷ [])
+    []
+    (edge 0 1 1 0 0x41000000 0x41000000 0x00000000 0x00000000 ∷ [])
+    []
+
+-- 8: the mark of a strap that is left whole
+abbrev case1116 : Case
+case1116 = record { asked = meshes (cutCall true in1116 (blade 0x3e99999a 0xbf800000 0x3f000000 0x3f800000) (bits 0x3dcccccd) (rooms 9 1024 9 9 0)); wanted = meshes (refused 8) }
+
 abbrev pub cases : List Case
-cases = case1101 ∷ case1102 ∷ case1103 ∷ case1104 ∷ case1105 ∷ case1106 ∷ case1107 ∷ case1108 ∷ case1109 ∷ case1110 ∷ case1111 ∷ case1112 ∷ case1113 ∷ []
+cases = case1101 ∷ case1102 ∷ case1103 ∷ case1104 ∷ case1105 ∷ case1106 ∷ case1107 ∷ case1108 ∷ case1109 ∷ case1110 ∷ case1111 ∷ case1112 ∷ case1113 ∷ case1114 ∷ case1115 ∷ case1116 ∷ []
 
 pub agree : map (λ (c : Case). c .asked) cases ≡ map (λ (c : Case). c .wanted) cases
-unfolding any all sift siftAt find fold each pairs mapAt tab upTo rising distinct disjoint padded keep keptOf nth merged joinPair joinRow joinRows labelled absOf maxOf invOf finite? number? volume? notBelow0? floorRoot rootUnits signOf sumOf centroidOf lerpOf lengthOf bladeHit labelsOf numberOne numberSide numbered groupsOf countOf particleOk triangleOk edgeOk numbersFit named rootOk cornersOk endsOk sideOk indicesFit placeOf restOf besides sum kindBy kindOf trianglesFrom strapsFrom elementsOf held restMeasure restMeasureOf fanOf gridOf partsOf openingOf splits? made weightOf totalOf massOf portion copied groupAt rewiredTriangles rewiredStraps ring scoreOf scored toward edgeGroups stayed doubled otherEdges parted straddles sideGroup followed faceOn facetsAt crackFacets atLongest settled splitEntries goneEntries splitMade splitStep splitBySides sharedOf pieceLabels pieceCount pieces bodyLabels bodies bodyOf spans across? withoutStraddlers straddlersGone removeStraddlers reachLabels labelsAt membersOf reachOf opensWithoutConfetti meets leftOf keptSide bladeSides splitByBlade splitEnds nearCorners pinched splitFree splitPinched candidates cutFacets crossings nearEnd strapsAt strapShare insertionOf wanted? insertable sideAlong bends numbersOf bendsOver lightened between insertedParticles halfOf insertedEdges shortened appended insertedSides insertedMesh insertStep insertedAt snappedAt crossed unbent slackened splitSnapped afterCrossings cutSegments cut largestStress stressBetween triangleLoad loadsOf family crossPairs currentOf currentPair beyond farSide meanLoad twoSided wayAt waysOf damagedAt torn crackBy crackPair crackEdge tornEnds crack start stepTo splitsOf changed sidesOk strictly particlesOk refusal tooSmall firstFault outcome cutCall crackCall splitCall straddlersCall bladeCall groupsCall restMeasureCall restMeasureOfCall opensCall piecesCall stateCall isNan neg add sub mul div lt le eq ne ofInt ofBits
+unfolding any all sift siftAt find fold each pairs mapAt tab upTo rising distinct disjoint padded keep keptOf nth merged joinPair joinRow joinRows labelled absOf maxOf invOf finite? number? volume? notBelow0? floorRoot rootUnits signOf sumOf centroidOf lerpOf lengthOf bladeHit labelsOf numberOne numberSide numbered groupsOf countOf particleOk triangleOk edgeOk numbersFit named rootOk cornersOk endsOk sideOk indicesFit placeOf restOf besides sum kindBy kindOf trianglesFrom strapsFrom elementsOf held restMeasure restMeasureOf fanOf gridOf partsOf openingOf splits? made weightOf totalOf massOf portion copied groupAt rewiredTriangles rewiredStraps ring scoreOf scored toward edgeGroups stayed doubled otherEdges parted straddles sideGroup followed faceOn facetsAt crackFacets atLongest settled splitEntries goneEntries splitMade splitStep splitBySides sharedOf pieceLabels pieceCount pieces bodyLabels bodies bodyOf spans across? withoutStraddlers straddlersGone removeStraddlers reachLabels labelsAt membersOf reachOf opensWithoutConfetti meets leftOf keptSide bladeSides splitByBlade splitEnds nearCorners pinched splitFree splitPinched candidates cutFacets crossings nearEnd strapsAt strapShare insertionOf wanted? insertable sideAlong bends numbersOf bendsOver lightened between insertedParticles halfOf insertedEdges shortened appended insertedSides insertedMesh insertStep insertedAt snappedAt crossed unbent slackened splitSnapped afterCrossings cutSegments marksOf markedBy cutAlong cut largestStress stressBetween triangleLoad loadsOf family crossPairs currentOf currentPair beyond farSide meanLoad twoSided wayAt waysOf damagedAt torn crackBy crackPair crackEdge tornEnds crack start stepTo splitsOf changed sidesOk strictly particlesOk refusal tooSmall firstFault outcome cutCall crackCall splitCall straddlersCall bladeCall groupsCall restMeasureCall restMeasureOfCall opensCall piecesCall stateCall isNan neg add sub mul div lt le eq ne ofInt ofBits
 agree = refl

@@ -7,7 +7,7 @@ use lib.Ieee.{isNan, neg, add, sub, mul, div, lt, le, eq, ne, ofInt, ofBits}
 use Rattle.blade.specs.declared.Hit.the-variants.{Miss, Hit as HitAt}
 use Rattle.model.specs.Mesh.{Mesh}
 use Rattle.model.specs.Pieces.{defaultMinPiece}
-use Rattle.model.specs.Run.{split, edge as removed, insert, opened}
+use Rattle.model.specs.Run.{split, edge as removed, insert, opened, met}
 use Rattle.model.specs.Calls.{refused, done}
 use Rattle.model.specs.Reads.{refused as denied, value}
 use Rattle.model.specs.Starred.{Case, meshes, groups, flag, number, float, hit}
@@ -25,7 +25,7 @@ use Rattle.model.specs.Valid.{particleOk, triangleOk, edgeOk, numbersFit
 use Rattle.model.specs.Elements.{placeOf, restOf, besides, sum, kindBy, kindOf, trianglesFrom, strapsFrom, elementsOf, held, restMeasure, restMeasureOf, fanOf, gridOf}
 use Rattle.model.specs.Split.{partsOf, openingOf, splits?, made, weightOf, totalOf, massOf, portion, copied, groupAt, rewiredTriangles, rewiredStraps, ring, scoreOf, scored, toward, edgeGroups, stayed, doubled, otherEdges, parted, straddles, sideGroup, followed, faceOn, facetsAt, crackFacets, atLongest, settled, splitEntries, goneEntries, splitMade, splitStep, splitBySides}
 use Rattle.model.specs.Pieces.{sharedOf, pieceLabels, pieceCount, pieces, bodyLabels, bodies, bodyOf, spans, across?, withoutStraddlers, straddlersGone, removeStraddlers, reachLabels, labelsAt, membersOf, reachOf, opensWithoutConfetti}
-use Rattle.model.specs.Cut.{meets, leftOf, keptSide, bladeSides, splitByBlade, splitEnds, nearCorners, pinched, splitFree, splitPinched, candidates, cutFacets, crossings, nearEnd, strapsAt, strapShare, insertionOf, wanted?, insertable, sideAlong, bends, numbersOf, bendsOver, lightened, between, insertedParticles, halfOf, insertedEdges, shortened, appended, insertedSides, insertedMesh, insertStep, insertedAt, snappedAt, crossed, unbent, slackened, splitSnapped, afterCrossings, cutSegments, cut}
+use Rattle.model.specs.Cut.{meets, leftOf, keptSide, bladeSides, splitByBlade, splitEnds, nearCorners, pinched, splitFree, splitPinched, candidates, cutFacets, crossings, nearEnd, strapsAt, strapShare, insertionOf, wanted?, insertable, sideAlong, bends, numbersOf, bendsOver, lightened, between, insertedParticles, halfOf, insertedEdges, shortened, appended, insertedSides, insertedMesh, insertStep, insertedAt, snappedAt, crossed, unbent, slackened, splitSnapped, afterCrossings, cutSegments, marksOf, markedBy, cutAlong, cut}
 use Rattle.model.specs.Crack.{largestStress, stressBetween, triangleLoad, loadsOf, family, crossPairs, currentOf, currentPair, beyond, farSide, meanLoad, twoSided, wayAt, waysOf, damagedAt, torn, crackBy, crackPair, crackEdge, tornEnds, crack}
 use Rattle.model.specs.Run.{start, stepTo, splitsOf, changed}
 use Rattle.model.specs.Calls.{sidesOk, strictly, particlesOk, refusal, tooSmall, firstFault, outcome, cutCall, crackCall, splitCall, straddlersCall}
@@ -79,5 +79,5 @@ abbrev pub cases : List Case
 cases = case701 ∷ case702 ∷ case703 ∷ []
 
 pub agree : map (λ (c : Case). c .asked) cases ≡ map (λ (c : Case). c .wanted) cases
-unfolding any all sift siftAt find fold each pairs mapAt tab upTo rising distinct disjoint padded keep keptOf nth merged joinPair joinRow joinRows labelled absOf maxOf invOf finite? number? volume? notBelow0? floorRoot rootUnits signOf sumOf centroidOf lerpOf lengthOf bladeHit labelsOf numberOne numberSide numbered groupsOf countOf particleOk triangleOk edgeOk numbersFit named rootOk cornersOk endsOk sideOk indicesFit placeOf restOf besides sum kindBy kindOf trianglesFrom strapsFrom elementsOf held restMeasure restMeasureOf fanOf gridOf partsOf openingOf splits? made weightOf totalOf massOf portion copied groupAt rewiredTriangles rewiredStraps ring scoreOf scored toward edgeGroups stayed doubled otherEdges parted straddles sideGroup followed faceOn facetsAt crackFacets atLongest settled splitEntries goneEntries splitMade splitStep splitBySides sharedOf pieceLabels pieceCount pieces bodyLabels bodies bodyOf spans across? withoutStraddlers straddlersGone removeStraddlers reachLabels labelsAt membersOf reachOf opensWithoutConfetti meets leftOf keptSide bladeSides splitByBlade splitEnds nearCorners pinched splitFree splitPinched candidates cutFacets crossings nearEnd strapsAt strapShare insertionOf wanted? insertable sideAlong bends numbersOf bendsOver lightened between insertedParticles halfOf insertedEdges shortened appended insertedSides insertedMesh insertStep insertedAt snappedAt crossed unbent slackened splitSnapped afterCrossings cutSegments cut largestStress stressBetween triangleLoad loadsOf family crossPairs currentOf currentPair beyond farSide meanLoad twoSided wayAt waysOf damagedAt torn crackBy crackPair crackEdge tornEnds crack start stepTo splitsOf changed sidesOk strictly particlesOk refusal tooSmall firstFault outcome cutCall crackCall splitCall straddlersCall bladeCall groupsCall restMeasureCall restMeasureOfCall opensCall piecesCall stateCall isNan neg add sub mul div lt le eq ne ofInt ofBits
+unfolding any all sift siftAt find fold each pairs mapAt tab upTo rising distinct disjoint padded keep keptOf nth merged joinPair joinRow joinRows labelled absOf maxOf invOf finite? number? volume? notBelow0? floorRoot rootUnits signOf sumOf centroidOf lerpOf lengthOf bladeHit labelsOf numberOne numberSide numbered groupsOf countOf particleOk triangleOk edgeOk numbersFit named rootOk cornersOk endsOk sideOk indicesFit placeOf restOf besides sum kindBy kindOf trianglesFrom strapsFrom elementsOf held restMeasure restMeasureOf fanOf gridOf partsOf openingOf splits? made weightOf totalOf massOf portion copied groupAt rewiredTriangles rewiredStraps ring scoreOf scored toward edgeGroups stayed doubled otherEdges parted straddles sideGroup followed faceOn facetsAt crackFacets atLongest settled splitEntries goneEntries splitMade splitStep splitBySides sharedOf pieceLabels pieceCount pieces bodyLabels bodies bodyOf spans across? withoutStraddlers straddlersGone removeStraddlers reachLabels labelsAt membersOf reachOf opensWithoutConfetti meets leftOf keptSide bladeSides splitByBlade splitEnds nearCorners pinched splitFree splitPinched candidates cutFacets crossings nearEnd strapsAt strapShare insertionOf wanted? insertable sideAlong bends numbersOf bendsOver lightened between insertedParticles halfOf insertedEdges shortened appended insertedSides insertedMesh insertStep insertedAt snappedAt crossed unbent slackened splitSnapped afterCrossings cutSegments marksOf markedBy cutAlong cut largestStress stressBetween triangleLoad loadsOf family crossPairs currentOf currentPair beyond farSide meanLoad twoSided wayAt waysOf damagedAt torn crackBy crackPair crackEdge tornEnds crack start stepTo splitsOf changed sidesOk strictly particlesOk refusal tooSmall firstFault outcome cutCall crackCall splitCall straddlersCall bladeCall groupsCall restMeasureCall restMeasureOfCall opensCall piecesCall stateCall isNan neg add sub mul div lt le eq ne ofInt ofBits
 agree = refl
