@@ -11,7 +11,7 @@ use lib.Seq.{drop-cons, take-append-le}
 use borrow.Author.Tests.{eq-eqb, ne-eqb}
 use Rattle.lists.specs.Lists.{pick, sift, each}
 use Rattle.lists.proofs.Steps.{each-step}
-use Rattle.model.specs.Run.{Entry, split, edge, insert, opened}
+use Rattle.model.specs.Run.{Entry, split, edge, insert, opened, met}
 use Rattle.mesh.specs.Log.{Words, wordsOf, entryRow, logAt}
 use Rattle.listing.specs.Listing.{ofKind, line, splitWord, edgeWord, insertWord, splitLine, edgeLine, insertLine, listingBytes, splitText, edgeText, insertText, listingOf}
 use Rattle.listing.specs.Work.{entryLine}
@@ -68,18 +68,21 @@ split-same (split c v) = refl
 split-same (edge a b) = refl
 split-same (insert a b p q t) = refl
 split-same (opened a b) = refl
+split-same (met a b p t) = refl
 
 edge-same : (e : Entry) → pick (eqb (wordsOf e .kind) 2) (edgeLine (wordsOf e)) [] ≡ edgeText e
 edge-same (split c v) = refl
 edge-same (edge a b) = refl
 edge-same (insert a b p q t) = refl
 edge-same (opened a b) = refl
+edge-same (met a b p t) = refl
 
 insert-same : (e : Entry) → pick (eqb (wordsOf e .kind) 3) (insertLine (wordsOf e)) [] ≡ insertText e
 insert-same (split c v) = refl
 insert-same (edge a b) = refl
 insert-same (insert a b p q t) = refl
 insert-same (opened a b) = refl
+insert-same (met a b p t) = refl
 
 -- the listing of the words of a log is the listing of its entries
 pub listing-entries : (replaced : Bool) (l : List Entry) (particles pieces : ℕ) → listingBytes replaced (map wordsOf l) particles pieces ≡ listingOf replaced l particles pieces

@@ -4,10 +4,12 @@ use mathlib.Core.Path.{_≡_, refl, ap, _∙_}
 use mathlib.Core.Bool.{Bool, true, false}
 use mathlib.Core.List.{List, [], _∷_, map}
 use lib.IntN.{pos, negsuc}
+use lib.Ieee.{fin}
 use Rattle.lists.specs.Lists.{sift, each}
-use Rattle.model.specs.Run.{split, edge, insert}
+use Rattle.float.specs.Numbers.{zero32, one}
+use Rattle.model.specs.Run.{Entry, split, edge, insert, met}
 use Rattle.model.specs.Calls.{Outcome, refused, done, cutCall}
-use Rattle.model.specs.Starred.{quarter, tenth, limits, strapMesh, listingMesh, blade}
+use Rattle.model.specs.Starred.{point, quarter, tenth, limits, strapMesh, listingMesh, blade}
 use Rattle.model.proofs.Starred.{Said, no-mesh, told, said, listing-worked, strap-worked}
 use Rattle.mesh.specs.Log.{wordsOf}
 use Rattle.listing.specs.Listing.{decimalBy, decimal, line, ofKind, replacedLine, listingBytes, refusedBytes, printed}
@@ -22,8 +24,17 @@ worked-bytes =
     ∷ 112 ∷ 97 ∷ 114 ∷ 116 ∷ 105 ∷ 99 ∷ 108 ∷ 101 ∷ 115 ∷ 32 ∷ 54 ∷ 10
     ∷ 112 ∷ 105 ∷ 101 ∷ 99 ∷ 101 ∷ 115 ∷ 32 ∷ 50 ∷ 10 ∷ []
 
--- the log in the order of happening: copy 4 of 0, with which edge (1, 3) goes, then copy 5 of 2
-pub worked-listing : listingBytes false (map wordsOf (split 4 0 ∷ edge 1 3 ∷ split 5 2 ∷ [])) 6 2 ≡ worked-bytes
+-- the log in the order of happening: the four sides that the blade meets, which have no line; copy 4 of 0, with which edge (1, 3) goes, then copy 5 of 2
+abbrev pub worked-log : List Entry
+worked-log =
+    met 0 1 (point (pos 0) (pos 0)) zero32 ∷ met 1 2 (point (pos 4) (pos 4)) one ∷ met 0 3 (point (pos 0) (pos 0)) (fin true 0 (pos 0))
+    ∷ met 2 3 (point (pos 4) (pos 4)) (fin true 0 (pos 0))
+    ∷ split 4 0
+    ∷ edge 1 3
+    ∷ split 5 2
+    ∷ []
+
+pub worked-listing : listingBytes false (map wordsOf worked-log) 6 2 ≡ worked-bytes
 unfolding listingBytes replacedLine ofKind sift each line decimal decimalBy
 worked-listing = refl
 
@@ -38,7 +49,7 @@ replaced-bytes =
     ∷ 112 ∷ 97 ∷ 114 ∷ 116 ∷ 105 ∷ 99 ∷ 108 ∷ 101 ∷ 115 ∷ 32 ∷ 54 ∷ 10
     ∷ 112 ∷ 105 ∷ 101 ∷ 99 ∷ 101 ∷ 115 ∷ 32 ∷ 50 ∷ 10 ∷ []
 
-pub replaced-listing : listingBytes true (map wordsOf (split 4 0 ∷ edge 1 3 ∷ split 5 2 ∷ [])) 6 2 ≡ replaced-bytes
+pub replaced-listing : listingBytes true (map wordsOf worked-log) 6 2 ≡ replaced-bytes
 unfolding listingBytes replacedLine ofKind sift each line decimal decimalBy
 replaced-listing = refl
 
@@ -50,7 +61,7 @@ strap-bytes =
     ∷ 112 ∷ 97 ∷ 114 ∷ 116 ∷ 105 ∷ 99 ∷ 108 ∷ 101 ∷ 115 ∷ 32 ∷ 52 ∷ 10
     ∷ 112 ∷ 105 ∷ 101 ∷ 99 ∷ 101 ∷ 115 ∷ 32 ∷ 50 ∷ 10 ∷ []
 
-strap-listing : listingBytes false (map wordsOf (insert 0 1 2 3 quarter ∷ [])) 4 2 ≡ strap-bytes
+strap-listing : listingBytes false (map wordsOf (met 0 1 (point (pos 2) (pos 0)) quarter ∷ insert 0 1 2 3 quarter ∷ [])) 4 2 ≡ strap-bytes
 unfolding listingBytes replacedLine ofKind sift each line decimal decimalBy
 strap-listing = refl
 

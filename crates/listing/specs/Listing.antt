@@ -5,7 +5,7 @@ use mathlib.Core.List.{List, [], _∷_, _++_, map}
 use lib.ListN.{length}
 use lib.Dec.{eqb, leb, ltb}
 use Rattle.lists.specs.Lists.{pick, sift, each}
-use Rattle.model.specs.Run.{Entry, split, edge, insert, opened}
+use Rattle.model.specs.Run.{Entry, split, edge, insert, opened, met}
 use Rattle.model.specs.Pieces.{pieces}
 use Rattle.model.specs.Calls.{Outcome, refused, done}
 use Rattle.mesh.specs.Log.{Words, wordsOf}
@@ -111,18 +111,21 @@ splitText (split c v) = line splitWord (c ∷ v ∷ [])
 splitText (edge a b) = []
 splitText (insert a b p q t) = []
 splitText (opened a b) = []
+splitText (met a b p t) = []
 
 abbrev pub edgeText : Entry → List ℕ
 edgeText (split c v) = []
 edgeText (edge a b) = line edgeWord (a ∷ b ∷ [])
 edgeText (insert a b p q t) = []
 edgeText (opened a b) = []
+edgeText (met a b p t) = []
 
 abbrev pub insertText : Entry → List ℕ
 insertText (split c v) = []
 insertText (edge a b) = []
 insertText (insert a b p q t) = line insertWord (a ∷ b ∷ p ∷ q ∷ [])
 insertText (opened a b) = []
+insertText (met a b p t) = []
 
 -- the listing of a log of entries
 unfoldable pub listingOf : Bool → List Entry → ℕ → ℕ → List ℕ
