@@ -129,8 +129,8 @@ unfolding splitWorld settledWorld settled
 split-triangles K O W = longest-triangles K O (W .mesh)
 
 -- behind a worker that is done the next one finds what it asks
-pub linked-done : {K : Kind} {corners links : List ℕ} (r : Ran) (q : Counts) → LinkedAfter K corners links r → r ≡ Done q → Linked K (q .triangles) corners links
-linked-done {K} {corners} {links} r q X e = subst (λ (z : Ran). LinkedAfter K corners links z) e X
+pub linked-done : {K : Kind} {corners links : List ℕ} (r : Ran) (q : Counts) → r ≡ Done q → LinkedAfter K corners links r → Linked K (q .triangles) corners links
+linked-done {K} {corners} {links} r q e X = subst (λ (z : Ran). LinkedAfter K corners links z) e X
 
 -- ---- beside a mesh in blocks
 
