@@ -1,4 +1,3 @@
 -- A crack across torn edges: its laws and its proofs.
-pub mod OpenLaws
 pub mod BodyLaws
 pub mod ListedLaws

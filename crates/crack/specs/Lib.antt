@@ -1,3 +1,2 @@
 -- A crack across torn edges, over the lent blocks.
-pub mod Cracks
 pub mod Bodies

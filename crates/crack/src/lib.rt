@@ -1,3 +1,2 @@
-// A crack across torn edges, over the lent blocks: each edge in turn, its better way first, and what comes behind them.
+// A crack across torn edges, over the lent blocks: each edge in turn, and what comes behind them.
 pub mod body;
-pub mod edges;

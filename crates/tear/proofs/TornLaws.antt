@@ -26,6 +26,7 @@ use Rattle.mesh.proofs.Lists.{mesh-path, world-path}
 use Rattle.mesh.specs.Filled.{lent}
 use Rattle.work.specs.Working.{Within, Ready, Works}
 use Rattle.split.specs.Tables.{FanGrouped, openedBy}
+use Rattle.split.specs.Linking.{LinkedAfter}
 use Rattle.work.proofs.Placed.{particles-count}
 use Rattle.tear.specs.Torn.{TearRoom, TearDone, TearTold, TearAsked}
 use Rattle.split.specs.Steps.{loggedOf, settledWorld, needOf, splitWorld, Stepped}
@@ -125,6 +126,11 @@ module _ (K : Kind) (O : Opening) (a b : ℕ) (xy : ℕ × ℕ) (L : Rooms) (W :
   pub split-count : (q : Counts) → Stepped K O L 1 W at (Done q) → length (at q .mesh .particles) ≡ length (W .mesh .particles) + (O .count - 1)
   unfolding splitWorld settledWorld settled atLongest
   split-count q S = ap (λ (X : World). length (X .mesh .particles)) (S .3) ∙ copied-length O (W .mesh .particles)
+
+-- what is done behind the split keeps the number of triangles, so the table stays as the split left it
+pub linked-told : (K : Kind) (corners links : List ℕ) (r s : Ran) (q : Counts) → r ≡ Done q → s ≡ Done (record { particles = q .particles; triangles = q .triangles; edges = q .edges; boundary = q .boundary; log = q .log + 1 })
+    → LinkedAfter K corners links r → LinkedAfter K corners links s
+linked-told K corners links r s q e f X = subst (LinkedAfter K corners links) (sym f) (subst (LinkedAfter K corners links) e X)
 
 -- ---- over the blocks
 

@@ -15,6 +15,7 @@ use Rattle.mesh.specs.At.{trianglesAt, edgesAt, meshAt}
 use Rattle.mesh.specs.declared.Counts.{Counts}
 use Rattle.elements.specs.Table.{Cornered, Tabled, TableRoom, elementsIn}
 use Rattle.elements.proofs.Found.{elements-in, fan-of}
+use Rattle.links.specs.Linked.{Linked}
 use Rattle.reach.specs.Walk.{Lent}
 use Rattle.reach.specs.Opens.{Opens}
 use Rattle.reach.proofs.Opening.{lent-by, opens-is}
@@ -32,19 +33,23 @@ module _ (K : Kind) (k : Counts) (points : List Float) (roots corners : List ℕ
   abbrev M : Mesh
   M = meshAt k points roots corners volumes ends lengths outline
 
-  -- what the fan's tables ask
-  pub way-lent : (ln lk lm ls : ℕ) → WayTables ln lk lm ls → FanLent (k .triangles) (k .edges) (length corners) (length volumes) (length ends) (length lengths) ln lk lm
-  way-lent ln lk lm ls T =
-      record {
-        few = (P .few-triangles, P .few-edges);
-        corners = P .corners;
-        volumes = P .volumes;
-        ends = P .ends;
-        lengths = P .lengths;
-        numbers = T .numbers;
-        verts = T .verts;
-        measures = T .measures;
-      }
+  -- what reading the fan asks
+  pub way-lent : {links : List ℕ} (ln lk lm ls : ℕ) → WayTables ln lk lm ls → Linked K (k .triangles) corners links
+      → FanLent (k .triangles) (k .edges) (length corners) (length volumes) (length ends) (length lengths) ln lk lm × Linked K (k .triangles) corners links × (v < 1024)
+  way-lent ln lk lm ls T X = (
+    record {
+      few = (P .few-triangles, P .few-edges);
+      corners = P .corners;
+      volumes = P .volumes;
+      ends = P .ends;
+      lengths = P .lengths;
+      numbers = T .numbers;
+      verts = T .verts;
+      measures = T .measures;
+    },
+    X,
+    omega (arith, P .v-in, P .few-particles),
+  )
 
   module _ (n : ℕ) (numbers verts : List ℕ) (measures : List Float) (F : FanRead K v (k .triangles) (k .edges) corners volumes ends lengths n numbers verts measures) where
     -- the fan of the mesh stands in the tables

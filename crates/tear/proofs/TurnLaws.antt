@@ -24,6 +24,7 @@ ready-back v w k lp lc lv le ll M A =
     record {
       v-in = A .w-in;
       w-in = A .v-in;
+      few-particles = A .few-particles;
       few-triangles = A .few-triangles;
       few-edges = A .few-edges;
       points = A .points;

@@ -16,6 +16,7 @@ use Rattle.elements.specs.Table.{Tabled}
 pub record WayReady (v w : ℕ) (k : Counts) (lp lc lv le ll : ℕ) (M : Mesh) : Type 0 where
   pub v-in : v < k .particles
   pub w-in : w < k .particles
+  pub few-particles : k .particles ≤ 1024
   pub few-triangles : k .triangles ≤ 1024
   pub few-edges : k .edges ≤ 2048
   pub points : k .particles ≤ lp / 6

@@ -1,6 +1,7 @@
 // A torn edge before a way is tried: the pair that stands for it now, and which of its ends goes first.
 ghost use lib.ListN.{length};
 ghost use Rattle.elements.specs.Table.{kindIs};
+ghost use Rattle.links.specs.Linked.{Linked};
 ghost use Rattle.mesh.specs.At.{meshAt};
 ghost use Rattle.mesh.specs.Log.{worldAt};
 ghost use Rattle.work.specs.Working.{Logged};
@@ -115,8 +116,9 @@ pub fn turned(
     ends: &[usize],
     lengths: &[f32],
     outline: &[usize],
+    links: &[u16],
 ) -> bool
-    requires { ⌜ WayReady x y k (length (now points)) (length (now corners)) (length (now volumes)) (length (now ends)) (length (now lengths)) (meshAt k (now points) (now roots) (now corners) (now volumes) (now ends) (now lengths) (now outline)) × LoadsLong (kindIs kind) k (length (now loads)) ⌝ }
+    requires { ⌜ WayReady x y k (length (now points)) (length (now corners)) (length (now volumes)) (length (now ends)) (length (now lengths)) (meshAt k (now points) (now roots) (now corners) (now volumes) (now ends) (now lengths) (now outline)) × LoadsLong (kindIs kind) k (length (now loads)) × Linked (kindIs kind) (k .triangles) (now corners) (now links) ⌝ }
     ensures { λ r. ⌜ Turned (kindIs kind) x y (k .triangles) (now (loads .entry)) (meshAt k (now (points .entry)) (now (roots .entry)) (now (corners .entry)) (now (volumes .entry)) (now (ends .entry)) (now (lengths .entry)) (now (outline .entry))) r ⌝ }
 {
     let p = crate::tried::way_load(
@@ -132,6 +134,7 @@ pub fn turned(
         ends,
         lengths,
         outline,
+        links,
     );
     let q = crate::tried::way_load(
         kind,
@@ -146,6 +149,7 @@ pub fn turned(
         ends,
         lengths,
         outline,
+        links,
     );
     crate::ways::goes_first(q, y, p, x)
 }

@@ -3,6 +3,7 @@ ghost use mathlib.Core.List.{[], _∷_};
 ghost use Prim.Native.Nat.{_≤_};
 ghost use lib.ListN.{length};
 ghost use Rattle.elements.specs.Table.{kindIs};
+ghost use Rattle.links.specs.Linked.{Linked};
 ghost use Rattle.model.specs.Run.{opened};
 ghost use Rattle.model.specs.Split.{splitMade};
 ghost use Rattle.model.specs.Crack.{torn};
@@ -11,6 +12,7 @@ ghost use Rattle.mesh.specs.Log.{worldAt};
 ghost use Rattle.mesh.specs.Filled.{lent};
 ghost use Rattle.work.specs.Working.{Ready, Works};
 ghost use Rattle.split.specs.Tables.{FanGrouped, openedBy};
+ghost use Rattle.split.specs.Linking.{LinkedAfter};
 ghost use Rattle.tear.specs.Torn.{TearRoom, TearTold, TearAsked};
 use elements::Kind;
 use mesh::Counts;
@@ -76,11 +78,12 @@ pub fn tear_open(
     outline: &mut [usize],
     log: &mut [u32],
     mask: &mut [usize],
+    links: &mut [u16],
 ) -> Ran
-    requires { ⌜ Ready room k (lent (now points) (now roots) (now corners) (now volumes) (now ends) (now lengths) (now outline) (now log)) (meshAt k (now points) (now roots) (now corners) (now volumes) (now ends) (now lengths) (now outline)) × FanGrouped (kindIs kind) (meshAt k (now points) (now roots) (now corners) (now volumes) (now ends) (now lengths) (now outline)) v n count (now numbers) (now verts) (now measures) (now groups) × TearAsked v w x y a b (k .particles) × (2048 ≤ length (now mask)) ⌝ }
+    requires { ⌜ Ready room k (lent (now points) (now roots) (now corners) (now volumes) (now ends) (now lengths) (now outline) (now log)) (meshAt k (now points) (now roots) (now corners) (now volumes) (now ends) (now lengths) (now outline)) × FanGrouped (kindIs kind) (meshAt k (now points) (now roots) (now corners) (now volumes) (now ends) (now lengths) (now outline)) v n count (now numbers) (now verts) (now measures) (now groups) × TearAsked v w x y a b (k .particles) × (2048 ≤ length (now mask)) × Linked (kindIs kind) (k .triangles) (now corners) (now links) ⌝ }
     ensures { λ r. ⌜ Works (splitMade (opened a b ∷ []) (torn (openedBy (kindIs kind) (meshAt k (now (points .entry)) (now (roots .entry)) (now (corners .entry)) (now (volumes .entry)) (now (ends .entry)) (now (lengths .entry)) (now (outline .entry))) v n count (now (groups .entry))) (x, y)) (kindIs kind) (openedBy (kindIs kind) (meshAt k (now (points .entry)) (now (roots .entry)) (now (corners .entry)) (now (volumes .entry)) (now (ends .entry)) (now (lengths .entry)) (now (outline .entry))) v n count (now (groups .entry)))) room
         (worldAt k (now (points .entry)) (now (roots .entry)) (now (corners .entry)) (now (volumes .entry)) (now (ends .entry)) (now (lengths .entry)) (now (outline .entry)) (now (log .entry)))
-        (λ q. worldAt q (now (points .exit)) (now (roots .exit)) (now (corners .exit)) (now (volumes .entry)) (now (ends .exit)) (now (lengths .exit)) (now (outline .exit)) (now (log .exit))) r ⌝ }
+        (λ q. worldAt q (now (points .exit)) (now (roots .exit)) (now (corners .exit)) (now (volumes .entry)) (now (ends .exit)) (now (lengths .exit)) (now (outline .exit)) (now (log .exit))) r × LinkedAfter (kindIs kind) (now (corners .exit)) (now (links .exit)) r ⌝ }
 {
     let was = k.particles;
     let ran = split::step::split_opened(
@@ -104,6 +107,7 @@ pub fn tear_open(
         outline,
         log,
         mask,
+        links,
     );
     let Ran::Done(q) = ran else {
         return ran;

@@ -3,6 +3,7 @@ ghost use mathlib.Core.Path.{_≡_};
 ghost use Prim.Native.Nat.{_≤_};
 ghost use lib.ListN.{length};
 ghost use Rattle.elements.specs.Table.{kindIs, TableRoom};
+ghost use Rattle.links.specs.Linked.{Linked};
 ghost use Rattle.mesh.specs.At.{meshAt};
 ghost use Rattle.model.specs.Elements.{fanOf};
 ghost use Rattle.model.specs.Pieces.{opensWithoutConfetti};
@@ -28,8 +29,9 @@ pub fn way_tables(
     verts: &mut [usize],
     measures: &mut [f32],
     sides: &mut [usize],
+    links: &[u16],
 ) -> usize
-    requires { ⌜ WayReady v w k (length (now points)) (length (now corners)) (length (now volumes)) (length (now ends)) (length (now lengths)) (meshAt k (now points) (now roots) (now corners) (now volumes) (now ends) (now lengths) (now outline)) × WayTables (length (now numbers)) (length (now verts)) (length (now measures)) (length (now sides)) ⌝ }
+    requires { ⌜ WayReady v w k (length (now points)) (length (now corners)) (length (now volumes)) (length (now ends)) (length (now lengths)) (meshAt k (now points) (now roots) (now corners) (now volumes) (now ends) (now lengths) (now outline)) × WayTables (length (now numbers)) (length (now verts)) (length (now measures)) (length (now sides)) × Linked (kindIs kind) (k .triangles) (now corners) (now links) ⌝ }
     ensures { λ r. ⌜ WayRead (kindIs kind) v w (meshAt k (now (points .entry)) (now (roots .entry)) (now (corners .entry)) (now (volumes .entry)) (now (ends .entry)) (now (lengths .entry)) (now (outline .entry))) r (now (numbers .exit)) (now (verts .exit)) (now (measures .exit)) (now (sides .exit)) ⌝ }
 {
     let n = split::fans::fan_tables(
@@ -44,6 +46,7 @@ pub fn way_tables(
         numbers,
         verts,
         measures,
+        links,
     );
     let per = elements::corners_per(kind);
     crate::ways::far_sides(v, w, n, per, verts, points, sides);
@@ -64,8 +67,9 @@ pub fn way_load(
     ends: &[usize],
     lengths: &[f32],
     outline: &[usize],
+    links: &[u16],
 ) -> f32
-    requires { ⌜ WayReady v w k (length (now points)) (length (now corners)) (length (now volumes)) (length (now ends)) (length (now lengths)) (meshAt k (now points) (now roots) (now corners) (now volumes) (now ends) (now lengths) (now outline)) × LoadsLong (kindIs kind) k (length (now loads)) ⌝ }
+    requires { ⌜ WayReady v w k (length (now points)) (length (now corners)) (length (now volumes)) (length (now ends)) (length (now lengths)) (meshAt k (now points) (now roots) (now corners) (now volumes) (now ends) (now lengths) (now outline)) × LoadsLong (kindIs kind) k (length (now loads)) × Linked (kindIs kind) (k .triangles) (now corners) (now links) ⌝ }
     ensures { λ r. ⌜ WayLoad (kindIs kind) v w k (now (loads .entry)) (meshAt k (now (points .entry)) (now (roots .entry)) (now (corners .entry)) (now (volumes .entry)) (now (ends .entry)) (now (lengths .entry)) (now (outline .entry))) r ⌝ }
 {
     let mut numbers = [0usize; 2048];
@@ -88,6 +92,7 @@ pub fn way_load(
         &mut verts,
         &mut measures,
         &mut sides,
+        links,
     );
     crate::ways::mean_load(kind, n, &numbers, &sides, loads, lengths)
 }

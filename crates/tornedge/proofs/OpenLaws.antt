@@ -36,6 +36,8 @@ use Rattle.mesh.specs.Filled.{lent}
 use Rattle.elements.specs.Table.{TableRoom}
 use Rattle.work.specs.Working.{Within, Ready, Works}
 use Rattle.split.specs.Tables.{FanGrouped, FanSided, GroupsFound, openedBy}
+use Rattle.links.specs.Linked.{Linked}
+use Rattle.split.specs.Linking.{LinkedAfter}
 use Rattle.work.specs.declared.Ran.{Ran}
 use Rattle.work.specs.declared.Ran.the-variants.{Done}
 use Rattle.work.proofs.Runs.{works-stay, works-as}
@@ -44,12 +46,12 @@ use Rattle.work.proofs.Placed.{particles-count}
 use Rattle.tear.specs.Ways.{twoBy}
 use Rattle.tear.specs.Tried.{WayReady, WayRead, OpensRoom}
 use Rattle.tear.specs.Pairs.{PairReady, PairBelow, PairNow, Turned}
-use Rattle.crack.specs.Cracks.{openWay, WayAsked, OpenedTo, TriedTo, EndsTold, PairTold, CrackTold}
+use Rattle.tornedge.specs.Cracks.{openWay, WayAsked, OpenedTo, TriedTo, LinkedTried, EndsTold, PairTold, CrackTold}
 use Rattle.tear.specs.Families.{pairIs}
 use Rattle.tear.specs.declared.families.Pair.{Pair}
 use Rattle.tear.specs.declared.families.Pair.the-variants.{None, Ends}
-use Rattle.crack.specs.declared.edges.Tried.{Tried}
-use Rattle.crack.specs.declared.edges.Tried.the-variants.{Not, Tore}
+use Rattle.tornedge.specs.declared.Tried.{Tried}
+use Rattle.tornedge.specs.declared.Tried.the-variants.{Not, Tore}
 
 -- ---- two sides are two groups
 
@@ -200,6 +202,13 @@ module _ (K : Kind) (min v w : ℕ) (ab xy : ℕ × ℕ) (L : Rooms) (W : World)
         let S : TriedTo K min w v ab xy L k W at′ Not = subst (TriedTo K min w v ab xy L k W at′) q (second-tried at′ s U) in
         taken-works at′ (Done k) (λ ls. none) (λ ls. ap₂ (λ (y z : Option Way). firstOf y z) (shut .0 ls) (S .0 ls))
         (λ ls. subst (λ (X : World). Works (λ R. R) L X at′ (Done k)) (S .1) (works-stay {at = at′} k b))
+
+-- the table behind a way that opened, and behind one that did not
+pub linked-torn : (K : Kind) (t : ℕ) (corners links : List ℕ) (s : Tried) (r : Ran) → s ≡ Tore r → LinkedTried K t corners links s → LinkedAfter K corners links r
+linked-torn K t corners links s r e X = subst (LinkedTried K t corners links) e X
+
+pub linked-shut : (K : Kind) (t : ℕ) (corners links : List ℕ) (s : Tried) → s ≡ Not → LinkedTried K t corners links s → Linked K t corners links
+linked-shut K t corners links s e X = subst (LinkedTried K t corners links) e X
 
 -- ---- their order
 
@@ -352,6 +361,7 @@ module _ (L : Rooms) (k : Counts) (points : List Float) (roots corners : List �
       record {
         v-in = h;
         w-in = g;
+        few-particles = omega (arith, C .particles, R .few-particles);
         few-triangles = T .few .0;
         few-edges = T .few .1;
         points = omega (arith, C .particles, R .points);

@@ -4,6 +4,7 @@ ghost use Prim.Native.Nat.{_<_, _≤_};
 ghost use mathlib.Core.Bool.{true};
 ghost use lib.ListN.{length, take};
 ghost use Rattle.elements.specs.Table.{kindIs};
+ghost use Rattle.links.specs.Linked.{Linked};
 ghost use Rattle.mesh.specs.At.{meshAt};
 ghost use Rattle.mesh.specs.Log.{worldAt};
 ghost use Rattle.mesh.specs.Filled.{lent};
@@ -11,9 +12,10 @@ ghost use Rattle.model.specs.Split.{openingOf};
 ghost use Rattle.model.specs.Crack.{twoSided};
 ghost use Rattle.work.specs.Working.{Ready, Logged};
 ghost use Rattle.split.specs.Tables.{FanSided};
+ghost use Rattle.split.specs.Linking.{LinkedAfter};
 ghost use Rattle.tear.specs.Tried.{LoadsLong};
 ghost use Rattle.tear.specs.Torn.{TearAsked};
-ghost use Rattle.crack.specs.Cracks.{WayAsked, OpenedTo, TriedTo, EndsTold, PairTold, CrackTold};
+ghost use Rattle.tornedge.specs.Cracks.{WayAsked, OpenedTo, TriedTo, LinkedTried, EndsTold, PairTold, CrackTold};
 use elements::Kind;
 use mesh::Counts;
 use mesh::Rooms;
@@ -51,11 +53,13 @@ fn open_way(
     lengths: &mut [f32],
     outline: &mut [usize],
     log: &mut [u32],
+    links: &mut [u16],
 ) -> Tried
-    requires { ⌜ Ready room k (lent (now points) (now roots) (now corners) (now volumes) (now ends) (now lengths) (now outline) (now log)) (meshAt k (now points) (now roots) (now corners) (now volumes) (now ends) (now lengths) (now outline)) × FanSided (kindIs kind) (meshAt k (now points) (now roots) (now corners) (now volumes) (now ends) (now lengths) (now outline)) v n (now numbers) (now verts) (now measures) (now sides) × (twoSided (meshAt k (now points) (now roots) (now corners) (now volumes) (now ends) (now lengths) (now outline)) v (take n (now sides)) ≡ true) × TearAsked v w x y a b (k .particles) × (2048 ≤ length (now sides)) ⌝ }
+    requires { ⌜ Ready room k (lent (now points) (now roots) (now corners) (now volumes) (now ends) (now lengths) (now outline) (now log)) (meshAt k (now points) (now roots) (now corners) (now volumes) (now ends) (now lengths) (now outline)) × FanSided (kindIs kind) (meshAt k (now points) (now roots) (now corners) (now volumes) (now ends) (now lengths) (now outline)) v n (now numbers) (now verts) (now measures) (now sides) × (twoSided (meshAt k (now points) (now roots) (now corners) (now volumes) (now ends) (now lengths) (now outline)) v (take n (now sides)) ≡ true) × TearAsked v w x y a b (k .particles) × (2048 ≤ length (now sides)) × Linked (kindIs kind) (k .triangles) (now corners) (now links) ⌝ }
     ensures { λ r. ⌜ OpenedTo (kindIs kind) minimum (openingOf (kindIs kind) (meshAt k (now (points .entry)) (now (roots .entry)) (now (corners .entry)) (now (volumes .entry)) (now (ends .entry)) (now (lengths .entry)) (now (outline .entry))) v (take n (now (sides .entry)))) (a, b) (x, y) room k
         (worldAt k (now (points .entry)) (now (roots .entry)) (now (corners .entry)) (now (volumes .entry)) (now (ends .entry)) (now (lengths .entry)) (now (outline .entry)) (now (log .entry)))
-        (λ q. worldAt q (now (points .exit)) (now (roots .exit)) (now (corners .exit)) (now (volumes .entry)) (now (ends .exit)) (now (lengths .exit)) (now (outline .exit)) (now (log .exit))) r ⌝ }
+        (λ q. worldAt q (now (points .exit)) (now (roots .exit)) (now (corners .exit)) (now (volumes .entry)) (now (ends .exit)) (now (lengths .exit)) (now (outline .exit)) (now (log .exit))) r
+        × LinkedTried (kindIs kind) (k .triangles) (now (corners .exit)) (now (links .exit)) r ⌝ }
 {
     let mut groups = [0usize; 2048];
     let count = split::fans::group_fan(kind, v, n, verts, sides, &mut groups);
@@ -101,6 +105,7 @@ fn open_way(
             outline,
             log,
             sides,
+            links,
         ));
     }
     Tried::Not
@@ -126,11 +131,13 @@ fn try_way(
     lengths: &mut [f32],
     outline: &mut [usize],
     log: &mut [u32],
+    links: &mut [u16],
 ) -> Tried
-    requires { ⌜ Ready room k (lent (now points) (now roots) (now corners) (now volumes) (now ends) (now lengths) (now outline) (now log)) (meshAt k (now points) (now roots) (now corners) (now volumes) (now ends) (now lengths) (now outline)) × WayAsked v w x y a b (k .particles) ⌝ }
+    requires { ⌜ Ready room k (lent (now points) (now roots) (now corners) (now volumes) (now ends) (now lengths) (now outline) (now log)) (meshAt k (now points) (now roots) (now corners) (now volumes) (now ends) (now lengths) (now outline)) × WayAsked v w x y a b (k .particles) × Linked (kindIs kind) (k .triangles) (now corners) (now links) ⌝ }
     ensures { λ r. ⌜ TriedTo (kindIs kind) minimum v w (a, b) (x, y) room k
         (worldAt k (now (points .entry)) (now (roots .entry)) (now (corners .entry)) (now (volumes .entry)) (now (ends .entry)) (now (lengths .entry)) (now (outline .entry)) (now (log .entry)))
-        (λ q. worldAt q (now (points .exit)) (now (roots .exit)) (now (corners .exit)) (now (volumes .entry)) (now (ends .exit)) (now (lengths .exit)) (now (outline .exit)) (now (log .exit))) r ⌝ }
+        (λ q. worldAt q (now (points .exit)) (now (roots .exit)) (now (corners .exit)) (now (volumes .entry)) (now (ends .exit)) (now (lengths .exit)) (now (outline .exit)) (now (log .exit))) r
+        × LinkedTried (kindIs kind) (k .triangles) (now (corners .exit)) (now (links .exit)) r ⌝ }
 {
     let mut numbers = [0usize; 2048];
     let mut verts = [0usize; 4096];
@@ -152,6 +159,7 @@ fn try_way(
         &mut verts,
         &mut measures,
         &mut sides,
+        links,
     );
     if tear::ways::two_sided(v, n, &sides, points) {
         return open_way(
@@ -178,6 +186,7 @@ fn try_way(
             lengths,
             outline,
             log,
+            links,
         );
     }
     Tried::Not
@@ -203,11 +212,13 @@ fn crack_ends(
     lengths: &mut [f32],
     outline: &mut [usize],
     log: &mut [u32],
+    links: &mut [u16],
 ) -> Ran
-    requires { ⌜ Ready room k (lent (now points) (now roots) (now corners) (now volumes) (now ends) (now lengths) (now outline) (now log)) (meshAt k (now points) (now roots) (now corners) (now volumes) (now ends) (now lengths) (now outline)) × WayAsked v w x y a b (k .particles) × WayAsked w v x y a b (k .particles) ⌝ }
+    requires { ⌜ Ready room k (lent (now points) (now roots) (now corners) (now volumes) (now ends) (now lengths) (now outline) (now log)) (meshAt k (now points) (now roots) (now corners) (now volumes) (now ends) (now lengths) (now outline)) × WayAsked v w x y a b (k .particles) × WayAsked w v x y a b (k .particles) × Linked (kindIs kind) (k .triangles) (now corners) (now links) ⌝ }
     ensures { λ r. ⌜ EndsTold (kindIs kind) minimum v w (a, b) (x, y) room
         (worldAt k (now (points .entry)) (now (roots .entry)) (now (corners .entry)) (now (volumes .entry)) (now (ends .entry)) (now (lengths .entry)) (now (outline .entry)) (now (log .entry)))
-        (λ q. worldAt q (now (points .exit)) (now (roots .exit)) (now (corners .exit)) (now (volumes .entry)) (now (ends .exit)) (now (lengths .exit)) (now (outline .exit)) (now (log .exit))) r ⌝ }
+        (λ q. worldAt q (now (points .exit)) (now (roots .exit)) (now (corners .exit)) (now (volumes .entry)) (now (ends .exit)) (now (lengths .exit)) (now (outline .exit)) (now (log .exit))) r
+        × LinkedAfter (kindIs kind) (now (corners .exit)) (now (links .exit)) r ⌝ }
 {
     let first = try_way(
         kind,
@@ -228,6 +239,7 @@ fn crack_ends(
         lengths,
         outline,
         log,
+        links,
     );
     if let Tried::Tore(ran) = first {
         return ran;
@@ -251,6 +263,7 @@ fn crack_ends(
         lengths,
         outline,
         log,
+        links,
     );
     match second {
         Tried::Tore(ran) => ran,
@@ -277,11 +290,13 @@ fn crack_pair(
     lengths: &mut [f32],
     outline: &mut [usize],
     log: &mut [u32],
+    links: &mut [u16],
 ) -> Ran
-    requires { ⌜ Ready room k (lent (now points) (now roots) (now corners) (now volumes) (now ends) (now lengths) (now outline) (now log)) (meshAt k (now points) (now roots) (now corners) (now volumes) (now ends) (now lengths) (now outline)) × LoadsLong (kindIs kind) k (length (now loads)) × (x < k .particles) × (y < k .particles) × (a < 1024) × (b < 1024) ⌝ }
+    requires { ⌜ Ready room k (lent (now points) (now roots) (now corners) (now volumes) (now ends) (now lengths) (now outline) (now log)) (meshAt k (now points) (now roots) (now corners) (now volumes) (now ends) (now lengths) (now outline)) × LoadsLong (kindIs kind) k (length (now loads)) × (x < k .particles) × (y < k .particles) × (a < 1024) × (b < 1024) × Linked (kindIs kind) (k .triangles) (now corners) (now links) ⌝ }
     ensures { λ r. ⌜ PairTold (kindIs kind) minimum (k .triangles) (a, b) (x, y) (now (loads .entry)) room
         (worldAt k (now (points .entry)) (now (roots .entry)) (now (corners .entry)) (now (volumes .entry)) (now (ends .entry)) (now (lengths .entry)) (now (outline .entry)) (now (log .entry)))
-        (λ q. worldAt q (now (points .exit)) (now (roots .exit)) (now (corners .exit)) (now (volumes .entry)) (now (ends .exit)) (now (lengths .exit)) (now (outline .exit)) (now (log .exit))) r ⌝ }
+        (λ q. worldAt q (now (points .exit)) (now (roots .exit)) (now (corners .exit)) (now (volumes .entry)) (now (ends .exit)) (now (lengths .exit)) (now (outline .exit)) (now (log .exit))) r
+        × LinkedAfter (kindIs kind) (now (corners .exit)) (now (links .exit)) r ⌝ }
 {
     let other = tear::edge::turned(
         kind,
@@ -296,6 +311,7 @@ fn crack_pair(
         ends,
         lengths,
         outline,
+        links,
     );
     let v = if other { y } else { x };
     let w = if other { x } else { y };
@@ -318,6 +334,7 @@ fn crack_pair(
         lengths,
         outline,
         log,
+        links,
     )
 }
 
@@ -338,11 +355,13 @@ pub fn crack_edge(
     lengths: &mut [f32],
     outline: &mut [usize],
     log: &mut [u32],
+    links: &mut [u16],
 ) -> Ran
-    requires { ⌜ Ready room k (lent (now points) (now roots) (now corners) (now volumes) (now ends) (now lengths) (now outline) (now log)) (meshAt k (now points) (now roots) (now corners) (now volumes) (now ends) (now lengths) (now outline)) × Logged (k .log) (now log) × LoadsLong (kindIs kind) k (length (now loads)) × (a < 1024) × (b < 1024) ⌝ }
+    requires { ⌜ Ready room k (lent (now points) (now roots) (now corners) (now volumes) (now ends) (now lengths) (now outline) (now log)) (meshAt k (now points) (now roots) (now corners) (now volumes) (now ends) (now lengths) (now outline)) × Logged (k .log) (now log) × LoadsLong (kindIs kind) k (length (now loads)) × (a < 1024) × (b < 1024) × Linked (kindIs kind) (k .triangles) (now corners) (now links) ⌝ }
     ensures { λ r. ⌜ CrackTold (kindIs kind) minimum a b (k .triangles) (now (loads .entry)) room
         (worldAt k (now (points .entry)) (now (roots .entry)) (now (corners .entry)) (now (volumes .entry)) (now (ends .entry)) (now (lengths .entry)) (now (outline .entry)) (now (log .entry)))
-        (λ q. worldAt q (now (points .exit)) (now (roots .exit)) (now (corners .exit)) (now (volumes .entry)) (now (ends .exit)) (now (lengths .exit)) (now (outline .exit)) (now (log .exit))) r ⌝ }
+        (λ q. worldAt q (now (points .exit)) (now (roots .exit)) (now (corners .exit)) (now (volumes .entry)) (now (ends .exit)) (now (lengths .exit)) (now (outline .exit)) (now (log .exit))) r
+        × LinkedAfter (kindIs kind) (now (corners .exit)) (now (links .exit)) r ⌝ }
 {
     let pair = tear::edge::pair_now(
         kind,
@@ -378,6 +397,7 @@ pub fn crack_edge(
             lengths,
             outline,
             log,
+            links,
         ),
     }
 }

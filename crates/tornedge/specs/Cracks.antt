@@ -13,14 +13,16 @@ use Rattle.model.specs.Run.{opened}
 use Rattle.model.specs.Split.{Opening, splitStep}
 use Rattle.model.specs.Pieces.{opensWithoutConfetti}
 use Rattle.model.specs.Crack.{Way, wayAt, firstOf, torn, crackBy, crackPair, crackEdge}
+use Rattle.links.specs.Linked.{Linked}
 use Rattle.mesh.specs.Log.{World}
 use Rattle.mesh.specs.declared.Counts.{Counts}
 use Rattle.mesh.specs.declared.Rooms.{Rooms}
 use Rattle.work.specs.Working.{Works}
 use Rattle.work.specs.declared.Ran.{Ran}
+use Rattle.split.specs.Linking.{LinkedAfter}
 use Rattle.tear.specs.Torn.{TearAsked}
-use Rattle.crack.specs.declared.edges.Tried.{Tried}
-use Rattle.crack.specs.declared.edges.Tried.the-variants.{Not, Tore}
+use Rattle.tornedge.specs.declared.Tried.{Tried}
+use Rattle.tornedge.specs.declared.Tried.the-variants.{Not, Tore}
 
 -- ---- one way tried
 
@@ -42,6 +44,11 @@ OpenedTo K min O ab xy L k W at (Tore r) = (opensWithoutConfetti K (W .mesh) min
 abbrev pub TriedTo : Kind → ℕ → ℕ → ℕ → ℕ × ℕ → ℕ × ℕ → Rooms → Counts → World → (Counts → World) → Tried → Type 0
 TriedTo K min v w ab xy L k W at Not = ((ls : List Float) → openWay K ls min (W .mesh) v w ≡ none) × (at k ≡ W)
 TriedTo K min v w ab xy L k W at (Tore r) = (ls : List Float) → (p : Way) × ((openWay K ls min (W .mesh) v w ≡ some p) × Works (crackBy K (some p) ab xy) L W at r)
+
+-- behind a way that was tried: the table is that of the block, as it was or as the split left it
+abbrev pub LinkedTried : Kind → ℕ → List ℕ → List ℕ → Tried → Type 0
+LinkedTried K t corners links Not = Linked K t corners links
+LinkedTried K t corners links (Tore r) = LinkedAfter K corners links r
 
 -- ---- one edge
 

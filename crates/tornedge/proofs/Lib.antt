@@ -1,0 +1,2 @@
+-- One torn edge cracked: its laws and its proofs.
+pub mod OpenLaws

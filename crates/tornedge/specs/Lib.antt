@@ -1,0 +1,2 @@
+-- One torn edge cracked, over the lent blocks.
+pub mod Cracks
