@@ -1,11 +1,11 @@
 -- Every field of a sheet of either edition, as it is read, holds its number; the fields of its outline too. Assumes nothing.
-use Prim.Native.Nat.{ℕ, zero, suc, _+_, _-_, _*_, _/_, _^_, _<_, _≤_}
+use Prim.Native.Nat.{ℕ, _+_, _-_, _/_, _≤_}
 use mathlib.Core.Path.{_≡_, refl, sym, ap, _∙_, subst}
 use mathlib.Core.Bool.{Bool, true, false}
 use mathlib.Core.List.{List, [], _∷_, _++_, map}
 use native.Mathlib.Omega.{arith}
 use lib.Dec.{eqb}
-use lib.ListN.{length, take, drop, getD, length-drop}
+use lib.ListN.{length, take, drop, length-drop}
 use Rattle.lists.specs.Lists.{pick, sift, each}
 use Rattle.lists.proofs.Sifts.{pick-by}
 use Rattle.bits.specs.Bits.{bitsOf}
@@ -13,17 +13,16 @@ use Rattle.bits.specs.Rows.{total, Fit, FitAll}
 use Rattle.bits.proofs.Laws.{length-bitsOf}
 use Rattle.bits.proofs.RowLaws.{AllBits, bits-bitsOf, bits-drop, fit-read, fit-unpack, length-read}
 use Rattle.outline.specs.Outline.{at, facesOf, single, outlineOfTriangles, outlineOfStraps, outlineOf, sameSides, settled}
-use Rattle.sheet.specs.Sheet.{Sheet, FitSheet, countsAt, countsOf, headerOf, headerW, sheetWith, particleW, triangleW, edgeW, boundaryW, bladeW, atTriangles, atEdges, atBoundary, atBlade, endOf}
+use Rattle.sheet.specs.Sheet.{Sheet, FitSheet, countsAt, countsOf, sheetWith, particleW, triangleW, edgeW, boundaryW, bladeW, atTriangles, atEdges, atBoundary, atBlade, endOf}
 use Rattle.sheet.specs.declared.Counts.{Counts}
 use Rattle.sheet.proofs.There.{limits}
-use Rattle.edition.specs.Edition.{second, bitsIn, asFirst, bounded, ownOf, outlineIn, typedOf, sheetOf, seenOf}
+use Rattle.edition.specs.Edition.{second, bitsIn, ownOf, outlineIn, typedOf, sheetOf, seenOf}
 use Rattle.edition.specs.Work.{TypedIn}
 use Rattle.edition.specs.declared.Seen.the-variants.{Whole}
 use Rattle.edition.proofs.Editions.{first-bits, first-long}
 use Rattle.edition.proofs.Starts.{in-second, in-first, typed-in, header-bits}
 use Rattle.edition.proofs.Entering.{SeenWhole, seen-whole-tells}
-use Rattle.edition.proofs.Found.{reach-first}
-use Rattle.differing.proofs.Meanings.{three}
+use Rattle.differences.proofs.Meanings.{three}
 
 -- ---- lists of rows
 

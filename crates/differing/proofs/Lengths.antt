@@ -7,21 +7,22 @@ use mathlib.Core.Bool.{Bool, true, false}
 use mathlib.Core.List.{List, [], _∷_, _++_, map}
 use mathlib.Core.Option.{Option, none, some}
 use lib.Dec.{eqb}
-use lib.IntN.{ℤ, pos, negsuc}
+use lib.IntN.{ℤ}
 use lib.ListN.{length, getD, length-append}
 use Rattle.lists.specs.Lists.{pick, each, rest}
 use Rattle.lists.proofs.Sifts.{each-append}
 use Rattle.bits.specs.Rows.{Fit, FitAll}
 use Rattle.listing.specs.Listing.{digit, decimal, refusedBytes, line}
 use Rattle.listing.proofs.Decimal.{decimal-small, decimal-more}
-use Rattle.sheet.specs.Sheet.{Sheet, FitSheet, coord, particleW, triangleW, edgeW, boundaryW, bladeW}
+use Rattle.sheet.specs.Sheet.{Sheet, particleW, triangleW, edgeW, boundaryW, bladeW}
 use Rattle.sheet.proofs.CoordLaws.{coord-low, coord-high}
-use Rattle.differing.specs.Differing.{Difference, counts, place, blades, listOf, sameRow, countDiffers, rowsDiffer, parts, differences, coordText, signed, textsOf, readingOf, apart, countWord, bladeWord, wordOf, pluralOf, lineOf, differenceText}
-use Rattle.differing.specs.Work.{readAt, sameReading, placeDiffers, Within}
-use Rattle.differing.specs.declared.Part.{Part}
-use Rattle.differing.specs.declared.Part.the-variants.{Particles, Triangles, Edges, Boundary}
-use Rattle.differing.proofs.Places.{rows-step}
-use Rattle.differing.proofs.Meanings.{three}
+use Rattle.differences.specs.Differences.{Difference, counts, place, blades, listOf, sameRow, countDiffers, rowsDiffer, parts, differences, coordText, signed, textsOf, readingOf, apart, countWord, bladeWord, wordOf, pluralOf, lineOf, differenceText}
+use Rattle.differences.specs.Work.{readAt, sameReading, placeDiffers}
+use Rattle.differing.specs.Work.{Within}
+use Rattle.differences.specs.declared.Part.{Part}
+use Rattle.differences.specs.declared.Part.the-variants.{Particles, Triangles, Edges, Boundary}
+use Rattle.differences.proofs.Places.{rows-step}
+use Rattle.differences.proofs.Meanings.{three}
 
 -- ---- numbers
 

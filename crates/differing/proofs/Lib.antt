@@ -1,11 +1,7 @@
--- Laws of differences.
-pub mod Places
-pub mod Meanings
+-- Laws of the differences of two whole sheets.
 pub mod Fitting
 pub mod Lengths
 pub mod Longest
 pub mod Printed
 pub mod Worked
-pub mod Writing
-pub mod Walking
 pub mod Wholes

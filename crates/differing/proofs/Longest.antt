@@ -1,8 +1,8 @@
 -- The longest sheet that the program takes has 2,172 bytes, in either edition: whatever follows the first 2,173 bytes of either file, what is printed is the same. Assumes nothing.
-use Prim.Native.Nat.{ℕ, _+_, _-_, _*_, _/_, _≤_}
+use Prim.Native.Nat.{ℕ, _+_, _-_, _≤_}
 use native.Mathlib.Omega.{arith}
 use native.Mathlib.Decide.{decLe}
-use mathlib.Core.Path.{_≡_, refl, sym, ap, ap₂, _∙_, subst}
+use mathlib.Core.Path.{_≡_, refl, sym, ap, ap₂, _∙_}
 use mathlib.Core.Bool.{Bool, true, false, cond, _||_}
 use mathlib.Core.List.{List, [], _∷_, _++_, append-assoc}
 use lib.Dec.{eqb, ltb}
@@ -12,7 +12,7 @@ use borrow.Author.Tests.{le-ltb, ne-eqb, ltb-false}
 use Rattle.lists.specs.Lists.{pick}
 use Rattle.bits.specs.Bits.{bits, bitsOf, num, fieldAt}
 use Rattle.bits.proofs.Laws.{length-bitsOf}
-use Rattle.sheet.specs.Sheet.{sheetWith, above, tooMany, countsAt, namesOK, endOf}
+use Rattle.sheet.specs.Sheet.{sheetWith, above, tooMany, countsAt, namesOK}
 use Rattle.sheet.specs.declared.Counts.{Counts}
 use Rattle.sheet.specs.declared.Seen.{Seen as Typed}
 use Rattle.sheet.specs.declared.Seen.the-variants.{Whole as TypedWhole, Refused as TypedRefused}

@@ -1,24 +1,21 @@
 -- What is printed for two files: `0` exactly when both are whole and mean the same; a refusal of the first before one of the second; and what is told leaves nothing open. Assumes nothing.
 use Prim.Native.Nat.{ℕ, _≤_}
 use native.Mathlib.Omega.{arith}
-use mathlib.Core.Path.{_≡_, refl, sym, ap, ap₂, _∙_, subst}
+use mathlib.Core.Path.{_≡_, refl, sym, ap, _∙_, subst}
 use mathlib.Core.Bool.{Bool}
 use mathlib.Core.List.{List, [], _∷_}
 use lib.ListN.{length, take}
-use Rattle.bits.specs.Bits.{bitsOf}
-use Rattle.sheet.specs.Sheet.{Sheet, countsOf}
 use Rattle.sheet.specs.Read.{meshOfSheet, bladeOfSheet}
 use Rattle.sheet.specs.declared.Counts.{Counts}
 use Rattle.edition.specs.Edition.{seenOf}
-use Rattle.edition.specs.declared.Seen.{Seen}
 use Rattle.edition.specs.declared.Seen.the-variants.{Whole, Refused}
 use Rattle.listing.specs.Listing.{refusedBytes}
 use Rattle.listing.specs.declared.Written.{Written}
 use Rattle.listing.specs.declared.Written.the-variants.{Short, Bytes}
 use Rattle.listing.proofs.Outcomes.{wrote-bytes, wrote-short, wrote-agree}
-use Rattle.differing.specs.Differing.{differences, differenceText}
+use Rattle.differences.specs.Differences.{differences, differenceText}
 use Rattle.differing.specs.Differed.{limits, readSheet, differedSeen, differed, Told}
-use Rattle.differing.proofs.Meanings.{zero-printed}
+use Rattle.differences.proofs.Meanings.{zero-printed}
 use Rattle.differing.proofs.Fitting.{read-fits}
 
 -- the three cases

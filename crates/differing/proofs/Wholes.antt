@@ -1,5 +1,5 @@
 -- Laws of two whole sheets: where their lists stand, what the workers ask for them, and that the pieces are all of their differences. Assumes nothing.
-use Prim.Native.Nat.{ℕ, zero, suc, _+_, _-_, _*_, _/_, _^_, _<_, _≤_}
+use Prim.Native.Nat.{ℕ, _+_, _-_, _*_, _<_, _≤_}
 use native.Mathlib.Omega.{arith}
 use mathlib.Core.Path.{_≡_, refl, sym, ap, ap₂, _∙_, subst}
 use mathlib.Core.Bool.{Bool, true, false, cond, _||_}
@@ -9,16 +9,16 @@ use lib.ListN.{length, drop, length-append}
 use lib.Seq.{drop-drop}
 use Rattle.lists.specs.Lists.{pick, each}
 use Rattle.bits.specs.Bits.{bitsOf, fieldAt}
-use Rattle.bits.specs.Rows.{total, unpack, readRows}
+use Rattle.bits.specs.Rows.{unpack, readRows}
 use Rattle.bits.proofs.RowLaws.{length-read}
 use Rattle.outline.specs.Rows.{sidesAt}
-use Rattle.sheet.specs.Sheet.{Sheet, FitSheet, countsAt, countsOf, sheetWith, tooMany, above, namesOK, particleW, triangleW, edgeW, bladeW, atTriangles, atEdges, atBoundary, atBlade, endOf}
+use Rattle.sheet.specs.Sheet.{Sheet, countsAt, countsOf, sheetWith, tooMany, above, namesOK, particleW, triangleW, edgeW, bladeW, atTriangles, atEdges, atBlade}
 use Rattle.sheet.specs.Work.{RowsIn}
 use Rattle.sheet.specs.declared.Counts.{Counts}
 use Rattle.sheet.specs.declared.Seen.the-variants.{Whole as TypedWhole, Refused as TypedRefused}
 use Rattle.sheet.proofs.PutLaws.{neither}
 use Rattle.edition.specs.Edition.{second, bitsIn, bytesIn, spareIn, typedWith, typedSeen, typedOf, sheetOf, seenOf}
-use Rattle.edition.specs.Work.{TypedIn, BladeAt, Outlined, startOf}
+use Rattle.edition.specs.Work.{BladeAt, startOf}
 use Rattle.edition.specs.declared.Seen.{Seen}
 use Rattle.edition.specs.declared.Seen.the-variants.{Whole, Refused}
 use Rattle.edition.proofs.Starts.{starts-at, header-bits, reach, start-most}
@@ -26,19 +26,20 @@ use Rattle.listing.specs.Listing.{decimal, refusedBytes}
 use Rattle.listing.specs.Answers.{Wrote}
 use Rattle.listing.specs.Work.{Appends, Finishes}
 use Rattle.listing.specs.declared.Written.{Written}
-use Rattle.listing.specs.declared.Written.the-variants.{Bytes}
 use Rattle.listing.proofs.Appending.{appends-then, appends-as, wrote}
-use Rattle.differing.specs.Differing.{Difference, counts, blades, sameRow, countDiffers, rowsDiffer, parts, listOf, differences, lineOf, differenceText}
+use Rattle.differences.specs.Differences.{Difference, counts, blades, sameRow, countDiffers, rowsDiffer, differences, lineOf, differenceText}
 use Rattle.differing.specs.Differed.{limits, readSheet, differedSeen, differed, Told}
-use Rattle.differing.specs.Work.{Lists, start, oneCount, countLines, listLines, restLines, fourOf, BladeRead, Within, FirstIn, Going, ListAsked, SidesAsked, ofThree, seconded, secondText}
-use Rattle.differing.specs.declared.Part.{Part}
-use Rattle.differing.specs.declared.Part.the-variants.{Particles, Triangles, Edges, Boundary}
-use Rattle.differing.specs.declared.lines.Lines.{Lines}
-use Rattle.differing.specs.declared.lines.Four.{Four}
+use Rattle.differences.specs.Work.{Lists, fourOf}
+use Rattle.row_differences.specs.Work.{ListAsked, SidesAsked}
+use Rattle.differing.specs.Work.{start, oneCount, countLines, listLines, restLines, BladeRead, Within, FirstIn, seconded, secondText}
+use Rattle.differences.specs.declared.Part.{Part}
+use Rattle.differences.specs.declared.Part.the-variants.{Particles, Triangles, Edges, Boundary}
+use Rattle.differences.specs.declared.lines.Lines.{Lines}
+use Rattle.differences.specs.declared.lines.Four.{Four}
 use Rattle.differing.proofs.Fitting.{told, typed, read-fits, read-counts}
 use Rattle.differing.proofs.Lengths.{text-few, refused-few}
 use Rattle.differing.proofs.Longest.{not-above}
-use Rattle.differing.proofs.Walking.{rows-few, pick-few}
+use Rattle.row_differences.proofs.Walking.{rows-few, pick-few}
 
 -- ---- a whole sheet
 

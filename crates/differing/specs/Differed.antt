@@ -11,7 +11,7 @@ use Rattle.edition.specs.declared.Seen.the-variants.{Whole, Refused}
 use Rattle.listing.specs.Listing.{refusedBytes}
 use Rattle.listing.specs.Answers.{Wrote}
 use Rattle.listing.specs.declared.Written.{Written}
-use Rattle.differing.specs.Differing.{differences, differenceText}
+use Rattle.differences.specs.Differences.{differences, differenceText}
 
 -- a sheet has at most 128 particles, 128 triangles, 256 edges and 256 boundary entries, as for `cutlist`
 abbrev pub limits : Counts

@@ -1,4 +1,3 @@
--- The differences of two sheets: what reviewers must believe is in Differing and Differed; Work only contracts between workers, and theorems, need.
-pub mod Differing
+-- The differences of two sheets: what reviewers must believe is in Differed; Work only contracts between workers, and theorems, need.
 pub mod Differed
 pub mod Work

@@ -1,33 +1,15 @@
 // The differences of two sheets, place by place, as text.
-ghost use mathlib.Core.Path.{_≡_};
 ghost use lib.ListN.{length};
-ghost use Rattle.edition.specs.Edition.{seenOf};
 ghost use Rattle.edition.specs.declared.Seen.the-variants.{Whole};
 ghost use Rattle.listing.specs.Answers.{Wrote};
-ghost use Rattle.differing.specs.Differing.{differences, differenceText};
-ghost use Rattle.differing.specs.Differed.{limits as most, readSheet, differed, Told};
+ghost use Rattle.differences.specs.Differences.{differences, differenceText};
+ghost use Rattle.differing.specs.Differed.{readSheet, differed, Told};
 ghost use Rattle.differing.specs.Work.{Going, secondText, FirstIn};
 use edition::Seen;
 use listing::Written;
 use sheet::Counts;
 
-pub mod lines;
-pub mod walk;
 pub mod whole;
-
-// The lists of a sheet.
-pub enum Part {
-    Particles,
-    Triangles,
-    Edges,
-    Boundary,
-}
-
-// The reading of a place: the fields of its row, of which a boundary entry has the first two; or the sheet has no such place.
-pub enum Reading {
-    Missing,
-    Row(usize, usize, usize),
-}
 
 // The most that a sheet may have.
 const LIMITS: Counts = Counts {

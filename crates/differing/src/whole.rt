@@ -1,16 +1,16 @@
 // Two whole sheets: every line of their differences.
-ghost use mathlib.Core.Path.{_≡_};
-ghost use Prim.Native.Nat.{ℕ, _≤_};
+ghost use Prim.Native.Nat.{_≤_};
 ghost use lib.ListN.{length};
 ghost use Rattle.bits.specs.Bits.{bitsOf};
 ghost use Rattle.sheet.specs.Work.{RowsIn};
 ghost use Rattle.edition.specs.Work.{BladeAt};
-ghost use Rattle.differing.specs.Differing.{differences};
+ghost use Rattle.differences.specs.Differences.{differences};
 ghost use Rattle.differing.specs.Differed.{readSheet};
-ghost use Rattle.differing.specs.Work.{Lists, start, countLines, BladeRead, listLines, restLines, Going};
-use crate::Part;
-use crate::lines::Four;
-use crate::lines::Lines;
+ghost use Rattle.differences.specs.Work.{Lists};
+ghost use Rattle.differing.specs.Work.{start, countLines, BladeRead, listLines, restLines, Going};
+use differences::Part;
+use differences::lines::Four;
+use differences::lines::Lines;
 use listing::Written;
 use sheet::Counts;
 
@@ -45,10 +45,10 @@ fn put_counts(out: &mut [u8], c: Counts, d: Counts) -> Lines
         at: Written::Bytes(0),
         count: 0,
     };
-    let one = crate::lines::put_count(out, none, Part::Particles, c.particles, d.particles);
-    let two = crate::lines::put_count(out, one, Part::Triangles, c.triangles, d.triangles);
-    let three = crate::lines::put_count(out, two, Part::Edges, c.edges, d.edges);
-    crate::lines::put_count(out, three, Part::Boundary, c.boundary, d.boundary)
+    let one = differences::lines::put_count(out, none, Part::Particles, c.particles, d.particles);
+    let two = differences::lines::put_count(out, one, Part::Triangles, c.triangles, d.triangles);
+    let three = differences::lines::put_count(out, two, Part::Edges, c.edges, d.edges);
+    differences::lines::put_count(out, three, Part::Boundary, c.boundary, d.boundary)
 }
 
 // Writes the lines of particles, triangles and edges.
@@ -71,7 +71,7 @@ fn put_lists(
     let q = edition::typed::start_bit(second);
     let q_t = q + d.particles * 23;
     let q_e = q_t + d.triangles * 30;
-    let one = crate::walk::put_list(
+    let one = row_differences::put_list(
         out,
         l,
         Part::Particles,
@@ -84,7 +84,7 @@ fn put_lists(
         q,
         d.particles,
     );
-    let two = crate::walk::put_list(
+    let two = row_differences::put_list(
         out,
         one,
         Part::Triangles,
@@ -97,7 +97,7 @@ fn put_lists(
         q_t,
         d.triangles,
     );
-    crate::walk::put_list(
+    row_differences::put_list(
         out,
         two,
         Part::Edges,
@@ -126,10 +126,10 @@ fn put_rest(
     requires { ⌜ Going (now first) c (now left) (now second) d (now right) 2048 (l .count) ⌝ }
     ensures { λ r. ⌜ Lists (restLines (readSheet (now (first .entry))) (readSheet (now (second .entry)))) (now (out .entry)) l (now (out .exit)) r ⌝ }
 {
-    let sides = crate::walk::put_sides(out, l, left, c.boundary, right, d.boundary);
+    let sides = row_differences::put_sides(out, l, left, c.boundary, right, d.boundary);
     let a = blade_at(first, blade_bit(first));
     let b = blade_at(second, blade_bit(second));
-    crate::lines::put_blades(out, sides, a, b)
+    differences::lines::put_blades(out, sides, a, b)
 }
 
 // Writes the lines of all differences of two whole sheets, from nothing on.

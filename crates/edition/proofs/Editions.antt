@@ -9,11 +9,11 @@ use borrow.Author.Tests.{eq-eqb, eqb-true, not-true, le-ltb}
 use lib.ListN.{length, take, drop, replicate, length-append, length-drop, length-replicate, take-append-drop}
 use lib.Seq.{take-append-add, take-append-le, take-take, take-at, drop-at, take-add, drop-drop, length-take-le}
 use Rattle.bits.specs.Bits.{bits, bitsOf, num, fieldAt}
-use Rattle.bits.specs.Rows.{pack, readRows, writeRows}
+use Rattle.bits.specs.Rows.{total, pack, readRows, writeRows}
 use Rattle.bits.proofs.Laws.{length-bits, num-bits, bits-num}
-use Rattle.bits.proofs.RowLaws.{AllBits, bits-take, bits-drop}
+use Rattle.bits.proofs.RowLaws.{AllBits, bits-take, bits-drop, length-pack, length-writeRows}
 use Rattle.sheet.specs.Sheet.{Sheet, headerOf, countsOf, countsAt, sheetWith, sheetBits, FitSheet, seenOf, seenWith, rowOK, namesOK, tooMany, above, atEdges, atBoundary, particleW, triangleW, edgeW, bladeW, endOf}
-use Rattle.edition.specs.Edition.{second, asFirst, bitsIn, sheet2Bits, bounded, endIn, typedSeen, typedWith, typedOf, sheetOf, outlineIn, replacedIn, ownOf}
+use Rattle.edition.specs.Edition.{header2W, second, asFirst, bitsIn, sheet2Bits, bounded, endIn, typedSeen, typedWith, typedOf, sheetOf, outlineIn, replacedIn, ownOf}
 use Rattle.sheet.specs.Work.{rowAt, okAt}
 use Rattle.outline.specs.Outline.{sameSides}
 use Rattle.outline.proofs.Pairs.{settled-set}
@@ -332,3 +332,19 @@ pub second-with : (limits : Counts) (s : List ℕ) (c : Counts) → c ≡ counts
     (Refused 9))
 unfolding typedSeen typedWith bitsIn
 second-with limits s c e two h = rw (le-ltb (length s) 6 h, e, two)
+
+-- how long a sheet is in the second edition
+pub length-second : (s : Sheet) → length (sheet2Bits s) ≡ 45 + length (s .particles) * 23 + length (s .triangles) * 30 + length (s .edges) * 21 + 44
+unfolding sheet2Bits total
+length-second s =
+    let H = pack header2W (2047 ∷ length (s .particles) ∷ length (s .triangles) ∷ length (s .edges) ∷ []) in
+    let P = writeRows particleW (s .particles) in
+    let T = writeRows triangleW (s .triangles) in
+    let E = writeRows edgeW (s .edges) in
+    let D = pack bladeW (s .blade) in
+    let h : length H ≡ 45 = length-pack header2W (2047 ∷ length (s .particles) ∷ length (s .triangles) ∷ length (s .edges) ∷ []) in
+    let p : length P ≡ length (s .particles) * 23 = length-writeRows particleW (s .particles) in
+    let t : length T ≡ length (s .triangles) * 30 = length-writeRows triangleW (s .triangles) in
+    let e : length E ≡ length (s .edges) * 21 = length-writeRows edgeW (s .edges) in
+    let d : length D ≡ 44 = length-pack bladeW (s .blade) in
+    omega (arith, length-append (H ++ P ++ T ++ E) D, length-append (H ++ P ++ T) E, length-append (H ++ P) T, length-append H P)

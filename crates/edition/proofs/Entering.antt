@@ -127,3 +127,12 @@ pub room-log :
     → roomFor c f (record { points = L .points; roots = L .roots; corners = L .corners; volumes = L .volumes; ends = L .ends; lengths = L .lengths; outline = L .outline; log = 0 }) nb ≡ roomFor c f L nb
 unfolding roomFor
 room-log c f L nb = refl
+
+-- what a reader left whole was a whole sheet
+pub lent-whole : (x : Seen) (L : Lent) (nb : ℕ) (c : Counts) (f : Bool) → lentOf x L nb ≡ Whole c f → x ≡ Whole c f
+unfolding lentOf roomFor
+lent-whole (Refused n) L nb c f e = absurd (never n c f e)
+lent-whole (Whole d g) L nb c f e =
+    let w = roomy ((leb (d .triangles) (L .corners / 3) && leb (d .triangles) (L .volumes / 2)) && leb 4 nb) (leb (d .particles) (L .points / 6) && leb (d .particles) (L .roots / 2))
+    (leb (d .edges) (L .ends / 4) && leb (d .edges) (L .lengths / 4)) (leb (d .boundary) (L .outline / 2)) d c g f e in
+    λ i. Whole ((w .4) i) ((w .5) i)

@@ -4,7 +4,5 @@ pub mod Sides
 pub mod Found
 pub mod Meshes
 pub mod Entering
-pub mod Putting
-pub mod Trips
 pub mod Agree
 pub mod Cases

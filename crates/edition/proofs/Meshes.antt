@@ -14,13 +14,14 @@ use Rattle.bits.specs.Bits.{bitsOf, fieldAt}
 use Rattle.bits.specs.Rows.{unpack, readRows}
 use Rattle.outline.specs.Rows.{sidesAt}
 use Rattle.sheet.specs.Sheet.{countsAt, sheetWith, particleW, triangleW, edgeW, atTriangles, atEdges, atBlade}
-use Rattle.sheet.specs.Work.{okAt, pointIn, particleBits, triangleBits, edgeBits}
+use Rattle.sheet.specs.Work.{okAt}
+use Rattle.sheet_rows.specs.Work.{pointIn, particleBits, triangleBits, edgeBits}
 use Rattle.sheet.specs.Read.{particlesFrom, trianglesFrom, edgesFrom, boundaryFrom, placeIn, meshOfSheet, bladeOfSheet, floatOf, countsFor}
 use Rattle.sheet.specs.declared.Counts.{Counts}
 use Rattle.sheet.specs.Work.{CountsRead, RowsIn, Small}
 use Rattle.sheet.proofs.There.{limits}
 use Rattle.mesh.specs.Given.{Lent}
-use Rattle.sheet.proofs.MeshReads.{particles-read, triangles-read, edges-read, place-same, triangles-same, edges-same}
+use Rattle.sheet_rows.proofs.MeshReads.{particles-read, triangles-read, edges-read, place-same, triangles-same, edges-same}
 use Rattle.edition.specs.Edition.{second, bitsIn, bounded, typedOf, sheetOf, outlineIn}
 use Rattle.edition.specs.Work.{startOf, TypedIn, MeshIn, BladeAt, Outlined}
 use Rattle.edition.specs.declared.Seen.{Seen}

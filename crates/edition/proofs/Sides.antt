@@ -18,7 +18,7 @@ use Rattle.outline.specs.Outline.{at, facesOf, single, outlineOfTriangles, outl
 use Rattle.outline.specs.Rows.{rows3, sidesAt}
 use Rattle.sheet.specs.Sheet.{boundaryW}
 use Rattle.sheet.specs.Read.{boundaryFrom}
-use Rattle.sheet.specs.Work.{sideBits}
+use Rattle.sheet_rows.specs.Work.{sideBits}
 use Rattle.sheet.proofs.MeshReads.{read-tab}
 
 -- three columns of fields are the rows of the fields

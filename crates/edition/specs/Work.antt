@@ -3,16 +3,16 @@ use Prim.Native.Nat.{ℕ, _+_, _*_, _/_, _≤_}
 use mathlib.Core.Path.{_≡_}
 use mathlib.Core.Bool.{true, false}
 use mathlib.Core.List.{List}
-use lib.ListN.{length, replicate}
+use lib.ListN.{length}
 use Rattle.lists.specs.Lists.{pick}
 use Rattle.bits.specs.Bits.{bitsOf}
 use Rattle.mesh.specs.Given.{Lent}
 use Rattle.mesh.specs.Filled.{Fits}
 use Rattle.outline.specs.Rows.{sidesAt}
 use Rattle.outline.specs.declared.Settled.{Settled}
-use Rattle.sheet.specs.Sheet.{Columns, countsAt, countsIn, sheetWith, endOf, tooMany, namesOK}
+use Rattle.sheet.specs.Sheet.{countsAt, sheetWith, endOf, tooMany, namesOK}
 use Rattle.sheet.specs.Read.{countsFor}
-use Rattle.sheet.specs.Work.{Small, RowsIn, Even}
+use Rattle.sheet.specs.Work.{Small, RowsIn}
 use Rattle.sheet.specs.declared.Counts.{Counts}
 use Rattle.edition.specs.Edition.{second, bitsIn, typedOf, sheetOf, outlineIn, replacedIn, bytesIn, spareIn, seenOf}
 use Rattle.edition.specs.declared.Seen.{Seen}
@@ -97,10 +97,3 @@ pub record BladeAt (l : List ℕ) (at : ℕ) : Type 0 where
 pub record Held (s : List ℕ) (c : Counts) (o : List ℕ) (L : Lent) (places : ℕ) : Type 0 where
   pub mesh : MeshIn s c o L
   pub blade : 4 ≤ places
-
--- columns whose sheet fits into bytes that are 0, in the second edition
-pub record Put2 (k : Columns) (s : List ℕ) : Type 0 where
-  pub even : Even k
-  pub counts : Small (countsIn k)
-  pub room : endOf (countsIn k) ≤ 8 * length s + 1
-  pub zeros : bitsOf s ≡ replicate (8 * length s) 0

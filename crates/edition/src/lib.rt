@@ -1,4 +1,4 @@
-// Sheets of either edition, looked at and read into blocks; sheets written in the second.
+// Sheets of either edition, looked at and read into blocks.
 ghost use mathlib.Core.Path.{_≡_};
 ghost use Rattle.edition.specs.Edition.{seenOf};
 use sheet::Counts;
@@ -6,7 +6,6 @@ use sheet::Counts;
 pub mod outlines;
 pub mod read;
 pub mod typed;
-pub mod write;
 
 // What a look at a sheet finds: its counts, the boundary's those of the outline that it is read with, and whether its typed outline was replaced.
 pub enum Seen {

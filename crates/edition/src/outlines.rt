@@ -84,7 +84,7 @@ fn settle_typed(s: &[u8], c: Counts, own: &mut [usize], block: &mut [usize]) -> 
 {
     let m = own_sides(s, c, 46, own);
     let at = 46 + c.particles * 23 + c.triangles * 30 + c.edges * 21;
-    sheet::rows::read_sides(s, at, c.boundary, block);
+    sheet_rows::read_sides(s, at, c.boundary, block);
     outline::settle(own, m, c.boundary, block)
 }
 

@@ -30,10 +30,10 @@ fn room(
 ) -> Seen
     ensures { λ r. ⌜ r ≡ roomFor c replaced (record { points = lp; roots = lr; corners = lc; volumes = lv; ends = le; lengths = ll; outline = lo; log = 0 }) lb ⌝ }
 {
-    if sheet::read::two_fit(c.triangles, lc / 3, lv / 2) {
+    if sheet_rows::two_fit(c.triangles, lc / 3, lv / 2) {
         if 4 <= lb {
-            if sheet::read::two_fit(c.particles, lp / 6, lr / 2) {
-                if sheet::read::two_fit(c.edges, le / 4, ll / 4) {
+            if sheet_rows::two_fit(c.particles, lp / 6, lr / 2) {
+                if sheet_rows::two_fit(c.edges, le / 4, ll / 4) {
                     if c.boundary <= lo / 2 {
                         return Seen::Whole(c, replaced);
                     }
@@ -68,9 +68,9 @@ fn read_mesh(
     let at = crate::typed::start_bit(s);
     let at_t = at + p * 23;
     let at_e = at_t + c.triangles * 30;
-    sheet::rows::read_particles(s, at, p, points, roots);
-    sheet::rows::read_triangles(s, at_t, c.triangles, p, points, corners, volumes);
-    sheet::rows::read_edges(s, at_e, c.edges, p, points, ends, lengths);
+    sheet_rows::read_particles(s, at, p, points, roots);
+    sheet_rows::read_triangles(s, at_t, c.triangles, p, points, corners, volumes);
+    sheet_rows::read_edges(s, at_e, c.edges, p, points, ends, lengths);
     outline::copy_sides(found, c.boundary, outline);
 }
 
@@ -109,7 +109,7 @@ fn accept(
         boundary: c.boundary,
         log: 0,
     };
-    sheet::read::read_blade(s, blade_bit(s), blade);
+    sheet_rows::read_blade(s, blade_bit(s), blade);
     read_mesh(
         s,
         c,
@@ -186,7 +186,7 @@ pub fn read(
                     Seen::Whole(d, told)
                 }
                 Seen::Refused(n) => {
-                    sheet::read::refuse(
+                    sheet_rows::refuse(
                         points,
                         roots,
                         corners,
@@ -202,7 +202,7 @@ pub fn read(
             }
         }
         Seen::Refused(n) => {
-            sheet::read::refuse(
+            sheet_rows::refuse(
                 points,
                 roots,
                 corners,

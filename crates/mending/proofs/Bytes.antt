@@ -22,9 +22,8 @@ use Rattle.sheet.proofs.There.{num-zeros, fit-header, limits}
 use Rattle.sheet.proofs.Back.{bitsOf-inj}
 use Rattle.edition.specs.Edition.{second, bitsIn, asFirst, header2W, sheet2Bits, bounded, endIn, bytesIn, spareIn, typedOf, typedWith, typedSeen}
 use Rattle.edition.specs.Work.{TypedIn}
-use Rattle.edition.proofs.Editions.{is-second, bits-in, first-bits, first-long, counts-second, read-written}
+use Rattle.edition.proofs.Editions.{is-second, bits-in, first-bits, first-long, counts-second, read-written, length-second}
 use Rattle.edition.proofs.Starts.{in-second, in-first, typed-in, header-bits}
-use Rattle.edition.proofs.Putting.{length-second}
 use Rattle.mending.specs.Mending.{placedFrom, lawful, firsts, mendedBoundary, apart}
 use Rattle.mending.specs.Sheets.{mendedSheet, bytesFrom, bitsAs, sheetBytes, saidOf, Mending, mended, refused, mendWith, mendOf}
 use Rattle.mending.specs.Work.{Mendable}

@@ -4,17 +4,16 @@ use mathlib.Core.Path.{_≡_, refl}
 use mathlib.Core.List.{List, [], _∷_}
 use lib.ListN.{length}
 use Rattle.bits.specs.Bits.{bits, bitsOf, num}
-use Rattle.bits.specs.Rows.{total, unpack, pack, readRows, writeRows}
-use Rattle.lists.specs.Lists.{padded}
-use Rattle.sheet.specs.Sheet.{Sheet, sheetWith, sheetBits, seenOf, seenWith, allOK, rowOK, pairOK, coord, above, most}
+use Rattle.bits.specs.Rows.{total, unpack, readRows}
+use Rattle.sheet.specs.Sheet.{sheetWith, seenOf, seenWith, allOK, rowOK, pairOK, coord, above, most}
 use lib.IntN.{pos, negsuc}
 use lib.Ieee.{Float, fin, isNan, neg, add, sub, mul, div, lt, le, eq, ofInt, ofBits}
-use mathlib.Core.Bool.{Bool, true, false}
+use mathlib.Core.Bool.{true, false}
 use Rattle.lists.specs.Lists.{mapAt}
 use Rattle.float.specs.Numbers.{zero32, one, absOf}
 use Rattle.float.specs.Root.{floorRoot, rootUnits}
 use Rattle.blade.specs.Points.{lengthOf}
-use Rattle.model.specs.Mesh.{Particle, Triangle, Edge, Side, Mesh}
+use Rattle.model.specs.Mesh.{Particle}
 use Rattle.sheet.specs.Read.{floatOf, inverseOf, particleFrom, areaOf, triangleFrom, edgeFrom, particlesFrom, trianglesFrom, edgesFrom, boundaryFrom, meshOfSheet, bladeOfSheet}
 use Rattle.sheet.specs.declared.Counts.{Counts}
 use Rattle.sheet.specs.declared.Seen.the-variants.{Whole, Refused}

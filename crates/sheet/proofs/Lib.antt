@@ -1,15 +1,8 @@
 pub mod SeenLaws
 pub mod Trip
 pub mod PutLaws
-pub mod ColumnLaws
 pub mod There
 pub mod Back
-pub mod RowPuts
-pub mod RowReads
 pub mod MeshReads
-pub mod Entering
-pub mod Agree
 pub mod Cases
 pub mod CoordLaws
-pub mod WholeLaws
-pub mod Undo

@@ -1,34 +1,26 @@
--- Laws of a sheet written part by part.
-use Prim.Native.Nat.{ℕ, zero, suc, _+_, _-_, _*_, _<_, _≤_}
+-- Laws of the columns that a writer of sheets is handed, and of bits that are stored one part after the other.
+use Prim.Native.Nat.{ℕ, zero, suc, _+_, _-_, _<_, _≤_}
 use mathlib.Core.Path.{_≡_, refl, ap, _∙_}
-use mathlib.Core.List.{List, [], _∷_, _++_}
+use mathlib.Core.List.{List, [], _∷_}
 use mathlib.Core.Bool.{Bool, true, false, cond, _&&_, _||_}
 use native.Mathlib.Omega.{arith}
 use native.Mathlib.Nat.{sub-zero}
 use borrow.Author.Tests.{eqb-true, leb-true, ltb-false, lt-leb, le-leb}
 use lib.Dec.{leb, ltb}
-use lib.ListN.{length, drop, getD, replicate, length-append, length-replicate}
+use lib.ListN.{length, drop, getD, replicate, length-replicate}
 use lib.Seq.{sets, sets-eq}
-use Rattle.bits.specs.Bits.{bits}
-use Rattle.bits.specs.Rows.{total, pack, writeRows, rowsOf}
+use Rattle.bits.specs.Rows.{pack, rowsOf}
 use Rattle.lists.specs.Lists.{padded}
-use Rattle.sheet.specs.Sheet.{Sheet, above, Columns, sheetFrom, sheetBits, countsIn, headerW, particleW, triangleW, edgeW, boundaryW, bladeW, atTriangles, atEdges, atBoundary, atBlade, endOf, even3, evenOf, allOK, rowOK, tooMany, fitOf, namesOK, answerOf, bytesOf, putOf}
+use Rattle.sheet.specs.Sheet.{above, Columns, sheetFrom, countsIn, bladeW, even3, evenOf, allOK, rowOK, tooMany, fitOf, namesOK, answerOf, bytesOf}
 use Rattle.sheet.specs.Work.{Even, Small}
 use Rattle.sheet.specs.declared.Counts.{Counts}
-use Rattle.sheet.proofs.Trip.{length-sheetBits}
-use Rattle.bits.proofs.RowLaws.{sets-then, length-pack, length-writeRows}
 
 pub length-rowsOf : (cols : List (List ℕ)) (i n : ℕ) → length (rowsOf cols i n) ≡ n
 unfolding rowsOf
 length-rowsOf cols i zero = refl
 length-rowsOf cols i (suc n) = ap suc (length-rowsOf cols (i + 1) n)
 
--- a third field of no bits adds nothing
-pub pairs : (a b : List ℕ) (i n : ℕ) → writeRows (10 ∷ 10 ∷ 0 ∷ []) (rowsOf (a ∷ b ∷ b ∷ []) i n) ≡ writeRows boundaryW (rowsOf (a ∷ b ∷ []) i n)
-unfolding rowsOf writeRows pack bits
-pairs a b i zero = refl
-pairs a b i (suc n) = rw (pairs a b (i + 1) n)
-
+-- rows of two names are right with a third that is not looked at
 pub pair-names : (p : ℕ) (a b : List ℕ) (i n : ℕ) → allOK false p (rowsOf (a ∷ b ∷ b ∷ []) i n) ≡ allOK false p (rowsOf (a ∷ b ∷ []) i n)
 unfolding rowsOf allOK rowOK
 pair-names p a b i zero = refl
@@ -53,62 +45,6 @@ unfolding padded
 sets-zeros m x h =
     let e : 0 + length x ≡ length x = omega arith in
     sets-eq x (replicate m 0) 0 (omega (arith, length-replicate {A = ℕ} m 0)) ∙ rw (e, drop-zeros (length x) m)
-
-module _ (k : Columns) where
-  pub length-sheet : length (sheetBits (sheetFrom k)) ≡ endOf (countsIn k)
-  length-sheet = omega (arith, length-sheetBits (sheetFrom k), length-rowsOf (k .x ∷ k .y ∷ k .pinned ∷ []) 0 (length (k .x)), length-rowsOf (k .t0 ∷ k .t1 ∷ k .t2 ∷ []) 0 (length (k .t0)), length-rowsOf (k .e0 ∷ k .e1 ∷ k .structural ∷ []) 0 (length (k .e0)), length-rowsOf (k .b0 ∷ k .b1 ∷ []) 0 (length (k .b0)))
-
-  -- the parts one after the other
-  pub put-sheet : (l : List ℕ) →
-      sets (sets (sets (sets (sets (sets l 0 (pack headerW (length (k .x) ∷ length (k .t0) ∷ length (k .e0) ∷ length (k .b0) ∷ [])))
-      46 (writeRows particleW (rowsOf (k .x ∷ k .y ∷ k .pinned ∷ []) 0 (length (k .x)))))
-      (atTriangles (countsIn k)) (writeRows triangleW (rowsOf (k .t0 ∷ k .t1 ∷ k .t2 ∷ []) 0 (length (k .t0)))))
-      (atEdges (countsIn k)) (writeRows edgeW (rowsOf (k .e0 ∷ k .e1 ∷ k .structural ∷ []) 0 (length (k .e0)))))
-      (atBoundary (countsIn k)) (writeRows (10 ∷ 10 ∷ 0 ∷ []) (rowsOf (k .b0 ∷ k .b1 ∷ k .b1 ∷ []) 0 (length (k .b0)))))
-      (atBlade (countsIn k)) (pack bladeW (k .blade))
-      ≡ sets l 0 (sheetBits (sheetFrom k))
-  unfolding sheetBits total
-  put-sheet l =
-      let c = countsIn k in
-      let H = pack headerW (length (k .x) ∷ length (k .t0) ∷ length (k .e0) ∷ length (k .b0) ∷ []) in
-      let rp = rowsOf (k .x ∷ k .y ∷ k .pinned ∷ []) 0 (length (k .x)) in
-      let rt = rowsOf (k .t0 ∷ k .t1 ∷ k .t2 ∷ []) 0 (length (k .t0)) in
-      let re = rowsOf (k .e0 ∷ k .e1 ∷ k .structural ∷ []) 0 (length (k .e0)) in
-      let rb = rowsOf (k .b0 ∷ k .b1 ∷ []) 0 (length (k .b0)) in
-      let np : length rp ≡ length (k .x) = length-rowsOf (k .x ∷ k .y ∷ k .pinned ∷ []) 0 (length (k .x)) in
-      let nt : length rt ≡ length (k .t0) = length-rowsOf (k .t0 ∷ k .t1 ∷ k .t2 ∷ []) 0 (length (k .t0)) in
-      let ne : length re ≡ length (k .e0) = length-rowsOf (k .e0 ∷ k .e1 ∷ k .structural ∷ []) 0 (length (k .e0)) in
-      let nb : length rb ≡ length (k .b0) = length-rowsOf (k .b0 ∷ k .b1 ∷ []) 0 (length (k .b0)) in
-      let P = writeRows particleW rp in
-      let T = writeRows triangleW rt in
-      let E = writeRows edgeW re in
-      let B = writeRows boundaryW rb in
-      let D = pack bladeW (k .blade) in
-      let h : length H ≡ 46 = length-pack headerW (length (k .x) ∷ length (k .t0) ∷ length (k .e0) ∷ length (k .b0) ∷ []) in
-      let p : length P ≡ length rp * 23 = length-writeRows particleW rp in
-      let t : length T ≡ length rt * 30 = length-writeRows triangleW rt in
-      let e : length E ≡ length re * 21 = length-writeRows edgeW re in
-      let b : length B ≡ length rb * 20 = length-writeRows boundaryW rb in
-      let hp : length (H ++ P) ≡ atTriangles c = omega (arith, length-append H P) in
-      let ht : length (H ++ P ++ T) ≡ atEdges c = omega (arith, length-append (H ++ P) T) in
-      let he : length (H ++ P ++ T ++ E) ≡ atBoundary c = omega (arith, length-append (H ++ P ++ T) E) in
-      let hb : length (H ++ P ++ T ++ E ++ B) ≡ atBlade c = omega (arith, length-append (H ++ P ++ T ++ E) B) in
-      rw (
-        pairs (k .b0) (k .b1) 0 (length (k .b0)),
-        sets-then l 0 46 H P (omega arith),
-        sets-then l 0 (atTriangles c) (H ++ P) T (omega arith),
-        sets-then l 0 (atEdges c) (H ++ P ++ T) E (omega arith),
-        sets-then l 0 (atBoundary c) (H ++ P ++ T ++ E) B (omega arith),
-        sets-then l 0 (atBlade c) (H ++ P ++ T ++ E ++ B) D (omega arith),
-        np,
-        nt,
-        ne,
-        nb,
-      )
-
--- on zeros
-pub put-zeros : (k : Columns) (m : ℕ) → endOf (countsIn k) ≤ m → sets (replicate m 0) 0 (sheetBits (sheetFrom k)) ≡ padded m 0 (sheetBits (sheetFrom k))
-put-zeros k m h = sets-zeros m (sheetBits (sheetFrom k)) (omega (arith, length-sheet k))
 
 pub both : (a b : Bool) → (a && b) ≡ true → (a ≡ true) × (b ≡ true)
 both true b e = (refl, e)
@@ -201,13 +137,3 @@ module _ (k : Columns) (m : ℕ) where
 pub names-cols : (k : Columns) → namesOK (sheetFrom k) ≡ (allOK true (length (k .x)) (rowsOf (k .t0 ∷ k .t1 ∷ k .t2 ∷ []) 0 (length (k .t0)))
     && (allOK false (length (k .x)) (rowsOf (k .e0 ∷ k .e1 ∷ k .structural ∷ []) 0 (length (k .e0))) && allOK false (length (k .x)) (rowsOf (k .b0 ∷ k .b1 ∷ k .b1 ∷ []) 0 (length (k .b0)))))
 names-cols k = rw (length-rowsOf (k .x ∷ k .y ∷ k .pinned ∷ []) 0 (length (k .x)), pair-names (length (k .x)) (k .b0) (k .b1) 0 (length (k .b0)))
-
--- what a refusal leaves
-pub put-none : (r : ℕ) (s : Sheet) (m : ℕ) → (r ≡ 0 → ⊥) → padded m 0 (putOf r s) ≡ replicate m 0
-unfolding putOf padded
-put-none zero s m h = absurd (h refl)
-put-none (suc r) s m h = let e : m - zero ≡ m = omega arith in rw e
-
-pub put-some : (s : Sheet) → putOf 0 s ≡ sheetBits s
-unfolding putOf
-put-some s = refl

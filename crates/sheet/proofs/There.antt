@@ -1,24 +1,20 @@
--- A sheet that was written is read back: what `write` leaves on acceptance is accepted, and holds what was handed in.
+-- Columns that a writer accepts make a sheet whose fields hold every number; and laws of bits and limits that this needs.
 use Prim.Native.Nat.{ℕ, zero, suc, _+_, _-_, _*_, _^_, _<_, _≤_}
-use mathlib.Core.Path.{_≡_, refl, ap, sym, _∙_, subst}
-use mathlib.Core.List.{List, [], _∷_, _++_}
+use mathlib.Core.Path.{_≡_, refl, sym, subst}
+use mathlib.Core.List.{List, [], _∷_}
 use mathlib.Core.Bool.{true, false, _&&_, _||_}
 use native.Mathlib.Omega.{arith}
-use borrow.Author.Tests.{ltb-true, ltb-false, eq-eqb}
+use borrow.Author.Tests.{ltb-true, ltb-false}
 use native.Mathlib.Nat.{zero-mul}
 use lib.Dec.{ltb}
-use lib.ListN.{length, take, getD, replicate, length-replicate}
-use lib.Seq.{take-nil, take-append-add, drop-at, take-all, length-take-le}
-use Rattle.bits.specs.Bits.{bits, bitsOf, num, fieldAt}
+use lib.ListN.{length, take, getD, replicate}
+use lib.Seq.{take-nil, take-append-add}
+use Rattle.bits.specs.Bits.{bits, bitsOf, num}
 use Rattle.bits.specs.Rows.{Fit, FitAll, rowsOf}
-use Rattle.lists.specs.Lists.{padded}
-use Rattle.sheet.specs.Sheet.{above, Columns, sheetFrom, sheetBits, sheetWith, countsIn, countsOf, countsAt, headerOf, headerW, boundaryW, bladeW, endOf, bytesOf, spareOf, FitSheet, allBelow, fit3, tooMany, namesOK, answerOf, seenOf, seenWith}
+use Rattle.sheet.specs.Sheet.{above, Columns, sheetFrom, countsIn, countsOf, headerOf, headerW, boundaryW, bladeW, FitSheet, allBelow, fit3, tooMany}
 use Rattle.sheet.specs.declared.Counts.{Counts}
-use Rattle.sheet.specs.declared.Seen.the-variants.{Whole}
 use Rattle.bits.proofs.Laws.{length-bits}
-use Rattle.sheet.proofs.PutLaws.{Good, good, length-rowsOf, length-sheet, both, neither}
-use Rattle.sheet.proofs.Trip.{counts-read, read-of-write}
-use Rattle.sheet.proofs.SeenLaws.{seen-with}
+use Rattle.sheet.proofs.PutLaws.{Good, length-rowsOf, both, neither}
 
 pub below-at : (m : ℕ) (a : List ℕ) (i : ℕ) → allBelow m a ≡ true → i < length a → getD a i 0 < m
 unfolding allBelow
@@ -96,81 +92,7 @@ bitsOf-take (suc n) (b ∷ s) =
     let e : 8 * suc n ≡ length (bits 8 b) + 8 * n = omega (arith, length-bits 8 b) in
     rw (e, take-append-add (bits 8 b) (bitsOf s) (8 * n), bitsOf-take n s)
 
-take-zeros : (n m : ℕ) → n ≤ m → take n (replicate {A = ℕ} m 0) ≡ replicate n 0
-take-zeros zero m h = refl
-take-zeros (suc n) zero h = absurd (omega arith)
-take-zeros (suc n) (suc m) h = ap (λ (l : List ℕ). 0 ∷ l) (take-zeros n m (omega arith))
-
 pub num-zeros : (n : ℕ) → num (replicate n 0) ≡ 0
 unfolding num
 num-zeros zero = refl
 num-zeros (suc n) = rw (num-zeros n, zero-mul)
-
--- counts are equal where their headers are
-same-counts : (c d : Counts) → headerOf c ≡ headerOf d → c ≡ d
-same-counts c d e =
-    let p : c .particles ≡ d .particles = ap (λ (l : List ℕ). getD l 0 0) e in
-    let t : c .triangles ≡ d .triangles = ap (λ (l : List ℕ). getD l 1 0) e in
-    let g : c .edges ≡ d .edges = ap (λ (l : List ℕ). getD l 2 0) e in
-    let b : c .boundary ≡ d .boundary = ap (λ (l : List ℕ). getD l 3 0) e in
-    let mk : ℕ → ℕ → ℕ → ℕ → Counts = λ w x y z. record { particles = w; triangles = x; edges = y; boundary = z } in
-    ap (λ (v : ℕ). mk v (c .triangles) (c .edges) (c .boundary)) p ∙ (ap (λ (v : ℕ). mk (d .particles) v (c .edges) (c .boundary)) t
-    ∙ (ap (λ (v : ℕ). mk (d .particles) (d .triangles) v (c .boundary)) g ∙ ap (λ (v : ℕ). mk (d .particles) (d .triangles) (d .edges) v) b))
-
--- what `write` leaves on acceptance, as far as the sheet's bytes
-module _ (k : Columns) (out : List ℕ) (h : answerOf k (length out) ≡ 0) (w : bitsOf out ≡ padded (8 * length out) 0 (sheetBits (sheetFrom k))) where
-  g : Good k (length out)
-  g = good k (length out) h
-
-  unfoldable pub sheet-bytes : List ℕ
-  sheet-bytes = take (bytesOf (countsIn k)) out
-
-  pub sheet-bytes-bits : bitsOf sheet-bytes ≡ sheetBits (sheetFrom k) ++ replicate (8 * bytesOf (countsIn k) - endOf (countsIn k)) 0
-  unfolding sheet-bytes padded
-  sheet-bytes-bits =
-      let x = sheetBits (sheetFrom k) in
-      let n = length-sheet k in
-      let r = g .room in
-      let d = 8 * bytesOf (countsIn k) - endOf (countsIn k) in
-      let z = replicate {A = ℕ} (8 * length out - length x) 0 in
-      let e : 8 * bytesOf (countsIn k) ≡ length x + d = omega arith in
-      bitsOf-take (bytesOf (countsIn k)) out
-      ∙ (ap (λ (l : List ℕ). take (8 * bytesOf (countsIn k)) l) w
-      ∙ (ap (λ (j : ℕ). take j (x ++ z)) e
-      ∙ (take-append-add x z d ∙ ap (λ (l : List ℕ). x ++ l) (take-zeros d (8 * length out - length x) (omega arith)))))
-
-  pub sheet-bytes-counts : countsIn k ≡ countsAt (bitsOf sheet-bytes)
-  sheet-bytes-counts =
-      let z = replicate {A = ℕ} (8 * bytesOf (countsIn k) - endOf (countsIn k)) 0 in
-      let r : headerOf (countsAt (sheetBits (sheetFrom k) ++ z)) ≡ headerOf (countsOf (sheetFrom k)) = counts-read (sheetFrom k) z (fit-sheet k (length out) g) in
-      sym (same-counts (countsAt (bitsOf sheet-bytes)) (countsIn k) (ap (λ (l : List ℕ). headerOf (countsAt l)) sheet-bytes-bits ∙ (r ∙ ap headerOf (counts-from k))))
-
-  -- the sheet read is the sheet handed in
-  pub sheet-bytes-mean : sheetWith (countsIn k) (bitsOf sheet-bytes) ≡ sheetFrom k
-  sheet-bytes-mean =
-      let z = replicate {A = ℕ} (8 * bytesOf (countsIn k) - endOf (countsIn k)) 0 in
-      ap (λ (l : List ℕ). sheetWith (countsIn k) l) sheet-bytes-bits
-      ∙ (ap (λ (c : Counts). sheetWith c (sheetBits (sheetFrom k) ++ z)) (sym (counts-from k)) ∙ read-of-write (sheetFrom k) z (fit-sheet k (length out) g))
-
-  bytes-length : length sheet-bytes ≡ bytesOf (countsIn k)
-  unfolding sheet-bytes
-  bytes-length = length-take-le (bytesOf (countsIn k)) out (g .room)
-
-  bytes-spare : spareOf (countsIn k) (bitsOf sheet-bytes) ≡ 0
-  bytes-spare =
-      let x = sheetBits (sheetFrom k) in
-      let d = 8 * bytesOf (countsIn k) - endOf (countsIn k) in
-      let z = replicate {A = ℕ} d 0 in
-      ap (λ (l : List ℕ). fieldAt l (endOf (countsIn k)) d) sheet-bytes-bits
-      ∙ (ap (λ (l : List ℕ). num (take d l)) (drop-at x z (endOf (countsIn k)) (length-sheet k))
-      ∙ (ap num (take-all d z (omega (arith, length-replicate {A = ℕ} d 0))) ∙ num-zeros d))
-
-  -- and is accepted, where the reader's own limits are not passed
-  pub written-seen : (limits : Counts) → above limits (countsIn k) ≡ false → seenOf limits sheet-bytes ≡ Whole (countsIn k)
-  unfolding seenWith
-  written-seen limits few =
-      let n : length sheet-bytes ≡ bytesOf (countsIn k) = bytes-length in
-      let m : namesOK (sheetWith (countsIn k) (bitsOf sheet-bytes)) ≡ true = ap namesOK sheet-bytes-mean ∙ g .names in
-      let s : spareOf (countsIn k) (bitsOf sheet-bytes) ≡ 0 = bytes-spare in
-      seen-with limits sheet-bytes (countsIn k) sheet-bytes-counts (omega arith)
-      ∙ rw (g .few, few, m, eq-eqb (length sheet-bytes) (bytesOf (countsIn k)) n, eq-eqb (spareOf (countsIn k) (bitsOf sheet-bytes)) 0 s)

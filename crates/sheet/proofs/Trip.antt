@@ -5,7 +5,6 @@ use mathlib.Core.List.{List, _++_, append-assoc}
 use native.Mathlib.Omega.{arith}
 use lib.ListN.{length, take, drop, length-append, length-drop}
 use lib.Seq.{take-add, drop-drop, drop-at}
-use Rattle.bits.specs.Bits.{bits}
 use Rattle.bits.specs.Rows.{total, unpack, pack, readRows, writeRows}
 use Rattle.sheet.specs.Sheet.{Sheet, headerW, particleW, triangleW, edgeW, boundaryW, bladeW, countsAt, countsOf, headerOf, sheetWith, sheetBits, FitSheet, atTriangles, atEdges, atBoundary, atBlade, endOf}
 use Rattle.sheet.specs.declared.Counts.{Counts}

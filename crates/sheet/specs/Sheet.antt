@@ -1,13 +1,11 @@
 -- Sheets (docs/RULES.md, R13): the layout, a sheet's meaning, and what each sheet and each writing is answered. Definitions only.
-use Prim.Native.Nat.{ℕ, zero, suc, _+_, _-_, _*_, _/_}
-use mathlib.Core.Path.{_≡_}
+use Prim.Native.Nat.{ℕ, _+_, _-_, _*_, _/_}
 use mathlib.Core.Bool.{Bool, true, false, cond, not, _&&_, _||_}
 use mathlib.Core.List.{List, [], _∷_, _++_, map}
 use lib.ListN.{length, drop, getD}
 use lib.Dec.{ltb, leb, eqb}
 use lib.IntN.{ℤ, pos, negsuc, subℕ}
-use Rattle.lists.specs.Lists.{padded}
-use Rattle.bits.specs.Bits.{bits, bitsOf, fieldAt}
+use Rattle.bits.specs.Bits.{bitsOf, fieldAt}
 use Rattle.bits.specs.Rows.{unpack, pack, readRows, writeRows, Fit, FitAll, rowsOf, col}
 use Rattle.sheet.specs.declared.Counts.{Counts}
 use Rattle.sheet.specs.declared.Seen.{Seen}
@@ -244,16 +242,6 @@ answerOf k m =
     (cond (tooMany (countsIn k)) 1
     (cond (fitOf k) (cond (namesOK (sheetFrom k)) (cond (leb (bytesOf (countsIn k)) m) 0 9) 3) 2))
     1
-
--- what it leaves: the sheet's bits and 0 behind them, or 0 alone
-unfoldable pub putOf : ℕ → Sheet → List ℕ
-putOf zero s = sheetBits s
-putOf (suc r) s = []
-
--- what a writer answers, and the bits of every byte it was lent
-pub record WriteDone (k : Columns) (before after : List ℕ) (r : ℕ) : Type 0 where
-  pub answer : r ≡ answerOf k (length before)
-  pub bits : bitsOf after ≡ padded (8 * length before) 0 (putOf r (sheetFrom k))
 
 -- a sheet's columns
 abbrev pub columnsOf : Sheet → Columns

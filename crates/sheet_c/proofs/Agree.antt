@@ -7,7 +7,7 @@ use Rattle.lists.specs.Lists.{padded}
 use Rattle.bits.specs.Bits.{bitsOf}
 use Rattle.sheet.specs.Sheet.{sheetFrom}
 use Rattle.sheet.proofs.Back.{bitsOf-inj}
-use Rattle.edition.specs.Writing.{columnsFrom, putOf}
+use Rattle.sheet_writing.specs.Writing.{columnsFrom, putOf}
 use Rattle.sheet_c.specs.Fields.{handedIn, SheetWritten}
 
 pub written-agree : (s before after after′ : List ℕ) (r r′ : ℕ) → ((i : ℕ) → getD after i 0 < 256) → ((i : ℕ) → getD after′ i 0 < 256)

@@ -16,8 +16,8 @@ use Rattle.bits.specs.Bits.{bitsOf}
 use Rattle.sheet.specs.Sheet.{Columns, fieldOf, countsIn, evenOf, fitOf, namesOK, tooMany, above, sheetFrom}
 use Rattle.sheet.specs.declared.Counts.{Counts}
 use Rattle.edition.specs.Edition.{ownOf, bytesIn}
-use Rattle.edition.specs.Writing.{Handed, columnsFrom, answerOf, putOf, WriteDone}
-use Rattle.edition.proofs.Putting.{put-none}
+use Rattle.sheet_writing.specs.Writing.{Handed, columnsFrom, answerOf, putOf, WriteDone}
+use Rattle.sheet_writing.proofs.Putting.{put-none}
 use Rattle.image.specs.Words.{wordAt, wordsFrom}
 use Rattle.replies.proofs.Saying.{pick-small}
 use Rattle.sheet_c.specs.Fields.{signedFrom, fieldWords, fieldsFit, besides, handedWith, handedIn, writeAnswer, SheetWritten}

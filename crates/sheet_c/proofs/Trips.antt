@@ -11,10 +11,10 @@ use Rattle.model.specs.Reads.{value}
 use Rattle.bits.specs.Bits.{bitsOf}
 use Rattle.sheet.specs.Sheet.{Sheet, sheetFrom, countsIn, most}
 use Rattle.edition.specs.Edition.{SheetRead, bounded, ownOf, bytesIn, seenOf}
-use Rattle.edition.specs.Writing.{columnsFrom, answerOf, WriteDone}
+use Rattle.sheet_writing.specs.Writing.{columnsFrom, answerOf, WriteDone}
 use Rattle.edition.specs.declared.Seen.{Seen}
-use Rattle.edition.proofs.Putting.{Good, good}
-use Rattle.edition.proofs.Trips as E
+use Rattle.sheet_writing.proofs.Putting.{Good, good}
+use Rattle.sheet_writing.proofs.Trips as E
 use Rattle.sheet_c.specs.Sheets.{sheetWords, sheetTold, sheetReply}
 use Rattle.sheet_c.specs.Fields.{fieldsFit, handedIn, writeAnswer, SheetWritten}
 

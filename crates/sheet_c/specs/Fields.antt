@@ -10,7 +10,7 @@ use Rattle.lists.specs.Lists.{pick, tab, padded}
 use Rattle.bits.specs.Bits.{bitsOf}
 use Rattle.image.specs.Words.{wordAt, wordsFrom}
 use Rattle.sheet.specs.Sheet.{sheetFrom}
-use Rattle.edition.specs.Writing.{Handed, columnsFrom, answerOf, putOf}
+use Rattle.sheet_writing.specs.Writing.{Handed, columnsFrom, answerOf, putOf}
 
 -- the whole number that a word is in two's complement; and n of them from word `at` on
 unfoldable pub signedOf : ℕ → ℤ

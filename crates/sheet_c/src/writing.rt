@@ -4,7 +4,7 @@ ghost use mathlib.Core.Bool.{_&&_};
 ghost use Prim.Native.Nat.{_+_, _*_, _≤_, _<_};
 ghost use lib.ListN.{length, take};
 ghost use Rattle.image.specs.Words.{wordAt};
-ghost use Rattle.edition.specs.Writing.{WriteDone};
+ghost use Rattle.sheet_writing.specs.Writing.{WriteDone};
 ghost use Rattle.sheet_c.specs.Fields.{signedOf, signedFrom, fieldsFit, besides, SheetWritten};
 ghost use Rattle.sheet_c.specs.Work.{fieldsFew, FieldsRoom};
 
@@ -99,7 +99,7 @@ fn write_elements(
     image::words_into(fields, at_e, e, &mut e0);
     image::words_into(fields, at_e + e, e, &mut e1);
     image::words_into(fields, at_e + 2 * e, e, &mut structural);
-    edition::write::write(
+    sheet_writing::write(
         out,
         x,
         y,

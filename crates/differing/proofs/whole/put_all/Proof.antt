@@ -1,6 +1,6 @@
 -- `differing::whole::put_all` meets its contract: counts, lists, outlines and blades are all differences. Assumes nothing.
 use Rattle.differing.proofs.Wholes.{counts-few, lists-few, all-lines}
-use Rattle.differing.proofs.Writing.{lists-then, lists-as}
+use Rattle.differences.proofs.Writing.{lists-then, lists-as}
 use Rattle.differing.specs.Differed.{readSheet}
 use mathlib.Core.Path.{_∙_}
 use Rattle.differing.proofs.whole.put_all.Statement.{statement}

@@ -1,7 +1,7 @@
 -- `differing::whole::put_counts` meets its contract: one count behind the other. Assumes nothing.
-use Rattle.differing.specs.declared.Part.the-variants.{Particles, Triangles, Edges}
+use Rattle.differences.specs.declared.Part.the-variants.{Particles, Triangles, Edges}
 use Rattle.differing.proofs.Wholes.{count-counted}
-use Rattle.differing.proofs.Writing.{lists-then}
+use Rattle.differences.proofs.Writing.{lists-then}
 use mathlib.Core.Path.{_∙_}
 use native.Mathlib.Omega.{arith}
 use Rattle.differing.proofs.whole.put_counts.Statement.{statement}

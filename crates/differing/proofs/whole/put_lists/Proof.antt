@@ -1,8 +1,8 @@
 -- `differing::whole::put_lists` meets its contract: the three lists that stand in the bytes. Assumes nothing.
 use Rattle.differing.proofs.Wholes.{counts-small, particles-at, triangles-at, edges-at, ask-particles, ask-triangles, ask-edges, rows-counted}
-use Rattle.differing.proofs.Writing.{lists-then, lists-as}
-use Rattle.differing.specs.declared.Part.the-variants.{Particles, Triangles, Edges}
-use Rattle.differing.specs.Differing.{rowsDiffer}
+use Rattle.differences.proofs.Writing.{lists-then, lists-as}
+use Rattle.differences.specs.declared.Part.the-variants.{Particles, Triangles, Edges}
+use Rattle.differences.specs.Differences.{rowsDiffer}
 use mathlib.Core.List.{List}
 use mathlib.Core.Path.{_∙_, ap, ap₂}
 use Prim.Native.Nat.{ℕ, _+_, _*_}

@@ -1,9 +1,9 @@
 -- `differing::whole::put_rest` meets its contract: the outlines, then the blades. Assumes nothing.
 use Rattle.differing.proofs.Wholes.{counts-small, ask-sides, blade-is}
-use Rattle.differing.proofs.Walking.{rows-few}
-use Rattle.differing.proofs.Writing.{lists-then, lists-as}
-use Rattle.differing.specs.declared.Part.the-variants.{Boundary}
-use Rattle.differing.specs.Differing.{Difference, rowsDiffer, sameRow, blades}
+use Rattle.row_differences.proofs.Walking.{rows-few}
+use Rattle.differences.proofs.Writing.{lists-then, lists-as}
+use Rattle.differences.specs.declared.Part.the-variants.{Boundary}
+use Rattle.differences.specs.Differences.{Difference, rowsDiffer, sameRow, blades}
 use Rattle.edition.proofs.Meshes.{blade-in}
 use Rattle.edition.proofs.Sides.{sides-long}
 use Rattle.outline.specs.Rows.{sidesAt}

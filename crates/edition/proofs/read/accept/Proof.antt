@@ -2,7 +2,7 @@
 use native.Mathlib.Omega.{arith}
 use mathlib.Core.Path.{refl, _∙_}
 use lib.ListN.{length}
-use Rattle.sheet.proofs.MeshReads.{filled-same, world-same}
+use Rattle.sheet_rows.proofs.MeshReads.{filled-same, world-same}
 use Rattle.edition.proofs.Meshes.{blade-here, blade-in}
 use Rattle.edition.proofs.read.accept.Statement.{statement}
 use Rattle.edition.proofs.read.accept.Tie as tie

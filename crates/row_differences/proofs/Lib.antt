@@ -1,0 +1,2 @@
+-- Laws of two lists of rows walked along together.
+pub mod Walking

@@ -1,0 +1,3 @@
+pub mod RowPuts
+pub mod RowReads
+pub mod MeshReads

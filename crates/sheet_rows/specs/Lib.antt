@@ -1,0 +1,2 @@
+-- Helpers of contracts on rows read into blocks.
+pub mod Work

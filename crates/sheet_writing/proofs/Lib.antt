@@ -1,0 +1,4 @@
+pub mod Putting
+pub mod Agree
+pub mod Trips
+pub mod Undo
