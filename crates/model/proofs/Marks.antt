@@ -269,7 +269,7 @@ carried-changed : (front : List Need) (marks : List Entry) (R : Run) → any cha
 unfolding changed carried
 carried-changed front marks R none = any-append changes marks (R .log) ∙ ap (λ (b : Bool). b || any changes (R .log)) none
 
--- the mesh is that of the cut without marks, the log stands behind the marks, and they do not count as a change
+-- the mesh is that of the cut without marks, the log stands behind the marks, and they do not count as a change. (A refused cut leaves no mark: a refusal has no log, by the definition of `Outcome`.)
 pub record AsUnmarked (k : Kind) (B : Blade) (f : Float) (M : Mesh) : Type 0 where
   pub mesh : cut k B f (start M) .mesh ≡ cutAlong k B f (start M) .mesh
   pub log : cut k B f (start M) .log ≡ marksOf k B M ++ cutAlong k B f (start M) .log

@@ -1,10 +1,15 @@
--- What each worker asks and gives, from what a call asks and promises of its work.
+-- What each worker asks and gives, from what a call asks and promises of its work; and the cut behind its marks.
 use Prim.Native.Nat.{ℕ}
 use mathlib.Core.Path.{_≡_, sym, _∙_, subst}
 use mathlib.Core.List.{List}
 use lib.ListN.{length}
 use lib.Ieee.{Float}
 use Rattle.model.specs.Elements.{Kind, kindOf}
+use Rattle.model.specs.Run.{Run}
+use Rattle.model.specs.Cut.{Blade, markedBy, cutAlong, cut}
+use Rattle.model.proofs.Steps.{along-onward}
+use Rattle.model.proofs.Indexed.{Indexed}
+use Rattle.model.proofs.Marks.{marked-mesh}
 use Rattle.mesh.specs.At.{meshAt}
 use Rattle.mesh.specs.Log.{World}
 use Rattle.mesh.specs.Filled.{lent}
@@ -16,6 +21,8 @@ use Rattle.work.specs.Working.{Ready, Works, SettleRoom}
 use Rattle.split.specs.Tables.{SidesGiven}
 use Rattle.work.specs.Places.{CornersIn, EndsIn, SidesIn}
 use Rattle.work.specs.declared.Ran.{Ran}
+use Rattle.work.specs.declared.Ran.the-variants.{Refused, Done}
+use Rattle.work.proofs.Runs.{works-then, works-refused, works-known}
 use Rattle.work.proofs.Placed.{corners-in, ends-in, sides-in}
 use Rattle.jobs.specs.Jobs.{jobRun}
 use Rattle.perform.specs.Asks.{JobAsked}
@@ -64,3 +71,22 @@ module _ (k : Counts) (R : Rooms) (p : List Float) (r c : List ℕ) (v : List Fl
     split-given at q S =
         subst (λ (K : Kind). SidesGiven K (meshAt k p r c v e l o) at ls) (sym (kind-found kind F))
         (subst (λ (x : Job). JobAsked x ls (meshAt k p r c v e l o)) (arm ∙ q) S)
+
+-- ---- the cut behind its marks
+
+-- marks keep the mesh as it is
+pub marked-indexed : (K : Kind) (B : Blade) (R : Run) → Indexed (R .mesh) → Indexed (markedBy K B R .mesh)
+marked-indexed K B R X = subst Indexed (sym (marked-mesh K B R)) X
+
+module _ (K : Kind) (B : Blade) (f : Float) {L : Rooms} {W : World} {at : Counts → World} {ran : Ran} (F : Works (markedBy K B) L W at ran) where
+  -- without room for them there is no cut
+  pub marks-refused : {then : Counts → World} (c : ℕ) → ran ≡ Refused c → Works (cut K B f) L W then ran
+  unfolding cut
+  marks-refused {then} c known =
+      let G : Works (λ (R : Run). cutAlong K B f (markedBy K B R)) L W then (Refused c) = works-refused (cutAlong K B f) (λ R. along-onward K B f (markedBy K B R)) (works-known ran (Refused c) known F) in
+      works-known (Refused c) ran (sym known) (record { went = G .went })
+
+  -- else the mesh is cut behind them
+  pub marks-done : {then : Counts → World} {s : Ran} (k : Counts) → ran ≡ Done k → Works (cutAlong K B f) L (at k) then s → Works (cut K B f) L W then s
+  unfolding cut
+  marks-done {then} {s} k known C = record { went = works-then (works-known ran (Done k) known F) C .went }

@@ -32,7 +32,7 @@ use Rattle.sheetcut.proofs.Counting.{pieces-in}
 
 module _ (a : Answer) (c : List ℕ) (v : List Float) (e : List ℕ) (l : List Float) where
   -- what an answer of counts asks
-  pub done-listable : (k : Counts) (changed : Bool) (g : ℕ) → a ≡ Done k changed → Listable a c v e l g → Countable k c v e l × (6 * k .log ≤ g) × (k .log ≤ 256)
+  pub done-listable : (k : Counts) (changed : Bool) (g : ℕ) → a ≡ Done k changed → Listable a c v e l g → Countable k c v e l × (6 * k .log ≤ g) × (k .log ≤ 640)
   done-listable k changed g q h = subst (λ (x : Answer). Listable x c v e l g) q h
 
   -- the text of a refusal
@@ -63,7 +63,7 @@ pub record Modest (L : Lent) : Type 0 where
   pub points : L .points ≤ 1536
   pub corners : L .corners ≤ 384
   pub ends : L .ends ≤ 2048
-  pub log : L .log ≤ 1536
+  pub log : L .log ≤ 3840
 
 module _ (L : Lent) (p : List Float) (r c : List ℕ) (v : List Float) (e : List ℕ) (l : List Float) (b g : List ℕ) (same : lent p r c v e l b g ≡ L) where
   module _ (M : Mesh) (log : List Entry) (F : Filled (worldOf M log) L p r c v e l b g) where
@@ -81,7 +81,7 @@ module _ (L : Lent) (p : List Float) (r c : List ℕ) (v : List Float) (e : List
     log-is = ap (λ (n : ℕ). logAt n g) (sym (length-map log wordsOf)) ∙ log-filled (L .log) (map wordsOf log) g (F .log)
 
     -- so they can be listed
-    done-countable : Modest L → indicesFit M ≡ true → Countable (countsOf M log) c v e l × (6 * length log ≤ length g) × (length log ≤ 256)
+    done-countable : Modest L → indicesFit M ≡ true → Countable (countsOf M log) c v e l × (6 * length log ≤ length g) × (length log ≤ 640)
     done-countable few ok =
         let H = fits in
         let w = indices-parts M ok in
@@ -122,9 +122,9 @@ module _ (L : Lent) (p : List Float) (r c : List ℕ) (v : List Float) (e : List
 
 -- ---- with the places that the program lends
 
--- 256 particles, 128 triangles, 512 edges, 512 boundary entries and 256 log entries
+-- 256 particles, 128 triangles, 512 edges, 512 boundary entries and 640 log entries
 abbrev pub places : Lent
-places = record { points = 1536; roots = 512; corners = 384; volumes = 256; ends = 2048; lengths = 2048; outline = 1024; log = 1536 }
+places = record { points = 1536; roots = 512; corners = 384; volumes = 256; ends = 2048; lengths = 2048; outline = 1024; log = 3840 }
 
 places-modest : Modest places
 places-modest = record { points = omega arith; corners = omega arith; ends = omega arith; log = omega arith }

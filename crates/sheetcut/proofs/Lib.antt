@@ -7,4 +7,5 @@ pub mod Reading
 pub mod Cutting
 pub mod Longest
 pub mod Replaced
+pub mod Marked
 pub mod Worked

@@ -90,7 +90,7 @@ pub seen-told : (s : List ℕ) (c : Counts) (f : Bool) → seenOf limits s ≡ W
 seen-told s c f e = e ∙ ap (λ (t : Bool). Whole c t) (seen-whole-tells limits s c f e .told)
 
 -- the mesh of a sheet with an empty log
-abbrev world-read : List ℕ → World
+abbrev pub world-read : List ℕ → World
 world-read l = record { mesh = meshOfSheet (sheetOf l .sheet); log = [] }
 
 -- each list has as many entries as rows
@@ -111,7 +111,7 @@ unfolding boundaryFrom
 boundary-long rows = length-map rows _
 
 -- so the mesh has as many as the counts say
-mesh-counts : (s : List ℕ) (c : Counts) (f : Bool) → seenOf limits s ≡ Whole c f → countsIn (world-read (bitsOf s)) ≡ countsFor c
+pub mesh-counts : (s : List ℕ) (c : Counts) (f : Bool) → seenOf limits s ≡ Whole c f → countsIn (world-read (bitsOf s)) ≡ countsFor c
 unfolding meshOfSheet sheetWith sheetOf typedOf
 mesh-counts s c f seen =
     let m = bitsIn (bitsOf s) in

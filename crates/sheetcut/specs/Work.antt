@@ -44,7 +44,7 @@ pub record Countable (k : Counts) (c : List ℕ) (v : List Float) (e : List ℕ)
 -- what is asked for the listing of an answer: of counts, that the blocks hold so many rows, and few log entries
 abbrev pub Listable : Answer → List ℕ → List Float → List ℕ → List Float → ℕ → Type 0
 Listable (Refused n) c v e l g = Unit {0}
-Listable (Done k changed) c v e l g = Countable k c v e l × (6 * k .log ≤ g) × (k .log ≤ 256)
+Listable (Done k changed) c v e l g = Countable k c v e l × (6 * k .log ≤ g) × (k .log ≤ 640)
 
 -- the text of an answer, from the blocks that it goes with, with the line of a replaced outline or without
 abbrev pub textOf : Bool → Answer → List ℕ → List Float → List ℕ → List Float → List ℕ → List ℕ
