@@ -2,6 +2,3 @@
 pub mod RunLaws
 pub mod FanSides
 pub mod CutLaws
-pub mod SlackLaws
-pub mod SnapLaws
-pub mod SteadyRuns

@@ -32,6 +32,8 @@ use Rattle.work.specs.declared.Ran.{Ran}
 use Rattle.work.specs.declared.Ran.the-variants.{Refused, Done}
 use Rattle.work.proofs.Runs.{works-stay, works-then, works-refused}
 use Rattle.elements.proofs.Measures.{sift-agree}
+use Rattle.links.specs.Linked.{Linked}
+use Rattle.split.specs.Linking.{LinkedAfter}
 use Rattle.cut.specs.declared.facets.Parting.{Parting}
 use Rattle.marks.specs.Marking.{Marks, PlacesIn, marked?}
 use Rattle.cut.specs.Running.{sidesIn, splitIn, splitIf, chosen}
@@ -190,6 +192,12 @@ module _ (w : Parting) (K : Kind) (L : Rooms) (marks : List ℕ) where
 
     pub words-at : at k .log ≡ map wordsOf entries-at
     words-at = ap (λ (x : World). x .log) (went-to .2)
+
+-- ---- the table of links
+
+-- where a worker is known to be done, it is that of the block
+pub linked-done : {K : Kind} {corners links : List ℕ} (r : Ran) (k : Counts) → r ≡ Done k → LinkedAfter K corners links r → Linked K (k .triangles) corners links
+linked-done {K} {corners} {links} r k e X = subst (LinkedAfter K corners links) e X
 
 -- ---- the places of a mesh in blocks
 

@@ -11,6 +11,8 @@ ghost use Rattle.elements.specs.Table.{kindIs};
 ghost use Rattle.work.specs.Working.{Ready, Works, Logged};
 ghost use Rattle.marks.specs.Marking.{bladeFrom};
 ghost use Rattle.marks.specs.Sided.{SidesRoom};
+ghost use Rattle.links.specs.Linked.{Linked};
+ghost use Rattle.split.specs.Linking.{LinkedAfter};
 ghost use Rattle.cut.specs.Running.{splitIn, splitIf, SidesFor, TablesLong, chosen, Chosen};
 use blade::Point;
 use elements::Kind;
@@ -67,9 +69,10 @@ pub fn split_one(
     measures: &mut [f32],
     sides: &mut [usize],
     groups: &mut [usize],
+    links: &mut [u16],
 ) -> Ran
-    requires { ⌜ Ready room k (lent (now points) (now roots) (now corners) (now volumes) (now ends) (now lengths) (now outline) (now log)) (meshAt k (now points) (now roots) (now corners) (now volumes) (now ends) (now lengths) (now outline)) × (v < k .particles) × TablesLong (length (now numbers)) (length (now verts)) (length (now measures)) (length (now sides)) (length (now groups)) ⌝ }
-    ensures { λ r. ⌜ Works (λ R. splitIf mark way (kindIs kind) R v) room (worldAt k (now (points .entry)) (now (roots .entry)) (now (corners .entry)) (now (volumes .entry)) (now (ends .entry)) (now (lengths .entry)) (now (outline .entry)) (now (log .entry))) (λ q. worldAt q (now (points .exit)) (now (roots .exit)) (now (corners .exit)) (now (volumes .entry)) (now (ends .exit)) (now (lengths .exit)) (now (outline .exit)) (now (log .exit))) r ⌝ }
+    requires { ⌜ Ready room k (lent (now points) (now roots) (now corners) (now volumes) (now ends) (now lengths) (now outline) (now log)) (meshAt k (now points) (now roots) (now corners) (now volumes) (now ends) (now lengths) (now outline)) × (v < k .particles) × TablesLong (length (now numbers)) (length (now verts)) (length (now measures)) (length (now sides)) (length (now groups)) × Linked (kindIs kind) (k .triangles) (now corners) (now links) ⌝ }
+    ensures { λ r. ⌜ Works (λ R. splitIf mark way (kindIs kind) R v) room (worldAt k (now (points .entry)) (now (roots .entry)) (now (corners .entry)) (now (volumes .entry)) (now (ends .entry)) (now (lengths .entry)) (now (outline .entry)) (now (log .entry))) (λ q. worldAt q (now (points .exit)) (now (roots .exit)) (now (corners .exit)) (now (volumes .entry)) (now (ends .exit)) (now (lengths .exit)) (now (outline .exit)) (now (log .exit))) r × LinkedAfter (kindIs kind) (now (corners .exit)) (now (links .exit)) r ⌝ }
 {
     if mark != 1 {
         return Ran::Done(k);
@@ -86,6 +89,7 @@ pub fn split_one(
         numbers,
         verts,
         measures,
+        links,
     );
     part_fan(way, kind, v, n, verts, points, sides);
     split_tabled(
@@ -107,6 +111,7 @@ pub fn split_one(
         lengths,
         outline,
         log,
+        links,
     )
 }
 
@@ -131,9 +136,10 @@ pub fn split_marked(
     measures: &mut [f32],
     sides: &mut [usize],
     groups: &mut [usize],
+    links: &mut [u16],
 ) -> Ran
-    requires { ⌜ Ready room k (lent (now points) (now roots) (now corners) (now volumes) (now ends) (now lengths) (now outline) (now log)) (meshAt k (now points) (now roots) (now corners) (now volumes) (now ends) (now lengths) (now outline)) × Chosen p k (now log) (length (now marks)) × TablesLong (length (now numbers)) (length (now verts)) (length (now measures)) (length (now sides)) (length (now groups)) ⌝ }
-    ensures { λ r. ⌜ Works (λ R. fold (splitIn way (kindIs kind)) R (chosen p (now (marks .entry)))) room (worldAt k (now (points .entry)) (now (roots .entry)) (now (corners .entry)) (now (volumes .entry)) (now (ends .entry)) (now (lengths .entry)) (now (outline .entry)) (now (log .entry))) (λ q. worldAt q (now (points .exit)) (now (roots .exit)) (now (corners .exit)) (now (volumes .entry)) (now (ends .exit)) (now (lengths .exit)) (now (outline .exit)) (now (log .exit))) r ⌝ }
+    requires { ⌜ Ready room k (lent (now points) (now roots) (now corners) (now volumes) (now ends) (now lengths) (now outline) (now log)) (meshAt k (now points) (now roots) (now corners) (now volumes) (now ends) (now lengths) (now outline)) × Chosen p k (now log) (length (now marks)) × TablesLong (length (now numbers)) (length (now verts)) (length (now measures)) (length (now sides)) (length (now groups)) × Linked (kindIs kind) (k .triangles) (now corners) (now links) ⌝ }
+    ensures { λ r. ⌜ Works (λ R. fold (splitIn way (kindIs kind)) R (chosen p (now (marks .entry)))) room (worldAt k (now (points .entry)) (now (roots .entry)) (now (corners .entry)) (now (volumes .entry)) (now (ends .entry)) (now (lengths .entry)) (now (outline .entry)) (now (log .entry))) (λ q. worldAt q (now (points .exit)) (now (roots .exit)) (now (corners .exit)) (now (volumes .entry)) (now (ends .exit)) (now (lengths .exit)) (now (outline .exit)) (now (log .exit))) r × LinkedAfter (kindIs kind) (now (corners .exit)) (now (links .exit)) r ⌝ }
 {
     let mut counts = k;
     let mut v: usize = 0;
@@ -158,6 +164,7 @@ pub fn split_marked(
             measures,
             sides,
             groups,
+            links,
         );
         let Ran::Done(next) = ran else {
             return ran;
@@ -186,9 +193,10 @@ pub fn split_pinched(
     measures: &mut [f32],
     sides: &mut [usize],
     groups: &mut [usize],
+    links: &mut [u16],
 ) -> Ran
-    requires { ⌜ Ready room k (lent (now points) (now roots) (now corners) (now volumes) (now ends) (now lengths) (now outline) (now log)) (meshAt k (now points) (now roots) (now corners) (now volumes) (now ends) (now lengths) (now outline)) × Logged (k .log) (now log) × (1024 ≤ length (now marks)) × TablesLong (length (now numbers)) (length (now verts)) (length (now measures)) (length (now sides)) (length (now groups)) ⌝ }
-    ensures { λ r. ⌜ Works (splitPinched Triangles) room (worldAt k (now (points .entry)) (now (roots .entry)) (now (corners .entry)) (now (volumes .entry)) (now (ends .entry)) (now (lengths .entry)) (now (outline .entry)) (now (log .entry))) (λ q. worldAt q (now (points .exit)) (now (roots .exit)) (now (corners .exit)) (now (volumes .entry)) (now (ends .exit)) (now (lengths .exit)) (now (outline .exit)) (now (log .exit))) r ⌝ }
+    requires { ⌜ Ready room k (lent (now points) (now roots) (now corners) (now volumes) (now ends) (now lengths) (now outline) (now log)) (meshAt k (now points) (now roots) (now corners) (now volumes) (now ends) (now lengths) (now outline)) × Logged (k .log) (now log) × (1024 ≤ length (now marks)) × TablesLong (length (now numbers)) (length (now verts)) (length (now measures)) (length (now sides)) (length (now groups)) × Linked Triangles (k .triangles) (now corners) (now links) ⌝ }
+    ensures { λ r. ⌜ Works (splitPinched Triangles) room (worldAt k (now (points .entry)) (now (roots .entry)) (now (corners .entry)) (now (volumes .entry)) (now (ends .entry)) (now (lengths .entry)) (now (outline .entry)) (now (log .entry))) (λ q. worldAt q (now (points .exit)) (now (roots .exit)) (now (corners .exit)) (now (volumes .entry)) (now (ends .exit)) (now (lengths .exit)) (now (outline .exit)) (now (log .exit))) r × LinkedAfter Triangles (now (corners .exit)) (now (links .exit)) r ⌝ }
 {
     particles::mark_near(k.log, log, groups);
     particles::mark_pinched(k.triangles, corners, groups, marks);
@@ -212,6 +220,7 @@ pub fn split_pinched(
         measures,
         sides,
         groups,
+        links,
     )
 }
 
@@ -235,9 +244,10 @@ pub fn cut_facets(
     measures: &mut [f32],
     sides: &mut [usize],
     groups: &mut [usize],
+    links: &mut [u16],
 ) -> Ran
-    requires { ⌜ Ready room k (lent (now points) (now roots) (now corners) (now volumes) (now ends) (now lengths) (now outline) (now log)) (meshAt k (now points) (now roots) (now corners) (now volumes) (now ends) (now lengths) (now outline)) × Logged (k .log) (now log) × (1024 ≤ length (now marks)) × TablesLong (length (now numbers)) (length (now verts)) (length (now measures)) (length (now sides)) (length (now groups)) ⌝ }
-    ensures { λ r. ⌜ Works (cutFacets (bladeFrom b0 b1)) room (worldAt k (now (points .entry)) (now (roots .entry)) (now (corners .entry)) (now (volumes .entry)) (now (ends .entry)) (now (lengths .entry)) (now (outline .entry)) (now (log .entry))) (λ q. worldAt q (now (points .exit)) (now (roots .exit)) (now (corners .exit)) (now (volumes .entry)) (now (ends .exit)) (now (lengths .exit)) (now (outline .exit)) (now (log .exit))) r ⌝ }
+    requires { ⌜ Ready room k (lent (now points) (now roots) (now corners) (now volumes) (now ends) (now lengths) (now outline) (now log)) (meshAt k (now points) (now roots) (now corners) (now volumes) (now ends) (now lengths) (now outline)) × Logged (k .log) (now log) × (1024 ≤ length (now marks)) × TablesLong (length (now numbers)) (length (now verts)) (length (now measures)) (length (now sides)) (length (now groups)) × Linked Triangles (k .triangles) (now corners) (now links) ⌝ }
+    ensures { λ r. ⌜ Works (cutFacets (bladeFrom b0 b1)) room (worldAt k (now (points .entry)) (now (roots .entry)) (now (corners .entry)) (now (volumes .entry)) (now (ends .entry)) (now (lengths .entry)) (now (outline .entry)) (now (log .entry))) (λ q. worldAt q (now (points .exit)) (now (roots .exit)) (now (corners .exit)) (now (volumes .entry)) (now (ends .exit)) (now (lengths .exit)) (now (outline .exit)) (now (log .exit))) r × LinkedAfter Triangles (now (corners .exit)) (now (links .exit)) r ⌝ }
 {
     particles::mark_candidates(b0, b1, k.triangles, points, corners, marks);
     let ran = split_marked(
@@ -260,6 +270,7 @@ pub fn cut_facets(
         measures,
         sides,
         groups,
+        links,
     );
     let Ran::Done(counts) = ran else {
         return ran;
@@ -282,6 +293,7 @@ pub fn cut_facets(
             measures,
             sides,
             groups,
+            links,
         );
     }
     Ran::Done(counts)

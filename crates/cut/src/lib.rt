@@ -1,3 +1,2 @@
-// The cut of triangles along a blade, over the lent blocks; and the ends of straps that a cut snapped to.
+// The cut of triangles along a blade, over the lent blocks.
 pub mod facets;
-pub mod snapped;

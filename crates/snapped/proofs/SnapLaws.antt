@@ -34,11 +34,11 @@ use Rattle.work.specs.Working.{Within, Ready, Went, Works, Logged}
 use Rattle.work.proofs.Placed.{particles-count}
 use Rattle.work.specs.declared.Ran.{Ran}
 use Rattle.work.specs.declared.Ran.the-variants.{Refused, Done}
 use Rattle.cut.specs.declared.facets.Parting.the-variants.{Blade as BladeFrom}
 use Rattle.marks.specs.Marking.{bladeFrom}
 use Rattle.cut.specs.Running.{sidesIn, splitIn, splitIf}
-use Rattle.cut.specs.Snapping.{beyond, slackBeyond, SlackFrom, EdgesHere, snapIf}
-use Rattle.cut.proofs.SteadyRuns.{Steady}
+use Rattle.snapped.specs.Snapping.{beyond, slackBeyond, SlackFrom, EdgesHere, snapIf}
+use Rattle.snapped.proofs.SteadyRuns.{Steady}
 
 -- ---- the copies of a split
 

@@ -1,11 +1,11 @@
--- `cut::snapped::slacken` meets its contract: two stores, or none. Assumes nothing.
-use Rattle.cut.proofs.SlackLaws.{slack-put, slack-not}
+-- `snapped::slacken` meets its contract: two stores, or none. Assumes nothing.
+use Rattle.snapped.proofs.SlackLaws.{slack-put, slack-not}
 use lib.ListN.{length-set}
 use lib.Ieee.{ofBits}
 use native.Mathlib.Omega.{arith}
 use borrow.Author.Needs.{needs}
-use Rattle.cut.proofs.snapped.slacken.Statement.{statement}
-use Rattle.cut.proofs.snapped.slacken.Tie as tie
+use Rattle.snapped.proofs.slacken.Statement.{statement}
+use Rattle.snapped.proofs.slacken.Tie as tie
 
 add-second : tie.Need-add-second
 add-second c = search needs

@@ -10,11 +10,11 @@ ghost use Rattle.mesh.specs.Log.{worldAt};
 ghost use Rattle.mesh.specs.Filled.{lent};
 ghost use Rattle.work.specs.Working.{Ready, Works};
 ghost use Rattle.marks.specs.Marking.{bladeFrom};
 ghost use Rattle.cut.specs.Running.{TablesLong, chosen, Chosen};
-ghost use Rattle.cut.specs.Snapping.{EdgeHere, SlackAt, EdgesHere, SlackFrom, snapIf, Snappable};
-use crate::facets::Parting;
-use crate::facets::split_one;
+ghost use Rattle.snapped.specs.Snapping.{EdgeHere, SlackAt, EdgesHere, SlackFrom, snapIf, Snappable};
 use blade::Point;
+use cut::facets::Parting;
+use cut::facets::split_one;
 use elements::Kind;
 use mesh::Counts;
 use mesh::Rooms;
@@ -81,6 +81,7 @@ pub fn split_snapped(
     ensures { λ r. ⌜ Works (λ R. snapIf mark (bladeFrom b0 b1) R v) room (worldAt k (now (points .entry)) (now (roots .entry)) (now (corners .entry)) (now (volumes .entry)) (now (ends .entry)) (now (lengths .entry)) (now (outline .entry)) (now (log .entry))) (λ q. worldAt q (now (points .exit)) (now (roots .exit)) (now (corners .exit)) (now (volumes .entry)) (now (ends .exit)) (now (lengths .exit)) (now (outline .exit)) (now (log .exit))) r ⌝ }
 {
     let before = k.particles;
+    let mut none = [0u16; 1];
     let ran = split_one(
         Parting::Blade(b0, b1),
         Kind::Straps,
@@ -101,6 +102,7 @@ pub fn split_snapped(
         measures,
         sides,
         groups,
+        &mut none,
     );
     let Ran::Done(next) = ran else {
         return ran;

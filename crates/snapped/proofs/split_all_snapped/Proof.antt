@@ -1,8 +1,8 @@
--- `cut::snapped::split_all_snapped` meets its contract. The invariant: the marked particles so far are split, no step lacked room, and the tables are as long as ever. Assumes nothing.
-use Rattle.cut.proofs.SteadyRuns.{stepsTo, steps-none, steps-next, steps-end, steps-all, steps-ready, steps-grown, steps-entries, steps-words}
-use Rattle.cut.proofs.SnapLaws.{snap-steady}
+-- `snapped::split_all_snapped` meets its contract. The invariant: the marked particles so far are split, no step lacked room, and the tables are as long as ever. Assumes nothing.
+use Rattle.snapped.proofs.SteadyRuns.{stepsTo, steps-none, steps-next, steps-end, steps-all, steps-ready, steps-grown, steps-entries, steps-words}
+use Rattle.snapped.proofs.SnapLaws.{snap-steady}
 use Rattle.marks.specs.Marking.{bladeFrom}
-use Rattle.cut.specs.Snapping.{snapIf}
+use Rattle.snapped.specs.Snapping.{snapIf}
 use Rattle.model.specs.Cut.{splitSnapped}
 use Rattle.work.proofs.Placed.{particles-count}
 use Rattle.work.specs.declared.Ran.the-variants.{Done}
@@ -16,8 +16,8 @@ use mathlib.Core.Path.{_≡_, refl, _∙_, ap}
 use lib.ListN.{length}
 use borrow.Author.Needs.{needs}
 use native.Mathlib.Omega.{arith}
-use Rattle.cut.proofs.snapped.split_all_snapped.Statement.{statement}
-use Rattle.cut.proofs.snapped.split_all_snapped.Tie as tie
+use Rattle.snapped.proofs.split_all_snapped.Statement.{statement}
+use Rattle.snapped.proofs.split_all_snapped.Tie as tie
 
 abbrev Inv-loop : tie.InvT-loop
 Inv-loop b0 b1 p marks room points₀ roots₀ corners₀ volumes ends₀ lengths₀ outline₀ log₀ numbers₀ verts₀ measures₀ sides₀ groups₀ counts₀ v₀ points roots corners ends lengths outline log numbers verts measures sides groups counts v = (v ≤ p) × (lent points roots corners volumes ends lengths outline log ≡ lent points₀ roots₀ corners₀ volumes ends₀ lengths₀ outline₀ log₀) × Works (stepsTo (splitSnapped (bladeFrom b0 b1)) (snap-steady (bladeFrom b0 b1)) room marks v) room (worldAt counts₀ points₀ roots₀ corners₀ volumes ends₀ lengths₀ outline₀ log₀) (λ q. worldAt q points roots corners volumes ends lengths outline log) (Done counts) × (length numbers ≡ length numbers₀) × (length verts ≡ length verts₀) × (length measures ≡ length measures₀) × (length sides ≡ length sides₀) × (length groups ≡ length groups₀)

@@ -1,9 +1,9 @@
--- `cut::snapped::slacken_from` meets its contract. The invariant: the edges so far are seen to. Assumes nothing.
-use Rattle.cut.proofs.SlackLaws.{Slackening, slack-none, slack-more, slack-done}
+-- `snapped::slacken_from` meets its contract. The invariant: the edges so far are seen to. Assumes nothing.
+use Rattle.snapped.proofs.SlackLaws.{Slackening, slack-none, slack-more, slack-done}
 use Prim.Native.Nat.{_≤_, _-_}
 use native.Mathlib.Omega.{arith}
-use Rattle.cut.proofs.snapped.slacken_from.Statement.{statement}
-use Rattle.cut.proofs.snapped.slacken_from.Tie as tie
+use Rattle.snapped.proofs.slacken_from.Statement.{statement}
+use Rattle.snapped.proofs.slacken_from.Tie as tie
 
 abbrev Inv-loop : tie.InvT-loop
 Inv-loop from e ends lengths₀ j₀ lengths j = (j ≤ e) × Slackening from j ends lengths₀ lengths

@@ -16,7 +16,7 @@ use Rattle.columns.specs.Block.{cell}
 use Rattle.columns.proofs.Cells.{store-same, store-row, store-col, col-0, col-1}
 use Rattle.model.specs.Cut.{slack}
 use Rattle.mesh.specs.At.{edgesAt}
-use Rattle.cut.specs.Snapping.{beyond, slackBeyond, edgeIn, SlackAt, SlackFrom}
+use Rattle.snapped.specs.Snapping.{beyond, slackBeyond, edgeIn, SlackAt, SlackFrom}
 
 -- ---- a test on two particles
 
