@@ -48,7 +48,7 @@ fn part_fan(
     }
 }
 
-// Splits v by the sides of its fan, if its mark is 1. The tables are lent to work in: what stands in them does not matter.
+// Splits v by the sides of its fan, if its mark is 1. The tables are lent to work in: what stands in them does not matter. That of the links alone must be the one of the block, and is so again after it.
 pub fn split_one(
     way: Parting,
     kind: Kind,

@@ -56,6 +56,7 @@ pub fn slacken_from(from: usize, e: usize, ends: &[usize], lengths: &mut [f32])
 }
 
 // Splits v by the blade if its mark is 1. The edges at its copies are slack: the copies are the particles behind those of before.
+// Straps have no links, so one place stands for the table of them.
 pub fn split_snapped(
     b0: Point,
     b1: Point,

@@ -18,7 +18,7 @@ pub enum Pass {
 }
 
 // Triangles are split along the blade, straps are cut across it; only triangles have pinched particles; a mesh of neither kind stays as it is. All tables of a pass are here,
-// once, and stand no longer than it takes.
+// once, and stand no longer than it takes; that of the links is built anew for each pass over triangles.
 pub fn run(
     pass: Pass,
     kind: Kind,
@@ -42,47 +42,53 @@ pub fn run(
     let mut measures = [0.0f32; 2048];
     let mut sides = [0usize; 2048];
     let mut groups = [0usize; 2048];
+    let mut links = [0u16; 4096];
     match kind {
-        Kind::Triangles => match pass {
-            Pass::Blade(b0, b1, f) => cut::facets::cut_facets(
-                b0,
-                b1,
-                k,
-                room,
-                points,
-                roots,
-                corners,
-                volumes,
-                ends,
-                lengths,
-                outline,
-                log,
-                &mut marks,
-                &mut numbers,
-                &mut verts,
-                &mut measures,
-                &mut sides,
-                &mut groups,
-            ),
-            Pass::Pinched => cut::facets::split_pinched(
-                k,
-                room,
-                points,
-                roots,
-                corners,
-                volumes,
-                ends,
-                lengths,
-                outline,
-                log,
-                &mut marks,
-                &mut numbers,
-                &mut verts,
-                &mut measures,
-                &mut sides,
-                &mut groups,
-            ),
-        },
+        Kind::Triangles => {
+            links::link_mesh(Kind::Triangles, k.triangles, corners, &mut links);
+            match pass {
+                Pass::Blade(b0, b1, f) => cut::facets::cut_facets(
+                    b0,
+                    b1,
+                    k,
+                    room,
+                    points,
+                    roots,
+                    corners,
+                    volumes,
+                    ends,
+                    lengths,
+                    outline,
+                    log,
+                    &mut marks,
+                    &mut numbers,
+                    &mut verts,
+                    &mut measures,
+                    &mut sides,
+                    &mut groups,
+                    &mut links,
+                ),
+                Pass::Pinched => cut::facets::split_pinched(
+                    k,
+                    room,
+                    points,
+                    roots,
+                    corners,
+                    volumes,
+                    ends,
+                    lengths,
+                    outline,
+                    log,
+                    &mut marks,
+                    &mut numbers,
+                    &mut verts,
+                    &mut measures,
+                    &mut sides,
+                    &mut groups,
+                    &mut links,
+                ),
+            }
+        }
         Kind::Straps => match pass {
             Pass::Blade(b0, b1, f) => crate::segments::cut_segments(
                 b0,

@@ -87,7 +87,7 @@ pub fn after_crossings(
     let ran = crossing::unbent::remove_bends(bends, groups, k, room, ends, lengths, outline, log);
     match ran {
         Ran::Refused(c) => Ran::Refused(c),
-        Ran::Done(left) => cut::snapped::split_all_snapped(
+        Ran::Done(left) => snapped::split_all_snapped(
             b0,
             b1,
             p,
