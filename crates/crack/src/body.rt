@@ -3,11 +3,13 @@ ghost use mathlib.Core.Path.{_≡_};
 ghost use mathlib.Core.List.{[], _∷_};
 ghost use lib.ListN.{length};
 ghost use Rattle.elements.specs.Table.{kindIs};
+ghost use Rattle.links.specs.Linked.{Linked};
 ghost use Rattle.model.specs.Crack.{crack};
 ghost use Rattle.mesh.specs.At.{meshAt};
 ghost use Rattle.mesh.specs.Log.{worldAt};
 ghost use Rattle.mesh.specs.Filled.{lent};
 ghost use Rattle.work.specs.Working.{Ready, Works, Logged};
+ghost use Rattle.split.specs.Linking.{LinkedAfter};
 ghost use Rattle.crack.specs.Bodies.{EndsRoom, EndsKept, endsListed, CracksRoom, CracksTold, crackTurns, crackEnd};
 use elements::Kind;
 use mesh::Counts;
@@ -45,14 +47,15 @@ fn crack_numbered(
     lengths: &mut [f32],
     outline: &mut [usize],
     log: &mut [u32],
+    links: &mut [u16],
 ) -> Ran
-    requires { ⌜ Ready room k (lent (now points) (now roots) (now corners) (now volumes) (now ends) (now lengths) (now outline) (now log)) (meshAt k (now points) (now roots) (now corners) (now volumes) (now ends) (now lengths) (now outline)) × CracksRoom (kindIs kind) e (now from) (now to) k (length (now loads)) (now log) ⌝ }
-    ensures { λ r. ⌜ CracksTold (kindIs kind) minimum (k .triangles) (endsListed e (now (from .entry)) (now (to .entry)) (number ∷ [])) (now (loads .entry)) room (worldAt k (now (points .entry)) (now (roots .entry)) (now (corners .entry)) (now (volumes .entry)) (now (ends .entry)) (now (lengths .entry)) (now (outline .entry)) (now (log .entry))) (λ q. worldAt q (now (points .exit)) (now (roots .exit)) (now (corners .exit)) (now (volumes .entry)) (now (ends .exit)) (now (lengths .exit)) (now (outline .exit)) (now (log .exit))) r ⌝ }
+    requires { ⌜ Ready room k (lent (now points) (now roots) (now corners) (now volumes) (now ends) (now lengths) (now outline) (now log)) (meshAt k (now points) (now roots) (now corners) (now volumes) (now ends) (now lengths) (now outline)) × CracksRoom (kindIs kind) e (now from) (now to) k (length (now loads)) (now log) × Linked (kindIs kind) (k .triangles) (now corners) (now links) ⌝ }
+    ensures { λ r. ⌜ CracksTold (kindIs kind) minimum (k .triangles) (endsListed e (now (from .entry)) (now (to .entry)) (number ∷ [])) (now (loads .entry)) room (worldAt k (now (points .entry)) (now (roots .entry)) (now (corners .entry)) (now (volumes .entry)) (now (ends .entry)) (now (lengths .entry)) (now (outline .entry)) (now (log .entry))) (λ q. worldAt q (now (points .exit)) (now (roots .exit)) (now (corners .exit)) (now (volumes .entry)) (now (ends .exit)) (now (lengths .exit)) (now (outline .exit)) (now (log .exit))) r × LinkedAfter (kindIs kind) (now (corners .exit)) (now (links .exit)) r ⌝ }
 {
     if number >= e {
         return Ran::Done(k);
     }
-    crate::edges::crack_edge(
+    tornedge::crack_edge(
         kind,
         minimum,
         from[number],
@@ -68,6 +71,7 @@ fn crack_numbered(
         lengths,
         outline,
         log,
+        links,
     )
 }
 
@@ -90,8 +94,9 @@ fn crack_listed(
     lengths: &mut [f32],
     outline: &mut [usize],
     log: &mut [u32],
+    links: &mut [u16],
 ) -> Ran
-    requires { ⌜ Ready room k (lent (now points) (now roots) (now corners) (now volumes) (now ends) (now lengths) (now outline) (now log)) (meshAt k (now points) (now roots) (now corners) (now volumes) (now ends) (now lengths) (now outline)) × CracksRoom (kindIs kind) e (now from) (now to) k (length (now loads)) (now log) ⌝ }
+    requires { ⌜ Ready room k (lent (now points) (now roots) (now corners) (now volumes) (now ends) (now lengths) (now outline) (now log)) (meshAt k (now points) (now roots) (now corners) (now volumes) (now ends) (now lengths) (now outline)) × CracksRoom (kindIs kind) e (now from) (now to) k (length (now loads)) (now log) × Linked (kindIs kind) (k .triangles) (now corners) (now links) ⌝ }
     ensures { λ r. ⌜ CracksTold (kindIs kind) minimum (k .triangles) (endsListed e (now (from .entry)) (now (to .entry)) (now (torn .entry))) (now (loads .entry)) room (worldAt k (now (points .entry)) (now (roots .entry)) (now (corners .entry)) (now (volumes .entry)) (now (ends .entry)) (now (lengths .entry)) (now (outline .entry)) (now (log .entry))) (λ q. worldAt q (now (points .exit)) (now (roots .exit)) (now (corners .exit)) (now (volumes .entry)) (now (ends .exit)) (now (lengths .exit)) (now (outline .exit)) (now (log .exit))) r ⌝ }
 {
     let mut counts = k;
@@ -115,6 +120,7 @@ fn crack_listed(
             lengths,
             outline,
             log,
+            links,
         );
         let Ran::Done(next) = ran else {
             return ran;
@@ -125,7 +131,7 @@ fn crack_listed(
     Ran::Done(counts)
 }
 
-// Cracks the torn edges of a list in turn, by their ends and the loads of the input. The tables of the ends first hold the links that the loads are read by.
+// Cracks the torn edges of a list in turn, by their ends and the loads of the input. The tables of the ends first hold the links that the loads are read by. The table of fans is built once, and every split keeps it.
 fn crack_torn(
     kind: Kind,
     minimum: usize,
@@ -159,6 +165,8 @@ fn crack_torn(
         &mut loads,
     );
     keep_ends(k.edges, ends, &mut from, &mut to);
+    let mut links = [0u16; 4096];
+    links::link_mesh(kind, k.triangles, corners, &mut links);
     crack_listed(
         kind,
         minimum,
@@ -177,6 +185,7 @@ fn crack_torn(
         lengths,
         outline,
         log,
+        &mut links,
     )
 }
 
