@@ -1,5 +1,5 @@
 // The outline of triangles and straps, and a typed outline settled by it.
-mod links;
+mod chains;
 
 ghost use mathlib.Core.Path.{_≡_};
 ghost use mathlib.Core.Bool.{_&&_};
@@ -57,7 +57,7 @@ fn single_side(
     requires { ⌜ Linked (now a) (now b) (now c) m (now heads) (now links) × (length (now sizes) ≡ 1024) ⌝ }
     ensures { λ r. ⌜ r ≡ single (rows3 (now (a .entry)) (now (b .entry)) (now (c .entry))) (x ∷ y ∷ []) ⌝ }
 {
-    let mut n = links::side_holders(x, y, m, a, b, c, heads, links, sizes);
+    let mut n = chains::side_holders(x, y, m, a, b, c, heads, links, sizes);
     let mut i = m;
     while i < a.len() {
         if holds_side(x, y, a[i], b[i], c[i]) {
@@ -127,7 +127,7 @@ pub fn outline_triangles(a: &[usize], b: &[usize], c: &[usize], outline: &mut [u
     let mut links = [0u16; 3072];
     let mut sizes = [0u16; 1024];
     let m = at_most(a.len(), 1024);
-    links::link_corners(3 * m, a, b, c, &mut heads, &mut links, &mut sizes);
+    chains::link_corners(3 * m, a, b, c, &mut heads, &mut links, &mut sizes);
     let mut n: usize = 0;
     let mut i: usize = 0;
     while i < a.len() {

@@ -7,7 +7,7 @@ use Rattle.elements.specs.Table.{kindIs}
 use Rattle.links.specs.Linked.{Linked}
 use Rattle.mesh.specs.Given.{Lent}
 use Rattle.mesh.proofs.Agree.{lent-path}
-use Rattle.cut.proofs.RunLaws.{linked-done}
+use Rattle.split.proofs.LinkLaws.{linked-done}
 use Rattle.crack.proofs.ListedLaws.{ListedTo, to-start, to-ready, to-room, to-step, to-stop, to-done}
 use borrow.Author.Needs.{needs}
 use Rattle.crack.proofs.body.crack_listed.Statement.{statement}

@@ -1,8 +1,8 @@
--- `outline::links::holds_before` meets its contract. Assumes nothing.
+-- `outline::chains::holds_before` meets its contract. Assumes nothing.
 use borrow.Author.Tests.{lt-ltb, le-ltb}
 use borrow.Author.Needs.{needs}
-use Rattle.outline.proofs.links.holds_before.Statement.{statement}
-use Rattle.outline.proofs.links.holds_before.Tie as tie
+use Rattle.outline.proofs.chains.holds_before.Statement.{statement}
+use Rattle.outline.proofs.chains.holds_before.Tie as tie
 
 mul-holds-side : tie.Need-mul-holds-side
 mul-holds-side c = search needs

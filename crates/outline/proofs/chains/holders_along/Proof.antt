@@ -1,4 +1,4 @@
--- `outline::links::holders_along` meets its contract. The invariant: the triangles from t on that hold the side are counted, and e is where the chain goes on.
+-- `outline::chains::holders_along` meets its contract. The invariant: the triangles from t on that hold the side are counted, and e is where the chain goes on.
 -- Assumes nothing.
 use borrow.Author.Needs.{needs}
 use native.Mathlib.Omega.{arith}
@@ -7,8 +7,8 @@ use mathlib.Core.Logic.{⊎-elim}
 use Prim.Native.Nat.{ℕ, _*_, _/_, _%_, _-_, _<_, _≤_}
 use Rattle.outline.specs.Links.{chainAt, LastBefore}
 use Rattle.outline.proofs.Linking.{Walk, walk-start, walk-hit, walk-pass, walk-end}
-use Rattle.outline.proofs.links.holders_along.Statement.{statement}
-use Rattle.outline.proofs.links.holders_along.Tie as tie
+use Rattle.outline.proofs.chains.holders_along.Statement.{statement}
+use Rattle.outline.proofs.chains.holders_along.Tie as tie
 
 abbrev Inv-loop : tie.InvT-loop
 Inv-loop x y m a b c heads links n₀ t₀ e₀ n t e = (n ≤ 1) × Walk a b c x y m n t e

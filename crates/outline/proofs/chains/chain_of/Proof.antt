@@ -1,9 +1,9 @@
--- `outline::links::chain_of` meets its contract. Assumes nothing.
+-- `outline::chains::chain_of` meets its contract. Assumes nothing.
 use native.Mathlib.Omega.{arith}
 use Rattle.outline.proofs.Linking.{chain-first, chain-second, chain-third}
 use borrow.Author.Needs.{needs}
-use Rattle.outline.proofs.links.chain_of.Statement.{statement}
-use Rattle.outline.proofs.links.chain_of.Tie as tie
+use Rattle.outline.proofs.chains.chain_of.Statement.{statement}
+use Rattle.outline.proofs.chains.chain_of.Tie as tie
 
 mul-result : tie.Need-mul-result
 mul-result c = search needs

@@ -1,12 +1,12 @@
--- `outline::links::link_corners` meets its contract. The invariant: the places below t are linked. Assumes nothing.
+-- `outline::chains::link_corners` meets its contract. The invariant: the places below t are linked. Assumes nothing.
 use native.Mathlib.Omega.{arith}
 use mathlib.Core.Path.{_≡_, refl, sym, _∙_, subst}
 use Prim.Native.Nat.{ℕ, _+_, _-_, _<_, _≤_}
 use lib.ListN.{length, getD, length-set}
 use Rattle.outline.specs.Links.{chainAt, Chained, Sized}
 use Rattle.outline.proofs.Linking.{chained-none, chained-more, sized-more, chain-below}
-use Rattle.outline.proofs.links.link_corners.Statement.{statement}
-use Rattle.outline.proofs.links.link_corners.Tie as tie
+use Rattle.outline.proofs.chains.link_corners.Statement.{statement}
+use Rattle.outline.proofs.chains.link_corners.Tie as tie
 
 abbrev Inv-loop : tie.InvT-loop
 Inv-loop q a b c heads₀ links₀ sizes₀ t₀ heads links sizes t = (t ≤ q) × (length heads ≡ length heads₀) × (length links ≡ length links₀) × (length sizes ≡ length sizes₀) × Chained (chainAt a b c) heads links t × Sized sizes t

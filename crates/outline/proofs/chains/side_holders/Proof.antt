@@ -1,10 +1,10 @@
--- `outline::links::side_holders` meets its contract. Assumes nothing.
+-- `outline::chains::side_holders` meets its contract. Assumes nothing.
 use mathlib.Core.Path.{ap, _∙_}
 use Prim.Native.Nat.{ℕ, min}
 use Rattle.outline.proofs.Linking.{held-turned}
 use borrow.Author.Needs.{needs}
-use Rattle.outline.proofs.links.side_holders.Statement.{statement}
-use Rattle.outline.proofs.links.side_holders.Tie as tie
+use Rattle.outline.proofs.chains.side_holders.Statement.{statement}
+use Rattle.outline.proofs.chains.side_holders.Tie as tie
 
 mul-if1 : tie.Need-mul-if1
 mul-if1 c = search needs
