@@ -26,18 +26,6 @@ pub fn reply_one(w: usize, out: &mut [u8]) -> u32
     0
 }
 
-// An answer of two words.
-pub fn reply_two(w: usize, v: usize, out: &mut [u8]) -> u32
-    ensures { λ r. ⌜ Replied (value (w ∷ v ∷ [])) (length (now (out .entry))) r (now (out .exit)) ⌝ }
-{
-    if out.len() < 8 {
-        image::clear_bytes(out);
-        return 4;
-    }
-    image::write_two(out, w, v);
-    0
-}
-
 // An answer of a word and the words of a table.
 pub fn reply_words(first: usize, table: &[usize], out: &mut [u8]) -> u32
     requires { ⌜ length (now table) ≤ 2049 ⌝ }
