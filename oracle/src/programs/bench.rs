@@ -98,7 +98,8 @@ fn input(e: Entry, m: &Mesh) -> Input {
 /// A call that answers about a mesh, with just enough result bytes.
 fn reading(m: &Mesh, args: Args) -> Input {
     let mut i = Input { image: Image::new(m.clone()), args, lending: Lending::default(), out: 0 };
-    i.out = need(&i);
+    // (What the published text computes on the way is not copied while it is timed, so the words of a hit are counted here.)
+    i.out = if let Args::BladeHit { .. } = i.args { 16 } else { need(&i) };
     i
 }
 /// A call that gives a mesh, with room up to the limits.
