@@ -35,7 +35,15 @@ enum bench_refusal {
     BENCH_NO_BOUNDARY_ROOM = 7,  /* so do the boundary entries */
     BENCH_NO_LOG_ROOM = 8,       /* so do the log entries */
     BENCH_BAD_SHEET = 9,         /* a sheet is cut short, has bytes left over or a spare bit that is 1, or does not fit the lent bytes */
-    BENCH_READER_CLOSED = 10     /* a reader of sheets is closed */
+    BENCH_READER_CLOSED = 10,    /* a reader of sheets is closed */
+    BENCH_NOT_WHOLE = 11,        /* a cut of edition 2: a coordinate of a position or of the blade is no whole number from -1,024 to 1,024 */
+    BENCH_NOT_FOR_STRAPS = 12    /* a cut of edition 2: the mesh is of straps */
+};
+
+/* The editions of the cut. */
+enum bench_edition {
+    BENCH_EDITION_ROUNDED = 1, /* as the Rust rounds; it takes every mesh */
+    BENCH_EDITION_EXACT = 2    /* crossings and sides decided exactly, so that a blade cuts alike from either end; triangles and whole coordinates alone */
 };
 
 /* The kinds of a log entry, its first word; behind it stand a, b, p, q and the bits of t; p and q of a crossing are the bits of its point's x and y. */
@@ -51,13 +59,13 @@ enum bench_log_kind {
 
 /* The bytes of the image of a mesh with p particles, t triangles, e edges and b boundary entries. */
 #define BENCH_IMAGE_BYTES(p, t, e, b) \
-    ((size_t)4 * ((size_t)4 + (size_t)8 * (size_t)(p) + (size_t)5 * (size_t)(t) + (size_t)8 * (size_t)(e) + (size_t)2 * (size_t)(b)))
+    ((size_t)4 * ((size_t)4 + (size_t)10 * (size_t)(p) + (size_t)5 * (size_t)(t) + (size_t)8 * (size_t)(e) + (size_t)2 * (size_t)(b)))
 /* The result bytes that suffice for a call that gives a mesh, lent so many places: two words and an image. */
 #define BENCH_RESULT_BYTES(p, t, e, b) ((size_t)8 + BENCH_IMAGE_BYTES(p, t, e, b))
 
 /* The layout of images, logs, fields and results that this header speaks; bench_layout answers the archive's. 2: the fields of a sheet have no boundary;
- * 3: the log of a cut marks its crossings, and bench_blade_hit answers the hit point. */
-#define BENCH_LAYOUT 3u
+ * 3: the log of a cut marks its crossings, and bench_blade_hit answers the hit point; 4: a particle has a velocity, so 10 words, and bench_cut takes an edition. */
+#define BENCH_LAYOUT 4u
 /* The result bytes of bench_sheet for a sheet of these counts, b those of the outline that it is read with: five words and an image. */
 #define BENCH_SHEET_RESULT_BYTES(p, t, e, b) ((size_t)20 + BENCH_IMAGE_BYTES(p, t, e, b))
 /* The bytes of the fields that bench_sheet_write takes, and of the sheet that it gives, in the second edition. */
@@ -104,9 +112,10 @@ uint32_t bench_split(const uint8_t *image, size_t image_len, uint32_t v, const u
 /* Removes each edge, other than a strap, whose ends lie in two pieces. Answers as bench_split; the first word stays 0. */
 uint32_t bench_straddlers(const uint8_t *image, size_t image_len, const uint8_t *rooms, size_t rooms_len, uint8_t *out, size_t out_len, uint8_t *log, size_t log_len);
 
-/* Cuts along a blade of 4 words, x0 y0 x1 y1; `fraction`, the bits of an f32 from 0 to 0.5, keeps insertions that far from a strap's ends. Answers as bench_split.
- * The crossings of the blade with the mesh are marked in the log first, one entry for each element that finds one. */
-uint32_t bench_cut(const uint8_t *image, size_t image_len, const uint8_t *blade, size_t blade_len, uint32_t fraction, const uint8_t *rooms, size_t rooms_len, uint8_t *out, size_t out_len, uint8_t *log, size_t log_len);
+/* Cuts along a blade of 4 words, x0 y0 x1 y1, by the rules of an edition (bench_edition; another number gets 4). `fraction`, the bits of an f32 from 0 to 0.5, keeps
+ * insertions that far from a strap's ends. Answers as bench_split. The crossings of the blade with the mesh are marked in the log first, one entry for each element that
+ * finds one. Behind 4, and before 5 to 8, edition 2 gives 11 and then 12. */
+uint32_t bench_cut(const uint8_t *image, size_t image_len, const uint8_t *blade, size_t blade_len, uint32_t edition, uint32_t fraction, const uint8_t *rooms, size_t rooms_len, uint8_t *out, size_t out_len, uint8_t *log, size_t log_len);
 
 /* Opens a crack across each torn edge, a word each, in the list's order; no group may fall below `minimum` elements. Answers as bench_split. */
 uint32_t bench_crack(const uint8_t *image, size_t image_len, const uint8_t *torn, size_t torn_len, uint32_t minimum, const uint8_t *rooms, size_t rooms_len, uint8_t *out, size_t out_len, uint8_t *log, size_t log_len);

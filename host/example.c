@@ -42,6 +42,7 @@ static void square(void) {
         for (i = 0; i < 4; i++) put_f32(y[i]);
     }
     for (i = 0; i < 8; i++) put_f32(1);                    /* mass, inverse mass */
+    for (i = 0; i < 8; i++) put_f32(0);                    /* velocity x, velocity y */
     for (i = 0; i < 4; i++) put((uint32_t)i);              /* root */
     for (i = 0; i < 4; i++) put(0);                        /* damaged */
     for (i = 0; i < 6; i++) put(corners[i]);               /* a, b, c */
@@ -68,7 +69,7 @@ int main(void) {
     memcpy(blade, blade_ends, 16);
     memcpy(rooms, places, 16);
     memcpy(&fraction, &tenth, 4);
-    refusal = bench_cut(image, sizeof image, blade, 16, fraction, rooms, 16, result, sizeof result, entries, sizeof entries);
+    refusal = bench_cut(image, sizeof image, blade, 16, BENCH_EDITION_ROUNDED, fraction, rooms, 16, result, sizeof result, entries, sizeof entries);
     if (refusal != BENCH_ACCEPTED) {
         printf("refused %u\n", (unsigned)refusal);
         return 1;

@@ -23,7 +23,7 @@ pub(crate) fn answer(n: usize, call: impl FnOnce(&mut [u8]) -> u32) -> Result<Ve
 }
 
 /// The layout of images, logs, fields and results that this crate was written for.
-const LAYOUT: u32 = 3;
+const LAYOUT: u32 = 4;
 
 /// Whether the archive speaks the layout of images, logs, fields and results that this crate does.
 ///

@@ -14,7 +14,7 @@ mod c {
         pub fn bench_pieces(image: *const u8, image_len: usize, out: *mut u8, out_len: usize) -> u32;
         pub fn bench_split(image: *const u8, image_len: usize, v: u32, sides: *const u8, sides_len: usize, rooms: *const u8, rooms_len: usize, out: *mut u8, out_len: usize, log: *mut u8, log_len: usize) -> u32;
         pub fn bench_straddlers(image: *const u8, image_len: usize, rooms: *const u8, rooms_len: usize, out: *mut u8, out_len: usize, log: *mut u8, log_len: usize) -> u32;
-        pub fn bench_cut(image: *const u8, image_len: usize, blade: *const u8, blade_len: usize, fraction: u32, rooms: *const u8, rooms_len: usize, out: *mut u8, out_len: usize, log: *mut u8, log_len: usize) -> u32;
+        pub fn bench_cut(image: *const u8, image_len: usize, blade: *const u8, blade_len: usize, edition: u32, fraction: u32, rooms: *const u8, rooms_len: usize, out: *mut u8, out_len: usize, log: *mut u8, log_len: usize) -> u32;
         pub fn bench_crack(image: *const u8, image_len: usize, torn: *const u8, torn_len: usize, minimum: u32, rooms: *const u8, rooms_len: usize, out: *mut u8, out_len: usize, log: *mut u8, log_len: usize) -> u32;
         pub fn bench_layout() -> u32;
         pub fn bench_fan(image: *const u8, image_len: usize, v: u32, out: *mut u8, out_len: usize) -> u32;
@@ -68,8 +68,9 @@ pub(crate) fn split(image: &[u8], v: u32, sides: &[u8], rooms: &[u8], out: &mut 
 pub(crate) fn straddlers(image: &[u8], rooms: &[u8], out: &mut [u8], log: &mut [u8]) -> u32 {
     call!(bench_straddlers, in image, in rooms, out out, out log)
 }
-pub(crate) fn cut(image: &[u8], blade: &[u8], fraction: u32, rooms: &[u8], out: &mut [u8], log: &mut [u8]) -> u32 {
-    call!(bench_cut, in image, in blade, word fraction, in rooms, out out, out log)
+#[rustfmt::skip]
+pub(crate) fn cut(image: &[u8], blade: &[u8], edition: u32, fraction: u32, rooms: &[u8], out: &mut [u8], log: &mut [u8]) -> u32 {
+    call!(bench_cut, in image, in blade, word edition, word fraction, in rooms, out out, out log)
 }
 pub(crate) fn crack(image: &[u8], torn: &[u8], minimum: u32, rooms: &[u8], out: &mut [u8], log: &mut [u8]) -> u32 {
     call!(bench_crack, in image, in torn, word minimum, in rooms, out out, out log)
@@ -108,6 +109,7 @@ pub(crate) fn difference(first: &[u8], second: &[u8], out: &mut [u8]) -> u32 {
 #[cfg(test)]
 mod tests {
     use super::c;
+    use crate::image::{bytes_of, image};
 
     /// NULL goes with length 0, for what is read and for what is written.
     #[test]
@@ -125,5 +127,26 @@ mod tests {
             assert_eq!(c::bench_rest_measure_of(empty.as_ptr(), 16, null, 0, out.as_mut_ptr(), 8), 0);
             assert_eq!(c::bench_straddlers(empty.as_ptr(), 16, rooms.as_ptr(), 16, nowhere, 0, nowhere, 0), 4);
         }
+    }
+
+    /// An edition that is neither 1 nor 2 gets 4, also on straps off the whole numbers, where edition 2 gets 11.
+    #[test]
+    fn an_unknown_edition() {
+        let mut strap = crate::Mesh::new();
+        strap.add_particle(0.5, 0.0);
+        strap.add_particle(8.0, 0.0);
+        strap.add_edge(0, 1, true);
+        let (mesh, rooms) = (image(&strap), bytes_of(&[8; 4]));
+        let blade = bytes_of(&[2.0f32, -1.0, 2.0, 1.0].map(f32::to_bits));
+        let cut = |edition: u32| {
+            let (mut out, mut log) = ([7u8; 1024], [7u8; 240]);
+            let refusal = super::cut(&mesh, &blade, edition, 0.1f32.to_bits(), &rooms, &mut out, &mut log);
+            (refusal, out.iter().chain(&log).all(|byte| *byte == 0))
+        };
+        for edition in [0, 3, 257, u32::MAX] {
+            assert_eq!(cut(edition), (4, true), "{edition}");
+        }
+        assert_eq!(cut(2), (11, true));
+        assert_eq!(cut(1), (0, false));
     }
 }

@@ -379,7 +379,8 @@ pub fn draw_mesh(mesh: &Mesh, blade: [f32; 4]) -> Result<String, Refusal> {
 /// # mesh.add_triangle(0, 1, 2);
 /// # mesh.add_triangle(0, 2, 3);
 /// let blade = [-1.0, -1.0, 5.0, 5.0];
-/// let svg = cutting_bench::draw_cut(&mesh, blade, &mesh.cut(blade, 0.1)?)?;
+/// let torn = mesh.cut(blade, cutting_bench::Edition::First, 0.1)?;
+/// let svg = cutting_bench::draw_cut(&mesh, blade, &torn)?;
 /// assert!(svg.contains("after the cut: 2 pieces"));
 /// # Ok::<(), cutting_bench::Refusal>(())
 /// ```

@@ -15,7 +15,7 @@ fn count<T>(list: &[T]) -> u32 {
 }
 /// The number of words of an image with these counts.
 pub(crate) fn words_in([p, t, e, b]: [usize; 4]) -> usize {
-    4 + 8 * p + 5 * t + 8 * e + 2 * b
+    4 + 10 * p + 5 * t + 8 * e + 2 * b
 }
 
 /// Puts one column behind the others.
@@ -33,6 +33,8 @@ pub(crate) fn image(m: &Mesh) -> Vec<u8> {
     column(&mut w, p, |p| p.rest[1].to_bits());
     column(&mut w, p, |p| p.mass.to_bits());
     column(&mut w, p, |p| p.inverse_mass.to_bits());
+    column(&mut w, p, |p| p.velocity[0].to_bits());
+    column(&mut w, p, |p| p.velocity[1].to_bits());
     column(&mut w, p, |p| p.root);
     column(&mut w, p, |p| u32::from(p.damaged));
     for k in 0..3 {
@@ -74,6 +76,7 @@ pub(crate) fn mesh(words: &[u32]) -> Mesh {
     let mut c = Columns(&words[4..]);
     let (x, y, rx, ry, mass, inverse) =
         (c.floats(np), c.floats(np), c.floats(np), c.floats(np), c.floats(np), c.floats(np));
+    let (vx, vy) = (c.floats(np), c.floats(np));
     let (root, damaged) = (c.take(np), c.take(np));
     let corners = [c.take(nt), c.take(nt), c.take(nt)];
     let (volume, load) = (c.floats(nt), c.floats(nt));
@@ -86,6 +89,7 @@ pub(crate) fn mesh(words: &[u32]) -> Mesh {
         rest: [rx[i], ry[i]],
         mass: mass[i],
         inverse_mass: inverse[i],
+        velocity: [vx[i], vy[i]],
         root: root[i],
         damaged: damaged[i] == 1,
     };
@@ -120,7 +124,8 @@ mod tests {
             rest: [number(k + 2), number(k + 3)],
             mass: number(k + 4),
             inverse_mass: number(k + 5),
-            root: k + 6,
+            velocity: [number(k + 6), number(k + 7)],
+            root: k + 8,
             damaged: k < 25,
         };
         let triangle =

@@ -5,14 +5,14 @@
 //! sources are proved; this crate packs and unpacks, and decides nothing.
 //!
 //! ```
-//! use cutting_bench::{Event, Mesh};
+//! use cutting_bench::{Edition, Event, Mesh};
 //! let mut foam = Mesh::new();
 //! for (x, y) in [(0.0, 0.0), (4.0, 0.0), (4.0, 4.0), (0.0, 4.0)] {
 //!     foam.add_particle(x, y);
 //! }
 //! foam.add_triangle(0, 1, 2);
 //! foam.add_triangle(0, 2, 3);
-//! let torn = foam.cut([-1.0, -1.0, 5.0, 5.0], 0.1)?;
+//! let torn = foam.cut([-1.0, -1.0, 5.0, 5.0], Edition::First, 0.1)?;
 //! // Where the blade went comes first, then what it changed.
 //! assert_eq!(torn.events[0], Event::Crossed { a: 0, b: 1, at: [0.0, 0.0], t: 0.0 });
 //! assert_eq!(torn.events[4..], [Event::Split { copy: 4, source: 0 }, Event::Split { copy: 5, source: 2 }]);
@@ -44,7 +44,7 @@ pub use pieces::Piece;
 pub use reader::SheetReader;
 pub use refusal::Refusal;
 pub use sheet::{Sheet, SheetEdge, SheetParticle};
-pub use tear::{Event, Rooms, Torn};
+pub use tear::{Edition, Event, Rooms, Torn};
 pub use text::TextError;
 
 /// The minimum piece that the bench offers for a crack.

@@ -1,5 +1,5 @@
 //! The trainer's tool: sheets as text, as pictures, cut and explained. `host/run sheet` lists what it does.
-use cutting_bench::{Event, Refusal, Sheet, draw_cut, draw_difference, draw_mesh, tell};
+use cutting_bench::{Edition, Event, Refusal, Sheet, draw_cut, draw_difference, draw_mesh, tell};
 use std::error::Error;
 use std::fs;
 use std::io::{self, Write};
@@ -12,6 +12,7 @@ host/run sheet write --first TEXT    the same in the first edition, with its bou
 host/run sheet draw FILE > x.svg     a picture: pieces coloured, pins black, the blade red
 host/run sheet cut FILE              the cut told in words: where the blade goes, what happened, the pieces and their masses
 host/run sheet cut FILE --draw       before and after, beside each other, as a picture (> x.svg), with a dot at each crossing
+host/run sheet cut FILE --second     the same, with or without --draw, by the second edition of the cut: exact, so a blade cuts alike from either end
 host/run sheet list FILE             the listing that the program cutlist prints
 host/run sheet diff FILE FILE        the differences of two sheets, as the program sheetdiff prints them
 host/run sheet diff FILE FILE --draw both meshes in one picture, what only one has in colour (> x.svg)
@@ -45,8 +46,8 @@ fn tell_mend(file: &str) -> Result<String, Box<dyn Error>> {
 }
 
 /// The cut of a sheet in words.
-fn tell_cut(sheet: &Sheet) -> Result<String, Refusal> {
-    let torn = sheet.mesh()?.cut(sheet.blade.map(|x| x as f32), FRACTION)?;
+fn tell_cut(sheet: &Sheet, edition: Edition) -> Result<String, Refusal> {
+    let torn = sheet.mesh()?.cut(sheet.blade.map(|x| x as f32), edition, FRACTION)?;
     let mut out: Vec<String> = torn.events.iter().map(tell).collect();
     if sheet.replaced {
         out.insert(0, "the typed outline is not that of the mesh, and was replaced".to_string());
@@ -73,7 +74,7 @@ fn tell_cut(sheet: &Sheet) -> Result<String, Refusal> {
 /// A refusal in words.
 fn explain(number: &str) -> Result<String, Box<dyn Error>> {
     match number.parse().map(Refusal::of) {
-        Ok(Some(Refusal::Other(n))) => Err(format!("no refusal has the number {n}: they go from 1 to 9").into()),
+        Ok(Some(Refusal::Other(n))) => Err(format!("no refusal has the number {n}: they go from 1 to 12").into()),
         Ok(Some(why)) => Ok(format!("refused {number}: {why}.\n{}\n", why.advice())),
         Ok(None) => Ok("0: accepted.\n".to_string()),
         Err(_) => Err(format!("{number} is no number").into()),
@@ -85,10 +86,10 @@ fn sheet(words: &[&str]) -> Option<Outcome> {
         let s = open(file)?;
         Ok(draw_mesh(&s.mesh()?, s.blade.map(|x| x as f32))?.into_bytes())
     };
-    let draw_both = |file: &str| -> Outcome {
+    let draw_both = |file: &str, edition: Edition| -> Outcome {
         let s = open(file)?;
         let (mesh, blade) = (s.mesh()?, s.blade.map(|x| x as f32));
-        Ok(draw_cut(&mesh, blade, &mesh.cut(blade, FRACTION)?)?.into_bytes())
+        Ok(draw_cut(&mesh, blade, &mesh.cut(blade, edition, FRACTION)?)?.into_bytes())
     };
     let write = |file: &str, first: bool| -> Outcome {
         let text = fs::read_to_string(file).map_err(|why| format!("{file}: {why}"))?;
@@ -118,8 +119,16 @@ fn sheet(words: &[&str]) -> Option<Outcome> {
         ["write", "--first", file] | ["write", file, "--first"] => write(file, true),
         ["write", file] => write(file, false),
         ["draw", file] => draw(file),
-        ["cut", file] => open(file).and_then(|s| Ok(tell_cut(&s)?.into_bytes())),
-        ["cut", file, "--draw"] | ["cut", "--draw", file] => draw_both(file),
+        ["cut", rest @ ..] => {
+            let (flags, files): (Vec<&str>, Vec<&str>) =
+                rest.iter().partition(|word| ["--draw", "--second"].contains(word));
+            let [file] = files[..] else { return None };
+            let edition = if flags.contains(&"--second") { Edition::Second } else { Edition::First };
+            match flags.contains(&"--draw") {
+                true => draw_both(file, edition),
+                false => open(file).and_then(|s| Ok(tell_cut(&s, edition)?.into_bytes())),
+            }
+        }
         ["list", file] => fs::read(file).map(|bytes| Sheet::list(&bytes).into_bytes()).map_err(|why| why.into()),
         ["diff", a, b, "--draw"] | ["diff", "--draw", a, b] => draw_diff(a, b),
         ["diff", a, b] => diff(a, b),

@@ -11,6 +11,8 @@ pub struct Particle {
     pub mass: f32,
     /// The inverse of its mass; 0 pins it.
     pub inverse_mass: f32,
+    /// How fast it goes, in x and y: a copy has its source's, a particle that is put into a strap the mix of its ends'.
+    pub velocity: [f32; 2],
     /// The particle that it was copied from, through all copies; its own number if it never was.
     pub root: u32,
     /// The host's mark.
@@ -72,7 +74,7 @@ impl Mesh {
         Mesh::default()
     }
 
-    /// Adds a free particle of mass 1 that rests where it is and is its own root, and gives its number.
+    /// Adds a free particle of mass 1 that rests where it is, has no velocity and is its own root, and gives its number.
     ///
     /// ```
     /// let mut mesh = cutting_bench::Mesh::new();
@@ -87,6 +89,7 @@ impl Mesh {
             rest: place,
             mass: 1.0,
             inverse_mass: 1.0,
+            velocity: [0.0; 2],
             root: number,
             damaged: false,
         });

@@ -2,7 +2,7 @@
 use std::error::Error;
 use std::fmt;
 
-/// Why a call was refused, by the bench's numbers 1 to 10. `Display` says it in words.
+/// Why a call was refused, by the bench's numbers 1 to 12. `Display` says it in words.
 ///
 /// ```
 /// use cutting_bench::{Mesh, Refusal};
@@ -37,13 +37,17 @@ pub enum Refusal {
     BadSheet,
     /// 10: a reader of sheets is closed.
     ReaderClosed,
+    /// 11: the second edition of the cut is asked for, and a coordinate is no whole number from -1,024 to 1,024.
+    NotWhole,
+    /// 12: the second edition of the cut is asked for, and the mesh is of straps.
+    NotForStraps,
     /// A number that this crate does not know.
     Other(u32),
 }
 
 impl Refusal {
     /// The refusals that the bench knows, in the order of their numbers.
-    pub const ALL: [Refusal; 10] = [
+    pub const ALL: [Refusal; 12] = [
         Refusal::BadCount,
         Refusal::BadNumber,
         Refusal::BadIndex,
@@ -54,6 +58,8 @@ impl Refusal {
         Refusal::NoLogRoom,
         Refusal::BadSheet,
         Refusal::ReaderClosed,
+        Refusal::NotWhole,
+        Refusal::NotForStraps,
     ];
 
     /// The refusal of a number; `None` for 0, which accepts.
@@ -93,7 +99,7 @@ impl Refusal {
                 "A mesh has at most 1,024 particles, 1,024 triangles, 2,048 edges and 2,048 boundary entries, those of a sheet's outline too; the program cutlist takes 128, 128, 256 and 256."
             }
             Refusal::BadNumber => {
-                "Coordinates, masses, lengths and stresses lie within 1,048,576 of 0, rest volumes within 4,194,304, rest lengths are not below 0; no number is infinite or missing. On a sheet coordinates are whole numbers from -1,024 to 1,023."
+                "Coordinates, velocities, masses, lengths and stresses lie within 1,048,576 of 0, rest volumes within 4,194,304, rest lengths are not below 0; no number is infinite or missing. On a sheet coordinates are whole numbers from -1,024 to 1,023."
             }
             Refusal::BadIndex => {
                 "Particles are numbered from 0, so the last one has the number of particles less 1. A triangle needs three different ones; an edge and a boundary entry two."
@@ -110,6 +116,10 @@ impl Refusal {
             Refusal::ReaderClosed => {
                 "A reader gives one sheet: open it again for the next one, before its first bytes come."
             }
+            Refusal::NotWhole => {
+                "The second edition decides exactly, which it can where each position and both ends of the blade have whole coordinates from -1,024 to 1,024; move them there, or cut in the first edition, which takes all numbers."
+            }
+            Refusal::NotForStraps => "The second edition cuts triangles alone: cut straps in the first edition.",
             Refusal::Other(_) => "This number is of another edition of the bench.",
         }
     }
@@ -128,6 +138,10 @@ impl fmt::Display for Refusal {
             Refusal::NoLogRoom => "there are not enough places for the log",
             Refusal::BadSheet => "the bytes are not a whole sheet",
             Refusal::ReaderClosed => "the reader of sheets is closed",
+            Refusal::NotWhole => {
+                "for the second edition of the cut a coordinate is not a whole number from -1,024 to 1,024"
+            }
+            Refusal::NotForStraps => "the second edition of the cut is not for straps",
             Refusal::Other(n) => return write!(f, "refusal {n}, which is not known here"),
         })
     }

@@ -3,6 +3,7 @@ use crate::calls;
 use crate::image::{bytes_of, image, mesh, words_in, words_of};
 use crate::mesh::Mesh;
 use crate::refusal::Refusal;
+use std::fmt;
 
 /// What happened in a call, an entry of its log.
 #[derive(Clone, Copy, Debug, PartialEq)]
@@ -67,6 +68,56 @@ impl Event {
     }
 }
 
+/// The edition of the rules by which a blade cuts (docs/RULES.md, R9 and R25). A cut names its edition, so that old papers keep their answers.
+///
+/// `Display` says it in words; [`Edition::number`] is what the bench is told.
+///
+/// ```
+/// use cutting_bench::{Edition, Mesh};
+/// let mut foam = Mesh::new();
+/// for (x, y) in [(0.0, 0.0), (1.0, 0.0), (0.0, 2.0), (0.0, 1.0)] {
+///     foam.add_particle(x, y);
+/// }
+/// foam.add_triangle(3, 1, 2);
+/// foam.add_triangle(3, 0, 1);
+/// let (there, back) = ([0.0, 0.0, 1.0, 1.0], [1.0, 1.0, 0.0, 0.0]);
+/// let cut = |blade, edition| foam.cut(blade, edition, 0.1).map(|torn| torn.mesh);
+/// assert_ne!(cut(there, Edition::First)?, cut(back, Edition::First)?);
+/// assert_eq!(cut(there, Edition::Second)?, cut(back, Edition::Second)?);
+/// # Ok::<(), cutting_bench::Refusal>(())
+/// ```
+#[derive(Clone, Copy, Debug, PartialEq, Eq, Hash)]
+pub enum Edition {
+    /// 1: every number is rounded as the Rust rounds it. It takes all meshes. A triangle whose middle lies on the line may fall to either side of it, and to the other one
+    /// if the line is drawn the other way. The program `cutlist` cuts by it.
+    First,
+    /// 2: crossings and sides are decided exactly, and a triangle whose middle lies on the line stays with the kept side, so a line cuts alike whichever way it is drawn. It takes
+    /// triangles alone, and whole coordinates from -1,024 to 1,024.
+    Second,
+}
+impl Edition {
+    /// Its number.
+    ///
+    /// ```
+    /// use cutting_bench::Edition;
+    /// assert_eq!([Edition::First, Edition::Second].map(Edition::number), [1, 2]);
+    /// ```
+    pub fn number(self) -> u32 {
+        match self {
+            Edition::First => 1,
+            Edition::Second => 2,
+        }
+    }
+}
+impl fmt::Display for Edition {
+    fn fmt(&self, f: &mut fmt::Formatter<'_>) -> fmt::Result {
+        f.write_str(match self {
+            Edition::First => "the first edition, as the Rust rounds",
+            Edition::Second => "the second edition, exact on whole coordinates",
+        })
+    }
+}
+
 /// What a call that gives a mesh gives.
 #[derive(Clone, Debug, PartialEq)]
 pub struct Torn {
@@ -84,13 +135,13 @@ pub struct Torn {
 /// each triangle, less the particles that triangles held at first, is at most 1,024.
 ///
 /// ```
-/// use cutting_bench::{Mesh, Refusal, Rooms};
+/// use cutting_bench::{Edition, Mesh, Refusal, Rooms};
 /// # let mut mesh = Mesh::new();
 /// # for (x, y) in [(0.0, 0.0), (4.0, 0.0), (4.0, 4.0), (0.0, 4.0)] { mesh.add_particle(x, y); }
 /// # mesh.add_triangle(0, 1, 2);
 /// # mesh.add_triangle(0, 2, 3);
 /// let few = Rooms { particles: 5, ..Rooms::default() };
-/// assert_eq!(mesh.cut_within([-1.0, -1.0, 5.0, 5.0], 0.1, few), Err(Refusal::NoParticleRoom));
+/// assert_eq!(mesh.cut_within([-1.0, -1.0, 5.0, 5.0], Edition::First, 0.1, few), Err(Refusal::NoParticleRoom));
 /// ```
 #[derive(Clone, Copy, Debug, PartialEq, Eq)]
 pub struct Rooms {
@@ -154,39 +205,39 @@ fn torn(rooms: Rooms, call: impl FnOnce(&[u8], &mut [u8], &mut [u8]) -> u32) -> 
 }
 
 impl Mesh {
-    /// Cuts the mesh along a blade (x0, y0, x1, y1), and marks where the blade crosses it. `fraction`, from 0 to 0.5, is how near to a strap's end, as a part of the strap, it is cut at the end itself; a mesh of
-    /// triangles does not read it.
+    /// Cuts the mesh along a blade (x0, y0, x1, y1), by the rules of an edition, and marks where the blade crosses it. `fraction`, from 0 to 0.5, is how near to a strap's end, as a part of the strap, it is cut at
+    /// the end itself; a mesh of triangles does not read it.
     ///
     /// ```
-    /// use cutting_bench::{Event, Mesh};
+    /// use cutting_bench::{Edition, Event, Mesh};
     /// let mut strap = Mesh::new();
     /// strap.add_particle(0.0, 0.0);
     /// strap.add_particle(8.0, 0.0);
     /// strap.add_edge(0, 1, true);
-    /// let torn = strap.cut([2.0, -1.0, 2.0, 1.0], 0.1)?;
+    /// let torn = strap.cut([2.0, -1.0, 2.0, 1.0], Edition::First, 0.1)?;
     /// let crossed = Event::Crossed { a: 0, b: 1, at: [2.0, 0.0], t: 0.25 };
     /// assert_eq!(torn.events, [crossed, Event::Inserted { a: 0, b: 1, p: 2, q: 3, t: 0.25 }]);
     /// assert_eq!(torn.mesh.pieces()?, 2);
     /// # Ok::<(), cutting_bench::Refusal>(())
     /// ```
-    pub fn cut(&self, blade: [f32; 4], fraction: f32) -> Result<Torn, Refusal> {
-        self.cut_within(blade, fraction, Rooms::default())
+    pub fn cut(&self, blade: [f32; 4], edition: Edition, fraction: f32) -> Result<Torn, Refusal> {
+        self.cut_within(blade, edition, fraction, Rooms::default())
     }
 
     /// [`Mesh::cut`] with rooms of the caller's choice.
     ///
     /// ```
-    /// use cutting_bench::{Mesh, Refusal, Rooms};
+    /// use cutting_bench::{Edition, Mesh, Refusal, Rooms};
     /// # let mut strap = Mesh::new();
     /// # strap.add_particle(0.0, 0.0);
     /// # strap.add_particle(8.0, 0.0);
     /// # strap.add_edge(0, 1, true);
     /// let no_log = Rooms { log: 0, ..Rooms::default() };
-    /// assert_eq!(strap.cut_within([2.0, -1.0, 2.0, 1.0], 0.1, no_log), Err(Refusal::NoLogRoom));
+    /// assert_eq!(strap.cut_within([2.0, -1.0, 2.0, 1.0], Edition::First, 0.1, no_log), Err(Refusal::NoLogRoom));
     /// ```
-    pub fn cut_within(&self, blade: [f32; 4], fraction: f32, rooms: Rooms) -> Result<Torn, Refusal> {
-        let blade = bytes_of(&blade.map(f32::to_bits));
-        torn(rooms, |lent, out, log| calls::cut(&image(self), &blade, fraction.to_bits(), lent, out, log))
+    pub fn cut_within(&self, blade: [f32; 4], edition: Edition, fraction: f32, rooms: Rooms) -> Result<Torn, Refusal> {
+        let (blade, edition) = (bytes_of(&blade.map(f32::to_bits)), edition.number());
+        torn(rooms, |lent, out, log| calls::cut(&image(self), &blade, edition, fraction.to_bits(), lent, out, log))
     }
 
     /// Opens a crack across each of these edges, in the order of the list, as long as no group falls below `minimum` elements

@@ -1,5 +1,5 @@
 //! Every sheet of examples/: its listing, its text, and what it means.
-use cutting_bench::{Event, Refusal, Sheet, SheetParticle, TextError, Torn, draw_cut};
+use cutting_bench::{Edition, Event, Refusal, Sheet, SheetParticle, TextError, Torn, draw_cut};
 use std::fs;
 use std::path::PathBuf;
 
@@ -121,9 +121,10 @@ fn every_listing() {
             Err(why) => format!("refused {}\n", why.number()),
             // The program takes 128 particles, the crate 1,024.
             Ok(sheet) if sheet.particles.len() > 128 => "refused 1\n".to_string(),
-            Ok(sheet) => {
-                listing(&sheet.mesh().unwrap().cut(sheet.blade.map(|x| x as f32), 0.1).unwrap(), sheet.replaced)
-            }
+            Ok(sheet) => listing(
+                &sheet.mesh().unwrap().cut(sheet.blade.map(|x| x as f32), Edition::First, 0.1).unwrap(),
+                sheet.replaced,
+            ),
         };
         assert_eq!(expected, beside(&name, "txt"), "{name}");
         assert_eq!(Sheet::list(&bytes(&name)), expected, "{name}");
@@ -204,7 +205,7 @@ fn the_pictures_of_the_docs() {
     for (name, picture) in [("grid", "cut-of-foam"), ("rope", "cut-of-webbing")] {
         let sheet = Sheet::read(&bytes(name)).unwrap();
         let (mesh, blade) = (sheet.mesh().unwrap(), sheet.blade.map(|x| x as f32));
-        let drawn = draw_cut(&mesh, blade, &mesh.cut(blade, 0.1).unwrap()).unwrap();
+        let drawn = draw_cut(&mesh, blade, &mesh.cut(blade, Edition::First, 0.1).unwrap()).unwrap();
         let kept = fs::read_to_string(examples().join(format!("../docs/{picture}.svg"))).unwrap();
         assert!(drawn == kept, "host/run sheet cut examples/{name}.sheet --draw > docs/{picture}.svg makes it anew");
     }

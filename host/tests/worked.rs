@@ -1,5 +1,5 @@
 //! The worked cases of docs/RULES.md, every refusal of docs/C-FUNCTIONS.md by its example, and what the crate promises of rooms and stack.
-use cutting_bench::{Edge, Event, Groups, Hit, MINIMUM_PIECE, Mesh, Refusal, Rooms, blade_hit, root};
+use cutting_bench::{Edge, Edition, Event, Groups, Hit, MINIMUM_PIECE, Mesh, Refusal, Rooms, blade_hit, root};
 
 /// The worked square of foam: two triangles on a diagonal, an edge along it and one across.
 fn square() -> Mesh {
@@ -22,7 +22,7 @@ fn ends(m: &Mesh) -> Vec<[u32; 2]> {
 #[test]
 fn the_worked_square() {
     let foam = square();
-    let torn = foam.cut(DIAGONAL, 0.1).unwrap();
+    let torn = foam.cut(DIAGONAL, Edition::First, 0.1).unwrap();
     let crossed = |a, b, at, t| Event::Crossed { a, b, at, t };
     // The blade goes through two corners; the sides that end there are met, the diagonal, which lies along it, is not.
     let happened = [
@@ -54,17 +54,67 @@ fn the_worked_strap() {
     strap.add_particle(0.0, 0.0);
     strap.add_particle(8.0, 0.0);
     strap.add_edge(0, 1, true);
-    let torn = strap.cut([2.0, -1.0, 2.0, 1.0], 0.1).unwrap();
+    let torn = strap.cut([2.0, -1.0, 2.0, 1.0], Edition::First, 0.1).unwrap();
     let masses: Vec<f32> = torn.mesh.particles.iter().map(|p| p.mass).collect();
     assert_eq!(masses, [0.25, 0.75, 0.25, 0.75]);
     assert_eq!(ends(&torn.mesh), [[0, 2], [3, 1]]);
     let crossed = Event::Crossed { a: 0, b: 1, at: [2.0, 0.0], t: 0.25 };
     assert_eq!(torn.events, [crossed, Event::Inserted { a: 0, b: 1, p: 2, q: 3, t: 0.25 }]);
     // Near a loose end the strap is crossed, and stays whole.
-    let near = strap.cut([0.5, -1.0, 0.5, 1.0], 0.1).unwrap();
+    let near = strap.cut([0.5, -1.0, 0.5, 1.0], Edition::First, 0.1).unwrap();
     assert_eq!(near.events, [Event::Crossed { a: 0, b: 1, at: [0.5, 0.0], t: 0.0625 }]);
     assert_eq!((near.changed, near.mesh), (false, strap));
     assert_eq!(torn.mesh.particles[2].position, [2.0, 0.0]);
+}
+
+/// A copy goes on as fast as its source, and a particle that is put into a strap at the mix of its ends' speeds.
+#[test]
+fn velocities() {
+    let speeds = [[1.0, -2.0], [0.0, 3.0], [-4.0, 0.5], [f32::from_bits(1), -1_048_576.0]];
+    let mut foam = square();
+    foam.particles.iter_mut().zip(speeds).for_each(|(p, speed)| p.velocity = speed);
+    let of = |m: &Mesh| m.particles.iter().map(|p| p.velocity).collect::<Vec<_>>();
+    let cut = foam.cut(DIAGONAL, Edition::First, 0.1).unwrap().mesh;
+    assert_eq!(of(&cut), [&speeds[..], &[speeds[0], speeds[2]]].concat());
+    assert_eq!(of(&foam.cut(DIAGONAL, Edition::Second, 0.1).unwrap().mesh), of(&cut));
+    assert_eq!(of(&foam.split(2, &[1, 0]).unwrap().mesh), [&speeds[..], &[speeds[2]]].concat());
+    // The rest of the mesh is what it is without them.
+    let still = square().cut(DIAGONAL, Edition::First, 0.1).unwrap().mesh;
+    let mut stopped = cut;
+    stopped.particles.iter_mut().for_each(|p| p.velocity = [0.0; 2]);
+    assert_eq!(stopped, still);
+
+    // Through a strap at a quarter.
+    let mut strap = Mesh::new();
+    strap.add_particle(0.0, 0.0);
+    strap.add_particle(8.0, 0.0);
+    strap.add_edge(0, 1, true);
+    strap.particles[0].velocity = [4.0, 0.0];
+    strap.particles[1].velocity = [8.0, -2.0];
+    let torn = strap.cut([2.0, -1.0, 2.0, 1.0], Edition::First, 0.1).unwrap();
+    assert_eq!(of(&torn.mesh), [[4.0, 0.0], [8.0, -2.0], [5.0, -0.5], [5.0, -0.5]]);
+    // Rounded as positions are: 0.1 times (1 - t), plus 0.7 times t.
+    let t = 1.0f32 / 3.0;
+    strap.particles[0].velocity = [0.1, 0.1];
+    strap.particles[1].velocity = [0.7, 0.7];
+    strap.particles[1].position = [3.0, 0.0];
+    let torn = strap.cut([1.0, -1.0, 1.0, 1.0], Edition::First, 0.1).unwrap();
+    assert_eq!(torn.mesh.particles[2].velocity, [0.1 * (1.0 - t) + 0.7 * t; 2]);
+}
+
+/// A velocity has the range of positions: beyond it, and where it is no number, it gets 2, before a name gets 3.
+#[test]
+fn a_bad_velocity() {
+    for (k, bad) in [above(1_048_576.0), f32::INFINITY, f32::NAN, -1e30].into_iter().enumerate() {
+        let mut foam = square();
+        foam.particles[3].velocity[k % 2] = bad;
+        assert_eq!(foam.pieces(), Err(Refusal::BadNumber), "{bad}");
+        foam.triangles[0].corners = [1, 1, 2];
+        assert_eq!(foam.cut(DIAGONAL, Edition::First, 0.1), Err(Refusal::BadNumber), "{bad}");
+    }
+    let mut fast = square();
+    fast.particles[3].velocity = [1_048_576.0, -1_048_576.0];
+    assert_eq!(fast.pieces(), Ok(1));
 }
 
 #[test]
@@ -128,8 +178,8 @@ fn at_the_limit_and_one_past_it() {
     far.particles[1].position[0] = above(1_048_576.0);
     assert_eq!(far.pieces(), Err(Refusal::BadNumber));
 
-    assert!(square().cut(DIAGONAL, 0.5).is_ok());
-    assert_eq!(square().cut(DIAGONAL, above(0.5)), Err(Refusal::BadArgument));
+    assert!(square().cut(DIAGONAL, Edition::First, 0.5).is_ok());
+    assert_eq!(square().cut(DIAGONAL, Edition::First, above(0.5)), Err(Refusal::BadArgument));
 }
 
 /// Each example of the refusal table, by number.
@@ -142,7 +192,7 @@ fn every_refusal_by_its_example() {
     };
     assert_eq!(spoiled(|m| m.particles[0].position[1] = f32::NAN), Refusal::BadNumber);
     assert_eq!(spoiled(|m| m.edges[0].rest_length = -1.0), Refusal::BadNumber);
-    assert_eq!(square().cut([f32::INFINITY, 0.0, 0.0, 1.0], 0.1), Err(Refusal::BadNumber));
+    assert_eq!(square().cut([f32::INFINITY, 0.0, 0.0, 1.0], Edition::First, 0.1), Err(Refusal::BadNumber));
     assert_eq!(spoiled(|m| m.edges.push(Edge { ends: [0, 9], ..Edge::default() })), Refusal::BadIndex);
     assert_eq!(spoiled(|m| m.triangles[1].corners = [1, 1, 2]), Refusal::BadIndex);
     assert_eq!(square().groups(4, &[]), Err(Refusal::BadArgument));
@@ -151,7 +201,7 @@ fn every_refusal_by_its_example() {
     assert_eq!(square().rest_measure_of(&[3, 3]), Err(Refusal::BadArgument));
     assert_eq!(square().rest_measure_of(&[99]), Err(Refusal::BadArgument));
     let all = Rooms::default();
-    let cut = |rooms| square().cut_within(DIAGONAL, 0.1, rooms).map(|t| t.events.len());
+    let cut = |rooms| square().cut_within(DIAGONAL, Edition::First, 0.1, rooms).map(|t| t.events.len());
     assert_eq!(cut(Rooms { triangles: 1, ..all }), Err(Refusal::BadArgument));
     assert_eq!(cut(Rooms { particles: 5, ..all }), Err(Refusal::NoParticleRoom));
     assert_eq!(cut(Rooms { edges: 2, ..all }), Err(Refusal::NoEdgeRoom));
@@ -170,7 +220,7 @@ fn refusals_have_numbers_and_words() {
         assert_eq!((why.number(), Refusal::of(k)), (k, Some(why)));
         assert!(why.to_string().len() > 20 && why.advice().len() > 20);
     }
-    assert_eq!(Refusal::of(12).map(Refusal::number), Some(12));
+    assert_eq!(Refusal::of(99).map(Refusal::number), Some(99));
 }
 
 /// A grid of n by n squares, two triangles each, with springs.
@@ -204,7 +254,7 @@ fn a_run_of_calls_with_the_default_rooms() {
     for k in 0..24 {
         let slant = k as f32;
         let torn = match k % 4 {
-            0 => m.cut([-1.0, slant * 0.4, 11.0, 10.3 - slant * 0.3], 0.1),
+            0 => m.cut([-1.0, slant * 0.4, 11.0, 10.3 - slant * 0.3], Edition::First, 0.1),
             1 => m.crack(&[k, 3 * k, 5 * k + 1], MINIMUM_PIECE),
             2 => m.split(k, &m.fan(k).unwrap().iter().map(|e| (e % 2) as u8).collect::<Vec<u8>>()),
             _ => m.straddlers(),
@@ -229,7 +279,7 @@ fn a_run_of_calls_with_the_default_rooms() {
 fn a_thread_of_one_mebibyte() {
     let calls = || {
         let m = grid(22);
-        m.cut([-1.0, 3.3, 23.0, 17.1], 0.1).unwrap();
+        m.cut([-1.0, 3.3, 23.0, 17.1], Edition::First, 0.1).unwrap();
         m.crack(&[100, 101, 102], MINIMUM_PIECE).unwrap();
         m.straddlers().unwrap();
         m.split(30, &vec![0; m.fan(30).unwrap().len()]).unwrap();
@@ -252,7 +302,7 @@ fn pieces_as_the_bench_counts_them() {
     let mut meshes = vec![Mesh::new(), square(), corner];
     for k in 0..6 {
         let slant = k as f32;
-        meshes.push(grid(5).cut([-1.0, slant, 6.0, 5.0 - slant], 0.1).unwrap().mesh);
+        meshes.push(grid(5).cut([-1.0, slant, 6.0, 5.0 - slant], Edition::First, 0.1).unwrap().mesh);
     }
     for m in meshes {
         // `list_pieces` holds its number to the bench's.

@@ -14,6 +14,10 @@ SECTIONS = {1: 'Groups', 2: 'Splits', 3: 'Cuts', 4: 'Grid', 5: 'Straps', 6: 'Cra
 # the modules whose definitions are computed
 OPENED = [('lists', ['Lists', 'Labels']), ('float', ['Numbers', 'Ranges', 'Root', 'Order']), ('blade', ['Points', 'Blade']), ('fan', ['Groups']),
           ('model', ['Valid', 'Elements', 'Split', 'Pieces', 'Cut', 'Crack', 'Run', 'Calls', 'Reads'])]
+# the names that no case unfolds: all are cuts of edition 1
+SKIPPED = ['wholeMesh']
+# the case whose meshes and answer other proofs speak of
+SHARED = 301
 IEEE = 'isNan neg add sub mul div lt le eq ne ofInt ofBits'.split()
 
 
@@ -64,8 +68,15 @@ def row(name, bits, w):
     return name + ' ' + ' '.join(('0x' + x) if i in bits else x for i, x in enumerate(w))
 
 
+def still(w):
+    """A particle's row without its velocity, which is 0 in each case."""
+    assert w[6:8] == ['00000000'] * 2
+    return w[:6] + w[8:]
+
+
 def mesh_text(m):
     """A mesh, a list to a line."""
+    m = dict(m, p=[still(w) for w in m['p']])
     parts = [('particle', range(6), 'p'), ('triangle', (3, 4), 't'), ('edge', (4, 5, 6, 7), 'e'), ('side', (), 'b')]
     return 'mesh\n    ' + '\n    '.join(many([row(n, b, w) for w in m[k]]) for n, b, k in parts)
 
@@ -100,7 +111,7 @@ def asked(c, m):
     lent = '(rooms %d 1024 %d %d %d)' % tuple(r)
     k = w[0]
     if k == 'cut':
-        return 'meshes (cutCall true %s %s %s %s)' % (m, blade(w[1:5]), bits(w[5]), lent)
+        return 'meshes (cutCall true %s 1 %s %s %s)' % (m, blade(w[1:5]), bits(w[5]), lent)
     if k == 'crack':
         return 'meshes (crackCall true %s %s %s %s)' % (m, numbers(w[2:]), least(w[1]), lent)
     if k == 'split_fan':
@@ -148,7 +159,7 @@ def opened():
     for crate, mods in OPENED:
         for m in mods:
             text = open(os.path.join(CRATES, crate, 'specs', m + '.antt')).read()
-            names = re.findall(r'^unfoldable pub (\S+)', text, re.M)
+            names = [n for n in re.findall(r'^unfoldable pub (\S+)', text, re.M) if n not in SKIPPED]
             own = 'Rattle.model.specs' if crate == 'model' else 'Rattle.%s.specs' % crate
             if names:
                 out.append(('%s.%s' % (own, m), names))
@@ -165,17 +176,22 @@ use Rattle.blade.specs.declared.Hit.the-variants.{Miss, Hit as HitAt}
 use Rattle.model.specs.Mesh.{Mesh}
 use Rattle.model.specs.Pieces.{defaultMinPiece}
 use Rattle.model.specs.Run.{split, edge as removed, insert, opened, met}
-use Rattle.model.specs.Calls.{refused, done}
+use Rattle.model.specs.Calls.{%s}
 use Rattle.model.specs.Reads.{refused as denied, value}
 use Rattle.model.specs.Starred.{Case, meshes, groups, flag, number, float, hit}
 use Rattle.model.proofs.Asked.{bits, point, blade, rooms, mesh, particle, triangle, edge, side}
 '''
 
 
+def public(c):
+    return 'pub ' if c['no'] == SHARED else ''
+
+
 def write(path, title, cases, names):
     mods = opened()
     clash = {'mesh', 'particle', 'triangle', 'edge', 'side', 'groups', 'flag', 'number', 'float', 'hit', 'split', 'insert', 'opened', 'met'}
-    text = HEAD % (title, ', '.join(IEEE))
+    shared = [c for c in cases if c['no'] == SHARED]
+    text = HEAD % (title, ', '.join(IEEE), 'Outcome, refused, done' if shared else 'refused, done')
     for mod, ns in mods:
         assert not clash & set(ns), clash & set(ns)
         text += 'use %s.{%s}\n' % (mod, ', '.join(ns))
@@ -185,11 +201,15 @@ def write(path, title, cases, names):
         text += '\n'
         if m not in seen:
             seen[m] = 'in%d' % c['no']
-            text += 'abbrev in%d : Mesh\nin%d =\n    %s\n\n' % (c['no'], c['no'], m)
+            text += 'abbrev %sin%d : Mesh\nin%d =\n    %s\n\n' % (public(c), c['no'], c['no'], m)
         if c['out']:
-            text += 'abbrev out%d : Mesh\nout%d =\n    %s\n\n' % (c['no'], c['no'], mesh_text(c['out']))
+            text += 'abbrev %sout%d : Mesh\nout%d =\n    %s\n\n' % (public(c), c['no'], c['no'], mesh_text(c['out']))
+        answer = wanted(c)
+        if c in shared:
+            text += '-- the answer of the worked listing\nabbrev pub done%d : Outcome\ndone%d = %s\n\n' % (c['no'], c['no'], answer[len('meshes ('):-1])
+            answer = 'meshes done%d' % c['no']
         text += '-- %s\nabbrev case%d : Case\ncase%d = record { asked = %s; wanted = %s }\n' % (
-            names.get(c['no'], ' '.join(c['call'])[:90]), c['no'], c['no'], asked(c, seen[m]), wanted(c))
+            names.get(c['no'], ' '.join(c['call'])[:90]), c['no'], c['no'], asked(c, seen[m]), answer)
     text += '\nabbrev pub cases : List Case\ncases = %s\n' % ' ∷ '.join(['case%d' % c['no'] for c in cases] + ['[]'])
     text += '\npub agree : map (λ (c : Case). c .asked) cases ≡ map (λ (c : Case). c .wanted) cases\n'
     text += 'unfolding ' + ' '.join(sum([ns for _, ns in mods], []) + IEEE) + '\nagree = refl\n'

@@ -20,7 +20,7 @@ def word(n):
 def square():
     """The square of R15.7: the columns of its blocks, each a list of numbers."""
     return {
-        "points": [[0, 4, 4, 0], [0, 0, 4, 4], [0, 4, 4, 0], [0, 0, 4, 4], [1] * 4, [1] * 4],
+        "points": [[0, 4, 4, 0], [0, 0, 4, 4], [0, 4, 4, 0], [0, 0, 4, 4], [1] * 4, [1] * 4, [1, 0, -1, 0], [0, 2, 0, -2]],
         "roots": [[0, 1, 2, 3], [0] * 4],
         "corners": [[0, 0], [1, 2], [2, 3]],
         "volumes": [[8, -8], [0, 0]],
@@ -59,7 +59,7 @@ def changed(block, column, row, x):
 
 def empty(particles):
     m = {block: [[] for _ in columns] for block, columns in square().items()}
-    m["points"] = [[0] * particles for _ in range(6)]
+    m["points"] = [[0] * particles for _ in range(8)]
     m["roots"] = [list(range(particles)) if particles < 5 else [0] * particles, [0] * particles]
     return m
 
@@ -93,7 +93,9 @@ for block, columns in square().items():
     end += 4 * sum(len(column) for column in columns)
     call("bench_pieces", [hexed(whole[:end - 4] + whole[end:])], 4, 1)
 for column, x, refusal in ((0, 1048576, 0), (0, -1048576, 0), (0, NEXT, 2), (1, -NEXT, 2), (2, NEXT, 2), (2, -NEXT, 2), (3, NEXT, 2), (4, NEXT, 2),
-                           (5, 1e30, 0), (5, INF, 2), (4, NAN, 2), (0, INF, 2), (5, NAN, 2)):
+                           (5, 1e30, 0), (5, INF, 2), (4, NAN, 2), (0, INF, 2), (5, NAN, 2),
+                           (6, 1048576, 0), (6, NEXT, 2), (6, -1048576, 0), (6, -NEXT, 2), (7, 1048576, 0), (7, NEXT, 2), (7, -1048576, 0), (7, -NEXT, 2),
+                           (6, NAN, 2), (7, INF, 2), (6, 1e30, 2), (7, -0.0, 0)):
     pieces(changed("points", column, 0, x), refusal, 1)
 for column, x, refusal in ((0, -4194304, 0), (0, 4194304, 0), (0, NEXT_VOLUME, 2), (1, NEXT, 2), (1, NAN, 2)):
     pieces(changed("volumes", column, 0, x), refusal, 1)

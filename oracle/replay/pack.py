@@ -1,7 +1,7 @@
 #!/usr/bin/env python3
 """Packs the lists of calls for the program replay: oracle/replay/pack.py [--only NAME,NAME..] LIST.. > crates/replay/stdin
 
-A call of a list (oracle/README.md, 'The fixed lists') becomes eleven little-endian words of 4 bytes: kind, a particle or a number, minimum,
+A call of a list (oracle/README.md, 'The fixed lists') becomes eleven little-endian words of 4 bytes: kind, a particle or a number, minimum or edition,
 bytes of the image, of the arguments, of the rooms, of the expected result and of the expected log, bytes lent for result and log, refusal;
 then those bytes. A call that only reads has no rooms and no log.
 """
@@ -32,6 +32,8 @@ def hexadecimal(text):
 # What stands between the name and the bytes lent, by kind: the parts of a call, each with its reader.
 IMAGE, ARGS, ROOMS = ("image", raw), ("args", raw), ("rooms", raw)
 NUMBER, BITS, MINIMUM = ("number", decimal), ("number", hexadecimal), ("minimum", decimal)
+# The edition of a cut stands in the place of a minimum.
+EDITION = MINIMUM
 PARTS = {
     "bench_root": [BITS],
     "bench_blade_hit": [ARGS],
@@ -42,7 +44,7 @@ PARTS = {
     "bench_pieces": [IMAGE],
     "bench_split": [IMAGE, NUMBER, ARGS, ROOMS],
     "bench_straddlers": [IMAGE, ROOMS],
-    "bench_cut": [IMAGE, ARGS, BITS, ROOMS],
+    "bench_cut": [IMAGE, ARGS, EDITION, BITS, ROOMS],
     "bench_crack": [IMAGE, ARGS, MINIMUM, ROOMS],
     "bench_fan": [IMAGE, NUMBER],
     "bench_sheet": [ARGS],

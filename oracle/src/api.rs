@@ -25,6 +25,8 @@ pub struct Mesh {
     pub ry: Vec<f32>,
     pub mass: Vec<f32>,
     pub inv: Vec<f32>,
+    pub vx: Vec<f32>,
+    pub vy: Vec<f32>,
     pub root: Vec<u32>,
     pub damaged: Vec<u32>,
     // triangles
@@ -58,9 +60,9 @@ impl PartialEq for Mesh {
 }
 
 /// The columns of particles, triangles, edges and boundary among `floats` and among `numbers`.
-pub const COLUMNS: [(Range<usize>, Range<usize>); 4] = [(0..6, 0..2), (6..8, 2..5), (8..12, 5..9), (12..12, 9..11)];
+pub const COLUMNS: [(Range<usize>, Range<usize>); 4] = [(0..8, 0..2), (8..10, 2..5), (10..14, 5..9), (14..14, 9..11)];
 impl Mesh {
-    pub fn floats(&self) -> [&Vec<f32>; 12] {
+    pub fn floats(&self) -> [&Vec<f32>; 14] {
         [
             &self.px,
             &self.py,
@@ -68,6 +70,8 @@ impl Mesh {
             &self.ry,
             &self.mass,
             &self.inv,
+            &self.vx,
+            &self.vy,
             &self.volume,
             &self.tstress,
             &self.rest,
@@ -91,7 +95,7 @@ impl Mesh {
             &self.bb,
         ]
     }
-    pub fn floats_mut(&mut self) -> [&mut Vec<f32>; 12] {
+    pub fn floats_mut(&mut self) -> [&mut Vec<f32>; 14] {
         [
             &mut self.px,
             &mut self.py,
@@ -99,6 +103,8 @@ impl Mesh {
             &mut self.ry,
             &mut self.mass,
             &mut self.inv,
+            &mut self.vx,
+            &mut self.vy,
             &mut self.volume,
             &mut self.tstress,
             &mut self.rest,
@@ -139,7 +145,7 @@ impl Mesh {
         self.numbers_mut()[n].iter_mut().for_each(|c| c.push(c[i]));
         [self.px.len(), self.ta.len(), self.ea.len(), self.ba.len()][list] - 1
     }
-    /// Position = rest position, mass as given, inverse by `inv` unless pinned, own root.
+    /// Position = rest position, mass as given, inverse by `inv` unless pinned, at rest, own root.
     pub fn particle(&mut self, x: f32, y: f32, mass: f32, pinned: bool) -> u32 {
         let i = self.px.len() as u32;
         self.px.push(x);
@@ -148,6 +154,8 @@ impl Mesh {
         self.ry.push(y);
         self.mass.push(mass);
         self.inv.push(if pinned { 0.0 } else { crate::utils::inv(mass) });
+        self.vx.push(0.0);
+        self.vy.push(0.0);
         self.root.push(i);
         self.damaged.push(0);
         i
@@ -189,7 +197,7 @@ impl Mesh {
         b.particles.0 = (0..self.px.len())
             .map(|i| SoftBodyParticle {
                 position: Vector::new(self.px[i], self.py[i]),
-                velocity: Vector::ZERO,
+                velocity: Vector::new(self.vx[i], self.vy[i]),
                 rest_position: Vector::new(self.rx[i], self.ry[i]),
                 initial_rest_position: Vector::new(self.rx[i], self.ry[i]),
                 mass: self.mass[i],
@@ -233,6 +241,8 @@ impl Mesh {
             m.ry.push(p.rest_position.y);
             m.mass.push(p.mass);
             m.inv.push(p.inv_mass);
+            m.vx.push(p.velocity.x);
+            m.vy.push(p.velocity.y);
             m.root.push(p.split_root);
             m.damaged.push(p.damaged as u32);
         }
@@ -483,13 +493,13 @@ fn finish(start: &Mesh, marks: Option<Vec<Entry>>, body: SoftBody, log: PlainLog
 }
 
 /// The marks of a blade's crossings on a mesh, by `blade_hit` in the order of the source's loops, and every point that it computed for them.
-fn crossings(m: &Mesh, blade: Blade) -> (Vec<Entry>, Vec<Vector>) {
+fn crossings(m: &Mesh, blade: Blade) -> (Vec<Entry>, Vec<(Vector, f32)>) {
     let (mut marks, mut points) = (vec![], vec![]);
     journal::hits();
     access::tested(&m.to_body(None), blade.ends(), |a, b, hit| {
         points.extend(journal::hits());
         if let Some(t) = hit {
-            let p = points.last().expect("the point of a hit");
+            let (p, _) = points.last().expect("the point of a hit");
             marks.push(Entry::Met { a, b, x: p.x, y: p.y, t });
         }
     });
@@ -526,7 +536,7 @@ pub fn cut(m: &Mesh, blade: Blade, fraction: f32) -> Outcome {
     let mut b = m.to_body(None);
     let log = access::cut_core(&mut b, blade.ends());
     // The cut itself computed the same points, one by one: it looks in this order.
-    let bits = |l: &[Vector]| l.iter().map(|p| (p.x.to_bits(), p.y.to_bits())).collect::<Vec<_>>();
+    let bits = |l: &[(Vector, f32)]| l.iter().map(|(p, t)| [p.x, p.y, *t].map(f32::to_bits)).collect::<Vec<_>>();
     assert_eq!(bits(&journal::hits()), bits(&points));
     finish(m, Some(marks), b, log)
 }
@@ -560,6 +570,27 @@ pub fn cut_whole(m: &Mesh, blade: Blade, fraction: f32) -> Outcome {
     let log = PlainLog { splits: event.split_particles, removed: event.removed_edges, inserted, opened: vec![] };
     let (log, steps) = derive(m, Some(crossings(m, blade).0), ops, log, &b);
     Outcome { changed: true, mesh: Mesh::from_body(&b), log, steps }
+}
+
+/// Each pair that a cut of triangles tests, in its order, with the point and t that `blade_hit` computes for it before its end test, and with its verdict.
+pub fn tested(m: &Mesh, blade: Blade) -> Vec<(u32, u32, Option<(Vector, f32)>, bool)> {
+    let mut out = vec![];
+    journal::hits();
+    access::tested(&m.to_body(None), blade.ends(), |a, b, hit| out.push((a, b, journal::hits().pop(), hit.is_some())));
+    out
+}
+/// A cut of triangles with marks, candidates and sides that are given: the published splits at the candidates, then the published closing pass. `sides`
+/// is told where the particle stands and where the corners of each element of its fan do.
+pub fn cut_by(
+    m: &Mesh,
+    marks: Vec<Entry>,
+    candidates: &[u32],
+    sides: impl Fn(Vector, &[Vec<Vector>]) -> Vec<usize>,
+) -> Outcome {
+    journal::start();
+    let mut b = m.to_body(None);
+    let log = access::cut_by(&mut b, candidates, sides);
+    finish(m, Some(marks), b, log)
 }
 
 pub fn crack(m: &Mesh, torn: &[u32], min_piece: Option<u32>) -> Outcome {
@@ -617,7 +648,7 @@ pub fn blade_hit(blade: Blade, p: [f32; 2], q: [f32; 2]) -> Option<(f32, [f32; 2
     journal::hits();
     let t = access::blade_hit(blade.ends(), Vector::new(p[0], p[1]), Vector::new(q[0], q[1]))?;
     // The benchmark keeps no record of points.
-    let hit = journal::hits().last().copied().unwrap_or(Vector::ZERO);
+    let (hit, _) = journal::hits().last().copied().unwrap_or((Vector::ZERO, t));
     Some((t, [hit.x, hit.y]))
 }
 
@@ -655,7 +686,7 @@ pub fn check_mesh(m: &Mesh) -> u32 {
     let (np, nt, ne, nb) = (m.px.len(), m.ta.len(), m.ea.len(), m.ba.len());
     let lengths = [(np, MAX_PARTICLES), (nt, MAX_TRIANGLES), (ne, MAX_EDGES), (nb, MAX_BOUNDARY)];
     if lengths.iter().any(|&(n, max)| n > max)
-        || [&m.py, &m.rx, &m.ry, &m.mass, &m.inv].iter().any(|c| c.len() != np)
+        || [&m.py, &m.rx, &m.ry, &m.mass, &m.inv, &m.vx, &m.vy].iter().any(|c| c.len() != np)
         || [&m.root, &m.damaged].iter().any(|c| c.len() != np)
         || [&m.tb, &m.tc].iter().any(|c| c.len() != nt)
         || [&m.volume, &m.tstress].iter().any(|c| c.len() != nt)
@@ -666,9 +697,8 @@ pub fn check_mesh(m: &Mesh) -> u32 {
         return 1;
     }
     let ok = |c: &[f32]| c.iter().all(|x| x.is_finite() && x.abs() <= MAX_NUMBER);
-    if ![&m.px, &m.py, &m.rx, &m.ry, &m.mass, &m.tstress, &m.rest, &m.initial, &m.impulse, &m.estress]
-        .iter()
-        .all(|c| ok(c))
+    if ![&m.px, &m.py, &m.rx, &m.ry, &m.mass, &m.vx, &m.vy].iter().all(|c| ok(c))
+        || ![&m.tstress, &m.rest, &m.initial, &m.impulse, &m.estress].iter().all(|c| ok(c))
         || !m.inv.iter().all(|x| x.is_finite())
         || !m.volume.iter().all(|x| x.is_finite() && x.abs() <= MAX_VOLUME)
         || !m.rest.iter().chain(&m.initial).all(|x| *x >= 0.0)

@@ -23,8 +23,10 @@ type Around = c_type!(bytes number answer);
 type Removal = c_type!(bytes bytes mesh);
 /// Image, particle, sides, rooms.
 type Split = c_type!(bytes number bytes bytes mesh);
-/// Image, blade or torn edges, fraction or minimum, rooms.
-type Tear = c_type!(bytes bytes number bytes mesh);
+/// Image, blade, edition, fraction, rooms.
+type Cut = c_type!(bytes bytes number number bytes mesh);
+/// Image, torn edges, minimum, rooms.
+type Crack = c_type!(bytes bytes number bytes mesh);
 
 /// One side of a comparison: the C functions that it has.
 #[derive(Clone, Copy)]
@@ -42,8 +44,8 @@ pub struct Table {
     pub list_cut: Option<Slice>,
     pub split: Option<Split>,
     pub straddlers: Option<Removal>,
-    pub cut: Option<Tear>,
-    pub crack: Option<Tear>,
+    pub cut: Option<Cut>,
+    pub crack: Option<Crack>,
 }
 
 /// `Some` of an archive's function if `run` found its name there (`--cfg have="NAME"`).
@@ -77,8 +79,8 @@ pub fn archive() -> Table {
         list_cut: linked!("bench_list_cut", bench_list_cut as Slice),
         split: linked!("bench_split", bench_split as Split),
         straddlers: linked!("bench_straddlers", bench_straddlers as Removal),
-        cut: linked!("bench_cut", bench_cut as Tear),
-        crack: linked!("bench_crack", bench_crack as Tear),
+        cut: linked!("bench_cut", bench_cut as Cut),
+        crack: linked!("bench_crack", bench_crack as Crack),
     }
 }
 
@@ -253,7 +255,7 @@ pub enum Args {
     Pieces,
     Split { v: u32, sides: Vec<u8> },
     Straddlers,
-    Cut { blade: [u32; 4], length: Option<usize>, fraction: u32 },
+    Cut { blade: [u32; 4], length: Option<usize>, edition: u32, fraction: u32 },
     Crack { torn: Vec<u32>, length: Option<usize>, minimum: u32 },
     Fan { v: u32 },
     Sheet { bytes: Vec<u8> },
@@ -316,7 +318,7 @@ impl Input {
             Args::Root { bits } => (bits, 0),
             Args::Groups { v, .. } | Args::Split { v, .. } | Args::Fan { v } => (v, 0),
             Args::Opens { v, minimum, .. } => (v, minimum),
-            Args::Cut { fraction, .. } => (fraction, 0),
+            Args::Cut { edition, fraction, .. } => (fraction, edition),
             Args::Crack { minimum, .. } => (0, minimum),
             _ => (0, 0),
         };
@@ -339,6 +341,7 @@ pub struct Raw {
     pub second: Vec<u8>,
     /// The particle, or the bits of the number or of the fraction.
     pub number: u32,
+    /// The minimum piece, or the edition of a cut.
     pub minimum: u32,
     /// The places lent, four words.
     pub rooms: Vec<u8>,
@@ -406,7 +409,7 @@ fn invoke_at(t: &Table, c: &Raw, given: [&[u8]; 3], out: &mut [u8], log: &mut [u
             Entry::Pieces => t.pieces?(pa, na, po, no),
             Entry::Split => t.split?(pa, na, c.number, pb, nb, pr, nr, po, no, pl, nl),
             Entry::Straddlers => t.straddlers?(pa, na, pr, nr, po, no, pl, nl),
-            Entry::Cut => t.cut?(pa, na, pb, nb, c.number, pr, nr, po, no, pl, nl),
+            Entry::Cut => t.cut?(pa, na, pb, nb, c.minimum, c.number, pr, nr, po, no, pl, nl),
             Entry::Crack => t.crack?(pa, na, pb, nb, c.minimum, pr, nr, po, no, pl, nl),
             Entry::Fan => t.fan?(pa, na, c.number, po, no),
             Entry::Sheet => t.sheet?(pa, na, po, no),

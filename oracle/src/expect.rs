@@ -2,6 +2,7 @@
 //! (the source checks nothing), the words by the published Rust.
 use crate::api;
 use crate::entries::{Entry, Got, Raw};
+use crate::exact;
 use crate::image::{bytes_of, read, words, words_of};
 use crate::second;
 use crate::sheet::{self, Edition, MESH, Sheet};
@@ -63,18 +64,30 @@ fn arguments_ok(c: &Raw, m: &api::Mesh) -> bool {
     }
     match c.entry {
         Entry::Split => sides_ok(m, c.number, &c.second),
-        Entry::Cut => c.second.len() == 16 && api::fraction_ok(f32::from_bits(c.number)),
+        Entry::Cut => c.second.len() == 16 && api::fraction_ok(f32::from_bits(c.number)) && matches!(c.minimum, 1 | 2),
         Entry::Crack => c.second.len() % 4 == 0 && c.second.len() <= crate::wrapped::MOST_TORN,
         _ => true,
     }
 }
-/// The mesh of a call that gives one, or what checks 1 to 4 refuse.
+/// The blade of a call's words.
+fn blade(c: &Raw) -> api::Blade {
+    let f: Vec<f32> = words_of(&c.second).into_iter().map(f32::from_bits).collect();
+    api::Blade::new(f[0], f[1], f[2], f[3])
+}
+/// What the edition of a cut refuses behind checks 1 to 4.
+fn edition_refusal(c: &Raw, m: &api::Mesh) -> u32 {
+    if c.entry == Entry::Cut && c.minimum == 2 { exact::refusal(m, blade(c)) } else { 0 }
+}
+/// The mesh of a call that gives one, or what checks 1 to 4, and behind them those of an edition, refuse.
 pub fn checked(c: &Raw) -> Result<api::Mesh, u32> {
     let m = read(&c.first).ok_or(1u32)?;
     match api::check_mesh(&m) {
         0 | 3 if !blade_numbers_ok(c) => Err(2),
         0 if !arguments_ok(c, &m) => Err(4),
-        0 => Ok(m),
+        0 => match edition_refusal(c, &m) {
+            0 => Ok(m),
+            no => Err(no),
+        },
         no => Err(no),
     }
 }
@@ -86,10 +99,8 @@ pub fn outcome(c: &Raw, m: &api::Mesh) -> api::Outcome {
             let sides: Vec<u32> = c.second.iter().map(|&s| s as u32).collect();
             api::split_fan(m, c.number, &sides)
         }
-        Entry::Cut => {
-            let f: Vec<f32> = w.into_iter().map(f32::from_bits).collect();
-            api::cut(m, api::Blade::new(f[0], f[1], f[2], f[3]), f32::from_bits(c.number))
-        }
+        Entry::Cut if c.minimum == 2 => exact::cut(m, blade(c)),
+        Entry::Cut => api::cut(m, blade(c), f32::from_bits(c.number)),
         Entry::Crack => api::crack(m, &w, Some(c.minimum)),
         _ => api::straddlers(m),
     }

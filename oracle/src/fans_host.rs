@@ -52,7 +52,7 @@ impl Blocks {
     fn new(particles: usize, rows: &[[usize; 3]], size: usize) -> Blocks {
         let mut b = Blocks {
             counts: [particles, rows.len(), 0, 0, 0],
-            points: vec![0.0; 6 * 1024],
+            points: vec![0.0; 8 * 1024],
             roots: vec![0; 2 * 1024],
             corners: vec![0; 3 * size],
             volumes: vec![0.0; 2 * size],
@@ -68,6 +68,8 @@ impl Blocks {
             b.points[3 * 1024 + v] = (v / 37) as f32;
             b.points[4 * 1024 + v] = 1.0;
             b.points[5 * 1024 + v] = 1.0;
+            b.points[6 * 1024 + v] = 2.0 - (v % 5) as f32;
+            b.points[7 * 1024 + v] = (v % 3) as f32;
             b.roots[v] = v;
         }
         for (i, r) in rows.iter().enumerate() {

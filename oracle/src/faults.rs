@@ -89,6 +89,18 @@ faults! {
     CopyUnlogged: Tearing,
     /// A copy is its own root.
     CopyOwnRoot: Tearing,
+    /// A copy is at rest.
+    CopyAtRest: Tearing,
+    /// An inserted particle is at rest.
+    InsertAtRest: Tearing,
+    /// An inserted particle has the mean of its ends' velocities.
+    InsertHalfway: Tearing,
+    /// An inserted particle's velocity is mixed from the far end on.
+    InsertTurnedSpeed: Tearing,
+    /// An inserted particle's velocity is computed as a hit point is.
+    InsertStep: Tearing,
+    /// A velocity of any size passes.
+    FastPasses: Both,
     /// Mass is shared equally.
     MassEqually: Tearing,
     /// A pinned particle is split.
@@ -141,6 +153,22 @@ faults! {
     MinusZeroFraction: Tearing,
     /// A bad blade is found after 3.
     BladeAfterThree: Tearing,
+    /// An edition that is neither 1 nor 2 is cut as the first.
+    EditionUnasked: Tearing,
+    /// Edition 2 looks for straps before it looks for whole numbers.
+    StrapsFirst: Tearing,
+    /// Edition 2 cuts off the whole numbers.
+    OffPasses: Tearing,
+    /// Minus zero is no whole number.
+    MinusZeroOff: Tearing,
+    /// 1,024 is no coordinate of edition 2.
+    RangeShort: Tearing,
+    /// Edition 2 leaves out the blade's ends.
+    ExactOpen: Tearing,
+    /// Edition 2 puts a triangle on the line to the right.
+    LineToRight: Tearing,
+    /// Edition 2 has the first element of a fan set the kept side, on the line or not.
+    FirstElement: Tearing,
     /// The bytes behind the log's entries are left as they were.
     DirtyLog: Tearing,
     /// A side that two triangles hold is marked once.

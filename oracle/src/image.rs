@@ -67,7 +67,7 @@ pub fn read(bytes: &[u8]) -> Option<Mesh> {
     if np > MAX_PARTICLES || nt > MAX_TRIANGLES || ne > MAX_EDGES || nb > MAX_BOUNDARY {
         return None;
     }
-    if bytes.len() != 4 * (4 + 8 * np + 5 * nt + 8 * ne + 2 * nb) {
+    if bytes.len() != 4 * (4 + 10 * np + 5 * nt + 8 * ne + 2 * nb) {
         return None;
     }
     let mut m = Mesh::default();

@@ -8,6 +8,7 @@ use crate::programs::sheets;
 use crate::rng::Rng;
 use crate::second;
 use crate::sheet::{self, Edition, MESH, Sheet};
+use crate::wholes;
 
 #[derive(Clone, Copy, Debug, PartialEq, Eq)]
 pub enum Kind {
@@ -31,7 +32,13 @@ pub fn input(entry: Entry, kind: Kind, seed: u64) -> Input {
         _ => meshgen::mesh(r),
     };
     let mesh = if entry == Entry::Straddlers && kind != Kind::Limit { apart(r, mesh) } else { mesh };
-    let args = args(r, entry, kind, &mesh);
+    let (mesh, args) = match (entry, kind) {
+        (Entry::Cut, Kind::Random | Kind::Limit | Kind::Damaged) if r.chance(4) => whole_cut(r, kind),
+        _ => {
+            let args = args(r, entry, kind, &mesh);
+            (mesh, args)
+        }
+    };
     let mut i = Input { image: Image::new(mesh), args, lending: Lending::default(), out: 0 };
     let need = if entry.tears() { lend(r, &mut i) } else { need(&i) };
     i.out = match kind {
@@ -46,11 +53,32 @@ pub fn input(entry: Entry, kind: Kind, seed: u64) -> Input {
     i
 }
 
+/// A cut of edition 2 on whole numbers; at a limit, or damaged, one that may be off them or of straps.
+fn whole_cut(r: &mut Rng, kind: Kind) -> (Mesh, Args) {
+    let (mut m, b) = wholes::mesh(r, kind != Kind::Random);
+    let mut blade = [b.x0, b.y0, b.x1, b.y1];
+    let off = [1024.0, -1024.0, 1025.0, -1025.0, 0.5, -1023.5, 1.0e-45, -0.0, 1024.0001, 0.99999994, MAX_NUMBER];
+    let n = m.px.len() as u32;
+    if kind != Kind::Random {
+        if r.chance(3) {
+            m.drop_rows(1, &vec![true; m.ta.len()]);
+        }
+        match r.below(4) {
+            0 if n > 0 => m.px[r.below(n) as usize] = r.pick(&off),
+            1 if n > 0 => m.py[r.below(n) as usize] = r.pick(&off),
+            2 => blade[r.below(4) as usize] = r.pick(&off),
+            _ => {}
+        }
+    }
+    let fraction = if r.chance(3) { r.span(0.0, 0.5) } else { 0.1 };
+    (m, Args::Cut { blade: blade.map(f32::to_bits), length: None, edition: 2, fraction: fraction.to_bits() })
+}
+
 /// Bytes of the answer.
 pub fn need(i: &Input) -> usize {
     match &i.args {
         Args::Groups { sides, .. } => 4 + 4 * sides.len(),
-        Args::BladeHit { .. } => 8,
+        Args::BladeHit { .. } => 16,
         Args::Fan { v } => 4 + 4 * second::fan(&i.image.mesh, second::kind(&i.image.mesh), *v).len(),
         Args::Sheet { bytes } => match sheet::read(bytes, &MESH) {
             Ok((s, _)) => 4 * (5 + words(&sheet::mesh(&s).0).len()),
@@ -147,7 +175,7 @@ pub fn args(r: &mut Rng, entry: Entry, kind: Kind, m: &Mesh) -> Args {
                 _ if r.chance(4) => r.span(0.0, 0.5),
                 _ => r.pick(&[0.1, 0.1, 0.2, 0.0, 0.5, 0.25, 0.45, 1.0e-45, -0.0]),
             };
-            Args::Cut { blade: blade.map(f32::to_bits), length: None, fraction: fraction.to_bits() }
+            Args::Cut { blade: blade.map(f32::to_bits), length: None, edition: 1, fraction: fraction.to_bits() }
         }
         Entry::Crack => {
             let mut torn = meshgen::torn(r, m);
@@ -340,6 +368,7 @@ pub fn large(r: &mut Rng) -> Mesh {
         (m.ta, m.tb, m.tc) = (vec![], vec![], vec![]);
         (m.volume, m.tstress) = (vec![], vec![]);
     }
+    meshgen::velocities(r, &mut m);
     m
 }
 /// A large mesh with pins, masses and stresses of its own.
@@ -453,8 +482,8 @@ fn at_limit(r: &mut Rng) -> Mesh {
         10 => (0..4).for_each(|k| fill(&mut m, k, 0)),
         4 => {
             let (i, x) = (at(r, n as usize), limit_number(r, MAX_NUMBER));
-            let k = r.below(6) as usize;
-            [&mut m.px, &mut m.py, &mut m.rx, &mut m.ry, &mut m.mass, &mut m.inv][k][i] = x;
+            let k = r.below(8) as usize;
+            m.floats_mut()[COLUMNS[0].0.clone()][k][i] = x;
         }
         5 if !m.ta.is_empty() => {
             let i = at(r, m.ta.len());
@@ -537,7 +566,7 @@ fn damage(r: &mut Rng, i: &mut Input) {
             i.image.counts = Some(c);
         }
         2 | 3 => {
-            let k = r.below(12) as usize;
+            let k = r.below(14) as usize;
             let column = &mut *m.floats_mut()[k];
             if !column.is_empty() {
                 let at = r.below(column.len() as u32) as usize;
@@ -638,7 +667,8 @@ fn damage_arguments(r: &mut Rng, i: &mut Input) {
             0 => *length = Some(r.pick(&[0, 1, 4, 28, 31, 33, 36, 64])),
             _ => words[r.below(8) as usize] = r.pick(&BAD_NUMBERS),
         },
-        Args::Cut { blade, length, fraction } => match r.below(4) {
+        Args::Cut { blade, length, edition, fraction } => match r.below(5) {
+            4 => *edition = r.pick(&[0, 2, 2, 3, 257, 1 << 31, u32::MAX]),
             0 => *length = Some(r.pick(&[0, 1, 4, 12, 15, 17, 20, 32])),
             1 => *fraction = r.pick(&[0x3f00_0001, 0x3f80_0000, 0x8000_0001, 0xbf80_0000, 0x7f80_0000, 0x7fc0_0000]),
             _ => blade[r.below(4) as usize] = r.pick(&BAD_NUMBERS),

@@ -22,6 +22,7 @@ use shim_parry::{query, shape};
 
 mod api;
 mod entries;
+mod exact;
 mod expect;
 mod fans;
 mod faults;
@@ -35,6 +36,7 @@ mod second;
 mod sheet;
 mod shrink;
 mod vectors;
+mod wholes;
 mod wrapped;
 
 use std::ffi::{CStr, c_char, c_int};

@@ -306,8 +306,26 @@ fn further(r: &mut Rng, m: &mut Mesh, outline: bool) {
         }
     }
 }
+/// A velocity for each particle, within the range of positions, by a mood of the mesh: all at rest, or of many sizes. The numbers are of a run of
+/// their own, so that nothing else is drawn otherwise.
+pub fn velocities(r: &Rng, m: &mut Mesh) {
+    let mut r = Rng::new(r.clone().next() ^ 0x5eed);
+    let mood = r.below(9);
+    for v in m.vx.iter_mut().chain(&mut m.vy) {
+        *v = match mood {
+            0 => 0.0,
+            1..=3 => r.span(-20.0, 20.0),
+            4 => r.pick(&[0.0, -0.0, 1.0, -1.0, 1.0e-45, -1.0e-45, MAX_NUMBER, -MAX_NUMBER, 1.0e-30]),
+            5 => r.span(-MAX_NUMBER, MAX_NUMBER),
+            // Any pattern up to the limit.
+            6 => f32::from_bits((r.next() as u32) % 0x4980_0001 | r.below(2) << 31),
+            _ => r.range(-9, 9) as f32,
+        };
+    }
+}
 /// Numbers of every column.
 pub fn values(r: &mut Rng, m: &mut Mesh) {
+    velocities(r, m);
     let deformed = r.chance(3);
     let strange = r.chance(3);
     let stresses = r.below(7);
@@ -540,6 +558,7 @@ pub fn grid(w: u32, h: u32, r: &mut Rng, jitter: f32) -> Mesh {
         m.estress[i] = r.span(0.0, 2.0);
         m.impulse[i] = r.span(-1.0, 1.0);
     }
+    velocities(r, &mut m);
     assert_eq!(check_mesh(&m), 0);
     m
 }
@@ -606,8 +625,8 @@ pub fn bad_case(seed: u64) -> Case {
         match r.below(16) {
             0 if n > 0 => {
                 let i = at(r, n as usize);
-                let k = r.below(6);
-                [&mut m.px, &mut m.py, &mut m.rx, &mut m.ry, &mut m.mass, &mut m.inv][k as usize][i] = number;
+                let k = r.below(8) as usize;
+                m.floats_mut()[COLUMNS[0].0.clone()][k][i] = number;
             }
             1 if !m.ta.is_empty() => {
                 let i = at(r, m.ta.len());

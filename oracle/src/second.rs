@@ -31,6 +31,9 @@ fn pos(m: &Mesh, i: u32) -> V2 {
 fn rest(m: &Mesh, i: u32) -> V2 {
     (m.rx[i as usize], m.ry[i as usize])
 }
+fn velocity(m: &Mesh, i: u32) -> V2 {
+    (m.vx[i as usize], m.vy[i as usize])
+}
 
 // ---- leaves -------------------------------------------------------------------------------
 
@@ -47,6 +50,13 @@ pub fn blade_hit(b: Blade, p: V2, q: V2) -> Option<(f32, V2)> {
     if dp * dq > 0.0 || dp == dq {
         return None;
     }
+    let (t, hit) = hit_point(b, p, q);
+    let (s, end) = along(b, hit);
+    if s >= 0.0 && s <= end { Some((t, misplaced(p, q, t).unwrap_or(hit))) } else { None }
+}
+/// The fraction and the point that are tested.
+fn hit_point(b: Blade, p: V2, q: V2) -> (f32, V2) {
+    let (dp, dq) = (offset(b, p), offset(b, q));
     let mut t = dp / (dp - dq);
     if t < 0.0 {
         t = 0.0;
@@ -55,9 +65,33 @@ pub fn blade_hit(b: Blade, p: V2, q: V2) -> Option<(f32, V2)> {
         t = 1.0;
     }
     let step = sub(q, p);
-    let hit = add(p, (step.0 * t, step.1 * t));
-    let (s, end) = along(b, hit);
-    if s >= 0.0 && s <= end { Some((t, misplaced(p, q, t).unwrap_or(hit))) } else { None }
+    (t, add(p, (step.0 * t, step.1 * t)))
+}
+/// The whole coordinates of q - p.
+fn step_of(p: V2, q: V2) -> (i64, i64) {
+    (q.0 as i64 - p.0 as i64, q.1 as i64 - p.1 as i64)
+}
+/// How far a place of whole numbers is from the blade's line.
+fn far(b: Blade, p: V2) -> i64 {
+    let (d, s) = (step_of((b.x0, b.y0), (b.x1, b.y1)), step_of((b.x0, b.y0), p));
+    d.0 * s.1 - d.1 * s.0
+}
+/// Edition 2: the pair is on or across the line, and the point where it meets the line, as a fraction of whole numbers along the blade, is from 0 to its
+/// length's square.
+fn meets_exactly(b: Blade, p: V2, q: V2) -> bool {
+    let (dp, dq) = (far(b, p), far(b, q));
+    if dp.signum() * dq.signum() > 0 || dp == dq {
+        return false;
+    }
+    let d = step_of((b.x0, b.y0), (b.x1, b.y1));
+    let down = |p: V2| {
+        let s = step_of((b.x0, b.y0), p);
+        (s.0 * d.0 + s.1 * d.1) as i128
+    };
+    let (over, under) = (dp as i128 * down(q) - dq as i128 * down(p), (dp - dq) as i128);
+    let (over, under) = (over * under.signum(), under.abs());
+    let end = (d.0 * d.0 + d.1 * d.1) as i128 * under;
+    if has(ExactOpen) { over > 0 && over < end } else { over >= 0 && over <= end }
 }
 /// How far along the blade a hit point lies, and where the blade ends.
 fn along(b: Blade, hit: V2) -> (f32, f32) {
@@ -267,10 +301,12 @@ struct Run {
     m: Mesh,
     log: Vec<Entry>,
     steps: Vec<Step>,
+    /// Whether the blade's crossings and sides are exact (edition 2 of a cut).
+    exact: bool,
 }
 impl Run {
     fn new(m: &Mesh) -> Run {
-        let mut r = Run { m: m.clone(), log: vec![], steps: vec![] };
+        let mut r = Run { m: m.clone(), log: vec![], steps: vec![], exact: false };
         r.step(StepKind::Copy, m.ea.len(), m.ba.len());
         r
     }
@@ -367,6 +403,9 @@ impl Run {
             self.m.inv[at] = inv(mass);
             if g != 0 && has(CopyOwnRoot) {
                 self.m.root[at] = at as u32;
+            }
+            if g != 0 && has(CopyAtRest) {
+                (self.m.vx[at], self.m.vy[at]) = (0.0, 0.0);
             }
             if g != 0 && !has(CopyUnlogged) {
                 self.log.push(Entry::Split { copy: at as u32, source: v });
@@ -495,10 +534,41 @@ impl Run {
         self.split(k, v, &f, &g, count)
     }
 
+    /// The blade test of the run's edition on a pair of particles.
+    fn hit(&self, blade: Blade, p: u32, q: u32) -> Option<(f32, V2)> {
+        let (p, q) = (pos(&self.m, p), pos(&self.m, q));
+        if !self.exact {
+            return blade_hit(blade, p, q);
+        }
+        meets_exactly(blade, p, q).then(|| hit_point(blade, p, q))
+    }
+    /// The sides of a fan in edition 2: 1 where the centroid and the kept side are of other signs.
+    fn exact_sides(&self, f: &[u32], v: u32, blade: Blade) -> Vec<u32> {
+        let far = |w: u32| far(blade, pos(&self.m, w));
+        let middles: Vec<i64> = f
+            .iter()
+            .map(|&e| corners(&self.m, Kind::Triangles, e).into_iter().map(far).sum::<i64>().signum())
+            .collect();
+        let mut kept = far(v).signum();
+        for &m in &middles {
+            if kept == 0 {
+                kept = m;
+            }
+            if has(FirstElement) {
+                break;
+            }
+        }
+        middles.iter().map(|&m| (m * kept < 0 || has(LineToRight) && m == 0 && kept > 0) as u32).collect()
+    }
+
     fn split_by_blade(&mut self, k: Kind, v: u32, blade: Blade) -> bool {
         let f = fan(&self.m, k, v);
         if f.len() < 2 {
             return false;
+        }
+        if self.exact {
+            let sides = self.exact_sides(&f, v, blade);
+            return self.split_by_sides(k, v, &sides);
         }
         let raw: Vec<bool> = f
             .iter()
@@ -530,7 +600,8 @@ impl Run {
             let c = corners(&self.m, k, e);
             if c.iter().any(|&w| near(w)) {
                 for w in c {
-                    let left_out = has(PinchedEnds) && !near(w) || has(PinchedCopies) && old(w) || has(PinchedOld) && !old(w);
+                    let left_out =
+                        has(PinchedEnds) && !near(w) || has(PinchedCopies) && old(w) || has(PinchedOld) && !old(w);
                     candidates[w as usize] |= !left_out;
                 }
             }
@@ -552,7 +623,7 @@ impl Run {
             for i in 0..c.len() {
                 for j in i + 1..c.len() {
                     let (a, b) = if has(MarksTurned) { (c[j], c[i]) } else { (c[i], c[j]) };
-                    let Some((t, (x, y))) = blade_hit(blade, pos(&self.m, c[i]), pos(&self.m, c[j])) else { continue };
+                    let Some((t, (x, y))) = self.hit(blade, c[i], c[j]) else { continue };
                     if has(SnappedUnmarked) && k == Kind::Straps && !(t >= fraction && t <= 1.0 - fraction) {
                         continue;
                     }
@@ -577,7 +648,7 @@ impl Run {
         for e in elements(&self.m, k) {
             let c = corners(&self.m, k, e);
             for (x, y) in [(c[0], c[1]), (c[0], c[2]), (c[1], c[2])] {
-                if blade_hit(blade, pos(&self.m, x), pos(&self.m, y)).is_some() {
+                if self.hit(blade, x, y).is_some() {
                     candidate[x as usize] = true;
                     candidate[y as usize] = true;
                 }
@@ -689,6 +760,7 @@ impl Run {
         }
         let at = lerp(pa.0, pb.0, t);
         let rest_at = lerp(pa.1, pb.1, t);
+        let speed = self.mixed(a, b, t);
         let p = self.m.px.len() as u32;
         let q = p + 1;
         for (kept, damaged) in [(t, pa.2), (u, pb.2)] {
@@ -700,6 +772,8 @@ impl Run {
             m.ry.push(rest_at.1);
             m.mass.push(own);
             m.inv.push(inv(own));
+            m.vx.push(speed.0);
+            m.vy.push(speed.1);
             m.root.push(m.root.len() as u32);
             m.damaged.push(damaged);
         }
@@ -728,6 +802,19 @@ impl Run {
         self.log.push(Entry::Insert { a, b, p, q, t });
         self.step(StepKind::Insert, self.m.ea.len(), self.m.ba.len());
         true
+    }
+
+    /// The velocity of both particles that are put between a and b.
+    fn mixed(&self, a: u32, b: u32, t: f32) -> V2 {
+        let (va, vb) = (velocity(&self.m, a), velocity(&self.m, b));
+        match () {
+            _ if has(InsertAtRest) => (0.0, 0.0),
+            _ if has(InsertHalfway) => lerp(va, vb, 0.5),
+            _ if has(InsertTurnedSpeed) => lerp(vb, va, t),
+            // The way in which a hit point is computed.
+            _ if has(InsertStep) => add(va, (sub(vb, va).0 * t, sub(vb, va).1 * t)),
+            _ => lerp(va, vb, t),
+        }
     }
 
     fn straddlers(&mut self) {
@@ -958,6 +1045,16 @@ pub fn cut(m: &Mesh, blade: Blade, fraction: f32) -> Outcome {
     }
     r.done()
 }
+/// Edition 2 of a cut, on whole numbers; a mesh without triangles stays as it is.
+pub fn cut_exactly(m: &Mesh, blade: Blade) -> Outcome {
+    let mut r = Run::new(m);
+    r.exact = true;
+    r.mark(kind(m), blade, 0.0);
+    if kind(m) == Kind::Triangles {
+        r.cut_facets(blade);
+    }
+    r.done()
+}
 /// Marks of sides that were met already left out, or the marks by their particles (two mistakes).
 fn misordered(marks: Vec<Entry>) -> Vec<Entry> {
     let side = |e: &Entry| match *e {
@@ -979,7 +1076,7 @@ pub fn cut_whole(m: &Mesh, blade: Blade, fraction: f32) -> Outcome {
     if !o.changed {
         return o;
     }
-    let mut r = Run { m: o.mesh, log: o.log, steps: o.steps };
+    let mut r = Run { m: o.mesh, log: o.log, steps: o.steps, exact: false };
     for e in r.log.clone() {
         match e {
             Entry::Split { copy, source } => {

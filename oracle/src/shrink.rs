@@ -247,7 +247,14 @@ fn arguments(s: &mut Search) {
             }
             smaller_minimum(s);
         }
-        Args::Cut { fraction, .. } => {
+        Args::Cut { edition, fraction, .. } => {
+            if edition > 2 {
+                s.with(|i| {
+                    if let Args::Cut { edition, .. } = &mut i.args {
+                        *edition = 3;
+                    }
+                });
+            }
             for x in [0.0f32, 0.25, 0.5].map(f32::to_bits) {
                 if fraction == x
                     || s.with(|i| {
@@ -298,7 +305,7 @@ fn simpler(x: f32) -> Vec<f32> {
 }
 /// Whole columns first, then each number.
 fn values(s: &mut Search) {
-    for k in 0..12 {
+    for k in 0..14 {
         let column = s.best.image.mesh.floats()[k].clone();
         if column.iter().all(|x| x.to_bits() == 0) || s.with(|i| i.image.mesh.floats_mut()[k].fill(0.0)) {
             continue;

@@ -226,7 +226,14 @@ pub fn args_line(out: &mut String, a: &Args) {
         Args::Pieces => writeln!(out, "pieces"),
         Args::Split { v, sides } => writeln!(out, "split_fan {v} {}", list(sides)),
         Args::Straddlers => writeln!(out, "straddlers"),
-        Args::Cut { blade, fraction, .. } => writeln!(out, "cut {} {fraction:08x}", hex_words(blade)),
+        Args::Cut { blade, edition, fraction, .. } => {
+            writeln!(
+                out,
+                "cut {} {fraction:08x}{}",
+                hex_words(blade),
+                if *edition == 1 { String::new() } else { format!(" {edition}") }
+            )
+        }
         Args::Crack { torn, minimum, .. } => writeln!(out, "crack {minimum} {}", list(torn)),
         Args::Fan { v } => writeln!(out, "fan {v}"),
         Args::Sheet { bytes } => writeln!(out, "sheet {}", list(bytes)),

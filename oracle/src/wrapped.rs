@@ -45,7 +45,7 @@ pub fn table() -> Table {
         list_cut: Some(list_cut),
         split: c_function!(split: bytes number bytes bytes mesh),
         straddlers: c_function!(straddlers: bytes bytes mesh),
-        cut: c_function!(cut: bytes bytes number bytes mesh),
+        cut: c_function!(cut: bytes bytes number number bytes mesh),
         crack: c_function!(crack: bytes bytes number bytes mesh),
     }
 }
@@ -125,7 +125,7 @@ unsafe fn give_bytes(answer: Result<Vec<u8>, u32>, (p, n): (*mut u8, usize), sho
 // ---- checks 1 to 3, by places in the image --------------------------------------------------
 
 /// Widths of the seven blocks, and which list each belongs to.
-const BLOCKS: [(usize, usize); 7] = [(6, 0), (2, 0), (3, 1), (2, 1), (4, 2), (4, 2), (2, 3)];
+const BLOCKS: [(usize, usize); 7] = [(8, 0), (2, 0), (3, 1), (2, 1), (4, 2), (4, 2), (2, 3)];
 const LIMITS: [u32; 4] = [1024, 1024, 2048, 2048];
 
 fn sized(bits: u32, most: f32) -> bool {
@@ -141,6 +141,7 @@ fn word_ok(b: usize, c: usize, w: u32) -> bool {
     const NUMBER: f32 = 1_048_576.0;
     match (b, c) {
         (0, 5) => sized(w, f32::MAX),
+        (0, 6..) if has(FastPasses) => sized(w, f32::MAX),
         (0, _) | (3, 1) | (5, 2..) => sized(w, NUMBER),
         (3, 0) => sized(w, 4.0 * NUMBER),
         // At least 0: minus zero is.
@@ -647,18 +648,44 @@ fn straddlers(image: &[u8], rooms: &[u8], log: usize) -> Torn {
     answered(second::straddlers(&m), &places, log)
 }
 
-fn cut(image: &[u8], blade: &[u8], fraction: u32, rooms: &[u8], log: usize) -> Torn {
+fn cut(image: &[u8], blade: &[u8], edition: u32, fraction: u32, rooms: &[u8], log: usize) -> Torn {
     let w = words_of(blade);
     // A blade of another length is no blade whose numbers could be looked at.
     let m = judge_with(image, blade.len() != 16 || w.iter().all(|&x| sized(x, 1_048_576.0)))?;
     let places = lent_places(&m, rooms)?;
     // Patterns from 0 to 0.5, and minus zero.
     let within = fraction <= 0x3f00_0000 || fraction == 0x8000_0000 && !has(MinusZeroFraction);
-    if blade.len() != 16 || !within {
+    let unknown = edition != 1 && edition != 2 && !has(EditionUnasked);
+    if blade.len() != 16 || !within || unknown {
         return Err(4);
     }
+    if edition == 2 {
+        let whole = m.px.iter().chain(&m.py).map(|x| x.to_bits()).chain(w.clone()).all(whole_pattern);
+        let straps = m.ta.is_empty() && m.structural.contains(&1);
+        match (whole, straps) {
+            (false, true) if has(StrapsFirst) => return Err(12),
+            (false, _) if !has(OffPasses) => return Err(11),
+            (_, true) => return Err(12),
+            _ => {}
+        }
+    }
     let f: Vec<f32> = w.into_iter().map(f32::from_bits).collect();
-    answered(second::cut(&m, Blade::new(f[0], f[1], f[2], f[3]), f32::from_bits(fraction)), &places, log)
+    let b = Blade::new(f[0], f[1], f[2], f[3]);
+    let o = match edition {
+        2 => second::cut_exactly(&m, b),
+        _ => second::cut(&m, b, f32::from_bits(fraction)),
+    };
+    answered(o, &places, log)
+}
+/// The pattern of a whole number from -1,024 to 1,024, by its exponent and the bits below its point.
+fn whole_pattern(bits: u32) -> bool {
+    let size = bits & 0x7fff_ffff;
+    if size == 0 {
+        return bits == 0 || !has(MinusZeroOff);
+    }
+    let exponent = (size >> 23) as i32 - 127;
+    let limit = if has(RangeShort) { 1023.0f32 } else { 1024.0 };
+    exponent >= 0 && size <= limit.to_bits() && size & (0x7f_ffff >> exponent) == 0
 }
 
 /// The bytes of the longest torn list that is taken.

@@ -15,6 +15,7 @@ use Rattle.mesh.specs.Given.{Given, Lent, sizes, sizesFit, asRooms}
 use Rattle.mesh.specs.Filled.{Filled, Fits}
 use Rattle.mesh.specs.declared.Counts.{Counts}
 use Rattle.mesh.specs.declared.Rooms.{Rooms}
+use Rattle.mesh.specs.Widths.{pointColumns}
 use Rattle.work.specs.Working.{Within}
 use Rattle.work.specs.declared.Ran.{Ran}
 use Rattle.work.specs.declared.Ran.the-variants.{Refused as Stopped, Done as Ended}
@@ -44,7 +45,7 @@ begunWith code L N = pick (eqb code 0) (firstFault L (start N .needs)) code
 
 -- the rooms are within the columns of the seven blocks
 pub record RoomsLent (R : Rooms) (I : Lent) : Type 0 where
-  pub points : R .particles ≤ I .points / 6
+  pub points : R .particles ≤ I .points / pointColumns
   pub roots : R .particles ≤ I .roots / 2
   pub corners : R .triangles ≤ I .corners / 3
   pub volumes : R .triangles ≤ I .volumes / 2

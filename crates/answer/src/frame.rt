@@ -55,7 +55,7 @@ pub fn begin(
         return code;
     }
     let k = Counts {
-        particles: in_points.len() / 6,
+        particles: in_points.len() / mesh::POINT_COLUMNS,
         triangles: in_corners.len() / 3,
         edges: in_ends.len() / 4,
         boundary: in_outline.len() / 2,

@@ -20,6 +20,7 @@ use Rattle.mesh.specs.At.{triangleRow, trianglesAt, edgesAt, meshAt}
 use Rattle.mesh.specs.Given.{Given, meshOf, sizes}
 use Rattle.judge.proofs.Joined.{Sized, sizes-told}
 use Rattle.mesh.proofs.Lists.{particles-length, edges-length}
+use Rattle.mesh.specs.Widths.{pointColumns}
 use Rattle.elements.specs.declared.Kind.{Kind as KindCase}
 use Rattle.elements.specs.Table.{kindIs, elementsIn, KindFound, Cornered, Tabled, TableRoom, FanTabled, MarkRoom, MeasuredWithin}
 use Rattle.elements.proofs.Found.{elements-in, fan-of}
@@ -35,7 +36,7 @@ use Rattle.asked.specs.Accepted.{Accepted, TableLent, MeshTabled, FanFou
 -- ---- counts
 
 -- the particles are as many as the first column of the points is long
-pub particles-count : (G : Given) → length (meshOf G .particles) ≡ length (G .points) / 6
+pub particles-count : (G : Given) → length (meshOf G .particles) ≡ length (G .points) / pointColumns
 unfolding meshOf meshAt
 particles-count G = particles-length (sizes G .particles) (G .points) (G .roots)
 

@@ -10,6 +10,7 @@ use Rattle.lists.specs.Lists.{pick, all}
 use Rattle.model.specs.Valid.{numbersFit, indicesFit}
 use Rattle.model.specs.Calls.{sidesOk, refusal}
 use Rattle.mesh.specs.Given.{Given, meshOf, sizesFit}
+use Rattle.mesh.specs.Widths.{pointColumns}
 use Rattle.judge.specs.Checks.{thenCheck, firstFrom, faultOf}
 use Rattle.judge.proofs.Joined.{then-zero, then-stays}
 use Rattle.asked.specs.Accepted.{Accepted, FanFound}
@@ -93,7 +94,7 @@ module _ (G : Given) (code fault : ℕ) (numbers beside : Bool) (first : code �
 
 -- their test is the definition's
 pub sides-ok : {G : Given} {v n k others count : ℕ} {verts fan-verts : List ℕ} (F : FanFound G v n k others count verts fan-verts) (sides : List ℕ) (t : Bool)
-    → t ≡ (ltb v (length (G .points) / 6) && all (λ s. ltb s 2) sides && eqb (length sides) count) → t ≡ sidesOk (meshOf G) v sides
+    → t ≡ (ltb v (length (G .points) / pointColumns) && all (λ s. ltb s 2) sides && eqb (length sides) count) → t ≡ sidesOk (meshOf G) v sides
 unfolding sidesOk
 sides-ok {G} {v} {count = count} F sides t e =
     e ∙ ap (λ (p : ℕ). ltb v p && all (λ s. ltb s 2) sides && eqb (length sides) count) (sym (particles-count G))

@@ -21,6 +21,7 @@ use Rattle.model.specs.Split.{openingOf}
 use Rattle.model.specs.Calls.{sidesOk, refusal}
 use Rattle.model.specs.Reads.{Read, refused, value, orRefused, grouped, groupsCall, opensCall}
 use Rattle.mesh.specs.Given.{Given, meshOf, sizesFit}
+use Rattle.mesh.specs.Widths.{pointColumns}
 use Rattle.judge.specs.Checks.{faultOf}
 use Rattle.elements.proofs.Found.{fan-of}
 use Rattle.reach.specs.Opens.{Opens}
@@ -44,15 +45,15 @@ module _ {G : Given} {v n k others count : ℕ} {verts fan-verts : List ℕ} (F 
       ∙ ap (λ (m : ℕ). fan (each (λ (e : Element). e .corners) (fanOf (kindOf (meshOf G)) (meshOf G) v)) m v others sides) (F .per)
       ∙ ap (λ (m : ℕ). fan (each (λ (e : Element). e .corners) (fanOf (kindOf (meshOf G)) (meshOf G) v)) (cornersPer (kindOf (meshOf G))) v m sides) (F .others-are)
 
-  module _ (t : Bool) (e : t ≡ (ltb v (length (G .points) / 6) && all (λ s. ltb s 2) sides && eqb (length sides) count)) (said : t ≡ true) where
+  module _ (t : Bool) (e : t ≡ (ltb v (length (G .points) / pointColumns) && all (λ s. ltb s 2) sides && eqb (length sides) count)) (said : t ≡ true) where
     -- there is a side for each element
     one-each : length sides ≡ count
-    one-each = eqb-true (length sides) count (and-true (ltb v (length (G .points) / 6) && all (λ s. ltb s 2) sides) (eqb (length sides) count) (sym e ∙ said) .1)
+    one-each = eqb-true (length sides) count (and-true (ltb v (length (G .points) / pointColumns) && all (λ s. ltb s 2) sides) (eqb (length sides) count) (sym e ∙ said) .1)
 
     two-sides : (i : ℕ) → i < length sides → getD sides i 0 < 2
     two-sides i h =
-        let a = and-true (ltb v (length (G .points) / 6) && all (λ s. ltb s 2) sides) (eqb (length sides) count) (sym e ∙ said) .0 in
-        ltb-true _ _ (all-get (λ s. ltb s 2) sides i 0 (and-true (ltb v (length (G .points) / 6)) (all (λ s. ltb s 2) sides) a .1) h)
+        let a = and-true (ltb v (length (G .points) / pointColumns) && all (λ s. ltb s 2) sides) (eqb (length sides) count) (sym e ∙ said) .0 in
+        ltb-true _ _ (all-get (λ s. ltb s 2) sides i 0 (and-true (ltb v (length (G .points) / pointColumns)) (all (λ s. ltb s 2) sides) a .1) h)
 
     -- so the fan's table can be grouped
     pub fan-asked : FanAsked (take (count * k) fan-verts) k sides

@@ -13,10 +13,11 @@ use Rattle.blade.specs.declared.Hit.{Hit}
 use Rattle.blade.specs.Blade.{bladeHit}
 use Rattle.model.specs.Elements.{restMeasure, restMeasureOf}
 use Rattle.model.specs.Pieces.{pieces}
-use Rattle.model.specs.Cut.{Blade}
+use Rattle.model.specs.Cut.{Line}
 use Rattle.model.specs.Calls.{pointOk, bladeOk, refusal, strictly, particlesOk}
 use Rattle.model.specs.Reads.{refused, value, orRefused, bladeCall, piecesCall, restMeasureCall, restMeasureOfCall}
 use Rattle.mesh.specs.Given.{Given, meshOf, sizesFit}
+use Rattle.mesh.specs.Widths.{pointColumns}
 use Rattle.judge.specs.Checks.{thenCheck, faultOf}
 use Rattle.judge.proofs.Joined.{then-zero}
 use Rattle.judge.proofs.Refusals.{fault-refuses}
@@ -39,7 +40,7 @@ value-by code m a b e z q = rw (sym e ∙ z, q) refl
 
 -- ---- the blade test
 
-module _ (B : Blade) (p q : Point) (z : Bool) (e : z ≡ (bladeOk B && pointOk p && pointOk q)) where
+module _ (B : Line) (p q : Point) (z : Bool) (e : z ≡ (bladeOk B && pointOk p && pointOk q)) where
   pub blade-refuses : z ≡ false → TestRefused 2 ≡ testedOf (bladeCall B p q)
   unfolding bladeCall
   blade-refuses f = ap (λ (t : Bool). testedOf (orRefused (pick t 0 2) (bladeHit (B .from) (B .to) p q))) (sym f ∙ e)
@@ -68,7 +69,7 @@ module _ (G : Given) (code : ℕ) where
   measure-answers r e z q = sym (ap numberOf (value-by code _ (restMeasure (meshOf G)) r (e ∙ fault-refuses G) z q))
 
 -- a list that was tested by the length of the points
-pub listed-ok : (G : Given) (l : List ℕ) (t : Bool) → t ≡ (strictly l && all (λ x. ltb x (length (G .points) / 6)) l) → t ≡ particlesOk (meshOf G) l
+pub listed-ok : (G : Given) (l : List ℕ) (t : Bool) → t ≡ (strictly l && all (λ x. ltb x (length (G .points) / pointColumns)) l) → t ≡ particlesOk (meshOf G) l
 unfolding particlesOk
 listed-ok G l t e = e ∙ ap (λ (n : ℕ). strictly l && all (λ x. ltb x n) l) (sym (particles-count G))
 

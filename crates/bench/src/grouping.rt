@@ -65,7 +65,7 @@ fn mesh_groups(
     );
     let k = f.k;
     let n = f.fan;
-    let fit = tests::sides_fit(v, points.len() / 6, sides, n);
+    let fit = tests::sides_fit(v, points.len() / mesh::POINT_COLUMNS, sides, n);
     let ok = judge::tests::both(fit, sides.len() <= groups.len());
     if ok {
         let end = n * k;
@@ -163,7 +163,7 @@ fn mesh_opens(
     );
     let k = f.k;
     let fan = f.fan;
-    if tests::sides_fit(v, points.len() / 6, sides, fan) {
+    if tests::sides_fit(v, points.len() / mesh::POINT_COLUMNS, sides, fan) {
         let end = fan * k;
         let mut groups = [0usize; 2048];
         let mut seen = [0usize; 2048];

@@ -191,7 +191,7 @@ pub fn rest_measure_of(
     ensures { λ r. ⌜ r ≡ numberOf (restMeasureOfCall (sizesFit (given (now (points .entry)) (now (roots .entry)) (now (corners .entry)) (now (volumes .entry)) (now (ends .entry)) (now (lengths .entry)) (now (outline .entry)))) (meshOf (given (now (points .entry)) (now (roots .entry)) (now (corners .entry)) (now (volumes .entry)) (now (ends .entry)) (now (lengths .entry)) (now (outline .entry)))) (now (list .entry))) ⌝ }
 {
     let code = judge::checks::judge(points, roots, corners, volumes, ends, lengths, outline);
-    let ok = tests::rising_below(list, points.len() / 6);
+    let ok = tests::rising_below(list, points.len() / mesh::POINT_COLUMNS);
     let code = judge::tests::first(code, ok, 4);
     if code != 0 {
         return Number::Refused(code);

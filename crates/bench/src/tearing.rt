@@ -3,7 +3,6 @@ ghost use mathlib.Core.Path.{_≡_};
 ghost use Rattle.model.specs.Calls.{splitCall, straddlersCall, cutCall, crackCall};
 ghost use Rattle.mesh.specs.Given.{given, meshOf, sizesFit, roomsOf, asRooms};
 ghost use Rattle.mesh.specs.Filled.{lent};
-ghost use Rattle.marks.specs.Marking.{bladeFrom};
 ghost use Rattle.answer.specs.Answered.{Answered, frontOf};
 use answer::Answer;
 use blade::Point;
@@ -140,8 +139,10 @@ pub fn split(
     )
 }
 
-// The mesh cut along the blade from b0 to b1, straps with insertions at the fraction f or further from their ends: 2 for a bad blade, 4 for a bad fraction.
+// The mesh cut in an edition, 1 or 2, along the blade from b0 to b1, straps with insertions at the fraction f or further from their ends.
+// 2 for a bad blade, 4 for a bad fraction or an unknown edition; edition 2 gives 11 off the whole numbers, and then 12 on straps.
 pub fn cut(
+    edition: usize,
     b0: Point,
     b1: Point,
     f: f32,
@@ -161,7 +162,7 @@ pub fn cut(
     outline: &mut [usize],
     log: &mut [u32],
 ) -> Answer
-    ensures { λ r. ⌜ Answered (cutCall (sizesFit (given (now («in_points» .entry)) (now («in_roots» .entry)) (now («in_corners» .entry)) (now («in_volumes» .entry)) (now («in_ends» .entry)) (now («in_lengths» .entry)) (now («in_outline» .entry)))) (meshOf (given (now («in_points» .entry)) (now («in_roots» .entry)) (now («in_corners» .entry)) (now («in_volumes» .entry)) (now («in_ends» .entry)) (now («in_lengths» .entry)) (now («in_outline» .entry)))) (bladeFrom b0 b1) f (asRooms (roomsOf (lent (now (points .entry)) (now (roots .entry)) (now (corners .entry)) (now (volumes .entry)) (now (ends .entry)) (now (lengths .entry)) (now (outline .entry)) (now (log .entry)))))) (lent (now (points .entry)) (now (roots .entry)) (now (corners .entry)) (now (volumes .entry)) (now (ends .entry)) (now (lengths .entry)) (now (outline .entry)) (now (log .entry))) r
+    ensures { λ r. ⌜ Answered (cutCall (sizesFit (given (now («in_points» .entry)) (now («in_roots» .entry)) (now («in_corners» .entry)) (now («in_volumes» .entry)) (now («in_ends» .entry)) (now («in_lengths» .entry)) (now («in_outline» .entry)))) (meshOf (given (now («in_points» .entry)) (now («in_roots» .entry)) (now («in_corners» .entry)) (now («in_volumes» .entry)) (now («in_ends» .entry)) (now («in_lengths» .entry)) (now («in_outline» .entry)))) edition (record { from = b0; to = b1 }) f (asRooms (roomsOf (lent (now (points .entry)) (now (roots .entry)) (now (corners .entry)) (now (volumes .entry)) (now (ends .entry)) (now (lengths .entry)) (now (outline .entry)) (now (log .entry)))))) (lent (now (points .entry)) (now (roots .entry)) (now (corners .entry)) (now (volumes .entry)) (now (ends .entry)) (now (lengths .entry)) (now (outline .entry)) (now (log .entry))) r
         (now (points .exit)) (now (roots .exit)) (now (corners .exit)) (now (volumes .exit)) (now (ends .exit)) (now (lengths .exit)) (now (outline .exit)) (now (log .exit)) ⌝ }
 {
     let room = mesh::whole::rooms_for(
@@ -176,7 +177,7 @@ pub fn cut(
     );
     let none = [0usize; 0];
     let ran = perform::calls::run(
-        Job::Cut(b0, b1, f),
+        Job::Cut(edition, b0, b1, f),
         &none,
         room,
         in_points,

@@ -13,7 +13,6 @@ use Rattle.blade.specs.declared.Point.{Point}
 use Rattle.model.specs.Calls.{Outcome, refusal, bladeOk, cutCall, crackCall}
 use Rattle.model.specs.Reads.{refused}
 use Rattle.mesh.specs.Given.{meshOf}
-use Rattle.marks.specs.Marking.{bladeFrom}
 use Rattle.jobs.specs.Jobs.{jobNumbers, jobCall}
 use Rattle.jobs.specs.declared.Job.the-variants.{Cut, Crack}
 use Rattle.jobs.proofs.Jobs.{cut-is, crack-is}
@@ -34,20 +33,20 @@ module _ (s rooms : List ℕ) (lent logged x : ℕ) (out log : List ℕ) where
 
   -- ---- the cut
 
-  module _ (blade : List ℕ) (bits : ℕ) where
-    pub cut-misread : (code : ℕ) → (length blade ≡ 16 → ⊥) → code ≡ refusal (imageSized s) (meshOf (imageOf s)) true false → BothReplied (refused code) [] lent logged x out log → OutcomeReplied (cutOutcome s blade bits rooms logged) lent logged x out log
+  module _ (blade : List ℕ) (edition bits : ℕ) where
+    pub cut-misread : (code : ℕ) → (length blade ≡ 16 → ⊥) → code ≡ refusal (imageSized s) (meshOf (imageOf s)) true false → BothReplied (refused code) [] lent logged x out log → OutcomeReplied (cutOutcome s blade edition bits rooms logged) lent logged x out log
     unfolding cutOutcome
     cut-misread code n f h = misread-replied (eqb (length blade) 16) _ code (ne-eqb (length blade) 16 n) f h
 
     pub cut-replied : (b0 b1 : Point) (f : Float) (ls : List ℕ) → length blade ≡ 16 → b0 ≡ pointAt blade 0 → b1 ≡ pointAt blade 2 → f ≡ numberOf bits
-        → OutcomeReplied (withRooms s rooms (jobNumbers (Cut b0 b1 f)) (jobCall (Cut b0 b1 f) ls (imageSized s) (meshOf (imageOf s)) (roomsIn rooms logged))) lent logged x out log
-        → OutcomeReplied (cutOutcome s blade bits rooms logged) lent logged x out log
+        → OutcomeReplied (withRooms s rooms (jobNumbers (Cut edition b0 b1 f)) (jobCall (Cut edition b0 b1 f) ls (imageSized s) (meshOf (imageOf s)) (roomsIn rooms logged))) lent logged x out log
+        → OutcomeReplied (cutOutcome s blade edition bits rooms logged) lent logged x out log
     unfolding cutOutcome
     cut-replied b0 b1 f ls n e0 e1 ef h =
-        let told : Point → Point → Float → Outcome = λ p q y. withRooms s rooms (bladeOk (bladeFrom p q)) (cutCall (imageSized s) (meshOf (imageOf s)) (bladeFrom p q) y (roomsIn rooms logged)) in
+        let told : Point → Point → Float → Outcome = λ p q y. withRooms s rooms (bladeOk (record { from = p; to = q })) (cutCall (imageSized s) (meshOf (imageOf s)) edition (record { from = p; to = q }) y (roomsIn rooms logged)) in
         read-replied (eqb (length blade) 16) _ (eq-eqb (length blade) 16 n)
         (subst (λ (o : Outcome). OutcomeReplied o lent logged x out log)
-        (ap (withRooms s rooms (bladeOk (bladeFrom b0 b1))) (cut-is b0 b1 f ls (imageSized s) (meshOf (imageOf s)) (roomsIn rooms logged))
+        (ap (withRooms s rooms (bladeOk (record { from = b0; to = b1 }))) (cut-is edition b0 b1 f ls (imageSized s) (meshOf (imageOf s)) (roomsIn rooms logged))
         ∙ ap (λ (p : Point). told p b1 f) e0 ∙ ap (λ (q : Point). told (pointAt blade 0) q f) e1 ∙ ap (told (pointAt blade 0) (pointAt blade 2)) ef)
         h)
 

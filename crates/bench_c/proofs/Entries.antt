@@ -10,27 +10,26 @@ use lib.Dec.{eqb}
 use borrow.Author.Tests.{eqb-true, ne-eqb}
 use Rattle.lists.specs.Lists.{pick}
 use Rattle.model.specs.Mesh.{Mesh}
-use Rattle.model.specs.Elements.{kindOf}
+use Rattle.model.specs.Elements.{straps?, kindOf}
 use Rattle.model.specs.Valid.{numbersFit, indicesFit}
 use Rattle.model.specs.Split.{splitBySides}
 use Rattle.model.specs.Run.{Rooms as RoomsOf, start}
-use Rattle.model.specs.Calls.{Outcome, unless, outcome, sidesOk, trianglesLent, refusal, splitCall}
+use Rattle.model.specs.Calls.{Outcome, unless, outcome, sidesOk, trianglesLent, refusal, wholeMesh, wholeLine, firstOf, splitCall}
 use Rattle.model.specs.Calls.{refused as turnedDown}
 use Rattle.model.specs.Reads.{refused}
-use Rattle.judge.specs.Checks.{thenCheck}
 use Rattle.mesh.specs.Given.{meshOf, asRooms}
 use Rattle.mesh.specs.declared.Rooms.{Rooms}
-use Rattle.judge.proofs.Joined.{then-zero}
-use Rattle.jobs.specs.Jobs.{jobNumbers, jobArguments, jobCall}
+use Rattle.jobs.specs.Jobs.{jobNumbers, jobArguments, jobEdition, jobRefusal, jobCall}
 use Rattle.jobs.specs.declared.Job.{Job}
-use Rattle.jobs.specs.declared.Job.the-variants.{Straddlers, Split}
+use Rattle.jobs.specs.declared.Job.the-variants.{Straddlers, Split, Cut, Crack}
 use Rattle.jobs.proofs.Jobs.{straddlers-is, split-is}
 use Rattle.image.specs.Words.{wordAt}
 use Rattle.image.specs.Image.{imageOf, imageSized}
 use Rattle.reading_c.specs.Given.{Capped}
 use Rattle.bench_c.specs.Torn.{BothReplied, OutcomeReplied, withRooms, roomsIn, splitOutcome, straddlersOutcome}
-use Rattle.bench_c.specs.Told.{Limited, roomsGiven}
+use Rattle.bench_c.specs.Told.{Limited, roomsGiven, roomsToo}
 use Rattle.reading_c.proofs.Siding.{capped-sides}
+use Rattle.bench_c.proofs.Outcomes.{pick-small}
 use Rattle.bench_c.proofs.Tearings.{checked, checked-small, checked-replied}
 
 -- ---- rooms
@@ -58,32 +57,54 @@ made-as s logged R e = ap asRooms e
 
 -- ---- the checks, and rooms that could not be read
 
--- what the checks refuse, or 4
-argument-told : (z : Bool) (M : Mesh) (numbers arguments : Bool) → thenCheck (refusal z M numbers arguments) false 4 ≡ refusal z M numbers false
-unfolding thenCheck refusal
-argument-told z M numbers arguments = by (not z) (not (numbersFit M && numbers)) (not (indicesFit M)) (not arguments)
+-- the code itself, 4 in the place of none, or at most 4
+pub rooms-right : (code : ℕ) (b : Bool) → b ≡ true → code ≡ roomsToo code b
+rooms-right code b e = sym (ap (roomsToo code) e)
+
+pub rooms-none : (code : ℕ) (b : Bool) → b ≡ false → code ≡ 0 → 4 ≡ roomsToo code b
+rooms-none code b e z = sym (ap (roomsToo code) e ∙ ap (λ (n : ℕ). roomsToo n false) z)
+
+pub rooms-late : (code : ℕ) (b : Bool) (r : ℕ) → b ≡ false → (code ≡ 0 → ⊥) → r ≡ min code 4 → r ≡ roomsToo code b
+rooms-late code b r e n q = q ∙ sym (ap (roomsToo code) e ∙ ap (λ (z : Bool). pick z 4 (min code 4)) (ne-eqb code 0 n))
+
+-- what a cut's edition refuses comes behind 4
+late : (j : Job) (M : Mesh) → _≡_ {A = ℕ} (roomsToo (jobEdition j M) false) 4
+late Straddlers M = refl
+late (Split v) M = refl
+late (Cut n b0 b1 f) M = by (eqb n 2) (not (wholeMesh M && wholeLine (record { from = b0; to = b1 }))) (straps? (kindOf M))
   where
-    by : (a b c d : Bool) → _≡_ {A = ℕ} (pick (eqb (pick a 1 (pick b 2 (pick c 3 (pick d 4 0)))) 0) 4 (pick a 1 (pick b 2 (pick c 3 (pick d 4 0))))) (pick a 1 (pick b 2 (pick c 3 4)))
+    by : (a b c : Bool) → _≡_ {A = ℕ} (roomsToo (pick a (pick b 11 (pick c 12 0)) 0) false) 4
+    by true true c = refl
+    by true false true = refl
+    by true false false = refl
+    by false b c = refl
+late (Crack min) M = refl
+
+-- beside rooms that could not be read: what the checks 1 to 3 refuse, or 4
+argument-told : (j : Job) (ls : List ℕ) (z : Bool) (M : Mesh) (L : RoomsOf) → roomsToo (jobRefusal j ls z M L) false ≡ refusal z M (jobNumbers j) false
+unfolding refusal
+argument-told j ls z M L = by (not z) (not (numbersFit M && jobNumbers j)) (not (indicesFit M)) (not (jobArguments j ls L M))
+  where
+    by : (a b c d : Bool) → _≡_ {A = ℕ} (roomsToo (firstOf (pick a 1 (pick b 2 (pick c 3 (pick d 4 0)))) (jobEdition j M)) false) (pick a 1 (pick b 2 (pick c 3 4)))
     by true b c d = refl
     by false true c d = refl
     by false false true d = refl
     by false false false true = refl
-    by false false false false = refl
+    by false false false false = late j M
 
--- the checks alone where all could be read
-read-told : (code : ℕ) → thenCheck code true 4 ≡ code
-unfolding thenCheck
-read-told zero = refl
-read-told (suc n) = rw (ne-eqb (suc n) 0 (λ d. omega arith)) refl
+told-small : (b : Bool) (code : ℕ) → code < 256 → roomsToo code b < 256
+told-small true code h = h
+told-small false code h = pick-small (eqb code 0) 4 (min code 4) (omega arith) (omega arith)
 
-told-small : (b : Bool) (code : ℕ) → code < 256 → thenCheck code b 4 < 256
-unfolding thenCheck
-told-small b code h = by (eqb code 0) b
-  where
-    by : (z b : Bool) → pick z (pick b 0 4) code < 256
-    by true true = omega arith
-    by true false = omega arith
-    by false b = h
+-- rooms that could not be read are refused
+some-told : (code : ℕ) → 0 < roomsToo code false
+some-told zero = omega arith
+some-told (suc n) = subst (λ (b : Bool). 0 < pick b 4 (min (suc n) 4)) (sym (ne-eqb (suc n) 0 (λ d. omega arith))) (omega arith)
+
+-- nothing is told where no check refuses and all could be read
+none-told : (code : ℕ) (b : Bool) → roomsToo code b ≡ 0 → (code ≡ 0) × (b ≡ true)
+none-told code true e = (e, refl)
+none-told code false e = let h : 0 < 0 = subst (λ (n : ℕ). 0 < n) e (some-told code) in absurd (omega (arith, h))
 
 module _ (j : Job) (ls s rooms : List ℕ) (R : Rooms) (lent logged x : ℕ) (out log : List ℕ) where
   abbrev called : Outcome
@@ -96,7 +117,7 @@ module _ (j : Job) (ls s rooms : List ℕ) (R : Rooms) (lent logged x : ℕ) (ou
   abbrev right : Bool
   right = eqb (length rooms) 16
 
-  module _ (code right-code : ℕ) (e : code ≡ checked j ls s R) (q : right-code ≡ thenCheck code right 4) where
+  module _ (code right-code : ℕ) (e : code ≡ checked j ls s R) (q : right-code ≡ roomsToo code right) where
     -- a refusal is small
     pub job-small : right-code < 256
     job-small = let h = told-small right code (checked-small j ls s R code e) in omega (arith, q, h)
@@ -112,10 +133,10 @@ module _ (j : Job) (ls s rooms : List ℕ) (R : Rooms) (lent logged x : ℕ) (ou
 
       -- nothing refused
       pub job-accepted : right-code ≡ 0 → checked j ls s R ≡ 0
-      job-accepted z = sym e ∙ then-zero code right 4 (λ d. omega arith) (sym q ∙ z) .0
+      job-accepted z = sym e ∙ none-told code right (sym q ∙ z) .0
 
       pub job-replied : right-code ≡ 0 → OutcomeReplied (jobCall j ls (imageSized s) (meshOf (imageOf s)) (asRooms R)) lent logged x out log → OutcomeReplied answered lent logged x out log
-      job-replied z h = subst (λ (o : Outcome). OutcomeReplied o lent logged x out log) (by-rooms (then-zero code right 4 (λ d. omega arith) (sym q ∙ z) .1)) h
+      job-replied z h = subst (λ (o : Outcome). OutcomeReplied o lent logged x out log) (by-rooms (none-told code right (sym q ∙ z) .1)) h
 
       -- a check refused, or the rooms could not be read
       pub job-turned : (right-code ≡ 0 → ⊥) → BothReplied (refused right-code) [] lent logged x out log → OutcomeReplied answered lent logged x out log
@@ -124,12 +145,12 @@ module _ (j : Job) (ls s rooms : List ℕ) (R : Rooms) (lent logged x : ℕ) (ou
         where
           by : (b : Bool) → right ≡ b → OutcomeReplied answered lent logged x out log
           by true t =
-              let same : right-code ≡ code = q ∙ ap (λ (b : Bool). thenCheck code b 4) t ∙ read-told code in
+              let same : right-code ≡ code = q ∙ ap (roomsToo code) t in
               subst (λ (o : Outcome). OutcomeReplied o lent logged x out log) (by-rooms t)
               (checked-replied j ls s R code lent logged x out log e (λ z. ne (same ∙ z)) (subst (λ (n : ℕ). BothReplied (refused n) [] lent logged x out log) same h))
           by false t =
               let same : right-code ≡ refusal (imageSized s) (meshOf (imageOf s)) (jobNumbers j) false =
-              q ∙ ap (λ (b : Bool). thenCheck code b 4) t ∙ ap (λ (n : ℕ). thenCheck n false 4) e ∙ argument-told (imageSized s) (meshOf (imageOf s)) (jobNumbers j) (jobArguments j ls (asRooms R) (meshOf (imageOf s))) in
+              q ∙ ap (roomsToo code) t ∙ ap (λ (n : ℕ). roomsToo n false) e ∙ argument-told j ls (imageSized s) (meshOf (imageOf s)) (asRooms R) in
               subst (λ (o : Outcome). OutcomeReplied o lent logged x out log)
               (sym (ap (λ (b : Bool). pick b called (turnedDown (refusal (imageSized s) (meshOf (imageOf s)) (jobNumbers j) false))) t))
               (subst (λ (n : ℕ). BothReplied (refused n) [] lent logged x out log) same h)

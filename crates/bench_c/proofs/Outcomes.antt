@@ -31,7 +31,7 @@ use Rattle.bench_c.proofs.Shown.{standing, rows-log}
 
 -- ---- refusals are small
 
-pick-small : (b : Bool) (m n : ℕ) → m < 256 → n < 256 → pick b m n < 256
+pub pick-small : (b : Bool) (m n : ℕ) → m < 256 → n < 256 → pick b m n < 256
 pick-small true m n h k = h
 pick-small false m n h k = k
 

@@ -22,6 +22,7 @@ use Rattle.answer.specs.Framed.{copyNeed, BeginAsked}
 use Rattle.answer.proofs.Begun.{copy-fits}
 use Rattle.mesh.proofs.Blocks.{copied-particles, copied-triangles, copied-edges, copied-boundary}
 use Rattle.mesh.proofs.Lists.{mesh-path}
+use Rattle.mesh.specs.Widths.{pointColumns, particleWords}
 use Rattle.image.specs.Words.{wordAt, numberOf, wordsFrom, numbersFrom}
 use Rattle.image.specs.Image.{imageWords, imageOf, blocksIn, imageSized}
 use Rattle.image.proofs.Loading.{sized-loadable, particles-few, triangles-few, edges-few, boundary-few}
@@ -86,10 +87,10 @@ module _ (s : List ℕ) where
   pub sizes-told : sizes (imageOf s) ≡ record { particles = wordAt s 0; triangles = wordAt s 1; edges = wordAt s 2; boundary = wordAt s 3; log = 0 }
   unfolding imageOf blocksIn wordsFrom numbersFrom
   sizes-told =
-      let p = tab-length (6 * wordAt s 0) (λ k. numberOf (wordAt s (4 + k))) in
-      let t = tab-length (3 * wordAt s 1) (λ k. wordAt s (4 + 8 * wordAt s 0 + k)) in
-      let e = tab-length (4 * wordAt s 2) (λ k. wordAt s (4 + 8 * wordAt s 0 + 5 * wordAt s 1 + k)) in
-      let b = tab-length (2 * wordAt s 3) (λ k. wordAt s (4 + 8 * wordAt s 0 + 5 * wordAt s 1 + 8 * wordAt s 2 + k)) in
+      let p = tab-length (pointColumns * wordAt s 0) (λ k. numberOf (wordAt s (4 + k))) in
+      let t = tab-length (3 * wordAt s 1) (λ k. wordAt s (4 + particleWords * wordAt s 0 + k)) in
+      let e = tab-length (4 * wordAt s 2) (λ k. wordAt s (4 + particleWords * wordAt s 0 + 5 * wordAt s 1 + k)) in
+      let b = tab-length (2 * wordAt s 3) (λ k. wordAt s (4 + particleWords * wordAt s 0 + 5 * wordAt s 1 + 8 * wordAt s 2 + k)) in
       let qp : sizes (imageOf s) .particles ≡ wordAt s 0 = omega (arith, p) in
       let qt : sizes (imageOf s) .triangles ≡ wordAt s 1 = omega (arith, t) in
       let qe : sizes (imageOf s) .edges ≡ wordAt s 2 = omega (arith, e) in
@@ -107,13 +108,13 @@ counts-told s k q =
 
 -- seven blocks into which the image of a mesh of these counts was read
 pub record Placings (s : List ℕ) (k : Counts) (lp lr lc lv le ll lo : ℕ) (p : List Float) (r c : List ℕ) (v : List Float) (e : List ℕ) (l : List Float) (o : List ℕ) : Type 0 where
-  pub points : BlockCopied nan (k .particles) 6 (lp / 6) (numbersFrom s 4 (6 * k .particles)) p
-  pub roots : BlockCopied 0 (k .particles) 2 (lr / 2) (wordsFrom s (4 + 6 * k .particles) (2 * k .particles)) r
-  pub corners : BlockCopied 0 (k .triangles) 3 (lc / 3) (wordsFrom s (4 + 8 * k .particles) (3 * k .triangles)) c
-  pub volumes : BlockCopied nan (k .triangles) 2 (lv / 2) (numbersFrom s (4 + 8 * k .particles + 3 * k .triangles) (2 * k .triangles)) v
-  pub ends : BlockCopied 0 (k .edges) 4 (le / 4) (wordsFrom s (4 + 8 * k .particles + 5 * k .triangles) (4 * k .edges)) e
-  pub lengths : BlockCopied nan (k .edges) 4 (ll / 4) (numbersFrom s (4 + 8 * k .particles + 5 * k .triangles + 4 * k .edges) (4 * k .edges)) l
-  pub outline : BlockCopied 0 (k .boundary) 2 (lo / 2) (wordsFrom s (4 + 8 * k .particles + 5 * k .triangles + 8 * k .edges) (2 * k .boundary)) o
+  pub points : BlockCopied nan (k .particles) pointColumns (lp / pointColumns) (numbersFrom s 4 (pointColumns * k .particles)) p
+  pub roots : BlockCopied 0 (k .particles) 2 (lr / 2) (wordsFrom s (4 + pointColumns * k .particles) (2 * k .particles)) r
+  pub corners : BlockCopied 0 (k .triangles) 3 (lc / 3) (wordsFrom s (4 + particleWords * k .particles) (3 * k .triangles)) c
+  pub volumes : BlockCopied nan (k .triangles) 2 (lv / 2) (numbersFrom s (4 + particleWords * k .particles + 3 * k .triangles) (2 * k .triangles)) v
+  pub ends : BlockCopied 0 (k .edges) 4 (le / 4) (wordsFrom s (4 + particleWords * k .particles + 5 * k .triangles) (4 * k .edges)) e
+  pub lengths : BlockCopied nan (k .edges) 4 (ll / 4) (numbersFrom s (4 + particleWords * k .particles + 5 * k .triangles + 4 * k .edges) (4 * k .edges)) l
+  pub outline : BlockCopied 0 (k .boundary) 2 (lo / 2) (wordsFrom s (4 + particleWords * k .particles + 5 * k .triangles + 8 * k .edges) (2 * k .boundary)) o
   pub long-points : length p ≡ lp
   pub long-roots : length r ≡ lr
   pub long-corners : length c ≡ lc
@@ -135,17 +136,17 @@ module _ (s : List ℕ) where
     particles-placed : particlesAt (sizes (imageOf s) .particles) p r ≡ particlesAt (sizes (imageOf s) .particles) (imageOf s .points) (imageOf s .roots)
     unfolding imageOf blocksIn wordsFrom numbersFrom
     particles-placed =
-        let a = tab-length (6 * wordAt s 0) (λ k. numberOf (wordAt s (4 + k))) in
-        let b = tab-length (2 * wordAt s 0) (λ k. wordAt s (4 + 6 * wordAt s 0 + k)) in
-        let qa : wordAt s 0 ≡ length (imageOf s .points) / 6 = omega (arith, a) in
+        let a = tab-length (pointColumns * wordAt s 0) (λ k. numberOf (wordAt s (4 + k))) in
+        let b = tab-length (2 * wordAt s 0) (λ k. wordAt s (4 + pointColumns * wordAt s 0 + k)) in
+        let qa : wordAt s 0 ≡ length (imageOf s .points) / pointColumns = omega (arith, a) in
         let qb : wordAt s 0 ≡ length (imageOf s .roots) / 2 = omega (arith, b) in
         copied-particles (sizes (imageOf s) .particles) (imageOf s .points) p (imageOf s .roots) r lp lr (omega arith) (omega (arith, qa, qb)) (columns-of (P .points) qa) (columns-of (P .roots) qb) (P .long-points) (P .long-roots)
 
     triangles-placed : trianglesAt (sizes (imageOf s) .triangles) c v ≡ trianglesAt (sizes (imageOf s) .triangles) (imageOf s .corners) (imageOf s .volumes)
     unfolding imageOf blocksIn wordsFrom numbersFrom
     triangles-placed =
-        let a = tab-length (3 * wordAt s 1) (λ k. wordAt s (4 + 8 * wordAt s 0 + k)) in
-        let b = tab-length (2 * wordAt s 1) (λ k. numberOf (wordAt s (4 + 8 * wordAt s 0 + 3 * wordAt s 1 + k))) in
+        let a = tab-length (3 * wordAt s 1) (λ k. wordAt s (4 + particleWords * wordAt s 0 + k)) in
+        let b = tab-length (2 * wordAt s 1) (λ k. numberOf (wordAt s (4 + particleWords * wordAt s 0 + 3 * wordAt s 1 + k))) in
         let qa : wordAt s 1 ≡ length (imageOf s .corners) / 3 = omega (arith, a) in
         let qb : wordAt s 1 ≡ length (imageOf s .volumes) / 2 = omega (arith, b) in
         copied-triangles (sizes (imageOf s) .triangles) (imageOf s .corners) c (imageOf s .volumes) v lc lv (omega arith) (omega (arith, qa, qb)) (columns-of (P .corners) qa) (columns-of (P .volumes) qb) (P .long-corners) (P .long-volumes)
@@ -153,8 +154,8 @@ module _ (s : List ℕ) where
     edges-placed : edgesAt (sizes (imageOf s) .edges) e l ≡ edgesAt (sizes (imageOf s) .edges) (imageOf s .ends) (imageOf s .lengths)
     unfolding imageOf blocksIn wordsFrom numbersFrom
     edges-placed =
-        let a = tab-length (4 * wordAt s 2) (λ k. wordAt s (4 + 8 * wordAt s 0 + 5 * wordAt s 1 + k)) in
-        let b = tab-length (4 * wordAt s 2) (λ k. numberOf (wordAt s (4 + 8 * wordAt s 0 + 5 * wordAt s 1 + 4 * wordAt s 2 + k))) in
+        let a = tab-length (4 * wordAt s 2) (λ k. wordAt s (4 + particleWords * wordAt s 0 + 5 * wordAt s 1 + k)) in
+        let b = tab-length (4 * wordAt s 2) (λ k. numberOf (wordAt s (4 + particleWords * wordAt s 0 + 5 * wordAt s 1 + 4 * wordAt s 2 + k))) in
         let qa : wordAt s 2 ≡ length (imageOf s .ends) / 4 = omega (arith, a) in
         let qb : wordAt s 2 ≡ length (imageOf s .lengths) / 4 = omega (arith, b) in
         copied-edges (sizes (imageOf s) .edges) (imageOf s .ends) e (imageOf s .lengths) l le ll (omega arith) (omega (arith, qa, qb)) (columns-of (P .ends) qa) (columns-of (P .lengths) qb) (P .long-ends) (P .long-lengths)
@@ -162,7 +163,7 @@ module _ (s : List ℕ) where
     boundary-placed : boundaryAt (sizes (imageOf s) .boundary) o ≡ boundaryAt (sizes (imageOf s) .boundary) (imageOf s .outline)
     unfolding imageOf blocksIn wordsFrom
     boundary-placed =
-        let a = tab-length (2 * wordAt s 3) (λ k. wordAt s (4 + 8 * wordAt s 0 + 5 * wordAt s 1 + 8 * wordAt s 2 + k)) in
+        let a = tab-length (2 * wordAt s 3) (λ k. wordAt s (4 + particleWords * wordAt s 0 + 5 * wordAt s 1 + 8 * wordAt s 2 + k)) in
         let qa : wordAt s 3 ≡ length (imageOf s .outline) / 2 = omega (arith, a) in
         copied-boundary (sizes (imageOf s) .boundary) (imageOf s .outline) o lo (omega arith) (columns-of (P .outline) qa) (P .long-outline)
 

@@ -1,44 +1,47 @@
 -- Laws of the jobs that give a mesh, on an image: judged, begun, worked on and told. Assumes nothing.
-use Prim.Native.Nat.{ℕ, zero, suc, _<_}
+use Prim.Native.Nat.{ℕ, zero, suc, _*_, _<_}
 use native.Mathlib.Omega.{arith}
 use mathlib.Core.Path.{_≡_, refl, sym, ap, subst, _∙_}
-use mathlib.Core.Bool.{Bool, true}
+use mathlib.Core.Bool.{Bool, true, not, _&&_}
 use mathlib.Core.List.{List, []}
+use lib.Dec.{eqb}
 use lib.ListN.{length}
 use lib.Ieee.{Float}
 use Rattle.model.specs.Mesh.{Mesh}
-use Rattle.model.specs.Elements.{kindOf}
-use Rattle.model.specs.Run.{start}
-use Rattle.model.specs.Calls.{Outcome, refusal, unless, outcome}
+use Rattle.model.specs.Elements.{straps?, kindOf}
+use Rattle.model.specs.Run.{Rooms as RoomsOf, start}
+use Rattle.model.specs.Cut.{Line}
+use Rattle.model.specs.Calls.{Outcome, refusal, wholeMesh, wholeLine, exactRefusal, firstOf, unless, outcome}
 use Rattle.model.specs.Reads.{refused}
 use Rattle.mesh.specs.At.{meshAt}
 use Rattle.mesh.specs.Log.{worldAt}
 use Rattle.mesh.specs.Given.{Given, Lent, sizesFit, meshOf, sizes, asRooms}
 use Rattle.mesh.specs.Filled.{lent}
+use Rattle.mesh.specs.Widths.{pointColumns}
 use Rattle.mesh.specs.declared.Counts.{Counts}
 use Rattle.mesh.specs.declared.Rooms.{Rooms}
 use Rattle.work.specs.Working.{Roomed, Ready, Works, Logged}
 use Rattle.work.specs.declared.Ran.{Ran}
 use Rattle.work.specs.declared.Ran.the-variants.{Refused as Stopped}
 use Rattle.answer.specs.Framed.{RoomsLent, BeginAsked, Begun, Came}
-use Rattle.answer.proofs.Begun.{begin-asked, begun-by}
-use Rattle.jobs.specs.Jobs.{jobNumbers, jobArguments, jobRun, jobCall}
+use Rattle.answer.proofs.Begun.{begun-by}
+use Rattle.jobs.specs.Jobs.{jobNumbers, jobArguments, jobEdition, jobRefusal, jobRun, jobCall}
 use Rattle.perform.specs.Asks.{JobAsked}
 use Rattle.jobs.specs.declared.Job.{Job}
-use Rattle.jobs.proofs.Jobs.{job-lent}
-use Rattle.perform.proofs.Performed.{job-refused, job-asked, job-came}
+use Rattle.jobs.specs.declared.Job.the-variants.{Straddlers, Split, Cut, Crack}
+use Rattle.perform.proofs.Performed.{job-begins, job-refused, job-asked, job-came}
 use Rattle.image.specs.Image.{imageOf, imageSized}
 use Rattle.reading_c.specs.Given.{SmallCode}
 use Rattle.bench_c.specs.Torn.{meshReply, BothReplied, OutcomeReplied}
 use Rattle.bench_c.specs.Told.{meshTold, logTold, Telling, Limited}
 use Rattle.replies.proofs.Saying.{refusal-small}
 use Rattle.image.proofs.Loading.{sized-input}
-use Rattle.bench_c.proofs.Outcomes.{fault-small, unless-small, came-telling, came-replied}
+use Rattle.bench_c.proofs.Outcomes.{pick-small, fault-small, unless-small, came-telling, came-replied}
 
 -- ---- rooms
 
 -- rooms within the limits are within local blocks
-pub limited-lent : {R : Rooms} {logged : ℕ} → Limited R logged → RoomsLent R (record { points = 6144; roots = 2048; corners = 3072; volumes = 2048; ends = 8192; lengths = 8192; outline = 4096; log = 0 })
+pub limited-lent : {R : Rooms} {logged : ℕ} → Limited R logged → RoomsLent R (record { points = 1024 * pointColumns; roots = 2048; corners = 3072; volumes = 2048; ends = 8192; lengths = 8192; outline = 4096; log = 0 })
 limited-lent h =
     record {
       points = omega (arith, h .particles);
@@ -76,10 +79,31 @@ limited-roomed h a =
       log = omega (arith, h .log);
     }
 
+-- ---- what refuses a job is small
+
+first-small : (n m : ℕ) → n < 256 → m < 256 → firstOf n m < 256
+first-small zero m h k = k
+first-small (suc n) m h k = h
+
+-- 11, 12 or none
+edition-small : (j : Job) (M : Mesh) → jobEdition j M < 256
+edition-small Straddlers M = omega arith
+edition-small (Split v) M = omega arith
+edition-small (Cut n b0 b1 f) M =
+    let B : Line = record { from = b0; to = b1 } in
+    pick-small (eqb n 2) (exactRefusal M B) 0
+    (pick-small (not (wholeMesh M && wholeLine B)) 11 _ (omega arith) (pick-small (straps? (kindOf M)) 12 0 (omega arith) (omega arith)))
+    (omega arith)
+edition-small (Crack min) M = omega arith
+
+judged-small : (j : Job) (ls : List ℕ) (z : Bool) (M : Mesh) (L : RoomsOf) → jobRefusal j ls z M L < 256
+judged-small j ls z M L =
+    first-small (refusal z M (jobNumbers j) (jobArguments j ls L M)) (jobEdition j M) (refusal-small z M (jobNumbers j) (jobArguments j ls L M)) (edition-small j M)
+
 module _ (j : Job) (ls s : List ℕ) (R : Rooms) where
   -- the checks, and the outcome, of a job on an image
   abbrev pub checked : ℕ
-  checked = refusal (imageSized s) (meshOf (imageOf s)) (jobNumbers j) (jobArguments j ls (asRooms R) (meshOf (imageOf s)))
+  checked = jobRefusal j ls (imageSized s) (meshOf (imageOf s)) (asRooms R)
 
   abbrev pub called : Outcome
   called = jobCall j ls (imageSized s) (meshOf (imageOf s)) (asRooms R)
@@ -87,10 +111,10 @@ module _ (j : Job) (ls s : List ℕ) (R : Rooms) where
   -- its refusals are small
   called-small : SmallCode (meshReply called)
   unfolding jobCall
-  called-small = unless-small checked (asRooms R) (jobRun j ls (kindOf (meshOf (imageOf s))) (start (meshOf (imageOf s)))) (refusal-small (imageSized s) (meshOf (imageOf s)) (jobNumbers j) (jobArguments j ls (asRooms R) (meshOf (imageOf s))))
+  called-small = unless-small checked (asRooms R) (jobRun j ls (kindOf (meshOf (imageOf s))) (start (meshOf (imageOf s)))) (judged-small j ls (imageSized s) (meshOf (imageOf s)) (asRooms R))
 
   pub checked-small : (code : ℕ) → code ≡ checked → code < 256
-  checked-small code e = let h = refusal-small (imageSized s) (meshOf (imageOf s)) (jobNumbers j) (jobArguments j ls (asRooms R) (meshOf (imageOf s))) in omega (arith, h, e)
+  checked-small code e = subst (λ (n : ℕ). n < 256) (sym e) (judged-small j ls (imageSized s) (meshOf (imageOf s)) (asRooms R))
 
   -- a check refuses
   pub checked-replied : (code lent′ logged x : ℕ) (out log : List ℕ) → code ≡ checked → (code ≡ 0 → ⊥) → BothReplied (refused code) [] lent′ logged x out log → OutcomeReplied called lent′ logged x out log
@@ -110,14 +134,13 @@ module _ (j : Job) (ls s : List ℕ) (R : Rooms) where
 
   module _ (sized : imageSized s ≡ true) where
     -- what the checks told of loaded blocks they told of the image
-    pub judged : (G : Given) (code : ℕ) → G ≡ imageOf s → code ≡ refusal (sizesFit G) (meshOf G) (jobNumbers j) (jobArguments j ls (asRooms R) (meshOf G)) → code ≡ checked
+    pub judged : (G : Given) (code : ℕ) → G ≡ imageOf s → code ≡ jobRefusal j ls (sizesFit G) (meshOf G) (asRooms R) → code ≡ checked
     judged G code q e =
-        e ∙ ap (λ (H : Given). refusal (sizesFit H) (meshOf H) (jobNumbers j) (jobArguments j ls (asRooms R) (meshOf H))) q
-        ∙ ap (λ (z : Bool). refusal z (meshOf (imageOf s)) (jobNumbers j) (jobArguments j ls (asRooms R) (meshOf (imageOf s)))) (sized-input s sized)
+        e ∙ ap (λ (H : Given). jobRefusal j ls (sizesFit H) (meshOf H) (asRooms R)) q ∙ ap (λ (z : Bool). jobRefusal j ls z (meshOf (imageOf s)) (asRooms R)) (sized-input s sized)
 
     -- the same number, by the sizes of the input
-    by-sizes : checked ≡ refusal (sizesFit (imageOf s)) (meshOf (imageOf s)) (jobNumbers j) (jobArguments j ls (asRooms R) (meshOf (imageOf s)))
-    by-sizes = ap (λ (z : Bool). refusal z (meshOf (imageOf s)) (jobNumbers j) (jobArguments j ls (asRooms R) (meshOf (imageOf s)))) (sym (sized-input s sized))
+    by-sizes : checked ≡ jobRefusal j ls (sizesFit (imageOf s)) (meshOf (imageOf s)) (asRooms R)
+    by-sizes = ap (λ (z : Bool). jobRefusal j ls z (meshOf (imageOf s)) (asRooms R)) (sym (sized-input s sized))
 
     -- and the same outcome
     to-sized : (at : Counts → _) (ran : Ran) → Came (jobCall j ls (sizesFit (imageOf s)) (meshOf (imageOf s)) (asRooms R)) R at ran → Came called R at ran
@@ -125,8 +148,7 @@ module _ (j : Job) (ls s : List ℕ) (R : Rooms) where
 
     -- an image that no check refused may be read into the blocks
     pub accepted-asked : (I : Lent) → checked ≡ 0 → RoomsLent R I → BeginAsked 0 R (imageOf s) I
-    accepted-asked I e rooms =
-        begin-asked (imageOf s) R I 0 (jobNumbers j) (jobArguments j ls (asRooms R) (meshOf (imageOf s))) (sym e ∙ by-sizes) (job-lent j ls (asRooms R) (meshOf (imageOf s))) rooms
+    accepted-asked I e rooms = job-begins j ls (imageOf s) R I 0 (sym e ∙ by-sizes) rooms
 
     -- a room lacks
     pub lack-small : (held : Mesh) (code : ℕ) → Begun 0 R (meshOf (imageOf s)) held code → code < 256
@@ -141,7 +163,7 @@ module _ (j : Job) (ls s : List ℕ) (R : Rooms) where
 
     module _ (p₁ : List Float) (r₁ c₁ : List ℕ) (v₁ : List Float) (e₁ : List ℕ) (l₁ : List Float) (o₁ g₁ : List ℕ) (k : Counts) (q : k ≡ sizes (imageOf s))
         (B : Begun checked R (meshOf (imageOf s)) (meshAt (sizes (imageOf s)) p₁ r₁ c₁ v₁ e₁ l₁ o₁) 0) where
-      begun-sized : Begun (refusal (sizesFit (imageOf s)) (meshOf (imageOf s)) (jobNumbers j) (jobArguments j ls (asRooms R) (meshOf (imageOf s)))) R (meshOf (imageOf s)) (meshAt (sizes (imageOf s)) p₁ r₁ c₁ v₁ e₁ l₁ o₁) 0
+      begun-sized : Begun (jobRefusal j ls (sizesFit (imageOf s)) (meshOf (imageOf s)) (asRooms R)) R (meshOf (imageOf s)) (meshAt (sizes (imageOf s)) p₁ r₁ c₁ v₁ e₁ l₁ o₁) 0
       begun-sized = begun-by B by-sizes
 
       -- the mesh in the blocks may be worked on

@@ -12,6 +12,7 @@ use Rattle.lists.specs.Lists.{pick}
 use Rattle.model.specs.Reads.{refused, value}
 use Rattle.mesh.specs.declared.Counts.{Counts}
 use Rattle.mesh.specs.Log.{logAt}
+use Rattle.mesh.specs.Widths.{particleWords}
 use Rattle.work.specs.declared.Ran.{Ran}
 use Rattle.work.specs.declared.Ran.the-variants.{Done}
 use Rattle.answer.specs.Framed.{wordsChange}
@@ -25,7 +26,7 @@ use Rattle.bench_c.proofs.Shown.{standing}
 
 module _ (k : Counts) (p : List Float) (r c : List ℕ) (v : List Float) (e : List ℕ) (l : List Float) (o : List ℕ) (lg logged : ℕ) (h : Tellable k (length p) (length r) (length c) (length v) (length e) (length l) (length o) lg logged) where
   -- the rows can be stored where the answer has room
-  pub done-storable : (bytes lent : ℕ) → bytes ≡ lent → 4 * (6 + 8 * k .particles + 5 * k .triangles + 8 * k .edges + 2 * k .boundary) ≤ lent
+  pub done-storable : (bytes lent : ℕ) → bytes ≡ lent → 4 * (6 + particleWords * k .particles + 5 * k .triangles + 8 * k .edges + 2 * k .boundary) ≤ lent
       → Storable k (length p) (length r) (length c) (length v) (length e) (length l) (length o) 2 bytes
   done-storable bytes lent q room =
       record {
@@ -42,7 +43,7 @@ module _ (k : Counts) (p : List Float) (r c : List ℕ) (v : List Float) (e : Li
   -- ---- the reply
 
   -- no room for the answer
-  pub done-short : (any : Bool) (ws : List ℕ) (lent x : ℕ) (out log : List ℕ) → lent < 4 * (6 + 8 * k .particles + 5 * k .triangles + 8 * k .edges + 2 * k .boundary)
+  pub done-short : (any : Bool) (ws : List ℕ) (lent x : ℕ) (out log : List ℕ) → lent < 4 * (6 + particleWords * k .particles + 5 * k .triangles + 8 * k .edges + 2 * k .boundary)
       → BothReplied (refused 4) [] lent logged x out log → BothReplied (value (doneWords k any p r c v e l o)) ws lent logged x out log
   done-short any ws lent x out log few q =
       let n = block-words-long k p r c v e l o (standing k _ _ _ _ _ _ _ lg logged h) in
@@ -50,7 +51,7 @@ module _ (k : Counts) (p : List Float) (r c : List ℕ) (v : List Float) (e : Li
       record { code = rw t (q .code); bytes = rw t (q .bytes); entries = rw t (q .entries) }
 
   -- the answer and the log
-  pub done-replied : (any : Bool) (ws : List ℕ) (lent x y : ℕ) (out₁ out log : List ℕ) → 4 * (6 + 8 * k .particles + 5 * k .triangles + 8 * k .edges + 2 * k .boundary) ≤ lent
+  pub done-replied : (any : Bool) (ws : List ℕ) (lent x y : ℕ) (out₁ out log : List ℕ) → 4 * (6 + particleWords * k .particles + 5 * k .triangles + 8 * k .edges + 2 * k .boundary) ≤ lent
       → y ≡ pick any 1 0 → out₁ ≡ written lent (y ∷ k .log ∷ []) → out ≡ putWords out₁ 2 (blockWords k p r c v e l o) → log ≡ written logged ws → x ≡ 0
       → BothReplied (value (doneWords k any p r c v e l o)) ws lent logged x out log
   done-replied any ws lent x y out₁ out log room ey e₁ e₂ el ex =

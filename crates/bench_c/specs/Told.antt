@@ -3,12 +3,14 @@ use Prim.Native.Nat.{ℕ, _*_, _/_, _≤_, _<_, min}
 use mathlib.Core.Bool.{Bool}
 use mathlib.Core.List.{List, [], _∷_}
 use lib.ListN.{take}
+use lib.Dec.{eqb}
 use lib.Ieee.{Float}
 use Rattle.lists.specs.Lists.{pick}
 use Rattle.model.specs.Reads.{Read, refused, value}
 use Rattle.mesh.specs.Log.{logAt}
 use Rattle.mesh.specs.declared.Counts.{Counts}
 use Rattle.mesh.specs.declared.Rooms.{Rooms}
+use Rattle.mesh.specs.Widths.{pointColumns}
 use Rattle.work.specs.declared.Ran.{Ran}
 use Rattle.work.specs.declared.Ran.the-variants.{Refused, Done}
 use Rattle.answer.specs.Framed.{wordsChange}
@@ -31,7 +33,7 @@ logTold (Done k) g = take (6 * k .log) g
 
 -- the rows stand in blocks that are no longer than those of a mesh, and the log in its words and in its bytes
 pub record Tellable (k : Counts) (lp lr lc lv le ll lo lg logged : ℕ) : Type 0 where
-  pub points : k .particles ≤ lp / 6
+  pub points : k .particles ≤ lp / pointColumns
   pub roots : k .particles ≤ lr / 2
   pub corners : k .triangles ≤ lc / 3
   pub volumes : k .triangles ≤ lv / 2
@@ -62,3 +64,7 @@ pub record Limited (R : Rooms) (logged : ℕ) : Type 0 where
 -- the rooms of four words and of so many log bytes, as the program has them
 unfoldable pub roomsGiven : List ℕ → ℕ → Rooms
 roomsGiven s logged = record { particles = min 1024 (wordAt s 0); triangles = min 1024 (wordAt s 1); edges = min 2048 (wordAt s 2); boundary = min 2048 (wordAt s 3); log = min 4096 (logged / 24) }
+
+-- the refusal of a job, where the rooms are four words or not: if not, 4 in the place of none and of those behind it
+abbrev pub roomsToo : ℕ → Bool → ℕ
+roomsToo code sixteen = pick sixteen code (pick (eqb code 0) 4 (min code 4))

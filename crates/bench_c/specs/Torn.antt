@@ -7,7 +7,7 @@ use lib.ListN.{length}
 use lib.Dec.{eqb, leb}
 use Rattle.lists.specs.Lists.{pick}
 use Rattle.model.specs.Run.{Rooms}
-use Rattle.model.specs.Cut.{Blade}
+use Rattle.model.specs.Cut.{Line}
 use Rattle.model.specs.Calls.{Outcome, done, refusal, bladeOk, splitCall, straddlersCall, cutCall, crackCall}
 use Rattle.model.specs.Calls.{refused as turnedDown}
 use Rattle.model.specs.Reads.{Read, refused, value}
@@ -69,13 +69,13 @@ abbrev pub ifRead : Bool → List ℕ → Outcome → Outcome
 ifRead ok s o = pick ok o (turnedDown (refusal (imageSized s) (meshOf (imageOf s)) true false))
 
 -- the blade of four words x0, y0, x1, y1
-abbrev pub bladeIn : List ℕ → Blade
+abbrev pub bladeIn : List ℕ → Line
 bladeIn blade = record { from = pointAt blade 0; to = pointAt blade 2 }
 
--- the cut along a blade of 16 bytes, with the insertion fraction of a word
-unfoldable pub cutOutcome : List ℕ → List ℕ → ℕ → List ℕ → ℕ → Outcome
-cutOutcome s blade f rooms logged =
-    ifRead (eqb (length blade) 16) s (withRooms s rooms (bladeOk (bladeIn blade)) (cutCall (imageSized s) (meshOf (imageOf s)) (bladeIn blade) (numberOf f) (roomsIn rooms logged)))
+-- the cut in an edition along a blade of 16 bytes, with the insertion fraction of a word
+unfoldable pub cutOutcome : List ℕ → List ℕ → ℕ → ℕ → List ℕ → ℕ → Outcome
+cutOutcome s blade n f rooms logged =
+    ifRead (eqb (length blade) 16) s (withRooms s rooms (bladeOk (bladeIn blade)) (cutCall (imageSized s) (meshOf (imageOf s)) n (bladeIn blade) (numberOf f) (roomsIn rooms logged)))
 
 -- the bytes are at most 2,048 whole words
 abbrev pub wordsFew : ℕ → Bool

@@ -4,17 +4,18 @@ ghost use lib.ListN.{length};
 ghost use Rattle.bench_c.specs.Torn.{OutcomeReplied, cutOutcome, crackOutcome, wordsFew};
 use jobs::Job;
 
-// A mesh image cut along a blade of four words, with the insertion fraction of a word. The job looks at no list.
+// A mesh image cut along a blade of four words, in an edition, 1 or 2, with the insertion fraction of a word. The job looks at no list.
 #[no_mangle]
 pub extern "C" fn bench_cut(
     bytes: &[u8],
     blade: &[u8],
+    edition: u32,
     fraction: u32,
     rooms: &[u8],
     out: &mut [u8],
     log: &mut [u8],
 ) -> u32
-    ensures { λ r. ⌜ OutcomeReplied (cutOutcome (now (bytes .entry)) (now (blade .entry)) fraction (now (rooms .entry)) (length (now (log .entry)))) (length (now (out .entry))) (length (now (log .entry))) r (now (out .exit)) (now (log .exit)) ⌝ }
+    ensures { λ r. ⌜ OutcomeReplied (cutOutcome (now (bytes .entry)) (now (blade .entry)) edition fraction (now (rooms .entry)) (length (now (log .entry)))) (length (now (out .entry))) (length (now (log .entry))) r (now (out .exit)) (now (log .exit)) ⌝ }
 {
     if blade.len() != 16 {
         return crate::outcome::refuse(reading_c::unread::unread(bytes), out, log);
@@ -23,7 +24,14 @@ pub extern "C" fn bench_cut(
     let b0 = reading_c::leaves::point_at(blade, 0);
     let b1 = reading_c::leaves::point_at(blade, 2);
     let f = image::number_of(fraction as usize);
-    crate::tearing::reply_job(Job::Cut(b0, b1, f), &none, bytes, rooms, out, log)
+    crate::tearing::reply_job(
+        Job::Cut(edition as usize, b0, b1, f),
+        &none,
+        bytes,
+        rooms,
+        out,
+        log,
+    )
 }
 
 // Are so many bytes at most 2,048 whole words?

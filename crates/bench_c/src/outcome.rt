@@ -76,7 +76,7 @@ fn reply_done(
     let e = k.edges;
     let b = k.boundary;
     let n = k.log;
-    if out.len() < 4 * (6 + 8 * p + 5 * t + 8 * e + 2 * b) {
+    if out.len() < 4 * (6 + mesh::PARTICLE_WORDS * p + 5 * t + 8 * e + 2 * b) {
         return refuse(4, out, log);
     }
     image::write_two(out, one_if(any), n);

@@ -82,10 +82,24 @@ fn place_image(
     let t = k.triangles;
     let e = k.edges;
     let b = k.boundary;
-    let triangles = 4 + 8 * p;
+    let triangles = 4 + mesh::PARTICLE_WORDS * p;
     let edges = triangles + 5 * t;
-    place_numbers(bytes, 4, p, 6, points.len() / 6, points);
-    place_words(bytes, 4 + 6 * p, p, 2, roots.len() / 2, roots);
+    place_numbers(
+        bytes,
+        4,
+        p,
+        mesh::POINT_COLUMNS,
+        points.len() / mesh::POINT_COLUMNS,
+        points,
+    );
+    place_words(
+        bytes,
+        4 + mesh::POINT_COLUMNS * p,
+        p,
+        2,
+        roots.len() / 2,
+        roots,
+    );
     place_words(bytes, triangles, t, 3, corners.len() / 3, corners);
     place_numbers(bytes, triangles + 3 * t, t, 2, volumes.len() / 2, volumes);
     place_words(bytes, edges, e, 4, ends.len() / 4, ends);

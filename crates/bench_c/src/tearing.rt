@@ -3,24 +3,23 @@ ghost use mathlib.Core.Path.{_≡_};
 ghost use mathlib.Core.Bool.{true};
 ghost use mathlib.Core.List.{[]};
 ghost use lib.ListN.{length};
-ghost use Rattle.model.specs.Calls.{refusal};
 ghost use Rattle.mesh.specs.At.{meshAt};
 ghost use Rattle.mesh.specs.Given.{meshOf, sizes, asRooms};
 ghost use Rattle.mesh.specs.Filled.{lent};
 ghost use Rattle.answer.specs.Framed.{RoomsLent, Begun};
-ghost use Rattle.jobs.specs.Jobs.{jobNumbers, jobArguments, jobCall};
+ghost use Rattle.jobs.specs.Jobs.{jobNumbers, jobRefusal, jobCall};
 ghost use Rattle.image.specs.Image.{imageOf, imageSized};
 ghost use Rattle.bench_c.specs.Torn.{OutcomeReplied, roomsIn, withRooms, splitOutcome, straddlersOutcome};
-ghost use Rattle.bench_c.specs.Told.{Limited, roomsGiven};
+ghost use Rattle.bench_c.specs.Told.{Limited, roomsGiven, roomsToo};
 use jobs::Job;
 use mesh::Rooms;
 
-// The refusals 1 to 4 of a job on an image that has the sizes of a mesh, or 0.
+// What refuses a job before its steps, on an image that has the sizes of a mesh, or 0.
 fn judge(job: Job, list: &[usize], room: Rooms, bytes: &[u8]) -> usize
     requires { ⌜ imageSized (now bytes) ≡ true ⌝ }
-    ensures { λ r. ⌜ r ≡ refusal (imageSized (now (bytes .entry))) (meshOf (imageOf (now (bytes .entry)))) (jobNumbers job) (jobArguments job (now (list .entry)) (asRooms room) (meshOf (imageOf (now (bytes .entry))))) ⌝ }
+    ensures { λ r. ⌜ r ≡ jobRefusal job (now (list .entry)) (imageSized (now (bytes .entry))) (meshOf (imageOf (now (bytes .entry)))) (asRooms room) ⌝ }
 {
-    let mut points = [0.0f32; 6144];
+    let mut points = [0.0f32; 1024 * mesh::POINT_COLUMNS];
     let mut roots = [0usize; 2048];
     let mut corners = [0usize; 3072];
     let mut volumes = [0.0f32; 2048];
@@ -28,7 +27,7 @@ fn judge(job: Job, list: &[usize], room: Rooms, bytes: &[u8]) -> usize
     let mut lengths = [0.0f32; 8192];
     let mut outline = [0usize; 4096];
     let k = crate::placing::image_counts(bytes);
-    let p6 = 6 * k.particles;
+    let p8 = mesh::POINT_COLUMNS * k.particles;
     let p2 = 2 * k.particles;
     let t3 = 3 * k.triangles;
     let t2 = 2 * k.triangles;
@@ -48,7 +47,7 @@ fn judge(job: Job, list: &[usize], room: Rooms, bytes: &[u8]) -> usize
         job,
         list,
         room,
-        &points[..p6],
+        &points[..p8],
         &roots[..p2],
         &corners[..t3],
         &volumes[..t2],
@@ -74,7 +73,7 @@ fn reply_work(
     out: &mut [u8],
     log: &mut [u8],
 ) -> u32
-    requires { ⌜ (imageSized (now bytes) ≡ true) × Limited room (length (now log)) × RoomsLent room (lent (now points) (now roots) (now corners) (now volumes) (now ends) (now lengths) (now outline) []) × Begun (refusal (imageSized (now bytes)) (meshOf (imageOf (now bytes))) (jobNumbers job) (jobArguments job (now list) (asRooms room) (meshOf (imageOf (now bytes))))) room (meshOf (imageOf (now bytes))) (meshAt (sizes (imageOf (now bytes))) (now points) (now roots) (now corners) (now volumes) (now ends) (now lengths) (now outline)) 0 ⌝ }
+    requires { ⌜ (imageSized (now bytes) ≡ true) × Limited room (length (now log)) × RoomsLent room (lent (now points) (now roots) (now corners) (now volumes) (now ends) (now lengths) (now outline) []) × Begun (jobRefusal job (now list) (imageSized (now bytes)) (meshOf (imageOf (now bytes))) (asRooms room)) room (meshOf (imageOf (now bytes))) (meshAt (sizes (imageOf (now bytes))) (now points) (now roots) (now corners) (now volumes) (now ends) (now lengths) (now outline)) 0 ⌝ }
     ensures { λ r. ⌜ OutcomeReplied (jobCall job (now (list .entry)) (imageSized (now (bytes .entry))) (meshOf (imageOf (now (bytes .entry)))) (asRooms room)) (length (now (out .entry))) (length (now (log .entry))) r (now (out .exit)) (now (log .exit)) ⌝ }
 {
     let mut words = [0u32; 24576];
@@ -117,10 +116,10 @@ fn reply_accepted(
     out: &mut [u8],
     log: &mut [u8],
 ) -> u32
-    requires { ⌜ (imageSized (now bytes) ≡ true) × Limited room (length (now log)) × (refusal (imageSized (now bytes)) (meshOf (imageOf (now bytes))) (jobNumbers job) (jobArguments job (now list) (asRooms room) (meshOf (imageOf (now bytes)))) ≡ 0) ⌝ }
+    requires { ⌜ (imageSized (now bytes) ≡ true) × Limited room (length (now log)) × (jobRefusal job (now list) (imageSized (now bytes)) (meshOf (imageOf (now bytes))) (asRooms room) ≡ 0) ⌝ }
     ensures { λ r. ⌜ OutcomeReplied (jobCall job (now (list .entry)) (imageSized (now (bytes .entry))) (meshOf (imageOf (now (bytes .entry)))) (asRooms room)) (length (now (out .entry))) (length (now (log .entry))) r (now (out .exit)) (now (log .exit)) ⌝ }
 {
-    let mut points = [0.0f32; 6144];
+    let mut points = [0.0f32; 1024 * mesh::POINT_COLUMNS];
     let mut roots = [0usize; 2048];
     let mut corners = [0usize; 3072];
     let mut volumes = [0.0f32; 2048];
@@ -180,6 +179,19 @@ fn rooms_in(rooms: &[u8], logged: usize) -> Rooms
     }
 }
 
+// The refusal of a job, where the rooms are four words; other rooms are a bad argument, 4, which comes behind 1 to 3 and before the rest.
+fn with_rooms(code: usize, sixteen: bool) -> usize
+    ensures { λ r. ⌜ r ≡ roomsToo code sixteen ⌝ }
+{
+    if sixteen {
+        return code;
+    }
+    if code == 0 {
+        return 4;
+    }
+    mesh::whole::least(code, 4)
+}
+
 // A job on an image, with the rooms of four words. Other rooms are bad ones.
 pub fn reply_job(
     job: Job,
@@ -193,7 +205,7 @@ pub fn reply_job(
 {
     if image::image_sized(bytes) {
         let room = rooms_in(rooms, log.len());
-        let code = judge::tests::first(judge(job, list, room, bytes), rooms.len() == 16, 4);
+        let code = with_rooms(judge(job, list, room, bytes), rooms.len() == 16);
         if code != 0 {
             return crate::outcome::refuse(code, out, log);
         }

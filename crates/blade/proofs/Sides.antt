@@ -50,7 +50,7 @@ abs-minus a b m n h k =
     let q : natAbs (negℤ b) ≡ natAbs b = abs-neg b in
     omega arith
 
-neg-mul : (a b : ℤ) → negℤ a *ℤ b ≡ negℤ (a *ℤ b)
+pub neg-mul : (a b : ℤ) → negℤ a *ℤ b ≡ negℤ (a *ℤ b)
 neg-mul (pos zero) (pos b) = ap pos (zero-mul b) ∙ sym (ap (λ (z : ℕ). negℤ (pos z)) (zero-mul b))
 neg-mul (pos (suc a)) (pos b) = refl
 neg-mul (pos zero) (negsuc b) = ap (λ (z : ℕ). negℤ (pos z)) (zero-mul (suc b)) ∙ sym (ap (λ (z : ℕ). negℤ (negℤ (pos z))) (zero-mul (suc b)))

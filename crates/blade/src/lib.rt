@@ -101,7 +101,8 @@ pub fn offset(b0: Point, b1: Point, v: Point) -> f32
     dot(n, minus(v, b0))
 }
 
-fn clamp(t: f32) -> f32
+// t brought into the range from 0 to 1.
+pub fn clamp(t: f32) -> f32
     ensures { λ r. ⌜ r ≡ clampHigh (clampLow t) ⌝ }
 {
     let mut u = t;

@@ -28,6 +28,7 @@ use Rattle.opening.specs.Opened.{partAt, blankPart, Ringed, RestsIn, CornersBel
 use Rattle.opening.specs.Answers.{TowardIs}
 use Rattle.boundary.specs.Following.{SidesFollowed, rowHolds, FirstHolder, InReach, SideRoom, SideGroupIs, CopiesSmall, SideCopyIs, EntryFollowed, SidesRoom}
 use Rattle.mesh.proofs.Fan.{replaced-self}
+use Rattle.mesh.specs.Widths.{pointColumns}
 
 -- ---- the first that passes
 
@@ -127,22 +128,22 @@ table-ringed v n k verts groups count h =
 
 -- some mesh rests as the block says
 blockMesh : List Float → Mesh
-blockMesh points = record { particles = particlesAt (length points / 6) points []; triangles = []; edges = []; boundary = [] }
+blockMesh points = record { particles = particlesAt (length points / pointColumns) points []; triangles = []; edges = []; boundary = [] }
 
 -- it does
-block-rests : (points : List Float) → RestsIn (blockMesh points) (length points / 6) points
+block-rests : (points : List Float) → RestsIn (blockMesh points) (length points / pointColumns) points
 unfolding blockMesh restOf particlesAt
-block-rests points w h = ap (λ (p : Particle). record { x = p .rest-x; y = p .rest-y }) (tab-at (length points / 6) _ w blank h)
+block-rests points w h = ap (λ (p : Particle). record { x = p .rest-x; y = p .rest-y }) (tab-at (length points / pointColumns) _ w blank h)
 
 -- what points best is no larger than the groups
 toward-low :
-    {x v n k : ℕ} {verts groups : List ℕ} {points : List Float} {r : ℕ} → TowardIs x v n k verts groups points r → x < length points / 6 → v < length points / 6
-    → CornersBelow (length points / 6) n k verts → (bound : ℕ) → ((i : ℕ) → i < n → getD groups i 0 ≤ bound) → r ≤ bound
+    {x v n k : ℕ} {verts groups : List ℕ} {points : List Float} {r : ℕ} → TowardIs x v n k verts groups points r → x < length points / pointColumns → v < length points / pointColumns
+    → CornersBelow (length points / pointColumns) n k verts → (bound : ℕ) → ((i : ℕ) → i < n → getD groups i 0 ≤ bound) → r ≤ bound
 unfolding tableOpening
 toward-low {x} {v} {n} {k} {verts} {groups} {points} {r} T hx hv hc bound h =
     let O = tableOpening v n k verts groups (suc bound) in
     let R : Ringed k O n verts groups = table-ringed v n k verts groups (suc bound) (λ i l. suc-le-suc (h i l)) in
-    let e : r ≡ toward (blockMesh points) O x = T .is O (blockMesh points) (length points / 6) R refl (block-rests points) (omega arith) hx hv hc in
+    let e : r ≡ toward (blockMesh points) O x = T .is O (blockMesh points) (length points / pointColumns) R refl (block-rests points) (omega arith) hx hv hc in
     let s = R .size in
     subst (λ (q : ℕ). q ≤ bound) (sym e)
     (toward-small (blockMesh points) O x bound (λ i l. let m : i < n = omega arith in subst (λ (q : ℕ). q ≤ bound) (sym (R .group-is i m)) (h i m)))
@@ -286,7 +287,7 @@ module _ {v before k n count p b : ℕ} {verts groups : List ℕ} {points : List
     entry-in h = let e = half in let l = R .entries in omega arith
 
     -- it is in reach, in as many particles as rest in the block
-    reach : i < b → (q : ℕ) → p ≤ q → q ≤ length points / 6 → InReach q (getD s i 0) (getD s (length s / 2 + i) 0) v n k verts points
+    reach : i < b → (q : ℕ) → p ≤ q → q ≤ length points / pointColumns → InReach q (getD s i 0) (getD s (length s / 2 + i) 0) v n k verts points
     reach h q low high =
         let e = half in
         let l = R .entries in
@@ -305,7 +306,7 @@ module _ {v before k n count p b : ℕ} {verts groups : List ℕ} {points : List
 
     -- what the turn requires
     pub side-room : i < b → SideRoom (getD s i 0) (getD s (length s / 2 + i) 0) v n k verts groups points
-    side-room h = record { room = R .room; reach = reach h (length points / 6) (R .rests-in) (omega arith) }
+    side-room h = record { room = R .room; reach = reach h (length points / pointColumns) (R .rests-in) (omega arith) }
 
     -- a turn has one entry more follow
     pub following-more : {s′ : List ℕ} → i < b → EntryFollowed i v before k n verts groups points s s′ → length s′ ≡ length s → Following v before k n count p b verts groups points s₀ s′ (i + 1)

@@ -10,6 +10,7 @@ use Rattle.columns.specs.Block.{cell}
 use Rattle.model.specs.Mesh.{Mesh}
 use Rattle.model.specs.Split.{Opening, sideGroup, turned, followed}
 use Rattle.mesh.specs.At.{sideRow, boundaryAt}
+use Rattle.mesh.specs.Widths.{pointColumns}
 use Rattle.opening.specs.Opened.{Ringed, RingRoom, RestsIn, CornersBelow, OpeningIn}
 
 -- the boundary entries at v follow
@@ -30,7 +31,7 @@ pub record FirstHolder (x y n k : ℕ) (verts : List ℕ) (r : ℕ) : Type 0 whe
 
 -- x, y, v and the corners of all parts are among the first p particles, which rest in the block
 pub record InReach (p x y v n k : ℕ) (verts : List ℕ) (points : List Float) : Type 0 where
-  pub rests-in : p ≤ length points / 6
+  pub rests-in : p ≤ length points / pointColumns
   pub x-in : x < p
   pub y-in : y < p
   pub v-in : v < p
@@ -39,7 +40,7 @@ pub record InReach (p x y v n k : ℕ) (verts : List ℕ) (points : List Float) 
 -- the tables of the parts fit, and x, y, v and all corners rest in the block
 pub record SideRoom (x y v n k : ℕ) (verts groups : List ℕ) (points : List Float) : Type 0 where
   pub room : RingRoom n k (length verts) (length groups)
-  pub reach : InReach (length points / 6) x y v n k verts points
+  pub reach : InReach (length points / pointColumns) x y v n k verts points
 
 -- the group that the boundary entry (x, y) follows, which is no larger than the groups
 pub record SideGroupIs (x y v n k : ℕ) (verts groups : List ℕ) (points : List Float) (r : ℕ) : Type 0 where
@@ -68,7 +69,7 @@ pub record EntryFollowed (i v before k n : ℕ) (verts groups : List ℕ) (point
 pub record SidesRoom (v before k n count p b : ℕ) (verts groups : List ℕ) (points : List Float) (outline : List ℕ) : Type 0 where
   pub room : RingRoom n k (length verts) (length groups)
   pub entries : b ≤ length outline / 2
-  pub rests-in : p ≤ length points / 6
+  pub rests-in : p ≤ length points / pointColumns
   pub v-in : v < p
   pub corners-in : CornersBelow p n k verts
   pub a-in : (j : ℕ) → j < b → cell 0 (length outline / 2) outline 0 j < p

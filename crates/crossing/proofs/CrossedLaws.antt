@@ -19,6 +19,7 @@ use Rattle.mesh.specs.Log.{World, worldOf, worldAt}
 use Rattle.mesh.specs.Given.{asRooms}
 use Rattle.mesh.specs.declared.Counts.{Counts}
 use Rattle.mesh.specs.declared.Rooms.{Rooms}
+use Rattle.mesh.specs.Widths.{pointColumns}
 use Rattle.elements.specs.Workers.{marked}
 use Rattle.work.specs.Working.{Within, Went}
 use Rattle.work.specs.declared.Ran.{Ran}
@@ -51,7 +52,7 @@ module _ (L : Rooms) (k : Counts) (points : List Float) (roots ends : List ℕ) 
   particles-few : k .particles ≤ 1024
   particles-few = let a = X .ready .counts .particles in let b = X .ready .rooms .few-particles in omega arith
 
-  points-long : k .particles ≤ length points / 6
+  points-long : k .particles ≤ length points / pointColumns
   points-long = let a = X .ready .counts .particles in let b = X .ready .rooms .points in omega arith
 
   -- the blade can be tried on every edge
@@ -59,7 +60,7 @@ module _ (L : Rooms) (k : Counts) (points : List Float) (roots ends : List ℕ) 
   crossings-room ln lt hn ht =
       let a = X .ready .counts .edges in
       let b = X .ready .rooms .few-edges in
-      record { ends-in = below (length points / 6) points-long; numbers-long = omega arith; ts-long = omega arith }
+      record { ends-in = below (length points / pointColumns) points-long; numbers-long = omega arith; ts-long = omega arith }
 
   pub plan-room : (number : ℕ) → number < k .edges → PlanRoom number (k .particles) (k .edges) (length points) ends (length lengths)
   plan-room number h =

@@ -27,6 +27,7 @@ use Rattle.elements.proofs.Filling.{straps-push}
 use Rattle.mesh.specs.Workers.{rowAt}
 use Rattle.rewire.proofs.EdgeLaws.{edges-get}
 use Rattle.insert.specs.Shares.{Stands}
+use Rattle.marks.specs.Marking.{bladeFrom}
 use Rattle.crossing.specs.Bends.{EndsBelow}
 use Rattle.insert.specs.Inserts.{placeIn}
 use Rattle.crossing.specs.Crossings.{HitTold, crossed-in, HitNoted, CrossingsAre}
@@ -39,7 +40,7 @@ module _ (b0 b1 : Point) (i : ℕ) (points : List Float) (ends : List ℕ) where
   unfolding cell
   hit-none n =
       record {
-        is = λ M k e roots B S a b. ap (λ (t : Bool). pick t (crossingAt i (meets (record { from = b0; to = b1 }) M (rowAt ends B i .a) (rowAt ends B i .b))) []) (sym (ne-eqb _ 1 n));
+        is = λ M k e roots B S a b. ap (λ (t : Bool). pick t (crossingAt i (meets (bladeFrom b0 b1) M (rowAt ends B i .a) (rowAt ends B i .b))) []) (sym (ne-eqb _ 1 n));
       }
 
   pub hit-strap : (r : Hit) (p q : Point) → getD ends (2 * (length ends / 4) + i) 0 ≡ 1 → p ≡ placeIn points (getD ends i 0) → q ≡ placeIn points (getD ends (length ends / 4 + i) 0) → r ≡ bladeHit b0 b1 p q
@@ -77,7 +78,7 @@ noted-hit hit t p i m numbers ts e h l =
 
 -- the crossing of an element
 abbrev crossingOf : Point → Point → Mesh → Element → List Crossing
-crossingOf b0 b1 M x = crossingAt (x .number) (meets (record { from = b0; to = b1 }) M (edgeAt M (x .number) .a) (edgeAt M (x .number) .b))
+crossingOf b0 b1 M x = crossingAt (x .number) (meets (bladeFrom b0 b1) M (edgeAt M (x .number) .a) (edgeAt M (x .number) .b))
 
 -- at the head of the loop: the crossings of the first i edges stand in the tables
 pub record Finding (b0 b1 : Point) (e : ℕ) (points : List Float) (ends numbers₀ numbers : List ℕ) (ts₀ ts : List Float) (m i : ℕ) : Type 0 where
@@ -103,7 +104,7 @@ module _ (b0 b1 : Point) (e : ℕ) (points : List Float) (ends numbers₀ : List
   found-step : (M : Mesh) (B : List Float) (i : ℕ) → M .edges ≡ edgesAt e ends B → i < e
       → each (crossingOf b0 b1 M) (strapsFrom 0 (edgesAt (i + 1) ends B))
       ≡ each (crossingOf b0 b1 M) (strapsFrom 0 (edgesAt i ends B))
-      ++ pick (structural? (rowAt ends B i)) (crossingAt i (meets (record { from = b0; to = b1 }) M (rowAt ends B i .a) (rowAt ends B i .b))) []
+      ++ pick (structural? (rowAt ends B i)) (crossingAt i (meets (bladeFrom b0 b1) M (rowAt ends B i .a) (rowAt ends B i .b))) []
   unfolding edgesAt
   found-step M B i q h =
       let f = rowAt ends B in
@@ -113,7 +114,7 @@ module _ (b0 b1 : Point) (e : ℕ) (points : List Float) (ends numbers₀ : List
       ∙ ap (each (crossingOf b0 b1 M)) (straps-push 0 (tab i f) (f i) ∙ ap (λ (j : ℕ). strapsFrom 0 (tab i f) ++ pick (structural? (f i)) (strapElement j (f i) ∷ []) []) z)
       ∙ each-append (crossingOf b0 b1 M) (strapsFrom 0 (tab i f)) (pick (structural? (f i)) (strapElement i (f i) ∷ []) [])
       ∙ ap (λ (l : List Crossing). each (crossingOf b0 b1 M) (strapsFrom 0 (tab i f)) ++ l)
-      (one-found M (f i) i (structural? (f i)) ∙ ap (λ (x : Edge). pick (structural? (f i)) (crossingAt i (meets (record { from = b0; to = b1 }) M (x .a) (x .b))) []) row)
+      (one-found M (f i) i (structural? (f i)) ∙ ap (λ (x : Edge). pick (structural? (f i)) (crossingAt i (meets (bladeFrom b0 b1) M (x .a) (x .b))) []) row)
 
   module _ (numbers : List ℕ) (ts : List Float) (m i : ℕ) (F : Finding b0 b1 e points ends numbers₀ numbers ts₀ ts m i) where
     pub finding-step : (hit : Hit) (numbers′ : List ℕ) (ts′ : List Float) (r : ℕ) → i < e → HitTold b0 b1 i points ends hit → HitNoted hit i m numbers numbers′ ts ts′ r

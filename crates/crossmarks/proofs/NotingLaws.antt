@@ -13,13 +13,12 @@ use Rattle.lists.proofs.Steps.{each-step}
 use Rattle.blade.specs.declared.Point.{Point}
 use Rattle.blade.specs.declared.Hit.{Hit}
 use Rattle.blade.specs.declared.Hit.the-variants.{Miss, Hit as HitAt}
-use Rattle.blade.specs.Blade.{bladeHit}
 use Rattle.columns.specs.Block.{cell}
 use Rattle.columns.proofs.Cells.{col-0, col-1}
 use Rattle.model.specs.Mesh.{Edge, Mesh}
 use Rattle.model.specs.Elements.{Kind, Triangles, Straps, Nothing, Element, endsOf, structural?, strapElement, strapsFrom, elementsOf}
 use Rattle.model.specs.Run.{Entry, met, Run, stepTo}
-use Rattle.model.specs.Cut.{Blade, meets, markAt, markOf, marksOf, markedBy}
+use Rattle.model.specs.Cut.{Blade, hitBy, meets, markAt, markOf, marksOf, markedBy}
 use Rattle.mesh.specs.At.{trianglesAt, edgesAt, meshAt}
 use Rattle.mesh.specs.Log.{World, Words, wordsOf, logAt, worldOf, worldAt}
 use Rattle.mesh.specs.Given.{asRooms}
@@ -27,6 +26,7 @@ use Rattle.mesh.specs.Filled.{lent}
 use Rattle.mesh.specs.declared.Counts.{Counts}
 use Rattle.mesh.specs.declared.Rooms.{Rooms}
 use Rattle.mesh.proofs.Lists.{log-length, world-path}
+use Rattle.mesh.specs.Widths.{pointColumns}
 use Rattle.elements.specs.Table.{kindIs}
 use Rattle.elements.specs.declared.Kind.{Kind as KindCase}
 use Rattle.elements.specs.declared.Kind.the-variants.{Triangles as TrianglesCase, Straps as StrapsCase, Nothing as NothingCase}
@@ -75,33 +75,33 @@ noted-as a b n r log log′ e A = subst (λ (l : List Words). Noted l n log log�
 -- ---- one pair
 
 module _ (B : Blade) (points : List Float) (x y : ℕ) where
-  pair-is : (p q : Point) (h : Hit) → p ≡ placeIn points x → q ≡ placeIn points y → h ≡ bladeHit (B .from) (B .to) p q → pairMarks B points (x, y) ≡ map wordsOf (markAt (x, y) h)
+  pair-is : (p q : Point) (h : Hit) → p ≡ placeIn points x → q ≡ placeIn points y → h ≡ hitBy (B .rule) (B .line .from) (B .line .to) p q → pairMarks B points (x, y) ≡ map wordsOf (markAt (x, y) h)
   unfolding pairMarks
-  pair-is p q h ep eq e = ap (λ (z : Hit). map wordsOf (markAt (x, y) z)) (ap₂ (λ (a b : Point). bladeHit (B .from) (B .to) a b) (sym ep) (sym eq) ∙ sym e)
+  pair-is p q h ep eq e = ap (λ (z : Hit). map wordsOf (markAt (x, y) z)) (ap₂ (λ (a b : Point). hitBy (B .rule) (B .line .from) (B .line .to) a b) (sym ep) (sym eq) ∙ sym e)
 
-  pub pair-miss : (p q : Point) (h : Hit) (n : ℕ) (log : List ℕ) → p ≡ placeIn points x → q ≡ placeIn points y → h ≡ bladeHit (B .from) (B .to) p q → h ≡ Miss
+  pub pair-miss : (p q : Point) (h : Hit) (n : ℕ) (log : List ℕ) → p ≡ placeIn points x → q ≡ placeIn points y → h ≡ hitBy (B .rule) (B .line .from) (B .line .to) p q → h ≡ Miss
       → Noted (pairMarks B points (x, y)) n log log n
   pair-miss p q h n log ep eq e m = noted-none _ n log (pair-is p q h ep eq e ∙ ap (λ (z : Hit). map wordsOf (markAt (x, y) z)) m)
 
-  pair-hit : (p q : Point) (h : Hit) (t : Float) (at : Point) (n : ℕ) (log log′ : List ℕ) → p ≡ placeIn points x → q ≡ placeIn points y → h ≡ bladeHit (B .from) (B .to) p q → h ≡ HitAt t at
+  pair-hit : (p q : Point) (h : Hit) (t : Float) (at : Point) (n : ℕ) (log log′ : List ℕ) → p ≡ placeIn points x → q ≡ placeIn points y → h ≡ hitBy (B .rule) (B .line .from) (B .line .to) p q → h ≡ HitAt t at
       → (n < length log / 6 → logAt (n + 1) log′ ≡ logAt n log ++ (wordsOf (met x y at t) ∷ [])) → Noted (pairMarks B points (x, y)) n log log′ (n + 1)
   pair-hit p q h t at n log log′ ep eq e m w = noted-one _ (wordsOf (met x y at t)) n log log′ (pair-is p q h ep eq e ∙ ap (λ (z : Hit). map wordsOf (markAt (x, y) z)) m) w
 
   -- with room the six words are written; without the mark is counted
-  pub pair-written : (p q : Point) (h : Hit) (t : Float) (at : Point) (n : ℕ) (log log′ exit : List ℕ) (a b c : ℕ) → p ≡ placeIn points x → q ≡ placeIn points y → h ≡ bladeHit (B .from) (B .to) p q → h ≡ HitAt t at
+  pub pair-written : (p q : Point) (h : Hit) (t : Float) (at : Point) (n : ℕ) (log log′ exit : List ℕ) (a b c : ℕ) → p ≡ placeIn points x → q ≡ placeIn points y → h ≡ hitBy (B .rule) (B .line .from) (B .line .to) p q → h ≡ HitAt t at
       → a ≡ toBits binary32 (at .x) → b ≡ toBits binary32 (at .y) → c ≡ toBits binary32 t
       → logAt (n + 1) exit ≡ logAt n log ++ (record { kind = 5; a = x; b = y; p = a; q = b; t = c } ∷ []) → log′ ≡ exit → Noted (pairMarks B points (x, y)) n log log′ (n + 1)
   pair-written p q h t at n log log′ exit a b c ep eq e m ea eb ec w l =
       pair-hit p q h t at n log log′ ep eq e m
       (λ u. ap (logAt (n + 1)) l ∙ w ∙ (λ i. logAt n log ++ (record { kind = 5; a = x; b = y; p = ea i; q = eb i; t = ec i } ∷ [])))
 
-  pub pair-counted : (p q : Point) (h : Hit) (t : Float) (at : Point) (n : ℕ) (log log′ : List ℕ) → p ≡ placeIn points x → q ≡ placeIn points y → h ≡ bladeHit (B .from) (B .to) p q → h ≡ HitAt t at
+  pub pair-counted : (p q : Point) (h : Hit) (t : Float) (at : Point) (n : ℕ) (log log′ : List ℕ) → p ≡ placeIn points x → q ≡ placeIn points y → h ≡ hitBy (B .rule) (B .line .from) (B .line .to) p q → h ≡ HitAt t at
       → length log / 6 ≤ n → Noted (pairMarks B points (x, y)) n log log′ (n + 1)
   pair-counted p q h t at n log log′ ep eq e m u = pair-hit p q h t at n log log′ ep eq e m (λ v. absurd (omega arith))
 
   pub pair-few : length (pairMarks B points (x, y)) ≤ 1
   unfolding pairMarks
-  pair-few = by (bladeHit (B .from) (B .to) (placeIn points x) (placeIn points y))
+  pair-few = by (hitBy (B .rule) (B .line .from) (B .line .to) (placeIn points x) (placeIn points y))
     where
       by : (h : Hit) → length (map wordsOf (markAt (x, y) h)) ≤ 1
       by Miss = omega arith
@@ -209,9 +209,9 @@ rooms-of-row t n lp corners i m T h u =
     let x = b .first in
     let y = b .second in
     let z = b .third in
-    let a₁ : getD corners i 0 < lp / 6 = omega (arith, q, x) in
-    let a₂ : getD corners (length corners / 3 + i) 0 < lp / 6 = omega (arith, q, y) in
-    let a₃ : getD corners (2 * (length corners / 3) + i) 0 < lp / 6 = omega (arith, q, z) in
+    let a₁ : getD corners i 0 < lp / pointColumns = omega (arith, q, x) in
+    let a₂ : getD corners (length corners / 3 + i) 0 < lp / pointColumns = omega (arith, q, y) in
+    let a₃ : getD corners (2 * (length corners / 3) + i) 0 < lp / pointColumns = omega (arith, q, z) in
     let b₁ : getD corners i 0 < 65536 = omega (arith, q, x) in
     let b₂ : getD corners (length corners / 3 + i) 0 < 65536 = omega (arith, q, y) in
     let b₃ : getD corners (2 * (length corners / 3) + i) 0 < 65536 = omega (arith, q, z) in
@@ -225,8 +225,8 @@ room-of-strap e n lp ends i m T h u =
     let f = T .few in
     let x = subst (λ (w : ℕ). w < T .particles) (col-0 0 (length ends / 4) ends i) (T .ends-in .first i h) in
     let y = subst (λ (w : ℕ). w < T .particles) (col-1 0 (length ends / 4) ends i) (T .ends-in .second i h) in
-    let a₁ : getD ends i 0 < lp / 6 = omega (arith, q, x) in
-    let a₂ : getD ends (length ends / 4 + i) 0 < lp / 6 = omega (arith, q, y) in
+    let a₁ : getD ends i 0 < lp / pointColumns = omega (arith, q, x) in
+    let a₂ : getD ends (length ends / 4 + i) 0 < lp / pointColumns = omega (arith, q, y) in
     let b₁ : getD ends i 0 < 65536 = omega (arith, q, x) in
     let b₂ : getD ends (length ends / 4 + i) 0 < 65536 = omega (arith, q, y) in
     let g : m < 65536 = omega (arith, f) in
@@ -260,7 +260,7 @@ module _ (B : Blade) (points : List Float) (M : Mesh) (p : ℕ) (at : PlacesIn M
 
   pair-words : (x y : ℕ) → x < p → y < p → pairMarks B points (x, y) ≡ wordsAt (x, y)
   unfolding pairMarks meets
-  pair-words x y hx hy = ap₂ (λ (a b : Point). map wordsOf (markAt (x, y) (bladeHit (B .from) (B .to) a b))) (sym (at x hx)) (sym (at y hy))
+  pair-words x y hx hy = ap₂ (λ (a b : Point). map wordsOf (markAt (x, y) (hitBy (B .rule) (B .line .from) (B .line .to) a b))) (sym (at x hx)) (sym (at y hy))
 
   row-words : (x y z : ℕ) → x < p → y < p → z < p → rowMarks B points (x ∷ y ∷ z ∷ []) ≡ each wordsAt (pairs (x ∷ y ∷ z ∷ []))
   unfolding rowMarks each pairs
@@ -314,7 +314,7 @@ module _ (kind : KindCase) (B : Blade) (L : Rooms) (k : Counts) (points : List F
       let W = Y .counts in
       let a : k .triangles ≤ length corners / 3 = omega (arith, R .corners, W .triangles) in
       let b : k .particles ≤ 1024 = omega (arith, R .few-particles, W .particles) in
-      let c : k .particles ≤ length points / 6 = omega (arith, R .points, W .particles) in
+      let c : k .particles ≤ length points / pointColumns = omega (arith, R .points, W .particles) in
       let d : k .triangles ≤ 1024 = omega (arith, R .few-triangles, W .triangles) in
       let e : k .log ≤ 4096 = omega (arith, R .few-log, W .log) in
       record { columns = a; particles = k .particles; corners-in = corners-in k points roots corners volumes ends lengths outline (Y .indices); places = (b, c); few = (d, e) }
@@ -325,7 +325,7 @@ module _ (kind : KindCase) (B : Blade) (L : Rooms) (k : Counts) (points : List F
       let W = Y .counts in
       let a : k .edges ≤ length ends / 4 = omega (arith, R .ends, W .edges) in
       let b : k .particles ≤ 1024 = omega (arith, R .few-particles, W .particles) in
-      let c : k .particles ≤ length points / 6 = omega (arith, R .points, W .particles) in
+      let c : k .particles ≤ length points / pointColumns = omega (arith, R .points, W .particles) in
       let d : k .edges ≤ 2048 = omega (arith, R .few-edges, W .edges) in
       let e : k .log ≤ 4096 = omega (arith, R .few-log, W .log) in
       record { columns = a; particles = k .particles; ends-in = ends-in k points roots corners volumes ends lengths outline (Y .indices); places = (b, c); few = (d, e) }

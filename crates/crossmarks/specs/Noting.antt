@@ -6,15 +6,15 @@ use lib.ListN.{length, getD}
 use lib.Dec.{eqb}
 use lib.Ieee.{Float}
 use Rattle.lists.specs.Lists.{pick, each, pairs, tab, upTo}
-use Rattle.blade.specs.Blade.{bladeHit}
 use Rattle.model.specs.Cut.{Blade, markAt}
 use Rattle.mesh.specs.Log.{Words, wordsOf, logAt}
+use Rattle.mesh.specs.Widths.{pointColumns}
 use Rattle.work.specs.Places.{EndsIn, CornersIn}
-use Rattle.marks.specs.Marking.{placeIn}
+use Rattle.marks.specs.Marking.{hitIn}
 
 -- the words of a pair's mark, by the block of points
 unfoldable pub pairMarks : Blade → List Float → ℕ × ℕ → List Words
-pairMarks B points xy = map wordsOf (markAt xy (bladeHit (B .from) (B .to) (placeIn points (xy .0)) (placeIn points (xy .1))))
+pairMarks B points xy = map wordsOf (markAt xy (hitIn B points xy))
 
 -- those of all pairs of a row of corners
 unfoldable pub rowMarks : Blade → List Float → List ℕ → List Words
@@ -40,8 +40,8 @@ pub record Noted (more : List Words) (n : ℕ) (log log′ : List ℕ) (r : ℕ)
 
 -- x and y have places among lp numbers, and all three are small
 pub record PairRoom (x y n lp : ℕ) : Type 0 where
-  pub first : x < lp / 6
-  pub second : y < lp / 6
+  pub first : x < lp / pointColumns
+  pub second : y < lp / pointColumns
   pub small : (x < 65536) × (y < 65536)
   pub few : n < 65536
 
@@ -50,7 +50,7 @@ pub record TriangleRoom (t n lp : ℕ) (corners : List ℕ) : Type 0 where
   pub columns : t ≤ length corners / 3
   pub particles : ℕ
   pub corners-in : CornersIn particles t corners
-  pub places : (particles ≤ 1024) × (particles ≤ lp / 6)
+  pub places : (particles ≤ 1024) × (particles ≤ lp / pointColumns)
   pub few : (t ≤ 1024) × (n ≤ 4096)
 
 -- the ends of e edges are among particles that have places, and all numbers are small
@@ -58,5 +58,5 @@ pub record StrapRoom (e n lp : ℕ) (ends : List ℕ) : Type 0 where
   pub columns : e ≤ length ends / 4
   pub particles : ℕ
   pub ends-in : EndsIn particles e ends
-  pub places : (particles ≤ 1024) × (particles ≤ lp / 6)
+  pub places : (particles ≤ 1024) × (particles ≤ lp / pointColumns)
   pub few : (e ≤ 2048) × (n ≤ 4096)

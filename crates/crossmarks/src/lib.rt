@@ -8,12 +8,14 @@ ghost use Rattle.mesh.specs.At.{meshAt};
 ghost use Rattle.mesh.specs.Log.{worldAt};
 ghost use Rattle.mesh.specs.Filled.{lent};
 ghost use Rattle.work.specs.Working.{Ready, Works};
-ghost use Rattle.marks.specs.Marking.{bladeFrom};
+ghost use Rattle.marks.specs.Marking.{bladeBy};
 ghost use Rattle.crossmarks.specs.Noting.{Noted, pairMarks, rowMarks, triangleMarks, strapMarks, PairRoom, TriangleRoom, StrapRoom};
 use blade::Hit;
 use blade::Point;
 use elements::Kind;
+use marks::Rule;
 use marks::particles::place;
+use marks::particles::tested;
 use mesh::Counts;
 use mesh::Rooms;
 use work::Ran;
@@ -21,6 +23,7 @@ use work::notes::bits_of;
 
 // Notes the pair (x, y) behind the n entries of the log, if the blade meets it; returns how many there are then. Without room it is only counted.
 fn note_pair(
+    rule: Rule,
     b0: Point,
     b1: Point,
     x: usize,
@@ -30,9 +33,9 @@ fn note_pair(
     log: &mut [u32],
 ) -> usize
     requires { ⌜ PairRoom x y n (length (now points)) ⌝ }
-    ensures { λ r. ⌜ Noted (pairMarks (bladeFrom b0 b1) (now (points .entry)) (x, y)) n (now (log .entry)) (now (log .exit)) r ⌝ }
+    ensures { λ r. ⌜ Noted (pairMarks (bladeBy rule b0 b1) (now (points .entry)) (x, y)) n (now (log .entry)) (now (log .exit)) r ⌝ }
 {
-    let hit = blade::blade_hit(b0, b1, place(x, points), place(y, points));
+    let hit = tested(rule, b0, b1, place(x, points), place(y, points));
     let Hit::Hit(t, p) = hit else {
         return n;
     };
@@ -46,6 +49,7 @@ fn note_pair(
 
 // The same of each pair of a triangle's corners.
 fn note_sides(
+    rule: Rule,
     b0: Point,
     b1: Point,
     x: usize,
@@ -56,15 +60,16 @@ fn note_sides(
     log: &mut [u32],
 ) -> usize
     requires { ⌜ PairRoom x y (n + 2) (length (now points)) × PairRoom x z (n + 2) (length (now points)) ⌝ }
-    ensures { λ r. ⌜ Noted (rowMarks (bladeFrom b0 b1) (now (points .entry)) (x ∷ y ∷ z ∷ [])) n (now (log .entry)) (now (log .exit)) r ⌝ }
+    ensures { λ r. ⌜ Noted (rowMarks (bladeBy rule b0 b1) (now (points .entry)) (x ∷ y ∷ z ∷ [])) n (now (log .entry)) (now (log .exit)) r ⌝ }
 {
-    let first = note_pair(b0, b1, x, y, n, points, log);
-    let second = note_pair(b0, b1, x, z, first, points, log);
-    note_pair(b0, b1, y, z, second, points, log)
+    let first = note_pair(rule, b0, b1, x, y, n, points, log);
+    let second = note_pair(rule, b0, b1, x, z, first, points, log);
+    note_pair(rule, b0, b1, y, z, second, points, log)
 }
 
 // Notes the crossings of the first t triangles behind the n entries of the log.
 fn note_triangles(
+    rule: Rule,
     b0: Point,
     b1: Point,
     t: usize,
@@ -74,7 +79,7 @@ fn note_triangles(
     log: &mut [u32],
 ) -> usize
     requires { ⌜ TriangleRoom t n (length (now points)) (now corners) ⌝ }
-    ensures { λ r. ⌜ Noted (triangleMarks (bladeFrom b0 b1) (now (points .entry)) t (now (corners .entry))) n (now (log .entry)) (now (log .exit)) r ⌝ }
+    ensures { λ r. ⌜ Noted (triangleMarks (bladeBy rule b0 b1) (now (points .entry)) t (now (corners .entry))) n (now (log .entry)) (now (log .exit)) r ⌝ }
 {
     let size = corners.len() / 3;
     let mut m = n;
@@ -83,6 +88,7 @@ fn note_triangles(
         let second = size + i;
         let third = 2 * size + i;
         m = note_sides(
+            rule,
             b0,
             b1,
             corners[i],
@@ -99,6 +105,7 @@ fn note_triangles(
 
 // Notes the crossings of the straps among the first e edges behind the n entries of the log.
 fn note_straps(
+    rule: Rule,
     b0: Point,
     b1: Point,
     e: usize,
@@ -108,14 +115,14 @@ fn note_straps(
     log: &mut [u32],
 ) -> usize
     requires { ⌜ StrapRoom e n (length (now points)) (now ends) ⌝ }
-    ensures { λ r. ⌜ Noted (strapMarks (bladeFrom b0 b1) (now (points .entry)) e (now (ends .entry))) n (now (log .entry)) (now (log .exit)) r ⌝ }
+    ensures { λ r. ⌜ Noted (strapMarks (bladeBy rule b0 b1) (now (points .entry)) e (now (ends .entry))) n (now (log .entry)) (now (log .exit)) r ⌝ }
 {
     let size = ends.len() / 4;
     let mut m = n;
     let mut i: usize = 0;
     while i < e {
         if ends[2 * size + i] == 1 {
-            m = note_pair(b0, b1, ends[i], ends[size + i], m, points, log);
+            m = note_pair(rule, b0, b1, ends[i], ends[size + i], m, points, log);
         }
         i += 1;
     }
@@ -124,6 +131,7 @@ fn note_straps(
 
 // Notes the crossings of the blade with the elements of a mesh, as one step.
 pub fn note_crossings(
+    rule: Rule,
     kind: Kind,
     b0: Point,
     b1: Point,
@@ -139,12 +147,12 @@ pub fn note_crossings(
     log: &mut [u32],
 ) -> Ran
     requires { ⌜ Ready room k (lent (now points) (now roots) (now corners) (now volumes) (now ends) (now lengths) (now outline) (now log)) (meshAt k (now points) (now roots) (now corners) (now volumes) (now ends) (now lengths) (now outline)) ⌝ }
-    ensures { λ r. ⌜ Works (markedBy (kindIs kind) (bladeFrom b0 b1)) room (worldAt k (now (points .entry)) (now (roots .entry)) (now (corners .entry)) (now (volumes .entry)) (now (ends .entry)) (now (lengths .entry)) (now (outline .entry)) (now (log .entry))) (λ q. worldAt q (now (points .entry)) (now (roots .entry)) (now (corners .entry)) (now (volumes .entry)) (now (ends .entry)) (now (lengths .entry)) (now (outline .entry)) (now (log .exit))) r ⌝ }
+    ensures { λ r. ⌜ Works (markedBy (kindIs kind) (bladeBy rule b0 b1)) room (worldAt k (now (points .entry)) (now (roots .entry)) (now (corners .entry)) (now (volumes .entry)) (now (ends .entry)) (now (lengths .entry)) (now (outline .entry)) (now (log .entry))) (λ q. worldAt q (now (points .entry)) (now (roots .entry)) (now (corners .entry)) (now (volumes .entry)) (now (ends .entry)) (now (lengths .entry)) (now (outline .entry)) (now (log .exit))) r ⌝ }
 {
     let before = k.log;
     let n = match kind {
-        Kind::Triangles => note_triangles(b0, b1, k.triangles, before, points, corners, log),
-        Kind::Straps => note_straps(b0, b1, k.edges, before, points, ends, log),
+        Kind::Triangles => note_triangles(rule, b0, b1, k.triangles, before, points, corners, log),
+        Kind::Straps => note_straps(rule, b0, b1, k.edges, before, points, ends, log),
         Kind::Nothing => before,
     };
     if room.log < n {

@@ -19,6 +19,7 @@ use Rattle.mesh.specs.Log.{World, worldOf, wordsOf, worldAt}
 use Rattle.mesh.specs.Given.{Lent}
 use Rattle.mesh.specs.declared.Counts.{Counts}
 use Rattle.mesh.specs.declared.Rooms.{Rooms}
+use Rattle.mesh.specs.Widths.{pointColumns}
 use Rattle.work.specs.Places.{CornersIn}
 use Rattle.work.specs.Working.{Within, Ready, Works, Logged}
 use Rattle.work.specs.declared.Ran.{Ran}
@@ -26,7 +27,8 @@ use Rattle.work.specs.declared.Ran.the-variants.{Refused, Done}
 use Rattle.work.proofs.Placed.{particles-count, corners-in}
 use Rattle.work.proofs.Runs.{works-stay, works-then, works-refused, works-known}
 use Rattle.cut.specs.declared.facets.Parting.the-variants.{Free, Blade as BladeFrom}
-use Rattle.marks.specs.Marking.{bladeFrom, candidateEnds, CandidateRoom, CandidatesMarked, NearMarked, pinchedEnds, PinchedRoom, PinchedMarked}
+use Rattle.marks.specs.declared.Rule.{Rule}
+use Rattle.marks.specs.Marking.{bladeBy, candidateEnds, CandidateRoom, CandidatesMarked, NearMarked, pinchedEnds, PinchedRoom, PinchedMarked}
 use Rattle.cut.specs.Running.{sidesIn, splitIn, Chosen}
 use Rattle.cut.proofs.RunLaws.{chosen-rising, works-when, splitTo}
 use Rattle.marks.proofs.MarkLaws.{places-at}
@@ -46,9 +48,9 @@ free-is : (R : Run) (l : List ℕ) → fold (splitIn Free Triangles) R l ≡ fol
 unfolding splitIn sidesIn splitFree
 free-is R l = refl
 
-blade-is : (b0 b1 : Point) (R : Run) (l : List ℕ) → fold (splitIn (BladeFrom b0 b1) Triangles) R l ≡ fold (splitByBlade Triangles (bladeFrom b0 b1)) R l
+blade-is : (rule : Rule) (b0 b1 : Point) (R : Run) (l : List ℕ) → fold (splitIn (BladeFrom rule b0 b1) Triangles) R l ≡ fold (splitByBlade Triangles (bladeBy rule b0 b1)) R l
 unfolding splitIn sidesIn splitByBlade
-blade-is b0 b1 R l = refl
+blade-is rule b0 b1 R l = refl
 
 -- the first part of the cut
 abbrev pub splitCandidates : Blade → Run → Run
@@ -83,8 +85,8 @@ module _ (k : Counts) (points : List Float) (roots corners : List ℕ) (volumes 
   pub candidate-room : CandidateRoom (k .triangles) corners (length points)
   candidate-room =
       let a : k .particles ≤ L .particles = Y .counts .particles in
-      let b : L .particles ≤ length points / 6 = subst (λ (m : ℕ). L .particles ≤ m / 6) points-lent (Y .rooms .points) in
-      record { long = corners-long; corners-in = corners-wide (k .particles) (length points / 6) (k .triangles) corners (omega arith) named }
+      let b : L .particles ≤ length points / pointColumns = subst (λ (m : ℕ). L .particles ≤ m / pointColumns) points-lent (Y .rooms .points) in
+      record { long = corners-long; corners-in = corners-wide (k .particles) (length points / pointColumns) (k .triangles) corners (omega arith) named }
 
   pub pinched-room : (ln : ℕ) → 1024 ≤ ln → PinchedRoom (k .triangles) corners ln
   pinched-room ln h = let f = few in record { long = corners-long; corners-in = corners-wide (k .particles) ln (k .triangles) corners (omega arith) named }
@@ -114,19 +116,19 @@ module _ (k : Counts) (points : List Float) (roots corners : List ℕ) (volumes 
       ∙ free-is R (pinched Triangles R))
       F
 
-  pub candidates-work : (b0 b1 : Point) (marks : List ℕ) → 1024 ≤ length marks → CandidatesMarked (bladeFrom b0 b1) (k .triangles) points corners marks → {at : Counts → World} {r : Ran}
-      → Works (splitTo (BladeFrom b0 b1) Triangles L marks (k .particles)) L world at r → Works (splitCandidates (bladeFrom b0 b1)) L world at r
+  pub candidates-work : (rule : Rule) (b0 b1 : Point) (marks : List ℕ) → 1024 ≤ length marks → CandidatesMarked (bladeBy rule b0 b1) (k .triangles) points corners marks → {at : Counts → World} {r : Ran}
+      → Works (splitTo (BladeFrom rule b0 b1) Triangles L marks (k .particles)) L world at r → Works (splitCandidates (bladeBy rule b0 b1)) L world at r
   unfolding worldAt candidates candidateEnds
-  candidates-work b0 b1 marks hm C F =
+  candidates-work rule b0 b1 marks hm C F =
       let f = few in
       let M : Mesh = meshAt k points roots corners volumes ends lengths outline in
       works-when
       (λ R e.
-      ap (fold (splitIn (BladeFrom b0 b1) Triangles) R)
-      (chosen-rising marks (candidateEnds (bladeFrom b0 b1) M) (k .particles) (C .marked M (k .particles) volumes (places-at k points roots corners volumes ends lengths outline) named (triangles-at)) (omega arith)
-      ∙ ap (λ (n : ℕ). rising n (candidateEnds (bladeFrom b0 b1) M)) (particles-of R e)
-      ∙ ap (λ (x : World). rising (length (R .mesh .particles)) (candidateEnds (bladeFrom b0 b1) (x .mesh))) e)
-      ∙ blade-is b0 b1 R (candidates (bladeFrom b0 b1) (R .mesh)))
+      ap (fold (splitIn (BladeFrom rule b0 b1) Triangles) R)
+      (chosen-rising marks (candidateEnds (bladeBy rule b0 b1) M) (k .particles) (C .marked M (k .particles) volumes (places-at k points roots corners volumes ends lengths outline) named (triangles-at)) (omega arith)
+      ∙ ap (λ (n : ℕ). rising n (candidateEnds (bladeBy rule b0 b1) M)) (particles-of R e)
+      ∙ ap (λ (x : World). rising (length (R .mesh .particles)) (candidateEnds (bladeBy rule b0 b1) (x .mesh))) e)
+      ∙ blade-is rule b0 b1 R (candidates (bladeBy rule b0 b1) (R .mesh)))
       F
 
 -- ---- one part behind the other

@@ -13,6 +13,7 @@ use Rattle.mesh.specs.At.{meshAt}
 use Rattle.mesh.specs.Given.{Lent}
 use Rattle.mesh.specs.declared.Counts.{Counts}
 use Rattle.mesh.specs.declared.Rooms.{Rooms}
+use Rattle.mesh.specs.Widths.{pointColumns}
 use Rattle.elements.specs.Table.{Tabled}
 use Rattle.opening.specs.Opened.{CornersBelow}
 use Rattle.work.specs.Working.{Ready}
@@ -21,7 +22,7 @@ use Rattle.split.proofs.Below.{table-below, fan-corners}
 use Rattle.work.proofs.Placed.{particles-count}
 use Rattle.cut.specs.declared.facets.Parting.{Parting}
 use Rattle.cut.specs.declared.facets.Parting.the-variants.{Free, Blade as BladeFrom}
-use Rattle.marks.specs.Marking.{bladeFrom}
+use Rattle.marks.specs.Marking.{bladeBy}
 use Rattle.marks.specs.Sided.{SidesRoom, SidesBy}
 use Rattle.cut.specs.Running.{sidesIn, SidesFor}
 use Rattle.marks.proofs.MarkLaws.{places-at}
@@ -53,9 +54,9 @@ free-sides w K v n verts points ls sides e h s =
     take-zeros (suc a) (suc b) g = ap (λ (l : List ℕ). 0 ∷ l) (take-zeros a b (omega arith))
 
 -- by the blade
-pub blade-parts : (w : Parting) (K : Kind) (v n : ℕ) (verts : List ℕ) (points : List Float) (sides : List ℕ) (b0 b1 : _) → w ≡ BladeFrom b0 b1 → SidesBy K (bladeFrom b0 b1) v n verts points sides → SidesFor w K v n verts points sides
+pub blade-parts : (w : Parting) (K : Kind) (v n : ℕ) (verts : List ℕ) (points : List Float) (sides : List ℕ) (rule : _) (b0 b1 : _) → w ≡ BladeFrom rule b0 b1 → SidesBy K (bladeBy rule b0 b1) v n verts points sides → SidesFor w K v n verts points sides
 unfolding sidesIn
-blade-parts w K v n verts points sides b0 b1 e S = subst (λ (x : Parting). SidesFor x K v n verts points sides) (sym e) (record { are = S .are; two = S .two })
+blade-parts w K v n verts points sides rule b0 b1 e S = subst (λ (x : Parting). SidesFor x K v n verts points sides) (sym e) (record { are = S .are; two = S .two })
 
 -- ---- a fan of a mesh in blocks
 
@@ -81,7 +82,7 @@ module _ (K : Kind) (k : Counts) (points : List Float) (roots corners : List ℕ
   pub fan-room : (ls : ℕ) → 2048 ≤ ls → SidesRoom v (cornersPer K) n verts (length points) ls
   fan-room ls h =
       let a : k .particles ≤ L .particles = Y .counts .particles in
-      let b : L .particles ≤ length points / 6 = subst (λ (m : ℕ). L .particles ≤ m / 6) lent (Y .rooms .points) in
+      let b : L .particles ≤ length points / pointColumns = subst (λ (m : ℕ). L .particles ≤ m / pointColumns) lent (Y .rooms .points) in
       let f : n ≤ 2048 = F .few in
       record {
         here = omega arith;

@@ -14,7 +14,7 @@ use Rattle.model.specs.Cut.{bladeSides}
 use Rattle.mesh.specs.declared.Counts.{Counts}
 use Rattle.elements.specs.Table.{Cornered}
 use Rattle.opening.specs.Opened.{CornersBelow}
-use Rattle.marks.specs.Marking.{PlacesIn, bladeFrom, marked?}
+use Rattle.marks.specs.Marking.{PlacesIn, bladeBy, marked?}
 use Rattle.cut.specs.declared.facets.Parting.{Parting}
 use Rattle.cut.specs.declared.facets.Parting.the-variants.{Free, Blade as BladeFrom}
 use Rattle.work.specs.Working.{Logged}
@@ -22,7 +22,7 @@ use Rattle.work.specs.Working.{Logged}
 -- the sides of v's fan: all 0, or by a blade
 unfoldable pub sidesIn : Parting → Kind → Mesh → ℕ → List ℕ
 sidesIn Free K M v = map (λ (e : Element). 0) (fanOf K M v)
-sidesIn (BladeFrom b0 b1) K M v = bladeSides K (bladeFrom b0 b1) M v
+sidesIn (BladeFrom r b0 b1) K M v = bladeSides K (bladeBy r b0 b1) M v
 
 -- v split by them
 unfoldable pub splitIn : Parting → Kind → Run → ℕ → Run

@@ -9,13 +9,14 @@ ghost use Rattle.mesh.specs.Log.{worldAt};
 ghost use Rattle.mesh.specs.Filled.{lent};
 ghost use Rattle.elements.specs.Table.{kindIs};
 ghost use Rattle.work.specs.Working.{Ready, Works, Logged};
-ghost use Rattle.marks.specs.Marking.{bladeFrom};
+ghost use Rattle.marks.specs.Marking.{bladeBy};
 ghost use Rattle.marks.specs.Sided.{SidesRoom};
 ghost use Rattle.links.specs.Linked.{Linked};
 ghost use Rattle.split.specs.Linking.{LinkedAfter};
 ghost use Rattle.cut.specs.Running.{splitIn, splitIf, SidesFor, TablesLong, chosen, Chosen};
 use blade::Point;
 use elements::Kind;
+use marks::Rule;
 use marks::particles;
 use marks::sides::blade_sides;
 use mesh::Counts;
@@ -23,10 +24,10 @@ use mesh::Rooms;
 use split::step::split_tabled;
 use work::Ran;
 
-// How a fan is parted: no element from another by its side, or by the blade.
+// How a fan is parted: no element from another by its side, or by the blade and its rule.
 pub enum Parting {
     Free,
-    Blade(Point, Point),
+    Blade(Rule, Point, Point),
 }
 
 // The side of each of the n elements of v's fan.
@@ -44,7 +45,9 @@ fn part_fan(
 {
     match way {
         Parting::Free => columns::clear_usize(0, sides),
-        Parting::Blade(b0, b1) => blade_sides(kind, b0, b1, v, n, verts, points, sides),
+        Parting::Blade(rule, b0, b1) => {
+            blade_sides(rule, kind, b0, b1, v, n, verts, points, sides)
+        }
     }
 }
 
@@ -226,6 +229,7 @@ pub fn split_pinched(
 
 // Splits the candidates by the blade; then, if anything split, the pinched. Both share the lent tables.
 pub fn cut_facets(
+    rule: Rule,
     b0: Point,
     b1: Point,
     k: Counts,
@@ -247,11 +251,11 @@ pub fn cut_facets(
     links: &mut [u16],
 ) -> Ran
     requires { ⌜ Ready room k (lent (now points) (now roots) (now corners) (now volumes) (now ends) (now lengths) (now outline) (now log)) (meshAt k (now points) (now roots) (now corners) (now volumes) (now ends) (now lengths) (now outline)) × Logged (k .log) (now log) × (1024 ≤ length (now marks)) × TablesLong (length (now numbers)) (length (now verts)) (length (now measures)) (length (now sides)) (length (now groups)) × Linked Triangles (k .triangles) (now corners) (now links) ⌝ }
-    ensures { λ r. ⌜ Works (cutFacets (bladeFrom b0 b1)) room (worldAt k (now (points .entry)) (now (roots .entry)) (now (corners .entry)) (now (volumes .entry)) (now (ends .entry)) (now (lengths .entry)) (now (outline .entry)) (now (log .entry))) (λ q. worldAt q (now (points .exit)) (now (roots .exit)) (now (corners .exit)) (now (volumes .entry)) (now (ends .exit)) (now (lengths .exit)) (now (outline .exit)) (now (log .exit))) r × LinkedAfter Triangles (now (corners .exit)) (now (links .exit)) r ⌝ }
+    ensures { λ r. ⌜ Works (cutFacets (bladeBy rule b0 b1)) room (worldAt k (now (points .entry)) (now (roots .entry)) (now (corners .entry)) (now (volumes .entry)) (now (ends .entry)) (now (lengths .entry)) (now (outline .entry)) (now (log .entry))) (λ q. worldAt q (now (points .exit)) (now (roots .exit)) (now (corners .exit)) (now (volumes .entry)) (now (ends .exit)) (now (lengths .exit)) (now (outline .exit)) (now (log .exit))) r × LinkedAfter Triangles (now (corners .exit)) (now (links .exit)) r ⌝ }
 {
-    particles::mark_candidates(b0, b1, k.triangles, points, corners, marks);
+    particles::mark_candidates(rule, b0, b1, k.triangles, points, corners, marks);
     let ran = split_marked(
-        Parting::Blade(b0, b1),
+        Parting::Blade(rule, b0, b1),
         Kind::Triangles,
         k.particles,
         marks,

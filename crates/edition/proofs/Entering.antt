@@ -9,6 +9,7 @@ use lib.Dec.{leb, ltb}
 use lib.ListN.{length}
 use Rattle.bits.specs.Bits.{bitsOf}
 use Rattle.mesh.specs.Given.{Lent}
+use Rattle.mesh.specs.Widths.{pointColumns}
 use Rattle.outline.specs.Rows.{sidesAt}
 use Rattle.sheet.specs.Sheet.{countsAt}
 use Rattle.sheet.specs.declared.Counts.{Counts}
@@ -78,11 +79,11 @@ module _ (limits : Counts) (s o : List ℕ) (L : Lent) (nb : ℕ) (c d : Counts)
   held-here : Held s c o L nb
   unfolding roomFor
   held-here =
-      let w = roomy ((leb (c .triangles) (L .corners / 3) && leb (c .triangles) (L .volumes / 2)) && leb 4 nb) (leb (c .particles) (L .points / 6) && leb (c .particles) (L .roots / 2))
+      let w = roomy ((leb (c .triangles) (L .corners / 3) && leb (c .triangles) (L .volumes / 2)) && leb 4 nb) (leb (c .particles) (L .points / pointColumns) && leb (c .particles) (L .roots / 2))
       (leb (c .edges) (L .ends / 4) && leb (c .edges) (L .lengths / 4)) (leb (c .boundary) (L .outline / 2)) c d f g h in
       let v = both (leb (c .triangles) (L .corners / 3) && leb (c .triangles) (L .volumes / 2)) (leb 4 nb) (w .0) in
       let t = fits (c .triangles) (L .corners / 3) (L .volumes / 2) (v .0) in
-      let p = fits (c .particles) (L .points / 6) (L .roots / 2) (w .1) in
+      let p = fits (c .particles) (L .points / pointColumns) (L .roots / 2) (w .1) in
       let q = fits (c .edges) (L .ends / 4) (L .lengths / 4) (w .2) in
       let b = leb-true (c .boundary) (L .outline / 2) (w .3) in
       let a = seen-whole-tells limits s c f e in
@@ -104,7 +105,7 @@ module _ (limits : Counts) (s o : List ℕ) (L : Lent) (nb : ℕ) (c d : Counts)
 
   counts-same : c ≡ d
   unfolding roomFor
-  counts-same = roomy ((leb (c .triangles) (L .corners / 3) && leb (c .triangles) (L .volumes / 2)) && leb 4 nb) (leb (c .particles) (L .points / 6) && leb (c .particles) (L .roots / 2))
+  counts-same = roomy ((leb (c .triangles) (L .corners / 3) && leb (c .triangles) (L .volumes / 2)) && leb 4 nb) (leb (c .particles) (L .points / pointColumns) && leb (c .particles) (L .roots / 2))
       (leb (c .edges) (L .ends / 4) && leb (c .edges) (L .lengths / 4)) (leb (c .boundary) (L .outline / 2)) c d f g h .4
 
   -- the counts that room was found for hold
@@ -133,6 +134,6 @@ pub lent-whole : (x : Seen) (L : Lent) (nb : ℕ) (c : Counts) (f : Bool) → le
 unfolding lentOf roomFor
 lent-whole (Refused n) L nb c f e = absurd (never n c f e)
 lent-whole (Whole d g) L nb c f e =
-    let w = roomy ((leb (d .triangles) (L .corners / 3) && leb (d .triangles) (L .volumes / 2)) && leb 4 nb) (leb (d .particles) (L .points / 6) && leb (d .particles) (L .roots / 2))
+    let w = roomy ((leb (d .triangles) (L .corners / 3) && leb (d .triangles) (L .volumes / 2)) && leb 4 nb) (leb (d .particles) (L .points / pointColumns) && leb (d .particles) (L .roots / 2))
     (leb (d .edges) (L .ends / 4) && leb (d .edges) (L .lengths / 4)) (leb (d .boundary) (L .outline / 2)) d c g f e in
     λ i. Whole ((w .4) i) ((w .5) i)

@@ -11,6 +11,7 @@ use Rattle.float.specs.Numbers.{zero32}
 use Rattle.mesh.specs.Log.{World}
 use Rattle.mesh.specs.Given as G
 use Rattle.mesh.specs.Filled as F
+use Rattle.mesh.specs.Widths.{pointColumns}
 use Rattle.bits.specs.Bits.{bitsOf}
 use Rattle.sheet.specs.Read.{meshOfSheet, bladeOfSheet}
 use Rattle.sheet.specs.declared.Counts.{Counts}
@@ -22,7 +23,7 @@ use Rattle.edition.specs.declared.Seen.the-variants.{Whole, Refused}
 unfoldable pub roomFor : Counts → Bool → G.Lent → ℕ → Seen
 roomFor c replaced L blade =
     cond ((leb (c .triangles) (L .corners / 3) && leb (c .triangles) (L .volumes / 2)) && leb 4 blade)
-    (cond (leb (c .particles) (L .points / 6) && leb (c .particles) (L .roots / 2))
+    (cond (leb (c .particles) (L .points / pointColumns) && leb (c .particles) (L .roots / 2))
     (cond (leb (c .edges) (L .ends / 4) && leb (c .edges) (L .lengths / 4))
     (cond (leb (c .boundary) (L .outline / 2)) (Whole c replaced) (Refused 7))
     (Refused 6))

@@ -32,7 +32,7 @@ fn room(
 {
     if sheet_rows::two_fit(c.triangles, lc / 3, lv / 2) {
         if 4 <= lb {
-            if sheet_rows::two_fit(c.particles, lp / 6, lr / 2) {
+            if sheet_rows::two_fit(c.particles, lp / mesh::POINT_COLUMNS, lr / 2) {
                 if sheet_rows::two_fit(c.edges, le / 4, ll / 4) {
                     if c.boundary <= lo / 2 {
                         return Seen::Whole(c, replaced);

@@ -14,6 +14,7 @@ use Rattle.model.specs.Elements.{Element, kindOf, elementsOf, fanOf}
 use Rattle.model.specs.Calls.{present, refusal}
 use Rattle.model.specs.Reads.{Read, refused, value, orRefused}
 use Rattle.mesh.specs.Given.{Given, meshOf, sizesFit}
+use Rattle.mesh.specs.Widths.{pointColumns}
 use Rattle.judge.specs.Checks.{faultOf}
 use Rattle.elements.specs.Table.{Tabled, FanTabled, holding}
 use Rattle.elements.proofs.Found.{fan-of}
@@ -63,14 +64,14 @@ module _ (G : Given) (v : ℕ) (table : List ℕ) (code : ℕ) (judged : code �
 
   module _ (none : code ≡ 0) where
     -- an absent particle
-    pub fan-absent : length (G .points) / 6 ≤ v → Answered (fanCall (sizesFit G) (meshOf G) v) (Refused 4) table
+    pub fan-absent : length (G .points) / pointColumns ≤ v → Answered (fanCall (sizesFit G) (meshOf G) v) (Refused 4) table
     unfolding fanCall
     fan-absent h =
         let t : present (meshOf G) v ≡ false = le-ltb v (length (meshOf G .particles)) (omega (arith, particles-count G, h)) in
         refused-with _ 4 _ table (sym (decided G (present (meshOf G) v) (sym judged ∙ none) ∙ ap (λ (b : Bool). pick b 0 4) t)) (λ e. omega arith)
 
     -- the fan
-    pub fan-found : (r : ℕ) → v < length (G .points) / 6 → Listed G v r table → Answered (fanCall (sizesFit G) (meshOf G) v) (Elements r) table
+    pub fan-found : (r : ℕ) → v < length (G .points) / pointColumns → Listed G v r table → Answered (fanCall (sizesFit G) (meshOf G) v) (Elements r) table
     unfolding fanCall
     fan-found r h l =
         let t : present (meshOf G) v ≡ true = lt-ltb v (length (meshOf G .particles)) (omega (arith, particles-count G, h)) in

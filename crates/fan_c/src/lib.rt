@@ -80,7 +80,7 @@ fn mesh_fan(
     if code != 0 {
         return Found::Refused(code);
     }
-    if v < points.len() / 6 {
+    if v < points.len() / mesh::POINT_COLUMNS {
         let n = fan_numbers(
             points,
             roots,
@@ -102,7 +102,7 @@ fn image_fan(bytes: &[u8], v: usize, numbers: &mut [usize]) -> Found
     requires { ⌜ (imageSized (now bytes) ≡ true) × (2048 ≤ length (now numbers)) ⌝ }
     ensures { λ r. ⌜ Answered (fanCall (imageSized (now (bytes .entry))) (meshOf (imageOf (now (bytes .entry)))) v) r (now (numbers .exit)) ⌝ }
 {
-    let mut points = [0.0f32; 6144];
+    let mut points = [0.0f32; 1024 * mesh::POINT_COLUMNS];
     let mut roots = [0usize; 2048];
     let mut corners = [0usize; 3072];
     let mut volumes = [0.0f32; 2048];
@@ -113,7 +113,7 @@ fn image_fan(bytes: &[u8], v: usize, numbers: &mut [usize]) -> Found
     let t = image::word_at(bytes, 1);
     let e = image::word_at(bytes, 2);
     let b = image::word_at(bytes, 3);
-    let p6 = 6 * p;
+    let point_places = mesh::POINT_COLUMNS * p;
     let p2 = 2 * p;
     let t3 = 3 * t;
     let t2 = 2 * t;
@@ -130,7 +130,7 @@ fn image_fan(bytes: &[u8], v: usize, numbers: &mut [usize]) -> Found
         &mut outline,
     );
     mesh_fan(
-        &points[..p6],
+        &points[..point_places],
         &roots[..p2],
         &corners[..t3],
         &volumes[..t2],

@@ -80,7 +80,7 @@ fn say_counts(out: &[u8]) {
 
 // Closes a reader and says what it answers, and the counts of the mesh that it gives.
 fn close(text: &[u8], reader: &mut [u8]) {
-    let mut out = [1u8; 300];
+    let mut out = [1u8; 332];
     say(text);
     say_line(b"answer ", feed_c::close_sheet(reader, &mut out));
     say_counts(&out);

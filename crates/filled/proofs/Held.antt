@@ -15,6 +15,8 @@ use Rattle.mesh.specs.At.{particleRow, triangleRow, edgeRow, sideRow, particles
 use Rattle.mesh.specs.Log.{World, Words, wordList, wordsIn}
 use Rattle.mesh.specs.Given.{Lent}
 use Rattle.mesh.specs.Filled.{Filled, Fits, lent, pointOf, rootOf, cornerOf, volumeOf, endOf, lengthOf, sideOf}
+use Rattle.mesh.specs.Widths.{pointColumns}
+use Rattle.mesh.proofs.Columns.{by-columns}
 use Rattle.filled.specs.Counts.{countsIn}
 use Rattle.filled.proofs.Cells.{block-long, block-cell, block-least}
 
@@ -59,7 +61,7 @@ module _ (W : World) (L : Lent) (p : List Float) (r c : List ℕ) (v : List Floa
   filled-fits =
       let M = W .mesh in
       record {
-        points = omega (arith, rows-fit zero32 (L .points) 6 pointOf (M .particles) p (F .points) (ap (λ (x : Lent). x .points) kept));
+        points = omega (arith, rows-fit zero32 (L .points) pointColumns pointOf (M .particles) p (F .points) (ap (λ (x : Lent). x .points) kept));
         roots = omega (arith, rows-fit 0 (L .roots) 2 rootOf (M .particles) r (F .roots) (ap (λ (x : Lent). x .roots) kept));
         corners = omega (arith, rows-fit 0 (L .corners) 3 cornerOf (M .triangles) c (F .corners) (ap (λ (x : Lent). x .corners) kept));
         volumes = omega (arith, rows-fit zero32 (L .volumes) 2 volumeOf (M .triangles) v (F .volumes) (ap (λ (x : Lent). x .volumes) kept));
@@ -73,12 +75,12 @@ module _ (W : World) (L : Lent) (p : List Float) (r c : List ℕ) (v : List Floa
   unfolding particlesAt
   particles-held =
       let rows = W .mesh .particles in
-      let x : (j k : ℕ) → j < 6 → k < length rows → cell nan (length p / 6) p j k ≡ pointOf j (getD rows k blank) =
-      λ j k h q. field-cell zero32 (L .points) 6 pointOf rows p (F .points) (filled-fits .points) (omega arith) nan blank j k h q in
+      let x : (j k : ℕ) → j < pointColumns → k < length rows → cell nan (length p / pointColumns) p j k ≡ pointOf j (getD rows k blank) =
+      λ j k h q. field-cell zero32 (L .points) pointColumns pointOf rows p (F .points) (filled-fits .points) (omega arith) nan blank j k h q in
       let y : (j k : ℕ) → j < 2 → k < length rows → cell 0 (length r / 2) r j k ≡ rootOf j (getD rows k blank) =
       λ j k h q. field-cell 0 (L .roots) 2 rootOf rows r (F .roots) (filled-fits .roots) (omega arith) 0 blank j k h q in
-      tab-ext (length rows) (particleRow (length p / 6) (length r / 2) p r) (λ k. getD rows k blank)
-      (λ k q. rw (x 0 k (omega arith) q, x 1 k (omega arith) q, x 2 k (omega arith) q, x 3 k (omega arith) q, x 4 k (omega arith) q, x 5 k (omega arith) q, y 0 k (omega arith) q, y 1 k (omega arith) q) refl)
+      tab-ext (length rows) (particleRow (length p / pointColumns) (length r / 2) p r) (λ k. getD rows k blank)
+      (λ k q. by-columns _ (λ j. pointOf j (getD rows k blank)) _ _ _ _ (λ j h. x j k h q) (y 0 k (omega arith) q) (y 1 k (omega arith) q))
       ∙ tab-of rows blank
 
   triangles-held : trianglesAt (length (W .mesh .triangles)) c v ≡ W .mesh .triangles

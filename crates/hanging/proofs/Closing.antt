@@ -19,14 +19,14 @@ use Rattle.model.specs.Elements.{Kind, Triangles, Element, kindOf, particle, co
 use Rattle.model.specs.Run.{Entry, Rooms, Run, start, stepTo, splitsOf}
 use Rattle.model.specs.Split.{Opening, openingOf, splits?, portion, onlyAt, copied, rewiredTriangles, atLongest, settled, straddles, splitEntries, goneEntries, splitMade, splitStep, splitBySides}
 use Rattle.model.specs.Pieces.{bodyLabels, across?, withoutStraddlers, straddlersGone, removeStraddlers}
-use Rattle.model.specs.Cut.{Blade, splitEnds, nearCorners, splitByBlade, candidates, pinched, splitFree, splitPinched, cutFacets, markedBy, cutAlong, cut}
+use Rattle.model.specs.Cut.{Line, Blade, splitEnds, nearCorners, splitByBlade, candidates, pinched, splitFree, splitPinched, cutFacets, markedBy, cutAlong, cut}
 use Rattle.model.specs.Crack.{loadsOf, tornEnds, crackEdge, crack}
-use Rattle.model.specs.Calls.{bladeOk, fractionOk, trianglesLent, outcome, done, cutCall, crackCall}
+use Rattle.model.specs.Calls.{trianglesLent, bladeOf, outcome, done, cutCall, crackCall}
 use Rattle.model.specs.Trace.{All, Sound}
 use Rattle.model.proofs.Traced.{copiesFrom, step-splits, splits-here, copied-length, no-splits}
 use Rattle.model.proofs.Indexed.{Indexed, sides-indexed, fold-indexed, straddlers-indexed, edge-indexed}
 use Rattle.model.proofs.Accepted.{accepted-indexed}
-use Rattle.model.proofs.Kept.{outcome-done, unless-done, no-refusal}
+use Rattle.model.proofs.Kept.{outcome-done, unless-done, no-refusal, cut-no-refusal}
 use Rattle.model.proofs.Laws.{false-true, all-append, all-tab, all-in, length-mapAt, getD-mapAt, each-append, stands-head, stands-tail, stands-case}
 use Rattle.hanging.specs.Hanging.{HeldBy, Joined, Pinned, Firm, Touching, copiesBehind, SpokenOf, cutBegins, crackBegins}
 use Rattle.hanging.proofs.Opened.{held-low, joined-few, joined-old, joined-new}
@@ -313,14 +313,16 @@ crack-begins min is M = refl
 
 -- ---- the calls
 
--- An accepted cut of triangles: every particle that shares a triangle with a split particle or its copy when the closing pass begins, and every copy that
+-- An accepted cut of triangles, in either edition: every particle that shares a triangle with a split particle or its copy when the closing pass begins, and every copy that
 -- the pass makes, is pinned or has all its triangles joined.
-pub cut-firm : (sized : Bool) (M : Mesh) (B : Blade) (f : Float) (L : Rooms) (M′ : Mesh) (log : List Entry) (c : Bool) → kindOf M ≡ Triangles → cutCall sized M B f L ≡ done M′ log c
-    → (x : ℕ) → SpokenOf (cutBegins B M) log x → Firm M′ x
+pub cut-firm : (sized : Bool) (M : Mesh) (n : ℕ) (line : Line) (f : Float) (L : Rooms) (M′ : Mesh) (log : List Entry) (c : Bool)
+    → kindOf M ≡ Triangles → cutCall sized M n line f L ≡ done M′ log c
+    → (x : ℕ) → SpokenOf (cutBegins (bladeOf n line) M) log x → Firm M′ x
 unfolding cutCall cut cutAlong
-cut-firm sized M B f L M′ log c k e x s =
+cut-firm sized M n line f L M′ log c k e x s =
     let u = unless-done _ _ M′ log c e in
-    let P = no-refusal sized M (bladeOk B) (fractionOk f && trianglesLent L M) (u .0) in
+    let P = cut-no-refusal sized M n line f L (u .0) .0 in
+    let B = bladeOf n line in
     let d = outcome-done L (cutFacets B (markedBy Triangles B (start M))) M′ log c (subst (λ (q : Kind). outcome L (cut q B f (start M)) ≡ done M′ log c) k (u .1)) in
     subst (λ (N : Mesh). Firm N x) (d .0) (cut-closed B M (accepted-indexed M (P .indices)) x (subst (λ (l : List Entry). SpokenOf (cutBegins B M) l x) (sym (d .1)) s))
 

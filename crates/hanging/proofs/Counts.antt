@@ -15,7 +15,7 @@ use Rattle.lists.proofs.Chains.{chain-map}
 use Rattle.model.specs.Mesh.{Triangle, Mesh, blankTriangle}
 use Rattle.model.specs.Elements.{Kind, Triangles, Straps, Nothing, kindOf, cornersPer, cornersOf, trianglesFrom, elementsOf}
 use Rattle.model.specs.Run.{Entry, Rooms}
-use Rattle.model.specs.Cut.{Blade}
+use Rattle.model.specs.Cut.{Line}
 use Rattle.model.specs.Calls.{done, cutCall}
 use Rattle.model.specs.Pieces.{cornersAt, pieces, bodies}
 use Rattle.model.proofs.Accepted.{cut-accepted}
@@ -102,8 +102,9 @@ none-hangs M F U Triangles x i j H K =
 none-hangs M F U Straps x i j H K = ahead (strap-share M x i j H K) stay
 none-hangs M F U Nothing x i j H K = absurd (not-suc-le-zero (H .0))
 
--- After an accepted cut of triangles in which no corner was pinched, and after which no particle of a triangle is pinned, the count of pieces is that of bodies.
-pub cut-counts : (sized : Bool) (M : Mesh) (B : Blade) (f : Float) (L : Rooms) (M′ : Mesh) (log : List Entry) (c : Bool) → kindOf M ≡ Triangles → Unpinched M → cutCall sized M B f L ≡ done M′ log c
+-- After an accepted cut of triangles, in either edition, in which no corner was pinched, and after which no particle of a triangle is pinned, the count of pieces is that of bodies.
+pub cut-counts : (sized : Bool) (M : Mesh) (n : ℕ) (B : Line) (f : Float) (L : Rooms) (M′ : Mesh) (log : List Entry) (c : Bool)
+    → kindOf M ≡ Triangles → Unpinched M → cutCall sized M n B f L ≡ done M′ log c
     → Unpinned M′ → pieces M′ ≡ bodies M′
-cut-counts sized M B f L M′ log c k P e U =
-    no-hanging-corner M′ (cut-accepted sized M B f L M′ log c e) (none-hangs M′ (cut-all-firm sized M B f L M′ log c k P e) U (kindOf M′))
+cut-counts sized M n B f L M′ log c k P e U =
+    no-hanging-corner M′ (cut-accepted sized M n B f L M′ log c e) (none-hangs M′ (cut-all-firm sized M n B f L M′ log c k P e) U (kindOf M′))

@@ -18,12 +18,12 @@ use Rattle.model.specs.Mesh.{Triangle, Edge, Mesh}
 use Rattle.model.specs.Elements.{Kind, Triangles, Element, kindOf, cornersOf, triangleElement, trianglesFrom, elementsOf}
 use Rattle.model.specs.Run.{Entry, Rooms, Run, start, stepTo, splitsOf}
 use Rattle.model.specs.Split.{Opening, openingOf, splits?, copyFor, groupAt, rewiredTriangles, straddles, atLongest, settled, splitEntries, goneEntries, splitMade, splitStep, splitBySides}
-use Rattle.model.specs.Cut.{Blade, splitEnds, nearCorners, splitByBlade, candidates, pinched, splitFree, splitPinched, cutFacets, markedBy, cutAlong, cut}
-use Rattle.model.specs.Calls.{bladeOk, fractionOk, trianglesLent, outcome, done, cutCall}
+use Rattle.model.specs.Cut.{Line, Blade, splitEnds, nearCorners, splitByBlade, candidates, pinched, splitFree, splitPinched, cutFacets, markedBy, cutAlong, cut}
+use Rattle.model.specs.Calls.{bladeOf, outcome, done, cutCall}
 use Rattle.model.proofs.Traced.{copiesFrom, step-splits, splits-here, at-below, opening-fits}
 use Rattle.model.proofs.Indexed.{Indexed, sides-indexed}
 use Rattle.model.proofs.Accepted.{accepted-indexed}
-use Rattle.model.proofs.Kept.{outcome-done, unless-done, no-refusal}
+use Rattle.model.proofs.Kept.{outcome-done, unless-done, cut-no-refusal}
 use Rattle.model.proofs.Laws.{false-true, each-append, stands-head, stands-tail, stands-case}
 use Rattle.hanging.specs.Hanging.{HeldBy, Beside, Joined, Firm, Unpinched, Touching, cutBegins}
 use Rattle.hanging.proofs.Opened.{moved, kept-held, copy-held, back-held}
@@ -308,12 +308,14 @@ cut-fine B M X U x =
 
 -- ---- the call
 
--- An accepted cut of triangles in which no corner was pinched: after it every particle, near or far, is pinned or has all its triangles joined.
-pub cut-all-firm : (sized : Bool) (M : Mesh) (B : Blade) (f : Float) (L : Rooms) (M′ : Mesh) (log : List Entry) (c : Bool) → kindOf M ≡ Triangles → Unpinched M → cutCall sized M B f L ≡ done M′ log c
+-- An accepted cut of triangles, in either edition, in which no corner was pinched: after it every particle, near or far, is pinned or has all its triangles joined.
+pub cut-all-firm : (sized : Bool) (M : Mesh) (n : ℕ) (line : Line) (f : Float) (L : Rooms) (M′ : Mesh) (log : List Entry) (c : Bool)
+    → kindOf M ≡ Triangles → Unpinched M → cutCall sized M n line f L ≡ done M′ log c
     → (x : ℕ) → Firm M′ x
 unfolding cutCall cut cutAlong
-cut-all-firm sized M B f L M′ log c k U e x =
+cut-all-firm sized M n line f L M′ log c k U e x =
     let u = unless-done _ _ M′ log c e in
-    let P = no-refusal sized M (bladeOk B) (fractionOk f && trianglesLent L M) (u .0) in
+    let P = cut-no-refusal sized M n line f L (u .0) .0 in
+    let B = bladeOf n line in
     let d = outcome-done L (cutFacets B (markedBy Triangles B (start M))) M′ log c (subst (λ (q : Kind). outcome L (cut q B f (start M)) ≡ done M′ log c) k (u .1)) in
     subst (λ (N : Mesh). Firm N x) (d .0) (cut-fine B M (accepted-indexed M (P .indices)) U x)

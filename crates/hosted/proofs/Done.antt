@@ -17,9 +17,9 @@ use Rattle.model.specs.Elements.{kindOf}
 use Rattle.model.specs.Run.{Entry, Rooms, Run, start}
 use Rattle.model.specs.Split.{splitBySides}
 use Rattle.model.specs.Pieces.{removeStraddlers}
-use Rattle.model.specs.Cut.{Blade, cut}
+use Rattle.model.specs.Cut.{Line, cut}
 use Rattle.model.specs.Crack.{crack}
-use Rattle.model.specs.Calls.{Outcome, refused, done, refusal, bladeOk, fractionOk, sidesOk, trianglesLent, firstFault, fitted, outcome, unless, cutCall, crackCall, splitCall, straddlersCall}
+use Rattle.model.specs.Calls.{Outcome, refused, done, refusal, bladeOk, bladeOf, cutRefusal, sidesOk, trianglesLent, firstFault, fitted, outcome, unless, cutCall, crackCall, splitCall, straddlersCall}
 use Rattle.model.specs.Reads.{value, refused as denied}
 use Rattle.model.specs.Trace.{All}
 use Rattle.mesh.specs.Given.{meshOf}
@@ -98,9 +98,9 @@ rooms-firm s rooms numbers o f = pick-firm (eqb (length rooms) 16) o (refusal (i
 read-firm : (ok : Bool) (s : List ℕ) (o : Outcome) → Firm o → Firm (ifRead ok s o)
 read-firm ok s o f = pick-firm ok o (refusal (imageSized s) (meshOf (imageOf s)) true false) f (bad-refused (imageSized s) (meshOf (imageOf s)) true)
 
-cut-firm : (z : Bool) (M : Mesh) (B : Blade) (f : Float) (L : Rooms) → Firm (cutCall z M B f L)
+cut-firm : (z : Bool) (M : Mesh) (n : ℕ) (B : Line) (f : Float) (L : Rooms) → Firm (cutCall z M n B f L)
 unfolding cutCall
-cut-firm z M B f L = unless-firm (refusal z M (bladeOk B) (fractionOk f && trianglesLent L M)) L (cut (kindOf M) B f (start M))
+cut-firm z M n B f L = unless-firm (cutRefusal z M n B f L) L (cut (kindOf M) (bladeOf n B) f (start M))
 
 crack-firm : (z : Bool) (M : Mesh) (is : List ℕ) (min : ℕ) (L : Rooms) → Firm (crackCall z M is min L)
 unfolding crackCall
@@ -116,9 +116,9 @@ straddlers-firm z M L = unless-firm (refusal z M true (trianglesLent L M)) L (re
 
 asked-firm : (s : List ℕ) (logged : ℕ) (o : Outcome) → Asked s logged o → Firm o
 unfolding cutOutcome crackOutcome splitOutcome straddlersOutcome
-asked-firm s logged o (cuts blade f rooms) =
-    let c = cutCall (imageSized s) (meshOf (imageOf s)) (bladeIn blade) (numberOf f) (roomsIn rooms logged) in
-    read-firm (eqb (length blade) 16) s (withRooms s rooms (bladeOk (bladeIn blade)) c) (rooms-firm s rooms (bladeOk (bladeIn blade)) c (cut-firm (imageSized s) (meshOf (imageOf s)) (bladeIn blade) (numberOf f) (roomsIn rooms logged)))
+asked-firm s logged o (cuts blade n f rooms) =
+    let c = cutCall (imageSized s) (meshOf (imageOf s)) n (bladeIn blade) (numberOf f) (roomsIn rooms logged) in
+    read-firm (eqb (length blade) 16) s (withRooms s rooms (bladeOk (bladeIn blade)) c) (rooms-firm s rooms (bladeOk (bladeIn blade)) c (cut-firm (imageSized s) (meshOf (imageOf s)) n (bladeIn blade) (numberOf f) (roomsIn rooms logged)))
 asked-firm s logged o (cracks torn min rooms) =
     let ts = wordsFrom torn 0 (length torn / 4) in
     let c = crackCall (imageSized s) (meshOf (imageOf s)) ts min (roomsIn rooms logged) in
@@ -143,9 +143,9 @@ read-done ok s o M l c e = pick-done ok o (refusal (imageSized s) (meshOf (image
 
 -- no call passes whose image is not sized
 module _ (L : Rooms) (M : Mesh) where
-  cut-off : (B : Blade) (f : Float) → cutCall false M B f L ≡ refused 1
+  cut-off : (n : ℕ) (B : Line) (f : Float) → cutCall false M n B f L ≡ refused 1
   unfolding cutCall refusal
-  cut-off B f = refl
+  cut-off n B f = refl
 
   crack-off : (is : List ℕ) (min : ℕ) → crackCall false M is min L ≡ refused 1
   unfolding crackCall refusal
@@ -165,13 +165,13 @@ CallOf s logged M′ more = (rooms : List ℕ) × Called (roomsIn rooms logged) 
 
 asked-called : (s : List ℕ) (logged : ℕ) (o : Outcome) → Asked s logged o → (M′ : Mesh) (more : List Entry) (c : Bool) → o ≡ done M′ more c → CallOf s logged M′ more
 unfolding cutOutcome crackOutcome splitOutcome straddlersOutcome
-asked-called s logged o (cuts blade f rooms) M′ more c e =
+asked-called s logged o (cuts blade n f rooms) M′ more c e =
     let M = meshOf (imageOf s) in
     let L = roomsIn rooms logged in
     let B = bladeIn blade in
-    let k = cutCall (imageSized s) M B (numberOf f) L in (
+    let k = cutCall (imageSized s) M n B (numberOf f) L in (
       rooms,
-      sized-call L M (λ z. cutCall z M B (numberOf f) L) (cut-off L M B (numberOf f)) (λ N l x d. cutting B (numberOf f) d) (imageSized s) M′ more c
+      sized-call L M (λ z. cutCall z M n B (numberOf f) L) (cut-off L M n B (numberOf f)) (λ N l x d. cutting n B (numberOf f) d) (imageSized s) M′ more c
           (rooms-done s rooms (bladeOk B) k M′ more c (read-done (eqb (length blade) 16) s (withRooms s rooms (bladeOk B) k) M′ more c e)),
     )
 asked-called s logged o (cracks torn min rooms) M′ more c e =

@@ -21,7 +21,7 @@ entriesIn out log = take (24 * wordAt out 1) log
 
 -- what a C function that gives a mesh may be asked of the image s, with so many log bytes
 pub data Asked (s : List ℕ) (logged : ℕ) : Outcome → Type 0 where
-  cuts : (blade : List ℕ) (f : ℕ) (rooms : List ℕ) → Asked s logged (cutOutcome s blade f rooms logged)
+  cuts : (blade : List ℕ) (n f : ℕ) (rooms : List ℕ) → Asked s logged (cutOutcome s blade n f rooms logged)
   cracks : (torn : List ℕ) (min : ℕ) (rooms : List ℕ) → Asked s logged (crackOutcome s torn min rooms logged)
   splits : (v : ℕ) (sides rooms : List ℕ) → Asked s logged (splitOutcome s v sides rooms logged)
   straddlers : (rooms : List ℕ) → Asked s logged (straddlersOutcome s rooms logged)

@@ -16,6 +16,7 @@ use Rattle.model.specs.Mesh.{Mesh}
 use Rattle.mesh.specs.Given.{Lent}
 use Rattle.mesh.specs.Log.{World}
 use Rattle.mesh.specs.Filled.{Filled, pointOf, rootOf, cornerOf, volumeOf, endOf, lengthOf, sideOf}
+use Rattle.mesh.specs.Widths.{pointColumns}
 use Rattle.image.specs.Words.{bitsIn}
 use Rattle.image.specs.Image.{imageWordsOf}
 use Rattle.image.specs.Stores.{frontsOf, blockWords}
@@ -96,7 +97,7 @@ module _ {A : Type 0} where
 
 -- each list of a mesh fits the lent columns
 pub record Room (M : Mesh) (L : Lent) : Type 0 where
-  pub points : length (M .particles) ≤ L .points / 6
+  pub points : length (M .particles) ≤ L .points / pointColumns
   pub roots : length (M .particles) ≤ L .roots / 2
   pub corners : length (M .triangles) ≤ L .corners / 3
   pub volumes : length (M .triangles) ≤ L .volumes / 2
@@ -118,7 +119,7 @@ module _ (W : World) (L : Lent) (p : List Float) (r c : List ℕ) (v : List Floa
   pub filled-room : Room (W .mesh) L
   filled-room =
       let M = W .mesh in
-      let a = block-holds (L .points) 6 (L .points / 6) (length (M .particles)) zero32 _ p (h .points) (n .points) (λ k. length-map (M .particles) (pointOf k)) in
+      let a = block-holds (L .points) pointColumns (L .points / pointColumns) (length (M .particles)) zero32 _ p (h .points) (n .points) (λ k. length-map (M .particles) (pointOf k)) in
       let b = block-holds (L .roots) 2 (L .roots / 2) (length (M .particles)) 0 _ r (h .roots) (n .roots) (λ k. length-map (M .particles) (rootOf k)) in
       let d = block-holds (L .corners) 3 (L .corners / 3) (length (M .triangles)) 0 _ c (h .corners) (n .corners) (λ k. length-map (M .triangles) (cornerOf k)) in
       let f = block-holds (L .volumes) 2 (L .volumes / 2) (length (M .triangles)) zero32 _ v (h .volumes) (n .volumes) (λ k. length-map (M .triangles) (volumeOf k)) in
@@ -146,7 +147,7 @@ module _ (W : World) (L : Lent) (p : List Float) (r c : List ℕ) (v : List Floa
       let M = W .mesh in
       let q = filled-room W L p r c v e l o g h n in
       words-path (length (M .particles) ∷ length (M .triangles) ∷ length (M .edges) ∷ length (M .boundary) ∷ [])
-      (ap bitsIn (ap (λ (x : ℕ). frontsOf 6 (length (M .particles)) (x / 6) p) (n .points) ∙ fronts-of (L .points) 6 (L .points / 6) (length (M .particles)) zero32 _ p (h .points) (q .points) (λ k. length-map (M .particles) (pointOf k))))
+      (ap bitsIn (ap (λ (x : ℕ). frontsOf pointColumns (length (M .particles)) (x / pointColumns) p) (n .points) ∙ fronts-of (L .points) pointColumns (L .points / pointColumns) (length (M .particles)) zero32 _ p (h .points) (q .points) (λ k. length-map (M .particles) (pointOf k))))
       (ap (λ (x : ℕ). frontsOf 2 (length (M .particles)) (x / 2) r) (n .roots) ∙ fronts-of (L .roots) 2 (L .roots / 2) (length (M .particles)) 0 _ r (h .roots) (q .roots) (λ k. length-map (M .particles) (rootOf k)))
       (ap (λ (x : ℕ). frontsOf 3 (length (M .triangles)) (x / 3) c) (n .corners) ∙ fronts-of (L .corners) 3 (L .corners / 3) (length (M .triangles)) 0 _ c (h .corners) (q .corners) (λ k. length-map (M .triangles) (cornerOf k)))
       (ap bitsIn (ap (λ (x : ℕ). frontsOf 2 (length (M .triangles)) (x / 2) v) (n .volumes) ∙ fronts-of (L .volumes) 2 (L .volumes / 2) (length (M .triangles)) zero32 _ v (h .volumes) (q .volumes) (λ k. length-map (M .triangles) (volumeOf k))))

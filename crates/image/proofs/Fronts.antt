@@ -4,19 +4,20 @@ use mathlib.Core.Path.{_≡_, subst}
 use mathlib.Core.List.{List}
 use lib.ListN.{take}
 use lib.Ieee.{Float}
+use Rattle.mesh.specs.Widths.{pointColumns, particleWords}
 use Rattle.image.specs.Words.{wordAt, wordsFrom, numbersFrom}
 use Rattle.image.specs.Image.{imageOf, blocksIn}
 use Rattle.image.specs.Loads.{Loaded}
 
 -- what each of the seven reads gave
 pub record Fronts (s : List ℕ) (p t e b : ℕ) (ps : List Float) (rs cs : List ℕ) (vs : List Float) (es : List ℕ) (ls : List Float) (os : List ℕ) : Type 0 where
-  pub points-are : take (6 * p) ps ≡ numbersFrom s 4 (6 * p)
-  pub roots-are : take (2 * p) rs ≡ wordsFrom s (4 + 6 * p) (2 * p)
-  pub corners-are : take (3 * t) cs ≡ wordsFrom s (4 + 8 * p) (3 * t)
-  pub volumes-are : take (2 * t) vs ≡ numbersFrom s (4 + 8 * p + 3 * t) (2 * t)
-  pub ends-are : take (4 * e) es ≡ wordsFrom s (4 + 8 * p + 5 * t) (4 * e)
-  pub lengths-are : take (4 * e) ls ≡ numbersFrom s (4 + 8 * p + 5 * t + 4 * e) (4 * e)
-  pub outline-are : take (2 * b) os ≡ wordsFrom s (4 + 8 * p + 5 * t + 8 * e) (2 * b)
+  pub points-are : take (pointColumns * p) ps ≡ numbersFrom s 4 (pointColumns * p)
+  pub roots-are : take (2 * p) rs ≡ wordsFrom s (4 + pointColumns * p) (2 * p)
+  pub corners-are : take (3 * t) cs ≡ wordsFrom s (4 + particleWords * p) (3 * t)
+  pub volumes-are : take (2 * t) vs ≡ numbersFrom s (4 + particleWords * p + 3 * t) (2 * t)
+  pub ends-are : take (4 * e) es ≡ wordsFrom s (4 + particleWords * p + 5 * t) (4 * e)
+  pub lengths-are : take (4 * e) ls ≡ numbersFrom s (4 + particleWords * p + 5 * t + 4 * e) (4 * e)
+  pub outline-are : take (2 * b) os ≡ wordsFrom s (4 + particleWords * p + 5 * t + 8 * e) (2 * b)
 
 module _ (s : List ℕ) (ps : List Float) (rs cs : List ℕ) (vs : List Float) (es : List ℕ) (ls : List Float) (os : List ℕ) where
   -- by the counts themselves

@@ -9,6 +9,7 @@ use lib.ListN.{length, take}
 use lib.Ieee.{Float}
 use borrow.Author.Tests.{leb-true}
 use Rattle.mesh.specs.Given.{Given, given, sizesFit}
+use Rattle.mesh.specs.Widths.{pointColumns}
 use Rattle.image.specs.Words.{wordAt}
 use Rattle.image.specs.Image.{imageFits, imageOf, countsWithin, imageSized}
 use Rattle.image.specs.Loads.{Loadable, Loaded}
@@ -59,7 +60,7 @@ module _ (s : List ℕ) (h : imageSized s ≡ true) where
   boundary-few = leb-true (wordAt s 3) 2048 (and-right (leb (wordAt s 0) 1024 && leb (wordAt s 1) 1024 && leb (wordAt s 2) 2048) _ within)
 
   -- local blocks have room
-  pub sized-loadable : Loadable s 6144 2048 3072 2048 8192 8192 4096
+  pub sized-loadable : Loadable s (1024 * pointColumns) 2048 3072 2048 8192 8192 4096
   sized-loadable =
       record {
         long = fits-long s fits;
@@ -83,8 +84,8 @@ given-path {p} {p′} {r} {r′} {c} {c′} {v} {v′} {e} {e′} {l} {l′} {o}
 -- the fronts of loaded blocks are the image's input
 pub fronts-are : (s : List ℕ) (p t e b : ℕ) (ps : List Float) (rs cs : List ℕ) (vs : List Float) (es : List ℕ) (ls : List Float) (os : List ℕ)
     → p ≡ wordAt s 0 → t ≡ wordAt s 1 → e ≡ wordAt s 2 → b ≡ wordAt s 3 → Loaded s ps rs cs vs es ls os
-    → given (take (6 * p) ps) (take (2 * p) rs) (take (3 * t) cs) (take (2 * t) vs) (take (4 * e) es) (take (4 * e) ls) (take (2 * b) os) ≡ imageOf s
+    → given (take (pointColumns * p) ps) (take (2 * p) rs) (take (3 * t) cs) (take (2 * t) vs) (take (4 * e) es) (take (4 * e) ls) (take (2 * b) os) ≡ imageOf s
 fronts-are s p t e b ps rs cs vs es ls os ep et ee eb h =
-    given-path (ap (λ (m : ℕ). take (6 * m) ps) ep ∙ h .points-are) (ap (λ (m : ℕ). take (2 * m) rs) ep ∙ h .roots-are) (ap (λ (m : ℕ). take (3 * m) cs) et ∙ h .corners-are)
+    given-path (ap (λ (m : ℕ). take (pointColumns * m) ps) ep ∙ h .points-are) (ap (λ (m : ℕ). take (2 * m) rs) ep ∙ h .roots-are) (ap (λ (m : ℕ). take (3 * m) cs) et ∙ h .corners-are)
     (ap (λ (m : ℕ). take (2 * m) vs) et ∙ h .volumes-are) (ap (λ (m : ℕ). take (4 * m) es) ee ∙ h .ends-are) (ap (λ (m : ℕ). take (4 * m) ls) ee ∙ h .lengths-are)
     (ap (λ (m : ℕ). take (2 * m) os) eb ∙ h .outline-are)

@@ -14,6 +14,8 @@ use Rattle.columns.proofs.Cells.{col-fits}
 use Rattle.mesh.specs.At.{meshAt, particlesAt, trianglesAt, edgesAt, boundaryAt, particleRow, triangleRow, edgeRow, sideRow}
 use Rattle.mesh.specs.Filled.{pointOf, rootOf, cornerOf, volumeOf, endOf, lengthOf, sideOf}
 use Rattle.mesh.specs.declared.Counts.{Counts}
+use Rattle.mesh.specs.Widths.{pointColumns}
+use Rattle.mesh.proofs.Blocks.{point-at}
 use Rattle.image.specs.Words.{bitsIn}
 use Rattle.image.specs.Image.{imageWords, imageWordsOf}
 use Rattle.image.specs.Stores.{frontsOf, blockWords, Standing}
@@ -38,15 +40,6 @@ fronts-rows {A} {B} d w n R s row col few room reads =
     take-tab n (drop (c * R) s) d long ∙ tab-ext n _ _ (λ k _. getD-drop (c * R) s k d ∙ sym (reads c k h)) ∙ sym (map-tab (col c) n row))
 
 -- ---- seven blocks
-
-point-cell : (P R : ℕ) (p : List Float) (r : List ℕ) (c k : ℕ) → c < 6 → pointOf c (particleRow P R p r k) ≡ cell nan P p c k
-point-cell P R p r zero k h = refl
-point-cell P R p r (suc zero) k h = refl
-point-cell P R p r (suc (suc zero)) k h = refl
-point-cell P R p r (suc (suc (suc zero))) k h = refl
-point-cell P R p r (suc (suc (suc (suc zero)))) k h = refl
-point-cell P R p r (suc (suc (suc (suc (suc zero))))) k h = refl
-point-cell P R p r (suc (suc (suc (suc (suc (suc c)))))) k h = absurd (omega arith)
 
 root-cell : (P R : ℕ) (p : List Float) (r : List ℕ) (c k : ℕ) → c < 2 → rootOf c (particleRow P R p r k) ≡ cell 0 R r c k
 root-cell P R p r zero k h = refl
@@ -109,7 +102,7 @@ module _ (k : Counts) (p : List Float) (r c : List ℕ) (v : List Float) (e : Li
       let P = k .particles in
       let T = k .triangles in
       let E = k .edges in
-      let n₁ : length (bitsIn (frontsOf 6 P (length p / 6) p)) ≡ 6 * P = bits-length (frontsOf 6 P (length p / 6) p) ∙ fronts-length 6 P (length p / 6) p (h .points) (omega arith) in
+      let n₁ : length (bitsIn (frontsOf pointColumns P (length p / pointColumns) p)) ≡ pointColumns * P = bits-length (frontsOf pointColumns P (length p / pointColumns) p) ∙ fronts-length pointColumns P (length p / pointColumns) p (h .points) (omega arith) in
       let n₂ = fronts-length 2 P (length r / 2) r (h .roots) (omega arith) in
       let n₃ = fronts-length 3 T (length c / 3) c (h .corners) (omega arith) in
       let n₄ : length (bitsIn (frontsOf 2 T (length v / 2) v)) ≡ 2 * T = bits-length (frontsOf 2 T (length v / 2) v) ∙ fronts-length 2 T (length v / 2) v (h .volumes) (omega arith) in
@@ -117,7 +110,7 @@ module _ (k : Counts) (p : List Float) (r c : List ℕ) (v : List Float) (e : Li
       let n₆ : length (bitsIn (frontsOf 4 E (length l / 4) l)) ≡ 4 * E = bits-length (frontsOf 4 E (length l / 4) l) ∙ fronts-length 4 E (length l / 4) l (h .lengths) (omega arith) in
       let n₇ = fronts-length 2 (k .boundary) (length o / 2) o (h .outline) (omega arith) in
       let all =
-      eight-long (P ∷ T ∷ E ∷ k .boundary ∷ []) (bitsIn (frontsOf 6 P (length p / 6) p)) (frontsOf 2 P (length r / 2) r) (frontsOf 3 T (length c / 3) c) (bitsIn (frontsOf 2 T (length v / 2) v))
+      eight-long (P ∷ T ∷ E ∷ k .boundary ∷ []) (bitsIn (frontsOf pointColumns P (length p / pointColumns) p)) (frontsOf 2 P (length r / 2) r) (frontsOf 3 T (length c / 3) c) (bitsIn (frontsOf 2 T (length v / 2) v))
       (frontsOf 4 E (length e / 4) e) (bitsIn (frontsOf 4 E (length l / 4) l)) (frontsOf 2 (k .boundary) (length o / 2) o) in
       all ∙ omega (arith, n₁, n₂, n₃, n₄, n₅, n₆, n₇)
 
@@ -127,8 +120,8 @@ module _ (k : Counts) (p : List Float) (r c : List ℕ) (v : List Float) (e : Li
   unfolding blockWords imageWordsOf meshAt particlesAt trianglesAt edgesAt boundaryAt
   rows-image =
       words-path (sym (tab-length (k .particles) _)) (sym (tab-length (k .triangles) _)) (sym (tab-length (k .edges) _)) (sym (tab-length (k .boundary) _))
-      (ap bitsIn (fronts-rows nan 6 (k .particles) (length p / 6) p (particleRow (length p / 6) (length r / 2) p r) pointOf (h .points) (omega arith) (point-cell (length p / 6) (length r / 2) p r)))
-      (fronts-rows 0 2 (k .particles) (length r / 2) r (particleRow (length p / 6) (length r / 2) p r) rootOf (h .roots) (omega arith) (root-cell (length p / 6) (length r / 2) p r))
+      (ap bitsIn (fronts-rows nan pointColumns (k .particles) (length p / pointColumns) p (particleRow (length p / pointColumns) (length r / 2) p r) pointOf (h .points) (omega arith) (λ c i q. sym (point-at (length p / pointColumns) (length r / 2) p r c i q))))
+      (fronts-rows 0 2 (k .particles) (length r / 2) r (particleRow (length p / pointColumns) (length r / 2) p r) rootOf (h .roots) (omega arith) (root-cell (length p / pointColumns) (length r / 2) p r))
       (fronts-rows 0 3 (k .triangles) (length c / 3) c (triangleRow (length c / 3) (length v / 2) c v) cornerOf (h .corners) (omega arith) (corner-cell (length c / 3) (length v / 2) c v))
       (ap bitsIn (fronts-rows nan 2 (k .triangles) (length v / 2) v (triangleRow (length c / 3) (length v / 2) c v) volumeOf (h .volumes) (omega arith) (volume-cell (length c / 3) (length v / 2) c v)))
       (fronts-rows 0 4 (k .edges) (length e / 4) e (edgeRow (length e / 4) (length l / 4) e l) endOf (h .ends) (omega arith) (end-cell (length e / 4) (length l / 4) e l))

@@ -9,6 +9,7 @@ use lib.ListN.{length}
 use borrow.Author.Tests.{leb-true, eqb-true, le-leb, lt-leb, eq-eqb}
 use Rattle.lists.proofs.Stores.{tab-length}
 use Rattle.mesh.specs.Given.{listFits, lengthsFit, sizesFit}
+use Rattle.mesh.specs.Widths.{pointColumns, particleWords}
 use Rattle.image.specs.Words.{wordAt, wordsFrom, numbersFrom}
 use Rattle.image.specs.Image.{imageWords, imageFits, imageOf, blocksIn, countsWithin, imageSized}
 
@@ -36,7 +37,7 @@ unfolding imageFits
 fits-short s h = rw (lt-leb 16 (length s) h)
 
 pub fits-as : (s : List ℕ) (p t e b : ℕ) → p ≡ wordAt s 0 → t ≡ wordAt s 1 → e ≡ wordAt s 2 → b ≡ wordAt s 3 → 16 ≤ length s
-    → eqb (length s) (4 * (4 + 8 * p + 5 * t + 8 * e + 2 * b)) ≡ imageFits s
+    → eqb (length s) (4 * (4 + particleWords * p + 5 * t + 8 * e + 2 * b)) ≡ imageFits s
 unfolding imageFits
 fits-as s p t e b ep et ee eb h = rw (le-leb 16 (length s) h, ep, et, ee, eb)
 
@@ -46,12 +47,12 @@ unfolding listFits
 list-is limit p oa a ob b eo ea eob eb = rw (eq-eqb oa 0 eo, eq-eqb ob 0 eob, eq-eqb a b (ea ∙ sym eb), ea)
 
 -- blocks of whole columns
-pub lengths-are : (p t e b : ℕ) → lengthsFit (6 * p) (2 * p) (3 * t) (2 * t) (4 * e) (4 * e) (2 * b) ≡ leb p 1024 && leb t 1024 && leb e 2048 && leb b 2048
+pub lengths-are : (p t e b : ℕ) → lengthsFit (pointColumns * p) (2 * p) (3 * t) (2 * t) (4 * e) (4 * e) (2 * b) ≡ leb p 1024 && leb t 1024 && leb e 2048 && leb b 2048
 unfolding lengthsFit
 lengths-are p t e b =
     ap₂ _&&_
     (ap₂ _&&_
-    (ap₂ _&&_ (list-is 1024 p (6 * p % 6) (6 * p / 6) (2 * p % 2) (2 * p / 2) (omega arith) (omega arith) (omega arith) (omega arith))
+    (ap₂ _&&_ (list-is 1024 p (pointColumns * p % pointColumns) (pointColumns * p / pointColumns) (2 * p % 2) (2 * p / 2) (omega arith) (omega arith) (omega arith) (omega arith))
     (list-is 1024 t (3 * t % 3) (3 * t / 3) (2 * t % 2) (2 * t / 2) (omega arith) (omega arith) (omega arith) (omega arith)))
     (list-is 2048 e (4 * e % 4) (4 * e / 4) (4 * e % 4) (4 * e / 4) (omega arith) (omega arith) (omega arith) (omega arith)))
     (list-is 2048 b (2 * b % 2) (2 * b / 2) 0 (2 * b / 2) (omega arith) (omega arith) refl (omega arith))

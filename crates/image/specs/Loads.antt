@@ -4,13 +4,14 @@ use mathlib.Core.Path.{_≡_}
 use mathlib.Core.List.{List}
 use lib.ListN.{length, take}
 use lib.Ieee.{Float}
+use Rattle.mesh.specs.Widths.{pointColumns}
 use Rattle.image.specs.Words.{wordAt}
 use Rattle.image.specs.Image.{imageWords, imageOf}
 
 -- the image has as many bytes as its counts say, and each lent block has room
 pub record Loadable (s : List ℕ) (lp lr lc lv le ll lo : ℕ) : Type 0 where
   pub long : length s ≡ 4 * imageWords (wordAt s 0) (wordAt s 1) (wordAt s 2) (wordAt s 3)
-  pub points-room : 6 * wordAt s 0 ≤ lp
+  pub points-room : pointColumns * wordAt s 0 ≤ lp
   pub roots-room : 2 * wordAt s 0 ≤ lr
   pub corners-room : 3 * wordAt s 1 ≤ lc
   pub volumes-room : 2 * wordAt s 1 ≤ lv
@@ -20,7 +21,7 @@ pub record Loadable (s : List ℕ) (lp lr lc lv le ll lo : ℕ) : Type 0 where
 
 -- the fronts of the lent blocks are the blocks of the image
 pub record Loaded (s : List ℕ) (p : List Float) (r c : List ℕ) (v : List Float) (e : List ℕ) (l : List Float) (o : List ℕ) : Type 0 where
-  pub points-are : take (6 * wordAt s 0) p ≡ (imageOf s) .points
+  pub points-are : take (pointColumns * wordAt s 0) p ≡ (imageOf s) .points
   pub roots-are : take (2 * wordAt s 0) r ≡ (imageOf s) .roots
   pub corners-are : take (3 * wordAt s 1) c ≡ (imageOf s) .corners
   pub volumes-are : take (2 * wordAt s 1) v ≡ (imageOf s) .volumes

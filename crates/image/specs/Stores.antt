@@ -5,6 +5,7 @@ use lib.ListN.{length, take, drop}
 use lib.Ieee.{Float}
 use Rattle.columns.specs.Block.{stack}
 use Rattle.mesh.specs.declared.Counts.{Counts}
+use Rattle.mesh.specs.Widths.{pointColumns}
 use Rattle.image.specs.Words.{bitsIn}
 use Rattle.image.specs.Image.{imageWords}
 
@@ -21,13 +22,13 @@ pub record Placed (w R n at block bytes : ℕ) : Type 0 where
 -- the words of the image whose rows are the first of seven blocks
 unfoldable pub blockWords : Counts → List Float → List ℕ → List ℕ → List Float → List ℕ → List Float → List ℕ → List ℕ
 blockWords k p r c v e l o =
-    (k .particles ∷ k .triangles ∷ k .edges ∷ k .boundary ∷ []) ++ bitsIn (frontsOf 6 (k .particles) (length p / 6) p) ++ frontsOf 2 (k .particles) (length r / 2) r
+    (k .particles ∷ k .triangles ∷ k .edges ∷ k .boundary ∷ []) ++ bitsIn (frontsOf pointColumns (k .particles) (length p / pointColumns) p) ++ frontsOf 2 (k .particles) (length r / 2) r
     ++ frontsOf 3 (k .triangles) (length c / 3) c ++ bitsIn (frontsOf 2 (k .triangles) (length v / 2) v) ++ frontsOf 4 (k .edges) (length e / 4) e
     ++ bitsIn (frontsOf 4 (k .edges) (length l / 4) l) ++ frontsOf 2 (k .boundary) (length o / 2) o
 
 -- the rows stand in seven blocks of these lengths
 pub record Standing (k : Counts) (lp lr lc lv le ll lo : ℕ) : Type 0 where
-  pub points : k .particles ≤ lp / 6
+  pub points : k .particles ≤ lp / pointColumns
   pub roots : k .particles ≤ lr / 2
   pub corners : k .triangles ≤ lc / 3
   pub volumes : k .triangles ≤ lv / 2
@@ -37,7 +38,7 @@ pub record Standing (k : Counts) (lp lr lc lv le ll lo : ℕ) : Type 0 where
 
 -- the same, and the bytes have room for an image from word `at` on
 pub record Storable (k : Counts) (lp lr lc lv le ll lo at bytes : ℕ) : Type 0 where
-  pub points : k .particles ≤ lp / 6
+  pub points : k .particles ≤ lp / pointColumns
   pub roots : k .particles ≤ lr / 2
   pub corners : k .triangles ≤ lc / 3
   pub volumes : k .triangles ≤ lv / 2

@@ -137,7 +137,7 @@ pub fn image_fits(image: &[u8]) -> bool
     let t = word_at(image, 1);
     let e = word_at(image, 2);
     let b = word_at(image, 3);
-    image.len() == 4 * (4 + 8 * p + 5 * t + 8 * e + 2 * b)
+    image.len() == 4 * (4 + mesh::PARTICLE_WORDS * p + 5 * t + 8 * e + 2 * b)
 }
 
 // The counts are within the limits.
@@ -182,10 +182,10 @@ pub fn load(
     let t = word_at(image, 1);
     let e = word_at(image, 2);
     let b = word_at(image, 3);
-    let triangles = 4 + 8 * p;
+    let triangles = 4 + mesh::PARTICLE_WORDS * p;
     let edges = triangles + 5 * t;
-    numbers_into(image, 4, 6 * p, points);
-    words_into(image, 4 + 6 * p, 2 * p, roots);
+    numbers_into(image, 4, mesh::POINT_COLUMNS * p, points);
+    words_into(image, 4 + mesh::POINT_COLUMNS * p, 2 * p, roots);
     words_into(image, triangles, 3 * t, corners);
     numbers_into(image, triangles + 3 * t, 2 * t, volumes);
     words_into(image, edges, 4 * e, ends);
@@ -307,11 +307,25 @@ pub fn store(
     let e = k.edges;
     let b = k.boundary;
     let particles = at + 4;
-    let triangles = particles + 8 * p;
+    let triangles = particles + mesh::PARTICLE_WORDS * p;
     let edges = triangles + 5 * t;
     store_four(at, p, t, e, b, out);
-    store_numbers_block(points, 6, points.len() / 6, p, particles, out);
-    store_words_block(roots, 2, roots.len() / 2, p, particles + 6 * p, out);
+    store_numbers_block(
+        points,
+        mesh::POINT_COLUMNS,
+        points.len() / mesh::POINT_COLUMNS,
+        p,
+        particles,
+        out,
+    );
+    store_words_block(
+        roots,
+        2,
+        roots.len() / 2,
+        p,
+        particles + mesh::POINT_COLUMNS * p,
+        out,
+    );
     store_words_block(corners, 3, corners.len() / 3, t, triangles, out);
     store_numbers_block(volumes, 2, volumes.len() / 2, t, triangles + 3 * t, out);
     store_words_block(ends, 4, ends.len() / 4, e, edges, out);

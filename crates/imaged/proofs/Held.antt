@@ -18,11 +18,13 @@ use Rattle.model.proofs.Indexed.{Pair, Indexed}
 use Rattle.model.proofs.Accepted.{accepted-indexed}
 use Rattle.mesh.specs.Given.{given, meshOf}
 use Rattle.mesh.specs.Filled.{pointOf, rootOf, cornerOf, volumeOf, endOf, lengthOf, sideOf}
+use Rattle.mesh.specs.Widths.{pointColumns, particleWords}
 use Rattle.image.specs.Words.{wordAt, wordsFrom, numbersFrom, bitsIn}
 use Rattle.image.specs.Image.{imageWords, imageFits, blocksIn, imageOf, countsWithin, imageSized, imageWordsOf}
 use Rattle.image.proofs.Words.{bytes-length}
 use Rattle.image.proofs.Sizes.{sizes-are}
 use Rattle.lineage.specs.History.{Particle32, Triangle32, Edge32, Accepted, Few}
+use Rattle.lineage.proofs.Again.{Tests, tests}
 use Rattle.imaged.specs.Bytes.{bytesIn, imageBytes}
 use Rattle.imaged.proofs.Words.{Word, Plain, word-of, words-there, numbers-there, stack-all}
 use Rattle.imaged.proofs.Packed.{packedOf, packed-held, points-long, roots-long, corners-long, volumes-long, ends-long, lengths-long, outline-long}
@@ -68,23 +70,22 @@ abbrev SideWritable : Side → Type 0
 SideWritable s = (c : ℕ) → Word (sideOf c s)
 
 particle-writable : (p : Particle) → particleOk p ≡ true → Particle32 p → Word (p .root) → ParticleWritable p
-unfolding particleOk
 particle-writable p ok h r =
-    let a = and-true (number? (p .x) && number? (p .y) && number? (p .rest-x) && number? (p .rest-y) && number? (p .mass) && finite? (p .inv)) (flag? (p .damaged)) ok in
-    let b = and-true (number? (p .x) && number? (p .y) && number? (p .rest-x) && number? (p .rest-y) && number? (p .mass)) (finite? (p .inv)) (a .0) in
-    let c = and-true (number? (p .x) && number? (p .y) && number? (p .rest-x) && number? (p .rest-y)) (number? (p .mass)) (b .0) in
-    let d = and-true (number? (p .x) && number? (p .y) && number? (p .rest-x)) (number? (p .rest-y)) (c .0) in
-    let e = and-true (number? (p .x) && number? (p .y)) (number? (p .rest-x)) (d .0) in
-    let f = and-true (number? (p .x)) (number? (p .y)) (e .0) in
-    (numbers (f .0) (f .1) (e .1) (d .1) (c .1) (b .1), words (a .1))
+    let S = tests p ok in
+    let a = and-true (number? (p .x) && number? (p .y) && number? (p .rest-x)) (number? (p .rest-y)) (S .places) in
+    let b = and-true (number? (p .x) && number? (p .y)) (number? (p .rest-x)) (a .0) in
+    let c = and-true (number? (p .x)) (number? (p .y)) (b .0) in
+    (numbers S (c .0) (c .1) (b .1) (a .1), words (S .damaged))
   where
-    numbers : number? (p .x) ≡ true → number? (p .y) ≡ true → number? (p .rest-x) ≡ true → number? (p .rest-y) ≡ true → number? (p .mass) ≡ true → finite? (p .inv) ≡ true → (c : ℕ) → Plain (pointOf c p)
-    numbers x y rx ry m w zero = (h .x, number-no-nan (p .x) x)
-    numbers x y rx ry m w (suc zero) = (h .y, number-no-nan (p .y) y)
-    numbers x y rx ry m w (suc (suc zero)) = (h .rest-x, number-no-nan (p .rest-x) rx)
-    numbers x y rx ry m w (suc (suc (suc zero))) = (h .rest-y, number-no-nan (p .rest-y) ry)
-    numbers x y rx ry m w (suc (suc (suc (suc zero)))) = (h .mass, number-no-nan (p .mass) m)
-    numbers x y rx ry m w (suc (suc (suc (suc (suc c))))) = (h .inv, finite-no-nan (p .inv) w)
+    numbers : Tests p → number? (p .x) ≡ true → number? (p .y) ≡ true → number? (p .rest-x) ≡ true → number? (p .rest-y) ≡ true → (c : ℕ) → Plain (pointOf c p)
+    numbers S x y rx ry zero = (h .x, number-no-nan (p .x) x)
+    numbers S x y rx ry (suc zero) = (h .y, number-no-nan (p .y) y)
+    numbers S x y rx ry (suc (suc zero)) = (h .rest-x, number-no-nan (p .rest-x) rx)
+    numbers S x y rx ry (suc (suc (suc zero))) = (h .rest-y, number-no-nan (p .rest-y) ry)
+    numbers S x y rx ry (suc (suc (suc (suc zero)))) = (h .mass, number-no-nan (p .mass) (S .mass))
+    numbers S x y rx ry (suc (suc (suc (suc (suc zero))))) = (h .inv, finite-no-nan (p .inv) (S .inv))
+    numbers S x y rx ry (suc (suc (suc (suc (suc (suc zero)))))) = (h .velocity-x, number-no-nan (p .velocity-x) (S .velocity-x))
+    numbers S x y rx ry (suc (suc (suc (suc (suc (suc (suc c))))))) = (h .velocity-y, number-no-nan (p .velocity-y) (S .velocity-y))
 
     words : flag? (p .damaged) ≡ true → (c : ℕ) → Word (rootOf c p)
     words d zero = r
@@ -216,7 +217,7 @@ module _ (M : Mesh) where
   unfolding imageWordsOf
   image-words = refl
 
-  bits-points : length (bitsIn (packedOf M .points)) ≡ 6 * length (M .particles)
+  bits-points : length (bitsIn (packedOf M .points)) ≡ pointColumns * length (M .particles)
   bits-points = length-map (packedOf M .points) (toBits binary32) ∙ points-long M
 
   bits-volumes : length (bitsIn (packedOf M .volumes)) ≡ 2 * length (M .triangles)
@@ -226,24 +227,24 @@ module _ (M : Mesh) where
   bits-lengths = length-map (packedOf M .lengths) (toBits binary32) ∙ lengths-long M
 
   -- how far each block stands from the first word
-  long-points : length (countsFirst M ++ bitsIn (packedOf M .points)) ≡ 4 + 6 * length (M .particles)
+  long-points : length (countsFirst M ++ bitsIn (packedOf M .points)) ≡ 4 + pointColumns * length (M .particles)
   long-points = omega (arith, length-append (countsFirst M) (bitsIn (packedOf M .points)), bits-points)
 
-  long-roots : length (countsFirst M ++ bitsIn (packedOf M .points) ++ packedOf M .roots) ≡ 4 + 8 * length (M .particles)
+  long-roots : length (countsFirst M ++ bitsIn (packedOf M .points) ++ packedOf M .roots) ≡ 4 + particleWords * length (M .particles)
   long-roots = omega (arith, length-append (countsFirst M ++ bitsIn (packedOf M .points)) (packedOf M .roots), long-points, roots-long M)
 
-  long-corners : length (countsFirst M ++ bitsIn (packedOf M .points) ++ packedOf M .roots ++ packedOf M .corners) ≡ 4 + 8 * length (M .particles) + 3 * length (M .triangles)
+  long-corners : length (countsFirst M ++ bitsIn (packedOf M .points) ++ packedOf M .roots ++ packedOf M .corners) ≡ 4 + particleWords * length (M .particles) + 3 * length (M .triangles)
   long-corners = omega (arith, length-append (countsFirst M ++ bitsIn (packedOf M .points) ++ packedOf M .roots) (packedOf M .corners), long-roots, corners-long M)
 
-  long-volumes : length (countsFirst M ++ bitsIn (packedOf M .points) ++ packedOf M .roots ++ packedOf M .corners ++ bitsIn (packedOf M .volumes)) ≡ 4 + 8 * length (M .particles) + 5 * length (M .triangles)
+  long-volumes : length (countsFirst M ++ bitsIn (packedOf M .points) ++ packedOf M .roots ++ packedOf M .corners ++ bitsIn (packedOf M .volumes)) ≡ 4 + particleWords * length (M .particles) + 5 * length (M .triangles)
   long-volumes = omega (arith, length-append (countsFirst M ++ bitsIn (packedOf M .points) ++ packedOf M .roots ++ packedOf M .corners) (bitsIn (packedOf M .volumes)), long-corners, bits-volumes)
 
   long-ends : length (countsFirst M ++ bitsIn (packedOf M .points) ++ packedOf M .roots ++ packedOf M .corners ++ bitsIn (packedOf M .volumes) ++ packedOf M .ends)
-      ≡ 4 + 8 * length (M .particles) + 5 * length (M .triangles) + 4 * length (M .edges)
+      ≡ 4 + particleWords * length (M .particles) + 5 * length (M .triangles) + 4 * length (M .edges)
   long-ends = omega (arith, length-append (countsFirst M ++ bitsIn (packedOf M .points) ++ packedOf M .roots ++ packedOf M .corners ++ bitsIn (packedOf M .volumes)) (packedOf M .ends), long-volumes, ends-long M)
 
   long-lengths : length (countsFirst M ++ bitsIn (packedOf M .points) ++ packedOf M .roots ++ packedOf M .corners ++ bitsIn (packedOf M .volumes) ++ packedOf M .ends ++ bitsIn (packedOf M .lengths))
-      ≡ 4 + 8 * length (M .particles) + 5 * length (M .triangles) + 8 * length (M .edges)
+      ≡ 4 + particleWords * length (M .particles) + 5 * length (M .triangles) + 8 * length (M .edges)
   long-lengths =
       omega (arith, length-append (countsFirst M ++ bitsIn (packedOf M .points) ++ packedOf M .roots ++ packedOf M .corners ++ bitsIn (packedOf M .volumes) ++ packedOf M .ends) (bitsIn (packedOf M .lengths)), long-ends, bits-lengths)
 
@@ -297,7 +298,7 @@ module _ (M : Mesh) (W : Writable M) (F : Few M) where
       let w = image-words M in
       given-path
       (numbers-in (imageWordsOf M) h _ 4 _ refl (G .points) (w ∙ at-points h p (G .roots) (G .corners) v (G .ends) l (G .outline)) (points-long M)
-      (stack-all Plain _ (λ c. all-map ParticleWritable Plain (pointOf c) (λ a u. u .0 c) (M .particles) (W .particles)) 6))
+      (stack-all Plain _ (λ c. all-map ParticleWritable Plain (pointOf c) (λ a u. u .0 c) (M .particles) (W .particles)) pointColumns))
       (words-in (imageWordsOf M) (h ++ p) _ _ _ (long-points M) (G .roots) (w ∙ at-roots h p (G .roots) (G .corners) v (G .ends) l (G .outline)) (roots-long M)
       (stack-all Word _ (λ c. all-map ParticleWritable Word (rootOf c) (λ a u. u .1 c) (M .particles) (W .particles)) 2))
       (words-in (imageWordsOf M) (h ++ p ++ G .roots) _ _ _ (long-roots M) (G .corners) (w ∙ at-corners h p (G .roots) (G .corners) v (G .ends) l (G .outline)) (corners-long M)

@@ -13,6 +13,7 @@ use Rattle.mesh.specs.Log.{worldOf}
 use Rattle.mesh.specs.Given.{Given, Lent, given, sizes, meshOf}
 use Rattle.mesh.specs.Filled.{Filled, lent, pointOf, rootOf, cornerOf, volumeOf, endOf, lengthOf, sideOf}
 use Rattle.mesh.specs.declared.Counts.{Counts}
+use Rattle.mesh.specs.Widths.{pointColumns}
 use Rattle.filled.specs.Counts.{countsIn}
 use Rattle.filled.proofs.Cells.{stack-long}
 use Rattle.filled.proofs.Held.{mesh-held}
@@ -20,7 +21,7 @@ use Rattle.filled.proofs.Held.{mesh-held}
 -- the seven blocks of a mesh, each as long as its columns
 abbrev pub packedOf : Mesh → Given
 packedOf M =
-    given (stack 6 (λ k. map (pointOf k) (M .particles))) (stack 2 (λ k. map (rootOf k) (M .particles))) (stack 3 (λ k. map (cornerOf k) (M .triangles))) (stack 2 (λ k. map (volumeOf k) (M .triangles)))
+    given (stack pointColumns (λ k. map (pointOf k) (M .particles))) (stack 2 (λ k. map (rootOf k) (M .particles))) (stack 3 (λ k. map (cornerOf k) (M .triangles))) (stack 2 (λ k. map (volumeOf k) (M .triangles)))
     (stack 4 (λ k. map (endOf k) (M .edges))) (stack 4 (λ k. map (lengthOf k) (M .edges))) (stack 2 (λ k. map (sideOf k) (M .boundary)))
 
 module _ {A : Type 0} (z : A) where
@@ -43,8 +44,8 @@ module _ {A : Type 0} (z : A) where
       (sym (ap (λ (l : List A). padded (length (stack w f)) z l) (stack-same n f even w) ∙ padded-same (length (stack w f)) (stack w f) refl))
 
 module _ (M : Mesh) where
-  pub points-long : length (packedOf M .points) ≡ 6 * length (M .particles)
-  points-long = stack-long (length (M .particles)) _ (λ j. length-map (M .particles) (pointOf j)) 6
+  pub points-long : length (packedOf M .points) ≡ pointColumns * length (M .particles)
+  points-long = stack-long (length (M .particles)) _ (λ j. length-map (M .particles) (pointOf j)) pointColumns
 
   pub roots-long : length (packedOf M .roots) ≡ 2 * length (M .particles)
   roots-long = stack-long (length (M .particles)) _ (λ j. length-map (M .particles) (rootOf j)) 2
@@ -72,7 +73,7 @@ module _ (M : Mesh) where
   unfolding padded each
   packed-filled =
       record {
-        points = packed-block zero32 6 _ (length (M .particles)) _ (λ j. length-map (M .particles) (pointOf j)) (omega (arith, points-long));
+        points = packed-block zero32 pointColumns _ (length (M .particles)) _ (λ j. length-map (M .particles) (pointOf j)) (omega (arith, points-long));
         roots = packed-block 0 2 _ (length (M .particles)) _ (λ j. length-map (M .particles) (rootOf j)) (omega (arith, roots-long));
         corners = packed-block 0 3 _ (length (M .triangles)) _ (λ j. length-map (M .triangles) (cornerOf j)) (omega (arith, corners-long));
         volumes = packed-block zero32 2 _ (length (M .triangles)) _ (λ j. length-map (M .triangles) (volumeOf j)) (omega (arith, volumes-long));
@@ -84,7 +85,7 @@ module _ (M : Mesh) where
 
   sizes-packed : sizes (packedOf M) ≡ countsIn (worldOf M [])
   sizes-packed =
-      let p : length (packedOf M .points) / 6 ≡ length (M .particles) = omega (arith, points-long) in
+      let p : length (packedOf M .points) / pointColumns ≡ length (M .particles) = omega (arith, points-long) in
       let t : length (packedOf M .corners) / 3 ≡ length (M .triangles) = omega (arith, corners-long) in
       let e : length (packedOf M .ends) / 4 ≡ length (M .edges) = omega (arith, ends-long) in
       let b : length (packedOf M .outline) / 2 ≡ length (M .boundary) = omega (arith, outline-long) in

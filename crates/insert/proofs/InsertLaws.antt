@@ -12,18 +12,19 @@ use Rattle.blade.specs.declared.Point.{Point}
 use Rattle.blade.specs.Points.{lerpOf}
 use Rattle.columns.specs.Block.{cell}
 use Rattle.model.specs.Mesh.{Particle, Edge, Mesh, blank}
-use Rattle.model.specs.Elements.{particle, placeOf, restOf}
+use Rattle.model.specs.Elements.{particle, placeOf, restOf, velocityOf}
 use Rattle.model.specs.Split.{weighed, onlyAt}
 use Rattle.model.specs.Cut.{half-a, half-b, left-over, lightened, between, halfOf, insertedParticles, insertedEdges}
 use Rattle.mesh.specs.At.{particleRow, particlesAt, edgesAt}
 use Rattle.mesh.specs.Workers.{edgeOf}
 use Rattle.mesh.specs.declared.EdgeRow.{EdgeRow}
 use Rattle.mesh.proofs.Lists.{particles-length}
+use Rattle.mesh.specs.Widths.{pointColumns}
 use Rattle.opening.specs.Opened.{restIn}
 use Rattle.rewire.proofs.ParticleLaws.{weighed-by}
 use Rattle.rewire.proofs.EdgeLaws.{edges-many}
 use Rattle.insert.specs.Plans.{planned}
-use Rattle.insert.specs.Inserts.{EdgeStored, EdgesRoom, EdgesInserted, placeIn, Lightened, particleOf, BetweenIs, ParticlesRoom, ParticlesInserted}
+use Rattle.insert.specs.Inserts.{EdgeStored, EdgesRoom, EdgesInserted, placeIn, velocityIn, Lightened, particleOf, BetweenIs, ParticlesRoom, ParticlesInserted}
 use Rattle.insert.specs.declared.plan.Plan.{Plan}
 use Rattle.insert.specs.declared.particles.ParticleRow.{ParticleRow}
 use Rattle.insert.proofs.ShareLaws.{mass-read}
@@ -52,17 +53,17 @@ edges-inserted plan e ends ends₁ ends₂ lengths lengths₁ lengths₂ first s
 
 -- ---- an end is lightened
 
-pub lighten-is : (v : ℕ) (share keeps m w : Float) (S : List Float) → v < length S / 6 → m ≡ minus (getD S (4 * (length S / 6) + v) nan) (minus share keeps)
-    → w ≡ pick (ne (getD S (5 * (length S / 6) + v) nan) zero32) (invOf m) (getD S (5 * (length S / 6) + v) nan)
-    → Lightened v share keeps S (set (set S (4 * (length S / 6) + v) m) (5 * (length S / 6) + v) w)
+pub lighten-is : (v : ℕ) (share keeps m w : Float) (S : List Float) → v < length S / pointColumns → m ≡ minus (getD S (4 * (length S / pointColumns) + v) nan) (minus share keeps)
+    → w ≡ pick (ne (getD S (5 * (length S / pointColumns) + v) nan) zero32) (invOf m) (getD S (5 * (length S / pointColumns) + v) nan)
+    → Lightened v share keeps S (set (set S (4 * (length S / pointColumns) + v) m) (5 * (length S / pointColumns) + v) w)
 unfolding lightened
 lighten-is v share keeps m w S here em ew =
     record {
       particles =
           λ n roots h l.
           let q = getD (particlesAt n S roots) v blank in
-          let X = getD S (4 * (length S / 6) + v) nan in
-          let Y = getD S (5 * (length S / 6) + v) nan in
+          let X = getD S (4 * (length S / pointColumns) + v) nan in
+          let Y = getD S (5 * (length S / pointColumns) + v) nan in
           let own : weighed m w q ≡ weighed (minus X (minus share keeps)) (pick (ne Y zero32) (invOf (minus X (minus share keeps))) Y) q =
           ap₂ (λ (a b : Float). weighed a b q) em (ew ∙ ap (λ (z : Float). pick (ne Y zero32) (invOf z) Y) em) in
           weighed-by v m w S here .particles n roots l
@@ -75,9 +76,9 @@ lighten-is v share keeps m w S here em ew =
 
 module _ (M : Mesh) (k : ℕ) (points : List Float) (roots : List ℕ) (q : M .particles ≡ particlesAt k points roots) (w : ℕ) (h : w < k) where
   -- particle w of the mesh is row w of the blocks
-  pub row-is : particle M w ≡ particleRow (length points / 6) (length roots / 2) points roots w
+  pub row-is : particle M w ≡ particleRow (length points / pointColumns) (length roots / 2) points roots w
   unfolding particlesAt
-  row-is = ap (λ (l : List Particle). getD l w blank) q ∙ tab-at k (particleRow (length points / 6) (length roots / 2) points roots) w blank h
+  row-is = ap (λ (l : List Particle). getD l w blank) q ∙ tab-at k (particleRow (length points / pointColumns) (length roots / 2) points roots) w blank h
 
   pub place-is : placeIn points w ≡ placeOf M w
   unfolding placeOf
@@ -87,6 +88,9 @@ module _ (M : Mesh) (k : ℕ) (points : List Float) (roots : List ℕ) (q : M .p
   unfolding restOf
   rest-is = ap (λ (p : Particle). record { x = p .rest-x; y = p .rest-y }) (sym row-is)
 
+  pub velocity-is : velocityIn points w ≡ velocityOf M w
+  velocity-is = ap (λ (p : Particle). record { x = p .velocity-x; y = p .velocity-y }) (sym row-is)
+
 -- the damaged flag of w, as the program reads it
 pub damaged-read : (w n : ℕ) (points : List Float) (roots : List ℕ) (M : Mesh) → M .particles ≡ particlesAt n points roots → w < n → getD roots (length roots / 2 + w) 0 ≡ particle M w .damaged
 unfolding cell
@@ -94,17 +98,19 @@ damaged-read w n points roots M q h =
     let e : 1 * (length roots / 2) + w ≡ length roots / 2 + w = omega arith in
     ap (λ (j : ℕ). getD roots j 0) (sym e) ∙ ap (λ (p : Particle). p .damaged) (sym (row-is M n points roots q w h))
 
-pub between-is : (plan : Plan) (m : Float) (n damaged : ℕ) (points : List Float) (at rest : Point) (w : Float)
-    → at ≡ lerpOf (placeIn points (plan .row .a)) (placeIn points (plan .row .b)) (plan .at) → rest ≡ lerpOf (restIn points (plan .row .a)) (restIn points (plan .row .b)) (plan .at) → w ≡ invOf m
-    → BetweenIs plan m n damaged points (record { at = at; rest = rest; mass = m; inverse = w; root = n; damaged = damaged })
+pub between-is : (plan : Plan) (m : Float) (n damaged : ℕ) (points : List Float) (at rest velocity : Point) (w : Float)
+    → at ≡ lerpOf (placeIn points (plan .row .a)) (placeIn points (plan .row .b)) (plan .at) → rest ≡ lerpOf (restIn points (plan .row .a)) (restIn points (plan .row .b)) (plan .at)
+    → velocity ≡ lerpOf (velocityIn points (plan .row .a)) (velocityIn points (plan .row .b)) (plan .at) → w ≡ invOf m
+    → BetweenIs plan m n damaged points (record { at = at; rest = rest; mass = m; inverse = w; velocity = velocity; root = n; damaged = damaged })
 unfolding between
-between-is plan m n damaged points at rest w x r v =
+between-is plan m n damaged points at rest velocity w x r s v =
     record {
       is =
           λ M k roots like q a b d.
           let X = x ∙ ap₂ (λ (f g : Point). lerpOf f g (plan .at)) (place-is M k points roots q (plan .row .a) a) (place-is M k points roots q (plan .row .b) b) in
           let Y = r ∙ ap₂ (λ (f g : Point). lerpOf f g (plan .at)) (rest-is M k points roots q (plan .row .a) a) (rest-is M k points roots q (plan .row .b) b) in
-          λ i. record { x = X i .x; y = X i .y; rest-x = Y i .x; rest-y = Y i .y; mass = m; inv = v i; root = n; damaged = d i };
+          let Z = s ∙ ap₂ (λ (f g : Point). lerpOf f g (plan .at)) (velocity-is M k points roots q (plan .row .a) a) (velocity-is M k points roots q (plan .row .b) b) in
+          λ i. record { x = X i .x; y = X i .y; rest-x = Y i .x; rest-y = Y i .y; mass = m; inv = v i; velocity-x = Z i .x; velocity-y = Z i .y; root = n; damaged = d i };
     }
 
 -- ---- all of them

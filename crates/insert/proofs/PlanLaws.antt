@@ -18,6 +18,7 @@ use Rattle.mesh.specs.At.{particleRow, particlesAt}
 use Rattle.mesh.specs.Workers.{edgeOf, rowAt}
 use Rattle.mesh.specs.declared.EdgeRow.{EdgeRow}
 use Rattle.mesh.proofs.Lists.{particles-length}
+use Rattle.mesh.specs.Widths.{pointColumns}
 use Rattle.rewire.proofs.EdgeLaws.{edges-get}
 use Rattle.insert.specs.Shares.{Stands, ShareIs}
 use Rattle.insert.specs.Plans.{planned, PlanRoom, PlanIs, InsertableIs}
@@ -67,9 +68,9 @@ module _ (s a b : Bool) where
 -- ---- is it to be made
 
 -- the inverse mass of v, as the program reads it
-pub inverse-read : (v n : ℕ) (points : List Float) (roots : List ℕ) → v < n → getD points (5 * (length points / 6) + v) nan ≡ getD (particlesAt n points roots) v blank .inv
+pub inverse-read : (v n : ℕ) (points : List Float) (roots : List ℕ) → v < n → getD points (5 * (length points / pointColumns) + v) nan ≡ getD (particlesAt n points roots) v blank .inv
 unfolding particlesAt cell
-inverse-read v n points roots h = ap (λ (p : Particle). p .inv) (sym (tab-at n (particleRow (length points / 6) (length roots / 2) points roots) v blank h))
+inverse-read v n points roots h = ap (λ (p : Particle). p .inv) (sym (tab-at n (particleRow (length points / pointColumns) (length roots / 2) points roots) v blank h))
 
 module _ (f t : Float) (plan : Plan) (points : List Float) (x : ℕ) (near : x ≡ pick (lt t half) (plan .row .a) (plan .row .b)) where
   -- the near end is one of the two
@@ -78,7 +79,7 @@ module _ (f t : Float) (plan : Plan) (points : List Float) (x : ℕ) (near : x �
 
   -- is it wanted
   abbrev want : Bool
-  want = eq (getD points (5 * (length points / 6) + x) nan) zero32 || (le f t && le t (minus one f))
+  want = eq (getD points (5 * (length points / pointColumns) + x) nan) zero32 || (le f t && le t (minus one f))
 
   insertable-by :
       (M : Mesh) (number n e : ℕ) (roots ends : List ℕ) (lengths : List Float) → Stands M n e points roots ends lengths → plan .row .a < n → plan .row .b < n
@@ -88,7 +89,7 @@ module _ (f t : Float) (plan : Plan) (points : List Float) (x : ℕ) (near : x �
   insertable-by M number n e roots ends lengths S a b P =
       let edge : edgeOf (plan .row) ≡ edgeAt M number = ap (λ (I : Insertion). I .edge) P in
       let end : x ≡ pick (lt t half) (edgeAt M number .a) (edgeAt M number .b) = near ∙ ap (λ (r : Edge). pick (lt t half) (r .a) (r .b)) edge in
-      let inv : getD points (5 * (length points / 6) + x) nan ≡ particle M (pick (lt t half) (edgeAt M number .a) (edgeAt M number .b)) .inv =
+      let inv : getD points (5 * (length points / pointColumns) + x) nan ≡ particle M (pick (lt t half) (edgeAt M number .a) (edgeAt M number .b)) .inv =
       inverse-read x n points roots (near-below n a b) ∙ ap₂ (λ (l : List Particle) (v : ℕ). getD l v blank .inv) (sym (S .particles-are)) end in
       ap₂ (λ (w : Float) (I : Insertion). ((eq w zero32 || (le f t && le t (minus one f))) && lt zero32 (segmentMass I)) && lt zero32 (I .edge .initial)) inv P
 

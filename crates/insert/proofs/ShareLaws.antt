@@ -18,6 +18,7 @@ use Rattle.model.specs.Elements.{sum, particle}
 use Rattle.model.specs.Cut.{strapsAt, strapShare}
 use Rattle.mesh.specs.At.{particleRow, particlesAt, edgesAt}
 use Rattle.mesh.specs.Workers.{rowAt}
+use Rattle.mesh.specs.Widths.{pointColumns}
 use Rattle.elements.proofs.Measures.{sum-push, sum-none}
 use Rattle.insert.specs.Shares.{strapAt, StrapTold, totalAt, ShareIs}
 
@@ -91,19 +92,19 @@ module _ (v : ℕ) (ends : List ℕ) (lengths : List Float) where
 -- ---- the share
 
 -- the mass of v, as the program reads it
-pub mass-read : (v n : ℕ) (points : List Float) (roots : List ℕ) → v < n → getD points (4 * (length points / 6) + v) nan ≡ getD (particlesAt n points roots) v blank .mass
+pub mass-read : (v n : ℕ) (points : List Float) (roots : List ℕ) → v < n → getD points (4 * (length points / pointColumns) + v) nan ≡ getD (particlesAt n points roots) v blank .mass
 unfolding particlesAt cell
-mass-read v n points roots h = ap (λ (p : Particle). p .mass) (sym (tab-at n (particleRow (length points / 6) (length roots / 2) points roots) v blank h))
+mass-read v n points roots h = ap (λ (p : Particle). p .mass) (sym (tab-at n (particleRow (length points / pointColumns) (length roots / 2) points roots) v blank h))
 
 pub share-is : (v : ℕ) (len : Float) (e : ℕ) (points : List Float) (ends : List ℕ) (lengths : List Float) (total : Float) (t : Bool) → total ≡ totalAt v (edgesAt e ends lengths) → lt zero32 total ≡ t
-    → ShareIs v len e points ends lengths (pick t (shareOf (getD points (4 * (length points / 6) + v) nan) len total) zero32)
+    → ShareIs v len e points ends lengths (pick t (shareOf (getD points (4 * (length points / pointColumns) + v) nan) len total) zero32)
 unfolding totalAt strapShare strapsAt
 share-is v len e points ends lengths total t q d =
     record {
       is =
           λ M n roots S h.
           let w : total ≡ totalAt v (M .edges) = q ∙ ap (totalAt v) (sym (S .edges-are)) in
-          let m : getD points (4 * (length points / 6) + v) nan ≡ particle M v .mass = mass-read v n points roots h ∙ ap (λ (l : List Particle). getD l v blank .mass) (sym (S .particles-are)) in
-          ap (λ (b : Bool). pick b (shareOf (getD points (4 * (length points / 6) + v) nan) len total) zero32) (sym d)
+          let m : getD points (4 * (length points / pointColumns) + v) nan ≡ particle M v .mass = mass-read v n points roots h ∙ ap (λ (l : List Particle). getD l v blank .mass) (sym (S .particles-are)) in
+          ap (λ (b : Bool). pick b (shareOf (getD points (4 * (length points / pointColumns) + v) nan) len total) zero32) (sym d)
           ∙ ap₂ (λ (x y : Float). pick (lt zero32 y) (shareOf x len y) zero32) m w;
     }

@@ -15,6 +15,8 @@ use Rattle.model.specs.Split.{onlyAt}
 use Rattle.mesh.specs.At.{particleRow, edgeRow, particlesAt, edgesAt}
 use Rattle.mesh.specs.Workers.{edgeOf}
 use Rattle.mesh.specs.declared.EdgeRow.{EdgeRow}
+use Rattle.mesh.proofs.Columns.{by-columns}
+use Rattle.mesh.specs.Widths.{pointColumns}
 use Rattle.insert.specs.Inserts.{EdgeStored, particleOf}
 use Rattle.insert.specs.declared.particles.ParticleRow.{ParticleRow}
 
@@ -49,7 +51,7 @@ module _ {A : Type 0} (d : A) (R n : ℕ) (h : n < R) where
           let e : c + suc j ≡ suc c + j = omega arith in
           ap (λ (b : ℕ). cell d R s′ b n) e ∙ P .at j (le-of-suc-le-suc l)
 
-  -- two, four and six columns, as the program writes their places
+  -- two, four and eight columns, as the program writes their places
   pub put-two : (s : List A) (a₀ a₁ : A) → 2 * R ≤ length s → RowPut d R n 0 (a₀ ∷ a₁ ∷ []) s (set (set s n a₀) (R + n) a₁)
   put-two s a₀ a₁ room =
       let e₀ : 0 * R + n ≡ n = omega arith in
@@ -67,19 +69,21 @@ module _ {A : Type 0} (d : A) (R n : ℕ) (h : n < R) where
       (put-more 1 a₁ (a₂ ∷ a₃ ∷ []) _ _ (simp length-set (omega arith))
       (put-more 2 a₂ (a₃ ∷ []) _ _ (simp length-set (omega arith)) (put-more 3 a₃ [] _ _ (simp length-set (omega arith)) (put-none 4 _)))))
 
-  pub put-six : (s : List A) (a₀ a₁ a₂ a₃ a₄ a₅ : A) → 6 * R ≤ length s
-      → RowPut d R n 0 (a₀ ∷ a₁ ∷ a₂ ∷ a₃ ∷ a₄ ∷ a₅ ∷ []) s
-      (set (set (set (set (set (set s n a₀) (R + n) a₁) (2 * R + n) a₂) (3 * R + n) a₃) (4 * R + n) a₄) (5 * R + n) a₅)
-  put-six s a₀ a₁ a₂ a₃ a₄ a₅ room =
+  pub put-eight : (s : List A) (a₀ a₁ a₂ a₃ a₄ a₅ a₆ a₇ : A) → 8 * R ≤ length s
+      → RowPut d R n 0 (a₀ ∷ a₁ ∷ a₂ ∷ a₃ ∷ a₄ ∷ a₅ ∷ a₆ ∷ a₇ ∷ []) s
+      (set (set (set (set (set (set (set (set s n a₀) (R + n) a₁) (2 * R + n) a₂) (3 * R + n) a₃) (4 * R + n) a₄) (5 * R + n) a₅) (6 * R + n) a₆) (7 * R + n) a₇)
+  put-eight s a₀ a₁ a₂ a₃ a₄ a₅ a₆ a₇ room =
       let e₀ : 0 * R + n ≡ n = omega arith in
       let e₁ : 1 * R + n ≡ R + n = omega arith in
-      subst (λ (z : List A). RowPut d R n 0 (a₀ ∷ a₁ ∷ a₂ ∷ a₃ ∷ a₄ ∷ a₅ ∷ []) s z)
-      (ap₂ (λ (x y : ℕ). set (set (set (set (set (set s x a₀) y a₁) (2 * R + n) a₂) (3 * R + n) a₃) (4 * R + n) a₄) (5 * R + n) a₅) e₀ e₁)
-      (put-more 0 a₀ (a₁ ∷ a₂ ∷ a₃ ∷ a₄ ∷ a₅ ∷ []) s _ (omega arith)
-      (put-more 1 a₁ (a₂ ∷ a₃ ∷ a₄ ∷ a₅ ∷ []) _ _ (simp length-set (omega arith))
-      (put-more 2 a₂ (a₃ ∷ a₄ ∷ a₅ ∷ []) _ _ (simp length-set (omega arith))
-      (put-more 3 a₃ (a₄ ∷ a₅ ∷ []) _ _ (simp length-set (omega arith))
-      (put-more 4 a₄ (a₅ ∷ []) _ _ (simp length-set (omega arith)) (put-more 5 a₅ [] _ _ (simp length-set (omega arith)) (put-none 6 _)))))))
+      subst (λ (z : List A). RowPut d R n 0 (a₀ ∷ a₁ ∷ a₂ ∷ a₃ ∷ a₄ ∷ a₅ ∷ a₆ ∷ a₇ ∷ []) s z)
+      (ap₂ (λ (x y : ℕ). set (set (set (set (set (set (set (set s x a₀) y a₁) (2 * R + n) a₂) (3 * R + n) a₃) (4 * R + n) a₄) (5 * R + n) a₅) (6 * R + n) a₆) (7 * R + n) a₇) e₀ e₁)
+      (put-more 0 a₀ (a₁ ∷ a₂ ∷ a₃ ∷ a₄ ∷ a₅ ∷ a₆ ∷ a₇ ∷ []) s _ (omega arith)
+      (put-more 1 a₁ (a₂ ∷ a₃ ∷ a₄ ∷ a₅ ∷ a₆ ∷ a₇ ∷ []) _ _ (simp length-set (omega arith))
+      (put-more 2 a₂ (a₃ ∷ a₄ ∷ a₅ ∷ a₆ ∷ a₇ ∷ []) _ _ (simp length-set (omega arith))
+      (put-more 3 a₃ (a₄ ∷ a₅ ∷ a₆ ∷ a₇ ∷ []) _ _ (simp length-set (omega arith))
+      (put-more 4 a₄ (a₅ ∷ a₆ ∷ a₇ ∷ []) _ _ (simp length-set (omega arith))
+      (put-more 5 a₅ (a₆ ∷ a₇ ∷ []) _ _ (simp length-set (omega arith))
+      (put-more 6 a₆ (a₇ ∷ []) _ _ (simp length-set (omega arith)) (put-more 7 a₇ [] _ _ (simp length-set (omega arith)) (put-none 8 _)))))))))
 
 -- ---- an edge
 
@@ -120,37 +124,22 @@ stored-edge i r A A′ B B′ p q =
 
 -- ---- a particle
 
+-- its numbers, by column
+abbrev pub numbersOf : ParticleRow → List Float
+numbersOf r = r .at .x ∷ r .at .y ∷ r .rest .x ∷ r .rest .y ∷ r .mass ∷ r .inverse ∷ r .velocity .x ∷ r .velocity .y ∷ []
+
 -- two puts append a particle
 pub pushed-particle :
-    (n : ℕ) (r : ParticleRow) (S S′ : List Float) (T T′ : List ℕ) → n + 1 ≤ length S / 6 → n + 1 ≤ length T / 2
-    → RowPut nan (length S / 6) n 0 (r .at .x ∷ r .at .y ∷ r .rest .x ∷ r .rest .y ∷ r .mass ∷ r .inverse ∷ []) S S′ → RowPut 0 (length T / 2) n 0 (r .root ∷ r .damaged ∷ []) T T′
+    (n : ℕ) (r : ParticleRow) (S S′ : List Float) (T T′ : List ℕ) → n + 1 ≤ length S / pointColumns → n + 1 ≤ length T / 2
+    → RowPut nan (length S / pointColumns) n 0 (numbersOf r) S S′ → RowPut 0 (length T / 2) n 0 (r .root ∷ r .damaged ∷ []) T T′
     → particlesAt (n + 1) S′ T′ ≡ particlesAt n S T ++ (particleOf r ∷ [])
 unfolding particlesAt
 pushed-particle n r S S′ T T′ ls lt p q =
-    ap₂ (λ (x y : ℕ). tab (n + 1) (particleRow (x / 6) (y / 2) S′ T′)) (p .long) (q .long)
-    ∙ rows-push n (particleRow (length S / 6) (length T / 2) S T) (particleRow (length S / 6) (length T / 2) S′ T′) (particleOf r)
-    (λ k l z.
-    record {
-      x = p .other 0 k (omega arith) (λ e. omega arith) z;
-      y = p .other 1 k (omega arith) (λ e. omega arith) z;
-      rest-x = p .other 2 k (omega arith) (λ e. omega arith) z;
-      rest-y = p .other 3 k (omega arith) (λ e. omega arith) z;
-      mass = p .other 4 k (omega arith) (λ e. omega arith) z;
-      inv = p .other 5 k (omega arith) (λ e. omega arith) z;
-      root = q .other 0 k (omega arith) (λ e. omega arith) z;
-      damaged = q .other 1 k (omega arith) (λ e. omega arith) z;
-    })
-    (λ z.
-    record {
-      x = p .at 0 (omega arith) z;
-      y = p .at 1 (omega arith) z;
-      rest-x = p .at 2 (omega arith) z;
-      rest-y = p .at 3 (omega arith) z;
-      mass = p .at 4 (omega arith) z;
-      inv = p .at 5 (omega arith) z;
-      root = q .at 0 (omega arith) z;
-      damaged = q .at 1 (omega arith) z;
-    })
+    ap₂ (λ (x y : ℕ). tab (n + 1) (particleRow (x / pointColumns) (y / 2) S′ T′)) (p .long) (q .long)
+    ∙ rows-push n (particleRow (length S / pointColumns) (length T / 2) S T) (particleRow (length S / pointColumns) (length T / 2) S′ T′) (particleOf r)
+    (λ k l.
+    by-columns _ _ _ _ _ _ (λ c h. p .other c k (omega arith) (λ e. omega arith)) (q .other 0 k (omega arith) (λ e. omega arith)) (q .other 1 k (omega arith) (λ e. omega arith)))
+    (by-columns _ (λ c. getD (numbersOf r) c nan) _ _ _ _ (λ c h. p .at c h) (q .at 0 (omega arith)) (q .at 1 (omega arith)))
 
 -- ---- changes at one place
 

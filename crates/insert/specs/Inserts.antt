@@ -12,6 +12,7 @@ use Rattle.model.specs.Split.{onlyAt}
 use Rattle.model.specs.Cut.{lightened, between, insertedParticles, insertedEdges}
 use Rattle.mesh.specs.At.{particlesAt, edgesAt}
 use Rattle.mesh.specs.Workers.{EdgeRoom, ParticleRoom}
+use Rattle.mesh.specs.Widths.{pointColumns}
 use Rattle.insert.specs.Plans.{planned}
 use Rattle.insert.specs.declared.plan.Plan.{Plan}
 use Rattle.insert.specs.declared.particles.ParticleRow.{ParticleRow}
@@ -36,15 +37,31 @@ pub record EdgesInserted (plan : Plan) (e : ℕ) (ends ends′ : List ℕ) (leng
 
 -- where particle w is, by the block of points
 abbrev pub placeIn : List Float → ℕ → Point
-placeIn points w = record { x = cell nan (length points / 6) points 0 w; y = cell nan (length points / 6) points 1 w }
+placeIn points w = record { x = cell nan (length points / pointColumns) points 0 w; y = cell nan (length points / pointColumns) points 1 w }
+
+-- how fast it goes
+abbrev pub velocityIn : List Float → ℕ → Point
+velocityIn points w = record { x = cell nan (length points / pointColumns) points 6 w; y = cell nan (length points / pointColumns) points 7 w }
 
 -- v is lightened, for any number of particles that has v, and whatever stands in the other block
 pub record Lightened (v : ℕ) (share keeps : Float) (points points′ : List Float) : Type 0 where
-  pub particles : (n : ℕ) (roots : List ℕ) → v < n → n ≤ length points / 6 → particlesAt n points′ roots ≡ mapAt (onlyAt v (lightened share keeps)) (particlesAt n points roots)
+  pub particles : (n : ℕ) (roots : List ℕ) → v < n → n ≤ length points / pointColumns → particlesAt n points′ roots ≡ mapAt (onlyAt v (lightened share keeps)) (particlesAt n points roots)
 
 -- a struct of the program as a particle of the mesh
 abbrev pub particleOf : ParticleRow → Particle
-particleOf r = record { x = r .at .x; y = r .at .y; rest-x = r .rest .x; rest-y = r .rest .y; mass = r .mass; inv = r .inverse; root = r .root; damaged = r .damaged }
+particleOf r =
+    record {
+      x = r .at .x;
+      y = r .at .y;
+      rest-x = r .rest .x;
+      rest-y = r .rest .y;
+      mass = r .mass;
+      inv = r .inverse;
+      velocity-x = r .velocity .x;
+      velocity-y = r .velocity .y;
+      root = r .root;
+      damaged = r .damaged;
+    }
 
 -- r is the new particle n of mass m, damaged as `like` is, in every mesh whose particles stand there
 pub record BetweenIs (plan : Plan) (m : Float) (n damaged : ℕ) (points : List Float) (r : ParticleRow) : Type 0 where

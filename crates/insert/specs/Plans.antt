@@ -8,6 +8,7 @@ use lib.Ieee.{Float}
 use Rattle.model.specs.Mesh.{Mesh}
 use Rattle.model.specs.Cut.{Insertion, insertionOf, insertable}
 use Rattle.mesh.specs.Workers.{EdgeRoom, edgeOf}
+use Rattle.mesh.specs.Widths.{pointColumns}
 use Rattle.insert.specs.Shares.{Stands}
 use Rattle.insert.specs.declared.plan.Plan.{Plan}
 
@@ -19,7 +20,7 @@ planned p = record { number = p .number; edge = edgeOf (p .row); t = p .at; shar
 pub record PlanRoom (number n e lp : ℕ) (ends : List ℕ) (ll : ℕ) : Type 0 where
   pub here : number < e
   pub room : EdgeRoom e (length ends) ll
-  pub points : n ≤ lp / 6
+  pub points : n ≤ lp / pointColumns
   pub a-in : getD ends number 0 < n
   pub b-in : getD ends (length ends / 4 + number) 0 < n
 
@@ -33,8 +34,8 @@ pub record PlanIs (f : Float) (number : ℕ) (t : Float) (n e : ℕ) (points : L
 
 -- both ends of the strap have places in the points
 pub record InsertableRoom (plan : Plan) (lp : ℕ) : Type 0 where
-  pub a-in : plan .row .a < lp / 6
-  pub b-in : plan .row .b < lp / 6
+  pub a-in : plan .row .a < lp / pointColumns
+  pub b-in : plan .row .b < lp / pointColumns
 
 -- r tells whether the insertion is to be made, in every mesh that stands there
 pub record InsertableIs (f t : Float) (plan : Plan) (points : List Float) (r : Bool) : Type 0 where

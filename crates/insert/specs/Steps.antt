@@ -7,6 +7,7 @@ use Rattle.model.specs.Cut.{insertStep}
 use Rattle.mesh.specs.Log.{worldAt}
 use Rattle.mesh.specs.declared.Counts.{Counts}
 use Rattle.mesh.specs.declared.Rooms.{Rooms}
+use Rattle.mesh.specs.Widths.{pointColumns}
 use Rattle.work.specs.Working.{Within, Works}
 use Rattle.work.specs.declared.Ran.{Ran}
 use Rattle.insert.specs.Plans.{planned}
@@ -22,7 +23,7 @@ pub record StepRoom (plan : Plan) (k : Counts) (L : Rooms) (lp lr le ll lo lg : 
   pub few-particles : L .particles ≤ 1024
   pub few-edges : L .edges ≤ 2048
   pub few-log : L .log ≤ 4096
-  pub points : L .particles ≤ lp / 6
+  pub points : L .particles ≤ lp / pointColumns
   pub roots : L .particles ≤ lr / 2
   pub ends : L .edges ≤ le / 4
   pub lengths : L .edges ≤ ll / 4

@@ -9,8 +9,9 @@ ghost use Rattle.float.specs.Numbers.{zero32, invOf};
 ghost use Rattle.model.specs.Cut.{half-a, half-b};
 ghost use Rattle.mesh.specs.At.{particlesAt};
 ghost use Rattle.mesh.specs.Workers.{ParticleRoom};
+ghost use Rattle.mesh.specs.Widths.{pointColumns};
 ghost use Rattle.insert.specs.Plans.{planned, InsertableRoom};
-ghost use Rattle.insert.specs.Inserts.{placeIn, Lightened, particleOf, BetweenIs, ParticlesRoom, ParticlesInserted};
+ghost use Rattle.insert.specs.Inserts.{placeIn, velocityIn, Lightened, particleOf, BetweenIs, ParticlesRoom, ParticlesInserted};
 use crate::plan::Plan;
 use blade::Point;
 
@@ -20,19 +21,32 @@ pub struct ParticleRow {
     pub rest: Point,
     pub mass: f32,
     pub inverse: f32,
+    pub velocity: Point,
     pub root: usize,
     pub damaged: usize,
 }
 
 // Where particle w is.
 pub fn place(w: usize, points: &[f32]) -> Point
-    requires { ⌜ w < length (now points) / 6 ⌝ }
+    requires { ⌜ w < length (now points) / pointColumns ⌝ }
     ensures { λ r. ⌜ r ≡ placeIn (now (points .entry)) w ⌝ }
 {
-    let p = points.len() / 6;
+    let p = points.len() / mesh::POINT_COLUMNS;
     Point {
         x: points[w],
         y: points[p + w],
+    }
+}
+
+// How fast particle w goes.
+fn velocity_of(w: usize, points: &[f32]) -> Point
+    requires { ⌜ w < length (now points) / pointColumns ⌝ }
+    ensures { λ r. ⌜ r ≡ velocityIn (now (points .entry)) w ⌝ }
+{
+    let p = points.len() / mesh::POINT_COLUMNS;
+    Point {
+        x: points[6 * p + w],
+        y: points[7 * p + w],
     }
 }
 
@@ -48,10 +62,10 @@ fn kept_inverse(m: f32, inverse: f32) -> f32
 
 // Particle v gives up its share of the strap and keeps its half of a part.
 fn lighten(v: usize, share: f32, keeps: f32, points: &mut [f32])
-    requires { ⌜ v < length (now points) / 6 ⌝ }
+    requires { ⌜ v < length (now points) / pointColumns ⌝ }
     ensures { λ _. ⌜ Lightened v share keeps (now (points .entry)) (now (points .exit)) ⌝ }
 {
-    let p = points.len() / 6;
+    let p = points.len() / mesh::POINT_COLUMNS;
     let m = points[4 * p + v] - (share - keeps);
     let w = kept_inverse(m, points[5 * p + v]);
     points[4 * p + v] = m;
@@ -72,7 +86,7 @@ fn second_half(plan: Plan) -> f32
     (plan.first + plan.second) * (1.0 - plan.at) * 0.5
 }
 
-// A new particle on the strap: of mass m, its own root n, damaged as is told.
+// A new particle on the strap, where and as fast as its fraction says: of mass m, its own root n, damaged as is told.
 fn between(plan: Plan, m: f32, n: usize, damaged: usize, points: &[f32]) -> ParticleRow
     requires { ⌜ InsertableRoom plan (length (now points)) ⌝ }
     ensures { λ r. ⌜ BetweenIs plan m n damaged (now (points .entry)) r ⌝ }
@@ -86,11 +100,13 @@ fn between(plan: Plan, m: f32, n: usize, damaged: usize, points: &[f32]) -> Part
         opening::rest_point(b, points),
         plan.at,
     );
+    let velocity = blade::lerp(velocity_of(a, points), velocity_of(b, points), plan.at);
     ParticleRow {
         at: at,
         rest: rest,
         mass: m,
         inverse: float::inverse::inv(m),
+        velocity: velocity,
         root: n,
         damaged: damaged,
     }
@@ -101,16 +117,19 @@ fn append_particle(n: usize, row: ParticleRow, points: &mut [f32], roots: &mut [
     requires { ⌜ ParticleRoom (n + 1) (length (now points)) (length (now roots)) ⌝ }
     ensures { λ _. ⌜ particlesAt (n + 1) (now (points .exit)) (now (roots .exit)) ≡ particlesAt n (now (points .entry)) (now (roots .entry)) ++ (particleOf row ∷ []) ⌝ }
 {
-    let p = points.len() / 6;
+    let p = points.len() / mesh::POINT_COLUMNS;
     let r = roots.len() / 2;
     let at = row.at;
     let rest = row.rest;
+    let velocity = row.velocity;
     points[n] = at.x;
     points[p + n] = at.y;
     points[2 * p + n] = rest.x;
     points[3 * p + n] = rest.y;
     points[4 * p + n] = row.mass;
     points[5 * p + n] = row.inverse;
+    points[6 * p + n] = velocity.x;
+    points[7 * p + n] = velocity.y;
     roots[n] = row.root;
     roots[r + n] = row.damaged;
 }

@@ -85,7 +85,7 @@ pub fn insertable(f: f32, t: f32, plan: Plan, points: &[f32]) -> bool
     ensures { λ r. ⌜ InsertableIs f t plan (now (points .entry)) r ⌝ }
 {
     let row = plan.row;
-    let p = points.len() / 6;
+    let p = points.len() / mesh::POINT_COLUMNS;
     let near = near_end(row.a, row.b, t);
     if !wanted(f, t, points[5 * p + near]) {
         return false;

@@ -4,6 +4,7 @@ ghost use Prim.Native.Nat.{_<_, _/_};
 ghost use lib.ListN.{length};
 ghost use Rattle.mesh.specs.At.{edgesAt};
 ghost use Rattle.mesh.specs.Workers.{EdgeRoom};
+ghost use Rattle.mesh.specs.Widths.{pointColumns};
 ghost use Rattle.insert.specs.Shares.{StrapTold, totalAt, ShareIs};
 
 // Is edge i structural, with an end at v?
@@ -47,10 +48,10 @@ pub fn strap_share(
     ends: &[usize],
     lengths: &[f32],
 ) -> f32
-    requires { ⌜ EdgeRoom e (length (now ends)) (length (now lengths)) × (v < length (now points) / 6) ⌝ }
+    requires { ⌜ EdgeRoom e (length (now ends)) (length (now lengths)) × (v < length (now points) / pointColumns) ⌝ }
     ensures { λ r. ⌜ ShareIs v len e (now (points .entry)) (now (ends .entry)) (now (lengths .entry)) r ⌝ }
 {
-    let p = points.len() / 6;
+    let p = points.len() / mesh::POINT_COLUMNS;
     let total = strap_total(v, e, ends, lengths);
     if 0.0 < total {
         return points[4 * p + v] * len / total;

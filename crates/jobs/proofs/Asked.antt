@@ -1,16 +1,25 @@
--- The arguments of a job, as its tests tell them.
+-- The arguments of a job, as its tests tell them. Assumes nothing.
 use Prim.Native.Nat.{ℕ, _/_}
 use mathlib.Core.Path.{_≡_, sym, _∙_, ap}
-use mathlib.Core.Bool.{Bool}
+use mathlib.Core.Bool.{Bool, _||_}
 use mathlib.Core.List.{List}
-use lib.Dec.{leb}
+use borrow.Author.Tests.{eq-eqb, ne-eqb}
+use lib.Dec.{eqb, leb}
 use lib.ListN.{length}
-use Rattle.model.specs.Calls.{trianglesLent}
+use Rattle.model.specs.Calls.{trianglesLent, known}
 use Rattle.mesh.specs.Given.{Given, meshOf, asRooms}
 use Rattle.mesh.specs.declared.Rooms.{Rooms}
 use Rattle.answer.proofs.Begun.{mesh-triangles}
 use Rattle.jobs.specs.Jobs.{jobArguments}
 use Rattle.jobs.specs.declared.Job.{Job}
+
+-- an edition that is known, tested first against 1
+pub known-first : (n : ℕ) (t : Bool) → n ≡ 1 → t ≡ eqb n 1 → t ≡ known n
+known-first n t h e = e ∙ eq-eqb n 1 h ∙ sym (ap (λ (b : Bool). b || eqb n 2) (eq-eqb n 1 h))
+
+-- and then against 2
+pub known-second : (n : ℕ) (t : Bool) → (n ≡ 1 → ⊥) → t ≡ eqb n 2 → t ≡ known n
+known-second n t h e = e ∙ sym (ap (λ (b : Bool). b || eqb n 2) (ne-eqb n 1 h))
 
 module _ (G : Given) (R : Rooms) where
   -- the triangles have room

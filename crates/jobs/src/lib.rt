@@ -3,11 +3,11 @@ pub mod checks;
 
 use blade::Point;
 
-// What is to be done to a mesh: straddlers removed, a particle split, a cut from one point to another with an insertion fraction, or a crack with a minimum piece.
+// What is to be done to a mesh: straddlers removed, a particle split, a cut in an edition from one point to another with an insertion fraction, or a crack with a minimum piece.
 // A list stands beside it: the sides of a split, the torn edges of a crack, else nothing.
 pub enum Job {
     Straddlers,
     Split(usize),
-    Cut(Point, Point, f32),
+    Cut(usize, Point, Point, f32),
     Crack(usize),
 }

@@ -17,6 +17,7 @@ use Rattle.model.specs.Trace.{All}
 use Rattle.mesh.specs.At.{particlesAt, trianglesAt, edgesAt, boundaryAt, meshAt}
 use Rattle.mesh.specs.Given.{Given, meshOf, sizesFit, lengthsFit, listFits}
 use Rattle.mesh.specs.declared.Counts.{Counts}
+use Rattle.mesh.specs.Widths.{pointColumns}
 use Rattle.lineage.specs.History.{Moved, Few, Particle32, Triangle32, Edge32, Stored, Accepted, Again}
 use Rattle.lineage.proofs.Moves.{as-many}
 use Rattle.lineage.proofs.Histories.{line-of}
@@ -37,7 +38,7 @@ pub stored : (G : Given) → Held32 G → Stored (meshOf G)
 unfolding meshOf meshAt particlesAt trianglesAt edgesAt cell
 stored G h =
     record {
-      particles = all-tab Particle32 _ _ (λ k. record { x = h .points _; y = h .points _; rest-x = h .points _; rest-y = h .points _; mass = h .points _; inv = h .points _ });
+      particles = all-tab Particle32 _ _ (λ k. record { x = h .points _; y = h .points _; rest-x = h .points _; rest-y = h .points _; mass = h .points _; inv = h .points _; velocity-x = h .points _; velocity-y = h .points _ });
       triangles = all-tab Triangle32 _ _ (λ k. record { volume = h .volumes _; stress = h .volumes _ });
       edges = all-tab Edge32 _ _ (λ k. record { rest = h .lengths _; initial = h .lengths _; impulse = h .lengths _; stress = h .lengths _ });
     }
@@ -56,23 +57,23 @@ pub record FewCounts (k : Counts) : Type 0 where
   pub edges : k .edges ≤ 2048
   pub boundary : k .boundary ≤ 2048
 
-lengths-fit : (k : Counts) → FewCounts k → lengthsFit (6 * k .particles) (2 * k .particles) (3 * k .triangles) (2 * k .triangles) (4 * k .edges) (4 * k .edges) (2 * k .boundary) ≡ true
+lengths-fit : (k : Counts) → FewCounts k → lengthsFit (pointColumns * k .particles) (2 * k .particles) (3 * k .triangles) (2 * k .triangles) (4 * k .edges) (4 * k .edges) (2 * k .boundary) ≡ true
 unfolding lengthsFit
 lengths-fit k f =
-    let p6 : 6 * k .particles / 6 ≡ k .particles = omega arith in
+    let points : pointColumns * k .particles / pointColumns ≡ k .particles = omega arith in
     let p2 : 2 * k .particles / 2 ≡ k .particles = omega arith in
     let t3 : 3 * k .triangles / 3 ≡ k .triangles = omega arith in
     let t2 : 2 * k .triangles / 2 ≡ k .triangles = omega arith in
     let e4 : 4 * k .edges / 4 ≡ k .edges = omega arith in
     let b2 : 2 * k .boundary / 2 ≡ k .boundary = omega arith in
     rw (
-      p6,
+      points,
       p2,
       t3,
       t2,
       e4,
       b2,
-      list-fits 1024 (6 * k .particles % 6) (2 * k .particles % 2) (k .particles) (f .particles) (omega arith) (omega arith),
+      list-fits 1024 (pointColumns * k .particles % pointColumns) (2 * k .particles % 2) (k .particles) (f .particles) (omega arith) (omega arith),
       list-fits 1024 (3 * k .triangles % 3) (2 * k .triangles % 2) (k .triangles) (f .triangles) (omega arith) (omega arith),
       list-fits 2048 (4 * k .edges % 4) (4 * k .edges % 4) (k .edges) (f .edges) (omega arith) (omega arith),
       list-fits 2048 (2 * k .boundary % 2) 0 (k .boundary) (f .boundary) (omega arith) refl,

@@ -44,7 +44,7 @@ module _ (L : Rooms) (M : Mesh) (call : Bool → Outcome) (off : call false ≡ 
 
 asked-called : (G : Given) (I : Lent) (o : Outcome) → Asked G I o → (M′ : Mesh) (more : List Entry) (c : Bool) → o ≡ done M′ more c → Called (rooms I) (meshOf G) M′ more
 unfolding cutCall crackCall splitCall straddlersCall refusal
-asked-called G I o (cuts B f) M′ more c e = sized-call (rooms I) (meshOf G) (λ s. cutCall s (meshOf G) B f (rooms I)) refl (λ N l x d. cutting B f d) (sizesFit G) M′ more c e
+asked-called G I o (cuts n B f) M′ more c e = sized-call (rooms I) (meshOf G) (λ s. cutCall s (meshOf G) n B f (rooms I)) refl (λ N l x d. cutting n B f d) (sizesFit G) M′ more c e
 asked-called G I o (cracks ts min) M′ more c e = sized-call (rooms I) (meshOf G) (λ s. crackCall s (meshOf G) ts min (rooms I)) refl (λ N l x d. cracking ts min d) (sizesFit G) M′ more c e
 asked-called G I o (splits v sides) M′ more c e = sized-call (rooms I) (meshOf G) (λ s. splitCall s (meshOf G) v sides (rooms I)) refl (λ N l x d. splitting v sides d) (sizesFit G) M′ more c e
 asked-called G I o straddlers M′ more c e = sized-call (rooms I) (meshOf G) (λ s. straddlersCall s (meshOf G) (rooms I)) refl (λ N l x d. removing d) (sizesFit G) M′ more c e

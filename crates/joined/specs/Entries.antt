@@ -8,12 +8,13 @@ use lib.Dec.{T}
 use lib.Ieee.{Float, nan, binary32, fits}
 use Rattle.model.specs.Mesh.{Mesh}
 use Rattle.model.specs.Run as M
-use Rattle.model.specs.Cut.{Blade}
+use Rattle.model.specs.Cut.{Line}
 use Rattle.model.specs.Calls.{Outcome, cutCall, crackCall, splitCall, straddlersCall}
 use Rattle.mesh.specs.At.{meshAt}
 use Rattle.mesh.specs.Given.{Given, Lent, meshOf, sizesFit, roomsOf, asRooms}
 use Rattle.mesh.specs.Filled.{lent}
 use Rattle.mesh.specs.declared.Counts.{Counts}
+use Rattle.mesh.specs.Widths.{pointColumns}
 use Rattle.answer.specs.declared.Answer.the-variants.{Done}
 use Rattle.answer.specs.Answered.{Answered, frontOf}
 use Rattle.lineage.specs.History.{Begins, Moved, Stored}
@@ -24,7 +25,7 @@ rooms L = asRooms (roomsOf L)
 
 -- what the call of an entry on the blocks G, with blocks of the lengths L lent, may be
 pub data Asked (G : Given) (L : Lent) : Outcome → Type 0 where
-  cuts : (B : Blade) (f : Float) → Asked G L (cutCall (sizesFit G) (meshOf G) B f (rooms L))
+  cuts : (n : ℕ) (B : Line) (f : Float) → Asked G L (cutCall (sizesFit G) (meshOf G) n B f (rooms L))
   cracks : (is : List ℕ) (min : ℕ) → Asked G L (crackCall (sizesFit G) (meshOf G) is min (rooms L))
   splits : (v : ℕ) (sides : List ℕ) → Asked G L (splitCall (sizesFit G) (meshOf G) v sides (rooms L))
   straddlers : Asked G L (straddlersCall (sizesFit G) (meshOf G) (rooms L))
@@ -73,7 +74,7 @@ HostHolds (moving {M′ = M′} h W) = HostHolds h × Stored M′
 
 -- blocks that are just as long as these rows ask
 pub record Packed (G : Given) (k : Counts) : Type 0 where
-  pub points : length (G .points) ≡ 6 * k .particles
+  pub points : length (G .points) ≡ pointColumns * k .particles
   pub roots : length (G .roots) ≡ 2 * k .particles
   pub corners : length (G .corners) ≡ 3 * k .triangles
   pub volumes : length (G .volumes) ≡ 2 * k .triangles

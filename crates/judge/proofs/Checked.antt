@@ -27,6 +27,8 @@ pub particle-tested :
       rest-y = getD points (3 * P + k) nan;
       mass = getD points (4 * P + k) nan;
       inv = getD points (5 * P + k) nan;
+      velocity-x = getD points (6 * P + k) nan;
+      velocity-y = getD points (7 * P + k) nan;
       root = 0;
       damaged = getD roots (R + k) 0;
     })

@@ -10,6 +10,7 @@ use Rattle.lists.specs.Lists.{pick}
 use Rattle.columns.proofs.Rows.{no, both-true}
 use Rattle.model.specs.Valid.{named}
 use Rattle.mesh.specs.Given.{listFits, lengthsFit}
+use Rattle.mesh.specs.Widths.{pointColumns}
 use Rattle.judge.specs.Checks.{thenCheck}
 
 -- one test more
@@ -76,10 +77,10 @@ list-told limit over a over′ b e =
 
 -- the rows of each list, by the lengths of its two blocks, and that they are few
 pub record Sized (lp lr lc lv le ll lo : ℕ) : Type 0 where
-  pub particles : lp / 6 ≡ lr / 2
+  pub particles : lp / pointColumns ≡ lr / 2
   pub triangles : lc / 3 ≡ lv / 2
   pub edges : le / 4 ≡ ll / 4
-  pub few-particles : lp / 6 ≤ 1024
+  pub few-particles : lp / pointColumns ≤ 1024
   pub few-triangles : lc / 3 ≤ 1024
   pub few-edges : le / 4 ≤ 2048
   pub few-sides : lo / 2 ≤ 2048

@@ -17,7 +17,7 @@ fn particles_fit(n: usize, points: &[f32], roots: &[usize]) -> bool
     requires { ⌜ ParticleRoom n (length (now points)) (length (now roots)) ⌝ }
     ensures { λ r. ⌜ r ≡ all particleOk (particlesAt n (now (points .entry)) (now (roots .entry))) ⌝ }
 {
-    let p = points.len() / 6;
+    let p = points.len() / mesh::POINT_COLUMNS;
     let q = roots.len() / 2;
     let mut i: usize = 0;
     while i < n {
@@ -28,6 +28,8 @@ fn particles_fit(n: usize, points: &[f32], roots: &[usize]) -> bool
             points[3 * p + i],
             points[4 * p + i],
             points[5 * p + i],
+            points[6 * p + i],
+            points[7 * p + i],
             roots[q + i],
         );
         if !ok {
@@ -141,7 +143,7 @@ pub fn numbers_fit(
     requires { ⌜ sizesFit (given (now points) (now roots) (now corners) (now volumes) (now ends) (now lengths) (now outline)) ≡ true ⌝ }
     ensures { λ r. ⌜ r ≡ numbersFit (meshOf (given (now (points .entry)) (now (roots .entry)) (now (corners .entry)) (now (volumes .entry)) (now (ends .entry)) (now (lengths .entry)) (now (outline .entry)))) ⌝ }
 {
-    let z = particles_fit(points.len() / 6, points, roots);
+    let z = particles_fit(points.len() / mesh::POINT_COLUMNS, points, roots);
     let z = tests::both(z, triangles_fit(corners.len() / 3, volumes));
     tests::both(z, edges_fit(ends.len() / 4, ends, lengths))
 }
@@ -159,7 +161,7 @@ pub fn indices_fit(
     requires { ⌜ sizesFit (given (now points) (now roots) (now corners) (now volumes) (now ends) (now lengths) (now outline)) ≡ true ⌝ }
     ensures { λ r. ⌜ r ≡ indicesFit (meshOf (given (now (points .entry)) (now (roots .entry)) (now (corners .entry)) (now (volumes .entry)) (now (ends .entry)) (now (lengths .entry)) (now (outline .entry)))) ⌝ }
 {
-    let n = points.len() / 6;
+    let n = points.len() / mesh::POINT_COLUMNS;
     let e = ends.len() / 4;
     let b = outline.len() / 2;
     let z = roots_fit(n, roots);

@@ -46,7 +46,13 @@ pub fn sizes_fit(
 ) -> bool
     ensures { λ r. ⌜ r ≡ lengthsFit lp lr lc lv le ll lo ⌝ }
 {
-    let z = list_fits(1024, lp % 6, lp / 6, lr % 2, lr / 2);
+    let z = list_fits(
+        1024,
+        lp % mesh::POINT_COLUMNS,
+        lp / mesh::POINT_COLUMNS,
+        lr % 2,
+        lr / 2,
+    );
     let z = both(z, list_fits(1024, lc % 3, lc / 3, lv % 2, lv / 2));
     let z = both(z, list_fits(2048, le % 4, le / 4, ll % 4, ll / 4));
     both(z, list_fits(2048, lo % 2, lo / 2, 0, lo / 2))
@@ -60,15 +66,19 @@ pub fn particle_ok(
     rest_y: f32,
     mass: f32,
     inv: f32,
+    velocity_x: f32,
+    velocity_y: f32,
     damaged: usize,
 ) -> bool
-    ensures { λ r. ⌜ r ≡ particleOk (record { x = x; y = y; rest-x = «rest_x»; rest-y = «rest_y»; mass = mass; inv = inv; root = 0; damaged = damaged }) ⌝ }
+    ensures { λ r. ⌜ r ≡ particleOk (record { x = x; y = y; rest-x = «rest_x»; rest-y = «rest_y»; mass = mass; inv = inv; velocity-x = «velocity_x»; velocity-y = «velocity_y»; root = 0; damaged = damaged }) ⌝ }
 {
     let z = both(float::range::in_range(x), float::range::in_range(y));
     let z = both(z, float::range::in_range(rest_x));
     let z = both(z, float::range::in_range(rest_y));
     let z = both(z, float::range::in_range(mass));
     let z = both(z, float::range::finite(inv));
+    let z = both(z, float::range::in_range(velocity_x));
+    let z = both(z, float::range::in_range(velocity_y));
     both(z, damaged < 2)
 }
 

@@ -17,7 +17,7 @@ use Rattle.lists.proofs.Sifts.{sift-length}
 use Rattle.float.specs.Numbers.{zero32, one, tiny, over, absOf, invOf}
 use Rattle.float.specs.Ranges.{finite?, number?, volume?, notBelow0?}
 use Rattle.float.proofs.Limits.{limit-finite}
-use Rattle.model.specs.Mesh.{Particle, Triangle, Edge, Side, Mesh, blank}
+use Rattle.model.specs.Mesh.{Particle, Triangle, Edge, Side, Mesh, changedTo, blank}
 use Rattle.model.specs.Valid.{flag?, particleOk, triangleOk, edgeOk, numbersFit, indicesFit}
 use Rattle.model.specs.Elements.{Triangles, kindOf, elementsOf, farEnd, endsOf, fanOf}
 use Rattle.model.specs.Run.{Entry, Need, Rooms, Run, start, stepTo}
@@ -25,11 +25,11 @@ use Rattle.model.specs.Split.{Opening, openingOf, splits?, made, weighed, massO
 use Rattle.model.specs.Pieces.{across?, spans, bodyLabels, withoutStraddlers, straddlersGone, removeStraddlers}
 use Rattle.model.specs.Cut.{slack, slackened, markedBy, cut}
 use Rattle.model.specs.Crack.{hurt, damagedAt, bridges, torn, crack}
-use Rattle.model.specs.Calls.{bladeOk, fractionOk, sidesOk, trianglesLent, tooSmall, firstFault, outcome, cutCall, crackCall, splitCall, straddlersCall}
+use Rattle.model.specs.Calls.{bladeOk, fractionOk, sidesOk, trianglesLent, known, bladeOf, cutRefusal, tooSmall, firstFault, outcome, cutCall, crackCall, splitCall, straddlersCall}
 use Rattle.model.specs.Trace.{All, Sound}
 use Rattle.model.proofs.Traced.{splits-here}
 use Rattle.model.proofs.Steps.{fault-front}
-use Rattle.model.proofs.Kept.{accepted-sound, unless-done, no-refusal, Passed}
+use Rattle.model.proofs.Kept.{accepted-sound, unless-done, no-refusal, cut-no-refusal, Passed}
 use Rattle.model.proofs.Accepted.{accepted-indexed, indexed-accepted, cut-accepted, crack-accepted, split-accepted, straddlers-accepted}
 use Rattle.model.proofs.Indexed.{Pair, Indexed, Ends, Sides}
 use Rattle.model.proofs.Laws.{and-true, both, pick-both, all-in, all-over, all-append, all-map, all-mapAt, all-eachOf, all-sift, all-below, all-from, all-to, all-yes, length-mapAt}
@@ -92,45 +92,41 @@ of-fine M F = (
 
 -- ---- particles
 
--- the seven tests of a particle
-pub record Seven (a b c d e f g : Bool) : Type 0 where
-  pub places : (a && b && c && d) ≡ true
-  pub mass : e ≡ true
-  pub inv : f ≡ true
-  pub damaged : g ≡ true
+-- the tests of a particle: those in front of the mass, which no operation changes, are one
+pub record Tests (p : Particle) : Type 0 where
+  pub places : (number? (p .x) && number? (p .y) && number? (p .rest-x) && number? (p .rest-y)) ≡ true
+  pub mass : number? (p .mass) ≡ true
+  pub inv : finite? (p .inv) ≡ true
+  pub velocity-x : number? (p .velocity-x) ≡ true
+  pub velocity-y : number? (p .velocity-y) ≡ true
+  pub damaged : flag? (p .damaged) ≡ true
 
-seven : (a b c d e f g : Bool) → (a && b && c && d && e && f && g) ≡ true → Seven a b c d e f g
-seven a b c d e f g h =
-    let p = and-true (a && b && c && d && e && f) g h in
-    let q = and-true (a && b && c && d && e) f (p .0) in
-    let r = and-true (a && b && c && d) e (q .0) in
-    record { places = r .0; mass = r .1; inv = q .1; damaged = p .1 }
-
-to-seven : (a b c d e f g : Bool) → (a && b && c && d) ≡ true → e ≡ true → f ≡ true → g ≡ true → (a && b && c && d && e && f && g) ≡ true
-to-seven a b c d e f g p q r s = both (a && b && c && d && e && f) g (both (a && b && c && d && e) f (both (a && b && c && d) e p q) r) s
-
-tests : (p : Particle) → particleOk p ≡ true → Seven (number? (p .x)) (number? (p .y)) (number? (p .rest-x)) (number? (p .rest-y)) (number? (p .mass)) (finite? (p .inv)) (flag? (p .damaged))
+pub tests : (p : Particle) → particleOk p ≡ true → Tests p
 unfolding particleOk
-tests p e = seven (number? (p .x)) (number? (p .y)) (number? (p .rest-x)) (number? (p .rest-y)) (number? (p .mass)) (finite? (p .inv)) (flag? (p .damaged)) e
+tests p e =
+    let a = and-true _ (flag? (p .damaged)) e in
+    let b = and-true _ (number? (p .velocity-y)) (a .0) in
+    let c = and-true _ (number? (p .velocity-x)) (b .0) in
+    let d = and-true _ (finite? (p .inv)) (c .0) in
+    let f = and-true _ (number? (p .mass)) (d .0) in
+    record { places = f .0; mass = f .1; inv = d .1; velocity-x = c .1; velocity-y = b .1; damaged = a .1 }
+
+-- a particle whose mass, inverse mass and damaged flag pass is accepted with them
+changed-ok : (p : Particle) (m w : Float) (d : ℕ) → particleOk p ≡ true → number? m ≡ true → finite? w ≡ true → flag? d ≡ true → particleOk (changedTo m w d p) ≡ true
+unfolding particleOk
+changed-ok p m w d e n f g =
+    let S = tests p e in
+    both _ (flag? d) (both _ (number? (p .velocity-y)) (both _ (number? (p .velocity-x)) (both _ (finite? w) (both _ (number? m) (S .places) n) f) (S .velocity-x)) (S .velocity-y)) g
 
 weighed-ok : (p : Particle) (m w : Float) → particleOk p ≡ true → number? m ≡ true → finite? w ≡ true → particleOk (weighed m w p) ≡ true
-unfolding particleOk
-weighed-ok p m w e n f =
-    let S = tests p e in
-    to-seven (number? (p .x)) (number? (p .y)) (number? (p .rest-x)) (number? (p .rest-y)) (number? m) (finite? w) (flag? (p .damaged)) (S .places) n f (S .damaged)
+weighed-ok p m w e n f = changed-ok p m w (p .damaged) e n f (tests p e .damaged)
 
 hurt-ok : (p : Particle) → particleOk p ≡ true → particleOk (hurt p) ≡ true
-unfolding particleOk
-hurt-ok p e =
-    let S = tests p e in
-    to-seven (number? (p .x)) (number? (p .y)) (number? (p .rest-x)) (number? (p .rest-y)) (number? (p .mass)) (finite? (p .inv)) (flag? 1) (S .places) (S .mass) (S .inv) refl
+hurt-ok p e = let S = tests p e in changed-ok p (p .mass) (p .inv) 1 e (S .mass) (S .inv) refl
 
 -- the same of numbers that f32 holds
-weighed-32 : (p : Particle) (m w : Float) → Particle32 p → T (fits binary32 m) → T (fits binary32 w) → Particle32 (weighed m w p)
-weighed-32 p m w h n i = record { x = h .x; y = h .y; rest-x = h .rest-x; rest-y = h .rest-y; mass = n; inv = i }
-
-hurt-32 : (p : Particle) → Particle32 p → Particle32 (hurt p)
-hurt-32 p h = record { x = h .x; y = h .y; rest-x = h .rest-x; rest-y = h .rest-y; mass = h .mass; inv = h .inv }
+changed-32 : (p : Particle) (m w : Float) (d : ℕ) → Particle32 p → T (fits binary32 m) → T (fits binary32 w) → Particle32 (changedTo m w d p)
+changed-32 p m w d h n i = record { x = h .x; y = h .y; rest-x = h .rest-x; rest-y = h .rest-y; mass = n; inv = i; velocity-x = h .velocity-x; velocity-y = h .velocity-y }
 
 zero-32 : T (fits binary32 zero32)
 unfolding fits
@@ -192,7 +188,7 @@ module _ (M : Mesh) (F : Fine M) (v : ℕ) (sides : List ℕ) (every : length si
   portion-fine g l p u =
       let m = mass-ok M (F .few) volumes v sides every (p .mass) (u .1 .mass) (tests p (u .0) .mass) g l in (
         weighed-ok p (massOf O (p .mass) g) (invOf (massOf O (p .mass) g)) (u .0) (m .0) (inverse-finite (massOf O (p .mass) g) (m .1) (limit-finite (massOf O (p .mass) g) 1 (pos 20) (m .0))),
-        weighed-32 p (massOf O (p .mass) g) (invOf (massOf O (p .mass) g)) (u .1) (m .1) (inverse-fits (massOf O (p .mass) g)),
+        changed-32 p (massOf O (p .mass) g) (invOf (massOf O (p .mass) g)) (p .damaged) (u .1) (m .1) (inverse-fits (massOf O (p .mass) g)),
       )
 
   two : 2 ≤ O .count
@@ -259,7 +255,7 @@ torn-fine O xy M F =
     record {
       particles =
           all-mapAt FineParticle FineParticle (λ i p. pick (stands i (xy .0 ∷ xy .1 ∷ made O)) (hurt p) p)
-          (λ i p u. pick-both FineParticle (stands i (xy .0 ∷ xy .1 ∷ made O)) (hurt p) p (hurt-ok p (u .0), hurt-32 p (u .1)) u) (M .particles) (F .particles);
+          (λ i p u. pick-both FineParticle (stands i (xy .0 ∷ xy .1 ∷ made O)) (hurt p) p (hurt-ok p (u .0), changed-32 p (p .mass) (p .inv) 1 (u .1) (u .1 .mass) (u .1 .inv)) u) (M .particles) (F .particles);
       triangles = F .triangles;
       edges = all-map FineEdge FineEdge (λ (e : Edge). pick (bridges O other e) (slack e) e) (λ e u. pick-both FineEdge (bridges O other e) (slack e) e (slack-ok e u) u) (M .edges) (F .edges);
       few = F .few;
@@ -386,8 +382,8 @@ passed L M M′ numbers arguments P i =
 
 pub called-checked : (L : Rooms) (M : Mesh) {M′ : Mesh} {more : List Entry} → Called L M M′ more → Checked L M M′
 unfolding cutCall crackCall splitCall straddlersCall
-called-checked L M (cutting {M′} {more} {c} B f e) =
-    passed L M M′ (bladeOk B) (fractionOk f) (no-refusal true M (bladeOk B) (fractionOk f && trianglesLent L M) (unless-done _ (outcome L (cut (kindOf M) B f (start M))) M′ more c e .0)) (cut-accepted true M B f L M′ more c e)
+called-checked L M (cutting {M′} {more} {c} n B f e) =
+    passed L M M′ (bladeOk B) (known n && fractionOk f) (cut-no-refusal true M n B f L (unless-done (cutRefusal true M n B f L) (outcome L (cut (kindOf M) (bladeOf n B) f (start M))) M′ more c e .0) .0) (cut-accepted true M n B f L M′ more c e)
 called-checked L M (cracking {M′} {more} {c} is min e) =
     passed L M M′ true true (no-refusal true M true (trianglesLent L M) (unless-done _ (outcome L (crack (kindOf M) min is (start M))) M′ more c e .0)) (crack-accepted true M is min L M′ more c e)
 called-checked L M (splitting {M′} {more} {c} v sides e) =

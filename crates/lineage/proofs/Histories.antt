@@ -8,18 +8,19 @@ use native.Mathlib.Omega.{arith}
 use borrow.Author.Tests.{le-ltb}
 use lib.Dec.{eqb, ltb}
 use lib.ListN.{length, getD}
+use lib.Ieee.{Float}
 use Rattle.lists.specs.Lists.{pick, stands, each, upTo}
 use Rattle.lists.proofs.Sifts.{stands-append, upTo-at, or-true}
 use Rattle.float.proofs.Picks.{or-yes-1}
 use Rattle.model.specs.Mesh.{Triangle, Mesh, blankTriangle}
 use Rattle.model.specs.Valid.{numbersFit, indicesFit}
-use Rattle.model.specs.Elements.{Kind, Triangles, kindBy, kindOf, cornersOf}
+use Rattle.model.specs.Elements.{Kind, Triangles, kindBy, kindOf, straps?, cornersOf}
 use Rattle.model.specs.Run.{Entry, Need, Rooms, Run, start, splitOf, splitsOf}
 use Rattle.model.specs.Split.{splitBySides}
 use Rattle.model.specs.Pieces.{removeStraddlers}
-use Rattle.model.specs.Cut.{cut}
+use Rattle.model.specs.Cut.{Line as BladeLine, cut}
 use Rattle.model.specs.Crack.{crack}
-use Rattle.model.specs.Calls.{bladeOk, fractionOk, sidesOk, trianglesLent, refusal, tooSmall, firstFault, Outcome, refused, done, fitted, outcome, unless, cutCall, crackCall, splitCall, straddlersCall}
+use Rattle.model.specs.Calls.{bladeOk, fractionOk, sidesOk, trianglesLent, refusal, known, wholeMesh, wholeLine, editionRefusal, bladeOf, firstOf, cutRefusal, tooSmall, firstFault, Outcome, refused, done, fitted, outcome, unless, cutCall, crackCall, splitCall, straddlersCall}
 use Rattle.model.specs.Trace.{All, originOf, Sound, tracedBack, Hold, Kept}
 use Rattle.model.proofs.Traced.{origin-append}
 use Rattle.model.proofs.Kept.{accepted-sound, outcome-done, unless-done, no-refusal, cut-keeps, crack-keeps, split-keeps, straddlers-keep}
@@ -82,8 +83,7 @@ module _ (P : Run → Type 0) (K : KeptBySteps P) (M : Mesh) (p : P (start M)) (
 
   pub called-run : {M′ : Mesh} {more : List Entry} → Called L M M′ more → Q M′ more
   unfolding cutCall crackCall splitCall straddlersCall
-  called-run (cutting {M′} {more} {c} B f e) =
-      run-has _ M′ more c (every-run P K M p k .cuts B f) (unless-done (refusal true M (bladeOk B) (fractionOk f && trianglesLent L M)) _ M′ more c e .1)
+  called-run (cutting {M′} {more} {c} n B f e) = run-has _ M′ more c (every-run P K M p k .cuts (bladeOf n B) f) (unless-done (cutRefusal true M n B f L) _ M′ more c e .1)
   called-run (cracking {M′} {more} {c} is min e) = run-has _ M′ more c (every-run P K M p k .cracks is min) (unless-done (refusal true M true (trianglesLent L M)) _ M′ more c e .1)
   called-run (splitting {M′} {more} {c} v sides e) =
       let u = unless-done (refusal true M true (sidesOk M v sides && trianglesLent L M)) _ M′ more c e in
@@ -93,7 +93,7 @@ module _ (P : Run → Type 0) (K : KeptBySteps P) (M : Mesh) (p : P (start M)) (
 
 -- a call that is done keeps the triangles
 called-keeps : (L : Rooms) (M : Mesh) → kindOf M ≡ Triangles → {M′ : Mesh} {more : List Entry} → Called L M M′ more → Kept M M′ more
-called-keeps L M k (cutting {M′} {more} {c} B f e) = cut-keeps true M B f L M′ more c k e
+called-keeps L M k (cutting {M′} {more} {c} n B f e) = cut-keeps true M n B f L M′ more c k e
 called-keeps L M k (cracking {M′} {more} {c} is min e) = crack-keeps true M is min L M′ more c k e
 called-keeps L M k (splitting {M′} {more} {c} v sides e) = split-keeps true M v sides L M′ more c k e
 called-keeps L M k (removing {M′} {more} {c} e) = straddlers-keep true M L M′ more c k e
@@ -282,9 +282,9 @@ fault-not L (N ∷ Ns) h e = by (eqb (tooSmall L N) 0) e (fault-not L Ns (h .1))
     by false d f = small-not L N (h .0) d
 
 -- no check before the rooms refuses with 5
-refusal-not : (sized : Bool) (M : Mesh) (numbers arguments : Bool) → refusal sized M numbers arguments ≤ 4
+refusal-most : (sized : Bool) (M : Mesh) (numbers arguments : Bool) → refusal sized M numbers arguments ≤ 4
 unfolding refusal
-refusal-not sized M numbers arguments = by sized (numbersFit M && numbers) (indicesFit M) arguments
+refusal-most sized M numbers arguments = by sized (numbersFit M && numbers) (indicesFit M) arguments
   where
     by : (a b c d : Bool) → pick (not a) 1 (pick (not b) 2 (pick (not c) 3 (pick (not d) 4 0))) ≤ 4
     by false b c d = omega arith
@@ -293,10 +293,32 @@ refusal-not sized M numbers arguments = by sized (numbersFit M && numbers) (indi
     by true true true false = omega arith
     by true true true true = omega arith
 
-unless-refused : (n : ℕ) (o : Outcome) → n ≤ 4 → unless n o ≡ refused 5 → (n ≡ 0) × (o ≡ refused 5)
+refusal-not : (sized : Bool) (M : Mesh) (numbers arguments : Bool) → refusal sized M numbers arguments ≡ 5 → ⊥
+refusal-not sized M numbers arguments e = omega (arith, refusal-most sized M numbers arguments)
+
+-- nor does an edition's own, which is 11 or 12
+edition-not : (n : ℕ) (M : Mesh) (B : BladeLine) → editionRefusal n M B ≡ 5 → ⊥
+edition-not n M B = by (eqb n 2) (wholeMesh M && wholeLine B) (straps? (kindOf M))
+  where
+    by : (a b c : Bool) → _≡_ {A = ℕ} (pick a (pick (not b) 11 (pick c 12 0)) 0) 5 → ⊥
+    by false b c e = omega arith
+    by true false c e = omega arith
+    by true true true e = omega arith
+    by true true false e = omega arith
+
+first-not : (a b : ℕ) → a ≤ 4 → (b ≡ 5 → ⊥) → firstOf a b ≡ 5 → ⊥
+first-not zero b u w e = w e
+first-not (suc a) b u w e = omega (arith, e)
+
+cut-refusal-not : (sized : Bool) (M : Mesh) (n : ℕ) (B : BladeLine) (f : Float) (L : Rooms) → cutRefusal sized M n B f L ≡ 5 → ⊥
+cut-refusal-not sized M n B f L =
+    let given = known n && fractionOk f && trianglesLent L M in
+    first-not (refusal sized M (bladeOk B) given) (editionRefusal n M B) (refusal-most sized M (bladeOk B) given) (edition-not n M B)
+
+unless-refused : (n : ℕ) (o : Outcome) → (n ≡ 5 → ⊥) → unless n o ≡ refused 5 → (n ≡ 0) × (o ≡ refused 5)
 unfolding numbered
 unless-refused zero o u e = (refl, e)
-unless-refused (suc n) o u e = let d : suc n ≡ 5 = ap numbered e in absurd (omega arith)
+unless-refused (suc n) o u e = absurd (u (ap numbered e))
 
 outcome-refused : (L : Rooms) (R : Run) → outcome L R ≡ refused 5 → firstFault L (R .needs) ≡ 5
 unfolding outcome numbered
@@ -316,9 +338,7 @@ room-suffices {M₀} {M} h L u =
     let W = run-over (Within (mostParticles M₀)) (Unrefused L) M (λ R w. within-not L (mostParticles M₀) R u w) (runs-bounded h) in
     record {
       runs = W;
-      cuts = λ sized B f e.
-          let given = fractionOk f && trianglesLent L M in
-          W .cuts B f (outcome-refused L _ (unless-refused (refusal sized M (bladeOk B) given) _ (refusal-not sized M (bladeOk B) given) e .1));
+      cuts = λ sized n B f e. W .cuts (bladeOf n B) f (outcome-refused L _ (unless-refused (cutRefusal sized M n B f L) _ (cut-refusal-not sized M n B f L) e .1));
       cracks = λ sized is min e. W .cracks is min (outcome-refused L _ (unless-refused (refusal sized M true (trianglesLent L M)) _ (refusal-not sized M true (trianglesLent L M)) e .1));
       splits = λ sized v sides e.
           let given = sidesOk M v sides && trianglesLent L M in

@@ -1,6 +1,6 @@
 -- What every split, every mark of crossings and every removal of straddlers keeps, a cut, a crack, a split and a removal keep: the one induction over runs on triangles. Assumes nothing.
-use mathlib.Core.Path.{_≡_, refl, _∙_}
-use mathlib.Core.Bool.{Bool, true, false, Bool·beq}
+use mathlib.Core.Path.{_≡_, refl}
+use mathlib.Core.Bool.{Bool, true, false}
 use mathlib.Core.List.{List, [], _∷_, map}
 use mathlib.Core.Option.{Option, none as nothing, some}
 use Prim.Native.Nat.{ℕ, _<_}
@@ -13,11 +13,12 @@ use Rattle.model.specs.Elements.{Triangles, Element, fanOf}
 use Rattle.model.specs.Run.{Entry, Run, splitsOf}
 use Rattle.model.specs.Split.{Opening, openingOf, splits?, splitMade, splitStep, splitBySides}
 use Rattle.model.specs.Pieces.{removeStraddlers}
-use Rattle.model.specs.Cut.{Blade, leftOf, keptSide, bladeSides, splitByBlade, splitFree, pinched, splitPinched, candidates, cutFacets, markedBy, cutAlong, cut}
+use Rattle.model.specs.Cut.{Blade, bladeSides, splitByBlade, splitFree, pinched, splitPinched, candidates, cutFacets, markedBy, cutAlong, cut}
 use Rattle.model.specs.Crack.{Way, beyond, farSide, twoSided, meanLoad, torn, crackBy, crackPair, crackEdge, currentPair, waysOf, wayAt, loadsOf, tornEnds, crack}
 use Rattle.model.specs.Trace.{All}
 use Rattle.model.proofs.Traced.{order-fits}
 use Rattle.model.proofs.Laws.{pick-one, Found, find-fits}
+use Rattle.model.proofs.Rules.{two-all, pick-two, blade-two, blade-every}
 
 -- a split at v of M: a side, 0 or 1, for each element of its fan
 pub record Sided (M : Mesh) (O : Opening) : Type 0 where
@@ -37,14 +38,6 @@ pub record Kept (P : Run → Type 0) : Type 0 where
   pub split : (R : Run) → P R → (O : Opening) → Sided (R .mesh) O → splits? O (R .mesh) ≡ true → (more : List Entry) → splitsOf more ≡ [] → (f : Mesh → Mesh) → Behind O f → P (splitMade more f Triangles O R)
   pub marks : (R : Run) → P R → (B : Blade) → P (markedBy Triangles B R)
   pub straddlers : (R : Run) → P R → P (removeStraddlers Triangles R)
-
-two-all : {A : Type 0} (f : A → ℕ) → ((a : A) → f a < 2) → (l : List A) → All (λ s. s < 2) (map f l)
-two-all f h [] = tt
-two-all f h (a ∷ l) = (h a, two-all f h l)
-
-pick-two : (b : Bool) (x y : ℕ) → x < 2 → y < 2 → pick b x y < 2
-pick-two true x y p q = p
-pick-two false x y p q = q
 
 way-sided : (loads : List Float) (M : Mesh) (v u : ℕ) → All (λ (w : Way). Sided M (w .opening)) (wayAt Triangles loads M v u)
 unfolding wayAt farSide
@@ -87,12 +80,8 @@ module _ (P : Run → Type 0) (K : Kept P) where
   pinched-kept R p = fold-kept (splitFree Triangles) free-kept R (pinched Triangles R) p
 
   blade-kept : (B : Blade) (R : Run) (v : ℕ) → P R → P (splitByBlade Triangles B R v)
-  unfolding splitByBlade bladeSides
-  blade-kept B R v p =
-      let raw = map (leftOf B (R .mesh)) (fanOf Triangles (R .mesh) v) in
-      let s : Bool → ℕ = λ r. pick (Bool·beq r (keptSide B (R .mesh) v raw)) 0 1 in
-      sides-kept R p v (map s raw) (length-map raw s ∙ length-map (fanOf Triangles (R .mesh) v) (leftOf B (R .mesh)))
-      (two-all s (λ r. pick-two (Bool·beq r (keptSide B (R .mesh) v raw)) 0 1 (omega arith) (omega arith)) raw)
+  unfolding splitByBlade
+  blade-kept B R v p = sides-kept R p v (bladeSides Triangles B (R .mesh) v) (blade-every Triangles B (R .mesh) v) (blade-two Triangles B (R .mesh) v)
 
   facets-kept : (B : Blade) (R : Run) → P R → P (cutFacets B R)
   unfolding cutFacets

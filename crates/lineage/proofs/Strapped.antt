@@ -38,7 +38,7 @@ too-heavy =
     []
 
 -- the mesh is accepted, and cut across strap (0, 1) at 0.75
-pub strap-cut : cutCall true two-straps (blade 0x40c00000 0xbf800000 0x40c00000 0x3f800000) (bits 0x3dcccccd) (rooms 1024 1024 2048 2048 4096) ≡ done too-heavy (met 0 1 (point 0x40c00000 0) (bits 0x3f400000) ∷ insert 0 1 3 4 (bits 0x3f400000) ∷ []) true
+pub strap-cut : cutCall true two-straps 1 (blade 0x40c00000 0xbf800000 0x40c00000 0x3f800000) (bits 0x3dcccccd) (rooms 1024 1024 2048 2048 4096) ≡ done too-heavy (met 0 1 (point 0x40c00000 0) (bits 0x3f400000) ∷ insert 0 1 3 4 (bits 0x3f400000) ∷ []) true
 unfolding all finite? number? volume? notBelow0? absOf particleOk triangleOk edgeOk numbersFit named rootOk cornersOk endsOk sideOk indicesFit refusal ofBits neg lt le eq ne add sub mul div isNan any sift fold each pairs mapAt tab upTo rising invOf lerpOf bladeHit placeOf restOf besides sum kindBy kindOf strapsFrom elementsOf meets crossings nearEnd strapsAt strapShare insertionOf wanted? insertable sideAlong bends numbersOf bendsOver lightened between insertedParticles halfOf insertedEdges insertedSides insertedMesh insertStep insertedAt crossed unbent afterCrossings cutSegments marksOf markedBy cutAlong cut start stepTo changed tooSmall firstFault outcome cutCall
 strap-cut = refl
 
@@ -68,7 +68,7 @@ just-too-heavy =
     []
 
 -- the mesh is accepted, and both straps are cut at their end, with fraction 0
-pub pair-cut : cutCall true one-pair (blade 0x41000000 0xbf800000 0x41000000 0x3f800000) (bits 0) (rooms 1024 1024 2048 2048 4096) ≡ done just-too-heavy (met 0 1 (point 0x41000000 0) (bits 0x3f800000) ∷ met 0 1 (point 0x41000000 0) (bits 0x3f800000) ∷ insert 0 1 2 3 (bits 0x3f800000) ∷ insert 0 1 4 5 (bits 0x3f800000) ∷ []) true
+pub pair-cut : cutCall true one-pair 1 (blade 0x41000000 0xbf800000 0x41000000 0x3f800000) (bits 0) (rooms 1024 1024 2048 2048 4096) ≡ done just-too-heavy (met 0 1 (point 0x41000000 0) (bits 0x3f800000) ∷ met 0 1 (point 0x41000000 0) (bits 0x3f800000) ∷ insert 0 1 2 3 (bits 0x3f800000) ∷ insert 0 1 4 5 (bits 0x3f800000) ∷ []) true
 unfolding all finite? number? volume? notBelow0? absOf particleOk triangleOk edgeOk numbersFit named rootOk cornersOk endsOk sideOk indicesFit refusal ofBits neg lt le eq ne add sub mul div isNan any sift fold each pairs mapAt tab upTo rising invOf lerpOf bladeHit placeOf restOf besides sum kindBy kindOf strapsFrom elementsOf meets crossings nearEnd strapsAt strapShare insertionOf wanted? insertable sideAlong bends numbersOf bendsOver lightened between insertedParticles halfOf insertedEdges insertedSides insertedMesh insertStep insertedAt crossed unbent afterCrossings cutSegments marksOf markedBy cutAlong cut start stepTo changed tooSmall firstFault outcome cutCall
 pair-cut = refl
 

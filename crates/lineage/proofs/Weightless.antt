@@ -13,7 +13,7 @@ use lib.Seq.{getD-append-add}
 use lib.Ieee.{Float, nan, inf, fin, binary32, fits, round, mul, div, lt, le, eq, neg, up, down, unlike}
 use lib.Ieee.Exact.{HasValue}
 use lib.Ieee.Fits.{round-fits, down-pos}
-use Rattle.model.specs.Valid.{flag?, particleOk, triangleOk, edgeOk, numbersFit}
+use Rattle.model.specs.Valid.{particleOk, triangleOk, edgeOk, numbersFit}
 use Rattle.lists.specs.Lists.{all, pick, mapAt, upTo}
 use Rattle.lists.proofs.Rows.{length-mapAt}
 use Rattle.lists.proofs.Stores.{map-at}
@@ -25,6 +25,7 @@ use Rattle.float.proofs.Values.{same-value}
 use Rattle.model.specs.Mesh.{Particle, Mesh, blank}
 use Rattle.model.specs.Elements.{Kind}
 use Rattle.model.specs.Split.{Opening, openingOf, weightOf, totalOf, massOf, portion, copied}
+use Rattle.lineage.proofs.Again.{tests}
 
 -- either zero
 abbrev zero± : Bool → Float
@@ -124,12 +125,8 @@ number-finite nan e = untrue e
 number-finite (inf s) e = untrue e
 number-finite (fin s m d) e = refl
 
-fifth : (a b c d e f g : Bool) → (a && b && c && d && e && f && g) ≡ true → e ≡ true
-fifth a b c d e f g h = second-of (a && b && c && d) e (and-first (a && b && c && d && e) f (and-first (a && b && c && d && e && f) g h))
-
 mass-finite : (p : Particle) → particleOk p ≡ true → finite? (p .mass) ≡ true
-unfolding particleOk
-mass-finite p e = number-finite (p .mass) (fifth (number? (p .x)) (number? (p .y)) (number? (p .rest-x)) (number? (p .rest-y)) (number? (p .mass)) (finite? (p .inv)) (flag? (p .damaged)) e)
+mass-finite p e = number-finite (p .mass) (tests p e .mass)
 
 -- so is the mass of each particle of an accepted mesh, and of none
 masses-finite : (ps : List Particle) (v : ℕ) → all particleOk ps ≡ true → finite? (getD ps v blank .mass) ≡ true

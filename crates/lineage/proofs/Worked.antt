@@ -9,11 +9,11 @@ use lib.ListN.{length}
 use lib.Ieee.{binary32, fin, neg, add, sub, mul, div, lt, le, eq, ne, ofInt, fits}
 use Rattle.lists.specs.Lists.{any, all, sift, siftAt, find, fold, each, pairs, mapAt, tab, upTo, rising, distinct, disjoint}
 use Rattle.lists.specs.Labels.{merged, joinPair, joinRow, joinRows, labelled}
-use Rattle.float.specs.Numbers.{zero32, half, absOf, maxOf, invOf}
+use Rattle.float.specs.Numbers.{half, absOf, maxOf, invOf}
 use Rattle.float.specs.Ranges.{finite?, number?, volume?, notBelow0?}
 use Rattle.blade.specs.declared.Point.{Point}
 use Rattle.fan.specs.Groups.{labelsOf, numberOne, numberSide, numbered, groupsOf, countOf}
-use Rattle.model.specs.Mesh.{Particle, Mesh}
+use Rattle.model.specs.Mesh.{Particle, Mesh, changedTo}
 use Rattle.model.specs.Valid.{particleOk, triangleOk, edgeOk, numbersFit, named, rootOk, cornersOk, endsOk, sideOk, indicesFit}
 use Rattle.model.specs.Elements.{sum, kindBy, kindOf, trianglesFrom, elementsOf, held, fanOf, gridOf}
 use Rattle.model.specs.Split.{partsOf, openingOf, splits?, made, weightOf, totalOf, massOf, portion, copied, groupAt, rewiredTriangles, rewiredStraps, ring, edgeGroups, stayed, doubled, otherEdges, parted, straddles, sideGroup, followed, faceOn, facetsAt, crackFacets, atLongest, settled, splitEntries, goneEntries, splitMade, splitStep, splitBySides}
@@ -35,7 +35,7 @@ joined =
 
 -- particle 0 with half its mass
 abbrev halved : Particle
-halved = record { x = zero32; y = zero32; rest-x = zero32; rest-y = zero32; mass = half; inv = fin false 1 (pos 1); root = 0; damaged = 0 }
+halved = changedTo half (fin false 1 (pos 1)) 0 (free 0 (point (pos 0) (pos 0)))
 
 -- the two apart, each with a particle of its own there
 abbrev pub apart : Mesh
@@ -58,7 +58,7 @@ split-there = refl
 -- a free particle whose coordinates f32 holds
 free-32 : (n : ℕ) (p : Point) → T (fits binary32 (p .x)) → T (fits binary32 (p .y)) → Particle32 (free n p)
 unfolding fits
-free-32 n p x y = record { x = x; y = y; rest-x = x; rest-y = y; mass = tt; inv = tt }
+free-32 n p x y = record { x = x; y = y; rest-x = x; rest-y = y; mass = tt; inv = tt; velocity-x = tt; velocity-y = tt }
 
 joined-stored : Stored joined
 unfolding fits ofInt

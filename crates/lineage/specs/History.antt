@@ -14,7 +14,7 @@ use Rattle.model.specs.Elements.{kindOf, particle, cornersOf, endsOf}
 use Rattle.model.specs.Run.{Entry, Need, Rooms, Run, start, splitsOf}
 use Rattle.model.specs.Split.{splitBySides}
 use Rattle.model.specs.Pieces.{removeStraddlers}
-use Rattle.model.specs.Cut.{Blade, cut}
+use Rattle.model.specs.Cut.{Line, Blade, cut}
 use Rattle.model.specs.Crack.{crack}
 use Rattle.model.specs.Calls.{sidesOk, firstFault, refused, done, cutCall, crackCall, splitCall, straddlersCall}
 use Rattle.model.specs.Trace.{All, Sound, tracedBack, Hold}
@@ -28,12 +28,12 @@ pub record Begins (M : Mesh) : Type 0 where
 
 -- A call on M with the rooms L, of any arguments, is done: it gives M′ and logs `more`.
 pub data Called (L : Rooms) (M : Mesh) : Mesh → List Entry → Type 0 where
-  cutting : {M′ : Mesh} {more : List Entry} {c : Bool} (B : Blade) (f : Float) → cutCall true M B f L ≡ done M′ more c → Called L M M′ more
+  cutting : {M′ : Mesh} {more : List Entry} {c : Bool} (n : ℕ) (B : Line) (f : Float) → cutCall true M n B f L ≡ done M′ more c → Called L M M′ more
   cracking : {M′ : Mesh} {more : List Entry} {c : Bool} (is : List ℕ) (min : ℕ) → crackCall true M is min L ≡ done M′ more c → Called L M M′ more
   splitting : {M′ : Mesh} {more : List Entry} {c : Bool} (v : ℕ) (sides : List ℕ) → splitCall true M v sides L ≡ done M′ more c → Called L M M′ more
   removing : {M′ : Mesh} {more : List Entry} {c : Bool} → straddlersCall true M L ≡ done M′ more c → Called L M M′ more
 
--- The host has changed M to M′: points, masses, inverse masses, rest positions, damage, volumes, stresses, lengths, impulses and torn flags have any accepted values.
+-- The host has changed M to M′: points, masses, inverse masses, rest positions, velocities, damage, volumes, stresses, lengths, impulses and torn flags have any accepted values.
 -- Triangles hold the particles that they held, and so do edges and boundary entries; roots, structural flags, and the number of everything are as they were.
 pub record Moved (M M′ : Mesh) : Type 0 where
   pub roots : map (λ (p : Particle). p .root) (M′ .particles) ≡ map (λ (p : Particle). p .root) (M .particles)
@@ -75,7 +75,7 @@ pub record Afternoon (M₀ M : Mesh) (log : List Entry) : Type 0 where
   pub held : (x : ℕ) → length (M₀ .particles) ≤ x → x < length (M .particles) → Hold x (M .triangles)
   pub bounded : length (M .particles) ≤ mostParticles M₀
 
--- P of the run of every call on M: whether the call is then done, or refused for any room. (A split has a side, 0 or 1, for each triangle at v: others are refused before.)
+-- P of the run of every call on M, a cut by any rule: whether the call is then done, or refused for any room. (A split has a side, 0 or 1, for each triangle at v: others are refused before.)
 pub record EveryRun (P : Run → Type 0) (M : Mesh) : Type 0 where
   pub cuts : (B : Blade) (f : Float) → P (cut (kindOf M) B f (start M))
   pub cracks : (is : List ℕ) (min : ℕ) → P (crack (kindOf M) min is (start M))
@@ -94,7 +94,7 @@ Unrefused L R = firstFault L (R .needs) ≡ 5 → ⊥
 -- no call on M with the rooms L is refused for the room for particles
 pub record Roomy (L : Rooms) (M : Mesh) : Type 0 where
   pub runs : EveryRun (Unrefused L) M
-  pub cuts : (sized : Bool) (B : Blade) (f : Float) → cutCall sized M B f L ≡ refused 5 → ⊥
+  pub cuts : (sized : Bool) (n : ℕ) (B : Line) (f : Float) → cutCall sized M n B f L ≡ refused 5 → ⊥
   pub cracks : (sized : Bool) (is : List ℕ) (min : ℕ) → crackCall sized M is min L ≡ refused 5 → ⊥
   pub splits : (sized : Bool) (v : ℕ) (sides : List ℕ) → splitCall sized M v sides L ≡ refused 5 → ⊥
   pub straddlers : (sized : Bool) → straddlersCall sized M L ≡ refused 5 → ⊥
@@ -107,6 +107,8 @@ pub record Particle32 (p : Particle) : Type 0 where
   pub rest-y : T (fits binary32 (p .rest-y))
   pub mass : T (fits binary32 (p .mass))
   pub inv : T (fits binary32 (p .inv))
+  pub velocity-x : T (fits binary32 (p .velocity-x))
+  pub velocity-y : T (fits binary32 (p .velocity-y))
 
 pub record Triangle32 (t : Triangle) : Type 0 where
   pub volume : T (fits binary32 (t .volume))

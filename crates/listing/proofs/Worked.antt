@@ -77,12 +77,12 @@ printed-as (refused code) = refl
 printed-as (done M log changed) = refl
 
 -- the worked mesh, cut by (-1,-1) to (5,5)
-pub worked-printed : printed false (cutCall true listingMesh (blade (negsuc 0) (negsuc 0) (pos 5) (pos 5)) tenth limits) ≡ worked-bytes
-worked-printed = printed-as (cutCall true listingMesh (blade (negsuc 0) (negsuc 0) (pos 5) (pos 5)) tenth limits) ∙ ap printed-said listing-worked ∙ worked-listing
+pub worked-printed : printed false (cutCall true listingMesh 1 (blade (negsuc 0) (negsuc 0) (pos 5) (pos 5)) tenth limits) ≡ worked-bytes
+worked-printed = printed-as (cutCall true listingMesh 1 (blade (negsuc 0) (negsuc 0) (pos 5) (pos 5)) tenth limits) ∙ ap printed-said listing-worked ∙ worked-listing
 
 -- the worked strap, cut by (2,-1) to (2,1)
-pub strap-printed : printed false (cutCall true strapMesh (blade (pos 2) (negsuc 0) (pos 2) (pos 1)) tenth limits) ≡ strap-bytes
-strap-printed = printed-as (cutCall true strapMesh (blade (pos 2) (negsuc 0) (pos 2) (pos 1)) tenth limits) ∙ ap printed-said strap-worked ∙ strap-listing
+pub strap-printed : printed false (cutCall true strapMesh 1 (blade (pos 2) (negsuc 0) (pos 2) (pos 1)) tenth limits) ≡ strap-bytes
+strap-printed = printed-as (cutCall true strapMesh 1 (blade (pos 2) (negsuc 0) (pos 2) (pos 1)) tenth limits) ∙ ap printed-said strap-worked ∙ strap-listing
 
 -- ---- single lines and numbers
 

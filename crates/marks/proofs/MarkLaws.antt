@@ -15,16 +15,16 @@ use Rattle.lists.proofs.Sifts.{stands-append, any-made}
 use Rattle.lists.proofs.Steps.{any-step, each-step}
 use Rattle.blade.specs.declared.Point.{Point}
 use Rattle.blade.specs.declared.Hit.{Hit}
-use Rattle.blade.specs.Blade.{bladeHit}
 use Rattle.columns.specs.Block.{cell}
 use Rattle.columns.proofs.Cells.{col-0, col-1}
 use Rattle.model.specs.Mesh.{Particle, Triangle, Mesh, blank}
 use Rattle.model.specs.Elements.{Triangles, Element, placeOf, cornersOf, trianglesFrom, elementsOf}
 use Rattle.model.specs.Run.{Entry, split, edge, insert, opened, met, Run, splitOf, splitsOf}
-use Rattle.model.specs.Cut.{Blade, hit?, meets, ifMet, splitEnds, nearCorners}
+use Rattle.model.specs.Cut.{Blade, hitBy, hit?, meets, ifMet, splitEnds, nearCorners}
 use Rattle.mesh.specs.At.{particlesAt, trianglesAt, meshAt}
 use Rattle.mesh.specs.declared.Counts.{Counts}
 use Rattle.mesh.specs.Log.{wordsOf, entryRow, logAt}
+use Rattle.mesh.specs.Widths.{pointColumns}
 use Rattle.work.specs.Places.{CornersIn}
 use Rattle.marks.specs.Marking.{Marks, MarkedBy, placeIn, PlacesIn, metIn, metOf, candidateEnds, CandidatesMarked, splitWords, endsIn, NearMarked, SplitFound, marked?, nearRow, pinchedEnds, PinchedMarked}
 
@@ -155,8 +155,8 @@ rows-are f g M t corners volumes e h =
 -- ---- candidates
 
 -- the two cells of a particle's place, as a program reads them
-pub place-read : (points : List Float) (w : ℕ) → _≡_ {A = Point} (record { x = getD points w nan; y = getD points (length points / 6 + w) nan }) (placeIn points w)
-place-read points w = ap₂ (λ (x y : Float). record { x = x; y = y }) (sym (col-0 nan (length points / 6) points w)) (sym (col-1 nan (length points / 6) points w))
+pub place-read : (points : List Float) (w : ℕ) → _≡_ {A = Point} (record { x = getD points w nan; y = getD points (length points / pointColumns + w) nan }) (placeIn points w)
+place-read points w = ap₂ (λ (x y : Float). record { x = x; y = y }) (sym (col-0 nan (length points / pointColumns) points w)) (sym (col-1 nan (length points / pointColumns) points w))
 
 -- the places of a mesh in blocks
 pub places-at : (k : Counts) (points : List Float) (roots corners : List ℕ) (volumes : List Float) (ends : List ℕ) (lengths : List Float) (outline : List ℕ)
@@ -166,17 +166,17 @@ places-at k points roots corners volumes ends lengths outline w h = ap (λ (p : 
 
 module _ (B : Blade) (points : List Float) where
   -- a miss, and a hit
-  pub pair-miss : (x y : ℕ) (p q : Point) (h : Hit) (m : List ℕ) → p ≡ placeIn points x → q ≡ placeIn points y → h ≡ bladeHit (B .from) (B .to) p q → hit? h ≡ false → MarkedBy (metIn B points (x, y)) m m
+  pub pair-miss : (x y : ℕ) (p q : Point) (h : Hit) (m : List ℕ) → p ≡ placeIn points x → q ≡ placeIn points y → h ≡ hitBy (B .rule) (B .line .from) (B .line .to) p q → hit? h ≡ false → MarkedBy (metIn B points (x, y)) m m
   unfolding metIn
   pair-miss x y p q h m ep eq e t =
-      let f : hit? (bladeHit (B .from) (B .to) (placeIn points x) (placeIn points y)) ≡ false = ap₂ (λ (a b : Point). hit? (bladeHit (B .from) (B .to) a b)) (sym ep) (sym eq) ∙ ap hit? (sym e) ∙ t in
+      let f : hit? (hitBy (B .rule) (B .line .from) (B .line .to) (placeIn points x) (placeIn points y)) ≡ false = ap₂ (λ (a b : Point). hit? (hitBy (B .rule) (B .line .from) (B .line .to) a b)) (sym ep) (sym eq) ∙ ap hit? (sym e) ∙ t in
       subst (λ (s : Bool). MarkedBy (pick s (x ∷ y ∷ []) []) m m) (sym f) (marked-none m)
 
-  pub pair-hit : (x y : ℕ) (p q : Point) (h : Hit) (m m′ m″ : List ℕ) → p ≡ placeIn points x → q ≡ placeIn points y → h ≡ bladeHit (B .from) (B .to) p q → hit? h ≡ true
+  pub pair-hit : (x y : ℕ) (p q : Point) (h : Hit) (m m′ m″ : List ℕ) → p ≡ placeIn points x → q ≡ placeIn points y → h ≡ hitBy (B .rule) (B .line .from) (B .line .to) p q → hit? h ≡ true
       → length m′ ≡ length m → MarkedBy (x ∷ []) m m′ → MarkedBy (y ∷ []) m′ m″ → MarkedBy (metIn B points (x, y)) m m″
   unfolding metIn
   pair-hit x y p q h m m′ m″ ep eq e t l X Y =
-      let f : hit? (bladeHit (B .from) (B .to) (placeIn points x) (placeIn points y)) ≡ true = ap₂ (λ (a b : Point). hit? (bladeHit (B .from) (B .to) a b)) (sym ep) (sym eq) ∙ ap hit? (sym e) ∙ t in
+      let f : hit? (hitBy (B .rule) (B .line .from) (B .line .to) (placeIn points x) (placeIn points y)) ≡ true = ap₂ (λ (a b : Point). hit? (hitBy (B .rule) (B .line .from) (B .line .to) a b)) (sym ep) (sym eq) ∙ ap hit? (sym e) ∙ t in
       subst (λ (s : Bool). MarkedBy (pick s (x ∷ y ∷ []) []) m m″) (sym f) (marked-then (x ∷ []) (y ∷ []) m m′ m″ l X Y)
 
   -- the three sides of a triangle
@@ -188,7 +188,7 @@ module _ (B : Blade) (points : List Float) where
   module _ (M : Mesh) (p : ℕ) (at : PlacesIn M p points) where
     met-pair : (x y : ℕ) → x < p → y < p → metIn B points (x, y) ≡ ifMet B M (x, y)
     unfolding metIn meets
-    met-pair x y hx hy = ap₂ (λ (a b : Point). pick (hit? (bladeHit (B .from) (B .to) a b)) (x ∷ y ∷ []) []) (sym (at x hx)) (sym (at y hy))
+    met-pair x y hx hy = ap₂ (λ (a b : Point). pick (hit? (hitBy (B .rule) (B .line .from) (B .line .to) a b)) (x ∷ y ∷ []) []) (sym (at x hx)) (sym (at y hy))
 
     met-row : (x y z : ℕ) → x < p → y < p → z < p → metOf B points (x ∷ y ∷ z ∷ []) ≡ each (ifMet B M) (pairs (x ∷ y ∷ z ∷ []))
     unfolding metOf each pairs

@@ -1,6 +1,6 @@
 -- Laws of the sides of a fan by the blade: the middle of a row, the kept side, and a side for each row. Assumes nothing.
 use mathlib.Core.Path.{_≡_, refl, sym, _∙_, ap, ap₂, subst}
-use mathlib.Core.Bool.{Bool, true, false, Bool·beq}
+use mathlib.Core.Bool.{Bool, true, false, false≢true, Bool·beq}
 use mathlib.Core.Logic.{_⊎_, inl, inr, ⊎-elim}
 use mathlib.Core.List.{List, [], _∷_, _++_, map}
 use Prim.Native.Nat.{ℕ, zero, suc, _+_, _*_, _/_, _<_, _≤_, zero-le, suc-le-suc}
@@ -24,8 +24,11 @@ use Rattle.elements.specs.Table.{Cornered}
 use Rattle.elements.proofs.Tables.{noElement, row-is}
 use Rattle.opening.specs.Opened.{CornersBelow}
 use Rattle.opening.proofs.Towards.{row-below}
-use Rattle.marks.specs.Marking.{placeIn, PlacesIn}
+use Rattle.marks.specs.Marking.{placeIn, PlacesIn, bladeBy, bladeFrom}
+use Rattle.marks.specs.declared.Rule.{Rule}
+use Rattle.marks.specs.declared.Rule.the-variants.{Rounded, Signs}
 use Rattle.marks.specs.Sided.{RowIn, leftIn, rowOf, leftsIn, keptIn, sideBy, SidesBy}
+use Rattle.mesh.specs.Widths.{pointColumns}
 
 -- ---- one row
 
@@ -73,7 +76,7 @@ per-size Triangles k e = inl e
 per-size Straps k e = inr e
 per-size Nothing k e = inr e
 
-module _ (k n : ℕ) (verts : List ℕ) (lp : ℕ) (size : (k ≡ 3) ⊎ (k ≡ 2)) (long : n * k ≤ length verts) (below : CornersBelow (lp / 6) n k verts) where
+module _ (k n : ℕ) (verts : List ℕ) (lp : ℕ) (size : (k ≡ 3) ⊎ (k ≡ 2)) (long : n * k ≤ length verts) (below : CornersBelow (lp / pointColumns) n k verts) where
   -- row i, from `at` on, lies in the block of points
   pub row-in : (i at m : ℕ) → i < n → at ≡ i * k → m ≡ k → RowIn (take m (drop at verts)) lp
   row-in i at m h e q =
@@ -81,7 +84,7 @@ module _ (k n : ℕ) (verts : List ℕ) (lp : ℕ) (size : (k ≡ 3) ⊎ (k ≡ 
       let l : length (take m (drop at verts)) ≡ k = length-take-le m (drop at verts) (omega (arith, length-drop at verts)) ∙ q in
       record {
         size = ⊎-elim (λ s. inl (l ∙ s)) (λ s. inr (l ∙ s)) size;
-        corners-in = subst (λ (a : ℕ). (j : ℕ) → j < length (take m (drop a verts)) → getD (take m (drop a verts)) j 0 < lp / 6) (sym e) (row-below verts below i m h q);
+        corners-in = subst (λ (a : ℕ). (j : ℕ) → j < length (take m (drop a verts)) → getD (take m (drop a verts)) j 0 < lp / pointColumns) (sym e) (row-below verts below i m h q);
       }
 
 -- ---- the kept side
@@ -167,10 +170,11 @@ side-two : (b : Bool) → pick b 0 1 < 2
 side-two true = omega arith
 side-two false = omega arith
 
-pub sides-done : (K : Kind) (B : Blade) (points : List Float) (v k n i : ℕ) (verts : List ℕ) (kept : Bool) (sides : List ℕ) → k ≡ cornersPer K → i ≡ n → n ≤ length sides
-    → kept ≡ keptIn B points v k n verts → take i sides ≡ tab i (sideAt B points k verts kept) → SidesBy K B v n verts points sides
+pub sides-done : (K : Kind) (b0 b1 : Point) (points : List Float) (v k n i : ℕ) (verts : List ℕ) (kept : Bool) (sides : List ℕ) → k ≡ cornersPer K → i ≡ n → n ≤ length sides
+    → kept ≡ keptIn (bladeFrom b0 b1) points v k n verts → take i sides ≡ tab i (sideAt (bladeFrom b0 b1) points k verts kept) → SidesBy K (bladeFrom b0 b1) v n verts points sides
 unfolding bladeSides
-sides-done K B points v k n i verts kept sides ek ei long e t =
+sides-done K b0 b1 points v k n i verts kept sides ek ei long e t =
+    let B = bladeFrom b0 b1 in
     let t′ : take n sides ≡ tab n (sideAt B points k verts kept) = subst (λ (m : ℕ). take m sides ≡ tab m (sideAt B points k verts kept)) ei t in
     record {
       are = λ M p C at h below.
@@ -180,6 +184,33 @@ sides-done K B points v k n i verts kept sides ek ei long e t =
           (sym (sym (getD-take n sides j 0 h) ∙ ap (λ (l : List ℕ). getD l j 0) t′ ∙ tab-at n (sideAt B points k verts kept) j 0 h))
           (side-two (Bool·beq (leftIn B points (rowOf k verts j)) kept));
     }
+
+-- not a triangle
+abbrev pub other? : Kind → Bool
+other? Triangles = false
+other? Straps = true
+other? Nothing = true
+
+-- signs decide for triangles alone: others have the sides of the rounded blade, which looks at the line only
+other-sides : (K : Kind) (b0 b1 : Point) (M : Mesh) (v : ℕ) → other? K ≡ true → bladeSides K (bladeFrom b0 b1) M v ≡ bladeSides K (bladeBy Signs b0 b1) M v
+unfolding bladeSides leftOf keptSide
+other-sides Triangles b0 b1 M v o = absurd (false≢true o)
+other-sides Straps b0 b1 M v o = refl
+other-sides Nothing b0 b1 M v o = refl
+
+-- the sides by the rule that the blade has
+module _ (K : Kind) (r : Rule) (b0 b1 : Point) (v n : ℕ) (verts : List ℕ) (points : List Float) (sides : List ℕ) where
+  by-rule : (q : Rule) → r ≡ q → SidesBy K (bladeBy q b0 b1) v n verts points sides → SidesBy K (bladeBy r b0 b1) v n verts points sides
+  by-rule q e S = subst (λ (x : Rule). SidesBy K (bladeBy x b0 b1) v n verts points sides) (sym e) S
+
+  pub by-rounded : r ≡ Rounded → SidesBy K (bladeFrom b0 b1) v n verts points sides → SidesBy K (bladeBy r b0 b1) v n verts points sides
+  by-rounded e S = by-rule Rounded e S
+
+  pub by-signs : r ≡ Signs → K ≡ Triangles → SidesBy Triangles (bladeBy Signs b0 b1) v n verts points sides → SidesBy K (bladeBy r b0 b1) v n verts points sides
+  by-signs e k S = by-rule Signs e (subst (λ (x : Kind). SidesBy x (bladeBy Signs b0 b1) v n verts points sides) (sym k) S)
+
+  pub by-others : r ≡ Signs → other? K ≡ true → SidesBy K (bladeFrom b0 b1) v n verts points sides → SidesBy K (bladeBy r b0 b1) v n verts points sides
+  by-others e o S = by-rule Signs e (record { are = λ M p C at h below. S .are M p C at h below ∙ other-sides K b0 b1 M v o; two = S .two })
 
 -- row i, from `at` on, lies in the table
 pub row-fits : (k per n lv i at : ℕ) → k ≡ per → n * per ≤ lv → i < n → at ≡ i * k → at + k ≤ lv

@@ -8,15 +8,19 @@ use lib.Dec.{eqb}
 use lib.Ieee.{Float, nan}
 use Rattle.lists.specs.Lists.{pick, stands, any, each, pairs, empty}
 use Rattle.blade.specs.declared.Point.{Point}
-use Rattle.blade.specs.Blade.{bladeHit}
+use Rattle.blade.specs.declared.Hit.{Hit}
 use Rattle.columns.specs.Block.{cell}
 use Rattle.model.specs.Mesh.{Mesh}
 use Rattle.model.specs.Elements.{Triangles, Element, placeOf, elementsOf}
 use Rattle.model.specs.Run.{Run, splitsOf}
-use Rattle.model.specs.Cut.{Blade, hit?, ifMet, splitEnds, nearCorners}
+use Rattle.model.specs.Cut as M
+use Rattle.model.specs.Cut.{rounded, signs, Blade, hitBy, hit?, ifMet, splitEnds, nearCorners}
 use Rattle.mesh.specs.At.{trianglesAt}
 use Rattle.mesh.specs.Log.{Words, wordsOf, logAt}
+use Rattle.mesh.specs.Widths.{pointColumns}
 use Rattle.work.specs.Places.{CornersIn}
+use Rattle.marks.specs.declared.Rule.{Rule}
+use Rattle.marks.specs.declared.Rule.the-variants.{Rounded, Signs}
 
 -- ---- marks
 
@@ -32,21 +36,33 @@ pub record MarkedBy (listed marks marks′ : List ℕ) : Type 0 where
 
 -- where particle w is, by the block of points
 abbrev pub placeIn : List Float → ℕ → Point
-placeIn points w = record { x = cell nan (length points / 6) points 0 w; y = cell nan (length points / 6) points 1 w }
+placeIn points w = record { x = cell nan (length points / pointColumns) points 0 w; y = cell nan (length points / pointColumns) points 1 w }
 
 -- the first p particles of M are where the block says
 abbrev pub PlacesIn : Mesh → ℕ → List Float → Type 0
 PlacesIn M p points = (w : ℕ) → w < p → placeOf M w ≡ placeIn points w
 
--- the blade from b0 to b1
+-- which of the definitions' rules one of the program's is
+abbrev pub ruleIs : Rule → M.Rule
+ruleIs Rounded = rounded
+ruleIs Signs = signs
+
+-- the blade from b0 to b1 by a rule, and by rounded numbers
+abbrev pub bladeBy : Rule → Point → Point → Blade
+bladeBy r b0 b1 = record { line = record { from = b0; to = b1 }; rule = ruleIs r }
+
 abbrev pub bladeFrom : Point → Point → Blade
-bladeFrom b0 b1 = record { from = b0; to = b1 }
+bladeFrom b0 b1 = bladeBy Rounded b0 b1
 
 -- ---- candidates
 
+-- the blade test on a pair of particles, by the block of points
+abbrev pub hitIn : Blade → List Float → ℕ × ℕ → Hit
+hitIn B points xy = hitBy (B .rule) (B .line .from) (B .line .to) (placeIn points (xy .0)) (placeIn points (xy .1))
+
 -- the ends of a pair of corners that the blade meets, by the block of points
 unfoldable pub metIn : Blade → List Float → ℕ × ℕ → List ℕ
-metIn B points xy = pick (hit? (bladeHit (B .from) (B .to) (placeIn points (xy .0)) (placeIn points (xy .1)))) (xy .0 ∷ xy .1 ∷ []) []
+metIn B points xy = pick (hit? (hitIn B points xy)) (xy .0 ∷ xy .1 ∷ []) []
 
 -- the same of all pairs of a triangle's corners
 unfoldable pub metOf : Blade → List Float → List ℕ → List ℕ
@@ -59,7 +75,7 @@ candidateEnds B M = each (λ (e : Element). each (ifMet B M) (pairs (e .corners)
 -- the corners of t triangles stand in the block, and name particles of the block of points
 pub record CandidateRoom (t : ℕ) (corners : List ℕ) (lp : ℕ) : Type 0 where
   pub long : t ≤ length corners / 3
-  pub corners-in : CornersIn (lp / 6) t corners
+  pub corners-in : CornersIn (lp / pointColumns) t corners
 
 -- the candidates of every mesh of these triangles and places are marked
 pub record CandidatesMarked (B : Blade) (t : ℕ) (points : List Float) (corners marks : List ℕ) : Type 0 where

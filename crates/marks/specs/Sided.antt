@@ -15,11 +15,12 @@ use Rattle.model.specs.Cut.{Blade, offset, bladeSides}
 use Rattle.elements.specs.Table.{Cornered}
 use Rattle.opening.specs.Opened.{CornersBelow}
 use Rattle.marks.specs.Marking.{placeIn, PlacesIn}
+use Rattle.mesh.specs.Widths.{pointColumns}
 
 -- two or three corners, in the block of points
 pub record RowIn (row : List ℕ) (lp : ℕ) : Type 0 where
   pub size : (length row ≡ 3) ⊎ (length row ≡ 2)
-  pub corners-in : (j : ℕ) → j < length row → getD row j 0 < lp / 6
+  pub corners-in : (j : ℕ) → j < length row → getD row j 0 < lp / pointColumns
 
 -- is the middle of a row of corners to the left, by the block of points
 unfoldable pub leftIn : Blade → List Float → List ℕ → Bool
@@ -44,17 +45,17 @@ sideBy kept left = pick (Bool·beq left kept) 0 1
 -- v and the corners of n rows, k to each, lie in the block of points
 pub record RowsIn (v k n : ℕ) (verts : List ℕ) (lp : ℕ) : Type 0 where
   pub size : (k ≡ 3) ⊎ (k ≡ 2)
-  pub here : v < lp / 6
+  pub here : v < lp / pointColumns
   pub long : n * k ≤ length verts
-  pub corners-in : CornersBelow (lp / 6) n k verts
+  pub corners-in : CornersBelow (lp / pointColumns) n k verts
 
 -- and there is room for n sides
 pub record SidesRoom (v k n : ℕ) (verts : List ℕ) (lp ls : ℕ) : Type 0 where
-  pub here : v < lp / 6
+  pub here : v < lp / pointColumns
   pub few : n ≤ 2048
   pub long : n * k ≤ length verts
   pub sides-long : n ≤ ls
-  pub corners-in : CornersBelow (lp / 6) n k verts
+  pub corners-in : CornersBelow (lp / pointColumns) n k verts
 
 -- the sides of v's fan by the blade, in every mesh with these places whose fan stands in the table
 pub record SidesBy (K : Kind) (B : Blade) (v n : ℕ) (verts : List ℕ) (points : List Float) (sides : List ℕ) : Type 0 where

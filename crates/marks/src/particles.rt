@@ -4,16 +4,19 @@ ghost use mathlib.Core.List.{[], _∷_};
 ghost use Prim.Native.Nat.{_/_, _<_, _≤_};
 ghost use lib.ListN.{length};
 ghost use Rattle.lists.specs.Lists.{any};
-ghost use Rattle.marks.specs.Marking.{MarkedBy, placeIn, bladeFrom, metIn, metOf, CandidateRoom, CandidatesMarked, NearMarked, SplitFound, marked?, nearRow, PinchedRoom, PinchedMarked};
+ghost use Rattle.model.specs.Cut.{hitBy};
+ghost use Rattle.marks.specs.Marking.{MarkedBy, placeIn, ruleIs, bladeBy, metIn, metOf, CandidateRoom, CandidatesMarked, NearMarked, SplitFound, marked?, nearRow, PinchedRoom, PinchedMarked};
+ghost use Rattle.mesh.specs.Widths.{pointColumns};
+use crate::Rule;
 use blade::Hit;
 use blade::Point;
 
 // Where particle w is.
 pub fn place(w: usize, points: &[f32]) -> Point
-    requires { ⌜ w < length (now points) / 6 ⌝ }
+    requires { ⌜ w < length (now points) / pointColumns ⌝ }
     ensures { λ r. ⌜ r ≡ placeIn (now (points .entry)) w ⌝ }
 {
-    let size = points.len() / 6;
+    let size = points.len() / mesh::POINT_COLUMNS;
     let next = size + w;
     Point {
         x: points[w],
@@ -30,12 +33,30 @@ fn mark(w: usize, marks: &mut [usize])
     }
 }
 
-// Marks x and y, if the blade meets the side from x to y.
-fn mark_pair(b0: Point, b1: Point, x: usize, y: usize, points: &[f32], marks: &mut [usize])
-    requires { ⌜ (x < length (now points) / 6) × (y < length (now points) / 6) ⌝ }
-    ensures { λ _. ⌜ MarkedBy (metIn (bladeFrom b0 b1) (now (points .entry)) (x, y)) (now (marks .entry)) (now (marks .exit)) ⌝ }
+// The blade test of a rule.
+pub fn tested(rule: Rule, b0: Point, b1: Point, p: Point, q: Point) -> Hit
+    ensures { λ r. ⌜ r ≡ hitBy (ruleIs rule) b0 b1 p q ⌝ }
 {
-    let hit = blade::blade_hit(b0, b1, place(x, points), place(y, points));
+    match rule {
+        Rule::Rounded => blade::blade_hit(b0, b1, p, q),
+        Rule::Signs => exact::hit_by_signs(b0, b1, p, q),
+    }
+}
+
+// Marks x and y, if the blade meets the side from x to y.
+fn mark_pair(
+    rule: Rule,
+    b0: Point,
+    b1: Point,
+    x: usize,
+    y: usize,
+    points: &[f32],
+    marks: &mut [usize],
+)
+    requires { ⌜ (x < length (now points) / pointColumns) × (y < length (now points) / pointColumns) ⌝ }
+    ensures { λ _. ⌜ MarkedBy (metIn (bladeBy rule b0 b1) (now (points .entry)) (x, y)) (now (marks .entry)) (now (marks .exit)) ⌝ }
+{
+    let hit = tested(rule, b0, b1, place(x, points), place(y, points));
     let Hit::Hit(_, _) = hit else {
         return;
     };
@@ -45,6 +66,7 @@ fn mark_pair(b0: Point, b1: Point, x: usize, y: usize, points: &[f32], marks: &m
 
 // The same of each side of a triangle.
 fn mark_sides(
+    rule: Rule,
     b0: Point,
     b1: Point,
     x: usize,
@@ -53,16 +75,17 @@ fn mark_sides(
     points: &[f32],
     marks: &mut [usize],
 )
-    requires { ⌜ (x < length (now points) / 6) × (y < length (now points) / 6) × (z < length (now points) / 6) ⌝ }
-    ensures { λ _. ⌜ MarkedBy (metOf (bladeFrom b0 b1) (now (points .entry)) (x ∷ y ∷ z ∷ [])) (now (marks .entry)) (now (marks .exit)) ⌝ }
+    requires { ⌜ (x < length (now points) / pointColumns) × (y < length (now points) / pointColumns) × (z < length (now points) / pointColumns) ⌝ }
+    ensures { λ _. ⌜ MarkedBy (metOf (bladeBy rule b0 b1) (now (points .entry)) (x ∷ y ∷ z ∷ [])) (now (marks .entry)) (now (marks .exit)) ⌝ }
 {
-    mark_pair(b0, b1, x, y, points, marks);
-    mark_pair(b0, b1, x, z, points, marks);
-    mark_pair(b0, b1, y, z, points, marks);
+    mark_pair(rule, b0, b1, x, y, points, marks);
+    mark_pair(rule, b0, b1, x, z, points, marks);
+    mark_pair(rule, b0, b1, y, z, points, marks);
 }
 
 // Marks each particle that ends a side that the blade meets, of the first t triangles, and no other.
 pub fn mark_candidates(
+    rule: Rule,
     b0: Point,
     b1: Point,
     t: usize,
@@ -71,7 +94,7 @@ pub fn mark_candidates(
     marks: &mut [usize],
 )
     requires { ⌜ CandidateRoom t (now corners) (length (now points)) ⌝ }
-    ensures { λ _. ⌜ CandidatesMarked (bladeFrom b0 b1) t (now (points .entry)) (now (corners .entry)) (now (marks .exit)) ⌝ }
+    ensures { λ _. ⌜ CandidatesMarked (bladeBy rule b0 b1) t (now (points .entry)) (now (corners .entry)) (now (marks .exit)) ⌝ }
 {
     columns::clear_usize(0, marks);
     let size = corners.len() / 3;
@@ -80,6 +103,7 @@ pub fn mark_candidates(
         let second = size + i;
         let third = 2 * size + i;
         mark_sides(
+            rule,
             b0,
             b1,
             corners[i],

@@ -2,13 +2,17 @@
 ghost use mathlib.Core.Path.{_≡_};
 ghost use Prim.Native.Nat.{_/_, _<_};
 ghost use lib.ListN.{length};
-ghost use Rattle.model.specs.Elements.{cornersPer};
+ghost use Rattle.model.specs.Elements.{Triangles, cornersPer};
 ghost use Rattle.elements.specs.Table.{kindIs};
-ghost use Rattle.marks.specs.Marking.{bladeFrom};
+ghost use Rattle.marks.specs.Marking.{bladeBy, bladeFrom};
+ghost use Rattle.marks.specs.declared.Rule.the-variants.{Signs};
 ghost use Rattle.marks.specs.Sided.{RowIn, leftIn, keptIn, sideBy, RowsIn, SidesRoom, SidesBy};
+ghost use Rattle.marks.specs.Signed.{TriangleIn, signAt, on?, keptSignIn, sideOfSign};
+use crate::Rule;
 use crate::particles::place;
 use blade::Point;
 use elements::Kind;
+use exact::Sign;
 
 // Is the middle of two or three corners to the left of the blade?
 fn left_of(b0: Point, b1: Point, row: &[usize], points: &[f32]) -> bool
@@ -57,8 +61,8 @@ fn side_of(kept: bool, left: bool) -> usize
     if left { 1 } else { 0 }
 }
 
-// The side of each of the n elements of v's fan.
-pub fn blade_sides(
+// The side of each of the n elements of v's fan, by rounded numbers.
+fn rounded_sides(
     kind: Kind,
     b0: Point,
     b1: Point,
@@ -81,5 +85,108 @@ pub fn blade_sides(
         sides[i] = side_of(kept, left);
         at = end;
         i += 1;
+    }
+}
+
+// To which side the middle of a triangle lies, by its corners' offsets.
+fn row_sign(b0: Point, b1: Point, row: &[usize], points: &[f32]) -> Sign
+    requires { ⌜ TriangleIn (now row) (length (now points)) ⌝ }
+    ensures { λ r. ⌜ r ≡ signAt (bladeBy Signs b0 b1) (now (points .entry)) (now (row .entry)) ⌝ }
+{
+    let x = blade::offset(b0, b1, place(row[0], points));
+    let y = blade::offset(b0, b1, place(row[1], points));
+    let z = blade::offset(b0, b1, place(row[2], points));
+    exact::sign_of_sum(x, y, z)
+}
+
+// Is it on the line?
+fn on_line(s: Sign) -> bool
+    ensures { λ r. ⌜ r ≡ on? s ⌝ }
+{
+    match s {
+        Sign::Left => false,
+        Sign::On => true,
+        Sign::Right => false,
+    }
+}
+
+// The kept side: v's own, or that of the first triangle off the line where v lies on it.
+fn kept_sign(b0: Point, b1: Point, v: usize, n: usize, verts: &[usize], points: &[f32]) -> Sign
+    requires { ⌜ RowsIn v 3 n (now verts) (length (now points)) ⌝ }
+    ensures { λ r. ⌜ r ≡ keptSignIn (bladeBy Signs b0 b1) (now (points .entry)) v n (now (verts .entry)) ⌝ }
+{
+    let own = exact::sign_of(blade::offset(b0, b1, place(v, points)));
+    if !on_line(own) {
+        return own;
+    }
+    let mut i: usize = 0;
+    let mut at: usize = 0;
+    while i < n {
+        let end = at + 3;
+        let s = row_sign(b0, b1, &verts[at..end], points);
+        if !on_line(s) {
+            return s;
+        }
+        at = end;
+        i += 1;
+    }
+    Sign::On
+}
+
+// 1 for what lies opposite to the kept side, else 0.
+fn side_of_sign(kept: Sign, s: Sign) -> usize
+    ensures { λ r. ⌜ r ≡ sideOfSign kept s ⌝ }
+{
+    if exact::opposed(kept, s) { 1 } else { 0 }
+}
+
+// The side of each of the n triangles of v's fan, by signs.
+fn sign_sides(
+    b0: Point,
+    b1: Point,
+    v: usize,
+    n: usize,
+    verts: &[usize],
+    points: &[f32],
+    sides: &mut [usize],
+)
+    requires { ⌜ SidesRoom v 3 n (now verts) (length (now points)) (length (now sides)) ⌝ }
+    ensures { λ _. ⌜ SidesBy Triangles (bladeBy Signs b0 b1) v n (now (verts .entry)) (now (points .entry)) (now (sides .exit)) ⌝ }
+{
+    let kept = kept_sign(b0, b1, v, n, verts, points);
+    let mut i: usize = 0;
+    let mut at: usize = 0;
+    while i < n {
+        let end = at + 3;
+        let s = row_sign(b0, b1, &verts[at..end], points);
+        sides[i] = side_of_sign(kept, s);
+        at = end;
+        i += 1;
+    }
+}
+
+// The side of each of the n elements of v's fan, by the rule of the blade. Signs decide for triangles alone.
+pub fn blade_sides(
+    rule: Rule,
+    kind: Kind,
+    b0: Point,
+    b1: Point,
+    v: usize,
+    n: usize,
+    verts: &[usize],
+    points: &[f32],
+    sides: &mut [usize],
+)
+    requires { ⌜ SidesRoom v (cornersPer (kindIs kind)) n (now verts) (length (now points)) (length (now sides)) ⌝ }
+    ensures { λ _. ⌜ SidesBy (kindIs kind) (bladeBy rule b0 b1) v n (now (verts .entry)) (now (points .entry)) (now (sides .exit)) ⌝ }
+{
+    let Rule::Signs = rule else {
+        rounded_sides(kind, b0, b1, v, n, verts, points, sides);
+        return;
+    };
+    match kind {
+        Kind::Triangles => sign_sides(b0, b1, v, n, verts, points, sides),
+        Kind::Straps => rounded_sides(kind, b0, b1, v, n, verts, points, sides),
+        Kind::Nothing => rounded_sides(kind, b0, b1, v, n, verts, points, sides),
     }
 }

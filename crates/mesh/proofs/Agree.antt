@@ -12,6 +12,7 @@ use Rattle.columns.specs.Block.{stack, blockOf}
 use Rattle.mesh.specs.Log.{World}
 use Rattle.mesh.specs.Given.{Lent}
 use Rattle.mesh.specs.Filled.{Filled, Fits}
+use Rattle.mesh.specs.Widths.{pointColumns}
 
 -- any two fillings by the same world and the same lent lengths are equal, in every place
 pub agree :
@@ -78,7 +79,7 @@ pub zeros : (L : Lent) (p : List Float) (r c : List ℕ) (v : List Float) (e : L
 unfolding each
 zeros L p r c v e l o g f =
     record {
-      points = f .points ∙ empty-block zero32 (L .points) 6 (L .points / 6) (omega arith);
+      points = f .points ∙ empty-block zero32 (L .points) pointColumns (L .points / pointColumns) (omega arith);
       roots = f .roots ∙ empty-block 0 (L .roots) 2 (L .roots / 2) (omega arith);
       corners = f .corners ∙ empty-block 0 (L .corners) 3 (L .corners / 3) (omega arith);
       volumes = f .volumes ∙ empty-block zero32 (L .volumes) 2 (L .volumes / 2) (omega arith);

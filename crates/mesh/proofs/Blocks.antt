@@ -10,6 +10,8 @@ use Rattle.lists.specs.Lists.{each, tab, padded}
 use Rattle.mesh.specs.Log.{Words, entryRow, wordsIn}
 use Rattle.mesh.specs.At.{particleRow, triangleRow, edgeRow, sideRow, particlesAt, trianglesAt, edgesAt, boundaryAt}
 use Rattle.mesh.specs.Filled.{pointOf, rootOf, cornerOf, volumeOf, endOf, lengthOf, sideOf}
+use Rattle.mesh.proofs.Columns.{by-columns}
+use Rattle.mesh.specs.Widths.{pointColumns}
 use Rattle.columns.specs.Block.{cell}
 use Rattle.columns.specs.Block.{stack}
 use Rattle.columns.specs.Block.{blockOf}
@@ -40,14 +42,16 @@ block-filled {Row} {A} field w n R z d s s′ row few room same e =
 
 module _ (P R : ℕ) (points : List Float) (roots : List ℕ) where
   -- each column of points is a field of the particles
-  pub point-at : (c k : ℕ) → c < 6 → cell nan P points c k ≡ pointOf c (particleRow P R points roots k)
+  pub point-at : (c k : ℕ) → c < pointColumns → cell nan P points c k ≡ pointOf c (particleRow P R points roots k)
   point-at zero k h = refl
   point-at (suc zero) k h = refl
   point-at (suc (suc zero)) k h = refl
   point-at (suc (suc (suc zero))) k h = refl
   point-at (suc (suc (suc (suc zero)))) k h = refl
   point-at (suc (suc (suc (suc (suc zero))))) k h = refl
-  point-at (suc (suc (suc (suc (suc (suc c)))))) k h = absurd (omega arith)
+  point-at (suc (suc (suc (suc (suc (suc zero)))))) k h = refl
+  point-at (suc (suc (suc (suc (suc (suc (suc zero))))))) k h = refl
+  point-at (suc (suc (suc (suc (suc (suc (suc (suc c)))))))) k h = absurd (omega arith)
 
   -- each column of roots is a field of the particles
   pub root-at : (c k : ℕ) → c < 2 → cell 0 R roots c k ≡ rootOf c (particleRow P R points roots k)
@@ -135,23 +139,12 @@ words-of (suc n) log h =
 module _ (n : ℕ) where
   -- the particles of copied blocks
   pub copied-particles :
-      (P P′ : List Float) (R R′ : List ℕ) (lp lr : ℕ) → n ≤ length P / 6 → n ≤ length R / 2 → BlockCopied nan (length P / 6) 6 (lp / 6) P P′ → BlockCopied 0 (length R / 2) 2 (lr / 2) R R′
+      (P P′ : List Float) (R R′ : List ℕ) (lp lr : ℕ) → n ≤ length P / pointColumns → n ≤ length R / 2 → BlockCopied nan (length P / pointColumns) pointColumns (lp / pointColumns) P P′ → BlockCopied 0 (length R / 2) 2 (lr / 2) R R′
       → length P′ ≡ lp → length R′ ≡ lr → particlesAt n P′ R′ ≡ particlesAt n P R
   unfolding particlesAt
   copied-particles P P′ R R′ lp lr hp hr p r ep er =
       rw (ep, er)
-      (tab-ext n _ _
-      (λ k h i.
-      record {
-        x = p .cells 0 k (omega arith) (omega arith) i;
-        y = p .cells 1 k (omega arith) (omega arith) i;
-        rest-x = p .cells 2 k (omega arith) (omega arith) i;
-        rest-y = p .cells 3 k (omega arith) (omega arith) i;
-        mass = p .cells 4 k (omega arith) (omega arith) i;
-        inv = p .cells 5 k (omega arith) (omega arith) i;
-        root = r .cells 0 k (omega arith) (omega arith) i;
-        damaged = r .cells 1 k (omega arith) (omega arith) i;
-      }))
+      (tab-ext n _ _ (λ k h. by-columns _ _ _ _ _ _ (λ c q. p .cells c k q (omega arith)) (r .cells 0 k (omega arith) (omega arith)) (r .cells 1 k (omega arith) (omega arith))))
 
   -- the triangles of copied blocks
   pub copied-triangles :

@@ -1,4 +1,5 @@
 -- The laws of the blocks of a mesh.
+pub mod Columns
 pub mod Lists
 pub mod Fan
 pub mod Blocks

@@ -18,6 +18,8 @@ use Rattle.model.specs.Split.{retargeted, onlyAt}
 use Rattle.mesh.specs.Workers.{withCopy, edgeOf, Removed, Mapped}
 use Rattle.mesh.specs.At.{particleRow, triangleRow, edgeRow, particlesAt, trianglesAt, edgesAt}
 use Rattle.mesh.specs.declared.EdgeRow.{EdgeRow}
+use Rattle.mesh.specs.Widths.{pointColumns}
+use Rattle.mesh.proofs.Columns.{by-columns, by-columns-but}
 use Rattle.columns.specs.Block.{cell}
 use Rattle.columns.specs.Block.{BlockKept}
 use Rattle.columns.specs.Block.{RowCopied}
@@ -25,8 +27,8 @@ use Rattle.columns.proofs.Rows.{tab-length, tab-at, tab-ext, rows-push, rows-ke
 use Rattle.columns.proofs.Cells.{store-same, store-row, store-col}
 
 -- ---- an append of a copy
-module _ (v n P R : ℕ) (m w : Float) (S S₁ : List Float) (T T₁ : List ℕ) (here : v < n) (hp : n < P) (hr : n < R) (room : 6 * P ≤ length S₁)
-    (rc : RowCopied nan v n 6 P S S₁) (rt : RowCopied 0 v n 2 R T T₁) where
+module _ (v n P R : ℕ) (m w : Float) (S S₁ : List Float) (T T₁ : List ℕ) (here : v < n) (hp : n < P) (hr : n < R) (room : pointColumns * P ≤ length S₁)
+    (rc : RowCopied nan v n pointColumns P S S₁) (rt : RowCopied 0 v n 2 R T T₁) where
   -- with the mass stored
   S₂ : List Float
   S₂ = set S₁ (4 * P + n) m
@@ -43,48 +45,31 @@ module _ (v n P R : ℕ) (m w : Float) (S S₁ : List Float) (T T₁ : List ℕ)
       store-row nan P S₂ 5 n w c k (omega arith) hp (λ q. omega arith) ∙ store-row nan P S₁ 4 n m c k (omega arith) hp (λ q. omega arith) ∙ rc .old c k (omega arith) (λ q. omega arith)
 
   -- the new row is v's, but for the two
-  new : (c : ℕ) → c < 4 → cell nan P S₃ c n ≡ cell nan P S c v
+  new : (c : ℕ) → c < pointColumns → (c ≡ 4 → ⊥) → (c ≡ 5 → ⊥) → cell nan P S₃ c n ≡ cell nan P S c v
   unfolding S₃ S₂
-  new c h = store-col nan P S₂ 5 n w c n hp hp (λ q. omega arith) ∙ store-col nan P S₁ 4 n m c n hp hp (λ q. omega arith) ∙ rc .new c (omega arith)
+  new c h no-mass no-inverse = store-col nan P S₂ 5 n w c n hp hp no-inverse ∙ store-col nan P S₁ 4 n m c n hp hp no-mass ∙ rc .new c h
 
   -- the rows with the copy behind them
   pub pushed-rows : tab (n + 1) (particleRow P R (set (set S₁ (4 * P + n) m) (5 * P + n) w) T₁) ≡ withCopy v m w (tab n (particleRow P R S T))
   unfolding withCopy S₃ S₂
   pushed-rows =
       rows-push n _ _ _
-      (λ k h i.
-      record {
-        x = old 0 k h i;
-        y = old 1 k h i;
-        rest-x = old 2 k h i;
-        rest-y = old 3 k h i;
-        mass = old 4 k h i;
-        inv = old 5 k h i;
-        root = rt .old 0 k (omega arith) (λ q. omega arith) i;
-        damaged = rt .old 1 k (omega arith) (λ q. omega arith) i;
-      })
+      (λ k h. by-columns _ _ _ _ _ _ (λ c q. old c k h) (rt .old 0 k (omega arith) (λ q. omega arith)) (rt .old 1 k (omega arith) (λ q. omega arith)))
       (rw (tab-at n (particleRow P R S T) v blank here)
-      (λ i.
-      record {
-        x = new 0 (omega arith) i;
-        y = new 1 (omega arith) i;
-        rest-x = new 2 (omega arith) i;
-        rest-y = new 3 (omega arith) i;
-        mass = (store-col nan P S₂ 5 n w 4 n hp hp (λ q. omega arith) ∙ store-same nan P S₁ 4 n m (omega arith)) i;
-        inv = store-same nan P S₂ 5 n w (rw length-set (omega arith)) i;
-        root = rt .new 0 (omega arith) i;
-        damaged = rt .new 1 (omega arith) i;
-      }))
+      (by-columns-but _ (λ c. cell nan P S c v) m w _ _ _ _ new (store-col nan P S₂ 5 n w 4 n hp hp (λ q. omega arith) ∙ store-same nan P S₁ 4 n m (omega arith))
+      (store-same nan P S₂ 5 n w (rw length-set (omega arith)))
+      (rt .new 0 (omega arith))
+      (rt .new 1 (omega arith))))
 
 -- the particles with the copy behind them
 pub pushed :
-    (v n : ℕ) (m w : Float) (S S₁ : List Float) (T T₁ : List ℕ) → v < n → n + 1 ≤ length S / 6 → n + 1 ≤ length T / 2
-    → RowCopied nan v n 6 (length S / 6) S S₁ → RowCopied 0 v n 2 (length T / 2) T T₁ → length S₁ ≡ length S → length T₁ ≡ length T
-    → particlesAt (n + 1) (set (set S₁ (4 * (length S / 6) + n) m) (5 * (length S / 6) + n) w) T₁ ≡ withCopy v m w (particlesAt n S T)
+    (v n : ℕ) (m w : Float) (S S₁ : List Float) (T T₁ : List ℕ) → v < n → n + 1 ≤ length S / pointColumns → n + 1 ≤ length T / 2
+    → RowCopied nan v n pointColumns (length S / pointColumns) S S₁ → RowCopied 0 v n 2 (length T / 2) T T₁ → length S₁ ≡ length S → length T₁ ≡ length T
+    → particlesAt (n + 1) (set (set S₁ (4 * (length S / pointColumns) + n) m) (5 * (length S / pointColumns) + n) w) T₁ ≡ withCopy v m w (particlesAt n S T)
 unfolding particlesAt
 pushed v n m w S S₁ T T₁ here hp hr rc rt ls lt =
-    let e : length (set (set S₁ (4 * (length S / 6) + n) m) (5 * (length S / 6) + n) w) ≡ length S = simp length-set ls in
-    rw (e, lt) (pushed-rows v n (length S / 6) (length T / 2) m w S S₁ T T₁ here (omega arith) (omega arith) (omega arith) rc rt)
+    let e : length (set (set S₁ (4 * (length S / pointColumns) + n) m) (5 * (length S / pointColumns) + n) w) ≡ length S = simp length-set ls in
+    rw (e, lt) (pushed-rows v n (length S / pointColumns) (length T / 2) m w S S₁ T T₁ here (omega arith) (omega arith) (omega arith) rc rt)
 
 -- ---- a compaction
 -- the edges that the mask leaves

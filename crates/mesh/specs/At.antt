@@ -7,22 +7,18 @@ use Rattle.lists.specs.Lists.{tab}
 use Rattle.columns.specs.Block.{cell}
 use Rattle.model.specs.Mesh.{Particle, Triangle, Edge, Side, Mesh}
 use Rattle.mesh.specs.declared.Counts.{Counts}
+use Rattle.mesh.specs.Widths.{pointColumns}
 
 -- ---- one row
 
+-- the particle with these numbers, by column, this root and this damaged flag
+abbrev pub particleBy : (ℕ → Float) → ℕ → ℕ → Particle
+particleBy f r d =
+    record { x = f 0; y = f 1; rest-x = f 2; rest-y = f 3; mass = f 4; inv = f 5; velocity-x = f 6; velocity-y = f 7; root = r; damaged = d }
+
 -- particle k, of columns of P and of R places
 abbrev pub particleRow : ℕ → ℕ → List Float → List ℕ → ℕ → Particle
-particleRow P R points roots k =
-    record {
-      x = cell nan P points 0 k;
-      y = cell nan P points 1 k;
-      rest-x = cell nan P points 2 k;
-      rest-y = cell nan P points 3 k;
-      mass = cell nan P points 4 k;
-      inv = cell nan P points 5 k;
-      root = cell 0 R roots 0 k;
-      damaged = cell 0 R roots 1 k;
-    }
+particleRow P R points roots k = particleBy (λ c. cell nan P points c k) (cell 0 R roots 0 k) (cell 0 R roots 1 k)
 
 -- triangle k, of columns of C and of W places
 abbrev pub triangleRow : ℕ → ℕ → List ℕ → List Float → ℕ → Triangle
@@ -51,7 +47,7 @@ sideRow O outline k = record { a = cell 0 O outline 0 k; b = cell 0 O outline 1 
 
 -- the first n particles
 unfoldable pub particlesAt : ℕ → List Float → List ℕ → List Particle
-particlesAt n points roots = tab n (particleRow (length points / 6) (length roots / 2) points roots)
+particlesAt n points roots = tab n (particleRow (length points / pointColumns) (length roots / 2) points roots)
 
 -- the first n triangles
 unfoldable pub trianglesAt : ℕ → List ℕ → List Float → List Triangle

@@ -11,6 +11,7 @@ use Rattle.model.specs.Mesh.{Particle, Triangle, Edge, Side}
 use Rattle.mesh.specs.Log.{World, wordsIn}
 use Rattle.mesh.specs.Given.{Lent}
 use Rattle.mesh.specs.declared.Counts.{Counts}
+use Rattle.mesh.specs.Widths.{pointColumns}
 
 -- ---- the columns of each block, by their numbers
 
@@ -21,7 +22,9 @@ pointOf (suc zero) p = p .y
 pointOf (suc (suc zero)) p = p .rest-x
 pointOf (suc (suc (suc zero))) p = p .rest-y
 pointOf (suc (suc (suc (suc zero)))) p = p .mass
-pointOf (suc (suc (suc (suc (suc c))))) p = p .inv
+pointOf (suc (suc (suc (suc (suc zero))))) p = p .inv
+pointOf (suc (suc (suc (suc (suc (suc zero)))))) p = p .velocity-x
+pointOf (suc (suc (suc (suc (suc (suc (suc c))))))) p = p .velocity-y
 
 -- of roots
 abbrev pub rootOf : ℕ → Particle → ℕ
@@ -62,7 +65,7 @@ sideOf (suc c) s = s .b
 
 -- every place of the lent blocks: the columns of the mesh and the words of the log at the fronts, and 0 in every place behind them
 pub record Filled (W : World) (L : Lent) (p : List Float) (r c : List ℕ) (v : List Float) (e : List ℕ) (l : List Float) (o g : List ℕ) : Type 0 where
-  pub points : p ≡ blockOf (L .points) 6 (L .points / 6) zero32 (λ k. map (pointOf k) (W .mesh .particles))
+  pub points : p ≡ blockOf (L .points) pointColumns (L .points / pointColumns) zero32 (λ k. map (pointOf k) (W .mesh .particles))
   pub roots : r ≡ blockOf (L .roots) 2 (L .roots / 2) 0 (λ k. map (rootOf k) (W .mesh .particles))
   pub corners : c ≡ blockOf (L .corners) 3 (L .corners / 3) 0 (λ k. map (cornerOf k) (W .mesh .triangles))
   pub volumes : v ≡ blockOf (L .volumes) 2 (L .volumes / 2) zero32 (λ k. map (volumeOf k) (W .mesh .triangles))
@@ -73,7 +76,7 @@ pub record Filled (W : World) (L : Lent) (p : List Float) (r c : List ℕ) (v : 
 
 -- the counts fit the lent columns
 pub record Fits (k : Counts) (L : Lent) : Type 0 where
-  pub points : k .particles ≤ L .points / 6
+  pub points : k .particles ≤ L .points / pointColumns
   pub roots : k .particles ≤ L .roots / 2
   pub corners : k .triangles ≤ L .corners / 3
   pub volumes : k .triangles ≤ L .volumes / 2
@@ -84,7 +87,7 @@ pub record Fits (k : Counts) (L : Lent) : Type 0 where
 
 -- each block of the input has no longer columns than the one lent for it
 pub record Holds (I L : Lent) : Type 0 where
-  pub points : I .points / 6 ≤ L .points / 6
+  pub points : I .points / pointColumns ≤ L .points / pointColumns
   pub roots : I .roots / 2 ≤ L .roots / 2
   pub corners : I .corners / 3 ≤ L .corners / 3
   pub volumes : I .volumes / 2 ≤ L .volumes / 2

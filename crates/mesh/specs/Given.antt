@@ -10,6 +10,7 @@ use Rattle.model.specs.Run as M
 use Rattle.mesh.specs.At.{meshAt}
 use Rattle.mesh.specs.declared.Counts.{Counts}
 use Rattle.mesh.specs.declared.Rooms.{Rooms}
+use Rattle.mesh.specs.Widths.{pointColumns}
 
 -- the blocks of an input
 pub record Given : Type 0 where
@@ -27,7 +28,7 @@ given p r c v e l o = record { points = p; roots = r; corners = c; volumes = v; 
 
 -- how many rows each list has, by the length of its first block
 abbrev pub sizes : Given → Counts
-sizes G = record { particles = length (G .points) / 6; triangles = length (G .corners) / 3; edges = length (G .ends) / 4; boundary = length (G .outline) / 2; log = 0 }
+sizes G = record { particles = length (G .points) / pointColumns; triangles = length (G .corners) / 3; edges = length (G .ends) / 4; boundary = length (G .outline) / 2; log = 0 }
 
 -- the mesh that an input is
 unfoldable pub meshOf : Given → Mesh
@@ -42,7 +43,7 @@ listFits limit overA a overB b = eqb overA 0 && eqb overB 0 && eqb a b && leb a 
 -- at most 1,024 particles, 1,024 triangles, 2,048 edges and 2,048 boundary entries, and each list's columns equally long
 unfoldable pub lengthsFit : ℕ → ℕ → ℕ → ℕ → ℕ → ℕ → ℕ → Bool
 lengthsFit lp lr lc lv le ll lo =
-    listFits 1024 (lp % 6) (lp / 6) (lr % 2) (lr / 2) && listFits 1024 (lc % 3) (lc / 3) (lv % 2) (lv / 2) && listFits 2048 (le % 4) (le / 4) (ll % 4) (ll / 4)
+    listFits 1024 (lp % pointColumns) (lp / pointColumns) (lr % 2) (lr / 2) && listFits 1024 (lc % 3) (lc / 3) (lv % 2) (lv / 2) && listFits 2048 (le % 4) (le / 4) (ll % 4) (ll / 4)
     && listFits 2048 (lo % 2) (lo / 2) 0 (lo / 2)
 
 -- the same of an input's blocks
@@ -66,7 +67,7 @@ pub record Lent : Type 0 where
 abbrev pub roomsOf : Lent → Rooms
 roomsOf L =
     record {
-      particles = min 1024 (min (L .points / 6) (L .roots / 2));
+      particles = min 1024 (min (L .points / pointColumns) (L .roots / 2));
       triangles = min 1024 (min (L .corners / 3) (L .volumes / 2));
       edges = min 2048 (min (L .ends / 4) (L .lengths / 4));
       boundary = min 2048 (L .outline / 2);

@@ -1,4 +1,5 @@
 -- Seven blocks of columns read as a mesh, the log beside them, and what a call fills.
+pub mod Widths
 pub mod At
 pub mod Log
 pub mod Given

@@ -10,6 +10,7 @@ use Rattle.model.specs.Mesh.{Particle, Triangle, Edge, blank}
 use Rattle.model.specs.Split.{weighed}
 use Rattle.mesh.specs.At.{edgeRow, trianglesAt}
 use Rattle.mesh.specs.declared.EdgeRow.{EdgeRow}
+use Rattle.mesh.specs.Widths.{pointColumns}
 
 -- the particles with a copy of v behind them, of mass m and inverse mass w
 unfoldable pub withCopy : ℕ → Float → Float → List Particle → List Particle
@@ -31,7 +32,7 @@ rowAt ends lengths j = edgeRow (length ends / 4) (length lengths / 4) ends lengt
 
 -- n particles have room in blocks of lp and lr places
 pub record ParticleRoom (n lp lr : ℕ) : Type 0 where
-  pub points : n ≤ lp / 6
+  pub points : n ≤ lp / pointColumns
   pub roots : n ≤ lr / 2
 
 -- n edges have room in blocks of le and ll places

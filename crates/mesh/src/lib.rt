@@ -2,6 +2,12 @@
 pub mod rows;
 pub mod whole;
 
+// How many columns of points there are: x, y, rest x, rest y, mass, inverse mass, velocity x, velocity y.
+pub const POINT_COLUMNS: usize = 8;
+
+// How many columns of a particle there are in all, as an image has them: those of points, the root and the damaged flag.
+pub const PARTICLE_WORDS: usize = 10;
+
 // How many of each list's places are in use.
 pub struct Counts {
     pub particles: usize,

@@ -10,15 +10,16 @@ ghost use Rattle.mesh.specs.Log.{logAt};
 ghost use Rattle.model.specs.Split.{retargeted, onlyAt, copyFor};
 ghost use Rattle.mesh.specs.Workers.{withCopy, groupOf, edgeOf, ParticleRoom, EdgeRoom, Removed, Mapped, FanOk};
 use crate::EdgeRow;
+use crate::POINT_COLUMNS;
 
 // Appends to the n particles a copy of v, of mass m and inverse mass w.
 pub fn append_copy(v: usize, n: usize, m: f32, w: f32, points: &mut [f32], roots: &mut [usize])
     requires { ⌜ (v < n) × ParticleRoom (n + 1) (length (now points)) (length (now roots)) ⌝ }
     ensures { λ _. ⌜ particlesAt (n + 1) (now (points .exit)) (now (roots .exit)) ≡ withCopy v m w (particlesAt n (now (points .entry)) (now (roots .entry))) ⌝ }
 {
-    let p = points.len() / 6;
+    let p = points.len() / POINT_COLUMNS;
     let r = roots.len() / 2;
-    columns::copy_row_f32(v, n, 6, p, points);
+    columns::copy_row_f32(v, n, POINT_COLUMNS, p, points);
     points[4 * p + n] = m;
     points[5 * p + n] = w;
     columns::copy_row_usize(v, n, 2, r, roots);

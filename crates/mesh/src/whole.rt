@@ -7,6 +7,7 @@ ghost use Rattle.mesh.specs.Log.{worldAt};
 ghost use Rattle.mesh.specs.Given.{roomsOf};
 ghost use Rattle.mesh.specs.Filled.{Filled, Fits, Holds, lent};
 use crate::Counts;
+use crate::POINT_COLUMNS;
 use crate::Rooms;
 
 // The smaller of two.
@@ -29,7 +30,7 @@ pub fn rooms_for(
 ) -> Rooms
     ensures { λ r. ⌜ r ≡ roomsOf (record { points = lp; roots = lr; corners = lc; volumes = lv; ends = le; lengths = ll; outline = lo; log = lg }) ⌝ }
 {
-    let p = least(1024, least(lp / 6, lr / 2));
+    let p = least(1024, least(lp / POINT_COLUMNS, lr / 2));
     let t = least(1024, least(lc / 3, lv / 2));
     let e = least(2048, least(le / 4, ll / 4));
     let b = least(2048, lo / 2);
@@ -66,7 +67,13 @@ pub fn copy_all(
     ensures { λ _. ⌜ meshAt k (now (points .exit)) (now (roots .exit)) (now (corners .exit)) (now (volumes .exit)) (now (ends .exit)) (now (lengths .exit)) (now (outline .exit))
         ≡ meshAt k (now («in_points» .entry)) (now («in_roots» .entry)) (now («in_corners» .entry)) (now («in_volumes» .entry)) (now («in_ends» .entry)) (now («in_lengths» .entry)) (now («in_outline» .entry)) ⌝ }
 {
-    columns::copy_block_f32(in_points, in_points.len() / 6, 6, points.len() / 6, points);
+    columns::copy_block_f32(
+        in_points,
+        in_points.len() / POINT_COLUMNS,
+        POINT_COLUMNS,
+        points.len() / POINT_COLUMNS,
+        points,
+    );
     columns::copy_block_usize(in_roots, in_roots.len() / 2, 2, roots.len() / 2, roots);
     columns::copy_block_usize(
         in_corners,
@@ -116,7 +123,12 @@ pub fn finish_all(
         (lent (now (points .entry)) (now (roots .entry)) (now (corners .entry)) (now (volumes .entry)) (now (ends .entry)) (now (lengths .entry)) (now (outline .entry)) (now (log .entry)))
         (now (points .exit)) (now (roots .exit)) (now (corners .exit)) (now (volumes .exit)) (now (ends .exit)) (now (lengths .exit)) (now (outline .exit)) (now (log .exit)) ⌝ }
 {
-    columns::clear_block_f32(k.particles, 6, points.len() / 6, points);
+    columns::clear_block_f32(
+        k.particles,
+        POINT_COLUMNS,
+        points.len() / POINT_COLUMNS,
+        points,
+    );
     columns::clear_block_usize(k.particles, 2, roots.len() / 2, roots);
     columns::clear_block_usize(k.triangles, 3, corners.len() / 3, corners);
     columns::clear_block_f32(k.triangles, 2, volumes.len() / 2, volumes);

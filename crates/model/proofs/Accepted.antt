@@ -14,11 +14,11 @@ use Rattle.model.specs.Elements.{kindOf}
 use Rattle.model.specs.Run.{Entry, Rooms, Run, start}
 use Rattle.model.specs.Split.{splitBySides}
 use Rattle.model.specs.Pieces.{removeStraddlers}
-use Rattle.model.specs.Cut.{Blade, cut}
+use Rattle.model.specs.Cut.{cut, Line}
 use Rattle.model.specs.Crack.{crack}
-use Rattle.model.specs.Calls.{bladeOk, fractionOk, sidesOk, trianglesLent, refusal, done, outcome, cutCall, crackCall, splitCall, straddlersCall}
+use Rattle.model.specs.Calls.{sidesOk, trianglesLent, refusal, done, outcome, cutCall, crackCall, splitCall, straddlersCall, bladeOf, cutRefusal}
 use Rattle.model.specs.Trace.{Sound}
-use Rattle.model.proofs.Kept.{corners-sound, named-first, no-refusal, unless-done, outcome-done}
+use Rattle.model.proofs.Kept.{corners-sound, named-first, no-refusal, unless-done, outcome-done, cut-no-refusal}
 use Rattle.model.proofs.Indexed.{Pair, Indexed, sides-indexed, straddlers-indexed, crack-indexed}
 use Rattle.model.proofs.Inserted.{cut-indexed}
 use Rattle.model.proofs.Laws.{and-true, both, all-from, all-to, stands-not}
@@ -94,13 +94,14 @@ begun : (M : Mesh) → indicesFit M ≡ true → Indexed (start M .mesh)
 unfolding start
 begun M e = accepted-indexed M e
 
-pub cut-accepted : (sized : Bool) (M : Mesh) (B : Blade) (f : Float) (L : Rooms) (M′ : Mesh) (l : List Entry) (c : Bool) → cutCall sized M B f L ≡ done M′ l c → indicesFit M′ ≡ true
+pub cut-accepted : (sized : Bool) (M : Mesh) (n : ℕ) (B : Line) (f : Float) (L : Rooms) (M′ : Mesh) (l : List Entry) (c : Bool)
+    → cutCall sized M n B f L ≡ done M′ l c → indicesFit M′ ≡ true
 unfolding cutCall
-cut-accepted sized M B f L M′ l c e =
-    let R = cut (kindOf M) B f (start M) in
-    let u = unless-done (refusal sized M (bladeOk B) (fractionOk f && trianglesLent L M)) (outcome L R) M′ l c e in
-    let P = no-refusal sized M (bladeOk B) (fractionOk f && trianglesLent L M) (u .0) in
-    run-accepted L R M′ l c (cut-indexed (kindOf M) B f (start M) (begun M (P .indices))) (u .1)
+cut-accepted sized M n B f L M′ l c e =
+    let R = cut (kindOf M) (bladeOf n B) f (start M) in
+    let u = unless-done (cutRefusal sized M n B f L) (outcome L R) M′ l c e in
+    let P = cut-no-refusal sized M n B f L (u .0) .0 in
+    run-accepted L R M′ l c (cut-indexed (kindOf M) (bladeOf n B) f (start M) (begun M (P .indices))) (u .1)
 
 pub crack-accepted : (sized : Bool) (M : Mesh) (is : List ℕ) (min : ℕ) (L : Rooms) (M′ : Mesh) (l : List Entry) (c : Bool) → crackCall sized M is min L ≡ done M′ l c → indicesFit M′ ≡ true
 unfolding crackCall

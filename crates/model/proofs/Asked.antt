@@ -2,10 +2,11 @@
 use Prim.Native.Nat.{ℕ}
 use mathlib.Core.List.{List}
 use lib.Ieee.{Float, binary32, ofBits}
+use Rattle.float.specs.Numbers.{zero32}
 use Rattle.blade.specs.declared.Point.{Point}
 use Rattle.model.specs.Mesh.{Particle, Triangle, Edge, Side, Mesh}
 use Rattle.model.specs.Run.{Rooms}
-use Rattle.model.specs.Cut.{Blade}
+use Rattle.model.specs.Cut.{Line}
 
 abbrev pub bits : ℕ → Float
 bits b = ofBits binary32 b
@@ -13,14 +14,14 @@ bits b = ofBits binary32 b
 abbrev pub point : ℕ → ℕ → Point
 point x y = record { x = bits x; y = bits y }
 
-abbrev pub blade : ℕ → ℕ → ℕ → ℕ → Blade
+abbrev pub blade : ℕ → ℕ → ℕ → ℕ → Line
 blade x0 y0 x1 y1 = record { from = point x0 y0; to = point x1 y1 }
 
 abbrev pub rooms : ℕ → ℕ → ℕ → ℕ → ℕ → Rooms
 rooms p t e b l = record { particles = p; triangles = t; edges = e; boundary = b; log = l }
 
 abbrev pub particle : ℕ → ℕ → ℕ → ℕ → ℕ → ℕ → ℕ → ℕ → Particle
-particle x y rx ry m w r d = record { x = bits x; y = bits y; rest-x = bits rx; rest-y = bits ry; mass = bits m; inv = bits w; root = r; damaged = d }
+particle x y rx ry m w r d = record { x = bits x; y = bits y; rest-x = bits rx; rest-y = bits ry; mass = bits m; inv = bits w; velocity-x = zero32; velocity-y = zero32; root = r; damaged = d }
 
 abbrev pub triangle : ℕ → ℕ → ℕ → ℕ → ℕ → Triangle
 triangle a b c v s = record { a = a; b = b; c = c; volume = bits v; stress = bits s }

@@ -8,7 +8,7 @@ use Rattle.blade.specs.declared.Hit.the-variants.{Miss, Hit as HitAt}
 use Rattle.model.specs.Mesh.{Mesh}
 use Rattle.model.specs.Pieces.{defaultMinPiece}
 use Rattle.model.specs.Run.{split, edge as removed, insert, opened, met}
-use Rattle.model.specs.Calls.{refused, done}
+use Rattle.model.specs.Calls.{Outcome, refused, done}
 use Rattle.model.specs.Reads.{refused as denied, value}
 use Rattle.model.specs.Starred.{Case, meshes, groups, flag, number, float, hit}
 use Rattle.model.proofs.Asked.{bits, point, blade, rooms, mesh, particle, triangle, edge, side}
@@ -31,7 +31,7 @@ use Rattle.model.specs.Run.{start, stepTo, splitsOf, changed}
 use Rattle.model.specs.Calls.{sidesOk, strictly, particlesOk, refusal, tooSmall, firstFault, outcome, cutCall, crackCall, splitCall, straddlersCall}
 use Rattle.model.specs.Reads.{bladeCall, groupsCall, restMeasureCall, restMeasureOfCall, opensCall, piecesCall, stateCall}
 
-abbrev in301 : Mesh
+abbrev pub in301 : Mesh
 in301 =
     mesh
     (particle 0x00000000 0x00000000 0x00000000 0x00000000 0x3f800000 0x3f800000 0 0 ∷ particle 0x40800000 0x00000000 0x40800000 0x00000000 0x3f800000 0x3f800000 1 0 ∷ particle 0x40800000 0x40800000 0x40800000 0x40800000 0x3f800000 0x3f800000 2 0 ∷ particle 0x00000000 0x40800000 0x00000000 0x40800000 0x3f800000 0x3f800000 3 0 ∷ [])
@@ -39,7 +39,7 @@ in301 =
     (edge 0 2 1 0 0x40b504f3 0x40b504f3 0x00000000 0x00000000 ∷ edge 1 3 0 0 0x40b504f3 0x40b504f3 0x00000000 0x00000000 ∷ [])
     (side 0 1 ∷ side 1 2 ∷ side 2 3 ∷ side 3 0 ∷ [])
 
-abbrev out301 : Mesh
+abbrev pub out301 : Mesh
 out301 =
     mesh
     (particle 0x00000000 0x00000000 0x00000000 0x00000000 0x3f000000 0x40000000 0 0 ∷ particle 0x40800000 0x00000000 0x40800000 0x00000000 0x3f800000 0x3f800000 1 0 ∷ particle 0x40800000 0x40800000 0x40800000 0x40800000 0x3f000000 0x40000000 2 0 ∷ particle 0x00000000 0x40800000 0x00000000 0x40800000 0x3f800000 0x3f800000 3 0 ∷ particle 0x00000000 0x00000000 0x00000000 0x00000000 0x3f000000 0x40000000 0 0 ∷ particle 0x40800000 0x40800000 0x40800000 0x40800000 0x3f000000 0x40000000 2 0 ∷ [])
@@ -47,9 +47,13 @@ out301 =
     (edge 0 2 1 0 0x40b504f3 0x40b504f3 0x00000000 0x00000000 ∷ edge 4 5 1 0 0x40b504f3 0x40b504f3 0x00000000 0x00000000 ∷ [])
     (side 0 1 ∷ side 1 2 ∷ side 5 3 ∷ side 3 4 ∷ side 2 0 ∷ side 4 5 ∷ [])
 
+-- the answer of the worked listing
+abbrev pub done301 : Outcome
+done301 = done out301 (met 0 1 (point 0x00000000 0x00000000) (bits 0x00000000) ∷ met 1 2 (point 0x40800000 0x40800000) (bits 0x3f800000) ∷ met 0 3 (point 0x00000000 0x00000000) (bits 0x80000000) ∷ met 2 3 (point 0x40800000 0x40800000) (bits 0x80000000) ∷ split 4 0 ∷ removed 1 3 ∷ split 5 2 ∷ []) true
+
 -- the whole listing's mesh
 abbrev case301 : Case
-case301 = record { asked = meshes (cutCall true in301 (blade 0xbf800000 0xbf800000 0x40a00000 0x40a00000) (bits 0x3dcccccd) (rooms 1024 1024 2048 2048 4096)); wanted = meshes (done out301 (met 0 1 (point 0x00000000 0x00000000) (bits 0x00000000) ∷ met 1 2 (point 0x40800000 0x40800000) (bits 0x3f800000) ∷ met 0 3 (point 0x00000000 0x00000000) (bits 0x80000000) ∷ met 2 3 (point 0x40800000 0x40800000) (bits 0x80000000) ∷ split 4 0 ∷ removed 1 3 ∷ split 5 2 ∷ []) true) }
+case301 = record { asked = meshes (cutCall true in301 1 (blade 0xbf800000 0xbf800000 0x40a00000 0x40a00000) (bits 0x3dcccccd) (rooms 1024 1024 2048 2048 4096)); wanted = meshes done301 }
 
 abbrev out302 : Mesh
 out302 =
@@ -61,7 +65,7 @@ out302 =
 
 -- a blade through sides
 abbrev case302 : Case
-case302 = record { asked = meshes (cutCall true in301 (blade 0x40000000 0xbf800000 0x40000000 0x40a00000) (bits 0x3dcccccd) (rooms 1024 1024 2048 2048 4096)); wanted = meshes (done out302 (met 0 1 (point 0x40000000 0x00000000) (bits 0x3f000000) ∷ met 0 2 (point 0x40000000 0x40000000) (bits 0x3f000000) ∷ met 0 2 (point 0x40000000 0x40000000) (bits 0x3f000000) ∷ met 2 3 (point 0x40000000 0x40800000) (bits 0x3f000000) ∷ split 4 0 ∷ removed 1 3 ∷ split 5 2 ∷ []) true) }
+case302 = record { asked = meshes (cutCall true in301 1 (blade 0x40000000 0xbf800000 0x40000000 0x40a00000) (bits 0x3dcccccd) (rooms 1024 1024 2048 2048 4096)); wanted = meshes (done out302 (met 0 1 (point 0x40000000 0x00000000) (bits 0x3f000000) ∷ met 0 2 (point 0x40000000 0x40000000) (bits 0x3f000000) ∷ met 0 2 (point 0x40000000 0x40000000) (bits 0x3f000000) ∷ met 2 3 (point 0x40000000 0x40800000) (bits 0x3f000000) ∷ split 4 0 ∷ removed 1 3 ∷ split 5 2 ∷ []) true) }
 
 abbrev out303 : Mesh
 out303 =
@@ -73,7 +77,7 @@ out303 =
 
 -- a blade through two corners of one triangle each
 abbrev case303 : Case
-case303 = record { asked = meshes (cutCall true in301 (blade 0xbf800000 0x40a00000 0x40a00000 0xbf800000) (bits 0x3dcccccd) (rooms 1024 1024 2048 2048 4096)); wanted = meshes (done out303 (met 0 1 (point 0x40800000 0x00000000) (bits 0x3f800000) ∷ met 0 2 (point 0x40000000 0x40000000) (bits 0x3f000000) ∷ met 1 2 (point 0x40800000 0x00000000) (bits 0x80000000) ∷ met 0 2 (point 0x40000000 0x40000000) (bits 0x3f000000) ∷ met 0 3 (point 0x00000000 0x40800000) (bits 0x3f800000) ∷ met 2 3 (point 0x00000000 0x40800000) (bits 0x3f800000) ∷ split 4 0 ∷ removed 1 3 ∷ split 5 2 ∷ []) true) }
+case303 = record { asked = meshes (cutCall true in301 1 (blade 0xbf800000 0x40a00000 0x40a00000 0xbf800000) (bits 0x3dcccccd) (rooms 1024 1024 2048 2048 4096)); wanted = meshes (done out303 (met 0 1 (point 0x40800000 0x00000000) (bits 0x3f800000) ∷ met 0 2 (point 0x40000000 0x40000000) (bits 0x3f000000) ∷ met 1 2 (point 0x40800000 0x00000000) (bits 0x80000000) ∷ met 0 2 (point 0x40000000 0x40000000) (bits 0x3f000000) ∷ met 0 3 (point 0x00000000 0x40800000) (bits 0x3f800000) ∷ met 2 3 (point 0x00000000 0x40800000) (bits 0x3f800000) ∷ split 4 0 ∷ removed 1 3 ∷ split 5 2 ∷ []) true) }
 
 abbrev in304 : Mesh
 in304 =
@@ -93,7 +97,7 @@ out304 =
 
 -- a pinned corner
 abbrev case304 : Case
-case304 = record { asked = meshes (cutCall true in304 (blade 0xbf800000 0xbf800000 0x40a00000 0x40a00000) (bits 0x3dcccccd) (rooms 1024 1024 2048 2048 4096)); wanted = meshes (done out304 (met 0 1 (point 0x00000000 0x00000000) (bits 0x00000000) ∷ met 1 2 (point 0x40800000 0x40800000) (bits 0x3f800000) ∷ met 0 3 (point 0x00000000 0x00000000) (bits 0x80000000) ∷ met 2 3 (point 0x40800000 0x40800000) (bits 0x80000000) ∷ split 4 0 ∷ removed 1 3 ∷ []) true) }
+case304 = record { asked = meshes (cutCall true in304 1 (blade 0xbf800000 0xbf800000 0x40a00000 0x40a00000) (bits 0x3dcccccd) (rooms 1024 1024 2048 2048 4096)); wanted = meshes (done out304 (met 0 1 (point 0x00000000 0x00000000) (bits 0x00000000) ∷ met 1 2 (point 0x40800000 0x40800000) (bits 0x3f800000) ∷ met 0 3 (point 0x00000000 0x00000000) (bits 0x80000000) ∷ met 2 3 (point 0x40800000 0x40800000) (bits 0x80000000) ∷ split 4 0 ∷ removed 1 3 ∷ []) true) }
 
 abbrev in305 : Mesh
 in305 =
@@ -113,7 +117,7 @@ out305 =
 
 -- a rest volume of 0
 abbrev case305 : Case
-case305 = record { asked = meshes (cutCall true in305 (blade 0xbf800000 0xbf800000 0x40a00000 0x40a00000) (bits 0x3dcccccd) (rooms 1024 1024 2048 2048 4096)); wanted = meshes (done out305 (met 0 1 (point 0x00000000 0x00000000) (bits 0x00000000) ∷ met 1 2 (point 0x40800000 0x40800000) (bits 0x3f800000) ∷ met 0 3 (point 0x00000000 0x00000000) (bits 0x80000000) ∷ met 2 3 (point 0x40800000 0x40800000) (bits 0x80000000) ∷ split 4 0 ∷ removed 1 3 ∷ split 5 2 ∷ []) true) }
+case305 = record { asked = meshes (cutCall true in305 1 (blade 0xbf800000 0xbf800000 0x40a00000 0x40a00000) (bits 0x3dcccccd) (rooms 1024 1024 2048 2048 4096)); wanted = meshes (done out305 (met 0 1 (point 0x00000000 0x00000000) (bits 0x00000000) ∷ met 1 2 (point 0x40800000 0x40800000) (bits 0x3f800000) ∷ met 0 3 (point 0x00000000 0x00000000) (bits 0x80000000) ∷ met 2 3 (point 0x40800000 0x40800000) (bits 0x80000000) ∷ split 4 0 ∷ removed 1 3 ∷ split 5 2 ∷ []) true) }
 
 abbrev in306 : Mesh
 in306 =
@@ -133,7 +137,7 @@ out306 =
 
 -- rest volumes of 0 and minus 0
 abbrev case306 : Case
-case306 = record { asked = meshes (cutCall true in306 (blade 0xbf800000 0xbf800000 0x40a00000 0x40a00000) (bits 0x3dcccccd) (rooms 1024 1024 2048 2048 4096)); wanted = meshes (done out306 (met 0 1 (point 0x00000000 0x00000000) (bits 0x00000000) ∷ met 1 2 (point 0x40800000 0x40800000) (bits 0x3f800000) ∷ met 0 3 (point 0x00000000 0x00000000) (bits 0x80000000) ∷ met 2 3 (point 0x40800000 0x40800000) (bits 0x80000000) ∷ split 4 0 ∷ removed 1 3 ∷ split 5 2 ∷ []) true) }
+case306 = record { asked = meshes (cutCall true in306 1 (blade 0xbf800000 0xbf800000 0x40a00000 0x40a00000) (bits 0x3dcccccd) (rooms 1024 1024 2048 2048 4096)); wanted = meshes (done out306 (met 0 1 (point 0x00000000 0x00000000) (bits 0x00000000) ∷ met 1 2 (point 0x40800000 0x40800000) (bits 0x3f800000) ∷ met 0 3 (point 0x00000000 0x00000000) (bits 0x80000000) ∷ met 2 3 (point 0x40800000 0x40800000) (bits 0x80000000) ∷ split 4 0 ∷ removed 1 3 ∷ split 5 2 ∷ []) true) }
 
 abbrev out307 : Mesh
 out307 =
@@ -145,7 +149,7 @@ out307 =
 
 -- a blade of one point
 abbrev case307 : Case
-case307 = record { asked = meshes (cutCall true in301 (blade 0x40400000 0x40400000 0x40400000 0x40400000) (bits 0x3dcccccd) (rooms 1024 1024 2048 2048 4096)); wanted = meshes (done out307 [] false) }
+case307 = record { asked = meshes (cutCall true in301 1 (blade 0x40400000 0x40400000 0x40400000 0x40400000) (bits 0x3dcccccd) (rooms 1024 1024 2048 2048 4096)); wanted = meshes (done out307 [] false) }
 
 abbrev in308 : Mesh
 in308 =
@@ -165,7 +169,7 @@ out308 =
 
 -- a pinched particle splits
 abbrev case308 : Case
-case308 = record { asked = meshes (cutCall true in308 (blade 0x3f000000 0xbf800000 0x3f000000 0x40000000) (bits 0x3dcccccd) (rooms 1024 1024 2048 2048 4096)); wanted = meshes (done out308 (met 0 1 (point 0x3f000000 0x00000000) (bits 0x3f000000) ∷ met 0 2 (point 0x3f000000 0x3f000000) (bits 0x3f000000) ∷ met 0 2 (point 0x3f000000 0x3f000000) (bits 0x3f000000) ∷ met 2 3 (point 0x3f000000 0x3f800000) (bits 0x3f000000) ∷ split 6 0 ∷ split 7 0 ∷ split 8 2 ∷ []) true) }
+case308 = record { asked = meshes (cutCall true in308 1 (blade 0x3f000000 0xbf800000 0x3f000000 0x40000000) (bits 0x3dcccccd) (rooms 1024 1024 2048 2048 4096)); wanted = meshes (done out308 (met 0 1 (point 0x3f000000 0x00000000) (bits 0x3f000000) ∷ met 0 2 (point 0x3f000000 0x3f000000) (bits 0x3f000000) ∷ met 0 2 (point 0x3f000000 0x3f000000) (bits 0x3f000000) ∷ met 2 3 (point 0x3f000000 0x3f800000) (bits 0x3f000000) ∷ split 6 0 ∷ split 7 0 ∷ split 8 2 ∷ []) true) }
 
 abbrev in309 : Mesh
 in309 =
@@ -185,7 +189,7 @@ out309 =
 
 -- a strip, slanted blade
 abbrev case309 : Case
-case309 = record { asked = meshes (cutCall true in309 (blade 0x3fc00000 0xbf800000 0x40200000 0x40000000) (bits 0x3dcccccd) (rooms 1024 1024 2048 2048 4096)); wanted = meshes (done out309 (met 0 1 (point 0x3feaaaab 0x00000000) (bits 0x3f6aaaab) ∷ met 1 2 (point 0x3ff00000 0x3e000000) (bits 0x3e000000) ∷ met 1 2 (point 0x3ff00000 0x3e000000) (bits 0x3e000000) ∷ met 3 2 (point 0x400aaaab 0x3f800000) (bits 0x3ed55555) ∷ split 6 1 ∷ split 7 3 ∷ []) true) }
+case309 = record { asked = meshes (cutCall true in309 1 (blade 0x3fc00000 0xbf800000 0x40200000 0x40000000) (bits 0x3dcccccd) (rooms 1024 1024 2048 2048 4096)); wanted = meshes (done out309 (met 0 1 (point 0x3feaaaab 0x00000000) (bits 0x3f6aaaab) ∷ met 1 2 (point 0x3ff00000 0x3e000000) (bits 0x3e000000) ∷ met 1 2 (point 0x3ff00000 0x3e000000) (bits 0x3e000000) ∷ met 3 2 (point 0x400aaaab 0x3f800000) (bits 0x3ed55555) ∷ split 6 1 ∷ split 7 3 ∷ []) true) }
 
 abbrev out310 : Mesh
 out310 =
@@ -197,7 +201,7 @@ out310 =
 
 -- a strip, upright blade
 abbrev case310 : Case
-case310 = record { asked = meshes (cutCall true in309 (blade 0x40000000 0xbf800000 0x40000000 0x40000000) (bits 0x3dcccccd) (rooms 1024 1024 2048 2048 4096)); wanted = meshes (done out310 (met 0 1 (point 0x40000000 0x00000000) (bits 0x3f800000) ∷ met 1 2 (point 0x40000000 0x00000000) (bits 0x80000000) ∷ met 1 3 (point 0x40000000 0x00000000) (bits 0x00000000) ∷ met 1 2 (point 0x40000000 0x00000000) (bits 0x80000000) ∷ met 3 2 (point 0x40000000 0x3f800000) (bits 0x3f000000) ∷ met 1 4 (point 0x40000000 0x00000000) (bits 0x00000000) ∷ met 1 3 (point 0x40000000 0x00000000) (bits 0x00000000) ∷ split 6 1 ∷ removed 0 3 ∷ split 7 2 ∷ []) true) }
+case310 = record { asked = meshes (cutCall true in309 1 (blade 0x40000000 0xbf800000 0x40000000 0x40000000) (bits 0x3dcccccd) (rooms 1024 1024 2048 2048 4096)); wanted = meshes (done out310 (met 0 1 (point 0x40000000 0x00000000) (bits 0x3f800000) ∷ met 1 2 (point 0x40000000 0x00000000) (bits 0x80000000) ∷ met 1 3 (point 0x40000000 0x00000000) (bits 0x00000000) ∷ met 1 2 (point 0x40000000 0x00000000) (bits 0x80000000) ∷ met 3 2 (point 0x40000000 0x3f800000) (bits 0x3f000000) ∷ met 1 4 (point 0x40000000 0x00000000) (bits 0x00000000) ∷ met 1 3 (point 0x40000000 0x00000000) (bits 0x00000000) ∷ split 6 1 ∷ removed 0 3 ∷ split 7 2 ∷ []) true) }
 
 abbrev in311 : Mesh
 in311 =
@@ -217,7 +221,7 @@ out311 =
 
 -- nothing is cut of nothing
 abbrev case311 : Case
-case311 = record { asked = meshes (cutCall true in311 (blade 0x3f000000 0xbf800000 0x3f000000 0x3f800000) (bits 0x3dcccccd) (rooms 1024 1024 2048 2048 4096)); wanted = meshes (done out311 [] false) }
+case311 = record { asked = meshes (cutCall true in311 1 (blade 0x3f000000 0xbf800000 0x3f000000 0x3f800000) (bits 0x3dcccccd) (rooms 1024 1024 2048 2048 4096)); wanted = meshes (done out311 [] false) }
 
 abbrev out312 : Mesh
 out312 =
@@ -229,7 +233,7 @@ out312 =
 
 -- fraction 0.5 passes
 abbrev case312 : Case
-case312 = record { asked = meshes (cutCall true in301 (blade 0x00000000 0x00000000 0x3f800000 0x3f800000) (bits 0x3f000000) (rooms 1024 1024 2048 2048 4096)); wanted = meshes (done out312 (met 0 1 (point 0x00000000 0x00000000) (bits 0x00000000) ∷ met 0 3 (point 0x00000000 0x00000000) (bits 0x80000000) ∷ split 4 0 ∷ removed 1 3 ∷ split 5 2 ∷ []) true) }
+case312 = record { asked = meshes (cutCall true in301 1 (blade 0x00000000 0x00000000 0x3f800000 0x3f800000) (bits 0x3f000000) (rooms 1024 1024 2048 2048 4096)); wanted = meshes (done out312 (met 0 1 (point 0x00000000 0x00000000) (bits 0x00000000) ∷ met 0 3 (point 0x00000000 0x00000000) (bits 0x80000000) ∷ split 4 0 ∷ removed 1 3 ∷ split 5 2 ∷ []) true) }
 
 abbrev in313 : Mesh
 in313 =
@@ -249,7 +253,7 @@ out313 =
 
 -- a centroid on the blade
 abbrev case313 : Case
-case313 = record { asked = meshes (cutCall true in313 (blade 0x00000000 0x00000000 0x3f800000 0x40a00000) (bits 0x3dcccccd) (rooms 1024 1024 2048 2048 4096)); wanted = meshes (done out313 (met 1 2 (point 0x3f000000 0x40200000) (bits 0x3f000000) ∷ met 1 0 (point 0x00000000 0x00000000) (bits 0x3f800000) ∷ met 2 0 (point 0x00000000 0x00000000) (bits 0x3f800000) ∷ met 0 2 (point 0x00000000 0x00000000) (bits 0x00000000) ∷ met 0 3 (point 0x00000000 0x00000000) (bits 0x00000000) ∷ []) false) }
+case313 = record { asked = meshes (cutCall true in313 1 (blade 0x00000000 0x00000000 0x3f800000 0x40a00000) (bits 0x3dcccccd) (rooms 1024 1024 2048 2048 4096)); wanted = meshes (done out313 (met 1 2 (point 0x3f000000 0x40200000) (bits 0x3f000000) ∷ met 1 0 (point 0x00000000 0x00000000) (bits 0x3f800000) ∷ met 2 0 (point 0x00000000 0x00000000) (bits 0x3f800000) ∷ met 0 2 (point 0x00000000 0x00000000) (bits 0x00000000) ∷ met 0 3 (point 0x00000000 0x00000000) (bits 0x00000000) ∷ []) false) }
 
 abbrev in314 : Mesh
 in314 =
@@ -269,7 +273,7 @@ out314 =
 
 -- pinned all around: marked and left whole
 abbrev case314 : Case
-case314 = record { asked = meshes (cutCall true in314 (blade 0x3e99999a 0xbf333333 0x40466666 0x40a00000) (bits 0x3dcccccd) (rooms 1024 1024 2048 2048 4096)); wanted = meshes (done out314 (met 0 1 (point 0x3f324a6a 0x3ddb3f86) (bits 0x3e1c9b17) ∷ met 0 2 (point 0x3f9ed28c 0x3f9b8bb0) (bits 0x3e7df3bb) ∷ met 0 2 (point 0x3f9ed28c 0x3f9b8bb0) (bits 0x3e7df3bb) ∷ met 2 3 (point 0x40384c1e 0x4091a53f) (bits 0x3ec64d69) ∷ []) false) }
+case314 = record { asked = meshes (cutCall true in314 1 (blade 0x3e99999a 0xbf333333 0x40466666 0x40a00000) (bits 0x3dcccccd) (rooms 1024 1024 2048 2048 4096)); wanted = meshes (done out314 (met 0 1 (point 0x3f324a6a 0x3ddb3f86) (bits 0x3e1c9b17) ∷ met 0 2 (point 0x3f9ed28c 0x3f9b8bb0) (bits 0x3e7df3bb) ∷ met 0 2 (point 0x3f9ed28c 0x3f9b8bb0) (bits 0x3e7df3bb) ∷ met 2 3 (point 0x40384c1e 0x4091a53f) (bits 0x3ec64d69) ∷ []) false) }
 
 abbrev pub cases : List Case
 cases = case301 ∷ case302 ∷ case303 ∷ case304 ∷ case305 ∷ case306 ∷ case307 ∷ case308 ∷ case309 ∷ case310 ∷ case311 ∷ case312 ∷ case313 ∷ case314 ∷ []

@@ -49,7 +49,7 @@ out401 =
 
 -- a grid with all edges, blade along a line of particles
 abbrev case401 : Case
-case401 = record { asked = meshes (cutCall true in401 (blade 0x3f800000 0xbf800000 0x3f800000 0x40000000) (bits 0x3dcccccd) (rooms 1024 1024 2048 2048 4096)); wanted = meshes (done out401 (met 0 1 (point 0x3f800000 0x00000000) (bits 0x3f800000) ∷ met 0 4 (point 0x3f800000 0x3f800000) (bits 0x3f800000) ∷ met 0 4 (point 0x3f800000 0x3f800000) (bits 0x3f800000) ∷ met 4 3 (point 0x3f800000 0x3f800000) (bits 0x80000000) ∷ met 1 2 (point 0x3f800000 0x00000000) (bits 0x00000000) ∷ met 1 5 (point 0x3f800000 0x00000000) (bits 0x00000000) ∷ met 1 5 (point 0x3f800000 0x00000000) (bits 0x00000000) ∷ met 5 4 (point 0x3f800000 0x3f800000) (bits 0x3f800000) ∷ split 6 1 ∷ split 7 4 ∷ removed 3 5 ∷ []) true) }
+case401 = record { asked = meshes (cutCall true in401 1 (blade 0x3f800000 0xbf800000 0x3f800000 0x40000000) (bits 0x3dcccccd) (rooms 1024 1024 2048 2048 4096)); wanted = meshes (done out401 (met 0 1 (point 0x3f800000 0x00000000) (bits 0x3f800000) ∷ met 0 4 (point 0x3f800000 0x3f800000) (bits 0x3f800000) ∷ met 0 4 (point 0x3f800000 0x3f800000) (bits 0x3f800000) ∷ met 4 3 (point 0x3f800000 0x3f800000) (bits 0x80000000) ∷ met 1 2 (point 0x3f800000 0x00000000) (bits 0x00000000) ∷ met 1 5 (point 0x3f800000 0x00000000) (bits 0x00000000) ∷ met 1 5 (point 0x3f800000 0x00000000) (bits 0x00000000) ∷ met 5 4 (point 0x3f800000 0x3f800000) (bits 0x3f800000) ∷ split 6 1 ∷ split 7 4 ∷ removed 3 5 ∷ []) true) }
 
 abbrev out402 : Mesh
 out402 =
@@ -61,7 +61,7 @@ out402 =
 
 -- a grid with all edges, slanted blade
 abbrev case402 : Case
-case402 = record { asked = meshes (cutCall true in401 (blade 0x3f666666 0xbf000000 0x3f99999a 0x3fc00000) (bits 0x3dcccccd) (rooms 1024 1024 2048 2048 4096)); wanted = meshes (done out402 (met 0 1 (point 0x3f79999a 0x00000000) (bits 0x3f79999a) ∷ met 1 4 (point 0x3f800000 0x3e2aaaab) (bits 0x3e2aaaab) ∷ met 1 4 (point 0x3f800000 0x3e2aaaab) (bits 0x3e2aaaab) ∷ met 5 4 (point 0x3f900000 0x3f800000) (bits 0x3f600000) ∷ split 6 1 ∷ split 7 4 ∷ removed 3 5 ∷ []) true) }
+case402 = record { asked = meshes (cutCall true in401 1 (blade 0x3f666666 0xbf000000 0x3f99999a 0x3fc00000) (bits 0x3dcccccd) (rooms 1024 1024 2048 2048 4096)); wanted = meshes (done out402 (met 0 1 (point 0x3f79999a 0x00000000) (bits 0x3f79999a) ∷ met 1 4 (point 0x3f800000 0x3e2aaaab) (bits 0x3e2aaaab) ∷ met 1 4 (point 0x3f800000 0x3e2aaaab) (bits 0x3e2aaaab) ∷ met 5 4 (point 0x3f900000 0x3f800000) (bits 0x3f600000) ∷ split 6 1 ∷ split 7 4 ∷ removed 3 5 ∷ []) true) }
 
 abbrev pub cases : List Case
 cases = case401 ∷ case402 ∷ []

@@ -41,7 +41,7 @@ in1001 =
 
 -- 2 before 3 and 4
 abbrev case1001 : Case
-case1001 = record { asked = meshes (cutCall true in1001 (blade 0x00000000 0x00000000 0x3f800000 0x3f800000) (bits 0x41100000) (rooms 1024 1024 2048 2048 4096)); wanted = meshes (refused 2) }
+case1001 = record { asked = meshes (cutCall true in1001 1 (blade 0x00000000 0x00000000 0x3f800000 0x3f800000) (bits 0x41100000) (rooms 1024 1024 2048 2048 4096)); wanted = meshes (refused 2) }
 
 abbrev in1002 : Mesh
 in1002 =
@@ -53,7 +53,7 @@ in1002 =
 
 -- coordinate 1,048,576 passes; 3 before 4
 abbrev case1002 : Case
-case1002 = record { asked = meshes (cutCall true in1002 (blade 0x00000000 0x00000000 0x3f800000 0x3f800000) (bits 0x41100000) (rooms 1024 1024 2048 2048 4096)); wanted = meshes (refused 3) }
+case1002 = record { asked = meshes (cutCall true in1002 1 (blade 0x00000000 0x00000000 0x3f800000 0x3f800000) (bits 0x41100000) (rooms 1024 1024 2048 2048 4096)); wanted = meshes (refused 3) }
 
 abbrev in1003 : Mesh
 in1003 =
@@ -65,7 +65,7 @@ in1003 =
 
 -- 4: the fraction
 abbrev case1003 : Case
-case1003 = record { asked = meshes (cutCall true in1003 (blade 0x00000000 0x00000000 0x3f800000 0x3f800000) (bits 0x41100000) (rooms 1024 1024 2048 2048 4096)); wanted = meshes (refused 4) }
+case1003 = record { asked = meshes (cutCall true in1003 1 (blade 0x00000000 0x00000000 0x3f800000 0x3f800000) (bits 0x41100000) (rooms 1024 1024 2048 2048 4096)); wanted = meshes (refused 4) }
 
 abbrev in1004 : Mesh
 in1004 =
@@ -77,19 +77,19 @@ in1004 =
 
 -- 2: a blade that is no number
 abbrev case1004 : Case
-case1004 = record { asked = meshes (cutCall true in1004 (blade 0x00000000 0x00000000 0x3f800000 0x7fc00000) (bits 0x3dcccccd) (rooms 1024 1024 2048 2048 4096)); wanted = meshes (refused 2) }
+case1004 = record { asked = meshes (cutCall true in1004 1 (blade 0x00000000 0x00000000 0x3f800000 0x7fc00000) (bits 0x3dcccccd) (rooms 1024 1024 2048 2048 4096)); wanted = meshes (refused 2) }
 
 -- 4: the next f32 above 0.5
 abbrev case1005 : Case
-case1005 = record { asked = meshes (cutCall true in1004 (blade 0x00000000 0x00000000 0x3f800000 0x3f800000) (bits 0x3f000001) (rooms 1024 1024 2048 2048 4096)); wanted = meshes (refused 4) }
+case1005 = record { asked = meshes (cutCall true in1004 1 (blade 0x00000000 0x00000000 0x3f800000 0x3f800000) (bits 0x3f000001) (rooms 1024 1024 2048 2048 4096)); wanted = meshes (refused 4) }
 
 -- 4: a fraction below 0
 abbrev case1006 : Case
-case1006 = record { asked = meshes (cutCall true in1004 (blade 0x00000000 0x00000000 0x3f800000 0x3f800000) (bits 0x80000001) (rooms 1024 1024 2048 2048 4096)); wanted = meshes (refused 4) }
+case1006 = record { asked = meshes (cutCall true in1004 1 (blade 0x00000000 0x00000000 0x3f800000 0x3f800000) (bits 0x80000001) (rooms 1024 1024 2048 2048 4096)); wanted = meshes (refused 4) }
 
 -- 4: a fraction that is no number
 abbrev case1007 : Case
-case1007 = record { asked = meshes (cutCall true in1004 (blade 0x00000000 0x00000000 0x3f800000 0x3f800000) (bits 0x7fc00000) (rooms 1024 1024 2048 2048 4096)); wanted = meshes (refused 4) }
+case1007 = record { asked = meshes (cutCall true in1004 1 (blade 0x00000000 0x00000000 0x3f800000 0x3f800000) (bits 0x7fc00000) (rooms 1024 1024 2048 2048 4096)); wanted = meshes (refused 4) }
 
 abbrev out1008 : Mesh
 out1008 =
@@ -101,7 +101,7 @@ out1008 =
 
 -- 0: fraction minus zero
 abbrev case1008 : Case
-case1008 = record { asked = meshes (cutCall true in1004 (blade 0x00000000 0x41100000 0x3f800000 0x41100000) (bits 0x80000000) (rooms 1024 1024 2048 2048 4096)); wanted = meshes (done out1008 [] false) }
+case1008 = record { asked = meshes (cutCall true in1004 1 (blade 0x00000000 0x41100000 0x3f800000 0x41100000) (bits 0x80000000) (rooms 1024 1024 2048 2048 4096)); wanted = meshes (done out1008 [] false) }
 
 -- 4: a side that is 2
 abbrev case1009 : Case
@@ -125,7 +125,7 @@ in1012 =
 
 -- 2: a flag that is 2
 abbrev case1012 : Case
-case1012 = record { asked = meshes (cutCall true in1012 (blade 0x00000000 0x00000000 0x3f800000 0x3f800000) (bits 0x3dcccccd) (rooms 1024 1024 2048 2048 4096)); wanted = meshes (refused 2) }
+case1012 = record { asked = meshes (cutCall true in1012 1 (blade 0x00000000 0x00000000 0x3f800000 0x3f800000) (bits 0x3dcccccd) (rooms 1024 1024 2048 2048 4096)); wanted = meshes (refused 2) }
 
 abbrev in1013 : Mesh
 in1013 =
@@ -137,7 +137,7 @@ in1013 =
 
 -- 2: a damaged flag that is 2
 abbrev case1013 : Case
-case1013 = record { asked = meshes (cutCall true in1013 (blade 0x00000000 0x00000000 0x3f800000 0x3f800000) (bits 0x3dcccccd) (rooms 1024 1024 2048 2048 4096)); wanted = meshes (refused 2) }
+case1013 = record { asked = meshes (cutCall true in1013 1 (blade 0x00000000 0x00000000 0x3f800000 0x3f800000) (bits 0x3dcccccd) (rooms 1024 1024 2048 2048 4096)); wanted = meshes (refused 2) }
 
 abbrev in1014 : Mesh
 in1014 =
@@ -149,7 +149,7 @@ in1014 =
 
 -- 3: a boundary entry names one twice
 abbrev case1014 : Case
-case1014 = record { asked = meshes (cutCall true in1014 (blade 0x00000000 0x00000000 0x3f800000 0x3f800000) (bits 0x3dcccccd) (rooms 1024 1024 2048 2048 4096)); wanted = meshes (refused 3) }
+case1014 = record { asked = meshes (cutCall true in1014 1 (blade 0x00000000 0x00000000 0x3f800000 0x3f800000) (bits 0x3dcccccd) (rooms 1024 1024 2048 2048 4096)); wanted = meshes (refused 3) }
 
 abbrev in1015 : Mesh
 in1015 =
@@ -205,7 +205,7 @@ out1018 =
 
 -- 0: rest length minus zero, any finite inverse mass
 abbrev case1018 : Case
-case1018 = record { asked = meshes (cutCall true in1018 (blade 0x00000000 0x00000000 0x3f800000 0x3f800000) (bits 0x3dcccccd) (rooms 1024 1024 2048 2048 4096)); wanted = meshes (done out1018 (met 0 1 (point 0x00000000 0x00000000) (bits 0x00000000) ∷ met 0 3 (point 0x00000000 0x00000000) (bits 0x80000000) ∷ split 4 0 ∷ removed 1 3 ∷ split 5 2 ∷ []) true) }
+case1018 = record { asked = meshes (cutCall true in1018 1 (blade 0x00000000 0x00000000 0x3f800000 0x3f800000) (bits 0x3dcccccd) (rooms 1024 1024 2048 2048 4096)); wanted = meshes (done out1018 (met 0 1 (point 0x00000000 0x00000000) (bits 0x00000000) ∷ met 0 3 (point 0x00000000 0x00000000) (bits 0x80000000) ∷ split 4 0 ∷ removed 1 3 ∷ split 5 2 ∷ []) true) }
 
 abbrev in1019 : Mesh
 in1019 =
@@ -217,7 +217,7 @@ in1019 =
 
 -- 2: an infinite inverse mass
 abbrev case1019 : Case
-case1019 = record { asked = meshes (cutCall true in1019 (blade 0x00000000 0x00000000 0x3f800000 0x3f800000) (bits 0x3dcccccd) (rooms 1024 1024 2048 2048 4096)); wanted = meshes (refused 2) }
+case1019 = record { asked = meshes (cutCall true in1019 1 (blade 0x00000000 0x00000000 0x3f800000 0x3f800000) (bits 0x3dcccccd) (rooms 1024 1024 2048 2048 4096)); wanted = meshes (refused 2) }
 
 abbrev in1020 : Mesh
 in1020 =
@@ -229,7 +229,7 @@ in1020 =
 
 -- 2: a rest length below 0
 abbrev case1020 : Case
-case1020 = record { asked = meshes (cutCall true in1020 (blade 0x00000000 0x00000000 0x3f800000 0x3f800000) (bits 0x3dcccccd) (rooms 1024 1024 2048 2048 4096)); wanted = meshes (refused 2) }
+case1020 = record { asked = meshes (cutCall true in1020 1 (blade 0x00000000 0x00000000 0x3f800000 0x3f800000) (bits 0x3dcccccd) (rooms 1024 1024 2048 2048 4096)); wanted = meshes (refused 2) }
 
 abbrev in1021 : Mesh
 in1021 =

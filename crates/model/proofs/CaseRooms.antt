@@ -41,19 +41,19 @@ in1101 =
 
 -- 5: the second split lacks a particle
 abbrev case1101 : Case
-case1101 = record { asked = meshes (cutCall true in1101 (blade 0xbf800000 0xbf800000 0x40a00000 0x40a00000) (bits 0x3dcccccd) (rooms 5 1024 2 6 7)); wanted = meshes (refused 6) }
+case1101 = record { asked = meshes (cutCall true in1101 1 (blade 0xbf800000 0xbf800000 0x40a00000 0x40a00000) (bits 0x3dcccccd) (rooms 5 1024 2 6 7)); wanted = meshes (refused 6) }
 
 -- 6: edges at their longest
 abbrev case1102 : Case
-case1102 = record { asked = meshes (cutCall true in1101 (blade 0xbf800000 0xbf800000 0x40a00000 0x40a00000) (bits 0x3dcccccd) (rooms 6 1024 2 6 7)); wanted = meshes (refused 6) }
+case1102 = record { asked = meshes (cutCall true in1101 1 (blade 0xbf800000 0xbf800000 0x40a00000 0x40a00000) (bits 0x3dcccccd) (rooms 6 1024 2 6 7)); wanted = meshes (refused 6) }
 
 -- 7: boundary
 abbrev case1103 : Case
-case1103 = record { asked = meshes (cutCall true in1101 (blade 0xbf800000 0xbf800000 0x40a00000 0x40a00000) (bits 0x3dcccccd) (rooms 6 1024 3 5 7)); wanted = meshes (refused 7) }
+case1103 = record { asked = meshes (cutCall true in1101 1 (blade 0xbf800000 0xbf800000 0x40a00000 0x40a00000) (bits 0x3dcccccd) (rooms 6 1024 3 5 7)); wanted = meshes (refused 7) }
 
 -- 8: log
 abbrev case1104 : Case
-case1104 = record { asked = meshes (cutCall true in1101 (blade 0xbf800000 0xbf800000 0x40a00000 0x40a00000) (bits 0x3dcccccd) (rooms 6 1024 3 6 6)); wanted = meshes (refused 8) }
+case1104 = record { asked = meshes (cutCall true in1101 1 (blade 0xbf800000 0xbf800000 0x40a00000 0x40a00000) (bits 0x3dcccccd) (rooms 6 1024 3 6 6)); wanted = meshes (refused 8) }
 
 abbrev out1105 : Mesh
 out1105 =
@@ -65,11 +65,11 @@ out1105 =
 
 -- 0: just enough
 abbrev case1105 : Case
-case1105 = record { asked = meshes (cutCall true in1101 (blade 0xbf800000 0xbf800000 0x40a00000 0x40a00000) (bits 0x3dcccccd) (rooms 6 1024 3 6 7)); wanted = meshes (done out1105 (met 0 1 (point 0x00000000 0x00000000) (bits 0x00000000) ∷ met 1 2 (point 0x40800000 0x40800000) (bits 0x3f800000) ∷ met 0 3 (point 0x00000000 0x00000000) (bits 0x80000000) ∷ met 2 3 (point 0x40800000 0x40800000) (bits 0x80000000) ∷ split 4 0 ∷ removed 1 3 ∷ split 5 2 ∷ []) true) }
+case1105 = record { asked = meshes (cutCall true in1101 1 (blade 0xbf800000 0xbf800000 0x40a00000 0x40a00000) (bits 0x3dcccccd) (rooms 6 1024 3 6 7)); wanted = meshes (done out1105 (met 0 1 (point 0x00000000 0x00000000) (bits 0x00000000) ∷ met 1 2 (point 0x40800000 0x40800000) (bits 0x3f800000) ∷ met 0 3 (point 0x00000000 0x00000000) (bits 0x80000000) ∷ met 2 3 (point 0x40800000 0x40800000) (bits 0x80000000) ∷ split 4 0 ∷ removed 1 3 ∷ split 5 2 ∷ []) true) }
 
 -- 6: the copy of the input comes first
 abbrev case1106 : Case
-case1106 = record { asked = meshes (cutCall true in1101 (blade 0xbf800000 0xbf800000 0x40a00000 0x40a00000) (bits 0x3dcccccd) (rooms 4 1024 1 6 3)); wanted = meshes (refused 6) }
+case1106 = record { asked = meshes (cutCall true in1101 1 (blade 0xbf800000 0xbf800000 0x40a00000 0x40a00000) (bits 0x3dcccccd) (rooms 4 1024 1 6 3)); wanted = meshes (refused 6) }
 
 abbrev in1107 : Mesh
 in1107 =
@@ -81,15 +81,15 @@ in1107 =
 
 -- 6: an insertion lacks an edge
 abbrev case1107 : Case
-case1107 = record { asked = meshes (cutCall true in1107 (blade 0x40c00000 0xbf800000 0x40c00000 0x3f800000) (bits 0x3dcccccd) (rooms 6 1024 6 6 9)); wanted = meshes (refused 6) }
+case1107 = record { asked = meshes (cutCall true in1107 1 (blade 0x40c00000 0xbf800000 0x40c00000 0x3f800000) (bits 0x3dcccccd) (rooms 6 1024 6 6 9)); wanted = meshes (refused 6) }
 
 -- 0: an insertion has just enough
 abbrev case1108 : Case
-case1108 = record { asked = meshes (cutCall true in1107 (blade 0x40c00000 0xbf800000 0x40c00000 0x3f800000) (bits 0x3dcccccd) (rooms 6 1024 7 5 4)); wanted = meshes (refused 8) }
+case1108 = record { asked = meshes (cutCall true in1107 1 (blade 0x40c00000 0xbf800000 0x40c00000 0x3f800000) (bits 0x3dcccccd) (rooms 6 1024 7 5 4)); wanted = meshes (refused 8) }
 
 -- 8: the bend edges lack log
 abbrev case1109 : Case
-case1109 = record { asked = meshes (cutCall true in1107 (blade 0x40c00000 0xbf800000 0x40c00000 0x3f800000) (bits 0x3dcccccd) (rooms 6 1024 7 5 3)); wanted = meshes (refused 8) }
+case1109 = record { asked = meshes (cutCall true in1107 1 (blade 0x40c00000 0xbf800000 0x40c00000 0x3f800000) (bits 0x3dcccccd) (rooms 6 1024 7 5 3)); wanted = meshes (refused 8) }
 
 abbrev in1110 : Mesh
 in1110 =
@@ -133,11 +133,11 @@ case1113 = record { asked = meshes (straddlersCall true in1113 (rooms 9 1024 9 9
 
 -- 8: four marks come before a split that lacks a particle
 abbrev case1114 : Case
-case1114 = record { asked = meshes (cutCall true in1101 (blade 0xbf800000 0xbf800000 0x40a00000 0x40a00000) (bits 0x3dcccccd) (rooms 4 1024 2 4 3)); wanted = meshes (refused 8) }
+case1114 = record { asked = meshes (cutCall true in1101 1 (blade 0xbf800000 0xbf800000 0x40a00000 0x40a00000) (bits 0x3dcccccd) (rooms 4 1024 2 4 3)); wanted = meshes (refused 8) }
 
 -- 5: the marks have just enough
 abbrev case1115 : Case
-case1115 = record { asked = meshes (cutCall true in1101 (blade 0xbf800000 0xbf800000 0x40a00000 0x40a00000) (bits 0x3dcccccd) (rooms 4 1024 2 4 4)); wanted = meshes (refused 5) }
+case1115 = record { asked = meshes (cutCall true in1101 1 (blade 0xbf800000 0xbf800000 0x40a00000 0x40a00000) (bits 0x3dcccccd) (rooms 4 1024 2 4 4)); wanted = meshes (refused 5) }
 
 abbrev in1116 : Mesh
 in1116 =
@@ -149,7 +149,7 @@ in1116 =
 
 -- 8: the mark of a strap that is left whole
 abbrev case1116 : Case
-case1116 = record { asked = meshes (cutCall true in1116 (blade 0x3e99999a 0xbf800000 0x3f000000 0x3f800000) (bits 0x3dcccccd) (rooms 9 1024 9 9 0)); wanted = meshes (refused 8) }
+case1116 = record { asked = meshes (cutCall true in1116 1 (blade 0x3e99999a 0xbf800000 0x3f000000 0x3f800000) (bits 0x3dcccccd) (rooms 9 1024 9 9 0)); wanted = meshes (refused 8) }
 
 abbrev pub cases : List Case
 cases = case1101 ∷ case1102 ∷ case1103 ∷ case1104 ∷ case1105 ∷ case1106 ∷ case1107 ∷ case1108 ∷ case1109 ∷ case1110 ∷ case1111 ∷ case1112 ∷ case1113 ∷ case1114 ∷ case1115 ∷ case1116 ∷ []

@@ -49,7 +49,7 @@ out501 =
 
 -- the strap of length 8
 abbrev case501 : Case
-case501 = record { asked = meshes (cutCall true in501 (blade 0x40000000 0xbf800000 0x40000000 0x3f800000) (bits 0x3dcccccd) (rooms 1024 1024 2048 2048 4096)); wanted = meshes (done out501 (met 0 1 (point 0x40000000 0x00000000) (bits 0x3e800000) ∷ insert 0 1 2 3 (bits 0x3e800000) ∷ []) true) }
+case501 = record { asked = meshes (cutCall true in501 1 (blade 0x40000000 0xbf800000 0x40000000 0x3f800000) (bits 0x3dcccccd) (rooms 1024 1024 2048 2048 4096)); wanted = meshes (done out501 (met 0 1 (point 0x40000000 0x00000000) (bits 0x3e800000) ∷ insert 0 1 2 3 (bits 0x3e800000) ∷ []) true) }
 
 abbrev in502 : Mesh
 in502 =
@@ -69,7 +69,7 @@ out502 =
 
 -- a rope with bend edges
 abbrev case502 : Case
-case502 = record { asked = meshes (cutCall true in502 (blade 0x40c00000 0xbf800000 0x40c00000 0x3f800000) (bits 0x3dcccccd) (rooms 1024 1024 2048 2048 4096)); wanted = meshes (done out502 (met 1 2 (point 0x40c00000 0x00000000) (bits 0x3f000000) ∷ insert 1 2 4 5 (bits 0x3f000000) ∷ removed 0 2 ∷ removed 3 1 ∷ removed 0 3 ∷ []) true) }
+case502 = record { asked = meshes (cutCall true in502 1 (blade 0x40c00000 0xbf800000 0x40c00000 0x3f800000) (bits 0x3dcccccd) (rooms 1024 1024 2048 2048 4096)); wanted = meshes (done out502 (met 1 2 (point 0x40c00000 0x00000000) (bits 0x3f000000) ∷ insert 1 2 4 5 (bits 0x3f000000) ∷ removed 0 2 ∷ removed 3 1 ∷ removed 0 3 ∷ []) true) }
 
 abbrev out503 : Mesh
 out503 =
@@ -81,7 +81,7 @@ out503 =
 
 -- at a particle
 abbrev case503 : Case
-case503 = record { asked = meshes (cutCall true in502 (blade 0x40800000 0xbf800000 0x40800000 0x3f800000) (bits 0x3dcccccd) (rooms 1024 1024 2048 2048 4096)); wanted = meshes (done out503 (met 0 1 (point 0x40800000 0x00000000) (bits 0x3f800000) ∷ met 1 2 (point 0x40800000 0x00000000) (bits 0x00000000) ∷ split 4 1 ∷ removed 0 2 ∷ []) true) }
+case503 = record { asked = meshes (cutCall true in502 1 (blade 0x40800000 0xbf800000 0x40800000 0x3f800000) (bits 0x3dcccccd) (rooms 1024 1024 2048 2048 4096)); wanted = meshes (done out503 (met 0 1 (point 0x40800000 0x00000000) (bits 0x3f800000) ∷ met 1 2 (point 0x40800000 0x00000000) (bits 0x00000000) ∷ split 4 1 ∷ removed 0 2 ∷ []) true) }
 
 abbrev out504 : Mesh
 out504 =
@@ -93,7 +93,7 @@ out504 =
 
 -- near a particle: it is split
 abbrev case504 : Case
-case504 = record { asked = meshes (cutCall true in502 (blade 0x40866666 0xbf800000 0x40866666 0x3f800000) (bits 0x3dcccccd) (rooms 1024 1024 2048 2048 4096)); wanted = meshes (done out504 (met 1 2 (point 0x40866666 0x00000000) (bits 0x3d4cccc0) ∷ split 4 1 ∷ removed 0 2 ∷ []) true) }
+case504 = record { asked = meshes (cutCall true in502 1 (blade 0x40866666 0xbf800000 0x40866666 0x3f800000) (bits 0x3dcccccd) (rooms 1024 1024 2048 2048 4096)); wanted = meshes (done out504 (met 1 2 (point 0x40866666 0x00000000) (bits 0x3d4cccc0) ∷ split 4 1 ∷ removed 0 2 ∷ []) true) }
 
 abbrev in505 : Mesh
 in505 =
@@ -113,7 +113,7 @@ out505 =
 
 -- near a pinned particle: inserted
 abbrev case505 : Case
-case505 = record { asked = meshes (cutCall true in505 (blade 0x40866666 0xbf800000 0x40866666 0x3f800000) (bits 0x3dcccccd) (rooms 1024 1024 2048 2048 4096)); wanted = meshes (done out505 (met 1 2 (point 0x40866666 0x00000000) (bits 0x3d4cccc0) ∷ insert 1 2 4 5 (bits 0x3dcccccd) ∷ removed 0 2 ∷ removed 3 1 ∷ removed 0 3 ∷ []) true) }
+case505 = record { asked = meshes (cutCall true in505 1 (blade 0x40866666 0xbf800000 0x40866666 0x3f800000) (bits 0x3dcccccd) (rooms 1024 1024 2048 2048 4096)); wanted = meshes (done out505 (met 1 2 (point 0x40866666 0x00000000) (bits 0x3d4cccc0) ∷ insert 1 2 4 5 (bits 0x3dcccccd) ∷ removed 0 2 ∷ removed 3 1 ∷ removed 0 3 ∷ []) true) }
 
 abbrev out506 : Mesh
 out506 =
@@ -125,7 +125,7 @@ out506 =
 
 -- at a pinned particle: inserted twice
 abbrev case506 : Case
-case506 = record { asked = meshes (cutCall true in505 (blade 0x40800000 0xbf800000 0x40800000 0x3f800000) (bits 0x3dcccccd) (rooms 1024 1024 2048 2048 4096)); wanted = meshes (done out506 (met 0 1 (point 0x40800000 0x00000000) (bits 0x3f800000) ∷ met 1 2 (point 0x40800000 0x00000000) (bits 0x00000000) ∷ insert 0 1 4 5 (bits 0x3f666666) ∷ insert 1 2 6 7 (bits 0x3dcccccd) ∷ removed 0 2 ∷ removed 3 1 ∷ []) true) }
+case506 = record { asked = meshes (cutCall true in505 1 (blade 0x40800000 0xbf800000 0x40800000 0x3f800000) (bits 0x3dcccccd) (rooms 1024 1024 2048 2048 4096)); wanted = meshes (done out506 (met 0 1 (point 0x40800000 0x00000000) (bits 0x3f800000) ∷ met 1 2 (point 0x40800000 0x00000000) (bits 0x00000000) ∷ insert 0 1 4 5 (bits 0x3f666666) ∷ insert 1 2 6 7 (bits 0x3dcccccd) ∷ removed 0 2 ∷ removed 3 1 ∷ []) true) }
 
 abbrev in507 : Mesh
 in507 =
@@ -145,7 +145,7 @@ out507 =
 
 -- fraction 0 at a shared end
 abbrev case507 : Case
-case507 = record { asked = meshes (cutCall true in507 (blade 0xbf800000 0x3f800000 0x3f800000 0xbf800000) (bits 0x00000000) (rooms 1024 1024 2048 2048 4096)); wanted = meshes (done out507 (met 0 1 (point 0x00000000 0x00000000) (bits 0x80000000) ∷ met 0 2 (point 0x00000000 0x00000000) (bits 0x80000000) ∷ insert 0 1 3 4 (bits 0x80000000) ∷ insert 0 2 5 6 (bits 0x80000000) ∷ []) true) }
+case507 = record { asked = meshes (cutCall true in507 1 (blade 0xbf800000 0x3f800000 0x3f800000 0xbf800000) (bits 0x00000000) (rooms 1024 1024 2048 2048 4096)); wanted = meshes (done out507 (met 0 1 (point 0x00000000 0x00000000) (bits 0x80000000) ∷ met 0 2 (point 0x00000000 0x00000000) (bits 0x80000000) ∷ insert 0 1 3 4 (bits 0x80000000) ∷ insert 0 2 5 6 (bits 0x80000000) ∷ []) true) }
 
 abbrev out508 : Mesh
 out508 =
@@ -157,7 +157,7 @@ out508 =
 
 -- fraction 0.1 at a shared end
 abbrev case508 : Case
-case508 = record { asked = meshes (cutCall true in507 (blade 0xbf800000 0x3f800000 0x3f800000 0xbf800000) (bits 0x3dcccccd) (rooms 1024 1024 2048 2048 4096)); wanted = meshes (done out508 (met 0 1 (point 0x00000000 0x00000000) (bits 0x80000000) ∷ met 0 2 (point 0x00000000 0x00000000) (bits 0x80000000) ∷ []) false) }
+case508 = record { asked = meshes (cutCall true in507 1 (blade 0xbf800000 0x3f800000 0x3f800000 0xbf800000) (bits 0x3dcccccd) (rooms 1024 1024 2048 2048 4096)); wanted = meshes (done out508 (met 0 1 (point 0x00000000 0x00000000) (bits 0x80000000) ∷ met 0 2 (point 0x00000000 0x00000000) (bits 0x80000000) ∷ []) false) }
 
 abbrev in509 : Mesh
 in509 =
@@ -177,7 +177,7 @@ out509 =
 
 -- t is minus zero
 abbrev case509 : Case
-case509 = record { asked = meshes (cutCall true in509 (blade 0x00000000 0x00000000 0x3f800000 0x00000000) (bits 0x00000000) (rooms 1024 1024 2048 2048 4096)); wanted = meshes (done out509 (met 0 1 (point 0x00000000 0x00000000) (bits 0x80000000) ∷ insert 0 1 2 3 (bits 0x80000000) ∷ []) true) }
+case509 = record { asked = meshes (cutCall true in509 1 (blade 0x00000000 0x00000000 0x3f800000 0x00000000) (bits 0x00000000) (rooms 1024 1024 2048 2048 4096)); wanted = meshes (done out509 (met 0 1 (point 0x00000000 0x00000000) (bits 0x80000000) ∷ insert 0 1 2 3 (bits 0x80000000) ∷ []) true) }
 
 abbrev in510 : Mesh
 in510 =
@@ -197,7 +197,7 @@ out510 =
 
 -- a strap without length or mass
 abbrev case510 : Case
-case510 = record { asked = meshes (cutCall true in510 (blade 0x40800000 0xbf800000 0x40800000 0x3f800000) (bits 0x3dcccccd) (rooms 1024 1024 2048 2048 4096)); wanted = meshes (done out510 (met 0 1 (point 0x40800000 0x00000000) (bits 0x3f000000) ∷ []) false) }
+case510 = record { asked = meshes (cutCall true in510 1 (blade 0x40800000 0xbf800000 0x40800000 0x3f800000) (bits 0x3dcccccd) (rooms 1024 1024 2048 2048 4096)); wanted = meshes (done out510 (met 0 1 (point 0x40800000 0x00000000) (bits 0x3f000000) ∷ []) false) }
 
 abbrev in511 : Mesh
 in511 =
@@ -217,7 +217,7 @@ out511 =
 
 -- four crossings
 abbrev case511 : Case
-case511 = record { asked = meshes (cutCall true in511 (blade 0xbf800000 0x3f8ccccd 0x40a00000 0x3f333333) (bits 0x3e4ccccd) (rooms 1024 1024 2048 2048 4096)); wanted = meshes (done out511 (met 0 1 (point 0x3f000001 0x3f800001) (bits 0x3f000001) ∷ met 1 2 (point 0x3fc469ee 0x3f6e5848) (bits 0x3f08d3dc) ∷ met 2 3 (point 0x401bdef8 0x3f5ef7bf) (bits 0x3edef7bf) ∷ met 3 4 (point 0x40669ee6 0x3f4b08d4) (bits 0x3f1a7b96) ∷ insert 0 1 5 6 (bits 0x3f000001) ∷ insert 1 2 7 8 (bits 0x3f08d3dc) ∷ insert 2 3 9 10 (bits 0x3edef7bf) ∷ insert 3 4 11 12 (bits 0x3f1a7b96) ∷ removed 0 2 ∷ removed 1 3 ∷ removed 2 4 ∷ []) true) }
+case511 = record { asked = meshes (cutCall true in511 1 (blade 0xbf800000 0x3f8ccccd 0x40a00000 0x3f333333) (bits 0x3e4ccccd) (rooms 1024 1024 2048 2048 4096)); wanted = meshes (done out511 (met 0 1 (point 0x3f000001 0x3f800001) (bits 0x3f000001) ∷ met 1 2 (point 0x3fc469ee 0x3f6e5848) (bits 0x3f08d3dc) ∷ met 2 3 (point 0x401bdef8 0x3f5ef7bf) (bits 0x3edef7bf) ∷ met 3 4 (point 0x40669ee6 0x3f4b08d4) (bits 0x3f1a7b96) ∷ insert 0 1 5 6 (bits 0x3f000001) ∷ insert 1 2 7 8 (bits 0x3f08d3dc) ∷ insert 2 3 9 10 (bits 0x3edef7bf) ∷ insert 3 4 11 12 (bits 0x3f1a7b96) ∷ removed 0 2 ∷ removed 1 3 ∷ removed 2 4 ∷ []) true) }
 
 abbrev in512 : Mesh
 in512 =
@@ -237,7 +237,7 @@ out512 =
 
 -- pinned by the insertion before
 abbrev case512 : Case
-case512 = record { asked = meshes (cutCall true in512 (blade 0x40800000 0xbecccccd 0xc0000000 0x3f4ccccd) (bits 0x3dcccccd) (rooms 1024 1024 2048 2048 4096)); wanted = meshes (done out512 (met 0 1 (point 0x40000000 0x00000000) (bits 0x3e800000) ∷ met 0 2 (point 0x00000000 0x3ecccccd) (bits 0x3d4ccccd) ∷ insert 0 1 3 4 (bits 0x3e800000) ∷ insert 0 2 5 6 (bits 0x3dcccccd) ∷ []) true) }
+case512 = record { asked = meshes (cutCall true in512 1 (blade 0x40800000 0xbecccccd 0xc0000000 0x3f4ccccd) (bits 0x3dcccccd) (rooms 1024 1024 2048 2048 4096)); wanted = meshes (done out512 (met 0 1 (point 0x40000000 0x00000000) (bits 0x3e800000) ∷ met 0 2 (point 0x00000000 0x3ecccccd) (bits 0x3d4ccccd) ∷ insert 0 1 3 4 (bits 0x3e800000) ∷ insert 0 2 5 6 (bits 0x3dcccccd) ∷ []) true) }
 
 abbrev out513 : Mesh
 out513 =
@@ -249,7 +249,7 @@ out513 =
 
 -- not pinned by the insertion before
 abbrev case513 : Case
-case513 = record { asked = meshes (cutCall true in507 (blade 0x40800000 0xbecccccd 0xc0000000 0x3f4ccccd) (bits 0x3dcccccd) (rooms 1024 1024 2048 2048 4096)); wanted = meshes (done out513 (met 0 1 (point 0x40000000 0x00000000) (bits 0x3e800000) ∷ met 0 2 (point 0x00000000 0x3ecccccd) (bits 0x3d4ccccd) ∷ insert 0 1 3 4 (bits 0x3e800000) ∷ split 5 0 ∷ []) true) }
+case513 = record { asked = meshes (cutCall true in507 1 (blade 0x40800000 0xbecccccd 0xc0000000 0x3f4ccccd) (bits 0x3dcccccd) (rooms 1024 1024 2048 2048 4096)); wanted = meshes (done out513 (met 0 1 (point 0x40000000 0x00000000) (bits 0x3e800000) ∷ met 0 2 (point 0x00000000 0x3ecccccd) (bits 0x3d4ccccd) ∷ insert 0 1 3 4 (bits 0x3e800000) ∷ split 5 0 ∷ []) true) }
 
 abbrev in514 : Mesh
 in514 =
@@ -269,7 +269,7 @@ out514 =
 
 -- a mass that goes out of range
 abbrev case514 : Case
-case514 = record { asked = meshes (cutCall true in514 (blade 0x40c00000 0xbf800000 0x40c00000 0x3f800000) (bits 0x3dcccccd) (rooms 1024 1024 2048 2048 4096)); wanted = meshes (done out514 (met 0 1 (point 0x40c00000 0x00000000) (bits 0x3f400000) ∷ insert 0 1 3 4 (bits 0x3f400000) ∷ []) true) }
+case514 = record { asked = meshes (cutCall true in514 1 (blade 0x40c00000 0xbf800000 0x40c00000 0x3f800000) (bits 0x3dcccccd) (rooms 1024 1024 2048 2048 4096)); wanted = meshes (done out514 (met 0 1 (point 0x40c00000 0x00000000) (bits 0x3f400000) ∷ insert 0 1 3 4 (bits 0x3f400000) ∷ []) true) }
 
 abbrev out515 : Mesh
 out515 =
@@ -281,7 +281,7 @@ out515 =
 
 -- near a loose end: marked and left whole
 abbrev case515 : Case
-case515 = record { asked = meshes (cutCall true in501 (blade 0x3e99999a 0xbf800000 0x3f000000 0x3f800000) (bits 0x3dcccccd) (rooms 1024 1024 2048 2048 4096)); wanted = meshes (done out515 (met 0 1 (point 0x3ecccccd 0x00000000) (bits 0x3d4ccccd) ∷ []) false) }
+case515 = record { asked = meshes (cutCall true in501 1 (blade 0x3e99999a 0xbf800000 0x3f000000 0x3f800000) (bits 0x3dcccccd) (rooms 1024 1024 2048 2048 4096)); wanted = meshes (done out515 (met 0 1 (point 0x3ecccccd 0x00000000) (bits 0x3d4ccccd) ∷ []) false) }
 
 abbrev pub cases : List Case
 cases = case501 ∷ case502 ∷ case503 ∷ case504 ∷ case505 ∷ case506 ∷ case507 ∷ case508 ∷ case509 ∷ case510 ∷ case511 ∷ case512 ∷ case513 ∷ case514 ∷ case515 ∷ []

@@ -21,9 +21,10 @@ use Rattle.model.specs.Elements.{Triangles, Element, cornersOf, triangle
 use Rattle.model.specs.Run.{Entry, Run, start, stepTo, splitsOf}
 use Rattle.model.specs.Split.{partsOf, Opening, openingOf, copyOf, groupAt, retargeted, splits?, rewiredTriangles, atLongest, settled, splitEntries, goneEntries, splitMade, splitStep, splitBySides}
 use Rattle.model.specs.Pieces.{bodyLabels, across?, withoutStraddlers, straddlersGone, removeStraddlers}
-use Rattle.model.specs.Cut.{Blade, leftOf, keptSide, splitByBlade, splitFree, splitPinched, pinched, candidates, cutFacets, bladeSides}
+use Rattle.model.specs.Cut.{Blade, splitByBlade, splitFree, splitPinched, pinched, candidates, cutFacets, bladeSides}
 use Rattle.model.specs.Crack.{Way, beyond, farSide, twoSided, meanLoad, torn, crackBy, crackPair, crackEdge, currentPair, waysOf, wayAt, loadsOf, tornEnds, crack}
 use Rattle.model.specs.Trace.{All, Hold, Held}
+use Rattle.model.proofs.Rules.{two-all, pick-two, blade-two, blade-every}
 use Rattle.model.proofs.Traced.{copiesFrom, step-splits, splits-here, no-splits, opening-fits, Still, order-fits, still-torn}
 use Rattle.model.proofs.Laws.{all-at, all-over, all-append, all-below, pick-one, length-mapAt, getD-mapAt, Found, find-fits, stands-head, stands-tail, stands-case}
 
@@ -197,14 +198,6 @@ sides-held R H v sides e two = split-held R H (openingOf Triangles (R .mesh) v s
 
 -- ---- the cut
 
-sides-two : {A : Type 0} (f : A → ℕ) → ((a : A) → f a < 2) → (l : List A) → All (λ s. s < 2) (map f l)
-sides-two f h [] = tt
-sides-two f h (a ∷ l) = (h a, sides-two f h l)
-
-pick-two : (b : Bool) (x y : ℕ) → x < 2 → y < 2 → pick b x y < 2
-pick-two true x y p q = p
-pick-two false x y p q = q
-
 fold-held : {A : Type 0} (g : Run → A → Run) → ((R : Run) (a : A) → Held R → Held (g R a)) → (R : Run) (l : List A) → Held R → Held (fold g R l)
 unfolding fold
 fold-held g k R [] T = T
@@ -213,19 +206,15 @@ fold-held g k R (a ∷ l) T = fold-held g k (g R a) l (k R a T)
 free-held : (R : Run) (v : ℕ) → Held R → Held (splitFree Triangles R v)
 unfolding splitFree
 free-held R v H =
-    sides-held R H v (map (λ (e : Element). 0) (fanOf Triangles (R .mesh) v)) (length-map (fanOf Triangles (R .mesh) v) _) (sides-two (λ (e : Element). 0) (λ e. omega arith) (fanOf Triangles (R .mesh) v))
+    sides-held R H v (map (λ (e : Element). 0) (fanOf Triangles (R .mesh) v)) (length-map (fanOf Triangles (R .mesh) v) _) (two-all (λ (e : Element). 0) (λ e. omega arith) (fanOf Triangles (R .mesh) v))
 
 pinched-held : (R : Run) → Held R → Held (splitPinched Triangles R)
 unfolding splitPinched
 pinched-held R H = fold-held (splitFree Triangles) free-held R (pinched Triangles R) H
 
 blade-held : (B : Blade) (R : Run) (v : ℕ) → Held R → Held (splitByBlade Triangles B R v)
-unfolding splitByBlade bladeSides
-blade-held B R v H =
-    let raw = map (leftOf B (R .mesh)) (fanOf Triangles (R .mesh) v) in
-    let s : Bool → ℕ = λ r. pick (Bool·beq r (keptSide B (R .mesh) v raw)) 0 1 in
-    sides-held R H v (map s raw) (length-map raw s ∙ length-map (fanOf Triangles (R .mesh) v) (leftOf B (R .mesh)))
-    (sides-two s (λ r. pick-two (Bool·beq r (keptSide B (R .mesh) v raw)) 0 1 (omega arith) (omega arith)) raw)
+unfolding splitByBlade
+blade-held B R v H = sides-held R H v (bladeSides Triangles B (R .mesh) v) (blade-every Triangles B (R .mesh) v) (blade-two Triangles B (R .mesh) v)
 
 pick-held : (b : Bool) (R S : Run) → Held R → Held S → Held (pick b R S)
 pick-held true R S T U = T
@@ -254,7 +243,7 @@ unfolding wayAt farSide
 way-full loads M v u =
     let sides = map (farSide M v u) (fanOf Triangles M v) in
     pick-one (FullWay M) (twoSided M v sides) (record { load = meanLoad Triangles loads M v u; opening = openingOf Triangles M v sides })
-    (opening-fits Triangles M v sides .before, opening-full M v sides (length-map (fanOf Triangles M v) (farSide M v u)) (sides-two (farSide M v u) (λ e. pick-two (beyond M v u e) 1 0 (omega arith) (omega arith)) (fanOf Triangles M v)))
+    (opening-fits Triangles M v sides .before, opening-full M v sides (length-map (fanOf Triangles M v) (farSide M v u)) (two-all (farSide M v u) (λ e. pick-two (beyond M v u e) 1 0 (omega arith) (omega arith)) (fanOf Triangles M v)))
 
 by-held : (R : Run) → Held R → (o : Option Way) → Found (FullWay (R .mesh)) o → (ab xy : ℕ × ℕ) → Held (crackBy Triangles o ab xy R)
 unfolding crackBy splitsOf each

@@ -14,7 +14,7 @@ use Rattle.model.specs.Mesh.{Particle, Edge, Side, Mesh, blankEdge}
 use Rattle.model.specs.Elements.{Kind, Triangles, Straps, Nothing, Element, edgeAt, structural?, strapElement, strapsFrom, elementsOf}
 use Rattle.model.specs.Run.{Run, stepTo}
 use Rattle.model.specs.Split.{onlyAt}
-use Rattle.model.specs.Cut.{Blade, meets, Crossing, crossingAt, crossings, Insertion, insertionOf, half-a, half-b, left-over, insertable, lightened, between, insertedParticles, halfOf, insertedEdges, same, shortened, appended, insertedSides, insertedMesh, insertStep, Strapping, strapping, insertedAt, snappedAt, crossed, unbent, splitSnapped, afterCrossings, cutSegments, markedBy, cutAlong, cut}
+use Rattle.model.specs.Cut.{Blade, roundly, meets, Crossing, crossingAt, crossings, Insertion, insertionOf, half-a, half-b, left-over, insertable, lightened, between, insertedParticles, halfOf, insertedEdges, same, shortened, appended, insertedSides, insertedMesh, insertStep, Strapping, strapping, insertedAt, snappedAt, crossed, unbent, splitSnapped, afterCrossings, cutSegments, markedBy, cutAlong, cut}
 use Rattle.model.specs.Trace.{All, Sound}
 use Rattle.model.proofs.Indexed.{Pair, Indexed, Ends, Sides, wide, sound-wide, fold-indexed, facets-indexed, snapped-indexed}
 use Rattle.model.proofs.Steps.{runOf}
@@ -185,7 +185,7 @@ unfolding cutAlong cutSegments runOf
 along-indexed Triangles B f R X = facets-indexed B R X
 along-indexed Straps B f R X =
     let n = length (R .mesh .edges) in
-    after-indexed B (fold (crossed f) (strapping R [] []) (crossings B (R .mesh))) (crossings-ready f n (strapping R [] []) (crossings B (R .mesh)) (crossings-inside B (R .mesh)) (X, omega arith) .0)
+    after-indexed (roundly B) (fold (crossed f) (strapping R [] []) (crossings (roundly B) (R .mesh))) (crossings-ready f n (strapping R [] []) (crossings (roundly B) (R .mesh)) (crossings-inside (roundly B) (R .mesh)) (X, omega arith) .0)
 along-indexed Nothing B f R X = X
 
 -- with its crossings marked

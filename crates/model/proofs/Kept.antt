@@ -15,9 +15,9 @@ use Rattle.model.specs.Elements.{Kind, Triangles, kindOf}
 use Rattle.model.specs.Run.{Entry, Rooms, Run, start, stepTo, changed}
 use Rattle.model.specs.Split.{splitBySides}
 use Rattle.model.specs.Pieces.{removeStraddlers}
-use Rattle.model.specs.Cut.{Blade, cutFacets, markedBy, cutAlong, cut}
+use Rattle.model.specs.Cut.{Blade, cutFacets, markedBy, cutAlong, cut, Line}
 use Rattle.model.specs.Crack.{crack}
-use Rattle.model.specs.Calls.{bladeOk, fractionOk, sidesOk, trianglesLent, refusal, firstFault, Outcome, refused, done, fitted, outcome, unless, cutCall, crackCall, splitCall, straddlersCall}
+use Rattle.model.specs.Calls.{bladeOk, fractionOk, sidesOk, trianglesLent, refusal, firstFault, Outcome, refused, done, fitted, outcome, unless, cutCall, crackCall, splitCall, straddlersCall, known, editionRefusal, bladeOf, firstOf, cutRefusal}
 use Rattle.model.specs.Trace.{All, Sound, Traced, Held, Kept}
 use Rattle.model.proofs.Traced.{start-traced, sides-traced, cut-traced, crack-traced, straddlers-traced}
 use Rattle.model.proofs.Holding.{start-held, sides-held, cut-held, crack-held, straddlers-held}
@@ -111,6 +111,18 @@ no-refusal sized M numbers arguments e =
     let s = pick-zero arguments 3 0 (r .1) in
     record { sizes = p .0; values = q .0; indices = r .0; given = s .0 }
 
+-- what is no refusal of two is none of either
+first-none : (a b : ℕ) → firstOf a b ≡ 0 → (a ≡ 0) × (b ≡ 0)
+first-none zero b e = (refl, e)
+first-none (suc a) b e = absurd (omega (arith, e))
+
+-- a cut that nothing refuses before its steps has passed the checks 1 to 4, and those of its edition
+pub cut-no-refusal : (sized : Bool) (M : Mesh) (n : ℕ) (B : Line) (f : Float) (L : Rooms) → cutRefusal sized M n B f L ≡ 0
+    → Passed sized M (bladeOk B) (known n && fractionOk f && trianglesLent L M) × (editionRefusal n M B ≡ 0)
+cut-no-refusal sized M n B f L e =
+    let p = first-none (refusal sized M (bladeOk B) (known n && fractionOk f && trianglesLent L M)) (editionRefusal n M B) e in
+    (no-refusal sized M (bladeOk B) (known n && fractionOk f && trianglesLent L M) (p .0), p .1)
+
 -- ---- the calls
 
 run-kept : (M : Mesh) (L : Rooms) (R : Run) (M′ : Mesh) (l : List Entry) (c : Bool) → Traced M R → Held R → outcome L R ≡ done M′ l c → Kept M M′ l
@@ -131,12 +143,13 @@ marked-held : (B : Blade) (R : Run) → Held R → Held (markedBy Triangles B R)
 unfolding markedBy stepTo
 marked-held B R H = record { copies = rw (marked-splits Triangles B R) (H .copies) }
 
-pub cut-keeps : (sized : Bool) (M : Mesh) (B : Blade) (f : Float) (L : Rooms) (M′ : Mesh) (l : List Entry) (c : Bool)
-    → kindOf M ≡ Triangles → cutCall sized M B f L ≡ done M′ l c → Kept M M′ l
+pub cut-keeps : (sized : Bool) (M : Mesh) (n : ℕ) (line : Line) (f : Float) (L : Rooms) (M′ : Mesh) (l : List Entry) (c : Bool)
+    → kindOf M ≡ Triangles → cutCall sized M n line f L ≡ done M′ l c → Kept M M′ l
 unfolding cutCall cut cutAlong
-cut-keeps sized M B f L M′ l c k e =
+cut-keeps sized M n line f L M′ l c k e =
     let u = unless-done _ _ M′ l c e in
-    let P = no-refusal sized M (bladeOk B) (fractionOk f && trianglesLent L M) (u .0) in
+    let P = cut-no-refusal sized M n line f L (u .0) .0 in
+    let B = bladeOf n line in
     let R = markedBy Triangles B (start M) in
     run-kept M L (cutFacets B R) M′ l c (cut-traced M B R (marked-traced M B (start M) (begun M (P .indices)))) (cut-held B R (marked-held B (start M) (start-held M))) (subst (λ (q : Kind). outcome L (cut q B f (start M)) ≡ done M′ l c) k (u .1))
 

@@ -4,6 +4,8 @@
 pub mod Laws
 -- nothing reads the marks of a cut's crossings
 pub mod Marks
+-- what every rule of a blade gives
+pub mod Rules
 -- a run of splits keeps the triangles: sound, and traced back the same; and every copy belongs to one
 pub mod Traced
 pub mod Holding
@@ -22,8 +24,18 @@ pub mod Toward
 pub mod Indexed
 pub mod Inserted
 pub mod Accepted
+-- whole coordinates stay whole through a cut
+pub mod Whole
+-- on whole coordinates the signs of rounded offsets decide edition 2
+pub mod Exactly
+-- what a hit carries, on whole points, does not turn with the line
+pub mod Turned
+-- edition 2 along a line and along the same line drawn the other way
+pub mod Swapped
 -- the starred cases in one statement, and the worked meshes
 pub mod Starred
+-- the editions of the cut, computed
+pub mod WorkedEditions
 -- the published Rust's answers, computed
 pub mod Asked
 pub mod CaseGroups

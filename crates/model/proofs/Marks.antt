@@ -16,7 +16,7 @@ use Rattle.model.specs.Mesh.{Triangle, Edge, Mesh}
 use Rattle.model.specs.Elements.{Kind, Triangles, Straps, Nothing, Element, structural?, strapElement, cornersOf, trianglesFrom, strapsFrom, elementsOf, kindOf}
 use Rattle.model.specs.Run.{Entry, Need, Rooms, Run, start, stepTo, splitOf, splitsOf, changes, changed}
 use Rattle.model.specs.Split.{Opening, openingOf, splits?, splitMade, splitStep, splitBySides}
-use Rattle.model.specs.Cut.{Blade, splitByBlade, splitFree, splitEnds, nearCorners, pinched, splitPinched, candidates, cutFacets, Crossing, crossings, insertionOf, insertable, bendsOver, insertStep, Strapping, strapping, insertedAt, snappedAt, crossed, unbent, splitSnapped, afterCrossings, cutSegments, meets, markAt, markOf, marksOf, markedBy, cutAlong, cut}
+use Rattle.model.specs.Cut.{Blade, roundly, splitByBlade, splitFree, splitEnds, nearCorners, pinched, splitPinched, candidates, cutFacets, Crossing, crossings, insertionOf, insertable, bendsOver, insertStep, Strapping, strapping, insertedAt, snappedAt, crossed, unbent, splitSnapped, afterCrossings, cutSegments, meets, markAt, markOf, marksOf, markedBy, cutAlong, cut}
 use Rattle.model.specs.Calls.{tooSmall, firstFault, Outcome, refused, done, fitted, outcome}
 use Rattle.model.proofs.Laws.{each-append}
 
@@ -229,16 +229,17 @@ module _ (front : List Need) (marks : List Entry) (none : splitsOf marks ≡ [])
   pub along-on : (k : Kind) (B : Blade) (f : Float) (R : Run) → cutAlong k B f (carried front marks R) ≡ carried front marks (cutAlong k B f R)
   unfolding cutAlong cutSegments onward carried
   along-on Triangles B f R = facets-on B R
-  along-on Straps B f R = ap (afterCrossings B) (crossings-on f (strapping R [] []) (crossings B (R .mesh))) ∙ after-on B _
+  along-on Straps B f R =
+      ap (afterCrossings (roundly B)) (crossings-on f (strapping R [] []) (crossings (roundly B) (R .mesh))) ∙ after-on (roundly B) _
   along-on Nothing B f R = refl
 
 -- ---- a whole cut, with its marks and without
 
 -- nothing logged and nothing needed yet, and what the copy of the input needs
-bare : Mesh → Run
+unfoldable pub bare : Mesh → Run
 bare M = record { mesh = M; log = []; needs = [] }
 
-copying : Mesh → Need
+unfoldable pub copying : Mesh → Need
 copying M = record { particles = length (M .particles); edges = length (M .edges); boundary = length (M .boundary); log = 0 }
 
 begun-bare : (M : Mesh) → start M ≡ carried (copying M ∷ []) [] (bare M)
@@ -254,18 +255,19 @@ begun-marked k B M =
     (ap (λ (z : ℕ). copying M ∷ record { particles = length (M .particles); edges = length (M .edges); boundary = length (M .boundary); log = z } ∷ []) e)
 
 -- the run behind the copy, with neither marks nor the copy's need
-tail : Kind → Blade → Float → Mesh → Run
+unfoldable pub tail : Kind → Blade → Float → Mesh → Run
 tail k B f M = cutAlong k B f (bare M)
 
 along-is : (k : Kind) (B : Blade) (f : Float) (M : Mesh) → cutAlong k B f (start M) ≡ carried (copying M ∷ []) [] (tail k B f M)
 unfolding tail splitsOf each
 along-is k B f M = ap (cutAlong k B f) (begun-bare M) ∙ along-on (copying M ∷ []) [] refl k B f (bare M)
 
-cut-is : (k : Kind) (B : Blade) (f : Float) (M : Mesh) → cut k B f (start M) ≡ carried (copying M ∷ later (length (marksOf k B M)) (copying M) ∷ []) (marksOf k B M) (tail k B f M)
+-- a cut is that run behind the copy and the marks
+pub cut-is : (k : Kind) (B : Blade) (f : Float) (M : Mesh) → cut k B f (start M) ≡ carried (copying M ∷ later (length (marksOf k B M)) (copying M) ∷ []) (marksOf k B M) (tail k B f M)
 unfolding cut tail
 cut-is k B f M = ap (cutAlong k B f) (begun-marked k B M) ∙ along-on (copying M ∷ later (length (marksOf k B M)) (copying M) ∷ []) (marksOf k B M) (marks-no-split k B M) k B f (bare M)
 
-carried-changed : (front : List Need) (marks : List Entry) (R : Run) → any changes marks ≡ false → changed (carried front marks R) ≡ changed R
+pub carried-changed : (front : List Need) (marks : List Entry) (R : Run) → any changes marks ≡ false → changed (carried front marks R) ≡ changed R
 unfolding changed carried
 carried-changed front marks R none = any-append changes marks (R .log) ∙ ap (λ (b : Bool). b || any changes (R .log)) none
 

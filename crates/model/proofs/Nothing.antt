@@ -13,9 +13,9 @@ use Rattle.model.specs.Elements.{Kind, Nothing, particle, kindOf, elemen
 use Rattle.model.specs.Run.{Entry, Rooms, Run, start, stepTo, splitsOf, changed}
 use Rattle.model.specs.Split.{openingOf, splitBySides}
 use Rattle.model.specs.Pieces.{removeStraddlers}
-use Rattle.model.specs.Cut.{Blade, marksOf, markedBy, cutAlong, cut, splitPinched}
+use Rattle.model.specs.Cut.{Blade, marksOf, markedBy, cutAlong, cut, splitPinched, Line}
 use Rattle.model.specs.Crack.{meanLoad, twoSided, wayAt, waysOf, crackBy, crackPair, crackEdge, currentPair, loadsOf, tornEnds, crack}
-use Rattle.model.specs.Calls.{bladeOk, fractionOk, sidesOk, trianglesLent, refusal, done, outcome, cutCall, crackCall, splitCall, straddlersCall}
+use Rattle.model.specs.Calls.{sidesOk, trianglesLent, refusal, done, outcome, cutCall, crackCall, splitCall, straddlersCall, bladeOf, cutRefusal}
 use Rattle.model.proofs.Splitting.{Sided, sides-accepted, one-element-stays}
 use Rattle.model.proofs.Kept.{no-refusal, unless-done, outcome-done}
 use Rattle.model.proofs.Laws.{and-true}
@@ -80,13 +80,13 @@ cut-stays M B f L M′ l c d =
     let u = outcome-done L (cut Nothing B f (start M)) M′ l c d in
     record { mesh = sym (u .0); log = sym (u .1); says = sym (u .2) }
 
-pub nothing-cut : (sized : Bool) (M : Mesh) (B : Blade) (f : Float) (L : Rooms) (M′ : Mesh) (l : List Entry) (c : Bool)
-    → kindOf M ≡ Nothing → cutCall sized M B f L ≡ done M′ l c → Unchanged M M′ l c
+pub nothing-cut : (sized : Bool) (M : Mesh) (n : ℕ) (B : Line) (f : Float) (L : Rooms) (M′ : Mesh) (l : List Entry) (c : Bool)
+    → kindOf M ≡ Nothing → cutCall sized M n B f L ≡ done M′ l c → Unchanged M M′ l c
 unfolding cutCall
-nothing-cut sized M B f L M′ l c k e =
-    cut-stays M B f L M′ l c
-    (subst (λ (q : Kind). outcome L (cut q B f (start M)) ≡ done M′ l c) k
-    (unless-done (refusal sized M (bladeOk B) (fractionOk f && trianglesLent L M)) (outcome L (cut (kindOf M) B f (start M))) M′ l c e .1))
+nothing-cut sized M n B f L M′ l c k e =
+    cut-stays M (bladeOf n B) f L M′ l c
+    (subst (λ (q : Kind). outcome L (cut q (bladeOf n B) f (start M)) ≡ done M′ l c) k
+    (unless-done (cutRefusal sized M n B f L) (outcome L (cut (kindOf M) (bladeOf n B) f (start M))) M′ l c e .1))
 
 pub nothing-crack : (sized : Bool) (M : Mesh) (is : List ℕ) (min : ℕ) (L : Rooms) (M′ : Mesh) (l : List Entry) (c : Bool)
     → kindOf M ≡ Nothing → crackCall sized M is min L ≡ done M′ l c → Unchanged M M′ l c

@@ -72,7 +72,7 @@ abbrev rest-of : Float
 rest-of = fin false 3 (negsuc 1)
 
 -- the strap of length 8, blade (2,-1) to (2,1), fraction 0.1: masses 0.25, 0.75, 0.25, 0.75; edges (0,2), (3,1); the crossing at (2,0), then log 0 1 2 3
-pub strap-worked : said (cutCall true strapMesh (blade (pos 2) (negsuc 0) (pos 2) (pos 1)) tenth limits)
+pub strap-worked : said (cutCall true strapMesh 1 (blade (pos 2) (negsuc 0) (pos 2) (pos 1)) tenth limits)
     ≡ told
     (record {
       masses = quarter ∷ rest-of ∷ quarter ∷ rest-of ∷ [];
@@ -87,7 +87,7 @@ unfolding any all sift siftAt find fold each pairs mapAt tab upTo rising distinc
 strap-worked = refl
 
 -- the listing's mesh, blade (-1,-1) to (5,5), fraction 0.1: four sides met at 0 and 2, then split 4 0, split 5 2, edge 1 3 (gone with the first split), 6 particles, 2 pieces
-pub listing-worked : said (cutCall true listingMesh (blade (negsuc 0) (negsuc 0) (pos 5) (pos 5)) tenth limits)
+pub listing-worked : said (cutCall true listingMesh 1 (blade (negsuc 0) (negsuc 0) (pos 5) (pos 5)) tenth limits)
     ≡ told
     (record {
       masses =

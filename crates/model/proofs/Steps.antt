@@ -14,7 +14,7 @@ use Rattle.model.specs.Elements.{Kind, Triangles, Straps, Nothing}
 use Rattle.model.specs.Run.{Entry, Need, Rooms, Run, stepTo, splitsOf}
 use Rattle.model.specs.Split.{Opening, openingOf, splits?, splitMade, splitStep, splitBySides}
 use Rattle.model.specs.Pieces.{straddlersGone, removeStraddlers}
-use Rattle.model.specs.Cut.{Blade, splitByBlade, splitFree, pinched, splitPinched, candidates, cutFacets, Crossing, crossings, insertable, insertStep, Strapping, strapping, insertedAt, snappedAt, crossed, unbent, splitSnapped, afterCrossings, cutSegments, markedBy, cutAlong, cut}
+use Rattle.model.specs.Cut.{Blade, roundly, splitByBlade, splitFree, pinched, splitPinched, candidates, cutFacets, Crossing, crossings, insertable, insertStep, Strapping, strapping, insertedAt, snappedAt, crossed, unbent, splitSnapped, afterCrossings, cutSegments, markedBy, cutAlong, cut}
 use Rattle.model.specs.Crack.{Way, crackBy, crackPair, crackEdge, currentPair, loadsOf, tornEnds, crack}
 use Rattle.model.specs.Calls.{tooSmall, firstFault, refused, fitted, outcome}
 
@@ -136,7 +136,7 @@ after-onward B (strapping R marked snapped) = onward-then (unbent-onward marked 
 pub along-onward : (k : Kind) (B : Blade) (f : Float) (R : Run) → Onward R (cutAlong k B f R)
 unfolding cutAlong cutSegments runOf
 along-onward Triangles B f R = facets-onward B R
-along-onward Straps B f R = onward-then (crossings-onward f (strapping R [] []) (crossings B (R .mesh))) (after-onward B _)
+along-onward Straps B f R = onward-then (crossings-onward f (strapping R [] []) (crossings (roundly B) (R .mesh))) (after-onward (roundly B) _)
 along-onward Nothing B f R = onward-stay R
 
 pub marked-onward : (k : Kind) (B : Blade) (R : Run) → Onward R (markedBy k B R)

@@ -1,6 +1,6 @@
 -- What a call that gives a mesh answers: the checks 1 to 4, then the rooms 5 to 8 of its steps, then the mesh and the log. Definitions only.
 use Prim.Native.Nat.{ℕ, zero, suc}
-use mathlib.Core.Bool.{Bool, true, not, _&&_}
+use mathlib.Core.Bool.{Bool, true, not, _&&_, _||_}
 use mathlib.Core.List.{List, [], _∷_}
 use lib.ListN.{length}
 use lib.Dec.{eqb, leb, ltb}
@@ -9,22 +9,23 @@ use Rattle.lists.specs.Lists.{pick, all}
 use Rattle.float.specs.Numbers.{zero32, half}
 use Rattle.float.specs.Ranges.{number?}
 use Rattle.blade.specs.declared.Point.{Point}
-use Rattle.model.specs.Mesh.{Mesh}
+use Rattle.exact.specs.Exact.{wholePoint}
+use Rattle.model.specs.Mesh.{Particle, Mesh}
 use Rattle.model.specs.Valid.{numbersFit, indicesFit}
-use Rattle.model.specs.Elements.{kindOf, fanOf}
+use Rattle.model.specs.Elements.{at, straps?, kindOf, fanOf}
 use Rattle.model.specs.Run.{Entry, Need, Rooms, Run, start, changed}
 use Rattle.model.specs.Split.{splitBySides}
 use Rattle.model.specs.Pieces.{removeStraddlers}
-use Rattle.model.specs.Cut.{Blade, cut}
+use Rattle.model.specs.Cut.{Line, Rule, rounded, exact, Blade, cut}
 use Rattle.model.specs.Crack.{crack}
 
 -- ---- 1 to 4
 
--- the numbers of a point, and of a blade
+-- the numbers of a point, and of a blade's line
 abbrev pub pointOk : Point → Bool
 pointOk p = number? (p .x) && number? (p .y)
 
-abbrev pub bladeOk : Blade → Bool
+abbrev pub bladeOk : Line → Bool
 bladeOk B = pointOk (B .from) && pointOk (B .to)
 
 -- the insertion fraction lies in 0 to 0.5
@@ -56,6 +57,44 @@ trianglesLent L M = leb (length (M .triangles)) (L .triangles)
 -- the first of the checks 1 to 4 that fails, or 0: counts and column lengths; the numbers of the mesh and those beside it; indices; arguments
 unfoldable pub refusal : Bool → Mesh → Bool → Bool → ℕ
 refusal sized M numbers arguments = pick (not sized) 1 (pick (not (numbersFit M && numbers)) 2 (pick (not (indicesFit M)) 3 (pick (not arguments) 4 0)))
+
+-- ---- 11 and 12, of edition 2
+
+-- edition 1 and edition 2 are known
+abbrev pub known : ℕ → Bool
+known n = eqb n 1 || eqb n 2
+
+-- every position of a mesh is a whole one, and so are the ends of a line
+unfoldable pub wholeMesh : Mesh → Bool
+wholeMesh M = all (λ (p : Particle). wholePoint (at p)) (M .particles)
+
+abbrev pub wholeLine : Line → Bool
+wholeLine B = wholePoint (B .from) && wholePoint (B .to)
+
+-- a line drawn the other way
+abbrev pub swapped : Line → Line
+swapped B = record { from = B .to; to = B .from }
+
+-- 11 for a position or an end that is not whole, then 12 for straps
+abbrev pub exactRefusal : Mesh → Line → ℕ
+exactRefusal M B = pick (not (wholeMesh M && wholeLine B)) 11 (pick (straps? (kindOf M)) 12 0)
+
+-- an edition's own refusal: edition 1 has none
+abbrev pub editionRefusal : ℕ → Mesh → Line → ℕ
+editionRefusal n M B = pick (eqb n 2) (exactRefusal M B) 0
+
+-- the rule of an edition
+abbrev pub ruleOf : ℕ → Rule
+ruleOf n = pick (eqb n 2) exact rounded
+
+-- the blade along a line by the rule of an edition
+abbrev pub bladeOf : ℕ → Line → Blade
+bladeOf n B = record { line = B; rule = ruleOf n }
+
+-- the first of two refusals
+abbrev pub firstOf : ℕ → ℕ → ℕ
+firstOf zero m = m
+firstOf (suc n) m = suc n
 
 -- ---- 5 to 8
 
@@ -93,9 +132,13 @@ abbrev pub unless : ℕ → Outcome → Outcome
 unless zero o = o
 unless (suc n) o = refused (suc n)
 
--- the cut by a blade with an insertion fraction
-unfoldable pub cutCall : Bool → Mesh → Blade → Float → Rooms → Outcome
-cutCall sized M B f L = unless (refusal sized M (bladeOk B) (fractionOk f && trianglesLent L M)) (outcome L (cut (kindOf M) B f (start M)))
+-- what refuses a cut before its steps: 1 to 4, with the edition among the arguments, then 11 and 12
+abbrev pub cutRefusal : Bool → Mesh → ℕ → Line → Float → Rooms → ℕ
+cutRefusal sized M n B f L = firstOf (refusal sized M (bladeOk B) (known n && fractionOk f && trianglesLent L M)) (editionRefusal n M B)
+
+-- the cut in an edition along a line with an insertion fraction
+unfoldable pub cutCall : Bool → Mesh → ℕ → Line → Float → Rooms → Outcome
+cutCall sized M n B f L = unless (cutRefusal sized M n B f L) (outcome L (cut (kindOf M) (bladeOf n B) f (start M)))
 
 -- the crack of torn edges with a minimum piece
 unfoldable pub crackCall : Bool → Mesh → List ℕ → ℕ → Rooms → Outcome

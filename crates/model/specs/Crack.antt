@@ -12,7 +12,7 @@ use Rattle.float.specs.declared.order.Order.the-variants.{Less, Equal, Greater,
 use Rattle.float.specs.Numbers.{over, zero32, count32, maxOf}
 use Rattle.float.specs.Order.{totalCmp}
 use Rattle.blade.specs.Points.{minusOf, dotOf, sumOf}
-use Rattle.model.specs.Mesh.{Particle, Triangle, Edge, Mesh}
+use Rattle.model.specs.Mesh.{Particle, Triangle, Edge, Mesh, changedTo}
 use Rattle.model.specs.Elements.{Kind, Triangles, Straps, Nothing, Element, particle, edgeAt, restOf, cornersOf, endsOf, sum, fanOf, held}
 use Rattle.model.specs.Run.{opened, Run, splitsOf}
 use Rattle.model.specs.Split.{Opening, openingOf, made, copies, splitStep}
@@ -129,7 +129,7 @@ waysOf k loads M xy = inOrder (wayAt k loads M (xy .0) (xy .1)) (wayAt k loads M
 
 -- marked damaged
 abbrev pub hurt : Particle → Particle
-hurt p = record { x = p .x; y = p .y; rest-x = p .rest-x; rest-y = p .rest-y; mass = p .mass; inv = p .inv; root = p .root; damaged = 1 }
+hurt p = changedTo (p .mass) (p .inv) 1 p
 
 -- the particles of a list, marked
 unfoldable pub damagedAt : List ℕ → Mesh → Mesh

@@ -2,7 +2,7 @@
 use Prim.Native.Nat.{ℕ, _+_}
 use mathlib.Core.Bool.{Bool, true, false, not, _&&_, _||_, Bool·beq}
 use mathlib.Core.List.{List, [], _∷_, _++_, map}
-use lib.ListN.{length}
+use lib.ListN.{length, getD}
 use lib.Dec.{eqb}
 use lib.Ieee.{Float, lt, le, eq, ne}
 use Rattle.lists.specs.Lists.{pick, stands, any, sift, siftAt, fold, each, pairs, mapAt, empty, headOr, rest, rising}
@@ -12,19 +12,44 @@ use Rattle.blade.specs.declared.Hit.{Hit}
 use Rattle.blade.specs.declared.Hit.the-variants.{Miss, Hit as HitAt}
 use Rattle.blade.specs.Points.{centroidOf, lerpOf}
 use Rattle.blade.specs.Blade.{offsetOf, bladeHit}
+use Rattle.exact.specs.declared.Sign.{Sign}
+use Rattle.exact.specs.Exact.{sideBy, exactHit, signOf, total, keptBy, opposite}
+use Rattle.exact.specs.Signs.{hitBySigns, signIn, signOfSum}
 use Rattle.model.specs.Mesh.{Particle, Edge, Side, Mesh}
-use Rattle.model.specs.Elements.{Kind, Triangles, Straps, Nothing, Element, particle, edgeAt, placeOf, restOf, endsOf, farEnd, besides, sum, structural?, elementsOf, fanOf}
+use Rattle.model.specs.Elements.{Kind, Triangles, Straps, Nothing, Element, particle, edgeAt, placeOf, restOf, velocityOf, endsOf, farEnd, besides, sum, structural?, elementsOf, fanOf}
 use Rattle.model.specs.Run.{Entry, edge, insert, met, Run, stepTo, splitsOf}
 use Rattle.model.specs.Split.{Opening, openingOf, made, weighed, onlyAt, splitStep, splitBySides}
 
--- a blade from `from` to `to`
-pub record Blade : Type 0 where
+-- a line drawn from `from` to `to`
+pub record Line : Type 0 where
   pub from : Point
   pub to : Point
 
+-- By which rule crossings and sides are decided: by rounded numbers, as the Rust does (edition 1); exactly, in whole numbers (edition 2);
+-- or by the signs of rounded offsets, which is how the program decides edition 2: on whole coordinates it is the exact rule (proofs/Exactly).
+pub data Rule : Type 0 where
+  rounded : Rule
+  exact : Rule
+  signs : Rule
+
+-- a blade: a line, and the rule by which it cuts
+pub record Blade : Type 0 where
+  pub line : Line
+  pub rule : Rule
+
+-- the same line by rounded numbers
+abbrev pub roundly : Blade → Blade
+roundly B = record { line = B .line; rule = rounded }
+
+-- the blade test of each rule
+abbrev pub hitBy : Rule → Point → Point → Point → Point → Hit
+hitBy rounded b0 b1 p q = bladeHit b0 b1 p q
+hitBy exact b0 b1 p q = exactHit b0 b1 p q
+hitBy signs b0 b1 p q = hitBySigns b0 b1 p q
+
 -- the blade test on the particles x and y
 unfoldable pub meets : Blade → Mesh → ℕ → ℕ → Hit
-meets B M x y = bladeHit (B .from) (B .to) (placeOf M x) (placeOf M y)
+meets B M x y = hitBy (B .rule) (B .line .from) (B .line .to) (placeOf M x) (placeOf M y)
 
 -- is it a hit
 abbrev pub hit? : Hit → Bool
@@ -33,7 +58,7 @@ hit? (HitAt t p) = true
 
 -- a point's offset from the blade: above 0 to the left
 abbrev pub offset : Blade → Point → Float
-offset B p = offsetOf (B .from) (B .to) p
+offset B p = offsetOf (B .line .from) (B .line .to) p
 
 -- ---- `split_by_blade`
 
@@ -45,11 +70,45 @@ leftOf B M e = lt zero32 (offset B (centroidOf (map (placeOf M) (e .corners))))
 unfoldable pub keptSide : Blade → Mesh → ℕ → List Bool → Bool
 keptSide B M v raw = let own = offset B (placeOf M v) in pick (ne own zero32) (lt zero32 own) (headOr false raw)
 
--- an element has side 0 if its centroid is on the kept side, else side 1
-unfoldable pub bladeSides : Kind → Blade → Mesh → ℕ → List ℕ
-bladeSides k B M v =
+-- by rounded numbers: an element has side 0 if its centroid is on the kept side, else side 1
+abbrev pub roundedSides : Kind → Blade → Mesh → ℕ → List ℕ
+roundedSides k B M v =
     let raw = map (leftOf B M) (fanOf k M v) in
     map (λ r. pick (Bool·beq r (keptSide B M v raw)) 0 1) raw
+
+-- by signs, v's own and those of the fan's elements: an element has side 1 if it lies strictly opposite to the kept side; on the line it stays
+abbrev pub sidesOfSigns : Sign → List Sign → List ℕ
+sidesOfSigns own ms = map (λ m. pick (opposite (keptBy own ms) m) 1 0) ms
+
+-- exactly: v's offset, and the sum of a triangle's corners' offsets, which is three times its centroid's
+abbrev pub exactSign : Blade → Mesh → ℕ → Sign
+exactSign B M v = signOf (sideBy (B .line .from) (B .line .to) (placeOf M v))
+
+abbrev pub exactMiddle : Blade → Mesh → Element → Sign
+exactMiddle B M e = signOf (total (map (λ v. sideBy (B .line .from) (B .line .to) (placeOf M v)) (e .corners)))
+
+-- the same by rounded offsets, those of a triangle's three corners
+abbrev pub roundedSign : Blade → Mesh → ℕ → Sign
+roundedSign B M v = signIn (offset B (placeOf M v))
+
+abbrev pub roundedMiddle : Blade → Mesh → Element → Sign
+roundedMiddle B M e = let o : ℕ → Float = λ c. offset B (placeOf M (getD (e .corners) c 0)) in signOfSum (o 0) (o 1) (o 2)
+
+-- the signs decide for triangles alone, as edition 2 has no straps
+abbrev pub signSides : Kind → Blade → Mesh → ℕ → List ℕ
+signSides Triangles B M v = sidesOfSigns (roundedSign B M v) (map (roundedMiddle B M) (fanOf Triangles M v))
+signSides Straps B M v = roundedSides Straps B M v
+signSides Nothing B M v = roundedSides Nothing B M v
+
+-- the sides of each rule
+abbrev pub sidesBy : Rule → Kind → Blade → Mesh → ℕ → List ℕ
+sidesBy rounded k B M v = roundedSides k B M v
+sidesBy exact k B M v = sidesOfSigns (exactSign B M v) (map (exactMiddle B M) (fanOf k M v))
+sidesBy signs k B M v = signSides k B M v
+
+-- the sides of the elements at v
+unfoldable pub bladeSides : Kind → Blade → Mesh → ℕ → List ℕ
+bladeSides k B M v = sidesBy (B .rule) k B M v
 
 -- v split by those sides
 unfoldable pub splitByBlade : Kind → Blade → Run → ℕ → Run
@@ -207,7 +266,19 @@ unfoldable pub between : Mesh → Insertion → Float → ℕ → Particle → P
 between M I m n like =
     let x = lerpOf (placeOf M (I .edge .a)) (placeOf M (I .edge .b)) (I .t) in
     let r = lerpOf (restOf M (I .edge .a)) (restOf M (I .edge .b)) (I .t) in
-    record { x = x .x; y = x .y; rest-x = r .x; rest-y = r .y; mass = m; inv = invOf m; root = n; damaged = like .damaged }
+    let u = lerpOf (velocityOf M (I .edge .a)) (velocityOf M (I .edge .b)) (I .t) in
+    record {
+      x = x .x;
+      y = x .y;
+      rest-x = r .x;
+      rest-y = r .y;
+      mass = m;
+      inv = invOf m;
+      velocity-x = u .x;
+      velocity-y = u .y;
+      root = n;
+      damaged = like .damaged;
+    }
 
 -- both ends lightened, and the new particles p on a's side and q on b's
 unfoldable pub insertedParticles : Insertion → Mesh → List Particle
@@ -348,10 +419,10 @@ markedBy k B R = stepTo R (R .mesh) (marksOf k B (R .mesh)) (length (R .mesh .ed
 
 -- ---- the one cut entry
 
--- `cut_facets` for triangles, `cut_segments` for straps
+-- `cut_facets` for triangles, `cut_segments` for straps, which are cut by rounded numbers alone
 unfoldable pub cutAlong : Kind → Blade → Float → Run → Run
 cutAlong Triangles B f R = cutFacets B R
-cutAlong Straps B f R = cutSegments B f R
+cutAlong Straps B f R = cutSegments (roundly B) f R
 cutAlong Nothing B f R = R
 
 -- the crossings are marked, and then the mesh is cut

@@ -20,12 +20,15 @@ particle M v = getD (M .particles) v blank
 abbrev pub edgeAt : Mesh → ℕ → Edge
 edgeAt M i = getD (M .edges) i blankEdge
 
--- where a particle is, and where it rests
+-- where a particle is, where it rests, and how fast it goes
 abbrev pub at : Particle → Point
 at p = record { x = p .x; y = p .y }
 
 abbrev pub restAt : Particle → Point
 restAt p = record { x = p .rest-x; y = p .rest-y }
+
+abbrev pub velocityAt : Particle → Point
+velocityAt p = record { x = p .velocity-x; y = p .velocity-y }
 
 -- the same of particle v
 unfoldable pub placeOf : Mesh → ℕ → Point
@@ -33,6 +36,9 @@ placeOf M v = at (particle M v)
 
 unfoldable pub restOf : Mesh → ℕ → Point
 restOf M v = restAt (particle M v)
+
+abbrev pub velocityOf : Mesh → ℕ → Point
+velocityOf M v = velocityAt (particle M v)
 
 -- the particles that a triangle, an edge, a boundary entry names
 abbrev pub cornersOf : Triangle → List ℕ
@@ -63,6 +69,12 @@ pub data Kind : Type 0 where
   Triangles : Kind
   Straps : Kind
   Nothing : Kind
+
+-- is it the kind of straps
+abbrev pub straps? : Kind → Bool
+straps? Triangles = false
+straps? Straps = true
+straps? Nothing = false
 
 -- is the structural flag set
 abbrev pub structural? : Edge → Bool

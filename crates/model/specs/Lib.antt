@@ -18,6 +18,8 @@ pub mod Crack
 pub mod Run
 -- the calls that give a mesh: refusals 1 to 8, then the mesh and the log
 pub mod Calls
+-- a cut's line drawn the other way
+pub mod Swaps
 -- the calls that only read
 pub mod Reads
 -- the words of the theorems on triangles: traced back, and every copy held

@@ -4,7 +4,7 @@ use mathlib.Core.List.{List}
 use lib.Ieee.{Float}
 use Rattle.float.specs.Numbers.{zero32}
 
--- position, rest position, mass, inverse mass (0 means pinned), root, damaged flag (0 or 1)
+-- position, rest position, mass, inverse mass (0 means pinned), velocity, root, damaged flag (0 or 1)
 pub record Particle : Type 0 where
   pub x : Float
   pub y : Float
@@ -12,6 +12,8 @@ pub record Particle : Type 0 where
   pub rest-y : Float
   pub mass : Float
   pub inv : Float
+  pub velocity-x : Float
+  pub velocity-y : Float
   pub root : ℕ
   pub damaged : ℕ
 
@@ -46,9 +48,37 @@ pub record Mesh : Type 0 where
   pub edges : List Edge
   pub boundary : List Side
 
+-- p with another mass, inverse mass and damaged flag: everything else is as p has it
+abbrev pub changedTo : Float → Float → ℕ → Particle → Particle
+changedTo m w d p =
+    record {
+      x = p .x;
+      y = p .y;
+      rest-x = p .rest-x;
+      rest-y = p .rest-y;
+      mass = m;
+      inv = w;
+      velocity-x = p .velocity-x;
+      velocity-y = p .velocity-y;
+      root = p .root;
+      damaged = d;
+    }
+
 -- the particle, triangle and edge that are read past the end of a list: no accepted mesh names one
 abbrev pub blank : Particle
-blank = record { x = zero32; y = zero32; rest-x = zero32; rest-y = zero32; mass = zero32; inv = zero32; root = 0; damaged = 0 }
+blank =
+    record {
+      x = zero32;
+      y = zero32;
+      rest-x = zero32;
+      rest-y = zero32;
+      mass = zero32;
+      inv = zero32;
+      velocity-x = zero32;
+      velocity-y = zero32;
+      root = 0;
+      damaged = 0;
+    }
 
 abbrev pub blankTriangle : Triangle
 blankTriangle = record { a = 0; b = 0; c = 0; volume = zero32; stress = zero32 }

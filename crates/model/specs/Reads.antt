@@ -19,7 +19,7 @@ use Rattle.model.specs.Mesh.{Particle, Mesh, blank}
 use Rattle.model.specs.Elements.{kindOf, fanOf, gridOf, restMeasure, restMeasureOf}
 use Rattle.model.specs.Split.{openingOf}
 use Rattle.model.specs.Pieces.{pieces, opensWithoutConfetti}
-use Rattle.model.specs.Cut.{Blade}
+use Rattle.model.specs.Cut.{Line}
 use Rattle.model.specs.Calls.{pointOk, bladeOk, sidesOk, particlesOk, refusal}
 
 -- a refusal's number, or a value
@@ -47,7 +47,7 @@ abbrev pub rootCall : Float → Read Float
 rootCall x = rooted (rootOf x)
 
 -- the blade test on the edge from p to q; a number of blade or point out of range: 2
-unfoldable pub bladeCall : Blade → Point → Point → Read Hit
+unfoldable pub bladeCall : Line → Point → Point → Read Hit
 bladeCall B p q = orRefused (pick (bladeOk B && pointOk p && pointOk q) 0 2) (bladeHit (B .from) (B .to) p q)
 
 -- the groups of a fan, and how many they are

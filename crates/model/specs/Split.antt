@@ -13,7 +13,7 @@ use Rattle.blade.specs.declared.Point.{Point}
 use Rattle.blade.specs.Points.{minusOf, dotOf, sumOf, lengthOf}
 use Rattle.fan.specs.Fan.{sharedOthers}
 use Rattle.fan.specs.Groups.{groupsOf, countOf}
-use Rattle.model.specs.Mesh.{Particle, Triangle, Edge, Side, Mesh, blank, blankTriangle}
+use Rattle.model.specs.Mesh.{Particle, Triangle, Edge, Side, Mesh, changedTo, blank, blankTriangle}
 use Rattle.model.specs.Elements.{Kind, Triangles, Straps, Nothing, Element, particle, restOf, endsOf, sideEnds, farEnd, besides, sum, element?, held, fanOf, gridOf}
 use Rattle.model.specs.Run.{Entry, split, edge, Run, stepTo}
 
@@ -77,7 +77,7 @@ massOf O m g = pick (lt zero32 (totalOf O)) (shareOf m (weightOf (O .fan) g) (to
 
 -- p with another mass and inverse mass
 abbrev pub weighed : Float → Float → Particle → Particle
-weighed m w p = record { x = p .x; y = p .y; rest-x = p .rest-x; rest-y = p .rest-y; mass = m; inv = w; root = p .root; damaged = p .damaged }
+weighed m w p = changedTo m w (p .damaged) p
 
 -- v as group g has it, with the same root
 unfoldable pub portion : Opening → ℕ → Particle → Particle

@@ -11,7 +11,7 @@ use Rattle.blade.specs.declared.Hit.the-variants.{Miss, Hit as HitAt}
 use Rattle.blade.specs.Points.{lengthOf}
 use Rattle.model.specs.Mesh.{Particle, Triangle, Edge, Side, Mesh}
 use Rattle.model.specs.Run.{Rooms}
-use Rattle.model.specs.Cut.{Blade}
+use Rattle.model.specs.Cut.{Line}
 use Rattle.model.specs.Calls.{Outcome, done, splitCall}
 use Rattle.model.specs.Reads.{Read, value, rootCall, bladeCall, groupsCall}
 
@@ -43,7 +43,7 @@ tenth = fin false 13421773 (negsuc 26)
 
 -- a free particle of mass 1 that rests where it is, with its own number as root; a triangle without stress; an edge with equal rest lengths
 abbrev pub free : ℕ → Point → Particle
-free n p = record { x = p .x; y = p .y; rest-x = p .x; rest-y = p .y; mass = one; inv = one; root = n; damaged = 0 }
+free n p = record { x = p .x; y = p .y; rest-x = p .x; rest-y = p .y; mass = one; inv = one; velocity-x = zero32; velocity-y = zero32; root = n; damaged = 0 }
 
 abbrev pub triangle : ℕ → ℕ → ℕ → Float → Triangle
 triangle a b c v = record { a = a; b = b; c = c; volume = v; stress = zero32 }
@@ -80,7 +80,7 @@ fanMesh = fanWith (free 0 (point (pos 0) (pos 0)))
 
 -- the same with particle 0 pinned
 abbrev pub pinnedMesh : Mesh
-pinnedMesh = fanWith (record { x = zero32; y = zero32; rest-x = zero32; rest-y = zero32; mass = one; inv = zero32; root = 0; damaged = 0 })
+pinnedMesh = fanWith (record { x = zero32; y = zero32; rest-x = zero32; rest-y = zero32; mass = one; inv = zero32; velocity-x = zero32; velocity-y = zero32; root = 0; damaged = 0 })
 
 -- three straps that share the end 0
 abbrev pub starMesh : Mesh
@@ -114,8 +114,8 @@ listingMesh =
       boundary = side 0 1 ∷ side 1 2 ∷ side 2 3 ∷ side 3 0 ∷ [];
     }
 
--- a blade by its ends
-abbrev pub blade : ℤ → ℤ → ℤ → ℤ → Blade
+-- a line by its ends
+abbrev pub blade : ℤ → ℤ → ℤ → ℤ → Line
 blade x0 y0 x1 y1 = record { from = point x0 y0; to = point x1 y1 }
 
 -- ---- the starred cases

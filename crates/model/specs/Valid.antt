@@ -16,7 +16,9 @@ flag? f = ltb f 2
 
 -- magnitudes at most 1,048,576, but for the inverse mass, which is finite
 unfoldable pub particleOk : Particle → Bool
-particleOk p = number? (p .x) && number? (p .y) && number? (p .rest-x) && number? (p .rest-y) && number? (p .mass) && finite? (p .inv) && flag? (p .damaged)
+particleOk p =
+    number? (p .x) && number? (p .y) && number? (p .rest-x) && number? (p .rest-y) && number? (p .mass) && finite? (p .inv) && number? (p .velocity-x)
+    && number? (p .velocity-y) && flag? (p .damaged)
 
 -- a rest volume's magnitude at most 4,194,304
 unfoldable pub triangleOk : Triangle → Bool

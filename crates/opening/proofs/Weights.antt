@@ -1,17 +1,15 @@
 -- Laws of weights: the weight of a group and the total of all, as loops over the tables add them. Assumes nothing.
 use mathlib.Core.Path.{_≡_, refl, sym, _∙_, ap, ap₂, subst}
 use mathlib.Core.Bool.{Bool, true, false}
-use mathlib.Core.List.{List, [], _∷_, _++_, map}
+use mathlib.Core.List.{List, [], _∷_, map}
 use Prim.Native.Nat.{ℕ, _+_, _<_}
-use native.Mathlib.Numerals.{add-one}
 use borrow.Author.Tests.{eq-eqb, ne-eqb}
 use lib.Dec.{eqb}
-use lib.ListN.{length, getD, take, set}
-use lib.Seq.{take-suc-set}
+use lib.ListN.{length, getD}
 use lib.Ieee.{Float, nan}
 use Rattle.lists.specs.Lists.{pick, sift, fold, tab, upTo}
 use Rattle.lists.proofs.Sifts.{tab-of, map-tab}
-use Rattle.lists.proofs.Steps.{tab-step, fold-step}
+use Rattle.lists.proofs.Steps.{fold-step}
 use Rattle.float.specs.Numbers.{plus, zero32}
 use Rattle.model.specs.Elements.{sum}
 use Rattle.model.specs.Split.{Part, Opening, weightOf, totalOf, massOf}
@@ -95,26 +93,10 @@ total-none f = refl
 pub total-more : (f : ℕ → Float) (c : ℕ) (t w : Float) → t ≡ totalTo f c → w ≡ f c → plus t w ≡ totalTo f (c + 1)
 total-more f c t w e d = ap₂ plus e d ∙ sym (fold-step plus zero32 f c)
 
--- no weights in the table
-pub weights-none : (f : ℕ → Float) (l : List Float) → take 0 l ≡ tab 0 f
-unfolding tab
-weights-none f l = refl
-
--- one more weight in the table
-pub weights-more : (f : ℕ → Float) (c : ℕ) (l : List Float) (w : Float) → c < length l → take c l ≡ tab c f → w ≡ f c → take (c + 1) (set l c w) ≡ tab (c + 1) f
-weights-more f c l w h e d =
-    ap (λ (m : ℕ). take m (set l c w)) (add-one c) ∙ take-suc-set l c w h ∙ ap₂ (λ (s : List Float) (x : Float). s ++ (x ∷ [])) e d ∙ sym (tab-step f c)
-
--- the table of all weights, as the model writes it
-pub weights-map : (f : ℕ → Float) (c : ℕ) → tab c f ≡ map f (upTo c)
-unfolding upTo
-weights-map f c = sym (map-tab f c (λ k. k))
-
 -- the total of all weights
 pub total-all : (O : Opening) (c : ℕ) → O .count ≡ c → totalTo (weightOf (O .fan)) c ≡ totalOf O
-unfolding totalOf sum
-total-all O c e =
-    ap (fold plus zero32) (weights-map (weightOf (O .fan)) c) ∙ ap (λ (m : ℕ). fold plus zero32 (map (weightOf (O .fan)) (upTo m))) (sym e)
+unfolding totalOf sum upTo
+total-all O c e = ap (fold plus zero32) (sym (map-tab (weightOf (O .fan)) c (λ k. k)) ∙ ap (λ (m : ℕ). map (weightOf (O .fan)) (upTo m)) (sym e))
 
 -- the mass of a group, by its weight and the total
 pub mass-by : (O : Opening) (m : Float) (g : ℕ) → massOf O m g ≡ massBy m (weightOf (O .fan) g) (totalOf O) (O .count)

@@ -2,10 +2,10 @@
 use Prim.Native.Nat.{ℕ, _/_, _<_, _≤_}
 use mathlib.Core.Path.{_≡_}
 use mathlib.Core.Bool.{Bool, not}
-use mathlib.Core.List.{List, map}
-use lib.ListN.{length, getD, take}
+use mathlib.Core.List.{List}
+use lib.ListN.{length, getD}
 use lib.Ieee.{Float}
-use Rattle.lists.specs.Lists.{stands, any, fold, empty, headOr, upTo}
+use Rattle.lists.specs.Lists.{stands, any, fold, empty, headOr}
 use Rattle.float.specs.Numbers.{over, times, maxOf, small}
 use Rattle.blade.specs.declared.Point.{Point}
 use Rattle.blade.specs.Points.{dotOf, lengthOf}
@@ -14,6 +14,7 @@ use Rattle.model.specs.Elements.{besides}
 use Rattle.model.specs.Split.{Opening, Best, better, scoreOf, scored, weightOf, totalOf, ring, parted, toward, copyFor}
 use Rattle.opening.specs.Opened.{partAt, Ringed, Weighted, RingRoom, ringFrom, restIn, RestsIn, CornersBelow}
 use Rattle.opening.specs.declared.Best.{Best as BestCase}
+use Rattle.mesh.specs.Widths.{pointColumns}
 use mathlib.Core.Logic.{_⊎_}
 
 -- does group g hold x
@@ -47,10 +48,9 @@ pub record Grouped (O : Opening) (n : ℕ) (groups : List ℕ) : Type 0 where
 pub record WeightIs (g n : ℕ) (groups : List ℕ) (measures : List Float) (r : Float) : Type 0 where
   pub is : (O : Opening) → Grouped O n groups → Weighted O n measures → r ≡ weightOf (O .fan) g
 
--- the weights of all groups, and their total
-pub record WeightsAre (n count : ℕ) (groups : List ℕ) (measures weights′ : List Float) (r : Float) : Type 0 where
-  pub are : (O : Opening) → Grouped O n groups → Weighted O n measures → take count weights′ ≡ map (weightOf (O .fan)) (upTo count)
-  pub total : (O : Opening) → Grouped O n groups → Weighted O n measures → O .count ≡ count → r ≡ totalOf O
+-- the weights of all groups, added
+pub record TotalIs (n count : ℕ) (groups : List ℕ) (measures : List Float) (r : Float) : Type 0 where
+  pub is : (O : Opening) → Grouped O n groups → Weighted O n measures → O .count ≡ count → r ≡ totalOf O
 
 -- ---- directions
 
@@ -65,7 +65,7 @@ bestIs b = record { score = b .score; group = b .group }
 -- the place of v is known, and the corners of a row rest in the block
 pub record RowRoom (v : ℕ) (home : Point) (row : List ℕ) (points : List Float) : Type 0 where
   pub home-is : home ≡ restIn points v
-  pub corners-in : (j : ℕ) → j < length row → getD row j 0 < length points / 6
+  pub corners-in : (j : ℕ) → j < length row → getD row j 0 < length points / pointColumns
 
 -- the best score after the corners of one part of group g
 pub record BestIn (b : BestCase) (dir : Point) (g v : ℕ) (row : List ℕ) (points : List Float) (r : BestCase) : Type 0 where
@@ -76,7 +76,7 @@ pub record BestIn (b : BestCase) (dir : Point) (g v : ℕ) (row : List ℕ) (poi
 pub record FanRoom (v : ℕ) (home : Point) (n k : ℕ) (verts groups : List ℕ) (points : List Float) : Type 0 where
   pub room : RingRoom n k (length verts) (length groups)
   pub home-is : home ≡ restIn points v
-  pub corners-in : CornersBelow (length points / 6) n k verts
+  pub corners-in : CornersBelow (length points / pointColumns) n k verts
 
 -- the best score after all parts
 pub record FanBest (b : BestCase) (dir : Point) (v n k : ℕ) (verts groups : List ℕ) (points : List Float) (r : BestCase) : Type 0 where
@@ -86,13 +86,13 @@ pub record FanBest (b : BestCase) (dir : Point) (v n k : ℕ) (verts groups : Li
 -- x, v and the corners of all parts rest in the block
 pub record TowardRoom (x v n k : ℕ) (verts groups : List ℕ) (points : List Float) : Type 0 where
   pub room : RingRoom n k (length verts) (length groups)
-  pub x-in : x < length points / 6
-  pub v-in : v < length points / 6
-  pub corners-in : CornersBelow (length points / 6) n k verts
+  pub x-in : x < length points / pointColumns
+  pub v-in : v < length points / pointColumns
+  pub corners-in : CornersBelow (length points / pointColumns) n k verts
 
 -- the group that points best to x
 pub record TowardIs (x v n k : ℕ) (verts groups : List ℕ) (points : List Float) (r : ℕ) : Type 0 where
-  pub is : (O : Opening) (M : Mesh) (p : ℕ) → Ringed k O n verts groups → O .v ≡ v → RestsIn M p points → p ≤ length points / 6 → x < p → v < p → CornersBelow p n k verts
+  pub is : (O : Opening) (M : Mesh) (p : ℕ) → Ringed k O n verts groups → O .v ≡ v → RestsIn M p points → p ≤ length points / pointColumns → x < p → v < p → CornersBelow p n k verts
       → r ≡ toward M O x
 
 -- the number that stands for v in group g, of so many groups

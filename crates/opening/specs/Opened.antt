@@ -12,6 +12,7 @@ use Rattle.columns.specs.Block.{cell}
 use Rattle.model.specs.Mesh.{Mesh}
 use Rattle.model.specs.Elements.{Element, restOf}
 use Rattle.model.specs.Split.{Part, Opening, partsOf, ring}
+use Rattle.mesh.specs.Widths.{pointColumns}
 
 -- the part that is read past the end of a fan
 abbrev pub blankPart : Part
@@ -58,7 +59,7 @@ massBy m w total count = pick (lt zero32 total) (shareOf m w total) (over m (cou
 
 -- where particle w rests, by the block of points
 abbrev pub restIn : List Float → ℕ → Point
-restIn points w = record { x = cell nan (length points / 6) points 2 w; y = cell nan (length points / 6) points 3 w }
+restIn points w = record { x = cell nan (length points / pointColumns) points 2 w; y = cell nan (length points / pointColumns) points 3 w }
 
 -- the first p particles of M rest where the block says
 abbrev pub RestsIn : Mesh → ℕ → List Float → Type 0

@@ -6,7 +6,8 @@ ghost use lib.ListN.{length, take, drop};
 ghost use Rattle.lists.specs.Lists.{stands};
 ghost use Rattle.opening.specs.Opened.{RingRoom, massBy, restIn};
 ghost use Rattle.model.specs.Split.{better as betterOf};
-ghost use Rattle.opening.specs.Answers.{RingHas, NextGroup, InRing, Meets, Parted, WeightIs, WeightsAre, scoreBy, bestIs, RowRoom, BestIn, FanRoom, FanBest, TowardRoom, TowardIs, CopyIs};
+ghost use Rattle.opening.specs.Answers.{RingHas, NextGroup, InRing, Meets, Parted, WeightIs, TotalIs, scoreBy, bestIs, RowRoom, BestIn, FanRoom, FanBest, TowardRoom, TowardIs, CopyIs};
+ghost use Rattle.mesh.specs.Widths.{pointColumns};
 use blade::Point;
 
 // The best score so far, and its group.
@@ -134,22 +135,15 @@ pub fn weight_of(g: usize, n: usize, groups: &[usize], measures: &[f32]) -> f32
     w
 }
 
-// The weights of all groups; returns their total.
-pub fn weigh_all(
-    n: usize,
-    count: usize,
-    groups: &[usize],
-    measures: &[f32],
-    weights: &mut [f32],
-) -> f32
-    requires { ⌜ (n ≤ length (now groups)) × (n ≤ length (now measures)) × (count ≤ length (now weights)) ⌝ }
-    ensures { λ r. ⌜ WeightsAre n count (now (groups .entry)) (now (measures .entry)) (now (weights .exit)) r ⌝ }
+// The weights of all groups, added in order.
+pub fn total_weight(n: usize, count: usize, groups: &[usize], measures: &[f32]) -> f32
+    requires { ⌜ (n ≤ length (now groups)) × (n ≤ length (now measures)) × (count ≤ 2048) ⌝ }
+    ensures { λ r. ⌜ TotalIs n count (now (groups .entry)) (now (measures .entry)) r ⌝ }
 {
     let mut total: f32 = 0.0;
     let mut g = 0;
     while g < count {
         let w = weight_of(g, n, groups, measures);
-        weights[g] = w;
         total = total + w;
         g += 1;
     }
@@ -169,10 +163,10 @@ pub fn mass_of(m: f32, w: f32, total: f32, count: usize) -> f32
 
 // Where particle w rests.
 pub fn rest_point(w: usize, points: &[f32]) -> Point
-    requires { ⌜ w < length (now points) / 6 ⌝ }
+    requires { ⌜ w < length (now points) / pointColumns ⌝ }
     ensures { λ r. ⌜ r ≡ restIn (now (points .entry)) w ⌝ }
 {
-    let size = points.len() / 6;
+    let size = points.len() / mesh::POINT_COLUMNS;
     let at = 2 * size + w;
     let next = 3 * size + w;
     Point {

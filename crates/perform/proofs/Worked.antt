@@ -1,4 +1,4 @@
--- What each worker asks and gives, from what a call asks and promises of its work; and the cut behind its marks.
+-- What each worker asks and gives, from what a call asks and promises of its work; and the cut behind its marks. Assumes nothing.
 use Prim.Native.Nat.{ℕ}
 use mathlib.Core.Path.{_≡_, sym, _∙_, subst}
 use mathlib.Core.List.{List}
@@ -24,7 +24,10 @@ use Rattle.work.specs.declared.Ran.{Ran}
 use Rattle.work.specs.declared.Ran.the-variants.{Refused, Done}
 use Rattle.work.proofs.Runs.{works-then, works-refused, works-known}
 use Rattle.work.proofs.Placed.{corners-in, ends-in, sides-in}
-use Rattle.jobs.specs.Jobs.{jobRun}
+use Rattle.blade.specs.declared.Point.{Point}
+use Rattle.marks.specs.Marking.{bladeBy}
+use Rattle.marks.specs.declared.Rule.{Rule}
+use Rattle.jobs.specs.Jobs.{ruleIn, jobRun}
 use Rattle.perform.specs.Asks.{JobAsked}
 use Rattle.jobs.specs.declared.Job.{Job}
 use Rattle.jobs.specs.declared.Job.the-variants.{Split}
@@ -73,6 +76,11 @@ module _ (k : Counts) (R : Rooms) (p : List Float) (r c : List ℕ) (v : List Fl
         (subst (λ (x : Job). JobAsked x ls (meshAt k p r c v e l o)) (arm ∙ q) S)
 
 -- ---- the cut behind its marks
+
+-- the rule that was found is that of the edition
+pub cut-ruled : (K : Kind) (rule : Rule) (n : ℕ) (b0 b1 : Point) (f : Float) {L : Rooms} {W : World} {then : Counts → World} {ran : Ran} → rule ≡ ruleIn n
+    → Works (cut K (bladeBy rule b0 b1) f) L W then ran → Works (cut K (bladeBy (ruleIn n) b0 b1) f) L W then ran
+cut-ruled K rule n b0 b1 f {L} {W} {then} {ran} e done = subst (λ (r : Rule). Works (cut K (bladeBy r b0 b1) f) L W then ran) e done
 
 -- marks keep the mesh as it is
 pub marked-indexed : (K : Kind) (B : Blade) (R : Run) → Indexed (R .mesh) → Indexed (markedBy K B R .mesh)

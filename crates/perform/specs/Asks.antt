@@ -11,5 +11,5 @@ use Rattle.jobs.specs.declared.Job.the-variants.{Straddlers, Split, Cut, Crack}
 abbrev pub JobAsked : Job → List ℕ → Mesh → Type 0
 JobAsked Straddlers ls M = Unit {0}
 JobAsked (Split v) ls M = SidesGiven (kindOf M) M v ls
-JobAsked (Cut b0 b1 f) ls M = Unit {0}
+JobAsked (Cut n b0 b1 f) ls M = Unit {0}
 JobAsked (Crack min) ls M = Unit {0}

@@ -3,20 +3,21 @@ ghost use mathlib.Core.List.{[]};
 ghost use Rattle.model.specs.Elements.{kindOf};
 ghost use Rattle.model.specs.Cut.{cut};
 ghost use Rattle.elements.specs.Table.{kindIs};
-ghost use Rattle.marks.specs.Marking.{bladeFrom};
-ghost use Rattle.model.specs.Calls.{refusal};
+ghost use Rattle.marks.specs.Marking.{bladeBy};
 ghost use Rattle.mesh.specs.At.{meshAt};
 ghost use Rattle.mesh.specs.Log.{worldAt};
 ghost use Rattle.mesh.specs.Given.{given, meshOf, sizes, sizesFit, asRooms};
 ghost use Rattle.mesh.specs.Filled.{lent};
 ghost use Rattle.work.specs.Working.{Roomed, Ready, Works, Logged};
 ghost use Rattle.answer.specs.Framed.{RoomsLent, Begun, Came};
-ghost use Rattle.jobs.specs.Jobs.{jobNumbers, jobArguments, jobRun, jobCall};
+ghost use mathlib.Core.Path.{_≡_};
+ghost use Rattle.jobs.specs.Jobs.{jobRefusal, ruleIn, jobRun, jobCall};
 ghost use Rattle.perform.specs.Asks.{JobAsked};
 use blade::Point;
 use elements::Kind;
 use jobs::Job;
 use jobs::checks;
+use marks::Rule;
 use mesh::Counts;
 use mesh::Rooms;
 use strap::kinds::Pass;
@@ -43,7 +44,7 @@ pub fn begin(
     outline: &mut [usize],
 ) -> usize
     requires { ⌜ RoomsLent room (lent (now points) (now roots) (now corners) (now volumes) (now ends) (now lengths) (now outline) []) ⌝ }
-    ensures { λ r. ⌜ Begun (refusal (sizesFit (given (now («in_points» .entry)) (now («in_roots» .entry)) (now («in_corners» .entry)) (now («in_volumes» .entry)) (now («in_ends» .entry)) (now («in_lengths» .entry)) (now («in_outline» .entry)))) (meshOf (given (now («in_points» .entry)) (now («in_roots» .entry)) (now («in_corners» .entry)) (now («in_volumes» .entry)) (now («in_ends» .entry)) (now («in_lengths» .entry)) (now («in_outline» .entry)))) (jobNumbers job) (jobArguments job (now (list .entry)) (asRooms room) (meshOf (given (now («in_points» .entry)) (now («in_roots» .entry)) (now («in_corners» .entry)) (now («in_volumes» .entry)) (now («in_ends» .entry)) (now («in_lengths» .entry)) (now («in_outline» .entry)))))) room (meshOf (given (now («in_points» .entry)) (now («in_roots» .entry)) (now («in_corners» .entry)) (now («in_volumes» .entry)) (now («in_ends» .entry)) (now («in_lengths» .entry)) (now («in_outline» .entry))))
+    ensures { λ r. ⌜ Begun (jobRefusal job (now (list .entry)) (sizesFit (given (now («in_points» .entry)) (now («in_roots» .entry)) (now («in_corners» .entry)) (now («in_volumes» .entry)) (now («in_ends» .entry)) (now («in_lengths» .entry)) (now («in_outline» .entry)))) (meshOf (given (now («in_points» .entry)) (now («in_roots» .entry)) (now («in_corners» .entry)) (now («in_volumes» .entry)) (now («in_ends» .entry)) (now («in_lengths» .entry)) (now («in_outline» .entry)))) (asRooms room)) room (meshOf (given (now («in_points» .entry)) (now («in_roots» .entry)) (now («in_corners» .entry)) (now («in_volumes» .entry)) (now («in_ends» .entry)) (now («in_lengths» .entry)) (now («in_outline» .entry))))
         (meshAt (sizes (given (now («in_points» .entry)) (now («in_roots» .entry)) (now («in_corners» .entry)) (now («in_volumes» .entry)) (now («in_ends» .entry)) (now («in_lengths» .entry)) (now («in_outline» .entry)))) (now (points .exit)) (now (roots .exit)) (now (corners .exit)) (now (volumes .exit)) (now (ends .exit)) (now (lengths .exit)) (now (outline .exit))) r ⌝ }
 {
     let code = checks::judge(
@@ -78,8 +79,19 @@ pub fn begin(
     )
 }
 
+// The rule of an edition.
+fn rule_in(edition: usize) -> Rule
+    ensures { λ r. ⌜ r ≡ ruleIn edition ⌝ }
+{
+    if edition == 2 {
+        return Rule::Signs;
+    }
+    Rule::Rounded
+}
+
 // The cut along a blade: its crossings are noted, and then the mesh is cut.
 fn cut_marked(
+    rule: Rule,
     b0: Point,
     b1: Point,
     f: f32,
@@ -96,11 +108,12 @@ fn cut_marked(
     log: &mut [u32],
 ) -> Ran
     requires { ⌜ Ready room k (lent (now points) (now roots) (now corners) (now volumes) (now ends) (now lengths) (now outline) (now log)) (meshAt k (now points) (now roots) (now corners) (now volumes) (now ends) (now lengths) (now outline)) × Logged (k .log) (now log) ⌝ }
-    ensures { λ r. ⌜ Works (cut (kindIs kind) (bladeFrom b0 b1) f) room
+    ensures { λ r. ⌜ Works (cut (kindIs kind) (bladeBy rule b0 b1) f) room
         (worldAt k (now (points .entry)) (now (roots .entry)) (now (corners .entry)) (now (volumes .entry)) (now (ends .entry)) (now (lengths .entry)) (now (outline .entry)) (now (log .entry)))
         (λ q. worldAt q (now (points .exit)) (now (roots .exit)) (now (corners .exit)) (now (volumes .entry)) (now (ends .exit)) (now (lengths .exit)) (now (outline .exit)) (now (log .exit))) r ⌝ }
 {
     let ran = crossmarks::note_crossings(
+        rule,
         kind,
         b0,
         b1,
@@ -119,7 +132,7 @@ fn cut_marked(
         return ran;
     };
     strap::kinds::run(
-        Pass::Blade(b0, b1, f),
+        Pass::Blade(rule, b0, b1, f),
         kind,
         counts,
         room,
@@ -182,7 +195,8 @@ pub fn work(
             outline,
             log,
         ),
-        Job::Cut(b0, b1, f) => cut_marked(
+        Job::Cut(edition, b0, b1, f) => cut_marked(
+            rule_in(edition),
             b0,
             b1,
             f,
@@ -264,7 +278,7 @@ pub fn run(
         return Ran::Refused(code);
     }
     let k = Counts {
-        particles: in_points.len() / 6,
+        particles: in_points.len() / mesh::POINT_COLUMNS,
         triangles: in_corners.len() / 3,
         edges: in_ends.len() / 4,
         boundary: in_outline.len() / 2,

@@ -52,25 +52,25 @@ met-at p =
     met 0 1 (point (pos 0) (pos 0)) zero32 ∷ met 1 2 p one ∷ met 0 3 (point (pos 0) (pos 0)) (fin true 0 (pos 0)) ∷ met 2 3 p (fin true 0 (pos 0)) ∷ []
 
 -- the listing's mesh, blade (-1,-1) to (5,5), fraction 0.1: two pieces, as before
-pub listing-keeps : toldOf (cutCall true listingMesh (blade (negsuc 0) (negsuc 0) (pos 5) (pos 5)) tenth limits)
+pub listing-keeps : toldOf (cutCall true listingMesh 1 (blade (negsuc 0) (negsuc 0) (pos 5) (pos 5)) tenth limits)
     ≡ said (met-at (point (pos 4) (pos 4)) ++ (split 4 0 ∷ removed 1 3 ∷ split 5 2 ∷ [])) 6 (2, 2)
 unfolding any all sift siftAt find fold each pairs mapAt tab upTo rising distinct disjoint padded keep keptOf nth merged joinPair joinRow joinRows labelled absOf maxOf invOf finite? number? volume? notBelow0? floorRoot rootUnits signOf sumOf centroidOf lerpOf lengthOf bladeHit labelsOf numberOne numberSide numbered groupsOf countOf particleOk triangleOk edgeOk numbersFit named rootOk cornersOk endsOk sideOk indicesFit placeOf restOf besides sum kindBy kindOf trianglesFrom strapsFrom elementsOf held restMeasure restMeasureOf fanOf gridOf partsOf openingOf splits? made weightOf totalOf massOf portion copied groupAt rewiredTriangles rewiredStraps ring scoreOf scored toward edgeGroups stayed doubled otherEdges parted straddles sideGroup followed faceOn facetsAt crackFacets atLongest settled splitEntries goneEntries splitMade splitStep splitBySides bodyLabels bodies pieceLabels pieceCount sharedOf pieces bodyOf spans across? withoutStraddlers straddlersGone removeStraddlers reachLabels labelsAt membersOf reachOf opensWithoutConfetti meets leftOf keptSide bladeSides splitByBlade splitEnds nearCorners pinched splitFree splitPinched candidates cutFacets crossings nearEnd strapsAt strapShare insertionOf wanted? insertable sideAlong bends numbersOf bendsOver lightened between insertedParticles halfOf insertedEdges shortened appended insertedSides insertedMesh insertStep insertedAt snappedAt crossed unbent slackened splitSnapped afterCrossings cutSegments marksOf markedBy cutAlong cut largestStress stressBetween triangleLoad loadsOf family crossPairs currentOf currentPair beyond farSide meanLoad twoSided wayAt waysOf damagedAt torn crackBy crackPair crackEdge tornEnds crack start stepTo splitsOf changed sidesOk strictly particlesOk refusal tooSmall firstFault outcome cutCall crackCall splitCall straddlersCall bladeCall groupsCall restMeasureCall restMeasureOfCall opensCall piecesCall stateCall isNan neg add sub mul div lt le eq ne ofInt ofBits
 listing-keeps = refl
 
 -- the same with particle 0 pinned: one body that the pin holds together, and two pieces
-pub pinned-parts : toldOf (cutCall true onePin (blade (negsuc 0) (negsuc 0) (pos 5) (pos 5)) tenth limits)
+pub pinned-parts : toldOf (cutCall true onePin 1 (blade (negsuc 0) (negsuc 0) (pos 5) (pos 5)) tenth limits)
     ≡ said (met-at (point (pos 4) (pos 4)) ++ (split 4 2 ∷ removed 1 3 ∷ [])) 5 (1, 2)
 unfolding any all sift siftAt find fold each pairs mapAt tab upTo rising distinct disjoint padded keep keptOf nth merged joinPair joinRow joinRows labelled absOf maxOf invOf finite? number? volume? notBelow0? floorRoot rootUnits signOf sumOf centroidOf lerpOf lengthOf bladeHit labelsOf numberOne numberSide numbered groupsOf countOf particleOk triangleOk edgeOk numbersFit named rootOk cornersOk endsOk sideOk indicesFit placeOf restOf besides sum kindBy kindOf trianglesFrom strapsFrom elementsOf held restMeasure restMeasureOf fanOf gridOf partsOf openingOf splits? made weightOf totalOf massOf portion copied groupAt rewiredTriangles rewiredStraps ring scoreOf scored toward edgeGroups stayed doubled otherEdges parted straddles sideGroup followed faceOn facetsAt crackFacets atLongest settled splitEntries goneEntries splitMade splitStep splitBySides bodyLabels bodies pieceLabels pieceCount sharedOf pieces bodyOf spans across? withoutStraddlers straddlersGone removeStraddlers reachLabels labelsAt membersOf reachOf opensWithoutConfetti meets leftOf keptSide bladeSides splitByBlade splitEnds nearCorners pinched splitFree splitPinched candidates cutFacets crossings nearEnd strapsAt strapShare insertionOf wanted? insertable sideAlong bends numbersOf bendsOver lightened between insertedParticles halfOf insertedEdges shortened appended insertedSides insertedMesh insertStep insertedAt snappedAt crossed unbent slackened splitSnapped afterCrossings cutSegments marksOf markedBy cutAlong cut largestStress stressBetween triangleLoad loadsOf family crossPairs currentOf currentPair beyond farSide meanLoad twoSided wayAt waysOf damagedAt torn crackBy crackPair crackEdge tornEnds crack start stepTo splitsOf changed sidesOk strictly particlesOk refusal tooSmall firstFault outcome cutCall crackCall splitCall straddlersCall bladeCall groupsCall restMeasureCall restMeasureOfCall opensCall piecesCall stateCall isNan neg add sub mul div lt le eq ne ofInt ofBits
 pinned-parts = refl
 
 -- with 0 and 2 pinned nothing splits
-pub pinned-both : toldOf (cutCall true twoPins (blade (negsuc 0) (negsuc 0) (pos 5) (pos 5)) tenth limits)
+pub pinned-both : toldOf (cutCall true twoPins 1 (blade (negsuc 0) (negsuc 0) (pos 5) (pos 5)) tenth limits)
     ≡ said (met-at (point (pos 4) (pos 4))) 4 (1, 1)
 unfolding any all sift siftAt find fold each pairs mapAt tab upTo rising distinct disjoint padded keep keptOf nth merged joinPair joinRow joinRows labelled absOf maxOf invOf finite? number? volume? notBelow0? floorRoot rootUnits signOf sumOf centroidOf lerpOf lengthOf bladeHit labelsOf numberOne numberSide numbered groupsOf countOf particleOk triangleOk edgeOk numbersFit named rootOk cornersOk endsOk sideOk indicesFit placeOf restOf besides sum kindBy kindOf trianglesFrom strapsFrom elementsOf held restMeasure restMeasureOf fanOf gridOf partsOf openingOf splits? made weightOf totalOf massOf portion copied groupAt rewiredTriangles rewiredStraps ring scoreOf scored toward edgeGroups stayed doubled otherEdges parted straddles sideGroup followed faceOn facetsAt crackFacets atLongest settled splitEntries goneEntries splitMade splitStep splitBySides bodyLabels bodies pieceLabels pieceCount sharedOf pieces bodyOf spans across? withoutStraddlers straddlersGone removeStraddlers reachLabels labelsAt membersOf reachOf opensWithoutConfetti meets leftOf keptSide bladeSides splitByBlade splitEnds nearCorners pinched splitFree splitPinched candidates cutFacets crossings nearEnd strapsAt strapShare insertionOf wanted? insertable sideAlong bends numbersOf bendsOver lightened between insertedParticles halfOf insertedEdges shortened appended insertedSides insertedMesh insertStep insertedAt snappedAt crossed unbent slackened splitSnapped afterCrossings cutSegments marksOf markedBy cutAlong cut largestStress stressBetween triangleLoad loadsOf family crossPairs currentOf currentPair beyond farSide meanLoad twoSided wayAt waysOf damagedAt torn crackBy crackPair crackEdge tornEnds crack start stepTo splitsOf changed sidesOk strictly particlesOk refusal tooSmall firstFault outcome cutCall crackCall splitCall straddlersCall bladeCall groupsCall restMeasureCall restMeasureOfCall opensCall piecesCall stateCall isNan neg add sub mul div lt le eq ne ofInt ofBits
 pinned-both = refl
 
 -- "I cut exactly along the line on the lesson page and it says one piece, but the halves slide apart": the square cut along its diagonal, from the pin to the far
 -- corner, is one body and two pieces
-pub letter-parts : toldOf (cutCall true letterMesh (blade (pos 0) (pos 0) (pos 1) (pos 1)) tenth limits) ≡ said (met-at (point (pos 1) (pos 1)) ++ (split 4 2 ∷ [])) 5 (1, 2)
+pub letter-parts : toldOf (cutCall true letterMesh 1 (blade (pos 0) (pos 0) (pos 1) (pos 1)) tenth limits) ≡ said (met-at (point (pos 1) (pos 1)) ++ (split 4 2 ∷ [])) 5 (1, 2)
 unfolding any all sift siftAt find fold each pairs mapAt tab upTo rising distinct disjoint padded keep keptOf nth merged joinPair joinRow joinRows labelled absOf maxOf invOf finite? number? volume? notBelow0? floorRoot rootUnits signOf sumOf centroidOf lerpOf lengthOf bladeHit labelsOf numberOne numberSide numbered groupsOf countOf particleOk triangleOk edgeOk numbersFit named rootOk cornersOk endsOk sideOk indicesFit placeOf restOf besides sum kindBy kindOf trianglesFrom strapsFrom elementsOf held restMeasure restMeasureOf fanOf gridOf partsOf openingOf splits? made weightOf totalOf massOf portion copied groupAt rewiredTriangles rewiredStraps ring scoreOf scored toward edgeGroups stayed doubled otherEdges parted straddles sideGroup followed faceOn facetsAt crackFacets atLongest settled splitEntries goneEntries splitMade splitStep splitBySides bodyLabels bodies pieceLabels pieceCount sharedOf pieces bodyOf spans across? withoutStraddlers straddlersGone removeStraddlers reachLabels labelsAt membersOf reachOf opensWithoutConfetti meets leftOf keptSide bladeSides splitByBlade splitEnds nearCorners pinched splitFree splitPinched candidates cutFacets crossings nearEnd strapsAt strapShare insertionOf wanted? insertable sideAlong bends numbersOf bendsOver lightened between insertedParticles halfOf insertedEdges shortened appended insertedSides insertedMesh insertStep insertedAt snappedAt crossed unbent slackened splitSnapped afterCrossings cutSegments marksOf markedBy cutAlong cut largestStress stressBetween triangleLoad loadsOf family crossPairs currentOf currentPair beyond farSide meanLoad twoSided wayAt waysOf damagedAt torn crackBy crackPair crackEdge tornEnds crack start stepTo splitsOf changed sidesOk strictly particlesOk refusal tooSmall firstFault outcome cutCall crackCall splitCall straddlersCall bladeCall groupsCall restMeasureCall restMeasureOfCall opensCall piecesCall stateCall isNan neg add sub mul div lt le eq ne ofInt ofBits
 letter-parts = refl

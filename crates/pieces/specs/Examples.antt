@@ -26,7 +26,7 @@ toldOf (done M l c) = said l (length (M .particles)) (counts M)
 
 -- a particle that is pinned
 abbrev pub pinned : ℕ → Point → Particle
-pinned n p = record { x = p .x; y = p .y; rest-x = p .x; rest-y = p .y; mass = one; inv = zero32; root = n; damaged = 0 }
+pinned n p = record { x = p .x; y = p .y; rest-x = p .x; rest-y = p .y; mass = one; inv = zero32; velocity-x = zero32; velocity-y = zero32; root = n; damaged = 0 }
 
 -- the worked listing's mesh with other particles 0 and 2
 abbrev pub sheetWith : Particle → Particle → Mesh

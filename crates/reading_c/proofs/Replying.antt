@@ -15,7 +15,7 @@ use Rattle.blade.specs.declared.Hit.{Hit}
 use Rattle.blade.specs.declared.Point.{Point}
 use Rattle.blade.specs.Blade.{bladeHit}
 use Rattle.model.specs.Mesh.{Mesh}
-use Rattle.model.specs.Cut.{Blade}
+use Rattle.model.specs.Cut.{Line}
 use Rattle.model.specs.Elements.{restMeasure}
 use Rattle.model.specs.Pieces.{pieces}
 use Rattle.model.specs.Calls.{bladeOk, pointOk}
@@ -78,7 +78,7 @@ rooted-small RootRefused = omega arith
 pub root-small : (x : Float) (a : Number) → a ≡ numberOf (rootCall x) → SmallCode (numberReply a)
 root-small x a e = rw e (rw (number-code (rootCall x)) (rooted-small (rootOf x)))
 
-pub blade-small : (B : Blade) (p q : Point) (a : Tested) → a ≡ testedOf (bladeCall B p q) → SmallCode (testedReply a)
+pub blade-small : (B : Line) (p q : Point) (a : Tested) → a ≡ testedOf (bladeCall B p q) → SmallCode (testedReply a)
 unfolding bladeCall
 blade-small B p q a e =
     rw e (rw (tested-code (bladeCall B p q)) (or-small _ (bladeHit (B .from) (B .to) p q) (pick-small (bladeOk B && pointOk p && pointOk q) 0 2 (omega arith) (omega arith))))
@@ -103,7 +103,7 @@ pub blade-replied : (s : List ℕ) (b0 b1 p q : Point) (lent r : ℕ) (a : Teste
     → a ≡ testedOf (bladeCall (record { from = b0; to = b1 }) p q) → Replied (testedReply a) lent r out → Replied (bladeReply s) lent r out
 unfolding bladeReply
 blade-replied s b0 b1 p q lent r a out n e0 e1 ep eq ea h =
-    let B : Blade = record { from = pointAt s 0; to = pointAt s 2 } in
+    let B : Line = record { from = pointAt s 0; to = pointAt s 2 } in
     let f : a ≡ testedOf (bladeCall B (pointAt s 4) (pointAt s 6)) =
     ea ∙ ap (λ (z : Point). testedOf (bladeCall (record { from = z; to = b1 }) p q)) e0 ∙ ap (λ (z : Point). testedOf (bladeCall (record { from = pointAt s 0; to = z }) p q)) e1
     ∙ ap (λ (z : Point). testedOf (bladeCall B z q)) ep ∙ ap (λ (z : Point). testedOf (bladeCall B (pointAt s 4) z)) eq in

@@ -126,7 +126,7 @@ fn ask_loaded(q: Question, list: &[usize], bytes: &[u8], out: &mut [u8]) -> u32
     requires { ⌜ (imageSized (now bytes) ≡ true) × (length (now list) ≤ 2049) ⌝ }
     ensures { λ r. ⌜ Replied (questionReply q (now (bytes .entry)) (now (list .entry))) (length (now (out .entry))) r (now (out .exit)) ⌝ }
 {
-    let mut points = [0.0f32; 6144];
+    let mut points = [0.0f32; 1024 * mesh::POINT_COLUMNS];
     let mut roots = [0usize; 2048];
     let mut corners = [0usize; 3072];
     let mut volumes = [0.0f32; 2048];
@@ -137,7 +137,7 @@ fn ask_loaded(q: Question, list: &[usize], bytes: &[u8], out: &mut [u8]) -> u32
     let t = image::word_at(bytes, 1);
     let e = image::word_at(bytes, 2);
     let b = image::word_at(bytes, 3);
-    let p6 = 6 * p;
+    let p8 = mesh::POINT_COLUMNS * p;
     let p2 = 2 * p;
     let t3 = 3 * t;
     let t2 = 2 * t;
@@ -156,7 +156,7 @@ fn ask_loaded(q: Question, list: &[usize], bytes: &[u8], out: &mut [u8]) -> u32
     ask(
         q,
         list,
-        &points[..p6],
+        &points[..p8],
         &roots[..p2],
         &corners[..t3],
         &volumes[..t2],

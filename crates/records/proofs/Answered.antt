@@ -18,7 +18,7 @@ use Rattle.records.specs.declared.State.the-variants.{Refused, Told}
 
 -- the record that is read past the end of a list: as the model's particle it is the model's
 abbrev pub unused : Particle
-unused = record { x = zero32; y = zero32; «rest_x» = zero32; «rest_y» = zero32; mass = zero32; inv = zero32; root = 0; damaged = 0 }
+unused = record { x = zero32; y = zero32; «rest_x» = zero32; «rest_y» = zero32; mass = zero32; inv = zero32; «velocity_x» = zero32; «velocity_y» = zero32; root = 0; damaged = 0 }
 
 -- what a record tells
 abbrev pub toldBy : Particle → State

@@ -9,7 +9,19 @@ use Rattle.records.specs.declared.State.the-variants.{Refused, Told}
 
 -- a record as the model's particle: field by field
 abbrev pub particleOf : Particle → Model
-particleOf p = record { x = p .x; y = p .y; rest-x = p .«rest_x»; rest-y = p .«rest_y»; mass = p .mass; inv = p .inv; root = p .root; damaged = p .damaged }
+particleOf p =
+    record {
+      x = p .x;
+      y = p .y;
+      rest-x = p .«rest_x»;
+      rest-y = p .«rest_y»;
+      mass = p .mass;
+      inv = p .inv;
+      velocity-x = p .«velocity_x»;
+      velocity-y = p .«velocity_y»;
+      root = p .root;
+      damaged = p .damaged;
+    }
 
 -- a run of records as the model's particles, in order
 abbrev pub particlesOf : List Particle → List Model

@@ -6,7 +6,7 @@ ghost use Rattle.float.specs.Numbers.{zero32};
 ghost use Rattle.model.specs.Reads.{stateCall};
 ghost use Rattle.records.specs.State.{stateOf, particlesOf};
 
-// A particle as one record: position, rest position, mass, inverse mass (0 means pinned), root, damaged flag.
+// A particle as one record: position, rest position, mass, inverse mass (0 means pinned), velocity, root, damaged flag.
 pub struct Particle {
     pub x: f32,
     pub y: f32,
@@ -14,6 +14,8 @@ pub struct Particle {
     pub rest_y: f32,
     pub mass: f32,
     pub inv: f32,
+    pub velocity_x: f32,
+    pub velocity_y: f32,
     pub root: usize,
     pub damaged: usize,
 }

@@ -57,7 +57,7 @@ fn word(bytes: &[u8], i: usize) -> usize
         + 16777216 * wide(bytes[i + 3])
 }
 
-// The call of eleven words: its kind, a particle or a number, a minimum, how many bytes the image, the arguments, the rooms, the
+// The call of eleven words: its kind, a particle or a number, a minimum or an edition, how many bytes the image, the arguments, the rooms, the
 // expected result and the expected log have, the bytes lent for both, and the refusal.
 fn call_of(head: &[u8]) -> Call {
     let args = word(head, 12);
@@ -153,7 +153,7 @@ fn torn(
         return bench_c::tearing::bench_straddlers(image, rooms, out, log);
     }
     if kind == 9 {
-        return bench_c::cutting::bench_cut(image, args, v, rooms, out, log);
+        return bench_c::cutting::bench_cut(image, args, least, v, rooms, out, log);
     }
     if kind == 10 {
         return bench_c::cutting::bench_crack(image, args, least, rooms, out, log);
@@ -367,7 +367,7 @@ fn replay(bytes: &mut [u8], out: &mut [u8], log: &mut [u8]) {
 
 fn main() {
     let mut space = room();
-    let mut out = [0u8; 32880];
+    let mut out = [0u8; 41080];
     let mut log = [0u8; 1200];
     replay(&mut space, &mut out, &mut log);
 }

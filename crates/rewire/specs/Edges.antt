@@ -13,6 +13,7 @@ use Rattle.model.specs.Elements.{Kind, element?, held, cornersPer}
 use Rattle.model.specs.Split.{Opening, copyFor, moved, calm, stayed, doubled, straddles}
 use Rattle.mesh.specs.At.{edgesAt, trianglesAt}
 use Rattle.mesh.specs.Workers.{EdgeRoom, rowAt}
+use Rattle.mesh.specs.Widths.{pointColumns}
 use Rattle.opening.specs.Opened.{Ringed, RingRoom, CornersBelow, ringFrom, OpeningIn}
 use Rattle.work.specs.Rows.{GrownTo, Between}
 use Rattle.work.specs.declared.Grown.{Grown}
@@ -50,7 +51,7 @@ pub record CopiesGrown (e : Edge) (x from v before k n count m room : ℕ) (vert
 -- what edge i of m asks: one that is no element names particles that rest in the block
 pub record SettleRoom (K : Kind) (i v before k n count p m room : ℕ) (verts groups : List ℕ) (lp : ℕ) (ends : List ℕ) (lengths : List Float) : Type 0 where
   pub copy : CopyRoom before k n count m room (length verts) (length groups) (length ends) (length lengths)
-  pub rests : p ≤ lp / 6
+  pub rests : p ≤ lp / pointColumns
   pub v-in : v < p
   pub corners-in : CornersBelow p n k verts
   pub i-in : i < m
@@ -67,7 +68,7 @@ pub record EdgeSettled (K : Kind) (i v before k n count p m room : ℕ) (verts g
 -- what the first e edges ask: those that are no element name particles that rest in the block
 pub record EdgesRoom (K : Kind) (v before k n count p e room : ℕ) (verts groups : List ℕ) (lp : ℕ) (ends : List ℕ) (lengths : List Float) : Type 0 where
   pub copy : CopyRoom before k n count e room (length verts) (length groups) (length ends) (length lengths)
-  pub rests : p ≤ lp / 6
+  pub rests : p ≤ lp / pointColumns
   pub v-in : v < p
   pub corners-in : CornersBelow p n k verts
   pub ends-in : (j : ℕ) → j < e → element? K (rowAt ends lengths j) ≡ false → (rowAt ends lengths j .a < p) × (rowAt ends lengths j .b < p)

@@ -8,21 +8,23 @@ use Rattle.lists.specs.Lists.{mapAt}
 use Rattle.model.specs.Mesh.{Edge}
 use Rattle.model.specs.Split.{weighed, onlyAt}
 use Rattle.mesh.specs.At.{particlesAt, edgesAt}
+use Rattle.mesh.specs.Widths.{pointColumns}
 
 -- ---- particles
 
--- a copy of v for each group but the first has room behind the n particles, in blocks of lp and lr places, and each group has one of lw weights
-pub record CopyRoom (v n count lw lp lr : ℕ) : Type 0 where
+-- a copy of v for each group but the first has room behind the n particles, in blocks of lp and lr places, and each part of the fan has a group and a measure
+pub record CopyRoom (v n count parts lg lm lp lr : ℕ) : Type 0 where
   pub here : v < n
   pub two : 2 ≤ count
   pub few : count ≤ 2048
-  pub weighed-all : count ≤ lw
-  pub points : n + count - 1 ≤ lp / 6
+  pub groups-long : parts ≤ lg
+  pub measures-long : parts ≤ lm
+  pub points : n + count - 1 ≤ lp / pointColumns
   pub roots : n + count - 1 ≤ lr / 2
 
 -- v has mass m and inverse mass w, for any number of particles and whatever stands in the other block
 pub record Weighed (v : ℕ) (m w : Float) (points points′ : List Float) : Type 0 where
-  pub particles : (n : ℕ) (roots : List ℕ) → n ≤ length points / 6 → particlesAt n points′ roots ≡ mapAt (onlyAt v (weighed m w)) (particlesAt n points roots)
+  pub particles : (n : ℕ) (roots : List ℕ) → n ≤ length points / pointColumns → particlesAt n points′ roots ≡ mapAt (onlyAt v (weighed m w)) (particlesAt n points roots)
 
 -- ---- elements
 

@@ -2,29 +2,30 @@
 use Prim.Native.Nat.{ℕ, _+_, _-_, _/_, _<_, _≤_}
 use mathlib.Core.Path.{_≡_}
 use mathlib.Core.List.{List, map}
-use lib.ListN.{length, getD, take}
+use lib.ListN.{length, getD}
 use lib.Ieee.{Float}
-use Rattle.lists.specs.Lists.{upTo}
 use Rattle.model.specs.Mesh.{Mesh}
 use Rattle.model.specs.Elements.{Kind, Triangles, Straps}
-use Rattle.model.specs.Split.{Opening, weightOf, totalOf, copied, rewiredTriangles, rewiredStraps, otherEdges}
+use Rattle.model.specs.Split.{Opening, totalOf, copied, rewiredTriangles, rewiredStraps, otherEdges}
 use Rattle.mesh.specs.At.{particlesAt, trianglesAt, edgesAt}
-use Rattle.opening.specs.Opened.{Numbered, OpeningIn}
+use Rattle.opening.specs.Opened.{Weighted, Numbered, OpeningIn}
+use Rattle.opening.specs.Answers.{Grouped}
 use Rattle.work.specs.declared.Grown.{Grown}
 use Rattle.work.specs.Rows.{GrownTo}
 
 -- ---- 1: particles
 
--- an opening at v of so many groups, whose weights and total these are
-pub record WeightedBy (O : Opening) (v count : ℕ) (weights : List Float) (total : Float) : Type 0 where
+-- an opening at v of so many groups, whose parts' groups and measures these are, and whose total weight this is
+pub record WeightedBy (O : Opening) (v count parts : ℕ) (total : Float) (groups : List ℕ) (measures : List Float) : Type 0 where
   pub at : O .v ≡ v
-  pub groups : O .count ≡ count
-  pub weights-are : take count weights ≡ map (weightOf (O .fan)) (upTo count)
+  pub count-is : O .count ≡ count
+  pub grouped : Grouped O parts groups
+  pub weighted : Weighted O parts measures
   pub total-is : total ≡ totalOf O
 
 -- v has the mass of group 0 and the copies stand behind the n particles
-pub record ParticlesCopied (v n count : ℕ) (weights : List Float) (total : Float) (points points′ : List Float) (roots roots′ : List ℕ) : Type 0 where
-  pub particles : (O : Opening) → WeightedBy O v count weights total → particlesAt (n + count - 1) points′ roots′ ≡ copied O (particlesAt n points roots)
+pub record ParticlesCopied (v n count parts : ℕ) (total : Float) (groups : List ℕ) (measures points points′ : List Float) (roots roots′ : List ℕ) : Type 0 where
+  pub particles : (O : Opening) → WeightedBy O v count parts total groups measures → particlesAt (n + count - 1) points′ roots′ ≡ copied O (particlesAt n points roots)
 
 -- ---- 2: elements
 

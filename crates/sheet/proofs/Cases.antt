@@ -62,9 +62,9 @@ back = fin true 1 (pos 0)
 abbrev root32 : Float
 root32 = fin false 11863283 (negsuc 20)
 
--- a free particle at rest, of mass 1
+-- a free particle at rest, of mass 1 and velocity 0
 abbrev free : ℕ → Float → Float → Particle
-free k x y = record { x = x; y = y; rest-x = x; rest-y = y; mass = one; inv = one; root = k; damaged = 0 }
+free k x y = record { x = x; y = y; rest-x = x; rest-y = y; mass = one; inv = one; velocity-x = zero32; velocity-y = zero32; root = k; damaged = 0 }
 
 -- the worked sheet's mesh: rest volumes 8, rest lengths the rounded root of 32
 pub worked-mesh : meshOfSheet (sheetWith workedCounts (bitsOf worked)) ≡ record {

@@ -22,10 +22,21 @@ floatOf n = ofInt binary32 (coord n)
 unfoldable pub inverseOf : ℕ → Float
 inverseOf pinned = pick (eqb pinned 1) zero32 one
 
--- particle k from its fields: rest position equal to position, mass 1, own root
+-- particle k from its fields: rest position equal to position, mass 1, velocity 0, own root
 unfoldable pub particleFrom : ℕ → ℕ → ℕ → ℕ → Particle
 particleFrom k x y pinned =
-    record { x = floatOf x; y = floatOf y; rest-x = floatOf x; rest-y = floatOf y; mass = one; inv = inverseOf pinned; root = k; damaged = 0 }
+    record {
+      x = floatOf x;
+      y = floatOf y;
+      rest-x = floatOf x;
+      rest-y = floatOf y;
+      mass = one;
+      inv = inverseOf pinned;
+      velocity-x = zero32;
+      velocity-y = zero32;
+      root = k;
+      damaged = 0;
+    }
 
 -- half the absolute cross product
 unfoldable pub areaOf : Point → Point → Point → Float

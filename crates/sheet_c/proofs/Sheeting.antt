@@ -17,6 +17,7 @@ use Rattle.mesh.specs.At.{meshAt}
 use Rattle.mesh.specs.Given.{Lent}
 use Rattle.mesh.specs.Filled.{lent}
 use Rattle.mesh.specs.declared.Counts as M
+use Rattle.mesh.specs.Widths.{pointColumns, particleWords}
 use Rattle.filled.specs.Counts.{countsIn}
 use Rattle.filled.proofs.Held.{mesh-held}
 use Rattle.bits.specs.Bits.{bitsOf}
@@ -65,7 +66,7 @@ seen-few s c f e =
 
 -- the sizes of local blocks
 pub record Ample (L : Lent) : Type 0 where
-  pub points : L .points ≡ 6144
+  pub points : L .points ≡ 1024 * pointColumns
   pub roots : L .roots ≡ 2048
   pub corners : L .corners ≡ 3072
   pub volumes : L .volumes ≡ 2048
@@ -77,7 +78,7 @@ room-whole : (c : Counts) (f : Bool) (L : Lent) (nb : ℕ) → Few c → Ample L
 unfolding roomFor
 room-whole c f L nb F A four =
     rw
-    (le-leb (c .triangles) (L .corners / 3) (omega (arith, A .corners, F .triangles)), le-leb (c .triangles) (L .volumes / 2) (omega (arith, A .volumes, F .triangles)), le-leb 4 nb (omega arith), le-leb (c .particles) (L .points / 6) (omega (arith, A .points, F .particles)), le-leb (c .particles) (L .roots / 2) (omega (arith, A .roots, F .particles)), le-leb (c .edges) (L .ends / 4) (omega (arith, A .ends, F .edges)), le-leb (c .edges) (L .lengths / 4) (omega (arith, A .lengths, F .edges)), le-leb (c .boundary) (L .outline / 2) (omega (arith, A .outline, F .boundary)))
+    (le-leb (c .triangles) (L .corners / 3) (omega (arith, A .corners, F .triangles)), le-leb (c .triangles) (L .volumes / 2) (omega (arith, A .volumes, F .triangles)), le-leb 4 nb (omega arith), le-leb (c .particles) (L .points / pointColumns) (omega (arith, A .points, F .particles)), le-leb (c .particles) (L .roots / 2) (omega (arith, A .roots, F .particles)), le-leb (c .edges) (L .ends / 4) (omega (arith, A .ends, F .edges)), le-leb (c .edges) (L .lengths / 4) (omega (arith, A .lengths, F .edges)), le-leb (c .boundary) (L .outline / 2) (omega (arith, A .outline, F .boundary)))
     refl
 
 -- so a reader tells what a look does
@@ -221,23 +222,23 @@ module _ (s : List ℕ) (L : Lent) (r : Seen) (p : List Float) (q k : List ℕ) 
 
 module _ (first : ℕ) (c : Counts) (p : List Float) (q k : List ℕ) (v : List Float) (e : List ℕ) (l : List Float) (o : List ℕ) (b : List Float)
     (S : Storing c (length p) (length q) (length k) (length v) (length e) (length l) (length o) (length b)) where
-  blocks-long : length (blocksTold first c p q k v e l o b) ≡ 9 + 8 * c .particles + 5 * c .triangles + 8 * c .edges + 2 * c .boundary
+  blocks-long : length (blocksTold first c p q k v e l o b) ≡ 9 + particleWords * c .particles + 5 * c .triangles + 8 * c .edges + 2 * c .boundary
   blocks-long =
       let n = block-words-long (countsFor c) p q k v e l o (S .stands) in
       let m = length-append (first ∷ W.bitsIn b) (blockWords (countsFor c) p q k v e l o) in
       m ∙ omega (arith, n, bits-length b, S .four)
 
-  pub blocks-short : (lent′ x : ℕ) (out : List ℕ) → lent′ < 4 * (9 + 8 * c .particles + 5 * c .triangles + 8 * c .edges + 2 * c .boundary) → Replied (refused 4) lent′ x out
+  pub blocks-short : (lent′ x : ℕ) (out : List ℕ) → lent′ < 4 * (9 + particleWords * c .particles + 5 * c .triangles + 8 * c .edges + 2 * c .boundary) → Replied (refused 4) lent′ x out
       → Replied (value (blocksTold first c p q k v e l o b)) lent′ x out
   blocks-short lent′ x out h f = says-short (blocksTold first c p q k v e l o b) lent′ x out (omega (arith, blocks-long, h)) (f .code) (f .bytes)
 
-  pub blocks-storable : (bytes lent′ : ℕ) → bytes ≡ lent′ → 4 * (9 + 8 * c .particles + 5 * c .triangles + 8 * c .edges + 2 * c .boundary) ≤ lent′
+  pub blocks-storable : (bytes lent′ : ℕ) → bytes ≡ lent′ → 4 * (9 + particleWords * c .particles + 5 * c .triangles + 8 * c .edges + 2 * c .boundary) ≤ lent′
       → Storable (countsFor c) (length p) (length q) (length k) (length v) (length e) (length l) (length o) 5 bytes
   blocks-storable bytes lent′ same room =
       let T = S .stands in
       record { points = T .points; roots = T .roots; corners = T .corners; volumes = T .volumes; ends = T .ends; lengths = T .lengths; outline = T .outline; room = omega (arith, same, room) }
 
-  pub blocks-replied : (lent′ x : ℕ) (out₁ out₂ out : List ℕ) → 4 * (9 + 8 * c .particles + 5 * c .triangles + 8 * c .edges + 2 * c .boundary) ≤ lent′
+  pub blocks-replied : (lent′ x : ℕ) (out₁ out₂ out : List ℕ) → 4 * (9 + particleWords * c .particles + 5 * c .triangles + 8 * c .edges + 2 * c .boundary) ≤ lent′
       → out₁ ≡ written lent′ (first ∷ []) → out₂ ≡ putWords out₁ 1 (W.bitsIn b) → out ≡ putWords out₂ 5 (blockWords (countsFor c) p q k v e l o) → x ≡ 0
       → Replied (value (blocksTold first c p q k v e l o b)) lent′ x out
   blocks-replied lent′ x out₁ out₂ out room e₁ e₂ e₃ ex =

@@ -48,7 +48,14 @@ fn reply_blocks(
         boundary: c.boundary,
         log: 0,
     };
-    if out.len() < 4 * (9 + 8 * c.particles + 5 * c.triangles + 8 * c.edges + 2 * c.boundary) {
+    if out.len()
+        < 4
+            * (9
+                + mesh::PARTICLE_WORDS * c.particles
+                + 5 * c.triangles
+                + 8 * c.edges
+                + 2 * c.boundary)
+    {
         return replies::reply_refused(4, out);
     }
     image::write_one(out, first);
@@ -72,7 +79,7 @@ fn reply_blocks(
 pub fn read_sheet(bytes: &[u8], out: &mut [u8]) -> u32
     ensures { λ r. ⌜ Replied (sheetReply (now (bytes .entry))) (length (now (out .entry))) r (now (out .exit)) ⌝ }
 {
-    let mut points = [0.0f32; 6144];
+    let mut points = [0.0f32; 1024 * mesh::POINT_COLUMNS];
     let mut roots = [0usize; 2048];
     let mut corners = [0usize; 3072];
     let mut volumes = [0.0f32; 2048];

@@ -27,6 +27,7 @@ use Rattle.mesh.specs.Log.{World, worldAt, logAt}
 use Rattle.mesh.specs.Given.{Lent}
 use Rattle.mesh.specs.Filled.{Filled}
 use Rattle.mesh.specs.declared.Counts as M
+use Rattle.mesh.specs.Widths.{pointColumns}
 use Rattle.sheet.proofs.PutLaws.{both}
 use Rattle.sheet.proofs.MeshReads.{read-tab}
 use Rattle.sheet_rows.proofs.RowReads.{two-named, three-named}
@@ -71,7 +72,7 @@ ok-at three p l at st (suc n) e (suc k) h =
 pub place-same : (n : ℕ) (P : List Float) (R : List ℕ) (ps : List Particle) → particlesAt n P R ≡ ps → (k : ℕ) → k < n → pointIn P k ≡ placeIn ps k
 unfolding particlesAt
 place-same n P R ps e k h =
-    ap at (sym (tab-at n (particleRow (length P / 6) (length R / 2) P R) k blank h)) ∙ ap (λ (q : List Particle). placeIn q k) e
+    ap at (sym (tab-at n (particleRow (length P / pointColumns) (length R / 2) P R) k blank h)) ∙ ap (λ (q : List Particle). placeIn q k) e
 
 module _ (n : ℕ) (f g : ℕ → Point) (same : (k : ℕ) → k < n → f k ≡ g k) where
   -- triangles from places that agree

@@ -10,7 +10,9 @@ use Rattle.columns.specs.Block.{cell}
 use Rattle.columns.proofs.Rows.{rows-push}
 use Rattle.columns.proofs.Cells.{col-fits, store-same, store-row, store-col}
 use Rattle.float.specs.Numbers.{zero32, one}
-use Rattle.mesh.specs.At.{particlesAt, trianglesAt, boundaryAt}
+use Rattle.mesh.specs.At.{particleBy, particlesAt, trianglesAt, boundaryAt}
+use Rattle.mesh.specs.Widths.{pointColumns}
+use Rattle.mesh.proofs.Columns.{by-columns}
 use Rattle.blade.specs.declared.Point.{Point}
 use Rattle.sheet.specs.Read.{floatOf, inverseOf, areaOf, particleFrom, triangleFrom}
 
@@ -58,47 +60,24 @@ module _ {A : Type 0} (d : A) (R n : ℕ) (h : n < R) where
       let f : 0 + length vs ≡ length vs = omega arith in
       rw e at (put-new s 0 vs (rw f room) i g)
 
--- the particles with one more behind them
+-- the particles with one more behind them, of a value for each column of points
 pub particle-pushed :
-    (n : ℕ) (x y w : Float) (S : List Float) (T : List ℕ) → n + 1 ≤ length S / 6 → n + 1 ≤ length T / 2
-    → particlesAt (n + 1) (putCols (length S / 6) n S 0 (x ∷ y ∷ x ∷ y ∷ one ∷ w ∷ [])) (putCols (length T / 2) n T 0 (n ∷ 0 ∷ []))
-    ≡ particlesAt n S T ++ (record { x = x; y = y; rest-x = x; rest-y = y; mass = one; inv = w; root = n; damaged = 0 } ∷ [])
+    (n : ℕ) (vs : List Float) (S : List Float) (T : List ℕ) → length vs ≡ pointColumns → n + 1 ≤ length S / pointColumns → n + 1 ≤ length T / 2
+    → particlesAt (n + 1) (putCols (length S / pointColumns) n S 0 vs) (putCols (length T / 2) n T 0 (n ∷ 0 ∷ [])) ≡ particlesAt n S T ++ (particleBy (λ c. getD vs c nan) n 0 ∷ [])
 unfolding particlesAt
-particle-pushed n x y w S T hs ht =
-    let vs = x ∷ y ∷ x ∷ y ∷ one ∷ w ∷ [] in
+particle-pushed n vs S T e hs ht =
     let us : List ℕ = n ∷ 0 ∷ [] in
-    let P = length S / 6 in
+    let P = length S / pointColumns in
     let R = length T / 2 in
     let p : n < P = omega arith in
     let r : n < R = omega arith in
-    let new = put-at nan P n p S vs (omega arith) in
-    let old = put-old nan P n p S 0 vs in
+    let room : length vs * P ≤ length S = rw e (omega arith) in
     let new′ = put-at 0 R n r T us (omega arith) in
     let old′ = put-old 0 R n r T 0 us in
     rw (put-long nan P n p S 0 vs, put-long 0 R n r T 0 us)
     (rows-push n _ _ _
-    (λ k h i.
-    record {
-      x = old 0 k h i;
-      y = old 1 k h i;
-      rest-x = old 2 k h i;
-      rest-y = old 3 k h i;
-      mass = old 4 k h i;
-      inv = old 5 k h i;
-      root = old′ 0 k h i;
-      damaged = old′ 1 k h i;
-    })
-    (λ i.
-    record {
-      x = new 0 (omega arith) i;
-      y = new 1 (omega arith) i;
-      rest-x = new 2 (omega arith) i;
-      rest-y = new 3 (omega arith) i;
-      mass = new 4 (omega arith) i;
-      inv = new 5 (omega arith) i;
-      root = new′ 0 (omega arith) i;
-      damaged = new′ 1 (omega arith) i;
-    }))
+    (λ k h. by-columns _ (λ c. cell nan P S c k) _ _ _ _ (λ c _. put-old nan P n p S 0 vs c k h) (old′ 0 k h) (old′ 1 k h))
+    (by-columns _ (λ c. getD vs c nan) _ _ _ _ (λ c h. put-at nan P n p S vs room c (rw e h)) (new′ 0 (omega arith)) (new′ 1 (omega arith))))
 
 -- the triangles with one more behind them
 pub triangle-pushed :
@@ -144,15 +123,17 @@ pub second-place : (R n : ℕ) → 1 * R + n ≡ R + n
 second-place R n = omega arith
 
 pub particle-put :
-    (n x y z : ℕ) (fx fy w : Float) (S : List Float) (T : List ℕ) → fx ≡ floatOf x → fy ≡ floatOf y → w ≡ inverseOf z → n + 1 ≤ length S / 6 → n + 1 ≤ length T / 2
+    (n x y z : ℕ) (fx fy w : Float) (S : List Float) (T : List ℕ) → fx ≡ floatOf x → fy ≡ floatOf y → w ≡ inverseOf z → n + 1 ≤ length S / pointColumns → n + 1 ≤ length T / 2
     → particlesAt (n + 1)
-    (set (set (set (set (set (set S n fx) (length S / 6 + n) fy) (2 * (length S / 6) + n) fx) (3 * (length S / 6) + n) fy) (4 * (length S / 6) + n) one) (5 * (length S / 6) + n) w)
+    (set (set
+    (set (set (set (set (set (set S n fx) (length S / pointColumns + n) fy) (2 * (length S / pointColumns) + n) fx) (3 * (length S / pointColumns) + n) fy) (4 * (length S / pointColumns) + n) one) (5 * (length S / pointColumns) + n) w)
+    (6 * (length S / pointColumns) + n) zero32) (7 * (length S / pointColumns) + n) zero32)
     (set (set T n n) (length T / 2 + n) 0)
     ≡ particlesAt n S T ++ (particleFrom n x y z ∷ [])
 unfolding putCols particleFrom
 particle-put n x y z fx fy w S T ex ey ew hs ht =
     rw (← ex, ← ey, ← ew)
-    (simp (first-place (length S / 6) n, second-place (length S / 6) n, first-place (length T / 2) n, second-place (length T / 2) n) at (particle-pushed n fx fy w S T hs ht))
+    (simp (first-place (length S / pointColumns) n, second-place (length S / pointColumns) n, first-place (length T / 2) n, second-place (length T / 2) n) at (particle-pushed n (fx ∷ fy ∷ fx ∷ fy ∷ one ∷ w ∷ zero32 ∷ zero32 ∷ []) S T refl hs ht))
 
 pub triangle-put :
     (place : ℕ → Point) (n a b c : ℕ) (v : Float) (S : List ℕ) (T : List Float) → v ≡ areaOf (place a) (place b) (place c) → n + 1 ≤ length S / 3 → n + 1 ≤ length T / 2

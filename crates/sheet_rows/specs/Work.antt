@@ -9,13 +9,14 @@ use Rattle.blade.specs.declared.Point.{Point}
 use Rattle.model.specs.Mesh.{Particle, Triangle, Edge, Side}
 use Rattle.columns.specs.Block.{cell}
 use Rattle.mesh.specs.Workers.{ParticleRoom, EdgeRoom}
+use Rattle.mesh.specs.Widths.{pointColumns}
 use Rattle.bits.specs.Bits.{bitsOf, fieldAt}
 use Rattle.sheet.specs.Read.{particleFrom, triangleFrom, edgeFrom, sideFrom}
 use Rattle.sheet.specs.Work.{okAt, RowsIn}
 
 -- where the particle in row k of the points stands
 abbrev pub pointIn : List Float → ℕ → Point
-pointIn points k = record { x = cell nan (length points / 6) points 0 k; y = cell nan (length points / 6) points 1 k }
+pointIn points k = record { x = cell nan (length points / pointColumns) points 0 k; y = cell nan (length points / pointColumns) points 1 k }
 
 -- particle k, by the places of its fields
 abbrev pub particleBits : List ℕ → ℕ → ℕ → Particle
@@ -46,9 +47,9 @@ pub record ParticleIn (x y n lp lr : ℕ) : Type 0 where
 
 -- three particles of the points, and room for a triangle more
 pub record TriangleIn (a b c lp n lc lv : ℕ) : Type 0 where
-  pub first : a < lp / 6
-  pub second : b < lp / 6
-  pub third : c < lp / 6
+  pub first : a < lp / pointColumns
+  pub second : b < lp / pointColumns
+  pub third : c < lp / pointColumns
   pub corners : n + 1 ≤ lc / 3
   pub volumes : n + 1 ≤ lv / 2
 
@@ -56,7 +57,7 @@ pub record TriangleIn (a b c lp n lc lv : ℕ) : Type 0 where
 pub record TrianglesIn (s : List ℕ) (at n p lp lc lv : ℕ) : Type 0 where
   pub rows : RowsIn s at 30 n
   pub names : okAt true p (bitsOf s) at 30 n ≡ true
-  pub points : p ≤ lp / 6
+  pub points : p ≤ lp / pointColumns
   pub corners : n ≤ lc / 3
   pub volumes : n ≤ lv / 2
 
@@ -64,7 +65,7 @@ pub record TrianglesIn (s : List ℕ) (at n p lp lc lv : ℕ) : Type 0 where
 pub record EdgesIn (s : List ℕ) (at n p lp le ll : ℕ) : Type 0 where
   pub rows : RowsIn s at 21 n
   pub names : okAt false p (bitsOf s) at 21 n ≡ true
-  pub points : p ≤ lp / 6
+  pub points : p ≤ lp / pointColumns
   pub room : EdgeRoom n le ll
 
 -- n boundary entries' rows lie inside the bytes, and have room in the block

@@ -9,6 +9,7 @@ ghost use Rattle.lists.specs.Lists.{tab, padded};
 ghost use Rattle.float.specs.Numbers.{zero32};
 ghost use Rattle.mesh.specs.At.{particlesAt, trianglesAt, edgesAt, boundaryAt};
 ghost use Rattle.mesh.specs.Filled.{lent, Filled};
+ghost use Rattle.mesh.specs.Widths.{pointColumns};
 ghost use Rattle.blade.specs.Points.{minusOf, lengthOf};
 ghost use Rattle.bits.specs.Bits.{bitsOf, fieldAt};
 ghost use Rattle.sheet.specs.Sheet.{coord};
@@ -55,7 +56,7 @@ fn put_particle(
     requires { ⌜ ParticleIn x y n (length (now points)) (length (now roots)) ⌝ }
     ensures { λ _. ⌜ particlesAt (n + 1) (now (points .exit)) (now (roots .exit)) ≡ particlesAt n (now (points .entry)) (now (roots .entry)) ++ (particleFrom n x y pinned ∷ []) ⌝ }
 {
-    let p = points.len() / 6;
+    let p = points.len() / mesh::POINT_COLUMNS;
     let r = roots.len() / 2;
     let fx = float_of(x);
     let fy = float_of(y);
@@ -65,6 +66,8 @@ fn put_particle(
     points[3 * p + n] = fy;
     points[4 * p + n] = 1.0;
     points[5 * p + n] = inverse_of(pinned);
+    points[6 * p + n] = 0.0;
+    points[7 * p + n] = 0.0;
     roots[n] = n;
     roots[r + n] = 0;
 }
@@ -88,12 +91,12 @@ pub fn read_particles(s: &[u8], at: usize, n: usize, points: &mut [f32], roots: 
 
 // Where a particle of the points stands.
 fn place(points: &[f32], k: usize) -> Point
-    requires { ⌜ k < length (now points) / 6 ⌝ }
+    requires { ⌜ k < length (now points) / pointColumns ⌝ }
     ensures { λ r. ⌜ r ≡ pointIn (now (points .entry)) k ⌝ }
 {
     Point {
         x: points[k],
-        y: points[points.len() / 6 + k],
+        y: points[points.len() / mesh::POINT_COLUMNS + k],
     }
 }
 
@@ -153,7 +156,7 @@ pub fn read_triangles(
 
 // The rest length between two particles of the points.
 fn span(points: &[f32], a: usize, b: usize) -> f32
-    requires { ⌜ (a < length (now points) / 6) × (b < length (now points) / 6) ⌝ }
+    requires { ⌜ (a < length (now points) / pointColumns) × (b < length (now points) / pointColumns) ⌝ }
     ensures { λ r. ⌜ r ≡ lengthOf (minusOf (pointIn (now (points .entry)) b) (pointIn (now (points .entry)) a)) ⌝ }
 {
     blade::length(blade::minus(place(points, b), place(points, a)))

@@ -11,10 +11,11 @@ use Rattle.lists.proofs.Sifts.{and-true}
 use Rattle.model.specs.Mesh.{Mesh}
 use Rattle.model.specs.Valid.{rootOk, cornersOk, endsOk, sideOk, indicesFit}
 use Rattle.model.specs.Run.{Entry}
-use Rattle.model.specs.Cut.{Blade}
+use Rattle.model.specs.Cut.{Line}
 use Rattle.model.specs.Calls.{Outcome, refused, done, cutCall}
 use Rattle.model.proofs.Accepted.{cut-accepted}
 use Rattle.model.specs.Pieces.{pieces}
+use Rattle.mesh.specs.Widths.{pointColumns}
 use Rattle.mesh.specs.At.{trianglesAt, edgesAt}
 use Rattle.mesh.specs.Log.{wordsOf, worldOf, logAt}
 use Rattle.mesh.specs.Given.{Lent, roomsOf, asRooms}
@@ -60,7 +61,7 @@ indices-parts M e =
 
 -- the lengths of the lent blocks leave room for no more
 pub record Modest (L : Lent) : Type 0 where
-  pub points : L .points ≤ 1536
+  pub points : L .points ≤ 256 * pointColumns
   pub corners : L .corners ≤ 384
   pub ends : L .ends ≤ 2048
   pub log : L .log ≤ 3840
@@ -124,7 +125,7 @@ module _ (L : Lent) (p : List Float) (r c : List ℕ) (v : List Float) (e : List
 
 -- 256 particles, 128 triangles, 512 edges, 512 boundary entries and 640 log entries
 abbrev pub places : Lent
-places = record { points = 1536; roots = 512; corners = 384; volumes = 256; ends = 2048; lengths = 2048; outline = 1024; log = 3840 }
+places = record { points = 256 * pointColumns; roots = 512; corners = 384; volumes = 256; ends = 2048; lengths = 2048; outline = 1024; log = 3840 }
 
 places-modest : Modest places
 places-modest = record { points = omega arith; corners = omega arith; ends = omega arith; log = omega arith }
@@ -133,13 +134,13 @@ places-modest = record { points = omega arith; corners = omega arith; ends = ome
 places-rooms : asRooms (roomsOf places) ≡ rooms
 places-rooms = refl
 
-module _ (sized : Bool) (M : Mesh) (B : Blade) (f : Float) (a : Answer) (p : List Float) (r c : List ℕ) (v : List Float) (e : List ℕ) (l : List Float) (b g : List ℕ) (same : lent p r c v e l b g ≡ places)
-    (A : Answered (cutCall sized M B f (asRooms (roomsOf places))) places a p r c v e l b g) where
+module _ (sized : Bool) (M : Mesh) (B : Line) (f : Float) (a : Answer) (p : List Float) (r c : List ℕ) (v : List Float) (e : List ℕ) (l : List Float) (b g : List ℕ) (same : lent p r c v e l b g ≡ places)
+    (A : Answered (cutCall sized M 1 B f (asRooms (roomsOf places))) places a p r c v e l b g) where
   -- the answer of a cut can be listed
   pub cut-listable : Listable a c v e l (length g)
-  cut-listable = answered-listable places p r c v e l b g same (cutCall sized M B f (asRooms (roomsOf places))) a A places-modest (λ N log changed q. cut-accepted sized M B f (asRooms (roomsOf places)) N log changed q)
+  cut-listable = answered-listable places p r c v e l b g same (cutCall sized M 1 B f (asRooms (roomsOf places))) a A places-modest (λ N log changed q. cut-accepted sized M 1 B f (asRooms (roomsOf places)) N log changed q)
 
   -- and the text is what is printed for the cut
-  pub cut-text : (t : Bool) → f ≡ fraction → textOf t a c v e l g ≡ printed t (cutCall sized M B fraction rooms)
+  pub cut-text : (t : Bool) → f ≡ fraction → textOf t a c v e l g ≡ printed t (cutCall sized M 1 B fraction rooms)
   cut-text t q =
-      answered-text places p r c v e l b g same t (cutCall sized M B f (asRooms (roomsOf places))) a A ∙ ap (λ (x : Float). printed t (cutCall sized M B x (asRooms (roomsOf places)))) q
+      answered-text places p r c v e l b g same t (cutCall sized M 1 B f (asRooms (roomsOf places))) a A ∙ ap (λ (x : Float). printed t (cutCall sized M 1 B x (asRooms (roomsOf places)))) q

@@ -6,7 +6,7 @@ use mathlib.Core.List.{List}
 use lib.ListN.{length, getD}
 use lib.Ieee.{Float, nan}
 use Rattle.model.specs.Mesh.{Mesh}
-use Rattle.model.specs.Cut.{Blade}
+use Rattle.model.specs.Cut.{Line}
 use Rattle.model.specs.Calls.{Outcome, cutCall}
 use Rattle.mesh.specs.Given.{Lent, meshOf, sizesFit, roomsOf, asRooms}
 use Rattle.mesh.specs.Filled.{lent}
@@ -27,17 +27,17 @@ use Rattle.sheetcut.proofs.Reading.{seen-few, fronts-cut}
 
 -- ---- the cut of blocks
 
-module _ (sized : Bool) (M : Mesh) (B : Blade) (f : Float) (a : Answer) (L : Lent) (p : List Float) (r c : List ℕ) (v : List Float) (e : List ℕ) (l : List Float) (b g : List ℕ)
-    (A : Answered (cutCall sized M B f (asRooms (roomsOf L))) L a p r c v e l b g) (same : L ≡ places) (kept : lent p r c v e l b g ≡ L) where
-  answered-places : Answered (cutCall sized M B f (asRooms (roomsOf places))) places a p r c v e l b g
-  answered-places = subst (λ (x : Lent). Answered (cutCall sized M B f (asRooms (roomsOf x))) x a p r c v e l b g) same A
+module _ (sized : Bool) (M : Mesh) (B : Line) (f : Float) (a : Answer) (L : Lent) (p : List Float) (r c : List ℕ) (v : List Float) (e : List ℕ) (l : List Float) (b g : List ℕ)
+    (A : Answered (cutCall sized M 1 B f (asRooms (roomsOf L))) L a p r c v e l b g) (same : L ≡ places) (kept : lent p r c v e l b g ≡ L) where
+  answered-places : Answered (cutCall sized M 1 B f (asRooms (roomsOf places))) places a p r c v e l b g
+  answered-places = subst (λ (x : Lent). Answered (cutCall sized M 1 B f (asRooms (roomsOf x))) x a p r c v e l b g) same A
 
   -- the answer can be listed
   pub lent-listable : Listable a c v e l (length g)
   lent-listable = cut-listable sized M B f a p r c v e l b g (kept ∙ same) answered-places
 
   -- and the text is what is printed for the cut
-  pub lent-listed : (t : Bool) (n : ℕ) (s : List ℕ) (w : Written) → f ≡ fraction → Told (textOf t a c v e l g) n s w → Told (printed t (cutCall sized M B fraction rooms)) n s w
+  pub lent-listed : (t : Bool) (n : ℕ) (s : List ℕ) (w : Written) → f ≡ fraction → Told (textOf t a c v e l g) n s w → Told (printed t (cutCall sized M 1 B fraction rooms)) n s w
   lent-listed t n s w q W = subst (λ (x : List ℕ). Told x n s w) (cut-text sized M B f a p r c v e l b g (kept ∙ same) answered-places t q) W
 
 -- ---- the cut of a sheet
@@ -51,7 +51,7 @@ whole-cuttable s c f L blade seen A four =
 -- what was printed for the cut of the fronts is what is printed for the sheet
 pub fronts-listed :
     (s : List ℕ) (c : Counts) (P : List Float) (R C : List ℕ) (U : List Float) (E : List ℕ) (N : List Float) (O : List ℕ) (b : List Float) → FrontsRead s c P R C U E N O b → (f : Bool) (n : ℕ) (t : List ℕ) (w : Written)
-    → Told (printed f (cutCall (sizesFit (fronts c P R C U E N O)) (meshOf (fronts c P R C U E N O)) (record { from = record { x = getD b 0 nan; y = getD b 1 nan }; to = record { x = getD b 2 nan; y = getD b 3 nan } }) fraction rooms)) n t w
+    → Told (printed f (cutCall (sizesFit (fronts c P R C U E N O)) (meshOf (fronts c P R C U E N O)) 1 (record { from = record { x = getD b 0 nan; y = getD b 1 nan }; to = record { x = getD b 2 nan; y = getD b 3 nan } }) fraction rooms)) n t w
     → Told (printed f (cutOf (sheetOf (bitsOf s) .sheet))) n t w
 fronts-listed s c P R C U E N O b D f n t w W = subst (λ (o : Outcome). Told (printed f o) n t w) (fronts-cut s c P R C U E N O b D) W
 

@@ -20,6 +20,8 @@ use Rattle.mesh.specs.Log.{Words, World, logAt, wordList, wordsIn, worldAt}
 use Rattle.mesh.specs.Given.{Lent}
 use Rattle.mesh.specs.Filled.{Filled, Fits, pointOf, rootOf, cornerOf, volumeOf, endOf, lengthOf, sideOf, lent}
 use Rattle.mesh.specs.declared.Counts.{Counts}
+use Rattle.mesh.proofs.Columns.{by-columns}
+use Rattle.mesh.specs.Widths.{pointColumns}
 
 -- ---- one block
 
@@ -90,31 +92,22 @@ module _ {Row A : Type 0} (field : ℕ → Row → A) (rows : List Row) (z d : A
 
 -- ---- the lists of a mesh
 
-module _ (lp lr : ℕ) (ps : List Particle) (hp : length ps ≤ lp / 6) (hr : length ps ≤ lr / 2) where
+module _ (lp lr : ℕ) (ps : List Particle) (hp : length ps ≤ lp / pointColumns) (hr : length ps ≤ lr / 2) where
   -- the particles of blocks that are filled with them
   pub particles-filled :
-      (P : List Float) (R : List ℕ) → P ≡ blockOf lp 6 (lp / 6) zero32 (λ k. map (pointOf k) ps) → R ≡ blockOf lr 2 (lr / 2) 0 (λ k. map (rootOf k) ps) → particlesAt (length ps) P R ≡ ps
+      (P : List Float) (R : List ℕ) → P ≡ blockOf lp pointColumns (lp / pointColumns) zero32 (λ k. map (pointOf k) ps) → R ≡ blockOf lr 2 (lr / 2) 0 (λ k. map (rootOf k) ps) → particlesAt (length ps) P R ≡ ps
   unfolding particlesAt
   particles-filled P R ep er =
-      let lP : length P ≡ lp = ap length ep ∙ block-long pointOf ps zero32 nan lp 6 (lp / 6) hp (omega arith) in
+      let lP : length P ≡ lp = ap length ep ∙ block-long pointOf ps zero32 nan lp pointColumns (lp / pointColumns) hp (omega arith) in
       let lR : length R ≡ lr = ap length er ∙ block-long rootOf ps 0 0 lr 2 (lr / 2) hr (omega arith) in
-      let x : (c k : ℕ) → c < 6 → k < length ps → cell nan (lp / 6) P c k ≡ pointOf c (getD ps k blank)
-      = λ c k hc hk. ap (λ (s : List Float). cell nan (lp / 6) s c k) ep ∙ block-at pointOf ps zero32 nan lp 6 (lp / 6) hp (omega arith) blank c k hc hk in
+      let x : (c k : ℕ) → c < pointColumns → k < length ps → cell nan (lp / pointColumns) P c k ≡ pointOf c (getD ps k blank)
+      = λ c k hc hk. ap (λ (s : List Float). cell nan (lp / pointColumns) s c k) ep ∙ block-at pointOf ps zero32 nan lp pointColumns (lp / pointColumns) hp (omega arith) blank c k hc hk in
       let y : (c k : ℕ) → c < 2 → k < length ps → cell 0 (lr / 2) R c k ≡ rootOf c (getD ps k blank)
       = λ c k hc hk. ap (λ (s : List ℕ). cell 0 (lr / 2) s c k) er ∙ block-at rootOf ps 0 0 lr 2 (lr / 2) hr (omega arith) blank c k hc hk in
       rw (lP, lR)
       (tab-ext (length ps) _ (λ k. getD ps k blank)
-      (λ k h i.
-      record {
-        x = x 0 k (omega arith) h i;
-        y = x 1 k (omega arith) h i;
-        rest-x = x 2 k (omega arith) h i;
-        rest-y = x 3 k (omega arith) h i;
-        mass = x 4 k (omega arith) h i;
-        inv = x 5 k (omega arith) h i;
-        root = y 0 k (omega arith) h i;
-        damaged = y 1 k (omega arith) h i;
-      })
+      (λ k h.
+      by-columns _ (λ c. pointOf c (getD ps k blank)) _ _ _ _ (λ c q. x c k q h) (y 0 k (omega arith) h) (y 1 k (omega arith) h))
       ∙ tab-of ps blank)
 
 module _ (lc lv : ℕ) (ts : List Triangle) (hc : length ts ≤ lc / 3) (hv : length ts ≤ lv / 2) where
@@ -289,7 +282,7 @@ pub filled-fits :
     (W : World) (L : Lent) (p : List Float) (r c : List ℕ) (v : List Float) (e : List ℕ) (l : List Float) (o g : List ℕ) → Filled W L p r c v e l o g → lent p r c v e l o g ≡ L → Fits (countsIn W) L
 filled-fits W L p r c v e l o g F same =
     record {
-      points = omega (arith, block-few zero32 pointOf (W .mesh .particles) (L .points) 6 (L .points / 6) p (F .points) (ap (λ (x : Lent). x .points) same));
+      points = omega (arith, block-few zero32 pointOf (W .mesh .particles) (L .points) pointColumns (L .points / pointColumns) p (F .points) (ap (λ (x : Lent). x .points) same));
       roots = omega (arith, block-few 0 rootOf (W .mesh .particles) (L .roots) 2 (L .roots / 2) r (F .roots) (ap (λ (x : Lent). x .roots) same));
       corners = omega (arith, block-few 0 cornerOf (W .mesh .triangles) (L .corners) 3 (L .corners / 3) c (F .corners) (ap (λ (x : Lent). x .corners) same));
       volumes = omega (arith, block-few zero32 volumeOf (W .mesh .triangles) (L .volumes) 2 (L .volumes / 2) v (F .volumes) (ap (λ (x : Lent). x .volumes) same));

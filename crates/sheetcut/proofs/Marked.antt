@@ -8,8 +8,9 @@ use lib.ListN.{length}
 use Rattle.model.specs.Mesh.{Mesh}
 use Rattle.model.specs.Elements.{kindOf}
 use Rattle.model.specs.Run.{Entry, Rooms, Run, start, changed}
-use Rattle.model.specs.Cut.{Blade, marksOf, cutAlong, cut}
+use Rattle.model.specs.Cut.{Line, rounded, Blade, marksOf, cutAlong, cut}
 use Rattle.model.specs.Calls.{bladeOk, fractionOk, trianglesLent, refusal, firstFault, Outcome, refused, done, fitted, outcome, unless, cutCall}
+use Rattle.model.proofs.Whole.{edition-first}
 use Rattle.model.proofs.Kept.{unless-done, outcome-done}
 use Rattle.model.proofs.Marks.{marks-few, roomier, marks-fit, as-unmarked}
 use Rattle.mesh.specs.declared.Counts as M
@@ -26,9 +27,12 @@ use Rattle.sheetcut.proofs.Reading.{seen-few, mesh-counts}
 abbrev pub unmarkedRooms : Rooms
 unmarkedRooms = record { particles = 256; triangles = 128; edges = 512; boundary = 512; log = 256 }
 
--- the blade of a sheet
+-- the line of a sheet, and its blade, which cuts in edition 1
+abbrev pub lineIn : Sheet → Line
+lineIn S = bladeOf (bladeOfSheet S)
+
 abbrev pub bladeIn : Sheet → Blade
-bladeIn S = bladeOf (bladeOfSheet S)
+bladeIn S = record { line = lineIn S; rule = rounded }
 
 -- the run of the cut of a sheet that marks no crossings
 unfoldable pub unmarkedRun : Sheet → Run
@@ -37,7 +41,7 @@ unmarkedRun S = cutAlong (kindOf (meshOfSheet S)) (bladeIn S) fraction (start (m
 -- and its answer
 unfoldable pub unmarkedOf : Sheet → Outcome
 unmarkedOf S =
-    unless (refusal true (meshOfSheet S) (bladeOk (bladeIn S)) (fractionOk fraction && trianglesLent unmarkedRooms (meshOfSheet S))) (outcome unmarkedRooms (unmarkedRun S))
+    unless (refusal true (meshOfSheet S) (bladeOk (lineIn S)) (fractionOk fraction && trianglesLent unmarkedRooms (meshOfSheet S))) (outcome unmarkedRooms (unmarkedRun S))
 
 -- a sheet within the program's limits has at most 384 crossings
 pub sheet-marks : (s : List ℕ) (c : Counts) (f : Bool) → seenOf limits s ≡ Whole c f → let S = sheetOf (bitsOf s) .sheet in length (marksOf (kindOf (meshOfSheet S)) (bladeIn S) (meshOfSheet S)) ≤ 384
@@ -78,13 +82,13 @@ done-as-unmarked s c f M l b seen e =
     let S = sheetOf (bitsOf s) .sheet in
     let N = meshOfSheet S in
     let B = bladeIn S in
-    let n = refusal true N (bladeOk B) (fractionOk fraction && trianglesLent unmarkedRooms N) in
+    let n = refusal true N (bladeOk (lineIn S)) (fractionOk fraction && trianglesLent unmarkedRooms N) in
     let u = unless-done n (outcome unmarkedRooms (unmarkedRun S)) M l b e in
     let d = outcome-done unmarkedRooms (unmarkedRun S) M l b (u .1) in
     let z = no-fault (firstFault unmarkedRooms (unmarkedRun S .needs)) (unmarkedRun S) M l b (u .1) in
     let same = no-new-refusal s c f seen (λ h. let y : _≡_ {A = ℕ} 8 0 = sym h ∙ z in omega arith) ∙ z in
     let A = as-unmarked (kindOf N) B fraction N in
     let C = cut (kindOf N) B fraction (start N) in
-    ap (λ (n : ℕ). unless n (outcome rooms C)) (u .0)
+    ap (λ (n : ℕ). unless n (outcome rooms C)) (edition-first true N (lineIn S) fraction rooms ∙ u .0)
     ∙ ap (λ (n : ℕ). fitted n C) same
     ∙ done-path (A .mesh ∙ d .0) (A .log ∙ ap (λ (k : List Entry). marksOf (kindOf N) B N ++ k) (d .1)) (A .changed ∙ d .2)

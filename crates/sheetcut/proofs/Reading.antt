@@ -14,13 +14,14 @@ use Rattle.lists.proofs.Sifts.{true-and}
 use Rattle.lists.proofs.Rows.{length-mapAt}
 use Rattle.float.specs.Numbers.{zero32}
 use Rattle.blade.specs.declared.Point.{Point}
-use Rattle.model.specs.Cut.{Blade}
+use Rattle.model.specs.Cut.{Line}
 use Rattle.model.specs.Calls.{cutCall}
 use Rattle.mesh.specs.At.{meshAt}
 use Rattle.mesh.specs.Log.{World}
 use Rattle.mesh.specs.Given.{Given, Lent, given, sizes, meshOf, listFits, lengthsFit, sizesFit}
 use Rattle.mesh.specs.Filled.{Filled, Fits, pointOf, rootOf, cornerOf, volumeOf, endOf, lengthOf, sideOf, lent}
 use Rattle.mesh.specs.declared.Counts as M
+use Rattle.mesh.specs.Widths.{pointColumns}
 use Rattle.bits.specs.Bits.{bitsOf, fieldAt}
 use Rattle.bits.proofs.RowLaws.{length-read}
 use Rattle.sheet.specs.Sheet.{Sheet, sheetWith, above, tooMany, countsAt, namesOK, particleW, triangleW, edgeW, atTriangles, atEdges, atBlade}
@@ -136,7 +137,7 @@ list-fits limit overA a overB b p q e h = true-and (true-and (true-and (eq-eqb o
 exact-sizes : (c : Counts) (L : Lent) → Few c → Exact c L → lengthsFit (L .points) (L .roots) (L .corners) (L .volumes) (L .ends) (L .lengths) (L .outline) ≡ true
 unfolding lengthsFit
 exact-sizes c L F X =
-    let p = list-fits 1024 (L .points % 6) (L .points / 6) (L .roots % 2) (L .roots / 2) (omega (arith, X .points)) (omega (arith, X .roots)) (omega (arith, X .points, X .roots)) (omega (arith, X .points, F .particles)) in
+    let p = list-fits 1024 (L .points % pointColumns) (L .points / pointColumns) (L .roots % 2) (L .roots / 2) (omega (arith, X .points)) (omega (arith, X .roots)) (omega (arith, X .points, X .roots)) (omega (arith, X .points, F .particles)) in
     let t = list-fits 1024 (L .corners % 3) (L .corners / 3) (L .volumes % 2) (L .volumes / 2) (omega (arith, X .corners)) (omega (arith, X .volumes)) (omega (arith, X .corners, X .volumes)) (omega (arith, X .corners, F .triangles)) in
     let e = list-fits 2048 (L .ends % 4) (L .ends / 4) (L .lengths % 4) (L .lengths / 4) (omega (arith, X .ends)) (omega (arith, X .lengths)) (omega (arith, X .ends, X .lengths)) (omega (arith, X .ends, F .edges)) in
     let o = list-fits 2048 (L .outline % 2) (L .outline / 2) 0 (L .outline / 2) (omega (arith, X .outline)) refl refl (omega (arith, X .outline, F .boundary)) in
@@ -147,7 +148,7 @@ exact-room : (c : Counts) (f : Bool) (L : Lent) (nb : ℕ) → Exact c L → nb 
 unfolding roomFor
 exact-room c f L nb X four =
     rw
-    (le-leb (c .triangles) (L .corners / 3) (omega (arith, X .corners)), le-leb (c .triangles) (L .volumes / 2) (omega (arith, X .volumes)), le-leb 4 nb (omega arith), le-leb (c .particles) (L .points / 6) (omega (arith, X .points)), le-leb (c .particles) (L .roots / 2) (omega (arith, X .roots)), le-leb (c .edges) (L .ends / 4) (omega (arith, X .ends)), le-leb (c .edges) (L .lengths / 4) (omega (arith, X .lengths)), le-leb (c .boundary) (L .outline / 2) (omega (arith, X .outline)))
+    (le-leb (c .triangles) (L .corners / 3) (omega (arith, X .corners)), le-leb (c .triangles) (L .volumes / 2) (omega (arith, X .volumes)), le-leb 4 nb (omega arith), le-leb (c .particles) (L .points / pointColumns) (omega (arith, X .points)), le-leb (c .particles) (L .roots / 2) (omega (arith, X .roots)), le-leb (c .edges) (L .ends / 4) (omega (arith, X .ends)), le-leb (c .edges) (L .lengths / 4) (omega (arith, X .lengths)), le-leb (c .boundary) (L .outline / 2) (omega (arith, X .outline)))
     refl
 
 exact-fits : (c : Counts) (L : Lent) → Exact c L → Fits (countsFor c) L
@@ -185,10 +186,10 @@ front-long n l front e = omega (arith, length-append front (drop n l), length-dr
 -- fronts of ample blocks are exact
 pub exact-fronts :
     (c : Counts) (P : List Float) (R C : List ℕ) (U : List Float) (E : List ℕ) (N : List Float) (O G : List ℕ) → Few c → Ample (lent P R C U E N O [])
-    → Exact c (lent (take (6 * c .particles) P) (take (2 * c .particles) R) (take (3 * c .triangles) C) (take (2 * c .triangles) U) (take (4 * c .edges) E) (take (4 * c .edges) N) (take (2 * c .boundary) O) G)
+    → Exact c (lent (take (pointColumns * c .particles) P) (take (2 * c .particles) R) (take (3 * c .triangles) C) (take (2 * c .triangles) U) (take (4 * c .edges) E) (take (4 * c .edges) N) (take (2 * c .boundary) O) G)
 exact-fronts c P R C U E N O G F A =
     record {
-      points = length-take-le (6 * c .particles) P (omega (arith, F .particles, A .points));
+      points = length-take-le (pointColumns * c .particles) P (omega (arith, F .particles, A .points));
       roots = length-take-le (2 * c .particles) R (omega (arith, F .particles, A .roots));
       corners = length-take-le (3 * c .triangles) C (omega (arith, F .triangles, A .corners));
       volumes = length-take-le (2 * c .triangles) U (omega (arith, F .triangles, A .volumes));
@@ -225,7 +226,7 @@ module _ (s : List ℕ) (c : Counts) (L : Lent) (r : Seen) (P : List Float) (R C
       let H = read-fits in
       λ i.
       record {
-        points = (ap length (F .points) ∙ block-long pointOf (W .mesh .particles) zero32 nan (L .points) 6 (L .points / 6) (H .points) (omega arith)) i;
+        points = (ap length (F .points) ∙ block-long pointOf (W .mesh .particles) zero32 nan (L .points) pointColumns (L .points / pointColumns) (H .points) (omega arith)) i;
         roots = (ap length (F .roots) ∙ block-long rootOf (W .mesh .particles) 0 0 (L .roots) 2 (L .roots / 2) (H .roots) (omega arith)) i;
         corners = (ap length (F .corners) ∙ block-long cornerOf (W .mesh .triangles) 0 0 (L .corners) 3 (L .corners / 3) (H .corners) (omega arith)) i;
         volumes = (ap length (F .volumes) ∙ block-long volumeOf (W .mesh .triangles) zero32 nan (L .volumes) 2 (L .volumes / 2) (H .volumes) (omega arith)) i;
@@ -247,7 +248,7 @@ module _ (s : List ℕ) (c : Counts) (L : Lent) (r : Seen) (P : List Float) (R C
   unfolding lengths-are
   read-sizes =
       let Y = exact-still in
-      let p : length P / 6 ≡ c .particles = omega (arith, Y .points) in
+      let p : length P / pointColumns ≡ c .particles = omega (arith, Y .points) in
       let t : length C / 3 ≡ c .triangles = omega (arith, Y .corners) in
       let e : length E / 4 ≡ c .edges = omega (arith, Y .ends) in
       let o : length O / 2 ≡ c .boundary = omega (arith, Y .outline) in
@@ -274,22 +275,22 @@ module _ (s : List ℕ) (c : Counts) (L : Lent) (r : Seen) (P : List Float) (R C
     fronts-are =
         let Y = exact-still in
         λ i.
-        given (take-at P tp (6 * c .particles) (Y .points) i) (take-at R tr (2 * c .particles) (Y .roots) i) (take-at C tc (3 * c .triangles) (Y .corners) i) (take-at U tu (2 * c .triangles) (Y .volumes) i) (take-at E te (4 * c .edges) (Y .ends) i) (take-at N tn (4 * c .edges) (Y .lengths) i) (take-at O to (2 * c .boundary) (Y .outline) i)
+        given (take-at P tp (pointColumns * c .particles) (Y .points) i) (take-at R tr (2 * c .particles) (Y .roots) i) (take-at C tc (3 * c .triangles) (Y .corners) i) (take-at U tu (2 * c .triangles) (Y .volumes) i) (take-at E te (4 * c .edges) (Y .ends) i) (take-at N tn (4 * c .edges) (Y .lengths) i) (take-at O to (2 * c .boundary) (Y .outline) i)
 
     -- the fronts are the sheet's mesh, and the blade is the sheet's
     pub fronts-read : FrontsRead s c (P ++ tp) (R ++ tr) (C ++ tc) (U ++ tu) (E ++ te) (N ++ tn) (O ++ to) b′
     fronts-read = record { sized = ap (λ (x : Given). sizesFit x) fronts-are ∙ read-sized; mesh = ap meshOf fronts-are ∙ read-mesh; blade = read-blade }
 
 -- four numbers of a list, by their places
-four-at : (b : List Float) (x y z w : Float) → b ≡ x ∷ y ∷ z ∷ w ∷ [] → _≡_ {A = Blade} (record { from = record { x = getD b 0 nan; y = getD b 1 nan }; to = record { x = getD b 2 nan; y = getD b 3 nan } }) (bladeOf (x ∷ y ∷ z ∷ w ∷ []))
+four-at : (b : List Float) (x y z w : Float) → b ≡ x ∷ y ∷ z ∷ w ∷ [] → _≡_ {A = Line} (record { from = record { x = getD b 0 nan; y = getD b 1 nan }; to = record { x = getD b 2 nan; y = getD b 3 nan } }) (bladeOf (x ∷ y ∷ z ∷ w ∷ []))
 four-at b x y z w e = ap (λ (l : List Float). record { from = record { x = getD l 0 nan; y = getD l 1 nan }; to = record { x = getD l 2 nan; y = getD l 3 nan } }) e
 
 -- the cut of fronts that were read is the sheet's
 pub fronts-cut :
     (s : List ℕ) (c : Counts) (P : List Float) (R C : List ℕ) (U : List Float) (E : List ℕ) (N : List Float) (O : List ℕ) (b : List Float) → FrontsRead s c P R C U E N O b
-    → cutCall (sizesFit (fronts c P R C U E N O)) (meshOf (fronts c P R C U E N O)) (record { from = record { x = getD b 0 nan; y = getD b 1 nan }; to = record { x = getD b 2 nan; y = getD b 3 nan } }) fraction rooms
+    → cutCall (sizesFit (fronts c P R C U E N O)) (meshOf (fronts c P R C U E N O)) 1 (record { from = record { x = getD b 0 nan; y = getD b 1 nan }; to = record { x = getD b 2 nan; y = getD b 3 nan } }) fraction rooms
     ≡ cutOf (sheetOf (bitsOf s) .sheet)
 unfolding cutOf
 fronts-cut s c P R C U E N O b D =
     let e = four-at b _ _ _ _ (D .blade ∙ sym (blade-four (bitsOf s))) ∙ ap bladeOf (blade-four (bitsOf s)) in
-    λ i. cutCall (D .sized i) (D .mesh i) (e i) fraction rooms
+    λ i. cutCall (D .sized i) (D .mesh i) 1 (e i) fraction rooms

@@ -115,20 +115,20 @@ printed-as f (refused n) = refl
 printed-as f (done M l c) = refl
 
 -- with the rooms that the program lends: four sides met, split 4 0, edge 1 3, split 5 2; 6 particles, 2 pieces
-worked-cut : said (cutCall true listingMesh (blade (negsuc 0) (negsuc 0) (pos 5) (pos 5)) tenth rooms) ≡ told worked-log 6 2
+worked-cut : said (cutCall true listingMesh 1 (blade (negsuc 0) (negsuc 0) (pos 5) (pos 5)) tenth rooms) ≡ told worked-log 6 2
 unfolding any all sift siftAt find fold each pairs mapAt tab upTo rising distinct disjoint padded keep keptOf nth merged joinPair joinRow joinRows labelled absOf maxOf invOf finite? number? volume? notBelow0? floorRoot rootUnits signOf sumOf centroidOf lerpOf lengthOf bladeHit labelsOf numberOne numberSide numbered groupsOf countOf particleOk triangleOk edgeOk numbersFit named rootOk cornersOk endsOk sideOk indicesFit placeOf restOf besides sum kindBy kindOf trianglesFrom strapsFrom elementsOf held restMeasure restMeasureOf fanOf gridOf partsOf openingOf splits? made weightOf totalOf massOf portion copied groupAt rewiredTriangles rewiredStraps ring scoreOf scored toward edgeGroups stayed doubled otherEdges parted straddles sideGroup followed faceOn facetsAt crackFacets atLongest settled splitEntries goneEntries splitMade splitStep splitBySides sharedOf pieceLabels pieceCount pieces bodyLabels bodies bodyOf spans across? withoutStraddlers straddlersGone removeStraddlers reachLabels labelsAt membersOf reachOf opensWithoutConfetti meets leftOf keptSide bladeSides splitByBlade splitEnds nearCorners pinched splitFree splitPinched candidates cutFacets crossings nearEnd strapsAt strapShare insertionOf wanted? insertable sideAlong bends numbersOf bendsOver lightened between insertedParticles halfOf insertedEdges shortened appended insertedSides insertedMesh insertStep insertedAt snappedAt crossed unbent slackened splitSnapped afterCrossings cutSegments marksOf markedBy cutAlong cut largestStress stressBetween triangleLoad loadsOf family crossPairs currentOf currentPair beyond farSide meanLoad twoSided wayAt waysOf damagedAt torn crackBy crackPair crackEdge tornEnds crack start stepTo splitsOf changed sidesOk strictly particlesOk refusal tooSmall firstFault outcome cutCall crackCall splitCall straddlersCall bladeCall groupsCall restMeasureCall restMeasureOfCall opensCall piecesCall stateCall isNan neg add sub mul div lt le eq ne ofInt ofBits
 worked-cut = refl
 
 -- the same of the sheet
-sheet-cut : cutOf (sheetWith workedCounts (bitsOf worked)) ≡ cutCall true listingMesh (blade (negsuc 0) (negsuc 0) (pos 5) (pos 5)) tenth rooms
+sheet-cut : cutOf (sheetWith workedCounts (bitsOf worked)) ≡ cutCall true listingMesh 1 (blade (negsuc 0) (negsuc 0) (pos 5) (pos 5)) tenth rooms
 unfolding cutOf
-sheet-cut = λ i. cutCall true (mesh-listing i) (blade-listing i) (fraction-tenth i) rooms
+sheet-cut = λ i. cutCall true (mesh-listing i) 1 (blade-listing i) (fraction-tenth i) rooms
 
 -- what is printed of a sheet that is read as this one
 read-printed : (f : Bool) (S : Sheet) → S ≡ sheetWith workedCounts (bitsOf worked) → printed f (cutOf S) ≡ listingBytes f (map wordsOf worked-log) 6 2
 read-printed f S e =
     ap (λ (x : Sheet). printed f (cutOf x)) e
-    ∙ (ap (printed f) sheet-cut ∙ (printed-as f (cutCall true listingMesh (blade (negsuc 0) (negsuc 0) (pos 5) (pos 5)) tenth rooms) ∙ ap (printed-said f) worked-cut))
+    ∙ (ap (printed f) sheet-cut ∙ (printed-as f (cutCall true listingMesh 1 (blade (negsuc 0) (negsuc 0) (pos 5) (pos 5)) tenth rooms) ∙ ap (printed-said f) worked-cut))
 
 -- what the program prints for the worked sheet of 46 bytes
 pub worked-listed : listed worked ≡ worked-bytes

@@ -6,7 +6,7 @@ use lib.ListN.{length, getD}
 use lib.Ieee.{Float, binary32, ofBits}
 use Rattle.float.specs.Numbers.{zero32}
 use Rattle.model.specs.Run.{Rooms}
-use Rattle.model.specs.Cut.{Blade}
+use Rattle.model.specs.Cut.{Line}
 use Rattle.model.specs.Calls.{Outcome, refused, cutCall}
 use Rattle.bits.specs.Bits.{bitsOf}
 use Rattle.sheet.specs.Sheet.{Sheet}
@@ -32,12 +32,12 @@ unfoldable pub fraction : Float
 fraction = ofBits binary32 1036831949
 
 -- the blade of four numbers x0, y0, x1, y1
-abbrev pub bladeOf : List Float → Blade
+abbrev pub bladeOf : List Float → Line
 bladeOf l = record { from = record { x = getD l 0 zero32; y = getD l 1 zero32 }; to = record { x = getD l 2 zero32; y = getD l 3 zero32 } }
 
 -- the cut of a sheet: its mesh, its blade, the fraction and the rooms
 unfoldable pub cutOf : Sheet → Outcome
-cutOf s = cutCall true (meshOfSheet s) (bladeOf (bladeOfSheet s)) fraction rooms
+cutOf s = cutCall true (meshOfSheet s) 1 (bladeOf (bladeOfSheet s)) fraction rooms
 
 -- what a look at bytes comes to: the refusal of the sheet, or the cut of it as it is read, with the outline that it has then
 unfoldable pub cutSeen : Seen → List ℕ → Outcome

@@ -10,6 +10,7 @@ use Rattle.model.specs.Mesh.{Triangle, Edge}
 use Rattle.model.specs.Valid.{cornersOk, endsOk}
 use Rattle.model.specs.Elements.{structural?, kindBy, cornersPer}
 use Rattle.model.specs.Pieces.{pieceCount}
+use Rattle.mesh.specs.Widths.{pointColumns}
 use Rattle.mesh.specs.At.{trianglesAt, edgesAt}
 use Rattle.mesh.specs.Log.{logAt}
 use Rattle.mesh.specs.Given.{Given, Lent, given, meshOf, sizesFit}
@@ -55,7 +56,7 @@ textOf replaced (Done k changed) c v e l g = listingBytes replaced (logAt (k .lo
 
 -- blocks have places for the rows of a sheet with these counts, and none besides
 pub record Exact (c : S.Counts) (L : Lent) : Type 0 where
-  pub points : L .points ≡ 6 * c .particles
+  pub points : L .points ≡ pointColumns * c .particles
   pub roots : L .roots ≡ 2 * c .particles
   pub corners : L .corners ≡ 3 * c .triangles
   pub volumes : L .volumes ≡ 2 * c .triangles
@@ -65,7 +66,7 @@ pub record Exact (c : S.Counts) (L : Lent) : Type 0 where
 
 -- blocks of the sizes that the limits ask for
 pub record Ample (L : Lent) : Type 0 where
-  pub points : L .points ≡ 768
+  pub points : L .points ≡ 128 * pointColumns
   pub roots : L .roots ≡ 256
   pub corners : L .corners ≡ 384
   pub volumes : L .volumes ≡ 256
@@ -91,7 +92,7 @@ pub record Cuttable (c : S.Counts) (L : Lent) (blade : ℕ) : Type 0 where
 -- the fronts of blocks, exactly as long as the lists of a sheet with these counts need
 abbrev pub fronts : S.Counts → List Float → List ℕ → List ℕ → List Float → List ℕ → List Float → List ℕ → Given
 fronts c p r k v e l o =
-    given (take (6 * c .particles) p) (take (2 * c .particles) r) (take (3 * c .triangles) k) (take (2 * c .triangles) v) (take (4 * c .edges) e) (take (4 * c .edges) l) (take (2 * c .boundary) o)
+    given (take (pointColumns * c .particles) p) (take (2 * c .particles) r) (take (3 * c .triangles) k) (take (2 * c .triangles) v) (take (4 * c .edges) e) (take (4 * c .edges) l) (take (2 * c .boundary) o)
 
 -- the fronts are an input whose sizes fit and whose mesh is the sheet's; the blade is the sheet's
 pub record FrontsRead (s : List ℕ) (c : S.Counts) (p : List Float) (r k : List ℕ) (v : List Float) (e : List ℕ) (l : List Float) (o : List ℕ) (b : List Float) : Type 0 where

@@ -110,7 +110,7 @@ fn read_fronts(
     requires { ⌜ Roomy (now sheet) c (lent (now points) (now roots) (now corners) (now volumes) (now ends) (now lengths) (now outline) []) (length (now blade)) ⌝ }
     ensures { λ _. ⌜ FrontsRead (now (sheet .entry)) c (now (points .exit)) (now (roots .exit)) (now (corners .exit)) (now (volumes .exit)) (now (ends .exit)) (now (lengths .exit)) (now (outline .exit)) (now (blade .exit)) ⌝ }
 {
-    let p = 6 * c.particles;
+    let p = mesh::POINT_COLUMNS * c.particles;
     let r = 2 * c.particles;
     let t = 3 * c.triangles;
     let v = 2 * c.triangles;
@@ -146,9 +146,9 @@ fn list_blocks(
     outline: &[usize],
     out: &mut [u8],
 ) -> Written
-    ensures { λ r. ⌜ Told (printed replaced (cutCall (sizesFit (given (now (points .entry)) (now (roots .entry)) (now (corners .entry)) (now (volumes .entry)) (now (ends .entry)) (now (lengths .entry)) (now (outline .entry)))) (meshOf (given (now (points .entry)) (now (roots .entry)) (now (corners .entry)) (now (volumes .entry)) (now (ends .entry)) (now (lengths .entry)) (now (outline .entry)))) (record { from = b0; to = b1 }) tenth rooms)) (length (now (out .entry))) (now (out .exit)) r ⌝ }
+    ensures { λ r. ⌜ Told (printed replaced (cutCall (sizesFit (given (now (points .entry)) (now (roots .entry)) (now (corners .entry)) (now (volumes .entry)) (now (ends .entry)) (now (lengths .entry)) (now (outline .entry)))) (meshOf (given (now (points .entry)) (now (roots .entry)) (now (corners .entry)) (now (volumes .entry)) (now (ends .entry)) (now (lengths .entry)) (now (outline .entry)))) 1 (record { from = b0; to = b1 }) tenth rooms)) (length (now (out .entry))) (now (out .exit)) r ⌝ }
 {
-    let mut cut_points = [0.0f32; 1536];
+    let mut cut_points = [0.0f32; 256 * mesh::POINT_COLUMNS];
     let mut cut_roots = [0usize; 512];
     let mut cut_corners = [0usize; 384];
     let mut cut_volumes = [0.0f32; 256];
@@ -157,6 +157,7 @@ fn list_blocks(
     let mut cut_outline = [0usize; 1024];
     let mut log = [0u32; 3840];
     let a = bench::tearing::cut(
+        1,
         b0,
         b1,
         fraction(),
@@ -203,9 +204,9 @@ fn list_fronts(
     out: &mut [u8],
 ) -> Written
     requires { ⌜ Cuttable c (lent (now points) (now roots) (now corners) (now volumes) (now ends) (now lengths) (now outline) []) (length (now blade)) ⌝ }
-    ensures { λ r. ⌜ Told (printed replaced (cutCall (sizesFit (fronts c (now (points .entry)) (now (roots .entry)) (now (corners .entry)) (now (volumes .entry)) (now (ends .entry)) (now (lengths .entry)) (now (outline .entry)))) (meshOf (fronts c (now (points .entry)) (now (roots .entry)) (now (corners .entry)) (now (volumes .entry)) (now (ends .entry)) (now (lengths .entry)) (now (outline .entry)))) (record { from = record { x = getD (now (blade .entry)) 0 nan; y = getD (now (blade .entry)) 1 nan }; to = record { x = getD (now (blade .entry)) 2 nan; y = getD (now (blade .entry)) 3 nan } }) tenth rooms)) (length (now (out .entry))) (now (out .exit)) r ⌝ }
+    ensures { λ r. ⌜ Told (printed replaced (cutCall (sizesFit (fronts c (now (points .entry)) (now (roots .entry)) (now (corners .entry)) (now (volumes .entry)) (now (ends .entry)) (now (lengths .entry)) (now (outline .entry)))) (meshOf (fronts c (now (points .entry)) (now (roots .entry)) (now (corners .entry)) (now (volumes .entry)) (now (ends .entry)) (now (lengths .entry)) (now (outline .entry)))) 1 (record { from = record { x = getD (now (blade .entry)) 0 nan; y = getD (now (blade .entry)) 1 nan }; to = record { x = getD (now (blade .entry)) 2 nan; y = getD (now (blade .entry)) 3 nan } }) tenth rooms)) (length (now (out .entry))) (now (out .exit)) r ⌝ }
 {
-    let p = 6 * c.particles;
+    let p = mesh::POINT_COLUMNS * c.particles;
     let r = 2 * c.particles;
     let t = 3 * c.triangles;
     let v = 2 * c.triangles;
@@ -239,7 +240,7 @@ fn list_whole(sheet: &[u8], c: SheetCounts, replaced: bool, out: &mut [u8]) -> W
     requires { ⌜ seenOf most (now sheet) ≡ Whole c replaced ⌝ }
     ensures { λ r. ⌜ Told (printed replaced (cutOf (sheetOf (bitsOf (now (sheet .entry))) .sheet))) (length (now (out .entry))) (now (out .exit)) r ⌝ }
 {
-    let mut points = [0.0f32; 768];
+    let mut points = [0.0f32; 128 * mesh::POINT_COLUMNS];
     let mut roots = [0usize; 256];
     let mut corners = [0usize; 384];
     let mut volumes = [0.0f32; 256];

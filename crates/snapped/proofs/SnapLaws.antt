@@ -35,6 +35,7 @@ use Rattle.work.proofs.Placed.{particles-count}
 use Rattle.work.specs.declared.Ran.{Ran}
 use Rattle.work.specs.declared.Ran.the-variants.{Refused, Done}
 use Rattle.cut.specs.declared.facets.Parting.the-variants.{Blade as BladeFrom}
+use Rattle.marks.specs.declared.Rule.the-variants.{Rounded}
 use Rattle.marks.specs.Marking.{bladeFrom}
 use Rattle.cut.specs.Running.{sidesIn, splitIn, splitIf}
 use Rattle.snapped.specs.Snapping.{beyond, slackBeyond, SlackFrom, EdgesHere, snapIf}
@@ -161,7 +162,7 @@ module _ (B : Blade) (R : Run) (v : ℕ) (X : Indexed (R .mesh)) where
       by false e = slack-idle R X
 
 -- the same of a split that is made if v's mark is 1
-snap-is : (mark : ℕ) (b0 b1 : Point) (R : Run) (v : ℕ) → Indexed (R .mesh) → snapIf mark (bladeFrom b0 b1) R v ≡ slackRun (length (R .mesh .particles)) (splitIf mark (BladeFrom b0 b1) Straps R v)
+snap-is : (mark : ℕ) (b0 b1 : Point) (R : Run) (v : ℕ) → Indexed (R .mesh) → snapIf mark (bladeFrom b0 b1) R v ≡ slackRun (length (R .mesh .particles)) (splitIf mark (BladeFrom Rounded b0 b1) Straps R v)
 unfolding snapIf splitIf splitIn sidesIn
 snap-is mark b0 b1 R v X = by (eqb mark 1)
   where
@@ -170,10 +171,10 @@ snap-is mark b0 b1 R v X = by (eqb mark 1)
     by false = slack-idle R X
 
 -- the plain split keeps the indices
-plain-indexed : (mark : ℕ) (b0 b1 : Point) (R : Run) (v : ℕ) → Indexed (R .mesh) → Indexed (splitIf mark (BladeFrom b0 b1) Straps R v .mesh)
+plain-indexed : (mark : ℕ) (b0 b1 : Point) (R : Run) (v : ℕ) → Indexed (R .mesh) → Indexed (splitIf mark (BladeFrom Rounded b0 b1) Straps R v .mesh)
 unfolding splitIf splitIn
 plain-indexed mark b0 b1 R v X =
-    pick-by (λ (S : Run). Indexed (S .mesh)) (eqb mark 1) (sides-indexed Straps v (sidesIn (BladeFrom b0 b1) Straps (R .mesh) v) R X) X
+    pick-by (λ (S : Run). Indexed (S .mesh)) (eqb mark 1) (sides-indexed Straps v (sidesIn (BladeFrom Rounded b0 b1) Straps (R .mesh) v) R X) X
 
 -- it takes no particle away
 pub snapped-grown : (B : Blade) (R : Run) (v : ℕ) → length (R .mesh .particles) ≤ length (splitSnapped B R v .mesh .particles)
@@ -191,11 +192,11 @@ unfolding worldAt meshAt slackened slackBeyond
 slack-world from k points roots corners volumes ends lengths lengths′ outline log S =
     λ i. record { mesh = withEdges (meshAt k points roots corners volumes ends lengths outline) (S .edges i); log = worldAt k points roots corners volumes ends lengths outline log .log }
 
-module _ (mark : ℕ) (b0 b1 : Point) (v : ℕ) {L : Rooms} {W : World} {at : Counts → World} (r : Ran) (F : Works (λ (R : Run). splitIf mark (BladeFrom b0 b1) Straps R v) L W at r) where
+module _ (mark : ℕ) (b0 b1 : Point) (v : ℕ) {L : Rooms} {W : World} {at : Counts → World} (r : Ran) (F : Works (λ (R : Run). splitIf mark (BladeFrom Rounded b0 b1) Straps R v) L W at r) where
   -- the plain split came to k
   module _ (k : Counts) (known : r ≡ Done k) where
-    went-on : (R : Run) → W ≡ worldOf (R .mesh) (R .log) → firstFault (asRooms L) (R .needs) ≡ 0 → Went L (splitIf mark (BladeFrom b0 b1) Straps R v) at (Done k)
-    went-on R e z = subst (Went L (splitIf mark (BladeFrom b0 b1) Straps R v) at) known (F .went R e z)
+    went-on : (R : Run) → W ≡ worldOf (R .mesh) (R .log) → firstFault (asRooms L) (R .needs) ≡ 0 → Went L (splitIf mark (BladeFrom Rounded b0 b1) Straps R v) at (Done k)
+    went-on R e z = subst (Went L (splitIf mark (BladeFrom Rounded b0 b1) Straps R v) at) known (F .went R e z)
 
     pub snap-within : (l : List Entry) → W .log ≡ map wordsOf l → Within k L
     unfolding firstFault
@@ -203,11 +204,11 @@ module _ (mark : ℕ) (b0 b1 : Point) (v : ℕ) {L : Rooms} {W : World} {at : Co
 
   -- a run in the blocks, with slack edges
   module _ (fit : Indexed (W .mesh)) (R : Run) (held : W ≡ worldOf (R .mesh) (R .log)) where
-    snap-run : snapIf mark (bladeFrom b0 b1) R v ≡ slackRun (length (W .mesh .particles)) (splitIf mark (BladeFrom b0 b1) Straps R v)
+    snap-run : snapIf mark (bladeFrom b0 b1) R v ≡ slackRun (length (W .mesh .particles)) (splitIf mark (BladeFrom Rounded b0 b1) Straps R v)
     snap-run =
         let m = ap (λ (x : World). x .mesh) held in
         snap-is mark b0 b1 R v (subst Indexed m fit)
-        ∙ ap (λ (M : Mesh). slackRun (length (M .particles)) (splitIf mark (BladeFrom b0 b1) Straps R v)) (sym m)
+        ∙ ap (λ (M : Mesh). slackRun (length (M .particles)) (splitIf mark (BladeFrom Rounded b0 b1) Straps R v)) (sym m)
 
   pub snap-refused : {at′ : Counts → World} (c : ℕ) → r ≡ Refused c → Indexed (W .mesh) → Works (λ (R : Run). snapIf mark (bladeFrom b0 b1) R v) L W at′ r
   snap-refused {at′} c known fit =
@@ -215,7 +216,7 @@ module _ (mark : ℕ) (b0 b1 : Point) (v : ℕ) {L : Rooms} {W : World} {at : Co
       (record {
         went = λ R e z.
             subst (λ (S : Run). Went L S at′ (Refused c)) (sym (snap-run fit R e))
-            (subst (Went L (splitIf mark (BladeFrom b0 b1) Straps R v) at) known (F .went R e z));
+            (subst (Went L (splitIf mark (BladeFrom Rounded b0 b1) Straps R v) at) known (F .went R e z));
       })
 
   pub snap-done : {at′ : Counts → World} (k : Counts) → r ≡ Done k → Indexed (W .mesh) → at′ k ≡ slackWorld (length (W .mesh .particles)) (at k) → Works (λ (R : Run). snapIf mark (bladeFrom b0 b1) R v) L W at′ (Done k)
@@ -232,7 +233,7 @@ module _ (mark : ℕ) (b0 b1 : Point) (v : ℕ) {L : Rooms} {W : World} {at : Co
       record {
         went = λ R e z.
             let h = went-on k known R e z in
-            let S = splitIf mark (BladeFrom b0 b1) Straps R v in
+            let S = splitIf mark (BladeFrom Rounded b0 b1) Straps R v in
             let X = plain-indexed mark b0 b1 R v (subst Indexed (ap (λ (x : World). x .mesh) e) fit) in
             subst (λ (T : Run). Went L T at (Done k))
             (slack-idle S X ∙ ap (λ n. slackRun n S) (sym (ap (λ (x : World). length (x .mesh .particles)) (h .2)) ∙ same) ∙ sym (snap-run fit R e)) h;
@@ -248,7 +249,7 @@ module _ (mark : ℕ) (b0 b1 : Point) (v : ℕ) (k : Counts) (points : List Floa
   world = worldAt k points roots corners volumes ends lengths outline log
 
   abbrev plain : Run → Run
-  plain R = splitIf mark (BladeFrom b0 b1) Straps R v
+  plain R = splitIf mark (BladeFrom Rounded b0 b1) Straps R v
 
   abbrev slacked : Run → Run
   slacked R = snapIf mark (bladeFrom b0 b1) R v

@@ -16,6 +16,7 @@ use blade::Point;
 use cut::facets::Parting;
 use cut::facets::split_one;
 use elements::Kind;
+use marks::Rule;
 use mesh::Counts;
 use mesh::Rooms;
 use work::Ran;
@@ -84,7 +85,7 @@ pub fn split_snapped(
     let before = k.particles;
     let mut none = [0u16; 1];
     let ran = split_one(
-        Parting::Blade(b0, b1),
+        Parting::Blade(Rule::Rounded, b0, b1),
         Kind::Straps,
         v,
         mark,

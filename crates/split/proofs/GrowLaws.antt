@@ -21,9 +21,8 @@ use Rattle.mesh.specs.At.{particlesAt, edgesAt, boundaryAt, meshAt}
 use Rattle.mesh.specs.declared.Counts.{Counts}
 use Rattle.mesh.specs.declared.Rooms.{Rooms}
 use Rattle.opening.specs.Opened.{partAt, blankPart, RestsIn, OpeningIn}
-use Rattle.opening.specs.Answers.{WeightsAre}
 use Rattle.opening.proofs.Weights.{ringed-grouped}
-use Rattle.rewire.specs.Stages.{PartsBy, TrianglesRewired, StrapsRewired, ParticlesCopied, EdgesGrown}
+use Rattle.rewire.specs.Stages.{PartsBy, TrianglesRewired, StrapsRewired, EdgesGrown}
 use Rattle.work.specs.Rows.{GrownTo}
 use Rattle.rewire.specs.Particles.{PartsRoom}
 use Rattle.mesh.specs.Workers.{rowAt}
@@ -71,15 +70,6 @@ module _ {K : Kind} {v before n : ℕ} {numbers groups corners ends : List ℕ} 
   rewired-none e =
       subst (λ (k : Kind). ElementsRewired k v before n numbers groups corners corners ends ends) (sym e)
       (record { triangles = λ O t volumes P h. refl; edges = λ O m lengths P h. refl })
-
--- ---- masses
-
--- the weights shared v's mass
-pub shared-out :
-    {v before n count : ℕ} {groups : List ℕ} {measures weights points points′ : List Float} {roots roots′ : List ℕ} {total : Float} → WeightsAre n count groups measures weights total
-    → ParticlesCopied v before count weights total points points′ roots roots′ → SharedOut v before n count groups measures points points′ roots roots′
-shared-out W C =
-    record { particles = λ O at count-is G Q. C .particles O (record { at = at; groups = count-is; weights-are = W .are O G Q; total-is = W .total O G Q count-is }) }
 
 -- ---- the tables of a split
 

@@ -19,6 +19,7 @@ use Rattle.mesh.specs.Given.{asRooms}
 use Rattle.mesh.proofs.Lists.{log-length, mesh-path, world-path}
 use Rattle.mesh.specs.declared.Counts.{Counts}
 use Rattle.mesh.specs.declared.Rooms.{Rooms}
+use Rattle.mesh.specs.Widths.{pointColumns}
 use Rattle.opening.specs.Opened.{RestsIn}
 use Rattle.work.specs.Rows.{GrownTo}
 use Rattle.rewire.specs.Edges.{Straddling}
@@ -46,7 +47,7 @@ lacks-8 L N p e b g = rw (le-ltb (L .particles) (N .particles) p, le-ltb (L .edg
 
 -- tables that fit, with measures, meet what is asked
 pub settle-asked : (K : Kind) (L : Rooms) (k : Counts) (v before n count extra : ℕ) (numbers verts : List ℕ) (measures : List Float) (groups : List ℕ) (lp lc lv : ℕ) (ends : List ℕ) (ll : ℕ) (outline : List ℕ) (lg : ℕ)
-    → SettleRoom L k lc lv (length ends) ll (length outline) lg → k .particles ≡ before + count - 1 → k .particles ≤ lp / 6 → TablesFit K before (k .triangles) (k .edges) v n count numbers verts measures groups
+    → SettleRoom L k lc lv (length ends) ll (length outline) lg → k .particles ≡ before + count - 1 → k .particles ≤ lp / pointColumns → TablesFit K before (k .triangles) (k .edges) v n count numbers verts measures groups
     → EndsIn 1024 (k .edges) ends → SidesIn before (k .boundary) outline → extra ≤ 1 → SettleAsked K L k v before n count extra numbers verts groups lp lc lv ends ll outline lg
 settle-asked K L k v before n count extra numbers verts measures groups lp lc lv ends ll outline lg R q p T E S x =
     record {
@@ -97,7 +98,7 @@ module _ (K : Kind) (L : Rooms) (k : Counts) (v before n count extra : ℕ) (num
   -- particles rest as the points say
   rests : (roots : List ℕ) → RestsIn (W roots .mesh) before points
   unfolding worldAt meshAt particlesAt restOf
-  rests roots w h = ap restAt (tab-at (k .particles) (particleRow (length points / 6) (length roots / 2) points roots) w blank (omega (arith, A .copied-all, A .two)))
+  rests roots w h = ap restAt (tab-at (k .particles) (particleRow (length points / pointColumns) (length roots / 2) points roots) w blank (omega (arith, A .copied-all, A .two)))
 
   module _ (measures : List Float) (O : Opening) (roots : List ℕ) (S : Opens K O v before n count numbers verts measures groups) where
     split-of : Straddling K O (W roots .mesh) v before n count (k .triangles) (k .edges) verts groups corners volumes ends lengths

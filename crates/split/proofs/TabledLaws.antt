@@ -23,6 +23,7 @@ use Rattle.mesh.specs.Log.{World, worldAt}
 use Rattle.mesh.specs.Filled.{lent}
 use Rattle.mesh.specs.declared.Counts.{Counts}
 use Rattle.mesh.specs.declared.Rooms.{Rooms}
+use Rattle.mesh.specs.Widths.{pointColumns}
 use Rattle.elements.specs.Table.{Tabled}
 use Rattle.opening.specs.Opened.{openingBy}
 use Rattle.opening.proofs.Tables.{opening-is}
@@ -38,9 +39,9 @@ use Rattle.work.specs.declared.Ran.the-variants.{Done}
 
 -- the inverse mass of a particle, by its place
 pub inverse-at : (k : Counts) (points : List Float) (roots corners : List ℕ) (volumes : List Float) (ends : List ℕ) (lengths : List Float) (outline : List ℕ) (v : ℕ) → v < k .particles
-    → particle (meshAt k points roots corners volumes ends lengths outline) v .inv ≡ getD points (5 * (length points / 6) + v) nan
+    → particle (meshAt k points roots corners volumes ends lengths outline) v .inv ≡ getD points (5 * (length points / pointColumns) + v) nan
 unfolding meshAt particlesAt cell
-inverse-at k points roots corners volumes ends lengths outline v l = ap (λ (p : Particle). p .inv) (tab-at (k .particles) (particleRow (length points / 6) (length roots / 2) points roots) v blank l)
+inverse-at k points roots corners volumes ends lengths outline v l = ap (λ (p : Particle). p .inv) (tab-at (k .particles) (particleRow (length points / pointColumns) (length roots / 2) points roots) v blank l)
 
 module _ {K : Kind} {M : Mesh} {v n : ℕ} {numbers verts : List ℕ} {measures : List Float} {sides : List ℕ} (F : FanSided K M v n numbers verts measures sides) where
   -- what the grouping asks
@@ -111,10 +112,10 @@ module _ (K : Kind) (L : Rooms) (k : Counts) (points : List Float) (roots corner
   here-in = subst (λ (p : ℕ). v < p) (particles-count k points roots corners volumes ends lengths outline) (F .here)
 
   -- its inverse mass stands in the block
-  pub inverse-place : v < length points / 6
+  pub inverse-place : v < length points / pointColumns
   inverse-place = let h = here-in in let a = P .counts .particles in let b = P .rooms .points in omega arith
 
-  inverse-is : particle M v .inv ≡ getD points (5 * (length points / 6) + v) nan
+  inverse-is : particle M v .inv ≡ getD points (5 * (length points / pointColumns) + v) nan
   inverse-is = inverse-at k points roots corners volumes ends lengths outline v here-in
 
   mesh-is : (q : Counts) → at q .mesh ≡ meshAt q points roots corners volumes ends lengths outline
@@ -127,10 +128,10 @@ module _ (K : Kind) (L : Rooms) (k : Counts) (points : List Float) (roots corner
     pub few-stays : count < 2 → Works (splitBySides K v (take n sides)) L (at k) at (Done k)
     few-stays h = stays (splits-not F G h)
 
-    pub pinned-stays : (t : Bool) → t ≡ ne (getD points (5 * (length points / 6) + v) nan) zero32 → t ≡ false → Works (splitBySides K v (take n sides)) L (at k) at (Done k)
+    pub pinned-stays : (t : Bool) → t ≡ ne (getD points (5 * (length points / pointColumns) + v) nan) zero32 → t ≡ false → Works (splitBySides K v (take n sides)) L (at k) at (Done k)
     pinned-stays t u e = stays (splits-pinned F G (ap (λ (x : Float). ne x zero32) inverse-is ∙ sym u ∙ e))
 
-    pub split-works : 2 ≤ count → (t : Bool) → t ≡ ne (getD points (5 * (length points / 6) + v) nan) zero32 → t ≡ true → (at′ : Counts → World) (r : Ran)
+    pub split-works : 2 ≤ count → (t : Bool) → t ≡ ne (getD points (5 * (length points / pointColumns) + v) nan) zero32 → t ≡ true → (at′ : Counts → World) (r : Ran)
         → Stepped K (openedBy K M v n count groups) L 0 (at k) at′ r → Works (splitBySides K v (take n sides)) L (at k) at′ r
     split-works h t u e at′ r S =
         works-split K v (take n sides) (openedBy K M v n count groups) L (at k) at′ r

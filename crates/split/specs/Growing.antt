@@ -8,6 +8,7 @@ use Rattle.columns.specs.Block.{cell}
 use Rattle.model.specs.Elements.{Kind, Triangles, Straps}
 use Rattle.model.specs.Split.{Opening, copied, rewiredTriangles, rewiredStraps}
 use Rattle.mesh.specs.At.{particlesAt, trianglesAt, edgesAt}
+use Rattle.mesh.specs.Widths.{pointColumns}
 use Rattle.opening.specs.Opened.{Weighted}
 use Rattle.opening.specs.Answers.{Grouped}
 use Rattle.rewire.specs.Stages.{PartsBy}
@@ -42,7 +43,7 @@ pub record ShareRoom (v before n count lg lm lp lr : ℕ) : Type 0 where
   pub few : count ≤ 2048
   pub groups-long : n ≤ lg
   pub measures-long : n ≤ lm
-  pub points : before + count - 1 ≤ lp / 6
+  pub points : before + count - 1 ≤ lp / pointColumns
   pub roots : before + count - 1 ≤ lr / 2
 
 -- v has the mass of group 0, and the copies stand behind the particles

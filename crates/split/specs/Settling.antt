@@ -14,6 +14,7 @@ use Rattle.mesh.specs.Log.{World, Words, wordsOf, logAt}
 use Rattle.mesh.specs.Workers.{EdgeRoom}
 use Rattle.mesh.specs.declared.Counts.{Counts}
 use Rattle.mesh.specs.declared.Rooms.{Rooms}
+use Rattle.mesh.specs.Widths.{pointColumns}
 use Rattle.opening.specs.Opened.{Ringed, Numbered, RingRoom, RestsIn, CornersBelow}
 use Rattle.work.specs.Rows.{GrownTo}
 use Rattle.rewire.specs.Edges.{Straddling, StraddleRoom}
@@ -57,7 +58,7 @@ pub record FacetsTold (K : Kind) (v before n count b room : ℕ) (numbers verts 
 pub record BoundaryAsked (K : Kind) (v before n count b room : ℕ) (numbers verts groups : List ℕ) (lp lc : ℕ) (outline : List ℕ) : Type 0 where
   pub facets : FacetsAsked K before n count b room numbers (length verts) (length groups) lc (length outline)
   pub here : v < before
-  pub rests-in : before ≤ lp / 6
+  pub rests-in : before ≤ lp / pointColumns
   pub below : (i : ℕ) → i < n → getD groups i 0 < count
   pub corners-in : CornersBelow before n (cornersPer K) verts
   pub sides : SidesIn before b outline
@@ -138,7 +139,7 @@ pub record Dropped (K : Kind) (L : Rooms) (k : Counts) (v before n count extra r
 pub record SettleAsked (K : Kind) (L : Rooms) (k : Counts) (v before n count extra : ℕ) (numbers verts groups : List ℕ) (lp lc lv : ℕ) (ends : List ℕ) (ll : ℕ) (outline : List ℕ) (lg : ℕ) : Type 0 where
   pub room : SettleRoom L k lc lv (length ends) ll (length outline) lg
   pub copied-all : k .particles ≡ before + count - 1
-  pub points : k .particles ≤ lp / 6
+  pub points : k .particles ≤ lp / pointColumns
   pub here : v < before
   pub two : 2 ≤ count
   pub ring : RingRoom n (cornersPer K) (length verts) (length groups)

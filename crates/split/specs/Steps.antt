@@ -13,6 +13,7 @@ use Rattle.mesh.specs.Log.{World, wordsOf}
 use Rattle.mesh.specs.Given.{asRooms}
 use Rattle.mesh.specs.declared.Counts.{Counts}
 use Rattle.mesh.specs.declared.Rooms.{Rooms}
+use Rattle.mesh.specs.Widths.{pointColumns}
 use Rattle.work.specs.Working.{Within}
 use Rattle.split.specs.Tables.{Opens}
 use Rattle.work.specs.declared.Ran.{Ran}
@@ -26,7 +27,7 @@ use Rattle.split.specs.declared.Grew.the-variants.{Lacking, Longest}
 pub record GrowRoom (L : Rooms) (k : Counts) (lp lr lc le ll : ℕ) : Type 0 where
   pub particles : k .particles ≤ L .particles
   pub few-particles : L .particles ≤ 1024
-  pub points : L .particles ≤ lp / 6
+  pub points : L .particles ≤ lp / pointColumns
   pub roots : L .particles ≤ lr / 2
   pub few-triangles : k .triangles ≤ 1024
   pub corners : k .triangles ≤ lc / 3

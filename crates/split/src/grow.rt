@@ -92,9 +92,8 @@ fn share_out(
     requires { ⌜ ShareRoom v before n count (length (now groups)) (length (now measures)) (length (now points)) (length (now roots)) ⌝ }
     ensures { λ _. ⌜ SharedOut v before n count (now (groups .entry)) (now (measures .entry)) (now (points .entry)) (now (points .exit)) (now (roots .entry)) (now (roots .exit)) ⌝ }
 {
-    let mut weights = [0.0f32; 2048];
-    let total = opening::weigh_all(n, count, groups, measures, &mut weights);
-    rewire::particles::copy_particles(v, before, count, total, &weights, points, roots);
+    let total = opening::total_weight(n, count, groups, measures);
+    rewire::particles::copy_particles(v, before, count, n, total, groups, measures, points, roots);
 }
 
 // Parts 1 to 3 of a split of v by the groups of its fan: after them the edges are at their longest.

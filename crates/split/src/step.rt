@@ -10,6 +10,7 @@ ghost use Rattle.model.specs.Split.{splitBySides};
 ghost use Rattle.mesh.specs.At.{meshAt};
 ghost use Rattle.mesh.specs.Log.{worldAt};
 ghost use Rattle.mesh.specs.Filled.{lent};
+ghost use Rattle.mesh.specs.Widths.{pointColumns};
 ghost use Rattle.work.specs.Working.{Ready, Works};
 ghost use Rattle.split.specs.Tables.{FanGrouped, FanSided, openedBy, SidesGiven};
 ghost use Rattle.links.specs.Linked.{Linked};
@@ -109,10 +110,10 @@ pub fn split_opened(
 
 // Is v free: is its inverse mass not 0?
 pub fn is_free(v: usize, points: &[f32]) -> bool
-    requires { ⌜ v < length (now points) / 6 ⌝ }
-    ensures { λ r. ⌜ r ≡ ne (getD (now (points .entry)) (5 * (length (now (points .entry)) / 6) + v) nan) zero32 ⌝ }
+    requires { ⌜ v < length (now points) / pointColumns ⌝ }
+    ensures { λ r. ⌜ r ≡ ne (getD (now (points .entry)) (5 * (length (now (points .entry)) / pointColumns) + v) nan) zero32 ⌝ }
 {
-    let size = points.len() / 6;
+    let size = points.len() / mesh::POINT_COLUMNS;
     points[5 * size + v] != 0.0
 }
 

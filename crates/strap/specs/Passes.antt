@@ -2,11 +2,11 @@
 use Rattle.model.specs.Elements.{Kind}
 use Rattle.model.specs.Run.{Run}
 use Rattle.model.specs.Cut.{cutAlong, splitPinched}
-use Rattle.marks.specs.Marking.{bladeFrom}
+use Rattle.marks.specs.Marking.{bladeBy}
 use Rattle.strap.specs.declared.kinds.Pass.{Pass}
 use Rattle.strap.specs.declared.kinds.Pass.the-variants.{Blade, Pinched}
 
 -- the cut along a blade, or the split of the pinched
 abbrev pub passed : Pass → Kind → Run → Run
-passed (Blade b0 b1 f) K = cutAlong K (bladeFrom b0 b1) f
+passed (Blade r b0 b1 f) K = cutAlong K (bladeBy r b0 b1) f
 passed Pinched K = splitPinched K

@@ -7,13 +7,14 @@ ghost use Rattle.work.specs.Working.{Ready, Works, Logged};
 ghost use Rattle.strap.specs.Passes.{passed};
 use blade::Point;
 use elements::Kind;
+use marks::Rule;
 use mesh::Counts;
 use mesh::Rooms;
 use work::Ran;
 
-// What is done: the cut along the blade from one point to another, with the least fraction of an insertion; or the split of the pinched.
+// What is done: the cut by a rule along the blade from one point to another (straps are cut by rounded numbers alone), with the least fraction of an insertion; or the split of the pinched.
 pub enum Pass {
-    Blade(Point, Point, f32),
+    Blade(Rule, Point, Point, f32),
     Pinched,
 }
 
@@ -47,7 +48,8 @@ pub fn run(
         Kind::Triangles => {
             links::link_mesh(Kind::Triangles, k.triangles, corners, &mut links);
             match pass {
-                Pass::Blade(b0, b1, f) => cut::facets::cut_facets(
+                Pass::Blade(rule, b0, b1, f) => cut::facets::cut_facets(
+                    rule,
                     b0,
                     b1,
                     k,
@@ -90,7 +92,7 @@ pub fn run(
             }
         }
         Kind::Straps => match pass {
-            Pass::Blade(b0, b1, f) => crate::segments::cut_segments(
+            Pass::Blade(rule, b0, b1, f) => crate::segments::cut_segments(
                 b0,
                 b1,
                 f,

@@ -17,10 +17,11 @@ use Rattle.lists.proofs.Rows.{rows-map}
 use Rattle.float.specs.Numbers.{zero32}
 use Rattle.columns.specs.Block.{cell}
 use Rattle.columns.proofs.Cells.{store-same, store-row, store-col, col-0, col-1}
-use Rattle.model.specs.Mesh.{Particle, Edge}
+use Rattle.model.specs.Mesh.{Particle, Edge, changedTo}
 use Rattle.model.specs.Cut.{slack}
 use Rattle.model.specs.Crack.{hurt}
-use Rattle.mesh.specs.At.{edgeRow, edgesAt, particleRow, particlesAt}
+use Rattle.mesh.specs.At.{edgeRow, edgesAt, particleBy, particleRow, particlesAt}
+use Rattle.mesh.specs.Widths.{pointColumns}
 use Rattle.rewire.specs.Edges.{copiesBy}
 use Rattle.tear.specs.Tears.{bridgesBy, slackBy, Slackened, madeBy, Damaged}
 
@@ -265,30 +266,21 @@ module _ (x y before count R : ℕ) (roots₀ : List ℕ) where
       record {
         particles = λ n points l.
             let long : length roots / 2 ≡ R = ap (λ (m : ℕ). m / 2) (H .long) ∙ sym eR in
-            ap (λ (m : ℕ). tab n (particleRow (length points / 6) m points roots)) long
+            ap (λ (m : ℕ). tab n (particleRow (length points / pointColumns) m points roots)) long
             ∙ tab-ext n _ _ (λ k lk. one H points k (omega arith))
-            ∙ sym (rows-map (λ i p. pick (stands i (x ∷ y ∷ madeBy before count)) (hurt p) p) n (particleRow (length points / 6) R points roots₀))
-            ∙ ap (λ (m : ℕ). mapAt (λ i p. pick (stands i (x ∷ y ∷ madeBy before count)) (hurt p) p) (tab n (particleRow (length points / 6) m points roots₀))) eR;
+            ∙ sym (rows-map (λ i p. pick (stands i (x ∷ y ∷ madeBy before count)) (hurt p) p) n (particleRow (length points / pointColumns) R points roots₀))
+            ∙ ap (λ (m : ℕ). mapAt (λ i p. pick (stands i (x ∷ y ∷ madeBy before count)) (hurt p) p) (tab n (particleRow (length points / pointColumns) m points roots₀))) eR;
       }
     where
-      by : (t : Bool) (p : Particle) → record { x = p .x; y = p .y; rest-x = p .rest-x; rest-y = p .rest-y; mass = p .mass; inv = p .inv; root = p .root; damaged = pick t 1 (p .damaged) } ≡ pick t (hurt p) p
+      by : (t : Bool) (p : Particle) → changedTo (p .mass) (p .inv) (pick t 1 (p .damaged)) p ≡ pick t (hurt p) p
       by true p = refl
       by false p = refl
 
       one : Hurt R (x ∷ y ∷ madeBy before count) roots₀ roots → (points : List Float) (k : ℕ) → k < R
-          → particleRow (length points / 6) R points roots k ≡ pick (stands k (x ∷ y ∷ madeBy before count)) (hurt (particleRow (length points / 6) R points roots₀ k)) (particleRow (length points / 6) R points roots₀ k)
+          → particleRow (length points / pointColumns) R points roots k ≡ pick (stands k (x ∷ y ∷ madeBy before count)) (hurt (particleRow (length points / pointColumns) R points roots₀ k)) (particleRow (length points / pointColumns) R points roots₀ k)
       one H points k h =
-          ap₂ (λ (a b : ℕ). record {
-            x = cell nan (length points / 6) points 0 k;
-            y = cell nan (length points / 6) points 1 k;
-            rest-x = cell nan (length points / 6) points 2 k;
-            rest-y = cell nan (length points / 6) points 3 k;
-            mass = cell nan (length points / 6) points 4 k;
-            inv = cell nan (length points / 6) points 5 k;
-            root = a;
-            damaged = b;
-          }) (H .root-is k h) (H .damaged-is k h)
-          ∙ by (stands k (x ∷ y ∷ madeBy before count)) (particleRow (length points / 6) R points roots₀ k)
+          ap₂ (λ (a b : ℕ). particleBy (λ c. cell nan (length points / pointColumns) points c k) a b) (H .root-is k h) (H .damaged-is k h)
+          ∙ by (stands k (x ∷ y ∷ madeBy before count)) (particleRow (length points / pointColumns) R points roots₀ k)
 
 -- what the program asks of the two stores
 pub two-set : (roots : List ℕ) (i j : ℕ) → length (set (set roots i 1) j 1) ≡ length roots

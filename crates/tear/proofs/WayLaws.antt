@@ -25,6 +25,7 @@ use Rattle.model.specs.Mesh.{Mesh, Edge, blankEdge}
 use Rattle.model.specs.Elements.{Kind, Triangles, Straps, Nothing, Element, restOf, sum}
 use Rattle.model.specs.Crack.{loadAt, beyond, farSide, ahead}
 use Rattle.mesh.specs.At.{edgeRow, edgesAt}
+use Rattle.mesh.specs.Widths.{pointColumns}
 use Rattle.elements.specs.Table.{Cornered}
 use Rattle.elements.proofs.Tables.{noElement, row-is, part-is}
 use Rattle.elements.proofs.Fans.{sift-more}
@@ -307,11 +308,11 @@ module _ (K : Kind) (n : ℕ) (numbers sides : List ℕ) (loads lengths : List F
 
 -- ---- both sides, and which goes first
 
-pub two-both : (v : ℕ) (sides : List ℕ) (points : List Float) (r : Bool) → ne (getD points (5 * (length points / 6) + v) nan) zero32 ≡ true → r ≡ stands 0 sides && stands 1 sides → r ≡ twoBy v sides points
+pub two-both : (v : ℕ) (sides : List ℕ) (points : List Float) (r : Bool) → ne (getD points (5 * (length points / pointColumns) + v) nan) zero32 ≡ true → r ≡ stands 0 sides && stands 1 sides → r ≡ twoBy v sides points
 unfolding twoBy cell
 two-both v sides points r e q = q ∙ ap (λ (b : Bool). b && (stands 0 sides && stands 1 sides)) (sym e)
 
-pub two-pinned : (v : ℕ) (sides : List ℕ) (points : List Float) → ne (getD points (5 * (length points / 6) + v) nan) zero32 ≡ false → false ≡ twoBy v sides points
+pub two-pinned : (v : ℕ) (sides : List ℕ) (points : List Float) → ne (getD points (5 * (length points / pointColumns) + v) nan) zero32 ≡ false → false ≡ twoBy v sides points
 unfolding twoBy cell
 two-pinned v sides points e = ap (λ (b : Bool). b && (stands 0 sides && stands 1 sides)) (sym e)
 

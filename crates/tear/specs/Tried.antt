@@ -10,6 +10,7 @@ use Rattle.model.specs.Valid.{indicesFit}
 use Rattle.model.specs.Elements.{Kind, Triangles, cornersPer, fanOf}
 use Rattle.model.specs.Crack.{farSide, meanLoad}
 use Rattle.mesh.specs.declared.Counts.{Counts}
+use Rattle.mesh.specs.Widths.{pointColumns}
 use Rattle.elements.specs.Table.{Tabled}
 
 -- the mesh stands in its blocks with indices that fit, and v and w are there
@@ -19,7 +20,7 @@ pub record WayReady (v w : ℕ) (k : Counts) (lp lc lv le ll : ℕ) (M : Mesh) :
   pub few-particles : k .particles ≤ 1024
   pub few-triangles : k .triangles ≤ 1024
   pub few-edges : k .edges ≤ 2048
-  pub points : k .particles ≤ lp / 6
+  pub points : k .particles ≤ lp / pointColumns
   pub corners : k .triangles ≤ lc / 3
   pub volumes : k .triangles ≤ lv / 2
   pub ends : k .edges ≤ le / 4

@@ -14,6 +14,7 @@ use Rattle.model.specs.Mesh.{Mesh}
 use Rattle.model.specs.Elements.{Kind, Triangles, Straps, Element, sum}
 use Rattle.model.specs.Crack.{loadAt, beyond, farSide}
 use Rattle.mesh.specs.At.{edgesAt}
+use Rattle.mesh.specs.Widths.{pointColumns}
 use Rattle.elements.specs.Table.{Cornered}
 use Rattle.opening.specs.Opened.{restIn, RestsIn, CornersBelow}
 
@@ -21,7 +22,7 @@ use Rattle.opening.specs.Opened.{restIn, RestsIn, CornersBelow}
 
 -- the corners of a row rest in the block
 pub record RowIn (row : List ℕ) (lp : ℕ) : Type 0 where
-  pub in-block : (j : ℕ) → j < length row → getD row j 0 < lp / 6
+  pub in-block : (j : ℕ) → j < length row → getD row j 0 < lp / pointColumns
 
 -- the offsets of a row's corners from home, added
 unfoldable pub offsetsBy : Point → List ℕ → List Float → Point
@@ -33,11 +34,11 @@ sideBy home dir row points = pick (lt zero32 (dotOf (offsetsBy home row points) 
 
 -- the table has n rows of k corners, which rest in the block as v and w do, and a side has room for each
 pub record SidesRoom (v w n k : ℕ) (verts : List ℕ) (lp ls : ℕ) : Type 0 where
-  pub v-in : v < lp / 6
-  pub w-in : w < lp / 6
+  pub v-in : v < lp / pointColumns
+  pub w-in : w < lp / pointColumns
   pub verts-long : n * k ≤ length verts
   pub sides-long : n ≤ ls
-  pub corners-in : CornersBelow (lp / 6) n k verts
+  pub corners-in : CornersBelow (lp / pointColumns) n k verts
 
 -- the first n sides are those of the elements in the table, in any mesh that rests in the block; and they are 0 or 1
 pub record FarSides (v w n k : ℕ) (verts : List ℕ) (points : List Float) (sides : List ℕ) : Type 0 where
@@ -93,4 +94,4 @@ pub record MeanTold (K : Kind) (n : ℕ) (numbers sides : List ℕ) (loads lengt
 
 -- v is not pinned, and both sides stand in a list
 unfoldable pub twoBy : ℕ → List ℕ → List Float → Bool
-twoBy v sides points = ne (cell nan (length points / 6) points 5 v) zero32 && (stands 0 sides && stands 1 sides)
+twoBy v sides points = ne (cell nan (length points / pointColumns) points 5 v) zero32 && (stands 0 sides && stands 1 sides)

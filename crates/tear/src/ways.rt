@@ -9,6 +9,7 @@ ghost use Rattle.float.specs.Order.{totalCmp};
 ghost use Rattle.elements.specs.Table.{kindIs};
 ghost use Rattle.model.specs.Crack.{ahead};
 ghost use Rattle.tear.specs.Ways.{RowIn, offsetsBy, sideBy, SidesRoom, FarSides, LoadHas, LoadIs, MeanRoom, MeanTold, twoBy};
+ghost use Rattle.mesh.specs.Widths.{pointColumns};
 use blade::Point;
 use elements::Kind;
 use float::order::Order;
@@ -117,10 +118,10 @@ fn both_sides(sides: &[usize]) -> bool
 
 // Is v not pinned, and has its fan of n elements both sides?
 pub fn two_sided(v: usize, n: usize, sides: &[usize], points: &[f32]) -> bool
-    requires { ⌜ (n ≤ length (now sides)) × (v < length (now points) / 6) ⌝ }
+    requires { ⌜ (n ≤ length (now sides)) × (v < length (now points) / pointColumns) ⌝ }
     ensures { λ r. ⌜ r ≡ twoBy v (take n (now (sides .entry))) (now (points .entry)) ⌝ }
 {
-    let size = points.len() / 6;
+    let size = points.len() / mesh::POINT_COLUMNS;
     if points[5 * size + v] != 0.0 {
         return both_sides(&sides[..n]);
     }

@@ -9,9 +9,9 @@ use Rattle.listing.specs.Answers.{shownFor}
 use Rattle.listing.specs.declared.Written.{Written}
 use Rattle.listing.specs.declared.Written.the-variants.{Short, Bytes}
 
--- the number of the layout of images, logs, fields and results that docs/C-FUNCTIONS.md has: 3 since the log of a cut marks its crossings and a blade test tells its hit point
+-- the number of the layout of images, logs, fields and results that docs/C-FUNCTIONS.md has: 4 since a particle has a velocity and a cut its edition
 unfoldable pub layoutNumber : ℕ
-layoutNumber = 3
+layoutNumber = 4
 
 -- what is answered to a text that was written: 0, or 4 where the lent bytes are too few
 abbrev pub codeFor : Written → ℕ

@@ -10,7 +10,7 @@ use listing::Written;
 pub fn layout() -> u32
     ensures { λ r. ⌜ r ≡ layoutNumber ⌝ }
 {
-    3
+    4
 }
 
 // What is answered to a text that was written, or was too long for the lent bytes.

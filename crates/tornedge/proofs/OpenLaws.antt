@@ -33,6 +33,7 @@ use Rattle路mesh.specs.Given.{Lent}
 use Rattle路mesh.specs.declared.Counts.{Counts}
 use Rattle路mesh.specs.declared.Rooms.{Rooms}
 use Rattle路mesh.specs.Filled.{lent}
+use Rattle路mesh.specs.Widths.{pointColumns}
 use Rattle路elements.specs.Table.{TableRoom}
 use Rattle路work.specs.Working.{Within, Ready, Works}
 use Rattle路split.specs.Tables.{FanGrouped, FanSided, GroupsFound, openedBy}
@@ -379,7 +380,7 @@ module _ (L : Rooms) (k : Counts) (points : List Float) (roots corners : List 鈩
     pub asked-ready : WayReady v w k (length points) (length corners) (length volumes) (length ends) (length lengths) Here
     asked-ready = way-ready v w (A .here) other-in
 
-    pub place-in : v < length points / 6
+    pub place-in : v < length points / pointColumns
     place-in = let R = P .rooms in let C = P .counts in let h = A .here in omega (arith, C .particles, R .points)
 
     -- whether both sides are there and v is free

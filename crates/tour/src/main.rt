@@ -49,7 +49,7 @@ fn say_mass(x: f32) {
 
 // The masses of n particles: the fifth of the six columns of their block.
 fn say_masses(n: usize, points: &[f32]) {
-    let room = points.len() / 6;
+    let room = points.len() / mesh::POINT_COLUMNS;
     let first = 4 * room;
     say(b"masses:");
     let mut i: usize = 0;
@@ -239,9 +239,9 @@ fn tell(a: Answer, points: &[f32], ends: &[usize], outline: &[usize], log: &mut 
     }
 }
 
-// The square's particles, all free: positions x and y, rest positions x and y, masses, inverse masses.
-fn square_points() -> [f32; 24]
-    ensures { λ r. ⌜ 24 ≡ length r ⌝ }
+// The square's particles, all free: positions x and y, rest positions x and y, masses, inverse masses, velocities x and y.
+fn square_points() -> [f32; 32]
+    ensures { λ r. ⌜ 32 ≡ length r ⌝ }
 {
     [
         0.0,
@@ -268,6 +268,14 @@ fn square_points() -> [f32; 24]
         1.0,
         1.0,
         1.0,
+        0.0,
+        0.0,
+        0.0,
+        0.0,
+        0.0,
+        0.0,
+        0.0,
+        0.0,
     ]
 }
 
@@ -352,16 +360,34 @@ fn strap_pieces(points: &[f32], roots: &[usize], ends: &[usize], lengths: &[f32]
 
 // One strap, cut at a quarter of its length. Room for four particles and two edges is lent, as many as come out.
 fn cut_strap(f: f32) {
-    let mut points = [0.0f32; 24];
+    let mut points = [0.0f32; 32];
     let mut roots = [0usize; 8];
     let mut ends = [0usize; 8];
     let mut lengths = [0.0f32; 8];
     let mut log = [0u32; 12];
     let a = bench::tearing::cut(
+        1,
         Point { x: 2.0, y: -1.0 },
         Point { x: 2.0, y: 1.0 },
         f,
-        &[0.0, 8.0, 0.0, 0.0, 0.0, 8.0, 0.0, 0.0, 1.0, 1.0, 1.0, 1.0],
+        &[
+            0.0,
+            8.0,
+            0.0,
+            0.0,
+            0.0,
+            8.0,
+            0.0,
+            0.0,
+            1.0,
+            1.0,
+            1.0,
+            1.0,
+            0.0,
+            0.0,
+            0.0,
+            0.0,
+        ],
         &[0, 1, 0, 0],
         &[],
         &[],
@@ -388,7 +414,7 @@ fn cut_square() {
     let ends = square_ends();
     let lengths = square_lengths();
     let outline = square_outline();
-    let mut new_points = [0.0f32; 36];
+    let mut new_points = [0.0f32; 48];
     let mut new_roots = [0usize; 12];
     let mut new_corners = [0usize; 6];
     let mut new_volumes = [0.0f32; 4];
@@ -397,6 +423,7 @@ fn cut_square() {
     let mut new_outline = [0usize; 12];
     let mut log = [0u32; 48];
     let a = bench::tearing::cut(
+        1,
         Point { x: -1.0, y: -1.0 },
         Point { x: 5.0, y: 5.0 },
         0.1,
@@ -427,7 +454,7 @@ fn split_square() {
     let ends = square_ends();
     let lengths = square_lengths();
     let outline = square_outline();
-    let mut new_points = [0.0f32; 30];
+    let mut new_points = [0.0f32; 40];
     let mut new_roots = [0usize; 10];
     let mut new_corners = [0usize; 6];
     let mut new_volumes = [0.0f32; 4];
@@ -459,11 +486,11 @@ fn split_square() {
     }
 }
 
-// Seven particles in a row, at x and rest x from 0 to 6; y, rest y, mass and inverse mass are 1.
-fn row_points() -> [f32; 42]
-    ensures { λ r. ⌜ 42 ≡ length r ⌝ }
+// Seven particles in a row, at x and rest x from 0 to 6; y, rest y, mass, inverse mass and velocity are 1.
+fn row_points() -> [f32; 56]
+    ensures { λ r. ⌜ 56 ≡ length r ⌝ }
 {
-    let mut p = [1.0f32; 42];
+    let mut p = [1.0f32; 56];
     p[0] = 0.0;
     p[2] = 2.0;
     p[3] = 3.0;
@@ -515,7 +542,7 @@ fn row_ends() -> [usize; 24]
 fn crack_row() {
     let row = row_points();
     let straps = row_ends();
-    let mut points = [0.0f32; 48];
+    let mut points = [0.0f32; 64];
     let mut roots = [0usize; 16];
     let mut ends = [0usize; 24];
     let mut lengths = [0.0f32; 24];

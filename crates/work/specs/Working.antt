@@ -12,6 +12,7 @@ use Rattle.mesh.specs.Log.{World, worldOf, wordsOf, logAt}
 use Rattle.mesh.specs.Given.{Lent, asRooms}
 use Rattle.mesh.specs.declared.Counts.{Counts}
 use Rattle.mesh.specs.declared.Rooms.{Rooms}
+use Rattle.mesh.specs.Widths.{pointColumns}
 use Rattle.work.specs.declared.Ran.{Ran}
 use Rattle.work.specs.declared.Ran.the-variants.{Refused, Done}
 
@@ -30,7 +31,7 @@ pub record Roomed (L : Rooms) (I : Lent) : Type 0 where
   pub few-edges : L .edges ≤ 2048
   pub few-boundary : L .boundary ≤ 2048
   pub few-log : L .log ≤ 4096
-  pub points : L .particles ≤ I .points / 6
+  pub points : L .particles ≤ I .points / pointColumns
   pub roots : L .particles ≤ I .roots / 2
   pub corners : L .triangles ≤ I .corners / 3
   pub volumes : L .triangles ≤ I .volumes / 2

@@ -404,7 +404,7 @@ pub fn run(words: &[String]) -> i32 {
         eprintln!("cases FOLDER");
         return 2;
     };
-    let mut o = Out { no: 0, text: "tearvec 1\n".into(), names: String::new() };
+    let mut o = Out { no: 0, text: "tearvec 2\n".into(), names: String::new() };
     groups_and_splits(&mut o);
     cuts_of_triangles(&mut o);
     cuts_of_straps(&mut o);

@@ -13,18 +13,18 @@ use std::hash::{DefaultHasher, Hash, Hasher};
 use std::io::Write;
 
 /// The number of the layout of images, logs, fields and results that this program speaks.
-const LAYOUT: u32 = 3;
+const LAYOUT: u32 = 4;
 
 /// What is wrong with the answer to an input, if anything.
 fn wrong(t: &Table, i: &Input) -> Option<String> {
     let c = i.raw();
     fault(&expected(&c), &call(t, &c)?)
 }
-/// What was expected: how often each number from 0 to 9, the different accepted answers, and how
+/// What was expected: how often each number from 0 to 12, the different accepted answers, and how
 /// many of the accepted ones split or inserted something.
 #[derive(Default)]
 struct Tally {
-    numbers: [u64; 10],
+    numbers: [u64; 13],
     answers: HashSet<u64>,
     changed: u64,
 }
@@ -43,11 +43,12 @@ impl Tally {
     }
 }
 /// `refused 1: 7, 2: 3, ..`, of the numbers that the entry can answer.
-fn refusals(e: Entry, numbers: &[u64; 10]) -> String {
+fn refusals(e: Entry, numbers: &[u64; 13]) -> String {
     let can: &[usize] = match e {
         Entry::Sheet => &[1, 3, 4, 9],
         Entry::SheetWrite => &[1, 2, 3, 9],
         Entry::ListCut => &[4],
+        Entry::Cut => &[1, 2, 3, 4, 11, 12, 5, 6, 7, 8],
         _ if e.tears() => &[1, 2, 3, 4, 5, 6, 7, 8],
         _ => &[1, 2, 3, 4],
     };
@@ -115,7 +116,7 @@ pub fn run(words: &[String]) -> i32 {
             println!("  {:29} not in the archive", e.name());
             continue;
         }
-        let mut total = [0; 10];
+        let mut total = [0; 13];
         for (k, &count) in KINDS.into_iter().zip(counts) {
             // Said first, so that a call that does not come back is known.
             print!("  {:29} {:8}", e.name(), format!("{k:?}").to_lowercase());
@@ -127,7 +128,7 @@ pub fn run(words: &[String]) -> i32 {
                 print!(", {} with a split or insertion", tally.changed);
             }
             println!("), {}", refusals(e, &tally.numbers));
-            (0..10).for_each(|n| total[n] += tally.numbers[n]);
+            (0..13).for_each(|n| total[n] += tally.numbers[n]);
             if let Some((s, i)) = failed {
                 failures += 1;
                 print!("{}", report(&t, e, k, s, i));

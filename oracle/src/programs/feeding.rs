@@ -13,7 +13,7 @@ const COUNT: u64 = 100_000;
 const SIZE: usize = 17_301;
 const MOST: usize = 17_293;
 /// The bytes that hold every answer of a sheet.
-const RESULT: usize = 4 * (9 + 8 * 1024 + 5 * 1024 + 8 * 2048 + 2 * 2048);
+const RESULT: usize = 4 * (9 + 10 * 1024 + 5 * 1024 + 8 * 2048 + 2 * 2048);
 const GUARD: usize = 64;
 
 // ---- two sides ------------------------------------------------------------------------------
@@ -334,7 +334,7 @@ fn need(model: &Model) -> usize {
     let Some(fed) = &model.fed else { return 36 };
     let mut out = vec![0; RESULT];
     match whole(fed, &mut out) {
-        0 => 4 * (9 + 8 * word(&out, 5) + 5 * word(&out, 6) + 8 * word(&out, 7) + 2 * word(&out, 8)),
+        0 => 4 * (9 + 10 * word(&out, 5) + 5 * word(&out, 6) + 8 * word(&out, 7) + 2 * word(&out, 8)),
         _ => 36,
     }
 }

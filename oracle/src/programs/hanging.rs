@@ -3,6 +3,7 @@
 //! call; the verdict is from the words that come back.
 use crate::api::{self, Blade, MAX_BOUNDARY, MAX_EDGES, MAX_LOG, MAX_PARTICLES, MAX_TRIANGLES, Mesh, check_mesh};
 use crate::entries::{Args, Entry, Got, Input, Lending, Table, archive, call};
+use crate::exact;
 use crate::faults::{Fault, plant};
 use crate::image::{Image, read, words_of};
 use crate::inputs::{self, Kind};
@@ -12,6 +13,7 @@ use crate::rng::Rng;
 use crate::sheet::{self, Sheet};
 use crate::shrink::shrink;
 use crate::vectors::{args_line, write_mesh};
+use crate::wholes;
 use crate::wrapped::table;
 
 const COUNT: u64 = 100_000;
@@ -66,6 +68,7 @@ fn mesh(r: &mut Rng) -> Mesh {
                 m = api::cut(&m, blade, 0.1).mesh;
             }
         }
+        meshgen::velocities(r, &mut m);
         if !m.ta.is_empty() && check_mesh(&m) == 0 {
             return m;
         }
@@ -75,6 +78,12 @@ fn mesh(r: &mut Rng) -> Mesh {
 fn input(number: u64) -> Input {
     let mut r = Rng::new(number ^ 0x4c39_0000_0000);
     let r = &mut r;
+    // One in eight is a cut of edition 2.
+    if r.chance(8) {
+        let m = wholes::mesh(r, false).0;
+        let args = wholes::second_cut(r, &m);
+        return lent(m, args);
+    }
     let m = mesh(r);
     let entry = if r.chance(2) { Entry::Cut } else { Entry::Crack };
     let mut args = inputs::args(r, entry, Kind::Random, &m);
@@ -86,7 +95,7 @@ fn input(number: u64) -> Input {
     lent(m, args)
 }
 fn lent(m: Mesh, args: Args) -> Input {
-    let rows = 8 * MAX_PARTICLES + 5 * m.ta.len() + 8 * MAX_EDGES + 2 * MAX_BOUNDARY;
+    let rows = 10 * MAX_PARTICLES + 5 * m.ta.len() + 8 * MAX_EDGES + 2 * MAX_BOUNDARY;
     let places = [MAX_PARTICLES, MAX_TRIANGLES, MAX_EDGES, MAX_BOUNDARY].map(|n| n as u32);
     let lending = Lending { places, length: None, log: 24 * MAX_LOG };
     Input { image: Image::new(m), args, lending, out: 4 * (2 + 4 + rows) }
@@ -98,9 +107,13 @@ fn lent(m: Mesh, args: Args) -> Input {
 fn begins(i: &Input) -> Option<Begins> {
     let m = &i.image.mesh;
     match &i.args {
-        Args::Cut { blade, fraction, .. } => {
+        Args::Cut { blade, edition, fraction, .. } => {
             let [x0, y0, x1, y1] = blade.map(f32::from_bits);
-            api::cut(m, Blade::new(x0, y0, x1, y1), f32::from_bits(*fraction));
+            let blade = Blade::new(x0, y0, x1, y1);
+            match edition {
+                2 => drop(exact::cut(m, blade)),
+                _ => drop(api::cut(m, blade, f32::from_bits(*fraction))),
+            }
         }
         Args::Crack { torn, minimum, .. } => drop(api::crack(m, torn, Some(*minimum))),
         _ => unreachable!("a cut or a crack"),
@@ -111,7 +124,7 @@ fn begins(i: &Input) -> Option<Begins> {
 fn decoded(got: &Got) -> Option<(Mesh, Vec<u32>)> {
     let w = words_of(&got.out);
     let n: Vec<usize> = w.get(2..6)?.iter().map(|&n| n as usize).collect();
-    let mesh = read(got.out.get(8..8 + 4 * (4 + 8 * n[0] + 5 * n[1] + 8 * n[2] + 2 * n[3]))?)?;
+    let mesh = read(got.out.get(8..8 + 4 * (4 + 10 * n[0] + 5 * n[1] + 8 * n[2] + 2 * n[3]))?)?;
     let log = words_of(&got.log);
     let entries = log.get(..6 * w[1] as usize)?.chunks_exact(6);
     Some((mesh, entries.filter(|e| e[0] == 1).map(|e| e[1]).collect()))

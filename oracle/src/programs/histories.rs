@@ -4,6 +4,7 @@
 //! `compare` does.
 use crate::api::{MAX_BOUNDARY, MAX_EDGES, MAX_LOG, MAX_NUMBER, MAX_PARTICLES, MAX_TRIANGLES, Mesh, check_mesh};
 use crate::entries::{Args, Entry, Got, Input, Lending, Table, archive, call};
+use crate::exact;
 use crate::faults::{Fault, plant};
 use crate::image::{Image, bytes_of, read, words, words_of};
 use crate::inputs::{self, Kind};
@@ -11,6 +12,7 @@ use crate::meshgen;
 use crate::rng::Rng;
 use crate::shrink::shrink;
 use crate::vectors::{args_line, write_mesh};
+use crate::wholes;
 use crate::wrapped::table;
 use std::fmt::Write;
 
@@ -58,6 +60,7 @@ fn first(r: &mut Rng) -> Mesh {
                 let (w, h, jitter) = (1 + r.below(6), 1 + r.below(4), r.pick(&[0.0, 0.2, 0.45]));
                 meshgen::grid(w, h, r, jitter)
             }
+            13..=28 => wholes::mesh(r, false).0,
             _ => meshgen::mesh(r),
         };
         own_roots(&mut m);
@@ -87,6 +90,10 @@ fn args(e: Entry, number: u64, m: &Mesh) -> Args {
         && let Some(a) = parting(r, m)
     {
         return a;
+    }
+    // Of a mesh on whole numbers, cuts of both editions.
+    if e == Entry::Cut && exact::whole_mesh(m) && !r.chance(3) {
+        return wholes::second_cut(r, m);
     }
     let kind = if m.px.len() > 60 && r.chance(2) { Kind::Large } else { Kind::Random };
     let mut a = inputs::args(r, e, kind, m);
@@ -203,7 +210,7 @@ impl Now {
 /// Room for as many particles as a history can have, and ample other room.
 fn input(now: &Now, args: Args) -> Input {
     let particles = now.bound.min(MAX_PARTICLES);
-    let rows = 8 * particles + 5 * now.mesh.ta.len() + 8 * MAX_EDGES + 2 * MAX_BOUNDARY;
+    let rows = 10 * particles + 5 * now.mesh.ta.len() + 8 * MAX_EDGES + 2 * MAX_BOUNDARY;
     let places = [particles, MAX_TRIANGLES, MAX_EDGES, MAX_BOUNDARY].map(|n| n as u32);
     let lending = Lending { places, length: None, log: 24 * MAX_LOG };
     Input { image: Image::new(now.mesh.clone()), args, lending, out: 4 * (2 + 4 + rows) }
@@ -213,7 +220,7 @@ fn input(now: &Now, args: Args) -> Input {
 fn decoded(got: &Got) -> Option<(Mesh, u32, Vec<(u32, u32)>)> {
     let w = words_of(&got.out);
     let n: Vec<usize> = w.get(2..6)?.iter().map(|&n| n as usize).collect();
-    let length = 4 * (4 + 8 * n[0] + 5 * n[1] + 8 * n[2] + 2 * n[3]);
+    let length = 4 * (4 + 10 * n[0] + 5 * n[1] + 8 * n[2] + 2 * n[3]);
     let mesh = read(got.out.get(8..8 + length)?)?;
     let log = words_of(&got.log);
     let entries = log.get(..6 * w[1] as usize)?.chunks_exact(6);
@@ -275,6 +282,8 @@ struct Tally {
     calls: [[u64; 2]; 4],
     refused: [u64; 9],
     copies: u64,
+    /// Accepted cuts of edition 2.
+    second: u64,
     /// Calls that were lent just the bound, and calls that were lent the limit below it.
     lent: [u64; 2],
 }
@@ -310,6 +319,7 @@ impl Side {
         t.calls[kind][0] += 1;
         t.calls[kind][1] += (entries > 0) as u64;
         t.copies += copies.len() as u64;
+        t.second += (e == Entry::Cut && c.minimum == 2) as u64;
         now.mesh = mesh;
         now.copies.extend(copies);
         let mut broken = now.broken();
@@ -474,6 +484,7 @@ impl Seen {
         for (e, [accepted, logged]) in CALLS.iter().zip(t.calls) {
             println!("  {:17} {accepted:6} accepted, {logged} of them with log entries", e.name());
         }
+        println!("  {} of the cuts were of edition 2", t.second);
         println!(
             "  {just} calls were lent just the bound, {less} the limit of 1024 below it ({} of these got 5)",
             t.refused[5]
@@ -540,7 +551,11 @@ pub fn run(given: &[String]) -> i32 {
     }
     let (n, t, failures) = (seen.histories, &seen.tally, failed.is_some() as i32);
     let met = seen.shares[10];
-    println!("{n} histories, {} steps, {} copies, {met} met the bound; {failures} failures", t.steps, t.copies);
+    let cuts = t.second;
+    println!(
+        "{n} histories, {} steps, {cuts} cuts of edition 2, {} copies, {met} met the bound; {failures} failures",
+        t.steps, t.copies
+    );
     failures
 }
 fn usage() -> i32 {

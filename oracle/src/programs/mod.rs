@@ -4,6 +4,7 @@ mod cases;
 mod check;
 mod compare;
 mod cutlist;
+mod editions;
 mod feeding;
 mod fuzz;
 mod hanging;
@@ -24,7 +25,7 @@ pub fn start(words: &[String]) -> i32 {
     }
     let Some((name, rest)) = words.split_first() else {
         eprintln!("oracle cases | check | fuzz | compare | faults | hanging | histories | replay | bench | vectors | cutlist");
-        eprintln!("  | feeding | sheets | stack (see oracle/README.md)");
+        eprintln!("  | editions | feeding | sheets | stack (see oracle/README.md)");
         return 2;
     };
     match name.as_str() {
@@ -39,6 +40,7 @@ pub fn start(words: &[String]) -> i32 {
         "bench" => bench::run(rest),
         "vectors" => vectors::run(rest),
         "cutlist" => cutlist::run(rest),
+        "editions" => editions::run(rest),
         "feeding" => feeding::run(rest),
         "sheets" => sheets::run(rest),
         "stack" => stack::run(rest),

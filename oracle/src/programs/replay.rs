@@ -15,9 +15,11 @@ use crate::wrapped::table;
 use std::fmt::Write;
 
 /// Longest byte slice in the list, so that it can be computed in a proof too.
-const SMALL: usize = 640;
+const SMALL: usize = 720;
 /// The same for the bytes lent where a mesh is given.
-const SMALL_LENT: usize = 1200;
+const SMALL_LENT: usize = 1400;
+/// The same for the bytes of the log.
+const SMALL_LOG: usize = 1200;
 /// Cases of an entry and a kind that each wrong variant fails, the smallest found.
 const EACH: usize = 4;
 /// Further cases of each entry, as they come: random ones, damaged ones, ones at a limit.
@@ -54,17 +56,53 @@ fn document_tearing() -> Vec<Raw> {
     for i in 0..4 {
         square.bound(i, (i + 1) % 4);
     }
-    let blade = |b: [f32; 4]| Args::Cut { blade: b.map(f32::to_bits), length: None, fraction: 0.1f32.to_bits() };
+    let cut = |edition: u32, b: [f32; 4]| Args::Cut {
+        blade: b.map(f32::to_bits),
+        length: None,
+        edition,
+        fraction: 0.1f32.to_bits(),
+    };
+    let blade = |b: [f32; 4]| cut(1, b);
+    let mut moving = strap.clone();
+    (moving.vx, moving.vy) = (vec![1.0, -3.0], vec![0.1, 0.7]);
+    let with = |change: fn(&mut Mesh)| {
+        let mut m = square.clone();
+        change(&mut m);
+        m
+    };
+    let mut straps = strap.clone();
+    straps.px[1] = 8.5;
+    let diagonal = [-1., -1., 5., 5.];
+    // Edition 2: the square either way round, what is whole and what is not, straps, and other editions.
+    let editions = [
+        plain(square.clone(), cut(2, diagonal)),
+        plain(square.clone(), cut(2, [5., 5., -1., -1.])),
+        plain(square.clone(), cut(2, [-1024., -1024., 1024., 1024.])),
+        plain(square.clone(), cut(2, [-1., -1., 1025., 5.])),
+        plain(square.clone(), cut(2, [-1., -1., 5., 0.5])),
+        plain(square.clone(), cut(2, [-1., -1., 5., 1048577.])),
+        plain(with(|m| (m.px[0], m.rx[1]) = (-0.0, 0.5)), cut(2, diagonal)),
+        plain(with(|m| m.py[3] = 4.5), cut(2, diagonal)),
+        plain(strap.clone(), cut(2, [2., -1., 2., 1.])),
+        plain(straps.clone(), cut(2, [2., -1., 2., 1.])),
+        plain(straps, cut(3, [2., -1., 2., 1.])),
+        plain(square.clone(), cut(0, diagonal)),
+        plain(Mesh::default(), cut(2, diagonal)),
+    ];
     let split = |m: &Mesh, sides: Vec<u8>| plain(m.clone(), Args::Split { v: 0, sides });
     vec![
         split(&fan, vec![0, 0, 0]),
         split(&fan, vec![1, 0, 0]),
         split(&pinned, vec![1, 0, 0]),
         plain(strap, blade([2., -1., 2., 1.])),
+        plain(moving, blade([2., -1., 2., 1.])),
         plain(square.clone(), blade([-1., -1., 5., 5.])),
         plain(square.clone(), Args::Crack { torn: vec![0], length: None, minimum: 1 }),
         plain(square, Args::Straddlers),
     ]
+    .into_iter()
+    .chain(editions)
+    .collect()
 }
 /// The cases to hold (R15) for the entries that read.
 fn document() -> Vec<Raw> {
@@ -112,7 +150,8 @@ fn document_hosting() -> Vec<Raw> {
 }
 /// Whether a call belongs in the list: small, and its answer is stated.
 fn fits(c: &Raw) -> bool {
-    c.first.len().max(c.second.len()) <= SMALL && c.out.max(c.log) <= if c.entry.tears() { SMALL_LENT } else { SMALL }
+    let most = if c.entry.tears() { SMALL_LENT } else { SMALL };
+    c.first.len().max(c.second.len()) <= SMALL && c.out <= most && c.log <= SMALL_LOG
 }
 fn fails(t: &Table, c: &Raw) -> bool {
     call(t, c).is_some_and(|got| fault(&expected(c), &got).is_some())
@@ -133,7 +172,7 @@ fn choose(group: Group) -> Vec<Raw> {
         }
         let tries = |k: Kind| -> Vec<Raw> { (1..TRIES).map(|s| input(e, k, s).raw()).filter(fits).collect() };
         let calls = [Kind::Random, Kind::Damaged].map(|k| (tries(k), if tearing { 1 } else { EACH }));
-        for no in if group == Group::Reading { 0..0 } else { 1..10 } {
+        for no in if group == Group::Reading { 0..0 } else { 1..13 } {
             let refused = calls.iter().flat_map(|c| &c.0).filter(|c| expected(c) == Expected::Refused(no));
             refused.take(OF_EACH_NUMBER).for_each(|c| add(&mut list, c.clone()));
         }
@@ -192,7 +231,7 @@ fn line(c: &Raw) -> String {
         Entry::Opens => write!(s, " {first} {v} {second} {} {out}", c.minimum),
         Entry::Split => write!(s, " {first} {v} {second} {rooms} {out} {log}"),
         Entry::Straddlers => write!(s, " {first} {rooms} {out} {log}"),
-        Entry::Cut => write!(s, " {first} {second} {v:08x} {rooms} {out} {log}"),
+        Entry::Cut => write!(s, " {first} {second} {} {v:08x} {rooms} {out} {log}", c.minimum),
         Entry::Crack => write!(s, " {first} {second} {} {rooms} {out} {log}", c.minimum),
     }
     .unwrap();
@@ -231,7 +270,7 @@ fn parse(s: &str) -> (Raw, Expected) {
         Entry::Groups | Entry::Opens | Entry::Split => (c.number, c.second) = (n(w[2]), unhex(w[3])),
         Entry::Fan => c.number = n(w[2]),
         Entry::RestMeasureOf => c.second = unhex(w[2]),
-        Entry::Cut => (c.second, c.number) = (unhex(w[2]), bits(w[3])),
+        Entry::Cut => (c.second, c.minimum, c.number) = (unhex(w[2]), n(w[3]), bits(w[4])),
         Entry::Crack => (c.second, c.minimum) = (unhex(w[2]), n(w[3])),
         _ => {}
     }

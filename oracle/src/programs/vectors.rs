@@ -11,7 +11,7 @@ pub fn run(a: &[String]) -> i32 {
     match a[0].as_str() {
         "write" | "bad" | "big" => {
             let (first, count): (u64, u64) = (a[1].parse().unwrap(), a[2].parse().unwrap());
-            let mut out = String::from("tearvec 1\n");
+            let mut out = String::from("tearvec 2\n");
             for seed in first..first + count {
                 let c = match a[0].as_str() {
                     "write" => meshgen::case(seed),
@@ -23,7 +23,7 @@ pub fn run(a: &[String]) -> i32 {
             print!("{out}");
         }
         "pick" => {
-            let mut out = String::from("tearvec 1\n");
+            let mut out = String::from("tearvec 2\n");
             for s in &a[1..] {
                 let c = meshgen::case(s.parse().unwrap());
                 write_case(&mut out, &c, &oracle(&c));
@@ -33,7 +33,7 @@ pub fn run(a: &[String]) -> i32 {
         "replay" | "second" => {
             let text = std::fs::read_to_string(&a[1]).unwrap();
             let mut lines = text.lines();
-            assert_eq!(lines.next(), Some("tearvec 1"));
+            assert_eq!(lines.next(), Some("tearvec 2"));
             let (mut n, mut bad) = (0, 0);
             while let Some((c, want)) = read_case(&mut lines) {
                 let got = if a[0] == "replay" { oracle(&c) } else { second(&c) };

@@ -1,6 +1,6 @@
 -- `crossmarks::note_crossings` meets its contract: by the kind of the mesh, and then by the room of the log. Assumes nothing.
 use Rattle.crossmarks.proofs.NotingLaws.{triangle-room, strap-room, of-triangles, of-straps, of-nothing, marked-as, marked-refused, marked-done}
-use Rattle.marks.specs.Marking.{bladeFrom}
+use Rattle.marks.specs.Marking.{bladeBy}
 use mathlib.Core.Path.{ap, _∙_}
 use mathlib.Core.Logic.{⊎-elim}
 use native.Mathlib.Omega.{arith}
@@ -22,7 +22,7 @@ note-triangles-requires : tie.Need-note-triangles-requires
 note-triangles-requires c κs =
     let A = c .before .before .before .before .before .before .before .before .before .before .before .args in
     let Y = c .before .before .before .before .before .before .before .before .before .before .before .pre in
-    triangle-room (A .kind) (bladeFrom (A .b0) (A .b1)) (A .room) (A .k) (A .points .now) (A .roots .now) (A .corners .now) (A .volumes .now) (A .ends .now) (A .lengths .now) (A .outline .now) (A .log .now) Y
+    triangle-room (A .kind) (bladeBy (A .rule) (A .b0) (A .b1)) (A .room) (A .k) (A .points .now) (A .roots .now) (A .corners .now) (A .volumes .now) (A .ends .now) (A .lengths .now) (A .outline .now) (A .log .now) Y
 
 -- src/lib.rt:147:76
 enum-told-2 : tie.Need-enum-told-2
@@ -33,7 +33,7 @@ note-straps-requires : tie.Need-note-straps-requires
 note-straps-requires c κs =
     let A = c .before .before .before .before .before .before .before .before .before .before .before .args in
     let Y = c .before .before .before .before .before .before .before .before .before .before .before .pre in
-    strap-room (A .kind) (bladeFrom (A .b0) (A .b1)) (A .room) (A .k) (A .points .now) (A .roots .now) (A .corners .now) (A .volumes .now) (A .ends .now) (A .lengths .now) (A .outline .now) (A .log .now) Y
+    strap-room (A .kind) (bladeBy (A .rule) (A .b0) (A .b1)) (A .room) (A .k) (A .points .now) (A .roots .now) (A .corners .now) (A .volumes .now) (A .ends .now) (A .lengths .now) (A .outline .now) (A .log .now) Y
 
 -- src/lib.rt:148:26
 enum-told-3 : tie.Need-enum-told-3
@@ -41,7 +41,7 @@ enum-told-3 c = search needs
 
 -- src/lib.rt:151:9
 same-length : tie.Need-same-length
-same-length c = ⊎-elim (λ w. ap length (w .6) ∙ w .3 .kept .1 .1 .1 .1 .1 .1 .0) (λ v. ⊎-elim (λ w. ap length (w .6) ∙ w .3 .kept .1 .1 .1 .1 .1 .1 .0) (λ w. ap length (w .2)) v) (c .before .before .match .came)
+same-length c = ⊎-elim (λ w. ap length (w .6) ∙ w .3 .kept .1 .1 .1 .1 .1 .1 .1 .0) (λ v. ⊎-elim (λ w. ap length (w .6) ∙ w .3 .kept .1 .1 .1 .1 .1 .1 .1 .0) (λ w. ap length (w .2)) v) (c .before .before .match .came)
 
 -- src/lib.rt:151:9
 returns : tie.Need-returns
@@ -51,17 +51,17 @@ returns c =
     let log = c .before .before .match .log in
     let n = c .before .before .match .n in
     let found = ⊎-elim
-    (λ w. marked-as (A .kind) (bladeFrom (A .b0) (A .b1)) (A .room) (A .k) (A .points .now) (A .roots .now) (A .corners .now) (A .volumes .now) (A .ends .now) (A .lengths .now) (A .outline .now) (A .log .now) Y log _ n _ (w .6) (w .7) (of-triangles (A .kind) (bladeFrom (A .b0) (A .b1)) (A .room) (A .k) (A .points .now) (A .roots .now) (A .corners .now) (A .volumes .now) (A .ends .now) (A .lengths .now) (A .outline .now) (A .log .now) Y _ _ (w .1 .given .1) (w .3 .ensures)))
+    (λ w. marked-as (A .kind) (bladeBy (A .rule) (A .b0) (A .b1)) (A .room) (A .k) (A .points .now) (A .roots .now) (A .corners .now) (A .volumes .now) (A .ends .now) (A .lengths .now) (A .outline .now) (A .log .now) Y log _ n _ (w .6) (w .7) (of-triangles (A .kind) (bladeBy (A .rule) (A .b0) (A .b1)) (A .room) (A .k) (A .points .now) (A .roots .now) (A .corners .now) (A .volumes .now) (A .ends .now) (A .lengths .now) (A .outline .now) (A .log .now) Y _ _ (w .1 .given .1) (w .3 .ensures)))
     (λ v. ⊎-elim
-    (λ w. marked-as (A .kind) (bladeFrom (A .b0) (A .b1)) (A .room) (A .k) (A .points .now) (A .roots .now) (A .corners .now) (A .volumes .now) (A .ends .now) (A .lengths .now) (A .outline .now) (A .log .now) Y log _ n _ (w .6) (w .7) (of-straps (A .kind) (bladeFrom (A .b0) (A .b1)) (A .room) (A .k) (A .points .now) (A .roots .now) (A .corners .now) (A .volumes .now) (A .ends .now) (A .lengths .now) (A .outline .now) (A .log .now) Y _ _ (w .1 .given .1) (w .3 .ensures)))
-    (λ w. marked-as (A .kind) (bladeFrom (A .b0) (A .b1)) (A .room) (A .k) (A .points .now) (A .roots .now) (A .corners .now) (A .volumes .now) (A .ends .now) (A .lengths .now) (A .outline .now) (A .log .now) Y log _ n _ (w .2) (w .3) (of-nothing (A .kind) (bladeFrom (A .b0) (A .b1)) (A .room) (A .k) (A .points .now) (A .roots .now) (A .corners .now) (A .volumes .now) (A .ends .now) (A .lengths .now) (A .outline .now) (A .log .now) Y (w .1 .given .1)))
+    (λ w. marked-as (A .kind) (bladeBy (A .rule) (A .b0) (A .b1)) (A .room) (A .k) (A .points .now) (A .roots .now) (A .corners .now) (A .volumes .now) (A .ends .now) (A .lengths .now) (A .outline .now) (A .log .now) Y log _ n _ (w .6) (w .7) (of-straps (A .kind) (bladeBy (A .rule) (A .b0) (A .b1)) (A .room) (A .k) (A .points .now) (A .roots .now) (A .corners .now) (A .volumes .now) (A .ends .now) (A .lengths .now) (A .outline .now) (A .log .now) Y _ _ (w .1 .given .1) (w .3 .ensures)))
+    (λ w. marked-as (A .kind) (bladeBy (A .rule) (A .b0) (A .b1)) (A .room) (A .k) (A .points .now) (A .roots .now) (A .corners .now) (A .volumes .now) (A .ends .now) (A .lengths .now) (A .outline .now) (A .log .now) Y log _ n _ (w .2) (w .3) (of-nothing (A .kind) (bladeBy (A .rule) (A .b0) (A .b1)) (A .room) (A .k) (A .points .now) (A .roots .now) (A .corners .now) (A .volumes .now) (A .ends .now) (A .lengths .now) (A .outline .now) (A .log .now) Y (w .1 .given .1)))
     v)
     (c .before .before .match .came) in
-    marked-refused (A .kind) (bladeFrom (A .b0) (A .b1)) (A .room) (A .k) (A .points .now) (A .roots .now) (A .corners .now) (A .volumes .now) (A .ends .now) (A .lengths .now) (A .outline .now) (A .log .now) Y log n _ found (omega (arith, c .if1 .taken))
+    marked-refused (A .kind) (bladeBy (A .rule) (A .b0) (A .b1)) (A .room) (A .k) (A .points .now) (A .roots .now) (A .corners .now) (A .volumes .now) (A .ends .now) (A .lengths .now) (A .outline .now) (A .log .now) Y log n _ found (omega (arith, c .if1 .taken))
 
 -- src/lib.rt:126:1
 same-length-2 : tie.Need-same-length-2
-same-length-2 c = ⊎-elim (λ w. ap length (w .6) ∙ w .3 .kept .1 .1 .1 .1 .1 .1 .0) (λ v. ⊎-elim (λ w. ap length (w .6) ∙ w .3 .kept .1 .1 .1 .1 .1 .1 .0) (λ w. ap length (w .2)) v) (c .before .before .match .came)
+same-length-2 c = ⊎-elim (λ w. ap length (w .6) ∙ w .3 .kept .1 .1 .1 .1 .1 .1 .1 .0) (λ v. ⊎-elim (λ w. ap length (w .6) ∙ w .3 .kept .1 .1 .1 .1 .1 .1 .1 .0) (λ w. ap length (w .2)) v) (c .before .before .match .came)
 
 -- src/lib.rt:126:1
 returns-2 : tie.Need-returns-2
@@ -71,13 +71,13 @@ returns-2 c =
     let log = c .before .before .match .log in
     let n = c .before .before .match .n in
     let found = ⊎-elim
-    (λ w. marked-as (A .kind) (bladeFrom (A .b0) (A .b1)) (A .room) (A .k) (A .points .now) (A .roots .now) (A .corners .now) (A .volumes .now) (A .ends .now) (A .lengths .now) (A .outline .now) (A .log .now) Y log _ n _ (w .6) (w .7) (of-triangles (A .kind) (bladeFrom (A .b0) (A .b1)) (A .room) (A .k) (A .points .now) (A .roots .now) (A .corners .now) (A .volumes .now) (A .ends .now) (A .lengths .now) (A .outline .now) (A .log .now) Y _ _ (w .1 .given .1) (w .3 .ensures)))
+    (λ w. marked-as (A .kind) (bladeBy (A .rule) (A .b0) (A .b1)) (A .room) (A .k) (A .points .now) (A .roots .now) (A .corners .now) (A .volumes .now) (A .ends .now) (A .lengths .now) (A .outline .now) (A .log .now) Y log _ n _ (w .6) (w .7) (of-triangles (A .kind) (bladeBy (A .rule) (A .b0) (A .b1)) (A .room) (A .k) (A .points .now) (A .roots .now) (A .corners .now) (A .volumes .now) (A .ends .now) (A .lengths .now) (A .outline .now) (A .log .now) Y _ _ (w .1 .given .1) (w .3 .ensures)))
     (λ v. ⊎-elim
-    (λ w. marked-as (A .kind) (bladeFrom (A .b0) (A .b1)) (A .room) (A .k) (A .points .now) (A .roots .now) (A .corners .now) (A .volumes .now) (A .ends .now) (A .lengths .now) (A .outline .now) (A .log .now) Y log _ n _ (w .6) (w .7) (of-straps (A .kind) (bladeFrom (A .b0) (A .b1)) (A .room) (A .k) (A .points .now) (A .roots .now) (A .corners .now) (A .volumes .now) (A .ends .now) (A .lengths .now) (A .outline .now) (A .log .now) Y _ _ (w .1 .given .1) (w .3 .ensures)))
-    (λ w. marked-as (A .kind) (bladeFrom (A .b0) (A .b1)) (A .room) (A .k) (A .points .now) (A .roots .now) (A .corners .now) (A .volumes .now) (A .ends .now) (A .lengths .now) (A .outline .now) (A .log .now) Y log _ n _ (w .2) (w .3) (of-nothing (A .kind) (bladeFrom (A .b0) (A .b1)) (A .room) (A .k) (A .points .now) (A .roots .now) (A .corners .now) (A .volumes .now) (A .ends .now) (A .lengths .now) (A .outline .now) (A .log .now) Y (w .1 .given .1)))
+    (λ w. marked-as (A .kind) (bladeBy (A .rule) (A .b0) (A .b1)) (A .room) (A .k) (A .points .now) (A .roots .now) (A .corners .now) (A .volumes .now) (A .ends .now) (A .lengths .now) (A .outline .now) (A .log .now) Y log _ n _ (w .6) (w .7) (of-straps (A .kind) (bladeBy (A .rule) (A .b0) (A .b1)) (A .room) (A .k) (A .points .now) (A .roots .now) (A .corners .now) (A .volumes .now) (A .ends .now) (A .lengths .now) (A .outline .now) (A .log .now) Y _ _ (w .1 .given .1) (w .3 .ensures)))
+    (λ w. marked-as (A .kind) (bladeBy (A .rule) (A .b0) (A .b1)) (A .room) (A .k) (A .points .now) (A .roots .now) (A .corners .now) (A .volumes .now) (A .ends .now) (A .lengths .now) (A .outline .now) (A .log .now) Y log _ n _ (w .2) (w .3) (of-nothing (A .kind) (bladeBy (A .rule) (A .b0) (A .b1)) (A .room) (A .k) (A .points .now) (A .roots .now) (A .corners .now) (A .volumes .now) (A .ends .now) (A .lengths .now) (A .outline .now) (A .log .now) Y (w .1 .given .1)))
     v)
     (c .before .before .match .came) in
-    marked-done (A .kind) (bladeFrom (A .b0) (A .b1)) (A .room) (A .k) (A .points .now) (A .roots .now) (A .corners .now) (A .volumes .now) (A .ends .now) (A .lengths .now) (A .outline .now) (A .log .now) Y log n found (omega (arith, c .if1 .left))
+    marked-done (A .kind) (bladeBy (A .rule) (A .b0) (A .b1)) (A .room) (A .k) (A .points .now) (A .roots .now) (A .corners .now) (A .volumes .now) (A .ends .now) (A .lengths .now) (A .outline .now) (A .log .now) Y log n found (omega (arith, c .if1 .left))
 
 pub note-crossings-spec : {M : Type 1} → statement M
 note-crossings-spec =

@@ -1,6 +1,6 @@
 -- `crossmarks::note_pair` meets its contract. Assumes nothing.
 use Rattle.crossmarks.proofs.NotingLaws.{pair-miss, pair-written, pair-counted}
-use Rattle.marks.specs.Marking.{bladeFrom}
+use Rattle.marks.specs.Marking.{bladeBy}
 use mathlib.Core.Path.{ap, _∙_}
 use mathlib.Core.Logic.{⊎-elim}
 use lib.ListN.{length}
@@ -10,7 +10,7 @@ use Rattle.crossmarks.proofs.note_pair.Statement.{statement}
 use Rattle.crossmarks.proofs.note_pair.Tie as tie
 use Rattle.crossmarks.proofs.note_pair.Reads as reads
 use Rattle.crossmarks.proofs.note_pair.Lts as lts
-use Rattle.blade.proofs.blade_hit.Reads as blade-hit-reads
+use Rattle.marks.proofs.particles.tested.Reads as tested-reads
 use Rattle.marks.proofs.particles.place.Reads as place-reads
 use Rattle.work.proofs.notes.bits_of.Reads as bits-of-reads
 use Rattle.work.proofs.notes.note.Reads as note-reads
@@ -24,8 +24,8 @@ place-requires-2 : tie.Need-place-requires-2
 place-requires-2 c κs = search needs
 
 -- src/lib.rt:35:9
-blade-hit-requires : tie.Need-blade-hit-requires
-blade-hit-requires c κs = search needs
+tested-requires : tie.Need-tested-requires
+tested-requires c κs = search needs
 
 -- src/lib.rt:36:18
 enum-known-hit : tie.Need-enum-known-hit
@@ -39,7 +39,7 @@ enum-told c = search needs
 returns : tie.Need-returns
 returns c =
     let A = c .before .before .before .before .before .before .before .args in
-    pair-miss (bladeFrom (A .b0) (A .b1)) (A .points .now) (A .x) (A .y) _ _ _ (A .n) _ (c .before .before .before .before .place .ensures) (c .before .before .before .place2 .ensures) (c .before .before .blade-hit .ensures) (c .enum-told .given .1)
+    pair-miss (bladeBy (A .rule) (A .b0) (A .b1)) (A .points .now) (A .x) (A .y) _ _ _ (A .n) _ (c .before .before .before .before .place .ensures) (c .before .before .before .place2 .ensures) (c .before .before .tested .ensures) (c .enum-told .given .1)
 
 -- src/lib.rt:40:13
 bits-of-requires : tie.Need-bits-of-requires
@@ -79,11 +79,11 @@ returns-2 c =
     let A = c .before .before .before .before .before .before .before .before .before .args in
     let P = c .before .before .before .before .before .before .place .ensures in
     let Q = c .before .before .before .before .before .place2 .ensures in
-    let H = c .before .before .before .before .blade-hit .ensures in
+    let H = c .before .before .before .before .tested .ensures in
     let G = c .before .before .hit .given in
     ⊎-elim
-    (λ w. pair-written (bladeFrom (A .b0) (A .b1)) (A .points .now) (A .x) (A .y) _ _ _ _ _ (A .n) _ _ _ _ _ _ P Q H (G .1) (w .1 .ensures) (w .2 .ensures) (w .3 .ensures) (w .5 .ensures) (w .8))
-    (λ w. pair-counted (bladeFrom (A .b0) (A .b1)) (A .points .now) (A .x) (A .y) _ _ _ _ _ (A .n) _ _ P Q H (G .1) (omega (arith, w .0 .left)))
+    (λ w. pair-written (bladeBy (A .rule) (A .b0) (A .b1)) (A .points .now) (A .x) (A .y) _ _ _ _ _ (A .n) _ _ _ _ _ _ P Q H (G .1) (w .1 .ensures) (w .2 .ensures) (w .3 .ensures) (w .5 .ensures) (w .8))
+    (λ w. pair-counted (bladeBy (A .rule) (A .b0) (A .b1)) (A .points .now) (A .x) (A .y) _ _ _ _ _ (A .n) _ _ P Q H (G .1) (omega (arith, w .0 .left)))
     (c .if1 .came)
 
 pub note-pair-spec : {M : Type 1} → statement M
@@ -92,7 +92,7 @@ note-pair-spec =
     (tie.spec
     place-requires
     place-requires-2
-    blade-hit-requires
+    tested-requires
     enum-known-hit
     enum-told
     returns

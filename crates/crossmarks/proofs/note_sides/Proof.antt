@@ -37,7 +37,7 @@ returns c =
     let X = c .before .before .before .before .before .before .before .before .before .before .note-pair in
     let Y = c .before .before .before .before .before .before .note-pair2 in
     let Z = c .before .before .note-pair3 in
-    sides-noted _ _ _ _ _ _ _ _ _ _ _ _ _ (X .kept .1 .1 .1 .1 .1 .1 .0) (Y .kept .1 .1 .1 .1 .1 .1 .0) (X .ensures) (Y .ensures) (Z .ensures)
+    sides-noted _ _ _ _ _ _ _ _ _ _ _ _ _ (X .kept .1 .1 .1 .1 .1 .1 .1 .0) (Y .kept .1 .1 .1 .1 .1 .1 .1 .0) (X .ensures) (Y .ensures) (Z .ensures)
 
 pub note-sides-spec : {M : Type 1} → statement M
 note-sides-spec =

@@ -1,7 +1,7 @@
 -- `crossmarks::note_straps` meets its contract. The invariant: the crossings so far are noted. Assumes nothing.
 use Rattle.crossmarks.specs.Noting.{Noted, strapMarks}
 use Rattle.crossmarks.proofs.NotingLaws.{straps-none, straps-turn, straps-done, strap-noted, strap-passed, few-of-pair, room-of-strap}
-use Rattle.marks.specs.Marking.{bladeFrom}
+use Rattle.marks.specs.Marking.{bladeBy}
 use mathlib.Core.Path.{_≡_, refl}
 use mathlib.Core.Logic.{⊎-elim}
 use Prim.Native.Nat.{_+_, _-_, _≤_}
@@ -14,11 +14,11 @@ use Rattle.crossmarks.proofs.note_straps.Lts as lts
 use Rattle.crossmarks.proofs.note_pair.Reads as note-pair-reads
 
 abbrev Inv-loop : tie.InvT-loop
-Inv-loop b0 b1 e n points ends log₀ size m₀ i₀ log m i =
-    (i ≤ e) × (length log ≡ length log₀) × Noted (strapMarks (bladeFrom b0 b1) points i ends) n log₀ log m × (m ≤ n + i)
+Inv-loop rule b0 b1 e n points ends log₀ size m₀ i₀ log m i =
+    (i ≤ e) × (length log ≡ length log₀) × Noted (strapMarks (bladeBy rule b0 b1) points i ends) n log₀ log m × (m ≤ n + i)
 
 abbrev μ-loop : tie.MeasureT-loop
-μ-loop b0 b1 e n points ends log₀ size m₀ i₀ log m i = e - i
+μ-loop rule b0 b1 e n points ends log₀ size m₀ i₀ log m i = e - i
 
 -- src/lib.rt:116:5
 loop-holds : tie.Need-loop-holds Inv-loop μ-loop
@@ -77,7 +77,7 @@ loop-again : tie.Need-loop-again Inv-loop μ-loop
 loop-again c =
     let L = c .before .before .before .loop in
     ⊎-elim
-    (λ w. let T = straps-turn _ _ _ _ (L .i) _ _ _ _ _ _ _ (L .inv .1) (w .4 .kept .1 .1 .1 .1 .1 .1 .0) (L .inv .2) (L .inv .3) (strap-noted _ _ _ (L .i) _ _ _ _ (w .0 .taken) (w .4 .ensures)) (few-of-pair _ _ _ _ _ _ _ _ (w .4 .ensures)) (w .7) (w .8) in (omega arith, T .0, T .1, T .2))
+    (λ w. let T = straps-turn _ _ _ _ (L .i) _ _ _ _ _ _ _ (L .inv .1) (w .4 .kept .1 .1 .1 .1 .1 .1 .1 .0) (L .inv .2) (L .inv .3) (strap-noted _ _ _ (L .i) _ _ _ _ (w .0 .taken) (w .4 .ensures)) (few-of-pair _ _ _ _ _ _ _ _ (w .4 .ensures)) (w .7) (w .8) in (omega arith, T .0, T .1, T .2))
     (λ w. let T = straps-turn _ _ _ _ (L .i) _ _ _ _ _ _ _ (L .inv .1) refl (L .inv .2) (L .inv .3) (strap-passed _ _ _ (L .i) _ _ (w .0 .left)) (omega arith) (w .1) (w .2) in (omega arith, T .0, T .1, T .2))
     (c .if1 .came)
 

@@ -1,7 +1,7 @@
 -- `crossmarks::note_triangles` meets its contract. The invariant: the crossings so far are noted. Assumes nothing.
 use Rattle.crossmarks.specs.Noting.{Noted, triangleMarks}
 use Rattle.crossmarks.proofs.NotingLaws.{triangles-none, triangles-more, triangles-done, few-of-row, rooms-of-row}
-use Rattle.marks.specs.Marking.{bladeFrom}
+use Rattle.marks.specs.Marking.{bladeBy}
 use mathlib.Core.Path.{_≡_, refl, _∙_}
 use Prim.Native.Nat.{_+_, _*_, _-_, _≤_}
 use native.Mathlib.Omega.{arith}
@@ -13,11 +13,11 @@ use Rattle.crossmarks.proofs.note_triangles.Lts as lts
 use Rattle.crossmarks.proofs.note_sides.Reads as note-sides-reads
 
 abbrev Inv-loop : tie.InvT-loop
-Inv-loop b0 b1 t n points corners log₀ size m₀ i₀ log m i =
-    (i ≤ t) × (length log ≡ length log₀) × Noted (triangleMarks (bladeFrom b0 b1) points i corners) n log₀ log m × (m ≤ n + 3 * i)
+Inv-loop rule b0 b1 t n points corners log₀ size m₀ i₀ log m i =
+    (i ≤ t) × (length log ≡ length log₀) × Noted (triangleMarks (bladeBy rule b0 b1) points i corners) n log₀ log m × (m ≤ n + 3 * i)
 
 abbrev μ-loop : tie.MeasureT-loop
-μ-loop b0 b1 t n points corners log₀ size m₀ i₀ log m i = t - i
+μ-loop rule b0 b1 t n points corners log₀ size m₀ i₀ log m i = t - i
 
 -- src/lib.rt:82:5
 loop-holds : tie.Need-loop-holds Inv-loop μ-loop
@@ -77,7 +77,7 @@ loop-again c =
     let L = c .before .before .before .before .before .before .before .before .loop in
     let S = c .before .before .note-sides in (
       omega arith,
-      S .kept .1 .1 .1 .1 .1 .1 .1 .0 ∙ L .inv .1,
+      S .kept .1 .1 .1 .1 .1 .1 .1 .1 .0 ∙ L .inv .1,
       triangles-more _ _ _ _ (L .i) _ _ _ _ _ (L .inv .1) (L .inv .2) (S .ensures),
       (let f = few-of-row _ _ _ _ _ _ _ _ _ (S .ensures) in let g = L .inv .3 in omega (arith, f, g)),
     )

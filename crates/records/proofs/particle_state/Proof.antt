@@ -88,9 +88,16 @@ ref = tyRef erased imm (pointee (T.the-row .written))
 abbrev refusing : Body
 refusing = seq (assign (place 0 []) (aggregate (int w8 0 ∷ int w64 4 ∷ []))) return
 
+-- how many bytes a record has, and how many of them stand before its damaged flag
+abbrev size : ℕ
+size = 48
+
+abbrev flagAt : ℕ
+flagAt = 40
+
 -- how far a record of the slice lies fits a word, since the slice's bytes do
-far : {n v : ℕ} → Room T.the-row n → v < n → v * 40 < 2 ^ 64
-far {n} {v} room there = let bytes : n * 40 < 2 ^ 63 = room .1 in omega arith
+far : {n v : ℕ} → Room T.the-row n → v < n → v * size < 2 ^ 64
+far {n} {v} room there = let bytes : n * size < 2 ^ 63 = room .1 in omega arith
 
 -- the refusal 4: its number fits
 refused : Is S.the-row (Refused 4) (EL.vals S.the-type S′.the-laws (Refused 4))
@@ -192,8 +199,8 @@ module _ {M : Type 1} (𝓤 : URA M) (H : Heap 𝓤) (A : Atoms 𝓤) (W : Given
 
     -- the function's locals where the record's place is known, its inverse mass and its flag perhaps read
     abbrev Found : Item 𝓤 → ℕ → Bool → List (Item 𝓤) → List (Item 𝓤)
-    Found inv n y Γ = inv ∷ ‵ (fdies (tyFloat binary32) l₇) ∷ ‵ (fat fullShare tyPtr l₆ 0 (vptr b (placed 40 o v))) ∷ ‵ (fdies tyPtr l₆) ∷ ‵ (fat fullShare tyBool l₅ 0 (vbool y)) ∷ ‵ (fdies tyBool l₅)
-        ∷ ‵ (fat fullShare word l₄ 0 (vint w64 n)) ∷ ‵ (fdies word l₄) ∷ ‵ (fat fullShare ref l₃ 0 (vptr b (placed 40 o v))) ∷ ‵ (fdies ref l₃) ∷ Given-locals Γ
+    Found inv n y Γ = inv ∷ ‵ (fdies (tyFloat binary32) l₇) ∷ ‵ (fat fullShare tyPtr l₆ 0 (vptr b (placed size o v))) ∷ ‵ (fdies tyPtr l₆) ∷ ‵ (fat fullShare tyBool l₅ 0 (vbool y)) ∷ ‵ (fdies tyBool l₅)
+        ∷ ‵ (fat fullShare word l₄ 0 (vint w64 n)) ∷ ‵ (fdies word l₄) ∷ ‵ (fat fullShare ref l₃ 0 (vptr b (placed size o v))) ∷ ‵ (fdies ref l₃) ∷ Given-locals Γ
 
     -- what the parameters own, apart, once both fields are read
     abbrev Read : Bool → List (Item 𝓤)
@@ -217,7 +224,7 @@ module _ {M : Type 1} (𝓤 : URA M) (H : Heap 𝓤) (A : Atoms 𝓤) (W : Given
           ends u _ (keep ! (4 ∷ 2 ∷ 0 ∷ 3 ∷ []) $ by ! (exits r u (e ∙ present ys v there)))))))
 
       -- the slice is looked into, the record at v is taken out, its two fields are read, and all is put back
-      reads : (y : Bool) → v < length ys → Sq W (Found (‵ (froom (tyFloat binary32) l₇ 0)) (v * 40) y Had) (runs C Λ E body.t-7 (atRet E Post))
+      reads : (y : Bool) → v < length ys → Sq W (Found (‵ (froom (tyFloat binary32) l₇ 0)) (v * size) y Had) (runs C Λ E body.t-7 (atRet E Post))
       reads y there =
           move ! (17 ∷ []) $ fsplit ! $ fsplit ! $ move ! (1 ∷ []) $ fsplit ! $ move ! (20 ∷ []) $ split ! $ move ! (3 ∷ 0 ∷ []) $
           looks-slice ! tt T.the-row (Is T.the-row) (shows 𝓤 H A T.the-row) vals (LL.tells T.the-type T′.the-laws) (LL.copy T.the-type T′.the-copy 𝓤 H A W) ys b o (λ q′.
@@ -225,16 +232,16 @@ module _ {M : Type 1} (𝓤 : URA M) (H : Heap 𝓤) (A : Atoms 𝓤) (W : Given
           let owed = LL.owed T.the-type T′.the-laws p _ g in
           -- [the record; what it owns; the others; what shuts; the borrow; true; what observes; what is said of the slice; what v owns; _7; …; _6; …; _5; …; _4; …; _3; …; …]
           assigns ! (of-opd ! (load ! (from ! (hop ! (look ! 17 refl) (fld ! {d = 20} refl (stop !)))) (look-in ! 0 (sub ! 5 {d = 20} refl (whole !))))) (from ! (stop !)) (init ! 9 refl (tt, passes _ (owed .1 .1 .1 .1 .1 .0 .1))) $
-          assigns ! (of-opd ! (load ! (from ! (hop ! (look ! 17 refl) (fld ! {d = 32} refl (stop !)))) (look-in ! 0 (sub ! 7 {d = 32} refl (whole !))))) (from ! (stop !)) (store ! 15 refl (tt, record { fits = owed .1 .1 .1 .1 .1 .1 .1 .0 .1 })) $
+          assigns ! (of-opd ! (load ! (from ! (hop ! (look ! 17 refl) (fld ! {d = flagAt} refl (stop !)))) (look-in ! 0 (sub ! 9 {d = flagAt} refl (whole !))))) (from ! (stop !)) (store ! 15 refl (tt, record { fits = owed .1 .1 .1 .1 .1 .1 .1 .1 .1 .0 .1 })) $
           elem-back ! T.the-row q′ ys v unused (vals p) b o there $ shuts-slice ! tt T.the-row q′ ys b o $
-          asks y there (owed .1 .1 .1 .1 .1 .0 .1) (owed .1 .1 .1 .1 .1 .1 .1 .0 .1)))
+          asks y there (owed .1 .1 .1 .1 .1 .0 .1) (owed .1 .1 .1 .1 .1 .1 .1 .1 .1 .0 .1)))
 
       -- the record's place is v times its size past the pointer
-      tells : (y : Bool) → v < length ys → v * 40 < 2 ^ 64 → Sq W (Tested y) (runs C Λ E body.t-4 (atRet E Post))
+      tells : (y : Bool) → v < length ys → v * size < 2 ^ 64 → Sq W (Tested y) (runs C Λ E body.t-4 (atRet E Post))
       tells y there far =
           assigns ! (bin ! (load ! (from ! (stop !)) (look ! 10 refl)) (lit ! tt) (record { fits = far })) (from ! (stop !)) (store ! 6 refl (tt, record { fits = far })) $
           assigns ! (bin ! (load ! (from ! (fld ! refl (stop !))) (look-in ! 12 (sub ! 0 refl (whole !)))) (load ! (from ! (stop !)) (look ! 6 refl)) tt) (from ! (stop !)) (init ! 2 refl (tt, tt)) $
-          rewrite ! 2 (λ (o′ : ℕ). ‵ (fat fullShare tyPtr l₆ 0 (vptr b o′))) (sym (place-is 40 o v)) refl $
+          rewrite ! 2 (λ (o′ : ℕ). ‵ (fat fullShare tyPtr l₆ 0 (vptr b o′))) (sym (place-is size o v)) refl $
           assigns ! (addr ! (from ! (hop ! (look ! 2 refl) (stop !)))) (from ! (stop !)) (init ! 8 refl (tt, tt)) $ reads y there
 
       -- the count is read and tested

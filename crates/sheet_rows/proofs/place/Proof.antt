@@ -8,6 +8,7 @@ use Rattle.columns.specs.Block.{cell}
 use borrow.Author.Needs.{needs}
 use Rattle.sheet_rows.proofs.place.Statement.{statement}
 use Rattle.sheet_rows.proofs.place.Tie as tie
+use Rattle.mesh.specs.Widths.{pointColumns}
 
 mul-t3 : tie.Need-mul-t3
 mul-t3 c = search needs
@@ -25,7 +26,7 @@ shared-slice-read-t11 : tie.Need-shared-slice-read-t11
 shared-slice-read-t11 c = search needs
 
 returns : tie.Need-returns
-returns c = let pts = c .before .before .args .points .now in let k = c .before .before .args .k in λ i. record { x = sym (col-0 nan (length pts / 6) pts k) i; y = sym (col-1 nan (length pts / 6) pts k) i }
+returns c = let pts = c .before .before .args .points .now in let k = c .before .before .args .k in λ i. record { x = sym (col-0 nan (length pts / pointColumns) pts k) i; y = sym (col-1 nan (length pts / pointColumns) pts k) i }
 
 pub place-spec : {M : Type 1} → statement M
 place-spec =

@@ -80,6 +80,30 @@ mul-points-10 c = search needs
 slice-write-points-6 : tie.Need-slice-write-points-6
 slice-write-points-6 c = simp length-set (omega (arith, c .before .before .before .before .before .pre .room .points))
 
+mul-points-11 : tie.Need-mul-points-11
+mul-points-11 c = search needs
+
+add-points-6 : tie.Need-add-points-6
+add-points-6 c = search needs
+
+mul-points-12 : tie.Need-mul-points-12
+mul-points-12 c = search needs
+
+slice-write-points-7 : tie.Need-slice-write-points-7
+slice-write-points-7 c = simp length-set (omega (arith, c .before .before .before .before .before .pre .room .points))
+
+mul-points-13 : tie.Need-mul-points-13
+mul-points-13 c = search needs
+
+add-points-7 : tie.Need-add-points-7
+add-points-7 c = search needs
+
+mul-points-14 : tie.Need-mul-points-14
+mul-points-14 c = search needs
+
+slice-write-points-8 : tie.Need-slice-write-points-8
+slice-write-points-8 c = simp length-set (omega (arith, c .before .before .before .before .before .pre .room .points))
+
 mul-roots : tie.Need-mul-roots
 mul-roots c = search needs
 
@@ -133,6 +157,14 @@ put-particle-spec =
     add-points-5
     mul-points-10
     slice-write-points-6
+    mul-points-11
+    add-points-6
+    mul-points-12
+    slice-write-points-7
+    mul-points-13
+    add-points-7
+    mul-points-14
+    slice-write-points-8
     mul-roots
     slice-write-roots
     add-roots

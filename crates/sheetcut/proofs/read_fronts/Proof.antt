@@ -5,6 +5,7 @@ use mathlib.Core.Path.{sym, _∙_, ap}
 use lib.ListN.{drop, replicate}
 use Prim.Native.Nat.{_*_}
 use lib.Seq.{length-take-le}
+use Rattle.mesh.specs.Widths.{pointColumns}
 use Rattle.sheetcut.proofs.Reading.{seen-few, front-long, exact-fronts, fronts-read}
 use Rattle.sheetcut.proofs.read_fronts.Statement.{statement}
 use Rattle.sheetcut.proofs.read_fronts.Tie as tie
@@ -76,7 +77,7 @@ read-requires : tie.Need-read-requires
 read-requires c κs = search needs
 
 same-length : tie.Need-same-length
-same-length c = let A = c .before .before .before .before .before .before .before .before .before .before .before .before .before .before .before .before .before .before .before .before .before .before .before .before .before .before .before .before .before .before .before .before .before .before .before .before .before .before .before .before .before .before .args in front-long (6 * A .c .particles) (A .points .now) (c .before .before .before .before .before .before .before .before .before .before .before .before .before .before .before .before .before .read .last .1 .1 .0) (c .before .before .before .before .before .before .before .before .before .before .before .before .before .before .before .before .before .read .kept .1 .1 .0)
+same-length c = let A = c .before .before .before .before .before .before .before .before .before .before .before .before .before .before .before .before .before .before .before .before .before .before .before .before .before .before .before .before .before .before .before .before .before .before .before .before .before .before .before .before .before .before .args in front-long (pointColumns * A .c .particles) (A .points .now) (c .before .before .before .before .before .before .before .before .before .before .before .before .before .before .before .before .before .read .last .1 .1 .0) (c .before .before .before .before .before .before .before .before .before .before .before .before .before .before .before .before .before .read .kept .1 .1 .0)
 
 same-length-2 : tie.Need-same-length-2
 same-length-2 c = let A = c .before .before .before .before .before .before .before .before .before .before .before .before .before .before .before .before .before .before .before .before .before .before .before .before .before .before .before .before .before .before .before .before .before .before .before .before .before .before .before .before .before .before .args in front-long (2 * A .c .particles) (A .roots .now) (c .before .before .before .before .before .before .before .before .before .before .before .before .before .before .before .before .before .read .last .1 .1 .1 .0) (c .before .before .before .before .before .before .before .before .before .before .before .before .before .before .before .before .before .read .kept .1 .1 .1 .0)
@@ -105,7 +106,7 @@ returns c =
     let A = c .before .before .before .before .before .before .before .before .before .before .before .before .before .before .before .before .before .before .before .before .before .before .before .before .before .before .before .before .before .before .before .before .before .before .before .before .before .before .before .before .before .before .args in
     let Q = c .before .before .before .before .before .before .before .before .before .before .before .before .before .before .before .before .before .read in
     fronts-read (A .sheet .now) (A .c) _ (Q .result) (Q .last .1 .1 .0) (Q .last .1 .1 .1 .0) (Q .last .1 .1 .1 .1 .0) (Q .last .1 .1 .1 .1 .1 .0) (Q .last .1 .1 .1 .1 .1 .1 .0) (Q .last .1 .1 .1 .1 .1 .1 .1 .0) (Q .last .1 .1 .1 .1 .1 .1 .1 .1 .0) (Q .last .1 .1 .1 .1 .1 .1 .1 .1 .1 .0) (A .blade .now) (Q .last .1 .1 .1 .1 .1 .1 .1 .1 .1 .1 .0) (Q .ensures) (H .seen)
-    (exact-fronts (A .c) (A .points .now) (A .roots .now) (A .corners .now) (A .volumes .now) (A .ends .now) (A .lengths .now) (A .outline .now) (replicate 6 0) (seen-few _ _ _ (H .seen)) (H .ample)) (H .four) (drop (6 * A .c .particles) (A .points .now)) (drop (2 * A .c .particles) (A .roots .now)) (drop (3 * A .c .triangles) (A .corners .now)) (drop (2 * A .c .triangles) (A .volumes .now)) (drop (4 * A .c .edges) (A .ends .now)) (drop (4 * A .c .edges) (A .lengths .now)) (drop (2 * A .c .boundary) (A .outline .now))
+    (exact-fronts (A .c) (A .points .now) (A .roots .now) (A .corners .now) (A .volumes .now) (A .ends .now) (A .lengths .now) (A .outline .now) (replicate 6 0) (seen-few _ _ _ (H .seen)) (H .ample)) (H .four) (drop (pointColumns * A .c .particles) (A .points .now)) (drop (2 * A .c .particles) (A .roots .now)) (drop (3 * A .c .triangles) (A .corners .now)) (drop (2 * A .c .triangles) (A .volumes .now)) (drop (4 * A .c .edges) (A .ends .now)) (drop (4 * A .c .edges) (A .lengths .now)) (drop (2 * A .c .boundary) (A .outline .now))
 
 pub read-fronts-spec : {M : Type 1} → statement M
 read-fronts-spec =

@@ -8,9 +8,10 @@ use Rattle.mesh.specs.declared.Rooms.{Rooms}
 use Rattle.mesh.proofs.Agree.{lent-path}
 use Rattle.answer.proofs.Begun.{roomed}
 use Rattle.answer.proofs.Calls.{came-fits, answered}
-use Rattle.marks.specs.Marking.{bladeFrom}
 use Rattle.jobs.specs.Jobs.{jobCall}
 use Rattle.jobs.specs.declared.Job.the-variants.{Cut}
+use Rattle.jobs.proofs.Jobs.{cut-is}
+use Rattle.bench.proofs.Coming.{came-as}
 use Rattle.bench.proofs.tearing.cut.Statement.{statement}
 use Rattle.bench.proofs.tearing.cut.Tie as tie
 
@@ -28,7 +29,7 @@ finish-requires c κs =
     let A = c .before .before .before .before .before .before .before .before .before .before .before .before .before .before .before .before .before .before .before .before .before .before .before .before .before .before .before .before .before .before .before .before .before .before .before .before .before .before .before .before .before .before .before .before .before .before .before .before .before .before .args in
     let G = given (A .in-points .now) (A .in-roots .now) (A .in-corners .now) (A .in-volumes .now) (A .in-ends .now) (A .in-lengths .now) (A .in-outline .now) in
     let W = c .before .before .before .before .before .before .before .before .before .before .before .before .before .before .before .before .before .before .before .before .before .before .before .before .run in
-    came-fits (λ (R : Rooms). jobCall (Cut (A .b0) (A .b1) (A .f)) _ (sizesFit G) (meshOf G) (asRooms R)) (lent (A .points .now) (A .roots .now) (A .corners .now) (A .volumes .now) (A .ends .now) (A .lengths .now) (A .outline .now) (A .log .now)) (c .before .before .before .before .before .before .before .before .before .before .before .before .before .before .before .before .before .before .before .before .before .before .before .before .before .before .before .before .before .before .before .before .before .before .rooms-for .ensures) (W .ensures) _
+    came-fits (λ (R : Rooms). jobCall (Cut (A .edition) (A .b0) (A .b1) (A .f)) _ (sizesFit G) (meshOf G) (asRooms R)) (lent (A .points .now) (A .roots .now) (A .corners .now) (A .volumes .now) (A .ends .now) (A .lengths .now) (A .outline .now) (A .log .now)) (c .before .before .before .before .before .before .before .before .before .before .before .before .before .before .before .before .before .before .before .before .before .before .before .before .before .before .before .before .before .before .before .before .before .before .rooms-for .ensures) (W .ensures) _
     (lent-path _ _ (W .kept .1 .1 .1 .1 .1 .1 .1 .1 .1 .1 .0) (W .kept .1 .1 .1 .1 .1 .1 .1 .1 .1 .1 .1 .0) (W .kept .1 .1 .1 .1 .1 .1 .1 .1 .1 .1 .1 .1 .0) (W .kept .1 .1 .1 .1 .1 .1 .1 .1 .1 .1 .1 .1 .1 .0) (W .kept .1 .1 .1 .1 .1 .1 .1 .1 .1 .1 .1 .1 .1 .1 .0) (W .kept .1 .1 .1 .1 .1 .1 .1 .1 .1 .1 .1 .1 .1 .1 .1 .0) (W .kept .1 .1 .1 .1 .1 .1 .1 .1 .1 .1 .1 .1 .1 .1 .1 .1 .0) (W .kept .1 .1 .1 .1 .1 .1 .1 .1 .1 .1 .1 .1 .1 .1 .1 .1 .1 .0))
 
 same-length : tie.Need-same-length
@@ -56,12 +57,11 @@ same-length-8 : tie.Need-same-length-8
 same-length-8 c = c .before .before .before .before .before .before .before .before .before .before .before .before .before .before .before .before .finish .kept .1 .1 .1 .1 .1 .1 .1 .1 .0 ∙ c .before .before .before .before .before .before .before .before .before .before .before .before .before .before .before .before .before .before .before .before .before .before .before .before .before .before .before .before .before .before .before .before .before .before .before .before .before .before .before .before .before .run .kept .1 .1 .1 .1 .1 .1 .1 .1 .1 .1 .1 .1 .1 .1 .1 .1 .1 .0
 
 returns : tie.Need-returns
-unfolding jobCall cutCall
 returns c =
     let A = c .before .before .before .before .before .before .before .before .before .before .before .before .before .before .before .before .before .before .before .before .before .before .before .before .before .before .before .before .before .before .before .before .before .before .before .before .before .before .before .before .before .before .before .before .before .before .before .before .before .before .before .before .before .before .before .before .before .before .before .before .before .before .before .before .before .before .before .args in
     let G = given (A .in-points .now) (A .in-roots .now) (A .in-corners .now) (A .in-volumes .now) (A .in-ends .now) (A .in-lengths .now) (A .in-outline .now) in
     let W = c .before .before .before .before .before .before .before .before .before .before .before .before .before .before .before .before .before .before .before .before .before .before .before .before .before .before .before .before .before .before .before .before .before .before .before .before .before .before .before .before .before .run in
-    answered (λ (R : Rooms). cutCall (sizesFit G) (meshOf G) (bladeFrom (A .b0) (A .b1)) (A .f) (asRooms R)) (lent (A .points .now) (A .roots .now) (A .corners .now) (A .volumes .now) (A .ends .now) (A .lengths .now) (A .outline .now) (A .log .now)) (c .before .before .before .before .before .before .before .before .before .before .before .before .before .before .before .before .before .before .before .before .before .before .before .before .before .before .before .before .before .before .before .before .before .before .before .before .before .before .before .before .before .before .before .before .before .before .before .before .before .before .before .rooms-for .ensures) (W .ensures) _ _ _ _ _ _ _ _ _ _
+    answered (λ (R : Rooms). cutCall (sizesFit G) (meshOf G) (A .edition) (record { from = A .b0; to = A .b1 }) (A .f) (asRooms R)) (lent (A .points .now) (A .roots .now) (A .corners .now) (A .volumes .now) (A .ends .now) (A .lengths .now) (A .outline .now) (A .log .now)) (c .before .before .before .before .before .before .before .before .before .before .before .before .before .before .before .before .before .before .before .before .before .before .before .before .before .before .before .before .before .before .before .before .before .before .before .before .before .before .before .before .before .before .before .before .before .before .before .before .before .before .before .rooms-for .ensures) (came-as (cut-is (A .edition) (A .b0) (A .b1) (A .f) _ (sizesFit G) (meshOf G) _) (W .ensures)) _ _ _ _ _ _ _ _ _ _
     (lent-path _ _ (W .kept .1 .1 .1 .1 .1 .1 .1 .1 .1 .1 .0) (W .kept .1 .1 .1 .1 .1 .1 .1 .1 .1 .1 .1 .0) (W .kept .1 .1 .1 .1 .1 .1 .1 .1 .1 .1 .1 .1 .0) (W .kept .1 .1 .1 .1 .1 .1 .1 .1 .1 .1 .1 .1 .1 .0) (W .kept .1 .1 .1 .1 .1 .1 .1 .1 .1 .1 .1 .1 .1 .1 .0) (W .kept .1 .1 .1 .1 .1 .1 .1 .1 .1 .1 .1 .1 .1 .1 .1 .0) (W .kept .1 .1 .1 .1 .1 .1 .1 .1 .1 .1 .1 .1 .1 .1 .1 .1 .0) (W .kept .1 .1 .1 .1 .1 .1 .1 .1 .1 .1 .1 .1 .1 .1 .1 .1 .1 .0)) (c .before .before .before .before .before .before .before .before .before .before .before .before .before .before .before .before .finish .ensures)
 
 pub cut-spec : {M : Type 1} → statement M

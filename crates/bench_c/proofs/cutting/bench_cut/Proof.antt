@@ -1,4 +1,4 @@
--- `bench_c::cutting::bench_cut` meets its contract: a bad argument, or the job on the blade and the fraction that were read. Assumes nothing.
+-- `bench_c::cutting::bench_cut` meets its contract: a bad argument, or the job on the blade and the fraction that were read, in the edition that was told. Assumes nothing.
 use native.Mathlib.Omega.{arith}
 use borrow.Author.Needs.{needs}
 use Rattle.reading_c.proofs.Asking.{unread-small}
@@ -19,7 +19,7 @@ same-length-2 : tie.Need-same-length-2
 same-length-2 c = c .before .before .before .before .refuse .kept .1 .1 .0
 
 returns : tie.Need-returns
-returns c = let A = c .before .before .before .before .before .before .before .before .before .before .before .before .before .before .args in cut-misread (A .bytes .now) (A .rooms .now) _ _ _ _ _ (A .blade .now) (A .fraction) _ (c .before .before .before .before .before .before .before .before .if1 .taken) (c .before .before .before .before .before .before .before .unread .ensures) (c .before .before .before .before .refuse .ensures)
+returns c = let A = c .before .before .before .before .before .before .before .before .before .before .before .before .before .before .args in cut-misread (A .bytes .now) (A .rooms .now) _ _ _ _ _ (A .blade .now) (A .edition) (A .fraction) _ (c .before .before .before .before .before .before .before .before .if1 .taken) (c .before .before .before .before .before .before .before .unread .ensures) (c .before .before .before .before .refuse .ensures)
 
 point-at-requires : tie.Need-point-at-requires
 point-at-requires c κs = omega (arith, c .if1 .left)
@@ -43,7 +43,7 @@ same-length-4 : tie.Need-same-length-4
 same-length-4 c = c .before .before .before .before .reply-job .kept .1 .1 .1 .1 .1 .0
 
 returns-2 : tie.Need-returns-2
-returns-2 c = let A = c .before .before .before .before .before .before .before .before .before .before .before .before .before .before .before .before .before .args in cut-replied (A .bytes .now) (A .rooms .now) _ _ _ _ _ (A .blade .now) (A .fraction) _ _ _ _ (c .before .before .before .before .before .before .before .before .before .before .before .if1 .left) (c .before .before .before .before .before .before .before .before .before .before .point-at .ensures) (c .before .before .before .before .before .before .before .before .before .point-at2 .ensures) (c .before .before .before .before .before .before .before .before .number-of .ensures) (c .before .before .before .before .reply-job .ensures)
+returns-2 c = let A = c .before .before .before .before .before .before .before .before .before .before .before .before .before .before .before .before .before .args in cut-replied (A .bytes .now) (A .rooms .now) _ _ _ _ _ (A .blade .now) (A .edition) (A .fraction) _ _ _ _ (c .before .before .before .before .before .before .before .before .before .before .before .if1 .left) (c .before .before .before .before .before .before .before .before .before .before .point-at .ensures) (c .before .before .before .before .before .before .before .before .before .point-at2 .ensures) (c .before .before .before .before .before .before .before .before .number-of .ensures) (c .before .before .before .before .reply-job .ensures)
 
 pub bench-cut-spec : {M : Type 1} → statement M
 bench-cut-spec =

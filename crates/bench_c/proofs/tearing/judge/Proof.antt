@@ -12,8 +12,8 @@ use Rattle.bench_c.proofs.tearing.judge.Tie as tie
 image-counts-requires : tie.Need-image-counts-requires
 image-counts-requires c κs = c .before .before .pre
 
-mul-p6 : tie.Need-mul-p6
-mul-p6 c = let b = image-bytes _ _ (c .before .before .before .before .pre) (c .before .image-counts .ensures) in omega (arith, b .few-particles)
+mul-p8 : tie.Need-mul-p8
+mul-p8 c = let b = image-bytes _ _ (c .before .before .before .before .pre) (c .before .image-counts .ensures) in omega (arith, b .few-particles)
 
 mul-p2 : tie.Need-mul-p2
 mul-p2 c = let b = image-bytes _ _ (c .before .before .before .before .before .pre) (c .before .before .image-counts .ensures) in omega (arith, b .few-particles)
@@ -105,4 +105,4 @@ returns c =
     judged (c .before .before .before .before .before .before .before .before .before .before .before .before .before .before .before .before .before .before .before .before .before .before .before .before .before .before .before .before .before .before .before .before .args .job) (c .before .before .before .before .before .before .before .before .before .before .before .before .before .before .before .before .before .before .before .before .before .before .before .before .before .before .before .before .before .before .before .before .args .list .now) (c .before .before .before .before .before .before .before .before .before .before .before .before .before .before .before .before .before .before .before .before .before .before .before .before .before .before .before .before .before .before .before .before .args .bytes .now) (c .before .before .before .before .before .before .before .before .before .before .before .before .before .before .before .before .before .before .before .before .before .before .before .before .before .before .before .before .before .before .before .before .args .room) (c .before .before .before .before .before .before .before .before .before .before .before .before .before .before .before .before .before .before .before .before .before .before .before .before .before .before .before .before .before .before .before .before .pre) _ _ (fronts-are _ _ _ _ _ _ _ _ _ _ _ _ (n .0) (n .1) (n .2) (n .3) (c .before .before .before .before .before .before .before .before .before .before .before .before .before .before .before .load .ensures)) (c .judge .ensures)
 
 pub judge-spec : {M : Type 1} → statement M
-judge-spec = tie.close (tie.spec image-counts-requires mul-p6 mul-p2 mul-t3 mul-t2 mul-e4 mul-b2 slice-aggregate-load slice-aggregate-load-2 slice-aggregate-load-3 slice-aggregate-load-4 slice-aggregate-load-5 slice-aggregate-load-6 slice-aggregate-load-7 load-requires array-share-prefix-points slice-aggregate-judge array-share-prefix-roots slice-aggregate-judge-2 array-share-prefix-corners slice-aggregate-judge-3 array-share-prefix-volumes slice-aggregate-judge-4 array-share-prefix-ends slice-aggregate-judge-5 array-share-prefix-lengths slice-aggregate-judge-6 array-share-prefix-outline slice-aggregate-judge-7 judge-requires returns)
+judge-spec = tie.close (tie.spec image-counts-requires mul-p8 mul-p2 mul-t3 mul-t2 mul-e4 mul-b2 slice-aggregate-load slice-aggregate-load-2 slice-aggregate-load-3 slice-aggregate-load-4 slice-aggregate-load-5 slice-aggregate-load-6 slice-aggregate-load-7 load-requires array-share-prefix-points slice-aggregate-judge array-share-prefix-roots slice-aggregate-judge-2 array-share-prefix-corners slice-aggregate-judge-3 array-share-prefix-volumes slice-aggregate-judge-4 array-share-prefix-ends slice-aggregate-judge-5 array-share-prefix-lengths slice-aggregate-judge-6 array-share-prefix-outline slice-aggregate-judge-7 judge-requires returns)

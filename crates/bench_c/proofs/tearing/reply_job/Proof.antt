@@ -15,11 +15,11 @@ rooms-in-requires c κs = search needs
 judge-requires : tie.Need-judge-requires
 judge-requires c κs = sym (c .before .before .image-sized .ensures) ∙ c .before .if1 .taken
 
-first-requires : tie.Need-first-requires
-first-requires c κs = search needs
+with-rooms-requires : tie.Need-with-rooms-requires
+with-rooms-requires c κs = search needs
 
 refuse-requires : tie.Need-refuse-requires
-refuse-requires c κs = let A = c .before .before .before .before .before .before .before .before .before .before .before .before .before .args in job-small (A .job) (A .list .now) (A .bytes .now) (A .rooms .now) _ 0 0 0 (A .log .now) (A .log .now) _ _ (c .before .before .before .before .judge .ensures) (c .before .before .before .first .ensures)
+refuse-requires c κs = let A = c .before .before .before .before .before .before .before .before .before .before .before .before .before .args in job-small (A .job) (A .list .now) (A .bytes .now) (A .rooms .now) _ 0 0 0 (A .log .now) (A .log .now) _ _ (c .before .before .before .before .judge .ensures) (c .before .before .before .with-rooms .ensures)
 
 same-length : tie.Need-same-length
 same-length c = c .before .before .before .before .refuse .kept .1 .0
@@ -30,14 +30,14 @@ same-length-2 c = c .before .before .before .before .refuse .kept .1 .1 .0
 returns : tie.Need-returns
 returns c =
     let A = c .before .before .before .before .before .before .before .before .before .before .before .before .before .before .before .before .before .before .args in
-    job-turned (A .job) (A .list .now) (A .bytes .now) (A .rooms .now) _ _ _ _ _ _ _ _ (c .before .before .before .before .before .before .before .before .before .judge .ensures) (c .before .before .before .before .before .before .before .before .first .ensures) (c .before .before .before .before .before .before .before .before .before .before .rooms-in .ensures .1) (c .before .before .before .before .before .before .before .if2 .taken) (c .before .before .before .before .refuse .ensures)
+    job-turned (A .job) (A .list .now) (A .bytes .now) (A .rooms .now) _ _ _ _ _ _ _ _ (c .before .before .before .before .before .before .before .before .before .judge .ensures) (c .before .before .before .before .before .before .before .before .with-rooms .ensures) (c .before .before .before .before .before .before .before .before .before .before .rooms-in .ensures .1) (c .before .before .before .before .before .before .before .if2 .taken) (c .before .before .before .before .refuse .ensures)
 
 reply-accepted-requires : tie.Need-reply-accepted-requires
 reply-accepted-requires c κs =
     let A = c .before .before .before .before .before .before .before .before .before .before .before .before .before .args in (
       sym (c .before .before .before .before .before .before .before .image-sized .ensures) ∙ c .before .before .before .before .before .before .if1 .taken,
       c .before .before .before .before .before .rooms-in .ensures .0,
-      job-accepted (A .job) (A .list .now) (A .bytes .now) (A .rooms .now) _ 0 _ 0 (A .log .now) (A .log .now) _ _ (c .before .before .before .before .judge .ensures) (c .before .before .before .first .ensures) (c .before .before .before .before .before .rooms-in .ensures .1) (c .before .before .if2 .left),
+      job-accepted (A .job) (A .list .now) (A .bytes .now) (A .rooms .now) _ 0 _ 0 (A .log .now) (A .log .now) _ _ (c .before .before .before .before .judge .ensures) (c .before .before .before .with-rooms .ensures) (c .before .before .before .before .before .rooms-in .ensures .1) (c .before .before .if2 .left),
     )
 
 same-length-3 : tie.Need-same-length-3
@@ -49,7 +49,7 @@ same-length-4 c = c .before .before .before .before .reply-accepted .kept .1 .1 
 returns-2 : tie.Need-returns-2
 returns-2 c =
     let A = c .before .before .before .before .before .before .before .before .before .before .before .before .before .before .before .before .before .before .args in
-    job-replied (A .job) (A .list .now) (A .bytes .now) (A .rooms .now) _ _ _ _ _ _ _ _ (c .before .before .before .before .before .before .before .before .before .judge .ensures) (c .before .before .before .before .before .before .before .before .first .ensures) (c .before .before .before .before .before .before .before .before .before .before .rooms-in .ensures .1) (c .before .before .before .before .before .before .before .if2 .left) (c .before .before .before .before .reply-accepted .ensures)
+    job-replied (A .job) (A .list .now) (A .bytes .now) (A .rooms .now) _ _ _ _ _ _ _ _ (c .before .before .before .before .before .before .before .before .before .judge .ensures) (c .before .before .before .before .before .before .before .before .with-rooms .ensures) (c .before .before .before .before .before .before .before .before .before .before .rooms-in .ensures .1) (c .before .before .before .before .before .before .before .if2 .left) (c .before .before .before .before .reply-accepted .ensures)
 
 refuse-requires-2 : tie.Need-refuse-requires-2
 refuse-requires-2 c κs = omega arith
@@ -64,4 +64,4 @@ returns-3 : tie.Need-returns-3
 returns-3 c = let A = c .before .before .before .before .before .before .before .before .before .before .before .before .before .before .args in job-unsized (A .job) (A .list .now) (A .bytes .now) (A .rooms .now) _ _ _ _ _ _ (c .before .before .before .before .before .before .before .before .image-sized .ensures) (c .before .before .before .before .before .before .before .if1 .left) (c .before .before .before .before .refuse2 .ensures)
 
 pub reply-job-spec : {M : Type 1} → statement M
-reply-job-spec = tie.close (tie.spec image-sized-requires rooms-in-requires judge-requires first-requires refuse-requires same-length same-length-2 returns reply-accepted-requires same-length-3 same-length-4 returns-2 refuse-requires-2 same-length-5 same-length-6 returns-3)
+reply-job-spec = tie.close (tie.spec image-sized-requires rooms-in-requires judge-requires with-rooms-requires refuse-requires same-length same-length-2 returns reply-accepted-requires same-length-3 same-length-4 returns-2 refuse-requires-2 same-length-5 same-length-6 returns-3)

@@ -29,7 +29,7 @@ same-length-2 c = search needs
 
 returns-2 : tie.Need-returns-2
 returns-2 c = let A = c .before .before .before .before .before .before .before .before .before .before .args in
-    blade-parts (A .way) (kindIs (A .kind)) (A .v) (A .n) (A .verts .now) (A .points .now) _ _ _ (c .before .before .before .before .before .way .given .1) (c .before .before .blade-sides .ensures)
+    blade-parts (A .way) (kindIs (A .kind)) (A .v) (A .n) (A .verts .now) (A .points .now) _ _ _ _ (c .before .before .before .before .before .way .given .1) (c .before .before .blade-sides .ensures)
 
 pub part-fan-spec : {M : Type 1} → statement M
 part-fan-spec =

@@ -36,14 +36,28 @@ rest-point-requires-2 c κs = search needs
 lerp-requires-2 : tie.Need-lerp-requires-2
 lerp-requires-2 c κs = search needs
 
+velocity-of-requires : tie.Need-velocity-of-requires
+velocity-of-requires c κs = search needs
+
+velocity-of-requires-2 : tie.Need-velocity-of-requires-2
+velocity-of-requires-2 c κs = search needs
+
+lerp-requires-3 : tie.Need-lerp-requires-3
+lerp-requires-3 c κs = search needs
+
 -- src/particles.rt:93:18
 inv-requires : tie.Need-inv-requires
 inv-requires c κs = search needs
 
 -- src/particles.rt:76:1
 returns : tie.Need-returns
-returns c = let A = c .before .before .before .before .before .before .before .before .before .args in
-    between-is (A .plan) (A .m) (A .n) (A .damaged) (A .points .now) _ _ _ (c .before .before .before .before .lerp .ensures ∙ ap₂ (λ (f g : Point). lerpOf f g (A .plan .at)) (c .before .before .before .before .before .before .place .ensures) (c .before .before .before .before .before .place2 .ensures)) (c .before .lerp2 .ensures ∙ ap₂ (λ (f g : Point). lerpOf f g (A .plan .at)) (c .before .before .before .rest-point .ensures) (c .before .before .rest-point2 .ensures)) (c .inv .ensures)
+returns c = let A = c .before .before .before .before .before .before .before .before .before .before .before .before .args in
+    let mixed : Point → Point → Point = λ f g. lerpOf f g (A .plan .at) in
+    between-is (A .plan) (A .m) (A .n) (A .damaged) (A .points .now) _ _ _ _
+    (c .before .before .before .before .before .before .before .lerp .ensures ∙ ap₂ mixed (c .before .before .before .before .before .before .before .before .before .place .ensures) (c .before .before .before .before .before .before .before .before .place2 .ensures))
+    (c .before .before .before .before .lerp2 .ensures ∙ ap₂ mixed (c .before .before .before .before .before .before .rest-point .ensures) (c .before .before .before .before .before .rest-point2 .ensures))
+    (c .before .lerp3 .ensures ∙ ap₂ mixed (c .before .before .before .velocity-of .ensures) (c .before .before .velocity-of2 .ensures))
+    (c .inv .ensures)
 
 pub between-spec : {M : Type 1} → statement M
 between-spec =
@@ -55,5 +69,8 @@ between-spec =
     rest-point-requires
     rest-point-requires-2
     lerp-requires-2
+    velocity-of-requires
+    velocity-of-requires-2
+    lerp-requires-3
     inv-requires
     returns)

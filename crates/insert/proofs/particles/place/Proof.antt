@@ -8,6 +8,7 @@ use Rattle.insert.proofs.particles.place.Statement.{statement}
 use Rattle.insert.proofs.particles.place.Tie as tie
 use Rattle.insert.proofs.particles.place.Reads as reads
 use Rattle.insert.proofs.particles.place.Lts as lts
+use Rattle.mesh.specs.Widths.{pointColumns}
 
 -- src/particles.rt:34:12
 mul-t4 : tie.Need-mul-t4
@@ -32,7 +33,7 @@ shared-slice-read-t10 c = search needs
 -- src/particles.rt:28:1
 returns : tie.Need-returns
 returns c = let P = c .before .before .args .points .now in
-    λ i. record { x = sym (col-0 nan (length P / 6) P (c .before .before .args .w)) i; y = sym (col-1 nan (length P / 6) P (c .before .before .args .w)) i }
+    λ i. record { x = sym (col-0 nan (length P / pointColumns) P (c .before .before .args .w)) i; y = sym (col-1 nan (length P / pointColumns) P (c .before .before .args .w)) i }
 
 pub place-spec : {M : Type 1} → statement M
 place-spec =

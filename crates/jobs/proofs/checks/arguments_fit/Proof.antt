@@ -1,10 +1,11 @@
 -- `jobs::checks::arguments_fit` meets its contract: the test of each job. Assumes nothing.
 use mathlib.Core.Path.{refl}
+use mathlib.Core.Logic.{⊎-elim}
 use borrow.Author.Needs.{needs}
 use Rattle.mesh.specs.Given.{given}
 use Rattle.judge.proofs.Joined.{and-next}
 use Rattle.jobs.specs.declared.Job.the-variants.{Straddlers, Split, Cut, Crack}
-use Rattle.jobs.proofs.Asked.{room-test, job-fits}
+use Rattle.jobs.proofs.Asked.{known-first, known-second, room-test, job-fits}
 use Rattle.jobs.proofs.checks.arguments_fit.Statement.{statement}
 use Rattle.jobs.proofs.checks.arguments_fit.Tie as tie
 
@@ -29,6 +30,9 @@ fraction-fits-requires c κs = search needs
 both-requires-2 : tie.Need-both-requires-2
 both-requires-2 c κs = search needs
 
+both-requires-3 : tie.Need-both-requires-3
+both-requires-3 c κs = search needs
+
 enum-told-2 : tie.Need-enum-told-2
 enum-told-2 c = search needs
 
@@ -46,9 +50,10 @@ returns-2 c =
 
 returns-3 : tie.Need-returns-3
 returns-3 c =
-    let A = c .before .before .before .before .before .before .before .before .before .before .before .before .before .before .args in
+    let A = c .before .before .before .before .before .before .before .before .before .before .before .before .before .before .before .before .args in
     let G = given (A .in-points .now) (A .in-roots .now) (A .in-corners .now) (A .in-volumes .now) (A .in-ends .now) (A .in-lengths .now) (A .in-outline .now) in
-    job-fits G (A .room) (A .job) (Cut _ _ _) (A .list .now) (c .before .before .before .job2 .given .1) (and-next _ _ _ _ _ (c .both2 .ensures) (c .before .fraction-fits .ensures) (room-test G (A .room) refl))
+    let told = ⊎-elim (λ w. known-first _ _ (w .0 .taken) (w .1)) (λ w. known-second _ _ (w .0 .left) (w .1)) (c .before .before .before .if1 .came) in
+    job-fits G (A .room) (A .job) (Cut _ _ _ _) (A .list .now) (c .before .before .before .before .before .job2 .given .1) (and-next _ _ _ _ _ (c .both3 .ensures) (and-next _ _ _ _ _ (c .before .both2 .ensures) told (c .before .before .fraction-fits .ensures)) (room-test G (A .room) refl))
 
 returns-4 : tie.Need-returns-4
 returns-4 c =
@@ -57,4 +62,4 @@ returns-4 c =
     job-fits G (A .room) (A .job) (Crack _) (A .list .now) (c .enum-told2 .given .1) (room-test G (A .room) refl)
 
 pub arguments-fit-spec : {M : Type 1} → statement M
-arguments-fit-spec = tie.close (tie.spec enum-told enum-known-job sides-given-requires both-requires enum-known-job-2 fraction-fits-requires both-requires-2 enum-told-2 returns returns-2 returns-3 returns-4)
+arguments-fit-spec = tie.close (tie.spec enum-told enum-known-job sides-given-requires both-requires enum-known-job-2 fraction-fits-requires both-requires-2 both-requires-3 enum-told-2 returns returns-2 returns-3 returns-4)

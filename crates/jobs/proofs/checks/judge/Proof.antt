@@ -1,30 +1,20 @@
--- `jobs::checks::judge` meets its contract: the fault of the mesh, the numbers beside it, and its arguments. Assumes nothing.
+-- `jobs::checks::judge` meets its contract: the refusals 1 to 4, and then that of the edition. Assumes nothing.
 use borrow.Author.Needs.{needs}
-use Rattle.mesh.specs.Given.{given}
-use Rattle.asked.proofs.Judged.{beside-stays, beside-accepted, beside-judged}
+use Rattle.jobs.proofs.Editions.{refusal-stays, refusal-next}
 use Rattle.jobs.proofs.checks.judge.Statement.{statement}
 use Rattle.jobs.proofs.checks.judge.Tie as tie
 
-judge-requires : tie.Need-judge-requires
-judge-requires c κs = search needs
-
-numbers-fit-requires : tie.Need-numbers-fit-requires
-numbers-fit-requires c κs = search needs
-
-with-numbers-requires : tie.Need-with-numbers-requires
-with-numbers-requires c κs = search needs
+judge-arguments-requires : tie.Need-judge-arguments-requires
+judge-arguments-requires c κs = search needs
 
 returns : tie.Need-returns
-returns c = let A = c .before .before .before .before .before .before .before .before .before .before .before .before .args in beside-stays (given (A .in-points .now) (A .in-roots .now) (A .in-corners .now) (A .in-volumes .now) (A .in-ends .now) (A .in-lengths .now) (A .in-outline .now)) _ _ _ _ (c .before .with-numbers .ensures) (c .before .before .before .judge .ensures) (c .before .before .numbers-fit .ensures) _ (c .if1 .taken)
+returns c = refusal-stays _ _ _ (c .before .judge-arguments .ensures) (c .if1 .taken)
 
-arguments-fit-requires : tie.Need-arguments-fit-requires
-arguments-fit-requires c κs = let A = c .before .before .before .before .before .before .before .before .before .before .before .before .args in beside-accepted (given (A .in-points .now) (A .in-roots .now) (A .in-corners .now) (A .in-volumes .now) (A .in-ends .now) (A .in-lengths .now) (A .in-outline .now)) _ _ _ _ (c .before .with-numbers .ensures) (c .before .before .before .judge .ensures) (c .before .before .numbers-fit .ensures) (c .if1 .left)
-
-first-requires : tie.Need-first-requires
-first-requires c κs = search needs
+edition-refusal-requires : tie.Need-edition-refusal-requires
+edition-refusal-requires c κs = search needs
 
 returns-2 : tie.Need-returns-2
-returns-2 c = let A = c .before .before .before .before .before .before .before .before .before .before .before .before .before .before .args in beside-judged (given (A .in-points .now) (A .in-roots .now) (A .in-corners .now) (A .in-volumes .now) (A .in-ends .now) (A .in-lengths .now) (A .in-outline .now)) _ _ _ _ (c .before .before .before .with-numbers .ensures) (c .before .before .before .before .before .judge .ensures) (c .before .before .before .before .numbers-fit .ensures) _ _ _ (c .first .ensures) (c .before .arguments-fit .ensures)
+returns-2 c = refusal-next _ _ _ _ (c .before .before .judge-arguments .ensures) (c .before .if1 .left) (c .edition-refusal .ensures)
 
 pub judge-spec : {M : Type 1} → statement M
-judge-spec = tie.close (tie.spec judge-requires numbers-fit-requires with-numbers-requires returns arguments-fit-requires first-requires returns-2)
+judge-spec = tie.close (tie.spec judge-arguments-requires returns edition-refusal-requires returns-2)

@@ -11,12 +11,13 @@ use Rattle.lists.specs.Lists.{all, tab}
 use Rattle.columns.proofs.Rows.{all-none, all-more, all-stops, all-end}
 use Rattle.model.specs.Valid.{rootOk}
 use Rattle.mesh.specs.At.{particleRow, particlesAt}
+use Rattle.mesh.specs.Widths.{pointColumns}
 use Rattle.judge.proofs.Checked.{root-tested}
 use Rattle.judge.proofs.checks.roots_fit.Statement.{statement}
 use Rattle.judge.proofs.checks.roots_fit.Tie as tie
 
 abbrev Inv-loop : tie.InvT-loop
-Inv-loop n roots i₀ i = ((points : List Float) → all (rootOk n) (tab i (particleRow (length points / 6) (length roots / 2) points roots)) ≡ true) × (i ≤ n)
+Inv-loop n roots i₀ i = ((points : List Float) → all (rootOk n) (tab i (particleRow (length points / pointColumns) (length roots / 2) points roots)) ≡ true) × (i ≤ n)
 
 abbrev μ-loop : tie.MeasureT-loop
 μ-loop n roots i₀ i = n - i

@@ -39,12 +39,24 @@ finite-requires c κs = search needs
 both-requires-5 : tie.Need-both-requires-5
 both-requires-5 c κs = search needs
 
+in-range-requires-6 : tie.Need-in-range-requires-6
+in-range-requires-6 c κs = search needs
+
 both-requires-6 : tie.Need-both-requires-6
 both-requires-6 c κs = search needs
 
+in-range-requires-7 : tie.Need-in-range-requires-7
+in-range-requires-7 c κs = search needs
+
+both-requires-7 : tie.Need-both-requires-7
+both-requires-7 c κs = search needs
+
+both-requires-8 : tie.Need-both-requires-8
+both-requires-8 c κs = search needs
+
 returns : tie.Need-returns
 unfolding particleOk
-returns c = and-next _ _ _ _ _ (c .both6 .ensures) (and-next _ _ _ _ _ (c .before .both5 .ensures) (and-next _ _ _ _ _ (c .before .before .before .both4 .ensures) (and-next _ _ _ _ _ (c .before .before .before .before .before .both3 .ensures) (and-next _ _ _ _ _ (c .before .before .before .before .before .before .before .both2 .ensures) (and-next _ _ _ _ _ (c .before .before .before .before .before .before .before .before .before .both .ensures) (c .before .before .before .before .before .before .before .before .before .before .before .in-range .ensures) (c .before .before .before .before .before .before .before .before .before .before .in-range2 .ensures)) (c .before .before .before .before .before .before .before .before .in-range3 .ensures)) (c .before .before .before .before .before .before .in-range4 .ensures)) (c .before .before .before .before .in-range5 .ensures)) (c .before .before .finite .ensures)) refl
+returns c = and-next _ _ _ _ _ (c .both8 .ensures) (and-next _ _ _ _ _ (c .before .both7 .ensures) (and-next _ _ _ _ _ (c .before .before .before .both6 .ensures) (and-next _ _ _ _ _ (c .before .before .before .before .before .both5 .ensures) (and-next _ _ _ _ _ (c .before .before .before .before .before .before .before .both4 .ensures) (and-next _ _ _ _ _ (c .before .before .before .before .before .before .before .before .before .both3 .ensures) (and-next _ _ _ _ _ (c .before .before .before .before .before .before .before .before .before .before .before .both2 .ensures) (and-next _ _ _ _ _ (c .before .before .before .before .before .before .before .before .before .before .before .before .before .both .ensures) (c .before .before .before .before .before .before .before .before .before .before .before .before .before .before .before .in-range .ensures) (c .before .before .before .before .before .before .before .before .before .before .before .before .before .before .in-range2 .ensures)) (c .before .before .before .before .before .before .before .before .before .before .before .before .in-range3 .ensures)) (c .before .before .before .before .before .before .before .before .before .before .in-range4 .ensures)) (c .before .before .before .before .before .before .before .before .in-range5 .ensures)) (c .before .before .before .before .before .before .finite .ensures)) (c .before .before .before .before .in-range6 .ensures)) (c .before .before .in-range7 .ensures)) refl
 
 pub particle-ok-spec : {M : Type 1} → statement M
 particle-ok-spec =
@@ -61,5 +73,9 @@ particle-ok-spec =
     both-requires-4
     finite-requires
     both-requires-5
+    in-range-requires-6
     both-requires-6
+    in-range-requires-7
+    both-requires-7
+    both-requires-8
     returns)

@@ -1,6 +1,6 @@
 -- `marks::particles::mark_candidates` meets its contract. The invariant: the ends that the blade meets of the triangles so far are marked. Assumes nothing.
 use Rattle.marks.proofs.MarkLaws.{cornersAt, rows-none, rows-more, row-below, cleared-length, candidates-done}
-use Rattle.marks.specs.Marking.{Marks, metOf, bladeFrom}
+use Rattle.marks.specs.Marking.{Marks, metOf, bladeBy}
 use Rattle.lists.specs.Lists.{each, tab}
 use lib.ListN.{length}
 use Prim.Native.Nat.{_≤_, _-_}
@@ -10,17 +10,17 @@ use Rattle.marks.proofs.particles.mark_candidates.Statement.{statement}
 use Rattle.marks.proofs.particles.mark_candidates.Tie as tie
 
 abbrev Inv-loop : tie.InvT-loop
-Inv-loop b0 b1 t points corners marks₀ size i₀ marks i = (i ≤ t) × (length marks ≡ length marks₀) × Marks (each (metOf (bladeFrom b0 b1) points) (tab i (cornersAt corners))) marks
+Inv-loop rule b0 b1 t points corners marks₀ size i₀ marks i = (i ≤ t) × (length marks ≡ length marks₀) × Marks (each (metOf (bladeBy rule b0 b1) points) (tab i (cornersAt corners))) marks
 
 abbrev μ-loop : tie.MeasureT-loop
-μ-loop b0 b1 t points corners marks₀ size i₀ marks i = t - i
+μ-loop rule b0 b1 t points corners marks₀ size i₀ marks i = t - i
 
 clear-usize-requires : tie.Need-clear-usize-requires Inv-loop μ-loop
 clear-usize-requires c κs = omega arith
 
 loop-holds : tie.Need-loop-holds Inv-loop μ-loop
 loop-holds c = let A = c .before .before .before .before .before .before .before .args in
-    (omega arith, refl, rows-none (metOf (bladeFrom (A .b0) (A .b1)) (A .points .now)) (cornersAt (A .corners .now)) _ _ (c .before .before .clear-usize .ensures))
+    (omega arith, refl, rows-none (metOf (bladeBy (A .rule) (A .b0) (A .b1)) (A .points .now)) (cornersAt (A .corners .now)) _ _ (c .before .before .clear-usize .ensures))
 
 add-second : tie.Need-add-second Inv-loop μ-loop
 add-second c = omega (arith, c .before .before .before .before .before .before .before .before .before .pre .long)
@@ -61,8 +61,8 @@ loop-less c = omega arith
 loop-again : tie.Need-loop-again Inv-loop μ-loop
 loop-again c = let A = c .before .before .before .before .before .before .before .before .before .before .before .before .before .before .before .before .args in
     let L = c .before .before .before .before .before .before .before .before .loop in
-    let k = c .before .before .mark-sides .kept .1 .1 .1 .1 .1 .1 .0 in
-    (omega arith, k ∙ L .inv .1, rows-more (metOf (bladeFrom (A .b0) (A .b1)) (A .points .now)) (cornersAt (A .corners .now)) (L .i) _ _ k (L .inv .2) (c .before .before .mark-sides .ensures))
+    let k = c .before .before .mark-sides .kept .1 .1 .1 .1 .1 .1 .1 .0 in
+    (omega arith, k ∙ L .inv .1, rows-more (metOf (bladeBy (A .rule) (A .b0) (A .b1)) (A .points .now)) (cornersAt (A .corners .now)) (L .i) _ _ k (L .inv .2) (c .before .before .mark-sides .ensures))
 
 same-length : tie.Need-same-length Inv-loop μ-loop
 same-length c = c .before .loop .inv .1 ∙ cleared-length _ _ (c .before .before .before .before .clear-usize .ensures)
@@ -70,7 +70,7 @@ same-length c = c .before .loop .inv .1 ∙ cleared-length _ _ (c .before .befor
 returns : tie.Need-returns Inv-loop μ-loop
 returns c = let A = c .before .before .before .before .before .before .before .before .before .args in
     let L = c .before .loop in
-    candidates-done (bladeFrom (A .b0) (A .b1)) (A .points .now) (A .t) (L .i) (A .corners .now) _ (omega arith) (L .inv .2)
+    candidates-done (bladeBy (A .rule) (A .b0) (A .b1)) (A .points .now) (A .t) (L .i) (A .corners .now) _ (omega arith) (L .inv .2)
 
 pub mark-candidates-spec : {M : Type 1} → statement M
 mark-candidates-spec =

@@ -1,6 +1,6 @@
 -- `marks::particles::mark_sides` meets its contract. The three sides, one behind the other. Assumes nothing.
 use Rattle.marks.proofs.MarkLaws.{sides-met}
-use Rattle.marks.specs.Marking.{bladeFrom}
+use Rattle.marks.specs.Marking.{bladeBy}
 use borrow.Author.Needs.{needs}
 use Rattle.marks.proofs.particles.mark_sides.Statement.{statement}
 use Rattle.marks.proofs.particles.mark_sides.Tie as tie
@@ -19,7 +19,7 @@ same-length c = search needs
 
 returns : tie.Need-returns
 returns c = let A = c .before .before .before .before .before .before .before .before .before .before .before .before .before .before .args in
-    sides-met (bladeFrom (A .b0) (A .b1)) (A .points .now) (A .x) (A .y) (A .z) _ _ _ _ (c .before .before .before .before .before .before .before .before .before .before .mark-pair .kept .1 .1 .1 .1 .1 .0) (c .before .before .before .before .before .before .mark-pair2 .kept .1 .1 .1 .1 .1 .0) (c .before .before .mark-pair3 .kept .1 .1 .1 .1 .1 .0) (c .before .before .before .before .before .before .before .before .before .before .mark-pair .ensures) (c .before .before .before .before .before .before .mark-pair2 .ensures) (c .before .before .mark-pair3 .ensures)
+    sides-met (bladeBy (A .rule) (A .b0) (A .b1)) (A .points .now) (A .x) (A .y) (A .z) _ _ _ _ (c .before .before .before .before .before .before .before .before .before .before .mark-pair .kept .1 .1 .1 .1 .1 .1 .0) (c .before .before .before .before .before .before .mark-pair2 .kept .1 .1 .1 .1 .1 .1 .0) (c .before .before .mark-pair3 .kept .1 .1 .1 .1 .1 .1 .0) (c .before .before .before .before .before .before .before .before .before .before .mark-pair .ensures) (c .before .before .before .before .before .before .mark-pair2 .ensures) (c .before .before .mark-pair3 .ensures)
 
 pub mark-sides-spec : {M : Type 1} → statement M
 mark-sides-spec =

@@ -1,113 +1,102 @@
--- `marks::sides::blade_sides` meets its contract. The invariant: the rows so far have their sides. Assumes nothing.
-use Rattle.marks.proofs.SideLaws.{row-fits, below-at, long-at, per-size, row-in, sideAt, sides-none, sides-more, sides-done}
-use Rattle.marks.specs.Marking.{bladeFrom}
+-- `marks::sides::blade_sides` meets its contract. Rounded numbers decide, or signs for triangles. Assumes nothing.
+use Rattle.marks.proofs.SideLaws.{other?, by-rounded, by-signs, by-others}
+use Rattle.marks.specs.Sided.{SidesRoom}
+use Rattle.elements.specs.declared.Kind.{Kind}
 use Rattle.elements.specs.Table.{kindIs}
-use Rattle.columns.proofs.Cells.{next-col}
-use Rattle.lists.specs.Lists.{tab}
-use lib.ListN.{length, take, length-set}
-use Prim.Native.Nat.{_≤_, _-_, _*_, _+_}
-use mathlib.Core.Path.{_≡_, refl, _∙_}
+use Rattle.model.specs.Elements.{cornersPer}
+use lib.ListN.{length}
+use mathlib.Core.Path.{subst, ap}
 use borrow.Author.Needs.{needs}
-use native.Mathlib.Omega.{arith}
 use Rattle.marks.proofs.sides.blade_sides.Statement.{statement}
 use Rattle.marks.proofs.sides.blade_sides.Tie as tie
 
-abbrev Inv-loop : tie.InvT-loop
-Inv-loop b0 b1 v n verts points sides₀ k kept i₀ at₀ sides i at = (i ≤ n) × (at ≡ i * k) × (length sides ≡ length sides₀) × (take i sides ≡ tab i (sideAt (bladeFrom b0 b1) points k verts kept))
+enum-told : tie.Need-enum-told
+enum-told c = search needs
 
-abbrev μ-loop : tie.MeasureT-loop
-μ-loop b0 b1 v n verts points sides₀ k kept i₀ at₀ sides i at = n - i
+enum-told-2 : tie.Need-enum-told-2
+enum-told-2 c = search needs
 
-corners-per-requires : tie.Need-corners-per-requires Inv-loop μ-loop
-corners-per-requires c κs = search needs
+rounded-sides-requires : tie.Need-rounded-sides-requires
+rounded-sides-requires c κs = search needs
 
-kept-side-requires : tie.Need-kept-side-requires Inv-loop μ-loop
-kept-side-requires c κs = let A = c .before .before .before .before .args in
-    let P = c .before .before .before .before .pre in
-    let e = c .corners-per .ensures in
-    record { size = per-size (kindIs (A .kind)) _ e; here = P .here; long = long-at (A .n) _ _ _ e (P .long); corners-in = below-at _ _ _ _ (A .verts .now) e (P .corners-in) }
+same-length : tie.Need-same-length
+same-length c = search needs
 
-loop-holds : tie.Need-loop-holds Inv-loop μ-loop
-loop-holds c = let A = c .before .before .before .before .before .args in
-    (omega arith, omega arith, refl, sides-none _ (A .sides .now))
+returns : tie.Need-returns
+returns c =
+    let R = c .before .before in
+    let A = R .before .before .before .before .before .before .before .args in
+    by-rounded (kindIs (A .kind)) (A .rule) (A .b0) (A .b1) (A .v) (A .n) (A .verts .now) (A .points .now) _ (R .before .before .enum-told2 .given .1) (R .rounded-sides .ensures)
 
-add-end : tie.Need-add-end Inv-loop μ-loop
-add-end c = omega (arith, row-fits _ _ _ _ _ _ (c .before .before .before .corners-per .ensures) (c .before .before .before .before .before .before .before .pre .long) (c .loop-test .taken) (c .before .loop .inv .1))
+enum-told-3 : tie.Need-enum-told-3
+enum-told-3 c = search needs
 
-mul-left-of : tie.Need-mul-left-of Inv-loop μ-loop
-mul-left-of c = omega (arith, row-fits _ _ _ _ _ _ (c .before .before .before .corners-per .ensures) (c .before .before .before .before .before .before .before .pre .long) (c .loop-test .taken) (c .before .loop .inv .1))
+sign-sides-requires : tie.Need-sign-sides-requires
+sign-sides-requires c κs =
+    let E = c .before .before .before .before .before .before .before .before in
+    let A = E .args in
+    subst (λ (k : Kind). SidesRoom (A .v) (cornersPer (kindIs k)) (A .n) (A .verts .now) (length (A .points .now)) (length (A .sides .now))) (c .before .enum-told3 .given .1) (E .pre)
 
-sub-left-of : tie.Need-sub-left-of Inv-loop μ-loop
-sub-left-of c = omega arith
+enum-told-4 : tie.Need-enum-told-4
+enum-told-4 c = search needs
 
-part-left-of-start : tie.Need-part-left-of-start Inv-loop μ-loop
-part-left-of-start c = omega arith
+rounded-sides-requires-2 : tie.Need-rounded-sides-requires-2
+rounded-sides-requires-2 c κs = search needs
 
-part-left-of-end : tie.Need-part-left-of-end Inv-loop μ-loop
-part-left-of-end c = row-fits _ _ _ _ _ _ (c .before .before .before .corners-per .ensures) (c .before .before .before .before .before .before .before .pre .long) (c .loop-test .taken) (c .before .loop .inv .1)
+enum-told-5 : tie.Need-enum-told-5
+enum-told-5 c = search needs
 
-left-of-requires : tie.Need-left-of-requires Inv-loop μ-loop
-left-of-requires c κs = let A = c .before .before .before .before .before .before .before .before .args in
-    let P = c .before .before .before .before .before .before .before .before .pre in
-    let e = c .before .before .before .before .corners-per .ensures in
-    let k = c .before .before .before .before .corners-per .result in
-    let a = c .before .before .loop .at in
-    row-in k (A .n) (A .verts .now) _ (per-size (kindIs (A .kind)) k e) (long-at (A .n) k _ _ e (P .long)) (below-at _ _ k _ (A .verts .now) e (P .corners-in)) (c .before .before .loop .i) a (a + k - a) (c .before .loop-test .taken) (c .before .before .loop .inv .1) (omega arith)
+rounded-sides-requires-3 : tie.Need-rounded-sides-requires-3
+rounded-sides-requires-3 c κs = search needs
 
-side-of-requires : tie.Need-side-of-requires Inv-loop μ-loop
-side-of-requires c κs = search needs
+same-length-2 : tie.Need-same-length-2
+same-length-2 c = search needs
 
-mul-sides : tie.Need-mul-sides Inv-loop μ-loop
-mul-sides c = omega (arith, c .before .before .before .before .before .before .before .before .before .before .pre .few)
+returns-2 : tie.Need-returns-2
+returns-2 c =
+    let R = c .before .before in
+    let K = R .before .before in
+    let A = K .before .before .before .before .before .before .before .args in
+    by-signs (kindIs (A .kind)) (A .rule) (A .b0) (A .b1) (A .v) (A .n) (A .verts .now) (A .points .now) _ (K .before .before .enum-told .given .1) (ap kindIs (K .enum-told3 .given .1)) (R .sign-sides .ensures)
 
-slice-write-sides : tie.Need-slice-write-sides Inv-loop μ-loop
-slice-write-sides c = omega (arith, c .before .before .before .before .before .before .before .before .before .before .pre .sides-long, c .before .before .before .before .loop .inv .2)
+same-length-3 : tie.Need-same-length-3
+same-length-3 c = search needs
 
-add-i : tie.Need-add-i Inv-loop μ-loop
-add-i c = omega (arith, c .before .before .before .before .before .before .before .before .before .before .pre .few)
+returns-3 : tie.Need-returns-3
+returns-3 c =
+    let R = c .before .before in
+    let K = R .before .before in
+    let A = K .before .before .before .before .before .before .before .args in
+    by-others (kindIs (A .kind)) (A .rule) (A .b0) (A .b1) (A .v) (A .n) (A .verts .now) (A .points .now) _ (K .before .before .enum-told .given .1) (ap (λ (k : Kind). other? (kindIs k)) (K .enum-told4 .given .1)) (R .rounded-sides2 .ensures)
 
-loop-less : tie.Need-loop-less Inv-loop μ-loop
-loop-less c = omega arith
+same-length-4 : tie.Need-same-length-4
+same-length-4 c = search needs
 
-loop-again : tie.Need-loop-again Inv-loop μ-loop
-loop-again c = let A = c .before .before .before .before .before .before .before .before .before .before .args in
-    let L = c .before .before .before .before .loop in
-    let k = c .before .before .before .before .before .before .corners-per .result in
-    let l = row-fits _ _ _ _ _ _ (c .before .before .before .before .before .before .corners-per .ensures) (c .before .before .before .before .before .before .before .before .before .before .pre .long) (c .before .before .before .loop-test .taken) (L .inv .1) in (
-      omega arith,
-      omega (arith, next-col (L .i) k, L .inv .1),
-      length-set (L .sides) (L .i) _ ∙ L .inv .2,
-      sides-more (bladeFrom (A .b0) (A .b1)) (A .points .now) k (A .verts .now) (c .before .before .before .before .before .kept-side .result) (L .sides) (L .i) (L .at) (L .at + k - L .at) _ _ (L .inv .3) (omega (arith, c .before .before .before .before .before .before .before .before .before .before .pre .sides-long, L .inv .2)) (L .inv .1) (omega arith) (c .before .left-of .ensures) (c .side-of .ensures),
-    )
-
-same-length : tie.Need-same-length Inv-loop μ-loop
-same-length c = c .before .loop .inv .2
-
-returns : tie.Need-returns Inv-loop μ-loop
-returns c = let A = c .before .before .before .before .before .before .before .args in
-    let L = c .before .loop in
-    sides-done (kindIs (A .kind)) (bladeFrom (A .b0) (A .b1)) (A .points .now) (A .v) (c .before .before .before .corners-per .result) (A .n) (L .i) (A .verts .now) (c .before .before .kept-side .result) (L .sides) (c .before .before .before .corners-per .ensures) (omega arith) (omega (arith, c .before .before .before .before .before .before .before .pre .sides-long, L .inv .2)) (c .before .before .kept-side .ensures) (L .inv .3)
+returns-4 : tie.Need-returns-4
+returns-4 c =
+    let R = c .before .before in
+    let K = R .before .before in
+    let A = K .before .before .before .before .before .before .before .args in
+    by-others (kindIs (A .kind)) (A .rule) (A .b0) (A .b1) (A .v) (A .n) (A .verts .now) (A .points .now) _ (K .before .before .enum-told .given .1) (ap (λ (k : Kind). other? (kindIs k)) (K .enum-told5 .given .1)) (R .rounded-sides3 .ensures)
 
 pub blade-sides-spec : {M : Type 1} → statement M
 blade-sides-spec =
     tie.close
     (tie.spec
-    Inv-loop
-    μ-loop
-    corners-per-requires
-    kept-side-requires
-    loop-holds
-    add-end
-    mul-left-of
-    sub-left-of
-    part-left-of-start
-    part-left-of-end
-    left-of-requires
-    side-of-requires
-    mul-sides
-    slice-write-sides
-    add-i
-    loop-less
-    loop-again
+    enum-told
+    enum-told-2
+    rounded-sides-requires
     same-length
-    returns)
+    returns
+    enum-told-3
+    sign-sides-requires
+    enum-told-4
+    rounded-sides-requires-2
+    enum-told-5
+    rounded-sides-requires-3
+    same-length-2
+    returns-2
+    same-length-3
+    returns-3
+    same-length-4
+    returns-4)

@@ -77,7 +77,7 @@ returns c =
     let start = at-points .before .before .before .before .before .before .before .before .before .before in
     let pre = start .pre in
     record {
-      points = block-filled pointOf 6 _ _ zero32 nan _ _ _ (pre .points) (omega arith) (point-at _ _ (start .args .points .now) (start .args .roots .now)) (at-points .clear-block-f32 .ensures);
+      points = block-filled pointOf _ _ _ zero32 nan _ _ _ (pre .points) (omega arith) (point-at _ _ (start .args .points .now) (start .args .roots .now)) (at-points .clear-block-f32 .ensures);
       roots = block-filled rootOf 2 _ _ 0 0 _ _ _ (pre .roots) (omega arith) (root-at _ _ (start .args .points .now) (start .args .roots .now)) (at-roots .clear-block-usize .ensures);
       corners = block-filled cornerOf 3 _ _ 0 0 _ _ _ (pre .corners) (omega arith) (corner-at _ _ (start .args .corners .now) (start .args .volumes .now)) (at-corners .clear-block-usize2 .ensures);
       volumes = block-filled volumeOf 2 _ _ zero32 nan _ _ _ (pre .volumes) (omega arith) (volume-at _ _ (start .args .corners .now) (start .args .volumes .now)) (at-volumes .clear-block-f322 .ensures);

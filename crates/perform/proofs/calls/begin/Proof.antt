@@ -1,9 +1,8 @@
 -- `perform::calls::begin` meets its contract: the checks, and the copy. Assumes nothing.
 use borrow.Author.Needs.{needs}
-use Rattle.mesh.specs.Given.{given, meshOf, asRooms}
-use Rattle.answer.proofs.Begun.{begin-asked, begun-by}
-use Rattle.jobs.specs.Jobs.{jobNumbers, jobArguments}
-use Rattle.jobs.proofs.Jobs.{job-lent}
+use Rattle.mesh.specs.Given.{given}
+use Rattle.answer.proofs.Begun.{begun-by}
+use Rattle.perform.proofs.Performed.{job-begins}
 use Rattle.perform.proofs.calls.begin.Statement.{statement}
 use Rattle.perform.proofs.calls.begin.Tie as tie
 
@@ -14,7 +13,7 @@ begin-requires : tie.Need-begin-requires
 begin-requires c κs =
     let A = c .before .before .before .before .before .before .before .before .before .before .before .before .before .before .before .before .before .before .before .before .before .before .before .args in
     let G = given (A .in-points .now) (A .in-roots .now) (A .in-corners .now) (A .in-volumes .now) (A .in-ends .now) (A .in-lengths .now) (A .in-outline .now) in
-    begin-asked G (A .room) _ _ (jobNumbers (A .job)) (jobArguments (A .job) (A .list .now) (asRooms (A .room)) (meshOf G)) (c .before .before .before .before .before .before .before .judge .ensures) (job-lent (A .job) (A .list .now) (asRooms (A .room)) (meshOf G)) (c .before .before .before .before .before .before .before .before .before .before .before .before .before .before .before .before .before .before .before .before .before .before .before .pre)
+    job-begins (A .job) (A .list .now) G (A .room) _ _ (c .before .before .before .before .before .before .before .judge .ensures) (c .before .before .before .before .before .before .before .before .before .before .before .before .before .before .before .before .before .before .before .before .before .before .before .pre)
 
 same-length : tie.Need-same-length
 same-length c = c .before .before .before .before .before .before .before .before .before .before .before .before .before .before .begin .kept .1 .1 .1 .1 .1 .1 .1 .1 .1 .0

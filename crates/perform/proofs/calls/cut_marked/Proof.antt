@@ -2,7 +2,7 @@
 use mathlib.Core.Path.{refl, _∙_}
 use borrow.Author.Needs.{needs}
 use Rattle.elements.specs.Table.{kindIs}
-use Rattle.marks.specs.Marking.{bladeFrom}
+use Rattle.marks.specs.Marking.{bladeBy}
 use Rattle.mesh.specs.Log.{worldAt}
 use Rattle.mesh.proofs.Agree.{lent-path}
 use Rattle.work.proofs.Runs.{works-known}
@@ -39,12 +39,12 @@ same-length-6 : tie.Need-same-length-6
 same-length-6 c = refl
 
 same-length-7 : tie.Need-same-length-7
-same-length-7 c = c .before .before .before .before .note-crossings .kept .1 .1 .1 .1 .1 .1 .1 .1 .1 .1 .1 .1 .0
+same-length-7 c = c .before .before .before .before .note-crossings .kept .1 .1 .1 .1 .1 .1 .1 .1 .1 .1 .1 .1 .1 .0
 
 returns : tie.Need-returns
 returns c =
     let A = c .before .before .before .before .before .before .before .before .before .before .before .before .before .before .before .before .before .before .before .before .args in
-    marks-refused (kindIs (A .kind)) (bladeFrom (A .b0) (A .b1)) (A .f) (c .before .before .before .before .note-crossings .ensures) _ (c .enum-told .given .1)
+    marks-refused (kindIs (A .kind)) (bladeBy (A .rule) (A .b0) (A .b1)) (A .f) (c .before .before .before .before .note-crossings .ensures) _ (c .enum-told .given .1)
 
 run-requires : tie.Need-run-requires
 unfolding worldAt
@@ -53,7 +53,7 @@ run-requires c κs =
     let P = c .before .before .before .before .before .before .before .before .before .before .before .before .before .before .before .before .before .before .before .before .before .before .before .before .before .before .before .before .pre in
     let S = c .before .before .before .before .before .before .before .before .before .before .before .before .note-crossings in
     let F = works-known _ _ (c .before .before .before .before .before .before .before .before .ran .given .1) (S .ensures) in (
-      left-ready F (P .1 .entries) (P .1 .words) (marked-indexed (kindIs (A .kind)) (bladeFrom (A .b0) (A .b1))) (A .k) _ _ (P .0) (lent-path _ _ refl refl refl refl refl refl refl (S .kept .1 .1 .1 .1 .1 .1 .1 .1 .1 .1 .1 .1 .0)),
+      left-ready F (P .1 .entries) (P .1 .words) (marked-indexed (kindIs (A .kind)) (bladeBy (A .rule) (A .b0) (A .b1))) (A .k) _ _ (P .0) (lent-path _ _ refl refl refl refl refl refl refl (S .kept .1 .1 .1 .1 .1 .1 .1 .1 .1 .1 .1 .1 .1 .0)),
       record { entries = left-entries F (P .1 .entries) (P .1 .words); words = left-words F (P .1 .entries) (P .1 .words) },
     )
 
@@ -76,12 +76,12 @@ same-length-13 : tie.Need-same-length-13
 same-length-13 c = c .before .before .before .before .before .before .before .before .before .before .before .before .before .before .run .kept .1 .1 .1 .1 .1 .1 .1 .1 .1 .1 .0
 
 same-length-14 : tie.Need-same-length-14
-same-length-14 c = c .before .before .before .before .before .before .before .before .before .before .before .before .before .before .run .kept .1 .1 .1 .1 .1 .1 .1 .1 .1 .1 .1 .0 ∙ c .before .before .before .before .before .before .before .before .before .before .before .before .before .before .before .before .before .before .before .before .before .before .before .before .before .before .before .note-crossings .kept .1 .1 .1 .1 .1 .1 .1 .1 .1 .1 .1 .1 .0
+same-length-14 c = c .before .before .before .before .before .before .before .before .before .before .before .before .before .before .run .kept .1 .1 .1 .1 .1 .1 .1 .1 .1 .1 .1 .0 ∙ c .before .before .before .before .before .before .before .before .before .before .before .before .before .before .before .before .before .before .before .before .before .before .before .before .before .before .before .note-crossings .kept .1 .1 .1 .1 .1 .1 .1 .1 .1 .1 .1 .1 .1 .0
 
 returns-2 : tie.Need-returns-2
 returns-2 c =
     let A = c .before .before .before .before .before .before .before .before .before .before .before .before .before .before .before .before .before .before .before .before .before .before .before .before .before .before .before .before .before .before .before .before .before .before .before .before .before .before .before .before .before .before .before .args in
-    marks-done (kindIs (A .kind)) (bladeFrom (A .b0) (A .b1)) (A .f) (c .before .before .before .before .before .before .before .before .before .before .before .before .before .before .before .before .before .before .before .before .before .before .before .before .before .before .before .note-crossings .ensures) _ (c .before .before .before .before .before .before .before .before .before .before .before .before .before .before .before .before .before .before .before .before .before .before .before .ran .given .1) (c .before .before .before .before .before .before .before .before .before .before .before .before .before .before .run .ensures)
+    marks-done (kindIs (A .kind)) (bladeBy (A .rule) (A .b0) (A .b1)) (A .f) (c .before .before .before .before .before .before .before .before .before .before .before .before .before .before .before .before .before .before .before .before .before .before .before .before .before .before .before .note-crossings .ensures) _ (c .before .before .before .before .before .before .before .before .before .before .before .before .before .before .before .before .before .before .before .before .before .before .before .ran .given .1) (c .before .before .before .before .before .before .before .before .before .before .before .before .before .before .run .ensures)
 
 pub cut-marked-spec : {M : Type 1} → statement M
 cut-marked-spec =

@@ -3,7 +3,7 @@ use mathlib.Core.Path.{refl}
 use native.Mathlib.Omega.{arith}
 use borrow.Author.Needs.{needs}
 use Rattle.jobs.specs.declared.Job.the-variants.{Straddlers, Split, Cut, Crack}
-use Rattle.perform.proofs.Worked.{straddlers-room, job-works, split-given}
+use Rattle.perform.proofs.Worked.{straddlers-room, job-works, split-given, cut-ruled}
 use Rattle.perform.proofs.calls.work.Statement.{statement}
 use Rattle.perform.proofs.calls.work.Tie as tie
 
@@ -25,8 +25,11 @@ split-by-sides-requires c κs = let A = c .before .before .before .before .befor
 enum-known-job-2 : tie.Need-enum-known-job-2
 enum-known-job-2 c = search needs
 
+rule-in-requires : tie.Need-rule-in-requires
+rule-in-requires c κs = search needs
+
 cut-marked-requires : tie.Need-cut-marked-requires
-cut-marked-requires c κs = (c .before .before .before .before .before .before .before .before .before .before .before .before .before .before .before .before .before .before .before .before .before .pre .0, c .before .before .before .before .before .before .before .before .before .before .before .before .before .before .before .before .before .before .before .before .before .pre .1)
+cut-marked-requires c κs = (c .before .before .before .before .before .before .before .before .before .before .before .before .before .before .before .before .before .before .before .before .before .before .pre .0, c .before .before .before .before .before .before .before .before .before .before .before .before .before .before .before .before .before .before .before .before .before .before .pre .1)
 
 enum-known-job-3 : tie.Need-enum-known-job-3
 enum-known-job-3 c = search needs
@@ -77,28 +80,28 @@ returns-2 : tie.Need-returns-2
 returns-2 c = let A = c .before .before .before .before .before .before .before .before .before .before .before .before .before .before .before .before .before .before .before .before .before .before .before .before .before .before .before .before .before .before .before .before .before .before .before .before .args in job-works (A .k) (A .room) (A .points .now) (A .roots .now) (A .corners .now) (A .volumes .now) (A .ends .now) (A .lengths .now) (A .outline .now) (A .log .now) (A .job) (Split _) (c .before .before .before .before .before .before .before .before .before .before .before .before .before .before .before .before .before .before .before .before .before .before .before .job .given .1) (A .list .now) _ (c .before .before .before .before .before .before .before .before .before .before .before .before .before .before .before .before .before .before .before .before .before .before .before .before .before .kind-of .ensures) (c .before .before .before .before .before .before .before .before .before .before .before .before .before .before .split-by-sides .ensures)
 
 same-length-13 : tie.Need-same-length-13
-same-length-13 c = c .before .before .before .before .before .before .before .before .before .before .before .before .before .before .cut-marked .kept .1 .1 .1 .1 .1 .1 .0
+same-length-13 c = c .before .before .before .before .before .before .before .before .before .before .before .before .before .before .cut-marked .kept .1 .1 .1 .1 .1 .1 .1 .0
 
 same-length-14 : tie.Need-same-length-14
-same-length-14 c = c .before .before .before .before .before .before .before .before .before .before .before .before .before .before .cut-marked .kept .1 .1 .1 .1 .1 .1 .1 .0
+same-length-14 c = c .before .before .before .before .before .before .before .before .before .before .before .before .before .before .cut-marked .kept .1 .1 .1 .1 .1 .1 .1 .1 .0
 
 same-length-15 : tie.Need-same-length-15
-same-length-15 c = c .before .before .before .before .before .before .before .before .before .before .before .before .before .before .cut-marked .kept .1 .1 .1 .1 .1 .1 .1 .1 .0
+same-length-15 c = c .before .before .before .before .before .before .before .before .before .before .before .before .before .before .cut-marked .kept .1 .1 .1 .1 .1 .1 .1 .1 .1 .0
 
 same-length-16 : tie.Need-same-length-16
-same-length-16 c = c .before .before .before .before .before .before .before .before .before .before .before .before .before .before .cut-marked .kept .1 .1 .1 .1 .1 .1 .1 .1 .1 .1 .0
+same-length-16 c = c .before .before .before .before .before .before .before .before .before .before .before .before .before .before .cut-marked .kept .1 .1 .1 .1 .1 .1 .1 .1 .1 .1 .1 .0
 
 same-length-17 : tie.Need-same-length-17
-same-length-17 c = c .before .before .before .before .before .before .before .before .before .before .before .before .before .before .cut-marked .kept .1 .1 .1 .1 .1 .1 .1 .1 .1 .1 .1 .0
+same-length-17 c = c .before .before .before .before .before .before .before .before .before .before .before .before .before .before .cut-marked .kept .1 .1 .1 .1 .1 .1 .1 .1 .1 .1 .1 .1 .0
 
 same-length-18 : tie.Need-same-length-18
-same-length-18 c = c .before .before .before .before .before .before .before .before .before .before .before .before .before .before .cut-marked .kept .1 .1 .1 .1 .1 .1 .1 .1 .1 .1 .1 .1 .0
+same-length-18 c = c .before .before .before .before .before .before .before .before .before .before .before .before .before .before .cut-marked .kept .1 .1 .1 .1 .1 .1 .1 .1 .1 .1 .1 .1 .1 .0
 
 same-length-19 : tie.Need-same-length-19
-same-length-19 c = c .before .before .before .before .before .before .before .before .before .before .before .before .before .before .cut-marked .kept .1 .1 .1 .1 .1 .1 .1 .1 .1 .1 .1 .1 .1 .0
+same-length-19 c = c .before .before .before .before .before .before .before .before .before .before .before .before .before .before .cut-marked .kept .1 .1 .1 .1 .1 .1 .1 .1 .1 .1 .1 .1 .1 .1 .0
 
 returns-3 : tie.Need-returns-3
-returns-3 c = let A = c .before .before .before .before .before .before .before .before .before .before .before .before .before .before .before .before .before .before .before .before .before .before .before .before .before .before .before .before .before .before .before .before .before .before .before .before .args in job-works (A .k) (A .room) (A .points .now) (A .roots .now) (A .corners .now) (A .volumes .now) (A .ends .now) (A .lengths .now) (A .outline .now) (A .log .now) (A .job) (Cut _ _ _) (c .before .before .before .before .before .before .before .before .before .before .before .before .before .before .before .before .before .before .before .before .before .before .before .job2 .given .1) (A .list .now) _ (c .before .before .before .before .before .before .before .before .before .before .before .before .before .before .before .before .before .before .before .before .before .before .before .before .before .kind-of .ensures) (c .before .before .before .before .before .before .before .before .before .before .before .before .before .before .cut-marked .ensures)
+returns-3 c = let A = c .before .before .before .before .before .before .before .before .before .before .before .before .before .before .before .before .before .before .before .before .before .before .before .before .before .before .before .before .before .before .before .before .before .before .before .before .before .args in job-works (A .k) (A .room) (A .points .now) (A .roots .now) (A .corners .now) (A .volumes .now) (A .ends .now) (A .lengths .now) (A .outline .now) (A .log .now) (A .job) (Cut _ _ _ _) (c .before .before .before .before .before .before .before .before .before .before .before .before .before .before .before .before .before .before .before .before .before .before .before .before .job2 .given .1) (A .list .now) _ (c .before .before .before .before .before .before .before .before .before .before .before .before .before .before .before .before .before .before .before .before .before .before .before .before .before .before .kind-of .ensures) (cut-ruled _ _ (c .before .before .before .before .before .before .before .before .before .before .before .before .before .before .before .before .before .before .before .before .before .before .before .before .job2 .given .0 .0) _ _ _ (c .before .before .before .before .before .before .before .before .before .before .before .before .before .before .before .before .before .before .before .before .before .before .rule-in .ensures) (c .before .before .before .before .before .before .before .before .before .before .before .before .before .before .cut-marked .ensures))
 
 same-length-20 : tie.Need-same-length-20
 same-length-20 c = c .before .before .before .before .before .before .before .before .before .before .before .before .before .before .crack-body .kept .1 .1 .1 .1 .1 .0
@@ -125,4 +128,4 @@ returns-4 : tie.Need-returns-4
 returns-4 c = let A = c .before .before .before .before .before .before .before .before .before .before .before .before .before .before .before .before .before .before .before .before .before .before .before .before .before .before .before .before .before .before .before .before .before .before .before .before .args in job-works (A .k) (A .room) (A .points .now) (A .roots .now) (A .corners .now) (A .volumes .now) (A .ends .now) (A .lengths .now) (A .outline .now) (A .log .now) (A .job) (Crack _) (c .before .before .before .before .before .before .before .before .before .before .before .before .before .before .before .before .before .before .before .before .before .before .before .job3 .given .1) (A .list .now) _ (c .before .before .before .before .before .before .before .before .before .before .before .before .before .before .before .before .before .before .before .before .before .before .before .before .before .kind-of .ensures) (c .before .before .before .before .before .before .before .before .before .before .before .before .before .before .crack-body .ensures)
 
 pub work-spec : {M : Type 1} → statement M
-work-spec = tie.close (tie.spec kind-of-requires enum-told remove-straddlers-requires enum-known-job split-by-sides-requires enum-known-job-2 cut-marked-requires enum-known-job-3 crack-body-requires same-length same-length-2 same-length-3 same-length-4 same-length-5 returns same-length-6 same-length-7 same-length-8 same-length-9 same-length-10 same-length-11 same-length-12 returns-2 same-length-13 same-length-14 same-length-15 same-length-16 same-length-17 same-length-18 same-length-19 returns-3 same-length-20 same-length-21 same-length-22 same-length-23 same-length-24 same-length-25 same-length-26 returns-4)
+work-spec = tie.close (tie.spec kind-of-requires enum-told remove-straddlers-requires enum-known-job split-by-sides-requires enum-known-job-2 rule-in-requires cut-marked-requires enum-known-job-3 crack-body-requires same-length same-length-2 same-length-3 same-length-4 same-length-5 returns same-length-6 same-length-7 same-length-8 same-length-9 same-length-10 same-length-11 same-length-12 returns-2 same-length-13 same-length-14 same-length-15 same-length-16 same-length-17 same-length-18 same-length-19 returns-3 same-length-20 same-length-21 same-length-22 same-length-23 same-length-24 same-length-25 same-length-26 returns-4)

@@ -20,8 +20,8 @@ word-at-requires-3 c κs = omega (arith, sized-counts _ (c .before .before .befo
 word-at-requires-4 : tie.Need-word-at-requires-4
 word-at-requires-4 c κs = omega (arith, sized-counts _ (c .before .before .before .before .before .before .pre .0))
 
-mul-p6 : tie.Need-mul-p6
-mul-p6 c = search needs
+mul-p8 : tie.Need-mul-p8
+mul-p8 c = search needs
 
 mul-p2 : tie.Need-mul-p2
 mul-p2 c = search needs
@@ -121,7 +121,7 @@ ask-loaded-spec =
     word-at-requires-2
     word-at-requires-3
     word-at-requires-4
-    mul-p6
+    mul-p8
     mul-p2
     mul-t3
     mul-t2

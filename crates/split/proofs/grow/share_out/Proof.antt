@@ -1,17 +1,10 @@
--- `split::grow::share_out` meets its contract: the weights of all groups, and the copies by them. Assumes nothing.
+-- `split::grow::share_out` meets its contract: the copies by the weights of their groups and the total of all. Assumes nothing.
 use borrow.Author.Needs.{needs}
-use Rattle.split.proofs.GrowLaws.{shared-out}
 use Rattle.split.proofs.grow.share_out.Statement.{statement}
 use Rattle.split.proofs.grow.share_out.Tie as tie
 
-slice-aggregate-weigh-all : tie.Need-slice-aggregate-weigh-all
-slice-aggregate-weigh-all c = search needs
-
-weigh-all-requires : tie.Need-weigh-all-requires
-weigh-all-requires c κs = search needs
-
-slice-aggregate-copy-particles : tie.Need-slice-aggregate-copy-particles
-slice-aggregate-copy-particles c = search needs
+total-weight-requires : tie.Need-total-weight-requires
+total-weight-requires c κs = search needs
 
 copy-particles-requires : tie.Need-copy-particles-requires
 copy-particles-requires c κs = search needs
@@ -23,15 +16,16 @@ same-length-2 : tie.Need-same-length-2
 same-length-2 c = search needs
 
 returns : tie.Need-returns
-returns c = shared-out (c .before .before .before .before .before .before .before .before .before .weigh-all .ensures) (c .before .before .before .before .copy-particles .ensures)
+returns c =
+    let T = c .before .before .before .before .before .before .before .total-weight .ensures in
+    let C = c .before .before .before .before .copy-particles .ensures in
+    record { particles = λ O at count-is G W. C .particles O (record { at = at; count-is = count-is; grouped = G; weighted = W; total-is = T .is O G W count-is }) }
 
 pub share-out-spec : {M : Type 1} → statement M
 share-out-spec =
     tie.close
     (tie.spec
-    slice-aggregate-weigh-all
-    weigh-all-requires
-    slice-aggregate-copy-particles
+    total-weight-requires
     copy-particles-requires
     same-length
     same-length-2
