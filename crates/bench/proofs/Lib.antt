@@ -1,5 +1,2 @@
--- The laws of the entries. Assumes nothing.
+-- The laws of the entries that give a mesh. Assumes nothing.
 pub mod Coming
-pub mod Refusing
-pub mod Grouped
-pub mod Agree

@@ -10,10 +10,10 @@ use Rattle.model.specs.Reads.{refused, piecesCall, restMeasureCall, restMeasure
 use Rattle.mesh.specs.Given.{Given, meshOf, sizesFit}
 use Rattle.judge.specs.Checks.{thenCheck, faultOf}
 use Rattle.asked.proofs.Judged.{arguments-refuse}
-use Rattle.bench.specs.declared.Number.{Number}
-use Rattle.bench.specs.declared.Count.{Count}
-use Rattle.bench.specs.declared.Truth.{Truth}
-use Rattle.bench.specs.Answers.{numberOf, countOf, truthOf}
+use Rattle.readings.specs.declared.Number.{Number}
+use Rattle.readings.specs.declared.Count.{Count}
+use Rattle.readings.specs.declared.Truth.{Truth}
+use Rattle.readings.specs.Answers.{numberOf, countOf, truthOf}
 use Rattle.replies.proofs.Saying.{refusal-small, replied-as}
 use Rattle.reading_c.specs.Replies.{Replied}
 use Rattle.reading_c.specs.Given.{numberReply, countReply, truthReply}

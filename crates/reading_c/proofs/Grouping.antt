@@ -15,9 +15,9 @@ use Rattle.model.specs.Elements.{kindOf, fanOf, gridOf}
 use Rattle.model.specs.Calls.{sidesOk, refusal}
 use Rattle.model.specs.Reads.{Read, refused, value, orRefused, grouped, groupsCall}
 use Rattle.mesh.specs.Given.{meshOf}
-use Rattle.bench.specs.declared.Count.{Count}
-use Rattle.bench.specs.Answers.{placedIn, groupCount, groupsShown, GroupsAnswered}
-use Rattle.bench.proofs.Grouped.{groups-long, placed-is}
+use Rattle.readings.specs.declared.Count.{Count}
+use Rattle.readings.specs.Answers.{placedIn, groupCount, groupsShown, GroupsAnswered}
+use Rattle.readings.proofs.Grouped.{groups-long, placed-is}
 use Rattle.image.specs.Image.{imageOf, imageSized}
 use Rattle.reading_c.specs.Replies.{Replied, groupsWords}
 use Rattle.reading_c.specs.Given.{groupsTold, SmallCode, Capped}

@@ -19,8 +19,8 @@ use Rattle.model.specs.Reads.{orRefused, restMeasureOfCall}
 use Rattle.mesh.specs.Given.{meshOf}
 use Rattle.judge.proofs.Joined.{Sized, sizes-told}
 use Rattle.asked.proofs.Accepted.{particles-count}
-use Rattle.bench.specs.declared.Number.{Number}
-use Rattle.bench.specs.Answers.{numberOf}
+use Rattle.readings.specs.declared.Number.{Number}
+use Rattle.readings.specs.Answers.{numberOf}
 use Rattle.image.specs.Words.{wordAt, wordsFrom}
 use Rattle.image.specs.Image.{imageOf, imageSized}
 use Rattle.reading_c.specs.Given.{numberReply, SmallCode, Capped}

@@ -20,10 +20,10 @@ use Rattle.model.specs.Elements.{restMeasure}
 use Rattle.model.specs.Pieces.{pieces}
 use Rattle.model.specs.Calls.{bladeOk, pointOk}
 use Rattle.model.specs.Reads.{Read, refused, value, orRefused, rooted, rootCall, bladeCall, restMeasureCall, piecesCall}
-use Rattle.bench.specs.declared.Number.{Number}
-use Rattle.bench.specs.declared.Count.{Count}
-use Rattle.bench.specs.declared.Tested.{Tested}
-use Rattle.bench.specs.Answers.{numberOf, countOf, testedOf}
+use Rattle.readings.specs.declared.Number.{Number}
+use Rattle.readings.specs.declared.Count.{Count}
+use Rattle.readings.specs.declared.Tested.{Tested}
+use Rattle.readings.specs.Answers.{numberOf, countOf, testedOf}
 use Rattle.image.specs.Words.{numberOf as floatOf}
 use Rattle.replies.proofs.Saying.{pick-small, refusal-small, replied-as}
 use Rattle.reading_c.specs.Replies.{numberWords, countWords, testedWords, codeOf, Replied, rootReply, bladeReply, pointAt}

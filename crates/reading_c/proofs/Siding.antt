@@ -26,8 +26,8 @@ use Rattle.judge.proofs.Joined.{Sized, sizes-told}
 use Rattle.mesh.proofs.Lists.{edges-length}
 use Rattle.lists.proofs.Stores.{tab-length}
 use Rattle.elements.proofs.Filling.{triangles-length, straps-length}
-use Rattle.bench.specs.declared.Truth.{Truth}
-use Rattle.bench.specs.Answers.{truthOf}
+use Rattle.readings.specs.declared.Truth.{Truth}
+use Rattle.readings.specs.Answers.{truthOf}
 use Rattle.image.specs.Image.{imageOf, imageSized}
 use Rattle.reading_c.specs.Replies.{truthWords}
 use Rattle.reading_c.specs.Given.{truthReply, SmallCode, Capped}

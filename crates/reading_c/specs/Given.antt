@@ -6,14 +6,14 @@ use mathlib.Core.List.{List, [], _∷_}
 use lib.Ieee.{binary32, toBits}
 use Rattle.lists.specs.Lists.{pick}
 use Rattle.model.specs.Reads.{Read, refused, value}
-use Rattle.bench.specs.declared.Number.{Number}
-use Rattle.bench.specs.declared.Number.the-variants.{Refused as NumberRefused, Value}
-use Rattle.bench.specs.declared.Count.{Count}
-use Rattle.bench.specs.declared.Count.the-variants.{Refused as CountRefused, Counted}
-use Rattle.bench.specs.declared.Truth.{Truth}
-use Rattle.bench.specs.declared.Truth.the-variants.{Refused as TruthRefused, Holds}
-use Rattle.bench.specs.declared.Tested.{Tested}
-use Rattle.bench.specs.declared.Tested.the-variants.{Refused as TestRefused, Tested as TestedAs}
+use Rattle.readings.specs.declared.Number.{Number}
+use Rattle.readings.specs.declared.Number.the-variants.{Refused as NumberRefused, Value}
+use Rattle.readings.specs.declared.Count.{Count}
+use Rattle.readings.specs.declared.Count.the-variants.{Refused as CountRefused, Counted}
+use Rattle.readings.specs.declared.Truth.{Truth}
+use Rattle.readings.specs.declared.Truth.the-variants.{Refused as TruthRefused, Holds}
+use Rattle.readings.specs.declared.Tested.{Tested}
+use Rattle.readings.specs.declared.Tested.the-variants.{Refused as TestRefused, Tested as TestedAs}
 use Rattle.reading_c.specs.Replies.{codeOf, hitWords}
 
 -- an answer that is a number, a count, a truth, a blade test

@@ -10,7 +10,7 @@ pub fn root(bits: u32, out: &mut [u8]) -> u32
     ensures { λ r. ⌜ Replied (rootReply bits) (length (now (out .entry))) r (now (out .exit)) ⌝ }
 {
     let x = image::number_of(bits as usize);
-    crate::reply::reply_number(bench::reading::root(x), out)
+    crate::reply::reply_number(readings::reading::root(x), out)
 }
 
 // The point of words i and i + 1.
@@ -34,5 +34,5 @@ pub fn blade_hit(words: &[u8], out: &mut [u8]) -> u32
     let b1 = point_at(words, 2);
     let p = point_at(words, 4);
     let q = point_at(words, 6);
-    crate::reply::reply_tested(bench::reading::blade_hit(b0, b1, p, q), out)
+    crate::reply::reply_tested(readings::reading::blade_hit(b0, b1, p, q), out)
 }

@@ -10,9 +10,9 @@ ghost use Rattle.reading_c.specs.Questions.{questionCall, questionReply}
 ghost use Rattle.reading_c.specs.declared.Question.the-variants.{Groups, Unread};
 use crate::Question;
 use crate::reply;
-use bench::grouping;
-use bench::reading;
 use judge::checks;
+use readings::grouping;
+use readings::reading;
 
 // The groups that sides make at a particle.
 fn ask_groups(

@@ -3,11 +3,11 @@ ghost use Prim.Native.Nat.{_≤_};
 ghost use lib.ListN.{length};
 ghost use Rattle.reading_c.specs.Replies.{Replied};
 ghost use Rattle.reading_c.specs.Given.{numberReply, countReply, groupsTold, truthReply, testedReply, SmallCode};
-use bench::Count;
-use bench::Number;
-use bench::Tested;
-use bench::Truth;
 use blade::Hit;
+use readings::Count;
+use readings::Number;
+use readings::Tested;
+use readings::Truth;
 
 // The reply of an entry that answers a number.
 pub fn reply_number(a: Number, out: &mut [u8]) -> u32

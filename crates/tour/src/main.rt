@@ -2,10 +2,10 @@
 ghost use mathlib.Core.Path.{_≡_};
 ghost use lib.ListN.{length};
 use answer::Answer;
-use bench::Count;
 use blade::Point;
 use libc::STDOUT_FILENO;
 use mesh::Counts;
+use readings::Count;
 
 fn say(text: &[u8]) {
     io::write_all(STDOUT_FILENO, text);
@@ -307,7 +307,7 @@ fn ask_pieces() {
     let outline = square_outline();
     say_count(
         b"pieces: ",
-        bench::reading::pieces(
+        readings::reading::pieces(
             &points,
             &[0, 1, 2, 3, 0, 0, 0, 0],
             &[0, 0, 1, 2, 2, 3],
@@ -327,7 +327,7 @@ fn ask_groups(text: &[u8], sides: &[usize]) {
     let mut table = [0usize; 2];
     say_count(
         text,
-        bench::grouping::groups(
+        readings::grouping::groups(
             &points,
             &[0, 1, 2, 3, 0, 0, 0, 0],
             &[0, 0, 1, 2, 2, 3],
@@ -346,7 +346,7 @@ fn ask_groups(text: &[u8], sides: &[usize]) {
 fn foam_pieces(points: &[f32], roots: &[usize], corners: &[usize], volumes: &[f32]) {
     say_count(
         b"pieces: ",
-        bench::reading::pieces(points, roots, corners, volumes, &[], &[], &[]),
+        readings::reading::pieces(points, roots, corners, volumes, &[], &[], &[]),
     );
 }
 
@@ -354,7 +354,7 @@ fn foam_pieces(points: &[f32], roots: &[usize], corners: &[usize], volumes: &[f3
 fn strap_pieces(points: &[f32], roots: &[usize], ends: &[usize], lengths: &[f32]) {
     say_count(
         b"pieces: ",
-        bench::reading::pieces(points, roots, &[], &[], ends, lengths, &[]),
+        readings::reading::pieces(points, roots, &[], &[], ends, lengths, &[]),
     );
 }
 

@@ -1,5 +1,5 @@
 -- `reading_c::reply::reply_tested` meets its contract: a refusal, a miss or a hit. Assumes nothing.
-use Rattle.bench.specs.declared.Tested.the-variants.{Tested as TestedAs}
+use Rattle.readings.specs.declared.Tested.the-variants.{Tested as TestedAs}
 use mathlib.Core.Path.{_≡_, sym, subst, _∙_, ap}
 use Prim.Native.Nat.{ℕ}
 use mathlib.Core.List.{List, [], _∷_}
