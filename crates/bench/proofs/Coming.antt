@@ -5,7 +5,7 @@ use Rattle.mesh.specs.Log.{World}
 use Rattle.mesh.specs.declared.Counts.{Counts}
 use Rattle.mesh.specs.declared.Rooms.{Rooms}
 use Rattle.work.specs.declared.Ran.{Ran}
-use Rattle.answer.specs.Framed.{Came}
+use Rattle.call_frame.specs.Framed.{Came}
 
 pub came-as : {o o′ : Outcome} {R : Rooms} {at : Counts → World} {ran : Ran} → o ≡ o′ → Came o R at ran → Came o′ R at ran
 came-as {R = R} {at} {ran} e h = subst (λ (o : Outcome). Came o R at ran) e h

@@ -1,12 +1,13 @@
 // The entries that give a mesh: they copy the input to the lent blocks, work there, and leave 0 behind.
 ghost use mathlib.Core.Path.{_≡_};
 ghost use Rattle.model.specs.Calls.{splitCall, straddlersCall, cutCall, crackCall};
-ghost use Rattle.mesh.specs.Given.{given, meshOf, sizesFit, roomsOf, asRooms};
+ghost use Rattle.mesh.specs.Given.{meshOf, sizesFit, roomsOf, asRooms};
 ghost use Rattle.mesh.specs.Filled.{lent};
-ghost use Rattle.answer.specs.Answered.{Answered, frontOf};
-use answer::Answer;
+ghost use Rattle.call_frame.specs.Answered.{Answered, frontOf};
+ghost use Rattle.mesh.specs.Blocks.{lentBefore, givenBefore};
 use blade::Point;
-use jobs::Job;
+use call_frame::Answer;
+use mesh_calls::Job;
 
 // The straddlers across pieces removed: the edges that are no elements, and the boundary entries, that join two pieces.
 pub fn straddlers(
@@ -26,8 +27,10 @@ pub fn straddlers(
     outline: &mut [usize],
     log: &mut [u32],
 ) -> Answer
-    ensures { λ r. ⌜ Answered (straddlersCall (sizesFit (given (now («in_points» .entry)) (now («in_roots» .entry)) (now («in_corners» .entry)) (now («in_volumes» .entry)) (now («in_ends» .entry)) (now («in_lengths» .entry)) (now («in_outline» .entry)))) (meshOf (given (now («in_points» .entry)) (now («in_roots» .entry)) (now («in_corners» .entry)) (now («in_volumes» .entry)) (now («in_ends» .entry)) (now («in_lengths» .entry)) (now («in_outline» .entry)))) (asRooms (roomsOf (lent (now (points .entry)) (now (roots .entry)) (now (corners .entry)) (now (volumes .entry)) (now (ends .entry)) (now (lengths .entry)) (now (outline .entry)) (now (log .entry)))))) (lent (now (points .entry)) (now (roots .entry)) (now (corners .entry)) (now (volumes .entry)) (now (ends .entry)) (now (lengths .entry)) (now (outline .entry)) (now (log .entry))) r
-        (now (points .exit)) (now (roots .exit)) (now (corners .exit)) (now (volumes .exit)) (now (ends .exit)) (now (lengths .exit)) (now (outline .exit)) (now (log .exit)) ⌝ }
+    ensures { λ r. ⌜ (let G = givenBefore «in_points» «in_roots» «in_corners» «in_volumes» «in_ends» «in_lengths» «in_outline» in
+        let L = lentBefore points roots corners volumes ends lengths outline log in
+        Answered (straddlersCall (sizesFit G) (meshOf G) (asRooms (roomsOf L))) L r (now (points .exit)) (now (roots .exit))
+        (now (corners .exit)) (now (volumes .exit)) (now (ends .exit)) (now (lengths .exit)) (now (outline .exit)) (now (log .exit))) ⌝ }
 {
     let room = mesh::whole::rooms_for(
         points.len(),
@@ -60,7 +63,7 @@ pub fn straddlers(
         outline,
         log,
     );
-    answer::frame::finish(
+    call_frame::frame::finish(
         ran,
         points,
         roots,
@@ -93,8 +96,11 @@ pub fn split(
     outline: &mut [usize],
     log: &mut [u32],
 ) -> Answer
-    ensures { λ r. ⌜ Answered (splitCall (sizesFit (given (now («in_points» .entry)) (now («in_roots» .entry)) (now («in_corners» .entry)) (now («in_volumes» .entry)) (now («in_ends» .entry)) (now («in_lengths» .entry)) (now («in_outline» .entry)))) (meshOf (given (now («in_points» .entry)) (now («in_roots» .entry)) (now («in_corners» .entry)) (now («in_volumes» .entry)) (now («in_ends» .entry)) (now («in_lengths» .entry)) (now («in_outline» .entry)))) v (now (sides .entry)) (asRooms (roomsOf (lent (now (points .entry)) (now (roots .entry)) (now (corners .entry)) (now (volumes .entry)) (now (ends .entry)) (now (lengths .entry)) (now (outline .entry)) (now (log .entry)))))) (lent (now (points .entry)) (now (roots .entry)) (now (corners .entry)) (now (volumes .entry)) (now (ends .entry)) (now (lengths .entry)) (now (outline .entry)) (now (log .entry))) r
-        (now (points .exit)) (now (roots .exit)) (now (corners .exit)) (now (volumes .exit)) (now (ends .exit)) (now (lengths .exit)) (now (outline .exit)) (now (log .exit)) ⌝ }
+    ensures { λ r. ⌜ (let G = givenBefore «in_points» «in_roots» «in_corners» «in_volumes» «in_ends» «in_lengths» «in_outline» in
+        let L = lentBefore points roots corners volumes ends lengths outline log in
+        Answered (splitCall (sizesFit G) (meshOf G) v (now (sides .entry)) (asRooms (roomsOf L))) L r (now (points .exit))
+        (now (roots .exit)) (now (corners .exit)) (now (volumes .exit)) (now (ends .exit)) (now (lengths .exit)) (now (outline .exit))
+        (now (log .exit))) ⌝ }
 {
     let room = mesh::whole::rooms_for(
         points.len(),
@@ -126,7 +132,7 @@ pub fn split(
         outline,
         log,
     );
-    answer::frame::finish(
+    call_frame::frame::finish(
         ran,
         points,
         roots,
@@ -162,8 +168,11 @@ pub fn cut(
     outline: &mut [usize],
     log: &mut [u32],
 ) -> Answer
-    ensures { λ r. ⌜ Answered (cutCall (sizesFit (given (now («in_points» .entry)) (now («in_roots» .entry)) (now («in_corners» .entry)) (now («in_volumes» .entry)) (now («in_ends» .entry)) (now («in_lengths» .entry)) (now («in_outline» .entry)))) (meshOf (given (now («in_points» .entry)) (now («in_roots» .entry)) (now («in_corners» .entry)) (now («in_volumes» .entry)) (now («in_ends» .entry)) (now («in_lengths» .entry)) (now («in_outline» .entry)))) edition (record { from = b0; to = b1 }) f (asRooms (roomsOf (lent (now (points .entry)) (now (roots .entry)) (now (corners .entry)) (now (volumes .entry)) (now (ends .entry)) (now (lengths .entry)) (now (outline .entry)) (now (log .entry)))))) (lent (now (points .entry)) (now (roots .entry)) (now (corners .entry)) (now (volumes .entry)) (now (ends .entry)) (now (lengths .entry)) (now (outline .entry)) (now (log .entry))) r
-        (now (points .exit)) (now (roots .exit)) (now (corners .exit)) (now (volumes .exit)) (now (ends .exit)) (now (lengths .exit)) (now (outline .exit)) (now (log .exit)) ⌝ }
+    ensures { λ r. ⌜ (let G = givenBefore «in_points» «in_roots» «in_corners» «in_volumes» «in_ends» «in_lengths» «in_outline» in
+        let L = lentBefore points roots corners volumes ends lengths outline log in
+        Answered (cutCall (sizesFit G) (meshOf G) edition (record { from = b0; to = b1 }) f (asRooms (roomsOf L))) L r (now (points .exit))
+        (now (roots .exit)) (now (corners .exit)) (now (volumes .exit)) (now (ends .exit)) (now (lengths .exit)) (now (outline .exit))
+        (now (log .exit))) ⌝ }
 {
     let room = mesh::whole::rooms_for(
         points.len(),
@@ -196,7 +205,7 @@ pub fn cut(
         outline,
         log,
     );
-    answer::frame::finish(
+    call_frame::frame::finish(
         ran,
         points,
         roots,
@@ -236,8 +245,11 @@ pub fn crack(
     outline: &mut [usize],
     log: &mut [u32],
 ) -> Answer
-    ensures { λ r. ⌜ Answered (crackCall (sizesFit (given (now («in_points» .entry)) (now («in_roots» .entry)) (now («in_corners» .entry)) (now («in_volumes» .entry)) (now («in_ends» .entry)) (now («in_lengths» .entry)) (now («in_outline» .entry)))) (meshOf (given (now («in_points» .entry)) (now («in_roots» .entry)) (now («in_corners» .entry)) (now («in_volumes» .entry)) (now («in_ends» .entry)) (now («in_lengths» .entry)) (now («in_outline» .entry)))) (now (torn .entry)) minimum (asRooms (roomsOf (lent (now (points .entry)) (now (roots .entry)) (now (corners .entry)) (now (volumes .entry)) (now (ends .entry)) (now (lengths .entry)) (now (outline .entry)) (now (log .entry)))))) (lent (now (points .entry)) (now (roots .entry)) (now (corners .entry)) (now (volumes .entry)) (now (ends .entry)) (now (lengths .entry)) (now (outline .entry)) (now (log .entry))) r
-        (now (points .exit)) (now (roots .exit)) (now (corners .exit)) (now (volumes .exit)) (now (ends .exit)) (now (lengths .exit)) (now (outline .exit)) (now (log .exit)) ⌝ }
+    ensures { λ r. ⌜ (let G = givenBefore «in_points» «in_roots» «in_corners» «in_volumes» «in_ends» «in_lengths» «in_outline» in
+        let L = lentBefore points roots corners volumes ends lengths outline log in
+        Answered (crackCall (sizesFit G) (meshOf G) (now (torn .entry)) minimum (asRooms (roomsOf L))) L r (now (points .exit))
+        (now (roots .exit)) (now (corners .exit)) (now (volumes .exit)) (now (ends .exit)) (now (lengths .exit)) (now (outline .exit))
+        (now (log .exit))) ⌝ }
 {
     let room = mesh::whole::rooms_for(
         points.len(),
@@ -269,7 +281,7 @@ pub fn crack(
         outline,
         log,
     );
-    answer::frame::finish(
+    call_frame::frame::finish(
         ran,
         points,
         roots,
@@ -286,5 +298,5 @@ pub fn crack(
 pub fn log_front(n: usize, log: &[u32]) -> &[u32]
     ensures { λ r. ⌜ now r ≡ frontOf n (now (log .entry)) ⌝ }
 {
-    answer::logged::log_front(n, log)
+    call_frame::logged::log_front(n, log)
 }

@@ -13,9 +13,9 @@ use Rattle.blade.specs.declared.Point.{Point}
 use Rattle.model.specs.Calls.{Outcome, refusal, bladeOk, cutCall, crackCall}
 use Rattle.model.specs.Reads.{refused}
 use Rattle.mesh.specs.Given.{meshOf}
-use Rattle.jobs.specs.Jobs.{jobNumbers, jobCall}
-use Rattle.jobs.specs.declared.Job.the-variants.{Cut, Crack}
-use Rattle.jobs.proofs.Jobs.{cut-is, crack-is}
+use Rattle.mesh_calls.specs.Jobs.{jobNumbers, jobCall}
+use Rattle.mesh_calls.specs.declared.Job.the-variants.{Cut, Crack}
+use Rattle.mesh_calls.proofs.Jobs.{cut-is, crack-is}
 use Rattle.image.specs.Words.{wordsFrom, numberOf}
 use Rattle.image.specs.Image.{imageOf, imageSized}
 use Rattle.reading_c.specs.Replies.{pointAt}

@@ -19,10 +19,10 @@ use Rattle.model.specs.Calls.{refused as turnedDown}
 use Rattle.model.specs.Reads.{refused}
 use Rattle.mesh.specs.Given.{meshOf, asRooms}
 use Rattle.mesh.specs.declared.Rooms.{Rooms}
-use Rattle.jobs.specs.Jobs.{jobNumbers, jobArguments, jobEdition, jobRefusal, jobCall}
-use Rattle.jobs.specs.declared.Job.{Job}
-use Rattle.jobs.specs.declared.Job.the-variants.{Straddlers, Split, Cut, Crack}
-use Rattle.jobs.proofs.Jobs.{straddlers-is, split-is}
+use Rattle.mesh_calls.specs.Jobs.{jobNumbers, jobArguments, jobEdition, jobRefusal, jobCall}
+use Rattle.mesh_calls.specs.declared.Job.{Job}
+use Rattle.mesh_calls.specs.declared.Job.the-variants.{Straddlers, Split, Cut, Crack}
+use Rattle.mesh_calls.proofs.Jobs.{straddlers-is, split-is}
 use Rattle.image.specs.Words.{wordAt}
 use Rattle.image.specs.Image.{imageOf, imageSized}
 use Rattle.reading_c.specs.Given.{Capped}

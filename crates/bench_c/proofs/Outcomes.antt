@@ -18,9 +18,9 @@ use Rattle.mesh.specs.declared.Rooms.{Rooms as Given-Rooms}
 use Rattle.work.specs.Working.{Within, Roomed}
 use Rattle.work.specs.declared.Ran.{Ran}
 use Rattle.work.specs.declared.Ran.the-variants.{Refused as Stopped, Done as Ended}
-use Rattle.answer.specs.Framed.{wordsChange, Came}
-use Rattle.answer.specs.declared.Answer.{Answer}
-use Rattle.answer.specs.declared.Answer.the-variants.{Refused, Done}
+use Rattle.call_frame.specs.Framed.{wordsChange, Came}
+use Rattle.call_frame.specs.declared.Answer.{Answer}
+use Rattle.call_frame.specs.declared.Answer.the-variants.{Refused, Done}
 use Rattle.image.specs.Image.{imageWordsOf}
 use Rattle.image.specs.Stores.{blockWords}
 use Rattle.reading_c.specs.Given.{SmallCode}

@@ -1,7 +1,7 @@
 -- Laws of an image that is read straight into lent blocks: a column in its place, and the mesh that the blocks then hold. Assumes nothing.
 use Prim.Native.Nat.{ℕ, _+_, _-_, _*_, _/_, _≤_, _<_}
 use native.Mathlib.Omega.{arith}
-use mathlib.Core.Path.{_≡_, refl, sym, ap, subst, _∙_}
+use mathlib.Core.Path.{_≡_, sym, ap, subst, _∙_}
 use mathlib.Core.Bool.{true}
 use mathlib.Core.List.{List}
 use lib.ListN.{length, take}
@@ -18,8 +18,7 @@ use Rattle.mesh.specs.Filled.{Fits}
 use Rattle.mesh.specs.declared.Counts.{Counts}
 use Rattle.mesh.specs.declared.Rooms.{Rooms}
 use Rattle.model.specs.Calls.{tooSmall}
-use Rattle.answer.specs.Framed.{copyNeed, BeginAsked}
-use Rattle.answer.proofs.Begun.{copy-fits}
+use Rattle.call_frame.specs.Framed.{copyNeed}
 use Rattle.mesh.proofs.Blocks.{copied-particles, copied-triangles, copied-edges, copied-boundary}
 use Rattle.mesh.proofs.Lists.{mesh-path}
 use Rattle.mesh.specs.Widths.{pointColumns, particleWords}
@@ -195,21 +194,25 @@ image-bytes s k h q =
 pub lacking-as : (k : Counts) (G : Given) (R : Rooms) (lack : ℕ) → k ≡ sizes G → lack ≡ tooSmall (asRooms R) (copyNeed k) → lack ≡ tooSmall (asRooms R) (copyNeed (sizes G))
 lacking-as k G R lack q e = e ∙ ap (λ (j : Counts). tooSmall (asRooms R) (copyNeed j)) q
 
--- where none lacks, the lent blocks have room
-pub placed-fits : (k : Counts) (G : Given) (R : Rooms) (lp lr lc lv le ll lo lack : ℕ) → BeginAsked 0 R G (record { points = lp; roots = lr; corners = lc; volumes = lv; ends = le; lengths = ll; outline = lo; log = 0 }) → k ≡ sizes G
-    → lack ≡ tooSmall (asRooms R) (copyNeed k) → lack ≡ 0 → Fits k (record { points = lp; roots = lr; corners = lc; volumes = lv; ends = le; lengths = ll; outline = lo; log = 0 })
-placed-fits k G R lp lr lc lv le ll lo lack A q e z =
-    let f = copy-fits k R (sym e ∙ z) in
-    let rooms = A .rooms in
-    let t : k .triangles ≤ R .triangles = subst (λ (j : Counts). j .triangles ≤ R .triangles) (sym q) (A .triangles refl) in
+-- local blocks have room for the mesh of any image
+pub local-fits : (s : List ℕ) (k : Counts) → imageSized s ≡ true → k ≡ sizes (imageOf s)
+    → Fits k (record { points = 1024 * pointColumns; roots = 2048; corners = 3072; volumes = 2048; ends = 8192; lengths = 8192; outline = 4096; log = 0 })
+local-fits s k h q =
+    let b = image-bytes s k h q in
     let g : k .log ≡ 0 = ap (λ (j : Counts). j .log) q in
     record {
-      points = omega (arith, f .particles, rooms .points);
-      roots = omega (arith, f .particles, rooms .roots);
-      corners = omega (arith, t, rooms .corners);
-      volumes = omega (arith, t, rooms .volumes);
-      ends = omega (arith, f .edges, rooms .ends);
-      lengths = omega (arith, f .edges, rooms .lengths);
-      outline = omega (arith, f .boundary, rooms .outline);
+      points = omega (arith, b .few-particles);
+      roots = omega (arith, b .few-particles);
+      corners = omega (arith, b .few-triangles);
+      volumes = omega (arith, b .few-triangles);
+      ends = omega (arith, b .few-edges);
+      lengths = omega (arith, b .few-edges);
+      outline = omega (arith, b .few-boundary);
       log = omega (arith, g);
     }
+
+-- and still have it while they stay as long
+pub fits-still : {k : Counts} {lp lr lc lv le ll lo lp′ lr′ lc′ lv′ le′ ll′ lo′ : ℕ} → Fits k (record { points = lp; roots = lr; corners = lc; volumes = lv; ends = le; lengths = ll; outline = lo; log = 0 })
+    → lp′ ≡ lp → lr′ ≡ lr → lc′ ≡ lc → lv′ ≡ lv → le′ ≡ le → ll′ ≡ ll → lo′ ≡ lo → Fits k (record { points = lp′; roots = lr′; corners = lc′; volumes = lv′; ends = le′; lengths = ll′; outline = lo′; log = 0 })
+fits-still {k} h ep er ec ev ee el eo =
+    subst (Fits k) (λ i. record { points = sym ep i; roots = sym er i; corners = sym ec i; volumes = sym ev i; ends = sym ee i; lengths = sym el i; outline = sym eo i; log = 0 }) h

@@ -15,7 +15,7 @@ use Rattle.model.specs.Calls.{Outcome, refusal, wholeMesh, wholeLine, exactRefu
 use Rattle.model.specs.Reads.{refused}
 use Rattle.mesh.specs.At.{meshAt}
 use Rattle.mesh.specs.Log.{worldAt}
-use Rattle.mesh.specs.Given.{Given, Lent, sizesFit, meshOf, sizes, asRooms}
+use Rattle.mesh.specs.Given.{sizesFit, meshOf, sizes, asRooms}
 use Rattle.mesh.specs.Filled.{lent}
 use Rattle.mesh.specs.Widths.{pointColumns}
 use Rattle.mesh.specs.declared.Counts.{Counts}
@@ -23,13 +23,13 @@ use Rattle.mesh.specs.declared.Rooms.{Rooms}
 use Rattle.work.specs.Working.{Roomed, Ready, Works, Logged}
 use Rattle.work.specs.declared.Ran.{Ran}
 use Rattle.work.specs.declared.Ran.the-variants.{Refused as Stopped}
-use Rattle.answer.specs.Framed.{RoomsLent, BeginAsked, Begun, Came}
-use Rattle.answer.proofs.Begun.{begun-by}
-use Rattle.jobs.specs.Jobs.{jobNumbers, jobArguments, jobEdition, jobRefusal, jobRun, jobCall}
+use Rattle.call_frame.specs.Framed.{RoomsLent, Begun, Came}
+use Rattle.call_frame.proofs.Begun.{begun-by}
+use Rattle.mesh_calls.specs.Jobs.{jobNumbers, jobArguments, jobEdition, jobRefusal, jobRun, jobCall}
 use Rattle.perform.specs.Asks.{JobAsked}
-use Rattle.jobs.specs.declared.Job.{Job}
-use Rattle.jobs.specs.declared.Job.the-variants.{Straddlers, Split, Cut, Crack}
-use Rattle.perform.proofs.Performed.{job-begins, job-refused, job-asked, job-came}
+use Rattle.mesh_calls.specs.declared.Job.{Job}
+use Rattle.mesh_calls.specs.declared.Job.the-variants.{Straddlers, Split, Cut, Crack}
+use Rattle.perform.proofs.Performed.{job-refused, job-asked, job-came}
 use Rattle.image.specs.Image.{imageOf, imageSized}
 use Rattle.reading_c.specs.Given.{SmallCode}
 use Rattle.bench_c.specs.Torn.{meshReply, BothReplied, OutcomeReplied}
@@ -133,10 +133,12 @@ module _ (j : Job) (ls s : List ℕ) (R : Rooms) where
   accepted-begun held code e B z = subst (Begun checked R (meshOf (imageOf s)) held) z (begun-by B (sym e))
 
   module _ (sized : imageSized s ≡ true) where
-    -- what the checks told of loaded blocks they told of the image
-    pub judged : (G : Given) (code : ℕ) → G ≡ imageOf s → code ≡ jobRefusal j ls (sizesFit G) (meshOf G) (asRooms R) → code ≡ checked
-    judged G code q e =
-        e ∙ ap (λ (H : Given). jobRefusal j ls (sizesFit H) (meshOf H) (asRooms R)) q ∙ ap (λ (z : Bool). jobRefusal j ls z (meshOf (imageOf s)) (asRooms R)) (sized-input s sized)
+    -- what the checks told of the blocks that hold the mesh they told of the image
+    pub judged : (k : Counts) (p : List Float) (r c : List ℕ) (v : List Float) (e : List ℕ) (l : List Float) (o : List ℕ) (code : ℕ) → k ≡ sizes (imageOf s)
+        → meshAt (sizes (imageOf s)) p r c v e l o ≡ meshOf (imageOf s) → code ≡ jobRefusal j ls true (meshAt k p r c v e l o) (asRooms R) → code ≡ checked
+    judged k p r c v e l o code q m f =
+        f ∙ ap (λ (n : Counts). jobRefusal j ls true (meshAt n p r c v e l o) (asRooms R)) q ∙ ap (λ (N : Mesh). jobRefusal j ls true N (asRooms R)) m
+        ∙ ap (λ (z : Bool). jobRefusal j ls z (meshOf (imageOf s)) (asRooms R)) (sym sized)
 
     -- the same number, by the sizes of the input
     by-sizes : checked ≡ jobRefusal j ls (sizesFit (imageOf s)) (meshOf (imageOf s)) (asRooms R)
@@ -145,10 +147,6 @@ module _ (j : Job) (ls s : List ℕ) (R : Rooms) where
     -- and the same outcome
     to-sized : (at : Counts → _) (ran : Ran) → Came (jobCall j ls (sizesFit (imageOf s)) (meshOf (imageOf s)) (asRooms R)) R at ran → Came called R at ran
     to-sized at ran C = subst (λ (z : Bool). Came (jobCall j ls z (meshOf (imageOf s)) (asRooms R)) R at ran) (sized-input s sized) C
-
-    -- an image that no check refused may be read into the blocks
-    pub accepted-asked : (I : Lent) → checked ≡ 0 → RoomsLent R I → BeginAsked 0 R (imageOf s) I
-    accepted-asked I e rooms = job-begins j ls (imageOf s) R I 0 (sym e ∙ by-sizes) rooms
 
     -- a room lacks
     pub lack-small : (held : Mesh) (code : ℕ) → Begun 0 R (meshOf (imageOf s)) held code → code < 256

@@ -1,5 +1,5 @@
 -- Laws of the reply to an entry that gives a mesh: what the bytes and the log show. Assumes nothing.
-use Prim.Native.Nat.{ℕ, _+_, _*_, _/_, _≤_, _<_}
+use Prim.Native.Nat.{ℕ, _+_, _*_, _≤_, _<_}
 use native.Mathlib.Omega.{arith}
 use mathlib.Core.Path.{_≡_, refl, sym, ap, subst, _∙_}
 use mathlib.Core.Bool.{Bool, true, false}
@@ -8,17 +8,17 @@ use lib.Dec.{leb}
 use lib.ListN.{length, take}
 use lib.Ieee.{Float}
 use borrow.Author.Tests.{le-leb, lt-leb}
-use Rattle.lists.specs.Lists.{pick}
+use Rattle.lists.specs.Lists.{pick, padded}
 use Rattle.model.specs.Reads.{refused, value}
 use Rattle.mesh.specs.declared.Counts.{Counts}
 use Rattle.mesh.specs.Log.{logAt}
 use Rattle.mesh.specs.Widths.{particleWords}
 use Rattle.work.specs.declared.Ran.{Ran}
 use Rattle.work.specs.declared.Ran.the-variants.{Done}
-use Rattle.answer.specs.Framed.{wordsChange}
-use Rattle.image.specs.Words.{written, putWords}
+use Rattle.call_frame.specs.Framed.{wordsChange}
+use Rattle.image.specs.Words.{written, putWord, putWords}
 use Rattle.image.specs.Stores.{blockWords, Storable}
-use Rattle.image.proofs.Puts.{put-written}
+use Rattle.image.proofs.Puts.{put-written, put-one, puts-then, put-cleared}
 use Rattle.image.proofs.Rows.{block-words-long}
 use Rattle.bench_c.specs.Torn.{BothReplied}
 use Rattle.bench_c.specs.Told.{doneWords, meshTold, logTold, Tellable, Telling}
@@ -50,16 +50,19 @@ module _ (k : Counts) (p : List Float) (r c : List ℕ) (v : List Float) (e : Li
       let t : leb (4 * length (doneWords k any p r c v e l o)) lent ≡ false = lt-leb (4 * length (doneWords k any p r c v e l o)) lent (omega (arith, n, few)) in
       record { code = rw t (q .code); bytes = rw t (q .bytes); entries = rw t (q .entries) }
 
-  -- the answer and the log
-  pub done-replied : (any : Bool) (ws : List ℕ) (lent x y : ℕ) (out₁ out log : List ℕ) → 4 * (6 + particleWords * k .particles + 5 * k .triangles + 8 * k .edges + 2 * k .boundary) ≤ lent
-      → y ≡ pick any 1 0 → out₁ ≡ written lent (y ∷ k .log ∷ []) → out ≡ putWords out₁ 2 (blockWords k p r c v e l o) → log ≡ written logged ws → x ≡ 0
-      → BothReplied (value (doneWords k any p r c v e l o)) ws lent logged x out log
-  done-replied any ws lent x y out₁ out log room ey e₁ e₂ el ex =
+  -- the answer, 0 behind it, and the log
+  pub done-replied : (any : Bool) (ws : List ℕ) (x y end : ℕ) (s₀ s₁ s₂ s₃ out log : List ℕ) → end ≡ 4 * (6 + particleWords * k .particles + 5 * k .triangles + 8 * k .edges + 2 * k .boundary) → end ≤ length s₀
+      → y ≡ pick any 1 0 → s₁ ≡ putWord s₀ 0 y → s₂ ≡ putWord s₁ 1 (k .log) → s₃ ≡ putWords s₂ 2 (blockWords k p r c v e l o) → length s₃ ≡ length s₀ → out ≡ padded (length s₃) 0 (take end s₃)
+      → log ≡ written logged ws → x ≡ 0 → BothReplied (value (doneWords k any p r c v e l o)) ws (length s₀) logged x out log
+  done-replied any ws x y end s₀ s₁ s₂ s₃ out log ends room ey e₁ e₂ e₃ long e₄ el ex =
+      let B : List ℕ = blockWords k p r c v e l o in
       let n = block-words-long k p r c v e l o (standing k _ _ _ _ _ _ _ lg logged h) in
-      let t : leb (4 * length (doneWords k any p r c v e l o)) lent ≡ true = le-leb (4 * length (doneWords k any p r c v e l o)) lent (omega (arith, n, room)) in
-      let w : out ≡ written lent (doneWords k any p r c v e l o) =
-      e₂ ∙ ap (λ (s : List ℕ). putWords s 2 (blockWords k p r c v e l o)) e₁ ∙ put-written lent (y ∷ k .log ∷ []) (blockWords k p r c v e l o) 2 refl (omega (arith, n, room))
-      ∙ ap (λ (b : ℕ). written lent (b ∷ k .log ∷ blockWords k p r c v e l o)) ey in
+      let t : leb (4 * length (doneWords k any p r c v e l o)) (length s₀) ≡ true = le-leb (4 * length (doneWords k any p r c v e l o)) (length s₀) (omega (arith, n, room, ends)) in
+      let p₁ : s₁ ≡ putWords s₀ 0 (y ∷ []) = e₁ ∙ put-one s₀ 0 y in
+      let p₂ : s₂ ≡ putWords s₀ 0 (y ∷ k .log ∷ []) = puts-then s₀ s₁ s₂ 0 1 (y ∷ []) (k .log ∷ []) p₁ (e₂ ∙ put-one s₁ 1 (k .log)) refl (omega (arith, room, ends)) in
+      let p₃ : s₃ ≡ putWords s₀ 0 (y ∷ k .log ∷ B) = puts-then s₀ s₂ s₃ 0 2 (y ∷ k .log ∷ []) B p₂ e₃ refl (omega (arith, room, ends)) in
+      let w : out ≡ written (length s₀) (doneWords k any p r c v e l o) =
+      put-cleared s₀ s₃ out (y ∷ k .log ∷ B) end p₃ long e₄ (omega (arith, n, ends)) ∙ ap (λ (b : ℕ). written (length s₀) (b ∷ k .log ∷ B)) ey in
       record { code = rw t ex; bytes = rw t w; entries = rw t el }
 
 -- the words of a log behind nothing

@@ -2,7 +2,7 @@
 use Prim.Native.Nat.{ℕ, _*_, _/_, _≤_, _<_, min}
 use mathlib.Core.Bool.{Bool}
 use mathlib.Core.List.{List, [], _∷_}
-use lib.ListN.{take}
+use lib.ListN.{length, take}
 use lib.Dec.{eqb}
 use lib.Ieee.{Float}
 use Rattle.lists.specs.Lists.{pick}
@@ -13,9 +13,16 @@ use Rattle.mesh.specs.declared.Rooms.{Rooms}
 use Rattle.mesh.specs.Widths.{pointColumns}
 use Rattle.work.specs.declared.Ran.{Ran}
 use Rattle.work.specs.declared.Ran.the-variants.{Refused, Done}
-use Rattle.answer.specs.Framed.{wordsChange}
+use Rattle.call_frame.specs.Framed.{wordsChange}
 use Rattle.image.specs.Words.{wordAt}
 use Rattle.image.specs.Stores.{blockWords}
+use Rattle.image.specs.Image.{imageOf, imageSized}
+use Rattle.mesh.specs.Given.{meshOf, asRooms}
+use Rattle.mesh.specs.Blocks.{Indices}
+use Rattle.mesh_calls.specs.declared.Job.{Job}
+use Rattle.mesh_calls.specs.Jobs.{jobCall}
+use denote.Ref.{now}
+use Rattle.bench_c.specs.Torn.{OutcomeReplied}
 
 -- the words of an answer whose rows are the first of seven blocks
 abbrev pub doneWords : Counts → Bool → List Float → List ℕ → List ℕ → List Float → List ℕ → List Float → List ℕ → List ℕ
@@ -68,3 +75,8 @@ roomsGiven s logged = record { particles = min 1024 (wordAt s 0); triangles = mi
 -- the refusal of a job, where the rooms are four words or not: if not, 4 in the place of none and of those behind it
 abbrev pub roomsToo : ℕ → Bool → ℕ
 roomsToo code sixteen = pick sixteen code (pick (eqb code 0) 4 (min code 4))
+
+-- a job on an image was answered, in the bytes that were lent for the result and for the log
+abbrev pub JobReplied : Job → Indices → Indices → Rooms → Indices → Indices → ℕ → Type 0
+JobReplied job list bytes room out log r =
+    OutcomeReplied (jobCall job (now (list .entry)) (imageSized (now (bytes .entry))) (meshOf (imageOf (now (bytes .entry)))) (asRooms room)) (length (now (out .entry))) (length (now (log .entry))) r (now (out .exit)) (now (log .exit))

@@ -2,7 +2,7 @@
 ghost use mathlib.Core.Path.{_≡_};
 ghost use lib.ListN.{length};
 ghost use Rattle.bench_c.specs.Torn.{OutcomeReplied, cutOutcome, crackOutcome, wordsFew};
-use jobs::Job;
+use mesh_calls::Job;
 
 // A mesh image cut along a blade of four words, in an edition, 1 or 2, with the insertion fraction of a word. The job looks at no list.
 #[no_mangle]
@@ -15,7 +15,8 @@ pub extern "C" fn bench_cut(
     out: &mut [u8],
     log: &mut [u8],
 ) -> u32
-    ensures { λ r. ⌜ OutcomeReplied (cutOutcome (now (bytes .entry)) (now (blade .entry)) edition fraction (now (rooms .entry)) (length (now (log .entry)))) (length (now (out .entry))) (length (now (log .entry))) r (now (out .exit)) (now (log .exit)) ⌝ }
+    ensures { λ r. ⌜ OutcomeReplied (cutOutcome (now (bytes .entry)) (now (blade .entry)) edition fraction (now (rooms .entry))
+        (length (now (log .entry)))) (length (now (out .entry))) (length (now (log .entry))) r (now (out .exit)) (now (log .exit)) ⌝ }
 {
     if blade.len() != 16 {
         return crate::outcome::refuse(reading_c::unread::unread(bytes), out, log);
@@ -51,7 +52,8 @@ pub extern "C" fn bench_crack(
     out: &mut [u8],
     log: &mut [u8],
 ) -> u32
-    ensures { λ r. ⌜ OutcomeReplied (crackOutcome (now (bytes .entry)) (now (torn .entry)) minimum (now (rooms .entry)) (length (now (log .entry)))) (length (now (out .entry))) (length (now (log .entry))) r (now (out .exit)) (now (log .exit)) ⌝ }
+    ensures { λ r. ⌜ OutcomeReplied (crackOutcome (now (bytes .entry)) (now (torn .entry)) minimum (now (rooms .entry))
+        (length (now (log .entry)))) (length (now (out .entry))) (length (now (log .entry))) r (now (out .exit)) (now (log .exit)) ⌝ }
 {
     if words_few(torn.len()) {
         let mut numbers = [0usize; 2048];

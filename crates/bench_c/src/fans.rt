@@ -12,7 +12,8 @@ pub extern "C" fn bench_opens_without_confetti(
     minimum: u32,
     out: &mut [u8],
 ) -> u32
-    ensures { λ r. ⌜ Replied (opensReply (now (bytes .entry)) v (now (sides .entry)) minimum) (length (now (out .entry))) r (now (out .exit)) ⌝ }
+    ensures { λ r. ⌜ Replied (opensReply (now (bytes .entry)) v (now (sides .entry)) minimum) (length (now (out .entry))) r
+        (now (out .exit)) ⌝ }
 {
     reading_c::fans::opens_without_confetti(bytes, v as usize, sides, minimum as usize, out)
 }

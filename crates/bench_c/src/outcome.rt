@@ -14,7 +14,8 @@ use work::Ran;
 // A refusal: every byte of the answer and of the log is 0.
 pub fn refuse(code: usize, out: &mut [u8], log: &mut [u8]) -> u32
     requires { ⌜ code < 256 ⌝ }
-    ensures { λ r. ⌜ BothReplied (refused code) [] (length (now (out .entry))) (length (now (log .entry))) r (now (out .exit)) (now (log .exit)) ⌝ }
+    ensures { λ r. ⌜ BothReplied (refused code) [] (length (now (out .entry))) (length (now (log .entry))) r (now (out .exit))
+        (now (log .exit)) ⌝ }
 {
     image::clear_bytes(out);
     image::clear_bytes(log);
@@ -53,7 +54,7 @@ fn log_out(words: &[u32], n: usize, log: &mut [u8])
     store_log(&words[..end], 0, log);
 }
 
-// The reply to a mesh in seven blocks and a log; 4 where the answer's words have no room.
+// The reply to a mesh in seven blocks and a log; 4 where the answer's words have no room. Only the bytes behind the answer are cleared.
 fn reply_done(
     k: Counts,
     any: bool,
@@ -68,18 +69,23 @@ fn reply_done(
     out: &mut [u8],
     log: &mut [u8],
 ) -> u32
-    requires { ⌜ Tellable k (length (now points)) (length (now roots)) (length (now corners)) (length (now volumes)) (length (now ends)) (length (now lengths)) (length (now outline)) (length (now words)) (length (now log)) ⌝ }
-    ensures { λ r. ⌜ BothReplied (value (doneWords k any (now (points .entry)) (now (roots .entry)) (now (corners .entry)) (now (volumes .entry)) (now (ends .entry)) (now (lengths .entry)) (now (outline .entry)))) (take (6 * k .log) (now (words .entry))) (length (now (out .entry))) (length (now (log .entry))) r (now (out .exit)) (now (log .exit)) ⌝ }
+    requires { ⌜ Tellable k (length (now points)) (length (now roots)) (length (now corners)) (length (now volumes)) (length (now ends))
+        (length (now lengths)) (length (now outline)) (length (now words)) (length (now log)) ⌝ }
+    ensures { λ r. ⌜ BothReplied (value (doneWords k any (now (points .entry)) (now (roots .entry)) (now (corners .entry))
+        (now (volumes .entry)) (now (ends .entry)) (now (lengths .entry)) (now (outline .entry)))) (take (6 * k .log) (now (words .entry)))
+        (length (now (out .entry))) (length (now (log .entry))) r (now (out .exit)) (now (log .exit)) ⌝ }
 {
     let p = k.particles;
     let t = k.triangles;
     let e = k.edges;
     let b = k.boundary;
     let n = k.log;
-    if out.len() < 4 * (6 + mesh::PARTICLE_WORDS * p + 5 * t + 8 * e + 2 * b) {
+    let end = 4 * (6 + mesh::PARTICLE_WORDS * p + 5 * t + 8 * e + 2 * b);
+    if out.len() < end {
         return refuse(4, out, log);
     }
-    image::write_two(out, one_if(any), n);
+    image::put_word(out, 0, one_if(any));
+    image::put_word(out, 1, n);
     image::store(
         k,
         points,
@@ -92,6 +98,7 @@ fn reply_done(
         2,
         out,
     );
+    image::clear_bytes_from(out, end);
     log_out(words, n, log);
     0
 }
@@ -110,15 +117,18 @@ pub fn reply_ran(
     out: &mut [u8],
     log: &mut [u8],
 ) -> u32
-    requires { ⌜ Telling ran (length (now points)) (length (now roots)) (length (now corners)) (length (now volumes)) (length (now ends)) (length (now lengths)) (length (now outline)) (length (now words)) (length (now log)) ⌝ }
-    ensures { λ r. ⌜ BothReplied (meshTold ran (now (points .entry)) (now (roots .entry)) (now (corners .entry)) (now (volumes .entry)) (now (ends .entry)) (now (lengths .entry)) (now (outline .entry)) (now (words .entry))) (logTold ran (now (words .entry))) (length (now (out .entry))) (length (now (log .entry))) r (now (out .exit)) (now (log .exit)) ⌝ }
+    requires { ⌜ Telling ran (length (now points)) (length (now roots)) (length (now corners)) (length (now volumes)) (length (now ends))
+        (length (now lengths)) (length (now outline)) (length (now words)) (length (now log)) ⌝ }
+    ensures { λ r. ⌜ BothReplied (meshTold ran (now (points .entry)) (now (roots .entry)) (now (corners .entry)) (now (volumes .entry))
+        (now (ends .entry)) (now (lengths .entry)) (now (outline .entry)) (now (words .entry))) (logTold ran (now (words .entry))) (length
+        (now (out .entry))) (length (now (log .entry))) r (now (out .exit)) (now (log .exit)) ⌝ }
 {
     match ran {
         Ran::Refused(code) => {
             return refuse(code, out, log);
         }
         Ran::Done(k) => {
-            let any = answer::logged::changed(k.log, words);
+            let any = call_frame::logged::changed(k.log, words);
             return reply_done(
                 k,
                 any,

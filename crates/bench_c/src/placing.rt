@@ -6,14 +6,12 @@ ghost use Prim.Native.Nat.{_+_, _*_, _≤_};
 ghost use lib.ListN.{length};
 ghost use lib.Ieee.{nan};
 ghost use Rattle.columns.specs.Block.{BlockCopied};
-ghost use Rattle.mesh.specs.At.{meshAt};
 ghost use Rattle.mesh.specs.Given.{meshOf, sizes};
 ghost use Rattle.mesh.specs.Filled.{Fits, lent};
-ghost use Rattle.answer.specs.Framed.{BeginAsked, Begun};
 ghost use Rattle.image.specs.Words.{wordsFrom, numbersFrom};
 ghost use Rattle.image.specs.Image.{imageOf, imageSized};
+ghost use Rattle.mesh.specs.Blocks.{meshBehind, blocksIn};
 use mesh::Counts;
-use mesh::Rooms;
 
 // How many rows each list of an image has that has the sizes of a mesh.
 pub fn image_counts(bytes: &[u8]) -> Counts
@@ -64,7 +62,7 @@ fn place_numbers(bytes: &[u8], at: usize, n: usize, width: usize, stride: usize,
 }
 
 // Reads the mesh of an image, whose counts are k, into blocks that have room for it.
-fn place_image(
+pub fn place_image(
     bytes: &[u8],
     k: Counts,
     points: &mut [f32],
@@ -75,8 +73,10 @@ fn place_image(
     lengths: &mut [f32],
     outline: &mut [usize],
 )
-    requires { ⌜ (imageSized (now bytes) ≡ true) × (k ≡ sizes (imageOf (now bytes))) × Fits k (lent (now points) (now roots) (now corners) (now volumes) (now ends) (now lengths) (now outline) []) ⌝ }
-    ensures { λ _. ⌜ meshAt (sizes (imageOf (now (bytes .entry)))) (now (points .exit)) (now (roots .exit)) (now (corners .exit)) (now (volumes .exit)) (now (ends .exit)) (now (lengths .exit)) (now (outline .exit)) ≡ meshOf (imageOf (now (bytes .entry))) ⌝ }
+    requires { ⌜ (imageSized (now bytes) ≡ true) × (k ≡ sizes (imageOf (now bytes)))
+        × Fits k (blocksIn points roots corners volumes ends lengths outline) ⌝ }
+    ensures { λ _. ⌜ (let I = imageOf (now (bytes .entry)) in meshBehind (sizes I) points roots corners volumes ends lengths outline
+        ≡ meshOf I) ⌝ }
 {
     let p = k.particles;
     let t = k.triangles;
@@ -105,38 +105,4 @@ fn place_image(
     place_words(bytes, edges, e, 4, ends.len() / 4, ends);
     place_numbers(bytes, edges + 4 * e, e, 4, lengths.len() / 4, lengths);
     place_words(bytes, edges + 8 * e, b, 2, outline.len() / 2, outline);
-}
-
-// Begins a call on an image that no check has refused: reads its mesh into the lent blocks, unless a room lacks. Returns the number of that room, or 0.
-pub fn begin(
-    bytes: &[u8],
-    room: Rooms,
-    points: &mut [f32],
-    roots: &mut [usize],
-    corners: &mut [usize],
-    volumes: &mut [f32],
-    ends: &mut [usize],
-    lengths: &mut [f32],
-    outline: &mut [usize],
-) -> usize
-    requires { ⌜ (imageSized (now bytes) ≡ true) × BeginAsked 0 room (imageOf (now bytes)) (lent (now points) (now roots) (now corners) (now volumes) (now ends) (now lengths) (now outline) []) ⌝ }
-    ensures { λ r. ⌜ Begun 0 room (meshOf (imageOf (now (bytes .entry)))) (meshAt (sizes (imageOf (now (bytes .entry)))) (now (points .exit)) (now (roots .exit)) (now (corners .exit)) (now (volumes .exit)) (now (ends .exit)) (now (lengths .exit)) (now (outline .exit))) r ⌝ }
-{
-    let k = image_counts(bytes);
-    let lack = answer::frame::lacking(k, room);
-    if lack != 0 {
-        return lack;
-    }
-    place_image(
-        bytes,
-        k,
-        points,
-        roots,
-        corners,
-        volumes,
-        ends,
-        lengths,
-        outline,
-    );
-    0
 }

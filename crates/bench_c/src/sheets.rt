@@ -58,7 +58,8 @@ pub extern "C" fn bench_mend(
     text: &mut [u8],
     counts: &mut [u8],
 ) -> u32
-    ensures { λ r. ⌜ MendReplied (now (broken .entry)) (length (now (mended .entry))) (length (now (text .entry))) (length (now (counts .entry))) r (now (mended .exit)) (now (text .exit)) (now (counts .exit)) ⌝ }
+    ensures { λ r. ⌜ MendReplied (now (broken .entry)) (length (now (mended .entry))) (length (now (text .entry))) (length
+        (now (counts .entry))) r (now (mended .exit)) (now (text .exit)) (now (counts .exit)) ⌝ }
 {
     mend_c::mend(broken, mended, text, counts)
 }

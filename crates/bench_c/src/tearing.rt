@@ -1,61 +1,18 @@
-// The C functions that give a mesh. Each is a job: the image is judged, its mesh is read into local blocks and worked on there, and what they then hold is written. The blocks of the input are gone before those of the result are there, and nothing but these stands beside the log.
+// The C functions that give a mesh. Each is a job: the mesh of the image is read into local blocks, judged and worked on there, and what they then hold is written. Nothing but these blocks stands beside the log.
 ghost use mathlib.Core.Path.{_≡_};
 ghost use mathlib.Core.Bool.{true};
 ghost use mathlib.Core.List.{[]};
 ghost use lib.ListN.{length};
-ghost use Rattle.mesh.specs.At.{meshAt};
 ghost use Rattle.mesh.specs.Given.{meshOf, sizes, asRooms};
 ghost use Rattle.mesh.specs.Filled.{lent};
-ghost use Rattle.answer.specs.Framed.{RoomsLent, Begun};
-ghost use Rattle.jobs.specs.Jobs.{jobNumbers, jobRefusal, jobCall};
+ghost use Rattle.call_frame.specs.Framed.{RoomsLent, Begun};
+ghost use Rattle.mesh_calls.specs.Jobs.{jobNumbers, jobRefusal, jobCall};
 ghost use Rattle.image.specs.Image.{imageOf, imageSized};
 ghost use Rattle.bench_c.specs.Torn.{OutcomeReplied, roomsIn, withRooms, splitOutcome, straddlersOutcome};
-ghost use Rattle.bench_c.specs.Told.{Limited, roomsGiven, roomsToo};
-use jobs::Job;
+ghost use Rattle.bench_c.specs.Told.{Limited, roomsGiven, roomsToo, JobReplied};
+ghost use Rattle.mesh.specs.Blocks.{meshIn, blocksIn};
 use mesh::Rooms;
-
-// What refuses a job before its steps, on an image that has the sizes of a mesh, or 0.
-fn judge(job: Job, list: &[usize], room: Rooms, bytes: &[u8]) -> usize
-    requires { ⌜ imageSized (now bytes) ≡ true ⌝ }
-    ensures { λ r. ⌜ r ≡ jobRefusal job (now (list .entry)) (imageSized (now (bytes .entry))) (meshOf (imageOf (now (bytes .entry)))) (asRooms room) ⌝ }
-{
-    let mut points = [0.0f32; 1024 * mesh::POINT_COLUMNS];
-    let mut roots = [0usize; 2048];
-    let mut corners = [0usize; 3072];
-    let mut volumes = [0.0f32; 2048];
-    let mut ends = [0usize; 8192];
-    let mut lengths = [0.0f32; 8192];
-    let mut outline = [0usize; 4096];
-    let k = crate::placing::image_counts(bytes);
-    let p8 = mesh::POINT_COLUMNS * k.particles;
-    let p2 = 2 * k.particles;
-    let t3 = 3 * k.triangles;
-    let t2 = 2 * k.triangles;
-    let e4 = 4 * k.edges;
-    let b2 = 2 * k.boundary;
-    image::load(
-        bytes,
-        &mut points,
-        &mut roots,
-        &mut corners,
-        &mut volumes,
-        &mut ends,
-        &mut lengths,
-        &mut outline,
-    );
-    jobs::checks::judge(
-        job,
-        list,
-        room,
-        &points[..p8],
-        &roots[..p2],
-        &corners[..t3],
-        &volumes[..t2],
-        &ends[..e4],
-        &lengths[..e4],
-        &outline[..b2],
-    )
-}
+use mesh_calls::Job;
 
 // Works on the mesh of an image, which the lent blocks hold, and writes the reply.
 fn reply_work(
@@ -73,8 +30,10 @@ fn reply_work(
     out: &mut [u8],
     log: &mut [u8],
 ) -> u32
-    requires { ⌜ (imageSized (now bytes) ≡ true) × Limited room (length (now log)) × RoomsLent room (lent (now points) (now roots) (now corners) (now volumes) (now ends) (now lengths) (now outline) []) × Begun (jobRefusal job (now list) (imageSized (now bytes)) (meshOf (imageOf (now bytes))) (asRooms room)) room (meshOf (imageOf (now bytes))) (meshAt (sizes (imageOf (now bytes))) (now points) (now roots) (now corners) (now volumes) (now ends) (now lengths) (now outline)) 0 ⌝ }
-    ensures { λ r. ⌜ OutcomeReplied (jobCall job (now (list .entry)) (imageSized (now (bytes .entry))) (meshOf (imageOf (now (bytes .entry)))) (asRooms room)) (length (now (out .entry))) (length (now (log .entry))) r (now (out .exit)) (now (log .exit)) ⌝ }
+    requires { ⌜ (let I = imageOf (now bytes) in (imageSized (now bytes) ≡ true) × Limited room (length (now log)) × RoomsLent room
+        (blocksIn points roots corners volumes ends lengths outline) × Begun (jobRefusal job (now list) (imageSized (now bytes)) (meshOf I)
+        (asRooms room)) room (meshOf I) (meshIn (sizes I) points roots corners volumes ends lengths outline) 0) ⌝ }
+    ensures { λ r. ⌜ JobReplied job list bytes room out log r ⌝ }
 {
     let mut words = [0u32; 24576];
     let k = crate::placing::image_counts(bytes);
@@ -107,51 +66,44 @@ fn reply_work(
     )
 }
 
-// A job that no check has refused, in local blocks.
+// A job that no check has refused, on the mesh of an image, which the lent blocks hold; 5, 6 or 7 where a room lacks.
 fn reply_accepted(
     job: Job,
     list: &[usize],
     room: Rooms,
     bytes: &[u8],
+    points: &mut [f32],
+    roots: &mut [usize],
+    corners: &mut [usize],
+    volumes: &mut [f32],
+    ends: &mut [usize],
+    lengths: &mut [f32],
+    outline: &mut [usize],
     out: &mut [u8],
     log: &mut [u8],
 ) -> u32
-    requires { ⌜ (imageSized (now bytes) ≡ true) × Limited room (length (now log)) × (jobRefusal job (now list) (imageSized (now bytes)) (meshOf (imageOf (now bytes))) (asRooms room) ≡ 0) ⌝ }
-    ensures { λ r. ⌜ OutcomeReplied (jobCall job (now (list .entry)) (imageSized (now (bytes .entry))) (meshOf (imageOf (now (bytes .entry)))) (asRooms room)) (length (now (out .entry))) (length (now (log .entry))) r (now (out .exit)) (now (log .exit)) ⌝ }
+    requires { ⌜ (let I = imageOf (now bytes) in (imageSized (now bytes) ≡ true) × Limited room (length (now log)) × RoomsLent room
+        (blocksIn points roots corners volumes ends lengths outline) × (jobRefusal job (now list) (imageSized (now bytes)) (meshOf I)
+        (asRooms room) ≡ 0) × (meshIn (sizes I) points roots corners volumes ends lengths outline ≡ meshOf I)) ⌝ }
+    ensures { λ r. ⌜ JobReplied job list bytes room out log r ⌝ }
 {
-    let mut points = [0.0f32; 1024 * mesh::POINT_COLUMNS];
-    let mut roots = [0usize; 2048];
-    let mut corners = [0usize; 3072];
-    let mut volumes = [0.0f32; 2048];
-    let mut ends = [0usize; 8192];
-    let mut lengths = [0.0f32; 8192];
-    let mut outline = [0usize; 4096];
-    let code = crate::placing::begin(
-        bytes,
-        room,
-        &mut points,
-        &mut roots,
-        &mut corners,
-        &mut volumes,
-        &mut ends,
-        &mut lengths,
-        &mut outline,
-    );
-    if code != 0 {
-        return crate::outcome::refuse(code, out, log);
+    let k = crate::placing::image_counts(bytes);
+    let lack = call_frame::frame::lacking(k, room);
+    if lack != 0 {
+        return crate::outcome::refuse(lack, out, log);
     }
     reply_work(
         job,
         list,
         room,
         bytes,
-        &mut points,
-        &mut roots,
-        &mut corners,
-        &mut volumes,
-        &mut ends,
-        &mut lengths,
-        &mut outline,
+        points,
+        roots,
+        corners,
+        volumes,
+        ends,
+        lengths,
+        outline,
         out,
         log,
     )
@@ -192,6 +144,75 @@ fn with_rooms(code: usize, sixteen: bool) -> usize
     mesh::whole::least(code, 4)
 }
 
+// A job on an image that has the sizes of a mesh: it is read into local blocks, judged where it stands, and worked on there.
+fn reply_sized(
+    job: Job,
+    list: &[usize],
+    room: Rooms,
+    bytes: &[u8],
+    rooms: &[u8],
+    out: &mut [u8],
+    log: &mut [u8],
+) -> u32
+    requires { ⌜ (imageSized (now bytes) ≡ true) × Limited room (length (now log)) × (length (now rooms) ≡ 16 → room ≡ roomsGiven
+        (now rooms) (length (now log))) ⌝ }
+    ensures { λ r. ⌜ OutcomeReplied (withRooms (now (bytes .entry)) (now (rooms .entry)) (jobNumbers job) (jobCall job (now (list .entry))
+        (imageSized (now (bytes .entry))) (meshOf (imageOf (now (bytes .entry)))) (roomsIn (now (rooms .entry)) (length
+        (now (log .entry)))))) (length (now (out .entry))) (length (now (log .entry))) r (now (out .exit)) (now (log .exit)) ⌝ }
+{
+    let mut points = [0.0f32; 1024 * mesh::POINT_COLUMNS];
+    let mut roots = [0usize; 2048];
+    let mut corners = [0usize; 3072];
+    let mut volumes = [0.0f32; 2048];
+    let mut ends = [0usize; 8192];
+    let mut lengths = [0.0f32; 8192];
+    let mut outline = [0usize; 4096];
+    let k = crate::placing::image_counts(bytes);
+    crate::placing::place_image(
+        bytes,
+        k,
+        &mut points,
+        &mut roots,
+        &mut corners,
+        &mut volumes,
+        &mut ends,
+        &mut lengths,
+        &mut outline,
+    );
+    let fault = mesh_calls::checks::judge_sized(
+        job,
+        list,
+        room,
+        k,
+        &points,
+        &roots,
+        &corners,
+        &volumes,
+        &ends,
+        &lengths,
+        &outline,
+    );
+    let code = with_rooms(fault, rooms.len() == 16);
+    if code != 0 {
+        return crate::outcome::refuse(code, out, log);
+    }
+    reply_accepted(
+        job,
+        list,
+        room,
+        bytes,
+        &mut points,
+        &mut roots,
+        &mut corners,
+        &mut volumes,
+        &mut ends,
+        &mut lengths,
+        &mut outline,
+        out,
+        log,
+    )
+}
+
 // A job on an image, with the rooms of four words. Other rooms are bad ones.
 pub fn reply_job(
     job: Job,
@@ -201,15 +222,14 @@ pub fn reply_job(
     out: &mut [u8],
     log: &mut [u8],
 ) -> u32
-    ensures { λ r. ⌜ OutcomeReplied (withRooms (now (bytes .entry)) (now (rooms .entry)) (jobNumbers job) (jobCall job (now (list .entry)) (imageSized (now (bytes .entry))) (meshOf (imageOf (now (bytes .entry)))) (roomsIn (now (rooms .entry)) (length (now (log .entry)))))) (length (now (out .entry))) (length (now (log .entry))) r (now (out .exit)) (now (log .exit)) ⌝ }
+    ensures { λ r. ⌜ OutcomeReplied (withRooms (now (bytes .entry)) (now (rooms .entry)) (jobNumbers job)
+        (jobCall job (now (list .entry)) (imageSized (now (bytes .entry))) (meshOf (imageOf (now (bytes .entry))))
+        (roomsIn (now (rooms .entry)) (length (now (log .entry)))))) (length (now (out .entry))) (length (now (log .entry))) r
+        (now (out .exit)) (now (log .exit)) ⌝ }
 {
     if image::image_sized(bytes) {
         let room = rooms_in(rooms, log.len());
-        let code = with_rooms(judge(job, list, room, bytes), rooms.len() == 16);
-        if code != 0 {
-            return crate::outcome::refuse(code, out, log);
-        }
-        return reply_accepted(job, list, room, bytes, out, log);
+        return reply_sized(job, list, room, bytes, rooms, out, log);
     }
     crate::outcome::refuse(1, out, log)
 }
@@ -222,7 +242,8 @@ pub extern "C" fn bench_straddlers(
     out: &mut [u8],
     log: &mut [u8],
 ) -> u32
-    ensures { λ r. ⌜ OutcomeReplied (straddlersOutcome (now (bytes .entry)) (now (rooms .entry)) (length (now (log .entry)))) (length (now (out .entry))) (length (now (log .entry))) r (now (out .exit)) (now (log .exit)) ⌝ }
+    ensures { λ r. ⌜ OutcomeReplied (straddlersOutcome (now (bytes .entry)) (now (rooms .entry)) (length (now (log .entry)))) (length
+        (now (out .entry))) (length (now (log .entry))) r (now (out .exit)) (now (log .exit)) ⌝ }
 {
     let none = [0usize; 1];
     reply_job(Job::Straddlers, &none, bytes, rooms, out, log)
@@ -238,7 +259,8 @@ pub extern "C" fn bench_split(
     out: &mut [u8],
     log: &mut [u8],
 ) -> u32
-    ensures { λ r. ⌜ OutcomeReplied (splitOutcome (now (bytes .entry)) v (now (sides .entry)) (now (rooms .entry)) (length (now (log .entry)))) (length (now (out .entry))) (length (now (log .entry))) r (now (out .exit)) (now (log .exit)) ⌝ }
+    ensures { λ r. ⌜ OutcomeReplied (splitOutcome (now (bytes .entry)) v (now (sides .entry)) (now (rooms .entry))
+        (length (now (log .entry)))) (length (now (out .entry))) (length (now (log .entry))) r (now (out .exit)) (now (log .exit)) ⌝ }
 {
     let mut numbers = [0usize; 2049];
     let n = reading_c::fans::capped(sides.len(), 2049);

@@ -116,7 +116,8 @@ pub fn put_rows(
     c: &[usize],
 )
     requires { ⌜ TableIn (now s) at w0 w1 w2 (now a) (now b) (now c) ⌝ }
-    ensures { λ _. ⌜ bitsOf (now (s .exit)) ≡ sets (bitsOf (now (s .entry))) at (writeRows (w0 ∷ w1 ∷ w2 ∷ []) (rowsOf (now (a .entry) ∷ now (b .entry) ∷ now (c .entry) ∷ []) 0 (length (now (a .entry))))) ⌝ }
+    ensures { λ _. ⌜ bitsOf (now (s .exit)) ≡ sets (bitsOf (now (s .entry))) at (writeRows (w0 ∷ w1 ∷ w2 ∷ [])
+        (rowsOf (now (a .entry) ∷ now (b .entry) ∷ now (c .entry) ∷ []) 0 (length (now (a .entry))))) ⌝ }
 {
     let n = a.len();
     let step = w0 + w1 + w2;

@@ -24,10 +24,9 @@ use Rattle.model.specs.Elements.{restOf, besides, sideEnds}
 use Rattle.model.specs.Split.{Part, Opening, copyFor, Best, better, scoreOf, scored, toward, sideGroup, turned, followed}
 use Rattle.mesh.specs.At.{particlesAt, sideRow, boundaryAt}
 use Rattle.mesh.proofs.Lists.{turned as turned-at, unturned}
-use Rattle.opening.specs.Opened.{partAt, blankPart, Ringed, RestsIn, CornersBelow, OpeningIn}
-use Rattle.opening.specs.Answers.{TowardIs}
+use Rattle.split_plan.specs.Opened.{partAt, blankPart, Ringed, RestsIn, CornersBelow, OpeningIn}
+use Rattle.split_plan.specs.Answers.{TowardIs}
 use Rattle.boundary.specs.Following.{SidesFollowed, rowHolds, FirstHolder, InReach, SideRoom, SideGroupIs, CopiesSmall, SideCopyIs, EntryFollowed, SidesRoom}
-use Rattle.mesh.proofs.Fan.{replaced-self}
 use Rattle.mesh.specs.Widths.{pointColumns}
 
 -- ---- the first that passes
@@ -183,10 +182,6 @@ followed-as : (O : Opening) (M : Mesh) (v before : ℕ) (s : Side) → O .v ≡ 
 unfolding followed
 followed-as O M v before s e f = ap₂ (λ (u b : ℕ). pick (stands u (sideEnds s)) (turned u (copyFor u b (sideGroup M O s)) s) s) e f
 
--- v for v changes no entry
-turned-self : (v : ℕ) (s : Side) → turned v v s ≡ s
-turned-self v s = λ i. record { a = replaced-self v (s .a) i; b = replaced-self v (s .b) i }
-
 module _ {x y v before k n : ℕ} {verts groups : List ℕ} {points : List Float} where
   -- the copy of its group, where v is an end of it
   pub copy-at : {g r : ℕ} → stands v (x ∷ y ∷ []) ≡ true → SideGroupIs x y v n k verts groups points g → r ≡ copyFor v before g → SideCopyIs x y v before k n verts groups points r
@@ -200,20 +195,23 @@ module _ {x y v before k n : ℕ} {verts groups : List ℕ} {points : List Float
             ∙ sym (followed-as O M v before s (B .at) (B .before-is) ∙ ap (λ (b : Bool). pick b (turned v (copyFor v before (sideGroup M O s)) s) s) t);
       }
 
-  -- v itself, where it is not
-  pub copy-none : stands v (x ∷ y ∷ []) ≡ false → SideCopyIs x y v before k n verts groups points v
-  copy-none t =
-      record {
-        is =
-            λ O M count p B I.
-            let s : Side = record { a = x; b = y } in
-            turned-self v s
-            ∙ sym (followed-as O M v before s (B .at) (B .before-is) ∙ ap (λ (b : Bool). pick b (turned v (copyFor v before (sideGroup M O s)) s) s) t);
-      }
-
   -- a copy is small
   pub copy-small : {g : ℕ} → CopiesSmall before n groups → SideGroupIs x y v n k verts groups points g → before + g ≤ 65536
   copy-small {g} C G = let l = C .low in omega (arith, G .small (65536 - before) (λ i h. omega (arith, C .small i h)))
+
+-- an entry that v is no end of follows as it is
+pub entry-left :
+    (i v before k n : ℕ) (verts groups : List ℕ) (points : List Float) (s : List ℕ) → stands v (getD s i 0 ∷ getD s (length s / 2 + i) 0 ∷ []) ≡ false
+    → EntryFollowed i v before k n verts groups points s s
+entry-left i v before k n verts groups points s t =
+    let row : Side = sideRow (length s / 2) s i in
+    let off : stands v (sideEnds row) ≡ false = ap₂ (λ (a b : ℕ). stands v (a ∷ b ∷ [])) (col-0 0 (length s / 2) s i) (col-1 0 (length s / 2) s i) ∙ t in
+    record {
+      here =
+          λ O M count p B I.
+          sym (followed-as O M v before row (B .at) (B .before-is) ∙ ap (λ (b : Bool). pick b (turned v (copyFor v before (sideGroup M O row)) row) row) off);
+      others = λ j l n. refl;
+    }
 
 -- two replacements turn one entry
 module _ (i v w : ℕ) (s s₁ s₂ : List ℕ) (he : i < length s / 2) (q₁ : s₁ ≡ set s i (replaced v w (getD s i 0)))

@@ -21,9 +21,9 @@ use Rattle.fan.specs.Fan.{sharedOthers}
 use Rattle.model.specs.Mesh.{Triangle, Side, Mesh, blankTriangle}
 use Rattle.model.specs.Split.{Part, Opening, copyFor, facesOf, faceOn, opens?, facetsAt, crackFacets}
 use Rattle.mesh.specs.At.{triangleRow, trianglesAt, sideRow, boundaryAt}
-use Rattle.opening.specs.Opened.{blankPart, partAt}
+use Rattle.split_plan.specs.Opened.{blankPart, partAt}
 use Rattle.work.specs.Rows.{GrownTo, Between}
-use Rattle.opening.specs.Answers.{CopyIs}
+use Rattle.split_plan.specs.Answers.{CopyIs}
 use Rattle.boundary.specs.Faces.{faceIs, onBy, facesBy, foundBy, FacetsIn, FaceFound, SidesGrown, FacetsGrown, pairFacets, rowFacets, allFacets}
 use Rattle.boundary.specs.declared.facets.Face.{Face}
 use Rattle.boundary.specs.declared.facets.Face.the-variants.{No, Ends}

@@ -11,7 +11,7 @@ use Rattle.lists.specs.Lists.{stands, all, find, each}
 use Rattle.model.specs.Elements.{Triangles, sideEnds}
 use Rattle.model.specs.Split.{Opening, oneOrNone, faceOn, facetsAt, crackFacets}
 use Rattle.mesh.specs.At.{trianglesAt, boundaryAt}
-use Rattle.opening.specs.Opened.{partAt, Numbered, Ringed, RingRoom}
+use Rattle.split_plan.specs.Opened.{partAt, Numbered, Ringed, RingRoom}
 use Rattle.work.specs.Rows.{GrownTo, Between}
 use Rattle.boundary.specs.declared.facets.Face.{Face}
 use Rattle.boundary.specs.declared.facets.Face.the-variants.{No, Ends}

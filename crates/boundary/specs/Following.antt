@@ -11,7 +11,7 @@ use Rattle.model.specs.Mesh.{Mesh}
 use Rattle.model.specs.Split.{Opening, sideGroup, turned, followed}
 use Rattle.mesh.specs.At.{sideRow, boundaryAt}
 use Rattle.mesh.specs.Widths.{pointColumns}
-use Rattle.opening.specs.Opened.{Ringed, RingRoom, RestsIn, CornersBelow, OpeningIn}
+use Rattle.split_plan.specs.Opened.{Ringed, RingRoom, RestsIn, CornersBelow, OpeningIn}
 
 -- the boundary entries at v follow
 pub record SidesFollowed (v before k n count p b : ℕ) (verts groups : List ℕ) (points : List Float) (outline outline′ : List ℕ) : Type 0 where

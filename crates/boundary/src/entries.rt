@@ -1,8 +1,11 @@
 // The boundary in a split: each entry at v follows the first part of the fan that holds it, or else the group that points to its other end.
 ghost use mathlib.Core.Path.{_≡_};
+ghost use mathlib.Core.Bool.{true};
+ghost use mathlib.Core.List.{[], _∷_};
 ghost use Prim.Native.Nat.{_+_, _*_, _/_, _<_, _≤_};
 ghost use lib.ListN.{length, getD};
-ghost use Rattle.opening.specs.Opened.{RingRoom};
+ghost use Rattle.lists.specs.Lists.{stands};
+ghost use Rattle.split_plan.specs.Opened.{RingRoom};
 ghost use Rattle.boundary.specs.Following.{SidesFollowed, rowHolds, FirstHolder, SideRoom, SideGroupIs, CopiesSmall, SideCopyIs, EntryFollowed, SidesRoom};
 
 // Does part i hold both x and y?
@@ -50,12 +53,12 @@ fn side_group(
         return groups[i];
     }
     if x == v {
-        return opening::group_toward(y, v, n, k, verts, groups, points);
+        return split_plan::group_toward(y, v, n, k, verts, groups, points);
     }
-    opening::group_toward(x, v, n, k, verts, groups, points)
+    split_plan::group_toward(x, v, n, k, verts, groups, points)
 }
 
-// What stands for v in the boundary entry (x, y): the copy of the group that it follows; v itself where v is no end of it.
+// What stands for v in the boundary entry (x, y) at v: the copy of the group that it follows.
 fn side_copy(
     x: usize,
     y: usize,
@@ -67,17 +70,15 @@ fn side_copy(
     groups: &[usize],
     points: &[f32],
 ) -> usize
-    requires { ⌜ SideRoom x y v n k (now verts) (now groups) (now points) × CopiesSmall before n (now groups) ⌝ }
+    requires { ⌜ SideRoom x y v n k (now verts) (now groups) (now points) × CopiesSmall before n (now groups) × (stands v (x ∷ y ∷ [])
+        ≡ true) ⌝ }
     ensures { λ r. ⌜ SideCopyIs x y v before k n (now (verts .entry)) (now (groups .entry)) (now (points .entry)) r ⌝ }
 {
-    if opening::names(v, x, y) {
-        let g = side_group(x, y, v, n, k, verts, groups, points);
-        return mesh::rows::copy_for(v, before, g);
-    }
-    v
+    let g = side_group(x, y, v, n, k, verts, groups, points);
+    mesh::rows::copy_for(v, before, g)
 }
 
-// Boundary entry i follows its group.
+// Boundary entry i follows its group, if it names v; most do not, and stay as they are.
 fn follow_entry(
     i: usize,
     v: usize,
@@ -89,12 +90,17 @@ fn follow_entry(
     points: &[f32],
     outline: &mut [usize],
 )
-    requires { ⌜ (i < length (now outline) / 2) × SideRoom (getD (now outline) i 0) (getD (now outline) (length (now outline) / 2 + i) 0) v n k (now verts) (now groups) (now points) × CopiesSmall before n (now groups) ⌝ }
-    ensures { λ _. ⌜ EntryFollowed i v before k n (now (verts .entry)) (now (groups .entry)) (now (points .entry)) (now (outline .entry)) (now (outline .exit)) ⌝ }
+    requires { ⌜ (i < length (now outline) / 2) × SideRoom (getD (now outline) i 0) (getD (now outline)
+        (length (now outline) / 2 + i) 0) v n k (now verts) (now groups) (now points) × CopiesSmall before n (now groups) ⌝ }
+    ensures { λ _. ⌜ EntryFollowed i v before k n (now (verts .entry)) (now (groups .entry)) (now (points .entry)) (now (outline .entry))
+        (now (outline .exit)) ⌝ }
 {
     let j = outline.len() / 2 + i;
     let x = outline[i];
     let y = outline[j];
+    if !split_plan::names(v, x, y) {
+        return;
+    }
     let w = side_copy(x, y, v, before, k, n, verts, groups, points);
     mesh::rows::replace_at(outline, i, v, w);
     mesh::rows::replace_at(outline, j, v, w);
@@ -115,7 +121,8 @@ pub fn follow_boundary(
     outline: &mut [usize],
 )
     requires { ⌜ SidesRoom v before k n count p b (now verts) (now groups) (now points) (now outline) ⌝ }
-    ensures { λ _. ⌜ SidesFollowed v before k n count p b (now (verts .entry)) (now (groups .entry)) (now (points .entry)) (now (outline .entry)) (now (outline .exit)) ⌝ }
+    ensures { λ _. ⌜ SidesFollowed v before k n count p b (now (verts .entry)) (now (groups .entry)) (now (points .entry))
+        (now (outline .entry)) (now (outline .exit)) ⌝ }
 {
     let mut i: usize = 0;
     while i < b {

@@ -70,12 +70,14 @@ fn face_of(
     groups: &[usize],
     corners: &[usize],
 ) -> Face
-    requires { ⌜ FaceRoom before n count (now numbers) (length (now verts)) (length (now groups)) (length (now corners)) × (i < n) × (j < n) × (r < n) ⌝ }
-    ensures { λ f. ⌜ FaceFound i j r v before n count (now (numbers .entry)) (now (verts .entry)) (now (groups .entry)) (now (corners .entry)) f ⌝ }
+    requires { ⌜ FaceRoom before n count (now numbers) (length (now verts)) (length (now groups)) (length (now corners)) × (i < n) × (j < n)
+        × (r < n) ⌝ }
+    ensures { λ f. ⌜ FaceFound i j r v before n count (now (numbers .entry)) (now (verts .entry)) (now (groups .entry))
+        (now (corners .entry)) f ⌝ }
 {
     let c = corners.len() / 3;
     let t = numbers[r];
-    let copy = opening::copy_number(v, before, count, groups[r]);
+    let copy = split_plan::copy_number(v, before, count, groups[r]);
     let a = i * 3;
     let a_end = a + 3;
     let b = j * 3;
@@ -124,8 +126,10 @@ fn open_pair(
     corners: &[usize],
     outline: &mut [usize],
 ) -> Grown
-    requires { ⌜ FaceRoom before n count (now numbers) (length (now verts)) (length (now groups)) (length (now corners)) × SideRoom m room (length (now outline)) × (i < n) × (j < n) ⌝ }
-    ensures { λ r. ⌜ FacetsGrown (pairFacets i j) v before n count m room (now (numbers .entry)) (now (verts .entry)) (now (groups .entry)) (now (corners .entry)) (now (outline .entry)) (now (outline .exit)) r ⌝ }
+    requires { ⌜ FaceRoom before n count (now numbers) (length (now verts)) (length (now groups)) (length (now corners))
+        × SideRoom m room (length (now outline)) × (i < n) × (j < n) ⌝ }
+    ensures { λ r. ⌜ FacetsGrown (pairFacets i j) v before n count m room (now (numbers .entry)) (now (verts .entry)) (now (groups .entry))
+        (now (corners .entry)) (now (outline .entry)) (now (outline .exit)) r ⌝ }
 {
     if groups[i] == groups[j] {
         return Grown::Rows(m);
@@ -185,8 +189,10 @@ fn open_row(
     corners: &[usize],
     outline: &mut [usize],
 ) -> Grown
-    requires { ⌜ FaceRoom before n count (now numbers) (length (now verts)) (length (now groups)) (length (now corners)) × SideRoom m room (length (now outline)) × (i < n) ⌝ }
-    ensures { λ r. ⌜ FacetsGrown (rowFacets i) v before n count m room (now (numbers .entry)) (now (verts .entry)) (now (groups .entry)) (now (corners .entry)) (now (outline .entry)) (now (outline .exit)) r ⌝ }
+    requires { ⌜ FaceRoom before n count (now numbers) (length (now verts)) (length (now groups)) (length (now corners))
+        × SideRoom m room (length (now outline)) × (i < n) ⌝ }
+    ensures { λ r. ⌜ FacetsGrown (rowFacets i) v before n count m room (now (numbers .entry)) (now (verts .entry)) (now (groups .entry))
+        (now (corners .entry)) (now (outline .entry)) (now (outline .exit)) r ⌝ }
 {
     let mut rows = m;
     let mut j = i + 1;
@@ -229,8 +235,10 @@ pub fn crack_facets(
     corners: &[usize],
     outline: &mut [usize],
 ) -> Grown
-    requires { ⌜ FaceRoom before n count (now numbers) (length (now verts)) (length (now groups)) (length (now corners)) × SideRoom b room (length (now outline)) ⌝ }
-    ensures { λ r. ⌜ FacetsGrown allFacets v before n count b room (now (numbers .entry)) (now (verts .entry)) (now (groups .entry)) (now (corners .entry)) (now (outline .entry)) (now (outline .exit)) r ⌝ }
+    requires { ⌜ FaceRoom before n count (now numbers) (length (now verts)) (length (now groups)) (length (now corners))
+        × SideRoom b room (length (now outline)) ⌝ }
+    ensures { λ r. ⌜ FacetsGrown allFacets v before n count b room (now (numbers .entry)) (now (verts .entry)) (now (groups .entry))
+        (now (corners .entry)) (now (outline .entry)) (now (outline .exit)) r ⌝ }
 {
     let mut rows = b;
     let mut i: usize = 0;

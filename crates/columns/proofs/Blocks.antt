@@ -1,6 +1,6 @@
 -- Loops over the columns of a block, over any type of element: what holds at the head, that a turn keeps it, and what is there at the end.
-use Prim.Native.Nat.{ℕ, zero, suc, _+_, _*_, _-_, _≤_, _<_, zero-le, suc-le-suc}
-use native.Mathlib.Nat.{zero-mul, le-of-suc-le-suc, not-suc-le-zero}
+use Prim.Native.Nat.{ℕ, suc, _+_, _*_, _-_, _≤_, _<_, zero-le, suc-le-suc}
+use native.Mathlib.Nat.{zero-mul, not-suc-le-zero}
 use native.Mathlib.Numerals.{add-one}
 use native.Mathlib.Omega.{arith}
 use native.Mathlib.Decide.{ℕ-discrete}
@@ -8,14 +8,15 @@ use mathlib.Core.Path.{_≡_, refl, sym, ap, ap₂, _∙_}
 use mathlib.Core.Bool.{Bool, true, false}
 use mathlib.Core.List.{List, [], _∷_, _++_}
 use lib.ListN.{length, getD, take, drop, set, length-set}
-use lib.Seq.{take-take, drop-drop, getD-take}
+use lib.Seq.{take-take, drop-drop, getD-take, getD-set-same, getD-set-other}
 use lib.Dec.{eqb}
 use borrow.Rule.Slice.PartMut.{midOf, putMid, mid-len, drop-put}
-use Rattle.lists.specs.Lists.{upTo, tab, pick, keep, keptOf, nth, padded}
-use Rattle.columns.specs.View.{Kept}
-use Rattle.columns.specs.Block.{cell, stack, blockOf, BlockKept, BlockCopied, RowCopied}
-use Rattle.columns.proofs.Rows.{tab-at, tab-length, kept-at}
-use Rattle.columns.proofs.Cells.{next-col, col-fits, store-same, store-row, store-col, part-before, part-in, part-behind, part-length, part-front, mid-at}
+use Rattle.lists.specs.Lists.{upTo, tab, pick, keep, keptOf, padded}
+use Rattle.columns.specs.View.{NextMarked, Shifted}
+use Rattle.columns.specs.Block.{cell, stack, blockOf, BlockKept, BlockShifted, BlockCopied, RowCopied}
+use Rattle.columns.proofs.Rows.{tab-length}
+use Rattle.columns.proofs.Keep.{Compacting, compact-start, compact-more, compact-done, compact-row}
+use Rattle.columns.proofs.Cells.{next-col, col-fits, store-same, store-row, store-col, part-before, part-in, part-length, part-front, mid-at}
 
 -- what is kept is among what was there
 pub kept-few : {A : Type 0} (m : List ℕ) (l : List A) → length (keep m l) ≤ length l
@@ -28,91 +29,132 @@ kept-few (b ∷ m) (a ∷ l) = by (eqb b 1) (kept-few m l)
     by true h = omega arith
     by false h = suc-le-suc h
 
--- numbers below n that a mask leaves are below n
-kept-below : (n : ℕ) (m l : List ℕ) → ((i : ℕ) → i < length l → getD l i 0 < n) → (k : ℕ) → k < length (keep m l) → getD (keep m l) k 0 < n
-unfolding keep
-kept-below n m [] all k h = absurd (not-suc-le-zero h)
-kept-below n [] (a ∷ l) all zero h = all 0 (suc-le-suc zero-le)
-kept-below n [] (a ∷ l) all (suc k) h = kept-below n [] l (λ i p. all (suc i) (suc-le-suc p)) k (le-of-suc-le-suc h)
-kept-below n (b ∷ m) (a ∷ l) all k h = by (λ j. kept-below n m l (λ i p. all (suc i) (suc-le-suc p)) j) (eqb b 1) k h
-  where
-    by : ((j : ℕ) → j < length (keep m l) → getD (keep m l) j 0 < n) → (t : Bool) (k : ℕ) → k < length (pick t (keep m l) (a ∷ keep m l)) → getD (pick t (keep m l) (a ∷ keep m l)) k 0 < n
-    by rest true k h = rest k h
-    by rest false zero h = all 0 (suc-le-suc zero-le)
-    by rest false (suc k) h = rest k (le-of-suc-le-suc h)
-
 -- a mask leaves at most n of n places
 pub kept-le : (m : List ℕ) (n : ℕ) → keptOf m n ≤ n
 unfolding keptOf upTo
 kept-le m n = omega (arith, kept-few m (tab n (λ k. k)), tab-length n (λ k. k))
 
--- a place that the mask leaves is one of the n
-pub nth-below : (m : List ℕ) (n k : ℕ) → k < keptOf m n → nth m n k < n
-unfolding keptOf nth upTo
-nth-below m n k h = kept-below n m (tab n (λ j. j)) (λ i p. let q : i < n = rw tab-length at p in rw (tab-at n (λ j. j) i 0 q) q) k h
+-- ---- move
+-- at the head of the loop over one column: i places are moved
+pub record Shifting {A : Type 0} (d : A) (to from : ℕ) (s₀ s : List A) (i : ℕ) : Type 0 where
+  pub long : length s ≡ length s₀
+  pub moved : (k : ℕ) → k < i → getD s (to + k) d ≡ getD s₀ (from + k) d
+  pub other : (j : ℕ) → (to ≤ j → j < to + i → ⊥) → getD s j d ≡ getD s₀ j d
 
--- ---- keep
--- at the head of the loop: columns before c are done, and the rest is as it was
-pub record BlockKeeping {A : Type 0} (d : A) (m : List ℕ) (n w R : ℕ) (s₀ s : List A) (c o left : ℕ) : Type 0 where
+module _ {A : Type 0} (d : A) (to from : ℕ) where
+  -- before the first turn no place is moved
+  pub shift-start : (s : List A) → Shifting d to from s s 0
+  shift-start s = record { long = refl; moved = λ k h. absurd (not-suc-le-zero h); other = λ j h. refl }
+
+  -- a turn moves one place more: it lies behind all that were written
+  pub shift-more : (s₀ s : List A) (i : ℕ) → Shifting d to from s₀ s i → to ≤ from → from + i < length s₀ → Shifting d to from s₀ (set s (to + i) (getD s (from + i) d)) (i + 1)
+  shift-more s₀ s i v h g =
+      record {
+        long = length-set s (to + i) (getD s (from + i) d) ∙ v .long;
+        moved = λ k p. by k p (ℕ-discrete k i);
+        other = λ j p. getD-set-other s (to + i) j (getD s (from + i) d) d (λ e. p (omega arith) (omega arith)) ∙ v .other j (λ a b. p a (omega arith));
+      }
+    where
+      by : (k : ℕ) → k < i + 1 → Dec (k ≡ i) → getD (set s (to + i) (getD s (from + i) d)) (to + k) d ≡ getD s₀ (from + k) d
+      by k p (yes e) = rw e (getD-set-same s (to + i) (getD s (from + i) d) d (omega (arith, v .long)) ∙ v .other (from + i) (λ a b. omega arith))
+      by k p (no e) = getD-set-other s (to + i) (to + k) (getD s (from + i) d) d (λ q. e (omega arith)) ∙ v .moved k (omega (arith, e))
+
+  -- after the last turn all are moved
+  pub shift-done : (s₀ s : List A) (i len : ℕ) → Shifting d to from s₀ s i → i ≡ len → Shifted d to from len s₀ s
+  shift-done s₀ s i len v e = rw (← e) (record { moved = v .moved; other = v .other })
+
+-- at the head of the loop over the columns: those before c are done, and the others are as they were
+pub record BlockShifting {A : Type 0} (d : A) (to from len w R : ℕ) (s₀ s : List A) (c o : ℕ) : Type 0 where
   pub at : o ≡ c * R
   pub below : c ≤ w
   pub long : length s ≡ length s₀
-  pub count : 0 < c → left ≡ keptOf m n
-  pub done : (j k : ℕ) → j < c → k < keptOf m n → cell d R s j k ≡ cell d R s₀ j (nth m n k)
-  pub rest : (i : ℕ) → o ≤ i → getD s i d ≡ getD s₀ i d
+  pub moved : (j k : ℕ) → j < c → k < len → cell d R s j (to + k) ≡ cell d R s₀ j (from + k)
+  pub other : (j k : ℕ) → k < R → (j < c → to ≤ k → k < to + len → ⊥) → cell d R s j k ≡ cell d R s₀ j k
 
-module _ {A : Type 0} (d : A) (m : List ℕ) (n w R : ℕ) where
+module _ {A : Type 0} (d : A) (to from len w R : ℕ) where
   -- before the first turn no column is done
-  pub block-keep-start : (s : List A) → BlockKeeping d m n w R s s 0 0 0
-  block-keep-start s =
-      record {
-        at = sym (zero-mul R);
-        below = zero-le;
-        long = refl;
-        count = λ h. absurd (not-suc-le-zero h);
-        done = λ j k h. absurd (not-suc-le-zero h);
-        rest = λ i h. refl;
-      }
+  pub block-shift-start : (s : List A) → BlockShifting d to from len w R s s 0 0
+  block-shift-start s =
+      record { at = sym (zero-mul R); below = zero-le; long = refl; moved = λ j k h. absurd (not-suc-le-zero h); other = λ j k h n. refl }
 
-  module _ (s₀ s : List A) (c o left : ℕ) (v : BlockKeeping d m n w R s₀ s c o left) (h : c < w) (room : w * R ≤ length s₀) (few : n ≤ R) where
+  -- a shift in column c, by its cells
+  shift-moves : (s s′ : List A) (c : ℕ) → Shifted d (c * R + to) (c * R + from) len s s′ → (k : ℕ) → k < len → cell d R s′ c (to + k) ≡ cell d R s c (from + k)
+  unfolding cell
+  shift-moves s s′ c q k h =
+      let a : c * R + to + k ≡ c * R + (to + k) = omega arith in
+      let b : c * R + from + k ≡ c * R + (from + k) = omega arith in
+      ap (λ (x : ℕ). getD s′ x d) (sym a) ∙ q .moved k h ∙ ap (λ (x : ℕ). getD s x d) b
+
+  -- a shift in column c leaves the cells of other columns, and of other rows
+  shift-leaves : (s s′ : List A) (c : ℕ) → Shifted d (c * R + to) (c * R + from) len s s′ → to ≤ from → from + len ≤ R
+      → (j k : ℕ) → k < R → (j ≡ c → to ≤ k → k < to + len → ⊥) → cell d R s′ j k ≡ cell d R s j k
+  unfolding cell
+  shift-leaves s s′ c q h g j k hk ne = q .other (j * R + k) out
+    where
+      out : c * R + to ≤ j * R + k → j * R + k < c * R + to + len → ⊥
+      out a b =
+          let low : j < c → ⊥ = λ l. omega (arith, col-fits j c R l) in
+          let high : c < j → ⊥ = λ l. omega (arith, col-fits c j R l) in
+          let e : j ≡ c = omega (arith, low, high) in
+          let f : j * R ≡ c * R = ap (λ (x : ℕ). x * R) e in
+          ne e (omega arith) (omega arith)
+
+  module _ (s₀ s : List A) (c o : ℕ) (v : BlockShifting d to from len w R s₀ s c o) (h : c < w) (back : to ≤ from) (few : from + len ≤ R) (room : w * R ≤ length s₀) where
     -- the turn's column lies in the block
-    pub keep-part-fits : o + R ≤ length s
-    keep-part-fits = omega (arith, col-fits c w R h, v .at, v .long)
+    pub shift-fits : o + R ≤ length s
+    shift-fits = omega (arith, col-fits c w R h, v .at, v .long)
 
     -- a turn does one column more
-    pub block-keep-more : (p : List A) (r : ℕ) → Kept m n (midOf o (o + R - o) s) p r → length p ≡ length (midOf o (o + R - o) s) → BlockKeeping d m n w R s₀ (putMid o (o + R - o) s p) (c + 1) (o + R) r
-    unfolding cell
-    block-keep-more p r q long =
+    pub block-shift-more : (s′ : List A) → Shifted d (o + to) (o + from) len s s′ → length s′ ≡ length s → BlockShifting d to from len w R s₀ s′ (c + 1) (o + R)
+    block-shift-more s′ q long =
         record {
           at = ap (λ (x : ℕ). x + R) (v .at) ∙ sym (next-col c R);
           below = omega arith;
-          long = part-length d s p o R fits long ∙ v .long;
-          count = λ _. q .count;
-          done = λ j k hj hk. by j k hj hk (ℕ-discrete j c);
-          rest = λ i hi. part-behind d s p o R fits long i hi ∙ v .rest i (omega arith);
+          long = long ∙ v .long;
+          moved = λ j k hj hk. by j k hj hk (ℕ-discrete j c);
+          other = λ j k hk ne. shift-leaves s s′ c here back few j k hk (λ e. ne (omega arith)) ∙ v .other j k hk (λ l. ne (omega arith));
         }
       where
-        fits : o + R ≤ length s
-        fits = keep-part-fits
+        here : Shifted d (c * R + to) (c * R + from) len s s′
+        here = rw (← v .at) q
 
-        wide : length (midOf o (o + R - o) s) ≡ R
-        wide = let e : o + R - o ≡ R = omega arith in mid-len o (o + R) s fits ∙ e
-
-        by : (j k : ℕ) → j < c + 1 → k < keptOf m n → Dec (j ≡ c) → getD (putMid o (o + R - o) s p) (j * R + k) d ≡ getD s₀ (j * R + nth m n k) d
-        by j k hj hk (yes q′) =
-            let f : j * R ≡ o = ap (λ (x : ℕ). x * R) q′ ∙ sym (v .at) in
-            let kn : k < n = omega (arith, kept-le m n) in
-            let nn : nth m n k < n = nth-below m n k hk in
-            rw f
-            (part-in d s p o R fits long k (omega arith) ∙ kept-at q (omega (arith, wide)) d k hk ∙ mid-at d s o R (nth m n k) (omega arith) ∙ v .rest (o + nth m n k) (omega arith))
-        by j k hj hk (no q′) =
-            let g : j < c = omega (arith, q′) in
-            let kn : k < n = omega (arith, kept-le m n) in
-            part-before d s p o R fits long (j * R + k) (omega (arith, col-fits j c R g, v .at)) ∙ v .done j k g hk
+        by : (j k : ℕ) → j < c + 1 → k < len → Dec (j ≡ c) → cell d R s′ j (to + k) ≡ cell d R s₀ j (from + k)
+        by j k hj hk (yes e) = rw e (shift-moves s s′ c here k hk ∙ v .other c (from + k) (omega arith) (λ l. absurd (omega arith)))
+        by j k hj hk (no e) = shift-leaves s s′ c here back few j (to + k) (omega arith) (λ x. absurd (e x)) ∙ v .moved j k (omega (arith, e)) hk
 
   -- after the last turn every column is done
-  pub block-keep-done : (s₀ s : List A) (c o left : ℕ) → BlockKeeping d m n w R s₀ s c o left → w ≤ c → 0 < w → BlockKept d m n w R s₀ s left
-  block-keep-done s₀ s c o left v h some = record { count = v .count (omega arith); cells = λ j k hj hk. v .done j k (omega arith) hk }
+  pub block-shift-done : (s₀ s : List A) (c o : ℕ) → BlockShifting d to from len w R s₀ s c o → w ≤ c → BlockShifted d to from len w R s₀ s
+  block-shift-done s₀ s c o v h =
+      record { moved = λ j k hj hk. v .moved j k (omega arith) hk; other = λ j k hk ne. v .other j k hk (λ _. ne) }
+
+-- ---- keep
+-- at the head of the loop: each column is compacted up to row r, and left rows of it stand at the front
+pub record BlockKeeping {A : Type 0} (d : A) (m : List ℕ) (n w R : ℕ) (s₀ s : List A) (left r : ℕ) : Type 0 where
+  pub long : length s ≡ length s₀
+  pub within : left ≤ r
+  pub below : r ≤ n
+  pub columns : (c : ℕ) → c < w → Compacting m n (λ k. cell d R s₀ c k) (λ k. cell d R s c k) left r
+
+module _ {A : Type 0} (d : A) (m : List ℕ) (n w R : ℕ) where
+  -- before the first turn nothing but what stands before the first marked row is kept
+  pub block-keep-start : (s : List A) (r : ℕ) → NextMarked m 0 n r → BlockKeeping d m n w R s s r r
+  block-keep-start s r x = record { long = refl; within = omega arith; below = x .below; columns = λ c h. compact-start m n _ r x }
+
+  -- a turn moves the rows up to the next marked one
+  pub block-keep-more : (s₀ s s′ : List A) (left r b : ℕ) → BlockKeeping d m n w R s₀ s left r → r < n → NextMarked m (r + 1) n b → BlockShifted d left (r + 1) (b - (r + 1)) w R s s′ → length s′ ≡ length s → n ≤ R
+      → BlockKeeping d m n w R s₀ s′ (left + (b - (r + 1))) b
+  block-keep-more s₀ s s′ left r b v h x q long few =
+      record {
+        long = long ∙ v .long;
+        within = omega (arith, v .within, x .above);
+        below = x .below;
+        columns = λ c p. compact-more m n _ _ _ left r b (v .columns c p) h x (record { moved = λ k l. q .moved c k p l; other = λ k l. q .other c k (omega arith) });
+      }
+
+  -- after the last turn every column is done
+  pub block-keep-done : (s₀ s : List A) (left r : ℕ) → BlockKeeping d m n w R s₀ s left r → n ≤ r → 0 < w → BlockKept d m n w R s₀ s left
+  block-keep-done s₀ s left r v h some =
+      record { count = compact-done m n _ _ left r (v .columns 0 some) h .0; cells = λ c k p l. compact-row m n _ _ left r (v .columns c p) h d k l }
 
 -- ---- copy
 -- at the head of the loop: columns before c are copied

@@ -8,7 +8,7 @@ use mathlib.Core.Path.{_≡_, sym, ap, _∙_}
 use mathlib.Core.List.{List, _++_, append-assoc}
 use lib.ListN.{length, getD, take, drop, set, length-append, List·getD-append}
 use lib.Seq.{getD-set-same, getD-set-other, getD-take, getD-drop, getD-append-add, length-take-le, take-at}
-use borrow.Rule.Slice.PartMut.{midOf, postOf, putMid, mid-len, same-len-mid, drop-put}
+use borrow.Rule.Slice.PartMut.{midOf, postOf, putMid, mid-len, same-len-mid}
 use Rattle.columns.specs.Block.{cell}
 
 -- where the next column begins
@@ -71,16 +71,6 @@ module _ {A : Type 0} (d : A) (s p : List A) (o R : ℕ) (fits : o + R ≤ lengt
       let l : length (take o s) ≡ o = length-take-le o s (omega arith) in
       ap (λ (j : ℕ). getD (putMid o (o + R - o) s p) (j + k) d) (sym l) ∙ getD-append-add (take o s) (p ++ postOf o (o + R - o) s) k d
       ∙ List·getD-append p (postOf o (o + R - o) s) d k (rw part-long h)
-
-  -- what stands behind it is as it was
-  pub part-behind : (j : ℕ) → o + R ≤ j → getD (putMid o (o + R - o) s p) j d ≡ getD s j d
-  part-behind j h =
-      let f : o + R + (j - (o + R)) ≡ j = omega arith in
-      let e : o + R - o ≡ R = omega arith in
-      ap (λ (i : ℕ). getD (putMid o (o + R - o) s p) i d) (sym f)
-      ∙ sym (getD-drop (o + R) (putMid o (o + R - o) s p) (j - (o + R)) d)
-      ∙ ap (λ (t : List A). getD t (j - (o + R)) d) (drop-put o (o + R) s p (omega arith) fits (part-long ∙ sym e))
-      ∙ getD-drop (o + R) s (j - (o + R)) d ∙ ap (λ (i : ℕ). getD s i d) f
 
   -- the whole has its length still
   pub part-length : length (putMid o (o + R - o) s p) ≡ length s

@@ -1,94 +1,151 @@
--- A loop that compacts one column in place by a mask, over any type of element: what holds at its head, and that a turn keeps it.
-use Prim.Native.Nat.{ℕ, suc, _+_, _≤_, _<_, zero-le}
+-- A loop that compacts rows in place by a mask, from one marked row to the next, over any type of row: what holds at its head, and that a turn keeps it.
+use Prim.Native.Nat.{ℕ, zero, suc, _+_, _-_, _≤_, _<_, zero-le}
 use native.Mathlib.Nat.{add-zero}
 use native.Mathlib.Numerals.{add-one}
 use native.Mathlib.Omega.{arith}
+use native.Mathlib.Decide.{ℕ-discrete}
 use mathlib.Core.Path.{_≡_, refl, sym, ap, ap₂, _∙_}
-use mathlib.Core.List.{List, [], _∷_, _++_, append-nil}
-use lib.ListN.{length, getD, take, drop, set, length-append, length-set}
-use lib.Seq.{take-suc, take-suc-set, drop-set-lt, drop-drop, getD-drop, length-take-le}
+use mathlib.Core.List.{List, [], _∷_, _++_, append-nil, append-assoc}
+use lib.ListN.{length, getD}
 use lib.Dec.{eqb}
 use borrow.Author.Tests.{eq-eqb, ne-eqb}
-use Rattle.lists.specs.Lists.{upTo, tab, pick, keep, keptOf}
-use Rattle.columns.specs.View.{Kept}
-use Rattle.columns.proofs.Rows.{tab-length, tab-suc, pick-ap}
+use Rattle.lists.specs.Lists.{tab, pick, keep, keptOf, nth}
+use Rattle.lists.proofs.Rows.{keep-snoc, keep-tab}
+use Rattle.lists.proofs.Walks.{tab-split}
+use Rattle.columns.specs.View.{NextMarked}
+use Rattle.columns.proofs.Rows.{tab-length, tab-at, tab-ext, tab-suc}
 
--- at the head of the loop: r places were read, and the w that the mask leaves of them stand at the front
-pub record Keeping {A : Type 0} (m : List ℕ) (s₀ s : List A) (w r : ℕ) : Type 0 where
-  pub count : w ≡ keptOf m r
-  pub front : take w s ≡ keep m (take r s₀)
-  pub rest : drop r s ≡ drop r s₀
-  pub long : length s ≡ length s₀
+-- ---- the search for a marked row
+
+-- at the head of the loop: no place before i is marked
+pub record Passing (m : List ℕ) (from n i : ℕ) : Type 0 where
+  pub above : from ≤ i
+  pub below : i ≤ n
+  pub none : (k : ℕ) → from ≤ k → k < i → getD m k 0 ≡ 1 → ⊥
+
+module _ (m : List ℕ) (from n : ℕ) where
+  -- before the first turn no place was seen
+  pub pass-start : from ≤ n → Passing m from n from
+  pass-start h = record { above = omega arith; below = h; none = λ k a b. absurd (omega arith) }
+
+  module _ (i : ℕ) (v : Passing m from n i) where
+    -- a turn passes a place that is not marked
+    pub pass-more : i < n → (getD m i 0 ≡ 1 → ⊥) → Passing m from n (i + 1)
+    pass-more h t = record { above = omega (arith, v .above); below = omega arith; none = λ k a b. by k a b (ℕ-discrete k i) }
+      where
+        by : (k : ℕ) → from ≤ k → k < i + 1 → Dec (k ≡ i) → getD m k 0 ≡ 1 → ⊥
+        by k a b (yes e) = rw e t
+        by k a b (no e) = v .none k a (omega (arith, e))
+
+    -- a marked place is the first
+    pub pass-stop : i < n → getD m i 0 ≡ 1 → NextMarked m from n i
+    pass-stop h t = record { above = v .above; below = v .below; none = v .none; stop = λ _. t }
+
+    -- after the last turn there is none
+    pub pass-end : n ≤ i → NextMarked m from n n
+    pass-end h =
+        record {
+          above = omega (arith, v .above, v .below);
+          below = omega arith;
+          none = λ k a b. v .none k a (omega arith);
+          stop = λ s. absurd (omega arith);
+        }
+
+-- ---- what a mask leaves of rows, as they grow
+
+module _ {A : Type 0} where
+  -- the rows grow by one
+  keep-grows : (m : List ℕ) (r : ℕ) (f : ℕ → A) → keep m (tab (suc r) f) ≡ keep m (tab r f) ++ pick (eqb (getD m r 0) 1) [] (f r ∷ [])
+  keep-grows m r f =
+      ap (keep m) (tab-suc r f) ∙ keep-snoc m (tab r f) (f r) ∙ ap (λ (k : ℕ). keep m (tab r f) ++ pick (eqb (getD m k 0) 1) [] (f r ∷ [])) (tab-length r f)
+
+  -- by a marked row: what is left stays as it is
+  keep-marked : (m : List ℕ) (r : ℕ) (f : ℕ → A) → getD m r 0 ≡ 1 → keep m (tab (r + 1) f) ≡ keep m (tab r f)
+  keep-marked m r f t = rw (add-one r) (keep-grows m r f ∙ rw (eq-eqb _ _ t) (append-nil (keep m (tab r f))))
+
+  -- by no row
+  no-row : (g : ℕ → A) (l : List A) → l ≡ l ++ tab 0 g
+  unfolding tab
+  no-row g l = sym (append-nil l)
+
+  -- by a run of rows that are not marked: they are left too
+  keep-run : (m : List ℕ) (a j : ℕ) (f : ℕ → A) → ((k : ℕ) → a ≤ k → k < a + j → getD m k 0 ≡ 1 → ⊥) → keep m (tab (a + j) f) ≡ keep m (tab a f) ++ tab j (λ k. f (a + k))
+  keep-run m a zero f h = rw (add-zero a) (no-row (λ k. f (a + k)) (keep m (tab a f)))
+  keep-run m a (suc j) f h =
+      let e : a + suc j ≡ suc (a + j) = omega arith in
+      let t : getD m (a + j) 0 ≡ 1 → ⊥ = h (a + j) (omega arith) (omega arith) in
+      rw e
+      (keep-grows m (a + j) f ∙ ap (λ b. keep m (tab (a + j) f) ++ pick b [] (f (a + j) ∷ [])) (ne-eqb _ _ t)
+      ∙ ap (λ (l : List A). l ++ (f (a + j) ∷ [])) (keep-run m a j f (λ k p q. h k p (omega arith)))
+      ∙ append-assoc (keep m (tab a f)) (tab j (λ k. f (a + k))) (f (a + j) ∷ [])
+      ∙ ap (λ (l : List A). keep m (tab a f) ++ l) (sym (tab-suc j (λ k. f (a + k)))))
+
+  -- and before any marked row all are left
+  keep-first : (m : List ℕ) (r : ℕ) (f : ℕ → A) → ((k : ℕ) → k < r → getD m k 0 ≡ 1 → ⊥) → keep m (tab r f) ≡ tab r f
+  unfolding keep tab
+  keep-first m r f h =
+      let e : 0 + r ≡ r = omega arith in
+      ap (λ (k : ℕ). keep m (tab k f)) (sym e) ∙ keep-run m 0 r f (λ k _ q. h k (omega arith)) ∙ tab-ext r _ _ (λ k _. let z : 0 + k ≡ k = omega arith in ap f z)
+
+-- ---- the loop
+
+-- the len rows from `from` on stand at `to`, and the other rows below n are as they were
+pub record RowsMoved {A : Type 0} (n to from len : ℕ) (f f′ : ℕ → A) : Type 0 where
+  pub moved : (k : ℕ) → k < len → f′ (to + k) ≡ f (from + k)
+  pub other : (k : ℕ) → k < n → (to ≤ k → k < to + len → ⊥) → f′ k ≡ f k
+
+-- at the head of the loop: r rows are done, and the w that the mask leaves of them stand at the front; the next is marked
+pub record Compacting {A : Type 0} (m : List ℕ) (n : ℕ) (f₀ f : ℕ → A) (w r : ℕ) : Type 0 where
+  pub front : tab w f ≡ keep m (tab r f₀)
+  pub rest : (k : ℕ) → r ≤ k → k < n → f k ≡ f₀ k
   pub within : w ≤ r
+  pub below : r ≤ n
+  pub stop : r < n → getD m r 0 ≡ 1
 
-module _ {A : Type 0} where
-  -- what a mask leaves of a list with one element more
-  keep-snoc : (m : List ℕ) (l : List A) (a : A) → keep m (l ++ (a ∷ [])) ≡ keep m l ++ pick (eqb (getD m (length l) 0) 1) [] (a ∷ [])
-  unfolding keep
-  keep-snoc [] [] a = refl
-  keep-snoc (b ∷ m) [] a = refl
-  keep-snoc [] (x ∷ l) a = ap (λ (t : List A). x ∷ t) (keep-snoc [] l a)
-  keep-snoc (b ∷ m) (x ∷ l) a =
-      rw (keep-snoc m l a) (pick-ap (λ (t : List A). t ++ pick (eqb (getD m (length l) 0) 1) [] (a ∷ [])) (eqb b 1) (keep m l) (x ∷ keep m l))
+module _ {A : Type 0} (m : List ℕ) (n : ℕ) where
+  -- what stands before the first marked row is there already
+  pub compact-start : (f : ℕ → A) (r : ℕ) → NextMarked m 0 n r → Compacting m n f f r r
+  compact-start f r v =
+      record {
+        front = sym (keep-first m r f (λ k h. v .none k zero-le h));
+        rest = λ k _ _. refl;
+        within = omega arith;
+        below = v .below;
+        stop = v .stop;
+      }
 
-  -- the front of the source grows by one
-  keep-grows : (m : List ℕ) (s : List A) (r : ℕ) (d : A) → r < length s → keep m (take (suc r) s) ≡ keep m (take r s) ++ pick (eqb (getD m r 0) 1) [] (getD s r d ∷ [])
-  keep-grows m s r d h =
-      ap (keep m) (take-suc s r d h) ∙ keep-snoc m (take r s) (getD s r d)
-      ∙ ap (λ (k : ℕ). keep m (take r s) ++ pick (eqb (getD m k 0) 1) [] (getD s r d ∷ [])) (length-take-le r s (omega arith))
+  -- a turn leaves out the marked row, and moves the rows up to the next
+  pub compact-more : (f₀ f f′ : ℕ → A) (w r b : ℕ) → Compacting m n f₀ f w r → r < n → NextMarked m (r + 1) n b → RowsMoved n w (r + 1) (b - (r + 1)) f f′
+      → Compacting m n f₀ f′ (w + (b - (r + 1))) b
+  compact-more f₀ f f′ w r b v h x y =
+      let j = b - (r + 1) in
+      let on : r + 1 ≤ b = x .above in
+      let all : b ≤ n = x .below in
+      let few : w ≤ r = v .within in
+      let ahead : r + 1 + j ≡ b = omega arith in
+      let as-many : w + j - w ≡ j = omega arith in
+      let before : tab w f′ ≡ keep m (tab (r + 1) f₀) = tab-ext w f′ f (λ k p. y .other k (omega arith) (λ q. absurd (omega arith))) ∙ v .front ∙ sym (keep-marked m r f₀ (v .stop h)) in
+      let run : tab j (λ k. f′ (w + k)) ≡ tab j (λ k. f₀ (r + 1 + k)) = tab-ext j _ _ (λ k p. y .moved k p ∙ v .rest (r + 1 + k) (omega arith) (omega arith)) in
+      record {
+        front =
+            tab-split w (w + j) f′ (omega arith) ∙ ap₂ (λ (a c : List A). a ++ c) before (ap (λ (k : ℕ). tab k (λ i. f′ (w + i))) as-many ∙ run)
+            ∙ sym (keep-run m (r + 1) j f₀ (λ k p q. x .none k p (omega arith)))
+            ∙ ap (λ (k : ℕ). keep m (tab k f₀)) ahead;
+        rest = λ k p q. y .other k q (λ _ z. omega arith) ∙ v .rest k (omega arith) q;
+        within = omega arith;
+        below = all;
+        stop = x .stop;
+      }
 
--- the count of what is left grows with the place, or does not
-count-grows : (m : List ℕ) (r : ℕ) → keptOf m (suc r) ≡ keptOf m r + length (pick {A = List ℕ} (eqb (getD m r 0) 1) [] (r ∷ []))
-unfolding keptOf upTo
-count-grows m r =
-    ap (λ (l : List ℕ). length (keep m l)) (tab-suc r (λ k. k)) ∙ ap length (keep-snoc m (tab r (λ k. k)) r)
-    ∙ length-append (keep m (tab r (λ k. k))) (pick (eqb (getD m (length (tab r (λ k. k))) 0) 1) [] (r ∷ []))
-    ∙ ap (λ (k : ℕ). keptOf m r + length (pick {A = List ℕ} (eqb (getD m k 0) 1) [] (r ∷ []))) (tab-length r (λ k. k))
+  -- after the last turn all n rows are done
+  pub compact-done : (f₀ f : ℕ → A) (w r : ℕ) → Compacting m n f₀ f w r → n ≤ r → (w ≡ keptOf m n) × (tab w f ≡ keep m (tab n f₀))
+  compact-done f₀ f w r v h =
+      let e : r ≡ n = omega (arith, v .below) in
+      let front : tab w f ≡ keep m (tab n f₀) = v .front ∙ ap (λ (k : ℕ). keep m (tab k f₀)) e in
+      (sym (tab-length w f) ∙ ap length (front ∙ keep-tab m n f₀) ∙ tab-length (keptOf m n) (λ k. f₀ (nth m n k)), front)
 
-module _ {A : Type 0} where
-  -- before the first turn nothing was read
-  pub keeping-start : (m : List ℕ) (s : List A) → Keeping m s s 0 0
-  unfolding keptOf keep tab upTo
-  keeping-start m s = record { count = refl; front = refl; rest = refl; long = refl; within = zero-le }
-
-  -- what lies behind the next place is as it was
-  rest-on : (s s₀ : List A) (r : ℕ) → drop r s ≡ drop r s₀ → drop (suc r) s ≡ drop (suc r) s₀
-  rest-on s s₀ r e =
-      ap (λ (k : ℕ). drop k s) (sym (add-one r)) ∙ sym (drop-drop 1 r s) ∙ ap (drop 1) e ∙ drop-drop 1 r s₀ ∙ ap (λ (k : ℕ). drop k s₀) (add-one r)
-
-  -- the next place is as it was
-  same-at : (s s₀ : List A) (r : ℕ) (d : A) → drop r s ≡ drop r s₀ → getD s r d ≡ getD s₀ r d
-  same-at s s₀ r d e =
-      ap (λ (k : ℕ). getD s k d) (sym (add-zero r)) ∙ sym (getD-drop r s 0 d) ∙ ap (λ (l : List A). getD l 0 d) e ∙ getD-drop r s₀ 0 d ∙ ap (λ (k : ℕ). getD s₀ k d) (add-zero r)
-
-  module _ (m : List ℕ) (s₀ s : List A) (w r : ℕ) (d : A) (v : Keeping m s₀ s w r) (h : r < length s₀) where
-    -- a turn at a marked place
-    pub keeping-skip : getD m r 0 ≡ 1 → Keeping m s₀ s w (r + 1)
-    keeping-skip t =
-        rw (add-one r)
-        (record {
-          count = v .count ∙ sym (count-grows m r ∙ rw (eq-eqb _ _ t) (add-zero (keptOf m r)));
-          front = v .front ∙ sym (keep-grows m s₀ r d h ∙ rw (eq-eqb _ _ t) (append-nil (keep m (take r s₀))));
-          rest = rest-on s s₀ r (v .rest);
-          long = v .long;
-          within = omega arith;
-        })
-
-    -- a turn at a place that stays
-    pub keeping-take : (getD m r 0 ≡ 1 → ⊥) → Keeping m s₀ (set s w (getD s r d)) (w + 1) (r + 1)
-    keeping-take t =
-        rw (add-one r, add-one w)
-        (record {
-          count = ap suc (v .count) ∙ sym (count-grows m r ∙ rw (ne-eqb _ _ t) (add-one (keptOf m r)));
-          front =
-              take-suc-set s w (getD s r d) (omega arith)
-              ∙ ap₂ (λ (l : List A) (a : A). l ++ (a ∷ [])) (v .front) (same-at s s₀ r d (v .rest))
-              ∙ sym (keep-grows m s₀ r d h ∙ rw (ne-eqb _ _ t) refl);
-          rest = drop-set-lt (suc r) s w (getD s r d) (omega arith) ∙ rest-on s s₀ r (v .rest);
-          long = length-set s w (getD s r d) ∙ v .long;
-          within = omega arith;
-        })
-
-  -- after the last turn all n places were read
-  pub keeping-done : (m : List ℕ) (s₀ s : List A) (w r n : ℕ) → Keeping m s₀ s w r → r ≡ n → Kept m n s₀ s w
-  keeping-done m s₀ s w r n v e = rw (← e) (record { count = v .count; front = v .front })
+  -- so each row that is left stands at its place
+  pub compact-row : (f₀ f : ℕ → A) (w r : ℕ) → Compacting m n f₀ f w r → n ≤ r → (d : A) (k : ℕ) → k < keptOf m n → f k ≡ f₀ (nth m n k)
+  compact-row f₀ f w r v h d k p =
+      let q = compact-done f₀ f w r v h in
+      sym (tab-at w f k d (omega (arith, q .0))) ∙ ap (λ (l : List A). getD l k d) (q .1 ∙ keep-tab m n f₀) ∙ tab-at (keptOf m n) (λ j. f₀ (nth m n j)) k d p

@@ -11,7 +11,6 @@ use lib.ListN.{length, getD, take, set}
 use lib.Seq.{ext-getD, getD-take, length-take-le}
 use lib.Dec.{eqb}
 use Rattle.lists.specs.Lists.{sift, any, all, upTo, tab, pick, keep, keptOf, nth, mapAt}
-use Rattle.columns.specs.View.{Kept}
 
 module _ {A : Type 0} where
   -- a view of n rows has n rows
@@ -106,13 +105,6 @@ module _ {A : Type 0} where
   take-tab n s d h =
       ext-getD d (take n s) (tab n (λ k. getD s k d)) (length-take-le n s h ∙ sym (tab-length n (λ k. getD s k d)))
       (λ i p. let q : i < n = rw (length-take-le n s h) at p in getD-take n s i d q ∙ sym (tab-at n (λ k. getD s k d) i d q))
-
-  -- one column of a compaction, at an index
-  pub kept-at : {m : List ℕ} {n : ℕ} {s s′ : List A} {r : ℕ} → Kept m n s s′ r → n ≤ length s → (d : A) (k : ℕ) → k < keptOf m n → getD s′ k d ≡ getD s (nth m n k) d
-  kept-at {m} {n} {s} {s′} {r} c room d k h =
-      sym (getD-take r s′ k d (rw (c .count) h))
-      ∙ ap (λ (l : List A). getD l k d) (c .front ∙ ap (keep m) (take-tab n s d room) ∙ keep-tab m n (λ j. getD s j d))
-      ∙ tab-at (keptOf m n) (λ j. getD s (nth m n j) d) k d h
 
 module _ {A B C : Type 0} where
   -- two changes by number, one after the other, are one

@@ -1,5 +1,5 @@
 -- A block: columns of R places each, one behind the other. Definitions only; their laws are in proofs/Cells.antt.
-use Prim.Native.Nat.{ℕ, zero, suc, _+_, _*_, _<_}
+use Prim.Native.Nat.{ℕ, zero, suc, _+_, _*_, _<_, _≤_}
 use mathlib.Core.Path.{_≡_}
 use mathlib.Core.List.{List, [], _++_}
 use lib.ListN.{getD}
@@ -24,6 +24,11 @@ blockOf len w R z f = padded len z (stack w (λ c. padded R z (f c)))
 pub record BlockKept {A : Type 0} (d : A) (m : List ℕ) (n w R : ℕ) (s s′ : List A) (r : ℕ) : Type 0 where
   pub count : r ≡ keptOf m n
   pub cells : (c k : ℕ) → c < w → k < keptOf m n → cell d R s′ c k ≡ cell d R s c (nth m n k)
+
+-- in each column the len places from `from` on stand at `to`, and the other places are as they were
+pub record BlockShifted {A : Type 0} (d : A) (to from len w R : ℕ) (s s′ : List A) : Type 0 where
+  pub moved : (c k : ℕ) → c < w → k < len → cell d R s′ c (to + k) ≡ cell d R s c (from + k)
+  pub other : (c k : ℕ) → k < R → (to ≤ k → k < to + len → ⊥) → cell d R s′ c k ≡ cell d R s c k
 
 -- the columns of src, of n places each, stand at the fronts of those of s′, of R places each
 pub record BlockCopied {A : Type 0} (d : A) (n w R : ℕ) (src s′ : List A) : Type 0 where

@@ -1,28 +1,38 @@
 // Functions on one column and on a block of columns, at f32 and usize. Their proofs share the laws of proofs/.
 ghost use mathlib.Core.Path.{_≡_};
-ghost use Prim.Native.Nat.{ℕ, _≤_, _<_, _*_};
+ghost use Prim.Native.Nat.{ℕ, _+_, _≤_, _<_, _*_};
 ghost use lib.ListN.{length, take, drop};
 ghost use lib.Ieee.{nan};
 ghost use Rattle.lists.specs.Lists.{padded};
 ghost use Rattle.float.specs.Numbers.{zero32};
-ghost use Rattle.columns.specs.View.{Kept};
-ghost use Rattle.columns.specs.Block.{BlockKept, BlockCopied, RowCopied, blockOf};
+ghost use Rattle.columns.specs.View.{NextMarked, Shifted};
+ghost use Rattle.columns.specs.Block.{BlockKept, BlockShifted, BlockCopied, RowCopied, blockOf};
 
-// Removes the places that the mask marks with 1 from the first n of s, and returns how many are left, in their order.
-pub fn keep_usize(mask: &[usize], n: usize, s: &mut [usize]) -> usize
-    requires { ⌜ (n ≤ length (now s)) × (n ≤ length (now mask)) ⌝ }
-    ensures { λ r. ⌜ Kept (now (mask .entry)) n (now (s .entry)) (now (s .exit)) r ⌝ }
+// The first place from `from` on and below n that the mask marks with 1; or n, if it marks none.
+pub fn next_marked(mask: &[usize], from: usize, n: usize) -> usize
+    requires { ⌜ (from ≤ n) × (n ≤ length (now mask)) ⌝ }
+    ensures { λ r. ⌜ NextMarked (now (mask .entry)) from n r ⌝ }
 {
-    let mut w: usize = 0;
-    let mut r: usize = 0;
-    while r < n {
-        if mask[r] != 1 {
-            s[w] = s[r];
-            w += 1;
+    let mut i: usize = from;
+    while i < n {
+        if mask[i] == 1 {
+            return i;
         }
-        r += 1;
+        i += 1;
     }
-    w
+    n
+}
+
+// Moves len places of s from `from` on to `to`, which is not behind them.
+fn shift_usize(to: usize, from: usize, len: usize, s: &mut [usize])
+    requires { ⌜ (to ≤ from) × (from + len ≤ length (now s)) ⌝ }
+    ensures { λ _. ⌜ Shifted 0 to from len (now (s .entry)) (now (s .exit)) ⌝ }
+{
+    let mut i: usize = 0;
+    while i < len {
+        s[to + i] = s[from + i];
+        i += 1;
+    }
 }
 
 // Copies src to the front of dst.
@@ -49,7 +59,28 @@ pub fn clear_usize(n: usize, s: &mut [usize])
     }
 }
 
-// Removes the marked places from the first n of each of width columns, and returns how many are left.
+// Moves len rows from `from` on to `to`, in each column.
+pub fn shift_block_usize(
+    to: usize,
+    from: usize,
+    len: usize,
+    width: usize,
+    stride: usize,
+    s: &mut [usize],
+)
+    requires { ⌜ (to ≤ from) × (from + len ≤ stride) × (width * stride ≤ length (now s)) ⌝ }
+    ensures { λ _. ⌜ BlockShifted 0 to from len width stride (now (s .entry)) (now (s .exit)) ⌝ }
+{
+    let mut c: usize = 0;
+    let mut o: usize = 0;
+    while c < width {
+        shift_usize(o + to, o + from, len, s);
+        o += stride;
+        c += 1;
+    }
+}
+
+// Removes the marked places from the first n of each of width columns, and returns how many are left. What stands before the first marked place is not touched, and what stays between two is moved as a whole.
 pub fn keep_block_usize(
     mask: &[usize],
     n: usize,
@@ -60,16 +91,17 @@ pub fn keep_block_usize(
     requires { ⌜ (n ≤ stride) × (n ≤ length (now mask)) × (width * stride ≤ length (now s)) × (0 < width) ⌝ }
     ensures { λ r. ⌜ BlockKept 0 (now (mask .entry)) n width stride (now (s .entry)) (now (s .exit)) r ⌝ }
 {
-    let mut c: usize = 0;
-    let mut o: usize = 0;
-    let mut left: usize = 0;
-    while c < width {
-        let e = o + stride;
-        left = keep_usize(mask, n, &mut s[o..e]);
-        o = e;
-        c += 1;
+    let mut r: usize = next_marked(mask, 0, n);
+    let mut w: usize = r;
+    while r < n {
+        let a = r + 1;
+        let b = next_marked(mask, a, n);
+        let len = b - a;
+        shift_block_usize(w, a, len, width, stride, s);
+        w += len;
+        r = b;
     }
-    left
+    w
 }
 
 // Copies the columns of src, of n places each, to the fronts of those of dst.
@@ -120,21 +152,16 @@ pub fn copy_row_usize(v: usize, i: usize, width: usize, stride: usize, s: &mut [
     }
 }
 
-// Removes the places that the mask marks with 1 from the first n of s, and returns how many are left, in their order.
-pub fn keep_f32(mask: &[usize], n: usize, s: &mut [f32]) -> usize
-    requires { ⌜ (n ≤ length (now s)) × (n ≤ length (now mask)) ⌝ }
-    ensures { λ r. ⌜ Kept (now (mask .entry)) n (now (s .entry)) (now (s .exit)) r ⌝ }
+// Moves len places of s from `from` on to `to`, which is not behind them.
+fn shift_f32(to: usize, from: usize, len: usize, s: &mut [f32])
+    requires { ⌜ (to ≤ from) × (from + len ≤ length (now s)) ⌝ }
+    ensures { λ _. ⌜ Shifted nan to from len (now (s .entry)) (now (s .exit)) ⌝ }
 {
-    let mut w: usize = 0;
-    let mut r: usize = 0;
-    while r < n {
-        if mask[r] != 1 {
-            s[w] = s[r];
-            w += 1;
-        }
-        r += 1;
+    let mut i: usize = 0;
+    while i < len {
+        s[to + i] = s[from + i];
+        i += 1;
     }
-    w
 }
 
 // Copies src to the front of dst.
@@ -161,21 +188,25 @@ pub fn clear_f32(n: usize, s: &mut [f32])
     }
 }
 
-// Removes the marked places from the first n of each of width columns, and returns how many are left.
-pub fn keep_block_f32(mask: &[usize], n: usize, width: usize, stride: usize, s: &mut [f32]) -> usize
-    requires { ⌜ (n ≤ stride) × (n ≤ length (now mask)) × (width * stride ≤ length (now s)) × (0 < width) ⌝ }
-    ensures { λ r. ⌜ BlockKept nan (now (mask .entry)) n width stride (now (s .entry)) (now (s .exit)) r ⌝ }
+// Moves len rows from `from` on to `to`, in each column.
+pub fn shift_block_f32(
+    to: usize,
+    from: usize,
+    len: usize,
+    width: usize,
+    stride: usize,
+    s: &mut [f32],
+)
+    requires { ⌜ (to ≤ from) × (from + len ≤ stride) × (width * stride ≤ length (now s)) ⌝ }
+    ensures { λ _. ⌜ BlockShifted nan to from len width stride (now (s .entry)) (now (s .exit)) ⌝ }
 {
     let mut c: usize = 0;
     let mut o: usize = 0;
-    let mut left: usize = 0;
     while c < width {
-        let e = o + stride;
-        left = keep_f32(mask, n, &mut s[o..e]);
-        o = e;
+        shift_f32(o + to, o + from, len, s);
+        o += stride;
         c += 1;
     }
-    left
 }
 
 // Copies the columns of src, of n places each, to the fronts of those of dst.
@@ -199,7 +230,8 @@ pub fn copy_block_f32(src: &[f32], n: usize, width: usize, stride: usize, dst: &
 // Puts 0 behind the first n places of each column, and behind the columns.
 pub fn clear_block_f32(n: usize, width: usize, stride: usize, s: &mut [f32])
     requires { ⌜ (n ≤ stride) × (width * stride ≤ length (now s)) ⌝ }
-    ensures { λ _. ⌜ now (s .exit) ≡ blockOf (length (now (s .entry))) width stride zero32 (λ c. take n (drop (c * stride) (now (s .entry)))) ⌝ }
+    ensures { λ _. ⌜ now (s .exit) ≡ blockOf (length (now (s .entry))) width stride zero32 (λ c. take n
+        (drop (c * stride) (now (s .entry)))) ⌝ }
 {
     let mut c: usize = 0;
     let mut o: usize = 0;

@@ -3,18 +3,17 @@ ghost use mathlib.Core.Path.{_≡_};
 ghost use mathlib.Core.List.{[], _∷_};
 ghost use lib.ListN.{length};
 ghost use Rattle.elements.specs.Table.{kindIs};
-ghost use Rattle.links.specs.Linked.{Linked};
+ghost use Rattle.links.specs.Linked.{LinkedIn};
 ghost use Rattle.model.specs.Crack.{crack};
-ghost use Rattle.mesh.specs.At.{meshAt};
-ghost use Rattle.mesh.specs.Log.{worldAt};
-ghost use Rattle.mesh.specs.Filled.{lent};
-ghost use Rattle.work.specs.Working.{Ready, Works, Logged};
-ghost use Rattle.split.specs.Linking.{LinkedAfter};
+ghost use Rattle.work.specs.Working.{Logged};
 ghost use Rattle.crack.specs.Bodies.{EndsRoom, EndsKept, endsListed, CracksRoom, CracksTold, crackTurns, crackEnd};
+ghost use Rattle.mesh.specs.Blocks.{worldBefore, worldBehind};
+ghost use Rattle.work.specs.Blocks.{ReadyIn, WorksIn};
+ghost use Rattle.split.specs.Blocks.{LinkedBehind};
 use elements::Kind;
 use mesh::Counts;
 use mesh::Rooms;
-use strap::kinds::Pass;
+use strap_cut::kinds::Pass;
 use work::Ran;
 
 // Keeps the ends of the first e edges in two tables, as a crack changes their block.
@@ -49,8 +48,11 @@ fn crack_numbered(
     log: &mut [u32],
     links: &mut [u16],
 ) -> Ran
-    requires { ⌜ Ready room k (lent (now points) (now roots) (now corners) (now volumes) (now ends) (now lengths) (now outline) (now log)) (meshAt k (now points) (now roots) (now corners) (now volumes) (now ends) (now lengths) (now outline)) × CracksRoom (kindIs kind) e (now from) (now to) k (length (now loads)) (now log) × Linked (kindIs kind) (k .triangles) (now corners) (now links) ⌝ }
-    ensures { λ r. ⌜ CracksTold (kindIs kind) minimum (k .triangles) (endsListed e (now (from .entry)) (now (to .entry)) (number ∷ [])) (now (loads .entry)) room (worldAt k (now (points .entry)) (now (roots .entry)) (now (corners .entry)) (now (volumes .entry)) (now (ends .entry)) (now (lengths .entry)) (now (outline .entry)) (now (log .entry))) (λ q. worldAt q (now (points .exit)) (now (roots .exit)) (now (corners .exit)) (now (volumes .entry)) (now (ends .exit)) (now (lengths .exit)) (now (outline .exit)) (now (log .exit))) r × LinkedAfter (kindIs kind) (now (corners .exit)) (now (links .exit)) r ⌝ }
+    requires { ⌜ (let K = kindIs kind in ReadyIn room k points roots corners volumes ends lengths outline log
+        × CracksRoom K e (now from) (now to) k (length (now loads)) (now log) × LinkedIn K k corners links) ⌝ }
+    ensures { λ r. ⌜ (let K = kindIs kind in CracksTold K minimum (k .triangles) (endsListed e (now (from .entry)) (now (to .entry)) (number
+        ∷ [])) (now (loads .entry)) room (worldBefore k points roots corners volumes ends lengths outline log)
+        (λ q. worldBehind q points roots corners volumes ends lengths outline log) r × LinkedBehind K corners links r) ⌝ }
 {
     if number >= e {
         return Ran::Done(k);
@@ -96,8 +98,11 @@ fn crack_listed(
     log: &mut [u32],
     links: &mut [u16],
 ) -> Ran
-    requires { ⌜ Ready room k (lent (now points) (now roots) (now corners) (now volumes) (now ends) (now lengths) (now outline) (now log)) (meshAt k (now points) (now roots) (now corners) (now volumes) (now ends) (now lengths) (now outline)) × CracksRoom (kindIs kind) e (now from) (now to) k (length (now loads)) (now log) × Linked (kindIs kind) (k .triangles) (now corners) (now links) ⌝ }
-    ensures { λ r. ⌜ CracksTold (kindIs kind) minimum (k .triangles) (endsListed e (now (from .entry)) (now (to .entry)) (now (torn .entry))) (now (loads .entry)) room (worldAt k (now (points .entry)) (now (roots .entry)) (now (corners .entry)) (now (volumes .entry)) (now (ends .entry)) (now (lengths .entry)) (now (outline .entry)) (now (log .entry))) (λ q. worldAt q (now (points .exit)) (now (roots .exit)) (now (corners .exit)) (now (volumes .entry)) (now (ends .exit)) (now (lengths .exit)) (now (outline .exit)) (now (log .exit))) r ⌝ }
+    requires { ⌜ (let K = kindIs kind in ReadyIn room k points roots corners volumes ends lengths outline log
+        × CracksRoom K e (now from) (now to) k (length (now loads)) (now log) × LinkedIn K k corners links) ⌝ }
+    ensures { λ r. ⌜ CracksTold (kindIs kind) minimum (k .triangles) (endsListed e (now (from .entry)) (now (to .entry))
+        (now (torn .entry))) (now (loads .entry)) room (worldBefore k points roots corners volumes ends lengths outline log)
+        (λ q. worldBehind q points roots corners volumes ends lengths outline log) r ⌝ }
 {
     let mut counts = k;
     let mut i: usize = 0;
@@ -147,8 +152,9 @@ fn crack_torn(
     outline: &mut [usize],
     log: &mut [u32],
 ) -> Ran
-    requires { ⌜ Ready room k (lent (now points) (now roots) (now corners) (now volumes) (now ends) (now lengths) (now outline) (now log)) (meshAt k (now points) (now roots) (now corners) (now volumes) (now ends) (now lengths) (now outline)) × Logged (k .log) (now log) ⌝ }
-    ensures { λ r. ⌜ Works (crackTurns (kindIs kind) minimum (now (torn .entry))) room (worldAt k (now (points .entry)) (now (roots .entry)) (now (corners .entry)) (now (volumes .entry)) (now (ends .entry)) (now (lengths .entry)) (now (outline .entry)) (now (log .entry))) (λ q. worldAt q (now (points .exit)) (now (roots .exit)) (now (corners .exit)) (now (volumes .entry)) (now (ends .exit)) (now (lengths .exit)) (now (outline .exit)) (now (log .exit))) r ⌝ }
+    requires { ⌜ ReadyIn room k points roots corners volumes ends lengths outline log × Logged (k .log) (now log) ⌝ }
+    ensures { λ r. ⌜ WorksIn (crackTurns (kindIs kind) minimum (now (torn .entry))) room k points roots corners volumes ends lengths outline
+        log r ⌝ }
 {
     let mut from = [k.edges; 2048];
     let mut to = [0usize; 2048];
@@ -203,11 +209,11 @@ fn finish(
     outline: &mut [usize],
     log: &mut [u32],
 ) -> Ran
-    requires { ⌜ Ready room k (lent (now points) (now roots) (now corners) (now volumes) (now ends) (now lengths) (now outline) (now log)) (meshAt k (now points) (now roots) (now corners) (now volumes) (now ends) (now lengths) (now outline)) × Logged (k .log) (now log) ⌝ }
-    ensures { λ r. ⌜ Works (crackEnd (kindIs kind)) room (worldAt k (now (points .entry)) (now (roots .entry)) (now (corners .entry)) (now (volumes .entry)) (now (ends .entry)) (now (lengths .entry)) (now (outline .entry)) (now (log .entry))) (λ q. worldAt q (now (points .exit)) (now (roots .exit)) (now (corners .exit)) (now (volumes .entry)) (now (ends .exit)) (now (lengths .exit)) (now (outline .exit)) (now (log .exit))) r ⌝ }
+    requires { ⌜ ReadyIn room k points roots corners volumes ends lengths outline log × Logged (k .log) (now log) ⌝ }
+    ensures { λ r. ⌜ WorksIn (crackEnd (kindIs kind)) room k points roots corners volumes ends lengths outline log r ⌝ }
 {
     if marks::particles::any_split(k.log, log) {
-        let ran = strap::kinds::run(
+        let ran = strap_cut::kinds::run(
             Pass::Pinched,
             kind,
             k,
@@ -255,8 +261,9 @@ pub fn crack_body(
     outline: &mut [usize],
     log: &mut [u32],
 ) -> Ran
-    requires { ⌜ Ready room k (lent (now points) (now roots) (now corners) (now volumes) (now ends) (now lengths) (now outline) (now log)) (meshAt k (now points) (now roots) (now corners) (now volumes) (now ends) (now lengths) (now outline)) × Logged (k .log) (now log) ⌝ }
-    ensures { λ r. ⌜ Works (crack (kindIs kind) minimum (now (torn .entry))) room (worldAt k (now (points .entry)) (now (roots .entry)) (now (corners .entry)) (now (volumes .entry)) (now (ends .entry)) (now (lengths .entry)) (now (outline .entry)) (now (log .entry))) (λ q. worldAt q (now (points .exit)) (now (roots .exit)) (now (corners .exit)) (now (volumes .entry)) (now (ends .exit)) (now (lengths .exit)) (now (outline .exit)) (now (log .exit))) r ⌝ }
+    requires { ⌜ ReadyIn room k points roots corners volumes ends lengths outline log × Logged (k .log) (now log) ⌝ }
+    ensures { λ r. ⌜ WorksIn (crack (kindIs kind) minimum (now (torn .entry))) room k points roots corners volumes ends lengths outline log
+        r ⌝ }
 {
     let ran = crack_torn(
         kind,

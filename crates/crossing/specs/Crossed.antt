@@ -19,6 +19,8 @@ use Rattle.work.specs.Working.{Ready, Went, Logged}
 use Rattle.work.specs.declared.Ran.{Ran}
 use Rattle.work.specs.declared.Ran.the-variants.{Done}
 use Rattle.marks.specs.Marking.{Marks}
+use denote.Ref.{now}
+use Rattle.mesh.specs.Blocks.{NumbersIn, IndicesIn, Numbers, Indices}
 
 -- the run of a strap cut at work, the bend edges to go, and the ends to split
 abbrev pub ranOf : Strapping → Run
@@ -62,3 +64,16 @@ pub record CrossingsIn (m : ℕ) (numbers : List ℕ) (lt : ℕ) (k : Counts) (l
   pub numbers-long : m ≤ length numbers
   pub ts-long : m ≤ lt
   pub inside : (j : ℕ) → j < m → getD numbers j 0 < k .edges
+
+-- ---- the blocks and lists, as a contract names them
+
+-- the blocks have room, and so have the lists of bends and of snapped ends
+abbrev pub CrossIn : Rooms → Counts → NumbersIn → IndicesIn → IndicesIn → NumbersIn → IndicesIn → IndicesIn → IndicesIn → IndicesIn → Type 0
+CrossIn L k points roots ends lengths outline log bends snapped =
+    CrossRoom L k (now points) (now roots) (now ends) (now lengths) (now outline) (now log) (length (now bends)) (length (now snapped))
+
+-- these crossings were done in turn
+abbrev pub CrossedIn : Float → List Crossing → Rooms → Counts → Numbers → Indices → Indices → Numbers → Indices → Indices → Indices → Indices → Ran → Type 0
+CrossedIn f cs L k points roots ends lengths outline log bends snapped r =
+    CrossTold f cs L k (now (points .entry)) (now (roots .entry)) (now (ends .entry)) (now (lengths .entry)) (now (outline .entry)) (now (log .entry)) (now (bends .entry)) (now (snapped .entry))
+    (now (points .exit)) (now (roots .exit)) (now (ends .exit)) (now (lengths .exit)) (now (outline .exit)) (now (log .exit)) (now (bends .exit)) (now (snapped .exit)) r

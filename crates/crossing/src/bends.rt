@@ -81,7 +81,8 @@ fn bend(i: usize, ends: &[usize], first: &[usize], second: &[usize]) -> bool
 // Marks the bend edges between the two sides among the first e.
 fn mark_between(e: usize, ends: &[usize], first: &[usize], second: &[usize], marks: &mut [usize])
     requires { ⌜ BetweenRoom e (now ends) (length (now first)) (length (now second)) (length (now marks)) ⌝ }
-    ensures { λ _. ⌜ BetweenMarked e (now (ends .entry)) (now (first .entry)) (now (second .entry)) (now (marks .entry)) (now (marks .exit)) ⌝ }
+    ensures { λ _. ⌜ BetweenMarked e (now (ends .entry)) (now (first .entry)) (now (second .entry)) (now (marks .entry))
+        (now (marks .exit)) ⌝ }
 {
     let mut i: usize = 0;
     while i < e {

@@ -4,7 +4,7 @@ ghost use mathlib.Core.List.{[], _∷_};
 ghost use Prim.Native.Nat.{_<_, _≤_};
 ghost use lib.ListN.{length};
 ghost use Rattle.crossing.specs.Crossings.{crossed-in};
-ghost use Rattle.crossing.specs.Crossed.{CrossRoom, CrossTold, CrossingsIn};
+ghost use Rattle.crossing.specs.Crossed.{CrossingsIn, CrossIn, CrossedIn};
 use insert::plan;
 use mesh::Counts;
 use mesh::Rooms;
@@ -28,8 +28,9 @@ fn cross(
     first: &mut [usize],
     second: &mut [usize],
 ) -> Ran
-    requires { ⌜ CrossRoom room k (now points) (now roots) (now ends) (now lengths) (now outline) (now log) (length (now bends)) (length (now snapped)) × (number < k .edges) × (1024 ≤ length (now first)) × (1024 ≤ length (now second)) ⌝ }
-    ensures { λ r. ⌜ CrossTold f (record { number = number; t = t } ∷ []) room k (now (points .entry)) (now (roots .entry)) (now (ends .entry)) (now (lengths .entry)) (now (outline .entry)) (now (log .entry)) (now (bends .entry)) (now (snapped .entry)) (now (points .exit)) (now (roots .exit)) (now (ends .exit)) (now (lengths .exit)) (now (outline .exit)) (now (log .exit)) (now (bends .exit)) (now (snapped .exit)) r ⌝ }
+    requires { ⌜ CrossIn room k points roots ends lengths outline log bends snapped × (number < k .edges) × (1024 ≤ length (now first))
+        × (1024 ≤ length (now second)) ⌝ }
+    ensures { λ r. ⌜ CrossedIn f (record { number = number; t = t } ∷ []) room k points roots ends lengths outline log bends snapped r ⌝ }
 {
     let plan = plan::plan_at(f, number, t, k.particles, k.edges, points, ends, lengths);
     let row = plan.row;
@@ -61,8 +62,10 @@ pub fn cross_all(
     first: &mut [usize],
     second: &mut [usize],
 ) -> Ran
-    requires { ⌜ CrossRoom room k (now points) (now roots) (now ends) (now lengths) (now outline) (now log) (length (now bends)) (length (now snapped)) × CrossingsIn m (now numbers) (length (now ts)) k (now log) × (1024 ≤ length (now first)) × (1024 ≤ length (now second)) ⌝ }
-    ensures { λ r. ⌜ CrossTold f (crossed-in m (now (numbers .entry)) (now (ts .entry))) room k (now (points .entry)) (now (roots .entry)) (now (ends .entry)) (now (lengths .entry)) (now (outline .entry)) (now (log .entry)) (now (bends .entry)) (now (snapped .entry)) (now (points .exit)) (now (roots .exit)) (now (ends .exit)) (now (lengths .exit)) (now (outline .exit)) (now (log .exit)) (now (bends .exit)) (now (snapped .exit)) r ⌝ }
+    requires { ⌜ CrossIn room k points roots ends lengths outline log bends snapped
+        × CrossingsIn m (now numbers) (length (now ts)) k (now log) × (1024 ≤ length (now first)) × (1024 ≤ length (now second)) ⌝ }
+    ensures { λ r. ⌜ CrossedIn f (crossed-in m (now (numbers .entry)) (now (ts .entry))) room k points roots ends lengths outline log bends
+        snapped r ⌝ }
 {
     let mut counts = k;
     let mut i: usize = 0;

@@ -35,8 +35,10 @@ pub fn remove_bends(
     outline: &mut [usize],
     log: &mut [u32],
 ) -> Ran
-    requires { ⌜ UnbentRoom room k (length (now bends)) (now ends) (length (now lengths)) (length (now outline)) (length (now log)) × (2048 ≤ length (now none)) ⌝ }
-    ensures { λ r. ⌜ UnbentTold room k (now (bends .entry)) (now (ends .entry)) (now (lengths .entry)) (now (outline .entry)) (now (log .entry)) (now (ends .exit)) (now (lengths .exit)) (now (outline .exit)) (now (log .exit)) r ⌝ }
+    requires { ⌜ UnbentRoom room k (length (now bends)) (now ends) (length (now lengths)) (length (now outline)) (length (now log))
+        × (2048 ≤ length (now none)) ⌝ }
+    ensures { λ r. ⌜ UnbentTold room k (now (bends .entry)) (now (ends .entry)) (now (lengths .entry)) (now (outline .entry))
+        (now (log .entry)) (now (ends .exit)) (now (lengths .exit)) (now (outline .exit)) (now (log .exit)) r ⌝ }
 {
     let s = count_marked(k.edges, bends);
     if s == 0 {

@@ -35,7 +35,7 @@ use Rattle.work.specs.Working.{Ready, Works}
 use Rattle.work.specs.declared.Ran.the-variants.{Refused, Done}
 use Rattle.work.proofs.Placed.{particles-count, edges-count, boundary-count, corners-in, ends-in}
 use Rattle.work.proofs.Runs.{room-enough, log-lacks, needBehind, went-step}
-use Rattle.marks.specs.Marking.{placeIn, PlacesIn}
+use Rattle.marks.specs.Marking.{BesideTold, placeIn, PlacesIn}
 use Rattle.marks.proofs.MarkLaws.{each-tab, cornersAt, row-below, rows-are, places-at}
 use Rattle.crossmarks.specs.Noting.{pairMarks, rowMarks, triangleMarks, strapMark, strapMarks, Noted, PairRoom, TriangleRoom, StrapRoom}
 
@@ -120,6 +120,14 @@ module _ (B : Blade) (points : List Float) (x y z : ℕ) where
       noted-as ((a ++ b) ++ c) (a ++ (b ++ (c ++ []))) n r₃ l l₃
       (append-assoc a b c ∙ ap (λ (k : List Words). a ++ (b ++ k)) (sym (append-nil c)))
       (noted-then (a ++ b) c n r₂ r₃ l l₂ l₃ (e₂ ∙ e₁) (noted-then a b n r₁ r₂ l l₁ l₂ e₁ X Y) Z)
+
+  -- a triangle that the blade passes by has no mark
+  pub beside-unnoted : (b : Bool) (n : ℕ) (l : List ℕ) → BesideTold B points x y z b → b ≡ true → Noted (rowMarks B points (x ∷ y ∷ z ∷ [])) n l l n
+  beside-unnoted b n l T e =
+      sides-noted n n n n l l l l refl refl
+      (pair-miss B points x y _ _ _ n l refl refl refl (T .first e))
+      (pair-miss B points x z _ _ _ n l refl refl refl (T .second e))
+      (pair-miss B points y z _ _ _ n l refl refl refl (T .third e))
 
   pub row-few : length (rowMarks B points (x ∷ y ∷ z ∷ [])) ≤ 3
   unfolding rowMarks each pairs

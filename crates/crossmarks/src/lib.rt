@@ -4,16 +4,14 @@ ghost use mathlib.Core.List.{[], _∷_};
 ghost use lib.ListN.{length};
 ghost use Rattle.elements.specs.Table.{kindIs};
 ghost use Rattle.model.specs.Cut.{markedBy};
-ghost use Rattle.mesh.specs.At.{meshAt};
-ghost use Rattle.mesh.specs.Log.{worldAt};
-ghost use Rattle.mesh.specs.Filled.{lent};
-ghost use Rattle.work.specs.Working.{Ready, Works};
 ghost use Rattle.marks.specs.Marking.{bladeBy};
 ghost use Rattle.crossmarks.specs.Noting.{Noted, pairMarks, rowMarks, triangleMarks, strapMarks, PairRoom, TriangleRoom, StrapRoom};
+ghost use Rattle.work.specs.Blocks.{ReadyIn, WorksIn};
 use blade::Hit;
 use blade::Point;
 use elements::Kind;
 use marks::Rule;
+use marks::particles::beside;
 use marks::particles::place;
 use marks::particles::tested;
 use mesh::Counts;
@@ -60,8 +58,12 @@ fn note_sides(
     log: &mut [u32],
 ) -> usize
     requires { ⌜ PairRoom x y (n + 2) (length (now points)) × PairRoom x z (n + 2) (length (now points)) ⌝ }
-    ensures { λ r. ⌜ Noted (rowMarks (bladeBy rule b0 b1) (now (points .entry)) (x ∷ y ∷ z ∷ [])) n (now (log .entry)) (now (log .exit)) r ⌝ }
+    ensures { λ r. ⌜ Noted (rowMarks (bladeBy rule b0 b1) (now (points .entry)) (x ∷ y ∷ z ∷ [])) n (now (log .entry))
+        (now (log .exit)) r ⌝ }
 {
+    if beside(rule, b0, b1, x, y, z, points) {
+        return n;
+    }
     let first = note_pair(rule, b0, b1, x, y, n, points, log);
     let second = note_pair(rule, b0, b1, x, z, first, points, log);
     note_pair(rule, b0, b1, y, z, second, points, log)
@@ -79,7 +81,8 @@ fn note_triangles(
     log: &mut [u32],
 ) -> usize
     requires { ⌜ TriangleRoom t n (length (now points)) (now corners) ⌝ }
-    ensures { λ r. ⌜ Noted (triangleMarks (bladeBy rule b0 b1) (now (points .entry)) t (now (corners .entry))) n (now (log .entry)) (now (log .exit)) r ⌝ }
+    ensures { λ r. ⌜ Noted (triangleMarks (bladeBy rule b0 b1) (now (points .entry)) t (now (corners .entry))) n (now (log .entry))
+        (now (log .exit)) r ⌝ }
 {
     let size = corners.len() / 3;
     let mut m = n;
@@ -115,7 +118,8 @@ fn note_straps(
     log: &mut [u32],
 ) -> usize
     requires { ⌜ StrapRoom e n (length (now points)) (now ends) ⌝ }
-    ensures { λ r. ⌜ Noted (strapMarks (bladeBy rule b0 b1) (now (points .entry)) e (now (ends .entry))) n (now (log .entry)) (now (log .exit)) r ⌝ }
+    ensures { λ r. ⌜ Noted (strapMarks (bladeBy rule b0 b1) (now (points .entry)) e (now (ends .entry))) n (now (log .entry))
+        (now (log .exit)) r ⌝ }
 {
     let size = ends.len() / 4;
     let mut m = n;
@@ -146,8 +150,8 @@ pub fn note_crossings(
     outline: &[usize],
     log: &mut [u32],
 ) -> Ran
-    requires { ⌜ Ready room k (lent (now points) (now roots) (now corners) (now volumes) (now ends) (now lengths) (now outline) (now log)) (meshAt k (now points) (now roots) (now corners) (now volumes) (now ends) (now lengths) (now outline)) ⌝ }
-    ensures { λ r. ⌜ Works (markedBy (kindIs kind) (bladeBy rule b0 b1)) room (worldAt k (now (points .entry)) (now (roots .entry)) (now (corners .entry)) (now (volumes .entry)) (now (ends .entry)) (now (lengths .entry)) (now (outline .entry)) (now (log .entry))) (λ q. worldAt q (now (points .entry)) (now (roots .entry)) (now (corners .entry)) (now (volumes .entry)) (now (ends .entry)) (now (lengths .entry)) (now (outline .entry)) (now (log .exit))) r ⌝ }
+    requires { ⌜ ReadyIn room k points roots corners volumes ends lengths outline log ⌝ }
+    ensures { λ r. ⌜ WorksIn (markedBy (kindIs kind) (bladeBy rule b0 b1)) room k points roots corners volumes ends lengths outline log r ⌝ }
 {
     let before = k.log;
     let n = match kind {

@@ -15,7 +15,7 @@ use Rattle.mesh.specs.declared.Counts.{Counts}
 use Rattle.mesh.specs.declared.Rooms.{Rooms}
 use Rattle.mesh.specs.Widths.{pointColumns}
 use Rattle.elements.specs.Table.{Tabled}
-use Rattle.opening.specs.Opened.{CornersBelow}
+use Rattle.split_plan.specs.Opened.{CornersBelow}
 use Rattle.work.specs.Working.{Ready}
 use Rattle.split.specs.Tables.{FanRead, FanSided}
 use Rattle.split.proofs.Below.{table-below, fan-corners}

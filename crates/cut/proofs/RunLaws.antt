@@ -7,7 +7,6 @@ use native.Mathlib.Omega.{arith}
 use borrow.Author.Tests.{eq-eqb, ne-eqb}
 use lib.Dec.{eqb}
 use lib.ListN.{length, getD, take, drop, take-append-drop}
-use lib.Ieee.{Float}
 use Rattle.lists.specs.Lists.{pick, stands, sift, fold, tab, upTo, rising}
 use Rattle.lists.proofs.Sifts.{pick-by, sift-append, fold-append, tab-take, upTo-length, upTo-at}
 use Rattle.lists.proofs.Steps.{sift-step}
@@ -31,7 +30,7 @@ use Rattle.work.proofs.Runs.{works-stay, works-then, works-refused}
 use Rattle.elements.proofs.Measures.{sift-agree}
 use Rattle.cut.specs.declared.facets.Parting.{Parting}
 use Rattle.marks.specs.Marking.{Marks, marked?}
-use Rattle.cut.specs.Running.{sidesIn, splitIn, splitIf, chosen}
+use Rattle.cut.specs.Running.{sidesIn, splitIn, chosen}
 
 -- ---- the particles that are chosen
 
@@ -96,16 +95,11 @@ module _ (w : Parting) (K : Kind) where
 pub works-when : {f g : Run → Run} {L : Rooms} {W : World} {at : Counts → World} {r : Ran} → ((R : Run) → W ≡ worldOf (R .mesh) (R .log) → f R ≡ g R) → Works f L W at r → Works g L W at r
 works-when {L = L} {at = at} {r = r} s F = record { went = λ R e z. subst (λ (S : Run). Went L S at r) (s R e) (F .went R e z) }
 
--- a worker that does nothing where v has no mark, and one that splits v by sides that are those of its fan
-pub none-works : (mark : ℕ) (w : Parting) (K : Kind) (v : ℕ) (L : Rooms) (at : Counts → World) (k : Counts) → Within k L → (mark ≡ 1 → ⊥) → Works (λ (R : Run). splitIf mark w K R v) L (at k) at (Done k)
-unfolding splitIf
-none-works mark w K v L at k b n = works-when (λ R e. sym (ap (λ (t : Bool). pick t (splitIn w K R v) R) (ne-eqb _ _ n))) (works-stay k b)
-
-pub one-works : (mark : ℕ) (w : Parting) (K : Kind) (v : ℕ) (sides : List ℕ) (L : Rooms) (W : World) (at : Counts → World) (r : Ran) → mark ≡ 1 → sides ≡ sidesIn w K (W .mesh) v → Works (splitBySides K v sides) L W at r
-    → Works (λ (R : Run). splitIf mark w K R v) L W at r
-unfolding splitIf splitIn
-one-works mark w K v sides L W at r y s F =
-    works-when (λ R e. ap (λ (l : List ℕ). splitBySides K v l R) (s ∙ ap (λ (x : World). sidesIn w K (x .mesh) v) e) ∙ sym (ap (λ (t : Bool). pick t (splitBySides K v (sidesIn w K (R .mesh) v) R) R) (eq-eqb _ _ y))) F
+-- a worker that splits v by sides that are those of its fan
+pub one-works : (w : Parting) (K : Kind) (v : ℕ) (sides : List ℕ) (L : Rooms) (W : World) (at : Counts → World) (r : Ran) → sides ≡ sidesIn w K (W .mesh) v → Works (splitBySides K v sides) L W at r
+    → Works (λ (R : Run). splitIn w K R v) L W at r
+unfolding splitIn
+one-works w K v sides L W at r s F = works-when (λ R e. ap (λ (l : List ℕ). splitBySides K v l R) (s ∙ ap (λ (x : World). sidesIn w K (x .mesh) v) e)) F
 
 -- ---- the run so far
 
@@ -119,33 +113,40 @@ module _ (w : Parting) (K : Kind) (L : Rooms) (marks : List ℕ) where
   run-none k b = works-when (λ R e. sym (ap (fold (splitIn w K) R) (chosen-none marks))) (works-stay k b)
 
   module _ {W : World} {at : Counts → World} {k : Counts} (v : ℕ) (F : Works (splitTo v) L W at (Done k)) where
-    run-same : (R : Run) → splitIf (getD marks v 0) w K (splitTo v R) v ≡ splitTo (v + 1) R
-    unfolding splitIf fold
-    run-same R =
+    -- the next particle is split, if it is marked
+    run-same : (R : Run) (t : Bool) → marked? marks v ≡ t → pick t (splitIn w K (splitTo v R) v) (splitTo v R) ≡ splitTo (v + 1) R
+    unfolding fold
+    run-same R t e =
         sym (ap (fold (splitIn w K) R) (chosen-step marks v) ∙ fold-append (splitIn w K) R (chosen v marks) (pick (marked? marks v) (v ∷ []) [])
-        ∙ by (marked? marks v) (splitTo v R))
+        ∙ ap (λ (b : Bool). fold (splitIn w K) (splitTo v R) (pick b (v ∷ []) [])) e ∙ by t (splitTo v R))
       where
         by : (t : Bool) (S : Run) → fold (splitIn w K) S (pick t (v ∷ []) []) ≡ pick t (splitIn w K S v) S
         by true S = refl
         by false S = refl
 
-    pub run-more : {at′ : Counts → World} {r : Ran} → Works (λ (R : Run). splitIf (getD marks v 0) w K R v) L (at k) at′ r → Works (splitTo (v + 1)) L W at′ r
-    run-more G = works-when (λ R e. run-same R) (works-then F G)
+    -- one that is not marked is passed
+    pub run-skip : (getD marks v 0 ≡ 1 → ⊥) → Works (splitTo (v + 1)) L W at (Done k)
+    run-skip n = works-when (λ R e. run-same R false (ne-eqb _ _ n)) F
 
-    pub run-stop : {at′ : Counts → World} {c : ℕ} (p : ℕ) → v < p → Works (λ (R : Run). splitIf (getD marks v 0) w K R v) L (at k) at′ (Refused c) → Works (splitTo p) L W at′ (Refused c)
-    run-stop {at′} {c} p h G =
-        let rest : List ℕ = sift (marked? marks) (drop (v + 1) (upTo p)) in
-        works-when
-        (λ R e. sym (fold-append (splitIn w K) R (chosen (v + 1) marks) rest) ∙ ap (fold (splitIn w K) R) (chosen-more marks (v + 1) p (omega arith)))
-        (works-refused (λ (S : Run). fold (splitIn w K) S rest) {at = at′} (λ R. onward-fold (splitIn w K) (in-onward w K) (splitTo (v + 1) R) rest) (run-more G))
+    -- a marked one is split
+    module _ (m : getD marks v 0 ≡ 1) where
+      run-more : {at′ : Counts → World} {r : Ran} → Works (λ (R : Run). splitIn w K R v) L (at k) at′ r → Works (splitTo (v + 1)) L W at′ r
+      run-more G = works-when (λ R e. run-same R true (eq-eqb _ _ m)) (works-then F G)
 
-    -- the same of an answer that is known
-    pub run-next : {at′ : Counts → World} (r : Ran) (k′ : Counts) → r ≡ Done k′ → Works (λ (R : Run). splitIf (getD marks v 0) w K R v) L (at k) at′ r → Works (splitTo (v + 1)) L W at′ (Done k′)
-    run-next {at′} r k′ e G = run-more (subst (λ (x : Ran). Works (λ (R : Run). splitIf (getD marks v 0) w K R v) L (at k) at′ x) e G)
+      run-stop : {at′ : Counts → World} {c : ℕ} (p : ℕ) → v < p → Works (λ (R : Run). splitIn w K R v) L (at k) at′ (Refused c) → Works (splitTo p) L W at′ (Refused c)
+      run-stop {at′} {c} p h G =
+          let rest : List ℕ = sift (marked? marks) (drop (v + 1) (upTo p)) in
+          works-when
+          (λ R e. sym (fold-append (splitIn w K) R (chosen (v + 1) marks) rest) ∙ ap (fold (splitIn w K) R) (chosen-more marks (v + 1) p (omega arith)))
+          (works-refused (λ (S : Run). fold (splitIn w K) S rest) {at = at′} (λ R. onward-fold (splitIn w K) (in-onward w K) (splitTo (v + 1) R) rest) (run-more G))
 
-    pub run-end : {at′ : Counts → World} (r : Ran) (c : ℕ) → r ≡ Refused c → (p : ℕ) → v < p → Works (λ (R : Run). splitIf (getD marks v 0) w K R v) L (at k) at′ r → Works (splitTo p) L W at′ r
-    run-end {at′} r c e p h G =
-        subst (λ (x : Ran). Works (splitTo p) L W at′ x) (sym e) (run-stop p h (subst (λ (x : Ran). Works (λ (R : Run). splitIf (getD marks v 0) w K R v) L (at k) at′ x) e G))
+      -- the same of an answer that is known
+      pub run-next : {at′ : Counts → World} (r : Ran) (k′ : Counts) → r ≡ Done k′ → Works (λ (R : Run). splitIn w K R v) L (at k) at′ r → Works (splitTo (v + 1)) L W at′ (Done k′)
+      run-next {at′} r k′ e G = run-more (subst (λ (x : Ran). Works (λ (R : Run). splitIn w K R v) L (at k) at′ x) e G)
+
+      pub run-end : {at′ : Counts → World} (r : Ran) (c : ℕ) → r ≡ Refused c → (p : ℕ) → v < p → Works (λ (R : Run). splitIn w K R v) L (at k) at′ r → Works (splitTo p) L W at′ r
+      run-end {at′} r c e p h G =
+          subst (λ (x : Ran). Works (splitTo p) L W at′ x) (sym e) (run-stop p h (subst (λ (x : Ran). Works (λ (R : Run). splitIn w K R v) L (at k) at′ x) e G))
 
   pub run-all : {W : World} {at : Counts → World} {r : Ran} (v p : ℕ) → v ≡ p → Works (splitTo v) L W at r → Works (splitTo p) L W at r
   run-all {W} {at} {r} v p e F = subst (λ (m : ℕ). Works (splitTo m) L W at r) e F

@@ -2,10 +2,9 @@
 use Prim.Native.Nat.{ℕ, _<_, _≤_}
 use mathlib.Core.Path.{_≡_}
 use mathlib.Core.List.{List, map}
-use lib.ListN.{getD, take}
-use lib.Dec.{eqb}
+use lib.ListN.{getD, take, length}
 use lib.Ieee.{Float}
-use Rattle.lists.specs.Lists.{pick, sift, upTo}
+use Rattle.lists.specs.Lists.{sift, upTo}
 use Rattle.model.specs.Mesh.{Mesh}
 use Rattle.model.specs.Elements.{Kind, Element, cornersPer, fanOf}
 use Rattle.model.specs.Run.{Run}
@@ -13,11 +12,13 @@ use Rattle.model.specs.Split.{splitBySides}
 use Rattle.model.specs.Cut.{bladeSides}
 use Rattle.mesh.specs.declared.Counts.{Counts}
 use Rattle.elements.specs.Table.{Cornered}
-use Rattle.opening.specs.Opened.{CornersBelow}
+use Rattle.split_plan.specs.Opened.{CornersBelow}
 use Rattle.marks.specs.Marking.{PlacesIn, bladeBy, marked?}
 use Rattle.cut.specs.declared.facets.Parting.{Parting}
 use Rattle.cut.specs.declared.facets.Parting.the-variants.{Free, Blade as BladeFrom}
 use Rattle.work.specs.Working.{Logged}
+use denote.Ref.{now}
+use Rattle.mesh.specs.Blocks.{NumbersIn, IndicesIn}
 
 -- the sides of v's fan: all 0, or by a blade
 unfoldable pub sidesIn : Parting → Kind → Mesh → ℕ → List ℕ
@@ -27,10 +28,6 @@ sidesIn (BladeFrom r b0 b1) K M v = bladeSides K (bladeBy r b0 b1) M v
 -- v split by them
 unfoldable pub splitIn : Parting → Kind → Run → ℕ → Run
 splitIn w K R v = splitBySides K v (sidesIn w K (R .mesh) v) R
-
--- the same, if v's mark is 1
-unfoldable pub splitIf : ℕ → Parting → Kind → Run → ℕ → Run
-splitIf mark w K R v = pick (eqb mark 1) (splitIn w K R v) R
 
 -- the sides of v's fan, in every mesh with these places whose fan stands in the table
 pub record SidesFor (w : Parting) (K : Kind) (v n : ℕ) (verts : List ℕ) (points : List Float) (sides : List ℕ) : Type 0 where
@@ -54,3 +51,7 @@ pub record Chosen (p : ℕ) (k : Counts) (log : List ℕ) (lm : ℕ) : Type 0 wh
   pub logged : Logged (k .log) log
   pub inside : p ≤ k .particles
   pub long : p ≤ lm
+
+-- `TablesLong` of tables, as a contract names them
+abbrev pub TablesIn : IndicesIn → IndicesIn → NumbersIn → IndicesIn → IndicesIn → Type 0
+TablesIn numbers verts measures sides groups = TablesLong (length (now numbers)) (length (now verts)) (length (now measures)) (length (now sides)) (length (now groups))

@@ -4,16 +4,15 @@ ghost use lib.ListN.{length};
 ghost use Rattle.lists.specs.Lists.{fold};
 ghost use Rattle.model.specs.Elements.{Triangles, cornersPer};
 ghost use Rattle.model.specs.Cut.{splitPinched, cutFacets};
-ghost use Rattle.mesh.specs.At.{meshAt};
-ghost use Rattle.mesh.specs.Log.{worldAt};
 ghost use Rattle.mesh.specs.Filled.{lent};
 ghost use Rattle.elements.specs.Table.{kindIs};
-ghost use Rattle.work.specs.Working.{Ready, Works, Logged};
+ghost use Rattle.work.specs.Working.{Logged};
 ghost use Rattle.marks.specs.Marking.{bladeBy};
 ghost use Rattle.marks.specs.Sided.{SidesRoom};
-ghost use Rattle.links.specs.Linked.{Linked};
-ghost use Rattle.split.specs.Linking.{LinkedAfter};
-ghost use Rattle.cut.specs.Running.{splitIn, splitIf, SidesFor, TablesLong, chosen, Chosen};
+ghost use Rattle.links.specs.Linked.{LinkedIn};
+ghost use Rattle.cut.specs.Running.{splitIn, SidesFor, chosen, Chosen, TablesIn};
+ghost use Rattle.work.specs.Blocks.{ReadyIn, WorksIn};
+ghost use Rattle.split.specs.Blocks.{LinkedBehind};
 use blade::Point;
 use elements::Kind;
 use marks::Rule;
@@ -51,12 +50,11 @@ fn part_fan(
     }
 }
 
-// Splits v by the sides of its fan, if its mark is 1. The tables are lent to work in: what stands in them does not matter. That of the links alone must be the one of the block, and is so again after it.
+// Splits v by the sides of its fan. The tables are lent to work in: what stands in them does not matter. That of the links alone must be the one of the block, and is so again after it.
 pub fn split_one(
     way: Parting,
     kind: Kind,
     v: usize,
-    mark: usize,
     k: Counts,
     room: Rooms,
     points: &mut [f32],
@@ -74,12 +72,11 @@ pub fn split_one(
     groups: &mut [usize],
     links: &mut [u16],
 ) -> Ran
-    requires { ⌜ Ready room k (lent (now points) (now roots) (now corners) (now volumes) (now ends) (now lengths) (now outline) (now log)) (meshAt k (now points) (now roots) (now corners) (now volumes) (now ends) (now lengths) (now outline)) × (v < k .particles) × TablesLong (length (now numbers)) (length (now verts)) (length (now measures)) (length (now sides)) (length (now groups)) × Linked (kindIs kind) (k .triangles) (now corners) (now links) ⌝ }
-    ensures { λ r. ⌜ Works (λ R. splitIf mark way (kindIs kind) R v) room (worldAt k (now (points .entry)) (now (roots .entry)) (now (corners .entry)) (now (volumes .entry)) (now (ends .entry)) (now (lengths .entry)) (now (outline .entry)) (now (log .entry))) (λ q. worldAt q (now (points .exit)) (now (roots .exit)) (now (corners .exit)) (now (volumes .entry)) (now (ends .exit)) (now (lengths .exit)) (now (outline .exit)) (now (log .exit))) r × LinkedAfter (kindIs kind) (now (corners .exit)) (now (links .exit)) r ⌝ }
+    requires { ⌜ ReadyIn room k points roots corners volumes ends lengths outline log × (v < k .particles)
+        × TablesIn numbers verts measures sides groups × LinkedIn (kindIs kind) k corners links ⌝ }
+    ensures { λ r. ⌜ (let K = kindIs kind in WorksIn (λ R. splitIn way K R v) room k points roots corners volumes ends lengths outline log r
+        × LinkedBehind K corners links r) ⌝ }
 {
-    if mark != 1 {
-        return Ran::Done(k);
-    }
     let n = split::fans::fan_tables(
         kind,
         v,
@@ -141,17 +138,22 @@ pub fn split_marked(
     groups: &mut [usize],
     links: &mut [u16],
 ) -> Ran
-    requires { ⌜ Ready room k (lent (now points) (now roots) (now corners) (now volumes) (now ends) (now lengths) (now outline) (now log)) (meshAt k (now points) (now roots) (now corners) (now volumes) (now ends) (now lengths) (now outline)) × Chosen p k (now log) (length (now marks)) × TablesLong (length (now numbers)) (length (now verts)) (length (now measures)) (length (now sides)) (length (now groups)) × Linked (kindIs kind) (k .triangles) (now corners) (now links) ⌝ }
-    ensures { λ r. ⌜ Works (λ R. fold (splitIn way (kindIs kind)) R (chosen p (now (marks .entry)))) room (worldAt k (now (points .entry)) (now (roots .entry)) (now (corners .entry)) (now (volumes .entry)) (now (ends .entry)) (now (lengths .entry)) (now (outline .entry)) (now (log .entry))) (λ q. worldAt q (now (points .exit)) (now (roots .exit)) (now (corners .exit)) (now (volumes .entry)) (now (ends .exit)) (now (lengths .exit)) (now (outline .exit)) (now (log .exit))) r × LinkedAfter (kindIs kind) (now (corners .exit)) (now (links .exit)) r ⌝ }
+    requires { ⌜ ReadyIn room k points roots corners volumes ends lengths outline log × Chosen p k (now log) (length (now marks))
+        × TablesIn numbers verts measures sides groups × LinkedIn (kindIs kind) k corners links ⌝ }
+    ensures { λ r. ⌜ (let K = kindIs kind in WorksIn (λ R. fold (splitIn way K) R (chosen p (now (marks .entry)))) room k points roots
+        corners volumes ends lengths outline log r × LinkedBehind K corners links r) ⌝ }
 {
     let mut counts = k;
     let mut v: usize = 0;
     while v < p {
+        if marks[v] != 1 {
+            v += 1;
+            continue;
+        }
         let ran = split_one(
             way,
             kind,
             v,
-            marks[v],
             counts,
             room,
             points,
@@ -198,8 +200,10 @@ pub fn split_pinched(
     groups: &mut [usize],
     links: &mut [u16],
 ) -> Ran
-    requires { ⌜ Ready room k (lent (now points) (now roots) (now corners) (now volumes) (now ends) (now lengths) (now outline) (now log)) (meshAt k (now points) (now roots) (now corners) (now volumes) (now ends) (now lengths) (now outline)) × Logged (k .log) (now log) × (1024 ≤ length (now marks)) × TablesLong (length (now numbers)) (length (now verts)) (length (now measures)) (length (now sides)) (length (now groups)) × Linked Triangles (k .triangles) (now corners) (now links) ⌝ }
-    ensures { λ r. ⌜ Works (splitPinched Triangles) room (worldAt k (now (points .entry)) (now (roots .entry)) (now (corners .entry)) (now (volumes .entry)) (now (ends .entry)) (now (lengths .entry)) (now (outline .entry)) (now (log .entry))) (λ q. worldAt q (now (points .exit)) (now (roots .exit)) (now (corners .exit)) (now (volumes .entry)) (now (ends .exit)) (now (lengths .exit)) (now (outline .exit)) (now (log .exit))) r × LinkedAfter Triangles (now (corners .exit)) (now (links .exit)) r ⌝ }
+    requires { ⌜ ReadyIn room k points roots corners volumes ends lengths outline log × Logged (k .log) (now log)
+        × (1024 ≤ length (now marks)) × TablesIn numbers verts measures sides groups × LinkedIn Triangles k corners links ⌝ }
+    ensures { λ r. ⌜ WorksIn (splitPinched Triangles) room k points roots corners volumes ends lengths outline log r
+        × LinkedBehind Triangles corners links r ⌝ }
 {
     particles::mark_near(k.log, log, groups);
     particles::mark_pinched(k.triangles, corners, groups, marks);
@@ -250,8 +254,10 @@ pub fn cut_facets(
     groups: &mut [usize],
     links: &mut [u16],
 ) -> Ran
-    requires { ⌜ Ready room k (lent (now points) (now roots) (now corners) (now volumes) (now ends) (now lengths) (now outline) (now log)) (meshAt k (now points) (now roots) (now corners) (now volumes) (now ends) (now lengths) (now outline)) × Logged (k .log) (now log) × (1024 ≤ length (now marks)) × TablesLong (length (now numbers)) (length (now verts)) (length (now measures)) (length (now sides)) (length (now groups)) × Linked Triangles (k .triangles) (now corners) (now links) ⌝ }
-    ensures { λ r. ⌜ Works (cutFacets (bladeBy rule b0 b1)) room (worldAt k (now (points .entry)) (now (roots .entry)) (now (corners .entry)) (now (volumes .entry)) (now (ends .entry)) (now (lengths .entry)) (now (outline .entry)) (now (log .entry))) (λ q. worldAt q (now (points .exit)) (now (roots .exit)) (now (corners .exit)) (now (volumes .entry)) (now (ends .exit)) (now (lengths .exit)) (now (outline .exit)) (now (log .exit))) r × LinkedAfter Triangles (now (corners .exit)) (now (links .exit)) r ⌝ }
+    requires { ⌜ ReadyIn room k points roots corners volumes ends lengths outline log × Logged (k .log) (now log)
+        × (1024 ≤ length (now marks)) × TablesIn numbers verts measures sides groups × LinkedIn Triangles k corners links ⌝ }
+    ensures { λ r. ⌜ WorksIn (cutFacets (bladeBy rule b0 b1)) room k points roots corners volumes ends lengths outline log r
+        × LinkedBehind Triangles corners links r ⌝ }
 {
     particles::mark_candidates(rule, b0, b1, k.triangles, points, corners, marks);
     let ran = split_marked(

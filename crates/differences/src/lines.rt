@@ -220,7 +220,8 @@ fn put_four(out: &mut [u8], at: Written, f: Four) -> Written
 // Writes the line of the blades, where they differ.
 pub fn put_blades(out: &mut [u8], l: Lines, a: Four, b: Four) -> Lines
     requires { ⌜ Blading a b (l .count) ⌝ }
-    ensures { λ q. ⌜ Lists (pick (sameRow (fourOf a) (fourOf b)) [] (blades (fourOf a) (fourOf b) ∷ [])) (now (out .entry)) l (now (out .exit)) q ⌝ }
+    ensures { λ q. ⌜ Lists (pick (sameRow (fourOf a) (fourOf b)) [] (blades (fourOf a) (fourOf b) ∷ [])) (now (out .entry)) l
+        (now (out .exit)) q ⌝ }
 {
     if same_four(a, b) {
         return l;

@@ -30,7 +30,8 @@ fn write_differences(
     out: &mut [u8],
 ) -> Written
     requires { ⌜ Going (now first) c (now left) (now second) d (now right) 0 0 ⌝ }
-    ensures { λ r. ⌜ Wrote (differenceText (differences (readSheet (now (first .entry))) (readSheet (now (second .entry))))) (length (now (out .entry))) (now (out .exit)) r ⌝ }
+    ensures { λ r. ⌜ Wrote (differenceText (differences (readSheet (now (first .entry))) (readSheet (now (second .entry))))) (length
+        (now (out .entry))) (now (out .exit)) r ⌝ }
 {
     let l = crate::whole::put_all(out, first, c, left, second, d, right);
     let at = l.at;

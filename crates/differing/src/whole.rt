@@ -63,7 +63,8 @@ fn put_lists(
     right: &[usize],
 ) -> Lines
     requires { ⌜ Going (now first) c (now left) (now second) d (now right) 4 (l .count) ⌝ }
-    ensures { λ r. ⌜ Lists (listLines (readSheet (now (first .entry))) (readSheet (now (second .entry)))) (now (out .entry)) l (now (out .exit)) r ⌝ }
+    ensures { λ r. ⌜ Lists (listLines (readSheet (now (first .entry))) (readSheet (now (second .entry)))) (now (out .entry)) l
+        (now (out .exit)) r ⌝ }
 {
     let p = edition::typed::start_bit(first);
     let p_t = p + c.particles * 23;
@@ -124,7 +125,8 @@ fn put_rest(
     right: &[usize],
 ) -> Lines
     requires { ⌜ Going (now first) c (now left) (now second) d (now right) 2048 (l .count) ⌝ }
-    ensures { λ r. ⌜ Lists (restLines (readSheet (now (first .entry))) (readSheet (now (second .entry)))) (now (out .entry)) l (now (out .exit)) r ⌝ }
+    ensures { λ r. ⌜ Lists (restLines (readSheet (now (first .entry))) (readSheet (now (second .entry)))) (now (out .entry)) l
+        (now (out .exit)) r ⌝ }
 {
     let sides = row_differences::put_sides(out, l, left, c.boundary, right, d.boundary);
     let a = blade_at(first, blade_bit(first));
@@ -143,7 +145,8 @@ pub fn put_all(
     right: &[usize],
 ) -> Lines
     requires { ⌜ Going (now first) c (now left) (now second) d (now right) 0 0 ⌝ }
-    ensures { λ r. ⌜ Lists (differences (readSheet (now (first .entry))) (readSheet (now (second .entry)))) (now (out .entry)) start (now (out .exit)) r ⌝ }
+    ensures { λ r. ⌜ Lists (differences (readSheet (now (first .entry))) (readSheet (now (second .entry)))) (now (out .entry)) start
+        (now (out .exit)) r ⌝ }
 {
     let counts = put_counts(out, c, d);
     let lists = put_lists(out, counts, first, c, left, second, d, right);

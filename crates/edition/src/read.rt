@@ -5,13 +5,13 @@ ghost use Prim.Native.Nat.{ℕ, _/_, _≤_};
 ghost use lib.ListN.{length};
 ghost use Rattle.lists.specs.Lists.{padded};
 ghost use Rattle.float.specs.Numbers.{zero32};
-ghost use Rattle.mesh.specs.At.{meshAt};
 ghost use Rattle.mesh.specs.Filled.{lent, Filled};
 ghost use Rattle.bits.specs.Bits.{bitsOf};
 ghost use Rattle.sheet.specs.Read.{meshOfSheet, bladeOfSheet, countsFor};
 ghost use Rattle.edition.specs.Edition.{sheetOf};
 ghost use Rattle.edition.specs.Reading.{roomFor, ReadDone};
 ghost use Rattle.edition.specs.Work.{MeshIn, BladeAt, Held};
+ghost use Rattle.mesh.specs.Blocks.{meshBehind, lentBefore, blocksIn};
 use crate::Seen;
 use sheet::Counts;
 
@@ -28,7 +28,8 @@ fn room(
     lo: usize,
     lb: usize,
 ) -> Seen
-    ensures { λ r. ⌜ r ≡ roomFor c replaced (record { points = lp; roots = lr; corners = lc; volumes = lv; ends = le; lengths = ll; outline = lo; log = 0 }) lb ⌝ }
+    ensures { λ r. ⌜ r ≡ roomFor c replaced
+        (record { points = lp; roots = lr; corners = lc; volumes = lv; ends = le; lengths = ll; outline = lo; log = 0 }) lb ⌝ }
 {
     if sheet_rows::two_fit(c.triangles, lc / 3, lv / 2) {
         if 4 <= lb {
@@ -61,8 +62,9 @@ fn read_mesh(
     lengths: &mut [f32],
     outline: &mut [usize],
 )
-    requires { ⌜ MeshIn (now s) c (now found) (lent (now points) (now roots) (now corners) (now volumes) (now ends) (now lengths) (now outline) []) ⌝ }
-    ensures { λ _. ⌜ meshAt (countsFor c) (now (points .exit)) (now (roots .exit)) (now (corners .exit)) (now (volumes .exit)) (now (ends .exit)) (now (lengths .exit)) (now (outline .exit)) ≡ meshOfSheet (sheetOf (bitsOf (now (s .entry))) .sheet) ⌝ }
+    requires { ⌜ MeshIn (now s) c (now found) (blocksIn points roots corners volumes ends lengths outline) ⌝ }
+    ensures { λ _. ⌜ meshBehind (countsFor c) points roots corners volumes ends lengths outline
+        ≡ meshOfSheet (sheetOf (bitsOf (now (s .entry))) .sheet) ⌝ }
 {
     let p = c.particles;
     let at = crate::typed::start_bit(s);
@@ -99,8 +101,11 @@ fn accept(
     log: &mut [usize],
     blade: &mut [f32],
 )
-    requires { ⌜ Held (now s) c (now found) (lent (now points) (now roots) (now corners) (now volumes) (now ends) (now lengths) (now outline) []) (length (now blade)) ⌝ }
-    ensures { λ _. ⌜ (Filled (record { mesh = meshOfSheet (sheetOf (bitsOf (now (s .entry))) .sheet); log = [] }) (lent (now (points .entry)) (now (roots .entry)) (now (corners .entry)) (now (volumes .entry)) (now (ends .entry)) (now (lengths .entry)) (now (outline .entry)) (now (log .entry))) (now (points .exit)) (now (roots .exit)) (now (corners .exit)) (now (volumes .exit)) (now (ends .exit)) (now (lengths .exit)) (now (outline .exit)) (now (log .exit))) × (now (blade .exit) ≡ padded (length (now (blade .entry))) zero32 (bladeOfSheet (sheetOf (bitsOf (now (s .entry))) .sheet))) ⌝ }
+    requires { ⌜ Held (now s) c (now found) (blocksIn points roots corners volumes ends lengths outline) (length (now blade)) ⌝ }
+    ensures { λ _. ⌜ (let S = sheetOf (bitsOf (now (s .entry))) .sheet in
+        (Filled (record { mesh = meshOfSheet S; log = [] }) (lentBefore points roots corners volumes ends lengths outline log)
+        (now (points .exit)) (now (roots .exit)) (now (corners .exit)) (now (volumes .exit)) (now (ends .exit)) (now (lengths .exit))
+        (now (outline .exit)) (now (log .exit))) × (now (blade .exit) ≡ padded (length (now (blade .entry))) zero32 (bladeOfSheet S))) ⌝ }
 {
     let k = mesh::Counts {
         particles: c.particles,
@@ -149,7 +154,9 @@ pub fn read(
     log: &mut [usize],
     blade: &mut [f32],
 ) -> Seen
-    ensures { λ r. ⌜ ReadDone limits (now (s .entry)) (lent (now (points .entry)) (now (roots .entry)) (now (corners .entry)) (now (volumes .entry)) (now (ends .entry)) (now (lengths .entry)) (now (outline .entry)) (now (log .entry))) r (now (points .exit)) (now (roots .exit)) (now (corners .exit)) (now (volumes .exit)) (now (ends .exit)) (now (lengths .exit)) (now (outline .exit)) (now (log .exit)) (now (blade .entry)) (now (blade .exit)) ⌝ }
+    ensures { λ r. ⌜ ReadDone limits (now (s .entry)) (lentBefore points roots corners volumes ends lengths outline log) r
+        (now (points .exit)) (now (roots .exit)) (now (corners .exit)) (now (volumes .exit)) (now (ends .exit)) (now (lengths .exit))
+        (now (outline .exit)) (now (log .exit)) (now (blade .entry)) (now (blade .exit)) ⌝ }
 {
     let mut found = [0usize; 6144];
     let seen = crate::outlines::look_into(s, limits, &mut found);

@@ -66,8 +66,10 @@ fn triangle_table(
     verts: &mut [usize],
     measures: &mut [f32],
 )
-    requires { ⌜ TriangleRoom t (length (now corners)) (length (now volumes)) (length (now numbers)) (length (now verts)) (length (now measures)) ⌝ }
-    ensures { λ _. ⌜ Tabled 3 (trianglesFrom 0 (trianglesAt t (now (corners .entry)) (now (volumes .entry)))) t (now (numbers .exit)) (now (verts .exit)) (now (measures .exit)) ⌝ }
+    requires { ⌜ TriangleRoom t (length (now corners)) (length (now volumes)) (length (now numbers)) (length (now verts))
+        (length (now measures)) ⌝ }
+    ensures { λ _. ⌜ Tabled 3 (trianglesFrom 0 (trianglesAt t (now (corners .entry)) (now (volumes .entry)))) t (now (numbers .exit))
+        (now (verts .exit)) (now (measures .exit)) ⌝ }
 {
     let c = corners.len() / 3;
     let mut i: usize = 0;
@@ -92,8 +94,10 @@ fn strap_table(
     verts: &mut [usize],
     measures: &mut [f32],
 ) -> usize
-    requires { ⌜ StrapRoom e (length (now ends)) (length (now lengths)) (length (now numbers)) (length (now verts)) (length (now measures)) ⌝ }
-    ensures { λ r. ⌜ Tabled 2 (strapsFrom 0 (edgesAt e (now (ends .entry)) (now (lengths .entry)))) r (now (numbers .exit)) (now (verts .exit)) (now (measures .exit)) ⌝ }
+    requires { ⌜ StrapRoom e (length (now ends)) (length (now lengths)) (length (now numbers)) (length (now verts))
+        (length (now measures)) ⌝ }
+    ensures { λ r. ⌜ Tabled 2 (strapsFrom 0 (edgesAt e (now (ends .entry)) (now (lengths .entry)))) r (now (numbers .exit))
+        (now (verts .exit)) (now (measures .exit)) ⌝ }
 {
     let c = ends.len() / 4;
     let m = lengths.len() / 4;
@@ -127,8 +131,11 @@ pub fn element_table(
     verts: &mut [usize],
     measures: &mut [f32],
 ) -> usize
-    requires { ⌜ TableRoom t e (length (now corners)) (length (now volumes)) (length (now ends)) (length (now lengths)) (length (now numbers)) (length (now verts)) (length (now measures)) ⌝ }
-    ensures { λ r. ⌜ Tabled (cornersPer (kindIs kind)) (elementsIn (kindIs kind) (trianglesAt t (now (corners .entry)) (now (volumes .entry))) (edgesAt e (now (ends .entry)) (now (lengths .entry)))) r (now (numbers .exit)) (now (verts .exit)) (now (measures .exit)) ⌝ }
+    requires { ⌜ TableRoom t e (length (now corners)) (length (now volumes)) (length (now ends)) (length (now lengths))
+        (length (now numbers)) (length (now verts)) (length (now measures)) ⌝ }
+    ensures { λ r. ⌜ (let K = kindIs kind in Tabled (cornersPer K) (elementsIn K (trianglesAt t (now (corners .entry))
+        (now (volumes .entry))) (edgesAt e (now (ends .entry)) (now (lengths .entry)))) r (now (numbers .exit)) (now (verts .exit))
+        (now (measures .exit))) ⌝ }
 {
     match kind {
         Kind::Triangles => {
@@ -152,8 +159,10 @@ pub fn fan_table(
     fan_verts: &mut [usize],
     fan_measures: &mut [f32],
 ) -> usize
-    requires { ⌜ FanRoom k n (length (now numbers)) (length (now verts)) (length (now measures)) (length (now «fan_numbers»)) (length (now «fan_verts»)) (length (now «fan_measures»)) ⌝ }
-    ensures { λ r. ⌜ FanTabled v k n (now (numbers .entry)) (now (verts .entry)) (now (measures .entry)) r (now («fan_numbers» .exit)) (now («fan_verts» .exit)) (now («fan_measures» .exit)) ⌝ }
+    requires { ⌜ FanRoom k n (length (now numbers)) (length (now verts)) (length (now measures)) (length (now «fan_numbers»))
+        (length (now «fan_verts»)) (length (now «fan_measures»)) ⌝ }
+    ensures { λ r. ⌜ FanTabled v k n (now (numbers .entry)) (now (verts .entry)) (now (measures .entry)) r (now («fan_numbers» .exit))
+        (now («fan_verts» .exit)) (now («fan_measures» .exit)) ⌝ }
     ensures { λ r. ⌜ r ≤ n ⌝ }
 {
     let mut i: usize = 0;

@@ -88,7 +88,8 @@ fn reach_below(
 )
     requires { ⌜ length (now verts) ≡ length (now sides) * k ⌝ }
     requires { ⌜ Reached (fan (now verts) k v needed (now sides)) label a (now table) ⌝ }
-    ensures { λ _. ⌜ Reaching (fan (now (verts .entry)) k v needed (now (sides .entry))) label a (now (table .entry)) (now (table .exit)) (a + 1) ⌝ }
+    ensures { λ _. ⌜ Reaching (fan (now (verts .entry)) k v needed (now (sides .entry))) label a (now (table .entry)) (now (table .exit))
+        (a + 1) ⌝ }
 {
     let mut j = label + 1;
     while j < a {
@@ -114,7 +115,8 @@ fn reach_above(
 )
     requires { ⌜ length (now verts) ≡ length (now sides) * k ⌝ }
     requires { ⌜ Reaching (fan (now verts) k v needed (now sides)) label a (now table) (now table) (a + 1) ⌝ }
-    ensures { λ _. ⌜ Reaching (fan (now (verts .entry)) k v needed (now (sides .entry))) label a (now (table .entry)) (now (table .exit)) (length (now (sides .entry))) ⌝ }
+    ensures { λ _. ⌜ Reaching (fan (now (verts .entry)) k v needed (now (sides .entry))) label a (now (table .entry)) (now (table .exit))
+        (length (now (sides .entry))) ⌝ }
 {
     let mut j = a + 1;
     while j < sides.len() {

@@ -18,9 +18,9 @@ use Rattle.mesh.specs.Widths.{pointColumns}
 use Rattle.judge.specs.Checks.{faultOf}
 use Rattle.elements.specs.Table.{Tabled, FanTabled, holding}
 use Rattle.elements.proofs.Found.{fan-of}
-use Rattle.asked.specs.Accepted.{MeshTabled}
-use Rattle.asked.proofs.Accepted.{particles-count}
-use Rattle.asked.proofs.Judged.{decided, undecided}
+use Rattle.arguments.specs.Accepted.{MeshTabled}
+use Rattle.arguments.proofs.Accepted.{particles-count}
+use Rattle.arguments.proofs.Judged.{decided, undecided}
 use Rattle.image.specs.Image.{imageOf, imageSized}
 use Rattle.image.proofs.Loading.{sized-input}
 use Rattle.replies.specs.Reply.{Replied, shownOf}

@@ -27,7 +27,7 @@ use Rattle.mesh.specs.Log.{wordsOf, wordsIn}
 use Rattle.image.specs.Words.{wordAt, wordsFrom, numberOf, numbersFrom, written}
 use Rattle.image.specs.Image.{imageWords, imageOf, blocksIn, imageSized, imageWordsOf}
 use Rattle.image.proofs.Words.{bytes-length}
-use Rattle.answer.proofs.Front.{words-long}
+use Rattle.call_frame.proofs.Front.{words-long}
 use Rattle.lineage.specs.History.{Called, cutting, cracking, splitting, removing, Stored, Accepted, Again, Few}
 use Rattle.lineage.proofs.Again.{called-checked, accepted-again}
 use Rattle.joined.specs.Entries.{Held32}

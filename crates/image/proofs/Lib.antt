@@ -1,4 +1,4 @@
--- The laws of words in bytes, of an image's sizes, of one that is loaded, and of the rows that it is stored from.
+-- The laws of words in bytes, of an image's sizes, of one that is loaded, and of the rows that it is stored from; of a small image.
 pub mod Words
 pub mod Sizes
 pub mod Fronts
@@ -7,3 +7,4 @@ pub mod Stored
 pub mod Encoded
 pub mod Rows
 pub mod Loading
+pub mod Smallness

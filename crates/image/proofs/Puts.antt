@@ -65,6 +65,13 @@ put-written lent ws vs at e h =
     bytes-more lent (4 * at) (4 * length vs) (each bytesOf ws) (each bytesOf vs) (bytes-length ws ∙ ap (λ (m : ℕ). 4 * m) e) (bytes-length vs) (omega arith)
     ∙ ap (λ (b : List ℕ). padded lent 0 b) (sym (each-append bytesOf ws vs))
 
+-- words put to the front, and 0 put behind them
+pub put-cleared : (s s′ s″ ws : List ℕ) (n : ℕ) → s′ ≡ putWords s 0 ws → length s′ ≡ length s → s″ ≡ padded (length s′) 0 (take n s′) → n ≡ 4 * length ws → s″ ≡ written (length s) ws
+unfolding putWords written
+put-cleared s s′ s″ ws n e l f h =
+    let t : take n s′ ≡ each bytesOf ws = ap (take n) e ∙ take-at (each bytesOf ws) (drop (4 * 0 + 4 * length ws) s) n (bytes-length ws ∙ sym h) in
+    f ∙ ap₂ (λ (m : ℕ) (b : List ℕ). padded m 0 b) l t
+
 -- ---- words put one by one, and columns
 
 -- the bits of two lists, one behind the other

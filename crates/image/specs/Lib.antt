@@ -3,3 +3,4 @@ pub mod Words
 pub mod Image
 pub mod Loads
 pub mod Stores
+pub mod Small

@@ -1,9 +1,12 @@
 // A mesh as one run of bytes: read into blocks, and the words of an answer written.
+pub mod small;
+
 ghost use mathlib.Core.Path.{_≡_};
 ghost use Prim.Native.Nat.{ℕ, _+_, _*_, _%_, _≤_, _<_};
 ghost use mathlib.Core.List.{[], _∷_};
 ghost use lib.ListN.{length, take, replicate};
 ghost use lib.Ieee.{binary32, toBits};
+ghost use Rattle.lists.specs.Lists.{padded};
 ghost use Rattle.image.specs.Words.{wordAt, numberOf, wordsFrom, numbersFrom, written, putWord, putWords, bitsIn};
 ghost use Rattle.image.specs.Image.{imageFits, countsWithin, imageSized};
 ghost use Rattle.image.specs.Loads.{Loadable, Loaded};
@@ -70,6 +73,18 @@ pub fn clear_bytes(out: &mut [u8])
     ensures { λ _. ⌜ now (out .exit) ≡ written (length (now (out .entry))) [] ⌝ }
 {
     let mut i: usize = 0;
+    while i < out.len() {
+        out[i] = 0;
+        i += 1;
+    }
+}
+
+// Puts 0 into every byte from place n on: behind what was written to the front, whatever stood there.
+pub fn clear_bytes_from(out: &mut [u8], n: usize)
+    requires { ⌜ n ≤ length (now out) ⌝ }
+    ensures { λ _. ⌜ now (out .exit) ≡ padded (length (now (out .entry))) 0 (take n (now (out .entry))) ⌝ }
+{
+    let mut i: usize = n;
     while i < out.len() {
         out[i] = 0;
         i += 1;
@@ -175,8 +190,10 @@ pub fn load(
     lengths: &mut [f32],
     outline: &mut [usize],
 )
-    requires { ⌜ Loadable (now image) (length (now points)) (length (now roots)) (length (now corners)) (length (now volumes)) (length (now ends)) (length (now lengths)) (length (now outline)) ⌝ }
-    ensures { λ _. ⌜ Loaded (now (image .entry)) (now (points .exit)) (now (roots .exit)) (now (corners .exit)) (now (volumes .exit)) (now (ends .exit)) (now (lengths .exit)) (now (outline .exit)) ⌝ }
+    requires { ⌜ Loadable (now image) (length (now points)) (length (now roots)) (length (now corners)) (length (now volumes))
+        (length (now ends)) (length (now lengths)) (length (now outline)) ⌝ }
+    ensures { λ _. ⌜ Loaded (now (image .entry)) (now (points .exit)) (now (roots .exit)) (now (corners .exit)) (now (volumes .exit))
+        (now (ends .exit)) (now (lengths .exit)) (now (outline .exit)) ⌝ }
 {
     let p = word_at(image, 0);
     let t = word_at(image, 1);
@@ -299,8 +316,10 @@ pub fn store(
     at: usize,
     out: &mut [u8],
 )
-    requires { ⌜ Storable k (length (now points)) (length (now roots)) (length (now corners)) (length (now volumes)) (length (now ends)) (length (now lengths)) (length (now outline)) at (length (now out)) ⌝ }
-    ensures { λ _. ⌜ now (out .exit) ≡ putWords (now (out .entry)) at (blockWords k (now (points .entry)) (now (roots .entry)) (now (corners .entry)) (now (volumes .entry)) (now (ends .entry)) (now (lengths .entry)) (now (outline .entry))) ⌝ }
+    requires { ⌜ Storable k (length (now points)) (length (now roots)) (length (now corners)) (length (now volumes)) (length (now ends))
+        (length (now lengths)) (length (now outline)) at (length (now out)) ⌝ }
+    ensures { λ _. ⌜ now (out .exit) ≡ putWords (now (out .entry)) at (blockWords k (now (points .entry)) (now (roots .entry))
+        (now (corners .entry)) (now (volumes .entry)) (now (ends .entry)) (now (lengths .entry)) (now (outline .entry))) ⌝ }
 {
     let p = k.particles;
     let t = k.triangles;

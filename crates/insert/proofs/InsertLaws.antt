@@ -20,7 +20,7 @@ use Rattle.mesh.specs.Workers.{edgeOf}
 use Rattle.mesh.specs.declared.EdgeRow.{EdgeRow}
 use Rattle.mesh.proofs.Lists.{particles-length}
 use Rattle.mesh.specs.Widths.{pointColumns}
-use Rattle.opening.specs.Opened.{restIn}
+use Rattle.split_plan.specs.Opened.{restIn}
 use Rattle.rewire.proofs.ParticleLaws.{weighed-by}
 use Rattle.rewire.proofs.EdgeLaws.{edges-many}
 use Rattle.insert.specs.Plans.{planned}

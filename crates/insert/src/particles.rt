@@ -96,8 +96,8 @@ fn between(plan: Plan, m: f32, n: usize, damaged: usize, points: &[f32]) -> Part
     let b = row.b;
     let at = blade::lerp(place(a, points), place(b, points), plan.at);
     let rest = blade::lerp(
-        opening::rest_point(a, points),
-        opening::rest_point(b, points),
+        split_plan::rest_point(a, points),
+        split_plan::rest_point(b, points),
         plan.at,
     );
     let velocity = blade::lerp(velocity_of(a, points), velocity_of(b, points), plan.at);
@@ -115,7 +115,8 @@ fn between(plan: Plan, m: f32, n: usize, damaged: usize, points: &[f32]) -> Part
 // Appends a particle to the n that are there.
 fn append_particle(n: usize, row: ParticleRow, points: &mut [f32], roots: &mut [usize])
     requires { ⌜ ParticleRoom (n + 1) (length (now points)) (length (now roots)) ⌝ }
-    ensures { λ _. ⌜ particlesAt (n + 1) (now (points .exit)) (now (roots .exit)) ≡ particlesAt n (now (points .entry)) (now (roots .entry)) ++ (particleOf row ∷ []) ⌝ }
+    ensures { λ _. ⌜ particlesAt (n + 1) (now (points .exit)) (now (roots .exit))
+        ≡ particlesAt n (now (points .entry)) (now (roots .entry)) ++ (particleOf row ∷ []) ⌝ }
 {
     let p = points.len() / mesh::POINT_COLUMNS;
     let r = roots.len() / 2;

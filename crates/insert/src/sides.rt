@@ -20,7 +20,8 @@ fn grow_entry(
     outline: &mut [usize],
 ) -> Grown
     requires { ⌜ SideRoom m room (length (now outline)) × (i < m) ⌝ }
-    ensures { λ r. ⌜ EntryGrown (record { a = getD (now (outline .entry)) i 0; b = end }) (record { a = from; b = to } ∷ []) i m room (now (outline .entry)) (now (outline .exit)) r ⌝ }
+    ensures { λ r. ⌜ EntryGrown (record { a = getD (now (outline .entry)) i 0; b = end }) (record { a = from; b = to } ∷ []) i m room
+        (now (outline .entry)) (now (outline .exit)) r ⌝ }
 {
     if m == room {
         return Grown::Lacking;
@@ -44,7 +45,8 @@ fn insert_side(
     outline: &mut [usize],
 ) -> Grown
     requires { ⌜ SideRoom m room (length (now outline)) × (i < m) ⌝ }
-    ensures { λ r. ⌜ EntryGrown (shortened a b p q (sideRow (length (now (outline .entry)) / 2) (now (outline .entry)) i)) (appended a b p q (sideRow (length (now (outline .entry)) / 2) (now (outline .entry)) i)) i m room (now (outline .entry)) (now (outline .exit)) r ⌝ }
+    ensures { λ r. ⌜ EntryGrown (shortened a b p q (sideRow (length (now (outline .entry)) / 2) (now (outline .entry)) i)) (appended a b p q
+        (sideRow (length (now (outline .entry)) / 2) (now (outline .entry)) i)) i m room (now (outline .entry)) (now (outline .exit)) r ⌝ }
 {
     let o = outline.len() / 2;
     let x = outline[i];

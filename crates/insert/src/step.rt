@@ -19,8 +19,11 @@ pub fn insert(
     outline: &mut [usize],
     log: &mut [u32],
 ) -> Ran
-    requires { ⌜ StepRoom plan k room (length (now points)) (length (now roots)) (length (now ends)) (length (now lengths)) (length (now outline)) (length (now log)) ⌝ }
-    ensures { λ r. ⌜ InsertTold plan room k (now (points .entry)) (now (roots .entry)) (now (ends .entry)) (now (lengths .entry)) (now (outline .entry)) (now (log .entry)) (now (points .exit)) (now (roots .exit)) (now (ends .exit)) (now (lengths .exit)) (now (outline .exit)) (now (log .exit)) r ⌝ }
+    requires { ⌜ StepRoom plan k room (length (now points)) (length (now roots)) (length (now ends)) (length (now lengths))
+        (length (now outline)) (length (now log)) ⌝ }
+    ensures { λ r. ⌜ InsertTold plan room k (now (points .entry)) (now (roots .entry)) (now (ends .entry)) (now (lengths .entry))
+        (now (outline .entry)) (now (log .entry)) (now (points .exit)) (now (roots .exit)) (now (ends .exit)) (now (lengths .exit))
+        (now (outline .exit)) (now (log .exit)) r ⌝ }
 {
     let row = plan.row;
     let a = row.a;

@@ -6,7 +6,7 @@ use Rattle.lists.specs.Lists.{each}
 use Rattle.model.specs.Mesh.{Mesh}
 use Rattle.model.specs.Run.{Entry}
 use Rattle.mesh.specs.Log.{wordsOf, wordList, wordsIn}
-use Rattle.answer.specs.Answered.{frontOf}
+use Rattle.call_frame.specs.Answered.{frontOf}
 use Rattle.lineage.specs.History.{Called, History, HostStores, Afternoon}
 use Rattle.lineage.specs.History as H
 use Rattle.lineage.proofs.Histories.{afternoon}

@@ -12,9 +12,9 @@ use Rattle.mesh.specs.Given.{Given, Lent, meshOf, sizesFit}
 use Rattle.mesh.specs.Log.{worldOf, wordsOf, wordsIn}
 use Rattle.mesh.specs.Filled.{Filled}
 use Rattle.mesh.specs.declared.Counts.{Counts}
-use Rattle.answer.specs.declared.Answer.the-variants.{Done}
-use Rattle.answer.specs.Answered.{answerOf, countsOf, shown, frontOf}
-use Rattle.answer.proofs.Front.{front-told}
+use Rattle.call_frame.specs.declared.Answer.the-variants.{Done}
+use Rattle.call_frame.specs.Answered.{answerOf, countsOf, shown, frontOf}
+use Rattle.call_frame.proofs.Front.{front-told}
 use Rattle.filled.specs.Counts.{countsIn}
 use Rattle.filled.proofs.Held.{mesh-held}
 use Rattle.lineage.specs.History.{Called, cutting, cracking, splitting, removing}

@@ -15,8 +15,8 @@ use Rattle.mesh.specs.Given.{Given, Lent, meshOf, sizesFit, roomsOf, asRooms}
 use Rattle.mesh.specs.Filled.{lent}
 use Rattle.mesh.specs.declared.Counts.{Counts}
 use Rattle.mesh.specs.Widths.{pointColumns}
-use Rattle.answer.specs.declared.Answer.the-variants.{Done}
-use Rattle.answer.specs.Answered.{Answered, frontOf}
+use Rattle.call_frame.specs.declared.Answer.the-variants.{Done}
+use Rattle.call_frame.specs.Answered.{Answered, frontOf}
 use Rattle.lineage.specs.History.{Begins, Moved, Stored}
 
 -- the rooms of lent blocks

@@ -1,12 +1,13 @@
 -- The refusals asked one behind the other are those of the definitions: the first check that fails.
-use mathlib.Core.Path.{_≡_, refl}
+use mathlib.Core.Path.{_≡_, refl, sym, _∙_}
 use mathlib.Core.Bool.{Bool, true, false, not, _&&_}
+use borrow.Author.Tests.{not-true, not-false}
 use Rattle.lists.specs.Lists.{pick}
 use Rattle.model.specs.Mesh.{Mesh}
 use Rattle.model.specs.Valid.{numbersFit, indicesFit}
 use Rattle.model.specs.Calls.{refusal}
 use Rattle.mesh.specs.Given.{Given, meshOf, sizesFit}
-use Rattle.judge.specs.Checks.{thenCheck, firstFrom, faultOf}
+use Rattle.judge.specs.Checks.{thenCheck, firstFrom, faultIn, faultOf}
 
 -- the five tests of a call in their order, whatever they answer
 in-order :
@@ -42,3 +43,13 @@ three-in-order true true true = refl
 pub fault-refuses : (G : Given) → faultOf G ≡ refusal (sizesFit G) (meshOf G) true true
 unfolding faultOf firstFrom refusal
 fault-refuses G = three-in-order (sizesFit G) (numbersFit (meshOf G)) (indicesFit (meshOf G))
+
+-- sizes that fit leave the other two refusals
+pub fault-sized : (G : Given) (t : Bool) → t ≡ sizesFit G → not t ≡ false → faultIn (meshOf G) ≡ faultOf G
+unfolding faultIn faultOf firstFrom thenCheck
+fault-sized G t e h = rw (sym e ∙ not-false t h) refl
+
+-- others are refused first
+pub fault-unsized : (G : Given) (t : Bool) → t ≡ sizesFit G → not t ≡ true → 1 ≡ faultOf G
+unfolding faultOf firstFrom thenCheck
+fault-unsized G t e h = rw (sym e ∙ not-true t h) refl

@@ -4,6 +4,7 @@ use mathlib.Core.Bool.{Bool}
 use mathlib.Core.List.{List, [], _∷_}
 use lib.Dec.{eqb}
 use Rattle.lists.specs.Lists.{pick}
+use Rattle.model.specs.Mesh.{Mesh}
 use Rattle.model.specs.Valid.{numbersFit, indicesFit}
 use Rattle.mesh.specs.Given.{Given, meshOf, sizesFit}
 
@@ -28,3 +29,7 @@ firstFrom code (c ∷ l) = firstFrom (thenCheck code (c .ok) (c .number)) l
 -- 1 for sizes, 2 for numbers and flags, 3 for indices and roots, 0 for none of them
 unfoldable pub faultOf : Given → ℕ
 faultOf G = firstFrom 0 (check (sizesFit G) 1 ∷ check (numbersFit (meshOf G)) 2 ∷ check (indicesFit (meshOf G)) 3 ∷ [])
+
+-- the same of a mesh that has its sizes
+unfoldable pub faultIn : Mesh → ℕ
+faultIn M = firstFrom 0 (check (numbersFit M) 2 ∷ check (indicesFit M) 3 ∷ [])

@@ -1,14 +1,23 @@
 -- What the test of a block's rows tells, and what is known where nothing refused. Only contracts between these functions need this file. Definitions only.
-use Prim.Native.Nat.{ℕ}
+use Prim.Native.Nat.{ℕ, _+_}
 use mathlib.Core.Path.{_≡_}
-use mathlib.Core.Bool.{Bool, true}
+use mathlib.Core.Bool.{Bool, _&&_}
 use mathlib.Core.List.{List, [], _∷_}
+use lib.ListN.{getD}
 use lib.Ieee.{Float}
-use Rattle.lists.specs.Lists.{all}
+use Rattle.lists.specs.Lists.{all, upTo}
+use Rattle.float.specs.Ranges.{number?, notBelow0?}
 use Rattle.columns.specs.Block.{cell}
 use Rattle.model.specs.Valid.{named, rootOk, cornersOk, triangleOk}
 use Rattle.mesh.specs.At.{particlesAt, trianglesAt}
-use Rattle.mesh.specs.Given.{Given, sizesFit}
+
+-- p holds of the n values of s from place `at` on
+abbrev pub columnOk : {A : Type 0} → (A → Bool) → A → List A → ℕ → ℕ → Bool
+columnOk p d s at n = all (λ (k : ℕ). p (getD s (at + k) d)) (upTo n)
+
+-- a rest length: in range, and not below zero
+abbrev pub length? : Float → Bool
+length? x = number? x && notBelow0? x
 
 -- the ends in row k of a block with columns of R places name two different ones of n particles
 unfoldable pub pairOk : ℕ → ℕ → List ℕ → ℕ → Bool
@@ -25,7 +34,3 @@ CornersTold n t corners r = (volumes : List Float) → r ≡ all (cornersOk n) (
 -- r tells whether the numbers of t triangles fit, whatever stands in their other block
 abbrev pub VolumesTold : ℕ → List Float → Bool → Type 0
 VolumesTold t volumes r = (corners : List ℕ) → r ≡ all triangleOk (trianglesAt t corners volumes)
-
--- the sizes of an input fit, where nothing has refused it
-abbrev pub SizedUnless : ℕ → Given → Type 0
-SizedUnless code G = code ≡ 0 → sizesFit G ≡ true

@@ -1,16 +1,20 @@
-// The checks of an input: its rows tested one by one, and the refusals 1 to 3 in their order.
+// The checks of an input: its columns tested one by one, and the refusals 1 to 3 in their order.
 ghost use mathlib.Core.Path.{_≡_};
 ghost use mathlib.Core.Bool.{true};
-ghost use Prim.Native.Nat.{ℕ, _*_, _/_, _≤_};
+ghost use Prim.Native.Nat.{_*_, _/_, _≤_};
+ghost use mathlib.Core.List.{[]};
 ghost use lib.ListN.{length};
 ghost use Rattle.lists.specs.Lists.{all, upTo};
 ghost use Rattle.model.specs.Valid.{particleOk, edgeOk, numbersFit, indicesFit};
+ghost use Rattle.mesh.specs.Filled.{Fits};
 ghost use Rattle.mesh.specs.At.{particlesAt, edgesAt};
-ghost use Rattle.mesh.specs.Given.{given, meshOf, sizesFit};
-ghost use Rattle.judge.specs.Checks.{thenCheck, faultOf};
+ghost use Rattle.judge.specs.Checks.{faultIn, faultOf};
 ghost use Rattle.mesh.specs.Workers.{ParticleRoom, EdgeRoom};
-ghost use Rattle.judge.specs.Told.{RootsTold, CornersTold, VolumesTold, SizedUnless, pairOk};
+ghost use Rattle.judge.specs.Told.{RootsTold, CornersTold, VolumesTold, pairOk};
+ghost use Rattle.mesh.specs.Blocks.{meshBefore, givenBefore, blocksIn};
+use crate::ranges;
 use crate::tests;
+use mesh::Counts;
 
 // The numbers of the first n particles.
 fn particles_fit(n: usize, points: &[f32], roots: &[usize]) -> bool
@@ -19,25 +23,15 @@ fn particles_fit(n: usize, points: &[f32], roots: &[usize]) -> bool
 {
     let p = points.len() / mesh::POINT_COLUMNS;
     let q = roots.len() / 2;
-    let mut i: usize = 0;
-    while i < n {
-        let ok = tests::particle_ok(
-            points[i],
-            points[p + i],
-            points[2 * p + i],
-            points[3 * p + i],
-            points[4 * p + i],
-            points[5 * p + i],
-            points[6 * p + i],
-            points[7 * p + i],
-            roots[q + i],
-        );
-        if !ok {
-            return false;
-        }
-        i += 1;
-    }
-    true
+    let z = ranges::in_range(points, 0, n);
+    let z = tests::both(z, ranges::in_range(points, p, n));
+    let z = tests::both(z, ranges::in_range(points, 2 * p, n));
+    let z = tests::both(z, ranges::in_range(points, 3 * p, n));
+    let z = tests::both(z, ranges::in_range(points, 4 * p, n));
+    let z = tests::both(z, ranges::finite(points, 5 * p, n));
+    let z = tests::both(z, ranges::in_range(points, 6 * p, n));
+    let z = tests::both(z, ranges::in_range(points, 7 * p, n));
+    tests::both(z, ranges::flags(roots, q, n))
 }
 
 // The numbers of the first n triangles, whatever their corners.
@@ -46,15 +40,8 @@ fn triangles_fit(n: usize, volumes: &[f32]) -> bool
     ensures { λ r. ⌜ VolumesTold n (now (volumes .entry)) r ⌝ }
 {
     let w = volumes.len() / 2;
-    let mut i: usize = 0;
-    while i < n {
-        let ok = tests::triangle_ok(volumes[i], volumes[w + i]);
-        if !ok {
-            return false;
-        }
-        i += 1;
-    }
-    true
+    let z = ranges::volumes(volumes, 0, n);
+    tests::both(z, ranges::in_range(volumes, w, n))
 }
 
 // The numbers of the first n edges.
@@ -64,22 +51,12 @@ fn edges_fit(n: usize, ends: &[usize], lengths: &[f32]) -> bool
 {
     let e = ends.len() / 4;
     let l = lengths.len() / 4;
-    let mut i: usize = 0;
-    while i < n {
-        let ok = tests::edge_ok(
-            ends[2 * e + i],
-            ends[3 * e + i],
-            lengths[i],
-            lengths[l + i],
-            lengths[2 * l + i],
-            lengths[3 * l + i],
-        );
-        if !ok {
-            return false;
-        }
-        i += 1;
-    }
-    true
+    let z = ranges::flags(ends, 2 * e, n);
+    let z = tests::both(z, ranges::flags(ends, 3 * e, n));
+    let z = tests::both(z, ranges::lengths(lengths, 0, n));
+    let z = tests::both(z, ranges::lengths(lengths, l, n));
+    let z = tests::both(z, ranges::in_range(lengths, 2 * l, n));
+    tests::both(z, ranges::in_range(lengths, 3 * l, n))
 }
 
 // The roots of n particles.
@@ -87,14 +64,7 @@ fn roots_fit(n: usize, roots: &[usize]) -> bool
     requires { ⌜ n ≤ length (now roots) / 2 ⌝ }
     ensures { λ r. ⌜ RootsTold n (now (roots .entry)) r ⌝ }
 {
-    let mut i: usize = 0;
-    while i < n {
-        if roots[i] >= n {
-            return false;
-        }
-        i += 1;
-    }
-    true
+    ranges::below(roots, n, n)
 }
 
 // The corners of the first t triangles, among n particles.
@@ -103,15 +73,14 @@ fn corners_fit(n: usize, t: usize, corners: &[usize]) -> bool
     ensures { λ r. ⌜ CornersTold n t (now (corners .entry)) r ⌝ }
 {
     let c = corners.len() / 3;
+    let mut ok = true;
     let mut i: usize = 0;
     while i < t {
-        let ok = tests::three_named(n, corners[i], corners[c + i], corners[2 * c + i]);
-        if !ok {
-            return false;
-        }
+        let here = tests::three_named(n, corners[i], corners[c + i], corners[2 * c + i]);
+        ok = tests::both(ok, here);
         i += 1;
     }
-    true
+    ok
 }
 
 // The two ends in each of the first t rows of a block with columns of stride places, among n particles.
@@ -119,19 +88,19 @@ fn pairs_fit(n: usize, t: usize, stride: usize, s: &[usize]) -> bool
     requires { ⌜ (t ≤ stride) × (2 * stride ≤ length (now s)) ⌝ }
     ensures { λ r. ⌜ r ≡ all (pairOk n stride (now (s .entry))) (upTo t) ⌝ }
 {
+    let mut ok = true;
     let mut i: usize = 0;
     while i < t {
-        let ok = tests::two_named(n, s[i], s[stride + i]);
-        if !ok {
-            return false;
-        }
+        let here = tests::two_named(n, s[i], s[stride + i]);
+        ok = tests::both(ok, here);
         i += 1;
     }
-    true
+    ok
 }
 
-// The numbers and flags of an input whose sizes fit.
+// The numbers and flags of the first k rows of seven blocks.
 pub fn numbers_fit(
+    k: Counts,
     points: &[f32],
     roots: &[usize],
     corners: &[usize],
@@ -140,16 +109,17 @@ pub fn numbers_fit(
     lengths: &[f32],
     outline: &[usize],
 ) -> bool
-    requires { ⌜ sizesFit (given (now points) (now roots) (now corners) (now volumes) (now ends) (now lengths) (now outline)) ≡ true ⌝ }
-    ensures { λ r. ⌜ r ≡ numbersFit (meshOf (given (now (points .entry)) (now (roots .entry)) (now (corners .entry)) (now (volumes .entry)) (now (ends .entry)) (now (lengths .entry)) (now (outline .entry)))) ⌝ }
+    requires { ⌜ Fits k (blocksIn points roots corners volumes ends lengths outline) ⌝ }
+    ensures { λ r. ⌜ r ≡ numbersFit (meshBefore k points roots corners volumes ends lengths outline) ⌝ }
 {
-    let z = particles_fit(points.len() / mesh::POINT_COLUMNS, points, roots);
-    let z = tests::both(z, triangles_fit(corners.len() / 3, volumes));
-    tests::both(z, edges_fit(ends.len() / 4, ends, lengths))
+    let z = particles_fit(k.particles, points, roots);
+    let z = tests::both(z, triangles_fit(k.triangles, volumes));
+    tests::both(z, edges_fit(k.edges, ends, lengths))
 }
 
-// The indices and roots of an input whose sizes fit.
+// The indices and roots of the first k rows of seven blocks.
 pub fn indices_fit(
+    k: Counts,
     points: &[f32],
     roots: &[usize],
     corners: &[usize],
@@ -158,21 +128,19 @@ pub fn indices_fit(
     lengths: &[f32],
     outline: &[usize],
 ) -> bool
-    requires { ⌜ sizesFit (given (now points) (now roots) (now corners) (now volumes) (now ends) (now lengths) (now outline)) ≡ true ⌝ }
-    ensures { λ r. ⌜ r ≡ indicesFit (meshOf (given (now (points .entry)) (now (roots .entry)) (now (corners .entry)) (now (volumes .entry)) (now (ends .entry)) (now (lengths .entry)) (now (outline .entry)))) ⌝ }
+    requires { ⌜ Fits k (blocksIn points roots corners volumes ends lengths outline) ⌝ }
+    ensures { λ r. ⌜ r ≡ indicesFit (meshBefore k points roots corners volumes ends lengths outline) ⌝ }
 {
-    let n = points.len() / mesh::POINT_COLUMNS;
-    let e = ends.len() / 4;
-    let b = outline.len() / 2;
+    let n = k.particles;
     let z = roots_fit(n, roots);
-    let z = tests::both(z, corners_fit(n, corners.len() / 3, corners));
-    let z = tests::both(z, pairs_fit(n, e, e, ends));
-    tests::both(z, pairs_fit(n, b, b, outline))
+    let z = tests::both(z, corners_fit(n, k.triangles, corners));
+    let z = tests::both(z, pairs_fit(n, k.edges, ends.len() / 4, ends));
+    tests::both(z, pairs_fit(n, k.boundary, outline.len() / 2, outline))
 }
 
-// Refusal 2, behind an earlier refusal: the numbers of a mesh are asked for only where its sizes fit.
-pub fn judge_numbers(
-    code: usize,
+// The refusals 2 and 3 of the first k rows of seven blocks, 0 for none. The columns may be longer than the mesh.
+pub fn judge_sized(
+    k: Counts,
     points: &[f32],
     roots: &[usize],
     corners: &[usize],
@@ -181,34 +149,15 @@ pub fn judge_numbers(
     lengths: &[f32],
     outline: &[usize],
 ) -> usize
-    requires { ⌜ SizedUnless code (given (now points) (now roots) (now corners) (now volumes) (now ends) (now lengths) (now outline)) ⌝ }
-    ensures { λ r. ⌜ r ≡ thenCheck code (numbersFit (meshOf (given (now (points .entry)) (now (roots .entry)) (now (corners .entry)) (now (volumes .entry)) (now (ends .entry)) (now (lengths .entry)) (now (outline .entry))))) 2 ⌝ }
+    requires { ⌜ Fits k (blocksIn points roots corners volumes ends lengths outline) ⌝ }
+    ensures { λ r. ⌜ r ≡ faultIn (meshBefore k points roots corners volumes ends lengths outline) ⌝ }
 {
+    let ok = numbers_fit(k, points, roots, corners, volumes, ends, lengths, outline);
+    let code = tests::first(0, ok, 2);
     if code != 0 {
         return code;
     }
-    let ok = numbers_fit(points, roots, corners, volumes, ends, lengths, outline);
-    tests::first(code, ok, 2)
-}
-
-// Refusal 3, behind an earlier refusal.
-pub fn judge_indices(
-    code: usize,
-    points: &[f32],
-    roots: &[usize],
-    corners: &[usize],
-    volumes: &[f32],
-    ends: &[usize],
-    lengths: &[f32],
-    outline: &[usize],
-) -> usize
-    requires { ⌜ SizedUnless code (given (now points) (now roots) (now corners) (now volumes) (now ends) (now lengths) (now outline)) ⌝ }
-    ensures { λ r. ⌜ r ≡ thenCheck code (indicesFit (meshOf (given (now (points .entry)) (now (roots .entry)) (now (corners .entry)) (now (volumes .entry)) (now (ends .entry)) (now (lengths .entry)) (now (outline .entry))))) 3 ⌝ }
-{
-    if code != 0 {
-        return code;
-    }
-    let ok = indices_fit(points, roots, corners, volumes, ends, lengths, outline);
+    let ok = indices_fit(k, points, roots, corners, volumes, ends, lengths, outline);
     tests::first(code, ok, 3)
 }
 
@@ -222,7 +171,7 @@ pub fn judge(
     lengths: &[f32],
     outline: &[usize],
 ) -> usize
-    ensures { λ r. ⌜ r ≡ faultOf (given (now (points .entry)) (now (roots .entry)) (now (corners .entry)) (now (volumes .entry)) (now (ends .entry)) (now (lengths .entry)) (now (outline .entry))) ⌝ }
+    ensures { λ r. ⌜ r ≡ faultOf (givenBefore points roots corners volumes ends lengths outline) ⌝ }
 {
     let fit = tests::sizes_fit(
         points.len(),
@@ -233,7 +182,15 @@ pub fn judge(
         lengths.len(),
         outline.len(),
     );
-    let z = tests::first(0, fit, 1);
-    let z = judge_numbers(z, points, roots, corners, volumes, ends, lengths, outline);
-    judge_indices(z, points, roots, corners, volumes, ends, lengths, outline)
+    if !fit {
+        return 1;
+    }
+    let k = Counts {
+        particles: points.len() / mesh::POINT_COLUMNS,
+        triangles: corners.len() / 3,
+        edges: ends.len() / 4,
+        boundary: outline.len() / 2,
+        log: 0,
+    };
+    judge_sized(k, points, roots, corners, volumes, ends, lengths, outline)
 }

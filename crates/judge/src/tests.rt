@@ -1,11 +1,12 @@
-// The tests of one row by its values, and of one list by its sizes.
+// The tests of one number and of one row of indices, and of one list by its sizes.
 ghost use mathlib.Core.Path.{_≡_};
 ghost use mathlib.Core.Bool.{_&&_};
-ghost use Prim.Native.Nat.{ℕ, _/_, _%_};
+ghost use Prim.Native.Nat.{_/_, _%_};
 ghost use mathlib.Core.List.{[], _∷_};
-ghost use Rattle.model.specs.Valid.{particleOk, triangleOk, edgeOk, named};
+ghost use Rattle.model.specs.Valid.{named};
 ghost use Rattle.mesh.specs.Given.{listFits, lengthsFit};
 ghost use Rattle.judge.specs.Checks.{thenCheck};
+ghost use Rattle.judge.specs.Told.{length?};
 
 // Both tests hold.
 pub fn both(a: bool, b: bool) -> bool
@@ -58,58 +59,11 @@ pub fn sizes_fit(
     both(z, list_fits(2048, lo % 2, lo / 2, 0, lo / 2))
 }
 
-// The numbers and the flag of a particle. (Its root is no number of this test.)
-pub fn particle_ok(
-    x: f32,
-    y: f32,
-    rest_x: f32,
-    rest_y: f32,
-    mass: f32,
-    inv: f32,
-    velocity_x: f32,
-    velocity_y: f32,
-    damaged: usize,
-) -> bool
-    ensures { λ r. ⌜ r ≡ particleOk (record { x = x; y = y; rest-x = «rest_x»; rest-y = «rest_y»; mass = mass; inv = inv; velocity-x = «velocity_x»; velocity-y = «velocity_y»; root = 0; damaged = damaged }) ⌝ }
+// A rest length: in range, and not below zero.
+pub fn length_ok(x: f32) -> bool
+    ensures { λ r. ⌜ r ≡ length? x ⌝ }
 {
-    let z = both(float::range::in_range(x), float::range::in_range(y));
-    let z = both(z, float::range::in_range(rest_x));
-    let z = both(z, float::range::in_range(rest_y));
-    let z = both(z, float::range::in_range(mass));
-    let z = both(z, float::range::finite(inv));
-    let z = both(z, float::range::in_range(velocity_x));
-    let z = both(z, float::range::in_range(velocity_y));
-    both(z, damaged < 2)
-}
-
-// The numbers of a triangle.
-pub fn triangle_ok(volume: f32, stress: f32) -> bool
-    ensures { λ r. ⌜ r ≡ triangleOk (record { a = 0; b = 0; c = 0; volume = volume; stress = stress }) ⌝ }
-{
-    both(
-        float::range::volume_in_range(volume),
-        float::range::in_range(stress),
-    )
-}
-
-// The flags and the numbers of an edge.
-pub fn edge_ok(
-    structural: usize,
-    torn: usize,
-    rest: f32,
-    initial: f32,
-    impulse: f32,
-    stress: f32,
-) -> bool
-    ensures { λ r. ⌜ r ≡ edgeOk (record { a = 0; b = 0; structural = structural; torn = torn; rest = rest; initial = initial; impulse = impulse; stress = stress }) ⌝ }
-{
-    let z = both(structural < 2, torn < 2);
-    let z = both(z, float::range::in_range(rest));
-    let z = both(z, float::range::in_range(initial));
-    let z = both(z, float::range::not_below_zero(rest));
-    let z = both(z, float::range::not_below_zero(initial));
-    let z = both(z, float::range::in_range(impulse));
-    both(z, float::range::in_range(stress))
+    both(float::range::in_range(x), float::range::not_below_zero(x))
 }
 
 // Two different ones of n particles.

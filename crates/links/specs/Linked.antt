@@ -7,6 +7,9 @@ use Rattle.columns.specs.Block.{cell}
 use Rattle.model.specs.Elements.{Kind, Triangles}
 use Rattle.links.specs.Links.{LinksOf}
 use Rattle.links.specs.Rooms.{CornersApart}
+use denote.Ref.{now}
+use Rattle.mesh.specs.declared.Counts.{Counts}
+use Rattle.mesh.specs.Blocks.{IndicesIn}
 
 -- where the elements are triangles, the table is that of the first t triangles of the block
 pub record Linked (K : Kind) (t : ℕ) (corners links : List ℕ) : Type 0 where
@@ -19,3 +22,7 @@ pub record Linkable (K : Kind) (t : ℕ) (corners : List ℕ) (lt : ℕ) : Type 
   pub rows : t ≤ length corners / 3
   pub long : K ≡ Triangles → 4096 ≤ lt
   pub apart : K ≡ Triangles → CornersApart 1024 3 t (cell 0 (length corners / 3) corners)
+
+-- `Linked` of a block and a table, as a contract names them
+abbrev pub LinkedIn : Kind → Counts → IndicesIn → IndicesIn → Type 0
+LinkedIn K k corners links = Linked K (k .triangles) (now corners) (now links)

@@ -143,8 +143,10 @@ pub fn fan_linked(
     verts: &mut [usize],
     measures: &mut [f32],
 ) -> usize
-    requires { ⌜ FanLinked v heads span t (now corners) (length (now volumes)) (now table) (length (now numbers)) (length (now verts)) (length (now measures)) ⌝ }
-    ensures { λ r. ⌜ Tabled 3 (holding v (trianglesFrom 0 (trianglesAt t (now (corners .entry)) (now (volumes .entry))))) r (now (numbers .exit)) (now (verts .exit)) (now (measures .exit)) ⌝ }
+    requires { ⌜ FanLinked v heads span t (now corners) (length (now volumes)) (now table) (length (now numbers)) (length (now verts))
+        (length (now measures)) ⌝ }
+    ensures { λ r. ⌜ Tabled 3 (holding v (trianglesFrom 0 (trianglesAt t (now (corners .entry)) (now (volumes .entry))))) r
+        (now (numbers .exit)) (now (verts .exit)) (now (measures .exit)) ⌝ }
 {
     let c = corners.len() / 3;
     let mut r: usize = 0;
@@ -180,7 +182,8 @@ pub fn split_links(
     table: &mut [u16],
 )
     requires { ⌜ SplitRoom v before heads k span rows n (now numbers) (now groups) (now corners) (now table) ⌝ }
-    ensures { λ _. ⌜ LinksOf heads k span n (cornerAfter v before (now (numbers .entry)) (now (groups .entry)) (cell 0 rows (now (corners .entry)))) (now (table .exit)) ⌝ }
+    ensures { λ _. ⌜ LinksOf heads k span n (cornerAfter v before (now (numbers .entry)) (now (groups .entry))
+        (cell 0 rows (now (corners .entry)))) (now (table .exit)) ⌝ }
 {
     table[v] = 0;
     let mut i = numbers.len();

@@ -111,7 +111,8 @@ fn put_entry(
     i: usize,
 ) -> Written
     requires { ⌜ Listable (6 * i + 6) (length (now log)) count ⌝ }
-    ensures { λ r. ⌜ Appends (entryLine (now (word .entry)) kind count (entryRow (now (log .entry)) i)) (now (out .entry)) at (now (out .exit)) r ⌝ }
+    ensures { λ r. ⌜ Appends (entryLine (now (word .entry)) kind count (entryRow (now (log .entry)) i)) (now (out .entry)) at
+        (now (out .exit)) r ⌝ }
 {
     let place = 6 * i;
     if log[place] != kind {
@@ -133,7 +134,8 @@ fn put_entries(
     log: &[u32],
 ) -> Written
     requires { ⌜ Listable (6 * entries) (length (now log)) count ⌝ }
-    ensures { λ r. ⌜ Appends (each (entryLine (now (word .entry)) kind count) (logAt entries (now (log .entry)))) (now (out .entry)) at (now (out .exit)) r ⌝ }
+    ensures { λ r. ⌜ Appends (each (entryLine (now (word .entry)) kind count) (logAt entries (now (log .entry)))) (now (out .entry)) at
+        (now (out .exit)) r ⌝ }
 {
     let mut at = at;
     let mut i: usize = 0;
@@ -177,7 +179,8 @@ pub fn write_listing(
     out: &mut [u8],
 ) -> Written
     requires { ⌜ 6 * entries ≤ length (now log) ⌝ }
-    ensures { λ r. ⌜ Wrote (listingBytes replaced (logAt entries (now (log .entry))) particles pieces) (length (now (out .entry))) (now (out .exit)) r ⌝ }
+    ensures { λ r. ⌜ Wrote (listingBytes replaced (logAt entries (now (log .entry))) particles pieces) (length (now (out .entry)))
+        (now (out .exit)) r ⌝ }
 {
     let edition = [1usize];
     let at = put_line(out, Written::Bytes(0), b"tear", &edition);

@@ -1,6 +1,6 @@
 -- Laws of marks: one more mark, the candidates of a cut, the ends of the splits of a log, and the pinched. Assumes nothing.
 use mathlib.Core.Path.{_≡_, refl, sym, _∙_, ap, ap₂, subst}
-use mathlib.Core.Bool.{Bool, true, false, not, _||_}
+use mathlib.Core.Bool.{Bool, true, false, not, _&&_, _||_, true≢false}
 use mathlib.Core.Logic.{⊎-elim}
 use mathlib.Core.List.{List, [], _∷_, _++_, map}
 use Prim.Native.Nat.{ℕ, zero, suc, _+_, _*_, _-_, _/_, _<_, _≤_, zero-le, suc-le-suc}
@@ -8,13 +8,17 @@ use native.Mathlib.Omega.{arith}
 use borrow.Author.Tests.{eq-eqb, ne-eqb}
 use lib.Dec.{eqb}
 use lib.ListN.{length, getD, set, length-replicate, getD-replicate}
-use lib.Ieee.{Float, nan}
+use lib.Ieee.{Float, nan, lt}
+use Rattle.float.specs.Numbers.{times, zero32}
+use Rattle.float.proofs.Picks.{yes, or-yes-1}
 use Rattle.lists.specs.Lists.{pick, stands, any, each, pairs, tab, empty, padded}
 use Rattle.lists.proofs.Stores.{stored, tab-length, tab-at}
 use Rattle.lists.proofs.Sifts.{stands-append, any-made}
 use Rattle.lists.proofs.Steps.{any-step, each-step}
 use Rattle.blade.specs.declared.Point.{Point}
 use Rattle.blade.specs.declared.Hit.{Hit}
+use Rattle.blade.specs.declared.Hit.the-variants.{Miss}
+use Rattle.blade.specs.Blade.{offsetOf, bladeHit}
 use Rattle.columns.specs.Block.{cell}
 use Rattle.columns.proofs.Cells.{col-0, col-1}
 use Rattle.model.specs.Mesh.{Particle, Triangle, Mesh, blank}
@@ -26,7 +30,9 @@ use Rattle.mesh.specs.declared.Counts.{Counts}
 use Rattle.mesh.specs.Log.{wordsOf, entryRow, logAt}
 use Rattle.mesh.specs.Widths.{pointColumns}
 use Rattle.work.specs.Places.{CornersIn}
-use Rattle.marks.specs.Marking.{Marks, MarkedBy, placeIn, PlacesIn, metIn, metOf, candidateEnds, CandidatesMarked, splitWords, endsIn, NearMarked, SplitFound, marked?, nearRow, pinchedEnds, PinchedMarked}
+use Rattle.marks.specs.declared.Rule.{Rule}
+use Rattle.marks.specs.declared.Rule.the-variants.{Rounded}
+use Rattle.marks.specs.Marking.{Marks, MarkedBy, alikeBy, BesideTold, bladeBy, placeIn, PlacesIn, metIn, metOf, candidateEnds, CandidatesMarked, splitWords, endsIn, NearMarked, SplitFound, marked?, nearRow, pinchedEnds, PinchedMarked}
 
 -- ---- one more mark
 
@@ -319,3 +325,46 @@ module _ (near : List ℕ) (x y z : ℕ) where
   pub three-far : (m : List ℕ) → any (marked? near) (x ∷ y ∷ z ∷ []) ≡ false → MarkedBy (nearRow near (x ∷ y ∷ z ∷ [])) m m
   unfolding nearRow
   three-far m e = subst (λ (s : Bool). MarkedBy (pick s (x ∷ y ∷ z ∷ []) []) m m) (sym e) (marked-none m)
+
+-- ---- three particles on one side of the blade
+
+-- where the offsets of two points have a product above 0, the rounded test misses
+side-missed : (b0 b1 p q : Point) → lt zero32 (times (offsetOf b0 b1 p) (offsetOf b0 b1 q)) ≡ true → bladeHit b0 b1 p q ≡ Miss
+unfolding bladeHit
+side-missed b0 b1 p q h = sym (yes _ _ _ (or-yes-1 _ h))
+
+alike-all : (x y z : Bool) → (x && y && z) ≡ true → (x ≡ true) × (y ≡ true) × (z ≡ true)
+alike-all true true true e = (refl, refl, refl)
+alike-all true true false e = absurd (true≢false (sym e))
+alike-all true false z e = absurd (true≢false (sym e))
+alike-all false y z e = absurd (true≢false (sym e))
+
+alike-offsets : (x y z : Float) → alikeBy x y z ≡ true → (lt zero32 (times x y) ≡ true) × (lt zero32 (times x z) ≡ true) × (lt zero32 (times y z) ≡ true)
+alike-offsets x y z e = alike-all (lt zero32 (times x y)) (lt zero32 (times x z)) (lt zero32 (times y z)) e
+
+-- by the rounded rule, and where nothing is told
+pub beside-rounded : (r : Rule) (b0 b1 : Point) (points : List Float) (x y z : ℕ) (p q s : Point) (dx dy dz : Float) (b : Bool) → r ≡ Rounded → p ≡ placeIn points x → q ≡ placeIn points y → s ≡ placeIn points z
+    → dx ≡ offsetOf b0 b1 p → dy ≡ offsetOf b0 b1 q → dz ≡ offsetOf b0 b1 s → b ≡ alikeBy dx dy dz → BesideTold (bladeBy r b0 b1) points x y z b
+beside-rounded r b0 b1 points x y z p q s dx dy dz b er ep eq es ex ey ez eb =
+    let fx = ex ∙ ap (offsetOf b0 b1) ep in
+    let fy = ey ∙ ap (offsetOf b0 b1) eq in
+    let fz = ez ∙ ap (offsetOf b0 b1) es in
+    let told : BesideTold (bladeBy Rounded b0 b1) points x y z (alikeBy (offsetOf b0 b1 (placeIn points x)) (offsetOf b0 b1 (placeIn points y)) (offsetOf b0 b1 (placeIn points z))) =
+    record {
+      first = λ e. side-missed b0 b1 _ _ (alike-offsets (offsetOf b0 b1 (placeIn points x)) (offsetOf b0 b1 (placeIn points y)) (offsetOf b0 b1 (placeIn points z)) e .0);
+      second = λ e. side-missed b0 b1 _ _ (alike-offsets (offsetOf b0 b1 (placeIn points x)) (offsetOf b0 b1 (placeIn points y)) (offsetOf b0 b1 (placeIn points z)) e .1);
+      third = λ e. side-missed b0 b1 _ _ (alike-offsets (offsetOf b0 b1 (placeIn points x)) (offsetOf b0 b1 (placeIn points y)) (offsetOf b0 b1 (placeIn points z)) e .2);
+    } in
+    subst (λ (c : Bool). BesideTold (bladeBy r b0 b1) points x y z c) (sym (eb ∙ (λ i. alikeBy (fx i) (fy i) (fz i))))
+    (subst (λ (k : Rule). BesideTold (bladeBy k b0 b1) points x y z (alikeBy (offsetOf b0 b1 (placeIn points x)) (offsetOf b0 b1 (placeIn points y)) (offsetOf b0 b1 (placeIn points z)))) (sym er) told)
+
+pub beside-untold : (B : Blade) (points : List Float) (x y z : ℕ) → BesideTold B points x y z false
+beside-untold B points x y z = record { first = λ e. absurd (true≢false (sym e)); second = λ e. absurd (true≢false (sym e)); third = λ e. absurd (true≢false (sym e)) }
+
+-- a triangle that the blade passes by marks nothing
+pub beside-unmarked : (B : Blade) (points : List Float) (x y z : ℕ) (b : Bool) (m : List ℕ) → BesideTold B points x y z b → b ≡ true → MarkedBy (metOf B points (x ∷ y ∷ z ∷ [])) m m
+beside-unmarked B points x y z b m T e =
+    sides-met B points x y z m m m m refl refl refl
+    (pair-miss B points x y _ _ _ m refl refl refl (ap hit? (T .first e)))
+    (pair-miss B points x z _ _ _ m refl refl refl (ap hit? (T .second e)))
+    (pair-miss B points y z _ _ _ m refl refl refl (ap hit? (T .third e)))

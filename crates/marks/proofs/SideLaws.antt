@@ -22,8 +22,8 @@ use Rattle.model.specs.Elements.{Kind, Triangles, Straps, Nothing, Element, cor
 use Rattle.model.specs.Cut.{Blade, offset, leftOf, keptSide, bladeSides}
 use Rattle.elements.specs.Table.{Cornered}
 use Rattle.elements.proofs.Tables.{noElement, row-is}
-use Rattle.opening.specs.Opened.{CornersBelow}
-use Rattle.opening.proofs.Towards.{row-below}
+use Rattle.split_plan.specs.Opened.{CornersBelow}
+use Rattle.split_plan.proofs.Towards.{row-below}
 use Rattle.marks.specs.Marking.{placeIn, PlacesIn, bladeBy, bladeFrom}
 use Rattle.marks.specs.declared.Rule.{Rule}
 use Rattle.marks.specs.declared.Rule.the-variants.{Rounded, Signs}

@@ -1,14 +1,16 @@
 -- Marks of particles: the candidates of a cut, the particles near a split, and the pinched. Only contracts between workers need this file. Definitions only.
 use Prim.Native.Nat.{ℕ, _/_, _<_, _≤_}
 use mathlib.Core.Path.{_≡_}
-use mathlib.Core.Bool.{Bool, not}
+use mathlib.Core.Bool.{Bool, true, not, _&&_}
 use mathlib.Core.List.{List, [], _∷_, map}
 use lib.ListN.{length, getD}
 use lib.Dec.{eqb}
-use lib.Ieee.{Float, nan}
+use lib.Ieee.{Float, nan, lt}
+use Rattle.float.specs.Numbers.{times, zero32}
 use Rattle.lists.specs.Lists.{pick, stands, any, each, pairs, empty}
 use Rattle.blade.specs.declared.Point.{Point}
 use Rattle.blade.specs.declared.Hit.{Hit}
+use Rattle.blade.specs.declared.Hit.the-variants.{Miss}
 use Rattle.columns.specs.Block.{cell}
 use Rattle.model.specs.Mesh.{Mesh}
 use Rattle.model.specs.Elements.{Triangles, Element, placeOf, elementsOf}
@@ -59,6 +61,16 @@ bladeFrom b0 b1 = bladeBy Rounded b0 b1
 -- the blade test on a pair of particles, by the block of points
 abbrev pub hitIn : Blade → List Float → ℕ × ℕ → Hit
 hitIn B points xy = hitBy (B .rule) (B .line .from) (B .line .to) (placeIn points (xy .0)) (placeIn points (xy .1))
+
+-- is the product of each two of three offsets above 0
+abbrev pub alikeBy : Float → Float → Float → Bool
+alikeBy x y z = lt zero32 (times x y) && lt zero32 (times x z) && lt zero32 (times y z)
+
+-- what is told of three particles: if true, the blade meets no side between them
+pub record BesideTold (B : Blade) (points : List Float) (x y z : ℕ) (b : Bool) : Type 0 where
+  pub first : b ≡ true → hitIn B points (x, y) ≡ Miss
+  pub second : b ≡ true → hitIn B points (x, z) ≡ Miss
+  pub third : b ≡ true → hitIn B points (y, z) ≡ Miss
 
 -- the ends of a pair of corners that the blade meets, by the block of points
 unfoldable pub metIn : Blade → List Float → ℕ × ℕ → List ℕ

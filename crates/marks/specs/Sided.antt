@@ -13,7 +13,7 @@ use Rattle.model.specs.Mesh.{Mesh}
 use Rattle.model.specs.Elements.{Kind, cornersPer, fanOf}
 use Rattle.model.specs.Cut.{Blade, offset, bladeSides}
 use Rattle.elements.specs.Table.{Cornered}
-use Rattle.opening.specs.Opened.{CornersBelow}
+use Rattle.split_plan.specs.Opened.{CornersBelow}
 use Rattle.marks.specs.Marking.{placeIn, PlacesIn}
 use Rattle.mesh.specs.Widths.{pointColumns}
 

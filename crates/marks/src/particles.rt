@@ -5,7 +5,7 @@ ghost use Prim.Native.Nat.{_/_, _<_, _≤_};
 ghost use lib.ListN.{length};
 ghost use Rattle.lists.specs.Lists.{any};
 ghost use Rattle.model.specs.Cut.{hitBy};
-ghost use Rattle.marks.specs.Marking.{MarkedBy, placeIn, ruleIs, bladeBy, metIn, metOf, CandidateRoom, CandidatesMarked, NearMarked, SplitFound, marked?, nearRow, PinchedRoom, PinchedMarked};
+ghost use Rattle.marks.specs.Marking.{MarkedBy, alikeBy, BesideTold, placeIn, ruleIs, bladeBy, metIn, metOf, CandidateRoom, CandidatesMarked, NearMarked, SplitFound, marked?, nearRow, PinchedRoom, PinchedMarked};
 ghost use Rattle.mesh.specs.Widths.{pointColumns};
 use crate::Rule;
 use blade::Hit;
@@ -43,6 +43,44 @@ pub fn tested(rule: Rule, b0: Point, b1: Point, p: Point, q: Point) -> Hit
     }
 }
 
+// Is the product of each two above 0?
+fn alike(x: f32, y: f32, z: f32) -> bool
+    ensures { λ r. ⌜ r ≡ alikeBy x y z ⌝ }
+{
+    if x * y > 0.0 {
+        if x * z > 0.0 {
+            return y * z > 0.0;
+        }
+    }
+    false
+}
+
+// Do x, y and z lie strictly on one side of the blade's line, so that it meets no side between them? The products of their offsets are those of the blade test.
+// In edition 2 each side has its own test.
+pub fn beside(
+    rule: Rule,
+    b0: Point,
+    b1: Point,
+    x: usize,
+    y: usize,
+    z: usize,
+    points: &[f32],
+) -> bool
+    requires { ⌜ (x < length (now points) / pointColumns) × (y < length (now points) / pointColumns)
+        × (z < length (now points) / pointColumns) ⌝ }
+    ensures { λ r. ⌜ BesideTold (bladeBy rule b0 b1) (now (points .entry)) x y z r ⌝ }
+{
+    match rule {
+        Rule::Rounded => {
+            let dx = blade::offset(b0, b1, place(x, points));
+            let dy = blade::offset(b0, b1, place(y, points));
+            let dz = blade::offset(b0, b1, place(z, points));
+            alike(dx, dy, dz)
+        }
+        Rule::Signs => false,
+    }
+}
+
 // Marks x and y, if the blade meets the side from x to y.
 fn mark_pair(
     rule: Rule,
@@ -75,9 +113,14 @@ fn mark_sides(
     points: &[f32],
     marks: &mut [usize],
 )
-    requires { ⌜ (x < length (now points) / pointColumns) × (y < length (now points) / pointColumns) × (z < length (now points) / pointColumns) ⌝ }
-    ensures { λ _. ⌜ MarkedBy (metOf (bladeBy rule b0 b1) (now (points .entry)) (x ∷ y ∷ z ∷ [])) (now (marks .entry)) (now (marks .exit)) ⌝ }
+    requires { ⌜ (x < length (now points) / pointColumns) × (y < length (now points) / pointColumns)
+        × (z < length (now points) / pointColumns) ⌝ }
+    ensures { λ _. ⌜ MarkedBy (metOf (bladeBy rule b0 b1) (now (points .entry)) (x ∷ y ∷ z ∷ [])) (now (marks .entry))
+        (now (marks .exit)) ⌝ }
 {
+    if beside(rule, b0, b1, x, y, z, points) {
+        return;
+    }
     mark_pair(rule, b0, b1, x, y, points, marks);
     mark_pair(rule, b0, b1, x, z, points, marks);
     mark_pair(rule, b0, b1, y, z, points, marks);

@@ -19,7 +19,8 @@ struct Ends {
 // Puts the mended sheet and what is printed at the front of the lent bytes, which always hold them.
 fn mend_all(broken: &[u8], mended: &mut [u8], text: &mut [u8]) -> Ends
     requires { ⌜ (17292 ≤ length (now mended)) × (131072 ≤ length (now text)) ⌝ }
-    ensures { λ r. ⌜ Counts (r .sheet) (now (mended .exit)) × Counts (r .text) (now (text .exit)) × Printed (now (broken .entry)) (now (mended .exit)) (now (text .exit)) r ⌝ }
+    ensures { λ r. ⌜ Counts (r .sheet) (now (mended .exit)) × Counts (r .text) (now (text .exit))
+        × Printed (now (broken .entry)) (now (mended .exit)) (now (text .exit)) r ⌝ }
 {
     let told = mender::mend_sheet(broken, mended, text);
     match told {

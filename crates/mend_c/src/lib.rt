@@ -6,7 +6,8 @@ use mender::Mended;
 
 // Mends a broken sheet: 0, with the numbers of bytes of the mended sheet and of the text as two words; or a refusal's number, with every lent byte 0.
 pub fn mend(broken: &[u8], mended: &mut [u8], text: &mut [u8], counts: &mut [u8]) -> u32
-    ensures { λ r. ⌜ MendReplied (now (broken .entry)) (length (now (mended .entry))) (length (now (text .entry))) (length (now (counts .entry))) r (now (mended .exit)) (now (text .exit)) (now (counts .exit)) ⌝ }
+    ensures { λ r. ⌜ MendReplied (now (broken .entry)) (length (now (mended .entry))) (length (now (text .entry))) (length
+        (now (counts .entry))) r (now (mended .exit)) (now (text .exit)) (now (counts .exit)) ⌝ }
 {
     let told = mender::mend_sheet(broken, mended, text);
     match told {

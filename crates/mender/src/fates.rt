@@ -77,7 +77,8 @@ fn mark_boundary(
     mask: &mut [usize],
 )
     requires { ⌜ MarkIn (now s) at 20 (length (now mask)) × (length (now mask) ≤ length (now a)) × (length (now mask) ≤ length (now b)) ⌝ }
-    ensures { λ _. ⌜ now (mask .exit) ≡ boundaryFrom p [] (readRows boundaryW (length (now (mask .entry))) (drop at (bitsOf (now (s .entry))))) ⌝ }
+    ensures { λ _. ⌜ now (mask .exit) ≡ boundaryFrom p [] (readRows boundaryW (length (now (mask .entry)))
+        (drop at (bitsOf (now (s .entry))))) ⌝ }
 {
     let n = mask.len();
     mark_list(s, at, 20, false, p, mask);

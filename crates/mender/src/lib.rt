@@ -28,7 +28,8 @@ fn mend_marked(
     text: &mut [u8],
 ) -> Mended
     requires { ⌜ MendIn (now s) (now triangles) (now edges) (now boundary) (now mended) ⌝ }
-    ensures { λ r. ⌜ MendDone (now (s .entry)) (length (now (mended .entry))) (length (now (text .entry))) (now (mended .exit)) (now (text .exit)) r ⌝ }
+    ensures { λ r. ⌜ MendDone (now (s .entry)) (length (now (mended .entry))) (length (now (text .entry))) (now (mended .exit))
+        (now (text .exit)) r ⌝ }
 {
     let c = edition::typed::counts_in(s);
     let kept = sheet::Counts {
@@ -61,8 +62,10 @@ fn mend_lists(
     mended: &mut [u8],
     text: &mut [u8],
 ) -> Mended
-    requires { ⌜ LentMarks (now s) (length (now triangles)) (length (now edges)) (length (now boundary)) × (bitsOf (now mended) ≡ replicate (8 * length (now mended)) 0) ⌝ }
-    ensures { λ r. ⌜ MendDone (now (s .entry)) (length (now (mended .entry))) (length (now (text .entry))) (now (mended .exit)) (now (text .exit)) r ⌝ }
+    requires { ⌜ LentMarks (now s) (length (now triangles)) (length (now edges)) (length (now boundary)) × (bitsOf (now mended)
+        ≡ replicate (8 * length (now mended)) 0) ⌝ }
+    ensures { λ r. ⌜ MendDone (now (s .entry)) (length (now (mended .entry))) (length (now (text .entry))) (now (mended .exit))
+        (now (text .exit)) r ⌝ }
 {
     crate::fates::mark_all(s, triangles, edges, boundary);
     mend_marked(s, triangles, edges, boundary, mended, text)
@@ -71,7 +74,8 @@ fn mend_lists(
 // Mends bytes that are not refused, into bytes that are 0.
 fn mend_held(s: &[u8], mended: &mut [u8], text: &mut [u8]) -> Mended
     requires { ⌜ Mendable (now s) × (bitsOf (now mended) ≡ replicate (8 * length (now mended)) 0) ⌝ }
-    ensures { λ r. ⌜ MendDone (now (s .entry)) (length (now (mended .entry))) (length (now (text .entry))) (now (mended .exit)) (now (text .exit)) r ⌝ }
+    ensures { λ r. ⌜ MendDone (now (s .entry)) (length (now (mended .entry))) (length (now (text .entry))) (now (mended .exit))
+        (now (text .exit)) r ⌝ }
 {
     let c = edition::typed::counts_in(s);
     let t = c.triangles;
@@ -92,7 +96,8 @@ fn mend_held(s: &[u8], mended: &mut [u8], text: &mut [u8]) -> Mended
 
 // Mends a broken sheet: the mended sheet and what is said, each with 0 behind it, or 0 in every lent byte.
 pub fn mend_sheet(s: &[u8], mended: &mut [u8], text: &mut [u8]) -> Mended
-    ensures { λ r. ⌜ MendDone (now (s .entry)) (length (now (mended .entry))) (length (now (text .entry))) (now (mended .exit)) (now (text .exit)) r ⌝ }
+    ensures { λ r. ⌜ MendDone (now (s .entry)) (length (now (mended .entry))) (length (now (text .entry))) (now (mended .exit))
+        (now (text .exit)) r ⌝ }
 {
     bits::blank(mended);
     let r = crate::fates::refusal(s);

@@ -91,7 +91,8 @@ fn put_header(out: &mut [u8], second: bool, c: Counts)
 // Writes the blade at bit `at` to bit `to` of other bytes.
 fn put_blade(s: &[u8], at: usize, out: &mut [u8], to: usize)
     requires { ⌜ FourIn (now s) at 11 11 × FourIn (now out) to 11 11 ⌝ }
-    ensures { λ _. ⌜ bitsOf (now (out .exit)) ≡ sets (bitsOf (now (out .entry))) to (pack bladeW (unpack bladeW (drop at (bitsOf (now (s .entry)))))) ⌝ }
+    ensures { λ _. ⌜ bitsOf (now (out .exit)) ≡ sets (bitsOf (now (out .entry))) to (pack bladeW
+        (unpack bladeW (drop at (bitsOf (now (s .entry)))))) ⌝ }
 {
     let a = bits::field(s, at, 11);
     let b = bits::field(s, at + 11, 11);
@@ -103,7 +104,8 @@ fn put_blade(s: &[u8], at: usize, out: &mut [u8], to: usize)
 // Writes the mended sheet into bytes that are 0, by the fates of its three lists.
 pub fn put_sheet(s: &[u8], triangles: &[usize], edges: &[usize], boundary: &[usize], out: &mut [u8])
     requires { ⌜ PutIn (now s) (now triangles) (now edges) (now boundary) (now out) ⌝ }
-    ensures { λ _. ⌜ bitsOf (now (out .exit)) ≡ padded (8 * length (now (out .entry))) 0 (bitsAs (second (bitsOf (now (s .entry)))) (mendedSheet (typedOf (bitsOf (now (s .entry)))))) ⌝ }
+    ensures { λ _. ⌜ bitsOf (now (out .exit)) ≡ padded (8 * length (now (out .entry))) 0 (bitsAs (second (bitsOf (now (s .entry))))
+        (mendedSheet (typedOf (bitsOf (now (s .entry)))))) ⌝ }
 {
     let c = edition::typed::counts_in(s);
     let p = c.particles;

@@ -1,5 +1,5 @@
 -- What stores in blocks do to the lists that the blocks are read as.
-use Prim.Native.Nat.{ℕ, _+_, _*_, _/_, _≤_, _<_}
+use Prim.Native.Nat.{ℕ, _+_, _-_, _*_, _/_, _≤_, _<_}
 use native.Mathlib.Omega.{arith}
 use native.Mathlib.Decide.{ℕ-discrete}
 use mathlib.Core.Path.{_≡_, refl, sym, ap, _∙_}
@@ -15,15 +15,17 @@ use Rattle.lists.specs.Labels.{replaced}
 use Rattle.model.specs.Mesh.{Particle, Triangle, Edge, Side, Mesh, blank}
 use Rattle.mesh.specs.Log.{Words, World, logAt}
 use Rattle.model.specs.Split.{retargeted, onlyAt}
-use Rattle.mesh.specs.Workers.{withCopy, edgeOf, Removed, Mapped}
+use Rattle.mesh.specs.Workers.{withCopy, edgeOf, EdgeRoom, Removed, Mapped}
 use Rattle.mesh.specs.At.{particleRow, triangleRow, edgeRow, particlesAt, trianglesAt, edgesAt}
 use Rattle.mesh.specs.declared.EdgeRow.{EdgeRow}
 use Rattle.mesh.specs.Widths.{pointColumns}
 use Rattle.mesh.proofs.Columns.{by-columns, by-columns-but}
 use Rattle.columns.specs.Block.{cell}
-use Rattle.columns.specs.Block.{BlockKept}
+use Rattle.columns.specs.Block.{BlockShifted}
+use Rattle.columns.specs.View.{NextMarked}
 use Rattle.columns.specs.Block.{RowCopied}
-use Rattle.columns.proofs.Rows.{tab-length, tab-at, tab-ext, rows-push, rows-keep, rows-map}
+use Rattle.columns.proofs.Rows.{tab-length, tab-at, tab-ext, rows-push, rows-map}
+use Rattle.columns.proofs.Keep.{RowsMoved, Compacting, compact-start, compact-more, compact-done}
 use Rattle.columns.proofs.Cells.{store-same, store-row, store-col}
 
 -- ---- an append of a copy
@@ -72,29 +74,68 @@ pushed v n m w S S₁ T T₁ here hp hr rc rt ls lt =
     rw (e, lt) (pushed-rows v n (length S / pointColumns) (length T / 2) m w S S₁ T T₁ here (omega arith) (omega arith) (omega arith) rc rt)
 
 -- ---- a compaction
--- the edges that the mask leaves
-pub removed :
-    (mask : List ℕ) (n : ℕ) (A A′ : List ℕ) (B B′ : List Float) (r₁ r : ℕ) → BlockKept 0 mask n 4 (length A / 4) A A′ r₁ → BlockKept nan mask n 4 (length B / 4) B B′ r
-    → length A′ ≡ length A → length B′ ≡ length B → Removed mask n r (edgesAt n A B) (edgesAt r A′ B′)
-unfolding edgesAt
-removed mask n A A′ B B′ r₁ r a b la lb =
+-- the rows of the edges, where the same rows of both blocks were moved
+edges-moved :
+    (n to from len E L : ℕ) (A A′ : List ℕ) (B B′ : List Float) → n ≤ E → n ≤ L → to + len ≤ n → from + len ≤ n → BlockShifted 0 to from len 4 E A A′ → BlockShifted nan to from len 4 L B B′
+    → RowsMoved n to from len (edgeRow E L A B) (edgeRow E L A′ B′)
+edges-moved n to from len E L A A′ B B′ he hl ht hf a b =
     record {
-      count = b .count;
-      edges =
-          rw (b .count, la, lb)
-          (rows-keep mask n _ _
-          (λ k h i.
+      moved =
+          λ k h i.
           record {
-            a = a .cells 0 k (omega arith) h i;
-            b = a .cells 1 k (omega arith) h i;
-            structural = a .cells 2 k (omega arith) h i;
-            torn = a .cells 3 k (omega arith) h i;
-            rest = b .cells 0 k (omega arith) h i;
-            initial = b .cells 1 k (omega arith) h i;
-            impulse = b .cells 2 k (omega arith) h i;
-            stress = b .cells 3 k (omega arith) h i;
-          }));
+            a = a .moved 0 k (omega arith) h i;
+            b = a .moved 1 k (omega arith) h i;
+            structural = a .moved 2 k (omega arith) h i;
+            torn = a .moved 3 k (omega arith) h i;
+            rest = b .moved 0 k (omega arith) h i;
+            initial = b .moved 1 k (omega arith) h i;
+            impulse = b .moved 2 k (omega arith) h i;
+            stress = b .moved 3 k (omega arith) h i;
+          };
+      other =
+          λ k h ne i.
+          record {
+            a = a .other 0 k (omega arith) ne i;
+            b = a .other 1 k (omega arith) ne i;
+            structural = a .other 2 k (omega arith) ne i;
+            torn = a .other 3 k (omega arith) ne i;
+            rest = b .other 0 k (omega arith) ne i;
+            initial = b .other 1 k (omega arith) ne i;
+            impulse = b .other 2 k (omega arith) ne i;
+            stress = b .other 3 k (omega arith) ne i;
+          };
     }
+
+-- at the head of the loop: the edges are compacted up to row r, and w of them stand at the front
+pub record Removing (mask : List ℕ) (n : ℕ) (A₀ A : List ℕ) (B₀ B : List Float) (w r : ℕ) : Type 0 where
+  pub ends-long : length A ≡ length A₀
+  pub lengths-long : length B ≡ length B₀
+  pub rows : Compacting mask n (edgeRow (length A₀ / 4) (length B₀ / 4) A₀ B₀) (edgeRow (length A₀ / 4) (length B₀ / 4) A B) w r
+
+module _ (mask : List ℕ) (n : ℕ) (A₀ : List ℕ) (B₀ : List Float) where
+  -- before the first turn nothing is moved
+  pub removing-start : (r : ℕ) → NextMarked mask 0 n r → Removing mask n A₀ A₀ B₀ B₀ r r
+  removing-start r x = record { ends-long = refl; lengths-long = refl; rows = compact-start mask n _ r x }
+
+  -- a turn leaves out a marked edge, and moves those up to the next
+  pub removing-more :
+      (A A′ : List ℕ) (B B′ : List Float) (w r b : ℕ) → Removing mask n A₀ A B₀ B w r → r < n → NextMarked mask (r + 1) n b → EdgeRoom n (length A₀) (length B₀)
+      → BlockShifted 0 w (r + 1) (b - (r + 1)) 4 (length A₀ / 4) A A′ → BlockShifted nan w (r + 1) (b - (r + 1)) 4 (length B₀ / 4) B B′ → length A′ ≡ length A → length B′ ≡ length B
+      → Removing mask n A₀ A′ B₀ B′ (w + (b - (r + 1))) b
+  removing-more A A′ B B′ w r b v h x room p q la lb =
+      let on : r + 1 ≤ b = x .above in
+      let all : b ≤ n = x .below in
+      let few : w ≤ r = v .rows .within in
+      record {
+        ends-long = la ∙ v .ends-long;
+        lengths-long = lb ∙ v .lengths-long;
+        rows = compact-more mask n _ _ _ w r b (v .rows) h x (edges-moved n w (r + 1) (b - (r + 1)) _ _ A A′ B B′ (room .ends) (room .lengths) (omega arith) (omega arith) p q);
+      }
+
+  -- after the last turn the edges are those that the mask leaves
+  pub removing-done : (A : List ℕ) (B : List Float) (w r : ℕ) → Removing mask n A₀ A B₀ B w r → n ≤ r → Removed mask n w (edgesAt n A₀ B₀) (edgesAt w A B)
+  unfolding edgesAt
+  removing-done A B w r v h = let q = compact-done mask n _ _ w r (v .rows) h in record { count = q .0; edges = rw (v .ends-long, v .lengths-long) (q .1) }
 
 -- ---- a row put into four columns
 -- a row was put into four columns at place n

@@ -4,4 +4,5 @@ pub mod At
 pub mod Log
 pub mod Given
 pub mod Filled
+pub mod Blocks
 pub mod Workers

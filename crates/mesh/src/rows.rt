@@ -6,7 +6,6 @@ ghost use lib.ListN.{length, getD, set};
 ghost use lib.Ieee.{Float};
 ghost use Rattle.lists.specs.Labels.{replaced};
 ghost use Rattle.mesh.specs.At.{particlesAt, edgesAt};
-ghost use Rattle.mesh.specs.Log.{logAt};
 ghost use Rattle.model.specs.Split.{retargeted, onlyAt, copyFor};
 ghost use Rattle.mesh.specs.Workers.{withCopy, groupOf, edgeOf, ParticleRoom, EdgeRoom, Removed, Mapped, FanOk};
 use crate::EdgeRow;
@@ -15,7 +14,8 @@ use crate::POINT_COLUMNS;
 // Appends to the n particles a copy of v, of mass m and inverse mass w.
 pub fn append_copy(v: usize, n: usize, m: f32, w: f32, points: &mut [f32], roots: &mut [usize])
     requires { ⌜ (v < n) × ParticleRoom (n + 1) (length (now points)) (length (now roots)) ⌝ }
-    ensures { λ _. ⌜ particlesAt (n + 1) (now (points .exit)) (now (roots .exit)) ≡ withCopy v m w (particlesAt n (now (points .entry)) (now (roots .entry))) ⌝ }
+    ensures { λ _. ⌜ particlesAt (n + 1) (now (points .exit)) (now (roots .exit))
+        ≡ withCopy v m w (particlesAt n (now (points .entry)) (now (roots .entry))) ⌝ }
 {
     let p = points.len() / POINT_COLUMNS;
     let r = roots.len() / 2;
@@ -25,21 +25,33 @@ pub fn append_copy(v: usize, n: usize, m: f32, w: f32, points: &mut [f32], roots
     columns::copy_row_usize(v, n, 2, r, roots);
 }
 
-// Removes the marked edges from the first n, and returns how many are left.
+// Removes the marked edges from the first n, and returns how many are left. Edges before the first marked one are not touched, and those between two are moved as a whole.
 pub fn remove_edges(mask: &[usize], n: usize, ends: &mut [usize], lengths: &mut [f32]) -> usize
     requires { ⌜ (n ≤ length (now mask)) × EdgeRoom n (length (now ends)) (length (now lengths)) ⌝ }
-    ensures { λ r. ⌜ Removed (now (mask .entry)) n r (edgesAt n (now (ends .entry)) (now (lengths .entry))) (edgesAt r (now (ends .exit)) (now (lengths .exit))) ⌝ }
+    ensures { λ r. ⌜ Removed (now (mask .entry)) n r (edgesAt n (now (ends .entry)) (now (lengths .entry))) (edgesAt r (now (ends .exit))
+        (now (lengths .exit))) ⌝ }
 {
     let e = ends.len() / 4;
     let l = lengths.len() / 4;
-    columns::keep_block_usize(mask, n, 4, e, ends);
-    columns::keep_block_f32(mask, n, 4, l, lengths)
+    let mut r: usize = columns::next_marked(mask, 0, n);
+    let mut w: usize = r;
+    while r < n {
+        let a = r + 1;
+        let b = columns::next_marked(mask, a, n);
+        let len = b - a;
+        columns::shift_block_usize(w, a, len, 4, e, ends);
+        columns::shift_block_f32(w, a, len, 4, l, lengths);
+        w += len;
+        r = b;
+    }
+    w
 }
 
 // Appends an edge to the n that are there.
 pub fn append_edge(n: usize, row: EdgeRow, ends: &mut [usize], lengths: &mut [f32])
     requires { ⌜ EdgeRoom (n + 1) (length (now ends)) (length (now lengths)) ⌝ }
-    ensures { λ _. ⌜ edgesAt (n + 1) (now (ends .exit)) (now (lengths .exit)) ≡ edgesAt n (now (ends .entry)) (now (lengths .entry)) ++ (edgeOf row ∷ []) ⌝ }
+    ensures { λ _. ⌜ edgesAt (n + 1) (now (ends .exit)) (now (lengths .exit))
+        ≡ edgesAt n (now (ends .entry)) (now (lengths .entry)) ++ (edgeOf row ∷ []) ⌝ }
 {
     let e = ends.len() / 4;
     let l = lengths.len() / 4;
@@ -87,7 +99,8 @@ fn retarget(e: usize, v: usize, w: usize, corners: &mut [usize])
 // Puts the copies of the fan's groups for v in the corners of its triangles.
 pub fn rewire(v: usize, n: usize, elements: &[usize], groups: &[usize], corners: &mut [usize])
     requires { ⌜ FanOk n (now elements) (now groups) (length (now corners)) ⌝ }
-    ensures { λ _. ⌜ Mapped (λ k. retargeted v (copyFor v n (groupOf (now (elements .entry)) (now (groups .entry)) k))) (now (corners .entry)) (now (corners .exit)) ⌝ }
+    ensures { λ _. ⌜ Mapped (λ k. retargeted v (copyFor v n (groupOf (now (elements .entry)) (now (groups .entry)) k)))
+        (now (corners .entry)) (now (corners .exit)) ⌝ }
 {
     let mut i: usize = 0;
     while i < elements.len() {
@@ -96,27 +109,4 @@ pub fn rewire(v: usize, n: usize, elements: &[usize], groups: &[usize], corners:
         retarget(e, v, w, corners);
         i += 1;
     }
-}
-
-// Writes the six words of an entry behind the n that are there.
-pub fn note(
-    n: usize,
-    kind: usize,
-    a: usize,
-    b: usize,
-    p: usize,
-    q: usize,
-    t: usize,
-    log: &mut [usize],
-)
-    requires { ⌜ n < length (now log) / 6 ⌝ }
-    ensures { λ _. ⌜ logAt (n + 1) (now (log .exit)) ≡ logAt n (now (log .entry)) ++ (record { kind = kind; a = a; b = b; p = p; q = q; t = t } ∷ []) ⌝ }
-{
-    let o = 6 * n;
-    log[o] = kind;
-    log[o + 1] = a;
-    log[o + 2] = b;
-    log[o + 3] = p;
-    log[o + 4] = q;
-    log[o + 5] = t;
 }

@@ -2,10 +2,9 @@
 ghost use mathlib.Core.Path.{_≡_};
 ghost use Prim.Native.Nat.{ℕ, min};
 ghost use mathlib.Core.List.{[]};
-ghost use Rattle.mesh.specs.At.{meshAt};
-ghost use Rattle.mesh.specs.Log.{worldAt};
 ghost use Rattle.mesh.specs.Given.{roomsOf};
 ghost use Rattle.mesh.specs.Filled.{Filled, Fits, Holds, lent};
+ghost use Rattle.mesh.specs.Blocks.{meshBefore, meshBehind, worldBefore, lentIn, lentBefore, blocksIn};
 use crate::Counts;
 use crate::POINT_COLUMNS;
 use crate::Rooms;
@@ -28,7 +27,8 @@ pub fn rooms_for(
     lo: usize,
     lg: usize,
 ) -> Rooms
-    ensures { λ r. ⌜ r ≡ roomsOf (record { points = lp; roots = lr; corners = lc; volumes = lv; ends = le; lengths = ll; outline = lo; log = lg }) ⌝ }
+    ensures { λ r. ⌜ r ≡ roomsOf
+        (record { points = lp; roots = lr; corners = lc; volumes = lv; ends = le; lengths = ll; outline = lo; log = lg }) ⌝ }
 {
     let p = least(1024, least(lp / POINT_COLUMNS, lr / 2));
     let t = least(1024, least(lc / 3, lv / 2));
@@ -62,10 +62,11 @@ pub fn copy_all(
     lengths: &mut [f32],
     outline: &mut [usize],
 )
-    requires { ⌜ Fits k (lent (now «in_points») (now «in_roots») (now «in_corners») (now «in_volumes») (now «in_ends») (now «in_lengths») (now «in_outline») []) ⌝ }
-    requires { ⌜ Holds (lent (now «in_points») (now «in_roots») (now «in_corners») (now «in_volumes») (now «in_ends») (now «in_lengths») (now «in_outline») []) (lent (now points) (now roots) (now corners) (now volumes) (now ends) (now lengths) (now outline) []) ⌝ }
-    ensures { λ _. ⌜ meshAt k (now (points .exit)) (now (roots .exit)) (now (corners .exit)) (now (volumes .exit)) (now (ends .exit)) (now (lengths .exit)) (now (outline .exit))
-        ≡ meshAt k (now («in_points» .entry)) (now («in_roots» .entry)) (now («in_corners» .entry)) (now («in_volumes» .entry)) (now («in_ends» .entry)) (now («in_lengths» .entry)) (now («in_outline» .entry)) ⌝ }
+    requires { ⌜ Fits k (blocksIn «in_points» «in_roots» «in_corners» «in_volumes» «in_ends» «in_lengths» «in_outline») ⌝ }
+    requires { ⌜ Holds (blocksIn «in_points» «in_roots» «in_corners» «in_volumes» «in_ends» «in_lengths» «in_outline»)
+        (blocksIn points roots corners volumes ends lengths outline) ⌝ }
+    ensures { λ _. ⌜ meshBehind k points roots corners volumes ends lengths outline
+        ≡ meshBefore k «in_points» «in_roots» «in_corners» «in_volumes» «in_ends» «in_lengths» «in_outline» ⌝ }
 {
     columns::copy_block_f32(
         in_points,
@@ -118,10 +119,10 @@ pub fn finish_all(
     outline: &mut [usize],
     log: &mut [usize],
 )
-    requires { ⌜ Fits k (lent (now points) (now roots) (now corners) (now volumes) (now ends) (now lengths) (now outline) (now log)) ⌝ }
-    ensures { λ _. ⌜ Filled (worldAt k (now (points .entry)) (now (roots .entry)) (now (corners .entry)) (now (volumes .entry)) (now (ends .entry)) (now (lengths .entry)) (now (outline .entry)) (now (log .entry)))
-        (lent (now (points .entry)) (now (roots .entry)) (now (corners .entry)) (now (volumes .entry)) (now (ends .entry)) (now (lengths .entry)) (now (outline .entry)) (now (log .entry)))
-        (now (points .exit)) (now (roots .exit)) (now (corners .exit)) (now (volumes .exit)) (now (ends .exit)) (now (lengths .exit)) (now (outline .exit)) (now (log .exit)) ⌝ }
+    requires { ⌜ Fits k (lentIn points roots corners volumes ends lengths outline log) ⌝ }
+    ensures { λ _. ⌜ Filled (worldBefore k points roots corners volumes ends lengths outline log)
+        (lentBefore points roots corners volumes ends lengths outline log) (now (points .exit)) (now (roots .exit)) (now (corners .exit))
+        (now (volumes .exit)) (now (ends .exit)) (now (lengths .exit)) (now (outline .exit)) (now (log .exit)) ⌝ }
 {
     columns::clear_block_f32(
         k.particles,

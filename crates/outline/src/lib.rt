@@ -97,8 +97,10 @@ fn add_faces(
     n: usize,
     outline: &mut [usize],
 ) -> usize
-    requires { ⌜ Linked (now a) (now b) (now c) m (now heads) (now links) × (length (now sizes) ≡ 1024) × (i < length (now a)) × (n < 2 ^ 30) ⌝ }
-    ensures { λ r. ⌜ Added (sift (single (rows3 (now (a .entry)) (now (b .entry)) (now (c .entry)))) (facesOf (row3 (now (a .entry)) (now (b .entry)) (now (c .entry)) i))) (now (outline .entry)) (now (outline .exit)) n r ⌝ }
+    requires { ⌜ Linked (now a) (now b) (now c) m (now heads) (now links) × (length (now sizes) ≡ 1024) × (i < length (now a))
+        × (n < 2 ^ 30) ⌝ }
+    ensures { λ r. ⌜ Added (sift (single (rows3 (now (a .entry)) (now (b .entry)) (now (c .entry))))
+        (facesOf (row3 (now (a .entry)) (now (b .entry)) (now (c .entry)) i))) (now (outline .entry)) (now (outline .exit)) n r ⌝ }
 {
     let x = a[i];
     let y = b[i];
@@ -161,8 +163,10 @@ pub fn list_outline(
     structural: &[usize],
     outline: &mut [usize],
 ) -> usize
-    requires { ⌜ Even (length (now t0)) (length (now t1)) (length (now t2)) × Even (length (now e0)) (length (now e1)) (length (now structural)) ⌝ }
-    ensures { λ r. ⌜ Listed (outlineOf (rows3 (now (t0 .entry)) (now (t1 .entry)) (now (t2 .entry))) (rows3 (now (e0 .entry)) (now (e1 .entry)) (now (structural .entry)))) (now (outline .exit)) r ⌝ }
+    requires { ⌜ Even (length (now t0)) (length (now t1)) (length (now t2))
+        × Even (length (now e0)) (length (now e1)) (length (now structural)) ⌝ }
+    ensures { λ r. ⌜ Listed (outlineOf (rows3 (now (t0 .entry)) (now (t1 .entry)) (now (t2 .entry)))
+        (rows3 (now (e0 .entry)) (now (e1 .entry)) (now (structural .entry)))) (now (outline .exit)) r ⌝ }
 {
     if t0.len() == 0 {
         return outline_straps(e0, e1, structural, outline);

@@ -23,14 +23,14 @@ use Rattle.work.specs.Working.{Roomed, Ready, Works, Logged}
 use Rattle.split.specs.Tables.{SidesGiven}
 use Rattle.work.specs.declared.Ran.{Ran}
 use Rattle.work.specs.declared.Ran.the-variants.{Refused as Stopped}
-use Rattle.answer.specs.Framed.{RoomsLent, BeginAsked, Begun, Came}
-use Rattle.answer.proofs.Begun.{begin-asked, begun-by, began-passed, began-ready}
-use Rattle.answer.proofs.Calls.{nothing-before, came-begun, came-worked, unlogged}
-use Rattle.jobs.specs.Jobs.{jobNumbers, jobArguments, jobRefusal, jobRun, jobCall}
+use Rattle.call_frame.specs.Framed.{RoomsLent, BeginAsked, Begun, Came}
+use Rattle.call_frame.proofs.Begun.{begin-asked, begun-by, began-passed, began-ready}
+use Rattle.call_frame.proofs.Calls.{nothing-before, came-begun, came-worked, unlogged}
+use Rattle.mesh_calls.specs.Jobs.{jobNumbers, jobArguments, jobRefusal, jobRun, jobCall}
 use Rattle.perform.specs.Asks.{JobAsked}
-use Rattle.jobs.specs.declared.Job.{Job}
-use Rattle.jobs.specs.declared.Job.the-variants.{Straddlers, Split, Cut, Crack}
-use Rattle.jobs.proofs.Jobs.{job-onward, job-lent, job-checked}
+use Rattle.mesh_calls.specs.declared.Job.{Job}
+use Rattle.mesh_calls.specs.declared.Job.the-variants.{Straddlers, Split, Cut, Crack}
+use Rattle.mesh_calls.proofs.Jobs.{job-onward, job-lent, job-checked}
 
 -- right sides are given
 sides-given : (M : Mesh) (v : ℕ) (sides : List ℕ) → sidesOk M v sides ≡ true → SidesGiven (kindOf M) M v sides

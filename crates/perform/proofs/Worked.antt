@@ -27,10 +27,10 @@ use Rattle.work.proofs.Placed.{corners-in, ends-in, sides-in}
 use Rattle.blade.specs.declared.Point.{Point}
 use Rattle.marks.specs.Marking.{bladeBy}
 use Rattle.marks.specs.declared.Rule.{Rule}
-use Rattle.jobs.specs.Jobs.{ruleIn, jobRun}
+use Rattle.mesh_calls.specs.Jobs.{ruleIn, jobRun}
 use Rattle.perform.specs.Asks.{JobAsked}
-use Rattle.jobs.specs.declared.Job.{Job}
-use Rattle.jobs.specs.declared.Job.the-variants.{Split}
+use Rattle.mesh_calls.specs.declared.Job.{Job}
+use Rattle.mesh_calls.specs.declared.Job.the-variants.{Split}
 
 module _ (k : Counts) (R : Rooms) (p : List Float) (r c : List ℕ) (v : List Float) (e : List ℕ) (l : List Float) (o g : List ℕ) where
   -- the kind that was found is that of the mesh in the blocks

@@ -4,8 +4,8 @@ use Prim.Native.Nat.{ℕ}
 use Rattle.model.specs.Mesh.{Mesh}
 use Rattle.model.specs.Elements.{kindOf}
 use Rattle.split.specs.Tables.{SidesGiven}
-use Rattle.jobs.specs.declared.Job.{Job}
-use Rattle.jobs.specs.declared.Job.the-variants.{Straddlers, Split, Cut, Crack}
+use Rattle.mesh_calls.specs.declared.Job.{Job}
+use Rattle.mesh_calls.specs.declared.Job.the-variants.{Straddlers, Split, Cut, Crack}
 
 -- what a call asks of the mesh that it works on
 abbrev pub JobAsked : Job → List ℕ → Mesh → Type 0

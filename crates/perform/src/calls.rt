@@ -4,23 +4,23 @@ ghost use Rattle.model.specs.Elements.{kindOf};
 ghost use Rattle.model.specs.Cut.{cut};
 ghost use Rattle.elements.specs.Table.{kindIs};
 ghost use Rattle.marks.specs.Marking.{bladeBy};
-ghost use Rattle.mesh.specs.At.{meshAt};
-ghost use Rattle.mesh.specs.Log.{worldAt};
-ghost use Rattle.mesh.specs.Given.{given, meshOf, sizes, sizesFit, asRooms};
+ghost use Rattle.mesh.specs.Given.{meshOf, sizes, sizesFit, asRooms};
 ghost use Rattle.mesh.specs.Filled.{lent};
-ghost use Rattle.work.specs.Working.{Roomed, Ready, Works, Logged};
-ghost use Rattle.answer.specs.Framed.{RoomsLent, Begun, Came};
+ghost use Rattle.work.specs.Working.{Roomed, Logged};
+ghost use Rattle.call_frame.specs.Framed.{RoomsLent, Begun, Came};
 ghost use mathlib.Core.Path.{_≡_};
-ghost use Rattle.jobs.specs.Jobs.{jobRefusal, ruleIn, jobRun, jobCall};
+ghost use Rattle.mesh_calls.specs.Jobs.{jobRefusal, ruleIn, jobRun, jobCall};
 ghost use Rattle.perform.specs.Asks.{JobAsked};
+ghost use Rattle.mesh.specs.Blocks.{meshIn, meshBefore, meshBehind, worldBehind, lentIn, givenBefore, blocksIn};
+ghost use Rattle.work.specs.Blocks.{ReadyIn, WorksIn};
 use blade::Point;
 use elements::Kind;
-use jobs::Job;
-use jobs::checks;
 use marks::Rule;
 use mesh::Counts;
 use mesh::Rooms;
-use strap::kinds::Pass;
+use mesh_calls::Job;
+use mesh_calls::checks;
+use strap_cut::kinds::Pass;
 use work::Ran;
 
 // Copies the input of a call, unless a check or a room refuses it. Returns the refusal, or 0.
@@ -43,9 +43,10 @@ pub fn begin(
     lengths: &mut [f32],
     outline: &mut [usize],
 ) -> usize
-    requires { ⌜ RoomsLent room (lent (now points) (now roots) (now corners) (now volumes) (now ends) (now lengths) (now outline) []) ⌝ }
-    ensures { λ r. ⌜ Begun (jobRefusal job (now (list .entry)) (sizesFit (given (now («in_points» .entry)) (now («in_roots» .entry)) (now («in_corners» .entry)) (now («in_volumes» .entry)) (now («in_ends» .entry)) (now («in_lengths» .entry)) (now («in_outline» .entry)))) (meshOf (given (now («in_points» .entry)) (now («in_roots» .entry)) (now («in_corners» .entry)) (now («in_volumes» .entry)) (now («in_ends» .entry)) (now («in_lengths» .entry)) (now («in_outline» .entry)))) (asRooms room)) room (meshOf (given (now («in_points» .entry)) (now («in_roots» .entry)) (now («in_corners» .entry)) (now («in_volumes» .entry)) (now («in_ends» .entry)) (now («in_lengths» .entry)) (now («in_outline» .entry))))
-        (meshAt (sizes (given (now («in_points» .entry)) (now («in_roots» .entry)) (now («in_corners» .entry)) (now («in_volumes» .entry)) (now («in_ends» .entry)) (now («in_lengths» .entry)) (now («in_outline» .entry)))) (now (points .exit)) (now (roots .exit)) (now (corners .exit)) (now (volumes .exit)) (now (ends .exit)) (now (lengths .exit)) (now (outline .exit))) r ⌝ }
+    requires { ⌜ RoomsLent room (blocksIn points roots corners volumes ends lengths outline) ⌝ }
+    ensures { λ r. ⌜ (let G = givenBefore «in_points» «in_roots» «in_corners» «in_volumes» «in_ends» «in_lengths» «in_outline» in
+        Begun (jobRefusal job (now (list .entry)) (sizesFit G) (meshOf G) (asRooms room)) room (meshOf G) (meshBehind
+        (sizes G) points roots corners volumes ends lengths outline) r) ⌝ }
 {
     let code = checks::judge(
         job,
@@ -59,7 +60,7 @@ pub fn begin(
         in_lengths,
         in_outline,
     );
-    answer::frame::begin(
+    call_frame::frame::begin(
         code,
         room,
         in_points,
@@ -107,10 +108,8 @@ fn cut_marked(
     outline: &mut [usize],
     log: &mut [u32],
 ) -> Ran
-    requires { ⌜ Ready room k (lent (now points) (now roots) (now corners) (now volumes) (now ends) (now lengths) (now outline) (now log)) (meshAt k (now points) (now roots) (now corners) (now volumes) (now ends) (now lengths) (now outline)) × Logged (k .log) (now log) ⌝ }
-    ensures { λ r. ⌜ Works (cut (kindIs kind) (bladeBy rule b0 b1) f) room
-        (worldAt k (now (points .entry)) (now (roots .entry)) (now (corners .entry)) (now (volumes .entry)) (now (ends .entry)) (now (lengths .entry)) (now (outline .entry)) (now (log .entry)))
-        (λ q. worldAt q (now (points .exit)) (now (roots .exit)) (now (corners .exit)) (now (volumes .entry)) (now (ends .exit)) (now (lengths .exit)) (now (outline .exit)) (now (log .exit))) r ⌝ }
+    requires { ⌜ ReadyIn room k points roots corners volumes ends lengths outline log × Logged (k .log) (now log) ⌝ }
+    ensures { λ r. ⌜ WorksIn (cut (kindIs kind) (bladeBy rule b0 b1) f) room k points roots corners volumes ends lengths outline log r ⌝ }
 {
     let ran = crossmarks::note_crossings(
         rule,
@@ -131,7 +130,7 @@ fn cut_marked(
     let Ran::Done(counts) = ran else {
         return ran;
     };
-    strap::kinds::run(
+    strap_cut::kinds::run(
         Pass::Blade(rule, b0, b1, f),
         kind,
         counts,
@@ -162,10 +161,10 @@ pub fn work(
     outline: &mut [usize],
     log: &mut [u32],
 ) -> Ran
-    requires { ⌜ Ready room k (lent (now points) (now roots) (now corners) (now volumes) (now ends) (now lengths) (now outline) (now log)) (meshAt k (now points) (now roots) (now corners) (now volumes) (now ends) (now lengths) (now outline)) × Logged (k .log) (now log) × JobAsked job (now list) (meshAt k (now points) (now roots) (now corners) (now volumes) (now ends) (now lengths) (now outline)) ⌝ }
-    ensures { λ r. ⌜ Works (jobRun job (now (list .entry)) (kindOf (meshAt k (now (points .entry)) (now (roots .entry)) (now (corners .entry)) (now (volumes .entry)) (now (ends .entry)) (now (lengths .entry)) (now (outline .entry))))) room
-        (worldAt k (now (points .entry)) (now (roots .entry)) (now (corners .entry)) (now (volumes .entry)) (now (ends .entry)) (now (lengths .entry)) (now (outline .entry)) (now (log .entry)))
-        (λ q. worldAt q (now (points .exit)) (now (roots .exit)) (now (corners .exit)) (now (volumes .entry)) (now (ends .exit)) (now (lengths .exit)) (now (outline .exit)) (now (log .exit))) r ⌝ }
+    requires { ⌜ ReadyIn room k points roots corners volumes ends lengths outline log × Logged (k .log) (now log)
+        × JobAsked job (now list) (meshIn k points roots corners volumes ends lengths outline) ⌝ }
+    ensures { λ r. ⌜ WorksIn (jobRun job (now (list .entry)) (kindOf (meshBefore k points roots corners volumes ends lengths outline))) room
+        k points roots corners volumes ends lengths outline log r ⌝ }
 {
     let kind = elements::kind_of(k.triangles, k.edges, ends);
     match job {
@@ -251,9 +250,10 @@ pub fn run(
     outline: &mut [usize],
     log: &mut [u32],
 ) -> Ran
-    requires { ⌜ Roomed room (lent (now points) (now roots) (now corners) (now volumes) (now ends) (now lengths) (now outline) (now log)) ⌝ }
-    ensures { λ r. ⌜ Came (jobCall job (now (list .entry)) (sizesFit (given (now («in_points» .entry)) (now («in_roots» .entry)) (now («in_corners» .entry)) (now («in_volumes» .entry)) (now («in_ends» .entry)) (now («in_lengths» .entry)) (now («in_outline» .entry)))) (meshOf (given (now («in_points» .entry)) (now («in_roots» .entry)) (now («in_corners» .entry)) (now («in_volumes» .entry)) (now («in_ends» .entry)) (now («in_lengths» .entry)) (now («in_outline» .entry)))) (asRooms room)) room
-        (λ k. worldAt k (now (points .exit)) (now (roots .exit)) (now (corners .exit)) (now (volumes .exit)) (now (ends .exit)) (now (lengths .exit)) (now (outline .exit)) (now (log .exit))) r ⌝ }
+    requires { ⌜ Roomed room (lentIn points roots corners volumes ends lengths outline log) ⌝ }
+    ensures { λ r. ⌜ (let G = givenBefore «in_points» «in_roots» «in_corners» «in_volumes» «in_ends» «in_lengths» «in_outline» in
+        Came (jobCall job (now (list .entry)) (sizesFit G) (meshOf G) (asRooms room)) room
+        (λ k. worldBehind k points roots corners volumes ends lengths outline log) r) ⌝ }
 {
     let code = begin(
         job,

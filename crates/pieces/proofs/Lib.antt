@@ -8,5 +8,6 @@ pub mod Marks
 pub mod Laws
 pub mod Pieces
 pub mod Loops
+pub mod Told
 pub mod Places
 pub mod Examples

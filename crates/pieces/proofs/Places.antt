@@ -3,11 +3,11 @@ use mathlib.Core.Path.{_≡_, refl, sym, _∙_, ap, subst}
 use mathlib.Core.Bool.{true, false}
 use mathlib.Core.Logic.{_⊎_, inl, inr, ⊎-elim}
 use mathlib.Core.List.{List}
-use Prim.Native.Nat.{ℕ, suc, _+_, _*_, _/_, _%_, _-_, _<_, _≤_}
+use Prim.Native.Nat.{ℕ, suc, _+_, _*_, _/_, _-_, _<_, _≤_}
 use native.Mathlib.Omega.{arith}
 use native.Mathlib.Nat.{not-suc-le-zero, mul-add-div-right, div-eq-of-lt, div-lt-iff-lt-mul}
 use native.Mathlib.Decide.{ℕ-discrete, decLt}
-use borrow.Author.Tests.{eq-eqb, ne-eqb, eqb-true, lt-ltb}
+use borrow.Author.Tests.{eq-eqb, eqb-true}
 use lib.Dec.{eqb}
 use lib.ListN.{length, getD, set, length-set}
 use Rattle.lists.specs.Lists.{stands, upTo}
@@ -24,41 +24,49 @@ use Rattle.elements.specs.Table.{Cornered}
 use Rattle.pieces.specs.Tables.{Tied}
 use Rattle.pieces.proofs.Corners.{row-before, corner-held}
 use Rattle.pieces.proofs.Distinct.{once-same}
-use Rattle.pieces.proofs.Trees.{tied-join, tied-one, tied-flat}
+use Rattle.pieces.proofs.Trees.{tied-start, tied-join, tied-one, tied-flat}
 use Rattle.reach.specs.Reached.{Plain}
 use Rattle.reach.proofs.Tables.{row-is}
 use Rattle.model.specs.Pieces.{pieceLabels, pieceCount}
-use Rattle.pieces.specs.Classes.{Share, Classes}
+use Rattle.pieces.specs.Classes.{Share, Classes, Holds}
 use Rattle.pieces.specs.Counted.{PiecesCounted}
-use Rattle.pieces.specs.Places.{rowsShare, LastBefore, Linked, Heads, walked, Met, tops}
+use Rattle.pieces.specs.Places.{rowsShare, sharesBy, LastBefore, Linked, Heads, walked, Met, Walking, Beside, tops}
+use Rattle.pieces.proofs.Told.{walked-other, walked-low}
 use Rattle.pieces.proofs.Counts.{upTo-once, classes-map}
 use Rattle.pieces.proofs.Pieces.{sift-differ, sharing, Facet, sharing-share, share-sharing, share-turned, facet-shares, share-facets, count-only}
 
 -- ---- links
 
 -- before the first place no particle has one
-pub heads-none : (verts last : List ℕ) → ((x : ℕ) → x < length last → getD last x 0 ≡ 0) → Heads verts last 0
-heads-none verts last z =
-    record { at = λ x l. let e = z x l in record { below = omega arith; has = λ s h. absurd (omega arith); none = λ s h g q. absurd (omega arith) } }
+pub heads-none : (k : ℕ) (verts last : List ℕ) → ((x : ℕ) → x < length last → getD last x 0 ≡ 0) → Heads k verts last 0
+heads-none k verts last z =
+    record { at = λ x l. let e = z x l in record { below = omega arith; has = λ s h. absurd (omega arith); none = λ s h g w q. absurd (omega arith) } }
 
-pub linked-none : (verts link : List ℕ) → Linked verts link 0
-linked-none verts link = record { at = λ t l. absurd (not-suc-le-zero l) }
+pub linked-none : (k : ℕ) (verts link : List ℕ) → Linked k verts link 0
+linked-none k verts link = record { at = λ t l w. absurd (not-suc-le-zero l) }
+
+-- what holds of a place beside one that is left out
+unlinked : (k : ℕ) (verts : List ℕ) {s t : ℕ} → walked k verts t ≡ false → walked k verts s ≡ true → s ≡ t → ⊥
+unlinked k verts {s} {t} off on e =
+    let d : walked k verts t ≡ true = subst (λ (x : ℕ). walked k verts x ≡ true) e on in
+    let z : _≡_ {A = ℕ} 0 1 = cc in
+    omega arith
 
 -- one place more: it is linked, and is its particle's last
-module _ (verts last link : List ℕ) (t : ℕ) where
-  pub linked-more : Heads verts last t → Linked verts link t → t < length link → getD verts t 0 < length last
-      → Linked verts (set link t (getD last (getD verts t 0) 0)) (t + 1)
+module _ (k : ℕ) (verts last link : List ℕ) (t : ℕ) where
+  pub linked-more : Heads k verts last t → Linked k verts link t → t < length link → getD verts t 0 < length last
+      → Linked k verts (set link t (getD last (getD verts t 0) 0)) (t + 1)
   linked-more H L l m =
       record {
-        at = λ s h.
+        at = λ s h w.
             ⊎-elim
-            (λ y. subst (λ (e : ℕ). LastBefore verts (getD verts s 0) s e) (sym (y .1)) (subst (λ (q : ℕ). LastBefore verts (getD verts q 0) q (getD last (getD verts t 0) 0)) (sym (y .0)) (H .at (getD verts t 0) m)))
-            (λ y. let d = y .0 in let o : s < t = omega arith in subst (λ (e : ℕ). LastBefore verts (getD verts s 0) s e) (sym (y .1)) (L .at s o))
+            (λ y. subst (λ (e : ℕ). LastBefore k verts (getD verts s 0) s e) (sym (y .1)) (subst (λ (q : ℕ). LastBefore k verts (getD verts q 0) q (getD last (getD verts t 0) 0)) (sym (y .0)) (H .at (getD verts t 0) m)))
+            (λ y. let d = y .0 in let o : s < t = omega arith in subst (λ (e : ℕ). LastBefore k verts (getD verts s 0) s e) (sym (y .1)) (L .at s o w))
             (stored link t (getD last (getD verts t 0) 0) s l);
       }
 
-  pub heads-more : Heads verts last t → getD verts t 0 < length last → Heads verts (set last (getD verts t 0) (t + 1)) (t + 1)
-  heads-more H m =
+  pub heads-more : walked k verts t ≡ true → Heads k verts last t → getD verts t 0 < length last → Heads k verts (set last (getD verts t 0) (t + 1)) (t + 1)
+  heads-more on H m =
       record {
         at = λ x h.
             let g : x < length last = simp length-set at h in
@@ -68,8 +76,8 @@ module _ (verts last link : List ℕ) (t : ℕ) where
             let d = y .0 in
             record {
               below = omega arith;
-              has = λ s q. let r : s ≡ t = omega arith in at-eq verts r ∙ sym d;
-              none = λ s q r w. omega arith;
+              has = λ s q. let r : s ≡ t = omega arith in (at-eq verts r ∙ sym d, subst (λ (m : ℕ). walked k verts m ≡ true) (sym r) on);
+              none = λ s q r v w. omega arith;
             })
             (λ y.
             let e = y .1 in
@@ -78,13 +86,40 @@ module _ (verts last link : List ℕ) (t : ℕ) where
             record {
               below = let b = P .below in omega arith;
               has = λ s q. P .has s (q ∙ e);
-              none = λ s q r w.
+              none = λ s q r v w.
                   elim (ℕ-discrete s t) [
                     | yes i ↦ d (sym w ∙ at-eq verts i)
-                    | no ni ↦ P .none s (omega arith) (omega arith) w
+                    | no ni ↦ P .none s (omega arith) (omega arith) v w
                   ];
             })
             (stored last (getD verts t 0) (t + 1) x m);
+      }
+
+  -- or it is left out
+  heads-pass : walked k verts t ≡ false → Heads k verts last t → Heads k verts last (t + 1)
+  heads-pass off H =
+      record {
+        at = λ x h.
+            let P = H .at x h in
+            record {
+              below = let b = P .below in omega arith;
+              has = P .has;
+              none = λ s q r v w.
+                  elim (ℕ-discrete s t) [
+                    | yes i ↦ unlinked k verts off v i
+                    | no ni ↦ P .none s q (omega arith) v w
+                  ];
+            };
+      }
+
+  linked-pass : walked k verts t ≡ false → Linked k verts link t → Linked k verts link (t + 1)
+  linked-pass off L =
+      record {
+        at = λ s h w.
+            elim (ℕ-discrete s t) [
+              | yes i ↦ absurd (unlinked k verts off w i)
+              | no ni ↦ L .at s (omega arith) w
+            ];
       }
 
 -- ---- pairs
@@ -111,6 +146,7 @@ module _ (n k : ℕ) (verts : List ℕ) where
         before = M .before;
         inside = M .inside;
         walks = M .walks;
+        begins = M .begins;
         met = ⊎-elim (λ l. inl l) (λ q. inr (q .0, (let g = q .1 in omega arith))) (M .met);
         same = M .same;
         first = M .first;
@@ -127,6 +163,7 @@ module _ (n k : ℕ) (verts : List ℕ) where
         before = M .before;
         inside = M .inside;
         walks = M .walks;
+        begins = M .begins;
         met = ⊎-elim (λ l. inl l) (λ q. inr (q .0, h (q .0) (q .1))) (M .met);
         same = M .same;
         first = M .first;
@@ -139,14 +176,14 @@ module _ (n k : ℕ) (verts : List ℕ) where
   met-none a b M = ⊎-elim (λ l. not-suc-le-zero l) (λ q. let e = q .0 in let o = M .before in omega arith) (M .met)
 
   -- places that have another particle meet nothing
-  pub met-skip : {t b e : ℕ} {p : List ℕ} → b ≤ t → LastBefore verts (getD verts t 0) b e → Tied (Met n k verts t b) p → Tied (Met n k verts t e) p
+  pub met-skip : {t b e : ℕ} {p : List ℕ} → b ≤ t → LastBefore k verts (getD verts t 0) b e → Tied (Met n k verts t b) p → Tied (Met n k verts t e) p
   met-skip {t} {b} {e} h L T =
       tied-map (λ x y M. met-wider (L .below) x y M)
       (λ x y M.
       met-narrower x y M
       (λ q g.
       elim (decLt (M .earlier) b) [
-        | yes o ↦ absurd (L .none (M .earlier) g o (M .same ∙ at-eq verts q))
+        | yes o ↦ absurd (L .none (M .earlier) g o (M .begins) (M .same ∙ at-eq verts q))
         | no o ↦ omega arith
       ]))
       T
@@ -170,11 +207,11 @@ module _ (n k : ℕ) (verts : List ℕ) where
       T
 
   -- and whose element does: the two are joined
-  pub met-join : {t s : ℕ} {p q : List ℕ} → s < t → t < n * k → walked k t ≡ true → getD verts s 0 ≡ getD verts t 0 → rowsShare k verts (t / k) (s / k) ≡ true
+  pub met-join : {t s : ℕ} {p q : List ℕ} → s < t → t < n * k → walked k verts t ≡ true → walked k verts s ≡ true → getD verts s 0 ≡ getD verts t 0 → rowsShare k verts (t / k) (s / k) ≡ true
       → Joined p (t / k) (s / k) q → Tied (Met n k verts t (suc s)) p → Tied (Met n k verts t s) q
-  met-join {t} {s} o l walks same facet J T =
+  met-join {t} {s} o l walks begins same facet J T =
       tied-join (t / k) (s / k) T J (λ a b M. met-wider (omega arith) a b M)
-      (record { later = t; earlier = s; before = o; inside = l; walks = walks; met = inr (refl, omega arith); same = same; first = refl; second = refl; shared = facet })
+      (record { later = t; earlier = s; before = o; inside = l; walks = walks; begins = begins; met = inr (refl, omega arith); same = same; first = refl; second = refl; shared = facet })
       (λ a b M.
       elim (ℕ-discrete (M .later) t) [
         | yes i ↦
@@ -210,6 +247,7 @@ module _ (n k : ℕ) (verts : List ℕ) where
         before = M .before;
         inside = M .inside;
         walks = M .walks;
+        begins = M .begins;
         met = inl (⊎-elim (λ l. omega arith) (λ q. let e = q .0 in omega arith) (M .met));
         same = M .same;
         first = M .first;
@@ -223,6 +261,7 @@ module _ (n k : ℕ) (verts : List ℕ) where
         before = M .before;
         inside = M .inside;
         walks = M .walks;
+        begins = M .begins;
         met = ⊎-elim
             (λ l.
             elim (ℕ-discrete (M .later) t) [
@@ -239,7 +278,7 @@ module _ (n k : ℕ) (verts : List ℕ) where
       T
 
   -- a place that no walk begins from meets nothing
-  pub met-unwalked : {t : ℕ} {p : List ℕ} → walked k t ≡ false → Tied (Met n k verts t t) p → Tied (Met n k verts (t + 1) (t + 1)) p
+  met-unwalked : {t : ℕ} {p : List ℕ} → walked k verts t ≡ false → Tied (Met n k verts t t) p → Tied (Met n k verts (t + 1) (t + 1)) p
   met-unwalked {t} off T =
       tied-map
       (λ a b M.
@@ -249,6 +288,7 @@ module _ (n k : ℕ) (verts : List ℕ) where
         before = M .before;
         inside = M .inside;
         walks = M .walks;
+        begins = M .begins;
         met = inl (⊎-elim (λ l. omega arith) (λ q. let e = q .0 in omega arith) (M .met));
         same = M .same;
         first = M .first;
@@ -262,13 +302,11 @@ module _ (n k : ℕ) (verts : List ℕ) where
         before = M .before;
         inside = M .inside;
         walks = M .walks;
+        begins = M .begins;
         met = ⊎-elim
             (λ l.
             elim (ℕ-discrete (M .later) t) [
-              | yes i ↦
-                  let d : walked k t ≡ true = subst (λ (x : ℕ). walked k x ≡ true) i (M .walks) in
-                  let z : _≡_ {A = ℕ} 0 1 = cc in
-                  absurd (omega arith)
+              | yes i ↦ absurd (unlinked k verts off (M .walks) i)
               | no i ↦ inl (omega arith)
             ])
             (λ q. let e = q .0 in let g = q .1 in let o = M .before in absurd (omega arith))
@@ -280,20 +318,37 @@ module _ (n k : ℕ) (verts : List ℕ) where
       })
       T
 
-  -- what holds of the walk's next place: 1 more than the place with the same particle, or 0
+  -- a place that is left out: nothing changes
+  pub walking-pass : {last link parent : List ℕ} {t : ℕ} → walked k verts t ≡ false → Walking n k verts last link t parent → Walking n k verts last link (t + 1) parent
+  walking-pass {last} {link} {parent} {t} off W =
+      record { heads = heads-pass k verts last link t off (W .heads); linked = linked-pass k verts last link t off (W .linked); tied = met-unwalked off (W .tied) }
+
+  -- a place that is linked, and has x: its links, and where its walk begins
+  module _ {last link parent : List ℕ} {t x : ℕ} (at : getD verts t 0 ≡ x) (below : x < length last) (W : Walking n k verts last link t parent) where
+    pub place-linked : t < length link → Linked k verts (set link t (getD last x 0)) (t + 1)
+    place-linked l =
+        subst (λ (y : ℕ). Linked k verts (set link t (getD last y 0)) (t + 1)) at (linked-more k verts last link t (W .heads) (W .linked) l (omega arith))
+
+    pub place-headed : walked k verts t ≡ true → Heads k verts (set last x (t + 1)) (t + 1)
+    place-headed on = subst (λ (y : ℕ). Heads k verts (set last y (t + 1)) (t + 1)) at (heads-more k verts last link t on (W .heads) (omega arith))
+
+    pub place-last : LastBefore k verts (getD verts t 0) t (getD last x 0)
+    place-last = subst (λ (y : ℕ). LastBefore k verts (getD verts t 0) t (getD last y 0)) at (W .heads .at (getD verts t 0) (omega arith))
+
+  -- what holds of the walk's next place: 1 more than a linked place with the same particle, or 0
   abbrev pub Has : ℕ → ℕ → Type 0
-  Has t e = (s : ℕ) → suc s ≡ e → getD verts s 0 ≡ getD verts t 0
+  Has t e = (s : ℕ) → suc s ≡ e → (getD verts s 0 ≡ getD verts t 0) × (walked k verts s ≡ true)
 
   -- a step of the walk from place e - 1 to the one that it is linked to: f - 1, or the end
-  module _ {t e f : ℕ} (some : 0 < e) (below : e ≤ t) (has : Has t e) (L : LastBefore verts (getD verts (e - 1) 0) (e - 1) f) where
+  module _ {t e f : ℕ} (some : 0 < e) (below : e ≤ t) (has : Has t e) (L : LastBefore k verts (getD verts (e - 1) 0) (e - 1) f) where
     here : getD verts (e - 1) 0 ≡ getD verts t 0
-    here = has (e - 1) (omega arith)
+    here = has (e - 1) (omega arith) .0
 
     pub walk-has : Has t f
-    walk-has s h = L .has s h ∙ here
+    walk-has s h = (L .has s h .0 ∙ here, L .has s h .1)
 
-    link-at : LastBefore verts (getD verts t 0) (e - 1) f
-    link-at = subst (λ (x : ℕ). LastBefore verts x (e - 1) f) here L
+    link-at : LastBefore k verts (getD verts t 0) (e - 1) f
+    link-at = subst (λ (x : ℕ). LastBefore k verts x (e - 1) f) here L
 
     pub walk-pass : {p q : List ℕ} → rowsShare k verts (t / k) ((e - 1) / k) ≡ false → q ≡ p → Tied (Met n k verts t e) p → Tied (Met n k verts t f) q
     walk-pass {p} no-facet d T =
@@ -301,12 +356,16 @@ module _ (n k : ℕ) (verts : List ℕ) where
         subst (λ (l : List ℕ). Tied (Met n k verts t f) l) (sym d)
         (met-skip (omega arith) link-at (met-pass no-facet (subst (λ (m : ℕ). Tied (Met n k verts t m) p) u T)))
 
-    pub walk-join : {p q r : List ℕ} → t < n * k → walked k t ≡ true → rowsShare k verts (t / k) ((e - 1) / k) ≡ true → Joined p (t / k) ((e - 1) / k) r → q ≡ r
+    pub walk-join : {p q r : List ℕ} → t < n * k → walked k verts t ≡ true → rowsShare k verts (t / k) ((e - 1) / k) ≡ true → Joined p (t / k) ((e - 1) / k) r → q ≡ r
         → Tied (Met n k verts t e) p → Tied (Met n k verts t f) q
     walk-join {p} l walks facet J d T =
         let u : e ≡ suc (e - 1) = omega arith in
         subst (λ (l : List ℕ). Tied (Met n k verts t f) l) (sym d)
-        (met-skip (omega arith) link-at (met-join (omega arith) l walks here facet J (subst (λ (m : ℕ). Tied (Met n k verts t m) p) u T)))
+        (met-skip (omega arith) link-at (met-join (omega arith) l walks (has (e - 1) (omega arith) .1) here facet J (subst (λ (m : ℕ). Tied (Met n k verts t m) p) u T)))
+
+    -- what is told of the two, which are known by other terms
+    pub told-at : (y z : ℕ) {i j : ℕ} → i ≡ t / k → j ≡ (e - 1) / k → rowsShare k verts (t / k) ((e - 1) / k) ≡ sharesBy k verts y z ((e - 1) / k) → rowsShare k verts i j ≡ sharesBy k verts y z j
+    told-at y z a b q = rw (a, b) q
 
     -- the same, where the two elements are known by other terms
     pub walk-pass-at : {i j : ℕ} {p q : List ℕ} → i ≡ t / k → j ≡ (e - 1) / k → rowsShare k verts i j ≡ false → q ≡ p → Tied (Met n k verts t e) p → Tied (Met n k verts t f) q
@@ -326,22 +385,38 @@ module _ (n k : ℕ) (verts : List ℕ) where
         (subst (λ (v : ℕ). Tied (Met n k verts t v) p) u T))))
         w
 
-    pub walk-join-at : {i j : ℕ} {p q r : List ℕ} → i ≡ t / k → j ≡ (e - 1) / k → t < n * k → walked k t ≡ true → rowsShare k verts i j ≡ true → Joined p i j r → q ≡ r
+    pub walk-join-at : {i j : ℕ} {p q r : List ℕ} → i ≡ t / k → j ≡ (e - 1) / k → t < n * k → walked k verts t ≡ true → rowsShare k verts i j ≡ true → Joined p i j r → q ≡ r
         → Tied (Met n k verts t e) p → Tied (Met n k verts t f) q
     walk-join-at {i} {j} {p} {q} {r} a b l walks facet J d T =
         walk-join l walks (subst (λ (y : ℕ). rowsShare k verts (t / k) y ≡ true) b (subst (λ (x : ℕ). rowsShare k verts x j ≡ true) a facet))
         (subst (λ (y : ℕ). Joined p (t / k) y r) b (subst (λ (x : ℕ). Joined p x j r) a J)) d T
 
+-- ---- tables beside, and the count of places, said another way
+
+pub beside-for : {n k : ℕ} {verts : List ℕ} {a b c d e f : ℕ} → d ≡ a → e ≡ b → f ≡ c → Beside n k verts a b c → Beside n k verts d e f
+beside-for p q r B =
+    record { rows = B .rows; link-room = (let h = B .link-room in omega arith); long = r ∙ B .long; below = λ t l. let h = B .below t l in omega arith }
+
+pub walking-to : {n k : ℕ} {verts last link parent : List ℕ} {t m : ℕ} → t ≡ m → Walking n k verts last link t parent → Walking n k verts last link m parent
+walking-to {n} {k} {verts} {last} {link} {parent} e W = subst (λ (m : ℕ). Walking n k verts last link m parent) e W
+
+pub walking-same : {n k t : ℕ} {verts last link parent last' link' parent' : List ℕ} → last' ≡ last → link' ≡ link → parent' ≡ parent → Walking n k verts last link t parent
+    → Walking n k verts last' link' t parent'
+walking-same p q r W = rw (p, q, r) W
+
+-- at the start nothing is linked or met
+pub walking-none : (n k : ℕ) (verts last link parent : List ℕ) → ((x : ℕ) → x < length last → getD last x 0 ≡ 0) → ((a : ℕ) → a < length parent → getD parent a 0 ≡ a)
+    → Walking n k verts last link (0 * k) parent
+walking-none n k verts last link parent none own =
+    let e : 0 ≡ 0 * k = omega arith in
+    walking-to e
+    (record {
+      heads = heads-none k verts last none;
+      linked = linked-none k verts link;
+      tied = tied-start {R = Met n k verts 0 0} parent own (met-none n k verts);
+    })
+
 -- ---- the pairs that are met, and the elements that share a facet
-
--- every corner but the third of a triangle is the start of a walk
-walked-other : (k t : ℕ) → (k ≡ 3 → ⊥) → walked k t ≡ true
-unfolding walked
-walked-other k t d = rw (ne-eqb k 3 d)
-
-walked-three : (k a c : ℕ) → k ≡ 3 → c < 2 → walked k (a * k + c) ≡ true
-unfolding walked
-walked-three k a c e l = let h : (a * 3 + c) % 3 < 2 = omega arith in rw e (lt-ltb ((a * 3 + c) % 3) 2 h)
 
 module _ {n k : ℕ} {es : List Element} {verts : List ℕ} (C : Cornered k es n verts) (plain : Plain es) (two : 2 ≤ k) where
   share-is : (i j : ℕ) → i < n → j < n → rowsShare k verts i j ≡ sharing k es i j
@@ -355,31 +430,45 @@ module _ {n k : ℕ} {es : List Element} {verts : List ℕ} (C : Cornered k es n
       let m : b < n = subst (λ (x : ℕ). x < n) (M .second) (place-in n k (M .earlier) (omega arith) (let h = M .inside in omega arith)) in
       ahead (sharing-share k es plain a b (omega (arith, C .count)) (omega (arith, C .count)) (sym (share-is a b l m) ∙ M .shared)) stay
 
-  -- of an element's corners that are in another one is the start of a walk
-  chosen : (a b : ℕ) (S : Share k es a b) → (c : ℕ) × ((c < k) × ((walked k (a * k + c) ≡ true) × (stands (getD verts (a * k + c) 0) (S .particles) ≡ true)))
+  -- a linked place of element i that has x
+  abbrev LinkedAt : ℕ → ℕ → Type 0
+  LinkedAt i x = (c : ℕ) × ((c < k) × ((walked k verts (i * k + c) ≡ true) × (getD verts (i * k + c) 0 ≡ x)))
+
+  -- any particle of a strap has one, and of a triangle any but the largest
+  any-linked : (k ≡ 3 → ⊥) → (i x : ℕ) → Holds es i x → LinkedAt i x
+  any-linked d i x h = let u = corner-held C i x h in (u .0, (u .1 .0, (walked-other k verts (i * k + u .0) d, u .1 .1)))
+
+  low-linked : k ≡ 3 → (i x y : ℕ) → x < y → Holds es i x → Holds es i y → LinkedAt i x
+  low-linked e i x y o h g =
+      let u = corner-held C i x h in
+      let w = corner-held C i y g in
+      let p = u .1 .1 in
+      let q = w .1 .1 in
+      (u .0, (u .1 .0, (walked-low k verts i (u .0) (w .0) e (u .1 .0) (w .1 .0) (omega arith), p)))
+
+  -- of the particles that two elements share one has a linked place in both
+  chosen : (a b : ℕ) → Share k es a b → (x : ℕ) × (LinkedAt a x × LinkedAt b x)
   chosen a b S =
       let enough = S .enough in
       let ps = S .particles in
       let x = getD ps 0 0 in
+      let y = getD ps 1 0 in
       let tx : stands x ps ≡ true = stands-made x ps 0 (omega arith) refl in
-      let u = corner-held C a x (S .first, S .in-first x tx) in
-      let cu = u .1 .0 in
+      let ax : Holds es a x = (S .first, S .in-first x tx) in
+      let bx : Holds es b x = (S .second, S .in-second x tx) in
       elim (ℕ-discrete k 3) [
-        | no d ↦ (u .0, (cu, (walked-other k (a * k + u .0) d, rw (u .1 .1) tx)))
+        | no d ↦ (x, (any-linked d a x ax, any-linked d b x bx))
         | yes e ↦
             let l : 1 < length ps = omega arith in
-            let y = getD ps 1 0 in
             let ty : stands y ps ≡ true = stands-made y ps 1 l refl in
-            let w = corner-held C a y (S .first, S .in-first y ty) in
-            let cw = w .1 .0 in
-            elim (decLt (u .0) 2) [
-              | yes o ↦ (u .0, (cu, (walked-three k a (u .0) e o, rw (u .1 .1) tx)))
+            let ay : Holds es a y = (S .first, S .in-first y ty) in
+            let by : Holds es b y = (S .second, S .in-second y ty) in
+            elim (decLt x y) [
+              | yes o ↦ (x, (low-linked e a x y o ax ay, low-linked e b x y o bx by))
               | no o ↦
-                  elim (ℕ-discrete (u .0) (w .0)) [
-                    | yes s ↦
-                        let q : x ≡ y = sym (u .1 .1) ∙ ap (λ (c : ℕ). getD verts (a * k + c) 0) s ∙ w .1 .1 in
-                        absurd (let z = once-same ps (S .differ) 0 1 (omega arith) l q in omega arith)
-                    | no s ↦ (w .0, (cw, (walked-three k a (w .0) e (omega arith), rw (w .1 .1) ty)))
+                  elim (ℕ-discrete x y) [
+                    | yes q ↦ absurd (let z = once-same ps (S .differ) 0 1 (omega arith) l q in omega arith)
+                    | no q ↦ let m : y < x = omega arith in (y, (low-linked e a y x m ay ax, low-linked e b y x m by bx))
                   ]
             ]
       ]
@@ -389,9 +478,9 @@ module _ {n k : ℕ} {es : List Element} {verts : List ℕ} (C : Cornered k es n
   met-below a b o S =
       let la : a < n = omega (arith, C .count, S .first) in
       let lb : b < n = omega (arith, C .count, S .second) in
-      let u = chosen a b S in
-      let x = getD verts (a * k + u .0) 0 in
-      let w = corner-held C b x (S .second, S .in-second x (u .1 .1 .1)) in
+      let q = chosen a b S in
+      let u = q .1 .0 in
+      let w = q .1 .1 in
       let cu = u .1 .0 in
       let cw = w .1 .0 in
       let in-row : a * k + u .0 < n * k = omega (arith, row-before k a n la) in
@@ -401,8 +490,9 @@ module _ {n k : ℕ} {es : List Element} {verts : List ℕ} (C : Cornered k es n
         before = omega (arith, row-before k b a o);
         inside = in-row;
         walks = u .1 .1 .0;
+        begins = w .1 .1 .0;
         met = inl in-row;
-        same = w .1 .1;
+        same = w .1 .1 .1 ∙ sym (u .1 .1 .1);
         first = place-of k a (u .0) cu;
         second = place-of k b (w .0) cw;
         shared = share-is a b la lb ∙ share-sharing k es plain a b S;

@@ -93,6 +93,16 @@ module _ (k : ℕ) (verts : List ℕ) (i j : ℕ) (narrow : j < k) where
 pub tied-at : {k : ℕ} {verts p q : List ℕ} {m n : ℕ} → m ≡ n → q ≡ p → Tied (Link k verts m) p → Tied (Link k verts n) q
 tied-at {k} {verts} {p} {q} {m} {n} e d T = rw (d, ← e) T
 
+-- the first corner is its own
+pub tied-first : (k : ℕ) (verts : List ℕ) (i : ℕ) {p : List ℕ} → 1 ≤ k → getD verts (i * k) 0 < length p → Tied (Link k verts (i * k)) p → Tied (Link k verts (i * k + 1)) p
+tied-first k verts i {p} some l T =
+    let e : i * k + 0 ≡ i * k = omega arith in
+    let d : i * k + (0 + 1) ≡ i * k + 1 = omega arith in
+    let q : getD verts (i * k + 0) 0 ≡ getD verts (i * k) 0 = at-eq verts e in
+    let m : getD verts (i * k + 0) 0 < length p = omega arith in
+    tied-at d refl
+    (tied-one (getD verts (i * k) 0) (getD verts (i * k + 0) 0) (tied-at (sym e) refl T) l m (sym (at-eq p q)) (link-more k verts i 0 some) (link-split k verts i 0 some))
+
 -- a flat table that joins all links has the lowest particle of each body
 pub body-roots : {n k : ℕ} {verts p q : List ℕ} → Tied (Link k verts (n * k)) p → Kept p q
     → ((a : ℕ) → a < length p → getD q (getD q a 0) 0 ≡ getD q a 0) → BodyRoots n k verts q

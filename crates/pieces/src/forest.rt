@@ -39,7 +39,8 @@ pub fn join(parent: &mut [usize], i: usize, j: usize)
 pub fn flatten(parent: &mut [usize])
     requires { ⌜ Down (now parent) ⌝ }
     ensures { λ _. ⌜ Kept (now (parent .entry)) (now (parent .exit)) ⌝ }
-    ensures { λ _. ⌜ ((a : ℕ) → a < length (now (parent .entry)) → getD (now (parent .exit)) (getD (now (parent .exit)) a 0) 0 ≡ getD (now (parent .exit)) a 0) ⌝ }
+    ensures { λ _. ⌜ ((a : ℕ) → a < length (now (parent .entry)) → getD (now (parent .exit)) (getD (now (parent .exit)) a 0) 0
+        ≡ getD (now (parent .exit)) a 0) ⌝ }
 {
     let mut i = 0;
     while i < parent.len() {

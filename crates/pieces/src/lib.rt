@@ -9,7 +9,7 @@ ghost use lib.ListN.{length, getD};
 ghost use Rattle.pieces.specs.Counted.{Corners, BodyRoots, UsedMarked};
 ghost use Rattle.pieces.specs.Tables.{Link, Tied, CornerStep};
 
-// Joins each corner of element i to the first.
+// Joins each further corner of element i to the first, unless the two have one parent already.
 fn join_corners(n: usize, k: usize, i: usize, verts: &[usize], parent: &mut [usize])
     requires { ⌜ Corners n k (now verts) (length (now parent)) ⌝ }
     requires { ⌜ CornerStep n k i (now verts) (now parent) ⌝ }
@@ -17,10 +17,13 @@ fn join_corners(n: usize, k: usize, i: usize, verts: &[usize], parent: &mut [usi
 {
     let at = i * k;
     let first = verts[at];
-    let mut j = 0;
+    let mut j = 1;
     while j < k {
         let place = at + j;
-        forest::join(parent, first, verts[place]);
+        let other = verts[place];
+        if parent[first] != parent[other] {
+            forest::join(parent, first, other);
+        }
         j += 1;
     }
 }

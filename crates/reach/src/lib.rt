@@ -3,20 +3,69 @@ ghost use mathlib.Core.Path.{_≡_};
 ghost use Prim.Native.Nat.{ℕ, _+_, _*_, _<_, _≤_};
 ghost use lib.ListN.{length, getD};
 ghost use lib.Dec.{leb};
+ghost use mathlib.Core.List.{List, [], _∷_};
 ghost use Rattle.lists.specs.Lists.{stands};
 ghost use Rattle.lists.specs.Labels.{labelled};
+ghost use Rattle.fan.specs.Fan.{sharedOthers};
 ghost use Rattle.model.specs.Pieces.{minPiece};
 ghost use Rattle.reach.specs.Opens.{Opens};
-ghost use Rattle.reach.specs.Walk.{facetShared, touching, holdsRow, seeds, reachFrom, Rows, Lent, marked, Queued, Spread, Seeded};
+ghost use Rattle.reach.specs.Walk.{row, facetShared, touching, holdsRow, seeds, reachFrom, Rows, Lent, marked, Queued, Spread, Seeded};
 
-// Does row j hold v?
+// Does triangle j hold v?
+pub fn triangle_holds(verts: &[usize], j: usize, v: usize) -> bool
+    requires { ⌜ j * 3 + 3 ≤ length (now verts) ⌝ }
+    ensures { λ r. ⌜ r ≡ stands v (row 3 (now (verts .entry)) j) ⌝ }
+{
+    let t = j * 3;
+    if verts[t] == v {
+        return true;
+    }
+    if verts[t + 1] == v {
+        return true;
+    }
+    verts[t + 2] == v
+}
+
+// Does row j hold v? (Three corners that are written out are looked at faster.)
 fn holds(n: usize, k: usize, v: usize, verts: &[usize], j: usize) -> bool
     requires { ⌜ Rows n k (length (now verts)) × (j < n) ⌝ }
     ensures { λ r. ⌜ r ≡ holdsRow k v (now (verts .entry)) j ⌝ }
 {
+    if k == 3 {
+        return triangle_holds(verts, j, v);
+    }
     let a = j * k;
     let e = a + k;
     fan::stands_in(v, &verts[a..e])
+}
+
+// 1 if x is not v and triangle j holds it, else 0.
+fn shares_corner(verts: &[usize], j: usize, v: usize, x: usize) -> usize
+    requires { ⌜ j * 3 + 3 ≤ length (now verts) ⌝ }
+    ensures { λ r. ⌜ r ≡ sharedOthers v (x ∷ []) (row 3 (now (verts .entry)) j) ⌝ }
+{
+    if x == v {
+        return 0;
+    }
+    if triangle_holds(verts, j, x) {
+        return 1;
+    }
+    0
+}
+
+// Do two corners of triangle i, and neither of them v, stand in triangle j? Where the first two do not, the third is not looked at.
+fn triangles_share(v: usize, verts: &[usize], i: usize, j: usize) -> bool
+    requires { ⌜ (i * 3 + 3 ≤ length (now verts)) × (j * 3 + 3 ≤ length (now verts)) ⌝ }
+    ensures { λ r. ⌜ r ≡ facetShared 3 v (now (verts .entry)) i j ⌝ }
+{
+    let t = i * 3;
+    let a = shares_corner(verts, j, v, verts[t]);
+    let b = shares_corner(verts, j, v, verts[t + 1]);
+    if a + b == 0 {
+        return false;
+    }
+    let c = shares_corner(verts, j, v, verts[t + 2]);
+    2 <= a + b + c
 }
 
 // Do all corners of row i but one, and none of them v, stand in row j?
@@ -24,6 +73,9 @@ fn shares_facet(n: usize, k: usize, v: usize, verts: &[usize], i: usize, j: usiz
     requires { ⌜ Rows n k (length (now verts)) × (i < n) × (j < n) ⌝ }
     ensures { λ r. ⌜ r ≡ facetShared k v (now (verts .entry)) i j ⌝ }
 {
+    if k == 3 {
+        return triangles_share(v, verts, i, j);
+    }
     let a = i * k;
     let ae = a + k;
     let b = j * k;
@@ -65,7 +117,8 @@ fn queue_group(
     seen: &mut [usize],
     queue: &mut [usize],
 ) -> usize
-    requires { ⌜ Lent n k v (now verts) (now groups) (length (now seen)) (length (now queue)) × ((j : ℕ) → j < n → getD (now seen) j 0 ≡ 0) ⌝ }
+    requires { ⌜ Lent n k v (now verts) (now groups) (length (now seen)) (length (now queue)) × ((j : ℕ) → j < n → getD (now seen) j 0
+        ≡ 0) ⌝ }
     ensures { λ r. ⌜ Seeded n (seeds k v (now (verts .entry)) (now (groups .entry)) g) (now (seen .exit)) (now (queue .exit)) r ⌝ }
 {
     let mut end = 0;
@@ -115,7 +168,8 @@ fn spread(
     queue: &mut [usize],
 ) -> usize
     requires { ⌜ Rows n k (length (now verts)) × (i < n) × Queued n (now seen) (now queue) tail ⌝ }
-    ensures { λ r. ⌜ Spread n (touching k v (now (verts .entry)) i) (now (seen .entry)) (now (queue .entry)) tail (now (seen .exit)) (now (queue .exit)) r ⌝ }
+    ensures { λ r. ⌜ Spread n (touching k v (now (verts .entry)) i) (now (seen .entry)) (now (queue .entry)) tail (now (seen .exit))
+        (now (queue .exit)) r ⌝ }
 {
     let mut end = tail;
     let mut j = 0;

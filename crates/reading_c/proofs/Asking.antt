@@ -9,7 +9,7 @@ use Rattle.model.specs.Calls.{refusal}
 use Rattle.model.specs.Reads.{refused, piecesCall, restMeasureCall, restMeasureOfCall, opensCall}
 use Rattle.mesh.specs.Given.{Given, meshOf, sizesFit}
 use Rattle.judge.specs.Checks.{thenCheck, faultOf}
-use Rattle.asked.proofs.Judged.{arguments-refuse}
+use Rattle.arguments.proofs.Judged.{arguments-refuse}
 use Rattle.readings.specs.declared.Number.{Number}
 use Rattle.readings.specs.declared.Count.{Count}
 use Rattle.readings.specs.declared.Truth.{Truth}

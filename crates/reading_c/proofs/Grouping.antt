@@ -28,6 +28,10 @@ use Rattle.reading_c.proofs.Siding.{capped-sides, refused-either}
 pub front-few : (n : ℕ) (l : List ℕ) → n ≤ 2049 → length (take n l) ≤ 2049
 front-few n l h = omega (arith, length-take n l)
 
+-- the same of the front of a table that has a place for each
+pub front-placed : (n places : ℕ) (l : List ℕ) → n ≤ places → places ≤ 2049 → length (take n l) ≤ 2049
+front-placed n places l h m = front-few n l (omega arith)
+
 -- an answer in one of its cases
 pub told-small : (a b : Count) (ws : List ℕ) → a ≡ b → SmallCode (groupsTold a ws) → SmallCode (groupsTold b ws)
 told-small a b ws e h = subst (λ (o : Count). SmallCode (groupsTold o ws)) e h
@@ -42,9 +46,9 @@ placed-or lent zero gs h = ap (λ (b : Bool). pick b (value gs) (refused 4)) (le
 placed-or lent (suc c) gs h = refl
 
 -- a table that has a place for each side is no bad argument
-placed-call : (z : Bool) (M : Mesh) (v : ℕ) (t : List ℕ) → length t ≤ 2049 → placedIn 2049 (groupsCall z M v t) ≡ groupsCall z M v t
+placed-call : (z : Bool) (M : Mesh) (v : ℕ) (t : List ℕ) (places : ℕ) → length t ≤ places → placedIn places (groupsCall z M v t) ≡ groupsCall z M v t
 unfolding groupsCall gridOf
-placed-call z M v t h = let l = groups-long (gridOf (kindOf M) v (fanOf (kindOf M) M v) t) in placed-or 2049 (refusal z M true (sidesOk M v t)) _ (omega (arith, l, h))
+placed-call z M v t places h = let l = groups-long (gridOf (kindOf M) v (fanOf (kindOf M) M v) t) in placed-or places (refusal z M true (sidesOk M v t)) _ (omega (arith, l, h))
 
 calls-refused : (z : Bool) (M : Mesh) (v : ℕ) (t sides : List ℕ) → sidesOk M v t ≡ false → sidesOk M v sides ≡ false → groupsCall z M v t ≡ groupsCall z M v sides
 unfolding groupsCall
@@ -63,14 +67,14 @@ groups-capped s v r sides t h c e =
 
 -- ---- the reply
 
-told-or : (c : ℕ) (gs : List ℕ × ℕ) (n : ℕ) → length (gs .0) ≡ n → groupsTold (groupCount (orRefused c gs)) (take n (padded 2049 0 (groupsShown (orRefused c gs)))) ≡ groupsWords (orRefused c gs)
+told-or : (c : ℕ) (gs : List ℕ × ℕ) (n places : ℕ) → length (gs .0) ≡ n → groupsTold (groupCount (orRefused c gs)) (take n (padded places 0 (groupsShown (orRefused c gs)))) ≡ groupsWords (orRefused c gs)
 unfolding padded
-told-or zero gs n e = ap (λ (l : List ℕ). value (gs .1 ∷ l)) (take-at (gs .0) (replicate (2049 - length (gs .0)) 0) n e)
-told-or (suc c) gs n e = refl
+told-or zero gs n places e = ap (λ (l : List ℕ). value (gs .1 ∷ l)) (take-at (gs .0) (replicate (places - length (gs .0)) 0) n e)
+told-or (suc c) gs n places e = refl
 
-call-told : (z : Bool) (M : Mesh) (v : ℕ) (t : List ℕ) (n : ℕ) → length t ≡ n → groupsTold (groupCount (groupsCall z M v t)) (take n (padded 2049 0 (groupsShown (groupsCall z M v t)))) ≡ groupsWords (groupsCall z M v t)
+call-told : (z : Bool) (M : Mesh) (v : ℕ) (t : List ℕ) (n places : ℕ) → length t ≡ n → groupsTold (groupCount (groupsCall z M v t)) (take n (padded places 0 (groupsShown (groupsCall z M v t)))) ≡ groupsWords (groupsCall z M v t)
 unfolding groupsCall gridOf
-call-told z M v t n e = told-or (refusal z M true (sidesOk M v t)) _ n (groups-long (gridOf (kindOf M) v (fanOf (kindOf M) M v) t) ∙ e)
+call-told z M v t n places e = told-or (refusal z M true (sidesOk M v t)) _ n places (groups-long (gridOf (kindOf M) v (fanOf (kindOf M) M v) t) ∙ e)
 
 small-or : (c : ℕ) (gs : List ℕ × ℕ) (ws : List ℕ) → c < 256 → SmallCode (groupsTold (groupCount (orRefused c gs)) ws)
 small-or zero gs ws h = omega arith
@@ -81,12 +85,12 @@ groups-small z M v t lent a table ws A =
     rw (A .answer ∙ ap groupCount (placed-is z M v t lent)) (small-or _ _ ws (refusal-small z M true (sidesOk M v t && leb (length t) lent)))
 
 -- sides that are no more than the table has places
-pub groups-told : (z : Bool) (M : Mesh) (v : ℕ) (t : List ℕ) (lent r : ℕ) (a : Count) (table out : List ℕ) → length t ≤ 2049 → GroupsAnswered (groupsCall z M v t) 2049 a table
+pub groups-told : (z : Bool) (M : Mesh) (v : ℕ) (t : List ℕ) (places lent r : ℕ) (a : Count) (table out : List ℕ) → length t ≤ places → GroupsAnswered (groupsCall z M v t) places a table
     → Replied (groupsTold a (take (length t) table)) lent r out → Replied (groupsWords (groupsCall z M v t)) lent r out
-groups-told z M v t lent r a table out m A h =
+groups-told z M v t places lent r a table out m A h =
     let o : Read (List ℕ × ℕ) = groupsCall z M v t in
-    let q : placedIn 2049 o ≡ o = placed-call z M v t m in
+    let q : placedIn places o ≡ o = placed-call z M v t places m in
     replied-as (groupsTold a (take (length t) table)) _ lent r out
     (ap (λ (x : Count). groupsTold x (take (length t) table)) (A .answer ∙ ap groupCount q)
-    ∙ ap (λ (x : List ℕ). groupsTold (groupCount o) (take (length t) x)) (A .table-is ∙ ap (λ (x : Read (List ℕ × ℕ)). padded 2049 0 (groupsShown x)) q)
-    ∙ call-told z M v t (length t) refl) h
+    ∙ ap (λ (x : List ℕ). groupsTold (groupCount o) (take (length t) x)) (A .table-is ∙ ap (λ (x : Read (List ℕ × ℕ)). padded places 0 (groupsShown x)) q)
+    ∙ call-told z M v t (length t) places refl) h

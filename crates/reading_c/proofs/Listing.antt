@@ -18,7 +18,7 @@ use Rattle.model.specs.Calls.{present, strictly, particlesOk, refusal}
 use Rattle.model.specs.Reads.{orRefused, restMeasureOfCall}
 use Rattle.mesh.specs.Given.{meshOf}
 use Rattle.judge.proofs.Joined.{Sized, sizes-told}
-use Rattle.asked.proofs.Accepted.{particles-count}
+use Rattle.arguments.proofs.Accepted.{particles-count}
 use Rattle.readings.specs.declared.Number.{Number}
 use Rattle.readings.specs.Answers.{numberOf}
 use Rattle.image.specs.Words.{wordAt, wordsFrom}

@@ -43,7 +43,8 @@ pub fn opens_without_confetti(
     minimum: usize,
     out: &mut [u8],
 ) -> u32
-    ensures { λ r. ⌜ Replied (opensReply (now (bytes .entry)) v (now (sides .entry)) minimum) (length (now (out .entry))) r (now (out .exit)) ⌝ }
+    ensures { λ r. ⌜ Replied (opensReply (now (bytes .entry)) v (now (sides .entry)) minimum) (length (now (out .entry))) r
+        (now (out .exit)) ⌝ }
 {
     let mut numbers = [0usize; 2049];
     let n = capped(sides.len(), 2049);

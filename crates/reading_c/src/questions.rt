@@ -1,18 +1,123 @@
-// A question to a mesh image: the image is loaded into local blocks, and the public entry that answers is called on their fronts. No other function that reads has such blocks.
+// A question to a mesh image: the image is loaded into local blocks, small ones for a small image, and the public entry that answers is called on their fronts. No other
+// function that reads has such blocks.
 ghost use mathlib.Core.Path.{_≡_};
 ghost use mathlib.Core.Bool.{true};
 ghost use Prim.Native.Nat.{_≤_};
 ghost use lib.ListN.{length};
-ghost use Rattle.mesh.specs.Given.{given, meshOf, sizesFit};
+ghost use Rattle.mesh.specs.Given.{meshOf, sizesFit};
 ghost use Rattle.image.specs.Image.{imageSized};
+ghost use Rattle.image.specs.Loads.{Loadable};
 ghost use Rattle.reading_c.specs.Replies.{Replied};
 ghost use Rattle.reading_c.specs.Questions.{questionCall, questionReply};
+ghost use Rattle.image.specs.Small.{smallImage};
 ghost use Rattle.reading_c.specs.declared.Question.the-variants.{Groups, Unread};
+ghost use Rattle.mesh.specs.Blocks.{givenBefore};
 use crate::Question;
 use crate::reply;
+use image::small;
 use judge::checks;
 use readings::grouping;
 use readings::reading;
+
+// The groups that sides make at a particle, by a lent table that has a place for each side.
+fn groups_within(
+    v: usize,
+    list: &[usize],
+    points: &[f32],
+    roots: &[usize],
+    corners: &[usize],
+    volumes: &[f32],
+    ends: &[usize],
+    lengths: &[f32],
+    outline: &[usize],
+    groups: &mut [usize],
+    out: &mut [u8],
+) -> u32
+    requires { ⌜ (length (now list) ≤ length (now groups)) × (length (now groups) ≤ 2049) ⌝ }
+    ensures { λ r. ⌜ (let G = givenBefore points roots corners volumes ends lengths outline in
+        Replied (questionCall (Groups v) (sizesFit G) (meshOf G) (now (list .entry))) (length (now (out .entry))) r (now (out .exit))) ⌝ }
+{
+    let n = list.len();
+    let a = grouping::groups(
+        points,
+        roots,
+        corners,
+        volumes,
+        ends,
+        lengths,
+        outline,
+        v,
+        list,
+        groups,
+    );
+    reply::reply_groups(a, &groups[..n], out)
+}
+
+// The groups that few sides make, as those of a small image are, in a small table.
+fn few_groups(
+    v: usize,
+    list: &[usize],
+    points: &[f32],
+    roots: &[usize],
+    corners: &[usize],
+    volumes: &[f32],
+    ends: &[usize],
+    lengths: &[f32],
+    outline: &[usize],
+    out: &mut [u8],
+) -> u32
+    requires { ⌜ length (now list) ≤ 128 ⌝ }
+    ensures { λ r. ⌜ (let G = givenBefore points roots corners volumes ends lengths outline in
+        Replied (questionCall (Groups v) (sizesFit G) (meshOf G) (now (list .entry))) (length (now (out .entry))) r (now (out .exit))) ⌝ }
+{
+    let mut groups = [0usize; small::SIDES];
+    groups_within(
+        v,
+        list,
+        points,
+        roots,
+        corners,
+        volumes,
+        ends,
+        lengths,
+        outline,
+        &mut groups,
+        out,
+    )
+}
+
+// The groups that any sides make, in a table for the most that are asked about.
+fn many_groups(
+    v: usize,
+    list: &[usize],
+    points: &[f32],
+    roots: &[usize],
+    corners: &[usize],
+    volumes: &[f32],
+    ends: &[usize],
+    lengths: &[f32],
+    outline: &[usize],
+    out: &mut [u8],
+) -> u32
+    requires { ⌜ length (now list) ≤ 2049 ⌝ }
+    ensures { λ r. ⌜ (let G = givenBefore points roots corners volumes ends lengths outline in
+        Replied (questionCall (Groups v) (sizesFit G) (meshOf G) (now (list .entry))) (length (now (out .entry))) r (now (out .exit))) ⌝ }
+{
+    let mut groups = [0usize; 2049];
+    groups_within(
+        v,
+        list,
+        points,
+        roots,
+        corners,
+        volumes,
+        ends,
+        lengths,
+        outline,
+        &mut groups,
+        out,
+    )
+}
 
 // The groups that sides make at a particle.
 fn ask_groups(
@@ -28,11 +133,26 @@ fn ask_groups(
     out: &mut [u8],
 ) -> u32
     requires { ⌜ length (now list) ≤ 2049 ⌝ }
-    ensures { λ r. ⌜ Replied (questionCall (Groups v) (sizesFit (given (now (points .entry)) (now (roots .entry)) (now (corners .entry)) (now (volumes .entry)) (now (ends .entry)) (now (lengths .entry)) (now (outline .entry)))) (meshOf (given (now (points .entry)) (now (roots .entry)) (now (corners .entry)) (now (volumes .entry)) (now (ends .entry)) (now (lengths .entry)) (now (outline .entry)))) (now (list .entry))) (length (now (out .entry))) r (now (out .exit)) ⌝ }
+    ensures { λ r. ⌜ (let G = givenBefore points roots corners volumes ends lengths outline in
+        Replied (questionCall (Groups v) (sizesFit G) (meshOf G) (now (list .entry))) (length (now (out .entry))) r (now (out .exit))) ⌝ }
 {
-    let mut groups = [0usize; 2049];
-    let n = list.len();
-    let a = grouping::groups(
+    if list.len() <= small::SIDES {
+        return few_groups(
+            v,
+            list,
+            points,
+            roots,
+            corners,
+            volumes,
+            ends,
+            lengths,
+            outline,
+            out,
+        );
+    }
+    many_groups(
+        v,
+        list,
         points,
         roots,
         corners,
@@ -40,11 +160,8 @@ fn ask_groups(
         ends,
         lengths,
         outline,
-        v,
-        list,
-        &mut groups,
-    );
-    reply::reply_groups(a, &groups[..n], out)
+        out,
+    )
 }
 
 // A question to the mesh that blocks are.
@@ -61,7 +178,8 @@ fn ask(
     out: &mut [u8],
 ) -> u32
     requires { ⌜ length (now list) ≤ 2049 ⌝ }
-    ensures { λ r. ⌜ Replied (questionCall q (sizesFit (given (now (points .entry)) (now (roots .entry)) (now (corners .entry)) (now (volumes .entry)) (now (ends .entry)) (now (lengths .entry)) (now (outline .entry)))) (meshOf (given (now (points .entry)) (now (roots .entry)) (now (corners .entry)) (now (volumes .entry)) (now (ends .entry)) (now (lengths .entry)) (now (outline .entry)))) (now (list .entry))) (length (now (out .entry))) r (now (out .exit)) ⌝ }
+    ensures { λ r. ⌜ (let G = givenBefore points roots corners volumes ends lengths outline in
+        Replied (questionCall q (sizesFit G) (meshOf G) (now (list .entry))) (length (now (out .entry))) r (now (out .exit))) ⌝ }
 {
     match q {
         Question::Pieces => {
@@ -121,18 +239,25 @@ fn ask(
     }
 }
 
-// A question to an image that has the sizes of a mesh.
-fn ask_loaded(q: Question, list: &[usize], bytes: &[u8], out: &mut [u8]) -> u32
-    requires { ⌜ (imageSized (now bytes) ≡ true) × (length (now list) ≤ 2049) ⌝ }
+// A question to an image that has the sizes of a mesh, by seven lent blocks that have room for it.
+fn ask_within(
+    q: Question,
+    list: &[usize],
+    bytes: &[u8],
+    points: &mut [f32],
+    roots: &mut [usize],
+    corners: &mut [usize],
+    volumes: &mut [f32],
+    ends: &mut [usize],
+    lengths: &mut [f32],
+    outline: &mut [usize],
+    out: &mut [u8],
+) -> u32
+    requires { ⌜ (imageSized (now bytes) ≡ true) × (length (now list) ≤ 2049)
+        × Loadable (now bytes) (length (now points)) (length (now roots)) (length (now corners)) (length (now volumes)) (length (now ends))
+        (length (now lengths)) (length (now outline)) ⌝ }
     ensures { λ r. ⌜ Replied (questionReply q (now (bytes .entry)) (now (list .entry))) (length (now (out .entry))) r (now (out .exit)) ⌝ }
 {
-    let mut points = [0.0f32; 1024 * mesh::POINT_COLUMNS];
-    let mut roots = [0usize; 2048];
-    let mut corners = [0usize; 3072];
-    let mut volumes = [0.0f32; 2048];
-    let mut ends = [0usize; 8192];
-    let mut lengths = [0.0f32; 8192];
-    let mut outline = [0usize; 4096];
     let p = image::word_at(bytes, 0);
     let t = image::word_at(bytes, 1);
     let e = image::word_at(bytes, 2);
@@ -145,13 +270,13 @@ fn ask_loaded(q: Question, list: &[usize], bytes: &[u8], out: &mut [u8]) -> u32
     let b2 = 2 * b;
     image::load(
         bytes,
-        &mut points,
-        &mut roots,
-        &mut corners,
-        &mut volumes,
-        &mut ends,
-        &mut lengths,
-        &mut outline,
+        points,
+        roots,
+        corners,
+        volumes,
+        ends,
+        lengths,
+        outline,
     );
     ask(
         q,
@@ -165,6 +290,71 @@ fn ask_loaded(q: Question, list: &[usize], bytes: &[u8], out: &mut [u8]) -> u32
         &outline[..b2],
         out,
     )
+}
+
+// A question to a small image, in small blocks: they are cleared in a sixteenth of the time.
+fn ask_small(q: Question, list: &[usize], bytes: &[u8], out: &mut [u8]) -> u32
+    requires { ⌜ (imageSized (now bytes) ≡ true) × (length (now list) ≤ 2049) × (smallImage (now bytes) ≡ true) ⌝ }
+    ensures { λ r. ⌜ Replied (questionReply q (now (bytes .entry)) (now (list .entry))) (length (now (out .entry))) r (now (out .exit)) ⌝ }
+{
+    let mut points = [0.0f32; small::PARTICLES * mesh::POINT_COLUMNS];
+    let mut roots = [0usize; 2 * small::PARTICLES];
+    let mut corners = [0usize; 3 * small::TRIANGLES];
+    let mut volumes = [0.0f32; 2 * small::TRIANGLES];
+    let mut ends = [0usize; 4 * small::EDGES];
+    let mut lengths = [0.0f32; 4 * small::EDGES];
+    let mut outline = [0usize; 2 * small::BOUNDARY];
+    ask_within(
+        q,
+        list,
+        bytes,
+        &mut points,
+        &mut roots,
+        &mut corners,
+        &mut volumes,
+        &mut ends,
+        &mut lengths,
+        &mut outline,
+        out,
+    )
+}
+
+// A question to any other image, in blocks for the most that a mesh may have.
+fn ask_large(q: Question, list: &[usize], bytes: &[u8], out: &mut [u8]) -> u32
+    requires { ⌜ (imageSized (now bytes) ≡ true) × (length (now list) ≤ 2049) ⌝ }
+    ensures { λ r. ⌜ Replied (questionReply q (now (bytes .entry)) (now (list .entry))) (length (now (out .entry))) r (now (out .exit)) ⌝ }
+{
+    let mut points = [0.0f32; 1024 * mesh::POINT_COLUMNS];
+    let mut roots = [0usize; 2048];
+    let mut corners = [0usize; 3072];
+    let mut volumes = [0.0f32; 2048];
+    let mut ends = [0usize; 8192];
+    let mut lengths = [0.0f32; 8192];
+    let mut outline = [0usize; 4096];
+    ask_within(
+        q,
+        list,
+        bytes,
+        &mut points,
+        &mut roots,
+        &mut corners,
+        &mut volumes,
+        &mut ends,
+        &mut lengths,
+        &mut outline,
+        out,
+    )
+}
+
+// A question to an image that has the sizes of a mesh.
+fn ask_loaded(q: Question, list: &[usize], bytes: &[u8], out: &mut [u8]) -> u32
+    requires { ⌜ (imageSized (now bytes) ≡ true) × (length (now list) ≤ 2049) ⌝ }
+    ensures { λ r. ⌜ Replied (questionReply q (now (bytes .entry)) (now (list .entry))) (length (now (out .entry))) r (now (out .exit)) ⌝ }
+{
+    if small::is_small(bytes) {
+        return ask_small(q, list, bytes, out);
+    }
+    ask_large(q, list, bytes, out)
 }
 
 // A question to an image, beside a list that is no longer than a reply has places for. What is no image of a mesh is refused.

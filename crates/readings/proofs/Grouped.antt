@@ -26,12 +26,12 @@ use Rattle.judge.specs.Checks.{faultOf}
 use Rattle.elements.proofs.Found.{fan-of}
 use Rattle.reach.specs.Opens.{Opens}
 use Rattle.reach.proofs.Opening.{lent-by, opens-opening}
-use Rattle.asked.specs.Accepted.{FanFound}
+use Rattle.arguments.specs.Accepted.{FanFound}
 use Rattle.readings.specs.Fans.{FanAsked, GroupsFilled, WalkAsked}
 use Rattle.readings.specs.Answers.{truthOf, placedIn, groupCount, groupsShown, GroupsAnswered}
 use Rattle.readings.specs.declared.Count.the-variants.{Refused as CountRefused, Counted}
 use Rattle.readings.specs.declared.Truth.the-variants.{Refused as TruthRefused, Holds}
-use Rattle.asked.proofs.Judged.{decided}
+use Rattle.arguments.proofs.Judged.{decided}
 use Rattle.readings.proofs.Refusing.{refuse-by, value-by}
 
 -- ---- a fan that was found

@@ -6,14 +6,15 @@ ghost use Rattle.fan.specs.Fan.{fan};
 ghost use Rattle.fan.specs.Groups.{groupsOf, countOf};
 ghost use Rattle.reach.specs.Opens.{Opens};
 ghost use Rattle.model.specs.Reads.{groupsCall, opensCall};
-ghost use Rattle.mesh.specs.Given.{given, meshOf, sizesFit};
+ghost use Rattle.mesh.specs.Given.{meshOf, sizesFit};
 ghost use Rattle.judge.specs.Checks.{faultOf};
 ghost use Rattle.readings.specs.Fans.{FanAsked, GroupsFilled, WalkAsked};
 ghost use Rattle.readings.specs.Answers.{GroupsAnswered, truthOf};
+ghost use Rattle.mesh.specs.Blocks.{givenIn, givenBefore};
 use crate::Count;
 use crate::Truth;
-use asked::tables;
-use asked::tests;
+use arguments::tables;
+use arguments::tests;
 
 // The groups of a fan at the front of a lent table, and 0 behind them. Returns how many groups there are.
 fn fill_groups(
@@ -25,7 +26,8 @@ fn fill_groups(
     groups: &mut [usize],
 ) -> usize
     requires { ⌜ FanAsked (now verts) k (now sides) × (length (now sides) ≤ length (now groups)) ⌝ }
-    ensures { λ r. ⌜ GroupsFilled (fan (now (verts .entry)) k v others (now (sides .entry))) (length (now (groups .entry))) (now (groups .exit)) r ⌝ }
+    ensures { λ r. ⌜ GroupsFilled (fan (now (verts .entry)) k v others (now (sides .entry))) (length (now (groups .entry)))
+        (now (groups .exit)) r ⌝ }
 {
     let s = sides.len();
     let n = fan::groups_of(verts, k, v, others, sides, &mut groups[..s]);
@@ -46,8 +48,10 @@ fn mesh_groups(
     sides: &[usize],
     groups: &mut [usize],
 ) -> Count
-    requires { ⌜ faultOf (given (now points) (now roots) (now corners) (now volumes) (now ends) (now lengths) (now outline)) ≡ 0 ⌝ }
-    ensures { λ r. ⌜ GroupsAnswered (groupsCall (sizesFit (given (now (points .entry)) (now (roots .entry)) (now (corners .entry)) (now (volumes .entry)) (now (ends .entry)) (now (lengths .entry)) (now (outline .entry)))) (meshOf (given (now (points .entry)) (now (roots .entry)) (now (corners .entry)) (now (volumes .entry)) (now (ends .entry)) (now (lengths .entry)) (now (outline .entry)))) v (now (sides .entry))) (length (now (groups .entry))) r (now (groups .exit)) ⌝ }
+    requires { ⌜ faultOf (givenIn points roots corners volumes ends lengths outline) ≡ 0 ⌝ }
+    ensures { λ r. ⌜ (let G = givenBefore points roots corners volumes ends lengths outline in
+        GroupsAnswered (groupsCall (sizesFit G) (meshOf G) v (now (sides .entry))) (length (now (groups .entry))) r
+        (now (groups .exit))) ⌝ }
 {
     let mut verts = [0usize; 4096];
     let mut fan_verts = [0usize; 4096];
@@ -88,7 +92,9 @@ pub fn groups(
     sides: &[usize],
     groups: &mut [usize],
 ) -> Count
-    ensures { λ r. ⌜ GroupsAnswered (groupsCall (sizesFit (given (now (points .entry)) (now (roots .entry)) (now (corners .entry)) (now (volumes .entry)) (now (ends .entry)) (now (lengths .entry)) (now (outline .entry)))) (meshOf (given (now (points .entry)) (now (roots .entry)) (now (corners .entry)) (now (volumes .entry)) (now (ends .entry)) (now (lengths .entry)) (now (outline .entry)))) v (now (sides .entry))) (length (now (groups .entry))) r (now (groups .exit)) ⌝ }
+    ensures { λ r. ⌜ (let G = givenBefore points roots corners volumes ends lengths outline in
+        GroupsAnswered (groupsCall (sizesFit G) (meshOf G) v (now (sides .entry))) (length (now (groups .entry))) r
+        (now (groups .exit))) ⌝ }
 {
     let code = judge::checks::judge(points, roots, corners, volumes, ends, lengths, outline);
     if code != 0 {
@@ -123,8 +129,10 @@ fn fan_opens(
     seen: &mut [usize],
     queue: &mut [usize],
 ) -> bool
-    requires { ⌜ FanAsked (now «fan_verts») k (now sides) × (length (now sides) ≤ length (now groups)) × WalkAsked n k v (now verts) (length (now sides)) (length (now seen)) (length (now queue)) ⌝ }
-    ensures { λ r. ⌜ Opens n k v (now (verts .entry)) (groupsOf (fan (now («fan_verts» .entry)) k v others (now (sides .entry)))) (countOf (fan (now («fan_verts» .entry)) k v others (now (sides .entry)))) minimum r ⌝ }
+    requires { ⌜ FanAsked (now «fan_verts») k (now sides) × (length (now sides) ≤ length (now groups))
+        × WalkAsked n k v (now verts) (length (now sides)) (length (now seen)) (length (now queue)) ⌝ }
+    ensures { λ r. ⌜ Opens n k v (now (verts .entry)) (groupsOf (fan (now («fan_verts» .entry)) k v others (now (sides .entry)))) (countOf
+        (fan (now («fan_verts» .entry)) k v others (now (sides .entry)))) minimum r ⌝ }
 {
     let s = sides.len();
     let count = fan::groups_of(fan_verts, k, v, others, sides, &mut groups[..s]);
@@ -144,8 +152,9 @@ fn mesh_opens(
     sides: &[usize],
     minimum: usize,
 ) -> Truth
-    requires { ⌜ faultOf (given (now points) (now roots) (now corners) (now volumes) (now ends) (now lengths) (now outline)) ≡ 0 ⌝ }
-    ensures { λ r. ⌜ r ≡ truthOf (opensCall (sizesFit (given (now (points .entry)) (now (roots .entry)) (now (corners .entry)) (now (volumes .entry)) (now (ends .entry)) (now (lengths .entry)) (now (outline .entry)))) (meshOf (given (now (points .entry)) (now (roots .entry)) (now (corners .entry)) (now (volumes .entry)) (now (ends .entry)) (now (lengths .entry)) (now (outline .entry)))) v (now (sides .entry)) minimum) ⌝ }
+    requires { ⌜ faultOf (givenIn points roots corners volumes ends lengths outline) ≡ 0 ⌝ }
+    ensures { λ r. ⌜ (let G = givenBefore points roots corners volumes ends lengths outline in r
+        ≡ truthOf (opensCall (sizesFit G) (meshOf G) v (now (sides .entry)) minimum)) ⌝ }
 {
     let mut verts = [0usize; 4096];
     let mut fan_verts = [0usize; 4096];
@@ -198,7 +207,8 @@ pub fn opens_without_confetti(
     sides: &[usize],
     minimum: usize,
 ) -> Truth
-    ensures { λ r. ⌜ r ≡ truthOf (opensCall (sizesFit (given (now (points .entry)) (now (roots .entry)) (now (corners .entry)) (now (volumes .entry)) (now (ends .entry)) (now (lengths .entry)) (now (outline .entry)))) (meshOf (given (now (points .entry)) (now (roots .entry)) (now (corners .entry)) (now (volumes .entry)) (now (ends .entry)) (now (lengths .entry)) (now (outline .entry)))) v (now (sides .entry)) minimum) ⌝ }
+    ensures { λ r. ⌜ (let G = givenBefore points roots corners volumes ends lengths outline in r
+        ≡ truthOf (opensCall (sizesFit G) (meshOf G) v (now (sides .entry)) minimum)) ⌝ }
 {
     let code = judge::checks::judge(points, roots, corners, volumes, ends, lengths, outline);
     if code != 0 {

@@ -2,19 +2,25 @@
 ghost use mathlib.Core.Path.{_≡_};
 ghost use mathlib.Core.Bool.{true};
 ghost use Prim.Native.Nat.{_/_};
+ghost use lib.ListN.{length};
 ghost use Rattle.model.specs.Elements.{restMeasure, restMeasureOf};
 ghost use Rattle.model.specs.Pieces.{pieces as piecesOf};
 ghost use Rattle.model.specs.Calls.{particlesOk};
 ghost use Rattle.model.specs.Reads.{rootCall, bladeCall, piecesCall, restMeasureCall, restMeasureOfCall};
-ghost use Rattle.mesh.specs.Given.{given, meshOf, sizesFit};
-ghost use Rattle.asked.specs.Accepted.{Accepted};
+ghost use Rattle.mesh.specs.Given.{meshOf, sizesFit};
+ghost use Rattle.pieces.specs.Counted.{Lent, PiecesCounted};
+ghost use Rattle.arguments.specs.Accepted.{Accepted};
 ghost use Rattle.readings.specs.Answers.{numberOf, countOf, testedOf};
+ghost use Rattle.mesh.specs.Blocks.{givenIn, givenBefore};
 use crate::Count;
 use crate::Number;
 use crate::Tested;
-use asked::tests;
+use arguments::tests;
 use blade::Point;
 use float::root::Rooted;
+
+// The most corners of elements whose pieces are counted by a small table of links.
+const FEW_CORNERS: usize = 256;
 
 // The root of a number: 4 where it is below 0 or not finite.
 pub fn root(x: f32) -> Number
@@ -40,6 +46,36 @@ pub fn blade_hit(b0: Point, b1: Point, p: Point, q: Point) -> Tested
     Tested::Refused(2)
 }
 
+// How many pieces few elements have, by a small table of links.
+fn few_pieces(
+    n: usize,
+    k: usize,
+    verts: &[usize],
+    last: &mut [usize],
+    labels: &mut [usize],
+) -> usize
+    requires { ⌜ Lent n k (now verts) (length (now last)) 256 (length (now labels)) ⌝ }
+    ensures { λ r. ⌜ PiecesCounted n k (now (verts .entry)) (now (labels .exit)) r ⌝ }
+{
+    let mut link = [0usize; FEW_CORNERS];
+    pieces::facets::count_pieces(n, k, verts, last, &mut link, labels)
+}
+
+// How many pieces any elements of a mesh have, by a table of links for the most corners.
+fn many_pieces(
+    n: usize,
+    k: usize,
+    verts: &[usize],
+    last: &mut [usize],
+    labels: &mut [usize],
+) -> usize
+    requires { ⌜ Lent n k (now verts) (length (now last)) 4096 (length (now labels)) ⌝ }
+    ensures { λ r. ⌜ PiecesCounted n k (now (verts .entry)) (now (labels .exit)) r ⌝ }
+{
+    let mut link = [0usize; 4096];
+    pieces::facets::count_pieces(n, k, verts, last, &mut link, labels)
+}
+
 // How many pieces an accepted mesh has.
 fn count_pieces(
     points: &[f32],
@@ -50,16 +86,15 @@ fn count_pieces(
     lengths: &[f32],
     outline: &[usize],
 ) -> usize
-    requires { ⌜ Accepted (given (now points) (now roots) (now corners) (now volumes) (now ends) (now lengths) (now outline)) ⌝ }
-    ensures { λ r. ⌜ r ≡ piecesOf (meshOf (given (now (points .entry)) (now (roots .entry)) (now (corners .entry)) (now (volumes .entry)) (now (ends .entry)) (now (lengths .entry)) (now (outline .entry)))) ⌝ }
+    requires { ⌜ Accepted (givenIn points roots corners volumes ends lengths outline) ⌝ }
+    ensures { λ r. ⌜ r ≡ piecesOf (meshOf (givenBefore points roots corners volumes ends lengths outline)) ⌝ }
 {
     let mut numbers = [0usize; 2048];
     let mut verts = [0usize; 4096];
     let mut measures = [0.0f32; 2048];
     let mut last = [0usize; 1024];
-    let mut link = [0usize; 4096];
     let mut labels = [0usize; 2048];
-    let s = asked::tables::table(
+    let s = arguments::tables::table(
         points,
         roots,
         corners,
@@ -72,7 +107,11 @@ fn count_pieces(
         &mut measures,
     );
     let n = s.n;
-    pieces::facets::count_pieces(n, s.k, &verts, &mut last, &mut link, &mut labels[..n])
+    let k = s.k;
+    if n * k <= FEW_CORNERS {
+        return few_pieces(n, k, &verts, &mut last, &mut labels[..n]);
+    }
+    many_pieces(n, k, &verts, &mut last, &mut labels[..n])
 }
 
 // How many pieces a mesh has.
@@ -85,7 +124,8 @@ pub fn pieces(
     lengths: &[f32],
     outline: &[usize],
 ) -> Count
-    ensures { λ r. ⌜ r ≡ countOf (piecesCall (sizesFit (given (now (points .entry)) (now (roots .entry)) (now (corners .entry)) (now (volumes .entry)) (now (ends .entry)) (now (lengths .entry)) (now (outline .entry)))) (meshOf (given (now (points .entry)) (now (roots .entry)) (now (corners .entry)) (now (volumes .entry)) (now (ends .entry)) (now (lengths .entry)) (now (outline .entry))))) ⌝ }
+    ensures { λ r. ⌜ (let G = givenBefore points roots corners volumes ends lengths outline in r
+        ≡ countOf (piecesCall (sizesFit G) (meshOf G))) ⌝ }
 {
     let code = judge::checks::judge(points, roots, corners, volumes, ends, lengths, outline);
     if code != 0 {
@@ -104,13 +144,13 @@ fn whole_measure(
     lengths: &[f32],
     outline: &[usize],
 ) -> f32
-    requires { ⌜ Accepted (given (now points) (now roots) (now corners) (now volumes) (now ends) (now lengths) (now outline)) ⌝ }
-    ensures { λ r. ⌜ r ≡ restMeasure (meshOf (given (now (points .entry)) (now (roots .entry)) (now (corners .entry)) (now (volumes .entry)) (now (ends .entry)) (now (lengths .entry)) (now (outline .entry)))) ⌝ }
+    requires { ⌜ Accepted (givenIn points roots corners volumes ends lengths outline) ⌝ }
+    ensures { λ r. ⌜ r ≡ restMeasure (meshOf (givenBefore points roots corners volumes ends lengths outline)) ⌝ }
 {
     let mut numbers = [0usize; 2048];
     let mut verts = [0usize; 4096];
     let mut measures = [0.0f32; 2048];
-    let s = asked::tables::table(
+    let s = arguments::tables::table(
         points,
         roots,
         corners,
@@ -135,7 +175,8 @@ pub fn rest_measure(
     lengths: &[f32],
     outline: &[usize],
 ) -> Number
-    ensures { λ r. ⌜ r ≡ numberOf (restMeasureCall (sizesFit (given (now (points .entry)) (now (roots .entry)) (now (corners .entry)) (now (volumes .entry)) (now (ends .entry)) (now (lengths .entry)) (now (outline .entry)))) (meshOf (given (now (points .entry)) (now (roots .entry)) (now (corners .entry)) (now (volumes .entry)) (now (ends .entry)) (now (lengths .entry)) (now (outline .entry))))) ⌝ }
+    ensures { λ r. ⌜ (let G = givenBefore points roots corners volumes ends lengths outline in r
+        ≡ numberOf (restMeasureCall (sizesFit G) (meshOf G))) ⌝ }
 {
     let code = judge::checks::judge(points, roots, corners, volumes, ends, lengths, outline);
     if code != 0 {
@@ -155,14 +196,15 @@ fn listed_measure(
     outline: &[usize],
     list: &[usize],
 ) -> f32
-    requires { ⌜ Accepted (given (now points) (now roots) (now corners) (now volumes) (now ends) (now lengths) (now outline)) × (particlesOk (meshOf (given (now points) (now roots) (now corners) (now volumes) (now ends) (now lengths) (now outline))) (now list) ≡ true) ⌝ }
-    ensures { λ r. ⌜ r ≡ restMeasureOf (meshOf (given (now (points .entry)) (now (roots .entry)) (now (corners .entry)) (now (volumes .entry)) (now (ends .entry)) (now (lengths .entry)) (now (outline .entry)))) (now (list .entry)) ⌝ }
+    requires { ⌜ Accepted (givenIn points roots corners volumes ends lengths outline)
+        × (particlesOk (meshOf (givenIn points roots corners volumes ends lengths outline)) (now list) ≡ true) ⌝ }
+    ensures { λ r. ⌜ r ≡ restMeasureOf (meshOf (givenBefore points roots corners volumes ends lengths outline)) (now (list .entry)) ⌝ }
 {
     let mut numbers = [0usize; 2048];
     let mut verts = [0usize; 4096];
     let mut measures = [0.0f32; 2048];
     let mut marks = [0usize; 1024];
-    let s = asked::tables::table(
+    let s = arguments::tables::table(
         points,
         roots,
         corners,
@@ -188,7 +230,8 @@ pub fn rest_measure_of(
     outline: &[usize],
     list: &[usize],
 ) -> Number
-    ensures { λ r. ⌜ r ≡ numberOf (restMeasureOfCall (sizesFit (given (now (points .entry)) (now (roots .entry)) (now (corners .entry)) (now (volumes .entry)) (now (ends .entry)) (now (lengths .entry)) (now (outline .entry)))) (meshOf (given (now (points .entry)) (now (roots .entry)) (now (corners .entry)) (now (volumes .entry)) (now (ends .entry)) (now (lengths .entry)) (now (outline .entry)))) (now (list .entry))) ⌝ }
+    ensures { λ r. ⌜ (let G = givenBefore points roots corners volumes ends lengths outline in r
+        ≡ numberOf (restMeasureOfCall (sizesFit G) (meshOf G) (now (list .entry)))) ⌝ }
 {
     let code = judge::checks::judge(points, roots, corners, volumes, ends, lengths, outline);
     let ok = tests::rising_below(list, points.len() / mesh::POINT_COLUMNS);

@@ -3,9 +3,10 @@ use mathlib.Core.Path.{_≡_, refl, sym, _∙_, ap, ap₂, subst}
 use mathlib.Core.Logic.{_⊎_, inl, inr}
 use mathlib.Core.Bool.{Bool, true, false, not, _&&_, false≢true}
 use mathlib.Core.List.{List, [], _∷_, _++_, map, map-append, append-nil, append-assoc}
-use Prim.Native.Nat.{ℕ, zero, suc, _+_, _*_, _/_, _<_, _≤_, zero-le, suc-le-suc}
+use Prim.Native.Nat.{ℕ, zero, suc, _+_, _*_, _/_, _-_, _<_, _≤_, zero-le, suc-le-suc}
 use native.Mathlib.Omega.{arith}
 use native.Mathlib.Numerals.{add-one}
+use borrow.Author.Count.{below-more}
 use borrow.Author.Tests.{eq-eqb, ne-eqb, le-leb, lt-leb, leb-false}
 use lib.Dec.{eqb, leb}
 use lib.ListN.{length, getD, take, drop, set, length-set, length-append, length-map, length-drop, List·getD-append, take-append-drop}
@@ -25,14 +26,14 @@ use Rattle.model.specs.Mesh.{Edge, Mesh, blankEdge}
 use Rattle.model.specs.Elements.{Kind, element?, endsOf, farEnd, besides, restOf}
 use Rattle.model.specs.Split.{Part, Opening, Best, better, scoreOf, scored, toward, ring, edgeGroups, copyFor, moved, calm, stayed, doubled, otherEdges}
 use Rattle.mesh.specs.At.{edgeRow, edgesAt}
-use Rattle.opening.specs.Opened.{partAt, Ringed, ringFrom, OpeningIn}
-use Rattle.opening.specs.Answers.{NextGroup, CopyIs}
-use Rattle.opening.proofs.Rings.{ring-next, ring-first}
-use Rattle.opening.proofs.Weights.{fan-tab}
+use Rattle.split_plan.specs.Opened.{partAt, Ringed, ringFrom, OpeningIn}
+use Rattle.split_plan.specs.Answers.{NextGroup, CopyIs}
+use Rattle.split_plan.proofs.Rings.{ring-next, ring-first}
+use Rattle.split_plan.proofs.Weights.{fan-tab}
 use Rattle.rewire.specs.Stages.{EdgesGrown}
 use Rattle.work.specs.Rows.{GrownTo, Between}
 use Rattle.mesh.specs.Workers.{rowAt}
-use Rattle.rewire.specs.Edges.{EndsMoved, SameRows, CopiesGrown, EdgeSettled}
+use Rattle.rewire.specs.Edges.{EndsMoved, SameRows, CopiesGrown, EdgeSettled, NextNamed}
 use Rattle.work.specs.declared.Grown.{Grown}
 use Rattle.work.specs.declared.Grown.the-variants.{Lacking, Rows}
 use Rattle.work.proofs.Grows.{grown-all}
@@ -619,6 +620,64 @@ module _ (K : Kind) (v before k n count p e room : ℕ) (verts groups : List ℕ
             ends-long = le ∙ P .ends-long;
             lengths-long = ll ∙ P .lengths-long;
           }
+
+-- ---- edges that are passed by
+
+-- an edge that does not name v is no other edge
+not-second : (s t : Bool) → t ≡ false → not s && t ≡ false
+not-second true t e = refl
+not-second false t e = e
+
+unnamed-none : (K : Kind) (v i : ℕ) (ends : List ℕ) (lengths : List Float) → stands v (getD ends i 0 ∷ getD ends (length ends / 4 + i) 0 ∷ []) ≡ false
+    → not (element? K (rowAt ends lengths i)) && stands v (endsOf (rowAt ends lengths i)) ≡ false
+unnamed-none K v i ends lengths h =
+    not-second (element? K (rowAt ends lengths i)) (stands v (endsOf (rowAt ends lengths i)))
+    (ap₂ (λ (a b : ℕ). stands v (a ∷ b ∷ [])) (col-0 0 (length ends / 4) ends i) (col-1 0 (length ends / 4) ends i) ∙ h)
+
+-- the search for the next that names v: at its start, past one that does not, and at its end
+module _ {v from : ℕ} {ends : List ℕ} where
+  pub named-start : NextNamed v from from ends from
+  named-start = record { onward = omega arith; within = omega arith; unnamed = λ j a b. absurd (omega arith) }
+
+  module _ {i : ℕ} (N : NextNamed v from i ends i) where
+    pub named-on : stands v (getD ends i 0 ∷ getD ends (length ends / 4 + i) 0 ∷ []) ≡ false → NextNamed v from (i + 1) ends (i + 1)
+    named-on h =
+        record {
+          onward = omega (arith, N .onward);
+          within = omega arith;
+          unnamed =
+              λ j a b.
+              below-more (λ (k : ℕ). from ≤ k → stands v (getD ends k 0 ∷ getD ends (length ends / 4 + k) 0 ∷ []) ≡ false) i (λ k l m. N .unnamed k m l) (λ m. h) j b a;
+        }
+
+    pub named-here : {e : ℕ} → i ≤ e → NextNamed v from e ends i
+    named-here l = record { onward = N .onward; within = l; unnamed = N .unnamed }
+
+module _ {K : Kind} {v before k n count p e room : ℕ} {verts groups : List ℕ} {points : List Float} {ends₀ : List ℕ} {lengths₀ : List Float} (wide : room ≤ length ends₀ / 4) {ends : List ℕ} {lengths : List Float} {rows i : ℕ}
+    (P : Passing K v before k n count p e room verts groups points ends₀ ends lengths₀ lengths rows i) where
+  -- d of them
+  passing-by : (d : ℕ) → i + d ≤ e → ((j : ℕ) → i ≤ j → j < i + d → stands v (getD ends j 0 ∷ getD ends (length ends / 4 + j) 0 ∷ []) ≡ false)
+      → Passing K v before k n count p e room verts groups points ends₀ ends lengths₀ lengths rows (i + d)
+  passing-by zero l h =
+      let z : i ≡ i + zero = omega arith in
+      subst (λ (j : ℕ). Passing K v before k n count p e room verts groups points ends₀ ends lengths₀ lengths rows j) z P
+  passing-by (suc d) l h =
+      let Q = passing-by d (omega arith) (λ j a b. h j a (omega arith)) in
+      let z : i + d + 1 ≡ i + suc d = omega arith in
+      let least = P .least in
+      let long = P .ends-long in
+      subst (λ (j : ℕ). Passing K v before k n count p e room verts groups points ends₀ ends lengths₀ lengths rows j) z
+      (passing-step K v before k n count p e room verts groups points ends₀ lengths₀ ends lengths rows (i + d) Q (omega arith) (Rows rows) ends lengths
+      (settled-none K (i + d) v before k n count p rows room verts groups points ends lengths (omega arith) (P .most) (omega arith) (unnamed-none K v (i + d) ends lengths (h (i + d) (omega arith) (omega arith))))
+      rows refl refl refl)
+
+  -- all up to the next that does
+  pub passing-next : {r : ℕ} → NextNamed v i e ends r → Passing K v before k n count p e room verts groups points ends₀ ends lengths₀ lengths rows r
+  passing-next {r} N =
+      let a = N .onward in
+      let b = N .within in
+      let z : i + (r - i) ≡ r = omega arith in
+      subst (λ (j : ℕ). Passing K v before k n count p e room verts groups points ends₀ ends lengths₀ lengths rows j) z (passing-by (r - i) (omega arith) (λ j l m. N .unnamed j l (omega arith)))
 
 -- a row that is as it was names what it named
 pub ends-ahead : (K : Kind) (p : ℕ) (e e₀ : Edge) → e ≡ e₀ → (element? K e₀ ≡ false → (e₀ .a < p) × (e₀ .b < p)) → element? K e ≡ false → (e .a < p) × (e .b < p)

@@ -24,7 +24,7 @@ use Rattle.mesh.specs.At.{edgeRow, edgesAt}
 use Rattle.mesh.specs.Workers.{groupOf, Mapped, FanOk}
 use Rattle.mesh.proofs.Lists.{turned, unturned}
 use Rattle.mesh.proofs.Fan.{rewired-as, replaced-self}
-use Rattle.opening.specs.Opened.{blankPart}
+use Rattle.split_plan.specs.Opened.{blankPart}
 use Rattle.rewire.specs.Stages.{PartsBy, TrianglesRewired, StrapsRewired}
 use Rattle.rewire.specs.Particles.{PartsRoom, EndsMapped}
 

@@ -25,9 +25,9 @@ use Rattle.mesh.specs.Workers.{withCopy}
 use Rattle.mesh.proofs.Lists.{particles-length}
 use Rattle.mesh.proofs.Columns.{by-columns, by-columns-but}
 use Rattle.mesh.specs.Widths.{pointColumns}
-use Rattle.opening.specs.Opened.{massBy}
-use Rattle.opening.specs.Answers.{WeightIs}
-use Rattle.opening.proofs.Weights.{mass-by}
+use Rattle.split_plan.specs.Opened.{massBy}
+use Rattle.split_plan.specs.Answers.{WeightIs}
+use Rattle.split_plan.proofs.Weights.{mass-by}
 use Rattle.rewire.specs.Stages.{WeightedBy, ParticlesCopied}
 use Rattle.rewire.specs.Particles.{CopyRoom, Weighed}
 

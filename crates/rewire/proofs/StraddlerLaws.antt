@@ -1,5 +1,6 @@
--- Laws of straddlers: v and its copies as a test of numbers, the test of one edge, and the marks. Assumes nothing.
+-- Laws of straddlers: v and its copies as a test of numbers, the test of one edge, the particles near v, and the marks. Assumes nothing.
 use mathlib.Core.Path.{_≡_, refl, sym, _∙_, ap, ap₂, subst}
+use mathlib.Core.Logic.{⊎-elim}
 use mathlib.Core.Bool.{Bool, true, false, not, _&&_, _||_, false≢true}
 use mathlib.Core.List.{List, [], _∷_, map}
 use Prim.Native.Nat.{ℕ, _+_, _*_, _/_, _-_, _<_, _≤_}
@@ -7,25 +8,27 @@ use native.Mathlib.Omega.{arith}
 use borrow.Author.Count.{below-more}
 use borrow.Author.Tests.{eq-eqb, ne-eqb, ltb-true, ltb-false}
 use lib.Dec.{eqb, ltb}
-use lib.ListN.{length, getD, set, length-set, length-append, length-map}
-use lib.Seq.{getD-set-same, getD-set-other}
+use lib.ListN.{length, getD, set, take, drop, length-set, length-append, length-map, length-take}
+use lib.Seq.{getD-set-same, getD-set-other, getD-take, getD-drop}
 use lib.Ieee.{Float}
-use Rattle.lists.specs.Lists.{pick, stands, any, sift, tab, upTo}
-use Rattle.lists.proofs.Stores.{map-at}
+use Rattle.lists.specs.Lists.{pick, stands, any, empty, disjoint, sift, tab, upTo}
+use Rattle.lists.proofs.Stores.{map-at, stored}
 use Rattle.lists.proofs.Sifts.{stands-made, stands-get, upTo-length, upTo-at}
 use Rattle.lists.proofs.Steps.{sift-step}
 use Rattle.columns.proofs.Rows.{keep-sift}
 use Rattle.columns.specs.Block.{cell}
 use Rattle.columns.proofs.Cells.{col-0, col-1}
-use Rattle.opening.specs.Answers.{Parted}
-use Rattle.opening.specs.Opened.{Ringed}
+use Rattle.split_plan.specs.Answers.{Parted}
+use Rattle.split_plan.specs.Opened.{Ringed, RingRoom}
+use Rattle.split_plan.proofs.Rings.{ring-empty, row-fits}
 use Rattle.lists.proofs.Walks.{not-so, sift-same}
 use Rattle.model.specs.Mesh.{Edge, Mesh, blankEdge}
 use Rattle.model.specs.Elements.{Kind, element?, endsOf, held, cornersPer}
-use Rattle.model.specs.Split.{Opening, copies, made, parted, straddles}
+use Rattle.model.specs.Split.{Opening, ring, copies, made, parted, straddles}
 use Rattle.mesh.specs.At.{edgesAt}
 use Rattle.mesh.specs.Workers.{rowAt}
-use Rattle.rewire.specs.Edges.{ElementIs, copiesBy, HeldTold, Straddling, StraddleTold, StraddlersMarked}
+use Rattle.work.specs.Places.{EndsIn}
+use Rattle.rewire.specs.Edges.{ElementIs, copiesBy, HeldTold, Straddling, NearMarked, NearRoom, StraddleTold, StraddlersMarked}
 use Rattle.rewire.proofs.EdgeLaws.{edges-many, edges-get}
 
 -- ---- v and its copies
@@ -107,9 +110,13 @@ chain-3 false true y t h e d c = absurd (false≢true (sym d))
 chain-3 false false true t h e d c = refl
 chain-3 false false false t h e d c = absurd (false≢true c)
 
-chain-4 : (s x y t h : Bool) → s ≡ false → x ≡ false → y ≡ false → t ≡ false → false ≡ chain s x y t h
+-- whatever comes before it
+chain-4 : (s x y t h : Bool) → t ≡ false → false ≡ chain s x y t h
 unfolding chain
-chain-4 s x y t h e d c b = rw (e, d, c, b)
+chain-4 true x y t h e = refl
+chain-4 false true y t h e = refl
+chain-4 false false true t h e = refl
+chain-4 false false false t h e = rw e
 
 chain-5 : (s x y t h : Bool) → s ≡ false → x ≡ false → y ≡ false → t ≡ true → not h ≡ chain s x y t h
 unfolding chain
@@ -140,6 +147,10 @@ module _ (K : Kind) (i v before n count t e : ℕ) (verts groups corners ends : 
   abbrev Told : Bool → Type 0
   Told r = StraddleTold K i v before n count t e verts groups corners ends r
 
+  -- one whose ends are not parted, whatever else it is
+  told-apart : ((O : Opening) (lengths : List Float) → Ringed (cornersPer K) O n verts groups → parted O (rowAt ends lengths i .a) (rowAt ends lengths i .b) ≡ false) → Told false
+  told-apart h = record { is = λ O M W B S. chain-4 _ _ _ _ _ (h O B (S .ringed)) ∙ straddles-is O M W B S }
+
   -- an element
   pub told-element : (s : Bool) → ElementIs K (getD ends (2 * (length ends / 4) + i) 0) s → s ≡ true → Told false
   told-element s E f = record { is = λ O M W B S. chain-1 _ _ _ _ _ (sym (E .is (rowAt ends B i) (flag-is B)) ∙ f) ∙ straddles-is O M W B S }
@@ -168,7 +179,7 @@ module _ (K : Kind) (i v before n count t e : ℕ) (verts groups corners ends : 
 
         -- one whose ends are not parted
         pub told-joined : p ≡ false → Told false
-        told-joined g = record { is = λ O M W B S. chain-4 _ _ _ _ _ (none B) (first B false d) (second B false q) (apart O B (S .ringed) false g) ∙ straddles-is O M W B S }
+        told-joined g = told-apart (λ O B R. apart O B R false g)
 
         -- one whose ends are parted goes unless an element holds both
         pub told-held : p ≡ true → (h : Bool) → HeldTold K (getD ends i 0) (getD ends (length ends / 4 + i) 0) t e corners ends h → Told (not h)
@@ -179,6 +190,109 @@ module _ (K : Kind) (i v before n count t e : ℕ) (verts groups corners ends : 
                   ap not (H .is M W B (S .triangles-are) (S .edges-are) ∙ sym (ap₂ (held K M) (a-is B) (b-is B)))
                   ∙ chain-5 _ _ _ _ _ (none B) (first B false d) (second B false q) (apart O B (S .ringed) true g) ∙ straddles-is O M W B S;
             }
+
+-- ---- the near
+
+-- the second of three tests
+second-off : (s t : Bool) → s && false && t ≡ false
+second-off true t = refl
+second-off false t = refl
+
+-- at the head of the loop: the first i corners are marked
+pub record Nearing (m : ℕ) (verts near₀ near : List ℕ) (i : ℕ) : Type 0 where
+  pub marked : NearMarked i verts near
+  pub inside : i ≤ m
+  pub long : length near ≡ length near₀
+
+-- a store of 1 takes no mark away
+still-marked : (near : List ℕ) (x y : ℕ) → x < length near → getD near y 0 ≡ 1 → getD (set near x 1) y 0 ≡ 1
+still-marked near x y h e = ⊎-elim (λ w. w .1) (λ w. w .1 ∙ e) (stored near x 1 y h)
+
+module _ (m : ℕ) (verts near₀ : List ℕ) where
+  pub nearing-start : Nearing m verts near₀ near₀ 0
+  nearing-start = record { marked = record { marked = λ j l. absurd (omega arith) }; inside = omega arith; long = refl }
+
+  module _ (near : List ℕ) (i : ℕ) (G : Nearing m verts near₀ near i) (h : i < m) where
+    -- a corner that has a place
+    pub nearing-stored : (near′ : List ℕ) → getD verts i 0 < length near → near′ ≡ set near (getD verts i 0) 1 → Nearing m verts near₀ near′ (i + 1)
+    nearing-stored near′ p q₀ =
+        let l : length near′ ≡ length near = ap length q₀ ∙ length-set near (getD verts i 0) 1 in
+        record {
+          marked =
+              record {
+                marked =
+                    below-more (λ (j : ℕ). getD verts j 0 < length near′ → getD near′ (getD verts j 0) 0 ≡ 1) i
+                    (λ j b q. ap (λ (z : List ℕ). getD z (getD verts j 0) 0) q₀ ∙ still-marked near (getD verts i 0) (getD verts j 0) p (G .marked .marked j b (omega arith)))
+                    (λ q. ap (λ (z : List ℕ). getD z (getD verts i 0) 0) q₀ ∙ getD-set-same near (getD verts i 0) 1 0 p);
+              };
+          inside = omega arith;
+          long = l ∙ G .long;
+        }
+
+    -- one that has none
+    pub nearing-passed : (near′ : List ℕ) → length near ≤ getD verts i 0 → near′ ≡ near → Nearing m verts near₀ near′ (i + 1)
+    nearing-passed near′ p q₀ =
+        subst (λ (z : List ℕ). Nearing m verts near₀ z (i + 1)) (sym q₀)
+        (record {
+          marked = record { marked = below-more (λ (j : ℕ). getD verts j 0 < length near → getD near (getD verts j 0) 0 ≡ 1) i (G .marked .marked) (λ q. absurd (omega arith)) };
+          inside = omega arith;
+          long = G .long;
+        })
+
+  -- after the last corner
+  pub nearing-done : (near : List ℕ) (i : ℕ) → Nearing m verts near₀ near i → m ≤ i → NearMarked m verts near
+  nearing-done near i G h = record { marked = λ j l. G .marked .marked j (omega arith) }
+
+-- a particle that is not marked stands in no ring
+module _ {k n lv lg : ℕ} {verts groups near : List ℕ} (room : RingRoom n k lv lg) (N : NearMarked (n * k) verts near) (O : Opening) (R : Ringed k O n verts groups) (x : ℕ) (b : x < length near) (off : getD near x 0 ≡ 1 → ⊥) where
+  far-ring : not (empty (ring O x)) ≡ false
+  far-ring =
+      sym
+      (ring-empty O R x
+      (λ i l e.
+      let w = stands-get x (take k (drop (i * k) verts)) e in
+      let lt = length-take k (drop (i * k) verts) in
+      let j = w .0 in
+      let jk : j < k = omega (arith, w .1 .0) in
+      let at : getD (take k (drop (i * k) verts)) j 0 ≡ getD verts (i * k + j) 0 = getD-take k (drop (i * k) verts) j 0 jk ∙ getD-drop (i * k) verts j 0 in
+      let is : getD verts (i * k + j) 0 ≡ x = sym at ∙ w .1 .1 in
+      let all : RingRoom n k (n * k) n = record { few = room .few; corners = room .corners; verts = omega arith; groups = omega arith } in
+      let low : i * k + j < n * k = omega (arith, row-fits all i l) in
+      off (subst (λ (z : ℕ). getD near z 0 ≡ 1) is (N .marked (i * k + j) low (omega arith)))))
+
+  -- and is parted from none
+  far-first : (y : ℕ) → parted O x y ≡ false
+  unfolding parted
+  far-first y = rw far-ring
+
+  far-second : (y : ℕ) → parted O y x ≡ false
+  unfolding parted
+  far-second y = rw far-ring (second-off (not (empty (ring O y))) (disjoint (ring O y) (ring O x)))
+
+module _ (K : Kind) (i v before n count t e : ℕ) (verts groups corners ends near : List ℕ) {lv lg : ℕ} (room : RingRoom n (cornersPer K) lv lg) (N : NearRoom K n e verts ends near) (h : i < e) where
+  -- an edge whose first end is not near, and one whose second is not
+  pub told-far-first : (getD near (getD ends i 0) 0 ≡ 1 → ⊥) → StraddleTold K i v before n count t e verts groups corners ends false
+  told-far-first off =
+      let low = N .ends-in .first i h in
+      let wide = N .places in
+      told-apart K i v before n count t e verts groups corners ends
+      (λ O B R. far-first room (N .corners-near) O R (rowAt ends B i .a) (omega arith) (λ q. off (sym (ap (λ (z : ℕ). getD near z 0) (col-0 0 (length ends / 4) ends i)) ∙ q)) (rowAt ends B i .b))
+
+  pub told-far-second : (getD near (getD ends (length ends / 4 + i) 0) 0 ≡ 1 → ⊥) → StraddleTold K i v before n count t e verts groups corners ends false
+  told-far-second off =
+      let low = N .ends-in .second i h in
+      let wide = N .places in
+      told-apart K i v before n count t e verts groups corners ends
+      (λ O B R. far-second room (N .corners-near) O R (rowAt ends B i .b) (omega arith) (λ q. off (sym (ap (λ (z : ℕ). getD near z 0) (col-1 0 (length ends / 4) ends i)) ∙ q)) (rowAt ends B i .a))
+
+-- what marking the corners of a fan of n parts asks, and what it gives
+module _ (K : Kind) (n : ℕ) {k : ℕ} (per : k ≡ cornersPer K) where
+  pub corners-fit : {lv lg : ℕ} → RingRoom n (cornersPer K) lv lg → n * k ≤ lv
+  corners-fit {lv} {lg} R = subst (λ (z : ℕ). n * z ≤ lv) (sym per) (R .verts)
+
+  pub near-room : {e : ℕ} {verts ends near : List ℕ} → NearMarked (n * k) verts near → EndsIn 1024 e ends → 1024 ≤ length near → NearRoom K n e verts ends near
+  near-room {e} {verts} {ends} {near} N E l =
+      record { corners-near = subst (λ (z : ℕ). NearMarked (n * z) verts near) per N; ends-in = E; places = l }
 
 -- ---- the marks
 

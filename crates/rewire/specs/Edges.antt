@@ -1,5 +1,5 @@
 -- What the workers on other edges and straddlers ask and give: helper records that only proofs and contracts between workers need. Definitions only.
-use Prim.Native.Nat.{ℕ, _+_, _-_, _/_, _<_, _≤_}
+use Prim.Native.Nat.{ℕ, _+_, _*_, _-_, _/_, _<_, _≤_}
 use mathlib.Core.Path.{_≡_}
 use mathlib.Core.Bool.{Bool, false, not, _&&_}
 use mathlib.Core.List.{List, [], _∷_, map, _++_}
@@ -14,8 +14,9 @@ use Rattle.model.specs.Split.{Opening, copyFor, moved, calm, stayed, doubled, s
 use Rattle.mesh.specs.At.{edgesAt, trianglesAt}
 use Rattle.mesh.specs.Workers.{EdgeRoom, rowAt}
 use Rattle.mesh.specs.Widths.{pointColumns}
-use Rattle.opening.specs.Opened.{Ringed, RingRoom, CornersBelow, ringFrom, OpeningIn}
+use Rattle.split_plan.specs.Opened.{Ringed, RingRoom, CornersBelow, ringFrom, OpeningIn}
 use Rattle.work.specs.Rows.{GrownTo, Between}
+use Rattle.work.specs.Places.{EndsIn}
 use Rattle.work.specs.declared.Grown.{Grown}
 
 -- ---- other edges
@@ -73,6 +74,12 @@ pub record EdgesRoom (K : Kind) (v before k n count p e room : ℕ) (verts group
   pub corners-in : CornersBelow p n k verts
   pub ends-in : (j : ℕ) → j < e → element? K (rowAt ends lengths j) ≡ false → (rowAt ends lengths j .a < p) × (rowAt ends lengths j .b < p)
 
+-- r is the next edge from `from` on, of the first e, that names v, else e: those before it do not
+pub record NextNamed (v from e : ℕ) (ends : List ℕ) (r : ℕ) : Type 0 where
+  pub onward : from ≤ r
+  pub within : r ≤ e
+  pub unnamed : (j : ℕ) → from ≤ j → j < r → stands v (getD ends j 0 ∷ getD ends (length ends / 4 + j) 0 ∷ []) ≡ false
+
 -- ---- straddlers
 
 -- v and its copies: `copies` of an opening at v, with so many particles before it, of so many groups
@@ -109,6 +116,16 @@ pub record StraddleRoom (K : Kind) (n t e lv lg lc le : ℕ) : Type 0 where
   pub ring : RingRoom n (cornersPer K) lv lg
   pub corners : t ≤ lc / 3
   pub ends : e ≤ le / 4
+
+-- each of the first m corners of a fan that has a place in the table is marked there
+pub record NearMarked (m : ℕ) (verts near : List ℕ) : Type 0 where
+  pub marked : (j : ℕ) → j < m → getD verts j 0 < length near → getD near (getD verts j 0) 0 ≡ 1
+
+-- what the test of an edge by a table of the near asks besides: the corners of the fan are marked, and the ends of the edges have places
+pub record NearRoom (K : Kind) (n e : ℕ) (verts ends near : List ℕ) : Type 0 where
+  pub corners-near : NearMarked (n * cornersPer K) verts near
+  pub ends-in : EndsIn 1024 e ends
+  pub places : 1024 ≤ length near
 
 -- r tells whether edge i straddles
 pub record StraddleTold (K : Kind) (i v before n count t e : ℕ) (verts groups corners ends : List ℕ) (r : Bool) : Type 0 where

@@ -8,8 +8,8 @@ use Rattle.model.specs.Mesh.{Mesh}
 use Rattle.model.specs.Elements.{Kind, Triangles, Straps}
 use Rattle.model.specs.Split.{Opening, totalOf, copied, rewiredTriangles, rewiredStraps, otherEdges}
 use Rattle.mesh.specs.At.{particlesAt, trianglesAt, edgesAt}
-use Rattle.opening.specs.Opened.{Weighted, Numbered, OpeningIn}
-use Rattle.opening.specs.Answers.{Grouped}
+use Rattle.split_plan.specs.Opened.{Weighted, Numbered, OpeningIn}
+use Rattle.split_plan.specs.Answers.{Grouped}
 use Rattle.work.specs.declared.Grown.{Grown}
 use Rattle.work.specs.Rows.{GrownTo}
 

@@ -10,7 +10,7 @@ ghost use Rattle.model.specs.Split.{moved as movedOf, calm as calmOf};
 ghost use Rattle.elements.specs.Table.{kindIs};
 ghost use Rattle.mesh.specs.Workers.{EdgeRoom, edgeOf, rowAt};
 ghost use Rattle.rewire.specs.Stages.{EdgesGrown};
-ghost use Rattle.rewire.specs.Edges.{ElementIs, EndsMoved, CopyRoom, CopiesGrown, SettleRoom, EdgeSettled, EdgesRoom};
+ghost use Rattle.rewire.specs.Edges.{ElementIs, EndsMoved, CopyRoom, CopiesGrown, SettleRoom, EdgeSettled, EdgesRoom, NextNamed};
 use elements::Kind;
 use mesh::EdgeRow;
 use work::Grown;
@@ -126,19 +126,20 @@ fn append_copies(
 ) -> Grown
     requires { ⌜ CopyRoom before k n count m room (length (now verts)) (length (now groups)) (length (now ends)) (length (now lengths)) ⌝ }
     requires { ⌜ from ≤ count ⌝ }
-    ensures { λ r. ⌜ CopiesGrown (edgeOf row) x from v before k n count m room (now (verts .entry)) (now (groups .entry)) (now (ends .entry)) (now (ends .exit)) (now (lengths .entry)) (now (lengths .exit)) r ⌝ }
+    ensures { λ r. ⌜ CopiesGrown (edgeOf row) x from v before k n count m room (now (verts .entry)) (now (groups .entry))
+        (now (ends .entry)) (now (ends .exit)) (now (lengths .entry)) (now (lengths .exit)) r ⌝ }
 {
     let mut rows = m;
-    let mut g = opening::next_group(x, from, count, n, k, verts, groups);
+    let mut g = split_plan::next_group(x, from, count, n, k, verts, groups);
     while g < count {
         if rows == room {
             return Grown::Lacking;
         }
-        let w = opening::copy_number(v, before, count, g);
+        let w = split_plan::copy_number(v, before, count, g);
         let copy = copied(row, v, w);
         mesh::rows::append_edge(rows, copy, ends, lengths);
         rows += 1;
-        g = opening::next_group(x, g + 1, count, n, k, verts, groups);
+        g = split_plan::next_group(x, g + 1, count, n, k, verts, groups);
     }
     Grown::Rows(rows)
 }
@@ -161,17 +162,19 @@ fn settle_edge(
     ends: &mut [usize],
     lengths: &mut [f32],
 ) -> Grown
-    requires { ⌜ SettleRoom (kindIs kind) i v before k n count p m room (now verts) (now groups) (length (now points)) (now ends) (now lengths) ⌝ }
-    ensures { λ r. ⌜ EdgeSettled (kindIs kind) i v before k n count p m room (now (verts .entry)) (now (groups .entry)) (now (points .entry)) (now (ends .entry)) (now (ends .exit)) (now (lengths .entry)) (now (lengths .exit)) r ⌝ }
+    requires { ⌜ SettleRoom (kindIs kind) i v before k n count p m room (now verts) (now groups) (length (now points)) (now ends)
+        (now lengths) ⌝ }
+    ensures { λ r. ⌜ EdgeSettled (kindIs kind) i v before k n count p m room (now (verts .entry)) (now (groups .entry))
+        (now (points .entry)) (now (ends .entry)) (now (ends .exit)) (now (lengths .entry)) (now (lengths .exit)) r ⌝ }
 {
     let row = edge_at(i, ends, lengths);
     if !is_other(kind, v, row) {
         return Grown::Rows(m);
     }
     let x = far_end(v, row);
-    let first = opening::next_group(x, 0, count, n, k, verts, groups);
+    let first = split_plan::next_group(x, 0, count, n, k, verts, groups);
     if first < count {
-        move_ends(i, v, opening::copy_number(v, before, count, first), ends);
+        move_ends(i, v, split_plan::copy_number(v, before, count, first), ends);
         return append_copies(
             row,
             x,
@@ -189,9 +192,30 @@ fn settle_edge(
             lengths,
         );
     }
-    let toward = opening::group_toward(x, v, n, k, verts, groups, points);
-    move_ends(i, v, opening::copy_number(v, before, count, toward), ends);
+    let toward = split_plan::group_toward(x, v, n, k, verts, groups, points);
+    move_ends(
+        i,
+        v,
+        split_plan::copy_number(v, before, count, toward),
+        ends,
+    );
     Grown::Rows(m)
+}
+
+// The next edge from `from` on, of the first e, that names v; else e. Most edges name other particles, and nothing but their ends is read of those.
+fn next_named(v: usize, from: usize, e: usize, ends: &[usize]) -> usize
+    requires { ⌜ (from ≤ e) × (e ≤ length (now ends) / 4) ⌝ }
+    ensures { λ r. ⌜ NextNamed v from e (now (ends .entry)) r ⌝ }
+{
+    let c = ends.len() / 4;
+    let mut i = from;
+    while i < e {
+        if split_plan::names(v, ends[i], ends[c + i]) {
+            return i;
+        }
+        i += 1;
+    }
+    e
 }
 
 // Each other edge of the first e stays in the lowest of its groups; the copies for the further groups are appended.
@@ -211,11 +235,13 @@ pub fn other_edges(
     ends: &mut [usize],
     lengths: &mut [f32],
 ) -> Grown
-    requires { ⌜ EdgesRoom (kindIs kind) v before k n count p e room (now verts) (now groups) (length (now points)) (now ends) (now lengths) ⌝ }
-    ensures { λ r. ⌜ EdgesGrown (kindIs kind) v before k n count p e room (now (verts .entry)) (now (groups .entry)) (now (points .entry)) (now (ends .entry)) (now (ends .exit)) (now (lengths .entry)) (now (lengths .exit)) r ⌝ }
+    requires { ⌜ EdgesRoom (kindIs kind) v before k n count p e room (now verts) (now groups) (length (now points)) (now ends)
+        (now lengths) ⌝ }
+    ensures { λ r. ⌜ EdgesGrown (kindIs kind) v before k n count p e room (now (verts .entry)) (now (groups .entry)) (now (points .entry))
+        (now (ends .entry)) (now (ends .exit)) (now (lengths .entry)) (now (lengths .exit)) r ⌝ }
 {
     let mut rows = e;
-    let mut i: usize = 0;
+    let mut i = next_named(v, 0, e, ends);
     while i < e {
         let grown = settle_edge(
             kind,
@@ -238,7 +264,7 @@ pub fn other_edges(
             return Grown::Lacking;
         };
         rows = m;
-        i += 1;
+        i = next_named(v, i + 1, e, ends);
     }
     Grown::Rows(rows)
 }

@@ -15,7 +15,8 @@ pub fn rewire_triangles(
     corners: &mut [usize],
 )
     requires { ⌜ PartsRoom before n (length (now corners) / 3) (now numbers) (now groups) ⌝ }
-    ensures { λ _. ⌜ TrianglesRewired v before n (now (numbers .entry)) (now (groups .entry)) (now (corners .entry)) (now (corners .exit)) ⌝ }
+    ensures { λ _. ⌜ TrianglesRewired v before n (now (numbers .entry)) (now (groups .entry)) (now (corners .entry))
+        (now (corners .exit)) ⌝ }
 {
     mesh::rows::rewire(v, before, &numbers[..n], &groups[..n], corners);
 }

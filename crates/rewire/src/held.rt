@@ -15,7 +15,7 @@ fn among(w: usize, a: usize, b: usize, c: usize) -> bool
     if a == w {
         return true;
     }
-    opening::names(w, b, c)
+    split_plan::names(w, b, c)
 }
 
 // Does triangle i hold both x and y?
@@ -44,8 +44,8 @@ fn strap_holds(x: usize, y: usize, i: usize, ends: &[usize]) -> bool
     }
     let a = ends[i];
     let b = ends[n + i];
-    if opening::names(x, a, b) {
-        return opening::names(y, a, b);
+    if split_plan::names(x, a, b) {
+        return split_plan::names(y, a, b);
     }
     false
 }

@@ -28,22 +28,23 @@ pub fn copy_particles(
     roots: &mut [usize],
 )
     requires { ⌜ CopyRoom v n count parts (length (now groups)) (length (now measures)) (length (now points)) (length (now roots)) ⌝ }
-    ensures { λ _. ⌜ ParticlesCopied v n count parts total (now (groups .entry)) (now (measures .entry)) (now (points .entry)) (now (points .exit)) (now (roots .entry)) (now (roots .exit)) ⌝ }
+    ensures { λ _. ⌜ ParticlesCopied v n count parts total (now (groups .entry)) (now (measures .entry)) (now (points .entry))
+        (now (points .exit)) (now (roots .entry)) (now (roots .exit)) ⌝ }
 {
     let size = points.len() / mesh::POINT_COLUMNS;
     let mass = points[4 * size + v];
     let copies = count - 1;
     let mut g: usize = 0;
     while g < copies {
-        let own = opening::weight_of(g + 1, parts, groups, measures);
-        let m = opening::mass_of(mass, own, total, count);
+        let own = split_plan::weight_of(g + 1, parts, groups, measures);
+        let m = split_plan::mass_of(mass, own, total, count);
         let w = float::inverse::inv(m);
         let at = n + g;
         mesh::rows::append_copy(v, at, m, w, points, roots);
         g += 1;
     }
-    let own = opening::weight_of(0, parts, groups, measures);
-    let m = opening::mass_of(mass, own, total, count);
+    let own = split_plan::weight_of(0, parts, groups, measures);
+    let m = split_plan::mass_of(mass, own, total, count);
     let w = float::inverse::inv(m);
     weigh(v, m, w, points);
 }

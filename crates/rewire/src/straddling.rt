@@ -4,7 +4,8 @@ ghost use Prim.Native.Nat.{_<_, _≤_};
 ghost use lib.ListN.{length};
 ghost use Rattle.lists.specs.Lists.{pick, stands};
 ghost use Rattle.elements.specs.Table.{kindIs};
-ghost use Rattle.rewire.specs.Edges.{copiesBy, StraddleRoom, StraddleTold, StraddlersMarked};
+ghost use Rattle.work.specs.Places.{EndsIn};
+ghost use Rattle.rewire.specs.Edges.{copiesBy, StraddleRoom, NearMarked, NearRoom, StraddleTold, StraddlersMarked};
 use elements::Kind;
 
 // Is w v or one of its copies?
@@ -38,8 +39,10 @@ fn straddles(
     corners: &[usize],
     ends: &[usize],
 ) -> bool
-    requires { ⌜ StraddleRoom (kindIs kind) n t e (length (now verts)) (length (now groups)) (length (now corners)) (length (now ends)) × (i < e) ⌝ }
-    ensures { λ r. ⌜ StraddleTold (kindIs kind) i v before n count t e (now (verts .entry)) (now (groups .entry)) (now (corners .entry)) (now (ends .entry)) r ⌝ }
+    requires { ⌜ StraddleRoom (kindIs kind) n t e (length (now verts)) (length (now groups)) (length (now corners)) (length (now ends))
+        × (i < e) ⌝ }
+    ensures { λ r. ⌜ StraddleTold (kindIs kind) i v before n count t e (now (verts .entry)) (now (groups .entry)) (now (corners .entry))
+        (now (ends .entry)) r ⌝ }
 {
     let c = ends.len() / 4;
     let a = ends[i];
@@ -54,10 +57,71 @@ fn straddles(
         return false;
     }
     let k = elements::corners_per(kind);
-    if !opening::parted(a, b, n, k, verts, groups) {
+    if !split_plan::parted(a, b, n, k, verts, groups) {
         return false;
     }
     !crate::held::held(kind, a, b, t, e, corners, ends)
+}
+
+// Marks the first m corners of a fan in a table of the particles: they are near v.
+fn mark_corners(m: usize, verts: &[usize], near: &mut [u8])
+    requires { ⌜ m ≤ length (now verts) ⌝ }
+    ensures { λ _. ⌜ NearMarked m (now (verts .entry)) (now (near .exit)) ⌝ }
+{
+    let mut i: usize = 0;
+    while i < m {
+        let x = verts[i];
+        if x < near.len() {
+            near[x] = 1;
+        }
+        i += 1;
+    }
+}
+
+// Does edge i straddle, where the corners of the fan are marked as near? Both ends of a straddler are; most edges are not, and nothing but their ends is read of those.
+fn near_straddles(
+    kind: Kind,
+    i: usize,
+    v: usize,
+    before: usize,
+    n: usize,
+    count: usize,
+    t: usize,
+    e: usize,
+    verts: &[usize],
+    groups: &[usize],
+    corners: &[usize],
+    ends: &[usize],
+    near: &[u8],
+) -> bool
+    requires { ⌜ (let K = kindIs kind in StraddleRoom K n t e (length (now verts)) (length (now groups)) (length (now corners))
+        (length (now ends)) × (i < e) × NearRoom K n e (now verts) (now ends) (now near)) ⌝ }
+    ensures { λ r. ⌜ StraddleTold (kindIs kind) i v before n count t e (now (verts .entry)) (now (groups .entry)) (now (corners .entry))
+        (now (ends .entry)) r ⌝ }
+{
+    let c = ends.len() / 4;
+    let a = ends[i];
+    let b = ends[c + i];
+    if near[a] != 1 {
+        return false;
+    }
+    if near[b] != 1 {
+        return false;
+    }
+    straddles(
+        kind,
+        i,
+        v,
+        before,
+        n,
+        count,
+        t,
+        e,
+        verts,
+        groups,
+        corners,
+        ends,
+    )
 }
 
 // 1 if t, else 0.
@@ -82,13 +146,18 @@ pub fn mark_straddlers(
     ends: &[usize],
     mask: &mut [usize],
 ) -> usize
-    requires { ⌜ StraddleRoom (kindIs kind) n t e (length (now verts)) (length (now groups)) (length (now corners)) (length (now ends)) × (e ≤ length (now mask)) ⌝ }
-    ensures { λ r. ⌜ StraddlersMarked (kindIs kind) v before n count t e (now (verts .entry)) (now (groups .entry)) (now (corners .entry)) (now (ends .entry)) (now (mask .exit)) r ⌝ }
+    requires { ⌜ StraddleRoom (kindIs kind) n t e (length (now verts)) (length (now groups)) (length (now corners)) (length (now ends))
+        × (e ≤ length (now mask)) × EndsIn 1024 e (now ends) ⌝ }
+    ensures { λ r. ⌜ StraddlersMarked (kindIs kind) v before n count t e (now (verts .entry)) (now (groups .entry)) (now (corners .entry))
+        (now (ends .entry)) (now (mask .exit)) r ⌝ }
 {
+    let mut near = [0u8; 1024];
+    let k = elements::corners_per(kind);
+    mark_corners(n * k, verts, &mut near);
     let mut marked: usize = 0;
     let mut i: usize = 0;
     while i < e {
-        let gone = straddles(
+        let gone = near_straddles(
             kind,
             i,
             v,
@@ -101,6 +170,7 @@ pub fn mark_straddlers(
             groups,
             corners,
             ends,
+            &near,
         );
         let m = mark(gone);
         mask[i] = m;

@@ -45,7 +45,8 @@ fn put_rows(
     z: &[usize],
 ) -> Lines
     requires { ⌜ RowsAsked part (now a) (now b) (now c) (now x) (now y) (now z) (l .count) ⌝ }
-    ensures { λ r. ⌜ Lists (rowsDiffer part 0 (rowsIn part (now (a .entry)) (now (b .entry)) (now (c .entry))) (rowsIn part (now (x .entry)) (now (y .entry)) (now (z .entry)))) (now (out .entry)) l (now (out .exit)) r ⌝ }
+    ensures { λ r. ⌜ Lists (rowsDiffer part 0 (rowsIn part (now (a .entry)) (now (b .entry)) (now (c .entry)))
+        (rowsIn part (now (x .entry)) (now (y .entry)) (now (z .entry)))) (now (out .entry)) l (now (out .exit)) r ⌝ }
 {
     let n = longer(a.len(), x.len());
     let mut l = l;
@@ -94,7 +95,8 @@ pub fn put_list(
     m: usize,
 ) -> Lines
     requires { ⌜ ListAsked part w v (now first) p n (now second) q m (l .count) ⌝ }
-    ensures { λ r. ⌜ Lists (rowsDiffer part 0 (readRows (w ∷ w ∷ v ∷ []) n (drop p (bitsOf (now (first .entry))))) (readRows (w ∷ w ∷ v ∷ []) m (drop q (bitsOf (now (second .entry)))))) (now (out .entry)) l (now (out .exit)) r ⌝ }
+    ensures { λ r. ⌜ Lists (rowsDiffer part 0 (readRows (w ∷ w ∷ v ∷ []) n (drop p (bitsOf (now (first .entry)))))
+        (readRows (w ∷ w ∷ v ∷ []) m (drop q (bitsOf (now (second .entry)))))) (now (out .entry)) l (now (out .exit)) r ⌝ }
 {
     let mut a = [0usize; 256];
     let mut b = [0usize; 256];
@@ -127,7 +129,8 @@ pub fn put_sides(
     m: usize,
 ) -> Lines
     requires { ⌜ SidesAsked n (length (now left)) m (length (now right)) (l .count) ⌝ }
-    ensures { λ r. ⌜ Lists (rowsDiffer Boundary 0 (sidesAt n (now (left .entry))) (sidesAt m (now (right .entry)))) (now (out .entry)) l (now (out .exit)) r ⌝ }
+    ensures { λ r. ⌜ Lists (rowsDiffer Boundary 0 (sidesAt n (now (left .entry))) (sidesAt m (now (right .entry)))) (now (out .entry)) l
+        (now (out .exit)) r ⌝ }
 {
     let h = left.len() / 2;
     let e = h + n;

@@ -10,6 +10,8 @@ use Rattle.bits.specs.Rows.{unpack, pack, readRows, writeRows, Fit, FitAll, row
 use Rattle.sheet.specs.declared.Counts.{Counts}
 use Rattle.sheet.specs.declared.Seen.{Seen}
 use Rattle.sheet.specs.declared.Seen.the-variants.{Whole, Refused}
+use denote.Ref.{RefT, now}
+use denote.Triple.Both.{Both}
 
 -- the widths: counts; particle x, y, pinned; triangle; edge and structural; boundary; blade x0, y0, x1, y1
 abbrev pub headerW : List ℕ
@@ -185,6 +187,14 @@ pub record Wholes : Type 0 where
   pub b0 : List ℕ
   pub b1 : List ℕ
   pub blade : List ℤ
+
+-- what a writer is handed, of columns as a contract names them: in a `requires`, and in an `ensures`
+abbrev pub wholesIn : RefT (List ℤ) → RefT (List ℤ) → RefT (List ℕ) → RefT (List ℕ) → RefT (List ℕ) → RefT (List ℕ) → RefT (List ℕ) → RefT (List ℕ) → RefT (List ℕ) → RefT (List ℕ) → RefT (List ℕ) → RefT (List ℤ) → Wholes
+wholesIn x y pinned t0 t1 t2 e0 e1 structural b0 b1 blade = record { x = now x; y = now y; pinned = now pinned; t0 = now t0; t1 = now t1; t2 = now t2; e0 = now e0; e1 = now e1; structural = now structural; b0 = now b0; b1 = now b1; blade = now blade }
+
+abbrev pub wholesBefore : Both (RefT (List ℤ)) (RefT (List ℤ)) → Both (RefT (List ℤ)) (RefT (List ℤ)) → Both (RefT (List ℕ)) (RefT (List ℕ)) → Both (RefT (List ℕ)) (RefT (List ℕ)) → Both (RefT (List ℕ)) (RefT (List ℕ)) → Both (RefT (List ℕ)) (RefT (List ℕ)) → Both (RefT (List ℕ)) (RefT (List ℕ)) → Both (RefT (List ℕ)) (RefT (List ℕ)) → Both (RefT (List ℕ)) (RefT (List ℕ)) → Both (RefT (List ℕ)) (RefT (List ℕ)) → Both (RefT (List ℕ)) (RefT (List ℕ)) → Both (RefT (List ℤ)) (RefT (List ℤ)) → Wholes
+wholesBefore x y pinned t0 t1 t2 e0 e1 structural b0 b1 blade =
+    record { x = now (x .entry); y = now (y .entry); pinned = now (pinned .entry); t0 = now (t0 .entry); t1 = now (t1 .entry); t2 = now (t2 .entry); e0 = now (e0 .entry); e1 = now (e1 .entry); structural = now (structural .entry); b0 = now (b0 .entry); b1 = now (b1 .entry); blade = now (blade .entry) }
 
 -- their fields; a coordinate that 11 bits cannot hold has 2048, which is refused with 2
 abbrev pub fieldsOf : Wholes → Columns

@@ -38,8 +38,11 @@ fn reply_blocks(
     blade: &[f32],
     out: &mut [u8],
 ) -> u32
-    requires { ⌜ Storing c (length (now points)) (length (now roots)) (length (now corners)) (length (now volumes)) (length (now ends)) (length (now lengths)) (length (now outline)) (length (now blade)) ⌝ }
-    ensures { λ r. ⌜ Replied (value (blocksTold first c (now (points .entry)) (now (roots .entry)) (now (corners .entry)) (now (volumes .entry)) (now (ends .entry)) (now (lengths .entry)) (now (outline .entry)) (now (blade .entry)))) (length (now (out .entry))) r (now (out .exit)) ⌝ }
+    requires { ⌜ Storing c (length (now points)) (length (now roots)) (length (now corners)) (length (now volumes)) (length (now ends))
+        (length (now lengths)) (length (now outline)) (length (now blade)) ⌝ }
+    ensures { λ r. ⌜ Replied (value (blocksTold first c (now (points .entry)) (now (roots .entry)) (now (corners .entry))
+        (now (volumes .entry)) (now (ends .entry)) (now (lengths .entry)) (now (outline .entry)) (now (blade .entry)))) (length
+        (now (out .entry))) r (now (out .exit)) ⌝ }
 {
     let k = mesh::Counts {
         particles: c.particles,

@@ -81,7 +81,9 @@ fn write_elements(
     out: &mut [u8],
 ) -> usize
     requires { ⌜ FieldsRoom (now fields) ⌝ }
-    ensures { λ r. ⌜ WriteDone (besides (now (fields .entry)) (wordAt (now (fields .entry)) 0) (wordAt (now (fields .entry)) 1) (wordAt (now (fields .entry)) 2) (now (x .entry)) (now (y .entry)) (now (pinned .entry)) (now (blade .entry))) (now (out .entry)) (now (out .exit)) r ⌝ }
+    ensures { λ r. ⌜ WriteDone (besides (now (fields .entry)) (wordAt (now (fields .entry)) 0) (wordAt (now (fields .entry)) 1)
+        (wordAt (now (fields .entry)) 2) (now (x .entry)) (now (y .entry)) (now (pinned .entry)) (now (blade .entry))) (now (out .entry))
+        (now (out .exit)) r ⌝ }
 {
     let mut t0 = [0usize; 1024];
     let mut t1 = [0usize; 1024];

@@ -7,7 +7,7 @@ ghost use lib.Seq.{sets};
 ghost use Rattle.bits.specs.Bits.{bitsOf};
 ghost use Rattle.bits.specs.Rows.{pack, writeRows, rowsOf};
 ghost use Rattle.bits.specs.Places.{TableIn, FourIn};
-ghost use Rattle.sheet.specs.Sheet.{allBelow, allOK, rowOK, even3, evenOf, fit3, fitOf, sheetFrom, namesOK, answerOf, fieldOf, fieldsOf, particleW, bladeW};
+ghost use Rattle.sheet.specs.Sheet.{allBelow, allOK, rowOK, even3, evenOf, fit3, fitOf, sheetFrom, namesOK, answerOf, fieldOf, fieldsOf, particleW, bladeW, wholesIn, wholesBefore};
 ghost use Rattle.sheet.specs.Work.{Even};
 use sheet::Counts;
 
@@ -141,7 +141,9 @@ fn particles_fit(x: &[i64], y: &[i64], pinned: &[usize]) -> bool
 // Writes the rows of particles from bit `at` on.
 pub fn put_particles(s: &mut [u8], at: usize, x: &[i64], y: &[i64], pinned: &[usize])
     requires { ⌜ TableIn (now s) at 11 11 1 (map fieldOf (now x)) (map fieldOf (now y)) (now pinned) ⌝ }
-    ensures { λ _. ⌜ bitsOf (now (s .exit)) ≡ sets (bitsOf (now (s .entry))) at (writeRows particleW (rowsOf (map fieldOf (now (x .entry)) ∷ map fieldOf (now (y .entry)) ∷ now (pinned .entry) ∷ []) 0 (length (map fieldOf (now (x .entry)))))) ⌝ }
+    ensures { λ _. ⌜ bitsOf (now (s .exit)) ≡ sets (bitsOf (now (s .entry))) at (writeRows particleW
+        (rowsOf (map fieldOf (now (x .entry)) ∷ map fieldOf (now (y .entry)) ∷ now (pinned .entry) ∷ []) 0
+        (length (map fieldOf (now (x .entry)))))) ⌝ }
 {
     let n = x.len();
     let mut i = 0;
@@ -181,7 +183,7 @@ fn all_same(
     b1: &[usize],
     blade: &[i64],
 ) -> bool
-    ensures { λ r. ⌜ r ≡ evenOf (fieldsOf (record { x = now (x .entry); y = now (y .entry); pinned = now (pinned .entry); t0 = now (t0 .entry); t1 = now (t1 .entry); t2 = now (t2 .entry); e0 = now (e0 .entry); e1 = now (e1 .entry); structural = now (structural .entry); b0 = now (b0 .entry); b1 = now (b1 .entry); blade = now (blade .entry) })) ⌝ }
+    ensures { λ r. ⌜ r ≡ evenOf (fieldsOf (wholesBefore x y pinned t0 t1 t2 e0 e1 structural b0 b1 blade)) ⌝ }
 {
     if same_particles(x, y, pinned) {
         if same3(t0, t1, t2) {
@@ -216,7 +218,7 @@ fn all_fit(
     b1: &[usize],
     blade: &[i64],
 ) -> bool
-    ensures { λ r. ⌜ r ≡ fitOf (fieldsOf (record { x = now (x .entry); y = now (y .entry); pinned = now (pinned .entry); t0 = now (t0 .entry); t1 = now (t1 .entry); t2 = now (t2 .entry); e0 = now (e0 .entry); e1 = now (e1 .entry); structural = now (structural .entry); b0 = now (b0 .entry); b1 = now (b1 .entry); blade = now (blade .entry) })) ⌝ }
+    ensures { λ r. ⌜ r ≡ fitOf (fieldsOf (wholesBefore x y pinned t0 t1 t2 e0 e1 structural b0 b1 blade)) ⌝ }
 {
     if particles_fit(x, y, pinned) {
         if fits3(1024, 1024, 1024, t0, t1, t2) {
@@ -251,8 +253,8 @@ fn names_all(
     b1: &[usize],
     blade: &[i64],
 ) -> bool
-    requires { ⌜ Even (fieldsOf (record { x = now x; y = now y; pinned = now pinned; t0 = now t0; t1 = now t1; t2 = now t2; e0 = now e0; e1 = now e1; structural = now structural; b0 = now b0; b1 = now b1; blade = now blade })) ⌝ }
-    ensures { λ r. ⌜ r ≡ namesOK (sheetFrom (fieldsOf (record { x = now (x .entry); y = now (y .entry); pinned = now (pinned .entry); t0 = now (t0 .entry); t1 = now (t1 .entry); t2 = now (t2 .entry); e0 = now (e0 .entry); e1 = now (e1 .entry); structural = now (structural .entry); b0 = now (b0 .entry); b1 = now (b1 .entry); blade = now (blade .entry) }))) ⌝ }
+    requires { ⌜ Even (fieldsOf (wholesIn x y pinned t0 t1 t2 e0 e1 structural b0 b1 blade)) ⌝ }
+    ensures { λ r. ⌜ r ≡ namesOK (sheetFrom (fieldsOf (wholesBefore x y pinned t0 t1 t2 e0 e1 structural b0 b1 blade))) ⌝ }
 {
     let p = x.len();
     if names_in(true, p, t0, t1, t2) {
@@ -282,7 +284,7 @@ pub fn refusal(
     b1: &[usize],
     blade: &[i64],
 ) -> usize
-    ensures { λ r. ⌜ r ≡ answerOf (fieldsOf (record { x = now (x .entry); y = now (y .entry); pinned = now (pinned .entry); t0 = now (t0 .entry); t1 = now (t1 .entry); t2 = now (t2 .entry); e0 = now (e0 .entry); e1 = now (e1 .entry); structural = now (structural .entry); b0 = now (b0 .entry); b1 = now (b1 .entry); blade = now (blade .entry) })) m ⌝ }
+    ensures { λ r. ⌜ r ≡ answerOf (fieldsOf (wholesBefore x y pinned t0 t1 t2 e0 e1 structural b0 b1 blade)) m ⌝ }
 {
     if all_same(x, y, pinned, t0, t1, t2, e0, e1, structural, b0, b1, blade) {
         let c = Counts {

@@ -8,13 +8,14 @@ ghost use lib.Dec.{leb};
 ghost use Rattle.lists.specs.Lists.{tab, padded};
 ghost use Rattle.float.specs.Numbers.{zero32};
 ghost use Rattle.mesh.specs.At.{particlesAt, trianglesAt, edgesAt, boundaryAt};
-ghost use Rattle.mesh.specs.Filled.{lent, Filled};
+ghost use Rattle.mesh.specs.Filled.{Filled};
 ghost use Rattle.mesh.specs.Widths.{pointColumns};
 ghost use Rattle.blade.specs.Points.{minusOf, lengthOf};
 ghost use Rattle.bits.specs.Bits.{bitsOf, fieldAt};
 ghost use Rattle.sheet.specs.Sheet.{coord};
 ghost use Rattle.sheet.specs.Read.{floatOf, inverseOf, areaOf, particleFrom, triangleFrom, sideFrom};
 ghost use Rattle.sheet_rows.specs.Work.{pointIn, particleBits, triangleBits, edgeBits, sideBits, ParticleIn, ParticlesIn, TriangleIn, TrianglesIn, EdgesIn, SidesIn, BladeIn};
+ghost use Rattle.mesh.specs.Blocks.{lentBefore};
 use blade::Point;
 use mesh::EdgeRow;
 
@@ -54,7 +55,8 @@ fn put_particle(
     roots: &mut [usize],
 )
     requires { ⌜ ParticleIn x y n (length (now points)) (length (now roots)) ⌝ }
-    ensures { λ _. ⌜ particlesAt (n + 1) (now (points .exit)) (now (roots .exit)) ≡ particlesAt n (now (points .entry)) (now (roots .entry)) ++ (particleFrom n x y pinned ∷ []) ⌝ }
+    ensures { λ _. ⌜ particlesAt (n + 1) (now (points .exit)) (now (roots .exit))
+        ≡ particlesAt n (now (points .entry)) (now (roots .entry)) ++ (particleFrom n x y pinned ∷ []) ⌝ }
 {
     let p = points.len() / mesh::POINT_COLUMNS;
     let r = roots.len() / 2;
@@ -118,7 +120,8 @@ fn put_triangle(
     volumes: &mut [f32],
 )
     requires { ⌜ TriangleIn a b c (length (now points)) n (length (now corners)) (length (now volumes)) ⌝ }
-    ensures { λ _. ⌜ trianglesAt (n + 1) (now (corners .exit)) (now (volumes .exit)) ≡ trianglesAt n (now (corners .entry)) (now (volumes .entry)) ++ (triangleFrom (pointIn (now (points .entry))) a b c ∷ []) ⌝ }
+    ensures { λ _. ⌜ trianglesAt (n + 1) (now (corners .exit)) (now (volumes .exit))
+        ≡ trianglesAt n (now (corners .entry)) (now (volumes .entry)) ++ (triangleFrom (pointIn (now (points .entry))) a b c ∷ []) ⌝ }
 {
     let t = corners.len() / 3;
     let v = volumes.len() / 2;
@@ -140,7 +143,8 @@ pub fn read_triangles(
     volumes: &mut [f32],
 )
     requires { ⌜ TrianglesIn (now s) at n p (length (now points)) (length (now corners)) (length (now volumes)) ⌝ }
-    ensures { λ _. ⌜ trianglesAt n (now (corners .exit)) (now (volumes .exit)) ≡ tab n (triangleBits (pointIn (now (points .entry))) (bitsOf (now (s .entry))) at) ⌝ }
+    ensures { λ _. ⌜ trianglesAt n (now (corners .exit)) (now (volumes .exit))
+        ≡ tab n (triangleBits (pointIn (now (points .entry))) (bitsOf (now (s .entry))) at) ⌝ }
 {
     let mut i = 0;
     let mut pos = at;
@@ -173,7 +177,8 @@ pub fn read_edges(
     lengths: &mut [f32],
 )
     requires { ⌜ EdgesIn (now s) at n p (length (now points)) (length (now ends)) (length (now lengths)) ⌝ }
-    ensures { λ _. ⌜ edgesAt n (now (ends .exit)) (now (lengths .exit)) ≡ tab n (edgeBits (pointIn (now (points .entry))) (bitsOf (now (s .entry))) at) ⌝ }
+    ensures { λ _. ⌜ edgesAt n (now (ends .exit)) (now (lengths .exit))
+        ≡ tab n (edgeBits (pointIn (now (points .entry))) (bitsOf (now (s .entry))) at) ⌝ }
 {
     let mut i = 0;
     let mut pos = at;
@@ -229,7 +234,9 @@ pub fn read_sides(s: &[u8], at: usize, n: usize, outline: &mut [usize])
 // Reads the blade's four coordinates from bit `at` on; 0 behind them.
 pub fn read_blade(s: &[u8], at: usize, blade: &mut [f32])
     requires { ⌜ BladeIn (now s) at (length (now blade)) ⌝ }
-    ensures { λ _. ⌜ now (blade .exit) ≡ padded (length (now (blade .entry))) zero32 (floatOf (fieldAt (bitsOf (now (s .entry))) at 11) ∷ floatOf (fieldAt (bitsOf (now (s .entry))) (at + 11) 11) ∷ floatOf (fieldAt (bitsOf (now (s .entry))) (at + 22) 11) ∷ floatOf (fieldAt (bitsOf (now (s .entry))) (at + 33) 11) ∷ []) ⌝ }
+    ensures { λ _. ⌜ now (blade .exit) ≡ padded (length (now (blade .entry))) zero32 (floatOf
+        (fieldAt (bitsOf (now (s .entry))) at 11) ∷ floatOf (fieldAt (bitsOf (now (s .entry))) (at + 11) 11) ∷ floatOf (fieldAt
+        (bitsOf (now (s .entry))) (at + 22) 11) ∷ floatOf (fieldAt (bitsOf (now (s .entry))) (at + 33) 11) ∷ []) ⌝ }
 {
     blade[0] = float_of(bits::field(s, at, 11));
     blade[1] = float_of(bits::field(s, at + 11, 11));
@@ -250,7 +257,10 @@ pub fn refuse(
     log: &mut [usize],
     blade: &mut [f32],
 )
-    ensures { λ _. ⌜ (Filled (record { mesh = record { particles = []; triangles = []; edges = []; boundary = [] }; log = [] }) (lent (now (points .entry)) (now (roots .entry)) (now (corners .entry)) (now (volumes .entry)) (now (ends .entry)) (now (lengths .entry)) (now (outline .entry)) (now (log .entry))) (now (points .exit)) (now (roots .exit)) (now (corners .exit)) (now (volumes .exit)) (now (ends .exit)) (now (lengths .exit)) (now (outline .exit)) (now (log .exit))) × (now (blade .exit) ≡ padded (length (now (blade .entry))) zero32 []) ⌝ }
+    ensures { λ _. ⌜ (Filled (record { mesh = record { particles = []; triangles = []; edges = []; boundary = [] }; log = [] })
+        (lentBefore points roots corners volumes ends lengths outline log) (now (points .exit)) (now (roots .exit)) (now (corners .exit))
+        (now (volumes .exit)) (now (ends .exit)) (now (lengths .exit)) (now (outline .exit)) (now (log .exit))) × (now (blade .exit)
+        ≡ padded (length (now (blade .entry))) zero32 []) ⌝ }
 {
     let k = mesh::Counts {
         particles: 0,

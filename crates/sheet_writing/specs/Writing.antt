@@ -13,6 +13,8 @@ use Rattle.model.specs.Mesh.{Particle, Triangle, Edge, Mesh}
 use Rattle.bits.specs.Bits.{bitsOf}
 use Rattle.sheet.specs.Sheet.{Sheet, Columns, Wholes, fieldsOf, sheetFrom, countsIn, evenOf, tooMany, fitOf, namesOK}
 use Rattle.edition.specs.Edition.{sheet2Bits, ownOf, bytesIn}
+use denote.Ref.{RefT, now}
+use denote.Triple.Both.{Both}
 
 -- what a writer is handed: a column for each field, coordinates as whole numbers, and no boundary
 pub record Handed : Type 0 where
@@ -26,6 +28,14 @@ pub record Handed : Type 0 where
   pub e1 : List ℕ
   pub structural : List ℕ
   pub blade : List ℤ
+
+-- what a writer is handed, of columns as a contract names them: in a `requires`, and in an `ensures`
+abbrev pub handedIn : RefT (List ℤ) → RefT (List ℤ) → RefT (List ℕ) → RefT (List ℕ) → RefT (List ℕ) → RefT (List ℕ) → RefT (List ℕ) → RefT (List ℕ) → RefT (List ℕ) → RefT (List ℤ) → Handed
+handedIn x y pinned t0 t1 t2 e0 e1 structural blade = record { x = now x; y = now y; pinned = now pinned; t0 = now t0; t1 = now t1; t2 = now t2; e0 = now e0; e1 = now e1; structural = now structural; blade = now blade }
+
+abbrev pub handedBefore : Both (RefT (List ℤ)) (RefT (List ℤ)) → Both (RefT (List ℤ)) (RefT (List ℤ)) → Both (RefT (List ℕ)) (RefT (List ℕ)) → Both (RefT (List ℕ)) (RefT (List ℕ)) → Both (RefT (List ℕ)) (RefT (List ℕ)) → Both (RefT (List ℕ)) (RefT (List ℕ)) → Both (RefT (List ℕ)) (RefT (List ℕ)) → Both (RefT (List ℕ)) (RefT (List ℕ)) → Both (RefT (List ℕ)) (RefT (List ℕ)) → Both (RefT (List ℤ)) (RefT (List ℤ)) → Handed
+handedBefore x y pinned t0 t1 t2 e0 e1 structural blade =
+    record { x = now (x .entry); y = now (y .entry); pinned = now (pinned .entry); t0 = now (t0 .entry); t1 = now (t1 .entry); t2 = now (t2 .entry); e0 = now (e0 .entry); e1 = now (e1 .entry); structural = now (structural .entry); blade = now (blade .entry) }
 
 -- the same with an empty boundary
 abbrev pub wholesFrom : Handed → Wholes

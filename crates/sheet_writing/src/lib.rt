@@ -9,7 +9,7 @@ ghost use Rattle.outline.specs.Outline.{outlineOf};
 ghost use Rattle.outline.specs.Rows.{rows3, Even};
 ghost use Rattle.sheet.specs.Sheet.{sheetFrom};
 ghost use Rattle.edition.specs.Edition.{sheet2Bits};
-ghost use Rattle.sheet_writing.specs.Writing.{columnsFrom, answerOf, WriteDone};
+ghost use Rattle.sheet_writing.specs.Writing.{columnsFrom, answerOf, WriteDone, handedIn, handedBefore};
 ghost use Rattle.sheet_writing.specs.Work.{Put2};
 use sheet::Counts;
 
@@ -22,8 +22,10 @@ fn long_own(
     e1: &[usize],
     structural: &[usize],
 ) -> bool
-    requires { ⌜ Even (length (now t0)) (length (now t1)) (length (now t2)) × Even (length (now e0)) (length (now e1)) (length (now structural)) ⌝ }
-    ensures { λ r. ⌜ r ≡ ltb 2048 (length (outlineOf (rows3 (now (t0 .entry)) (now (t1 .entry)) (now (t2 .entry))) (rows3 (now (e0 .entry)) (now (e1 .entry)) (now (structural .entry))))) ⌝ }
+    requires { ⌜ Even (length (now t0)) (length (now t1)) (length (now t2))
+        × Even (length (now e0)) (length (now e1)) (length (now structural)) ⌝ }
+    ensures { λ r. ⌜ r ≡ ltb 2048 (length (outlineOf (rows3 (now (t0 .entry)) (now (t1 .entry)) (now (t2 .entry))) (rows3 (now (e0 .entry))
+        (now (e1 .entry)) (now (structural .entry))))) ⌝ }
 {
     let mut none = [0usize; 1];
     2048 < outline::list_outline(t0, t1, t2, e0, e1, structural, &mut none)
@@ -43,7 +45,7 @@ fn refusal(
     structural: &[usize],
     blade: &[i64],
 ) -> usize
-    ensures { λ r. ⌜ r ≡ answerOf (columnsFrom (record { x = now (x .entry); y = now (y .entry); pinned = now (pinned .entry); t0 = now (t0 .entry); t1 = now (t1 .entry); t2 = now (t2 .entry); e0 = now (e0 .entry); e1 = now (e1 .entry); structural = now (structural .entry); blade = now (blade .entry) })) m ⌝ }
+    ensures { λ r. ⌜ r ≡ answerOf (columnsFrom (handedBefore x y pinned t0 t1 t2 e0 e1 structural blade)) m ⌝ }
 {
     let r = sheet_fields::refusal(
         65536,
@@ -93,8 +95,9 @@ fn put_all(
     structural: &[usize],
     blade: &[i64],
 )
-    requires { ⌜ Put2 (columnsFrom (record { x = now x; y = now y; pinned = now pinned; t0 = now t0; t1 = now t1; t2 = now t2; e0 = now e0; e1 = now e1; structural = now structural; blade = now blade })) (now s) ⌝ }
-    ensures { λ _. ⌜ bitsOf (now (s .exit)) ≡ padded (8 * length (now (s .entry))) 0 (sheet2Bits (sheetFrom (columnsFrom (record { x = now (x .entry); y = now (y .entry); pinned = now (pinned .entry); t0 = now (t0 .entry); t1 = now (t1 .entry); t2 = now (t2 .entry); e0 = now (e0 .entry); e1 = now (e1 .entry); structural = now (structural .entry); blade = now (blade .entry) })))) ⌝ }
+    requires { ⌜ Put2 (columnsFrom (handedIn x y pinned t0 t1 t2 e0 e1 structural blade)) (now s) ⌝ }
+    ensures { λ _. ⌜ bitsOf (now (s .exit)) ≡ padded (8 * length (now (s .entry))) 0 (sheet2Bits
+        (sheetFrom (columnsFrom (handedBefore x y pinned t0 t1 t2 e0 e1 structural blade)))) ⌝ }
 {
     let p = x.len();
     let t = t0.len();
@@ -124,7 +127,7 @@ pub fn write(
     structural: &[usize],
     blade: &[i64],
 ) -> usize
-    ensures { λ r. ⌜ WriteDone (record { x = now (x .entry); y = now (y .entry); pinned = now (pinned .entry); t0 = now (t0 .entry); t1 = now (t1 .entry); t2 = now (t2 .entry); e0 = now (e0 .entry); e1 = now (e1 .entry); structural = now (structural .entry); blade = now (blade .entry) }) (now (out .entry)) (now (out .exit)) r ⌝ }
+    ensures { λ r. ⌜ WriteDone (handedBefore x y pinned t0 t1 t2 e0 e1 structural blade) (now (out .entry)) (now (out .exit)) r ⌝ }
 {
     bits::blank(out);
     let r = refusal(

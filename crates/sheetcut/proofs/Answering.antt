@@ -20,10 +20,10 @@ use Rattle.mesh.specs.At.{trianglesAt, edgesAt}
 use Rattle.mesh.specs.Log.{wordsOf, worldOf, logAt}
 use Rattle.mesh.specs.Given.{Lent, roomsOf, asRooms}
 use Rattle.mesh.specs.Filled.{Filled, Fits, lent}
-use Rattle.answer.specs.Answered.{Answered, countsOf}
+use Rattle.call_frame.specs.Answered.{Answered, countsOf}
 use Rattle.mesh.specs.declared.Counts.{Counts}
-use Rattle.answer.specs.declared.Answer.{Answer}
-use Rattle.answer.specs.declared.Answer.the-variants.{Refused, Done}
+use Rattle.call_frame.specs.declared.Answer.{Answer}
+use Rattle.call_frame.specs.declared.Answer.the-variants.{Refused, Done}
 use Rattle.listing.specs.Listing.{listingBytes, refusedBytes, printed}
 use Rattle.listing.specs.declared.Written.{Written}
 use Rattle.sheetcut.specs.SheetCut.{rooms, fraction, Told}

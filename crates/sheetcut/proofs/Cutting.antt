@@ -10,8 +10,8 @@ use Rattle.model.specs.Cut.{Line}
 use Rattle.model.specs.Calls.{Outcome, cutCall}
 use Rattle.mesh.specs.Given.{Lent, meshOf, sizesFit, roomsOf, asRooms}
 use Rattle.mesh.specs.Filled.{lent}
-use Rattle.answer.specs.Answered.{Answered}
-use Rattle.answer.specs.declared.Answer.{Answer}
+use Rattle.call_frame.specs.Answered.{Answered}
+use Rattle.call_frame.specs.declared.Answer.{Answer}
 use Rattle.bits.specs.Bits.{bitsOf}
 use Rattle.edition.specs.Edition.{sheetOf, seenOf}
 use Rattle.sheet.specs.declared.Counts.{Counts}

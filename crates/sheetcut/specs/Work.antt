@@ -3,8 +3,8 @@ use Prim.Native.Nat.{ℕ, _*_, _/_, _≤_}
 use mathlib.Core.Path.{_≡_}
 use mathlib.Core.Bool.{Bool, true}
 use mathlib.Core.List.{List}
-use lib.ListN.{length, take}
-use lib.Ieee.{Float}
+use lib.ListN.{length, take, getD}
+use lib.Ieee.{Float, nan}
 use Rattle.lists.specs.Lists.{any, all}
 use Rattle.model.specs.Mesh.{Triangle, Edge}
 use Rattle.model.specs.Valid.{cornersOk, endsOk}
@@ -16,8 +16,8 @@ use Rattle.mesh.specs.Log.{logAt}
 use Rattle.mesh.specs.Given.{Given, Lent, given, meshOf, sizesFit}
 use Rattle.mesh.specs.declared.Counts.{Counts}
 use Rattle.elements.specs.Table.{elementsIn}
-use Rattle.answer.specs.declared.Answer.{Answer}
-use Rattle.answer.specs.declared.Answer.the-variants.{Refused, Done}
+use Rattle.call_frame.specs.declared.Answer.{Answer}
+use Rattle.call_frame.specs.declared.Answer.the-variants.{Refused, Done}
 use Rattle.listing.specs.Listing.{listingBytes, refusedBytes}
 use Rattle.bits.specs.Bits.{bitsOf}
 use Rattle.sheet.specs.Read.{meshOfSheet, bladeOfSheet}
@@ -25,6 +25,9 @@ use Rattle.sheet.specs.declared.Counts as S
 use Rattle.edition.specs.Edition.{sheetOf, seenOf}
 use Rattle.edition.specs.declared.Seen.the-variants.{Whole}
 use Rattle.sheetcut.specs.SheetCut.{limits}
+use denote.Ref.{now}
+use Rattle.mesh.specs.Blocks.{Numbers, Indices}
+use Rattle.model.specs.Cut.{Line}
 
 -- the pieces of triangles and edges: `pieces` reads no more of a mesh
 unfoldable pub piecesIn : List Triangle → List Edge → ℕ
@@ -99,3 +102,16 @@ pub record FrontsRead (s : List ℕ) (c : S.Counts) (p : List Float) (r k : List
   pub sized : sizesFit (fronts c p r k v e l o) ≡ true
   pub mesh : meshOf (fronts c p r k v e l o) ≡ meshOfSheet (sheetOf (bitsOf s) .sheet)
   pub blade : b ≡ bladeOfSheet (sheetOf (bitsOf s) .sheet)
+
+-- `fronts` of lent blocks, before a call
+abbrev pub frontsBefore : S.Counts → Numbers → Indices → Indices → Numbers → Indices → Numbers → Indices → Given
+frontsBefore c points roots corners volumes ends lengths outline =
+    fronts c (now (points .entry)) (now (roots .entry)) (now (corners .entry)) (now (volumes .entry)) (now (ends .entry)) (now (lengths .entry)) (now (outline .entry))
+
+-- the line from the first two numbers of a blade to the next two
+abbrev pub lineBefore : Numbers → Line
+lineBefore blade =
+    record {
+      from = record { x = getD (now (blade .entry)) 0 nan; y = getD (now (blade .entry)) 1 nan };
+      to = record { x = getD (now (blade .entry)) 2 nan; y = getD (now (blade .entry)) 3 nan };
+    }

@@ -4,17 +4,17 @@ ghost use mathlib.Core.List.{[]};
 ghost use lib.ListN.{length, getD};
 ghost use lib.Ieee.{nan};
 ghost use Rattle.model.specs.Calls.{cutCall};
-ghost use Rattle.mesh.specs.Given.{given, meshOf, sizesFit};
+ghost use Rattle.mesh.specs.Given.{meshOf, sizesFit};
 ghost use Rattle.bits.specs.Bits.{bitsOf};
 ghost use Rattle.edition.specs.Edition.{sheetOf, seenOf};
 ghost use Rattle.edition.specs.declared.Seen.the-variants.{Whole};
 ghost use Rattle.listing.specs.Listing.{printed};
 ghost use Rattle.mesh.specs.At.{trianglesAt, edgesAt};
-ghost use Rattle.mesh.specs.Filled.{lent};
 ghost use Rattle.sheetcut.specs.SheetCut.{fraction as tenth, rooms, limits as most, cutOf, listed, Told};
-ghost use Rattle.sheetcut.specs.Work.{piecesIn, Countable, Listable, textOf, Roomy, Cuttable, fronts, FrontsRead};
-use answer::Answer;
+ghost use Rattle.sheetcut.specs.Work.{piecesIn, Countable, Listable, textOf, Roomy, Cuttable, fronts, FrontsRead, frontsBefore, lineBefore};
+ghost use Rattle.mesh.specs.Blocks.{givenBefore, blocksIn};
 use blade::Point;
+use call_frame::Answer;
 use edition::Seen;
 use listing::Written;
 use mesh::Counts;
@@ -44,7 +44,8 @@ fn count_pieces(
     lengths: &[f32],
 ) -> usize
     requires { ⌜ Countable k (now corners) (now volumes) (now ends) (now lengths) ⌝ }
-    ensures { λ r. ⌜ r ≡ piecesIn (trianglesAt (k .triangles) (now (corners .entry)) (now (volumes .entry))) (edgesAt (k .edges) (now (ends .entry)) (now (lengths .entry))) ⌝ }
+    ensures { λ r. ⌜ r ≡ piecesIn (trianglesAt (k .triangles) (now (corners .entry)) (now (volumes .entry))) (edgesAt (k .edges)
+        (now (ends .entry)) (now (lengths .entry))) ⌝ }
 {
     let mut numbers = [0usize; 512];
     let mut verts = [0usize; 1024];
@@ -83,7 +84,8 @@ fn list_answer(
     out: &mut [u8],
 ) -> Written
     requires { ⌜ Listable a (now corners) (now volumes) (now ends) (now lengths) (length (now log)) ⌝ }
-    ensures { λ r. ⌜ Told (textOf replaced a (now (corners .entry)) (now (volumes .entry)) (now (ends .entry)) (now (lengths .entry)) (now (log .entry))) (length (now (out .entry))) (now (out .exit)) r ⌝ }
+    ensures { λ r. ⌜ Told (textOf replaced a (now (corners .entry)) (now (volumes .entry)) (now (ends .entry)) (now (lengths .entry))
+        (now (log .entry))) (length (now (out .entry))) (now (out .exit)) r ⌝ }
 {
     match a {
         Answer::Refused(n) => listing::write_refused(n, out),
@@ -107,8 +109,9 @@ fn read_fronts(
     outline: &mut [usize],
     blade: &mut [f32],
 )
-    requires { ⌜ Roomy (now sheet) c (lent (now points) (now roots) (now corners) (now volumes) (now ends) (now lengths) (now outline) []) (length (now blade)) ⌝ }
-    ensures { λ _. ⌜ FrontsRead (now (sheet .entry)) c (now (points .exit)) (now (roots .exit)) (now (corners .exit)) (now (volumes .exit)) (now (ends .exit)) (now (lengths .exit)) (now (outline .exit)) (now (blade .exit)) ⌝ }
+    requires { ⌜ Roomy (now sheet) c (blocksIn points roots corners volumes ends lengths outline) (length (now blade)) ⌝ }
+    ensures { λ _. ⌜ FrontsRead (now (sheet .entry)) c (now (points .exit)) (now (roots .exit)) (now (corners .exit)) (now (volumes .exit))
+        (now (ends .exit)) (now (lengths .exit)) (now (outline .exit)) (now (blade .exit)) ⌝ }
 {
     let p = mesh::POINT_COLUMNS * c.particles;
     let r = 2 * c.particles;
@@ -146,7 +149,9 @@ fn list_blocks(
     outline: &[usize],
     out: &mut [u8],
 ) -> Written
-    ensures { λ r. ⌜ Told (printed replaced (cutCall (sizesFit (given (now (points .entry)) (now (roots .entry)) (now (corners .entry)) (now (volumes .entry)) (now (ends .entry)) (now (lengths .entry)) (now (outline .entry)))) (meshOf (given (now (points .entry)) (now (roots .entry)) (now (corners .entry)) (now (volumes .entry)) (now (ends .entry)) (now (lengths .entry)) (now (outline .entry)))) 1 (record { from = b0; to = b1 }) tenth rooms)) (length (now (out .entry))) (now (out .exit)) r ⌝ }
+    ensures { λ r. ⌜ (let G = givenBefore points roots corners volumes ends lengths outline in
+        Told (printed replaced (cutCall (sizesFit G) (meshOf G) 1 (record { from = b0; to = b1 }) tenth rooms)) (length (now (out .entry)))
+        (now (out .exit)) r) ⌝ }
 {
     let mut cut_points = [0.0f32; 256 * mesh::POINT_COLUMNS];
     let mut cut_roots = [0usize; 512];
@@ -203,8 +208,10 @@ fn list_fronts(
     blade: &[f32],
     out: &mut [u8],
 ) -> Written
-    requires { ⌜ Cuttable c (lent (now points) (now roots) (now corners) (now volumes) (now ends) (now lengths) (now outline) []) (length (now blade)) ⌝ }
-    ensures { λ r. ⌜ Told (printed replaced (cutCall (sizesFit (fronts c (now (points .entry)) (now (roots .entry)) (now (corners .entry)) (now (volumes .entry)) (now (ends .entry)) (now (lengths .entry)) (now (outline .entry)))) (meshOf (fronts c (now (points .entry)) (now (roots .entry)) (now (corners .entry)) (now (volumes .entry)) (now (ends .entry)) (now (lengths .entry)) (now (outline .entry)))) 1 (record { from = record { x = getD (now (blade .entry)) 0 nan; y = getD (now (blade .entry)) 1 nan }; to = record { x = getD (now (blade .entry)) 2 nan; y = getD (now (blade .entry)) 3 nan } }) tenth rooms)) (length (now (out .entry))) (now (out .exit)) r ⌝ }
+    requires { ⌜ Cuttable c (blocksIn points roots corners volumes ends lengths outline) (length (now blade)) ⌝ }
+    ensures { λ r. ⌜ (let F = frontsBefore c points roots corners volumes ends lengths outline in
+        Told (printed replaced (cutCall (sizesFit F) (meshOf F) 1 (lineBefore blade) tenth rooms)) (length (now (out .entry)))
+        (now (out .exit)) r) ⌝ }
 {
     let p = mesh::POINT_COLUMNS * c.particles;
     let r = 2 * c.particles;
@@ -238,7 +245,8 @@ fn list_fronts(
 // Cuts a whole sheet with counts c, whose typed outline was replaced or not, and writes the listing.
 fn list_whole(sheet: &[u8], c: SheetCounts, replaced: bool, out: &mut [u8]) -> Written
     requires { ⌜ seenOf most (now sheet) ≡ Whole c replaced ⌝ }
-    ensures { λ r. ⌜ Told (printed replaced (cutOf (sheetOf (bitsOf (now (sheet .entry))) .sheet))) (length (now (out .entry))) (now (out .exit)) r ⌝ }
+    ensures { λ r. ⌜ Told (printed replaced (cutOf (sheetOf (bitsOf (now (sheet .entry))) .sheet))) (length (now (out .entry)))
+        (now (out .exit)) r ⌝ }
 {
     let mut points = [0.0f32; 128 * mesh::POINT_COLUMNS];
     let mut roots = [0usize; 256];

@@ -6,7 +6,7 @@ use Prim.Native.Nat.{ℕ, _+_, _-_, _/_, _<_, _≤_}
 use native.Mathlib.Omega.{arith}
 use native.Mathlib.Decide.{decLe}
 use borrow.Author.Tests.{le-leb, lt-leb}
-use lib.Dec.{leb, eqb}
+use lib.Dec.{leb}
 use lib.ListN.{length, getD, length-map}
 use lib.Ieee.{Float}
 use Rattle.lists.specs.Lists.{pick, stands, any, upTo}
@@ -37,8 +37,8 @@ use Rattle.work.specs.declared.Ran.the-variants.{Refused, Done}
 use Rattle.cut.specs.declared.facets.Parting.the-variants.{Blade as BladeFrom}
 use Rattle.marks.specs.declared.Rule.the-variants.{Rounded}
 use Rattle.marks.specs.Marking.{bladeFrom}
-use Rattle.cut.specs.Running.{sidesIn, splitIn, splitIf}
-use Rattle.snapped.specs.Snapping.{beyond, slackBeyond, SlackFrom, EdgesHere, snapIf}
+use Rattle.cut.specs.Running.{sidesIn, splitIn}
+use Rattle.snapped.specs.Snapping.{beyond, slackBeyond, SlackFrom, EdgesHere}
 use Rattle.snapped.proofs.SteadyRuns.{Steady}
 
 -- ---- the copies of a split
@@ -161,20 +161,15 @@ module _ (B : Blade) (R : Run) (v : ℕ) (X : Indexed (R .mesh)) where
           ∙ ap (λ n. slackRun n (splitMade [] (λ M. M) Straps opening R)) opening-before
       by false e = slack-idle R X
 
--- the same of a split that is made if v's mark is 1
-snap-is : (mark : ℕ) (b0 b1 : Point) (R : Run) (v : ℕ) → Indexed (R .mesh) → snapIf mark (bladeFrom b0 b1) R v ≡ slackRun (length (R .mesh .particles)) (splitIf mark (BladeFrom Rounded b0 b1) Straps R v)
-unfolding snapIf splitIf splitIn sidesIn
-snap-is mark b0 b1 R v X = by (eqb mark 1)
-  where
-    by : (t : Bool) → pick t (splitSnapped (bladeFrom b0 b1) R v) R ≡ slackRun (length (R .mesh .particles)) (pick t (splitBySides Straps v (bladeSides Straps (bladeFrom b0 b1) (R .mesh) v) R) R)
-    by true = snapped-is (bladeFrom b0 b1) R v X
-    by false = slack-idle R X
+-- the same, by the sides of the blade
+snap-is : (b0 b1 : Point) (R : Run) (v : ℕ) → Indexed (R .mesh) → splitSnapped (bladeFrom b0 b1) R v ≡ slackRun (length (R .mesh .particles)) (splitIn (BladeFrom Rounded b0 b1) Straps R v)
+unfolding splitIn sidesIn
+snap-is b0 b1 R v X = snapped-is (bladeFrom b0 b1) R v X
 
 -- the plain split keeps the indices
-plain-indexed : (mark : ℕ) (b0 b1 : Point) (R : Run) (v : ℕ) → Indexed (R .mesh) → Indexed (splitIf mark (BladeFrom Rounded b0 b1) Straps R v .mesh)
-unfolding splitIf splitIn
-plain-indexed mark b0 b1 R v X =
-    pick-by (λ (S : Run). Indexed (S .mesh)) (eqb mark 1) (sides-indexed Straps v (sidesIn (BladeFrom Rounded b0 b1) Straps (R .mesh) v) R X) X
+plain-indexed : (b0 b1 : Point) (R : Run) (v : ℕ) → Indexed (R .mesh) → Indexed (splitIn (BladeFrom Rounded b0 b1) Straps R v .mesh)
+unfolding splitIn
+plain-indexed b0 b1 R v X = sides-indexed Straps v (sidesIn (BladeFrom Rounded b0 b1) Straps (R .mesh) v) R X
 
 -- it takes no particle away
 pub snapped-grown : (B : Blade) (R : Run) (v : ℕ) → length (R .mesh .particles) ≤ length (splitSnapped B R v .mesh .particles)
@@ -192,11 +187,11 @@ unfolding worldAt meshAt slackened slackBeyond
 slack-world from k points roots corners volumes ends lengths lengths′ outline log S =
     λ i. record { mesh = withEdges (meshAt k points roots corners volumes ends lengths outline) (S .edges i); log = worldAt k points roots corners volumes ends lengths outline log .log }
 
-module _ (mark : ℕ) (b0 b1 : Point) (v : ℕ) {L : Rooms} {W : World} {at : Counts → World} (r : Ran) (F : Works (λ (R : Run). splitIf mark (BladeFrom Rounded b0 b1) Straps R v) L W at r) where
+module _ (b0 b1 : Point) (v : ℕ) {L : Rooms} {W : World} {at : Counts → World} (r : Ran) (F : Works (λ (R : Run). splitIn (BladeFrom Rounded b0 b1) Straps R v) L W at r) where
   -- the plain split came to k
   module _ (k : Counts) (known : r ≡ Done k) where
-    went-on : (R : Run) → W ≡ worldOf (R .mesh) (R .log) → firstFault (asRooms L) (R .needs) ≡ 0 → Went L (splitIf mark (BladeFrom Rounded b0 b1) Straps R v) at (Done k)
-    went-on R e z = subst (Went L (splitIf mark (BladeFrom Rounded b0 b1) Straps R v) at) known (F .went R e z)
+    went-on : (R : Run) → W ≡ worldOf (R .mesh) (R .log) → firstFault (asRooms L) (R .needs) ≡ 0 → Went L (splitIn (BladeFrom Rounded b0 b1) Straps R v) at (Done k)
+    went-on R e z = subst (Went L (splitIn (BladeFrom Rounded b0 b1) Straps R v) at) known (F .went R e z)
 
     pub snap-within : (l : List Entry) → W .log ≡ map wordsOf l → Within k L
     unfolding firstFault
@@ -204,22 +199,22 @@ module _ (mark : ℕ) (b0 b1 : Point) (v : ℕ) {L : Rooms} {W : World} {at : Co
 
   -- a run in the blocks, with slack edges
   module _ (fit : Indexed (W .mesh)) (R : Run) (held : W ≡ worldOf (R .mesh) (R .log)) where
-    snap-run : snapIf mark (bladeFrom b0 b1) R v ≡ slackRun (length (W .mesh .particles)) (splitIf mark (BladeFrom Rounded b0 b1) Straps R v)
+    snap-run : splitSnapped (bladeFrom b0 b1) R v ≡ slackRun (length (W .mesh .particles)) (splitIn (BladeFrom Rounded b0 b1) Straps R v)
     snap-run =
         let m = ap (λ (x : World). x .mesh) held in
-        snap-is mark b0 b1 R v (subst Indexed m fit)
-        ∙ ap (λ (M : Mesh). slackRun (length (M .particles)) (splitIf mark (BladeFrom Rounded b0 b1) Straps R v)) (sym m)
+        snap-is b0 b1 R v (subst Indexed m fit)
+        ∙ ap (λ (M : Mesh). slackRun (length (M .particles)) (splitIn (BladeFrom Rounded b0 b1) Straps R v)) (sym m)
 
-  pub snap-refused : {at′ : Counts → World} (c : ℕ) → r ≡ Refused c → Indexed (W .mesh) → Works (λ (R : Run). snapIf mark (bladeFrom b0 b1) R v) L W at′ r
+  pub snap-refused : {at′ : Counts → World} (c : ℕ) → r ≡ Refused c → Indexed (W .mesh) → Works (λ (R : Run). splitSnapped (bladeFrom b0 b1) R v) L W at′ r
   snap-refused {at′} c known fit =
-      subst (λ (x : Ran). Works (λ (R : Run). snapIf mark (bladeFrom b0 b1) R v) L W at′ x) (sym known)
+      subst (λ (x : Ran). Works (λ (R : Run). splitSnapped (bladeFrom b0 b1) R v) L W at′ x) (sym known)
       (record {
         went = λ R e z.
             subst (λ (S : Run). Went L S at′ (Refused c)) (sym (snap-run fit R e))
-            (subst (Went L (splitIf mark (BladeFrom Rounded b0 b1) Straps R v) at) known (F .went R e z));
+            (subst (Went L (splitIn (BladeFrom Rounded b0 b1) Straps R v) at) known (F .went R e z));
       })
 
-  pub snap-done : {at′ : Counts → World} (k : Counts) → r ≡ Done k → Indexed (W .mesh) → at′ k ≡ slackWorld (length (W .mesh .particles)) (at k) → Works (λ (R : Run). snapIf mark (bladeFrom b0 b1) R v) L W at′ (Done k)
+  pub snap-done : {at′ : Counts → World} (k : Counts) → r ≡ Done k → Indexed (W .mesh) → at′ k ≡ slackWorld (length (W .mesh .particles)) (at k) → Works (λ (R : Run). splitSnapped (bladeFrom b0 b1) R v) L W at′ (Done k)
   snap-done {at′} k known fit E =
       record {
         went = λ R e z.
@@ -228,13 +223,13 @@ module _ (mark : ℕ) (b0 b1 : Point) (v : ℕ) {L : Rooms} {W : World} {at : Co
       }
 
   -- the plain split made no copy
-  pub snap-idle : (k : Counts) → r ≡ Done k → Indexed (W .mesh) → length (at k .mesh .particles) ≡ length (W .mesh .particles) → Works (λ (R : Run). snapIf mark (bladeFrom b0 b1) R v) L W at (Done k)
+  pub snap-idle : (k : Counts) → r ≡ Done k → Indexed (W .mesh) → length (at k .mesh .particles) ≡ length (W .mesh .particles) → Works (λ (R : Run). splitSnapped (bladeFrom b0 b1) R v) L W at (Done k)
   snap-idle k known fit same =
       record {
         went = λ R e z.
             let h = went-on k known R e z in
-            let S = splitIf mark (BladeFrom Rounded b0 b1) Straps R v in
-            let X = plain-indexed mark b0 b1 R v (subst Indexed (ap (λ (x : World). x .mesh) e) fit) in
+            let S = splitIn (BladeFrom Rounded b0 b1) Straps R v in
+            let X = plain-indexed b0 b1 R v (subst Indexed (ap (λ (x : World). x .mesh) e) fit) in
             subst (λ (T : Run). Went L T at (Done k))
             (slack-idle S X ∙ ap (λ n. slackRun n S) (sym (ap (λ (x : World). length (x .mesh .particles)) (h .2)) ∙ same) ∙ sym (snap-run fit R e)) h;
       }
@@ -243,16 +238,16 @@ module _ (mark : ℕ) (b0 b1 : Point) (v : ℕ) {L : Rooms} {W : World} {at : Co
 pub snap-steady : (B : Blade) → Steady (splitSnapped B)
 snap-steady B = record { onward = snapped-onward B; indexed = snapped-indexed B; grown = snapped-grown B }
 
-module _ (mark : ℕ) (b0 b1 : Point) (v : ℕ) (k : Counts) (points : List Float) (roots corners : List ℕ) (volumes : List Float) (ends : List ℕ) (lengths : List Float) (outline log : List ℕ) (L : Rooms) (I : Lent)
+module _ (b0 b1 : Point) (v : ℕ) (k : Counts) (points : List Float) (roots corners : List ℕ) (volumes : List Float) (ends : List ℕ) (lengths : List Float) (outline log : List ℕ) (L : Rooms) (I : Lent)
     (Y : Ready L k I (meshAt k points roots corners volumes ends lengths outline)) where
   abbrev world : World
   world = worldAt k points roots corners volumes ends lengths outline log
 
   abbrev plain : Run → Run
-  plain R = splitIf mark (BladeFrom Rounded b0 b1) Straps R v
+  plain R = splitIn (BladeFrom Rounded b0 b1) Straps R v
 
   abbrev slacked : Run → Run
-  slacked R = snapIf mark (bladeFrom b0 b1) R v
+  slacked R = splitSnapped (bladeFrom b0 b1) R v
 
   fit : Indexed (world .mesh)
   unfolding worldAt
@@ -264,20 +259,20 @@ module _ (mark : ℕ) (b0 b1 : Point) (v : ℕ) (k : Counts) (points : List Floa
 
   -- the plain split lacks room
   pub blocks-refused : {at at′ : Counts → World} (r : Ran) (c : ℕ) → r ≡ Refused c → Works plain L world at r → Works slacked L world at′ r
-  blocks-refused r c known F = snap-refused mark b0 b1 v r F c known fit
+  blocks-refused r c known F = snap-refused b0 b1 v r F c known fit
 
   -- it made no copy
   pub blocks-idle : (points′ : List Float) (roots′ corners′ : List ℕ) (ends′ : List ℕ) (lengths′ : List Float) (outline′ log′ : List ℕ) (r : Ran) (next : Counts) → r ≡ Done next → next .particles ≡ k .particles
       → Works plain L world (λ q. worldAt q points′ roots′ corners′ volumes ends′ lengths′ outline′ log′) r → Works slacked L world (λ q. worldAt q points′ roots′ corners′ volumes ends′ lengths′ outline′ log′) (Done next)
   unfolding worldAt
   blocks-idle points′ roots′ corners′ ends′ lengths′ outline′ log′ r next known same F =
-      snap-idle mark b0 b1 v r F next known fit (particles-count next points′ roots′ corners′ volumes ends′ lengths′ outline′ ∙ same ∙ sym count)
+      snap-idle b0 b1 v r F next known fit (particles-count next points′ roots′ corners′ volumes ends′ lengths′ outline′ ∙ same ∙ sym count)
 
   -- its edges are there
   pub blocks-edges : {at : Counts → World} (r : Ran) (next : Counts) → r ≡ Done next → Works plain L world at r → Logged (k .log) log → (le ll : ℕ) → le ≡ I .ends → ll ≡ I .lengths → EdgesHere (next .edges) le ll
   unfolding worldAt
   blocks-edges r next known F G le ll e f =
-      let w : next .edges ≤ L .edges = snap-within mark b0 b1 v r F next known (G .entries) (G .words) .edges in
+      let w : next .edges ≤ L .edges = snap-within b0 b1 v r F next known (G .entries) (G .words) .edges in
       let a : L .edges ≤ I .ends / 4 = Y .rooms .ends in
       let b : L .edges ≤ I .lengths / 4 = Y .rooms .lengths in
       record { ends = omega arith; lengths = omega arith }
@@ -287,6 +282,6 @@ module _ (mark : ℕ) (b0 b1 : Point) (v : ℕ) (k : Counts) (points : List Floa
       → Works plain L world (λ q. worldAt q points′ roots′ corners′ volumes ends′ lengths′ outline′ log′) r → SlackFrom (k .particles) (next .edges) ends′ lengths′ lengths″
       → Works slacked L world (λ q. worldAt q points′ roots′ corners′ volumes ends′ lengths″ outline′ log′) (Done next)
   blocks-snapped points′ roots′ corners′ ends′ lengths′ lengths″ outline′ log′ r next known F S =
-      snap-done mark b0 b1 v r F next known fit
+      snap-done b0 b1 v r F next known fit
       (slack-world (k .particles) next points′ roots′ corners′ volumes ends′ lengths′ lengths″ outline′ log′ S
       ∙ ap (λ n. slackWorld n (worldAt next points′ roots′ corners′ volumes ends′ lengths′ outline′ log′)) (sym count))

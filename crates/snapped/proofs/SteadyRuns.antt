@@ -4,7 +4,7 @@ use mathlib.Core.Bool.{Bool, true, false}
 use mathlib.Core.List.{List, [], _∷_, map}
 use Prim.Native.Nat.{ℕ, _+_, _<_, _≤_}
 use native.Mathlib.Omega.{arith}
-use lib.Dec.{eqb}
+use borrow.Author.Tests.{eq-eqb, ne-eqb}
 use lib.ListN.{length, getD, drop}
 use Rattle.lists.specs.Lists.{pick, sift, fold, upTo}
 use Rattle.lists.proofs.Sifts.{fold-append}
@@ -37,10 +37,6 @@ module _ (step : Run → ℕ → Run) (S : Steady step) (L : Rooms) (marks : Lis
   abbrev pub stepsTo : ℕ → Run → Run
   stepsTo v R = fold step R (chosen v marks)
 
-  -- the step, where a mark is 1
-  abbrev pub stepIf : ℕ → Run → ℕ → Run
-  stepIf mark R v = pick (eqb mark 1) (step R v) R
-
   fold-grown : (R : Run) (l : List ℕ) → length (R .mesh .particles) ≤ length (fold step R l .mesh .particles)
   unfolding fold
   fold-grown R [] = omega arith
@@ -54,33 +50,40 @@ module _ (step : Run → ℕ → Run) (S : Steady step) (L : Rooms) (marks : Lis
   steps-none k b = works-as (λ R e. sym (ap (fold step R) (chosen-none marks))) (works-stay k b)
 
   module _ {W : World} {at : Counts → World} {k : Counts} (v : ℕ) (F : Works (stepsTo v) L W at (Done k)) where
-    steps-same : (R : Run) → stepIf (getD marks v 0) (stepsTo v R) v ≡ stepsTo (v + 1) R
+    -- the next particle is dealt with, if it is marked
+    steps-same : (R : Run) (t : Bool) → marked? marks v ≡ t → pick t (step (stepsTo v R) v) (stepsTo v R) ≡ stepsTo (v + 1) R
     unfolding fold
-    steps-same R =
+    steps-same R t e =
         sym (ap (fold step R) (chosen-step marks v) ∙ fold-append step R (chosen v marks) (pick (marked? marks v) (v ∷ []) [])
-        ∙ by (marked? marks v) (stepsTo v R))
+        ∙ ap (λ (b : Bool). fold step (stepsTo v R) (pick b (v ∷ []) [])) e ∙ by t (stepsTo v R))
       where
         by : (t : Bool) (T : Run) → fold step T (pick t (v ∷ []) []) ≡ pick t (step T v) T
         by true T = refl
         by false T = refl
 
-    steps-more : {at′ : Counts → World} {r : Ran} → Works (λ (R : Run). stepIf (getD marks v 0) R v) L (at k) at′ r → Works (stepsTo (v + 1)) L W at′ r
-    steps-more G = works-as (λ R e. steps-same R) (works-then F G)
+    -- one that is not marked is passed
+    pub steps-skip : (getD marks v 0 ≡ 1 → ⊥) → Works (stepsTo (v + 1)) L W at (Done k)
+    steps-skip n = works-as (λ R e. steps-same R false (ne-eqb _ _ n)) F
 
-    steps-stop : {at′ : Counts → World} {c : ℕ} (p : ℕ) → v < p → Works (λ (R : Run). stepIf (getD marks v 0) R v) L (at k) at′ (Refused c) → Works (stepsTo p) L W at′ (Refused c)
-    steps-stop {at′} {c} p h G =
-        let rest : List ℕ = sift (marked? marks) (drop (v + 1) (upTo p)) in
-        works-as
-        (λ R e. sym (fold-append step R (chosen (v + 1) marks) rest) ∙ ap (fold step R) (chosen-more marks (v + 1) p (omega arith)))
-        (works-refused (λ (T : Run). fold step T rest) {at = at′} (λ R. onward-fold step (S .onward) (stepsTo (v + 1) R) rest) (steps-more G))
+    -- a marked one is dealt with
+    module _ (m : getD marks v 0 ≡ 1) where
+      steps-more : {at′ : Counts → World} {r : Ran} → Works (λ (R : Run). step R v) L (at k) at′ r → Works (stepsTo (v + 1)) L W at′ r
+      steps-more G = works-as (λ R e. steps-same R true (eq-eqb _ _ m)) (works-then F G)
 
-    -- the same of an answer that is known
-    pub steps-next : {at′ : Counts → World} (r : Ran) (k′ : Counts) → r ≡ Done k′ → Works (λ (R : Run). stepIf (getD marks v 0) R v) L (at k) at′ r → Works (stepsTo (v + 1)) L W at′ (Done k′)
-    steps-next {at′} r k′ e G = steps-more (subst (λ (x : Ran). Works (λ (R : Run). stepIf (getD marks v 0) R v) L (at k) at′ x) e G)
+      steps-stop : {at′ : Counts → World} {c : ℕ} (p : ℕ) → v < p → Works (λ (R : Run). step R v) L (at k) at′ (Refused c) → Works (stepsTo p) L W at′ (Refused c)
+      steps-stop {at′} {c} p h G =
+          let rest : List ℕ = sift (marked? marks) (drop (v + 1) (upTo p)) in
+          works-as
+          (λ R e. sym (fold-append step R (chosen (v + 1) marks) rest) ∙ ap (fold step R) (chosen-more marks (v + 1) p (omega arith)))
+          (works-refused (λ (T : Run). fold step T rest) {at = at′} (λ R. onward-fold step (S .onward) (stepsTo (v + 1) R) rest) (steps-more G))
 
-    pub steps-end : {at′ : Counts → World} (r : Ran) (c : ℕ) → r ≡ Refused c → (p : ℕ) → v < p → Works (λ (R : Run). stepIf (getD marks v 0) R v) L (at k) at′ r → Works (stepsTo p) L W at′ r
-    steps-end {at′} r c e p h G =
-        subst (λ (x : Ran). Works (stepsTo p) L W at′ x) (sym e) (steps-stop p h (subst (λ (x : Ran). Works (λ (R : Run). stepIf (getD marks v 0) R v) L (at k) at′ x) e G))
+      -- the same of an answer that is known
+      pub steps-next : {at′ : Counts → World} (r : Ran) (k′ : Counts) → r ≡ Done k′ → Works (λ (R : Run). step R v) L (at k) at′ r → Works (stepsTo (v + 1)) L W at′ (Done k′)
+      steps-next {at′} r k′ e G = steps-more (subst (λ (x : Ran). Works (λ (R : Run). step R v) L (at k) at′ x) e G)
+
+      pub steps-end : {at′ : Counts → World} (r : Ran) (c : ℕ) → r ≡ Refused c → (p : ℕ) → v < p → Works (λ (R : Run). step R v) L (at k) at′ r → Works (stepsTo p) L W at′ r
+      steps-end {at′} r c e p h G =
+          subst (λ (x : Ran). Works (stepsTo p) L W at′ x) (sym e) (steps-stop p h (subst (λ (x : Ran). Works (λ (R : Run). step R v) L (at k) at′ x) e G))
 
   pub steps-all : {W : World} {at : Counts → World} {r : Ran} (v p : ℕ) → v ≡ p → Works (stepsTo v) L W at r → Works (stepsTo p) L W at r
   steps-all {W} {at} {r} v p e F = subst (λ (m : ℕ). Works (stepsTo m) L W at r) e F

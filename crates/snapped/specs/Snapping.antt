@@ -4,12 +4,11 @@ use mathlib.Core.Path.{_≡_}
 use mathlib.Core.Bool.{Bool, _||_}
 use mathlib.Core.List.{List, map}
 use lib.ListN.{length}
-use lib.Dec.{eqb, leb}
+use lib.Dec.{leb}
 use lib.Ieee.{Float}
 use Rattle.lists.specs.Lists.{pick}
 use Rattle.model.specs.Mesh.{Edge}
-use Rattle.model.specs.Run.{Run}
-use Rattle.model.specs.Cut.{Blade, slack, splitSnapped}
+use Rattle.model.specs.Cut.{slack}
 use Rattle.mesh.specs.At.{edgeRow, edgesAt}
 use Rattle.mesh.specs.declared.Counts.{Counts}
 use Rattle.work.specs.Working.{Logged}
@@ -48,10 +47,6 @@ pub record SlackFrom (from e : ℕ) (ends : List ℕ) (lengths lengths′ : List
   pub edges : edgesAt e ends lengths′ ≡ map (slackBeyond from) (edgesAt e ends lengths)
 
 -- ---- splits
-
--- v split by the blade with slack edges at its copies, if its mark is 1
-unfoldable pub snapIf : ℕ → Blade → Run → ℕ → Run
-snapIf mark B R v = pick (eqb mark 1) (splitSnapped B R v) R
 
 -- a log, and a particle that is there
 pub record Snappable (v : ℕ) (k : Counts) (log : List ℕ) : Type 0 where

@@ -5,13 +5,11 @@ ghost use lib.Dec.{leb};
 ghost use lib.ListN.{length};
 ghost use Rattle.lists.specs.Lists.{fold};
 ghost use Rattle.model.specs.Cut.{splitSnapped};
-ghost use Rattle.mesh.specs.At.{meshAt};
-ghost use Rattle.mesh.specs.Log.{worldAt};
 ghost use Rattle.mesh.specs.Filled.{lent};
-ghost use Rattle.work.specs.Working.{Ready, Works};
 ghost use Rattle.marks.specs.Marking.{bladeFrom};
-ghost use Rattle.cut.specs.Running.{TablesLong, chosen, Chosen};
-ghost use Rattle.snapped.specs.Snapping.{EdgeHere, SlackAt, EdgesHere, SlackFrom, snapIf, Snappable};
+ghost use Rattle.cut.specs.Running.{chosen, Chosen, TablesIn};
+ghost use Rattle.snapped.specs.Snapping.{EdgeHere, SlackAt, EdgesHere, SlackFrom, Snappable};
+ghost use Rattle.work.specs.Blocks.{ReadyIn, WorksIn};
 use blade::Point;
 use cut::facets::Parting;
 use cut::facets::split_one;
@@ -56,13 +54,12 @@ pub fn slacken_from(from: usize, e: usize, ends: &[usize], lengths: &mut [f32])
     }
 }
 
-// Splits v by the blade if its mark is 1. The edges at its copies are slack: the copies are the particles behind those of before.
+// Splits v by the blade. The edges at its copies are slack: the copies are the particles behind those of before.
 // Straps have no links, so one place stands for the table of them.
 pub fn split_snapped(
     b0: Point,
     b1: Point,
     v: usize,
-    mark: usize,
     k: Counts,
     room: Rooms,
     points: &mut [f32],
@@ -79,8 +76,9 @@ pub fn split_snapped(
     sides: &mut [usize],
     groups: &mut [usize],
 ) -> Ran
-    requires { ⌜ Ready room k (lent (now points) (now roots) (now corners) (now volumes) (now ends) (now lengths) (now outline) (now log)) (meshAt k (now points) (now roots) (now corners) (now volumes) (now ends) (now lengths) (now outline)) × Snappable v k (now log) × TablesLong (length (now numbers)) (length (now verts)) (length (now measures)) (length (now sides)) (length (now groups)) ⌝ }
-    ensures { λ r. ⌜ Works (λ R. snapIf mark (bladeFrom b0 b1) R v) room (worldAt k (now (points .entry)) (now (roots .entry)) (now (corners .entry)) (now (volumes .entry)) (now (ends .entry)) (now (lengths .entry)) (now (outline .entry)) (now (log .entry))) (λ q. worldAt q (now (points .exit)) (now (roots .exit)) (now (corners .exit)) (now (volumes .entry)) (now (ends .exit)) (now (lengths .exit)) (now (outline .exit)) (now (log .exit))) r ⌝ }
+    requires { ⌜ ReadyIn room k points roots corners volumes ends lengths outline log × Snappable v k (now log)
+        × TablesIn numbers verts measures sides groups ⌝ }
+    ensures { λ r. ⌜ WorksIn (λ R. splitSnapped (bladeFrom b0 b1) R v) room k points roots corners volumes ends lengths outline log r ⌝ }
 {
     let before = k.particles;
     let mut none = [0u16; 1];
@@ -88,7 +86,6 @@ pub fn split_snapped(
         Parting::Blade(Rule::Rounded, b0, b1),
         Kind::Straps,
         v,
-        mark,
         k,
         room,
         points,
@@ -138,17 +135,22 @@ pub fn split_all_snapped(
     sides: &mut [usize],
     groups: &mut [usize],
 ) -> Ran
-    requires { ⌜ Ready room k (lent (now points) (now roots) (now corners) (now volumes) (now ends) (now lengths) (now outline) (now log)) (meshAt k (now points) (now roots) (now corners) (now volumes) (now ends) (now lengths) (now outline)) × Chosen p k (now log) (length (now marks)) × TablesLong (length (now numbers)) (length (now verts)) (length (now measures)) (length (now sides)) (length (now groups)) ⌝ }
-    ensures { λ r. ⌜ Works (λ R. fold (splitSnapped (bladeFrom b0 b1)) R (chosen p (now (marks .entry)))) room (worldAt k (now (points .entry)) (now (roots .entry)) (now (corners .entry)) (now (volumes .entry)) (now (ends .entry)) (now (lengths .entry)) (now (outline .entry)) (now (log .entry))) (λ q. worldAt q (now (points .exit)) (now (roots .exit)) (now (corners .exit)) (now (volumes .entry)) (now (ends .exit)) (now (lengths .exit)) (now (outline .exit)) (now (log .exit))) r ⌝ }
+    requires { ⌜ ReadyIn room k points roots corners volumes ends lengths outline log × Chosen p k (now log) (length (now marks))
+        × TablesIn numbers verts measures sides groups ⌝ }
+    ensures { λ r. ⌜ WorksIn (λ R. fold (splitSnapped (bladeFrom b0 b1)) R (chosen p (now (marks .entry)))) room k points roots corners
+        volumes ends lengths outline log r ⌝ }
 {
     let mut counts = k;
     let mut v: usize = 0;
     while v < p {
+        if marks[v] != 1 {
+            v += 1;
+            continue;
+        }
         let ran = split_snapped(
             b0,
             b1,
             v,
-            marks[v],
             counts,
             room,
             points,

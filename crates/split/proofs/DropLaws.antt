@@ -2,14 +2,14 @@
 use mathlib.Core.Path.{_≡_, refl, sym, _∙_, ap, ap₂}
 use mathlib.Core.Bool.{Bool, true, false, _&&_}
 use mathlib.Core.List.{List, [], _∷_, _++_, map, map-append}
-use Prim.Native.Nat.{ℕ, suc, _+_, _-_, _<_, _≤_, zero-le, suc-le-suc}
+use Prim.Native.Nat.{ℕ, _+_, _-_, _<_, _≤_}
 use native.Mathlib.Omega.{arith}
 use borrow.Author.Tests.{leb-true, leb-false}
 use lib.Dec.{eqb, leb}
 use lib.ListN.{length, getD, length-append, length-map}
 use lib.Ieee.{Float}
-use Rattle.lists.specs.Lists.{stands, sift, upTo, keep, keptOf}
-use Rattle.lists.proofs.Sifts.{sift-stands, upTo-length, upTo-stands}
+use Rattle.lists.specs.Lists.{stands, sift, upTo}
+use Rattle.lists.proofs.Sifts.{upTo-length}
 use Rattle.columns.proofs.Blocks.{kept-le}
 use Rattle.model.specs.Mesh.{Edge, Mesh}
 use Rattle.model.specs.Elements.{Kind}
@@ -18,7 +18,6 @@ use Rattle.model.specs.Split.{Opening, made, straddles, splitEntries, goneEntri
 use Rattle.mesh.specs.At.{edgesAt}
 use Rattle.mesh.specs.Log.{Words, wordsOf, logAt}
 use Rattle.mesh.specs.Workers.{Removed, rowAt}
-use Rattle.mesh.proofs.Lists.{edges-length}
 use Rattle.mesh.specs.declared.Counts.{Counts}
 use Rattle.mesh.specs.declared.Rooms.{Rooms}
 use Rattle.rewire.specs.Edges.{Straddling, StraddlersMarked}
@@ -50,37 +49,6 @@ split-count O count r =
 pub counted-is : (mask : List ℕ) (s e : ℕ) → s ≡ length (sift (λ i. eqb (getD mask i 0) 1) (upTo e)) → s ≡ length (markedOf mask e)
 unfolding markedOf
 counted-is mask s e q = q
-
--- no number stands in a list of none
-none-stands : (l : List ℕ) → length l ≡ 0 → (x : ℕ) → stands x l ≡ false
-none-stands [] e x = refl
-none-stands (y ∷ l) e x = absurd (omega arith)
-
-and-off : (t : Bool) → t && true ≡ false → t ≡ false
-and-off true e = e
-and-off false e = refl
-
--- where none is marked, each is unmarked
-unmarked : (mask : List ℕ) (n : ℕ) → length (markedOf mask n) ≡ 0 → (j : ℕ) → j < n → marked mask j ≡ false
-unfolding markedOf
-unmarked mask n z j h =
-    and-off (marked mask j) (ap (λ (t : Bool). marked mask j && t) (sym (upTo-stands n j h)) ∙ sym (sift-stands (marked mask) j (upTo n)) ∙ none-stands (sift (marked mask) (upTo n)) z j)
-
--- and all is kept
-keep-all : {A : Type 0} (m : List ℕ) (l : List A) → ((k : ℕ) → k < length l → marked m k ≡ false) → keep m l ≡ l
-unfolding keep
-keep-all m [] h = refl
-keep-all {A} [] (a ∷ l) h = ap (λ (t : List A). a ∷ t) (keep-all [] l (λ k p. h (suc k) (suc-le-suc p)))
-keep-all {A} (b ∷ m) (a ∷ l) h = rw (h 0 (suc-le-suc zero-le)) (ap (λ (t : List A). a ∷ t) (keep-all m l (λ k p. h (suc k) (suc-le-suc p))))
-
-pub none-removed : (mask : List ℕ) (e s : ℕ) (ends : List ℕ) (lengths : List Float) → s ≡ length (markedOf mask e) → s ≡ 0 → Removed mask e e (edgesAt e ends lengths) (edgesAt e ends lengths)
-unfolding keptOf
-none-removed mask e s ends lengths c z =
-    let off : (j : ℕ) → j < e → marked mask j ≡ false = unmarked mask e (sym c ∙ z) in
-    record {
-      count = sym (ap length (keep-all mask (upTo e) (λ k h. off k (omega (arith, upTo-length e)))) ∙ upTo-length e);
-      edges = sym (keep-all mask (edgesAt e ends lengths) (λ k h. off k (omega (arith, edges-length e ends lengths))));
-    }
 
 module _ (K : Kind) (L : Rooms) (k : Counts) (v before n count extra rows : ℕ) (verts groups corners ends : List ℕ) (lengths : List Float) (log : List ℕ)
     (A : DropAsked K L k v before n count extra (length verts) (length groups) (length corners) ends (length lengths) (length log))

@@ -19,8 +19,8 @@ use Rattle.model.specs.Elements.{Kind, Triangles, Straps, Nothing, Element, fan
 use Rattle.mesh.specs.At.{triangleRow, trianglesAt, edgesAt}
 use Rattle.mesh.proofs.Lists.{edges-length}
 use Rattle.elements.specs.Table.{Tabled, holding, elementsIn}
-use Rattle.opening.specs.Opened.{Ringed}
-use Rattle.opening.proofs.Tables.{Rises, ringed-by, weighted-by, numbered-by, fan-is, rises-holding}
+use Rattle.split_plan.specs.Opened.{Ringed}
+use Rattle.split_plan.proofs.Tables.{Rises, ringed-by, weighted-by, numbered-by, fan-is, rises-holding}
 use Rattle.split.specs.Tables.{FanGrouped, openedBy, Opens, TablesFit, FanRead, SidesLent, GroupsFound}
 use Rattle.split.proofs.Below.{rowsOf, table-below, fan-corners, fan-number, Few, few-of}
 

@@ -20,8 +20,8 @@ use Rattle.model.specs.Calls.{tooSmall}
 use Rattle.mesh.specs.At.{particlesAt, edgesAt, boundaryAt, meshAt}
 use Rattle.mesh.specs.declared.Counts.{Counts}
 use Rattle.mesh.specs.declared.Rooms.{Rooms}
-use Rattle.opening.specs.Opened.{partAt, blankPart, RestsIn, OpeningIn}
-use Rattle.opening.proofs.Weights.{ringed-grouped}
+use Rattle.split_plan.specs.Opened.{partAt, blankPart, RestsIn, OpeningIn}
+use Rattle.split_plan.proofs.Weights.{ringed-grouped}
 use Rattle.rewire.specs.Stages.{PartsBy, TrianglesRewired, StrapsRewired, EdgesGrown}
 use Rattle.work.specs.Rows.{GrownTo}
 use Rattle.rewire.specs.Particles.{PartsRoom}

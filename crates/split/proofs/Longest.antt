@@ -24,7 +24,7 @@ use Rattle.model.proofs.Laws.{pick-both, all-each, all-over, all-append, all-ma
 use Rattle.model.proofs.Indexed.{Indexed, Pair}
 use Rattle.model.proofs.Traced.{at-below, parts-all, Any, all-any}
 use Rattle.mesh.specs.At.{edgeRow, edgesAt}
-use Rattle.opening.specs.Opened.{openingBy}
+use Rattle.split_plan.specs.Opened.{openingBy}
 use Rattle.work.specs.Places.{EndsIn}
 
 -- the ends of an edge are below n

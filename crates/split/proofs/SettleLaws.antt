@@ -20,7 +20,7 @@ use Rattle.mesh.proofs.Lists.{log-length, mesh-path, world-path}
 use Rattle.mesh.specs.declared.Counts.{Counts}
 use Rattle.mesh.specs.declared.Rooms.{Rooms}
 use Rattle.mesh.specs.Widths.{pointColumns}
-use Rattle.opening.specs.Opened.{RestsIn}
+use Rattle.split_plan.specs.Opened.{RestsIn}
 use Rattle.work.specs.Rows.{GrownTo}
 use Rattle.rewire.specs.Edges.{Straddling}
 use Rattle.work.specs.declared.Grown.{Grown}

@@ -25,8 +25,8 @@ use Rattle.mesh.specs.declared.Counts.{Counts}
 use Rattle.mesh.specs.declared.Rooms.{Rooms}
 use Rattle.mesh.specs.Widths.{pointColumns}
 use Rattle.elements.specs.Table.{Tabled}
-use Rattle.opening.specs.Opened.{openingBy}
-use Rattle.opening.proofs.Tables.{opening-is}
+use Rattle.split_plan.specs.Opened.{openingBy}
+use Rattle.split_plan.proofs.Tables.{opening-is}
 use Rattle.work.specs.Working.{Ready, Works}
 use Rattle.split.specs.Tables.{FanGrouped, FanSided, FanLent, FanRead, SidesLent, SidesGiven, GroupsFound, openedBy}
 use Rattle.split.specs.Steps.{Stepped}

@@ -9,8 +9,8 @@ use Rattle.model.specs.Elements.{Kind, Triangles, Straps}
 use Rattle.model.specs.Split.{Opening, copied, rewiredTriangles, rewiredStraps}
 use Rattle.mesh.specs.At.{particlesAt, trianglesAt, edgesAt}
 use Rattle.mesh.specs.Widths.{pointColumns}
-use Rattle.opening.specs.Opened.{Weighted}
-use Rattle.opening.specs.Answers.{Grouped}
+use Rattle.split_plan.specs.Opened.{Weighted}
+use Rattle.split_plan.specs.Answers.{Grouped}
 use Rattle.rewire.specs.Stages.{PartsBy}
 
 -- the straps that the tables name are structural edges

@@ -4,3 +4,4 @@ pub mod Steps
 pub mod Growing
 pub mod Settling
 pub mod Linking
+pub mod Blocks

@@ -11,11 +11,10 @@ use Rattle.model.specs.Elements.{Kind, Triangles, cornersPer}
 use Rattle.model.specs.Split.{Opening, straddles, followed, crackFacets}
 use Rattle.mesh.specs.At.{trianglesAt, edgesAt, boundaryAt}
 use Rattle.mesh.specs.Log.{World, Words, wordsOf, logAt}
-use Rattle.mesh.specs.Workers.{EdgeRoom}
 use Rattle.mesh.specs.declared.Counts.{Counts}
 use Rattle.mesh.specs.declared.Rooms.{Rooms}
 use Rattle.mesh.specs.Widths.{pointColumns}
-use Rattle.opening.specs.Opened.{Ringed, Numbered, RingRoom, RestsIn, CornersBelow}
+use Rattle.split_plan.specs.Opened.{Ringed, Numbered, RingRoom, RestsIn, CornersBelow}
 use Rattle.work.specs.Rows.{GrownTo}
 use Rattle.rewire.specs.Edges.{Straddling, StraddleRoom}
 use Rattle.work.specs.declared.Grown.{Grown}
@@ -91,12 +90,6 @@ pub record SplitNoted (v before m at e : ℕ) (mask ends log log′ : List ℕ) 
   pub entries : logAt r log′ ≡ logAt at log ++ (map (copyWords v before) (upTo m) ++ map (goneWords ends) (markedOf mask e))
 
 -- ---- 4: straddlers, with the log of the split
-
--- what the removal of marked edges asks: s of the first e edges are marked
-pub record MarkedRoom (mask : List ℕ) (e s le ll : ℕ) : Type 0 where
-  pub long : e ≤ length mask
-  pub counted : s ≡ length (markedOf mask e)
-  pub rows : EdgeRoom e le ll
 
 -- what the removal of straddlers asks: tables that fit, few edges, and a log within its room
 pub record DropAsked (K : Kind) (L : Rooms) (k : Counts) (v before n count extra lv lg lc : ℕ) (ends : List ℕ) (ll llog : ℕ) : Type 0 where

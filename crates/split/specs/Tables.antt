@@ -11,7 +11,7 @@ use Rattle.model.specs.Elements.{Kind, Triangles, Straps, cornersPer, facetOthe
 use Rattle.model.specs.Split.{Opening}
 use Rattle.mesh.specs.At.{trianglesAt, edgesAt}
 use Rattle.elements.specs.Table.{Tabled}
-use Rattle.opening.specs.Opened.{openingBy, Ringed, Weighted, Numbered, RingRoom, CornersBelow}
+use Rattle.split_plan.specs.Opened.{openingBy, Ringed, Weighted, Numbered, RingRoom, CornersBelow}
 
 -- the fan of v in M stands in the tables, and each of its elements has a group below count
 pub record FanGrouped (K : Kind) (M : Mesh) (v n count : ℕ) (numbers verts : List ℕ) (measures : List Float) (groups : List ℕ) : Type 0 where

@@ -37,8 +37,10 @@ fn fan_straps(
     verts: &mut [usize],
     measures: &mut [f32],
 ) -> usize
-    requires { ⌜ StrapRoom e (length (now ends)) (length (now lengths)) (length (now numbers)) (length (now verts)) (length (now measures)) ⌝ }
-    ensures { λ r. ⌜ Tabled 2 (holding v (strapsFrom 0 (edgesAt e (now (ends .entry)) (now (lengths .entry))))) r (now (numbers .exit)) (now (verts .exit)) (now (measures .exit)) ⌝ }
+    requires { ⌜ StrapRoom e (length (now ends)) (length (now lengths)) (length (now numbers)) (length (now verts))
+        (length (now measures)) ⌝ }
+    ensures { λ r. ⌜ Tabled 2 (holding v (strapsFrom 0 (edgesAt e (now (ends .entry)) (now (lengths .entry))))) r (now (numbers .exit))
+        (now (verts .exit)) (now (measures .exit)) ⌝ }
 {
     let c = ends.len() / 4;
     let m = lengths.len() / 4;
@@ -76,8 +78,10 @@ pub fn fan_tables(
     measures: &mut [f32],
     links: &[u16],
 ) -> usize
-    requires { ⌜ FanLent t e (length (now corners)) (length (now volumes)) (length (now ends)) (length (now lengths)) (length (now numbers)) (length (now verts)) (length (now measures)) × Linked (kindIs kind) t (now corners) (now links) × (v < 1024) ⌝ }
-    ensures { λ r. ⌜ FanRead (kindIs kind) v t e (now (corners .entry)) (now (volumes .entry)) (now (ends .entry)) (now (lengths .entry)) r (now (numbers .exit)) (now (verts .exit)) (now (measures .exit)) ⌝ }
+    requires { ⌜ FanLent t e (length (now corners)) (length (now volumes)) (length (now ends)) (length (now lengths)) (length (now numbers))
+        (length (now verts)) (length (now measures)) × Linked (kindIs kind) t (now corners) (now links) × (v < 1024) ⌝ }
+    ensures { λ r. ⌜ FanRead (kindIs kind) v t e (now (corners .entry)) (now (volumes .entry)) (now (ends .entry)) (now (lengths .entry)) r
+        (now (numbers .exit)) (now (verts .exit)) (now (measures .exit)) ⌝ }
 {
     match kind {
         Kind::Triangles => links::fan_linked(

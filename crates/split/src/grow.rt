@@ -3,17 +3,14 @@ ghost use Prim.Native.Nat.{_/_};
 ghost use lib.ListN.{length, take};
 ghost use Rattle.columns.specs.Block.{cell};
 ghost use Rattle.elements.specs.Table.{kindIs};
-ghost use Rattle.mesh.specs.At.{meshAt};
 ghost use Rattle.links.specs.Links.{LinksOf};
 ghost use Rattle.links.specs.Rooms.{SplitRoom};
 ghost use Rattle.links.specs.Linked.{Linked};
 ghost use Rattle.rewire.specs.Stages.{TrianglesRewired};
 ghost use Rattle.rewire.specs.Particles.{PartsRoom};
-ghost use Rattle.split.specs.Tables.{TablesFit};
-ghost use Rattle.split.specs.Linking.{FanNamed, HeadsRoom, LinkedGrown};
-ghost use Rattle.work.specs.Places.{EndsIn};
-ghost use Rattle.split.specs.Steps.{GrowRoom, GrowthTold};
-ghost use Rattle.split.specs.Growing.{StrapsNamed, ElementsRoom, ElementsRewired, ShareRoom, SharedOut};
+ghost use Rattle.split.specs.Linking.{FanNamed, HeadsRoom};
+ghost use Rattle.split.specs.Growing.{ElementsRoom, ElementsRewired, ShareRoom, SharedOut};
+ghost use Rattle.split.specs.Blocks.{GrowIn, GrewIn};
 use crate::Grew;
 use elements::Kind;
 use mesh::Counts;
@@ -31,8 +28,11 @@ fn rewire_linked(
     corners: &mut [usize],
     links: &mut [u16],
 )
-    requires { ⌜ PartsRoom before n (length (now corners) / 3) (now numbers) (now groups) × SplitRoom v before 1024 3 1024 (length (now corners) / 3) t (take n (now numbers)) (take n (now groups)) (now corners) (now links) ⌝ }
-    ensures { λ _. ⌜ TrianglesRewired v before n (now (numbers .entry)) (now (groups .entry)) (now (corners .entry)) (now (corners .exit)) × LinksOf 1024 3 1024 t (cell 0 (length (now (corners .exit)) / 3) (now (corners .exit))) (now (links .exit)) ⌝ }
+    requires { ⌜ PartsRoom before n (length (now corners) / 3) (now numbers) (now groups)
+        × SplitRoom v before 1024 3 1024 (length (now corners) / 3) t (take n (now numbers)) (take n (now groups)) (now corners)
+        (now links) ⌝ }
+    ensures { λ _. ⌜ TrianglesRewired v before n (now (numbers .entry)) (now (groups .entry)) (now (corners .entry)) (now (corners .exit))
+        × LinksOf 1024 3 1024 t (cell 0 (length (now (corners .exit)) / 3) (now (corners .exit))) (now (links .exit)) ⌝ }
 {
     let rows = corners.len() / 3;
     links::split_links(
@@ -64,8 +64,11 @@ fn rewire_elements(
     ends: &mut [usize],
     links: &mut [u16],
 )
-    requires { ⌜ ElementsRoom (kindIs kind) before n (length (now corners)) (length (now ends)) (now numbers) (now groups) × Linked (kindIs kind) t (now corners) (now links) × FanNamed (kindIs kind) v before t n (now numbers) (now corners) × HeadsRoom v before t n (length (now corners)) (now groups) ⌝ }
-    ensures { λ _. ⌜ ElementsRewired (kindIs kind) v before n (now (numbers .entry)) (now (groups .entry)) (now (corners .entry)) (now (corners .exit)) (now (ends .entry)) (now (ends .exit)) × Linked (kindIs kind) t (now (corners .exit)) (now (links .exit)) ⌝ }
+    requires { ⌜ (let K = kindIs kind in ElementsRoom K before n (length (now corners)) (length (now ends)) (now numbers) (now groups) ×
+        Linked K t (now corners) (now links) × FanNamed K v before t n (now numbers) (now corners) × HeadsRoom v before t n
+        (length (now corners)) (now groups)) ⌝ }
+    ensures { λ _. ⌜ ElementsRewired (kindIs kind) v before n (now (numbers .entry)) (now (groups .entry)) (now (corners .entry))
+        (now (corners .exit)) (now (ends .entry)) (now (ends .exit)) × Linked (kindIs kind) t (now (corners .exit)) (now (links .exit)) ⌝ }
 {
     match kind {
         Kind::Triangles => {
@@ -90,9 +93,10 @@ fn share_out(
     roots: &mut [usize],
 )
     requires { ⌜ ShareRoom v before n count (length (now groups)) (length (now measures)) (length (now points)) (length (now roots)) ⌝ }
-    ensures { λ _. ⌜ SharedOut v before n count (now (groups .entry)) (now (measures .entry)) (now (points .entry)) (now (points .exit)) (now (roots .entry)) (now (roots .exit)) ⌝ }
+    ensures { λ _. ⌜ SharedOut v before n count (now (groups .entry)) (now (measures .entry)) (now (points .entry)) (now (points .exit))
+        (now (roots .entry)) (now (roots .exit)) ⌝ }
 {
-    let total = opening::total_weight(n, count, groups, measures);
+    let total = split_plan::total_weight(n, count, groups, measures);
     rewire::particles::copy_particles(v, before, count, n, total, groups, measures, points, roots);
 }
 
@@ -115,8 +119,8 @@ pub fn grow(
     lengths: &mut [f32],
     links: &mut [u16],
 ) -> Grew
-    requires { ⌜ GrowRoom room k (length (now points)) (length (now roots)) (length (now corners)) (length (now ends)) (length (now lengths)) × TablesFit (kindIs kind) (k .particles) (k .triangles) (k .edges) v n count (now numbers) (now verts) (now measures) (now groups) × EndsIn (k .particles) (k .edges) (now ends) × StrapsNamed (kindIs kind) n (now numbers) (now ends) × Linked (kindIs kind) (k .triangles) (now corners) (now links) × FanNamed (kindIs kind) v (k .particles) (k .triangles) n (now numbers) (now corners) ⌝ }
-    ensures { λ r. ⌜ GrowthTold (kindIs kind) room k v n count (now (numbers .entry)) (now (verts .entry)) (now (measures .entry)) (now (groups .entry)) (λ q volumes outline. meshAt q (now (points .entry)) (now (roots .entry)) (now (corners .entry)) volumes (now (ends .entry)) (now (lengths .entry)) outline) (λ q volumes outline. meshAt q (now (points .exit)) (now (roots .exit)) (now (corners .exit)) volumes (now (ends .exit)) (now (lengths .exit)) outline) r × LinkedGrown (kindIs kind) (k .triangles) (now (corners .exit)) (now (links .exit)) r ⌝ }
+    requires { ⌜ GrowIn (kindIs kind) room k v n count numbers verts measures groups points roots corners ends lengths links ⌝ }
+    ensures { λ r. ⌜ GrewIn (kindIs kind) room k v n count numbers verts measures groups points roots corners ends lengths links r ⌝ }
 {
     let before = k.particles;
     if room.particles - before < count - 1 {

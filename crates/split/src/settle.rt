@@ -4,10 +4,9 @@ ghost use Prim.Native.Nat.{_+_, _/_, _<_, _≤_};
 ghost use lib.ListN.{length};
 ghost use lib.Dec.{leb};
 ghost use Rattle.elements.specs.Table.{kindIs};
-ghost use Rattle.mesh.specs.At.{edgesAt};
-ghost use Rattle.mesh.specs.Log.{worldAt};
-ghost use Rattle.mesh.specs.Workers.{Removed};
-ghost use Rattle.split.specs.Settling.{FacetsAsked, FacetsTold, BoundaryAsked, BoundaryTold, CopiesNoted, SplitAsked, SplitNoted, MarkedRoom, DropAsked, Dropped, SettleAsked, SettledFor};
+ghost use Rattle.work.specs.Removal.{markedOf};
+ghost use Rattle.split.specs.Settling.{FacetsAsked, FacetsTold, BoundaryAsked, BoundaryTold, CopiesNoted, SplitAsked, SplitNoted, DropAsked, Dropped};
+ghost use Rattle.split.specs.Blocks.{MaskIn, SettleIn, SettledIn};
 use elements::Kind;
 use mesh::Counts;
 use mesh::Rooms;
@@ -29,8 +28,10 @@ fn open_facets(
     corners: &[usize],
     outline: &mut [usize],
 ) -> Grown
-    requires { ⌜ FacetsAsked (kindIs kind) before n count b room (now numbers) (length (now verts)) (length (now groups)) (length (now corners)) (length (now outline)) ⌝ }
-    ensures { λ r. ⌜ FacetsTold (kindIs kind) v before n count b room (now (numbers .entry)) (now (verts .entry)) (now (groups .entry)) (now (corners .entry)) (now (outline .entry)) (now (outline .exit)) r ⌝ }
+    requires { ⌜ FacetsAsked (kindIs kind) before n count b room (now numbers) (length (now verts)) (length (now groups))
+        (length (now corners)) (length (now outline)) ⌝ }
+    ensures { λ r. ⌜ FacetsTold (kindIs kind) v before n count b room (now (numbers .entry)) (now (verts .entry)) (now (groups .entry))
+        (now (corners .entry)) (now (outline .entry)) (now (outline .exit)) r ⌝ }
 {
     match kind {
         Kind::Triangles => boundary::facets::crack_facets(
@@ -67,8 +68,10 @@ fn open_boundary(
     corners: &[usize],
     outline: &mut [usize],
 ) -> Grown
-    requires { ⌜ BoundaryAsked (kindIs kind) v before n count b room (now numbers) (now verts) (now groups) (length (now points)) (length (now corners)) (now outline) ⌝ }
-    ensures { λ r. ⌜ BoundaryTold (kindIs kind) v before n count b room (now (numbers .entry)) (now (verts .entry)) (now (groups .entry)) (now (points .entry)) (now (corners .entry)) (now (outline .entry)) (now (outline .exit)) r ⌝ }
+    requires { ⌜ BoundaryAsked (kindIs kind) v before n count b room (now numbers) (now verts) (now groups) (length (now points))
+        (length (now corners)) (now outline) ⌝ }
+    ensures { λ r. ⌜ BoundaryTold (kindIs kind) v before n count b room (now (numbers .entry)) (now (verts .entry)) (now (groups .entry))
+        (now (points .entry)) (now (corners .entry)) (now (outline .entry)) (now (outline .exit)) r ⌝ }
 {
     let k = elements::corners_per(kind);
     boundary::entries::follow_boundary(
@@ -123,33 +126,23 @@ fn note_copies(v: usize, before: usize, m: usize, at: usize, log: &mut [u32])
     }
 }
 
-// Notes m copies of v and then the marked edges; returns how many entries there are.
+// Notes m copies of v and then the s marked edges; returns how many entries there are.
 fn note_split(
     v: usize,
     before: usize,
     m: usize,
     at: usize,
     e: usize,
+    s: usize,
     mask: &[usize],
     ends: &[usize],
     log: &mut [u32],
 ) -> usize
-    requires { ⌜ SplitAsked v before m at e (now mask) (now ends) (length (now log)) ⌝ }
+    requires { ⌜ SplitAsked v before m at e (now mask) (now ends) (length (now log)) × (s ≡ length (markedOf (now mask) e)) ⌝ }
     ensures { λ r. ⌜ SplitNoted v before m at e (now (mask .entry)) (now (ends .entry)) (now (log .entry)) (now (log .exit)) r ⌝ }
 {
     note_copies(v, before, m, at, log);
-    work::removal::note_edges(mask, e, at + m, ends, log)
-}
-
-// Removes the s marked edges from the first e, and returns how many are left; where none is marked there is nothing to move.
-fn drop_marked(mask: &[usize], e: usize, s: usize, ends: &mut [usize], lengths: &mut [f32]) -> usize
-    requires { ⌜ MarkedRoom (now mask) e s (length (now ends)) (length (now lengths)) ⌝ }
-    ensures { λ r. ⌜ Removed (now (mask .entry)) e r (edgesAt e (now (ends .entry)) (now (lengths .entry))) (edgesAt r (now (ends .exit)) (now (lengths .exit))) ⌝ }
-{
-    if s == 0 {
-        return e;
-    }
-    mesh::rows::remove_edges(mask, e, ends, lengths)
+    work::removal::note_marked(mask, e, s, at + m, ends, log)
 }
 
 // The straddlers go, and the log tells of the split, if it has room for that and for `extra` entries more; `rows` boundary entries are there by now. The mask is lent to mark them in.
@@ -171,8 +164,11 @@ fn drop_straddlers(
     log: &mut [u32],
     mask: &mut [usize],
 ) -> Ran
-    requires { ⌜ DropAsked (kindIs kind) room k v before n count extra (length (now verts)) (length (now groups)) (length (now corners)) (now ends) (length (now lengths)) (length (now log)) × (2048 ≤ length (now mask)) ⌝ }
-    ensures { λ r. ⌜ Dropped (kindIs kind) room k v before n count extra rows (now (verts .entry)) (now (groups .entry)) (now (corners .entry)) (now (ends .entry)) (now (ends .exit)) (now (lengths .entry)) (now (lengths .exit)) (now (log .entry)) (now (log .exit)) r ⌝ }
+    requires { ⌜ DropAsked (kindIs kind) room k v before n count extra (length (now verts)) (length (now groups)) (length (now corners))
+        (now ends) (length (now lengths)) (length (now log)) × MaskIn mask ⌝ }
+    ensures { λ r. ⌜ Dropped (kindIs kind) room k v before n count extra rows (now (verts .entry)) (now (groups .entry))
+        (now (corners .entry)) (now (ends .entry)) (now (ends .exit)) (now (lengths .entry)) (now (lengths .exit)) (now (log .entry))
+        (now (log .exit)) r ⌝ }
 {
     let s = rewire::straddling::mark_straddlers(
         kind,
@@ -192,8 +188,8 @@ fn drop_straddlers(
     if !log_fits(room.log - k.log, m, s, extra) {
         return Ran::Refused(8);
     }
-    let entries = note_split(v, before, m, k.log, k.edges, mask, ends, log);
-    let left = drop_marked(mask, k.edges, s, ends, lengths);
+    let entries = note_split(v, before, m, k.log, k.edges, s, mask, ends, log);
+    let left = work::removal::drop_marked(mask, k.edges, s, ends, lengths);
     Ran::Done(Counts {
         particles: k.particles,
         triangles: k.triangles,
@@ -225,8 +221,10 @@ pub fn settle(
     log: &mut [u32],
     mask: &mut [usize],
 ) -> Ran
-    requires { ⌜ SettleAsked (kindIs kind) room k v before n count extra (now numbers) (now verts) (now groups) (length (now points)) (length (now corners)) (length (now volumes)) (now ends) (length (now lengths)) (now outline) (length (now log)) × (2048 ≤ length (now mask)) ⌝ }
-    ensures { λ r. ⌜ SettledFor (kindIs kind) room extra v before n count (now (numbers .entry)) (now (verts .entry)) (now (groups .entry)) (λ roots. worldAt k (now (points .entry)) roots (now (corners .entry)) (now (volumes .entry)) (now (ends .entry)) (now (lengths .entry)) (now (outline .entry)) (now (log .entry))) (λ roots q. worldAt q (now (points .entry)) roots (now (corners .entry)) (now (volumes .entry)) (now (ends .exit)) (now (lengths .exit)) (now (outline .exit)) (now (log .exit))) r ⌝ }
+    requires { ⌜ SettleIn (kindIs kind) room k v before n count extra numbers verts groups points corners volumes ends lengths outline log
+        mask ⌝ }
+    ensures { λ r. ⌜ SettledIn (kindIs kind) room extra v before n count k numbers verts groups points corners volumes ends lengths outline
+        log r ⌝ }
 {
     let grown = open_boundary(
         kind,

@@ -5,17 +5,15 @@ ghost use lib.ListN.{length, getD, take};
 ghost use lib.Ieee.{nan, ne};
 ghost use Rattle.float.specs.Numbers.{zero32};
 ghost use Rattle.elements.specs.Table.{kindIs};
-ghost use Rattle.model.specs.Elements.{fanOf};
 ghost use Rattle.model.specs.Split.{splitBySides};
-ghost use Rattle.mesh.specs.At.{meshAt};
-ghost use Rattle.mesh.specs.Log.{worldAt};
 ghost use Rattle.mesh.specs.Filled.{lent};
 ghost use Rattle.mesh.specs.Widths.{pointColumns};
-ghost use Rattle.work.specs.Working.{Ready, Works};
-ghost use Rattle.split.specs.Tables.{FanGrouped, FanSided, openedBy, SidesGiven};
-ghost use Rattle.links.specs.Linked.{Linked};
+ghost use Rattle.split.specs.Tables.{openedBy, SidesGiven};
+ghost use Rattle.links.specs.Linked.{LinkedIn};
 ghost use Rattle.split.specs.Steps.{Stepped};
-ghost use Rattle.split.specs.Linking.{LinkedAfter};
+ghost use Rattle.mesh.specs.Blocks.{meshIn};
+ghost use Rattle.work.specs.Blocks.{ReadyIn, WorksIn, OverBlocks};
+ghost use Rattle.split.specs.Blocks.{GroupedIn, SidedIn, MaskIn, LinkedBehind};
 use crate::Grew;
 use elements::Kind;
 use mesh::Counts;
@@ -46,10 +44,11 @@ pub fn split_opened(
     mask: &mut [usize],
     links: &mut [u16],
 ) -> Ran
-    requires { ⌜ Ready room k (lent (now points) (now roots) (now corners) (now volumes) (now ends) (now lengths) (now outline) (now log)) (meshAt k (now points) (now roots) (now corners) (now volumes) (now ends) (now lengths) (now outline)) × FanGrouped (kindIs kind) (meshAt k (now points) (now roots) (now corners) (now volumes) (now ends) (now lengths) (now outline)) v n count (now numbers) (now verts) (now measures) (now groups) × (extra ≤ 1) × (2048 ≤ length (now mask)) × Linked (kindIs kind) (k .triangles) (now corners) (now links) ⌝ }
-    ensures { λ r. ⌜ Stepped (kindIs kind) (openedBy (kindIs kind) (meshAt k (now (points .entry)) (now (roots .entry)) (now (corners .entry)) (now (volumes .entry)) (now (ends .entry)) (now (lengths .entry)) (now (outline .entry))) v n count (now (groups .entry))) room extra
-        (worldAt k (now (points .entry)) (now (roots .entry)) (now (corners .entry)) (now (volumes .entry)) (now (ends .entry)) (now (lengths .entry)) (now (outline .entry)) (now (log .entry)))
-        (λ q. worldAt q (now (points .exit)) (now (roots .exit)) (now (corners .exit)) (now (volumes .entry)) (now (ends .exit)) (now (lengths .exit)) (now (outline .exit)) (now (log .exit))) r × LinkedAfter (kindIs kind) (now (corners .exit)) (now (links .exit)) r ⌝ }
+    requires { ⌜ (let K = kindIs kind in ReadyIn room k points roots corners volumes ends lengths outline log
+        × GroupedIn K (meshIn k points roots corners volumes ends lengths outline) v n count numbers verts measures groups × (extra ≤ 1)
+        × MaskIn mask × LinkedIn K k corners links) ⌝ }
+    ensures { λ r. ⌜ (let K = kindIs kind in OverBlocks (λ M W at. Stepped K (openedBy K M v n count (now (groups .entry))) room extra
+        W at r) k points roots corners volumes ends lengths outline log × LinkedBehind K corners links r) ⌝ }
 {
     let before = k.particles;
     let t = k.triangles;
@@ -139,10 +138,11 @@ pub fn split_tabled(
     log: &mut [u32],
     links: &mut [u16],
 ) -> Ran
-    requires { ⌜ Ready room k (lent (now points) (now roots) (now corners) (now volumes) (now ends) (now lengths) (now outline) (now log)) (meshAt k (now points) (now roots) (now corners) (now volumes) (now ends) (now lengths) (now outline)) × FanSided (kindIs kind) (meshAt k (now points) (now roots) (now corners) (now volumes) (now ends) (now lengths) (now outline)) v n (now numbers) (now verts) (now measures) (now sides) × (2048 ≤ length (now sides)) × (2048 ≤ length (now groups)) × Linked (kindIs kind) (k .triangles) (now corners) (now links) ⌝ }
-    ensures { λ r. ⌜ Works (splitBySides (kindIs kind) v (take n (now (sides .entry)))) room
-        (worldAt k (now (points .entry)) (now (roots .entry)) (now (corners .entry)) (now (volumes .entry)) (now (ends .entry)) (now (lengths .entry)) (now (outline .entry)) (now (log .entry)))
-        (λ q. worldAt q (now (points .exit)) (now (roots .exit)) (now (corners .exit)) (now (volumes .entry)) (now (ends .exit)) (now (lengths .exit)) (now (outline .exit)) (now (log .exit))) r × LinkedAfter (kindIs kind) (now (corners .exit)) (now (links .exit)) r ⌝ }
+    requires { ⌜ (let K = kindIs kind in ReadyIn room k points roots corners volumes ends lengths outline log
+        × SidedIn K (meshIn k points roots corners volumes ends lengths outline) v n numbers verts measures sides × MaskIn sides
+        × MaskIn groups × LinkedIn K k corners links) ⌝ }
+    ensures { λ r. ⌜ (let K = kindIs kind in WorksIn (splitBySides K v (take n (now (sides .entry)))) room k points roots corners volumes
+        ends lengths outline log r × LinkedBehind K corners links r) ⌝ }
 {
     let count = crate::fans::group_fan(kind, v, n, verts, sides, groups);
     if count < 2 {
@@ -192,10 +192,10 @@ fn split_fan(
     outline: &mut [usize],
     log: &mut [u32],
 ) -> Ran
-    requires { ⌜ Ready room k (lent (now points) (now roots) (now corners) (now volumes) (now ends) (now lengths) (now outline) (now log)) (meshAt k (now points) (now roots) (now corners) (now volumes) (now ends) (now lengths) (now outline)) × SidesGiven (kindIs kind) (meshAt k (now points) (now roots) (now corners) (now volumes) (now ends) (now lengths) (now outline)) v (now sides) ⌝ }
-    ensures { λ r. ⌜ Works (splitBySides (kindIs kind) v (now (sides .entry))) room
-        (worldAt k (now (points .entry)) (now (roots .entry)) (now (corners .entry)) (now (volumes .entry)) (now (ends .entry)) (now (lengths .entry)) (now (outline .entry)) (now (log .entry)))
-        (λ q. worldAt q (now (points .exit)) (now (roots .exit)) (now (corners .exit)) (now (volumes .entry)) (now (ends .exit)) (now (lengths .exit)) (now (outline .exit)) (now (log .exit))) r ⌝ }
+    requires { ⌜ ReadyIn room k points roots corners volumes ends lengths outline log
+        × SidesGiven (kindIs kind) (meshIn k points roots corners volumes ends lengths outline) v (now sides) ⌝ }
+    ensures { λ r. ⌜ WorksIn (splitBySides (kindIs kind) v (now (sides .entry))) room k points roots corners volumes ends lengths outline
+        log r ⌝ }
 {
     let mut numbers = [0usize; 2048];
     let mut verts = [0usize; 4096];
@@ -258,10 +258,10 @@ pub fn split_by_sides(
     outline: &mut [usize],
     log: &mut [u32],
 ) -> Ran
-    requires { ⌜ Ready room k (lent (now points) (now roots) (now corners) (now volumes) (now ends) (now lengths) (now outline) (now log)) (meshAt k (now points) (now roots) (now corners) (now volumes) (now ends) (now lengths) (now outline)) × SidesGiven (kindIs kind) (meshAt k (now points) (now roots) (now corners) (now volumes) (now ends) (now lengths) (now outline)) v (now sides) ⌝ }
-    ensures { λ r. ⌜ Works (splitBySides (kindIs kind) v (now (sides .entry))) room
-        (worldAt k (now (points .entry)) (now (roots .entry)) (now (corners .entry)) (now (volumes .entry)) (now (ends .entry)) (now (lengths .entry)) (now (outline .entry)) (now (log .entry)))
-        (λ q. worldAt q (now (points .exit)) (now (roots .exit)) (now (corners .exit)) (now (volumes .entry)) (now (ends .exit)) (now (lengths .exit)) (now (outline .exit)) (now (log .exit))) r ⌝ }
+    requires { ⌜ ReadyIn room k points roots corners volumes ends lengths outline log
+        × SidesGiven (kindIs kind) (meshIn k points roots corners volumes ends lengths outline) v (now sides) ⌝ }
+    ensures { λ r. ⌜ WorksIn (splitBySides (kindIs kind) v (now (sides .entry))) room k points roots corners volumes ends lengths outline
+        log r ⌝ }
 {
     match kind {
         Kind::Triangles => split_fan(

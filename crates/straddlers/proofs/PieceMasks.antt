@@ -23,21 +23,30 @@ use Rattle.work.proofs.Removals.{Marking, Counting}
 
 -- ---- two particles
 
+no-more : (s t : Bool) → false ≡ s && (t && false)
+no-more true true = refl
+no-more true false = refl
+no-more false t = refl
+
+all-but : (t : Bool) → t ≡ t && true
+all-but true = refl
+all-but false = refl
+
 module _ (parent used : List ℕ) (x y : ℕ) where
-  -- no element holds the first
+  -- the two have one root
+  pub spans-root : getD parent x 0 ≡ getD parent y 0 → false ≡ spansBy parent used x y
+  unfolding spansBy
+  spans-root e = rw (eq-eqb (getD parent x 0) (getD parent y 0) e) (no-more (eqb (getD used x 0) 1) (eqb (getD used y 0) 1))
+
+  -- or no element holds the first
   pub spans-first : (getD used x 0 ≡ 1 → ⊥) → false ≡ spansBy parent used x y
   unfolding spansBy
   spans-first n = rw (ne-eqb (getD used x 0) 1 n)
 
-  -- or none the second
-  pub spans-second : getD used x 0 ≡ 1 → (getD used y 0 ≡ 1 → ⊥) → false ≡ spansBy parent used x y
+  -- else the second tells
+  pub spans-second : (getD parent x 0 ≡ getD parent y 0 → ⊥) → getD used x 0 ≡ 1 → eqb (getD used y 0) 1 ≡ spansBy parent used x y
   unfolding spansBy
-  spans-second e n = rw (eq-eqb (getD used x 0) 1 e, ne-eqb (getD used y 0) 1 n)
-
-  -- else the roots tell
-  pub spans-roots : getD used x 0 ≡ 1 → getD used y 0 ≡ 1 → not (eqb (getD parent x 0) (getD parent y 0)) ≡ spansBy parent used x y
-  unfolding spansBy
-  spans-roots e d = rw (eq-eqb (getD used x 0) 1 e, eq-eqb (getD used y 0) 1 d)
+  spans-second n e = rw (ne-eqb (getD parent x 0) (getD parent y 0) n, eq-eqb (getD used x 0) 1 e) (all-but (eqb (getD used y 0) 1))
 
 -- ---- one edge
 

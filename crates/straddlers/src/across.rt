@@ -5,11 +5,10 @@ ghost use lib.ListN.{length};
 ghost use Rattle.lists.specs.Lists.{pick};
 ghost use Rattle.model.specs.Pieces.{removeStraddlers};
 ghost use Rattle.mesh.specs.At.{trianglesAt, edgesAt};
-ghost use Rattle.mesh.specs.Log.{worldAt};
 ghost use Rattle.elements.specs.Table.{kindIs, elementsIn};
-ghost use Rattle.work.specs.Working.{WorksBeside, SettleRoom};
 ghost use Rattle.work.specs.Places.{CornersIn, EndsIn, SidesIn};
 ghost use Rattle.straddlers.specs.Straddling.{spansBy, PiecesRoom, PiecesTold, EdgeReads, EdgeTold, EdgeMaskRoom, EdgesMarked, SideMaskRoom, SidesMarked};
+ghost use Rattle.work.specs.Blocks.{SettleRoomIn, WorksBesideIn};
 use elements::Kind;
 use mesh::Counts;
 use mesh::Rooms;
@@ -27,8 +26,10 @@ fn find_pieces(
     parent: &mut [usize],
     used: &mut [usize],
 )
-    requires { ⌜ PiecesRoom t e (now corners) (length (now volumes)) (now ends) (length (now lengths)) (length (now parent)) (length (now used)) ⌝ }
-    ensures { λ _. ⌜ PiecesTold (elementsIn (kindIs kind) (trianglesAt t (now (corners .entry)) (now (volumes .entry))) (edgesAt e (now (ends .entry)) (now (lengths .entry)))) (now (parent .exit)) (now (used .exit)) ⌝ }
+    requires { ⌜ PiecesRoom t e (now corners) (length (now volumes)) (now ends) (length (now lengths)) (length (now parent))
+        (length (now used)) ⌝ }
+    ensures { λ _. ⌜ PiecesTold (elementsIn (kindIs kind) (trianglesAt t (now (corners .entry)) (now (volumes .entry)))
+        (edgesAt e (now (ends .entry)) (now (lengths .entry)))) (now (parent .exit)) (now (used .exit)) ⌝ }
 {
     let mut numbers = [0usize; 2048];
     let mut verts = [0usize; 4096];
@@ -50,18 +51,18 @@ fn find_pieces(
     pieces::mark_used(n, k, &verts, used);
 }
 
-// Do x and y lie in different pieces?
+// Do x and y lie in different pieces? Most have one root: that is asked first.
 fn apart(x: usize, y: usize, parent: &[usize], used: &[usize]) -> bool
     requires { ⌜ (x < length (now parent)) × (y < length (now parent)) × (length (now parent) ≤ length (now used)) ⌝ }
     ensures { λ r. ⌜ r ≡ spansBy (now (parent .entry)) (now (used .entry)) x y ⌝ }
 {
+    if parent[x] == parent[y] {
+        return false;
+    }
     if used[x] != 1 {
         return false;
     }
-    if used[y] != 1 {
-        return false;
-    }
-    parent[x] != parent[y]
+    used[y] == 1
 }
 
 // 1 if t, else 0.
@@ -133,8 +134,9 @@ pub fn remove_straddlers(
     outline: &mut [usize],
     log: &mut [u32],
 ) -> Ran
-    requires { ⌜ SettleRoom room k (length (now corners)) (length (now volumes)) (length (now ends)) (length (now lengths)) (length (now outline)) (length (now log)) × CornersIn (k .particles) (k .triangles) (now corners) × EndsIn (k .particles) (k .edges) (now ends) × SidesIn (k .particles) (k .boundary) (now outline) ⌝ }
-    ensures { λ r. ⌜ WorksBeside (removeStraddlers (kindIs kind)) room (λ points roots. worldAt k points roots (now (corners .entry)) (now (volumes .entry)) (now (ends .entry)) (now (lengths .entry)) (now (outline .entry)) (now (log .entry))) (λ points roots q. worldAt q points roots (now (corners .entry)) (now (volumes .entry)) (now (ends .exit)) (now (lengths .exit)) (now (outline .exit)) (now (log .exit))) r ⌝ }
+    requires { ⌜ SettleRoomIn room k corners volumes ends lengths outline log × CornersIn (k .particles) (k .triangles) (now corners)
+        × EndsIn (k .particles) (k .edges) (now ends) × SidesIn (k .particles) (k .boundary) (now outline) ⌝ }
+    ensures { λ r. ⌜ WorksBesideIn (removeStraddlers (kindIs kind)) room k corners volumes ends lengths outline log r ⌝ }
 {
     if let Kind::Nothing = kind {
         return Ran::Done(k);

@@ -19,7 +19,7 @@ use Rattle.links.specs.Linked.{Linked}
 use Rattle.reach.specs.Walk.{Lent}
 use Rattle.reach.specs.Opens.{Opens}
 use Rattle.reach.proofs.Opening.{lent-by, opens-is}
-use Rattle.opening.specs.Opened.{openingBy, CornersBelow}
+use Rattle.split_plan.specs.Opened.{openingBy, CornersBelow}
 use Rattle.split.specs.Tables.{FanLent, FanRead, openedBy}
 use Rattle.work.proofs.Placed.{particles-count, triangles-count, edges-count}
 use Rattle.split.proofs.Fitted.{all-few}

@@ -30,7 +30,7 @@ use Rattle.elements.specs.Table.{Cornered}
 use Rattle.elements.proofs.Tables.{noElement, row-is, part-is}
 use Rattle.elements.proofs.Fans.{sift-more}
 use Rattle.elements.proofs.Measures.{sum-push, sum-none}
-use Rattle.opening.specs.Opened.{restIn, RestsIn, CornersBelow}
+use Rattle.split_plan.specs.Opened.{restIn, RestsIn, CornersBelow}
 use Rattle.tear.specs.Ways.{offsetsBy, sideBy, FarSides, LoadIs, MeanIn, MeanTold, meanOf, twoBy}
 
 -- ---- offsets added

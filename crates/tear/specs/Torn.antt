@@ -5,7 +5,10 @@ use mathlib.Core.List.{List, [], _∷_, _++_}
 use lib.Dec.{eqb}
 use lib.Ieee.{Float}
 use Rattle.lists.specs.Lists.{pick}
-use Rattle.model.specs.Run.{opened}
+use Rattle.model.specs.Run.{Run, opened}
+use Rattle.model.specs.Elements.{Kind}
+use Rattle.model.specs.Split.{Opening, splitMade}
+use Rattle.model.specs.Crack.{torn}
 use Rattle.mesh.specs.Log.{logAt, wordsOf}
 use Rattle.mesh.specs.Workers.{EdgeRoom}
 use Rattle.mesh.specs.declared.Counts.{Counts}
@@ -39,3 +42,7 @@ pub record TearAsked (v w x y a b p : ℕ) : Type 0 where
   pub x-in : x < p
   pub y-in : y < p
   pub other : w ≡ pick (eqb v x) y x
+
+-- the step that splits O across the pair (x, y), and logs the torn edge (a, b) as opened
+abbrev pub splitAcross : ℕ → ℕ → ℕ → ℕ → Kind → Opening → Run → Run
+splitAcross a b x y K O = splitMade (opened a b ∷ []) (torn O (x, y)) K O

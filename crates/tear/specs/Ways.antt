@@ -16,7 +16,7 @@ use Rattle.model.specs.Crack.{loadAt, beyond, farSide}
 use Rattle.mesh.specs.At.{edgesAt}
 use Rattle.mesh.specs.Widths.{pointColumns}
 use Rattle.elements.specs.Table.{Cornered}
-use Rattle.opening.specs.Opened.{restIn, RestsIn, CornersBelow}
+use Rattle.split_plan.specs.Opened.{restIn, RestsIn, CornersBelow}
 
 -- ---- sides
 

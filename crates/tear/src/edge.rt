@@ -1,12 +1,11 @@
 // A torn edge before a way is tried: the pair that stands for it now, and which of its ends goes first.
 ghost use lib.ListN.{length};
 ghost use Rattle.elements.specs.Table.{kindIs};
-ghost use Rattle.links.specs.Linked.{Linked};
-ghost use Rattle.mesh.specs.At.{meshAt};
-ghost use Rattle.mesh.specs.Log.{worldAt};
+ghost use Rattle.links.specs.Linked.{LinkedIn};
 ghost use Rattle.work.specs.Working.{Logged};
 ghost use Rattle.tear.specs.Tried.{WayReady, LoadsLong};
 ghost use Rattle.tear.specs.Pairs.{PairReady, PairMetNow, PairNow, Turned};
+ghost use Rattle.mesh.specs.Blocks.{meshIn, meshBefore, worldBefore};
 use crate::families::Pair;
 use elements::Kind;
 use mesh::Counts;
@@ -27,8 +26,9 @@ fn pair_met(
     outline: &[usize],
     log: &[u32],
 ) -> Pair
-    requires { ⌜ PairReady k (length (now corners)) (length (now volumes)) (length (now ends)) (length (now lengths)) (length (now log)) (meshAt k (now points) (now roots) (now corners) (now volumes) (now ends) (now lengths) (now outline)) × Logged (k .log) (now log) ⌝ }
-    ensures { λ r. ⌜ PairMetNow «in_element» (kindIs kind) a b (worldAt k (now (points .entry)) (now (roots .entry)) (now (corners .entry)) (now (volumes .entry)) (now (ends .entry)) (now (lengths .entry)) (now (outline .entry)) (now (log .entry))) r ⌝ }
+    requires { ⌜ PairReady k (length (now corners)) (length (now volumes)) (length (now ends)) (length (now lengths)) (length (now log))
+        (meshIn k points roots corners volumes ends lengths outline) × Logged (k .log) (now log) ⌝ }
+    ensures { λ r. ⌜ PairMetNow «in_element» (kindIs kind) a b (worldBefore k points roots corners volumes ends lengths outline log) r ⌝ }
 {
     let mut numbers = [0usize; 2048];
     let mut verts = [0usize; 4096];
@@ -64,8 +64,9 @@ pub fn pair_now(
     outline: &[usize],
     log: &[u32],
 ) -> Pair
-    requires { ⌜ PairReady k (length (now corners)) (length (now volumes)) (length (now ends)) (length (now lengths)) (length (now log)) (meshAt k (now points) (now roots) (now corners) (now volumes) (now ends) (now lengths) (now outline)) × Logged (k .log) (now log) ⌝ }
-    ensures { λ r. ⌜ PairNow (kindIs kind) a b (k .particles) (worldAt k (now (points .entry)) (now (roots .entry)) (now (corners .entry)) (now (volumes .entry)) (now (ends .entry)) (now (lengths .entry)) (now (outline .entry)) (now (log .entry))) r ⌝ }
+    requires { ⌜ PairReady k (length (now corners)) (length (now volumes)) (length (now ends)) (length (now lengths)) (length (now log))
+        (meshIn k points roots corners volumes ends lengths outline) × Logged (k .log) (now log) ⌝ }
+    ensures { λ r. ⌜ PairNow (kindIs kind) a b (k .particles) (worldBefore k points roots corners volumes ends lengths outline log) r ⌝ }
 {
     let held = pair_met(
         true,
@@ -118,8 +119,11 @@ pub fn turned(
     outline: &[usize],
     links: &[u16],
 ) -> bool
-    requires { ⌜ WayReady x y k (length (now points)) (length (now corners)) (length (now volumes)) (length (now ends)) (length (now lengths)) (meshAt k (now points) (now roots) (now corners) (now volumes) (now ends) (now lengths) (now outline)) × LoadsLong (kindIs kind) k (length (now loads)) × Linked (kindIs kind) (k .triangles) (now corners) (now links) ⌝ }
-    ensures { λ r. ⌜ Turned (kindIs kind) x y (k .triangles) (now (loads .entry)) (meshAt k (now (points .entry)) (now (roots .entry)) (now (corners .entry)) (now (volumes .entry)) (now (ends .entry)) (now (lengths .entry)) (now (outline .entry))) r ⌝ }
+    requires { ⌜ (let K = kindIs kind in WayReady x y k (length (now points)) (length (now corners)) (length (now volumes))
+        (length (now ends)) (length (now lengths)) (meshIn k points roots corners volumes ends lengths outline)
+        × LoadsLong K k (length (now loads)) × LinkedIn K k corners links) ⌝ }
+    ensures { λ r. ⌜ Turned (kindIs kind) x y (k .triangles) (now (loads .entry)) (meshBefore k points roots corners volumes ends lengths
+        outline) r ⌝ }
 {
     let p = crate::tried::way_load(
         kind,

@@ -88,7 +88,9 @@ fn triangle_load(
     heads: &[usize],
     nexts: &[usize],
 ) -> f32
-    requires { ⌜ LoadRoom (i < length (now corners) / 3) (i < length (now volumes) / 2) e (length (now ends)) (length (now lengths)) × Links e (now ends) (now heads) (now nexts) × Sound 1024 (triangleRow (length (now corners) / 3) (length (now volumes) / 2) (now corners) (now volumes) i) ⌝ }
+    requires { ⌜ LoadRoom (i < length (now corners) / 3) (i < length (now volumes) / 2) e (length (now ends)) (length (now lengths))
+        × Links e (now ends) (now heads) (now nexts) × Sound 1024 (triangleRow (length (now corners) / 3) (length (now volumes) / 2)
+        (now corners) (now volumes) i) ⌝ }
     ensures { λ r. ⌜ TriangleLoad i e (now (corners .entry)) (now (volumes .entry)) (now (ends .entry)) (now (lengths .entry)) r ⌝ }
 {
     let c = corners.len() / 3;
@@ -114,8 +116,10 @@ fn linked_loads(
     nexts: &[usize],
     loads: &mut [f32],
 )
-    requires { ⌜ LoadRoom (t ≤ length (now corners) / 3) (t ≤ length (now volumes) / 2) e (length (now ends)) (length (now lengths)) × (t ≤ length (now loads)) × Links e (now ends) (now heads) (now nexts) × Numbered t e (now corners) (now volumes) (now ends) ⌝ }
-    ensures { λ _. ⌜ LoadsRead t e (now (corners .entry)) (now (volumes .entry)) (now (ends .entry)) (now (lengths .entry)) (now (loads .exit)) ⌝ }
+    requires { ⌜ LoadRoom (t ≤ length (now corners) / 3) (t ≤ length (now volumes) / 2) e (length (now ends)) (length (now lengths))
+        × (t ≤ length (now loads)) × Links e (now ends) (now heads) (now nexts) × Numbered t e (now corners) (now volumes) (now ends) ⌝ }
+    ensures { λ _. ⌜ LoadsRead t e (now (corners .entry)) (now (volumes .entry)) (now (ends .entry)) (now (lengths .entry))
+        (now (loads .exit)) ⌝ }
 {
     let mut i: usize = 0;
     while i < t {
@@ -136,8 +140,11 @@ pub fn read_loads(
     nexts: &mut [usize],
     loads: &mut [f32],
 )
-    requires { ⌜ LoadRoom (t ≤ length (now corners) / 3) (t ≤ length (now volumes) / 2) e (length (now ends)) (length (now lengths)) × (t ≤ length (now loads)) × Numbered t e (now corners) (now volumes) (now ends) × LinkRoom e (now ends) (now heads) (length (now nexts)) ⌝ }
-    ensures { λ _. ⌜ LoadsRead t e (now (corners .entry)) (now (volumes .entry)) (now (ends .entry)) (now (lengths .entry)) (now (loads .exit)) ⌝ }
+    requires { ⌜ LoadRoom (t ≤ length (now corners) / 3) (t ≤ length (now volumes) / 2) e (length (now ends)) (length (now lengths))
+        × (t ≤ length (now loads)) × Numbered t e (now corners) (now volumes) (now ends)
+        × LinkRoom e (now ends) (now heads) (length (now nexts)) ⌝ }
+    ensures { λ _. ⌜ LoadsRead t e (now (corners .entry)) (now (volumes .entry)) (now (ends .entry)) (now (lengths .entry))
+        (now (loads .exit)) ⌝ }
 {
     link_edges(e, ends, heads, nexts);
     linked_loads(t, e, corners, volumes, ends, lengths, heads, nexts, loads);

@@ -1,19 +1,15 @@
 // One end of a torn edge split: the split, the torn edge noted behind it, its bridges slack and its particles damaged.
-ghost use mathlib.Core.List.{[], _∷_};
 ghost use Prim.Native.Nat.{_≤_};
 ghost use lib.ListN.{length};
 ghost use Rattle.elements.specs.Table.{kindIs};
-ghost use Rattle.links.specs.Linked.{Linked};
-ghost use Rattle.model.specs.Run.{opened};
-ghost use Rattle.model.specs.Split.{splitMade};
+ghost use Rattle.links.specs.Linked.{LinkedIn};
 ghost use Rattle.model.specs.Crack.{torn};
-ghost use Rattle.mesh.specs.At.{meshAt};
-ghost use Rattle.mesh.specs.Log.{worldAt};
-ghost use Rattle.mesh.specs.Filled.{lent};
-ghost use Rattle.work.specs.Working.{Ready, Works};
-ghost use Rattle.split.specs.Tables.{FanGrouped, openedBy};
-ghost use Rattle.split.specs.Linking.{LinkedAfter};
-ghost use Rattle.tear.specs.Torn.{TearRoom, TearTold, TearAsked};
+ghost use Rattle.split.specs.Tables.{openedBy};
+ghost use Rattle.tear.specs.Torn.{TearRoom, TearTold, TearAsked, splitAcross};
+ghost use Rattle.mesh.specs.Blocks.{meshIn};
+ghost use Rattle.work.specs.Working.{Works};
+ghost use Rattle.work.specs.Blocks.{ReadyIn, OverBlocks};
+ghost use Rattle.split.specs.Blocks.{GroupedIn, MaskIn, LinkedBehind};
 use elements::Kind;
 use mesh::Counts;
 use mesh::Rooms;
@@ -35,8 +31,10 @@ fn finish_tear(
     lengths: &mut [f32],
     log: &mut [u32],
 ) -> Ran
-    requires { ⌜ TearRoom (q .edges) (q .log) x y a b before count (length (now roots)) (length (now ends)) (length (now lengths)) (length (now log)) ⌝ }
-    ensures { λ r. ⌜ TearTold v before count w x y a b q (now (roots .entry)) (now (roots .exit)) (now (ends .entry)) (now (lengths .entry)) (now (lengths .exit)) (now (log .entry)) (now (log .exit)) r ⌝ }
+    requires { ⌜ TearRoom (q .edges) (q .log) x y a b before count (length (now roots)) (length (now ends)) (length (now lengths))
+        (length (now log)) ⌝ }
+    ensures { λ r. ⌜ TearTold v before count w x y a b q (now (roots .entry)) (now (roots .exit)) (now (ends .entry)) (now (lengths .entry))
+        (now (lengths .exit)) (now (log .entry)) (now (log .exit)) r ⌝ }
 {
     let e = q.edges;
     let l = q.log;
@@ -80,10 +78,11 @@ pub fn tear_open(
     mask: &mut [usize],
     links: &mut [u16],
 ) -> Ran
-    requires { ⌜ Ready room k (lent (now points) (now roots) (now corners) (now volumes) (now ends) (now lengths) (now outline) (now log)) (meshAt k (now points) (now roots) (now corners) (now volumes) (now ends) (now lengths) (now outline)) × FanGrouped (kindIs kind) (meshAt k (now points) (now roots) (now corners) (now volumes) (now ends) (now lengths) (now outline)) v n count (now numbers) (now verts) (now measures) (now groups) × TearAsked v w x y a b (k .particles) × (2048 ≤ length (now mask)) × Linked (kindIs kind) (k .triangles) (now corners) (now links) ⌝ }
-    ensures { λ r. ⌜ Works (splitMade (opened a b ∷ []) (torn (openedBy (kindIs kind) (meshAt k (now (points .entry)) (now (roots .entry)) (now (corners .entry)) (now (volumes .entry)) (now (ends .entry)) (now (lengths .entry)) (now (outline .entry))) v n count (now (groups .entry))) (x, y)) (kindIs kind) (openedBy (kindIs kind) (meshAt k (now (points .entry)) (now (roots .entry)) (now (corners .entry)) (now (volumes .entry)) (now (ends .entry)) (now (lengths .entry)) (now (outline .entry))) v n count (now (groups .entry)))) room
-        (worldAt k (now (points .entry)) (now (roots .entry)) (now (corners .entry)) (now (volumes .entry)) (now (ends .entry)) (now (lengths .entry)) (now (outline .entry)) (now (log .entry)))
-        (λ q. worldAt q (now (points .exit)) (now (roots .exit)) (now (corners .exit)) (now (volumes .entry)) (now (ends .exit)) (now (lengths .exit)) (now (outline .exit)) (now (log .exit))) r × LinkedAfter (kindIs kind) (now (corners .exit)) (now (links .exit)) r ⌝ }
+    requires { ⌜ (let K = kindIs kind in ReadyIn room k points roots corners volumes ends lengths outline log
+        × GroupedIn K (meshIn k points roots corners volumes ends lengths outline) v n count numbers verts measures groups
+        × TearAsked v w x y a b (k .particles) × MaskIn mask × LinkedIn K k corners links) ⌝ }
+    ensures { λ r. ⌜ (let K = kindIs kind in OverBlocks (λ M W at. Works (splitAcross a b x y K (openedBy K M v n count
+        (now (groups .entry)))) room W at r) k points roots corners volumes ends lengths outline log × LinkedBehind K corners links r) ⌝ }
 {
     let was = k.particles;
     let ran = split::step::split_opened(

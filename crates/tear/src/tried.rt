@@ -3,12 +3,12 @@ ghost use mathlib.Core.Path.{_≡_};
 ghost use Prim.Native.Nat.{_≤_};
 ghost use lib.ListN.{length};
 ghost use Rattle.elements.specs.Table.{kindIs, TableRoom};
-ghost use Rattle.links.specs.Linked.{Linked};
-ghost use Rattle.mesh.specs.At.{meshAt};
+ghost use Rattle.links.specs.Linked.{LinkedIn};
 ghost use Rattle.model.specs.Elements.{fanOf};
 ghost use Rattle.model.specs.Pieces.{opensWithoutConfetti};
 ghost use Rattle.split.specs.Tables.{openedBy};
 ghost use Rattle.tear.specs.Tried.{WayReady, WayTables, WayRead, LoadsLong, WayLoad, OpensRoom};
+ghost use Rattle.mesh.specs.Blocks.{meshIn, meshBefore};
 use elements::Kind;
 use mesh::Counts;
 
@@ -31,8 +31,11 @@ pub fn way_tables(
     sides: &mut [usize],
     links: &[u16],
 ) -> usize
-    requires { ⌜ WayReady v w k (length (now points)) (length (now corners)) (length (now volumes)) (length (now ends)) (length (now lengths)) (meshAt k (now points) (now roots) (now corners) (now volumes) (now ends) (now lengths) (now outline)) × WayTables (length (now numbers)) (length (now verts)) (length (now measures)) (length (now sides)) × Linked (kindIs kind) (k .triangles) (now corners) (now links) ⌝ }
-    ensures { λ r. ⌜ WayRead (kindIs kind) v w (meshAt k (now (points .entry)) (now (roots .entry)) (now (corners .entry)) (now (volumes .entry)) (now (ends .entry)) (now (lengths .entry)) (now (outline .entry))) r (now (numbers .exit)) (now (verts .exit)) (now (measures .exit)) (now (sides .exit)) ⌝ }
+    requires { ⌜ WayReady v w k (length (now points)) (length (now corners)) (length (now volumes)) (length (now ends))
+        (length (now lengths)) (meshIn k points roots corners volumes ends lengths outline) × WayTables (length (now numbers))
+        (length (now verts)) (length (now measures)) (length (now sides)) × LinkedIn (kindIs kind) k corners links ⌝ }
+    ensures { λ r. ⌜ WayRead (kindIs kind) v w (meshBefore k points roots corners volumes ends lengths outline) r (now (numbers .exit))
+        (now (verts .exit)) (now (measures .exit)) (now (sides .exit)) ⌝ }
 {
     let n = split::fans::fan_tables(
         kind,
@@ -69,8 +72,10 @@ pub fn way_load(
     outline: &[usize],
     links: &[u16],
 ) -> f32
-    requires { ⌜ WayReady v w k (length (now points)) (length (now corners)) (length (now volumes)) (length (now ends)) (length (now lengths)) (meshAt k (now points) (now roots) (now corners) (now volumes) (now ends) (now lengths) (now outline)) × LoadsLong (kindIs kind) k (length (now loads)) × Linked (kindIs kind) (k .triangles) (now corners) (now links) ⌝ }
-    ensures { λ r. ⌜ WayLoad (kindIs kind) v w k (now (loads .entry)) (meshAt k (now (points .entry)) (now (roots .entry)) (now (corners .entry)) (now (volumes .entry)) (now (ends .entry)) (now (lengths .entry)) (now (outline .entry))) r ⌝ }
+    requires { ⌜ (let K = kindIs kind in WayReady v w k (length (now points)) (length (now corners)) (length (now volumes))
+        (length (now ends)) (length (now lengths)) (meshIn k points roots corners volumes ends lengths outline)
+        × LoadsLong K k (length (now loads)) × LinkedIn K k corners links) ⌝ }
+    ensures { λ r. ⌜ WayLoad (kindIs kind) v w k (now (loads .entry)) (meshBefore k points roots corners volumes ends lengths outline) r ⌝ }
 {
     let mut numbers = [0usize; 2048];
     let mut verts = [0usize; 4096];
@@ -115,8 +120,11 @@ pub fn way_opens(
     groups: &[usize],
     queue: &mut [usize],
 ) -> bool
-    requires { ⌜ TableRoom (k .triangles) (k .edges) (length (now corners)) (length (now volumes)) (length (now ends)) (length (now lengths)) 2048 4096 2048 × OpensRoom n (length (fanOf (kindIs kind) (meshAt k (now points) (now roots) (now corners) (now volumes) (now ends) (now lengths) (now outline)) v)) (length (now groups)) × (2048 ≤ length (now queue)) ⌝ }
-    ensures { λ r. ⌜ r ≡ opensWithoutConfetti (kindIs kind) (meshAt k (now (points .entry)) (now (roots .entry)) (now (corners .entry)) (now (volumes .entry)) (now (ends .entry)) (now (lengths .entry)) (now (outline .entry))) minimum (openedBy (kindIs kind) (meshAt k (now (points .entry)) (now (roots .entry)) (now (corners .entry)) (now (volumes .entry)) (now (ends .entry)) (now (lengths .entry)) (now (outline .entry))) v n count (now (groups .entry))) ⌝ }
+    requires { ⌜ TableRoom (k .triangles) (k .edges) (length (now corners)) (length (now volumes)) (length (now ends))
+        (length (now lengths)) 2048 4096 2048 × OpensRoom n (length (fanOf (kindIs kind) (meshIn k points roots corners volumes ends lengths
+        outline) v)) (length (now groups)) × (2048 ≤ length (now queue)) ⌝ }
+    ensures { λ r. ⌜ (let K = kindIs kind in let M = meshBefore k points roots corners volumes ends lengths outline in r
+        ≡ opensWithoutConfetti K M minimum (openedBy K M v n count (now (groups .entry)))) ⌝ }
 {
     let mut numbers = [0usize; 2048];
     let mut verts = [0usize; 4096];

@@ -23,7 +23,7 @@ fn offsets(home: Point, row: &[usize], points: &[f32]) -> Point
     let mut i: usize = 0;
     while i < row.len() {
         let w = row[i];
-        s = blade::plus(s, blade::minus(opening::rest_point(w, points), home));
+        s = blade::plus(s, blade::minus(split_plan::rest_point(w, points), home));
         i += 1;
     }
     s
@@ -53,8 +53,8 @@ pub fn far_sides(
     requires { ⌜ SidesRoom v w n k (now verts) (length (now points)) (length (now sides)) ⌝ }
     ensures { λ _. ⌜ FarSides v w n k (now (verts .entry)) (now (points .entry)) (now (sides .exit)) ⌝ }
 {
-    let home = opening::rest_point(v, points);
-    let dir = blade::minus(opening::rest_point(w, points), home);
+    let home = split_plan::rest_point(v, points);
+    let dir = blade::minus(split_plan::rest_point(w, points), home);
     let mut i: usize = 0;
     let mut a: usize = 0;
     while i < n {

@@ -23,6 +23,8 @@ use Rattle.split.specs.Linking.{LinkedAfter}
 use Rattle.tear.specs.Torn.{TearAsked}
 use Rattle.tornedge.specs.declared.Tried.{Tried}
 use Rattle.tornedge.specs.declared.Tried.the-variants.{Not, Tore}
+use denote.Ref.{now}
+use Rattle.mesh.specs.Blocks.{Indices}
 
 -- ---- one way tried
 
@@ -63,3 +65,7 @@ pub record PairTold (K : Kind) (min t : ℕ) (ab xy : ℕ × ℕ) (loads : List 
 -- the torn edge that was (a, b) in the input is cracked in whatever run the blocks hold, by the loads at the front of the table where the elements are t triangles
 pub record CrackTold (K : Kind) (min a b t : ℕ) (loads : List Float) (L : Rooms) (W : World) (at : Counts → World) (r : Ran) : Type 0 where
   pub works : (ls : List Float) → (K ≡ Triangles → take t loads ≡ ls) → Works (λ R. crackEdge K ls min R (a, b)) L W at r
+
+-- `LinkedTried` of a block and a table, as a contract names them
+abbrev pub TriedBehind : Kind → Counts → Indices → Indices → Tried → Type 0
+TriedBehind K k corners links r = LinkedTried K (k .triangles) (now (corners .exit)) (now (links .exit)) r

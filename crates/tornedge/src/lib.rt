@@ -4,18 +4,16 @@ ghost use Prim.Native.Nat.{_<_, _≤_};
 ghost use mathlib.Core.Bool.{true};
 ghost use lib.ListN.{length, take};
 ghost use Rattle.elements.specs.Table.{kindIs};
-ghost use Rattle.links.specs.Linked.{Linked};
-ghost use Rattle.mesh.specs.At.{meshAt};
-ghost use Rattle.mesh.specs.Log.{worldAt};
-ghost use Rattle.mesh.specs.Filled.{lent};
+ghost use Rattle.links.specs.Linked.{LinkedIn};
 ghost use Rattle.model.specs.Split.{openingOf};
 ghost use Rattle.model.specs.Crack.{twoSided};
-ghost use Rattle.work.specs.Working.{Ready, Logged};
-ghost use Rattle.split.specs.Tables.{FanSided};
-ghost use Rattle.split.specs.Linking.{LinkedAfter};
+ghost use Rattle.work.specs.Working.{Logged};
 ghost use Rattle.tear.specs.Tried.{LoadsLong};
 ghost use Rattle.tear.specs.Torn.{TearAsked};
-ghost use Rattle.tornedge.specs.Cracks.{WayAsked, OpenedTo, TriedTo, LinkedTried, EndsTold, PairTold, CrackTold};
+ghost use Rattle.tornedge.specs.Cracks.{WayAsked, OpenedTo, TriedTo, EndsTold, PairTold, CrackTold, TriedBehind};
+ghost use Rattle.mesh.specs.Blocks.{meshIn, worldBefore, worldBehind};
+ghost use Rattle.work.specs.Blocks.{ReadyIn, OverBlocks};
+ghost use Rattle.split.specs.Blocks.{SidedIn, MaskIn, LinkedBehind};
 use elements::Kind;
 use mesh::Counts;
 use mesh::Rooms;
@@ -55,11 +53,11 @@ fn open_way(
     log: &mut [u32],
     links: &mut [u16],
 ) -> Tried
-    requires { ⌜ Ready room k (lent (now points) (now roots) (now corners) (now volumes) (now ends) (now lengths) (now outline) (now log)) (meshAt k (now points) (now roots) (now corners) (now volumes) (now ends) (now lengths) (now outline)) × FanSided (kindIs kind) (meshAt k (now points) (now roots) (now corners) (now volumes) (now ends) (now lengths) (now outline)) v n (now numbers) (now verts) (now measures) (now sides) × (twoSided (meshAt k (now points) (now roots) (now corners) (now volumes) (now ends) (now lengths) (now outline)) v (take n (now sides)) ≡ true) × TearAsked v w x y a b (k .particles) × (2048 ≤ length (now sides)) × Linked (kindIs kind) (k .triangles) (now corners) (now links) ⌝ }
-    ensures { λ r. ⌜ OpenedTo (kindIs kind) minimum (openingOf (kindIs kind) (meshAt k (now (points .entry)) (now (roots .entry)) (now (corners .entry)) (now (volumes .entry)) (now (ends .entry)) (now (lengths .entry)) (now (outline .entry))) v (take n (now (sides .entry)))) (a, b) (x, y) room k
-        (worldAt k (now (points .entry)) (now (roots .entry)) (now (corners .entry)) (now (volumes .entry)) (now (ends .entry)) (now (lengths .entry)) (now (outline .entry)) (now (log .entry)))
-        (λ q. worldAt q (now (points .exit)) (now (roots .exit)) (now (corners .exit)) (now (volumes .entry)) (now (ends .exit)) (now (lengths .exit)) (now (outline .exit)) (now (log .exit))) r
-        × LinkedTried (kindIs kind) (k .triangles) (now (corners .exit)) (now (links .exit)) r ⌝ }
+    requires { ⌜ (let K = kindIs kind in let M = meshIn k points roots corners volumes ends lengths outline in ReadyIn room k points roots
+        corners volumes ends lengths outline log × SidedIn K M v n numbers verts measures sides × (twoSided M v (take n (now sides)) ≡ true)
+        × TearAsked v w x y a b (k .particles) × MaskIn sides × LinkedIn K k corners links) ⌝ }
+    ensures { λ r. ⌜ (let K = kindIs kind in OverBlocks (λ M W at. OpenedTo K minimum (openingOf K M v (take n (now (sides .entry))))
+        (a, b) (x, y) room k W at r) k points roots corners volumes ends lengths outline log × TriedBehind K k corners links r) ⌝ }
 {
     let mut groups = [0usize; 2048];
     let count = split::fans::group_fan(kind, v, n, verts, sides, &mut groups);
@@ -133,11 +131,11 @@ fn try_way(
     log: &mut [u32],
     links: &mut [u16],
 ) -> Tried
-    requires { ⌜ Ready room k (lent (now points) (now roots) (now corners) (now volumes) (now ends) (now lengths) (now outline) (now log)) (meshAt k (now points) (now roots) (now corners) (now volumes) (now ends) (now lengths) (now outline)) × WayAsked v w x y a b (k .particles) × Linked (kindIs kind) (k .triangles) (now corners) (now links) ⌝ }
-    ensures { λ r. ⌜ TriedTo (kindIs kind) minimum v w (a, b) (x, y) room k
-        (worldAt k (now (points .entry)) (now (roots .entry)) (now (corners .entry)) (now (volumes .entry)) (now (ends .entry)) (now (lengths .entry)) (now (outline .entry)) (now (log .entry)))
-        (λ q. worldAt q (now (points .exit)) (now (roots .exit)) (now (corners .exit)) (now (volumes .entry)) (now (ends .exit)) (now (lengths .exit)) (now (outline .exit)) (now (log .exit))) r
-        × LinkedTried (kindIs kind) (k .triangles) (now (corners .exit)) (now (links .exit)) r ⌝ }
+    requires { ⌜ ReadyIn room k points roots corners volumes ends lengths outline log × WayAsked v w x y a b (k .particles)
+        × LinkedIn (kindIs kind) k corners links ⌝ }
+    ensures { λ r. ⌜ (let K = kindIs kind in TriedTo K minimum v w (a, b) (x, y) room k
+        (worldBefore k points roots corners volumes ends lengths outline log) (λ q. worldBehind q points roots corners volumes ends lengths
+        outline log) r × TriedBehind K k corners links r) ⌝ }
 {
     let mut numbers = [0usize; 2048];
     let mut verts = [0usize; 4096];
@@ -214,11 +212,11 @@ fn crack_ends(
     log: &mut [u32],
     links: &mut [u16],
 ) -> Ran
-    requires { ⌜ Ready room k (lent (now points) (now roots) (now corners) (now volumes) (now ends) (now lengths) (now outline) (now log)) (meshAt k (now points) (now roots) (now corners) (now volumes) (now ends) (now lengths) (now outline)) × WayAsked v w x y a b (k .particles) × WayAsked w v x y a b (k .particles) × Linked (kindIs kind) (k .triangles) (now corners) (now links) ⌝ }
-    ensures { λ r. ⌜ EndsTold (kindIs kind) minimum v w (a, b) (x, y) room
-        (worldAt k (now (points .entry)) (now (roots .entry)) (now (corners .entry)) (now (volumes .entry)) (now (ends .entry)) (now (lengths .entry)) (now (outline .entry)) (now (log .entry)))
-        (λ q. worldAt q (now (points .exit)) (now (roots .exit)) (now (corners .exit)) (now (volumes .entry)) (now (ends .exit)) (now (lengths .exit)) (now (outline .exit)) (now (log .exit))) r
-        × LinkedAfter (kindIs kind) (now (corners .exit)) (now (links .exit)) r ⌝ }
+    requires { ⌜ ReadyIn room k points roots corners volumes ends lengths outline log × WayAsked v w x y a b (k .particles)
+        × WayAsked w v x y a b (k .particles) × LinkedIn (kindIs kind) k corners links ⌝ }
+    ensures { λ r. ⌜ (let K = kindIs kind in EndsTold K minimum v w (a, b) (x, y) room
+        (worldBefore k points roots corners volumes ends lengths outline log) (λ q. worldBehind q points roots corners volumes ends lengths
+        outline log) r × LinkedBehind K corners links r) ⌝ }
 {
     let first = try_way(
         kind,
@@ -292,11 +290,10 @@ fn crack_pair(
     log: &mut [u32],
     links: &mut [u16],
 ) -> Ran
-    requires { ⌜ Ready room k (lent (now points) (now roots) (now corners) (now volumes) (now ends) (now lengths) (now outline) (now log)) (meshAt k (now points) (now roots) (now corners) (now volumes) (now ends) (now lengths) (now outline)) × LoadsLong (kindIs kind) k (length (now loads)) × (x < k .particles) × (y < k .particles) × (a < 1024) × (b < 1024) × Linked (kindIs kind) (k .triangles) (now corners) (now links) ⌝ }
-    ensures { λ r. ⌜ PairTold (kindIs kind) minimum (k .triangles) (a, b) (x, y) (now (loads .entry)) room
-        (worldAt k (now (points .entry)) (now (roots .entry)) (now (corners .entry)) (now (volumes .entry)) (now (ends .entry)) (now (lengths .entry)) (now (outline .entry)) (now (log .entry)))
-        (λ q. worldAt q (now (points .exit)) (now (roots .exit)) (now (corners .exit)) (now (volumes .entry)) (now (ends .exit)) (now (lengths .exit)) (now (outline .exit)) (now (log .exit))) r
-        × LinkedAfter (kindIs kind) (now (corners .exit)) (now (links .exit)) r ⌝ }
+    requires { ⌜ (let K = kindIs kind in ReadyIn room k points roots corners volumes ends lengths outline log × LoadsLong K k
+        (length (now loads)) × (x < k .particles) × (y < k .particles) × (a < 1024) × (b < 1024) × LinkedIn K k corners links) ⌝ }
+    ensures { λ r. ⌜ (let K = kindIs kind in OverBlocks (λ M W at. PairTold K minimum (k .triangles) (a, b) (x, y) (now (loads .entry)) room W
+        at r) k points roots corners volumes ends lengths outline log × LinkedBehind K corners links r) ⌝ }
 {
     let other = tear::edge::turned(
         kind,
@@ -357,11 +354,11 @@ pub fn crack_edge(
     log: &mut [u32],
     links: &mut [u16],
 ) -> Ran
-    requires { ⌜ Ready room k (lent (now points) (now roots) (now corners) (now volumes) (now ends) (now lengths) (now outline) (now log)) (meshAt k (now points) (now roots) (now corners) (now volumes) (now ends) (now lengths) (now outline)) × Logged (k .log) (now log) × LoadsLong (kindIs kind) k (length (now loads)) × (a < 1024) × (b < 1024) × Linked (kindIs kind) (k .triangles) (now corners) (now links) ⌝ }
-    ensures { λ r. ⌜ CrackTold (kindIs kind) minimum a b (k .triangles) (now (loads .entry)) room
-        (worldAt k (now (points .entry)) (now (roots .entry)) (now (corners .entry)) (now (volumes .entry)) (now (ends .entry)) (now (lengths .entry)) (now (outline .entry)) (now (log .entry)))
-        (λ q. worldAt q (now (points .exit)) (now (roots .exit)) (now (corners .exit)) (now (volumes .entry)) (now (ends .exit)) (now (lengths .exit)) (now (outline .exit)) (now (log .exit))) r
-        × LinkedAfter (kindIs kind) (now (corners .exit)) (now (links .exit)) r ⌝ }
+    requires { ⌜ (let K = kindIs kind in ReadyIn room k points roots corners volumes ends lengths outline log × Logged (k .log) (now log)
+        × LoadsLong K k (length (now loads)) × (a < 1024) × (b < 1024) × LinkedIn K k corners links) ⌝ }
+    ensures { λ r. ⌜ (let K = kindIs kind in CrackTold K minimum a b (k .triangles) (now (loads .entry)) room
+        (worldBefore k points roots corners volumes ends lengths outline log) (λ q. worldBehind q points roots corners volumes ends lengths
+        outline log) r × LinkedBehind K corners links r) ⌝ }
 {
     let pair = tear::edge::pair_now(
         kind,

@@ -1,8 +1,8 @@
 // A tour of the bench: what it answers about the worked mesh of docs/RULES.md, R15, the two worked cuts, a refusal, a split and a crack.
 ghost use mathlib.Core.Path.{_≡_};
 ghost use lib.ListN.{length};
-use answer::Answer;
 use blade::Point;
+use call_frame::Answer;
 use libc::STDOUT_FILENO;
 use mesh::Counts;
 use readings::Count;

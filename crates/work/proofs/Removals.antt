@@ -1,8 +1,8 @@
 -- Laws of masks: marks made one after another, marked edges noted, marked rows gone, and that they are those of the model. Assumes nothing.
 use mathlib.Core.Path.{_≡_, refl, sym, _∙_, ap, ap₂, subst}
-use mathlib.Core.Bool.{Bool, true, false}
+use mathlib.Core.Bool.{Bool, true, false, _&&_}
 use mathlib.Core.List.{List, [], _∷_, _++_, map, append-nil, append-assoc, map-append}
-use Prim.Native.Nat.{ℕ, suc, _+_, _/_, _-_, _<_, _≤_}
+use Prim.Native.Nat.{ℕ, suc, _+_, _/_, _-_, _<_, _≤_, zero-le}
 use native.Mathlib.Omega.{arith}
 use borrow.Author.Count.{below-more}
 use borrow.Author.Tests.{eq-eqb, ne-eqb}
@@ -10,12 +10,14 @@ use lib.Dec.{eqb}
 use lib.Ieee.{Float}
 use lib.ListN.{length, getD, set, length-set, length-append, length-map}
 use lib.Seq.{getD-set-same, getD-set-other}
-use Rattle.lists.specs.Lists.{pick, sift, keep, keptOf, upTo, tab}
-use Rattle.lists.proofs.Sifts.{sift-length, sift-append, upTo-length, map-tab}
+use Rattle.lists.specs.Lists.{stands, pick, sift, keep, keptOf, upTo, tab}
+use Rattle.lists.proofs.Sifts.{sift-length, sift-append, sift-stands, upTo-length, upTo-stands, map-tab}
 use Rattle.lists.proofs.Steps.{sift-step}
 use Rattle.columns.specs.Block.{BlockKept}
 use Rattle.columns.proofs.Cells.{col-0, col-1}
-use Rattle.columns.proofs.Rows.{rows-keep}
+use Rattle.columns.specs.View.{NextMarked}
+use Rattle.columns.proofs.Keep.{compact-start, compact-done}
+use Rattle.columns.proofs.Rows.{rows-keep, no}
 use Rattle.lists.proofs.Walks.{sift-same, tab-split}
 use Rattle.model.specs.Mesh.{Edge}
 use Rattle.mesh.specs.At.{edgesAt, boundaryAt}
@@ -188,6 +190,55 @@ keep-most (b ∷ m) (a ∷ l) = let h = keep-most m l in pick-most (eqb b 1) (ke
 kept-most : (m : List ℕ) (n : ℕ) → keptOf m n ≤ n
 unfolding keptOf
 kept-most m n = omega (arith, keep-most m (upTo n), upTo-length n)
+
+-- ---- where none is marked
+
+-- no number stands in a list of none
+none-stands : (l : List ℕ) → length l ≡ 0 → (x : ℕ) → stands x l ≡ false
+none-stands [] e x = refl
+none-stands (y ∷ l) e x = absurd (omega arith)
+
+and-off : (t : Bool) → t && true ≡ false → t ≡ false
+and-off true e = e
+and-off false e = refl
+
+-- where none is marked, each is unmarked
+unmarked : (mask : List ℕ) (n : ℕ) → length (markedOf mask n) ≡ 0 → (j : ℕ) → j < n → marked mask j ≡ false
+unfolding markedOf
+unmarked mask n z j h =
+    and-off (marked mask j) (ap (λ (t : Bool). marked mask j && t) (sym (upTo-stands n j h)) ∙ sym (sift-stands (marked mask) j (upTo n)) ∙ none-stands (sift (marked mask) (upTo n)) z j)
+
+-- so the search for a marked row comes to the end
+none-next : (mask : List ℕ) (n : ℕ) → length (markedOf mask n) ≡ 0 → NextMarked mask 0 n n
+none-next mask n z =
+    record {
+      above = zero-le;
+      below = omega arith;
+      none = λ k _ h t. no (sym (unmarked mask n z k h) ∙ eq-eqb _ _ t);
+      stop = λ h. absurd (omega arith);
+    }
+
+-- all edges stay
+pub none-removed : (mask : List ℕ) (n s : ℕ) (ends : List ℕ) (lengths : List Float) → s ≡ length (markedOf mask n) → s ≡ 0 → Removed mask n n (edgesAt n ends lengths) (edgesAt n ends lengths)
+unfolding edgesAt
+none-removed mask n s ends lengths c z =
+    let q = compact-done mask n (rowAt ends lengths) (rowAt ends lengths) n n (compact-start mask n (rowAt ends lengths) n (none-next mask n (sym c ∙ z))) (omega arith) in
+    record { count = q .0; edges = q .1 }
+
+-- a list of none
+no-element : {A : Type 0} (l : List A) → length l ≡ 0 → l ≡ []
+no-element [] e = refl
+no-element (a ∷ l) e = absurd (omega arith)
+
+-- and nothing is noted
+pub none-noted : (mask : List ℕ) (n s at : ℕ) (ends log : List ℕ) → s ≡ length (markedOf mask n) → s ≡ 0 → EdgesNoted mask n at ends log log at
+none-noted mask n s at ends log c z =
+    record {
+      count = omega arith;
+      entries = sym (ap (λ (l : List ℕ). logAt at log ++ map (goneWords ends) l) (no-element (markedOf mask n) (sym c ∙ z)) ∙ append-nil (logAt at log));
+    }
+
+-- ---- the blocks
 
 -- the boundary entries that the mask leaves
 sides-kept : (mask : List ℕ) (n : ℕ) (A A′ : List ℕ) (r : ℕ) → BlockKept 0 mask n 2 (length A / 2) A A′ r → length A′ ≡ length A → boundaryAt r A′ ≡ keep mask (boundaryAt n A)

@@ -3,3 +3,4 @@ pub mod Working
 pub mod Places
 pub mod Rows
 pub mod Removal
+pub mod Blocks

@@ -10,6 +10,7 @@ use Rattle.lists.specs.Lists.{sift, keep, upTo}
 use Rattle.columns.specs.Block.{cell}
 use Rattle.mesh.specs.At.{edgesAt, boundaryAt}
 use Rattle.mesh.specs.Log.{Words, logAt}
+use Rattle.mesh.specs.Workers.{EdgeRoom}
 use Rattle.mesh.specs.declared.Counts.{Counts}
 use Rattle.mesh.specs.declared.Rooms.{Rooms}
 use Rattle.work.specs.Places.{EndsIn}
@@ -43,6 +44,12 @@ pub record NoteRoom (mask : List ℕ) (n at : ℕ) (ends : List ℕ) (lg : ℕ) 
 pub record EdgesNoted (mask : List ℕ) (n at : ℕ) (ends log log′ : List ℕ) (r : ℕ) : Type 0 where
   pub count : r ≡ at + length (markedOf mask n)
   pub entries : logAt r log′ ≡ logAt at log ++ map (goneWords ends) (markedOf mask n)
+
+-- what the removal of marked edges asks: s of the first n edges are marked
+pub record MarkedRoom (mask : List ℕ) (n s le ll : ℕ) : Type 0 where
+  pub long : n ≤ length mask
+  pub counted : s ≡ length (markedOf mask n)
+  pub rows : EdgeRoom n le ll
 
 -- what the removal of the marked asks, where s edges are marked
 pub record GoneRoom (L : Rooms) (k : Counts) (s : ℕ) (edge-mask : List ℕ) (side-mask : ℕ) (ends : List ℕ) (ll lo lg : ℕ) : Type 0 where

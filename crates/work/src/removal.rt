@@ -1,7 +1,9 @@
 // Marked edges and boundary entries go from the lent blocks, and each such edge is noted by its ends.
-ghost use Prim.Native.Nat.{_<_};
+ghost use mathlib.Core.Path.{_≡_};
 ghost use lib.ListN.{length};
-ghost use Rattle.work.specs.Removal.{NoteRoom, EdgesNoted, GoneRoom, GoneTo};
+ghost use Rattle.mesh.specs.At.{edgesAt};
+ghost use Rattle.mesh.specs.Workers.{Removed};
+ghost use Rattle.work.specs.Removal.{markedOf, NoteRoom, EdgesNoted, MarkedRoom, GoneRoom, GoneTo};
 use crate::Ran;
 use mesh::Counts;
 use mesh::Rooms;
@@ -24,6 +26,42 @@ pub fn note_edges(mask: &[usize], n: usize, at: usize, ends: &[usize], log: &mut
     w
 }
 
+// Notes the s marked edges among the first n; where none is marked there is nothing to look for.
+pub fn note_marked(
+    mask: &[usize],
+    n: usize,
+    s: usize,
+    at: usize,
+    ends: &[usize],
+    log: &mut [u32],
+) -> usize
+    requires { ⌜ NoteRoom (now mask) n at (now ends) (length (now log)) × (s ≡ length (markedOf (now mask) n)) ⌝ }
+    ensures { λ r. ⌜ EdgesNoted (now (mask .entry)) n at (now (ends .entry)) (now (log .entry)) (now (log .exit)) r ⌝ }
+{
+    if s == 0 {
+        return at;
+    }
+    note_edges(mask, n, at, ends, log)
+}
+
+// Removes the s marked edges from the first n, and returns how many are left; where none is marked there is nothing to move.
+pub fn drop_marked(
+    mask: &[usize],
+    n: usize,
+    s: usize,
+    ends: &mut [usize],
+    lengths: &mut [f32],
+) -> usize
+    requires { ⌜ MarkedRoom (now mask) n s (length (now ends)) (length (now lengths)) ⌝ }
+    ensures { λ r. ⌜ Removed (now (mask .entry)) n r (edgesAt n (now (ends .entry)) (now (lengths .entry))) (edgesAt r (now (ends .exit))
+        (now (lengths .exit))) ⌝ }
+{
+    if s == 0 {
+        return n;
+    }
+    mesh::rows::remove_edges(mask, n, ends, lengths)
+}
+
 // Removes the marked edges and boundary entries, and notes the s edges, if the log has room.
 pub fn remove_marked(
     k: Counts,
@@ -36,14 +74,16 @@ pub fn remove_marked(
     outline: &mut [usize],
     log: &mut [u32],
 ) -> Ran
-    requires { ⌜ GoneRoom room k s (now «edge_mask») (length (now «side_mask»)) (now ends) (length (now lengths)) (length (now outline)) (length (now log)) ⌝ }
-    ensures { λ r. ⌜ GoneTo room k (now («edge_mask» .entry)) (now («side_mask» .entry)) (now (ends .entry)) (now (ends .exit)) (now (lengths .entry)) (now (lengths .exit)) (now (outline .entry)) (now (outline .exit)) (now (log .entry)) (now (log .exit)) r ⌝ }
+    requires { ⌜ GoneRoom room k s (now «edge_mask») (length (now «side_mask»)) (now ends) (length (now lengths)) (length (now outline))
+        (length (now log)) ⌝ }
+    ensures { λ r. ⌜ GoneTo room k (now («edge_mask» .entry)) (now («side_mask» .entry)) (now (ends .entry)) (now (ends .exit))
+        (now (lengths .entry)) (now (lengths .exit)) (now (outline .entry)) (now (outline .exit)) (now (log .entry)) (now (log .exit)) r ⌝ }
 {
     if room.log - k.log < s {
         return Ran::Refused(8);
     }
-    let g = note_edges(edge_mask, k.edges, k.log, ends, log);
-    let e = mesh::rows::remove_edges(edge_mask, k.edges, ends, lengths);
+    let g = note_marked(edge_mask, k.edges, s, k.log, ends, log);
+    let e = drop_marked(edge_mask, k.edges, s, ends, lengths);
     let b = columns::keep_block_usize(side_mask, k.boundary, 2, outline.len() / 2, outline);
     Ran::Done(Counts {
         particles: k.particles,

@@ -188,6 +188,27 @@ fn tearing_rows() -> Vec<Rows> {
         ),
     ]
 }
+/// The same split on grids of 8, 16 and 22, and the same cut of one strap on ropes of 250, 500 and 1,000: the work apart is to stay what it is.
+fn growth_rows() -> Vec<Rows> {
+    let grids = [("grid of 8", 8), ("grid of 16", 16), ("grid of 22", 22)].map(|(name, size)| {
+        let m = grid(size, size, &mut Rng::new(1), 0.0);
+        let v = ((size / 2) * (size + 1) + size / 2) as u32;
+        let fan = second::fan(&m, second::kind(&m), v).len();
+        let split = || Args::Split { v, sides: (0..fan).map(|i| (2 * i >= fan) as u8).collect() };
+        rows(&m, ("the same, pinned (idle)", &pinned(&m, v), split()), [(name, split())])
+    });
+    let ropes = [("rope of 250", 250), ("rope of 500", 500), ("rope of 1,000", 1000)].map(|(name, size)| {
+        let line = rope(size);
+        let blade = |x: f32, y0: f32, y1: f32| Args::Cut {
+            blade: [x, y0, x, y1].map(f32::to_bits),
+            length: None,
+            edition: 1,
+            fraction: 0.1f32.to_bits(),
+        };
+        rows(&line, ("the same, missed (idle)", &line, blade(60.25, -3., -2.)), [(name, blade(60.25, -1., 2.))])
+    });
+    grids.into_iter().chain(ropes).collect()
+}
 /// The body that `connected_pieces` counts: elements alone. It goes by shared particles, ours by shared sides: the Rust has no such count.
 fn elements_alone(m: &Mesh) -> SoftBody {
     let mut b = m.to_body(None);
@@ -315,6 +336,26 @@ fn ours_apart(t: &Table, c: &Raw, idle: &Raw) -> Option<f64> {
     Some(middle(|| ours.once() - idle.once()))
 }
 
+/// A plain copy of the image and of the answer's words: those of the mesh that it gives, and of its log.
+fn copied(t: &Table, c: &Raw) -> f64 {
+    let lent = lent(c);
+    let (out, log) = &mut *lent.borrow_mut();
+    invoke(t, c, out, log);
+    let head = words_of(&out[..24]);
+    let image = 4 * (4 + 10 * head[2] + 5 * head[3] + 8 * head[4] + 2 * head[5]) as usize;
+    let (answer, entries) = (vec![FILL; 8 + image], vec![FILL; 24 * head[1] as usize]);
+    let mut room = vec![FILL; c.first.len()];
+    median(
+        |_| {},
+        || {
+            room.copy_from_slice(black_box(&c.first));
+            out[..answer.len()].copy_from_slice(black_box(&answer));
+            log[..entries.len()].copy_from_slice(black_box(&entries));
+            black_box((&room, &out, &log));
+        },
+    )
+}
+
 fn time(ns: f64) -> String {
     if ns.abs() < 10_000.0 { format!("{ns:.0} ns") } else { format!("{:.1} us", ns / 1000.0) }
 }
@@ -344,9 +385,10 @@ pub fn run(words: &[String]) -> i32 {
         "checks, copy and store are done; the median of differences, the two timed in turn. Its row stands before."
     );
     println!(
-        "Straddlers have no idle call, so that of a split is taken. A cut that misses has looked at every element."
+        "Straddlers have no idle call, so that of a split is taken; pieces none, so that of the rest measure. A cut that misses has looked at every element."
     );
     println!();
+    let mut all = vec![];
     println!("| function | mesh | {} | {} |", COLUMNS[..5].join(" | "), COLUMNS[5..].join(" | "));
     println!("|---|---|{}", "---|".repeat(COLUMNS.len()));
     for e in ENTRIES.into_iter().filter(|e| !e.tears() && !e.sheets() && asked(*e)) {
@@ -355,20 +397,106 @@ pub fn run(words: &[String]) -> i32 {
             if meshless && k > 0 {
                 continue;
             }
-            read_row(&t, if meshless { "-" } else { name }, m, &input(e, m).raw());
+            let idle = (e == Entry::Pieces).then(|| input(Entry::RestMeasure, m).raw());
+            all.push(read_row(&t, if meshless { "-" } else { name }, m, &input(e, m).raw(), idle.as_ref()));
         }
     }
     for f in fans().into_iter().filter(|_| asked(Entry::Groups)) {
-        read_row(&t, f.name, &f.mesh, &reading(&f.mesh, Args::Groups { v: 0, sides: f.sides }).raw());
+        all.push(read_row(&t, f.name, &f.mesh, &reading(&f.mesh, Args::Groups { v: 0, sides: f.sides }).raw(), None));
     }
-    for Rows { idle, rows } in &tearing_rows() {
+    let mut grown = vec![];
+    for (kept, Rows { idle, rows }) in
+        tearing_rows().iter().map(|r| (true, r)).chain(growth_rows().iter().map(|r| (false, r)))
+    {
         let mut rows = rows.iter().filter(|r| asked(r.call.entry)).peekable();
         if rows.peek().is_some() {
-            torn_row(&t, idle, None);
+            let mut still = torn_row(&t, idle, None);
+            still.copied = Some(copied(&t, &idle.call));
+            all.extend(kept.then_some(still));
         }
-        rows.for_each(|r| torn_row(&t, r, Some(&idle.call)));
+        let into = if kept { &mut all } else { &mut grown };
+        rows.for_each(|r| into.push(torn_row(&t, r, Some(&idle.call))));
     }
+    wanted(&all, &grown);
     0
+}
+/// What was measured of a row, in nanoseconds.
+struct Measured {
+    function: &'static str,
+    mesh: String,
+    alone: f64,
+    whole: f64,
+    ours: Option<f64>,
+    apart: Option<f64>,
+    copied: Option<f64>,
+}
+impl Measured {
+    fn is(&self, function: &str, mesh: &str) -> bool {
+        self.function == function && self.mesh.starts_with(mesh)
+    }
+}
+/// What a ratio is of.
+enum Of {
+    Alone,
+    Apart,
+    Copy,
+}
+/// The ratios that are wanted of single rows: function, the mesh's first words, of what, at most.
+const WANTED: [(&str, &str, Of, f64); 14] = [
+    ("bench_cut", "grid, diagonal", Of::Alone, 0.25),
+    ("bench_cut", "grid, slanted", Of::Alone, 0.25),
+    ("bench_crack", "grid, ten torn edges", Of::Alone, 0.08),
+    ("bench_split", "grid, two sides", Of::Apart, 0.25),
+    ("bench_cut", "rope of 1,000, one strap", Of::Alone, 1.0),
+    ("bench_cut", "rope of 1,000, ten straps", Of::Alone, 1.0),
+    ("bench_pieces", "grid of 22 by 22", Of::Apart, 1.0),
+    ("bench_pieces", "rope of 1,000", Of::Apart, 1.0),
+    ("bench_straddlers", "grid (", Of::Apart, 1.0),
+    ("bench_straddlers", "grid in two pieces, edges across", Of::Apart, 1.0),
+    ("bench_split", "grid, split at a pinned", Of::Copy, 5.0),
+    ("bench_cut", "grid, miss", Of::Copy, 5.0),
+    ("bench_cut", "rope of 1,000, miss", Of::Copy, 5.0),
+    ("bench_crack", "grid, no torn edge", Of::Copy, 5.0),
+];
+/// The largest ratio wanted of ours to the Rust from the same image, and of the last to the first of a split on growing meshes.
+const FROM_IMAGE: f64 = 0.3;
+const GROWTH: f64 = 1.25;
+
+fn verdict(what: &str, got: f64, most: f64) {
+    println!("| {what} | {most:.2} | {got:.2} | {} |", if got <= most { "yes" } else { "NO" });
+}
+/// A table that says for each number that is wanted whether it is reached; rows that were not measured are left out.
+fn wanted(all: &[Measured], grown: &[Measured]) {
+    println!();
+    println!("What is wanted. \"A plain copy\": of the image, and of the words of the answer and the log.");
+    println!();
+    println!("| what | at most | measured | reached |");
+    println!("|---|---|---|---|");
+    for (function, mesh, of, most) in WANTED {
+        for r in all.iter().filter(|r| r.is(function, mesh)) {
+            let (got, of) = match of {
+                Of::Alone => (r.ours.map(|n| n / r.alone), "Rust alone"),
+                Of::Apart => (r.apart.map(|n| n / r.alone), "Rust alone, the work apart"),
+                Of::Copy => (r.ours.zip(r.copied).map(|(n, c)| n / c), "a plain copy"),
+            };
+            if let Some(got) = got {
+                verdict(&format!("`{function}`, {mesh}: ours / {of}"), got, most);
+            }
+        }
+    }
+    let least = all.iter().filter_map(|r| Some((r.ours? / r.whole, r)));
+    if let Some((got, r)) = least.max_by(|a, b| a.0.total_cmp(&b.0)) {
+        let rows = all.iter().filter(|r| r.ours.is_some_and(|n| n <= FROM_IMAGE * r.whole)).count();
+        let what = format!("all rows: ours / Rust from the image; the largest is `{}`, {}", r.function, r.mesh);
+        verdict(&format!("{what}; {rows} of {} rows reach it", all.len()), got, FROM_IMAGE);
+    }
+    for kind in ["grid", "rope"] {
+        let apart: Vec<f64> = grown.iter().filter(|r| r.mesh.starts_with(kind)).filter_map(|r| r.apart).collect();
+        if let (Some(first), Some(last)) = (apart.first(), apart.last()) {
+            let what = format!("the work apart of one split, largest {kind} / smallest: {} / {}", time(*last), time(*first));
+            verdict(&what, last / first, GROWTH);
+        }
+    }
 }
 /// Behind the function's and the mesh's.
 const COLUMNS: [&str; 7] = [
@@ -380,29 +508,32 @@ const COLUMNS: [&str; 7] = [
     "the work apart",
     "the work apart / Rust alone",
 ];
-fn read_row(t: &Table, name: &str, m: &Mesh, c: &Raw) {
+fn read_row(t: &Table, name: &str, m: &Mesh, c: &Raw, idle: Option<&Raw>) -> Measured {
     let whole = |c: &Raw| {
         black_box(expected(c));
     };
-    row(t, name, m, c, whole, None);
+    row(t, name, m, c, whole, idle)
 }
-fn torn_row(t: &Table, r: &Row, idle: Option<&Raw>) {
+fn torn_row(t: &Table, r: &Row, idle: Option<&Raw>) -> Measured {
     let entries = torn_from_image(&r.call).expect("a call that passes the checks").1.len() / 6;
     let whole = |c: &Raw| {
         black_box(torn_from_image(c));
     };
-    row(t, &format!("{} ({entries} log entries of the Rust)", r.name), &r.mesh, &r.call, whole, idle);
+    row(t, &format!("{} ({entries} log entries of the Rust)", r.name), &r.mesh, &r.call, whole, idle)
 }
-fn row(t: &Table, name: &str, m: &Mesh, c: &Raw, whole: impl Fn(&Raw), idle: Option<&Raw>) {
+fn row(t: &Table, name: &str, m: &Mesh, c: &Raw, whole: impl Fn(&Raw), idle: Option<&Raw>) -> Measured {
     let alone = rust_alone(c, m);
     let whole = median(|_| {}, || whole(black_box(c)));
     print!("| `{}` | {name} | {} | {} |", c.entry.name(), time(alone), time(whole));
-    match ours(t, c) {
+    let ours = ours(t, c);
+    match ours {
         Some(ns) => print!(" {} | {:.2} | {:.2} |", time(ns), ns / alone, ns / whole),
         None => print!(" not there yet | - | - |"),
     }
-    match idle.and_then(|idle| ours_apart(t, c, idle)) {
+    let apart = idle.and_then(|idle| ours_apart(t, c, idle));
+    match apart {
         Some(ns) => println!(" {} | {:.2} |", time(ns), ns / alone),
         None => println!(" - | - |"),
     }
+    Measured { function: c.entry.name(), mesh: name.to_string(), alone, whole, ours, apart, copied: None }
 }

@@ -1,154 +1,39 @@
--- `fan_c::image_fan` meets its contract: the fan is asked for on the fronts of seven loaded blocks. Assumes nothing.
-use native.Mathlib.Omega.{arith}
+-- `fan_c::image_fan` meets its contract: a small image is asked in small blocks, any other in large ones. Assumes nothing.
 use mathlib.Core.Path.{sym, _∙_}
-use lib.Seq.{length-take-le}
-use Rattle.image.proofs.Loading.{sized-counts, sized-loadable, particles-few, triangles-few, edges-few, boundary-few, fronts-are}
-use Rattle.fan_c.proofs.Fanning.{fan-on}
+use Rattle.image.proofs.Loading.{sized-counts}
 use borrow.Author.Needs.{needs}
 use Rattle.fan_c.proofs.image_fan.Statement.{statement}
 use Rattle.fan_c.proofs.image_fan.Tie as tie
 
-word-at-requires : tie.Need-word-at-requires
-word-at-requires c κs = omega (arith, sized-counts _ ((c .before .before) .pre .0))
+is-small-requires : tie.Need-is-small-requires
+is-small-requires c κs = sized-counts _ (c .before .before .pre .0)
 
-word-at-requires-2 : tie.Need-word-at-requires-2
-word-at-requires-2 c κs = omega (arith, sized-counts _ ((c .before .before .before) .pre .0))
-
-word-at-requires-3 : tie.Need-word-at-requires-3
-word-at-requires-3 c κs = omega (arith, sized-counts _ ((c .before .before .before .before) .pre .0))
-
-word-at-requires-4 : tie.Need-word-at-requires-4
-word-at-requires-4 c κs = omega (arith, sized-counts _ ((c .before .before .before .before .before) .pre .0))
-
-mul-point-places : tie.Need-mul-point-places
-mul-point-places c = search needs
-
-mul-p2 : tie.Need-mul-p2
-mul-p2 c = search needs
-
-mul-t3 : tie.Need-mul-t3
-mul-t3 c = search needs
-
-mul-t2 : tie.Need-mul-t2
-mul-t2 c = search needs
-
-mul-e4 : tie.Need-mul-e4
-mul-e4 c = search needs
-
-mul-b2 : tie.Need-mul-b2
-mul-b2 c = search needs
-
-slice-aggregate-load : tie.Need-slice-aggregate-load
-slice-aggregate-load c = search needs
-
-slice-aggregate-load-2 : tie.Need-slice-aggregate-load-2
-slice-aggregate-load-2 c = search needs
-
-slice-aggregate-load-3 : tie.Need-slice-aggregate-load-3
-slice-aggregate-load-3 c = search needs
-
-slice-aggregate-load-4 : tie.Need-slice-aggregate-load-4
-slice-aggregate-load-4 c = search needs
-
-slice-aggregate-load-5 : tie.Need-slice-aggregate-load-5
-slice-aggregate-load-5 c = search needs
-
-slice-aggregate-load-6 : tie.Need-slice-aggregate-load-6
-slice-aggregate-load-6 c = search needs
-
-slice-aggregate-load-7 : tie.Need-slice-aggregate-load-7
-slice-aggregate-load-7 c = search needs
-
-load-requires : tie.Need-load-requires
-load-requires c κs = sized-loadable _ ((c .before .before .before .before .before .before .before .before .before .before .before .before .before) .pre .0)
-
-array-share-prefix-points : tie.Need-array-share-prefix-points
-array-share-prefix-points c = omega (arith, (c .before .before .before .before .before .before .before .before .before .before .before .before .before .before .before .before .before .before) .word-at .ensures .0, particles-few _ ((c .before .before .before .before .before .before .before .before .before .before .before .before .before .before .before .before .before .before .before .before .before) .pre .0))
-
-slice-aggregate-mesh-fan : tie.Need-slice-aggregate-mesh-fan
-slice-aggregate-mesh-fan c = sym (length-take-le _ _ (array-share-prefix-points (c .before)))
-
-array-share-prefix-roots : tie.Need-array-share-prefix-roots
-array-share-prefix-roots c = omega (arith, (c .before .before .before .before .before .before .before .before .before .before .before .before .before .before .before .before .before .before .before) .word-at .ensures .0, particles-few _ ((c .before .before .before .before .before .before .before .before .before .before .before .before .before .before .before .before .before .before .before .before .before .before) .pre .0))
-
-slice-aggregate-mesh-fan-2 : tie.Need-slice-aggregate-mesh-fan-2
-slice-aggregate-mesh-fan-2 c = sym (length-take-le _ _ (array-share-prefix-roots (c .before)))
-
-array-share-prefix-corners : tie.Need-array-share-prefix-corners
-array-share-prefix-corners c = omega (arith, (c .before .before .before .before .before .before .before .before .before .before .before .before .before .before .before .before .before .before .before) .word-at2 .ensures .0, triangles-few _ ((c .before .before .before .before .before .before .before .before .before .before .before .before .before .before .before .before .before .before .before .before .before .before .before) .pre .0))
-
-slice-aggregate-mesh-fan-3 : tie.Need-slice-aggregate-mesh-fan-3
-slice-aggregate-mesh-fan-3 c = sym (length-take-le _ _ (array-share-prefix-corners (c .before)))
-
-array-share-prefix-volumes : tie.Need-array-share-prefix-volumes
-array-share-prefix-volumes c = omega (arith, (c .before .before .before .before .before .before .before .before .before .before .before .before .before .before .before .before .before .before .before .before) .word-at2 .ensures .0, triangles-few _ ((c .before .before .before .before .before .before .before .before .before .before .before .before .before .before .before .before .before .before .before .before .before .before .before .before) .pre .0))
-
-slice-aggregate-mesh-fan-4 : tie.Need-slice-aggregate-mesh-fan-4
-slice-aggregate-mesh-fan-4 c = sym (length-take-le _ _ (array-share-prefix-volumes (c .before)))
-
-array-share-prefix-ends : tie.Need-array-share-prefix-ends
-array-share-prefix-ends c = omega (arith, (c .before .before .before .before .before .before .before .before .before .before .before .before .before .before .before .before .before .before .before .before) .word-at3 .ensures .0, edges-few _ ((c .before .before .before .before .before .before .before .before .before .before .before .before .before .before .before .before .before .before .before .before .before .before .before .before .before) .pre .0))
-
-slice-aggregate-mesh-fan-5 : tie.Need-slice-aggregate-mesh-fan-5
-slice-aggregate-mesh-fan-5 c = sym (length-take-le _ _ (array-share-prefix-ends (c .before)))
-
-array-share-prefix-lengths : tie.Need-array-share-prefix-lengths
-array-share-prefix-lengths c = omega (arith, (c .before .before .before .before .before .before .before .before .before .before .before .before .before .before .before .before .before .before .before .before .before) .word-at3 .ensures .0, edges-few _ ((c .before .before .before .before .before .before .before .before .before .before .before .before .before .before .before .before .before .before .before .before .before .before .before .before .before .before) .pre .0))
-
-slice-aggregate-mesh-fan-6 : tie.Need-slice-aggregate-mesh-fan-6
-slice-aggregate-mesh-fan-6 c = sym (length-take-le _ _ (array-share-prefix-lengths (c .before)))
-
-array-share-prefix-outline : tie.Need-array-share-prefix-outline
-array-share-prefix-outline c = omega (arith, (c .before .before .before .before .before .before .before .before .before .before .before .before .before .before .before .before .before .before .before .before .before) .word-at4 .ensures .0, boundary-few _ ((c .before .before .before .before .before .before .before .before .before .before .before .before .before .before .before .before .before .before .before .before .before .before .before .before .before .before .before) .pre .0))
-
-slice-aggregate-mesh-fan-7 : tie.Need-slice-aggregate-mesh-fan-7
-slice-aggregate-mesh-fan-7 c = sym (length-take-le _ _ (array-share-prefix-outline (c .before)))
-
-mesh-fan-requires : tie.Need-mesh-fan-requires
-mesh-fan-requires c κs = (c .before .before .before .before .before .before .before .before .before .before .before .before .before .before .before .before .before .before .before .before .before .before .before .before .before .before .before .before .before) .pre .1
+small-fan-requires : tie.Need-small-fan-requires
+small-fan-requires c κs = let P = c .before .before .before .before .before .pre in (P .0, P .1, sym (c .before .before .is-small .ensures) ∙ c .before .if1 .taken)
 
 same-length : tie.Need-same-length
 same-length c = search needs
 
 returns : tie.Need-returns
-returns c = fan-on _ _ _ _ _ ((c .before .before .before .before .before .before .before .before .before .before .before .before .before .before .before .before .before .before .before .before .before .before .before .before .before .before .before .before .before .before .before .before) .pre .0) (fronts-are _ _ _ _ _ _ _ _ _ _ _ _ ((c .before .before .before .before .before .before .before .before .before .before .before .before .before .before .before .before .before .before .before .before .before .before .before .before .before .before .before .before .before) .word-at .ensures .0) ((c .before .before .before .before .before .before .before .before .before .before .before .before .before .before .before .before .before .before .before .before .before .before .before .before .before .before .before .before) .word-at2 .ensures .0) ((c .before .before .before .before .before .before .before .before .before .before .before .before .before .before .before .before .before .before .before .before .before .before .before .before .before .before .before) .word-at3 .ensures .0) ((c .before .before .before .before .before .before .before .before .before .before .before .before .before .before .before .before .before .before .before .before .before .before .before .before .before .before) .word-at4 .ensures .0) ((c .before .before .before .before .before .before .before .before .before .before .before .before .before .before .before .before .before .before) .load .ensures)) ((c .before .before) .mesh-fan .ensures)
+returns c = search needs
+
+large-fan-requires : tie.Need-large-fan-requires
+large-fan-requires c κs = search needs
+
+same-length-2 : tie.Need-same-length-2
+same-length-2 c = search needs
+
+returns-2 : tie.Need-returns-2
+returns-2 c = search needs
 
 pub image-fan-spec : {M : Type 1} → statement M
 image-fan-spec =
     tie.close
     (tie.spec
-    word-at-requires
-    word-at-requires-2
-    word-at-requires-3
-    word-at-requires-4
-    mul-point-places
-    mul-p2
-    mul-t3
-    mul-t2
-    mul-e4
-    mul-b2
-    slice-aggregate-load
-    slice-aggregate-load-2
-    slice-aggregate-load-3
-    slice-aggregate-load-4
-    slice-aggregate-load-5
-    slice-aggregate-load-6
-    slice-aggregate-load-7
-    load-requires
-    array-share-prefix-points
-    slice-aggregate-mesh-fan
-    array-share-prefix-roots
-    slice-aggregate-mesh-fan-2
-    array-share-prefix-corners
-    slice-aggregate-mesh-fan-3
-    array-share-prefix-volumes
-    slice-aggregate-mesh-fan-4
-    array-share-prefix-ends
-    slice-aggregate-mesh-fan-5
-    array-share-prefix-lengths
-    slice-aggregate-mesh-fan-6
-    array-share-prefix-outline
-    slice-aggregate-mesh-fan-7
-    mesh-fan-requires
+    is-small-requires
+    small-fan-requires
     same-length
-    returns)
+    returns
+    large-fan-requires
+    same-length-2
+    returns-2)

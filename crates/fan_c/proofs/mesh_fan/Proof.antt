@@ -1,7 +1,7 @@
 -- `fan_c::mesh_fan` meets its contract: the faults of the mesh, an absent particle, or the fan. Assumes nothing.
 use mathlib.Core.Path.{sym, _∙_}
 use Rattle.mesh.specs.Given.{given}
-use Rattle.asked.proofs.Judged.{accepted}
+use Rattle.arguments.proofs.Judged.{accepted}
 use Rattle.fan_c.proofs.Fanning.{fan-fault, fan-absent, fan-found}
 use borrow.Author.Needs.{needs}
 use Rattle.fan_c.proofs.mesh_fan.Statement.{statement}

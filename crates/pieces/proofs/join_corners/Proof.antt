@@ -1,12 +1,14 @@
 -- `pieces::join_corners` meets its contract. The invariant: the first j corners of element i are joined to the first. Assumes nothing.
 use borrow.Author.Needs.{needs}
 use native.Mathlib.Omega.{arith}
-use mathlib.Core.Path.{_≡_, refl, _∙_}
-use Prim.Native.Nat.{_+_, _*_, _<_, _≤_, _-_}
+use mathlib.Core.Path.{_≡_, refl, _∙_, ap}
+use mathlib.Core.List.{List}
+use mathlib.Core.Logic.{⊎-elim}
+use Prim.Native.Nat.{ℕ, _+_, _*_, _<_, _≤_, _-_}
 use lib.ListN.{length, getD}
 use Rattle.pieces.specs.Tables.{Link, Tied}
 use Rattle.pieces.proofs.Corners.{corners-room, first-below, corner-below}
-use Rattle.pieces.proofs.Trees.{tied-join, tied-at, link-more, link-here, link-split}
+use Rattle.pieces.proofs.Trees.{tied-join, tied-one, tied-first, tied-at, link-more, link-here, link-split}
 use Rattle.pieces.proofs.join_corners.Statement.{statement}
 use Rattle.pieces.proofs.join_corners.Tie as tie
 
@@ -38,7 +40,7 @@ loop-holds : tie.Need-loop-holds Inv-loop μ-loop
 loop-holds c =
     let A = c .before .before .before .args in
     let P = c .before .before .before .pre in
-    (search needs, refl, tied-at (omega arith) refl (P .1 .tied))
+    (P .0 .width .0, refl, tied-first (A .k) (A .verts .now) (A .i) (P .0 .width .0) (first-below (P .0) (A .i) (P .1 .inside)) (P .1 .tied))
 
 add-place : tie.Need-add-place Inv-loop μ-loop
 add-place c =
@@ -46,23 +48,55 @@ add-place c =
     let P = c .before .before .before .before .before .pre in
     omega (arith, corners-room (P .0) (A .i) (P .1 .inside))
 
-mul-join : tie.Need-mul-join Inv-loop μ-loop
-mul-join c =
+mul-other : tie.Need-mul-other Inv-loop μ-loop
+mul-other c =
+    let A = c .before .before .before .before .before .args in
+    let P = c .before .before .before .before .before .pre in
+    omega (arith, corners-room (P .0) (A .i) (P .1 .inside))
+
+shared-slice-read-other : tie.Need-shared-slice-read-other Inv-loop μ-loop
+shared-slice-read-other c =
     let A = c .before .before .before .before .before .before .args in
     let P = c .before .before .before .before .before .before .pre in
     omega (arith, corners-room (P .0) (A .i) (P .1 .inside))
 
-shared-slice-read-join : tie.Need-shared-slice-read-join Inv-loop μ-loop
-shared-slice-read-join c =
-    let A = c .before .before .before .before .before .before .before .args in
-    let P = c .before .before .before .before .before .before .before .pre in
-    omega (arith, corners-room (P .0) (A .i) (P .1 .inside))
+mul-if1 : tie.Need-mul-if1 Inv-loop μ-loop
+mul-if1 c =
+    let A = c .before .before .before .before .before .before .args in
+    let P = c .before .before .before .before .before .before .pre in
+    let L = c .before .before .loop in
+    let l : L .j < A .k = omega arith in
+    omega (arith, L .inv .1, first-below (P .0) (A .i) (P .1 .inside), corner-below (P .0) (A .i) (L .j) (P .1 .inside) l)
 
-join-requires : tie.Need-join-requires Inv-loop μ-loop
-join-requires c κs =
+slice-read-if1 : tie.Need-slice-read-if1 Inv-loop μ-loop
+slice-read-if1 c =
     let A = c .before .before .before .before .before .before .before .args in
     let P = c .before .before .before .before .before .before .before .pre in
     let L = c .before .before .before .loop in
+    let l : L .j < A .k = omega arith in
+    omega (arith, L .inv .1, first-below (P .0) (A .i) (P .1 .inside), corner-below (P .0) (A .i) (L .j) (P .1 .inside) l)
+
+mul-if1-2 : tie.Need-mul-if1-2 Inv-loop μ-loop
+mul-if1-2 c =
+    let A = c .before .before .before .before .before .before .before .args in
+    let P = c .before .before .before .before .before .before .before .pre in
+    let L = c .before .before .before .loop in
+    let l : L .j < A .k = omega arith in
+    omega (arith, L .inv .1, first-below (P .0) (A .i) (P .1 .inside), corner-below (P .0) (A .i) (L .j) (P .1 .inside) l)
+
+slice-read-if1-2 : tie.Need-slice-read-if1-2 Inv-loop μ-loop
+slice-read-if1-2 c =
+    let A = c .before .before .before .before .before .before .before .before .args in
+    let P = c .before .before .before .before .before .before .before .before .pre in
+    let L = c .before .before .before .before .loop in
+    let l : L .j < A .k = omega arith in
+    omega (arith, L .inv .1, first-below (P .0) (A .i) (P .1 .inside), corner-below (P .0) (A .i) (L .j) (P .1 .inside) l)
+
+join-requires : tie.Need-join-requires Inv-loop μ-loop
+join-requires c κs =
+    let A = c .before .before .before .before .before .before .before .before .before .before .args in
+    let P = c .before .before .before .before .before .before .before .before .before .before .pre in
+    let L = c .before .before .before .before .before .before .loop in
     let l : L .j < A .k = omega arith in
     let f = first-below (P .0) (A .i) (P .1 .inside) in
     let g = corner-below (P .0) (A .i) (L .j) (P .1 .inside) l in
@@ -77,25 +111,35 @@ loop-less c = search needs
 
 loop-again : tie.Need-loop-again Inv-loop μ-loop
 loop-again c =
-    let A = c .before .before .before .before .before .before .before .before .before .before .args in
-    let P = c .before .before .before .before .before .before .before .before .before .before .pre in
-    let L = c .before .before .before .before .before .before .loop in
-    let J = c .before .before .join .ensures in
+    let A = c .before .before .before .before .before .before .before .before .before .args in
+    let P = c .before .before .before .before .before .before .before .before .before .pre in
+    let L = c .before .before .before .before .before .loop in
     let l : L .j < A .k = omega arith in
-    let verts = A .verts .now in (
+    let verts = A .verts .now in
+    let x = getD verts (A .i * A .k) 0 in
+    let y = getD verts (A .i * A .k + L .j) 0 in
+    let f : x < length (L .parent) = omega (arith, L .inv .1, first-below (P .0) (A .i) (P .1 .inside)) in
+    let g : y < length (L .parent) = omega (arith, L .inv .1, corner-below (P .0) (A .i) (L .j) (P .1 .inside) l) in
+    ⊎-elim
+    (λ w. (
       omega arith,
-      J .long ∙ L .inv .1,
-      tied-join (getD verts (A .i * A .k) 0) (getD verts (A .i * A .k + L .j) 0) (L .inv .2) J (link-more (A .k) verts (A .i) (L .j) l) (link-here (A .k) verts (A .i) (L .j) l) (link-split (A .k) verts (A .i) (L .j) l),
-    )
+      ap (λ (p : List ℕ). length p) (w .5) ∙ w .2 .ensures .long ∙ L .inv .1,
+      tied-at refl (w .5) (tied-join x y (L .inv .2) (w .2 .ensures) (link-more (A .k) verts (A .i) (L .j) l) (link-here (A .k) verts (A .i) (L .j) l) (link-split (A .k) verts (A .i) (L .j) l)),
+    ))
+    (λ w.
+    let e : getD (L .parent) x 0 ≡ getD (L .parent) y 0 = omega (arith, w .0 .left) in (
+      omega arith,
+      ap (λ (p : List ℕ). length p) (w .1) ∙ L .inv .1,
+      tied-at refl (w .1) (tied-one x y (L .inv .2) f g e (link-more (A .k) verts (A .i) (L .j) l) (link-split (A .k) verts (A .i) (L .j) l)),
+    ))
+    (c .if1 .came)
 
 same-length : tie.Need-same-length Inv-loop μ-loop
-same-length c =
-    c .before .loop .inv .1
+same-length c = c .before .loop .inv .1
 
 returns : tie.Need-returns Inv-loop μ-loop
 returns c =
     let A = c .before .before .before .before .before .args in
-    let P = c .before .before .before .before .before .pre in
     let L = c .before .loop in
     let e : A .i * A .k + L .j ≡ (A .i + 1) * A .k = omega arith in
     tied-at e refl (L .inv .2)
@@ -111,8 +155,12 @@ join-corners-spec =
     shared-slice-read-first
     loop-holds
     add-place
-    mul-join
-    shared-slice-read-join
+    mul-other
+    shared-slice-read-other
+    mul-if1
+    slice-read-if1
+    mul-if1-2
+    slice-read-if1-2
     join-requires
     add-j
     loop-less

@@ -6,11 +6,11 @@ use Rattle.mesh.specs.Given.{given, meshOf, sizesFit, asRooms}
 use Rattle.mesh.specs.Filled.{lent}
 use Rattle.mesh.specs.declared.Rooms.{Rooms}
 use Rattle.mesh.proofs.Agree.{lent-path}
-use Rattle.answer.proofs.Begun.{roomed}
-use Rattle.answer.proofs.Calls.{came-fits, answered}
-use Rattle.jobs.specs.Jobs.{jobCall}
-use Rattle.jobs.specs.declared.Job.the-variants.{Split}
-use Rattle.jobs.proofs.Jobs.{split-is}
+use Rattle.call_frame.proofs.Begun.{roomed}
+use Rattle.call_frame.proofs.Calls.{came-fits, answered}
+use Rattle.mesh_calls.specs.Jobs.{jobCall}
+use Rattle.mesh_calls.specs.declared.Job.the-variants.{Split}
+use Rattle.mesh_calls.proofs.Jobs.{split-is}
 use Rattle.bench.proofs.Coming.{came-as}
 use Rattle.bench.proofs.tearing.split.Statement.{statement}
 use Rattle.bench.proofs.tearing.split.Tie as tie

@@ -1,7 +1,7 @@
 -- `bench_c::tearing::reply_work` meets its contract: what the worker came to is told. Assumes nothing.
 use mathlib.Core.Path.{refl}
 use Rattle.mesh.proofs.Agree.{lent-path}
-use Rattle.answer.proofs.Begun.{roomed-still}
+use Rattle.call_frame.proofs.Begun.{roomed-still}
 use Rattle.bench_c.proofs.Tearings.{limited-roomed, work-asked, work-telling, work-replied}
 use borrow.Author.Needs.{needs}
 use Rattle.bench_c.proofs.tearing.reply_work.Statement.{statement}

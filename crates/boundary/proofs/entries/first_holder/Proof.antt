@@ -1,7 +1,7 @@
 -- `boundary::entries::first_holder` meets its contract. The invariant: no part so far holds both. Assumes nothing.
 use Rattle.boundary.proofs.BoundaryLaws.{holder-here, holder-none}
 use Rattle.boundary.specs.Following.{rowHolds}
-use Rattle.opening.proofs.Rings.{row-fits}
+use Rattle.split_plan.proofs.Rings.{row-fits}
 use borrow.Author.Count.{below-more}
 use mathlib.Core.Path.{_≡_, sym, _∙_}
 use mathlib.Core.Bool.{false}

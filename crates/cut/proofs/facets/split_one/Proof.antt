@@ -1,6 +1,6 @@
--- `cut::facets::split_one` meets its contract. Nothing where v has no mark; else the fan is read into the lent tables, parted and split. Assumes nothing.
+-- `cut::facets::split_one` meets its contract. The fan is read into the lent tables, parted and split. Assumes nothing.
 use Rattle.cut.proofs.FanSides.{fan-room, fan-sided, fan-sides}
-use Rattle.cut.proofs.RunLaws.{none-works, one-works}
+use Rattle.cut.proofs.RunLaws.{one-works}
 use Rattle.split.proofs.LinkLaws.{fan-ready}
 use Rattle.mesh.specs.Log.{worldAt}
 use Rattle.elements.specs.Table.{kindIs}
@@ -9,24 +9,19 @@ use native.Mathlib.Omega.{arith}
 use Rattle.cut.proofs.facets.split_one.Statement.{statement}
 use Rattle.cut.proofs.facets.split_one.Tie as tie
 
-returns : tie.Need-returns
-returns c = let A = c .before .before .before .before .before .before .before .before .before .before .before .before .before .before .before .args in
-    let P = c .before .before .before .before .before .before .before .before .before .before .before .before .before .before .before .pre in
-    (none-works (A .mark) (A .way) (kindIs (A .kind)) (A .v) (A .room) (λ q. worldAt q (A .points .now) (A .roots .now) (A .corners .now) (A .volumes .now) (A .ends .now) (A .lengths .now) (A .outline .now) (A .log .now)) (A .k) (P .0 .counts) (c .if1 .taken), P .3)
-
 fan-tables-requires : tie.Need-fan-tables-requires
-fan-tables-requires c κs = let A = c .before .before .before .before .before .before .before .before .before .before .before .before .before .before .before .before .before .before .before .before .before .before .args in
-    let P = c .before .before .before .before .before .before .before .before .before .before .before .before .before .before .before .before .before .before .before .before .before .before .pre in
+fan-tables-requires c κs = let A = c .before .before .before .before .before .before .before .before .before .before .before .before .before .before .before .before .before .before .before .before .before .args in
+    let P = c .before .before .before .before .before .before .before .before .before .before .before .before .before .before .before .before .before .before .before .before .before .pre in
     fan-ready (kindIs (A .kind)) (A .room) (A .k) (A .points .now) (A .roots .now) (A .corners .now) (A .volumes .now) (A .ends .now) (A .lengths .now) (A .outline .now) (A .log .now) (P .0) _ _ _ (P .1) (P .3) (P .2 .numbers) (P .2 .verts) (P .2 .measures)
 
 part-fan-requires : tie.Need-part-fan-requires
-part-fan-requires c κs = let A = c .before .before .before .before .before .before .before .before .before .before .before .before .before .before .before .before .before .before .before .before .before .before .before .before .before .before .before .before .before .before .before .before .args in
-    let P = c .before .before .before .before .before .before .before .before .before .before .before .before .before .before .before .before .before .before .before .before .before .before .before .before .before .before .before .before .before .before .before .before .pre in
+part-fan-requires c κs = let A = c .before .before .before .before .before .before .before .before .before .before .before .before .before .before .before .before .before .before .before .before .before .before .before .before .before .before .before .before .before .before .before .args in
+    let P = c .before .before .before .before .before .before .before .before .before .before .before .before .before .before .before .before .before .before .before .before .before .before .before .before .before .before .before .before .before .before .before .pre in
     fan-room (kindIs (A .kind)) (A .k) (A .points .now) (A .roots .now) (A .corners .now) (A .volumes .now) (A .ends .now) (A .lengths .now) (A .outline .now) (A .room) _ (P .0) refl (A .v) (P .1) _ _ _ _ (c .before .before .before .before .before .before .before .before .before .fan-tables .ensures) (omega (arith, P .2 .verts, c .before .before .before .before .before .before .before .before .before .fan-tables .kept .1 .1 .1 .1 .1 .1 .1 .1 .1 .0)) _ (P .2 .sides)
 
 split-tabled-requires : tie.Need-split-tabled-requires
-split-tabled-requires c κs = let A = c .before .before .before .before .before .before .before .before .before .before .before .before .before .before .before .before .before .before .before .before .before .before .before .before .before .before .before .before .before .before .before .before .before .before .before .before .before .before .before .before .before .before .before .before .before .before .before .before .args in
-    let P = c .before .before .before .before .before .before .before .before .before .before .before .before .before .before .before .before .before .before .before .before .before .before .before .before .before .before .before .before .before .before .before .before .before .before .before .before .before .before .before .before .before .before .before .before .before .before .before .before .pre in
+split-tabled-requires c κs = let A = c .before .before .before .before .before .before .before .before .before .before .before .before .before .before .before .before .before .before .before .before .before .before .before .before .before .before .before .before .before .before .before .before .before .before .before .before .before .before .before .before .before .before .before .before .before .before .before .args in
+    let P = c .before .before .before .before .before .before .before .before .before .before .before .before .before .before .before .before .before .before .before .before .before .before .before .before .before .before .before .before .before .before .before .before .before .before .before .before .before .before .before .before .before .before .before .before .before .before .before .pre in
     (P .0, fan-sided (kindIs (A .kind)) (A .k) (A .points .now) (A .roots .now) (A .corners .now) (A .volumes .now) (A .ends .now) (A .lengths .now) (A .outline .now) (A .room) _ (P .0) refl (A .v) (P .1) _ _ _ _ (c .before .before .before .before .before .before .before .before .before .before .before .before .before .before .before .before .before .before .before .before .before .before .before .before .before .fan-tables .ensures) (omega (arith, P .2 .verts, c .before .before .before .before .before .before .before .before .before .before .before .before .before .before .before .before .before .before .before .before .before .before .before .before .before .fan-tables .kept .1 .1 .1 .1 .1 .1 .1 .1 .1 .0)) (A .way) _ (c .before .before .before .before .before .before .before .before .before .before .before .before .before .before .before .part-fan .ensures) (omega (arith, P .2 .numbers, c .before .before .before .before .before .before .before .before .before .before .before .before .before .before .before .before .before .before .before .before .before .before .before .before .before .fan-tables .kept .1 .1 .1 .1 .1 .1 .1 .1 .0)) (omega (arith, P .2 .measures, c .before .before .before .before .before .before .before .before .before .before .before .before .before .before .before .before .before .before .before .before .before .before .before .before .before .fan-tables .kept .1 .1 .1 .1 .1 .1 .1 .1 .1 .1 .0)) (omega (arith, P .2 .sides, c .before .before .before .before .before .before .before .before .before .before .before .before .before .before .before .part-fan .kept .1 .1 .1 .1 .1 .1 .0)), omega (arith, P .2 .sides, c .before .before .before .before .before .before .before .before .before .before .before .before .before .before .before .part-fan .kept .1 .1 .1 .1 .1 .1 .0), P .2 .groups, P .3)
 
 same-length : tie.Need-same-length
@@ -68,17 +63,16 @@ same-length-12 c = c .before .before .before .before .before .before .before .be
 same-length-13 : tie.Need-same-length-13
 same-length-13 c = c .before .before .before .before .before .before .before .before .before .before .before .before .before .before .before .before .before .before .before .before .split-tabled .kept .1 .1 .1 .1 .1 .1 .1 .1 .1 .1 .1 .1 .1 .1 .1 .1 .1 .1 .0
 
-returns-2 : tie.Need-returns-2
+returns : tie.Need-returns
 unfolding worldAt
-returns-2 c = let A = c .before .before .before .before .before .before .before .before .before .before .before .before .before .before .before .before .before .before .before .before .before .before .before .before .before .before .before .before .before .before .before .before .before .before .before .before .before .before .before .before .before .before .before .before .before .before .before .before .before .before .before .before .before .before .before .before .before .before .before .before .before .before .before .before .before .before .before .before .before .args in
-    let P = c .before .before .before .before .before .before .before .before .before .before .before .before .before .before .before .before .before .before .before .before .before .before .before .before .before .before .before .before .before .before .before .before .before .before .before .before .before .before .before .before .before .before .before .before .before .before .before .before .before .before .before .before .before .before .before .before .before .before .before .before .before .before .before .before .before .before .before .before .before .pre in
-    (one-works (A .mark) (A .way) (kindIs (A .kind)) (A .v) _ (A .room) _ _ _ (c .before .before .before .before .before .before .before .before .before .before .before .before .before .before .before .before .before .before .before .before .before .before .before .before .before .before .before .before .before .before .before .before .before .before .before .before .before .before .before .before .before .before .before .before .before .before .before .before .before .before .before .before .before .before .if1 .left) (fan-sides (kindIs (A .kind)) (A .k) (A .points .now) (A .roots .now) (A .corners .now) (A .volumes .now) (A .ends .now) (A .lengths .now) (A .outline .now) (A .room) _ (P .0) refl (A .v) (P .1) _ _ _ _ (c .before .before .before .before .before .before .before .before .before .before .before .before .before .before .before .before .before .before .before .before .before .before .before .before .before .before .before .before .before .before .before .before .before .before .before .before .before .before .before .before .before .before .before .before .before .before .fan-tables .ensures) (omega (arith, P .2 .verts, c .before .before .before .before .before .before .before .before .before .before .before .before .before .before .before .before .before .before .before .before .before .before .before .before .before .before .before .before .before .before .before .before .before .before .before .before .before .before .before .before .before .before .before .before .before .before .fan-tables .kept .1 .1 .1 .1 .1 .1 .1 .1 .1 .0)) (A .way) _ (c .before .before .before .before .before .before .before .before .before .before .before .before .before .before .before .before .before .before .before .before .before .before .before .before .before .before .before .before .before .before .before .before .before .before .before .before .part-fan .ensures)) (c .before .before .before .before .before .before .before .before .before .before .before .before .before .before .before .before .before .before .before .before .split-tabled .ensures .0), c .before .before .before .before .before .before .before .before .before .before .before .before .before .before .before .before .before .before .before .before .split-tabled .ensures .1)
+returns c = let A = c .before .before .before .before .before .before .before .before .before .before .before .before .before .before .before .before .before .before .before .before .before .before .before .before .before .before .before .before .before .before .before .before .before .before .before .before .before .before .before .before .before .before .before .before .before .before .before .before .before .before .before .before .before .before .before .before .before .before .before .before .before .before .before .before .before .before .before .before .args in
+    let P = c .before .before .before .before .before .before .before .before .before .before .before .before .before .before .before .before .before .before .before .before .before .before .before .before .before .before .before .before .before .before .before .before .before .before .before .before .before .before .before .before .before .before .before .before .before .before .before .before .before .before .before .before .before .before .before .before .before .before .before .before .before .before .before .before .before .before .before .before .pre in
+    (one-works (A .way) (kindIs (A .kind)) (A .v) _ (A .room) _ _ _ (fan-sides (kindIs (A .kind)) (A .k) (A .points .now) (A .roots .now) (A .corners .now) (A .volumes .now) (A .ends .now) (A .lengths .now) (A .outline .now) (A .room) _ (P .0) refl (A .v) (P .1) _ _ _ _ (c .before .before .before .before .before .before .before .before .before .before .before .before .before .before .before .before .before .before .before .before .before .before .before .before .before .before .before .before .before .before .before .before .before .before .before .before .before .before .before .before .before .before .before .before .before .before .fan-tables .ensures) (omega (arith, P .2 .verts, c .before .before .before .before .before .before .before .before .before .before .before .before .before .before .before .before .before .before .before .before .before .before .before .before .before .before .before .before .before .before .before .before .before .before .before .before .before .before .before .before .before .before .before .before .before .before .fan-tables .kept .1 .1 .1 .1 .1 .1 .1 .1 .1 .0)) (A .way) _ (c .before .before .before .before .before .before .before .before .before .before .before .before .before .before .before .before .before .before .before .before .before .before .before .before .before .before .before .before .before .before .before .before .before .before .before .before .part-fan .ensures)) (c .before .before .before .before .before .before .before .before .before .before .before .before .before .before .before .before .before .before .before .before .split-tabled .ensures .0), c .before .before .before .before .before .before .before .before .before .before .before .before .before .before .before .before .before .before .before .before .split-tabled .ensures .1)
 
 pub split-one-spec : {M : Type 1} → statement M
 split-one-spec =
     tie.close
     (tie.spec
-    returns
     fan-tables-requires
     part-fan-requires
     split-tabled-requires
@@ -95,4 +89,4 @@ split-one-spec =
     same-length-11
     same-length-12
     same-length-13
-    returns-2)
+    returns)

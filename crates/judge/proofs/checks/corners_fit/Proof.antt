@@ -1,29 +1,28 @@
--- `judge::checks::corners_fit` meets its contract: it tests the corners of each triangle, and stops at the first that fails. Assumes nothing.
-use Prim.Native.Nat.{_≤_, _-_, _/_}
+-- `judge::checks::corners_fit` meets its contract: it asks the corners of each triangle, and stops nowhere. Assumes nothing.
+use Prim.Native.Nat.{ℕ, _≤_, _-_, _/_}
 use native.Mathlib.Omega.{arith}
 use mathlib.Core.Path.{_≡_, sym, _∙_}
-use mathlib.Core.Bool.{true}
 use mathlib.Core.List.{List}
 use lib.ListN.{length}
 use lib.Ieee.{Float}
-use borrow.Author.Needs.{needs}
-use borrow.Author.Tests.{not-true, not-false}
-use Rattle.lists.specs.Lists.{all, tab}
-use Rattle.columns.proofs.Rows.{all-none, all-more, all-stops, all-end}
+use Rattle.lists.specs.Lists.{all, upTo}
+use Rattle.columns.proofs.Rows.{all-tab}
 use Rattle.model.specs.Valid.{cornersOk}
 use Rattle.mesh.specs.At.{triangleRow, trianglesAt}
+use Rattle.judge.proofs.Wide.{none-told, more-told, end-told}
 use Rattle.judge.proofs.Checked.{corners-tested}
+use borrow.Author.Needs.{needs}
 use Rattle.judge.proofs.checks.corners_fit.Statement.{statement}
 use Rattle.judge.proofs.checks.corners_fit.Tie as tie
 
 abbrev Inv-loop : tie.InvT-loop
-Inv-loop n t corners c i₀ i = ((volumes : List Float) → all (cornersOk n) (tab i (triangleRow (length corners / 3) (length volumes / 2) corners volumes)) ≡ true) × (i ≤ t)
+Inv-loop n t corners c ok₀ i₀ ok i = ((volumes : List Float) → ok ≡ all (λ (k : ℕ). cornersOk n (triangleRow (length corners / 3) (length volumes / 2) corners volumes k)) (upTo i)) × (i ≤ t)
 
 abbrev μ-loop : tie.MeasureT-loop
-μ-loop n t corners c i₀ i = t - i
+μ-loop n t corners c ok₀ i₀ ok i = t - i
 
 loop-holds : tie.Need-loop-holds Inv-loop μ-loop
-loop-holds c = (λ volumes. all-none _ _, omega arith)
+loop-holds c = (λ volumes. none-told _, omega arith)
 
 mul-three-named : tie.Need-mul-three-named Inv-loop μ-loop
 mul-three-named c = omega arith
@@ -55,9 +54,8 @@ shared-slice-read-three-named-3 c = omega arith
 three-named-requires : tie.Need-three-named-requires Inv-loop μ-loop
 three-named-requires c κs = search needs
 
-returns : tie.Need-returns Inv-loop μ-loop
-unfolding trianglesAt
-returns c = λ volumes. sym (all-stops _ _ _ _ (c .before .before .before .before .before .loop-test .taken) (sym (corners-tested _ _ _ _ volumes _) ∙ sym (c .before .three-named .ensures) ∙ not-true _ (c .if1 .taken)))
+both-requires : tie.Need-both-requires Inv-loop μ-loop
+both-requires c κs = search needs
 
 add-i : tie.Need-add-i Inv-loop μ-loop
 add-i c = omega arith
@@ -66,11 +64,11 @@ loop-less : tie.Need-loop-less Inv-loop μ-loop
 loop-less c = omega arith
 
 loop-again : tie.Need-loop-again Inv-loop μ-loop
-loop-again c = (λ volumes. all-more _ _ _ (c .before .before .before .before .before .before .loop .inv .0 volumes) (sym (corners-tested _ _ _ _ volumes _) ∙ sym (c .before .three-named .ensures) ∙ not-false _ (c .if1 .left)), omega arith)
+loop-again c = (λ volumes. more-told _ _ _ _ _ (c .both .ensures) (c .before .before .before .before .before .before .loop .inv .0 volumes) (c .before .three-named .ensures ∙ corners-tested _ _ _ _ volumes _), omega arith)
 
-returns-2 : tie.Need-returns-2 Inv-loop μ-loop
+returns : tie.Need-returns Inv-loop μ-loop
 unfolding trianglesAt
-returns-2 c = λ volumes. all-end _ _ _ _ (c .before .loop .inv .0 volumes) (c .before .loop .inv .1) (c .loop-test .left)
+returns c = λ volumes. end-told _ _ _ _ (c .before .loop .inv .0 volumes) (c .before .loop .inv .1) (c .loop-test .left) ∙ sym (all-tab (cornersOk _) _ (triangleRow _ _ _ volumes))
 
 pub corners-fit-spec : {M : Type 1} → statement M
 corners-fit-spec =
@@ -89,8 +87,8 @@ corners-fit-spec =
     mul-three-named-4
     shared-slice-read-three-named-3
     three-named-requires
-    returns
+    both-requires
     add-i
     loop-less
     loop-again
-    returns-2)
+    returns)

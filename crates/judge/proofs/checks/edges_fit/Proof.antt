@@ -1,142 +1,81 @@
--- `judge::checks::edges_fit` meets its contract: it tests the numbers of each edge, and stops at the first that fails. Assumes nothing.
-use Prim.Native.Nat.{_≤_, _-_, _/_}
-use native.Mathlib.Omega.{arith}
-use mathlib.Core.Path.{_≡_, sym, _∙_}
-use mathlib.Core.Bool.{true}
-use lib.ListN.{length}
-use borrow.Author.Needs.{needs}
-use borrow.Author.Tests.{not-true, not-false}
-use Rattle.lists.specs.Lists.{all, tab}
-use Rattle.columns.proofs.Rows.{all-none, all-more, all-stops, all-end}
+-- `judge::checks::edges_fit` meets its contract: it asks the edges column by column. Assumes nothing.
+use mathlib.Core.Path.{sym, _∙_}
+use Rattle.columns.proofs.Rows.{all-tab}
 use Rattle.model.specs.Valid.{edgeOk}
 use Rattle.mesh.specs.At.{edgeRow, edgesAt}
+use Rattle.judge.proofs.Wide.{and-told, all-alike}
 use Rattle.judge.proofs.Checked.{edge-tested}
+use native.Mathlib.Omega.{arith}
+use borrow.Author.Needs.{needs}
 use Rattle.judge.proofs.checks.edges_fit.Statement.{statement}
 use Rattle.judge.proofs.checks.edges_fit.Tie as tie
 
-abbrev Inv-loop : tie.InvT-loop
-Inv-loop n ends lengths e l i₀ i = (all edgeOk (tab i (edgeRow (length ends / 4) (length lengths / 4) ends lengths)) ≡ true) × (i ≤ n)
+mul-flags : tie.Need-mul-flags
+mul-flags c = omega arith
 
-abbrev μ-loop : tie.MeasureT-loop
-μ-loop n ends lengths e l i₀ i = n - i
+flags-requires : tie.Need-flags-requires
+flags-requires c κs = search needs
 
-loop-holds : tie.Need-loop-holds Inv-loop μ-loop
-loop-holds c = (all-none _ _, omega arith)
+mul-flags-2 : tie.Need-mul-flags-2
+mul-flags-2 c = omega arith
 
-mul-edge-ok : tie.Need-mul-edge-ok Inv-loop μ-loop
-mul-edge-ok c = omega arith
+flags-requires-2 : tie.Need-flags-requires-2
+flags-requires-2 c κs = search needs
 
-add-edge-ok : tie.Need-add-edge-ok Inv-loop μ-loop
-add-edge-ok c = omega arith
+both-requires : tie.Need-both-requires
+both-requires c κs = search needs
 
-mul-edge-ok-2 : tie.Need-mul-edge-ok-2 Inv-loop μ-loop
-mul-edge-ok-2 c = omega arith
+lengths-requires : tie.Need-lengths-requires
+lengths-requires c κs = search needs
 
-shared-slice-read-edge-ok : tie.Need-shared-slice-read-edge-ok Inv-loop μ-loop
-shared-slice-read-edge-ok c = omega arith
+both-requires-2 : tie.Need-both-requires-2
+both-requires-2 c κs = search needs
 
-mul-edge-ok-3 : tie.Need-mul-edge-ok-3 Inv-loop μ-loop
-mul-edge-ok-3 c = omega arith
+lengths-requires-2 : tie.Need-lengths-requires-2
+lengths-requires-2 c κs = search needs
 
-add-edge-ok-2 : tie.Need-add-edge-ok-2 Inv-loop μ-loop
-add-edge-ok-2 c = omega arith
+both-requires-3 : tie.Need-both-requires-3
+both-requires-3 c κs = search needs
 
-mul-edge-ok-4 : tie.Need-mul-edge-ok-4 Inv-loop μ-loop
-mul-edge-ok-4 c = omega arith
+mul-in-range : tie.Need-mul-in-range
+mul-in-range c = omega arith
 
-shared-slice-read-edge-ok-2 : tie.Need-shared-slice-read-edge-ok-2 Inv-loop μ-loop
-shared-slice-read-edge-ok-2 c = omega arith
+in-range-requires : tie.Need-in-range-requires
+in-range-requires c κs = search needs
 
-mul-edge-ok-5 : tie.Need-mul-edge-ok-5 Inv-loop μ-loop
-mul-edge-ok-5 c = omega arith
+both-requires-4 : tie.Need-both-requires-4
+both-requires-4 c κs = search needs
 
-shared-slice-read-edge-ok-3 : tie.Need-shared-slice-read-edge-ok-3 Inv-loop μ-loop
-shared-slice-read-edge-ok-3 c = omega arith
+mul-in-range-2 : tie.Need-mul-in-range-2
+mul-in-range-2 c = omega arith
 
-add-edge-ok-3 : tie.Need-add-edge-ok-3 Inv-loop μ-loop
-add-edge-ok-3 c = omega arith
+in-range-requires-2 : tie.Need-in-range-requires-2
+in-range-requires-2 c κs = search needs
 
-mul-edge-ok-6 : tie.Need-mul-edge-ok-6 Inv-loop μ-loop
-mul-edge-ok-6 c = omega arith
+both-requires-5 : tie.Need-both-requires-5
+both-requires-5 c κs = search needs
 
-shared-slice-read-edge-ok-4 : tie.Need-shared-slice-read-edge-ok-4 Inv-loop μ-loop
-shared-slice-read-edge-ok-4 c = omega arith
-
-mul-edge-ok-7 : tie.Need-mul-edge-ok-7 Inv-loop μ-loop
-mul-edge-ok-7 c = omega arith
-
-add-edge-ok-4 : tie.Need-add-edge-ok-4 Inv-loop μ-loop
-add-edge-ok-4 c = omega arith
-
-mul-edge-ok-8 : tie.Need-mul-edge-ok-8 Inv-loop μ-loop
-mul-edge-ok-8 c = omega arith
-
-shared-slice-read-edge-ok-5 : tie.Need-shared-slice-read-edge-ok-5 Inv-loop μ-loop
-shared-slice-read-edge-ok-5 c = omega arith
-
-mul-edge-ok-9 : tie.Need-mul-edge-ok-9 Inv-loop μ-loop
-mul-edge-ok-9 c = omega arith
-
-add-edge-ok-5 : tie.Need-add-edge-ok-5 Inv-loop μ-loop
-add-edge-ok-5 c = omega arith
-
-mul-edge-ok-10 : tie.Need-mul-edge-ok-10 Inv-loop μ-loop
-mul-edge-ok-10 c = omega arith
-
-shared-slice-read-edge-ok-6 : tie.Need-shared-slice-read-edge-ok-6 Inv-loop μ-loop
-shared-slice-read-edge-ok-6 c = omega arith
-
-edge-ok-requires : tie.Need-edge-ok-requires Inv-loop μ-loop
-edge-ok-requires c κs = search needs
-
-returns : tie.Need-returns Inv-loop μ-loop
+returns : tie.Need-returns
 unfolding edgesAt
-returns c = sym (all-stops _ _ _ _ (c .before .before .before .before .before .before .before .before .loop-test .taken) (sym (edge-tested _ _ _ _ _) ∙ sym (c .before .edge-ok .ensures) ∙ not-true _ (c .if1 .taken)))
-
-add-i : tie.Need-add-i Inv-loop μ-loop
-add-i c = omega arith
-
-loop-less : tie.Need-loop-less Inv-loop μ-loop
-loop-less c = omega arith
-
-loop-again : tie.Need-loop-again Inv-loop μ-loop
-loop-again c = (all-more _ _ _ (c .before .before .before .before .before .before .before .before .before .loop .inv .0) (sym (edge-tested _ _ _ _ _) ∙ sym (c .before .edge-ok .ensures) ∙ not-false _ (c .if1 .left)), omega arith)
-
-returns-2 : tie.Need-returns-2 Inv-loop μ-loop
-unfolding edgesAt
-returns-2 c = all-end _ _ _ _ (c .before .loop .inv .0) (c .before .loop .inv .1) (c .loop-test .left)
+returns c = (and-told _ _ _ _ _ _ (c .both5 .ensures) (and-told _ _ _ _ _ _ (c .before .before .both4 .ensures) (and-told _ _ _ _ _ _ (c .before .before .before .before .both3 .ensures) (and-told _ _ _ _ _ _ (c .before .before .before .before .before .before .both2 .ensures) (and-told _ _ _ _ _ _ (c .before .before .before .before .before .before .before .before .both .ensures) (c .before .before .before .before .before .before .before .before .before .before .flags .ensures) (c .before .before .before .before .before .before .before .before .before .flags2 .ensures)) (c .before .before .before .before .before .before .before .lengths .ensures)) (c .before .before .before .before .before .lengths2 .ensures)) (c .before .before .before .in-range .ensures)) (c .before .in-range2 .ensures)) ∙ all-alike _ _ _ (edge-tested _ _ _ _) ∙ sym (all-tab edgeOk _ (edgeRow _ _ _ _))
 
 pub edges-fit-spec : {M : Type 1} → statement M
 edges-fit-spec =
     tie.close
     (tie.spec
-    Inv-loop
-    μ-loop
-    loop-holds
-    mul-edge-ok
-    add-edge-ok
-    mul-edge-ok-2
-    shared-slice-read-edge-ok
-    mul-edge-ok-3
-    add-edge-ok-2
-    mul-edge-ok-4
-    shared-slice-read-edge-ok-2
-    mul-edge-ok-5
-    shared-slice-read-edge-ok-3
-    add-edge-ok-3
-    mul-edge-ok-6
-    shared-slice-read-edge-ok-4
-    mul-edge-ok-7
-    add-edge-ok-4
-    mul-edge-ok-8
-    shared-slice-read-edge-ok-5
-    mul-edge-ok-9
-    add-edge-ok-5
-    mul-edge-ok-10
-    shared-slice-read-edge-ok-6
-    edge-ok-requires
-    returns
-    add-i
-    loop-less
-    loop-again
-    returns-2)
+    mul-flags
+    flags-requires
+    mul-flags-2
+    flags-requires-2
+    both-requires
+    lengths-requires
+    both-requires-2
+    lengths-requires-2
+    both-requires-3
+    mul-in-range
+    in-range-requires
+    both-requires-4
+    mul-in-range-2
+    in-range-requires-2
+    both-requires-5
+    returns)

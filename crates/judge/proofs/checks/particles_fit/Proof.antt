@@ -1,187 +1,113 @@
--- `judge::checks::particles_fit` meets its contract: it tests the numbers of each particle, and stops at the first that fails. Assumes nothing.
-use Prim.Native.Nat.{_≤_, _-_, _/_}
-use native.Mathlib.Omega.{arith}
-use mathlib.Core.Path.{_≡_, sym, _∙_}
-use mathlib.Core.Bool.{true}
-use lib.ListN.{length}
-use borrow.Author.Needs.{needs}
-use borrow.Author.Tests.{not-true, not-false}
-use Rattle.lists.specs.Lists.{all, tab}
-use Rattle.columns.proofs.Rows.{all-none, all-more, all-stops, all-end}
+-- `judge::checks::particles_fit` meets its contract: it asks the particles column by column. Assumes nothing.
+use mathlib.Core.Path.{sym, _∙_}
+use Rattle.columns.proofs.Rows.{all-tab}
 use Rattle.model.specs.Valid.{particleOk}
 use Rattle.mesh.specs.At.{particleRow, particlesAt}
-use Rattle.mesh.specs.Widths.{pointColumns}
+use Rattle.judge.proofs.Wide.{and-told, all-alike}
 use Rattle.judge.proofs.Checked.{particle-tested}
+use native.Mathlib.Omega.{arith}
+use borrow.Author.Needs.{needs}
 use Rattle.judge.proofs.checks.particles_fit.Statement.{statement}
 use Rattle.judge.proofs.checks.particles_fit.Tie as tie
 
-abbrev Inv-loop : tie.InvT-loop
-Inv-loop n points roots p q i₀ i = (all particleOk (tab i (particleRow (length points / pointColumns) (length roots / 2) points roots)) ≡ true) × (i ≤ n)
+in-range-requires : tie.Need-in-range-requires
+in-range-requires c κs = search needs
 
-abbrev μ-loop : tie.MeasureT-loop
-μ-loop n points roots p q i₀ i = n - i
+in-range-requires-2 : tie.Need-in-range-requires-2
+in-range-requires-2 c κs = search needs
 
-loop-holds : tie.Need-loop-holds Inv-loop μ-loop
-loop-holds c = (all-none _ _, omega arith)
+both-requires : tie.Need-both-requires
+both-requires c κs = search needs
 
-mul-particle-ok : tie.Need-mul-particle-ok Inv-loop μ-loop
-mul-particle-ok c = omega arith
+mul-in-range : tie.Need-mul-in-range
+mul-in-range c = omega arith
 
-shared-slice-read-particle-ok : tie.Need-shared-slice-read-particle-ok Inv-loop μ-loop
-shared-slice-read-particle-ok c = omega arith
+in-range-requires-3 : tie.Need-in-range-requires-3
+in-range-requires-3 c κs = search needs
 
-add-particle-ok : tie.Need-add-particle-ok Inv-loop μ-loop
-add-particle-ok c = omega arith
+both-requires-2 : tie.Need-both-requires-2
+both-requires-2 c κs = search needs
 
-mul-particle-ok-2 : tie.Need-mul-particle-ok-2 Inv-loop μ-loop
-mul-particle-ok-2 c = omega arith
+mul-in-range-2 : tie.Need-mul-in-range-2
+mul-in-range-2 c = omega arith
 
-shared-slice-read-particle-ok-2 : tie.Need-shared-slice-read-particle-ok-2 Inv-loop μ-loop
-shared-slice-read-particle-ok-2 c = omega arith
+in-range-requires-4 : tie.Need-in-range-requires-4
+in-range-requires-4 c κs = search needs
 
-mul-particle-ok-3 : tie.Need-mul-particle-ok-3 Inv-loop μ-loop
-mul-particle-ok-3 c = omega arith
+both-requires-3 : tie.Need-both-requires-3
+both-requires-3 c κs = search needs
 
-add-particle-ok-2 : tie.Need-add-particle-ok-2 Inv-loop μ-loop
-add-particle-ok-2 c = omega arith
+mul-in-range-3 : tie.Need-mul-in-range-3
+mul-in-range-3 c = omega arith
 
-mul-particle-ok-4 : tie.Need-mul-particle-ok-4 Inv-loop μ-loop
-mul-particle-ok-4 c = omega arith
+in-range-requires-5 : tie.Need-in-range-requires-5
+in-range-requires-5 c κs = search needs
 
-shared-slice-read-particle-ok-3 : tie.Need-shared-slice-read-particle-ok-3 Inv-loop μ-loop
-shared-slice-read-particle-ok-3 c = omega arith
+both-requires-4 : tie.Need-both-requires-4
+both-requires-4 c κs = search needs
 
-mul-particle-ok-5 : tie.Need-mul-particle-ok-5 Inv-loop μ-loop
-mul-particle-ok-5 c = omega arith
+mul-finite : tie.Need-mul-finite
+mul-finite c = omega arith
 
-add-particle-ok-3 : tie.Need-add-particle-ok-3 Inv-loop μ-loop
-add-particle-ok-3 c = omega arith
+finite-requires : tie.Need-finite-requires
+finite-requires c κs = search needs
 
-mul-particle-ok-6 : tie.Need-mul-particle-ok-6 Inv-loop μ-loop
-mul-particle-ok-6 c = omega arith
+both-requires-5 : tie.Need-both-requires-5
+both-requires-5 c κs = search needs
 
-shared-slice-read-particle-ok-4 : tie.Need-shared-slice-read-particle-ok-4 Inv-loop μ-loop
-shared-slice-read-particle-ok-4 c = omega arith
+mul-in-range-4 : tie.Need-mul-in-range-4
+mul-in-range-4 c = omega arith
 
-mul-particle-ok-7 : tie.Need-mul-particle-ok-7 Inv-loop μ-loop
-mul-particle-ok-7 c = omega arith
+in-range-requires-6 : tie.Need-in-range-requires-6
+in-range-requires-6 c κs = search needs
 
-add-particle-ok-4 : tie.Need-add-particle-ok-4 Inv-loop μ-loop
-add-particle-ok-4 c = omega arith
+both-requires-6 : tie.Need-both-requires-6
+both-requires-6 c κs = search needs
 
-mul-particle-ok-8 : tie.Need-mul-particle-ok-8 Inv-loop μ-loop
-mul-particle-ok-8 c = omega arith
+mul-in-range-5 : tie.Need-mul-in-range-5
+mul-in-range-5 c = omega arith
 
-shared-slice-read-particle-ok-5 : tie.Need-shared-slice-read-particle-ok-5 Inv-loop μ-loop
-shared-slice-read-particle-ok-5 c = omega arith
+in-range-requires-7 : tie.Need-in-range-requires-7
+in-range-requires-7 c κs = search needs
 
-mul-particle-ok-9 : tie.Need-mul-particle-ok-9 Inv-loop μ-loop
-mul-particle-ok-9 c = omega arith
+both-requires-7 : tie.Need-both-requires-7
+both-requires-7 c κs = search needs
 
-add-particle-ok-5 : tie.Need-add-particle-ok-5 Inv-loop μ-loop
-add-particle-ok-5 c = omega arith
+flags-requires : tie.Need-flags-requires
+flags-requires c κs = search needs
 
-mul-particle-ok-10 : tie.Need-mul-particle-ok-10 Inv-loop μ-loop
-mul-particle-ok-10 c = omega arith
+both-requires-8 : tie.Need-both-requires-8
+both-requires-8 c κs = search needs
 
-shared-slice-read-particle-ok-6 : tie.Need-shared-slice-read-particle-ok-6 Inv-loop μ-loop
-shared-slice-read-particle-ok-6 c = omega arith
-
-mul-particle-ok-11 : tie.Need-mul-particle-ok-11 Inv-loop μ-loop
-mul-particle-ok-11 c = omega arith
-
-add-particle-ok-6 : tie.Need-add-particle-ok-6 Inv-loop μ-loop
-add-particle-ok-6 c = omega arith
-
-mul-particle-ok-12 : tie.Need-mul-particle-ok-12 Inv-loop μ-loop
-mul-particle-ok-12 c = omega arith
-
-shared-slice-read-particle-ok-7 : tie.Need-shared-slice-read-particle-ok-7 Inv-loop μ-loop
-shared-slice-read-particle-ok-7 c = omega arith
-
-mul-particle-ok-13 : tie.Need-mul-particle-ok-13 Inv-loop μ-loop
-mul-particle-ok-13 c = omega arith
-
-add-particle-ok-7 : tie.Need-add-particle-ok-7 Inv-loop μ-loop
-add-particle-ok-7 c = omega arith
-
-mul-particle-ok-14 : tie.Need-mul-particle-ok-14 Inv-loop μ-loop
-mul-particle-ok-14 c = omega arith
-
-shared-slice-read-particle-ok-8 : tie.Need-shared-slice-read-particle-ok-8 Inv-loop μ-loop
-shared-slice-read-particle-ok-8 c = omega arith
-
-add-particle-ok-8 : tie.Need-add-particle-ok-8 Inv-loop μ-loop
-add-particle-ok-8 c = omega arith
-
-mul-particle-ok-15 : tie.Need-mul-particle-ok-15 Inv-loop μ-loop
-mul-particle-ok-15 c = omega arith
-
-shared-slice-read-particle-ok-9 : tie.Need-shared-slice-read-particle-ok-9 Inv-loop μ-loop
-shared-slice-read-particle-ok-9 c = omega arith
-
-particle-ok-requires : tie.Need-particle-ok-requires Inv-loop μ-loop
-particle-ok-requires c κs = search needs
-
-returns : tie.Need-returns Inv-loop μ-loop
+returns : tie.Need-returns
 unfolding particlesAt
-returns c = sym (all-stops _ _ _ _ (c .before .before .before .before .before .before .before .before .before .before .before .loop-test .taken) (sym (particle-tested _ _ _ _ _) ∙ sym (c .before .particle-ok .ensures) ∙ not-true _ (c .if1 .taken)))
-
-add-i : tie.Need-add-i Inv-loop μ-loop
-add-i c = omega arith
-
-loop-less : tie.Need-loop-less Inv-loop μ-loop
-loop-less c = omega arith
-
-loop-again : tie.Need-loop-again Inv-loop μ-loop
-loop-again c = (all-more _ _ _ (c .before .before .before .before .before .before .before .before .before .before .before .before .loop .inv .0) (sym (particle-tested _ _ _ _ _) ∙ sym (c .before .particle-ok .ensures) ∙ not-false _ (c .if1 .left)), omega arith)
-
-returns-2 : tie.Need-returns-2 Inv-loop μ-loop
-unfolding particlesAt
-returns-2 c = all-end _ _ _ _ (c .before .loop .inv .0) (c .before .loop .inv .1) (c .loop-test .left)
+returns c = (and-told _ _ _ _ _ _ (c .both8 .ensures) (and-told _ _ _ _ _ _ (c .before .before .both7 .ensures) (and-told _ _ _ _ _ _ (c .before .before .before .before .both6 .ensures) (and-told _ _ _ _ _ _ (c .before .before .before .before .before .before .both5 .ensures) (and-told _ _ _ _ _ _ (c .before .before .before .before .before .before .before .before .both4 .ensures) (and-told _ _ _ _ _ _ (c .before .before .before .before .before .before .before .before .before .before .both3 .ensures) (and-told _ _ _ _ _ _ (c .before .before .before .before .before .before .before .before .before .before .before .before .both2 .ensures) (and-told _ _ _ _ _ _ (c .before .before .before .before .before .before .before .before .before .before .before .before .before .before .both .ensures) (c .before .before .before .before .before .before .before .before .before .before .before .before .before .before .before .before .in-range .ensures) (c .before .before .before .before .before .before .before .before .before .before .before .before .before .before .before .in-range2 .ensures)) (c .before .before .before .before .before .before .before .before .before .before .before .before .before .in-range3 .ensures)) (c .before .before .before .before .before .before .before .before .before .before .before .in-range4 .ensures)) (c .before .before .before .before .before .before .before .before .before .in-range5 .ensures)) (c .before .before .before .before .before .before .before .finite .ensures)) (c .before .before .before .before .before .in-range6 .ensures)) (c .before .before .before .in-range7 .ensures)) (c .before .flags .ensures)) ∙ all-alike _ _ _ (particle-tested _ _ _ _) ∙ sym (all-tab particleOk _ (particleRow _ _ _ _))
 
 pub particles-fit-spec : {M : Type 1} → statement M
 particles-fit-spec =
     tie.close
     (tie.spec
-    Inv-loop
-    μ-loop
-    loop-holds
-    mul-particle-ok
-    shared-slice-read-particle-ok
-    add-particle-ok
-    mul-particle-ok-2
-    shared-slice-read-particle-ok-2
-    mul-particle-ok-3
-    add-particle-ok-2
-    mul-particle-ok-4
-    shared-slice-read-particle-ok-3
-    mul-particle-ok-5
-    add-particle-ok-3
-    mul-particle-ok-6
-    shared-slice-read-particle-ok-4
-    mul-particle-ok-7
-    add-particle-ok-4
-    mul-particle-ok-8
-    shared-slice-read-particle-ok-5
-    mul-particle-ok-9
-    add-particle-ok-5
-    mul-particle-ok-10
-    shared-slice-read-particle-ok-6
-    mul-particle-ok-11
-    add-particle-ok-6
-    mul-particle-ok-12
-    shared-slice-read-particle-ok-7
-    mul-particle-ok-13
-    add-particle-ok-7
-    mul-particle-ok-14
-    shared-slice-read-particle-ok-8
-    add-particle-ok-8
-    mul-particle-ok-15
-    shared-slice-read-particle-ok-9
-    particle-ok-requires
-    returns
-    add-i
-    loop-less
-    loop-again
-    returns-2)
+    in-range-requires
+    in-range-requires-2
+    both-requires
+    mul-in-range
+    in-range-requires-3
+    both-requires-2
+    mul-in-range-2
+    in-range-requires-4
+    both-requires-3
+    mul-in-range-3
+    in-range-requires-5
+    both-requires-4
+    mul-finite
+    finite-requires
+    both-requires-5
+    mul-in-range-4
+    in-range-requires-6
+    both-requires-6
+    mul-in-range-5
+    in-range-requires-7
+    both-requires-7
+    flags-requires
+    both-requires-8
+    returns)

@@ -1,7 +1,7 @@
 -- `perform::calls::begin` meets its contract: the checks, and the copy. Assumes nothing.
 use borrow.Author.Needs.{needs}
 use Rattle.mesh.specs.Given.{given}
-use Rattle.answer.proofs.Begun.{begun-by}
+use Rattle.call_frame.proofs.Begun.{begun-by}
 use Rattle.perform.proofs.Performed.{job-begins}
 use Rattle.perform.proofs.calls.begin.Statement.{statement}
 use Rattle.perform.proofs.calls.begin.Tie as tie

@@ -2,7 +2,7 @@
 use mathlib.Core.Path.{refl, _∙_}
 use Rattle.mesh.specs.Given.{given}
 use Rattle.mesh.proofs.Agree.{lent-path}
-use Rattle.answer.proofs.Begun.{rooms-lent, roomed-still}
+use Rattle.call_frame.proofs.Begun.{rooms-lent, roomed-still}
 use Rattle.perform.proofs.Performed.{job-refused, job-asked, job-came}
 use Rattle.perform.proofs.calls.run.Statement.{statement}
 use Rattle.perform.proofs.calls.run.Tie as tie

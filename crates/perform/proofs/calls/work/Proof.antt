@@ -2,7 +2,7 @@
 use mathlib.Core.Path.{refl}
 use native.Mathlib.Omega.{arith}
 use borrow.Author.Needs.{needs}
-use Rattle.jobs.specs.declared.Job.the-variants.{Straddlers, Split, Cut, Crack}
+use Rattle.mesh_calls.specs.declared.Job.the-variants.{Straddlers, Split, Cut, Crack}
 use Rattle.perform.proofs.Worked.{straddlers-room, job-works, split-given, cut-ruled}
 use Rattle.perform.proofs.calls.work.Statement.{statement}
 use Rattle.perform.proofs.calls.work.Tie as tie

@@ -5,12 +5,6 @@ use Rattle.pieces.proofs.Places.{facet-pieces}
 use Rattle.pieces.proofs.facets.count_pieces.Statement.{statement}
 use Rattle.pieces.proofs.facets.count_pieces.Tie as tie
 
-mul-link-places : tie.Need-mul-link-places
-mul-link-places c = search needs
-
-link-places-requires : tie.Need-link-places-requires
-link-places-requires c κs = search needs
-
 join-places-requires : tie.Need-join-places-requires
 join-places-requires c κs = search needs
 
@@ -31,17 +25,15 @@ same-length-3 c = search needs
 
 returns : tie.Need-returns
 returns c =
-    let P = c .before .before .before .before .before .before .before .before .before .before .before .before .before .before .before .before .before .before .before .before .before .before .pre in
-    let J = c .before .before .before .before .before .before .before .before .join-places in
+    let P = c .before .before .before .before .before .before .before .before .before .before .before .before .before .before .before .before .before .before .before .before .pre in
+    let J = c .before .before .before .before .before .before .before .before .before .before .before .before .join-places in
     let E = c .before .before .before .before .flatten .ensures in
-    facet-pieces (P .two) (J .kept .1 .1 .1 .1 .0 ∙ P .label-room) (J .ensures) (E .0) (E .1) (c .count-tops .ensures)
+    facet-pieces (P .two) (J .kept .1 .1 .1 .1 .1 .0 ∙ P .label-room) (J .ensures) (E .0) (E .1) (c .count-tops .ensures)
 
 pub count-pieces-spec : {M : Type 1} → statement M
 count-pieces-spec =
     tie.close
     (tie.spec
-    mul-link-places
-    link-places-requires
     join-places-requires
     flatten-requires
     count-tops-requires

@@ -1,6 +1,6 @@
 -- `readings::grouping::groups` meets its contract: the faults of the mesh, or the groups. Assumes nothing.
 use Rattle.mesh.specs.Given.{given}
-use Rattle.asked.proofs.Judged.{undecided}
+use Rattle.arguments.proofs.Judged.{undecided}
 use Rattle.readings.proofs.Grouped.{groups-refused}
 use borrow.Author.Needs.{needs}
 use Rattle.readings.proofs.grouping.groups.Statement.{statement}

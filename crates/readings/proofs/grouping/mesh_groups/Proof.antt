@@ -1,7 +1,7 @@
 -- `readings::grouping::mesh_groups` meets its contract: the fan, the test of its sides, and its groups. Assumes nothing.
 use Rattle.mesh.specs.Given.{given}
 use Rattle.readings.proofs.Grouped.{grid-is, fan-asked, groups-answered, groups-refused, four-of}
-use Rattle.asked.proofs.Judged.{accepted, sides-ok}
+use Rattle.arguments.proofs.Judged.{accepted, sides-ok}
 use Rattle.judge.proofs.Joined.{and-next}
 use Rattle.lists.proofs.Sifts.{and-true}
 use borrow.Author.Tests.{leb-true}

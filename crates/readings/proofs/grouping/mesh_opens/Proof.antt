@@ -4,7 +4,7 @@ use borrow.Author.Needs.{needs}
 use native.Mathlib.Omega.{arith}
 use mathlib.Core.Path.{sym}
 use lib.Seq.{length-take-le}
-use Rattle.asked.proofs.Judged.{accepted, sides-ok}
+use Rattle.arguments.proofs.Judged.{accepted, sides-ok}
 use Rattle.readings.proofs.Grouped.{fan-asked, walk-asked, opens-answered, opens-refused, opens-found, four-of}
 use Rattle.readings.proofs.grouping.mesh_opens.Statement.{statement}
 use Rattle.readings.proofs.grouping.mesh_opens.Tie as tie

@@ -1,6 +1,6 @@
 -- `readings::grouping::opens_without_confetti` meets its contract: the faults of the mesh, or the walk. Assumes nothing.
 use Rattle.mesh.specs.Given.{given}
-use Rattle.asked.proofs.Judged.{undecided}
+use Rattle.arguments.proofs.Judged.{undecided}
 use Rattle.readings.proofs.Grouped.{opens-refused}
 use borrow.Author.Needs.{needs}
 use Rattle.readings.proofs.grouping.opens_without_confetti.Statement.{statement}

@@ -1,5 +1,5 @@
 -- `readings::reading::listed_measure` meets its contract: the table, and the measures within the list. Assumes nothing.
-use Rattle.asked.proofs.Accepted.{mark-room, listed-found}
+use Rattle.arguments.proofs.Accepted.{mark-room, listed-found}
 use native.Mathlib.Omega.{arith}
 use borrow.Author.Needs.{needs}
 use Rattle.readings.proofs.reading.listed_measure.Statement.{statement}

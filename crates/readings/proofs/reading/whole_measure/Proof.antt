@@ -1,5 +1,5 @@
 -- `readings::reading::whole_measure` meets its contract: the table, and the sum of its measures. Assumes nothing.
-use Rattle.asked.proofs.Accepted.{measure-found}
+use Rattle.arguments.proofs.Accepted.{measure-found}
 use borrow.Author.Needs.{needs}
 use Rattle.readings.proofs.reading.whole_measure.Statement.{statement}
 use Rattle.readings.proofs.reading.whole_measure.Tie as tie

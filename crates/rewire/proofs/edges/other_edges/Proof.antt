@@ -1,12 +1,9 @@
--- `rewire::edges::other_edges` meets its contract: the loop over the edges is `Passing` of proofs/EdgeLaws.antt. Assumes nothing.
-use Rattle.rewire.proofs.EdgeLaws.{Passing, passing-start, passing-step, passing-lacks, passing-done, ends-ahead}
-use Rattle.model.specs.Elements.{element?}
-use Rattle.model.specs.Mesh.{Edge}
+-- `rewire::edges::other_edges` meets its contract: the loop over the edges that name v is `Passing` of proofs/EdgeLaws.antt. Assumes nothing.
+use Rattle.rewire.proofs.EdgeLaws.{Passing, passing-start, passing-step, passing-lacks, passing-done, passing-next, ends-ahead}
 use Rattle.elements.specs.Table.{kindIs}
-use mathlib.Core.Bool.{false}
-use mathlib.Core.Path.{_∙_, sym, subst, _≡_}
+use mathlib.Core.Path.{_∙_}
 use native.Mathlib.Omega.{arith}
-use Prim.Native.Nat.{_-_, _+_, _≤_}
+use Prim.Native.Nat.{_-_}
 use borrow.Author.Needs.{needs}
 use Rattle.rewire.proofs.edges.other_edges.Statement.{statement}
 use Rattle.rewire.proofs.edges.other_edges.Tie as tie
@@ -19,12 +16,15 @@ abbrev μ-loop : tie.MeasureT-loop
 μ-loop kind v before k n count p e room verts groups points ends₀ lengths₀ rows₀ i₀ ends lengths rows i =
     e - i
 
+next-named-requires : tie.Need-next-named-requires Inv-loop μ-loop
+next-named-requires c κs = (omega arith, omega (arith, c .before .before .before .before .before .before .pre .copy .rows, c .before .before .before .before .before .before .pre .copy .columns .ends))
+
 loop-holds : tie.Need-loop-holds Inv-loop μ-loop
-loop-holds c = passing-start _ _ _ _ _ _ _ _ _ _ _ _ _ _ (c .before .before .before .before .before .pre .copy .rows)
+loop-holds c = passing-next (c .before .before .before .before .before .before .before .pre .copy .columns .ends) (passing-start _ _ _ _ _ _ _ _ _ _ _ _ _ _ (c .before .before .before .before .before .before .before .pre .copy .rows)) (c .next-named .ensures)
 
 settle-edge-requires : tie.Need-settle-edge-requires Inv-loop μ-loop
-settle-edge-requires c κs = let A = c .before .before .before .before .before .before .before .before .before .args in
-    let P = c .before .before .before .before .before .before .before .before .before .pre in
+settle-edge-requires c κs = let A = c .before .before .before .before .before .before .before .before .before .before .before .args in
+    let P = c .before .before .before .before .before .before .before .before .before .before .before .pre in
     let L = c .before .before .before .loop .inv in
     let t = c .before .before .loop-test .taken in
     record {
@@ -51,14 +51,19 @@ same-length-2 c = c .before .before .before .before .before .before .settle-edge
 returns : tie.Need-returns Inv-loop μ-loop
 returns c = passing-lacks _ _ _ _ _ _ _ _ _ _ _ _ _ _ _ _ _ _ (c .before .before .before .before .before .before .before .before .before .before .loop .inv) (c .before .before .before .before .before .before .before .before .before .loop-test .taken) (c .before .before .before .before .before .before .settle-edge .result) _ _ (c .before .before .before .before .before .before .settle-edge .ensures) (c .enum-told .given .1)
 
-add-i : tie.Need-add-i Inv-loop μ-loop
-add-i c = omega (arith, c .before .before .before .before .before .before .before .before .before .before .loop-test .taken)
+add-next-named : tie.Need-add-next-named Inv-loop μ-loop
+add-next-named c = omega (arith, c .before .before .before .before .before .before .before .before .before .before .loop-test .taken)
+
+next-named-requires-2 : tie.Need-next-named-requires-2 Inv-loop μ-loop
+next-named-requires-2 c κs = (omega (arith, c .before .before .before .before .before .before .before .before .before .before .before .loop-test .taken), omega (arith, c .before .before .before .before .before .before .before .before .settle-edge .kept .1 .1 .1 .1 .1 .1 .1 .1 .1 .1 .1 .1 .1 .0, c .before .before .before .before .before .before .before .before .before .before .before .before .loop .inv .ends-long, c .before .before .before .before .before .before .before .before .before .before .before .before .before .before .before .before .before .before .before .before .pre .copy .rows, c .before .before .before .before .before .before .before .before .before .before .before .before .before .before .before .before .before .before .before .before .pre .copy .columns .ends))
 
 loop-less : tie.Need-loop-less Inv-loop μ-loop
-loop-less c = omega (arith, c .before .before .before .before .before .before .before .before .before .before .loop-test .taken)
+loop-less c = omega (arith, c .before .before .before .before .before .before .before .before .before .before .before .before .loop-test .taken, c .next-named2 .ensures .onward)
 
 loop-again : tie.Need-loop-again Inv-loop μ-loop
-loop-again c = passing-step _ _ _ _ _ _ _ _ _ _ _ _ _ _ _ _ _ _ (c .before .before .before .before .before .before .before .before .before .before .before .loop .inv) (c .before .before .before .before .before .before .before .before .before .before .loop-test .taken) (c .before .before .before .before .before .before .before .settle-edge .result) _ _ (c .before .before .before .before .before .before .before .settle-edge .ensures) _ (c .before .grown .given .1) (c .before .before .before .before .before .before .before .settle-edge .kept .1 .1 .1 .1 .1 .1 .1 .1 .1 .1 .1 .1 .1 .0) (c .before .before .before .before .before .before .before .settle-edge .kept .1 .1 .1 .1 .1 .1 .1 .1 .1 .1 .1 .1 .1 .1 .0)
+loop-again c = passing-next (c .before .before .before .before .before .before .before .before .before .before .before .before .before .before .before .before .before .before .before .before .before .pre .copy .columns .ends)
+    (passing-step _ _ _ _ _ _ _ _ _ _ _ _ _ _ _ _ _ _ (c .before .before .before .before .before .before .before .before .before .before .before .before .before .loop .inv) (c .before .before .before .before .before .before .before .before .before .before .before .before .loop-test .taken) (c .before .before .before .before .before .before .before .before .before .settle-edge .result) _ _ (c .before .before .before .before .before .before .before .before .before .settle-edge .ensures) _ (c .before .before .before .grown .given .1) (c .before .before .before .before .before .before .before .before .before .settle-edge .kept .1 .1 .1 .1 .1 .1 .1 .1 .1 .1 .1 .1 .1 .0) (c .before .before .before .before .before .before .before .before .before .settle-edge .kept .1 .1 .1 .1 .1 .1 .1 .1 .1 .1 .1 .1 .1 .1 .0))
+    (c .next-named2 .ensures)
 
 same-length-3 : tie.Need-same-length-3 Inv-loop μ-loop
 same-length-3 c = c .before .loop .inv .ends-long
@@ -75,6 +80,7 @@ other-edges-spec =
     (tie.spec
     Inv-loop
     μ-loop
+    next-named-requires
     loop-holds
     settle-edge-requires
     enum-known-grown
@@ -82,7 +88,8 @@ other-edges-spec =
     same-length
     same-length-2
     returns
-    add-i
+    add-next-named
+    next-named-requires-2
     loop-less
     loop-again
     same-length-3

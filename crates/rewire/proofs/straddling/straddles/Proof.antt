@@ -3,7 +3,7 @@ use Rattle.rewire.proofs.StraddlerLaws.{told-element, told-first, told-
 use borrow.Author.Tests.{not-true, not-false}
 use mathlib.Core.Path.{sym, subst}
 use Prim.Native.Nat.{ℕ}
-use Rattle.opening.specs.Opened.{RingRoom}
+use Rattle.split_plan.specs.Opened.{RingRoom}
 use lib.ListN.{length}
 use borrow.Author.Needs.{needs}
 use Rattle.rewire.proofs.straddling.straddles.Statement.{statement}

@@ -8,7 +8,7 @@ use Rattle.split.proofs.settle.drop_straddlers.Statement.{statement}
 use Rattle.split.proofs.settle.drop_straddlers.Tie as tie
 
 mark-straddlers-requires : tie.Need-mark-straddlers-requires
-mark-straddlers-requires c κs = (c .before .before .before .before .before .before .before .before .before .pre .0 .straddle, omega (arith, c .before .before .before .before .before .before .before .before .before .pre .0 .few-edges, c .before .before .before .before .before .before .before .before .before .pre .1))
+mark-straddlers-requires c κs = (c .before .before .before .before .before .before .before .before .before .pre .0 .straddle, omega (arith, c .before .before .before .before .before .before .before .before .before .pre .0 .few-edges, c .before .before .before .before .before .before .before .before .before .pre .1), c .before .before .before .before .before .before .before .before .before .pre .0 .ends-in)
 
 sub-m : tie.Need-sub-m
 sub-m c = omega (arith, c .before .before .before .before .before .before .before .before .before .before .before .before .pre .0 .some)
@@ -33,7 +33,7 @@ returns c = let A = c .before .before .before .before .before .before .before .b
 note-split-requires : tie.Need-note-split-requires
 note-split-requires c κs = let A = c .before .before .before .before .before .before .before .before .before .before .before .before .before .before .before .before .before .before .before .args in
     let P = c .before .before .before .before .before .before .before .before .before .before .before .before .before .before .before .before .before .before .before .pre .0 in
-    split-asked (kindIs (A .kind)) (A .room) (A .k) (A .v) (A .before) (A .n) (A .count) (A .extra) (A .rows) (A .verts .now) (A .groups .now) (A .corners .now) (A .ends .now) (A .lengths .now) (A .log .now) P _ _ (c .before .before .before .before .before .before .before .before .before .mark-straddlers .ensures) (sym (c .before .before .before .before .log-fits .ensures) ∙ not-false _ (c .before .before .before .if1 .left)) (omega (arith, c .before .before .before .before .before .before .before .before .before .mark-straddlers .kept .1 .1 .1 .1 .1 .1 .1 .1 .1 .1 .1 .0, c .before .before .before .before .before .before .before .before .before .before .before .before .before .before .before .before .before .before .before .pre .1))
+    (split-asked (kindIs (A .kind)) (A .room) (A .k) (A .v) (A .before) (A .n) (A .count) (A .extra) (A .rows) (A .verts .now) (A .groups .now) (A .corners .now) (A .ends .now) (A .lengths .now) (A .log .now) P _ _ (c .before .before .before .before .before .before .before .before .before .mark-straddlers .ensures) (sym (c .before .before .before .before .log-fits .ensures) ∙ not-false _ (c .before .before .before .if1 .left)) (omega (arith, c .before .before .before .before .before .before .before .before .before .mark-straddlers .kept .1 .1 .1 .1 .1 .1 .1 .1 .1 .1 .1 .0, c .before .before .before .before .before .before .before .before .before .before .before .before .before .before .before .before .before .before .before .pre .1)), counted-is _ _ _ (c .before .before .before .before .before .before .before .before .before .mark-straddlers .ensures .counted))
 
 drop-marked-requires : tie.Need-drop-marked-requires
 drop-marked-requires c κs = let P = c .before .before .before .before .before .before .before .before .before .before .before .before .before .before .before .before .before .before .before .before .before .before .before .before .before .pre .0 in
@@ -47,7 +47,7 @@ same-length-4 : tie.Need-same-length-4
 same-length-4 c = c .before .before .before .before .drop-marked .kept .1 .1 .1 .1 .0
 
 same-length-5 : tie.Need-same-length-5
-same-length-5 c = c .before .before .before .before .before .before .before .before .before .before .note-split .kept .1 .1 .1 .1 .1 .1 .1 .0
+same-length-5 c = c .before .before .before .before .before .before .before .before .before .before .note-split .kept .1 .1 .1 .1 .1 .1 .1 .1 .0
 
 same-length-6 : tie.Need-same-length-6
 same-length-6 c = c .before .before .before .before .before .before .before .before .before .before .before .before .before .before .before .before .before .before .before .before .mark-straddlers .kept .1 .1 .1 .1 .1 .1 .1 .1 .1 .1 .1 .0

@@ -11,11 +11,13 @@ sub-if1 c = search needs
 returns : tie.Need-returns
 returns c = search needs
 
-note-edges-requires : tie.Need-note-edges-requires
-note-edges-requires c κs = search needs
+note-marked-requires : tie.Need-note-marked-requires
+note-marked-requires c κs =
+    let P = c .before .before .before .before .before .before .before .before .before .before .before .pre in
+    (record { mask-long = P .edge-mask-long; ends-long = P .ends-long; ends-in = P .ends-in; log-long = omega (arith, P .marked-are, P .log-in, P .log-long, c .before .before .if1 .left) }, P .marked-are)
 
-remove-edges-requires : tie.Need-remove-edges-requires
-remove-edges-requires c κs = search needs
+drop-marked-requires : tie.Need-drop-marked-requires
+drop-marked-requires c κs = search needs
 
 keep-block-usize-requires : tie.Need-keep-block-usize-requires
 keep-block-usize-requires c κs = search needs
@@ -33,7 +35,7 @@ same-length-4 : tie.Need-same-length-4
 same-length-4 c = search needs
 
 returns-2 : tie.Need-returns-2
-returns-2 c = blocks-gone _ _ _ _ _ _ _ _ _ _ _ _ _ _ _ _ (c .before .before .before .before .before .before .before .before .before .before .before .before .before .before .before .before .before .before .before .before .before .before .before .before .before .pre) (omega (arith, c .before .before .before .before .before .before .before .before .before .before .before .before .before .before .before .before .if1 .left)) (c .before .before .before .before .before .before .before .before .before .before .before .before .before .note-edges .ensures) (c .before .before .before .before .before .before .before .before .remove-edges .ensures) (c .before .before .keep-block-usize .ensures) (c .before .before .keep-block-usize .kept .1 .1 .1 .1 .0)
+returns-2 c = blocks-gone _ _ _ _ _ _ _ _ _ _ _ _ _ _ _ _ (c .before .before .before .before .before .before .before .before .before .before .before .before .before .before .before .before .before .before .before .before .before .before .before .before .before .pre) (omega (arith, c .before .before .before .before .before .before .before .before .before .before .before .before .before .before .before .before .if1 .left)) (c .before .before .before .before .before .before .before .before .before .before .before .before .before .note-marked .ensures) (c .before .before .before .before .before .before .before .before .drop-marked .ensures) (c .before .before .keep-block-usize .ensures) (c .before .before .keep-block-usize .kept .1 .1 .1 .1 .0)
 
 pub remove-marked-spec : {M : Type 1} → statement M
 remove-marked-spec =
@@ -41,8 +43,8 @@ remove-marked-spec =
     (tie.spec
     sub-if1
     returns
-    note-edges-requires
-    remove-edges-requires
+    note-marked-requires
+    drop-marked-requires
     keep-block-usize-requires
     same-length
     same-length-2

@@ -1,0 +1,154 @@
+-- `fan_c::fan_within` meets its contract: the fan is asked for on the fronts of seven loaded blocks. Assumes nothing.
+use native.Mathlib.Omega.{arith}
+use mathlib.Core.Path.{sym}
+use lib.Seq.{length-take-le}
+use Rattle.image.proofs.Loading.{sized-counts, fronts-are}
+use Rattle.fan_c.proofs.Fanning.{fan-on}
+use borrow.Author.Needs.{needs}
+use Rattle.fan_c.proofs.fan_within.Statement.{statement}
+use Rattle.fan_c.proofs.fan_within.Tie as tie
+
+word-at-requires : tie.Need-word-at-requires
+word-at-requires c κs = omega (arith, sized-counts _ (c .before .before .before .before .before .before .before .before .before .pre .0))
+
+word-at-requires-2 : tie.Need-word-at-requires-2
+word-at-requires-2 c κs = omega (arith, sized-counts _ (c .before .before .before .before .before .before .before .before .before .before .pre .0))
+
+word-at-requires-3 : tie.Need-word-at-requires-3
+word-at-requires-3 c κs = omega (arith, sized-counts _ (c .before .before .before .before .before .before .before .before .before .before .before .pre .0))
+
+word-at-requires-4 : tie.Need-word-at-requires-4
+word-at-requires-4 c κs = omega (arith, sized-counts _ (c .before .before .before .before .before .before .before .before .before .before .before .before .pre .0))
+
+mul-p8 : tie.Need-mul-p8
+mul-p8 c = search needs
+
+mul-p2 : tie.Need-mul-p2
+mul-p2 c = search needs
+
+mul-t3 : tie.Need-mul-t3
+mul-t3 c = search needs
+
+mul-t2 : tie.Need-mul-t2
+mul-t2 c = search needs
+
+mul-e4 : tie.Need-mul-e4
+mul-e4 c = search needs
+
+mul-b2 : tie.Need-mul-b2
+mul-b2 c = search needs
+
+load-requires : tie.Need-load-requires
+load-requires c κs = c .before .before .before .before .before .before .before .before .before .before .before .before .before .before .before .before .before .before .before .before .pre .2
+
+slice-reshare-prefix-mesh-fan : tie.Need-slice-reshare-prefix-mesh-fan
+slice-reshare-prefix-mesh-fan c = omega (arith, c .before .before .before .before .before .before .before .before .before .before .before .before .before .before .before .before .before .before .before .before .before .before .before .before .before .word-at .ensures .0, c .before .before .before .before .before .before .before .before .before .before .before .before .before .before .before .before .before .before .before .before .before .before .before .before .before .before .before .before .before .before .before .before .before .before .before .pre .2 .points-room, c .before .before .before .before .before .before .before .before .before .before .before .before .before .before .load .kept .1 .0)
+
+slice-aggregate-mesh-fan : tie.Need-slice-aggregate-mesh-fan
+slice-aggregate-mesh-fan c = sym (length-take-le _ _ (slice-reshare-prefix-mesh-fan (c .before)))
+
+slice-reshare-prefix-mesh-fan-2 : tie.Need-slice-reshare-prefix-mesh-fan-2
+slice-reshare-prefix-mesh-fan-2 c = omega (arith, c .before .before .before .before .before .before .before .before .before .before .before .before .before .before .before .before .before .before .before .before .before .before .before .before .before .before .word-at .ensures .0, c .before .before .before .before .before .before .before .before .before .before .before .before .before .before .before .before .before .before .before .before .before .before .before .before .before .before .before .before .before .before .before .before .before .before .before .before .pre .2 .roots-room, c .before .before .before .before .before .before .before .before .before .before .before .before .before .before .before .load .kept .1 .1 .0)
+
+slice-aggregate-mesh-fan-2 : tie.Need-slice-aggregate-mesh-fan-2
+slice-aggregate-mesh-fan-2 c = sym (length-take-le _ _ (slice-reshare-prefix-mesh-fan-2 (c .before)))
+
+slice-reshare-prefix-mesh-fan-3 : tie.Need-slice-reshare-prefix-mesh-fan-3
+slice-reshare-prefix-mesh-fan-3 c = omega (arith, c .before .before .before .before .before .before .before .before .before .before .before .before .before .before .before .before .before .before .before .before .before .before .before .before .before .before .word-at2 .ensures .0, c .before .before .before .before .before .before .before .before .before .before .before .before .before .before .before .before .before .before .before .before .before .before .before .before .before .before .before .before .before .before .before .before .before .before .before .before .before .pre .2 .corners-room, c .before .before .before .before .before .before .before .before .before .before .before .before .before .before .before .before .load .kept .1 .1 .1 .0)
+
+slice-aggregate-mesh-fan-3 : tie.Need-slice-aggregate-mesh-fan-3
+slice-aggregate-mesh-fan-3 c = sym (length-take-le _ _ (slice-reshare-prefix-mesh-fan-3 (c .before)))
+
+slice-reshare-prefix-mesh-fan-4 : tie.Need-slice-reshare-prefix-mesh-fan-4
+slice-reshare-prefix-mesh-fan-4 c = omega (arith, c .before .before .before .before .before .before .before .before .before .before .before .before .before .before .before .before .before .before .before .before .before .before .before .before .before .before .before .word-at2 .ensures .0, c .before .before .before .before .before .before .before .before .before .before .before .before .before .before .before .before .before .before .before .before .before .before .before .before .before .before .before .before .before .before .before .before .before .before .before .before .before .before .pre .2 .volumes-room, c .before .before .before .before .before .before .before .before .before .before .before .before .before .before .before .before .before .load .kept .1 .1 .1 .1 .0)
+
+slice-aggregate-mesh-fan-4 : tie.Need-slice-aggregate-mesh-fan-4
+slice-aggregate-mesh-fan-4 c = sym (length-take-le _ _ (slice-reshare-prefix-mesh-fan-4 (c .before)))
+
+slice-reshare-prefix-mesh-fan-5 : tie.Need-slice-reshare-prefix-mesh-fan-5
+slice-reshare-prefix-mesh-fan-5 c = omega (arith, c .before .before .before .before .before .before .before .before .before .before .before .before .before .before .before .before .before .before .before .before .before .before .before .before .before .before .before .word-at3 .ensures .0, c .before .before .before .before .before .before .before .before .before .before .before .before .before .before .before .before .before .before .before .before .before .before .before .before .before .before .before .before .before .before .before .before .before .before .before .before .before .before .before .pre .2 .ends-room, c .before .before .before .before .before .before .before .before .before .before .before .before .before .before .before .before .before .before .load .kept .1 .1 .1 .1 .1 .0)
+
+slice-aggregate-mesh-fan-5 : tie.Need-slice-aggregate-mesh-fan-5
+slice-aggregate-mesh-fan-5 c = sym (length-take-le _ _ (slice-reshare-prefix-mesh-fan-5 (c .before)))
+
+slice-reshare-prefix-mesh-fan-6 : tie.Need-slice-reshare-prefix-mesh-fan-6
+slice-reshare-prefix-mesh-fan-6 c = omega (arith, c .before .before .before .before .before .before .before .before .before .before .before .before .before .before .before .before .before .before .before .before .before .before .before .before .before .before .before .before .word-at3 .ensures .0, c .before .before .before .before .before .before .before .before .before .before .before .before .before .before .before .before .before .before .before .before .before .before .before .before .before .before .before .before .before .before .before .before .before .before .before .before .before .before .before .before .pre .2 .lengths-room, c .before .before .before .before .before .before .before .before .before .before .before .before .before .before .before .before .before .before .before .load .kept .1 .1 .1 .1 .1 .1 .0)
+
+slice-aggregate-mesh-fan-6 : tie.Need-slice-aggregate-mesh-fan-6
+slice-aggregate-mesh-fan-6 c = sym (length-take-le _ _ (slice-reshare-prefix-mesh-fan-6 (c .before)))
+
+slice-reshare-prefix-mesh-fan-7 : tie.Need-slice-reshare-prefix-mesh-fan-7
+slice-reshare-prefix-mesh-fan-7 c = omega (arith, c .before .before .before .before .before .before .before .before .before .before .before .before .before .before .before .before .before .before .before .before .before .before .before .before .before .before .before .before .word-at4 .ensures .0, c .before .before .before .before .before .before .before .before .before .before .before .before .before .before .before .before .before .before .before .before .before .before .before .before .before .before .before .before .before .before .before .before .before .before .before .before .before .before .before .before .before .pre .2 .outline-room, c .before .before .before .before .before .before .before .before .before .before .before .before .before .before .before .before .before .before .before .before .load .kept .1 .1 .1 .1 .1 .1 .1 .0)
+
+slice-aggregate-mesh-fan-7 : tie.Need-slice-aggregate-mesh-fan-7
+slice-aggregate-mesh-fan-7 c = sym (length-take-le _ _ (slice-reshare-prefix-mesh-fan-7 (c .before)))
+
+mesh-fan-requires : tie.Need-mesh-fan-requires
+mesh-fan-requires c κs = c .before .before .before .before .before .before .before .before .before .before .before .before .before .before .before .before .before .before .before .before .before .before .before .before .before .before .before .before .before .before .before .before .before .before .before .before .before .before .before .before .before .before .before .pre .1
+
+same-length : tie.Need-same-length
+same-length c = search needs
+
+same-length-2 : tie.Need-same-length-2
+same-length-2 c = search needs
+
+same-length-3 : tie.Need-same-length-3
+same-length-3 c = search needs
+
+same-length-4 : tie.Need-same-length-4
+same-length-4 c = search needs
+
+same-length-5 : tie.Need-same-length-5
+same-length-5 c = search needs
+
+same-length-6 : tie.Need-same-length-6
+same-length-6 c = search needs
+
+same-length-7 : tie.Need-same-length-7
+same-length-7 c = search needs
+
+same-length-8 : tie.Need-same-length-8
+same-length-8 c = search needs
+
+returns : tie.Need-returns
+returns c = fan-on _ _ _ _ _ (c .before .before .before .before .before .before .before .before .before .before .before .before .before .before .before .before .before .before .before .before .before .before .before .before .before .before .before .before .before .before .before .before .before .before .before .before .before .before .before .before .before .before .before .before .before .before .pre .0) (fronts-are _ _ _ _ _ _ _ _ _ _ _ _ (c .before .before .before .before .before .before .before .before .before .before .before .before .before .before .before .before .before .before .before .before .before .before .before .before .before .before .before .before .before .before .before .before .before .before .before .before .word-at .ensures .0) (c .before .before .before .before .before .before .before .before .before .before .before .before .before .before .before .before .before .before .before .before .before .before .before .before .before .before .before .before .before .before .before .before .before .before .before .word-at2 .ensures .0) (c .before .before .before .before .before .before .before .before .before .before .before .before .before .before .before .before .before .before .before .before .before .before .before .before .before .before .before .before .before .before .before .before .before .before .word-at3 .ensures .0) (c .before .before .before .before .before .before .before .before .before .before .before .before .before .before .before .before .before .before .before .before .before .before .before .before .before .before .before .before .before .before .before .before .before .word-at4 .ensures .0) (c .before .before .before .before .before .before .before .before .before .before .before .before .before .before .before .before .before .before .before .before .before .before .before .before .before .load .ensures)) (c .before .before .mesh-fan .ensures)
+
+pub fan-within-spec : {M : Type 1} → statement M
+fan-within-spec =
+    tie.close
+    (tie.spec
+    word-at-requires
+    word-at-requires-2
+    word-at-requires-3
+    word-at-requires-4
+    mul-p8
+    mul-p2
+    mul-t3
+    mul-t2
+    mul-e4
+    mul-b2
+    load-requires
+    slice-reshare-prefix-mesh-fan
+    slice-aggregate-mesh-fan
+    slice-reshare-prefix-mesh-fan-2
+    slice-aggregate-mesh-fan-2
+    slice-reshare-prefix-mesh-fan-3
+    slice-aggregate-mesh-fan-3
+    slice-reshare-prefix-mesh-fan-4
+    slice-aggregate-mesh-fan-4
+    slice-reshare-prefix-mesh-fan-5
+    slice-aggregate-mesh-fan-5
+    slice-reshare-prefix-mesh-fan-6
+    slice-aggregate-mesh-fan-6
+    slice-reshare-prefix-mesh-fan-7
+    slice-aggregate-mesh-fan-7
+    mesh-fan-requires
+    same-length
+    same-length-2
+    same-length-3
+    same-length-4
+    same-length-5
+    same-length-6
+    same-length-7
+    same-length-8
+    returns)

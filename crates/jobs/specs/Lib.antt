@@ -1,2 +1,0 @@
--- The calls that give a mesh.
-pub mod Jobs

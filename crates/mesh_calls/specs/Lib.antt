@@ -1,0 +1,3 @@
+-- The calls that give a mesh.
+pub mod Jobs
+pub mod Fans
