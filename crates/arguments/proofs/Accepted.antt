@@ -15,7 +15,7 @@ use Rattle.lists.proofs.Sifts.{and-true, true-and, all-append, all-get}
 use Rattle.lists.proofs.Stores.{tab-length}
 use Rattle.model.specs.Mesh.{Triangle, Edge, Mesh}
 use Rattle.model.specs.Valid.{named, rootOk, cornersOk, endsOk, sideOk, indicesFit}
-use Rattle.model.specs.Elements.{Kind, Triangles, Straps, Nothing, Element, kindOf, elementsOf, cornersOf, endsOf, structural?, strapElement, trianglesFrom, strapsFrom, cornersPer, facetOthers, sum, restMeasure, restMeasureOf}
+use Rattle.model.specs.Elements.{Kind, Triangles, Straps, Nothing, Element, kindOf, elementsOf, cornersOf, endsOf, structural?, strapElement, trianglesFrom, strapsFrom, cornersPer, facetOthers, restMeasureOf}
 use Rattle.mesh.specs.At.{triangleRow, trianglesAt, edgesAt, meshAt}
 use Rattle.mesh.specs.Given.{Given, meshOf, sizes}
 use Rattle.judge.proofs.Joined.{Sized, sizes-told}
@@ -25,12 +25,8 @@ use Rattle.elements.specs.declared.Kind.{Kind as KindCase}
 use Rattle.elements.specs.Table.{kindIs, elementsIn, KindFound, Cornered, Tabled, TableRoom, FanTabled, MarkRoom, MeasuredWithin}
 use Rattle.elements.proofs.Found.{elements-in, fan-of}
 use Rattle.elements.proofs.Filling.{triangles-length, straps-length}
-use Rattle.model.specs.Pieces.{pieceCount, pieces}
 use Rattle.model.specs.Calls.{strictly, particlesOk}
-use Rattle.elements.proofs.Measures.{rest-measure, rest-measure-of}
-use Rattle.reach.proofs.Reached.{plain-elements}
-use Rattle.pieces.specs.Counted.{Lent, PiecesCounted}
-use Rattle.pieces.proofs.Pieces.{two-corners}
+use Rattle.elements.proofs.Measures.{rest-measure-of}
 use Rattle.arguments.specs.Accepted.{Accepted, TableLent, MeshTabled, FanFound}
 
 -- ---- counts
@@ -71,7 +67,7 @@ table-room A L =
 -- ---- corners name particles
 
 -- those of all elements in one list
-abbrev allCorners : List Element → List ℕ
+abbrev pub allCorners : List Element → List ℕ
 allCorners es = each (λ (e : Element). e .corners) es
 
 -- names are below the number of particles
@@ -82,7 +78,7 @@ named-below n (x ∷ l) e =
     let a = and-true (ltb x n && not (stands x l)) (named n l) e in
     true-and (and-true (ltb x n) (not (stands x l)) (a .0) .0) (named-below n l (a .1))
 
-triangles-below : (n i : ℕ) (ts : List Triangle) → all (cornersOk n) ts ≡ true → all (λ x. ltb x n) (allCorners (trianglesFrom i ts)) ≡ true
+pub triangles-below : (n i : ℕ) (ts : List Triangle) → all (cornersOk n) ts ≡ true → all (λ x. ltb x n) (allCorners (trianglesFrom i ts)) ≡ true
 unfolding trianglesFrom all cornersOk each
 triangles-below n i [] e = refl
 triangles-below n i (t ∷ ts) e =
@@ -95,7 +91,7 @@ unfolding each
 straps-by n i a es true d f = all-append (λ x. ltb x n) (endsOf a) (allCorners es) ∙ true-and d f
 straps-by n i a es false d f = f
 
-straps-below : (n i : ℕ) (es : List Edge) → all (endsOk n) es ≡ true → all (λ x. ltb x n) (allCorners (strapsFrom i es)) ≡ true
+pub straps-below : (n i : ℕ) (es : List Edge) → all (endsOk n) es ≡ true → all (λ x. ltb x n) (allCorners (strapsFrom i es)) ≡ true
 unfolding strapsFrom all endsOk each
 straps-below n i [] e = refl
 straps-below n i (a ∷ es) e =
@@ -118,7 +114,7 @@ elements-below K M e =
     by Nothing n p q = refl
 
 -- the first places of a table of such elements
-verts-below : (p n k : ℕ) (es : List Element) (verts : List ℕ) → all (λ x. ltb x p) (allCorners es) ≡ true → Cornered k es n verts → n * k ≤ length verts
+pub verts-below : (p n k : ℕ) (es : List Element) (verts : List ℕ) → all (λ x. ltb x p) (allCorners es) ≡ true → Cornered k es n verts → n * k ≤ length verts
     → (t : ℕ) → t < n * k → getD verts t 0 < p
 verts-below p n k es verts a C room t h =
     let e : getD verts t 0 ≡ getD (allCorners es) t 0 = sym (getD-take (n * k) verts t 0 h) ∙ ap (λ (l : List ℕ). getD l t 0) (C .corners-are) in
@@ -141,12 +137,12 @@ few-of Nothing M n t e c = record { width = (omega arith, omega arith); few = om
 
 module _ (G : Given) (A : Accepted G) where
   -- the kind that was found is the mesh's
-  kind-is : (kind : KindCase) → KindFound (length (G .corners) / 3) (length (G .ends) / 4) (G .ends) kind → kindIs kind ≡ kindOf (meshOf G)
+  pub kind-is : (kind : KindCase) → KindFound (length (G .corners) / 3) (length (G .ends) / 4) (G .ends) kind → kindIs kind ≡ kindOf (meshOf G)
   unfolding kindOf meshOf meshAt
   kind-is kind F = F .is (G .corners) (G .volumes) (G .lengths)
 
   -- and so are the elements of that kind
-  same-elements : (K : Kind) → elementsOf K (meshOf G) ≡ elementsIn K (trianglesAt (length (G .corners) / 3) (G .corners) (G .volumes)) (edgesAt (length (G .ends) / 4) (G .ends) (G .lengths))
+  pub same-elements : (K : Kind) → elementsOf K (meshOf G) ≡ elementsIn K (trianglesAt (length (G .corners) / 3) (G .corners) (G .volumes)) (edgesAt (length (G .ends) / 4) (G .ends) (G .lengths))
   unfolding meshOf meshAt
   same-elements K = elements-in K (meshOf G)
 
@@ -205,23 +201,7 @@ fan-found G v n k others count N Y N′ Y′ L L′ T F few long =
       fan-room = omega (arith, mul-le-mul-right k few, T .narrow);
     }
 
--- ---- what is counted and measured
-
--- the table meets what the count of pieces asks, with room for each particle, corner and element
-pub table-lent : {G : Given} {n k others labels : ℕ} {N Y : List ℕ} {L : List Float} → MeshTabled G n k others N Y L → labels ≡ n → Lent n k Y 1024 4096 labels
-table-lent {G} T e =
-    record { corners = T .corners; two = (let h = two-corners (kindOf (meshOf G)) in omega (arith, T .per)); link-room = T .narrow; label-room = e }
-
--- the pieces of the table are the mesh's
-pub pieces-found : {G : Given} {n k others : ℕ} {N Y labels : List ℕ} {L : List Float} {r : ℕ} → Accepted G → MeshTabled G n k others N Y L → PiecesCounted n k Y labels r → r ≡ pieces (meshOf G)
-unfolding pieces
-pieces-found {G} A T P =
-    let es = elementsOf (kindOf (meshOf G)) (meshOf G) in
-    P .counted es (T .tabled .cornered) (plain-elements (kindOf (meshOf G)) (meshOf G) (A .indices)) ∙ ap (λ (m : ℕ). pieceCount m es) (T .per)
-
--- the sum of the measures in the table is the mesh's
-pub measure-found : {G : Given} {n k others : ℕ} {N Y : List ℕ} {L : List Float} {r : Float} → MeshTabled G n k others N Y L → r ≡ sum (take n L) → r ≡ restMeasure (meshOf G)
-measure-found {G} {n} {k} {N = N} {Y = Y} {L = L} T e = e ∙ rest-measure (meshOf G) k n N Y L (T .tabled)
+-- ---- what is measured
 
 -- what a listed particle may be
 pub listed-below : {G : Given} (l : List ℕ) → Accepted G → particlesOk (meshOf G) l ≡ true → (j : ℕ) → j < length l → getD l j 0 < 1024

@@ -14,7 +14,8 @@ use Rattle.mesh.specs.Given.{Given, meshOf, sizesFit}
 use Rattle.mesh.specs.Widths.{pointColumns}
 use Rattle.judge.specs.Checks.{thenCheck, firstFrom, faultIn, faultOf}
 use Rattle.judge.proofs.Joined.{then-zero, then-stays}
-use Rattle.arguments.specs.Accepted.{Accepted, FanFound}
+use Rattle.arguments.specs.Accepted.{Accepted}
+use Rattle.arguments.specs.Fans.{FanOf}
 use Rattle.arguments.specs.Beside.{withNumbers}
 use Rattle.arguments.proofs.Accepted.{particles-count}
 
@@ -83,12 +84,12 @@ module _ (M : Mesh) (code fault : ℕ) (numbers beside : Bool) (first : code ≡
   pub beside-judged : (r : ℕ) (t u : Bool) → r ≡ thenCheck code t 4 → t ≡ u → r ≡ refusal true M beside u
   beside-judged r t u e q = e ∙ ap (λ (n : ℕ). thenCheck n t 4) code-is ∙ sized-refuses M beside t ∙ ap (refusal true M beside) q
 
--- ---- the sides of a fan that was found
+-- ---- the sides of a fan
 
--- their test is the definition's
-pub sides-ok : {G : Given} {v n k others count : ℕ} {verts fan-verts : List ℕ} (F : FanFound G v n k others count verts fan-verts) (sides : List ℕ) (t : Bool)
+-- where it was read, their test is the definition's
+pub sides-ok : {G : Given} {v k others count : ℕ} {verts : List ℕ} (F : FanOf G v k others count verts) (sides : List ℕ) (t : Bool)
     → t ≡ (ltb v (length (G .points) / pointColumns) && all (λ s. ltb s 2) sides && eqb (length sides) count) → t ≡ sidesOk (meshOf G) v sides
 unfolding sidesOk
 sides-ok {G} {v} {count = count} F sides t e =
     e ∙ ap (λ (p : ℕ). ltb v p && all (λ s. ltb s 2) sides && eqb (length sides) count) (sym (particles-count G))
-    ∙ ap (λ (c : ℕ). ltb v (length (meshOf G .particles)) && all (λ s. ltb s 2) sides && eqb (length sides) c) (F .fan-cornered .count)
+    ∙ ap (λ (c : ℕ). ltb v (length (meshOf G .particles)) && all (λ s. ltb s 2) sides && eqb (length sides) c) (F .count-is)

@@ -29,8 +29,8 @@ use Rattle.reading_c.specs.Given.{Capped}
 use Rattle.bench_c.specs.Torn.{BothReplied, OutcomeReplied, withRooms, roomsIn, splitOutcome, straddlersOutcome}
 use Rattle.bench_c.specs.Told.{Limited, roomsGiven, roomsToo}
 use Rattle.reading_c.proofs.Siding.{capped-sides}
-use Rattle.bench_c.proofs.Outcomes.{pick-small}
 use Rattle.bench_c.proofs.Tearings.{checked, checked-small, checked-replied}
+use Rattle.replies.proofs.Saying.{pick-small}
 
 -- ---- rooms
 

@@ -2,7 +2,7 @@
 use Prim.Native.Nat.{ℕ, zero, suc, _<_}
 use native.Mathlib.Omega.{arith}
 use mathlib.Core.Path.{_≡_, refl, ap, subst, _∙_}
-use mathlib.Core.Bool.{Bool, true, false}
+use mathlib.Core.Bool.{Bool, false}
 use mathlib.Core.List.{List, [], _∷_}
 use lib.Dec.{eqb, ltb}
 use lib.ListN.{length}
@@ -28,12 +28,9 @@ use Rattle.bench_c.specs.Torn.{meshReply, logReply, BothReplied, Outcome
 use Rattle.bench_c.specs.Told.{meshTold, logTold, Telling, Limited}
 use Rattle.image.proofs.Rows.{rows-image}
 use Rattle.bench_c.proofs.Shown.{standing, rows-log}
+use Rattle.replies.proofs.Saying.{pick-small}
 
 -- ---- refusals are small
-
-pub pick-small : (b : Bool) (m n : ℕ) → m < 256 → n < 256 → pick b m n < 256
-pick-small true m n h k = h
-pick-small false m n h k = k
 
 room-small : (L : Rooms) (N : Need) → tooSmall L N < 256
 unfolding tooSmall

@@ -34,9 +34,9 @@ use Rattle.image.specs.Image.{imageOf, imageSized}
 use Rattle.reading_c.specs.Given.{SmallCode}
 use Rattle.bench_c.specs.Torn.{meshReply, BothReplied, OutcomeReplied}
 use Rattle.bench_c.specs.Told.{meshTold, logTold, Telling, Limited}
-use Rattle.replies.proofs.Saying.{refusal-small}
+use Rattle.replies.proofs.Saying.{refusal-small, pick-small}
 use Rattle.image.proofs.Loading.{sized-input}
-use Rattle.bench_c.proofs.Outcomes.{pick-small, fault-small, unless-small, came-telling, came-replied}
+use Rattle.bench_c.proofs.Outcomes.{fault-small, unless-small, came-telling, came-replied}
 
 -- ---- rooms
 

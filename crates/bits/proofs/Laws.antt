@@ -1,13 +1,13 @@
 -- Laws of bits and of the numbers that they stand for.
 use Prim.Native.Nat.{ℕ, zero, suc, _+_, _-_, _*_, _/_, _%_, _^_, _<_, _≤_}
 use mathlib.Core.Path.{_≡_, refl, ap, sym, _∙_}
-use mathlib.Core.List.{List, [], _∷_, _++_}
+use mathlib.Core.List.{List, [], _∷_, _++_, append-assoc}
 use mathlib.Core.Logic.{_⊎_, inl, inr, ⊎-elim}
 use native.Mathlib.Omega.{arith}
-use native.Mathlib.Nat.{mul-le-mul-right, add-mul, one-mul, div-add-mod', pow-suc, mul-assoc, mod-lt, zero-add, add-comm, mod-eq-of-lt}
+use native.Mathlib.Nat.{mul-le-mul-right, add-mul, one-mul, div-add-mod', pow-suc, mul-assoc, mod-lt, zero-add, zero-div, add-comm, mod-eq-of-lt}
 use native.Mathlib.Numerals.{add-one, one-add}
-use lib.ListN.{length, take, drop, getD, set, length-append, length-drop, List·getD-append}
-use lib.Seq.{take-suc, getD-append-add, getD-drop, set-at, set-append-left, sets}
+use lib.ListN.{length, take, drop, getD, set, replicate, length-append, length-drop, List·getD-append}
+use lib.Seq.{take-suc, take-append-le, drop-append-le, getD-append-add, getD-drop, set-at, set-append-left, sets}
 use lib.Pow.{pow-pos, shr-shr, mod-pow-add, field, high, low, mod-mod-pow}
 use lib.Arith.{digits-lt}
 use Rattle.bits.specs.Bits.{bits, bitsOf, num, fieldAt}
@@ -26,6 +26,27 @@ pub length-bitsOf : (bs : List ℕ) → length (bitsOf bs) ≡ 8 * length bs
 unfolding bitsOf
 length-bitsOf [] = refl
 length-bitsOf (b ∷ bs) = omega (arith, length-append (bits 8 b) (bitsOf bs), length-bits 8 b, length-bitsOf bs)
+
+-- no bytes have no bits
+pub bits-none : bitsOf [] ≡ []
+unfolding bitsOf
+bits-none = refl
+
+-- the bits of bytes behind others
+pub bits-join : (a b : List ℕ) → bitsOf (a ++ b) ≡ bitsOf a ++ bitsOf b
+unfolding bitsOf
+bits-join [] b = refl
+bits-join (x ∷ a) b = ap (λ (l : List ℕ). bits 8 x ++ l) (bits-join a b) ∙ sym (append-assoc (bits 8 x) (bitsOf a) (bitsOf b))
+
+-- a field of the first bits
+pub field-front : (A B : List ℕ) (at w : ℕ) → at + w ≤ length A → fieldAt (A ++ B) at w ≡ fieldAt A at w
+field-front A B at w h = ap (λ (l : List ℕ). num (take w l)) (drop-append-le at A B (omega arith)) ∙ ap num (take-append-le w (drop at A) B (omega (arith, length-drop at A)))
+
+-- the bits of 0
+pub bits-zero : (n : ℕ) → bits n 0 ≡ replicate n 0
+unfolding bits
+bits-zero zero = refl
+bits-zero (suc n) = rw (zero-div, bits-zero n)
 
 -- the bits of j + k places: the upper j, and the lower k
 pub bits-split : (j k n : ℕ) → bits (j + k) n ≡ bits j (n / 2 ^ k) ++ bits k n

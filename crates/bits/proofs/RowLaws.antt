@@ -10,7 +10,7 @@ use lib.ListN.{length, take, drop, getD, set, replicate, replicate-append-replic
 use lib.Seq.{getD-take, getD-drop, take-add, drop-drop, take-at, drop-at, length-take-le, sets, take-suc-set}
 use Rattle.bits.specs.Bits.{bits, bitsOf, num, fieldAt}
 use Rattle.bits.specs.Rows.{total, unpack, pack, readRows, writeRows, Fit, FitAll, col, columnAt, rowsOf}
-use Rattle.bits.proofs.Laws.{below?, length-bits, length-bitsOf, getD-bitsOf, num-bits, num-lt, bits-num, sets-sets}
+use Rattle.bits.proofs.Laws.{below?, length-bits, length-bitsOf, getD-bitsOf, num-bits, num-lt, bits-num, bits-zero, sets-sets}
 
 -- every place holds a 0 or a 1
 abbrev pub AllBits : List ℕ → Type 0
@@ -22,6 +22,20 @@ bits-bitsOf bs i =
     (λ (h : i < 8 * length bs). rw (getD-bitsOf bs i h) (omega arith))
     (λ (h : 8 * length bs ≤ i). let z : getD (bitsOf bs) i 0 ≡ 0 = List·getD-eq-default (bitsOf bs) 0 (omega (arith, length-bitsOf bs)) in omega arith)
     (below? i (8 * length bs))
+
+pub bits-append : (a b : List ℕ) → AllBits a → AllBits b → AllBits (a ++ b)
+bits-append [] b f g i = g i
+bits-append (x ∷ a) b f g zero = f 0
+bits-append (x ∷ a) b f g (suc i) = bits-append a b (λ j. f (suc j)) g i
+
+pub bits-zeros : (n : ℕ) → AllBits (replicate n 0)
+bits-zeros zero i = omega arith
+bits-zeros (suc n) zero = omega arith
+bits-zeros (suc n) (suc i) = bits-zeros n i
+
+-- bits that stand for 0
+pub zeros-of : (l : List ℕ) → AllBits l → num l ≡ 0 → l ≡ replicate (length l) 0
+zeros-of l h e = sym (bits-num l h) ∙ (ap (bits (length l)) e ∙ bits-zero (length l))
 
 pub bits-drop : (n : ℕ) (l : List ℕ) → AllBits l → AllBits (drop n l)
 bits-drop n l h i = rw (getD-drop n l i 0) (h (n + i))
@@ -152,6 +166,12 @@ sets-pack3 l at w0 w1 w2 a b c =
 -- a list that grows by a place
 pub zeros-more : (from i : ℕ) → from ≤ i → replicate {A = ℕ} (i + 1 - from) 0 ≡ replicate (i - from) 0 ++ (0 ∷ [])
 zeros-more from i h = let e : i + 1 - from ≡ i - from + 1 = omega arith in rw e (sym (replicate-append-replicate (i - from) 1 0))
+
+-- the first of many zeros
+pub take-zeros : (n m : ℕ) → n ≤ m → take n (replicate {A = ℕ} m 0) ≡ replicate n 0
+take-zeros zero m h = refl
+take-zeros (suc n) zero h = absurd (omega arith)
+take-zeros (suc n) (suc m) h = ap (λ (l : List ℕ). 0 ∷ l) (take-zeros n m (omega arith))
 
 pub column-none : (l : List ℕ) (pos st w n i : ℕ) → n ≤ i → columnAt l pos st w (n - i) ≡ []
 unfolding columnAt

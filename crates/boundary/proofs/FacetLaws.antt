@@ -30,6 +30,7 @@ use Rattle.boundary.specs.declared.facets.Face.the-variants.{No, Ends}
 use Rattle.work.specs.declared.Grown.{Grown}
 use Rattle.work.specs.declared.Grown.the-variants.{Lacking, Rows}
 use Rattle.work.proofs.Grows.{grown-all}
+use Rattle.lists.proofs.Truths.{and-end}
 
 -- ---- on a facet
 
@@ -45,10 +46,6 @@ module _ (v copy : ℕ) (p q : List ℕ) (w : ℕ) where
 
   pub on-second : (w ≡ copy → ⊥) → (w ≡ v → ⊥) → (r s : Bool) → r ≡ stands w p → r ≡ true → s ≡ stands w q → s ≡ onBy v copy p q w
   on-second n m r s e d g = let h : stands w p ≡ true = sym e ∙ d in rw (ne-eqb w copy n, ne-eqb w v m, h) g
-
-and-end : (s : Bool) → s && true ≡ s
-and-end true = refl
-and-end false = refl
 
 module _ (f : ℕ → Bool) (x y : ℕ) where
   pub side-both : (r s : Bool) → r ≡ f x → r ≡ true → s ≡ f y → s ≡ all f (x ∷ y ∷ [])

@@ -4,7 +4,7 @@ use native.Mathlib.Omega.{arith}
 use mathlib.Core.Path.{_≡_, refl, sym, _∙_, ap, subst}
 use mathlib.Core.Bool.{Bool, true, false, not, _&&_}
 use mathlib.Core.List.{List, []}
-use lib.Dec.{eqb, ltb}
+use lib.Dec.{ltb}
 use lib.ListN.{length}
 use lib.Ieee.{Float}
 use borrow.Author.Tests.{le-ltb, lt-ltb, ltb-false, leb-true, ne-eqb}
@@ -26,6 +26,7 @@ use Rattle.judge.proofs.Accepted.{lentOf, SizedInput, input-fits}
 use Rattle.mesh.proofs.Lists.{particles-length, edges-length}
 use Rattle.work.specs.Working.{Roomed, Ready}
 use Rattle.call_frame.specs.Framed.{copyNeed, begunWith, RoomsLent, BeginAsked, Begun}
+use Rattle.work.proofs.Runs.{pick-same}
 
 -- ---- counts
 
@@ -47,10 +48,6 @@ unfolding meshOf meshAt boundaryAt
 mesh-boundary G = tab-length (sizes G .boundary) (sideRow (length (G .outline) / 2) (G .outline))
 
 -- ---- the room for the copy
-
-pick-same : (t : ℕ) → pick (eqb t 0) 0 t ≡ t
-pick-same zero = refl
-pick-same (suc t) = rw (ne-eqb (suc t) 0 (λ d. omega arith))
 
 -- the first step of a run is the copy
 pub copy-first : (L : M.Rooms) (G : Given) → firstFault L (start (meshOf G) .needs) ≡ tooSmall L (copyNeed (sizes G))

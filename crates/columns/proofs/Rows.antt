@@ -11,6 +11,8 @@ use lib.ListN.{length, getD, take, set}
 use lib.Seq.{ext-getD, getD-take, length-take-le}
 use lib.Dec.{eqb}
 use Rattle.lists.specs.Lists.{sift, any, all, upTo, tab, pick, keep, keptOf, nth, mapAt}
+use Rattle.lists.proofs.Truths.{untrue}
+use Rattle.lists.proofs.Sifts.{pick-ap}
 
 module _ {A : Type 0} where
   -- a view of n rows has n rows
@@ -56,11 +58,6 @@ module _ {A : Type 0} where
   -- an append to all columns: the rows are as they were, and a comes last
   pub rows-push : (n : ℕ) (f f′ : ℕ → A) (a : A) → ((k : ℕ) → k < n → f′ k ≡ f k) → f′ n ≡ a → tab (n + 1) f′ ≡ tab n f ++ (a ∷ [])
   rows-push n f f′ a h e = rw (add-one, tab-suc, e) (ap (λ (l : List A). l ++ (a ∷ [])) (tab-ext n f′ f h))
-
--- a function goes under a choice
-pub pick-ap : {A B : Type 0} (g : A → B) (t : Bool) (x y : A) → pick t (g x) (g y) ≡ g (pick t x y)
-pick-ap g true x y = refl
-pick-ap g false x y = refl
 
 module _ {A B : Type 0} where
   -- a function on each row of a view
@@ -121,7 +118,7 @@ module _ {A B : Type 0} where
   mapAt-ext g h (a ∷ l) e = ap₂ _∷_ (e 0 a) (mapAt-ext (λ k. g (suc k)) (λ k. h (suc k)) l (λ k. e (suc k)))
 
 module _ {A : Type 0} where
-  -- a change that changes no element leaves the list
+  -- a change that changes untrue element leaves the list
   pub mapAt-same : (g : ℕ → A → A) (l : List A) → ((k : ℕ) (a : A) → g k a ≡ a) → mapAt g l ≡ l
   unfolding mapAt
   mapAt-same g [] e = refl
@@ -129,18 +126,14 @@ module _ {A : Type 0} where
 
 -- ---- a test on every row, asked row by row
 
--- false is not true
-pub no : {P : Type 0} → _≡_ {A = Bool} false true → P
-no e = absurd (let z : _≡_ {A = ℕ} 0 1 = cc in omega arith)
-
 -- both of a conjunction that holds
 pub both-true : (t u : Bool) → (t && u) ≡ true → (t ≡ true) × (u ≡ true)
 both-true true u e = (refl, e)
-both-true false u e = no e
+both-true false u e = untrue e
 
 -- neither of a disjunction that fails
 pub either-false : (t u : Bool) → (t || u) ≡ false → (t ≡ false) × (u ≡ false)
-either-false true u e = no (sym e)
+either-false true u e = untrue (sym e)
 either-false false u e = (refl, e)
 
 -- a disjunction with true
@@ -154,7 +147,7 @@ and-false true = refl
 and-false false = refl
 
 module _ {A : Type 0} (p : A → Bool) where
-  -- no row fails where there is none
+  -- untrue row fails where there is none
   pub all-none : (row : ℕ → A) → all p (tab 0 row) ≡ true
   unfolding all tab
   all-none row = refl
@@ -196,7 +189,7 @@ all-tab p n row = all-along p n row (λ k. k)
 -- ---- a test on some row, asked row by row
 
 module _ {A : Type 0} (p : A → Bool) where
-  -- no row passes where there is none
+  -- untrue row passes where there is none
   pub any-none : (row : ℕ → A) → any p (tab 0 row) ≡ false
   unfolding any tab
   any-none row = refl
@@ -220,7 +213,7 @@ module _ {A : Type 0} (p : A → Bool) where
   any-stops (suc n) zero row h g = rw g refl
   any-stops (suc n) (suc i) row h g = rw (any-stops n i (λ k. row (suc k)) (le-of-suc-le-suc h) g) (or-true (p (row 0)))
 
--- at the loop's end no row has passed
+-- at the loop's end untrue row has passed
 pub any-end : {A : Type 0} (p : A → Bool) (n i : ℕ) (row : ℕ → A) → any p (tab i row) ≡ false → i ≤ n → n ≤ i → false ≡ any p (tab n row)
 any-end p n i row h g k = let e : i ≡ n = omega arith in sym (ap (λ (j : ℕ). any p (tab j row)) (sym e) ∙ h)
 

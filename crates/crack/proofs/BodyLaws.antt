@@ -2,7 +2,7 @@
 use Prim.Native.Nat.{ℕ, _+_, _/_, _<_, _≤_}
 use native.Mathlib.Omega.{arith}
 use mathlib.Core.Path.{_≡_, refl, sym, ap, _∙_, subst}
-use mathlib.Core.Bool.{Bool, true, false, not, false≢true, true≢false}
+use mathlib.Core.Bool.{Bool, true, false, not}
 use mathlib.Core.List.{List, [], _∷_, _++_, map, map-append}
 use mathlib.Core.Option.{Option, none, some}
 use borrow.Author.Tests.{ltb-true}
@@ -43,6 +43,7 @@ use Rattle.work.proofs.Placed.{corners-in, ends-in, sides-in}
 use Rattle.work.proofs.Runs.{works-stay, works-as, works-then, works-refused, works-known}
 use Rattle.tear.specs.Loads.{LoadsRead}
 use Rattle.crack.specs.Bodies.{EndsKept, endsListed, CracksTold, crackTurns, crackEnd}
+use Rattle.lists.proofs.Truths.{of-not, of-not-false}
 
 -- ---- what a worker leaves is ready for the next
 
@@ -189,27 +190,19 @@ module _ (M : Mesh) (e : ℕ) (ends from to : List ℕ) (lengths : List Float) (
 
 -- ---- behind the torn edges
 
-not-true : (t : Bool) → true ≡ not t → t ≡ false
-not-true true e = absurd (true≢false e)
-not-true false e = refl
-
-not-false : (t : Bool) → false ≡ not t → t ≡ true
-not-false true e = refl
-not-false false e = absurd (false≢true e)
-
 -- t tells whether anything split
 module _ (K : Kind) {L : Rooms} {W : World} (t : Bool) (found : (S : Run) → W .log ≡ map wordsOf (S .log) → t ≡ not (empty (splitsOf (S .log)))) where
   -- nothing did
   pub end-unsplit : {at : Counts → World} {r : Ran} → t ≡ false → Works (λ (S : Run). S) L W at r → Works (crackEnd K) L W at r
   unfolding crackEnd
   end-unsplit e F =
-      works-as (λ S h. sym (ap (λ (s : Bool). pick s S (removeStraddlers K (splitPinched K S))) (not-false (empty (splitsOf (S .log))) (sym e ∙ found S (ap (λ (x : World). x .log) h))))) F
+      works-as (λ S h. sym (ap (λ (s : Bool). pick s S (removeStraddlers K (splitPinched K S))) (of-not-false (empty (splitsOf (S .log))) (sym e ∙ found S (ap (λ (x : World). x .log) h))))) F
 
   -- something did: the pinched are split, and then the straddlers go
   end-split : {at : Counts → World} {r : Ran} → t ≡ true → Works (λ (S : Run). removeStraddlers K (splitPinched K S)) L W at r → Works (crackEnd K) L W at r
   unfolding crackEnd
   end-split e F =
-      works-as (λ S h. sym (ap (λ (s : Bool). pick s S (removeStraddlers K (splitPinched K S))) (not-true (empty (splitsOf (S .log))) (sym e ∙ found S (ap (λ (x : World). x .log) h))))) F
+      works-as (λ S h. sym (ap (λ (s : Bool). pick s S (removeStraddlers K (splitPinched K S))) (of-not (empty (splitsOf (S .log))) (sym e ∙ found S (ap (λ (x : World). x .log) h))))) F
 
   pub end-refused : {at at′ : Counts → World} (r : Ran) (c : ℕ) → r ≡ Refused c → t ≡ true → Works (splitPinched K) L W at r → Works (crackEnd K) L W at′ r
   end-refused {at} {at′} r c known e F =
@@ -294,6 +287,12 @@ module _ (K : Kind) (min : ℕ) (is : List ℕ) (k : Counts) (points : List Floa
       ap (λ (abs : List (ℕ × ℕ)). fold (crackEdge K (loadsOf K held) min) R abs) (sym ends-held)
       ∙ ap (λ (x : World). fold (crackEdge K (loadsOf K (x .mesh)) min) R (tornEnds (x .mesh) is)) e)
       (F .works (loadsOf K held) loads-held)
+
+-- of an empty list there is nothing to crack
+pub turns-none : (K : Kind) (min : ℕ) (is : List ℕ) {L : Rooms} {at : Counts → World} (k : Counts) → length is ≡ 0 → Within k L → Works (crackTurns K min is) L (at k) at (Done k)
+unfolding crackTurns tornEnds sift fold
+turns-none K min [] k e w = works-stay k w
+turns-none K min (i ∷ is) k e w = absurd (omega arith)
 
 pub turns-indexed : (K : Kind) (min : ℕ) (is : List ℕ) (R : Run) → Indexed (R .mesh) → Indexed (crackTurns K min is R .mesh)
 unfolding crackTurns

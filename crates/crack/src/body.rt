@@ -156,6 +156,9 @@ fn crack_torn(
     ensures { λ r. ⌜ WorksIn (crackTurns (kindIs kind) minimum (now (torn .entry))) room k points roots corners volumes ends lengths outline
         log r ⌝ }
 {
+    if torn.len() == 0 {
+        return Ran::Done(k);
+    }
     let mut from = [k.edges; 2048];
     let mut to = [0usize; 2048];
     let mut loads = [0.0f32; 1024];

@@ -28,6 +28,7 @@ use Rattle.elements.proofs.Measures.{cleared-long}
 use Rattle.mesh.specs.Workers.{rowAt}
 use Rattle.insert.specs.Shares.{strapAt, StrapTold}
 use Rattle.crossing.specs.Bends.{FarIs, nearBy, NeighbourIs, EndsBelow, SideMarked, onlyBy, bendBy, BendTold, BetweenMarked, BendsMarked}
+use Rattle.lists.proofs.Truths.{or-end}
 
 -- ---- the far end
 
@@ -83,10 +84,6 @@ near-few v w e = by (strapAt v e)
 
 -- ---- one mark more
 
-or-none : (t : Bool) → t || false ≡ t
-or-none true = refl
-or-none false = refl
-
 pick-or : (s t : Bool) → pick s true t ≡ s || t
 pick-or true t = refl
 pick-or false t = refl
@@ -112,7 +109,7 @@ mark-more side v x r L (y ∷ []) few e m h =
           mark-here side r x h q ∙ sym (grown ∙ ap (λ (t : Bool). pick (eqb v x) true (stands x L || t)) one ∙ late (eqb v x) (stands x L))
       | no n ↦
           let none : stands x (y ∷ []) ≡ false = ap (λ (t : Bool). pick t true false) (ne-eqb y x (λ d. n (sym (e ∙ d)))) in
-          mark-there side r x n ∙ m ∙ sym (grown ∙ ap (λ (t : Bool). pick (eqb v x) true (stands x L || t)) none ∙ ap (λ (t : Bool). pick (eqb v x) true t) (or-none (stands x L)))
+          mark-there side r x n ∙ m ∙ sym (grown ∙ ap (λ (t : Bool). pick (eqb v x) true (stands x L || t)) none ∙ ap (λ (t : Bool). pick (eqb v x) true t) (or-end (stands x L)))
     ]
   where
     late : (s t : Bool) → pick s true (t || true) ≡ true
@@ -226,7 +223,7 @@ module _ (i : ℕ) (ends first second : List ℕ) where
   bend-along n s t es e et =
       bend-free t n
       (et
-      ∙ sym (ap₂ (λ (x y : Bool). (x && onlyBy second first endB) || (y && onlyBy first second endB)) (sym es ∙ e) (apart (marked first endA) (marked second endA) (sym es ∙ e)) ∙ or-none (onlyBy second first endB)))
+      ∙ sym (ap₂ (λ (x y : Bool). (x && onlyBy second first endB) || (y && onlyBy first second endB)) (sym es ∙ e) (apart (marked first endA) (marked second endA) (sym es ∙ e)) ∙ or-end (onlyBy second first endB)))
 
   pub bend-against : (getD ends (2 * (length ends / 4) + i) 0 ≡ 1 → ⊥) → (s u t : Bool) → s ≡ onlyBy first second endA → s ≡ false → u ≡ onlyBy second first endA → u ≡ true → t ≡ onlyBy first second endB
       → BendTold i ends first second t
@@ -277,7 +274,7 @@ module _ (e : ℕ) (ends first second marks₀ marks : List ℕ) (i : ℕ) (G : 
             λ B j k.
             elim (ℕ-discrete j i) [
               | yes d ↦
-                  G .ahead j (omega arith) ∙ sym (or-none (marked marks₀ j))
+                  G .ahead j (omega arith) ∙ sym (or-end (marked marks₀ j))
                   ∙ ap (λ (s : Bool). marked marks₀ j || s) (sym q ∙ T .is B ∙ ap (λ (z : ℕ). bendBy first second (rowAt ends B z)) (sym d))
               | no n ↦ G .tested B j (omega (arith, n))
             ];
@@ -324,7 +321,7 @@ module _ (p : Edge → Bool) (f : ℕ → Edge) where
       ap (λ (m : ℕ). stands j (numbersOf p (tab m f))) (sym (add-one n)) ∙ numbers-step n j
       ∙ elim (ℕ-discrete j n) [
         | yes d ↦ ap₂ _||_ (numbers-behind n j (omega arith)) (ap (λ (m : ℕ). stands j (one m)) (sym d) ∙ stands-self j)
-        | no m ↦ ap₂ _||_ (numbers-inside n j (omega (arith, m))) (stands-one j n m) ∙ or-none (p (f j))
+        | no m ↦ ap₂ _||_ (numbers-inside n j (omega (arith, m))) (stands-one j n m) ∙ or-end (p (f j))
       ]
 
 -- ---- the bend edges over a strap
@@ -375,5 +372,5 @@ bends-marked a b e ends first second marks marks′ E lf ls F S T =
         let inside : j < e → marked marks′ j ≡ marked marks j || stands j (bendsOver M a b) =
         λ l. T .inside B j l ∙ ap (λ (t : Bool). marked marks j || t) (same j l ∙ sym (list ∙ numbers-inside p (rowAt ends B) e j l)) in
         let behind : e ≤ j → marked marks′ j ≡ marked marks j || stands j (bendsOver M a b) =
-        λ l. T .behind j l ∙ sym (or-none (marked marks j)) ∙ ap (λ (t : Bool). marked marks j || t) (sym (list ∙ numbers-behind p (rowAt ends B) e j l)) in
+        λ l. T .behind j l ∙ sym (or-end (marked marks j)) ∙ ap (λ (t : Bool). marked marks j || t) (sym (list ∙ numbers-behind p (rowAt ends B) e j l)) in
         ⊎-elim inside behind (lt-or-le j e)

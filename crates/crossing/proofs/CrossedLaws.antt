@@ -13,7 +13,7 @@ use Rattle.columns.proofs.Cells.{col-0, col-1}
 use Rattle.model.specs.Run.{Run}
 use Rattle.model.specs.Calls.{firstFault}
 use Rattle.model.specs.Cut.{Crossing, Insertion, insertionOf, insertable, nearEnd, bendsOver, insertStep, Strapping, strapping, insertedAt, snappedAt, crossed}
-use Rattle.model.proofs.Steps.{Onward, runOf, onward-stay, onward-then, fault-stays, crossed-onward}
+use Rattle.model.proofs.Steps.{runOf, fault-stays, crossings-onward}
 use Rattle.mesh.specs.At.{meshAt}
 use Rattle.mesh.specs.Log.{World, worldOf, worldAt}
 use Rattle.mesh.specs.Given.{asRooms}
@@ -25,8 +25,7 @@ use Rattle.work.specs.Working.{Within, Went}
 use Rattle.work.specs.declared.Ran.{Ran}
 use Rattle.work.specs.declared.Ran.the-variants.{Refused, Done}
 use Rattle.work.proofs.Placed.{ends-in}
-use Rattle.marks.specs.Marking.{Marks, MarkedBy}
-use Rattle.marks.proofs.MarkLaws.{marked-one}
+use Rattle.marks.proofs.MarkLaws.{marked-one, marks-more}
 use Rattle.insert.specs.Shares.{Stands}
 use Rattle.insert.specs.Plans.{planned, PlanRoom, PlanIs, InsertableRoom, InsertableIs}
 use Rattle.crossing.specs.Bends.{EndsBelow, BendsRoom, BendsMarked}
@@ -116,20 +115,6 @@ module _ (L : Rooms) (k : Counts) (points : List Float) (roots ends : List ℕ) 
     near-room t x e = let h = near-few t x e in let s = X .snapped-long in omega arith
 
 -- ---- one crossing
-
-pick-or : (s t : Bool) (x : ℕ) → pick t 1 (pick s 1 x) ≡ pick (s || t) 1 x
-pick-or true true x = refl
-pick-or true false x = refl
-pick-or false t x = refl
-
--- one more mark behind those that are there
-marks-more : (a b m m′ : List ℕ) → length m′ ≡ length m → Marks a m → MarkedBy b m m′ → Marks (a ++ b) m′
-marks-more a b m m′ e A B =
-    record {
-      mark = λ k h.
-          let l : k < length m = omega arith in
-          B .mark k l ∙ ap (pick (stands k b) 1) (A .mark k l) ∙ pick-or (stands k a) (stands k b) 0 ∙ ap (λ (s : Bool). pick s 1 0) (sym (stands-append k a b));
-    }
 
 module _ (f : Float) (c : Crossing) (R : Run) (bends snapped : List ℕ) where
   inserted-is : (plan : Plan) → planned plan ≡ insertionOf f (R .mesh) c → true ≡ insertable f (R .mesh) c
@@ -222,11 +207,6 @@ ran-is : (S : Strapping) → runOf S ≡ ranOf S
 unfolding runOf
 ran-is (strapping R bends snapped) = refl
 
-goes-on : (f : Float) (S : Strapping) (l : List Crossing) → Onward (runOf S) (runOf (fold (crossed f) S l))
-unfolding fold
-goes-on f S [] = onward-stay (runOf S)
-goes-on f S (c ∷ l) = onward-then (crossed-onward f S c) (goes-on f (crossed f S c) l)
-
 module _ (f : Float) (L : Rooms) where
   -- no crossing
   pub crosses-none : {at : Counts → World} {bends snapped : List ℕ} (k : Counts) → Within k L → Crosses f [] L (at k) at bends snapped bends snapped (Done k)
@@ -263,4 +243,4 @@ module _ (f : Float) (L : Rooms) where
       by zero T e p = absurd (omega arith)
       by (suc n) T e p =
           let d : firstFault (asRooms L) (runOf T .needs) ≡ suc n = ap (λ (R : Run). firstFault (asRooms L) (R .needs)) (ran-is T) ∙ e in
-          (ap (λ (R : Run). firstFault (asRooms L) (R .needs)) (sym (ran-is (fold (crossed f) T ds))) ∙ fault-stays (asRooms L) (runOf T) (runOf (fold (crossed f) T ds)) n (goes-on f T ds) d, p)
+          (ap (λ (R : Run). firstFault (asRooms L) (R .needs)) (sym (ran-is (fold (crossed f) T ds))) ∙ fault-stays (asRooms L) (runOf T) (runOf (fold (crossed f) T ds)) n (crossings-onward f T ds) d, p)

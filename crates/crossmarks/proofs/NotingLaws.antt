@@ -1,23 +1,27 @@
 -- Laws of the marks of crossings: one mark more, one list behind another, the marks of a block, and the step that they are. Assumes nothing.
 use mathlib.Core.Path.{_≡_, refl, sym, _∙_, ap, ap₂, subst}
-use mathlib.Core.Bool.{Bool, true, false}
+use mathlib.Core.Bool.{Bool, true, false, false≢true}
 use mathlib.Core.List.{List, [], _∷_, _++_, map, append-assoc, append-nil, map-append}
-use Prim.Native.Nat.{ℕ, zero, suc, _+_, _*_, _/_, _<_, _≤_}
+use Prim.Native.Nat.{ℕ, suc, _+_, _*_, _/_, _<_, _≤_}
 use native.Mathlib.Omega.{arith}
 use borrow.Author.Tests.{eq-eqb, ne-eqb}
 use lib.Dec.{eqb}
-use lib.ListN.{length, getD, length-append, length-map}
-use lib.Ieee.{Float, binary32, toBits}
+use native.Mathlib.Decide.{ℕ-discrete}
+use lib.ListN.{length, getD, set, length-set, length-append, length-map}
+use lib.Seq.{getD-set-same, getD-set-other}
+use lib.Ieee.{Float, nan, binary32, toBits}
+use Rattle.float.proofs.Picks.{yes as taken, or-yes-1}
 use Rattle.lists.specs.Lists.{pick, each, pairs, tab, upTo}
 use Rattle.lists.proofs.Steps.{each-step}
 use Rattle.blade.specs.declared.Point.{Point}
 use Rattle.blade.specs.declared.Hit.{Hit}
 use Rattle.blade.specs.declared.Hit.the-variants.{Miss, Hit as HitAt}
+use Rattle.blade.specs.Blade.{offsetOf, bladeHit}
 use Rattle.columns.specs.Block.{cell}
 use Rattle.columns.proofs.Cells.{col-0, col-1}
 use Rattle.model.specs.Mesh.{Edge, Mesh}
-use Rattle.model.specs.Elements.{Kind, Triangles, Straps, Nothing, Element, endsOf, structural?, strapElement, strapsFrom, elementsOf}
-use Rattle.model.specs.Run.{Entry, met, Run, stepTo}
+use Rattle.model.specs.Elements.{Kind, Triangles, Straps, Element, endsOf, structural?, strapElement, strapsFrom, elementsOf}
+use Rattle.model.specs.Run.{met, Run}
 use Rattle.model.specs.Cut.{Blade, hitBy, meets, markAt, markOf, marksOf, markedBy}
 use Rattle.mesh.specs.At.{trianglesAt, edgesAt, meshAt}
 use Rattle.mesh.specs.Log.{World, Words, wordsOf, logAt, worldOf, worldAt}
@@ -35,9 +39,12 @@ use Rattle.work.specs.Working.{Ready, Works}
 use Rattle.work.specs.declared.Ran.the-variants.{Refused, Done}
 use Rattle.work.proofs.Placed.{particles-count, edges-count, boundary-count, corners-in, ends-in}
 use Rattle.work.proofs.Runs.{room-enough, log-lacks, needBehind, went-step}
-use Rattle.marks.specs.Marking.{BesideTold, placeIn, PlacesIn}
+use Rattle.marks.specs.Marking.{placeIn, PlacesIn, ruleIs, bladeBy}
+use Rattle.marks.specs.declared.Rule.{Rule}
+use Rattle.marks.specs.declared.Rule.the-variants.{Rounded, Signs}
 use Rattle.marks.proofs.MarkLaws.{each-tab, cornersAt, row-below, rows-are, places-at}
-use Rattle.crossmarks.specs.Noting.{pairMarks, rowMarks, triangleMarks, strapMark, strapMarks, Noted, PairRoom, TriangleRoom, StrapRoom}
+use Rattle.crossmarks.specs.Noting.{pairMarks, rowMarks, triangleMarks, strapMark, strapMarks, Noted, besideBy, OffsetAt, OffsetsAre, PairRoom, TriangleRoom, StrapRoom}
+use Rattle.lists.proofs.Sifts.{each-ext}
 
 -- ---- marks behind a log
 
@@ -107,6 +114,43 @@ module _ (B : Blade) (points : List Float) (x y : ℕ) where
       by Miss = omega arith
       by (HitAt t at) = omega arith
 
+-- ---- offsets
+
+-- by rounded numbers a product of offsets above 0 is a miss
+beside-missed : (rule : Rule) (b0 b1 p q : Point) → besideBy rule (offsetOf b0 b1 p) (offsetOf b0 b1 q) ≡ true → hitBy (ruleIs rule) b0 b1 p q ≡ Miss
+unfolding bladeHit
+beside-missed Rounded b0 b1 p q h = sym (taken _ _ _ (or-yes-1 _ h))
+beside-missed Signs b0 b1 p q h = absurd (false≢true h)
+
+module _ (rule : Rule) (b0 b1 : Point) (points offsets : List Float) where
+  -- so a pair beside the line has no mark
+  pub pair-beside : (x y n : ℕ) (log : List ℕ) (b : Bool) → OffsetAt b0 b1 points offsets x → OffsetAt b0 b1 points offsets y → b ≡ besideBy rule (getD offsets x nan) (getD offsets y nan) → b ≡ true
+      → Noted (pairMarks (bladeBy rule b0 b1) points (x, y)) n log log n
+  pair-beside x y n log b X Y e t =
+      pair-miss (bladeBy rule b0 b1) points x y _ _ _ n log refl refl refl
+      (beside-missed rule b0 b1 (placeIn points x) (placeIn points y) (ap₂ {C = Bool} (besideBy rule) (sym (X .is)) (sym (Y .is)) ∙ sym e ∙ t))
+
+module _ (b0 b1 : Point) (points offsets : List Float) where
+  -- none, and one more
+  pub offsets-none : OffsetsAre b0 b1 points offsets 0
+  offsets-none = record { at = λ w h. absurd (omega arith) }
+
+  pub offsets-more : (w : ℕ) (p : Point) (d : Float) → OffsetsAre b0 b1 points offsets w → w < length offsets → p ≡ placeIn points w → d ≡ offsetOf b0 b1 p → OffsetsAre b0 b1 points (set offsets w d) (w + 1)
+  offsets-more w p d F h ep ed =
+      record {
+        at = λ j l.
+            elim (ℕ-discrete j w) [
+              | yes e ↦
+                  subst (OffsetAt b0 b1 points (set offsets w d)) (sym e)
+                  (record { long = omega (arith, length-set offsets w d); is = getD-set-same offsets w d nan h ∙ ed ∙ ap (offsetOf b0 b1) ep })
+              | no ne ↦ let o = F .at j (omega arith) in record { long = omega (arith, length-set offsets w d, o .long); is = getD-set-other offsets w j d nan ne ∙ o .is }
+            ];
+      }
+
+-- behind the last
+pub offsets-done : (b0 b1 : Point) (points offsets : List Float) (w p : ℕ) → w ≡ p → OffsetsAre b0 b1 points offsets w → OffsetsAre b0 b1 points offsets p
+offsets-done b0 b1 points offsets w p e F = subst (OffsetsAre b0 b1 points offsets) e F
+
 -- ---- three pairs
 
 module _ (B : Blade) (points : List Float) (x y z : ℕ) where
@@ -120,14 +164,6 @@ module _ (B : Blade) (points : List Float) (x y z : ℕ) where
       noted-as ((a ++ b) ++ c) (a ++ (b ++ (c ++ []))) n r₃ l l₃
       (append-assoc a b c ∙ ap (λ (k : List Words). a ++ (b ++ k)) (sym (append-nil c)))
       (noted-then (a ++ b) c n r₂ r₃ l l₂ l₃ (e₂ ∙ e₁) (noted-then a b n r₁ r₂ l l₁ l₂ e₁ X Y) Z)
-
-  -- a triangle that the blade passes by has no mark
-  pub beside-unnoted : (b : Bool) (n : ℕ) (l : List ℕ) → BesideTold B points x y z b → b ≡ true → Noted (rowMarks B points (x ∷ y ∷ z ∷ [])) n l l n
-  beside-unnoted b n l T e =
-      sides-noted n n n n l l l l refl refl
-      (pair-miss B points x y _ _ _ n l refl refl refl (T .first e))
-      (pair-miss B points x z _ _ _ n l refl refl refl (T .second e))
-      (pair-miss B points y z _ _ _ n l refl refl refl (T .third e))
 
   pub row-few : length (rowMarks B points (x ∷ y ∷ z ∷ [])) ≤ 3
   unfolding rowMarks each pairs
@@ -208,37 +244,50 @@ room-less x y n m lp R h = record { first = R .first; second = R .second; small 
 pub room-between : (x y z n m lp : ℕ) → PairRoom x y n lp → PairRoom x z n lp → m ≤ n → PairRoom y z m lp
 room-between x y z n m lp R S h = record { first = R .second; second = S .second; small = (R .small .1, S .small .1); few = let f = R .few in omega (arith, f) }
 
-pub rooms-of-row : (t n lp : ℕ) (corners : List ℕ) (i m : ℕ) → TriangleRoom t n lp corners → i < t → m ≤ n + 3 * i
-    → PairRoom (getD corners i 0) (getD corners (length corners / 3 + i) 0) (m + 2) lp × PairRoom (getD corners i 0) (getD corners (2 * (length corners / 3) + i) 0) (m + 2) lp
-rooms-of-row t n lp corners i m T h u =
-    let b = row-below (T .particles) t corners i (T .corners-in) h in
-    let q = T .places in
-    let f = T .few in
-    let x = b .first in
-    let y = b .second in
-    let z = b .third in
-    let a₁ : getD corners i 0 < lp / pointColumns = omega (arith, q, x) in
-    let a₂ : getD corners (length corners / 3 + i) 0 < lp / pointColumns = omega (arith, q, y) in
-    let a₃ : getD corners (2 * (length corners / 3) + i) 0 < lp / pointColumns = omega (arith, q, z) in
-    let b₁ : getD corners i 0 < 65536 = omega (arith, q, x) in
-    let b₂ : getD corners (length corners / 3 + i) 0 < 65536 = omega (arith, q, y) in
-    let b₃ : getD corners (2 * (length corners / 3) + i) 0 < 65536 = omega (arith, q, z) in
-    let g : m + 2 < 65536 = omega (arith, f) in
-    (record { first = a₁; second = a₂; small = (b₁, b₂); few = g }, record { first = a₁; second = a₃; small = (b₁, b₃); few = g })
+module _ {b0 b1 : Point} (t n : ℕ) (points : List Float) (corners : List ℕ) (offsets : List Float) (i m : ℕ) (T : TriangleRoom b0 b1 t n points corners offsets) (h : i < t) where
+  pub offsets-of-row : OffsetAt b0 b1 points offsets (getD corners i 0) × OffsetAt b0 b1 points offsets (getD corners (length corners / 3 + i) 0) × OffsetAt b0 b1 points offsets (getD corners (2 * (length corners / 3) + i) 0)
+  offsets-of-row = let b = row-below (T .particles) t corners i (T .corners-in) h in (T .offsets-are .at _ (b .first), T .offsets-are .at _ (b .second), T .offsets-are .at _ (b .third))
 
-pub room-of-strap : (e n lp : ℕ) (ends : List ℕ) (i m : ℕ) → StrapRoom e n lp ends → i < e → m ≤ n + i → PairRoom (getD ends i 0) (getD ends (length ends / 4 + i) 0) m lp
-unfolding cell
-room-of-strap e n lp ends i m T h u =
-    let q = T .places in
-    let f = T .few in
-    let x = subst (λ (w : ℕ). w < T .particles) (col-0 0 (length ends / 4) ends i) (T .ends-in .first i h) in
-    let y = subst (λ (w : ℕ). w < T .particles) (col-1 0 (length ends / 4) ends i) (T .ends-in .second i h) in
-    let a₁ : getD ends i 0 < lp / pointColumns = omega (arith, q, x) in
-    let a₂ : getD ends (length ends / 4 + i) 0 < lp / pointColumns = omega (arith, q, y) in
-    let b₁ : getD ends i 0 < 65536 = omega (arith, q, x) in
-    let b₂ : getD ends (length ends / 4 + i) 0 < 65536 = omega (arith, q, y) in
-    let g : m < 65536 = omega (arith, f) in
-    record { first = a₁; second = a₂; small = (b₁, b₂); few = g }
+  pub rooms-of-row : m ≤ n + 3 * i
+      → PairRoom (getD corners i 0) (getD corners (length corners / 3 + i) 0) (m + 2) (length points) × PairRoom (getD corners i 0) (getD corners (2 * (length corners / 3) + i) 0) (m + 2) (length points)
+  rooms-of-row u =
+      let b = row-below (T .particles) t corners i (T .corners-in) h in
+      let q = T .places in
+      let f = T .few in
+      let x = b .first in
+      let y = b .second in
+      let z = b .third in
+      let a₁ : getD corners i 0 < length points / pointColumns = omega (arith, q, x) in
+      let a₂ : getD corners (length corners / 3 + i) 0 < length points / pointColumns = omega (arith, q, y) in
+      let a₃ : getD corners (2 * (length corners / 3) + i) 0 < length points / pointColumns = omega (arith, q, z) in
+      let b₁ : getD corners i 0 < 65536 = omega (arith, q, x) in
+      let b₂ : getD corners (length corners / 3 + i) 0 < 65536 = omega (arith, q, y) in
+      let b₃ : getD corners (2 * (length corners / 3) + i) 0 < 65536 = omega (arith, q, z) in
+      let g : m + 2 < 65536 = omega (arith, f) in
+      (record { first = a₁; second = a₂; small = (b₁, b₂); few = g }, record { first = a₁; second = a₃; small = (b₁, b₃); few = g })
+
+module _ {b0 b1 : Point} (e n : ℕ) (points : List Float) (ends : List ℕ) (offsets : List Float) (i m : ℕ) (T : StrapRoom b0 b1 e n points ends offsets) (h : i < e) where
+  end-first : getD ends i 0 < T .particles
+  unfolding cell
+  end-first = subst (λ (w : ℕ). w < T .particles) (col-0 0 (length ends / 4) ends i) (T .ends-in .first i h)
+
+  end-second : getD ends (length ends / 4 + i) 0 < T .particles
+  unfolding cell
+  end-second = subst (λ (w : ℕ). w < T .particles) (col-1 0 (length ends / 4) ends i) (T .ends-in .second i h)
+
+  pub room-of-strap : m ≤ n + i
+      → PairRoom (getD ends i 0) (getD ends (length ends / 4 + i) 0) m (length points) × OffsetAt b0 b1 points offsets (getD ends i 0) × OffsetAt b0 b1 points offsets (getD ends (length ends / 4 + i) 0)
+  room-of-strap u =
+      let q = T .places in
+      let f = T .few in
+      let x = end-first in
+      let y = end-second in
+      let a₁ : getD ends i 0 < length points / pointColumns = omega (arith, q, x) in
+      let a₂ : getD ends (length ends / 4 + i) 0 < length points / pointColumns = omega (arith, q, y) in
+      let b₁ : getD ends i 0 < 65536 = omega (arith, q, x) in
+      let b₂ : getD ends (length ends / 4 + i) 0 < 65536 = omega (arith, q, y) in
+      let g : m < 65536 = omega (arith, f) in
+      (record { first = a₁; second = a₂; small = (b₁, b₂); few = g }, T .offsets-are .at _ x, T .offsets-are .at _ y)
 
 -- ---- the marks of a block are the marks of its mesh
 
@@ -246,11 +295,6 @@ map-each : {A C D : Type 0} (h : C → D) (f : A → List C) (l : List A) → ma
 unfolding each
 map-each h f [] = refl
 map-each {A} {C} {D} h f (a ∷ l) = map-append h (f a) (each f l) ∙ ap (λ (r : List D). map h (f a) ++ r) (map-each h f l)
-
-each-ext : {A D : Type 0} (f g : A → List D) → ((a : A) → f a ≡ g a) → (l : List A) → each f l ≡ each g l
-unfolding each
-each-ext f g h [] = refl
-each-ext f g h (a ∷ l) = ap₂ {C = List _} _++_ (h a) (each-ext f g h l)
 
 straps-each : (g : List ℕ → List Words) (i : ℕ) (es : List Edge) → each (λ (x : Element). g (x .corners)) (strapsFrom i es) ≡ each (λ (x : Edge). pick (structural? x) (g (endsOf x)) []) es
 unfolding each strapsFrom
@@ -316,8 +360,8 @@ module _ (kind : KindCase) (B : Blade) (L : Rooms) (k : Counts) (points : List F
   placed : PlacesIn mesh (k .particles) points
   placed = places-at k points roots corners volumes ends lengths outline
 
-  pub triangle-room : TriangleRoom (k .triangles) (k .log) (length points) corners
-  triangle-room =
+  pub triangle-room : {b0 b1 : Point} (offsets : List Float) → OffsetsAre b0 b1 points offsets (k .particles) → TriangleRoom b0 b1 (k .triangles) (k .log) points corners offsets
+  triangle-room offsets O =
       let R = Y .rooms in
       let W = Y .counts in
       let a : k .triangles ≤ length corners / 3 = omega (arith, R .corners, W .triangles) in
@@ -325,10 +369,10 @@ module _ (kind : KindCase) (B : Blade) (L : Rooms) (k : Counts) (points : List F
       let c : k .particles ≤ length points / pointColumns = omega (arith, R .points, W .particles) in
       let d : k .triangles ≤ 1024 = omega (arith, R .few-triangles, W .triangles) in
       let e : k .log ≤ 4096 = omega (arith, R .few-log, W .log) in
-      record { columns = a; particles = k .particles; corners-in = corners-in k points roots corners volumes ends lengths outline (Y .indices); places = (b, c); few = (d, e) }
+      record { columns = a; particles = k .particles; corners-in = corners-in k points roots corners volumes ends lengths outline (Y .indices); places = (b, c); offsets-are = O; few = (d, e) }
 
-  pub strap-room : StrapRoom (k .edges) (k .log) (length points) ends
-  strap-room =
+  pub strap-room : {b0 b1 : Point} (offsets : List Float) → OffsetsAre b0 b1 points offsets (k .particles) → StrapRoom b0 b1 (k .edges) (k .log) points ends offsets
+  strap-room offsets O =
       let R = Y .rooms in
       let W = Y .counts in
       let a : k .edges ≤ length ends / 4 = omega (arith, R .ends, W .edges) in
@@ -336,7 +380,7 @@ module _ (kind : KindCase) (B : Blade) (L : Rooms) (k : Counts) (points : List F
       let c : k .particles ≤ length points / pointColumns = omega (arith, R .points, W .particles) in
       let d : k .edges ≤ 2048 = omega (arith, R .few-edges, W .edges) in
       let e : k .log ≤ 4096 = omega (arith, R .few-log, W .log) in
-      record { columns = a; particles = k .particles; ends-in = ends-in k points roots corners volumes ends lengths outline (Y .indices); places = (b, c); few = (d, e) }
+      record { columns = a; particles = k .particles; ends-in = ends-in k points roots corners volumes ends lengths outline (Y .indices); places = (b, c); offsets-are = O; few = (d, e) }
 
   pub of-triangles : (log′ : List ℕ) (n : ℕ) → kind ≡ TrianglesCase → Noted (triangleMarks B points (k .triangles) corners) (k .log) log log′ n → Marked log′ n
   unfolding meshAt

@@ -1,6 +1,6 @@
 -- The cut of triangles over the blocks: the marked are the candidates and the pinched, and one part of the cut comes behind the other. Assumes nothing.
 use mathlib.Core.Path.{_≡_, refl, sym, _∙_, ap, subst}
-use mathlib.Core.Bool.{Bool, true, false, not, false≢true, true≢false}
+use mathlib.Core.Bool.{Bool, true, false, not}
 use mathlib.Core.List.{List, map}
 use Prim.Native.Nat.{ℕ, _/_, _<_, _≤_}
 use native.Mathlib.Omega.{arith}
@@ -25,13 +25,14 @@ use Rattle.work.specs.Working.{Within, Ready, Works, Logged}
 use Rattle.work.specs.declared.Ran.{Ran}
 use Rattle.work.specs.declared.Ran.the-variants.{Refused, Done}
 use Rattle.work.proofs.Placed.{particles-count, corners-in}
-use Rattle.work.proofs.Runs.{works-stay, works-then, works-refused, works-known}
+use Rattle.work.proofs.Runs.{works-stay, works-then, works-refused, works-known, works-as}
 use Rattle.cut.specs.declared.facets.Parting.the-variants.{Free, Blade as BladeFrom}
 use Rattle.marks.specs.declared.Rule.{Rule}
 use Rattle.marks.specs.Marking.{bladeBy, candidateEnds, CandidateRoom, CandidatesMarked, NearMarked, pinchedEnds, PinchedRoom, PinchedMarked}
 use Rattle.cut.specs.Running.{sidesIn, splitIn, Chosen}
-use Rattle.cut.proofs.RunLaws.{chosen-rising, works-when, splitTo}
+use Rattle.cut.proofs.RunLaws.{chosen-rising, splitTo}
 use Rattle.marks.proofs.MarkLaws.{places-at}
+use Rattle.lists.proofs.Truths.{of-not, of-not-false}
 
 -- ---- the marked
 
@@ -108,7 +109,7 @@ module _ (k : Counts) (points : List Float) (roots corners : List ℕ) (volumes 
   unfolding worldAt meshAt splitPinched pinched pinchedEnds
   pinched-works near marks hn hm N P F =
       let f = few in
-      works-when
+      works-as
       (λ R e.
       ap (fold (splitIn Free Triangles) R)
       (chosen-rising marks (pinchedEnds R) (k .particles) (P .marked R volumes (sym (ap (λ (x : World). x .mesh .triangles) e)) (corners-wide (k .particles) (length near) (k .triangles) corners (omega arith) named) (N .marked R (ap (λ (x : World). x .log) e))) (omega arith)
@@ -122,7 +123,7 @@ module _ (k : Counts) (points : List Float) (roots corners : List ℕ) (volumes 
   candidates-work rule b0 b1 marks hm C F =
       let f = few in
       let M : Mesh = meshAt k points roots corners volumes ends lengths outline in
-      works-when
+      works-as
       (λ R e.
       ap (fold (splitIn (BladeFrom rule b0 b1) Triangles) R)
       (chosen-rising marks (candidateEnds (bladeBy rule b0 b1) M) (k .particles) (C .marked M (k .particles) volumes (places-at k points roots corners volumes ends lengths outline) named (triangles-at)) (omega arith)
@@ -145,25 +146,17 @@ pub facets-refused : {L : Rooms} {W : World} {at : Counts → World} (B : Blade)
 unfolding cutFacets
 facets-refused {at = at} B r c e F = works-known (Refused c) r (sym e) (works-refused afterwards {at = at} (λ R. after-onward (splitCandidates B R)) (works-known r (Refused c) e F))
 
-not-true : (t : Bool) → true ≡ not t → t ≡ false
-not-true true e = absurd (true≢false e)
-not-true false e = refl
-
-not-false : (t : Bool) → false ≡ not t → t ≡ true
-not-false true e = refl
-not-false false e = absurd (false≢true e)
-
 module _ {L : Rooms} {W : World} {at : Counts → World} (B : Blade) (r : Ran) (k : Counts) (known : r ≡ Done k) (F : Works (splitCandidates B) L W at r) (t : Bool) (found : (S : Run) → at k .log ≡ map wordsOf (S .log) → t ≡ not (empty (splitsOf (S .log)))) where
   -- nothing split
   pub facets-unsplit : Within k L → t ≡ false → Works (cutFacets B) L W at (Done k)
   unfolding cutFacets
   facets-unsplit b e =
       works-then (works-known r (Done k) known F)
-      (works-when (λ S h. sym (ap (λ (s : Bool). pick s S (splitPinched Triangles S)) (not-false (empty (splitsOf (S .log))) (sym e ∙ found S (ap (λ (x : World). x .log) h))))) (works-stay {at = at} k b))
+      (works-as (λ S h. sym (ap (λ (s : Bool). pick s S (splitPinched Triangles S)) (of-not-false (empty (splitsOf (S .log))) (sym e ∙ found S (ap (λ (x : World). x .log) h))))) (works-stay {at = at} k b))
 
   -- the pinched are split behind it
   pub facets-split : {at′ : Counts → World} {r′ : Ran} → t ≡ true → Works (splitPinched Triangles) L (at k) at′ r′ → Works (cutFacets B) L W at′ r′
   unfolding cutFacets
   facets-split e G =
       works-then (works-known r (Done k) known F)
-      (works-when (λ S h. sym (ap (λ (s : Bool). pick s S (splitPinched Triangles S)) (not-true (empty (splitsOf (S .log))) (sym e ∙ found S (ap (λ (x : World). x .log) h))))) G)
+      (works-as (λ S h. sym (ap (λ (s : Bool). pick s S (splitPinched Triangles S)) (of-not (empty (splitsOf (S .log))) (sym e ∙ found S (ap (λ (x : World). x .log) h))))) G)

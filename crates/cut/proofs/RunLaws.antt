@@ -5,7 +5,6 @@ use mathlib.Core.List.{List, [], _∷_, _++_, map}
 use Prim.Native.Nat.{ℕ, _+_, _<_, _≤_}
 use native.Mathlib.Omega.{arith}
 use borrow.Author.Tests.{eq-eqb, ne-eqb}
-use lib.Dec.{eqb}
 use lib.ListN.{length, getD, take, drop, take-append-drop}
 use Rattle.lists.specs.Lists.{pick, stands, sift, fold, tab, upTo, rising}
 use Rattle.lists.proofs.Sifts.{pick-by, sift-append, fold-append, tab-take, upTo-length, upTo-at}
@@ -23,14 +22,15 @@ use Rattle.mesh.specs.Log.{World, worldOf, wordsOf}
 use Rattle.mesh.specs.Given.{Lent, asRooms}
 use Rattle.mesh.specs.declared.Counts.{Counts}
 use Rattle.mesh.specs.declared.Rooms.{Rooms}
-use Rattle.work.specs.Working.{Within, Roomed, Ready, Went, Works}
+use Rattle.work.specs.Working.{Within, Roomed, Ready, Works}
 use Rattle.work.specs.declared.Ran.{Ran}
 use Rattle.work.specs.declared.Ran.the-variants.{Refused, Done}
-use Rattle.work.proofs.Runs.{works-stay, works-then, works-refused}
+use Rattle.work.proofs.Runs.{works-stay, works-then, works-refused, works-as}
 use Rattle.elements.proofs.Measures.{sift-agree}
 use Rattle.cut.specs.declared.facets.Parting.{Parting}
 use Rattle.marks.specs.Marking.{Marks, marked?}
 use Rattle.cut.specs.Running.{sidesIn, splitIn, chosen}
+use Rattle.marks.proofs.MarkLaws.{mark-tells}
 
 -- ---- the particles that are chosen
 
@@ -49,11 +49,6 @@ chosen-more marks m p h =
     ap (λ (l : List ℕ). sift (marked? marks) l ++ sift (marked? marks) (drop m (tab p (λ k. k)))) (sym (tab-take m p (λ k. k) h))
     ∙ sym (sift-append (marked? marks) (take m (tab p (λ k. k))) (drop m (tab p (λ k. k))))
     ∙ ap (sift (marked? marks)) (take-append-drop m (tab p (λ k. k)))
-
--- where a list is marked, its numbers below p are chosen
-mark-tells : (s : Bool) (x : ℕ) → x ≡ pick s 1 0 → eqb x 1 ≡ s
-mark-tells true x e = eq-eqb x 1 e
-mark-tells false x e = ne-eqb x 1 (λ q. omega arith)
 
 pub chosen-rising : (marks listed : List ℕ) (p : ℕ) → Marks listed marks → p ≤ length marks → chosen p marks ≡ rising p listed
 unfolding chosen rising
@@ -92,14 +87,11 @@ module _ (w : Parting) (K : Kind) where
 
 -- ---- workers that do the same
 
-pub works-when : {f g : Run → Run} {L : Rooms} {W : World} {at : Counts → World} {r : Ran} → ((R : Run) → W ≡ worldOf (R .mesh) (R .log) → f R ≡ g R) → Works f L W at r → Works g L W at r
-works-when {L = L} {at = at} {r = r} s F = record { went = λ R e z. subst (λ (S : Run). Went L S at r) (s R e) (F .went R e z) }
-
 -- a worker that splits v by sides that are those of its fan
 pub one-works : (w : Parting) (K : Kind) (v : ℕ) (sides : List ℕ) (L : Rooms) (W : World) (at : Counts → World) (r : Ran) → sides ≡ sidesIn w K (W .mesh) v → Works (splitBySides K v sides) L W at r
     → Works (λ (R : Run). splitIn w K R v) L W at r
 unfolding splitIn
-one-works w K v sides L W at r s F = works-when (λ R e. ap (λ (l : List ℕ). splitBySides K v l R) (s ∙ ap (λ (x : World). sidesIn w K (x .mesh) v) e)) F
+one-works w K v sides L W at r s F = works-as (λ R e. ap (λ (l : List ℕ). splitBySides K v l R) (s ∙ ap (λ (x : World). sidesIn w K (x .mesh) v) e)) F
 
 -- ---- the run so far
 
@@ -110,7 +102,7 @@ module _ (w : Parting) (K : Kind) (L : Rooms) (marks : List ℕ) where
 
   pub run-none : {at : Counts → World} (k : Counts) → Within k L → Works (splitTo 0) L (at k) at (Done k)
   unfolding fold
-  run-none k b = works-when (λ R e. sym (ap (fold (splitIn w K) R) (chosen-none marks))) (works-stay k b)
+  run-none k b = works-as (λ R e. sym (ap (fold (splitIn w K) R) (chosen-none marks))) (works-stay k b)
 
   module _ {W : World} {at : Counts → World} {k : Counts} (v : ℕ) (F : Works (splitTo v) L W at (Done k)) where
     -- the next particle is split, if it is marked
@@ -126,17 +118,17 @@ module _ (w : Parting) (K : Kind) (L : Rooms) (marks : List ℕ) where
 
     -- one that is not marked is passed
     pub run-skip : (getD marks v 0 ≡ 1 → ⊥) → Works (splitTo (v + 1)) L W at (Done k)
-    run-skip n = works-when (λ R e. run-same R false (ne-eqb _ _ n)) F
+    run-skip n = works-as (λ R e. run-same R false (ne-eqb _ _ n)) F
 
     -- a marked one is split
     module _ (m : getD marks v 0 ≡ 1) where
       run-more : {at′ : Counts → World} {r : Ran} → Works (λ (R : Run). splitIn w K R v) L (at k) at′ r → Works (splitTo (v + 1)) L W at′ r
-      run-more G = works-when (λ R e. run-same R true (eq-eqb _ _ m)) (works-then F G)
+      run-more G = works-as (λ R e. run-same R true (eq-eqb _ _ m)) (works-then F G)
 
       run-stop : {at′ : Counts → World} {c : ℕ} (p : ℕ) → v < p → Works (λ (R : Run). splitIn w K R v) L (at k) at′ (Refused c) → Works (splitTo p) L W at′ (Refused c)
       run-stop {at′} {c} p h G =
           let rest : List ℕ = sift (marked? marks) (drop (v + 1) (upTo p)) in
-          works-when
+          works-as
           (λ R e. sym (fold-append (splitIn w K) R (chosen (v + 1) marks) rest) ∙ ap (fold (splitIn w K) R) (chosen-more marks (v + 1) p (omega arith)))
           (works-refused (λ (S : Run). fold (splitIn w K) S rest) {at = at′} (λ R. onward-fold (splitIn w K) (in-onward w K) (splitTo (v + 1) R) rest) (run-more G))
 

@@ -1,5 +1,5 @@
 -- Two sheets have no difference exactly when their meshes and their blades are equal; and then, and only then, the text is `0` and the end of a line. Assumes nothing.
-use Prim.Native.Nat.{ℕ, zero, suc, _+_, _^_, _<_}
+use Prim.Native.Nat.{ℕ, zero, suc, _<_}
 use mathlib.Core.Path.{_≡_, refl, sym, ap, ap₂, _∙_}
 use mathlib.Core.List.{List, [], _∷_, _++_, map, append-assoc}
 use native.Mathlib.Omega.{arith}
@@ -20,6 +20,7 @@ use Rattle.listing.proofs.Decimal.{decimal-zero}
 use Rattle.sheet.specs.Sheet.{Sheet, FitSheet, allBelow, fieldOf, coord, particleW, triangleW, edgeW, boundaryW}
 use Rattle.sheet.specs.Read.{floatOf, inverseOf, particleFrom, particlesFrom, triangleFrom, trianglesFrom, edgeFrom, edgesFrom, boundaryFrom, placeIn, meshOfSheet, bladeOfSheet}
 use Rattle.sheet.proofs.CoordLaws.{coord-whole, field-coord}
+use Rattle.sheet.proofs.Back.{row3, row2}
 use Rattle.differences.specs.Differences.{Difference, counts, place, blades, differences, lineOf, differenceText}
 use Rattle.differences.specs.declared.Part.the-variants.{Particles, Triangles, Edges, Boundary}
 use Rattle.differences.proofs.Places.{same-none, none-same}
@@ -48,28 +49,13 @@ flag-field zero (suc (suc n)) h g e = absurd (omega arith)
 flag-field (suc zero) (suc (suc n)) h g e = absurd (omega arith)
 
 -- rows of three fields, of two, of four
-pub three : (u v w : ℕ) (r : List ℕ) → Fit (u ∷ v ∷ w ∷ []) r → (getD r 0 0 ∷ getD r 1 0 ∷ getD r 2 0 ∷ [] ≡ r) × (getD r 0 0 < 2 ^ u) × (getD r 1 0 < 2 ^ v) × (getD r 2 0 < 2 ^ w)
-unfolding Fit
-three u v w [] f = absurd f
-three u v w (x ∷ []) f = absurd (f .1)
-three u v w (x ∷ y ∷ []) f = absurd (f .1 .1)
-three u v w (x ∷ y ∷ z ∷ []) f = (refl, f .0, f .1 .0, f .1 .1 .0)
-three u v w (x ∷ y ∷ z ∷ q ∷ r) f = absurd (f .1 .1 .1)
-
 three-is : (u v w : ℕ) (r s : List ℕ) → Fit (u ∷ v ∷ w ∷ []) r → Fit (u ∷ v ∷ w ∷ []) s → getD r 0 0 ≡ getD s 0 0 → getD r 1 0 ≡ getD s 1 0 → getD r 2 0 ≡ getD s 2 0 → r ≡ s
 three-is u v w r s f g a b c =
     let m : getD r 0 0 ∷ getD r 1 0 ∷ getD r 2 0 ∷ [] ≡ getD s 0 0 ∷ getD s 1 0 ∷ getD s 2 0 ∷ [] = λ i. a i ∷ b i ∷ c i ∷ [] in
-    sym (three u v w r f .0) ∙ (m ∙ three u v w s g .0)
-
-two : (u v : ℕ) (r : List ℕ) → Fit (u ∷ v ∷ []) r → getD r 0 0 ∷ getD r 1 0 ∷ [] ≡ r
-unfolding Fit
-two u v [] f = absurd f
-two u v (x ∷ []) f = absurd (f .1)
-two u v (x ∷ y ∷ []) f = refl
-two u v (x ∷ y ∷ z ∷ r) f = absurd (f .1 .1)
+    sym (row3 u v w r f .0) ∙ (m ∙ row3 u v w s g .0)
 
 two-is : (u v : ℕ) (r s : List ℕ) → Fit (u ∷ v ∷ []) r → Fit (u ∷ v ∷ []) s → getD r 0 0 ≡ getD s 0 0 → getD r 1 0 ≡ getD s 1 0 → r ≡ s
-two-is u v r s f g a b = let m : getD r 0 0 ∷ getD r 1 0 ∷ [] ≡ getD s 0 0 ∷ getD s 1 0 ∷ [] = λ i. a i ∷ b i ∷ [] in sym (two u v r f) ∙ (m ∙ two u v s g)
+two-is u v r s f g a b = let m : getD r 0 0 ∷ getD r 1 0 ∷ [] ≡ getD s 0 0 ∷ getD s 1 0 ∷ [] = λ i. a i ∷ b i ∷ [] in sym (row2 u v r f) ∙ (m ∙ row2 u v s g)
 
 -- ---- rows from what they are read as
 
@@ -100,8 +86,8 @@ unfolding particlesFrom particleFrom
 particles-tell a b f g e =
     rows-at particleW _ _
     (λ k r s p q h.
-    let u = three 11 11 1 r p in
-    let v = three 11 11 1 s q in
+    let u = row3 11 11 1 r p in
+    let v = row3 11 11 1 s q in
     three-is 11 11 1 r s p q (float-field (getD r 0 0) (getD s 0 0) (u .1) (v .1) (ap (λ (x : Particle). x .x) h)) (float-field (getD r 1 0) (getD s 1 0) (u .2) (v .2) (ap (λ (x : Particle). x .y) h))
     (flag-field (getD r 2 0) (getD s 2 0) (u .3) (v .3) (ap (λ (x : Particle). x .inv) h)))
     a b f g e

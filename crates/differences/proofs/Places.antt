@@ -12,7 +12,7 @@ use borrow.Author.Tests.{eq-eqb, ne-eqb, eqb-true}
 use lib.Dec.{eqb}
 use lib.ListN.{length}
 use Rattle.lists.specs.Lists.{pick, sift, each, tab, rest}
-use Rattle.lists.proofs.Sifts.{sift-append, and-true}
+use Rattle.lists.proofs.Sifts.{sift-append, and-true, each-ext}
 use Rattle.lists.proofs.Steps.{each-step}
 use Rattle.sheet.specs.Sheet.{Sheet}
 use Rattle.differences.specs.Differences.{Difference, counts, place, blades, listOf, sameRow, countDiffers, rowsDiffer, parts, differences}
@@ -61,14 +61,9 @@ rest-at : (a : List (List ℕ)) (j : ℕ) → readAt (rest a) j ≡ readAt a (su
 rest-at [] j = refl
 rest-at (r ∷ a) j = refl
 
-rest-long : (n : ℕ) (a : List (List ℕ)) → length a ≤ suc n → length (rest a) ≤ n
+pub rest-long : (n : ℕ) (a : List (List ℕ)) → length a ≤ suc n → length (rest a) ≤ n
 rest-long n [] h = omega arith
 rest-long n (r ∷ a) h = omega arith
-
-each-ext : {A B : Type 0} (f g : A → List B) → ((a : A) → f a ≡ g a) → (l : List A) → each f l ≡ each g l
-unfolding each
-each-ext f g h [] = refl
-each-ext f g h (a ∷ l) = ap₂ (λ x y. x ++ y) (h a) (each-ext f g h l)
 
 -- n places from place k on
 each-by : {B : Type 0} (n : ℕ) (g : ℕ → List B) (f h : ℕ → ℕ) → each g (tab n (λ j. f (h j))) ≡ each (λ j. g (f j)) (tab n h)

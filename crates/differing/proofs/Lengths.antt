@@ -1,8 +1,8 @@
 -- How long the text of differences is: within the program's limits there are at most 773 lines, of at most 60 bytes each, so that 65,536 bytes hold it. Assumes nothing.
-use Prim.Native.Nat.{ℕ, zero, suc, _+_, _-_, _*_, _/_, _%_, _≤_, _<_}
+use Prim.Native.Nat.{ℕ, zero, suc, _+_, _-_, _*_, _≤_, _<_}
 use native.Mathlib.Omega.{arith}
 use native.Mathlib.Decide.{decLe}
-use mathlib.Core.Path.{_≡_, refl, sym, ap, subst}
+use mathlib.Core.Path.{_≡_, sym, ap, subst}
 use mathlib.Core.Bool.{Bool, true, false}
 use mathlib.Core.List.{List, [], _∷_, _++_, map}
 use mathlib.Core.Option.{Option, none, some}
@@ -12,8 +12,8 @@ use lib.ListN.{length, getD, length-append}
 use Rattle.lists.specs.Lists.{pick, each, rest}
 use Rattle.lists.proofs.Sifts.{each-append}
 use Rattle.bits.specs.Rows.{Fit, FitAll}
-use Rattle.listing.specs.Listing.{digit, decimal, refusedBytes, line}
-use Rattle.listing.proofs.Decimal.{decimal-small, decimal-more}
+use Rattle.listing.specs.Listing.{decimal}
+use Rattle.listing.proofs.Lengths.{four-digits}
 use Rattle.sheet.specs.Sheet.{Sheet, particleW, triangleW, edgeW, boundaryW, bladeW}
 use Rattle.sheet.proofs.CoordLaws.{coord-low, coord-high}
 use Rattle.differences.specs.Differences.{Difference, counts, place, blades, listOf, sameRow, countDiffers, rowsDiffer, parts, differences, coordText, signed, textsOf, readingOf, apart, countWord, bladeWord, wordOf, pluralOf, lineOf, differenceText}
@@ -21,28 +21,10 @@ use Rattle.differences.specs.Work.{readAt, sameReading, placeDiffers}
 use Rattle.differing.specs.Work.{Within}
 use Rattle.differences.specs.declared.Part.{Part}
 use Rattle.differences.specs.declared.Part.the-variants.{Particles, Triangles, Edges, Boundary}
-use Rattle.differences.proofs.Places.{rows-step}
-use Rattle.differences.proofs.Meanings.{three}
+use Rattle.differences.proofs.Places.{rows-step, rest-long}
+use Rattle.sheet.proofs.Back.{row3}
 
 -- ---- numbers
-
--- ten times itself, k times more
-tens : ℕ → ℕ
-tens zero = 10
-tens (suc k) = 10 * tens k
-
-decimal-long : (k n : ℕ) → n < tens k → length (decimal n) ≤ suc k
-unfolding tens
-decimal-long zero n h = omega (arith, ap length (decimal-small n h))
-decimal-long (suc k) n h =
-    elim (decLe 10 n) [
-      | yes l ↦ omega (arith, ap length (decimal-more n l), length-append (decimal (n / 10)) (digit (n % 10) ∷ []), decimal-long k (n / 10) (omega arith))
-      | no l ↦ omega (arith, ap length (decimal-small n (omega arith)))
-    ]
-
-four-digits : (n : ℕ) → n < 10000 → length (decimal n) ≤ 4
-unfolding tens
-four-digits n h = let e : tens 3 ≡ 10000 = refl in decimal-long 3 n (omega arith)
 
 -- a sign and four digits
 coord-long : (n : ℕ) → n < 2048 → length (coordText n) ≤ 5
@@ -88,13 +70,13 @@ sides-long (x ∷ y ∷ []) f = omega (arith, two-long x y (omega (arith, f .0))
 sides-long (x ∷ y ∷ z ∷ r) f = absurd (f .1 .1)
 
 fields-long : (p : Part) (r : List ℕ) → Fit (widthsOf p) r → length (each apart (textsOf p r)) ≤ 17
-fields-long Particles r f = let w = three 11 11 1 r f in particle-long (getD r 0 0) (getD r 1 0) (getD r 2 0) (w .1) (w .2) (omega (arith, w .3))
+fields-long Particles r f = let w = row3 11 11 1 r f in particle-long (getD r 0 0) (getD r 1 0) (getD r 2 0) (w .1) (w .2) (omega (arith, w .3))
 fields-long Triangles r f =
-    let w = three 10 10 10 r f in
+    let w = row3 10 10 10 r f in
     let m = names-long (getD r 0 0) (getD r 1 0) (getD r 2 0) (omega (arith, w .1)) (omega (arith, w .2)) (omega (arith, w .3)) in
     omega (arith, subst (λ (s : List ℕ). length (each apart (map decimal s)) ≤ 15) (w .0) m)
 fields-long Edges r f =
-    let w = three 10 10 1 r f in
+    let w = row3 10 10 1 r f in
     let m = names-long (getD r 0 0) (getD r 1 0) (getD r 2 0) (omega (arith, w .1)) (omega (arith, w .2)) (omega (arith, w .3)) in
     omega (arith, subst (λ (s : List ℕ). length (each apart (map decimal s)) ≤ 15) (w .0) m)
 fields-long Boundary r f = sides-long r f
@@ -194,10 +176,6 @@ unfolding FitAll
 first-fit p [] f = tt
 first-fit p (r ∷ a) f = f .0
 
-rest-short : (n : ℕ) (a : List (List ℕ)) → length a ≤ suc n → length (rest a) ≤ n
-rest-short n [] h = omega arith
-rest-short n (r ∷ a) h = omega arith
-
 none-rows : (p : Part) (k : ℕ) (a b : List (List ℕ)) → length a ≤ 0 → length b ≤ 0 → Few 0 (rowsDiffer p k a b)
 unfolding rowsDiffer
 none-rows p k [] [] h g = few-none 0
@@ -211,7 +189,7 @@ few-rows (suc n) p k a b q h g u v =
     let r = readAt a 0 in
     let s = readAt b 0 in
     let one : Few 1 (placeDiffers p k r s) = few-pick (sameReading r s) (place p k r s) (place-long p k r s (omega arith) (first-fit p a u) (first-fit p b v)) in
-    let more = few-rows n p (suc k) (rest a) (rest b) (omega arith) (rest-short n a h) (rest-short n b g) (rest-fit (widthsOf p) a u) (rest-fit (widthsOf p) b v) in
+    let more = few-rows n p (suc k) (rest a) (rest b) (omega arith) (rest-long n a h) (rest-long n b g) (rest-fit (widthsOf p) a u) (rest-fit (widthsOf p) b v) in
     let e : 1 + n ≡ suc n = omega arith in
     subst (λ (m : ℕ). Few m (rowsDiffer p k a b)) e (subst (Few (1 + n)) (sym (rows-step p k a b)) (few-both 1 n (placeDiffers p k r s) (rowsDiffer p (suc k) (rest a) (rest b)) one more))
 
@@ -251,11 +229,3 @@ module _ (a b : Sheet) (A : Within a) (B : Within b) where
       let f = few-all in
       let ds = differences a b in
       omega (arith, f .lines, f .bytes, length-append (each lineOf ds ++ decimal (length ds)) (10 ∷ []), length-append (each lineOf ds) (decimal (length ds)), four-digits (length ds) (omega (arith, f .lines)))
-
--- the line of a refusal, whose number has 64 bits
-pub refused-few : (n : ℕ) → n < 18446744073709551616 → length (refusedBytes n) ≤ 65536
-unfolding refusedBytes line each tens
-refused-few n h =
-    let t : tens 19 ≡ 100000000000000000000 = refl in
-    let w : length (decimal n) ≤ 20 = decimal-long 19 n (omega arith) in
-    omega (arith, length-append (decimal n) [], length-append (decimal n ++ []) (10 ∷ []))

@@ -1,127 +1,38 @@
 -- The longest sheet that the program takes has 2,172 bytes, in either edition: whatever follows the first 2,173 bytes of either file, what is printed is the same. Assumes nothing.
-use Prim.Native.Nat.{ℕ, _+_, _-_, _≤_}
+use Prim.Native.Nat.{ℕ, _≤_}
 use native.Mathlib.Omega.{arith}
 use native.Mathlib.Decide.{decLe}
-use mathlib.Core.Path.{_≡_, refl, sym, ap, ap₂, _∙_}
-use mathlib.Core.Bool.{Bool, true, false, cond, _||_}
-use mathlib.Core.List.{List, [], _∷_, _++_, append-assoc}
-use lib.Dec.{eqb, ltb}
-use lib.ListN.{length, take, drop, replicate, length-append, length-drop, length-replicate, take-append-drop}
-use lib.Seq.{take-append-le, drop-append-le, length-take-le, take-all}
-use borrow.Author.Tests.{le-ltb, ne-eqb, ltb-false}
+use mathlib.Core.Path.{_≡_, refl, sym, ap, _∙_}
+use mathlib.Core.Bool.{Bool, true, false, _||_}
+use mathlib.Core.List.{List, _++_}
+use lib.ListN.{length, take, drop, length-append, take-append-drop}
+use lib.Seq.{length-take-le, take-all}
 use Rattle.lists.specs.Lists.{pick}
-use Rattle.bits.specs.Bits.{bits, bitsOf, num, fieldAt}
-use Rattle.bits.proofs.Laws.{length-bitsOf}
-use Rattle.sheet.specs.Sheet.{sheetWith, above, tooMany, countsAt, namesOK}
+use Rattle.bits.specs.Bits.{bitsOf}
+use Rattle.sheet.specs.Sheet.{above, limits, tooMany, countsAt}
 use Rattle.sheet.specs.declared.Counts.{Counts}
-use Rattle.sheet.specs.declared.Seen.{Seen as Typed}
-use Rattle.sheet.specs.declared.Seen.the-variants.{Whole as TypedWhole, Refused as TypedRefused}
-use Rattle.sheet.proofs.PutLaws.{neither}
-use Rattle.edition.specs.Edition.{second, asFirst, bitsIn, bytesIn, spareIn, typedWith, typedSeen, seenIn, seenOf}
+use Rattle.edition.specs.Edition.{bitsIn, seenIn, seenOf}
 use Rattle.edition.specs.declared.Seen.{Seen}
 use Rattle.edition.specs.declared.Seen.the-variants.{Whole, Refused}
-use Rattle.differing.specs.Differed.{limits, differedSeen, differed}
+use Rattle.edition.proofs.Joins.{counts-join}
+use Rattle.edition.proofs.Limited.{typed-long, too-long}
+use Rattle.differing.specs.Differed.{differedSeen, differed}
 
--- ---- bytes behind others
-
-bits-join : (a b : List ℕ) → bitsOf (a ++ b) ≡ bitsOf a ++ bitsOf b
-unfolding bitsOf
-bits-join [] b = refl
-bits-join (x ∷ a) b = ap (λ (l : List ℕ). bits 8 x ++ l) (bits-join a b) ∙ sym (append-assoc (bits 8 x) (bitsOf a) (bitsOf b))
-
--- a field of the first bits
-field-join : (A B : List ℕ) (at w : ℕ) → at + w ≤ length A → fieldAt (A ++ B) at w ≡ fieldAt A at w
-field-join A B at w h =
-    ap (λ (l : List ℕ). num (take w l)) (drop-append-le at A B (omega arith)) ∙ ap num (take-append-le w (drop at A) B (omega (arith, length-drop at A)))
-
--- the bits as the first edition has them
-first-join : (A B : List ℕ) → 45 ≤ length A → asFirst (A ++ B) ≡ asFirst A ++ B
-unfolding asFirst
-first-join A B h =
-    let z = replicate {A = ℕ} 12 0 in
-    let d : drop 11 (A ++ B) ≡ drop 11 A ++ B = drop-append-le 11 A B (omega arith) in
-    let t : take 34 (drop 11 (A ++ B)) ≡ take 34 (drop 11 A) = ap (take 34) d ∙ take-append-le 34 (drop 11 A) B (omega (arith, length-drop 11 A)) in
-    let u : drop 45 (A ++ B) ≡ drop 45 A ++ B = drop-append-le 45 A B h in
-    let m : take 34 (drop 11 A) ++ (z ++ (drop 45 A ++ B)) ≡ take 34 (drop 11 A) ++ (z ++ drop 45 A) ++ B = simp append-assoc in
-    ap₂ (λ (x y : List ℕ). x ++ (z ++ y)) t u ∙ m
-
-in-join : (A B : List ℕ) → 45 ≤ length A → bitsIn (A ++ B) ≡ bitsIn A ++ B
-unfolding bitsIn
-in-join A B h =
-    let e : second (A ++ B) ≡ second A = ap (λ (n : ℕ). eqb n 2047) (field-join A B 0 11 (omega arith)) in
-    rw e (by (second A))
-  where
-    by : (t : Bool) → pick t (asFirst (A ++ B)) (A ++ B) ≡ pick t (asFirst A) A ++ B
-    by true = first-join A B h
-    by false = refl
-
-in-long : (A : List ℕ) → 46 ≤ length A → 46 ≤ length (bitsIn A)
-unfolding bitsIn asFirst
-in-long A h = by (second A)
-  where
-    by : (t : Bool) → 46 ≤ length (pick t (take 34 (drop 11 A) ++ (replicate 12 0 ++ drop 45 A)) A)
-    by true =
-        let z = replicate {A = ℕ} 12 0 in
-        omega (arith, length-append (take 34 (drop 11 A)) (z ++ drop 45 A), length-append z (drop 45 A), length-replicate {A = ℕ} 12 0, length-drop 45 A, length-take-le 34 (drop 11 A) (omega (arith, length-drop 11 A)))
-    by false = h
+-- ---- bytes that are too many
 
 abbrev countsIn : List ℕ → Counts
 countsIn s = countsAt (bitsIn (bitsOf s))
 
-counts-join : (a b : List ℕ) → 6 ≤ length a → countsIn (a ++ b) ≡ countsIn a
-counts-join a b h =
-    let n = length-bitsOf a in
-    let X = bitsIn (bitsOf a) in
-    let e : bitsIn (bitsOf (a ++ b)) ≡ X ++ bitsOf b = ap bitsIn (bits-join a b) ∙ in-join (bitsOf a) (bitsOf b) (omega arith) in
-    let w = in-long (bitsOf a) (omega arith) in
-    let p = field-join X (bitsOf b) 0 11 (omega arith) in
-    let t = field-join X (bitsOf b) 11 11 (omega arith) in
-    let g = field-join X (bitsOf b) 22 12 (omega arith) in
-    let o = field-join X (bitsOf b) 34 12 (omega arith) in
-    ap countsAt e ∙ (λ i. record { particles = p i; triangles = t i; edges = g i; boundary = o i })
-
--- ---- bytes that are too many
-
-pub not-above : (c : Counts) → above limits c ≡ false → (c .particles ≤ 128) × (c .triangles ≤ 128) × (c .edges ≤ 256) × (c .boundary ≤ 256)
-unfolding above
-not-above c e =
-    let a = neither (ltb 128 (c .particles)) (ltb 128 (c .triangles) || (ltb 256 (c .edges) || ltb 256 (c .boundary))) e in
-    let b = neither (ltb 128 (c .triangles)) (ltb 256 (c .edges) || ltb 256 (c .boundary)) (a .1) in
-    let d = neither (ltb 256 (c .edges)) (ltb 256 (c .boundary)) (b .1) in
-    (ltb-false _ _ (a .0), ltb-false _ _ (b .0), ltb-false _ _ (d .0), ltb-false _ _ (d .1))
-
--- the longest sheet
-pub few-bytes : (u : Bool) (c : Counts) → above limits c ≡ false → bytesIn u c ≤ 2172
-few-bytes true c e = omega (arith, not-above c e)
-few-bytes false c e = omega (arith, not-above c e)
-
 -- what too many bytes are answered, by their counts
 abbrev verdict : Bool → Seen
-verdict t = cond t (Refused 1) (Refused 9)
+verdict t = Refused (pick t 1 9)
 
 abbrev over : Counts → Bool
 over c = tooMany c || above limits c
 
-without : (t u : Bool) (x : Typed) → (t ≡ false → u ≡ false) → cond t (TypedRefused 1) (cond u x (TypedRefused 9)) ≡ cond t (TypedRefused 1) (TypedRefused 9)
-without true u x h = refl
-without false u x h = ap (λ (b : Bool). cond b x (TypedRefused 9)) (h refl)
-
-typed-long : (s : List ℕ) → 2173 ≤ length s → typedSeen limits s ≡ cond (over (countsIn s)) (TypedRefused 1) (TypedRefused 9)
-unfolding typedSeen typedWith
-typed-long s h =
-    let c = countsIn s in
-    let u = second (bitsOf s) in
-    rw (le-ltb (length s) 6 (omega arith))
-    (without (over c) (eqb (length s) (bytesIn u c)) (cond (eqb (spareIn c s) 0) (cond (namesOK (sheetWith c (bitsIn (bitsOf s)))) (TypedWhole c) (TypedRefused 3)) (TypedRefused 9))
-    (λ e. ne-eqb (length s) (bytesIn u c) (λ q. omega (arith, q, few-bytes u c (neither (tooMany c) (above limits c) e .1)))))
-
-seen-by : (t : Bool) (s : List ℕ) → seenIn limits s (cond t (TypedRefused 1) (TypedRefused 9)) ≡ verdict t
-unfolding seenIn
-seen-by true s = refl
-seen-by false s = refl
-
 seen-long : (s : List ℕ) → 2173 ≤ length s → seenOf limits s ≡ verdict (over (countsIn s))
-seen-long s h = ap (seenIn limits s) (typed-long s h) ∙ seen-by (over (countsIn s)) s
+unfolding seenIn
+seen-long s h = ap (seenIn limits s) (typed-long s (omega arith) (too-long s h))
 
 -- bytes behind 2,173 change nothing in what a sheet is answered
 seen-join : (a b : List ℕ) → 2173 ≤ length a → seenOf limits (a ++ b) ≡ seenOf limits a

@@ -1,34 +1,33 @@
 -- Laws of two whole sheets: where their lists stand, what the workers ask for them, and that the pieces are all of their differences. Assumes nothing.
-use Prim.Native.Nat.{ℕ, _+_, _-_, _*_, _<_, _≤_}
+use Prim.Native.Nat.{ℕ, _+_, _*_, _<_, _≤_}
 use native.Mathlib.Omega.{arith}
 use mathlib.Core.Path.{_≡_, refl, sym, ap, ap₂, _∙_, subst}
-use mathlib.Core.Bool.{Bool, true, false, cond, _||_}
+use mathlib.Core.Bool.{Bool}
 use mathlib.Core.List.{List, [], _∷_, _++_, append-assoc, append-nil}
-use lib.Dec.{eqb, ltb}
+use lib.Dec.{eqb}
 use lib.ListN.{length, drop, length-append}
-use lib.Seq.{drop-drop}
 use Rattle.lists.specs.Lists.{pick, each}
-use Rattle.bits.specs.Bits.{bitsOf, fieldAt}
+use Rattle.bits.specs.Bits.{bitsOf}
 use Rattle.bits.specs.Rows.{unpack, readRows}
 use Rattle.bits.proofs.RowLaws.{length-read}
 use Rattle.outline.specs.Rows.{sidesAt}
-use Rattle.sheet.specs.Sheet.{Sheet, countsAt, countsOf, sheetWith, tooMany, above, namesOK, particleW, triangleW, edgeW, bladeW, atTriangles, atEdges, atBlade}
+use Rattle.sheet.specs.Sheet.{Sheet, limits, countsAt, countsOf, sheetWith, particleW, triangleW, edgeW, bladeW, atTriangles, atEdges, atBlade}
 use Rattle.sheet.specs.Work.{RowsIn}
 use Rattle.sheet.specs.declared.Counts.{Counts}
-use Rattle.sheet.specs.declared.Seen.the-variants.{Whole as TypedWhole, Refused as TypedRefused}
-use Rattle.sheet.proofs.PutLaws.{neither}
-use Rattle.edition.specs.Edition.{second, bitsIn, bytesIn, spareIn, typedWith, typedSeen, typedOf, sheetOf, seenOf}
+use Rattle.edition.specs.Edition.{second, bitsIn, typedOf, sheetOf, seenOf}
 use Rattle.edition.specs.Work.{BladeAt, startOf}
 use Rattle.edition.specs.declared.Seen.{Seen}
 use Rattle.edition.specs.declared.Seen.the-variants.{Whole, Refused}
-use Rattle.edition.proofs.Starts.{starts-at, header-bits, reach, start-most}
+use Rattle.edition.proofs.Starts.{starts-at, header-bits, reach, start-most, typed-within}
+use Rattle.edition.proofs.Limited.{not-above}
 use Rattle.listing.specs.Listing.{decimal, refusedBytes}
-use Rattle.listing.specs.Answers.{Wrote}
+use Rattle.listing.specs.Answers.{Wrote, Told}
 use Rattle.listing.specs.Work.{Appends, Finishes}
 use Rattle.listing.specs.declared.Written.{Written}
 use Rattle.listing.proofs.Appending.{appends-then, appends-as, wrote}
+use Rattle.listing.proofs.Lengths.{refused-few}
 use Rattle.differences.specs.Differences.{Difference, counts, blades, sameRow, countDiffers, rowsDiffer, differences, lineOf, differenceText}
-use Rattle.differing.specs.Differed.{limits, readSheet, differedSeen, differed, Told}
+use Rattle.differing.specs.Differed.{readSheet, differedSeen, differed}
 use Rattle.differences.specs.Work.{Lists, fourOf}
 use Rattle.row_differences.specs.Work.{ListAsked, SidesAsked}
 use Rattle.differing.specs.Work.{start, oneCount, countLines, listLines, restLines, BladeRead, Within, FirstIn, seconded, secondText}
@@ -37,32 +36,15 @@ use Rattle.differences.specs.declared.Part.the-variants.{Particles, Triangles, 
 use Rattle.differences.specs.declared.lines.Lines.{Lines}
 use Rattle.differences.specs.declared.lines.Four.{Four}
 use Rattle.differing.proofs.Fitting.{told, typed, read-fits, read-counts}
-use Rattle.differing.proofs.Lengths.{text-few, refused-few}
-use Rattle.differing.proofs.Longest.{not-above}
+use Rattle.differing.proofs.Lengths.{text-few}
 use Rattle.row_differences.proofs.Walking.{rows-few, pick-few}
 
 -- ---- a whole sheet
 
-never : (n : ℕ) (c : Counts) → TypedRefused n ≡ TypedWhole c → ⊥
-never n c e = let z : _≡_ {A = ℕ} 0 1 = cc in omega arith
-
-not-refused : (a b x y z : Bool) (d c : Counts)
-    → cond a (TypedRefused 9) (cond b (TypedRefused 1) (cond x (cond y (cond z (TypedWhole d) (TypedRefused 3)) (TypedRefused 9)) (TypedRefused 9))) ≡ TypedWhole c → b ≡ false
-not-refused true b x y z d c e = absurd (never 9 c e)
-not-refused false true x y z d c e = absurd (never 1 c e)
-not-refused false false x y z d c e = refl
-
-not-over : (lim : Counts) (s : List ℕ) (c : Counts) (f : Bool) → seenOf lim s ≡ Whole c f → above lim (countsAt (bitsIn (bitsOf s))) ≡ false
-unfolding typedSeen typedWith
-not-over lim s c f e =
-    let d = countsAt (bitsIn (bitsOf s)) in
-    neither (tooMany d) (above lim d)
-    (not-refused (ltb (length s) 6) (tooMany d || above lim d) (eqb (length s) (bytesIn (second (bitsOf s)) d)) (eqb (spareIn d s) 0) (namesOK (sheetWith d (bitsIn (bitsOf s)))) d d (told lim s c f e .typed)) .1
-
 pub first-in : (s : List ℕ) (c : Counts) (f : Bool) (o : List ℕ) → seenOf limits s ≡ Whole c f → sidesAt (c .boundary) o ≡ sheetOf (bitsOf s) .sheet .boundary → length o ≡ 6144 → FirstIn s c o
 first-in s c f o e q b =
     let d = countsAt (bitsIn (bitsOf s)) in
-    let n = not-above d (not-over limits s c f e) in
+    let n = not-above d (typed-within limits s d (told limits s c f e .typed)) in
     let k : countsOf (readSheet s) ≡ c = read-counts limits s c f e in
     let m : c ≡ record { particles = d .particles; triangles = d .triangles; edges = d .edges; boundary = length (readSheet s .boundary) } = told limits s c f e .counts in
     let p : length (readSheet s .particles) ≡ d .particles = ap (λ (x : Counts). x .particles) (k ∙ m) in
@@ -71,7 +53,7 @@ first-in s c f o e q b =
     record {
       typed = typed limits s c f e;
       counts = k;
-      within = record { fits = read-fits limits s c f e; particles = omega arith; triangles = omega arith; edges = omega arith; boundary = told limits s c f e .within };
+      within = record { fits = read-fits limits s c f e; particles = omega (arith, n .particles); triangles = omega (arith, n .triangles); edges = omega (arith, n .edges); boundary = told limits s c f e .within };
       sides = q;
       block = b;
     }
@@ -146,14 +128,6 @@ module _ (s : List ℕ) (c : Counts) (o : List ℕ) (F : FirstIn s c o) where
       let k = d .particles * 23 + d .triangles * 30 + d .edges * 21 + d .boundary * 20 in
       let x = starts-at l (header-bits s (F .typed .six)) (atBlade d) at k (omega arith) (omega (arith, B .is)) in
       R .is ∙ ap (unpack bladeW) x
-
--- the fields of a blade, one behind the other
-pub blade-row : (l : List ℕ) (at : ℕ) → fieldAt l at 11 ∷ fieldAt l (at + 11) 11 ∷ fieldAt l (at + 22) 11 ∷ fieldAt l (at + 33) 11 ∷ [] ≡ unpack bladeW (drop at l)
-unfolding unpack
-blade-row l at =
-    let f : at + 11 + 11 ≡ at + 22 = omega arith in
-    let g : at + 22 + 11 ≡ at + 33 = omega arith in
-    rw (drop-drop 11 at l, drop-drop 11 (at + 11) l, f, drop-drop 11 (at + 22) l, g)
 
 -- ---- what is asked
 

@@ -1,5 +1,5 @@
 -- What the workers ask and promise. Only the contracts between workers, and theorems, need this file. Definitions only.
-use Prim.Native.Nat.{ℕ, _+_, _≤_}
+use Prim.Native.Nat.{ℕ, _≤_}
 use mathlib.Core.Path.{_≡_}
 use lib.Dec.{eqb}
 use mathlib.Core.List.{List, [], _∷_, _++_}
@@ -8,7 +8,7 @@ use Rattle.lists.specs.Lists.{pick}
 use Rattle.bits.specs.Bits.{bitsOf}
 use Rattle.bits.specs.Rows.{unpack}
 use Rattle.outline.specs.Rows.{sidesAt}
-use Rattle.sheet.specs.Sheet.{Sheet, FitSheet, countsAt, countsOf, bladeW}
+use Rattle.sheet.specs.Sheet.{Sheet, FitSheet, limits, countsAt, countsOf, bladeW}
 use Rattle.sheet.specs.declared.Counts.{Counts}
 use Rattle.edition.specs.Edition.{bitsIn, seenOf}
 use Rattle.edition.specs.Work.{TypedIn}
@@ -17,7 +17,7 @@ use Rattle.edition.specs.declared.Seen.the-variants.{Whole, Refused}
 use Rattle.listing.specs.Listing.{refusedBytes}
 use Rattle.listing.specs.declared.Written.the-variants.{Bytes}
 use Rattle.differences.specs.Differences.{Difference, counts, blades, sameRow, rowsDiffer, differences, differenceText}
-use Rattle.differing.specs.Differed.{limits, readSheet}
+use Rattle.differing.specs.Differed.{readSheet}
 use Rattle.differences.specs.declared.Part.{Part}
 use Rattle.differences.specs.declared.Part.the-variants.{Particles, Triangles, Edges, Boundary}
 use Rattle.differences.specs.declared.lines.Lines.{Lines}

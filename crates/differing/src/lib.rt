@@ -1,9 +1,9 @@
 // The differences of two sheets, place by place, as text.
 ghost use lib.ListN.{length};
 ghost use Rattle.edition.specs.declared.Seen.the-variants.{Whole};
-ghost use Rattle.listing.specs.Answers.{Wrote};
+ghost use Rattle.listing.specs.Answers.{Wrote, Told};
 ghost use Rattle.differences.specs.Differences.{differences, differenceText};
-ghost use Rattle.differing.specs.Differed.{readSheet, differed, Told};
+ghost use Rattle.differing.specs.Differed.{readSheet, differed};
 ghost use Rattle.differing.specs.Work.{Going, secondText, FirstIn};
 use edition::Seen;
 use listing::Written;

@@ -10,18 +10,19 @@ use lib.ListN.{length, take, drop, replicate, length-append, length-drop, length
 use lib.Seq.{take-append-add, take-append-le, take-take, take-at, drop-at, take-add, drop-drop, length-take-le}
 use Rattle.bits.specs.Bits.{bits, bitsOf, num, fieldAt}
 use Rattle.bits.specs.Rows.{total, pack, readRows, writeRows}
-use Rattle.bits.proofs.Laws.{length-bits, num-bits, bits-num}
-use Rattle.bits.proofs.RowLaws.{AllBits, bits-take, bits-drop, length-pack, length-writeRows}
-use Rattle.sheet.specs.Sheet.{Sheet, headerOf, countsOf, countsAt, sheetWith, sheetBits, FitSheet, seenOf, seenWith, rowOK, namesOK, tooMany, above, atEdges, atBoundary, particleW, triangleW, edgeW, bladeW, endOf}
+use Rattle.bits.proofs.Laws.{length-bits, num-bits, bits-num, bits-zero}
+use Rattle.bits.proofs.RowLaws.{AllBits, bits-append, bits-zeros, bits-take, bits-drop, length-pack, length-writeRows}
+use Rattle.sheet.specs.Sheet.{Sheet, countsOf, countsAt, sheetWith, sheetBits, FitSheet, seenOf, seenWith, rowOK, namesOK, tooMany, above, atEdges, atBoundary, particleW, triangleW, edgeW, bladeW, endOf}
 use Rattle.edition.specs.Edition.{header2W, second, asFirst, bitsIn, sheet2Bits, bounded, endIn, typedSeen, typedWith, typedOf, sheetOf, outlineIn, replacedIn, ownOf}
 use Rattle.sheet.specs.Work.{rowAt, okAt}
 use Rattle.outline.specs.Outline.{sameSides}
 use Rattle.outline.proofs.Pairs.{settled-set}
 use Rattle.sheet.specs.declared.Counts.{Counts}
-use Rattle.sheet.proofs.Trip.{counts-read, read-of-write, write-of-read}
+use Rattle.sheet.proofs.Trip.{same-counts, counts-read, read-of-write, write-of-read}
 use Rattle.sheet.proofs.There.{num-zeros}
 use Rattle.sheet.proofs.SeenLaws.{names-at}
 use Rattle.sheet.specs.declared.Seen.the-variants.{Whole, Refused}
+use Rattle.lists.proofs.Truths.{and-end}
 
 -- the three counts, and all that stands behind them
 abbrev counts3 : Sheet → List ℕ
@@ -37,6 +38,11 @@ counts3-long s =
     let c = bits 12 (length (s .edges)) in
     omega (arith, length-append a (b ++ c), length-append b c, length-bits 11 (length (s .particles)), length-bits 11 (length (s .triangles)), length-bits 12 (length (s .edges)))
 
+-- the header, put in two parts
+pub header-parts : (p t e : ℕ) → pack (11 ∷ 11 ∷ 11 ∷ []) (2047 ∷ p ∷ t ∷ []) ++ bits 12 e ≡ pack header2W (2047 ∷ p ∷ t ∷ e ∷ [])
+unfolding pack
+header-parts p t e = simp (append-assoc, append-nil)
+
 -- a sheet's bits in either edition, in these parts
 parts2 : (s : Sheet) (rest : List ℕ) → sheet2Bits s ++ rest ≡ bits 11 2047 ++ (counts3 s ++ bodyOf s rest)
 unfolding sheet2Bits pack
@@ -45,10 +51,6 @@ parts2 s rest = simp (append-assoc, append-nil)
 parts1 : (s : Sheet) (rest : List ℕ) → sheetBits (bounded [] s) ++ rest ≡ counts3 s ++ (bits 12 0 ++ bodyOf s rest)
 unfolding sheetBits pack writeRows
 parts1 s rest = simp (append-assoc, append-nil)
-
-zeros : bits 12 0 ≡ replicate 12 0
-unfolding bits
-zeros = refl
 
 -- the second edition's bits, as the first has them, are those of the sheet without boundary entries
 pub as-first : (s : Sheet) (rest : List ℕ) → asFirst (sheet2Bits s ++ rest) ≡ sheetBits (bounded [] s) ++ rest
@@ -65,7 +67,7 @@ as-first s rest =
     let q : drop 11 l ≡ c ++ b = ap (drop 11) p ∙ drop-at a (c ++ b) 11 la in
     let t : take 34 (drop 11 l) ≡ c = ap (take 34) q ∙ take-at c b 34 lc in
     let u : drop 45 l ≡ b = ap (drop 45) (p ∙ sym (append-assoc a c b)) ∙ drop-at (a ++ c) b 45 lac in
-    ap₂ (λ (x y : List ℕ). x ++ (replicate 12 0 ++ y)) t u ∙ ap (λ (z : List ℕ). c ++ (z ++ b)) (sym zeros) ∙ sym (parts1 s rest)
+    ap₂ (λ (x y : List ℕ). x ++ (replicate 12 0 ++ y)) t u ∙ ap (λ (z : List ℕ). c ++ (z ++ b)) (sym (bits-zero 12)) ∙ sym (parts1 s rest)
 
 -- they begin with eleven ones
 pub is-second : (s : Sheet) (rest : List ℕ) → second (sheet2Bits s ++ rest) ≡ true
@@ -78,15 +80,6 @@ is-second s rest =
 pub bits-in : (s : Sheet) (rest : List ℕ) → bitsIn (sheet2Bits s ++ rest) ≡ sheetBits (bounded [] s) ++ rest
 unfolding bitsIn
 bits-in s rest = rw (is-second s rest) (as-first s rest)
-
--- counts are equal where their headers are
-same-counts : (c d : Counts) → headerOf c ≡ headerOf d → c ≡ d
-same-counts c d e =
-    let p : c .particles ≡ d .particles = cc in
-    let t : c .triangles ≡ d .triangles = cc in
-    let g : c .edges ≡ d .edges = cc in
-    let b : c .boundary ≡ d .boundary = cc in
-    λ i. record { particles = p i; triangles = t i; edges = g i; boundary = b i }
 
 -- what is written in the second edition is read: the lists and the blade as they were, the boundary the mesh's own outline, and not replaced
 pub second-read : (s : Sheet) (rest : List ℕ) → FitSheet (bounded [] s) → typedOf (sheet2Bits s ++ rest) ≡ bounded [] s
@@ -124,19 +117,9 @@ module _ (l : List ℕ) (h : AllBits l) (two : second l ≡ true) (room : 45 ≤
       let d : drop 34 (drop 11 l) ≡ D = drop-drop 34 11 l in
       sym (take-append-drop 11 l) ∙ ap₂ (λ (x y : List ℕ). x ++ y) ones (sym (take-append-drop 34 (drop 11 l)) ∙ ap (λ (x : List ℕ). A ++ x) d)
 
-  all-append : (x y : List ℕ) → AllBits x → AllBits y → AllBits (x ++ y)
-  all-append [] y f g i = g i
-  all-append (a ∷ x) y f g zero = f 0
-  all-append (a ∷ x) y f g (suc i) = all-append x y (λ k. f (suc k)) g i
-
-  all-zeros : (n : ℕ) → AllBits (replicate n 0)
-  all-zeros zero i = omega arith
-  all-zeros (suc n) zero = omega arith
-  all-zeros (suc n) (suc i) = all-zeros n i
-
   pub first-bits : AllBits (asFirst l)
   unfolding asFirst
-  first-bits = all-append A (replicate 12 0 ++ D) (bits-take 34 (drop 11 l) (bits-drop 11 l h)) (all-append (replicate 12 0) D (all-zeros 12) (bits-drop 45 l h))
+  first-bits = bits-append A (replicate 12 0 ++ D) (bits-take 34 (drop 11 l) (bits-drop 11 l h)) (bits-append (replicate 12 0) D (bits-zeros 12) (bits-drop 45 l h))
 
   -- it has no boundary entries
   no-boundary : countsAt (asFirst l) .boundary ≡ 0
@@ -190,7 +173,7 @@ module _ (l : List ℕ) (h : AllBits l) (two : second l ≡ true) (room : 45 ≤
         let w : sheetBits s ≡ take (endOf c) (asFirst l) = write-of-read (asFirst l) first-bits (omega (arith, first-long)) in
         let p : sheetBits (bounded [] s) ++ [] ≡ counts3 s ++ (bits 12 0 ++ bodyOf s []) = parts1 s [] in
         let q : take (endOf c) (asFirst l) ≡ A ++ (z ++ take e D) = first-taken (endOf c) e (omega arith) in
-        ap (λ (x : List ℕ). counts3 s ++ (x ++ bodyOf s [])) (sym zeros) ∙ sym p ∙ append-nil (sheetBits (bounded [] s)) ∙ ap sheetBits (sym no-entries) ∙ w ∙ q
+        ap (λ (x : List ℕ). counts3 s ++ (x ++ bodyOf s [])) (sym (bits-zero 12)) ∙ sym p ∙ append-nil (sheetBits (bounded [] s)) ∙ ap sheetBits (sym no-entries) ∙ w ∙ q
 
     pub written-again : sheet2Bits s ≡ take (endOf c - 1) l
     written-again =
@@ -232,10 +215,6 @@ unfolding typedSeen typedWith seenOf seenWith bitsIn
 first-seen limits s e = rw e
 
 -- ---- places of the second edition in the first
-
-and-end : (s : Bool) → s && true ≡ s
-and-end true = refl
-and-end false = refl
 
 module _ (l : List ℕ) (room : 45 ≤ length l) where
   -- what stands at a place behind the header

@@ -7,6 +7,7 @@ use native.Mathlib.Omega.{arith}
 use borrow.Author.Tests.{leb-true, ltb-false}
 use lib.Dec.{leb, ltb}
 use lib.ListN.{length}
+use Rattle.lists.proofs.Sifts.{and-true}
 use Rattle.bits.specs.Bits.{bitsOf}
 use Rattle.mesh.specs.Given.{Lent}
 use Rattle.mesh.specs.Widths.{pointColumns}
@@ -15,7 +16,7 @@ use Rattle.sheet.specs.Sheet.{countsAt}
 use Rattle.sheet.specs.declared.Counts.{Counts}
 use Rattle.sheet.specs.declared.Seen.{Seen as Typed}
 use Rattle.sheet.specs.declared.Seen.the-variants.{Whole as TypedWhole, Refused as TypedRefused}
-use Rattle.sheet.proofs.PutLaws.{both, neither}
+use Rattle.sheet.proofs.PutLaws.{neither}
 use Rattle.edition.specs.Edition.{bitsIn, sheetOf, overlong, typedSeen, seenIn, seenOf}
 use Rattle.edition.specs.Reading.{roomFor, lentOf}
 use Rattle.edition.specs.Work.{Held}
@@ -72,7 +73,7 @@ roomy true true true false c d f g h = absurd (never 7 d g h)
 roomy true true true true c d f g h = (refl, refl, refl, refl, cc, cc)
 
 fits : (n a b : ℕ) → (leb n a && leb n b) ≡ true → (n ≤ a) × (n ≤ b)
-fits n a b e = let w = both (leb n a) (leb n b) e in (leb-true n a (w .0), leb-true n b (w .1))
+fits n a b e = let w = and-true (leb n a) (leb n b) e in (leb-true n a (w .0), leb-true n b (w .1))
 
 module _ (limits : Counts) (s o : List ℕ) (L : Lent) (nb : ℕ) (c d : Counts) (f g : Bool) (e : seenOf limits s ≡ Whole c f) (h : roomFor c f L nb ≡ Whole d g)
     (places : 6144 ≤ length o) (sides : sidesAt (c .boundary) o ≡ sheetOf (bitsOf s) .sheet .boundary) where
@@ -81,7 +82,7 @@ module _ (limits : Counts) (s o : List ℕ) (L : Lent) (nb : ℕ) (c d : Counts)
   held-here =
       let w = roomy ((leb (c .triangles) (L .corners / 3) && leb (c .triangles) (L .volumes / 2)) && leb 4 nb) (leb (c .particles) (L .points / pointColumns) && leb (c .particles) (L .roots / 2))
       (leb (c .edges) (L .ends / 4) && leb (c .edges) (L .lengths / 4)) (leb (c .boundary) (L .outline / 2)) c d f g h in
-      let v = both (leb (c .triangles) (L .corners / 3) && leb (c .triangles) (L .volumes / 2)) (leb 4 nb) (w .0) in
+      let v = and-true (leb (c .triangles) (L .corners / 3) && leb (c .triangles) (L .volumes / 2)) (leb 4 nb) (w .0) in
       let t = fits (c .triangles) (L .corners / 3) (L .volumes / 2) (v .0) in
       let p = fits (c .particles) (L .points / pointColumns) (L .roots / 2) (w .1) in
       let q = fits (c .edges) (L .ends / 4) (L .lengths / 4) (w .2) in

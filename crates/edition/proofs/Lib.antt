@@ -1,8 +1,12 @@
 pub mod Editions
 pub mod Starts
+pub mod Joins
+pub mod Limited
 pub mod Sides
 pub mod Found
 pub mod Meshes
 pub mod Entering
+pub mod Fields
+pub mod Counted
 pub mod Agree
 pub mod Cases

@@ -15,6 +15,7 @@ use Rattle.sheet.specs.Work.{okAt}
 use Rattle.sheet.specs.declared.Counts.{Counts}
 use Rattle.sheet.specs.declared.Seen.the-variants.{Whole as TypedWhole, Refused as TypedRefused}
 use Rattle.sheet.proofs.PutLaws.{neither}
+use Rattle.sheet.proofs.Back.{never}
 use Rattle.sheet.proofs.SeenLaws.{names-at}
 use Rattle.sheet.proofs.MeshReads.{names-parts}
 use Rattle.edition.specs.Edition.{second, asFirst, bitsIn, bytesIn, spareIn, typedWith, typedSeen}
@@ -56,9 +57,7 @@ module _ (l : List ℕ) (room : 45 ≤ length l) where
   rows-at three p from at k step n e f h =
       ap (λ (j : ℕ). okAt three p l j step n) f ∙ sym (rows-start three p k step n) ∙ ap (λ (j : ℕ). okAt three p (bitsIn l) j step n) (sym e) ∙ h
 
-never : (n : ℕ) (c : Counts) → TypedRefused n ≡ TypedWhole c → ⊥
-never n c e = let z : _≡_ {A = ℕ} 0 1 = cc in omega arith
-
+-- what a look that ends whole went past
 whole : (a b x y z : Bool) (d c : Counts)
     → cond a (TypedRefused 9) (cond b (TypedRefused 1) (cond x (cond y (cond z (TypedWhole d) (TypedRefused 3)) (TypedRefused 9)) (TypedRefused 9))) ≡ TypedWhole c
     → (a ≡ false) × (b ≡ false) × (x ≡ true) × (y ≡ true) × (z ≡ true) × (d ≡ c)
@@ -69,12 +68,25 @@ whole false false true false z d c e = absurd (never 9 c e)
 whole false false true true false d c e = absurd (never 3 c e)
 whole false false true true true d c e = (refl, refl, refl, refl, refl, cc)
 
--- a sheet that the typed look finds whole
-pub typed-in : (limits : Counts) (s : List ℕ) (c : Counts) → typedSeen limits s ≡ TypedWhole c → TypedIn s c
+whole-sheet : (limits : Counts) (s : List ℕ) (c : Counts) → typedSeen limits s ≡ TypedWhole c → let d = countsAt (bitsIn (bitsOf s)) in
+    (ltb (length s) 6 ≡ false) × (tooMany d || above limits d ≡ false) × (eqb (length s) (bytesIn (second (bitsOf s)) d) ≡ true) × (eqb (spareIn d s) 0 ≡ true) × (namesOK (sheetWith d (bitsIn (bitsOf s))) ≡ true) × (d ≡ c)
 unfolding typedSeen typedWith
+whole-sheet limits s c e =
+    let d = countsAt (bitsIn (bitsOf s)) in
+    whole (ltb (length s) 6) (tooMany d || above limits d) (eqb (length s) (bytesIn (second (bitsOf s)) d)) (eqb (spareIn d s) 0) (namesOK (sheetWith d (bitsIn (bitsOf s)))) d c e
+
+-- a sheet that the typed look finds whole has no count above the limits
+pub typed-within : (limits : Counts) (s : List ℕ) (c : Counts) → typedSeen limits s ≡ TypedWhole c → above limits c ≡ false
+typed-within limits s c e =
+    let d = countsAt (bitsIn (bitsOf s)) in
+    let w = whole-sheet limits s c e in
+    subst (λ (x : Counts). above limits x ≡ false) (w .5) (neither (tooMany d) (above limits d) (w .1) .1)
+
+-- and stands in its bytes
+pub typed-in : (limits : Counts) (s : List ℕ) (c : Counts) → typedSeen limits s ≡ TypedWhole c → TypedIn s c
 typed-in limits s c e =
     let d = countsAt (bitsIn (bitsOf s)) in
-    let w = whole (ltb (length s) 6) (tooMany d || above limits d) (eqb (length s) (bytesIn (second (bitsOf s)) d)) (eqb (spareIn d s) 0) (namesOK (sheetWith d (bitsIn (bitsOf s)))) d c e in
+    let w = whole-sheet limits s c e in
     let i : d ≡ c = w .5 in
     record {
       is = i;

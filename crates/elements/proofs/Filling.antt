@@ -138,7 +138,7 @@ abbrev pub strapAt : List ℕ → List Float → ℕ → Element
 strapAt E L i = record { number = i; corners = getD E i 0 ∷ getD E (length E / 4 + i) 0 ∷ []; measure = getD L (length L / 4 + i) nan }
 
 -- it is the element of row i
-strap-read : (E : List ℕ) (L : List Float) (i : ℕ) → strapElement i (edgeRow (length E / 4) (length L / 4) E L i) ≡ strapAt E L i
+pub strap-read : (E : List ℕ) (L : List Float) (i : ℕ) → strapElement i (edgeRow (length E / 4) (length L / 4) E L i) ≡ strapAt E L i
 unfolding cell
 strap-read E L i =
     let a : 0 * (length E / 4) + i ≡ i = omega arith in

@@ -21,6 +21,7 @@ use Rattle.elements.specs.Table.{Cornered, Tabled, MeasuredWithin}
 use Rattle.elements.specs.Workers.{marked, Marked, MeasuredMarked}
 use Rattle.elements.proofs.Tables.{noElement, row-is, part-is}
 use Rattle.elements.proofs.Fans.{sift-more, row-at}
+use Rattle.lists.proofs.Truths.{or-end}
 
 -- ---- sums
 
@@ -99,11 +100,6 @@ marking-start listed n m e =
           ne-eqb (getD m w 0) 1 (λ q. omega arith);
     }
 
--- nothing more stands there
-or-none : (s : Bool) → s || false ≡ s
-or-none true = refl
-or-none false = refl
-
 -- a turn marks one more
 pub marking-more : (listed : List ℕ) (i : ℕ) (m₀ m : List ℕ) → Marking listed i m₀ m → i < length listed → getD listed i 0 < length m → Marking listed (i + 1) m₀ (set m (getD listed i 0) 1)
 marking-more listed i m₀ m F h g =
@@ -117,7 +113,7 @@ marking-more listed i m₀ m F h g =
                 eq-eqb (getD (set m (getD listed i 0) 1) w 0) 1 (ap (λ (x : ℕ). getD (set m (getD listed i 0) 1) x 0) e ∙ getD-set-same m (getD listed i 0) 1 0 g) ∙ sym (grown ∙ or-true (stands w (take i listed)) (stands w (getD listed i 0 ∷ [])) (rw (eq-eqb (getD listed i 0) w (sym e))))
             | no ne ↦
                 ap (λ (x : ℕ). eqb x 1) (getD-set-other m (getD listed i 0) w 1 0 ne) ∙ F .same w k
-                ∙ sym (grown ∙ rw (ne-eqb (getD listed i 0) w (λ q. ne (sym q))) (or-none (stands w (take i listed))))
+                ∙ sym (grown ∙ rw (ne-eqb (getD listed i 0) w (λ q. ne (sym q))) (or-end (stands w (take i listed))))
           ];
     }
 

@@ -21,6 +21,7 @@ use Rattle.exact.proofs.Order.{left-neg, right-neg, less-above, less-be
 use Rattle.exact.proofs.Ring.{mul-neg}
 use Rattle.exact.proofs.Swapped.{and-either}
 use Rattle.exact.proofs.Solve.{Expr, var, plus, times, minus, less, solved}
+use Rattle.lists.proofs.Truths.{and-end}
 
 -- ---- two identities
 
@@ -79,14 +80,10 @@ scaled-below k e = sym (left-neg (pos (suc k) *ℤ e)) ∙ ap (ltZ (pos 0)) (sym
 
 -- ---- the two ends, one below the other
 
-with-true : (a : Bool) → (a && true) ≡ a
-with-true true = refl
-with-true false = refl
-
 lower : (a b : ℤ) → ltZ a b ≡ true → (ltZ (pos 0) a && ltZ (pos 0) b) ≡ ltZ (pos 0) a
 lower (pos a) (pos b) h =
     let l : a < b = ltb-true a b h in
-    ap (λ (t : Bool). ltb 0 a && t) (lt-ltb 0 b (omega arith)) ∙ with-true (ltb 0 a)
+    ap (λ (t : Bool). ltb 0 a && t) (lt-ltb 0 b (omega arith)) ∙ and-end (ltb 0 a)
 lower (pos a) (negsuc b) h = absurd (true≢false (sym h))
 lower (negsuc a) b h = refl
 

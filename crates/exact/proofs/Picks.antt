@@ -1,5 +1,5 @@
 -- What a choice and a chain of tests come to, from what the tests are known to be. Assumes nothing.
-use mathlib.Core.Path.{_≡_, refl, sym, _∙_}
+use mathlib.Core.Path.{_≡_, sym, _∙_}
 use mathlib.Core.Bool.{Bool, true, false, not, _&&_, _||_, true≢false}
 use Rattle.lists.specs.Lists.{pick}
 
@@ -42,9 +42,3 @@ pub stopped : (x s t u : Bool) → x ≡ false → x ≡ (s && t) → x ≡ (s &
 stopped x true true u h k = absurd (true≢false (sym k ∙ h))
 stopped x true false u h k = h
 stopped x false t u h k = h
-
--- both tests of `a && b` hold
-pub and-both : (a b : Bool) → (a && b) ≡ true → (a ≡ true) × (b ≡ true)
-and-both true true h = (refl, refl)
-and-both true false h = absurd (true≢false (sym h))
-and-both false b h = absurd (true≢false (sym h))

@@ -13,12 +13,12 @@ use Rattle.blade.specs.Whole.{sideOf}
 use Rattle.exact.specs.Exact.{wholeOf, sideBy, across, differ, crosses}
 use Rattle.exact.specs.Meant.{Shared}
 use Rattle.float.proofs.Picks.{and-yes}
-use Rattle.exact.proofs.Picks.{and-both}
 use Rattle.exact.proofs.Ring.{neg-sub}
 use Rattle.exact.proofs.Order.{less-above, less-below}
 use Rattle.exact.proofs.Swapped.{across-neg, across-either}
 use Rattle.exact.proofs.Solve.{var, plus, times, minus, less, solved, vanishes}
 use Rattle.exact.proofs.Meant.{side, apart, across-up}
+use Rattle.lists.proofs.Sifts.{and-true}
 
 -- ---- a common point makes each pair lie on or across the other's line
 
@@ -141,7 +141,7 @@ size-down (negsuc n) h = refl
 -- a number below another, on or across 0: the lower is not above 0, the upper not below
 apart-up : (a b : ℤ) → ltZ a b ≡ true → across a b ≡ true → (pos (natAbs a) ≡ negℤ a) × (pos (natAbs b) ≡ b)
 apart-up a b h k =
-    let t = and-both (not (ltZ (pos 0) a)) (not (ltZ b (pos 0))) (sym (across-up a b h) ∙ k) in
+    let t = and-true (not (ltZ (pos 0) a)) (not (ltZ b (pos 0))) (sym (across-up a b h) ∙ k) in
     (size-down a (t .0), size-up b (t .1))
 
 -- and their sizes are not both 0
@@ -208,7 +208,7 @@ module _ (x0 y0 x1 y1 px py qx qy : ℤ) where
 pub crosses-shared : (b0 b1 p q : Point) → crosses b0 b1 p q ≡ true → (differ (sideBy b0 b1 p) (sideBy b0 b1 q) ≡ true) × Shared b0 b1 p q
 unfolding crosses sideBy
 crosses-shared b0 b1 p q h =
-    let t = and-both (across (sideBy b0 b1 p) (sideBy b0 b1 q) && differ (sideBy b0 b1 p) (sideBy b0 b1 q)) (across (sideBy p q b0) (sideBy p q b1)) h in
-    let u = and-both (across (sideBy b0 b1 p) (sideBy b0 b1 q)) (differ (sideBy b0 b1 p) (sideBy b0 b1 q)) (t .0) in
+    let t = and-true (across (sideBy b0 b1 p) (sideBy b0 b1 q) && differ (sideBy b0 b1 p) (sideBy b0 b1 q)) (across (sideBy p q b0) (sideBy p q b1)) h in
+    let u = and-true (across (sideBy b0 b1 p) (sideBy b0 b1 q)) (differ (sideBy b0 b1 p) (sideBy b0 b1 q)) (t .0) in
     let w = common (wholeOf (b0 .x)) (wholeOf (b0 .y)) (wholeOf (b1 .x)) (wholeOf (b1 .y)) (wholeOf (p .x)) (wholeOf (p .y)) (wholeOf (q .x)) (wholeOf (q .y)) (u .1) (u .0) (t .1) in
     (u .1, record { i = natAbs (sideBy b0 b1 q); j = natAbs (sideBy b0 b1 p); k = natAbs (sideBy p q b1); l = natAbs (sideBy p q b0); some = w .0; alike = w .1; x-same = w .2; y-same = w .3 })

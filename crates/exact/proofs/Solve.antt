@@ -7,8 +7,8 @@ use borrow.Author.Tests.{eqb-true}
 use lib.Dec.{leb, eqb}
 use lib.IntN.{ℤ, pos, negℤ, sucℤ, predℤ, _+ℤ_, _-ℤ_, _*ℤ_, ℤ-ind, +ℤ-one, -ℤ-one, +ℤ-assoc, +ℤ-comm, +ℤ-idl, +ℤ-idr, +ℤ-invr, +ℤ-invl, negℤ-+ℤ, negℤ-negℤ, zero-*ℤ, sucℤ-*ℤ, predℤ-*ℤ, *ℤ-comm, -ℤ-+ℤ-cancel}
 use Rattle.blade.proofs.Sides.{neg-mul}
-use Rattle.exact.proofs.Picks.{and-both}
 use Rattle.exact.proofs.Ring.{mul-add, mul-neg}
+use Rattle.lists.proofs.Sifts.{and-true}
 
 -- ---- products
 
@@ -160,7 +160,7 @@ module _ (z : List ℤ) where
   same-is [] (j ∷ n) h = absurd (true≢false (sym h))
   same-is (i ∷ m) [] h = absurd (true≢false (sym h))
   same-is (i ∷ m) (j ∷ n) h =
-      let k = and-both (eqb i j) (same m n) h in
+      let k = and-true (eqb i j) (same m n) h in
       ap₂ {C = ℤ} (λ a b. a *ℤ b) (ap (at z) (eqb-true i j (k .0))) (same-is m n (k .1))
 
   gone : (s t : Bool) (a b : ℤ) → not (Bool·beq s t) ≡ true → a ≡ b → signed s a +ℤ signed t b ≡ pos 0
@@ -175,7 +175,7 @@ module _ (z : List ℤ) where
     where
       by : (x : Bool) → cancels t u ≡ x → poly (put t l) ≡ ofTerm t +ℤ poly l → poly (cond x l (u ∷ put t l)) ≡ ofTerm t +ℤ (ofTerm u +ℤ poly l)
       by true e h =
-          let k = and-both (not (Bool·beq (t .0) (u .0))) (same (t .1) (u .1)) e in
+          let k = and-true (not (Bool·beq (t .0) (u .0))) (same (t .1) (u .1)) e in
           sym (sym (+ℤ-assoc (ofTerm t) (ofTerm u) (poly l)) ∙ ap (λ (a : ℤ). a +ℤ poly l) (gone (t .0) (u .0) (mono (t .1)) (mono (u .1)) (k .0) (same-is (t .1) (u .1) (k .1))) ∙ +ℤ-idl (poly l))
       by false e h = ap (λ (a : ℤ). ofTerm u +ℤ a) h ∙ add-swap (ofTerm u) (ofTerm t) (poly l)
 

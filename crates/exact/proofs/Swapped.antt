@@ -1,13 +1,13 @@
 -- A blade drawn the other way has the same crossings and the other sides. Assumes nothing.
 use mathlib.Core.Path.{_≡_, refl, sym, ap, ap₂, _∙_}
 use mathlib.Core.Bool.{Bool, true, false, not, _&&_, _||_, true≢false}
-use mathlib.Core.List.{List, [], _∷_, _++_, map}
+use mathlib.Core.List.{List, [], _∷_, map}
 use native.Mathlib.Omega.{arith}
 use borrow.Author.Tests.{le-ltb}
 use lib.Dec.{ltb}
 use lib.IntN.{ℤ, pos, negsuc, negℤ, _+ℤ_, negℤ-+ℤ}
 use lib.Signed.{ltZ}
-use Rattle.lists.specs.Lists.{pick, fold, each}
+use Rattle.lists.specs.Lists.{pick, fold}
 use Rattle.blade.specs.declared.Point.{Point}
 use Rattle.exact.specs.declared.Sign.{Sign}
 use Rattle.exact.specs.declared.Sign.the-variants.{Left, On, Right}
@@ -116,15 +116,6 @@ opposed-flipped g k [] = refl
 opposed-flipped {A} g k (m ∷ ms) = ap₂ {C = List A} (λ x y. x ∷ y) (ap g (opposite-flipped k m)) (opposed-flipped g k ms)
 
 -- ---- functions that agree everywhere
-
-pub each-ext : {A B : Type 0} (f g : A → List B) → ((a : A) → f a ≡ g a) → (l : List A) → each f l ≡ each g l
-unfolding each
-each-ext f g h [] = refl
-each-ext {B = B} f g h (a ∷ l) = ap₂ {C = List B} (λ x y. x ++ y) (h a) (each-ext f g h l)
-
-pub map-ext : {A B : Type 0} (f g : A → B) → ((a : A) → f a ≡ g a) → (l : List A) → map f l ≡ map g l
-map-ext f g h [] = refl
-map-ext {B = B} f g h (a ∷ l) = ap₂ {C = List B} (λ x y. x ∷ y) (h a) (map-ext f g h l)
 
 pub fold-ext : {A B : Type 0} (f g : B → A → B) → ((b : B) (a : A) → f b a ≡ g b a) → (b : B) (l : List A) → fold f b l ≡ fold g b l
 unfolding fold

@@ -20,8 +20,8 @@ use Rattle.float.proofs.Units.{abs-value}
 use Rattle.blade.specs.declared.Point.{Point}
 use Rattle.blade.specs.Whole.{IsPoint}
 use Rattle.exact.specs.Exact.{wholeOf, whole?, wholePoint}
-use Rattle.exact.proofs.Picks.{and-both}
 use Rattle.exact.proofs.Compare.{is-equal}
+use Rattle.lists.proofs.Sifts.{and-true}
 
 -- ---- what the limit tells
 
@@ -88,7 +88,7 @@ equal-size y z h s m e q =
     let A = n * up d * down e in
     let B = m * up e * down d in
     let t : level (h .sign) A s B ≡ true = ap (λ (f : Float). eq f (fin s m e)) (sym (v .2)) ∙ q in
-    let same : A ≡ B = eqb-true A B (and-both (eqb A B) _ t .0) in
+    let same : A ≡ B = eqb-true A B (and-true (eqb A B) _ t .0) in
     let size : h .size ≡ natAbs z = sym (size-of (h .sign) (h .size)) ∙ ap natAbs (h .is) in
     eq-of-mul-eq-mul-right (down d) (down-pos d) (m * up e) (h .size * down e) (sym same ∙ ap (λ (i : ℕ). i * down e) (v .3) ∙ mul-right-comm (h .size) (down d) (down e))
     ∙ ap (λ (i : ℕ). i * down e) size
@@ -99,7 +99,7 @@ equal-size y z h s m e q =
 pub whole-is : (x : Float) → whole? x ≡ true → Is x (wholeOf x) × (natAbs (wholeOf x) ≤ 1024)
 unfolding whole?
 whole-is x h =
-    let t = and-both (le (absOf x) (fin false 1 (pos 10))) _ h in
+    let t = and-true (le (absOf x) (fin false 1 (pos 10))) _ h in
     let l = limited x (t .0) in
     let z = wholeOf x in
     let k : natAbs z ≤ 1024 = whole-small x l in
@@ -137,7 +137,7 @@ is-whole x z h k =
 -- both coordinates
 pub whole-point : (p : Point) → wholePoint p ≡ true → IsPoint p (wholeOf (p .x)) (wholeOf (p .y))
 whole-point p h =
-    let t = and-both (whole? (p .x)) (whole? (p .y)) h in
+    let t = and-true (whole? (p .x)) (whole? (p .y)) h in
     let a = whole-is (p .x) (t .0) in
     let b = whole-is (p .y) (t .1) in
     record { x-is = a .0; y-is = b .0; x-in = a .1; y-in = b .1 }

@@ -6,6 +6,7 @@ ghost use Rattle.lists.specs.Lists.{stands};
 ghost use Rattle.fan.specs.Fan.{fan, sharedOthers, nearTest};
 ghost use Rattle.fan.specs.Calls.{Fits, Counted};
 ghost use Rattle.fan.specs.Parts.{Turning, Turns};
+ghost use Rattle.fan.specs.Sides.{groupsOn, Sided};
 ghost use Rattle.fan.specs.Spread.{Reached, Reaching, Onward, Next, Settled, Spread};
 
 // Does x stand in b?
@@ -235,6 +236,30 @@ fn number_side(sides: &[usize], side: usize, from: usize, table: &mut [usize]) -
     count
 }
 
+// How many groups the elements of a side are, where no corner need be shared.
+fn groups_on(side: usize, sides: &[usize]) -> usize
+    ensures { λ r. ⌜ r ≡ groupsOn side (now (sides .entry)) ⌝ }
+{
+    if stands_in(side, sides) {
+        return 1;
+    }
+    0
+}
+
+// The groups where no corner need be shared, and how many there are: the elements of a side are one group.
+fn groups_by_side(sides: &[usize], groups: &mut [usize]) -> usize
+    requires { ⌜ (length (now groups) ≡ length (now sides)) × ((i : ℕ) → i < length (now sides) → getD (now sides) i 0 < 2) ⌝ }
+    ensures { λ r. ⌜ Sided (now (sides .entry)) (now (groups .exit)) r ⌝ }
+{
+    let low = groups_on(0, sides);
+    let mut i = 0;
+    while i < sides.len() {
+        groups[i] = sides[i] * low;
+        i += 1;
+    }
+    low + groups_on(1, sides)
+}
+
 // The groups of a fan: the element i has the vertices verts[i * k .. i * k + k] and lies on the side sides[i], 0 or 1. Returns how many groups there are.
 // The labels are spread in the table of the groups, and numbered in place, those of side 0 first.
 pub fn groups_of(
@@ -248,6 +273,9 @@ pub fn groups_of(
     requires { ⌜ Fits (now verts) k (now sides) (now groups) ⌝ }
     ensures { λ r. ⌜ Counted (fan (now (verts .entry)) k v needed (now (sides .entry))) (now (groups .exit)) r ⌝ }
 {
+    if needed == 0 {
+        return groups_by_side(sides, groups);
+    }
     spread_all(verts, k, v, needed, sides, groups);
     let low = number_side(sides, 0, 0, groups);
     number_side(sides, 1, low, groups)

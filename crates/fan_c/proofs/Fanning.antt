@@ -5,21 +5,22 @@ use mathlib.Core.Path.{_≡_, refl, sym, ap, subst, _∙_}
 use mathlib.Core.Bool.{Bool, true, false}
 use mathlib.Core.List.{List, [], _∷_, map}
 use lib.Dec.{ltb}
-use lib.Ieee.{Float}
 use lib.ListN.{length, take, length-map, length-take}
 use borrow.Author.Tests.{lt-ltb, le-ltb}
 use Rattle.lists.specs.Lists.{pick}
 use Rattle.model.specs.Mesh.{Mesh}
-use Rattle.model.specs.Elements.{Element, kindOf, elementsOf, fanOf}
+use Rattle.model.specs.Elements.{Element, kindOf, fanOf}
 use Rattle.model.specs.Calls.{present, refusal}
 use Rattle.model.specs.Reads.{Read, refused, value, orRefused}
 use Rattle.mesh.specs.Given.{Given, meshOf, sizesFit}
 use Rattle.mesh.specs.Widths.{pointColumns}
 use Rattle.judge.specs.Checks.{faultOf}
-use Rattle.elements.specs.Table.{Tabled, FanTabled, holding}
-use Rattle.elements.proofs.Found.{fan-of}
-use Rattle.arguments.specs.Accepted.{MeshTabled}
-use Rattle.arguments.proofs.Accepted.{particles-count}
+use Rattle.elements.specs.declared.Kind.{Kind}
+use Rattle.elements.specs.Table.{KindFound, kindIs}
+use Rattle.arguments.specs.Accepted.{Accepted}
+use Rattle.arguments.specs.Fans.{FanNumbers}
+use Rattle.arguments.proofs.Accepted.{particles-count, sizes-of}
+use Rattle.arguments.proofs.FanRead.{numbers-few, fan-numbered}
 use Rattle.arguments.proofs.Judged.{decided, undecided}
 use Rattle.image.specs.Image.{imageOf, imageSized}
 use Rattle.image.proofs.Loading.{sized-input}
@@ -32,17 +33,18 @@ use Rattle.fan_c.specs.declared.Found.the-variants.{Refused, Elements}
 
 -- ---- the table
 
--- the numbers of the rows that hold v are those of v's fan
+-- the numbers that were read are those of v's fan
 pub numbers-listed :
-    (G : Given) (v n k others count : ℕ) (N Y N′ Y′ : List ℕ) (L L′ : List Float) → MeshTabled G n k others N Y L → FanTabled v k n N Y L count N′ Y′ L′ → count ≤ n → Listed G v count N′
+    (G : Given) (A : Accepted G) (v : ℕ) (kind : Kind) (found : KindFound (length (G .corners) / 3) (length (G .ends) / 4) (G .ends) kind) (count : ℕ) (numbers : List ℕ)
+    → FanNumbers (kindIs kind) v (length (G .corners) / 3) (length (G .ends) / 4) (G .corners) (G .ends) count numbers → Listed G v count numbers
 unfolding fanNumbers
-numbers-listed G v n k others count N Y N′ Y′ L L′ T F few =
-    let M = meshOf G in
-    let t : Tabled k (fanOf (kindOf M) M v) count N′ Y′ L′ = subst (λ (es : List Element). Tabled k es count N′ Y′ L′) (sym (fan-of (kindOf M) M v)) (F .tabled _ (T .tabled)) in
+numbers-listed G A v kind found count numbers F =
+    let s = sizes-of A in
+    let R = fan-numbered G A v kind found count numbers F in
     record {
-      few = omega (arith, T .corners .few, few);
-      front = t .numbers-are;
-      count = t .cornered .count ∙ sym (length-map (fanOf (kindOf M) M v) (λ (e : Element). e .number));
+      few = numbers-few (kindIs kind) v _ _ (G .corners) (G .ends) count numbers (s .few-triangles) (s .few-edges) F .few;
+      front = R .numbers-are;
+      count = R .count ∙ sym (length-map (fanOf (kindOf (meshOf G)) (meshOf G) v) (λ (e : Element). e .number));
     }
 
 -- ---- the answer of a call

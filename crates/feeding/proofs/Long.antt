@@ -25,10 +25,10 @@ use Rattle.sheet.proofs.PutLaws.{neither}
 use Rattle.edition.specs.Edition.{second, asFirst, bitsIn, bytesIn, spareIn, typedWith, typedSeen, seenIn, seenOf}
 use Rattle.edition.specs.Reading.{lentOf, worldOf, bladeLeft, ReadDone}
 use Rattle.edition.specs.declared.Seen.{Seen}
-use Rattle.edition.specs.declared.Seen.the-variants.{Whole, Refused}
+use Rattle.edition.specs.declared.Seen.the-variants.{Refused}
 use Rattle.edition.proofs.Editions.{counts-second}
 use Rattle.feeding.specs.Feeding.{most}
-use Rattle.feeding.proofs.Joins.{counts-join}
+use Rattle.edition.proofs.Joins.{counts-join}
 
 -- ---- bytes that are too many
 

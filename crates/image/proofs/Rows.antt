@@ -1,9 +1,9 @@
 -- Laws of the rows that stand in seven blocks: how many words their image has, and that these are the words of the mesh that the blocks hold. Assumes nothing.
 use Prim.Native.Nat.{ℕ, zero, suc, _+_, _*_, _/_, _≤_, _<_}
 use native.Mathlib.Omega.{arith}
-use mathlib.Core.Path.{_≡_, refl, sym, ap, ap₂, _∙_}
+use mathlib.Core.Path.{_≡_, refl, sym, ap, _∙_}
 use mathlib.Core.List.{List, [], _∷_, _++_, map}
-use lib.ListN.{length, take, drop, length-drop, length-append}
+use lib.ListN.{length, drop, length-drop, length-append}
 use lib.Seq.{getD-drop}
 use lib.Ieee.{Float, nan}
 use Rattle.lists.specs.Lists.{tab}
@@ -15,19 +15,13 @@ use Rattle.mesh.specs.At.{meshAt, particlesAt, trianglesAt, edgesAt, boundaryAt
 use Rattle.mesh.specs.Filled.{pointOf, rootOf, cornerOf, volumeOf, endOf, lengthOf, sideOf}
 use Rattle.mesh.specs.declared.Counts.{Counts}
 use Rattle.mesh.specs.Widths.{pointColumns}
-use Rattle.mesh.proofs.Blocks.{point-at}
+use Rattle.mesh.proofs.Blocks.{point-at, stack-ext}
 use Rattle.image.specs.Words.{bitsIn}
 use Rattle.image.specs.Image.{imageWords, imageWordsOf}
 use Rattle.image.specs.Stores.{frontsOf, blockWords, Standing}
 use Rattle.image.proofs.Puts.{fronts-length, bits-length}
 
 -- ---- columns
-
--- stacks of equal columns are equal
-stack-ext : {A : Type 0} (w : ℕ) (f g : ℕ → List A) → ((c : ℕ) → c < w → f c ≡ g c) → stack w f ≡ stack w g
-unfolding stack
-stack-ext zero f g h = refl
-stack-ext (suc w) f g h = ap₂ (λ (a b : List _). a ++ b) (stack-ext w f g (λ c p. h c (omega arith))) (h w (omega arith))
 
 -- the fronts of a block's columns are the columns of the rows that stand there
 fronts-rows : {A B : Type 0} (d : B) (w n R : ℕ) (s : List B) (row : ℕ → A) (col : ℕ → A → B) → n ≤ R → w * R ≤ length s → ((c k : ℕ) → c < w → col c (row k) ≡ cell d R s c k)

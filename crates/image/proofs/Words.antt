@@ -2,18 +2,20 @@
 use Prim.Native.Nat.{ℕ, zero, suc, _+_, _-_, _*_, _/_, _%_, _≤_, _<_, zero-le}
 use native.Mathlib.Numerals.{add-one}
 use native.Mathlib.Omega.{arith}
+use native.Mathlib.Decide.{decLe}
 use native.Mathlib.Nat.{not-suc-le-zero, le-of-suc-le-suc, suc-add, sub-zero, zero-sub, suc-sub-suc}
 use mathlib.Core.Path.{_≡_, refl, sym, ap, ap₂, subst, _∙_}
-use mathlib.Core.Bool.{true, false}
+use mathlib.Core.Bool.{Bool, true, false}
 use mathlib.Core.List.{List, [], _∷_, _++_, append-assoc}
-use lib.Dec.{T}
+use lib.Dec.{T, ltb}
+use lib.Bits.{bitAnd, and-mask, and-high}
 use lib.Ieee.{Float, inf, binary32, nanBits, ofBits, toBits, ne}
 use lib.Ieee.Bits.{nanBits-above}
 use lib.Ieee.Compare.{differs-from-itself}
 use lib.ListN.{length, getD, take, drop, set, replicate, length-set, length-append}
 use lib.Seq.{take-at, drop-at, drop-drop, take-suc, length-take-le}
 use borrow.Author.Tests.{le-ltb, lt-ltb}
-use Rattle.lists.specs.Lists.{tab, each, padded}
+use Rattle.lists.specs.Lists.{pick, tab, each, padded}
 use Rattle.lists.proofs.Sifts.{each-append}
 use Rattle.lists.proofs.Steps.{tab-step}
 use Rattle.columns.proofs.Sweep.{front-grows}
@@ -42,6 +44,24 @@ number-nan w h = rw (is-nan w h)
 pub nan-bits : (x : Float) → ne x x ≡ true → 2143289344 ≡ toBits binary32 x
 unfolding toBits
 nan-bits x h = subst (λ (z : Float). 2143289344 ≡ toBits binary32 z) (sym (differs-from-itself x (subst T (sym h) tt))) refl
+
+-- the bits that a number keeps of its word: all of them, or those of an infinity
+pub kept-bits :
+    (w k : ℕ) → w < 4294967296 → k ≡ pick (ltb 2139095040 (w % 2147483648)) 2139095040 4294967295
+    → (nanBits binary32 (bitAnd w k) ≡ false) × (ofBits binary32 (bitAnd w k) ≡ numberOf w)
+unfolding ofBits nanBits
+kept-bits w k h e = by (decLe (w % 2147483648) 2139095040)
+  where
+    by : Dec (w % 2147483648 ≤ 2139095040) → (nanBits binary32 (bitAnd w k) ≡ false) × (ofBits binary32 (bitAnd w k) ≡ numberOf w)
+    by (yes p) =
+        let f : k ≡ 4294967295 = e ∙ ap (λ (t : Bool). pick t 2139095040 4294967295) (le-ltb 2139095040 (w % 2147483648) p) in
+        let g : bitAnd w k ≡ w = ap (λ (m : ℕ). bitAnd w m) f ∙ and-mask w 32 ∙ omega (arith, h) in
+        rw g (no-nan w p, number-plain w p)
+    by (no p) =
+        let q : 2139095040 < w % 2147483648 = omega (arith, p) in
+        let f : k ≡ 2139095040 = e ∙ ap (λ (t : Bool). pick t 2139095040 4294967295) (lt-ltb 2139095040 (w % 2147483648) q) in
+        let g : bitAnd w k ≡ 2139095040 = ap (λ (m : ℕ). bitAnd w m) f ∙ and-high w 8 23 ∙ omega (arith, h, q) in
+        rw g (refl, number-nan w q)
 
 -- ---- a block that fills from the front
 

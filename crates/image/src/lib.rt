@@ -6,7 +6,8 @@ ghost use Prim.Native.Nat.{ℕ, _+_, _*_, _%_, _≤_, _<_};
 ghost use mathlib.Core.List.{[], _∷_};
 ghost use lib.ListN.{length, take, replicate};
 ghost use lib.Ieee.{binary32, toBits};
-ghost use Rattle.lists.specs.Lists.{padded};
+ghost use lib.Dec.{ltb};
+ghost use Rattle.lists.specs.Lists.{padded, pick};
 ghost use Rattle.image.specs.Words.{wordAt, numberOf, wordsFrom, numbersFrom, written, putWord, putWords, bitsIn};
 ghost use Rattle.image.specs.Image.{imageFits, countsWithin, imageSized};
 ghost use Rattle.image.specs.Loads.{Loadable, Loaded};
@@ -33,15 +34,22 @@ pub fn word_at(bytes: &[u8], i: usize) -> usize
     a + 256 * b + 65536 * c + 16777216 * d
 }
 
+// The bits of a word that its number keeps: those of an infinity where the word is a NaN pattern, else all. (A machine takes several words at a time so.)
+fn kept(word: usize) -> u32
+    ensures { λ r. ⌜ r ≡ pick (ltb 2139095040 (word % 2147483648)) 2139095040 4294967295 ⌝ }
+{
+    if 2139095040 < word % 2147483648 {
+        return 2139095040;
+    }
+    4294967295
+}
+
 // The number that a word is the bit pattern of: an infinity for a NaN pattern.
 pub fn number_of(word: usize) -> f32
     requires { ⌜ word < 4294967296 ⌝ }
     ensures { λ r. ⌜ r ≡ numberOf word ⌝ }
 {
-    if 2139095040 < word % 2147483648 {
-        return f32::from_bits(2139095040);
-    }
-    f32::from_bits(word as u32)
+    f32::from_bits(word as u32 & kept(word))
 }
 
 // Writes n words, from word `at` on, to the front of out.

@@ -1,7 +1,7 @@
 -- The image of an accepted mesh, read back, is that mesh. Assumes nothing.
 use Prim.Native.Nat.{ℕ, zero, suc, _+_, _*_, _<_, _≤_}
 use mathlib.Core.Path.{_≡_, refl, sym, ap, _∙_, subst}
-use mathlib.Core.Bool.{Bool, true, false, _&&_}
+use mathlib.Core.Bool.{true, false, false≢true, _&&_}
 use mathlib.Core.List.{List, [], _∷_, _++_, append-nil, append-assoc}
 use native.Mathlib.Omega.{arith}
 use borrow.Author.Tests.{ltb-true, le-leb, eq-eqb}
@@ -13,7 +13,7 @@ use Rattle.float.specs.Ranges.{finite?, number?, volume?, notBelow0?}
 use Rattle.model.specs.Mesh.{Particle, Triangle, Edge, Side, Mesh}
 use Rattle.model.specs.Valid.{flag?, particleOk, triangleOk, edgeOk, numbersFit}
 use Rattle.model.specs.Trace.{All, Sound}
-use Rattle.model.proofs.Laws.{and-true, all-over, all-map, all-from}
+use Rattle.model.proofs.Laws.{all-over, all-map, all-from}
 use Rattle.model.proofs.Indexed.{Pair, Indexed}
 use Rattle.model.proofs.Accepted.{accepted-indexed}
 use Rattle.mesh.specs.Given.{given, meshOf}
@@ -28,27 +28,25 @@ use Rattle.lineage.proofs.Again.{Tests, tests}
 use Rattle.imaged.specs.Bytes.{bytesIn, imageBytes}
 use Rattle.imaged.proofs.Words.{Word, Plain, word-of, words-there, numbers-there, stack-all}
 use Rattle.imaged.proofs.Packed.{packedOf, packed-held, points-long, roots-long, corners-long, volumes-long, ends-long, lengths-long, outline-long}
+use Rattle.lists.proofs.Sifts.{and-true}
 
 -- ---- the numbers and words of an accepted mesh
 
-untrue : {P : Type 0} → _≡_ {A = Bool} false true → P
-untrue e = absurd (let z : _≡_ {A = ℕ} 0 1 = cc in omega arith)
-
 number-no-nan : (x : Float) → number? x ≡ true → isNan x ≡ false
 unfolding number? absOf le lt eq isNan
-number-no-nan nan e = untrue e
+number-no-nan nan e = absurd (false≢true e)
 number-no-nan (inf s) e = refl
 number-no-nan (fin s m d) e = refl
 
 volume-no-nan : (x : Float) → volume? x ≡ true → isNan x ≡ false
 unfolding volume? absOf le lt eq isNan
-volume-no-nan nan e = untrue e
+volume-no-nan nan e = absurd (false≢true e)
 volume-no-nan (inf s) e = refl
 volume-no-nan (fin s m d) e = refl
 
 finite-no-nan : (x : Float) → finite? x ≡ true → isNan x ≡ false
 unfolding finite? isNan
-finite-no-nan nan e = untrue e
+finite-no-nan nan e = absurd (false≢true e)
 finite-no-nan (inf s) e = refl
 finite-no-nan (fin s m d) e = refl
 

@@ -1,6 +1,6 @@
 -- Laws of shares: the test of one strap, and the lengths of straps added one by one. Assumes nothing.
-use Prim.Native.Nat.{ℕ, _+_, _*_, _/_, _<_}
-use mathlib.Core.Path.{_≡_, refl, sym, ap, ap₂, _∙_}
+use Prim.Native.Nat.{ℕ, _+_, _*_, _/_}
+use mathlib.Core.Path.{_≡_, sym, ap, ap₂, _∙_}
 use mathlib.Core.Bool.{Bool, true, false, _&&_}
 use mathlib.Core.List.{List, [], _∷_, _++_, map, map-append, append-nil}
 use lib.ListN.{length, getD}
@@ -8,7 +8,6 @@ use lib.Dec.{eqb}
 use lib.Ieee.{Float, nan, lt}
 use borrow.Author.Tests.{eq-eqb, ne-eqb}
 use Rattle.lists.specs.Lists.{pick, stands, sift, tab}
-use Rattle.lists.proofs.Stores.{tab-at}
 use Rattle.lists.proofs.Steps.{sift-step}
 use Rattle.float.specs.Numbers.{plus, zero32, shareOf}
 use Rattle.columns.specs.Block.{cell}
@@ -16,17 +15,15 @@ use Rattle.columns.proofs.Cells.{col-0, col-1}
 use Rattle.model.specs.Mesh.{Particle, Edge, blank}
 use Rattle.model.specs.Elements.{sum, particle}
 use Rattle.model.specs.Cut.{strapsAt, strapShare}
-use Rattle.mesh.specs.At.{particleRow, particlesAt, edgesAt}
+use Rattle.mesh.specs.At.{edgesAt}
 use Rattle.mesh.specs.Workers.{rowAt}
 use Rattle.mesh.specs.Widths.{pointColumns}
 use Rattle.elements.proofs.Measures.{sum-push, sum-none}
 use Rattle.insert.specs.Shares.{strapAt, StrapTold, totalAt, ShareIs}
+use Rattle.lists.proofs.Truths.{pick-self}
+use Rattle.rewire.proofs.ParticleLaws.{mass-read}
 
 -- ---- one edge
-
-pick-self : (t : Bool) → t ≡ pick t true false
-pick-self true = refl
-pick-self false = refl
 
 module _ (v i : ℕ) (ends : List ℕ) where
   -- what the program reads of edge i
@@ -90,11 +87,6 @@ module _ (v : ℕ) (ends : List ℕ) (lengths : List Float) where
   total-left i s t q T e = q ∙ sym (total-step i false (sym e ∙ T .is lengths))
 
 -- ---- the share
-
--- the mass of v, as the program reads it
-pub mass-read : (v n : ℕ) (points : List Float) (roots : List ℕ) → v < n → getD points (4 * (length points / pointColumns) + v) nan ≡ getD (particlesAt n points roots) v blank .mass
-unfolding particlesAt cell
-mass-read v n points roots h = ap (λ (p : Particle). p .mass) (sym (tab-at n (particleRow (length points / pointColumns) (length roots / 2) points roots) v blank h))
 
 pub share-is : (v : ℕ) (len : Float) (e : ℕ) (points : List Float) (ends : List ℕ) (lengths : List Float) (total : Float) (t : Bool) → total ≡ totalAt v (edgesAt e ends lengths) → lt zero32 total ≡ t
     → ShareIs v len e points ends lengths (pick t (shareOf (getD points (4 * (length points / pointColumns) + v) nan) len total) zero32)

@@ -151,12 +151,3 @@ set-only zero x (a ∷ l) h = ap₂ _∷_ refl (sym (mapAt-same _ l (λ k y. rw 
 set-only {A} (suc i) x (a ∷ l) h =
     let down : mapAt (λ k. onlyAt (suc i) (λ (b : A). x) (suc k)) l ≡ mapAt (onlyAt i (λ (b : A). x)) l = mapAt-ext _ _ l (λ k y. rw (eqb·suc-suc k i)) in
     ap₂ _∷_ (rw (eqb·zero-suc i)) (set-only i x l (le-of-suc-le-suc h) ∙ sym down)
-
--- two changes at one place that agree on what stands there
-pub only-same : {A : Type 0} (f g : A → A) (v : ℕ) (l : List A) (d : A) → v < length l → f (getD l v d) ≡ g (getD l v d) → mapAt (onlyAt v f) l ≡ mapAt (onlyAt v g) l
-unfolding mapAt
-only-same f g v [] d h e = absurd (not-suc-le-zero h)
-only-same f g zero (a ∷ l) d h e = ap₂ _∷_ e (mapAt-ext _ _ l (λ k x. rw (eqb·suc-zero k)))
-only-same {A} f g (suc v) (a ∷ l) d h e =
-    let down : (q : A → A) → mapAt (λ k. onlyAt (suc v) q (suc k)) l ≡ mapAt (onlyAt v q) l = λ q. mapAt-ext _ _ l (λ k x. rw (eqb·suc-suc k v)) in
-    ap₂ _∷_ (rw (eqb·zero-suc v)) (down f ∙ only-same f g v l d (le-of-suc-le-suc h) e ∙ sym (down g))

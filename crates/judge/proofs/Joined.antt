@@ -7,11 +7,12 @@ use mathlib.Core.List.{[], _∷_}
 use lib.Dec.{eqb, leb, ltb}
 use borrow.Author.Tests.{ne-eqb, eq-eqb, eqb-true, leb-true}
 use Rattle.lists.specs.Lists.{pick}
-use Rattle.columns.proofs.Rows.{no, both-true}
+use Rattle.columns.proofs.Rows.{both-true}
 use Rattle.model.specs.Valid.{named}
 use Rattle.mesh.specs.Given.{listFits, lengthsFit}
 use Rattle.mesh.specs.Widths.{pointColumns}
 use Rattle.judge.specs.Checks.{thenCheck}
+use Rattle.lists.proofs.Truths.{untrue}
 
 -- one test more
 pub and-next : (z y x t u : Bool) → z ≡ (y && t) → y ≡ x → t ≡ u → z ≡ (x && u)
@@ -34,7 +35,7 @@ then-zero code t n ne e = by (eqb code 0) t refl e
     by : (s u : Bool) → eqb code 0 ≡ s → pick s (pick u 0 n) code ≡ 0 → (code ≡ 0) × (u ≡ true)
     by true true f g = (eqb-true code 0 f, refl)
     by true false f g = absurd (ne g)
-    by false u f g = no (sym f ∙ eq-eqb code 0 g)
+    by false u f g = untrue (sym f ∙ eq-eqb code 0 g)
 
 -- sizes that were tested first fit, where nothing refuses
 pub sizes-held : (z : ℕ) (t u : Bool) → z ≡ thenCheck 0 t 1 → t ≡ u → z ≡ 0 → u ≡ true

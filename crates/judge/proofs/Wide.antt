@@ -1,7 +1,7 @@
 -- A test of every row, asked column by column: all of a conjunction is the conjunction of alls; and a column asked value by value, to its end.
 use native.Mathlib.Omega.{arith}
 use native.Mathlib.Decide.{decLe}
-use Prim.Native.Nat.{ℕ, _+_, _≤_, _<_}
+use Prim.Native.Nat.{ℕ, _+_, _^_, _≤_, _<_}
 use mathlib.Core.Path.{_≡_, refl, sym, ap, ap₂, _∙_}
 use mathlib.Core.Bool.{Bool, true, false, _&&_}
 use mathlib.Core.List.{List, [], _∷_}
@@ -54,18 +54,18 @@ module _ (f : ℕ → Bool) where
   pub end-told : (n i : ℕ) (z : Bool) → z ≡ all f (upTo i) → i ≤ n → n ≤ i → z ≡ all f (upTo n)
   end-told n i z e g k = let q : i ≡ n = omega arith in rw (sym q) e
 
--- the bits of two words are a flag where both words are
-pub or-flag : (a b : ℕ) → ltb (bitOr a b) 2 ≡ (ltb a 2 && ltb b 2)
-or-flag a b = by (decLe 2 a) (decLe 2 b)
+-- the bits of two words make a word below a power of two where both words are
+pub or-below : (k a b : ℕ) → ltb (bitOr a b) (2 ^ k) ≡ (ltb a (2 ^ k) && ltb b (2 ^ k))
+or-below k a b = by (decLe (2 ^ k) a) (decLe (2 ^ k) b)
   where
-    by : Dec (2 ≤ a) → Dec (2 ≤ b) → ltb (bitOr a b) 2 ≡ (ltb a 2 && ltb b 2)
-    by (yes p) q = rw (le-ltb a 2 p, le-ltb (bitOr a b) 2 (omega (arith, or-add-and a b, and-le-r a b))) refl
-    by (no p) (yes q) = rw (le-ltb b 2 q, le-ltb (bitOr a b) 2 (omega (arith, or-add-and a b, and-le-l a b)), and-false (ltb a 2)) refl
+    by : Dec (2 ^ k ≤ a) → Dec (2 ^ k ≤ b) → ltb (bitOr a b) (2 ^ k) ≡ (ltb a (2 ^ k) && ltb b (2 ^ k))
+    by (yes p) q = rw (le-ltb a (2 ^ k) p, le-ltb (bitOr a b) (2 ^ k) (omega (arith, p, or-add-and a b, and-le-r a b))) refl
+    by (no p) (yes q) = rw (le-ltb b (2 ^ k) q, le-ltb (bitOr a b) (2 ^ k) (omega (arith, q, or-add-and a b, and-le-l a b)), and-false (ltb a (2 ^ k))) refl
     by (no p) (no q) =
-        let h : a < 2 = omega (arith, p) in
-        let k : b < 2 = omega (arith, q) in
-        rw (lt-ltb a 2 h, lt-ltb b 2 k, lt-ltb (bitOr a b) 2 (or-lt 1 a b h k)) refl
+        let h : a < 2 ^ k = omega (arith, p) in
+        let g : b < 2 ^ k = omega (arith, q) in
+        rw (lt-ltb a (2 ^ k) h, lt-ltb b (2 ^ k) g, lt-ltb (bitOr a b) (2 ^ k) (or-lt k a b h g)) refl
 
 -- one flag more, by the word of all bits
 pub flag-told : (s : List ℕ) (at i v : ℕ) → ltb v 2 ≡ columnOk flag? 0 s at i → ltb (bitOr v (getD s (at + i) 0)) 2 ≡ columnOk flag? 0 s at (i + 1)
-flag-told s at i v p = more-told (λ (k : ℕ). flag? (getD s (at + k) 0)) i (ltb (bitOr v (getD s (at + i) 0)) 2) (ltb v 2) (ltb (getD s (at + i) 0) 2) (or-flag v (getD s (at + i) 0)) p refl
+flag-told s at i v p = more-told (λ (k : ℕ). flag? (getD s (at + k) 0)) i (ltb (bitOr v (getD s (at + i) 0)) 2) (ltb v 2) (ltb (getD s (at + i) 0) 2) (or-below 1 v (getD s (at + i) 0)) p refl

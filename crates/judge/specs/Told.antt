@@ -4,6 +4,7 @@ use mathlib.Core.Path.{_≡_}
 use mathlib.Core.Bool.{Bool, _&&_}
 use mathlib.Core.List.{List, [], _∷_}
 use lib.ListN.{getD}
+use lib.Dec.{ltb}
 use lib.Ieee.{Float}
 use Rattle.lists.specs.Lists.{all, upTo}
 use Rattle.float.specs.Ranges.{number?, notBelow0?}
@@ -18,6 +19,10 @@ columnOk p d s at n = all (λ (k : ℕ). p (getD s (at + k) d)) (upTo n)
 -- a rest length: in range, and not below zero
 abbrev pub length? : Float → Bool
 length? x = number? x && notBelow0? x
+
+-- a word that tells of no fault: below 2 ^ 63
+unfoldable pub fine : ℕ → Bool
+fine w = ltb w 9223372036854775808
 
 -- the ends in row k of a block with columns of R places name two different ones of n particles
 unfoldable pub pairOk : ℕ → ℕ → List ℕ → ℕ → Bool

@@ -12,6 +12,7 @@ ghost use Rattle.judge.specs.Checks.{faultIn, faultOf};
 ghost use Rattle.mesh.specs.Workers.{ParticleRoom, EdgeRoom};
 ghost use Rattle.judge.specs.Told.{RootsTold, CornersTold, VolumesTold, pairOk};
 ghost use Rattle.mesh.specs.Blocks.{meshBefore, givenBefore, blocksIn};
+use crate::faults;
 use crate::ranges;
 use crate::tests;
 use mesh::Counts;
@@ -69,33 +70,33 @@ fn roots_fit(n: usize, roots: &[usize]) -> bool
 
 // The corners of the first t triangles, among n particles.
 fn corners_fit(n: usize, t: usize, corners: &[usize]) -> bool
-    requires { ⌜ t ≤ length (now corners) / 3 ⌝ }
+    requires { ⌜ (t ≤ length (now corners) / 3) × (n ≤ 9223372036854775808) ⌝ }
     ensures { λ r. ⌜ CornersTold n t (now (corners .entry)) r ⌝ }
 {
     let c = corners.len() / 3;
-    let mut ok = true;
+    let room = faults::LIMIT - n;
+    let mut fault: usize = 0;
     let mut i: usize = 0;
     while i < t {
-        let here = tests::three_named(n, corners[i], corners[c + i], corners[2 * c + i]);
-        ok = tests::both(ok, here);
+        fault = fault | faults::three(n, room, corners[i], corners[c + i], corners[2 * c + i]);
         i += 1;
     }
-    ok
+    fault < faults::LIMIT
 }
 
 // The two ends in each of the first t rows of a block with columns of stride places, among n particles.
 fn pairs_fit(n: usize, t: usize, stride: usize, s: &[usize]) -> bool
-    requires { ⌜ (t ≤ stride) × (2 * stride ≤ length (now s)) ⌝ }
+    requires { ⌜ (t ≤ stride) × (2 * stride ≤ length (now s)) × (n ≤ 9223372036854775808) ⌝ }
     ensures { λ r. ⌜ r ≡ all (pairOk n stride (now (s .entry))) (upTo t) ⌝ }
 {
-    let mut ok = true;
+    let room = faults::LIMIT - n;
+    let mut fault: usize = 0;
     let mut i: usize = 0;
     while i < t {
-        let here = tests::two_named(n, s[i], s[stride + i]);
-        ok = tests::both(ok, here);
+        fault = fault | faults::two(n, room, s[i], s[stride + i]);
         i += 1;
     }
-    ok
+    fault < faults::LIMIT
 }
 
 // The numbers and flags of the first k rows of seven blocks.

@@ -8,6 +8,7 @@ ghost use Rattle.lists.specs.Lists.{all, upTo};
 ghost use Rattle.float.specs.Ranges.{finite?, number?, volume?};
 ghost use Rattle.model.specs.Valid.{flag?};
 ghost use Rattle.judge.specs.Told.{columnOk, length?};
+use crate::faults;
 use crate::tests;
 
 // The n numbers from place `at` on are in range.
@@ -82,14 +83,15 @@ pub fn flags(s: &[usize], at: usize, n: usize) -> bool
 
 // The first n words are below a bound.
 pub fn below(s: &[usize], bound: usize, n: usize) -> bool
-    requires { ⌜ n ≤ length (now s) ⌝ }
+    requires { ⌜ (n ≤ length (now s)) × (bound ≤ 9223372036854775808) ⌝ }
     ensures { λ r. ⌜ r ≡ all (λ (k : ℕ). ltb (getD (now (s .entry)) k 0) bound) (upTo n) ⌝ }
 {
-    let mut ok = true;
+    let room = faults::LIMIT - bound;
+    let mut fault: usize = 0;
     let mut i: usize = 0;
     while i < n {
-        ok = tests::both(ok, s[i] < bound);
+        fault = fault | faults::index(bound, room, s[i]);
         i += 1;
     }
-    ok
+    fault < faults::LIMIT
 }

@@ -13,7 +13,7 @@ use lib.ListN.{length, getD, length-map}
 use lib.Ieee.{Float, binary32, fits, le, neg}
 use lib.Ieee.Fits.{div-fits}
 use Rattle.lists.specs.Lists.{pick, stands, all, mapAt, each, upTo, rest}
-use Rattle.lists.proofs.Sifts.{sift-length}
+use Rattle.lists.proofs.Sifts.{sift-length, and-true}
 use Rattle.float.specs.Numbers.{zero32, one, tiny, over, absOf, invOf}
 use Rattle.float.specs.Ranges.{finite?, number?, volume?, notBelow0?}
 use Rattle.float.proofs.Limits.{limit-finite}
@@ -32,7 +32,7 @@ use Rattle.model.proofs.Steps.{fault-front}
 use Rattle.model.proofs.Kept.{accepted-sound, unless-done, no-refusal, cut-no-refusal, Passed}
 use Rattle.model.proofs.Accepted.{accepted-indexed, indexed-accepted, cut-accepted, crack-accepted, split-accepted, straddlers-accepted}
 use Rattle.model.proofs.Indexed.{Pair, Indexed, Ends, Sides}
-use Rattle.model.proofs.Laws.{and-true, both, pick-both, all-in, all-over, all-append, all-map, all-mapAt, all-eachOf, all-sift, all-below, all-from, all-to, all-yes, length-mapAt}
+use Rattle.model.proofs.Laws.{both, pick-both, all-in, all-over, all-append, all-map, all-mapAt, all-eachOf, all-sift, all-below, all-from, all-to, all-yes, length-mapAt}
 use Rattle.lineage.specs.History.{Particle32, Triangle32, Edge32, Stored, Called, cutting, cracking, splitting, removing, Moved, History, first, calling, moving, HostStores, Accepted, Again}
 use Rattle.lineage.proofs.Induction.{Sided, Behind, nothing-more, tearing, Kept}
 use Rattle.lineage.proofs.Grown.{Grown, Growing, growing-start, growing-kept}

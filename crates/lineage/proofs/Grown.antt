@@ -14,7 +14,7 @@ use lib.Seq.{getD-append-add}
 use Rattle.lists.specs.Lists.{pick, stands, mapAt, each, upTo}
 use Rattle.lists.specs.Labels.{replaced}
 use Rattle.lists.proofs.Stores.{replaced-case, map-at}
-use Rattle.lists.proofs.Sifts.{upTo-length}
+use Rattle.lists.proofs.Sifts.{upTo-length, map-ext}
 use Rattle.model.specs.Mesh.{Particle, Triangle, Mesh, blank, blankTriangle}
 use Rattle.model.specs.Elements.{Triangles, particle, cornersOf}
 use Rattle.model.specs.Run.{Entry, Need, Run, start, stepTo, splitsOf, split as splitEntry}
@@ -68,14 +68,6 @@ rootsBy col t = map (λ x. getD col x 0) (cornersOf t)
 
 pub roots-by : (M : Mesh) (t : Triangle) → rootsOf M t ≡ rootsBy (column M) t
 roots-by M t = rw (root-at (M .particles) (t .a), root-at (M .particles) (t .b), root-at (M .particles) (t .c))
-
--- functions that agree on every element
-pub map-all : {A B : Type 0} (P : A → Type 0) (f g : A → B) → ((a : A) → P a → f a ≡ g a) → (l : List A) → All P l → map f l ≡ map g l
-map-all P f g h [] u = refl
-map-all {B = B} P f g h (a ∷ l) u = ap₂ {C = List B} (λ x y. x ∷ y) (h a (u .0)) (map-all P f g h l (u .1))
-
-pub map-ext : {A B : Type 0} (f g : A → B) → ((a : A) → f a ≡ g a) → (l : List A) → map f l ≡ map g l
-map-ext f g h l = map-all Any f g (λ a u. h a) l (all-any l)
 
 portion-root : (O : Opening) (g : ℕ) (p : Particle) → portion O g p .root ≡ p .root
 unfolding portion

@@ -1,7 +1,7 @@
 -- The theorems on histories of triangle meshes: `traced-always`, `held-always`, `copies-held`, `particles-bounded`, `afternoon`, `runs-bounded`, `room-suffices`. Assumes nothing.
 use mathlib.Core.Path.{_≡_, refl, sym, _∙_, ap, subst}
-use mathlib.Core.Bool.{Bool, true, false, not, _&&_, _||_}
-use mathlib.Core.Logic.{_⊎_, inl, inr, ⊎-elim}
+use mathlib.Core.Bool.{Bool, true, false, not, _&&_}
+use mathlib.Core.Logic.{_⊎_, ⊎-elim}
 use mathlib.Core.List.{List, [], _∷_, _++_, map, map-map}
 use Prim.Native.Nat.{ℕ, zero, suc, _+_, _*_, _<_, _≤_}
 use native.Mathlib.Omega.{arith}
@@ -10,7 +10,7 @@ use lib.Dec.{eqb, ltb}
 use lib.ListN.{length, getD}
 use lib.Ieee.{Float}
 use Rattle.lists.specs.Lists.{pick, stands, each, upTo}
-use Rattle.lists.proofs.Sifts.{stands-append, upTo-at, or-true}
+use Rattle.lists.proofs.Sifts.{stands-append, upTo-at, or-true, and-true, map-ext}
 use Rattle.float.proofs.Picks.{or-yes-1}
 use Rattle.model.specs.Mesh.{Triangle, Mesh, blankTriangle}
 use Rattle.model.specs.Valid.{numbersFit, indicesFit}
@@ -25,12 +25,14 @@ use Rattle.model.specs.Trace.{All, originOf, Sound, tracedBack, Hold, Kept}
 use Rattle.model.proofs.Traced.{origin-append}
 use Rattle.model.proofs.Kept.{accepted-sound, outcome-done, unless-done, no-refusal, cut-keeps, crack-keeps, split-keeps, straddlers-keep}
 use Rattle.model.proofs.Splitting.{Sided, sides-accepted}
-use Rattle.model.proofs.Laws.{and-true, false-true, all-over, all-append, each-append}
+use Rattle.model.proofs.Laws.{false-true, all-over, all-append, each-append}
 use Rattle.lineage.specs.History.{Begins, Moved, History, Called, cutting, cracking, splitting, removing, first, calling, moving, rootsOf, Lasting, inUse, mostParticles, Afternoon, EveryRun, Within, Unrefused, Roomy}
 use Rattle.lineage.proofs.Induction.{sides-kept, cut-kept, crack-kept, Kept as KeptBySteps}
 use Rattle.lineage.proofs.Counting.{among, among-room, among-most}
-use Rattle.lineage.proofs.Grown.{Grown, grown-same, grown-then, column, rootsBy, roots-by, map-all, map-ext, Growing, growing-start, growing-kept}
+use Rattle.lineage.proofs.Grown.{Grown, grown-same, grown-then, column, rootsBy, roots-by, Growing, growing-start, growing-kept}
 use Rattle.lineage.proofs.Moves.{moved-grown, by-corners}
+use Rattle.lists.proofs.Truths.{or-cases}
+use Rattle.model.proofs.Exactly.{map-on}
 
 -- ---- the runs of the calls on triangles
 
@@ -178,7 +180,7 @@ traced-always {M₀} {M} h =
       back = I .back;
       roots =
           I .grown .roots
-          ∙ map-all (Sound n) (rootsOf M₀) cornersOf (λ t S. roots-by M₀ t ∙ root-own (column M₀) n (I .begins .roots) t S) (M₀ .triangles) (accepted-sound M₀ (I .begins .indices));
+          ∙ map-on (Sound n) (rootsOf M₀) cornersOf (λ t S. roots-by M₀ t ∙ root-own (column M₀) n (I .begins .roots) t S) (M₀ .triangles) (accepted-sound M₀ (I .begins .indices));
     }
 
 -- Every copy in the logs belongs to a triangle.
@@ -190,10 +192,6 @@ pub copies-held : {M₀ M : Mesh} {log : List Entry} → History M₀ M log → 
 copies-held h x past there = line-of h .grown .fresh x past there
 
 -- ---- the number of particles
-
-or-case : (s t : Bool) → s || t ≡ true → (s ≡ true) ⊎ (t ≡ true)
-or-case true t e = inl refl
-or-case false t e = inr e
 
 -- what stands in the corners of some triangle stands in the corners of all, and back
 hold-stands : (x : ℕ) (ts : List Triangle) (i : ℕ) → i < length ts → stands x (cornersOf (getD ts i blankTriangle)) ≡ true → stands x (each cornersOf ts) ≡ true
@@ -207,7 +205,7 @@ unfolding each
 stands-hold x [] e = absurd (false-true e)
 stands-hold x (t ∷ ts) e =
     ⊎-elim (λ d. (0, (omega arith, d))) (λ d. let h = stands-hold x ts d in (suc (h .0), (let u = h .1 .0 in omega arith, h .1 .1)))
-    (or-case (stands x (cornersOf t)) (stands x (each cornersOf ts)) (sym (stands-append x (cornersOf t) (each cornersOf ts)) ∙ e))
+    (or-cases (stands x (cornersOf t)) (stands x (each cornersOf ts)) (sym (stands-append x (cornersOf t) (each cornersOf ts)) ∙ e))
 
 three-each : (ts : List Triangle) → length (each cornersOf ts) ≡ 3 * length ts
 unfolding each

@@ -11,7 +11,8 @@ use Rattle.model.specs.Elements.{cornersOf}
 use Rattle.model.specs.Trace.{All, Sound, Hold}
 use Rattle.model.proofs.Laws.{all-map, all-over}
 use Rattle.lineage.specs.History.{Moved, rootsOf}
-use Rattle.lineage.proofs.Grown.{Grown, column, rootsBy, roots-by, map-ext}
+use Rattle.lineage.proofs.Grown.{Grown, column, rootsBy, roots-by}
+use Rattle.lists.proofs.Sifts.{map-ext}
 
 -- how many, by a column
 pub as-many : {A B : Type 0} (f : A → B) (l l′ : List A) → map f l′ ≡ map f l → length l′ ≡ length l

@@ -26,6 +26,7 @@ use Rattle.model.specs.Mesh.{Particle, Mesh, blank}
 use Rattle.model.specs.Elements.{Kind}
 use Rattle.model.specs.Split.{Opening, openingOf, weightOf, totalOf, massOf, portion, copied}
 use Rattle.lineage.proofs.Again.{tests}
+use Rattle.lists.proofs.Truths.{untrue}
 
 -- either zero
 abbrev zero± : Bool → Float
@@ -38,10 +39,6 @@ round-zero s a c e h =
     let z : a ≡ 0 * c = e ∙ sym (zero-mul c) in
     let v : HasValue (round binary32 s a c) s 0 1 = subst (λ (x : ℕ). HasValue (round binary32 s x c) s 0 1) (sym z) (round-at s 0 c h (omega arith)) in
     same-value binary32 (round binary32 s a c) (zero± s) s 0 1 (omega arith) (round-fits binary32 s a c) tt v (refl, refl)
-
--- false is not true
-untrue : {P : Type 0} → _≡_ {A = Bool} false true → P
-untrue e = absurd (let z : _≡_ {A = ℕ} 0 1 = cc in omega arith)
 
 and-first : (a b : Bool) → (a && b) ≡ true → a ≡ true
 and-first true b e = refl

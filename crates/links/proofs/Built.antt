@@ -18,7 +18,8 @@ use Rattle.columns.specs.Block.{cell}
 use Rattle.columns.proofs.Cells.{next-col, col-fits, apart, apart-col}
 use Rattle.links.specs.Links.{lowest, holds, firstOf, nextOf, LinksOf}
 use Rattle.links.specs.Rooms.{BuildRoom, CornersApart, RowLent, CellLinked, Cleared}
-use Rattle.links.proofs.Lowest.{not-true, low-end, low-step}
+use Rattle.links.proofs.Lowest.{low-end, low-step}
+use Rattle.lists.proofs.Truths.{not-true}
 
 -- ---- one cell: after c of its corners
 

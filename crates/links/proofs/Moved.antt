@@ -18,8 +18,9 @@ use Rattle.model.specs.Split.{copyFor}
 use Rattle.mesh.specs.Workers.{groupOf}
 use Rattle.links.specs.Links.{lowest, holds, firstOf, nextOf, cellsOf, LinksOf, cornerAfter}
 use Rattle.links.specs.Rooms.{CornersApart, RowRead, ColumnOf, SplitRoom}
-use Rattle.links.proofs.Lowest.{not-true, false-true, bool-both, low-end, low-step, low-none, low-skip, low-ext, holds-made, holds-get, holds-none}
+use Rattle.links.proofs.Lowest.{false-true, bool-both, low-end, low-step, low-none, low-skip, low-ext, holds-made, holds-get, holds-none}
 use Rattle.links.proofs.Walked.{from, from-upTo}
+use Rattle.lists.proofs.Truths.{not-true}
 
 -- ---- a fan, place by place
 

@@ -1,4 +1,5 @@
--- The table that a call keeps beside the lent blocks: 1,024 heads, and behind them three columns of 1,024 links. Straps have none. Definitions only.
+-- The tables that a call keeps beside the lent blocks. That of the triangles has 1,024 heads, and behind them three columns of 1,024 links; straps have none.
+-- That of the edges has 1,024 heads, and behind them two columns of 2,048 links. Definitions only.
 use Prim.Native.Nat.{ℕ, _/_, _≤_}
 use mathlib.Core.Path.{_≡_}
 use mathlib.Core.List.{List}
@@ -22,6 +23,21 @@ pub record Linkable (K : Kind) (t : ℕ) (corners : List ℕ) (lt : ℕ) : Type 
   pub rows : t ≤ length corners / 3
   pub long : K ≡ Triangles → 4096 ≤ lt
   pub apart : K ≡ Triangles → CornersApart 1024 3 t (cell 0 (length corners / 3) corners)
+
+-- the table is that of the first e edges of the block, and each has two different ones of 1,024 particles
+pub record EdgesLinked (e : ℕ) (ends table : List ℕ) : Type 0 where
+  pub long : 5120 ≤ length table
+  pub few : e ≤ 2048
+  pub rows : e ≤ length ends / 4
+  pub are : LinksOf 1024 2 2048 e (cell 0 (length ends / 4) ends) table
+  pub apart : CornersApart 1024 2 e (cell 0 (length ends / 4) ends)
+
+-- such a table can be built in lt places
+pub record EdgesLinkable (e : ℕ) (ends : List ℕ) (lt : ℕ) : Type 0 where
+  pub long : 5120 ≤ lt
+  pub few : e ≤ 2048
+  pub rows : e ≤ length ends / 4
+  pub apart : CornersApart 1024 2 e (cell 0 (length ends / 4) ends)
 
 -- `Linked` of a block and a table, as a contract names them
 abbrev pub LinkedIn : Kind → Counts → IndicesIn → IndicesIn → Type 0

@@ -1,5 +1,6 @@
 -- The laws of the listing and of its writer.
 pub mod Decimal
+pub mod Lengths
 pub mod Entries
 pub mod Worked
 pub mod Appending

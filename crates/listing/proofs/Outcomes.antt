@@ -3,7 +3,7 @@ use Prim.Native.Nat.{ℕ, _-_, _≤_, _<_}
 use native.Mathlib.Omega.{arith}
 use native.Mathlib.Nat.{sub-zero}
 use native.Mathlib.Decide.{decLe}
-use mathlib.Core.Path.{_≡_, refl, sym, ap, _∙_}
+use mathlib.Core.Path.{_≡_, refl, sym, ap, subst, _∙_}
 use mathlib.Core.List.{List}
 use lib.ListN.{length, take, replicate}
 use lib.Seq.{take-at}
@@ -11,7 +11,7 @@ use borrow.Author.Tests.{le-leb, lt-leb}
 use Rattle.lists.specs.Lists.{padded}
 use Rattle.listing.specs.declared.Written.{Written}
 use Rattle.listing.specs.declared.Written.the-variants.{Short, Bytes}
-use Rattle.listing.specs.Answers.{answerFor, shownFor, Wrote}
+use Rattle.listing.specs.Answers.{answerFor, shownFor, Wrote, Told}
 
 -- the two cases of the contract
 pub record Whole (text : List ℕ) (lent : ℕ) (s : List ℕ) (r : Written) : Type 0 where
@@ -75,3 +75,16 @@ module _ (text : List ℕ) (lent : ℕ) (s : List ℕ) (r : Written) (w : Wrote 
 -- two outcomes of one call agree
 pub wrote-agree : (text : List ℕ) (lent : ℕ) (s s′ : List ℕ) (r r′ : Written) → Wrote text lent s r → Wrote text lent s′ r′ → (s ≡ s′) × (r ≡ r′)
 wrote-agree text lent s s′ r r′ w w′ = (w .bytes ∙ sym (w′ .bytes), w .answer ∙ sym (w′ .answer))
+
+-- ---- a text that 65,536 bytes are enough for
+
+-- so many lent bytes hold the whole text, and the answer is its length
+pub told-whole : (text : List ℕ) (lent : ℕ) (s : List ℕ) (r : Written) → Told text lent s r → 65536 ≤ lent → (r ≡ Bytes (length text)) × (take (length text) s ≡ text)
+told-whole text lent s Short T h = absurd (omega (arith, wrote-short text lent s Short (T .wrote) refl .0, T .enough))
+told-whole text lent s (Bytes n) T h =
+    let w = wrote-bytes text lent s (Bytes n) (T .wrote) n refl in
+    (ap Bytes (w .0), subst (λ (k : ℕ). take k s ≡ text) (w .0) (w .1))
+
+-- two outcomes of one call agree
+pub told-agree : (text : List ℕ) (lent : ℕ) (s s′ : List ℕ) (r r′ : Written) → Told text lent s r → Told text lent s′ r′ → (s ≡ s′) × (r ≡ r′)
+told-agree text lent s s′ r r′ T T′ = wrote-agree text lent s s′ r r′ (T .wrote) (T′ .wrote)

@@ -1,7 +1,7 @@
 -- The worked listing (docs/RULES.md, R15.7), byte for byte, of the model's cut of the worked mesh; the listing of its worked strap; a refusal; and numbers. Assumes nothing.
 use Prim.Native.Nat.{ℕ}
 use mathlib.Core.Path.{_≡_, refl, ap, _∙_}
-use mathlib.Core.Bool.{Bool, true, false}
+use mathlib.Core.Bool.{true, false}
 use mathlib.Core.List.{List, [], _∷_, map}
 use lib.IntN.{pos, negsuc}
 use lib.Ieee.{fin}
@@ -15,7 +15,7 @@ use Rattle.mesh.specs.Log.{wordsOf}
 use Rattle.listing.specs.Listing.{decimalBy, decimal, line, ofKind, replacedLine, listingBytes, refusedBytes, printed}
 
 -- `tear 1`, `split 4 0`, `split 5 2`, `edge 1 3`, `particles 6`, `pieces 2`, a line each
-abbrev worked-bytes : List ℕ
+abbrev pub worked-bytes : List ℕ
 worked-bytes =
     116 ∷ 101 ∷ 97 ∷ 114 ∷ 32 ∷ 49 ∷ 10
     ∷ 115 ∷ 112 ∷ 108 ∷ 105 ∷ 116 ∷ 32 ∷ 52 ∷ 32 ∷ 48 ∷ 10

@@ -1,5 +1,5 @@
 -- What a text leaves in lent bytes, and what the writer answers. Definitions only.
-use Prim.Native.Nat.{ℕ}
+use Prim.Native.Nat.{ℕ, _≤_}
 use mathlib.Core.Path.{_≡_}
 use mathlib.Core.List.{List, []}
 use lib.ListN.{length}
@@ -20,3 +20,8 @@ shownFor text lent = padded lent 0 (pick (leb (length text) lent) text [])
 pub record Wrote (text : List ℕ) (lent : ℕ) (s : List ℕ) (r : Written) : Type 0 where
   pub answer : r ≡ answerFor text lent
   pub bytes : s ≡ shownFor text lent
+
+-- what is told of a text that was to be written: the answer and every lent byte; and 65,536 bytes are always enough for it
+pub record Told (text : List ℕ) (lent : ℕ) (s : List ℕ) (r : Written) : Type 0 where
+  pub wrote : Wrote text lent s r
+  pub enough : length text ≤ 65536

@@ -1,4 +1,5 @@
--- Laws of the words on lists: of chains, tables and stores, tests on lists and their steps, walks, rows, and labels. Assumes nothing.
+-- Laws of the words on lists: of truth values, chains, tables and stores, tests on lists and their steps, walks, rows, and labels. Assumes nothing.
+pub mod Truths
 pub mod Chains
 pub mod Stores
 pub mod Sifts

@@ -301,3 +301,14 @@ upTo-below n x e =
 pub rising-stands : (n : ℕ) (l : List ℕ) (x : ℕ) → stands x (rising n l) ≡ stands x l && stands x (upTo n)
 unfolding rising
 rising-stands n l x = sift-stands (λ k. stands k l) x (upTo n)
+
+-- ---- functions that agree everywhere
+
+pub map-ext : {A B : Type 0} (f g : A → B) → ((a : A) → f a ≡ g a) → (l : List A) → map f l ≡ map g l
+map-ext f g h [] = refl
+map-ext {B = B} f g h (a ∷ l) = ap₂ {C = List B} (λ x y. x ∷ y) (h a) (map-ext f g h l)
+
+pub each-ext : {A B : Type 0} (f g : A → List B) → ((a : A) → f a ≡ g a) → (l : List A) → each f l ≡ each g l
+unfolding each
+each-ext f g h [] = refl
+each-ext {B = B} f g h (a ∷ l) = ap₂ {C = List B} (λ x y. x ++ y) (h a) (each-ext f g h l)

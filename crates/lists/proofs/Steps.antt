@@ -1,7 +1,7 @@
 -- Steps of loops: what one more place does to a test, a sift, a fold and the like, where a loop goes up a table, `tab (i + 1) f`,
 -- and where it goes through what is left of a list, `drop i l` (at the end: `drop-of-length-le` of lib.ListN). Assumes nothing.
-use mathlib.Core.Path.{_≡_, refl}
-use mathlib.Core.Bool.{Bool, true, false, _&&_, _||_}
+use mathlib.Core.Path.{_≡_}
+use mathlib.Core.Bool.{Bool, _&&_, _||_}
 use mathlib.Core.List.{List, [], _∷_, _++_, append-nil}
 use Prim.Native.Nat.{ℕ, _+_, _<_}
 use native.Mathlib.Numerals.{add-one}
@@ -9,14 +9,7 @@ use lib.ListN.{length, getD, drop}
 use lib.Seq.{drop-cons}
 use Rattle.lists.specs.Lists.{pick, any, all, sift, fold, each, tab}
 use Rattle.lists.proofs.Sifts.{any-append, all-append, sift-append, each-append, fold-append, tab-suc}
-
-and-end : (s : Bool) → s && true ≡ s
-and-end true = refl
-and-end false = refl
-
-or-end : (s : Bool) → s || false ≡ s
-or-end true = refl
-or-end false = refl
+use Rattle.lists.proofs.Truths.{and-end, or-end}
 
 -- one more row of a table
 pub tab-step : {A : Type 0} (f : ℕ → A) (i : ℕ) → tab (i + 1) f ≡ tab i f ++ (f i ∷ [])

@@ -33,21 +33,13 @@ use Rattle.work.specs.Places.{CornersIn}
 use Rattle.marks.specs.declared.Rule.{Rule}
 use Rattle.marks.specs.declared.Rule.the-variants.{Rounded}
 use Rattle.marks.specs.Marking.{Marks, MarkedBy, alikeBy, BesideTold, bladeBy, placeIn, PlacesIn, metIn, metOf, candidateEnds, CandidatesMarked, splitWords, endsIn, NearMarked, SplitFound, marked?, nearRow, pinchedEnds, PinchedMarked}
+use Rattle.lists.proofs.Truths.{or-end, mark-or}
 
 -- ---- one more mark
 
 or-yes : (s : Bool) → s || true ≡ true
 or-yes true = refl
 or-yes false = refl
-
-or-end : (s : Bool) → s || false ≡ s
-or-end true = refl
-or-end false = refl
-
-pick-or : (s t : Bool) (x : ℕ) → pick t 1 (pick s 1 x) ≡ pick (s || t) 1 x
-pick-or true true x = refl
-pick-or true false x = refl
-pick-or false t x = refl
 
 -- nothing is marked
 pub marked-none : (m : List ℕ) → MarkedBy [] m m
@@ -74,7 +66,7 @@ marked-then a b m m′ m″ e A B =
     record {
       mark = λ k h.
           B .mark k (subst (λ (n : ℕ). k < n) (sym e) h) ∙ ap (pick (stands k b) 1) (A .mark k h)
-          ∙ pick-or (stands k a) (stands k b) (getD m k 0) ∙ ap (λ (s : Bool). pick s 1 (getD m k 0)) (sym (stands-append k a b));
+          ∙ mark-or (stands k a) (stands k b) (getD m k 0) ∙ ap (λ (s : Bool). pick s 1 (getD m k 0)) (sym (stands-append k a b));
     }
 
 -- three, one behind the other
@@ -97,13 +89,13 @@ unfolding padded
 cleared-length n m e = let l : length m ≡ n - 0 = ap length e ∙ length-replicate (n - 0) 0 in omega arith
 
 -- and more of them
-marks-more : (a b m m′ : List ℕ) → length m′ ≡ length m → Marks a m → MarkedBy b m m′ → Marks (a ++ b) m′
+pub marks-more : (a b m m′ : List ℕ) → length m′ ≡ length m → Marks a m → MarkedBy b m m′ → Marks (a ++ b) m′
 marks-more a b m m′ e A B =
     record {
       mark = λ k h.
           let l : k < length m = omega arith in
           B .mark k l ∙ ap (pick (stands k b) 1) (A .mark k l)
-          ∙ pick-or (stands k a) (stands k b) 0 ∙ ap (λ (s : Bool). pick s 1 0) (sym (stands-append k a b));
+          ∙ mark-or (stands k a) (stands k b) 0 ∙ ap (λ (s : Bool). pick s 1 0) (sym (stands-append k a b));
     }
 
 -- row by row
@@ -276,7 +268,7 @@ split-here log l i h e =
 -- ---- pinched
 
 -- a mark tells whether a number stands
-mark-tells : (s : Bool) (x : ℕ) → x ≡ pick s 1 0 → eqb x 1 ≡ s
+pub mark-tells : (s : Bool) (x : ℕ) → x ≡ pick s 1 0 → eqb x 1 ≡ s
 mark-tells true x e = eq-eqb x 1 e
 mark-tells false x e = ne-eqb x 1 (λ q. omega arith)
 

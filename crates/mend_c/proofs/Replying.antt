@@ -1,15 +1,15 @@
 -- Each end of mending through C. Assumes nothing.
-use Prim.Native.Nat.{ℕ, _-_, _*_, _<_, _≤_}
-use mathlib.Core.Path.{_≡_, refl, sym, ap, ap₂, _∙_, subst}
+use Prim.Native.Nat.{ℕ, _*_, _<_, _≤_}
+use mathlib.Core.Path.{_≡_, refl, sym, ap, _∙_, subst}
 use mathlib.Core.Bool.{Bool, true, false, _&&_}
 use mathlib.Core.List.{List, [], _∷_}
 use native.Mathlib.Omega.{arith}
-use native.Mathlib.Nat.{sub-zero}
 use borrow.Author.Tests.{le-leb, lt-leb}
 use lib.Dec.{leb}
 use lib.ListN.{length, replicate}
 use Rattle.lists.specs.Lists.{pick, padded}
 use Rattle.bits.specs.Bits.{bitsOf}
+use Rattle.bits.proofs.Laws.{bits-none}
 use Rattle.image.specs.Words.{written}
 use Rattle.model.specs.Reads.{refused as no}
 use Rattle.replies.specs.Reply.{Replied}
@@ -17,20 +17,10 @@ use Rattle.mending.specs.Sheets.{Mending, mended, refused, mendOf}
 use Rattle.mender.specs.Answers.{fits, answerFor, bytesOf, textOf, MendDone}
 use Rattle.mender.specs.declared.Mended.{Mended}
 use Rattle.mender.specs.declared.Mended.the-variants.{Bytes, Short, Refused}
+use Rattle.mender.proofs.Done.{padded-none}
 use Rattle.mender.proofs.Ends.{tell, refused-tell, small-code}
 use Rattle.mend_c.specs.Mends.{allFit, codeFor, MendReplied}
-
-padded-none : (n : ℕ) → padded {A = ℕ} n 0 [] ≡ replicate n 0
-unfolding padded
-padded-none n = ap (λ (k : ℕ). replicate k 0) (sub-zero n)
-
-bits-none : bitsOf [] ≡ []
-unfolding bitsOf
-bits-none = refl
-
-and-end : (x : Bool) → (x && true) ≡ x
-and-end true = refl
-and-end false = refl
+use Rattle.lists.proofs.Truths.{and-end}
 
 and-not : (x : Bool) → (x && false) ≡ false
 and-not true = refl

@@ -1,8 +1,8 @@
 -- What the mender leaves and answers: each of its ends. Assumes nothing.
-use Prim.Native.Nat.{ℕ, zero, suc, _+_, _-_, _*_, _<_, _≤_}
-use mathlib.Core.Path.{_≡_, refl, sym, ap, ap₂, _∙_, subst}
+use Prim.Native.Nat.{ℕ, _+_, _-_, _*_, _<_, _≤_}
+use mathlib.Core.Path.{_≡_, refl, sym, ap, _∙_, subst}
 use mathlib.Core.Bool.{Bool, true, false, _&&_}
-use mathlib.Core.List.{List, [], _∷_, _++_, append-assoc}
+use mathlib.Core.List.{List, [], _++_, append-assoc}
 use native.Mathlib.Omega.{arith}
 use native.Mathlib.Nat.{sub-zero}
 use borrow.Author.Tests.{le-leb, lt-leb}
@@ -10,28 +10,26 @@ use lib.Dec.{leb}
 use lib.ListN.{length, replicate, length-append, length-replicate, replicate-append-replicate}
 use Rattle.lists.specs.Lists.{pick, padded}
 use Rattle.bits.specs.Bits.{bitsOf}
+use Rattle.bits.proofs.Laws.{bits-none}
 use Rattle.sheet.specs.Sheet.{Sheet, countsAt, countsOf, sheetWith}
-use Rattle.edition.specs.Edition.{second, bitsIn, bytesIn, typedOf, endIn}
+use Rattle.edition.specs.Edition.{second, bitsIn, bytesIn, typedOf}
 use Rattle.listing.specs.Answers.{Wrote, answerFor as toldFor, shownFor}
-use Rattle.listing.specs.Work.{Finishes, Holds}
+use Rattle.listing.specs.Work.{Finishes}
 use Rattle.listing.specs.declared.Written.{Written}
 use Rattle.listing.specs.declared.Written.the-variants.{Short as Cut, Bytes as Told}
 use Rattle.mending.specs.Sheets.{Mending, mended, refused, mendedSheet, bitsAs, sheetBytes, saidOf, mendOf}
 use Rattle.mending.specs.Work.{saidBy, Mendable}
-use Rattle.mending.proofs.Bytes.{as-length, end-inside, sheet-bits, sheet-length, spareAs, held-mend, typed-is}
+use Rattle.mending.proofs.Bytes.{as-length, end-inside, sheet-bits, sheet-length, held-mend, typed-is}
 use Rattle.mender.specs.Answers.{fits, answerFor, bytesOf, textOf, MendDone}
 use Rattle.mender.specs.declared.Mended.{Mended}
 use Rattle.mender.specs.declared.Mended.the-variants.{Bytes, Short, Refused}
 use Rattle.mender.specs.Work.{Marked}
 use Rattle.mender.proofs.Whole.{marked-said, plain}
 
-padded-none : (n : ℕ) → padded {A = ℕ} n 0 [] ≡ replicate n 0
+-- zeros alone
+pub padded-none : (n : ℕ) → padded {A = ℕ} n 0 [] ≡ replicate n 0
 unfolding padded
 padded-none n = ap (λ (k : ℕ). replicate k 0) (sub-zero n)
-
-bits-none : bitsOf [] ≡ []
-unfolding bitsOf
-bits-none = refl
 
 -- zeros behind a list are zeros behind it
 padded-more : (n k : ℕ) (x : List ℕ) → length x + k ≤ n → padded n 0 (x ++ replicate k 0) ≡ padded n 0 x

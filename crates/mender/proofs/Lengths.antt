@@ -1,10 +1,9 @@
 -- How long the mended sheet and the text can be: 17,292 and 99,328 bytes, so that such rooms hold every answer. Assumes nothing.
-use Prim.Native.Nat.{ℕ, zero, suc, _+_, _-_, _*_, _/_, _%_, _<_, _≤_}
-use mathlib.Core.Path.{_≡_, refl, sym, ap, _∙_, subst}
-use mathlib.Core.Bool.{Bool, true, false, _&&_, false≢true}
+use Prim.Native.Nat.{ℕ, suc, _+_, _*_, _<_, _≤_}
+use mathlib.Core.Path.{_≡_, refl, sym, ap, _∙_}
+use mathlib.Core.Bool.{Bool, true, false, false≢true}
 use mathlib.Core.List.{List, [], _∷_, _++_}
 use native.Mathlib.Omega.{arith}
-use native.Mathlib.Decide.{decLe, ℕ-discrete}
 use native.Mathlib.Nat.{suc-mul}
 use borrow.Author.Tests.{eqb-true, ne-eqb, le-leb}
 use lib.Dec.{eqb, leb}
@@ -14,32 +13,17 @@ use Rattle.bits.specs.Bits.{bitsOf}
 use Rattle.sheet.specs.Sheet.{Sheet, countsAt, countsOf}
 use Rattle.sheet.specs.declared.Counts.{Counts}
 use Rattle.edition.specs.Edition.{second, bitsIn, bytesIn, typedOf}
-use Rattle.listing.specs.Listing.{digit, decimal, spaced, edgeWord}
-use Rattle.listing.proofs.Decimal.{decimal-small, decimal-more}
+use Rattle.listing.specs.Listing.{spaced, edgeWord}
+use Rattle.listing.proofs.Lengths.{four-digits}
 use Rattle.mending.specs.Mending.{Why, absent, twice, double, Drop}
 use Rattle.mending.specs.Sheets.{Mending, mended, refused, mendedSheet, sheetBytes, dropLine, whyWord, triangleWord, boundaryWord, saidOf, mendOf}
-use Rattle.mending.specs.Work.{causeBy, doubleBy, saidBy, codesOf, boundaryFrom, Mendable}
-use Rattle.mending.proofs.Bytes.{Answered, answered, sheet-length, typed-is}
-use Rattle.mender.specs.Answers.{fits, answerFor, MendDone}
+use Rattle.mending.specs.Work.{causeBy, doubleBy, saidBy, codesOf, boundaryFrom}
+use Rattle.mending.proofs.Bytes.{answered, sheet-length, typed-is}
+use Rattle.mender.specs.Answers.{answerFor, MendDone}
 use Rattle.mender.specs.declared.Mended.{Mended}
-use Rattle.mender.specs.declared.Mended.the-variants.{Bytes, Short, Refused}
+use Rattle.mender.specs.declared.Mended.the-variants.{Bytes, Short}
 use Rattle.mender.specs.Work.{Marked}
 use Rattle.mender.proofs.Whole.{few-held, few-out, many, long-t, long-e, long-b, marked-said}
-
--- ---- digits
-
-one-digit : (n : ℕ) → n < 10 → length (decimal n) ≤ 1
-one-digit n h = omega (arith, ap length (decimal-small n h))
-
-more-digits : (n m k : ℕ) → n < 10 * m → ((j : ℕ) → j < m → length (decimal j) ≤ k) → 1 ≤ k → length (decimal n) ≤ k + 1
-more-digits n m k h f o =
-    elim (decLe 10 n) [
-      | yes l ↦ let q = f (n / 10) (omega arith) in omega (arith, ap length (decimal-more n l), length-append (decimal (n / 10)) (digit (n % 10) ∷ []))
-      | no l ↦ let q = one-digit n (omega arith) in omega arith
-    ]
-
-four-digits : (n : ℕ) → n < 10000 → length (decimal n) ≤ 4
-four-digits n h = more-digits n 1000 3 (omega arith) (λ i hi. more-digits i 100 2 (omega arith) (λ j hj. more-digits j 10 1 (omega arith) one-digit (omega arith)) (omega arith)) (omega arith)
 
 -- ---- lines
 

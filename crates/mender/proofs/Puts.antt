@@ -1,21 +1,23 @@
 -- Laws of the mended sheet written part by part, and of the fates read from bits. Assumes nothing.
-use Prim.Native.Nat.{ℕ, zero, suc, _+_, _-_, _*_, _/_, _^_, _<_, _≤_}
-use mathlib.Core.Path.{_≡_, refl, sym, ap, ap₂, _∙_, subst}
+use Prim.Native.Nat.{ℕ, zero, suc, _+_, _-_, _*_, _/_, _<_, _≤_}
+use mathlib.Core.Path.{_≡_, refl, sym, ap, ap₂, _∙_}
 use mathlib.Core.Bool.{Bool, true, false, true≢false, false≢true}
 use mathlib.Core.List.{List, [], _∷_, _++_, append-assoc, append-nil}
 use native.Mathlib.Omega.{arith}
 use native.Mathlib.Numerals.{add-one}
 use borrow.Author.Tests.{eq-eqb, ne-eqb}
 use lib.Dec.{eqb}
-use lib.ListN.{length, take, drop, getD, set, replicate, length-append, drop-of-length-le}
+use lib.ListN.{length, take, drop, getD, set, drop-of-length-le}
 use lib.Seq.{sets, drop-drop, drop-cons, take-all}
 use Rattle.lists.specs.Lists.{pick}
 use Rattle.bits.specs.Bits.{bits, bitsOf, num, fieldAt}
 use Rattle.bits.specs.Rows.{total, unpack, pack, readRows, writeRows}
 use Rattle.bits.proofs.RowLaws.{sets-then, length-pack, take-store}
-use Rattle.sheet.specs.Sheet.{Sheet, triangleW, edgeW, headerW, headerOf, bladeW, boundaryW, countsOf, endOf}
+use Rattle.sheet.specs.Sheet.{triangleW, edgeW, bladeW, boundaryW, endOf}
 use Rattle.sheet.specs.declared.Counts.{Counts}
-use Rattle.edition.specs.Edition.{header2W, bytesIn}
+use Rattle.sheet.proofs.MeshReads.{blade-row}
+use Rattle.edition.specs.Edition.{bytesIn}
+use Rattle.edition.proofs.Editions.{header-parts}
 use Rattle.mending.specs.Mending.{fateOf}
 use Rattle.mending.specs.Work.{codeOf, rowCode, keptBy, oneOf, zerosOf, codesOf}
 use Rattle.mender.specs.Work.{codesAt, stepOf, OneKept, headerAs}
@@ -60,21 +62,11 @@ unpack3 l at w0 w1 w2 =
     let f : drop (at + w0 + w1) l ≡ drop w1 (drop w0 (drop at l)) = sym (drop-drop w1 (at + w0) l) ∙ ap (drop w1) e in
     ap₂ (λ (x y : List ℕ). num (take w0 (drop at l)) ∷ num (take w1 x) ∷ num (take w2 y) ∷ []) e f
 
-pub unpack4 : (l : List ℕ) (at : ℕ) → fieldAt l at 11 ∷ fieldAt l (at + 11) 11 ∷ fieldAt l (at + 22) 11 ∷ fieldAt l (at + 33) 11 ∷ [] ≡ unpack bladeW (drop at l)
-unfolding unpack
-unpack4 l at =
-    let a : at + 22 ≡ at + 11 + 11 = omega arith in
-    let b : at + 33 ≡ at + 22 + 11 = omega arith in
-    let e : drop (at + 11) l ≡ drop 11 (drop at l) = sym (drop-drop 11 at l) in
-    let f : drop (at + 22) l ≡ drop 11 (drop 11 (drop at l)) = ap (λ (k : ℕ). drop k l) a ∙ (sym (drop-drop 11 (at + 11) l) ∙ ap (drop 11) e) in
-    let g : drop (at + 33) l ≡ drop 11 (drop 11 (drop 11 (drop at l))) = ap (λ (k : ℕ). drop k l) b ∙ (sym (drop-drop 11 (at + 22) l) ∙ ap (drop 11) f) in
-    λ i. num (take 11 (drop at l)) ∷ num (take 11 (e i)) ∷ num (take 11 (f i)) ∷ num (take 11 (g i)) ∷ []
-
 pub blade-put : (l m m′ : List ℕ) (at to a b c d : ℕ) → a ≡ fieldAt l at 11 → b ≡ fieldAt l (at + 11) 11 → c ≡ fieldAt l (at + 22) 11 → d ≡ fieldAt l (at + 33) 11
     → m′ ≡ sets m to (pack (11 ∷ 11 ∷ 11 ∷ 11 ∷ []) (a ∷ b ∷ c ∷ d ∷ [])) → m′ ≡ sets m to (pack bladeW (unpack bladeW (drop at l)))
 blade-put l m m′ at to a b c d ea eb ec ed e =
     let k : a ∷ b ∷ c ∷ d ∷ [] ≡ fieldAt l at 11 ∷ fieldAt l (at + 11) 11 ∷ fieldAt l (at + 22) 11 ∷ fieldAt l (at + 33) 11 ∷ [] = λ i. ea i ∷ eb i ∷ ec i ∷ ed i ∷ [] in
-    e ∙ ap (λ (x : List ℕ). sets m to (pack bladeW x)) (k ∙ unpack4 l at)
+    e ∙ ap (λ (x : List ℕ). sets m to (pack bladeW x)) (k ∙ blade-row l at)
 
 pub one-put : (s out out′ : List ℕ) (at to w0 w1 w2 code a b c : ℕ) → code ≡ 0 → a ≡ fieldAt (bitsOf s) at w0 → b ≡ fieldAt (bitsOf s) (at + w0) w1 → c ≡ fieldAt (bitsOf s) (at + w0 + w1) w2
     → bitsOf out′ ≡ sets (bitsOf out) to (pack (w0 ∷ w1 ∷ w2 ∷ []) (a ∷ b ∷ c ∷ [])) → OneKept s at w0 w1 w2 code out to out′ (to + (w0 + w1 + w2))
@@ -183,10 +175,6 @@ kept-pairs l (c ∷ cs) (suc n) =
     ∙ sym (kept-cons boundaryW l c cs n))
 
 -- ---- the header
-
-header-parts : (p t e : ℕ) → pack (11 ∷ 11 ∷ 11 ∷ []) (2047 ∷ p ∷ t ∷ []) ++ bits 12 e ≡ pack header2W (2047 ∷ p ∷ t ∷ e ∷ [])
-unfolding pack
-header-parts p t e = simp (append-assoc, append-nil)
 
 pub header-two : (second : Bool) (c : Counts) (m m1 m2 : List ℕ) → second ≡ true → m1 ≡ sets m 0 (pack (11 ∷ 11 ∷ 11 ∷ []) (2047 ∷ c .particles ∷ c .triangles ∷ [])) → m2 ≡ sets m1 33 (bits 12 (c .edges)) → m2 ≡ sets m 0 (headerAs second c)
 unfolding headerAs total

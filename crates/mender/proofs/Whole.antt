@@ -1,33 +1,31 @@
 -- Laws of a whole sheet mended: where its lists stand, what the columns of fates leave of them, and the mended sheet put together. Assumes nothing.
-use Prim.Native.Nat.{ℕ, zero, suc, _+_, _-_, _*_, _^_, _<_, _≤_}
+use Prim.Native.Nat.{ℕ, zero, suc, _+_, _*_, _^_, _<_, _≤_}
 use mathlib.Core.Path.{_≡_, refl, sym, ap, ap₂, _∙_, subst}
 use mathlib.Core.Bool.{Bool, true, false}
-use mathlib.Core.List.{List, [], _∷_, _++_, append-assoc}
+use mathlib.Core.List.{List, [], _∷_, _++_}
 use native.Mathlib.Omega.{arith}
 use lib.ListN.{length, take, drop, replicate, length-map}
-use lib.Seq.{sets, take-at}
-use lib.Dec.{eqb}
-use Rattle.lists.specs.Lists.{pick, padded}
+use lib.Seq.{take-at}
+use Rattle.lists.specs.Lists.{pick}
 use Rattle.bits.specs.Bits.{bitsOf}
-use Rattle.bits.specs.Rows.{total, unpack, pack, readRows, writeRows, FitAll, col, columnAt}
-use Rattle.bits.proofs.RowLaws.{sets-then, length-pack, length-writeRows, length-read, col-at}
-use Rattle.sheet.specs.Sheet.{Sheet, sheetBits, sheetWith, countsAt, countsOf, headerW, headerOf, particleW, triangleW, edgeW, boundaryW, bladeW, endOf, atTriangles, atEdges, atBoundary, atBlade, tooMany}
+use Rattle.bits.specs.Rows.{total, unpack, readRows, FitAll, col, columnAt}
+use Rattle.bits.proofs.RowLaws.{length-read, col-at, take-zeros}
+use Rattle.sheet.specs.Sheet.{Sheet, sheetWith, countsAt, countsOf, particleW, triangleW, edgeW, boundaryW, bladeW, atTriangles, atEdges, atBoundary, atBlade, tooMany}
 use Rattle.sheet.specs.Work.{Small}
 use Rattle.sheet.specs.declared.Counts.{Counts}
 use Rattle.sheet.proofs.There.{limits}
-use Rattle.sheet.proofs.PutLaws.{sets-zeros}
-use Rattle.edition.specs.Edition.{second, bitsIn, header2W, sheet2Bits, endIn, bytesIn, typedOf}
+use Rattle.edition.specs.Edition.{second, bitsIn, bytesIn, typedOf}
 use Rattle.edition.specs.Work.{startOf}
 use Rattle.edition.proofs.Starts.{starts-at, start-most, header-bits}
-use Rattle.mending.specs.Mending.{mendedRows, mendedBoundary}
-use Rattle.mending.specs.Sheets.{mendedSheet, bitsAs, sheetBytes, saidOf}
+use Rattle.edition.proofs.Fields.{least-bytes}
+use Rattle.mending.specs.Sheets.{mendedSheet, saidOf}
 use Rattle.mending.specs.Work.{keptBy, oneOf, zerosOf, codesOf, boundaryFrom, saidBy, doubleCodes, Mendable}
 use Rattle.mending.proofs.Codes.{codes-kept, boundary-kept, marks-boundary, said-is}
 use Rattle.mending.proofs.Marks.{zeros-kept}
 use Rattle.mending.proofs.Sheets.{mended-few}
-use Rattle.mending.proofs.Bytes.{Plain, as-length, end-inside, twelve, held-six, held-fit, held-few, held-plain, mended-plain, typed-is}
+use Rattle.mending.proofs.Bytes.{Plain, held-six, held-fit, held-few, held-plain, mended-plain, typed-is}
 use Rattle.mender.specs.Work.{codesAt, Marked, KeptIn}
-use Rattle.mender.proofs.Puts.{marks-three, marks-edges, marks-pairs, kept-pairs}
+use Rattle.mender.proofs.Puts.{marks-three, marks-edges, marks-pairs}
 
 -- ---- how large a sheet is
 
@@ -128,11 +126,6 @@ kept-all [] (suc n) e = refl
 kept-all (r ∷ rs) zero e = absurd (omega arith)
 kept-all (r ∷ rs) (suc n) e = ap (λ (x : List (List ℕ)). r ∷ x) (kept-all rs n (omega arith))
 
-pub take-zeros : (n m : ℕ) → n ≤ m → take n (replicate {A = ℕ} m 0) ≡ replicate n 0
-take-zeros zero m h = refl
-take-zeros (suc n) zero h = absurd (omega arith)
-take-zeros (suc n) (suc m) h = ap (λ (x : List ℕ). 0 ∷ x) (take-zeros n m (omega arith))
-
 boundary-long : (n : ℕ) (past rows : List (List ℕ)) → length (boundaryFrom n past rows) ≡ length rows
 unfolding boundaryFrom
 boundary-long n past [] = refl
@@ -213,7 +206,7 @@ module _ (s t e b : List ℕ) (a : Mendable s) (k : Marked s t e b) where
       → (start + length (M .particles) * 23 + length (M .triangles) * 30 + length (M .edges) * 21 + length (M .boundary) * 20 + 44 ≤ 8 * n) × (11 ≤ n)
   room-out n start es h =
       let r = reach-by (second (bitsOf s)) (bytesIn (second (bitsOf s)) (countsOf M)) (countsOf M) refl in
-      let w = twelve (second (bitsOf s)) (countsOf M) in
+      let w = least-bytes (second (bitsOf s)) (countsOf M) in
       (omega arith, omega arith)
 
   pub few-out : (length (M .particles) ≤ 1024) × (length (M .triangles) ≤ 1024) × (length (M .edges) ≤ 2048) × (length (M .boundary) ≤ 2048)

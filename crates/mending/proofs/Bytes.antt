@@ -1,40 +1,35 @@
 -- Mending over bytes of either edition: same-bytes, mended-once, mended-whole, and that the mended bytes mean the mended sheet. Assumes nothing.
-use Prim.Native.Nat.{ℕ, zero, suc, _+_, _-_, _*_, _^_, _/_, _%_, _<_, _≤_}
+use Prim.Native.Nat.{ℕ, zero, suc, _-_, _*_, _<_, _≤_}
 use mathlib.Core.Path.{_≡_, refl, ap, ap₂, sym, _∙_, subst}
 use mathlib.Core.List.{List, [], _∷_, _++_}
-use mathlib.Core.Bool.{Bool, true, false, cond, _||_}
+use mathlib.Core.Bool.{Bool, true, false, cond}
 use native.Mathlib.Omega.{arith}
-use native.Mathlib.Nat.{zero-div}
 use borrow.Author.Tests.{eq-eqb, ne-eqb, eqb-true, le-ltb}
 use lib.Dec.{eqb, ltb}
 use lib.ListN.{length, take, drop, getD, replicate, length-append, length-drop, length-replicate, take-append-drop}
 use lib.Seq.{drop-at, take-all, length-take-le}
 use Rattle.lists.specs.Lists.{padded}
 use Rattle.bits.specs.Bits.{bits, bitsOf, num, fieldAt}
-use Rattle.bits.specs.Rows.{total, pack, readRows, writeRows, FitAll, Fit}
+use Rattle.bits.specs.Rows.{pack, readRows, writeRows}
 use Rattle.bits.proofs.Laws.{length-bitsOf, num-lt, bits-num}
-use Rattle.bits.proofs.RowLaws.{AllBits, bits-bitsOf, bits-drop, bits-take, fit-read, fit-unpack, length-read}
-use Rattle.sheet.specs.Sheet.{Sheet, FitSheet, above, most, sheetBits, sheetWith, countsOf, countsAt, headerOf, headerW, particleW, triangleW, edgeW, boundaryW, bladeW, endOf, tooMany, namesOK, atTriangles, atEdges, atBoundary, atBlade}
+use Rattle.bits.proofs.RowLaws.{AllBits, bits-append, bits-zeros, zeros-of, bits-bitsOf, bits-drop, bits-take}
+use Rattle.sheet.specs.Sheet.{Sheet, FitSheet, most, sheetBits, sheetWith, countsOf, countsAt, headerOf, headerW, particleW, triangleW, edgeW, boundaryW, bladeW, endOf, tooMany, namesOK, atBoundary}
 use Rattle.sheet.specs.declared.Counts.{Counts}
 use Rattle.sheet.specs.declared.Seen.the-variants.{Whole}
-use Rattle.sheet.proofs.Trip.{counts-read, read-of-write, write-of-read, length-sheetBits}
-use Rattle.sheet.proofs.There.{num-zeros, fit-header, limits}
+use Rattle.sheet.proofs.Trip.{same-counts, counts-read, read-of-write, write-of-read, length-sheetBits}
+use Rattle.sheet.proofs.There.{num-zeros, limits}
 use Rattle.sheet.proofs.Back.{bitsOf-inj}
-use Rattle.edition.specs.Edition.{second, bitsIn, asFirst, header2W, sheet2Bits, bounded, endIn, bytesIn, spareIn, typedOf, typedWith, typedSeen}
+use Rattle.edition.specs.Edition.{second, bitsIn, header2W, sheet2Bits, bounded, endIn, bytesIn, spareIn, typedOf, typedWith, typedSeen}
 use Rattle.edition.specs.Work.{TypedIn}
-use Rattle.edition.proofs.Editions.{is-second, bits-in, first-bits, first-long, counts-second, read-written, length-second}
+use Rattle.edition.proofs.Editions.{is-second, bits-in, first-long, counts-second, read-written, length-second}
 use Rattle.edition.proofs.Starts.{in-second, in-first, typed-in, header-bits}
+use Rattle.edition.proofs.Fields.{least-bytes, typed-six, typed-counts, all-bits, inside, typed-fit}
 use Rattle.mending.specs.Mending.{placedFrom, lawful, firsts, mendedBoundary, apart}
-use Rattle.mending.specs.Sheets.{mendedSheet, bytesFrom, bitsAs, sheetBytes, saidOf, Mending, mended, refused, mendWith, mendOf}
+use Rattle.mending.specs.Sheets.{mendedSheet, bytesFrom, bitsAs, sheetBytes, saidOf, mended, refused, mendWith, mendOf}
 use Rattle.mending.specs.Work.{Mendable}
 use Rattle.mending.proofs.Sheets.{mended-few, mended-fit, mended-names, mended-apart, sheet-same, sheet-once}
 
 -- ---- a sheet's bits are bits
-
-bits-append : (a b : List ℕ) → AllBits a → AllBits b → AllBits (a ++ b)
-bits-append [] b f g i = g i
-bits-append (x ∷ a) b f g zero = f 0
-bits-append (x ∷ a) b f g (suc i) = bits-append a b (λ j. f (suc j)) g i
 
 bits-number : (w n : ℕ) → AllBits (bits w n)
 unfolding bits
@@ -51,11 +46,6 @@ bits-rows : (ws : List ℕ) (rs : List (List ℕ)) → AllBits (writeRows ws rs)
 unfolding writeRows
 bits-rows ws [] i = omega arith
 bits-rows ws (r ∷ rs) i = bits-append (pack ws r) (writeRows ws rs) (bits-pack ws r) (bits-rows ws rs) i
-
-bits-zeros : (n : ℕ) → AllBits (replicate n 0)
-bits-zeros zero i = omega arith
-bits-zeros (suc n) zero = omega arith
-bits-zeros (suc n) (suc i) = bits-zeros n i
 
 bits-first : (s : Sheet) → AllBits (sheetBits s)
 unfolding sheetBits
@@ -141,10 +131,6 @@ pub end-inside : (t : Bool) (c : Counts) → endIn t c ≤ 8 * bytesIn t c
 end-inside true c = omega arith
 end-inside false c = omega arith
 
-pub twelve : (t : Bool) (c : Counts) → 11 ≤ bytesIn t c
-twelve true c = omega arith
-twelve false c = omega arith
-
 module _ (t : Bool) (s : Sheet) (p : Plain t s) where
   frame-length : length (bitsAs t s ++ spareAs t s) ≡ 8 * bytesIn t (countsOf s)
   frame-length =
@@ -170,15 +156,6 @@ module _ (t : Bool) (s : Sheet) (p : Plain t s) where
 pub sheet-length : (t : Bool) (s : Sheet) → length (sheetBytes t s) ≡ bytesIn t (countsOf s)
 unfolding sheetBytes
 sheet-length t s = bytes-length (bytesIn t (countsOf s)) (padded (8 * bytesIn t (countsOf s)) 0 (bitsAs t s))
-
--- counts are equal where their headers are
-pub same-counts : (c d : Counts) → headerOf c ≡ headerOf d → c ≡ d
-same-counts c d e =
-    let p : c .particles ≡ d .particles = cc in
-    let t : c .triangles ≡ d .triangles = cc in
-    let g : c .edges ≡ d .edges = cc in
-    let b : c .boundary ≡ d .boundary = cc in
-    λ i. record { particles = p i; triangles = t i; edges = g i; boundary = b i }
 
 no-more : (s : Sheet) → s .boundary ≡ [] → bounded [] s ≡ s
 no-more s p = ap (λ (b : List (List ℕ)). bounded b s) (sym p)
@@ -234,7 +211,7 @@ module _ (t : Bool) (s : Sheet) (p : Plain t s) (f : FitSheet s) (few : tooMany 
   bytes-seen names =
       let c = countsOf s in
       let n : length (sheetBytes t s) ≡ bytesIn t c = sheet-length t s in
-      let z = twelve t c in
+      let z = least-bytes t c in
       let m : namesOK (sheetWith c (bitsIn (bitsOf (sheetBytes t s)))) ≡ true = ap namesOK bytes-mean ∙ names in
       let six : ltb (length (sheetBytes t s)) 6 ≡ false = le-ltb (length (sheetBytes t s)) 6 (omega arith) in
       let long : eqb (length (sheetBytes t s)) (bytesIn (second (bitsOf (sheetBytes t s))) c) ≡ true = eq-eqb (length (sheetBytes t s)) (bytesIn (second (bitsOf (sheetBytes t s))) c) (n ∙ ap (λ (u : Bool). bytesIn u c) (sym bytes-edition)) in
@@ -262,48 +239,16 @@ module _ (s : List ℕ) (a : Mendable s) where
   l = bitsIn (bitsOf s)
 
   pub held-six : 6 ≤ length s
-  held-six = let g = a .long in let z = twelve (editionOf s) c in omega arith
-
-  in-bits : (t : Bool) → editionOf s ≡ t → AllBits l
-  in-bits true e = subst AllBits (sym (in-second (bitsOf s) e)) (first-bits (bitsOf s) (bits-bitsOf s) e (header-bits s held-six))
-  in-bits false e = subst AllBits (sym (in-first (bitsOf s) e)) (bits-bitsOf s)
-
-  pub all-bits : AllBits l
-  all-bits = in-bits (editionOf s) refl
-
-  inside-by : (t : Bool) → editionOf s ≡ t → endOf c ≤ length l
-  inside-by true e =
-      let g : length s ≡ bytesIn true c = a .long ∙ ap (λ (u : Bool). bytesIn u c) e in
-      let x = ap length (in-second (bitsOf s) e) in
-      let y = first-long (bitsOf s) (bits-bitsOf s) e (header-bits s held-six) in
-      omega (arith, length-bitsOf s)
-  inside-by false e =
-      let g : length s ≡ bytesIn false c = a .long ∙ ap (λ (u : Bool). bytesIn u c) e in
-      let x = ap length (in-first (bitsOf s) e) in
-      omega (arith, length-bitsOf s)
-
-  pub inside : endOf c ≤ length l
-  inside = inside-by (editionOf s) refl
+  held-six = typed-six s (a .long)
 
   pub held-counts : countsOf (sheetWith c l) ≡ c
-  unfolding sheetWith
-  held-counts =
-      rw (length-read particleW (c .particles) (drop 46 l), length-read triangleW (c .triangles) (drop (atTriangles c) l), length-read edgeW (c .edges) (drop (atEdges c) l), length-read boundaryW (c .boundary) (drop (atBoundary c) l))
+  held-counts = typed-counts c l
 
   pub held-few : tooMany (countsOf (sheetWith c l)) ≡ false
   held-few = ap tooMany held-counts ∙ a .few
 
   pub held-fit : FitSheet (sheetWith c l)
-  unfolding sheetWith total
-  held-fit =
-      record {
-        header = fit-header (countsOf (sheetWith c l)) held-few;
-        particles = fit-read particleW (c .particles) (drop 46 l) (bits-drop 46 l all-bits) (omega (arith, inside, length-drop 46 l));
-        triangles = fit-read triangleW (c .triangles) (drop (atTriangles c) l) (bits-drop (atTriangles c) l all-bits) (omega (arith, inside, length-drop (atTriangles c) l));
-        edges = fit-read edgeW (c .edges) (drop (atEdges c) l) (bits-drop (atEdges c) l all-bits) (omega (arith, inside, length-drop (atEdges c) l));
-        boundary = fit-read boundaryW (c .boundary) (drop (atBoundary c) l) (bits-drop (atBoundary c) l all-bits) (omega (arith, inside, length-drop (atBoundary c) l));
-        blade = fit-unpack bladeW (drop (atBlade c) l) (bits-drop (atBlade c) l all-bits) (omega (arith, inside, length-drop (atBlade c) l));
-      }
+  held-fit = typed-fit s (a .long) (a .few)
 
   plain-by : (t : Bool) → editionOf s ≡ t → Plain t (sheetWith c l)
   unfolding Plain sheetWith readRows
@@ -425,14 +370,6 @@ module _ (s m t : List ℕ) (e : mendOf s ≡ mended m t) where
 
 -- ---- bytes that need no mending
 
-bits-zero : (n : ℕ) → bits n 0 ≡ replicate n 0
-unfolding bits
-bits-zero zero = refl
-bits-zero (suc n) = rw (zero-div, bits-zero n)
-
-zeros-of : (l : List ℕ) → AllBits l → num l ≡ 0 → l ≡ replicate (length l) 0
-zeros-of l h e = sym (bits-num l h) ∙ (ap (bits (length l)) e ∙ bits-zero (length l))
-
 module _ (s : List ℕ) (w : TypedIn s (countsAt (bitsIn (bitsOf s)))) where
   held : Mendable s
   held = record { few = w .few; long = w .long }
@@ -446,13 +383,13 @@ module _ (s : List ℕ) (w : TypedIn s (countsAt (bitsIn (bitsOf s)))) where
   front-by : (t : Bool) → editionOf s ≡ t → bitsAs t g ≡ take (endIn t d) (bitsOf s)
   unfolding bitsAs typedOf
   front-by true e =
-      let x = inside s held in
+      let x = inside s (w .long) in
       let y = ap length (in-second (bitsOf s) e) in
       let z = first-long (bitsOf s) (bits-bitsOf s) e (header-bits s (w .six)) in
       read-written (bitsOf s) (bits-bitsOf s) e (header-bits s (w .six)) (omega arith)
   front-by false e =
       let i = in-first (bitsOf s) e in
-      write-of-read (bitsIn (bitsOf s)) (all-bits s held) (inside s held) ∙ ap (take (endOf d)) i
+      write-of-read (bitsIn (bitsOf s)) (all-bits s (w .long)) (inside s (w .long)) ∙ ap (take (endOf d)) i
 
   back : bitsOf s ≡ bitsAs (editionOf s) g ++ spareAs (editionOf s) g
   back =

@@ -20,7 +20,7 @@ use Rattle.columns.proofs.Rows.{tab-ext, tab-suc, take-tab, map-tab}
 use Rattle.columns.proofs.Cells.{col-fits}
 
 -- stacks of equal columns are equal
-stack-ext : {A : Type 0} (w : ℕ) (f g : ℕ → List A) → ((c : ℕ) → c < w → f c ≡ g c) → stack w f ≡ stack w g
+pub stack-ext : {A : Type 0} (w : ℕ) (f g : ℕ → List A) → ((c : ℕ) → c < w → f c ≡ g c) → stack w f ≡ stack w g
 unfolding stack
 stack-ext zero f g h = refl
 stack-ext (suc w) f g h = ap₂ (λ (a b : List _). a ++ b) (stack-ext w f g (λ c p. h c (omega arith))) (h w (omega arith))

@@ -126,7 +126,7 @@ rewiring-done v n es gs s₀ s i r h p =
 -- ---- as the definitions of a split have it
 
 -- the group of an element, by the numbers and the groups of the fan's parts
-group-at : (ps : List Part) (k : ℕ) → groupOf (map (λ (p : Part). p .number) ps) (map (λ (p : Part). p .group) ps) k ≡ groupAt ps k
+pub group-at : (ps : List Part) (k : ℕ) → groupOf (map (λ (p : Part). p .number) ps) (map (λ (p : Part). p .group) ps) k ≡ groupAt ps k
 unfolding groupOf groupAt
 group-at [] k = refl
 group-at (p ∷ ps) k = ap (pick (eqb (p .number) k) (p .group)) (group-at ps k)

@@ -21,7 +21,8 @@ use Rattle.model.specs.Trace.{Sound}
 use Rattle.model.proofs.Kept.{corners-sound, named-first, no-refusal, unless-done, outcome-done, cut-no-refusal}
 use Rattle.model.proofs.Indexed.{Pair, Indexed, sides-indexed, straddlers-indexed, crack-indexed}
 use Rattle.model.proofs.Inserted.{cut-indexed}
-use Rattle.model.proofs.Laws.{and-true, both, all-from, all-to, stands-not}
+use Rattle.model.proofs.Laws.{both, all-from, all-to, stands-not}
+use Rattle.lists.proofs.Sifts.{and-true}
 
 -- ---- the test and what it says
 

@@ -10,7 +10,6 @@ use Rattle.blade.specs.declared.Hit.{Hit}
 use Rattle.exact.specs.Exact.{wholePoint, sideBy, signOf, total}
 use Rattle.exact.specs.Signs.{signOfSum}
 use Rattle.exact.proofs.Exactly.{hit-exact, sign-exact, sum-exact}
-use Rattle.exact.proofs.Swapped.{each-ext}
 use Rattle.model.specs.Mesh.{Triangle, Mesh}
 use Rattle.model.specs.Elements.{Kind, Triangles, Straps, Nothing, straps?, Element, placeOf, kindOf, trianglesFrom, elementsOf, fanOf}
 use Rattle.model.specs.Run.{Entry, Run, start, stepTo, splitsOf}
@@ -19,8 +18,9 @@ use Rattle.model.specs.Cut.{Line, exact, signs, Blade, hit?, meets, offs
 use Rattle.model.specs.Calls.{wholeMesh, wholeLine}
 use Rattle.model.specs.Swaps.{exactly}
 use Rattle.model.specs.Trace.{All}
-use Rattle.model.proofs.Laws.{and-true, false-true, all-sift}
+use Rattle.model.proofs.Laws.{false-true, all-sift}
 use Rattle.model.proofs.Whole.{place-whole, WholeRun, sides-whole}
+use Rattle.lists.proofs.Sifts.{and-true, each-ext}
 
 -- ---- elements of three corners
 
@@ -40,7 +40,7 @@ unfolding fanOf elementsOf
 fan-three M v = all-sift Three (λ (e : Element). stands v (e .corners)) (trianglesFrom 0 (M .triangles)) (all-three 0 (M .triangles))
 
 -- functions that agree on what has P, and steps that agree on whole runs, which they keep whole
-map-on : {A B : Type 0} (P : A → Type 0) (f g : A → B) → ((a : A) → P a → f a ≡ g a) → (l : List A) → All P l → map f l ≡ map g l
+pub map-on : {A B : Type 0} (P : A → Type 0) (f g : A → B) → ((a : A) → P a → f a ≡ g a) → (l : List A) → All P l → map f l ≡ map g l
 map-on P f g h [] u = refl
 map-on {A} {B} P f g h (a ∷ l) u = ap₂ {C = List B} (λ x y. x ∷ y) (h a (u .0)) (map-on P f g h l (u .1))
 

@@ -31,12 +31,12 @@ use Rattle.model.proofs.Laws.{all-at, all-over, all-append, all-below, 
 -- ---- corners
 
 -- where v stood, w stands; and what else stood still stands
-stands-moved : (v w : ℕ) (l : List ℕ) → stands v l ≡ true → stands w (map (replaced v w) l) ≡ true
+pub stands-moved : (v w : ℕ) (l : List ℕ) → stands v l ≡ true → stands w (map (replaced v w) l) ≡ true
 stands-moved v w [] e = absurd (let z : _≡_ {A = Bool} false true = e in let y : _≡_ {A = ℕ} 0 1 = cc in omega arith)
 stands-moved v w (y ∷ l) e =
     ⊎-elim (λ d. stands-head w (replaced v w y) (map (replaced v w) l) (rw (eq-eqb y v d))) (λ d. stands-tail w (replaced v w y) (map (replaced v w) l) (stands-moved v w l d)) (stands-case v y l e)
 
-stands-kept : (v w x : ℕ) → (x ≡ v → ⊥) → (l : List ℕ) → stands x l ≡ true → stands x (map (replaced v w) l) ≡ true
+pub stands-kept : (v w x : ℕ) → (x ≡ v → ⊥) → (l : List ℕ) → stands x l ≡ true → stands x (map (replaced v w) l) ≡ true
 stands-kept v w x n [] e = e
 stands-kept v w x n (y ∷ l) e =
     ⊎-elim (λ d. stands-head x (replaced v w y) (map (replaced v w) l) (rw (ne-eqb y v (λ z. n (sym d ∙ z))) d)) (λ d. stands-tail x (replaced v w y) (map (replaced v w) l) (stands-kept v w x n l d)) (stands-case x y l e)
@@ -50,7 +50,7 @@ walk v (t ∷ ts) [] i = 0
 walk v (t ∷ ts) (g ∷ gs) zero = pick (stands v (cornersOf t)) g 0
 walk v (t ∷ ts) (g ∷ gs) (suc i) = walk v ts (pick (stands v (cornersOf t)) gs (g ∷ gs)) i
 
-abbrev fanFrom : ℕ → ℕ → List Triangle → List Element
+abbrev pub fanFrom : ℕ → ℕ → List Triangle → List Element
 fanFrom v k ts = sift (λ (e : Element). stands v (e .corners)) (trianglesFrom k ts)
 
 -- no element of the fan from k on has a lower number

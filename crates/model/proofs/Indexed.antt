@@ -26,8 +26,9 @@ use Rattle.model.specs.Cut.{Blade, bladeSides, splitByBlade, splitFree, 
 use Rattle.model.specs.Crack.{Way, farSide, twoSided, meanLoad, wayAt, waysOf, hurt, damagedAt, torn, crackBy, crackPair, crackEdge, currentPair, loadsOf, tornEnds, crack}
 use Rattle.model.specs.Trace.{All, Sound}
 use Rattle.model.proofs.Traced.{Fitting, opening-fits, order-fits, splits-here, copied-length, at-below, apart, inside, sound-step}
-use Rattle.model.proofs.Laws.{and-true, false-true, pick-both, all-at, all-over, all-append, all-mapAt, pick-one, all-in, all-yes, all-map, all-eachOf, all-sift, all-upTo, all-pairs, all-rest, all-head, all-else, length-mapAt, Found, find-fits, stands-case}
+use Rattle.model.proofs.Laws.{false-true, pick-both, all-at, all-over, all-append, all-mapAt, pick-one, all-in, all-yes, all-map, all-eachOf, all-sift, all-upTo, all-pairs, all-rest, all-head, all-else, length-mapAt, Found, find-fits, stands-case}
 use Rattle.model.proofs.Traced.{parts-all, Any, all-any}
+use Rattle.lists.proofs.Sifts.{and-true}
 
 -- ---- what refusal 3 checks
 
@@ -238,7 +239,7 @@ Inside Triangles O M = All (λ (p : Part). p .number < length (M .triangles)) (O
 Inside Straps O M = Unit {0}
 Inside Nothing O M = Unit {0}
 
-numbers-from : (i : ℕ) (ts : List Triangle) → All (λ (e : Element). e .number < i + length ts) (trianglesFrom i ts)
+pub numbers-from : (i : ℕ) (ts : List Triangle) → All (λ (e : Element). e .number < i + length ts) (trianglesFrom i ts)
 unfolding trianglesFrom
 numbers-from i [] = tt
 numbers-from i (t ∷ ts) = (

@@ -148,7 +148,7 @@ unfolding fold
 crossings-ready f n S [] h Y = Y
 crossings-ready f n S (c ∷ l) h Y = crossings-ready f n (crossed f S c) l (h .1) (crossed-ready f S c n (h .0) Y)
 
-straps-inside : (i : ℕ) (es : List Edge) → All (λ (e : Element). e .number < i + length es) (strapsFrom i es)
+pub straps-inside : (i : ℕ) (es : List Edge) → All (λ (e : Element). e .number < i + length es) (strapsFrom i es)
 unfolding strapsFrom
 straps-inside i [] = tt
 straps-inside i (e ∷ es) =
@@ -159,11 +159,11 @@ straps-inside i (e ∷ es) =
     by true h = (omega arith, h)
     by false h = h
 
-hit-inside : (n i : ℕ) → i < n → (h : Hit) → All (λ (c : Crossing). c .number < n) (crossingAt i h)
+pub hit-inside : (n i : ℕ) → i < n → (h : Hit) → All (λ (c : Crossing). c .number < n) (crossingAt i h)
 hit-inside n i u Miss = tt
 hit-inside n i u (HitAt t p) = (u, tt)
 
-crossings-inside : (B : Blade) (M : Mesh) → All (λ (c : Crossing). c .number < length (M .edges)) (crossings B M)
+pub crossings-inside : (B : Blade) (M : Mesh) → All (λ (c : Crossing). c .number < length (M .edges)) (crossings B M)
 unfolding crossings elementsOf
 crossings-inside B M =
     all-eachOf (λ (e : Element). e .number < 0 + length (M .edges)) (λ (c : Crossing). c .number < length (M .edges)) _ (λ e u. hit-inside (length (M .edges)) (e .number) (omega arith) (meets B M (edgeAt M (e .number) .a) (edgeAt M (e .number) .b))) (strapsFrom 0 (M .edges))

@@ -22,8 +22,9 @@ use Rattle.model.specs.Trace.{All, Sound, Traced, Held, Kept}
 use Rattle.model.proofs.Traced.{start-traced, sides-traced, cut-traced, crack-traced, straddlers-traced}
 use Rattle.model.proofs.Holding.{start-held, sides-held, cut-held, crack-held, straddlers-held}
 use Rattle.model.proofs.Splitting.{Sided, sides-accepted}
-use Rattle.model.proofs.Laws.{and-true, false-true, stands-not}
+use Rattle.model.proofs.Laws.{false-true, stands-not}
 use Rattle.model.proofs.Marks.{marked-splits}
+use Rattle.lists.proofs.Sifts.{and-true}
 
 -- ---- an accepted mesh
 

@@ -13,12 +13,9 @@ use lib.Dec.{eqb}
 use lib.ListN.{length, getD, set, replicate}
 use Rattle.lists.specs.Lists.{pick, stands, all, mapAt, each, sift, siftAt, find, pairs, tab, upTo, rising, headOr, rest, orElse}
 use Rattle.model.specs.Trace.{All}
+use Rattle.lists.proofs.Sifts.{and-true}
 
 -- ---- Booleans
-
-pub and-true : (a b : Bool) → (a && b) ≡ true → (a ≡ true) × (b ≡ true)
-and-true true b e = (refl, e)
-and-true false b e = absurd (let z : _≡_ {A = Bool} false true = e in let y : _≡_ {A = ℕ} 0 1 = cc in omega arith)
 
 pub false-true : _≡_ {A = Bool} false true → ⊥
 false-true e = let y : _≡_ {A = ℕ} 0 1 = cc in omega arith

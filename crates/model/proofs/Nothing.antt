@@ -18,7 +18,7 @@ use Rattle.model.specs.Crack.{meanLoad, twoSided, wayAt, waysOf, crackBy
 use Rattle.model.specs.Calls.{sidesOk, trianglesLent, refusal, done, outcome, cutCall, crackCall, splitCall, straddlersCall, bladeOf, cutRefusal}
 use Rattle.model.proofs.Splitting.{Sided, sides-accepted, one-element-stays}
 use Rattle.model.proofs.Kept.{no-refusal, unless-done, outcome-done}
-use Rattle.model.proofs.Laws.{and-true}
+use Rattle.lists.proofs.Sifts.{and-true}
 
 -- ---- no crack and no split
 

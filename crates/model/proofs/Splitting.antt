@@ -22,7 +22,8 @@ use Rattle.model.specs.Split.{Opening, openingOf, splits?, made, atLonge
 use Rattle.model.specs.Calls.{sidesOk}
 use Rattle.model.specs.Trace.{All}
 use Rattle.model.proofs.Traced.{copied-length, Still}
-use Rattle.model.proofs.Laws.{and-true, both, all-at}
+use Rattle.model.proofs.Laws.{both, all-at}
+use Rattle.lists.proofs.Sifts.{and-true}
 
 -- ---- the sides that a call accepts
 

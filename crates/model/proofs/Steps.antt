@@ -115,7 +115,7 @@ crossed-onward f (strapping R marked snapped) c = by (insertable f (R .mesh) c)
     by true = onward-step R _ _ _ _
     by false = onward-stay R
 
-crossings-onward : (f : Float) (S : Strapping) (l : List Crossing) → Onward (runOf S) (runOf (fold (crossed f) S l))
+pub crossings-onward : (f : Float) (S : Strapping) (l : List Crossing) → Onward (runOf S) (runOf (fold (crossed f) S l))
 unfolding fold
 crossings-onward f S [] = onward-stay (runOf S)
 crossings-onward f S (c ∷ l) = onward-then (crossed-onward f S c) (crossings-onward f (crossed f S c) l)

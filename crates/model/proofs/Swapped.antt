@@ -10,7 +10,7 @@ use Rattle.blade.specs.declared.Point.{Point}
 use Rattle.blade.specs.declared.Hit.the-variants.{Miss, Hit as HitAt}
 use Rattle.exact.specs.declared.Sign.{Sign}
 use Rattle.exact.specs.Exact.{wholePoint, sideBy, across, differ, crosses, roundedAt, exactHit, keptBy, opposite}
-use Rattle.exact.proofs.Swapped.{and-either, side-other, crosses-same, flip, sign-other, sum-other, kept-flipped, opposed-flipped, each-ext, fold-ext}
+use Rattle.exact.proofs.Swapped.{and-either, side-other, crosses-same, flip, sign-other, sum-other, kept-flipped, opposed-flipped, fold-ext}
 use Rattle.model.specs.Mesh.{Mesh}
 use Rattle.model.specs.Elements.{Kind, Triangles, Straps, Nothing, straps?, Element, placeOf, kindOf, elementsOf, fanOf}
 use Rattle.model.specs.Run.{Entry, met, Rooms, Run, start, splitsOf, changed}
@@ -18,11 +18,12 @@ use Rattle.model.specs.Split.{splitBySides}
 use Rattle.model.specs.Cut.{Line, Blade, hit?, meets, sidesOfSigns, exactSign, exactMiddle, bladeSides, splitByBlade, splitPinched, ifMet, candidates, cutFacets, markAt, markOf, marksOf, cutAlong, cut}
 use Rattle.model.specs.Calls.{pointOk, fractionOk, trianglesLent, refusal, wholeMesh, wholeLine, swapped, known, firstOf, cutRefusal, firstFault, Outcome, refused, done, fitted, outcome, unless, cutCall}
 use Rattle.model.specs.Swaps.{exactly, plainMark, butMarks, SameButMarks}
-use Rattle.model.proofs.Laws.{and-true, false-true}
+use Rattle.model.proofs.Laws.{false-true}
 use Rattle.model.proofs.Kept.{cut-no-refusal}
 use Rattle.model.proofs.Marks.{later, carried, copying, bare, tail, cut-is, carried-changed, marks-no-change}
 use Rattle.model.proofs.Turned.{hit-turned}
 use Rattle.model.proofs.Whole.{place-whole, exactable}
+use Rattle.lists.proofs.Sifts.{and-true, each-ext}
 
 -- ---- crossings
 

@@ -26,7 +26,8 @@ use Rattle.model.specs.Cut.{Blade, splitByBlade, splitFree, splitPinched
 use Rattle.model.specs.Crack.{Way, farSide, twoSided, meanLoad, damagedAt, torn, crackBy, crackPair, crackEdge, currentPair, waysOf, wayAt, inOrder, before?, loadsOf, tornEnds, crack}
 use mathlib.Core.Option.{Option, none as nothing, some}
 use Rattle.model.specs.Trace.{All, originOf, Sound, tracedBack, Traced}
-use Rattle.model.proofs.Laws.{and-true, false-true, all-at, all-set, all-replicate, all-over, all-mapAt, all-tab, tab-all, pick-one, all-yes, length-mapAt, map-mapAt, each-append, Found, find-fits}
+use Rattle.model.proofs.Laws.{false-true, all-at, all-set, all-replicate, all-over, all-mapAt, all-tab, tab-all, pick-one, all-yes, length-mapAt, map-mapAt, each-append, Found, find-fits}
+use Rattle.lists.proofs.Sifts.{and-true}
 
 -- ---- lists
 

@@ -28,7 +28,8 @@ use Rattle.exact.proofs.Wholes.{whole-is}
 use Rattle.exact.proofs.Exactly.{side-is}
 use Rattle.exact.proofs.Swapped.{side-other}
 use Rattle.model.specs.Swaps.{plain, plainPoint}
-use Rattle.model.proofs.Laws.{and-true, false-true}
+use Rattle.model.proofs.Laws.{false-true}
+use Rattle.lists.proofs.Sifts.{and-true}
 
 -- ---- floats that are one whole number
 

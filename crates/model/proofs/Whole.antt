@@ -17,8 +17,9 @@ use Rattle.model.specs.Split.{Opening, openingOf, splits?, portion, only
 use Rattle.model.specs.Cut.{Line, Blade, splitByBlade, splitFree, pinched, splitPinched, candidates, cutFacets, markedBy, cutAlong, cut}
 use Rattle.model.specs.Calls.{bladeOk, fractionOk, trianglesLent, refusal, wholeMesh, wholeLine, editionRefusal, bladeOf, firstOf, cutRefusal, done, cutCall}
 use Rattle.model.specs.Trace.{All}
-use Rattle.model.proofs.Laws.{and-true, false-true, pick-both, all-at, all-append, all-mapAt, all-map, all-yes, all-from, all-to}
+use Rattle.model.proofs.Laws.{false-true, pick-both, all-at, all-append, all-mapAt, all-map, all-yes, all-from, all-to}
 use Rattle.model.proofs.Kept.{cut-no-refusal, unless-done, outcome-done}
+use Rattle.lists.proofs.Sifts.{and-true}
 
 -- ---- places
 

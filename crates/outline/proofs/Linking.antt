@@ -18,6 +18,7 @@ use Rattle.outline.specs.Rows.{row3, rows3, Even}
 use Rattle.outline.specs.Links.{chainAt, heldTo, LastBefore, Chained, Sized, LinkRoom, Linked}
 use Rattle.outline.proofs.Pairs.{and-turned}
 use Rattle.outline.proofs.Adding.{count-more, count-same}
+use Rattle.lists.proofs.Truths.{not-true}
 
 -- ---- chains
 
@@ -161,10 +162,6 @@ module _ (p : List ℕ → Bool) (f : ℕ → List ℕ) where
             let w : t + 1 ≡ suc t = omega arith in
             sym (s ∙ ap (λ (m : ℕ). length (sift p (tab m f))) w) ∙ r
       ]
-
-not-true : (t : Bool) → (t ≡ true → ⊥) → t ≡ false
-not-true true n = absurd (n refl)
-not-true false n = refl
 
 -- the ends of a side either way round
 pub held-turned : (a b c : List ℕ) (x y m : ℕ) → heldTo a b c y x m ≡ heldTo a b c x y m

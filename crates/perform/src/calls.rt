@@ -10,7 +10,7 @@ ghost use Rattle.work.specs.Working.{Roomed, Logged};
 ghost use Rattle.call_frame.specs.Framed.{RoomsLent, Begun, Came};
 ghost use mathlib.Core.Path.{_≡_};
 ghost use Rattle.mesh_calls.specs.Jobs.{jobRefusal, ruleIn, jobRun, jobCall};
-ghost use Rattle.perform.specs.Asks.{JobAsked};
+ghost use Rattle.perform.specs.Asks.{JobAsked, marksTell, passedBy};
 ghost use Rattle.mesh.specs.Blocks.{meshIn, meshBefore, meshBehind, worldBehind, lentIn, givenBefore, blocksIn};
 ghost use Rattle.work.specs.Blocks.{ReadyIn, WorksIn};
 use blade::Point;
@@ -90,7 +90,31 @@ fn rule_in(edition: usize) -> Rule
     Rule::Rounded
 }
 
-// The cut along a blade: its crossings are noted, and then the mesh is cut.
+// Do the marks by a rule tell of all that a cut would meet? Straps are cut by rounded numbers alone.
+fn marks_tell(rule: Rule, kind: Kind) -> bool
+    ensures { λ r. ⌜ r ≡ marksTell rule kind ⌝ }
+{
+    match kind {
+        Kind::Triangles => true,
+        Kind::Straps => match rule {
+            Rule::Rounded => true,
+            Rule::Signs => false,
+        },
+        Kind::Nothing => true,
+    }
+}
+
+// Does the blade pass by, where the log behind the marks has so many entries?
+fn passed_by(rule: Rule, kind: Kind, logged: usize) -> bool
+    ensures { λ r. ⌜ r ≡ passedBy rule kind logged ⌝ }
+{
+    if logged == 0 {
+        return marks_tell(rule, kind);
+    }
+    false
+}
+
+// The cut along a blade: its crossings are noted, and then the mesh is cut, unless it passes by.
 fn cut_marked(
     rule: Rule,
     b0: Point,
@@ -130,6 +154,9 @@ fn cut_marked(
     let Ran::Done(counts) = ran else {
         return ran;
     };
+    if passed_by(rule, kind, counts.log) {
+        return Ran::Done(counts);
+    }
     strap_cut::kinds::run(
         Pass::Blade(rule, b0, b1, f),
         kind,

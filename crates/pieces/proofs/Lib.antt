@@ -10,4 +10,5 @@ pub mod Pieces
 pub mod Loops
 pub mod Told
 pub mod Places
+pub mod FacetChains
 pub mod Examples

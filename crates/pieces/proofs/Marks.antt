@@ -1,6 +1,6 @@
 -- Laws of marks: a table that has 1 at each number of a list, as the list grows; the particles that elements hold. Assumes nothing.
 use mathlib.Core.Path.{_≡_, refl, sym, _∙_, ap}
-use mathlib.Core.Bool.{Bool, true, false, _||_}
+use mathlib.Core.Bool.{Bool, true, _||_}
 use mathlib.Core.Logic.{⊎-elim}
 use mathlib.Core.List.{List, [], _∷_, _++_}
 use Prim.Native.Nat.{ℕ, _+_, _*_, _<_}
@@ -16,19 +16,16 @@ use Rattle.model.specs.Elements.{Element}
 use Rattle.pieces.specs.Classes.{heldBy}
 use Rattle.pieces.specs.Counted.{UsedMarked}
 use Rattle.pieces.specs.Tables.{Marked}
+use Rattle.lists.proofs.Truths.{or-end}
 
 -- ---- one number more
-
-or-none : (s : Bool) → s || false ≡ s
-or-none true = refl
-or-none false = refl
 
 -- x and no other number stands in the list anew
 stands-last : (l : List ℕ) (x y : ℕ) → y ≡ x → stands y (l ++ (x ∷ [])) ≡ true
 stands-last l x y e = stands-append y l (x ∷ []) ∙ or-true (stands y l) (stands y (x ∷ [])) (rw (eq-eqb x y (sym e)))
 
 stands-others : (l : List ℕ) (x y : ℕ) → (y ≡ x → ⊥) → stands y (l ++ (x ∷ [])) ≡ stands y l
-stands-others l x y n = stands-append y l (x ∷ []) ∙ rw (ne-eqb x y (λ e. n (sym e))) (or-none (stands y l))
+stands-others l x y n = stands-append y l (x ∷ []) ∙ rw (ne-eqb x y (λ e. n (sym e))) (or-end (stands y l))
 
 -- no number has no mark
 pub marked-none : (marks : List ℕ) → ((x : ℕ) → x < length marks → getD marks x 0 ≡ 0) → Marked [] marks

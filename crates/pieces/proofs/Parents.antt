@@ -1,6 +1,6 @@
 -- Laws of parent tables. Assumes nothing.
 use mathlib.Core.Path.{_≡_, refl, sym, _∙_}
-use mathlib.Core.Logic.{inl, ⊎-elim}
+use mathlib.Core.Logic.{inl, inr, ⊎-elim}
 use mathlib.Core.List.{List}
 use Prim.Native.Nat.{ℕ, _+_, _<_, _≤_}
 use native.Mathlib.Omega.{arith}
@@ -105,3 +105,19 @@ linked p q i j x y a b K l top le wa wb xy turn =
           (λ z. old c d (omega arith, sym (z .1) ∙ up .1))
           (stored q a b c l);
     }
+
+-- two that have one parent are joined already
+pub joined-one : (p : List ℕ) (i j : ℕ) → Down p → i < length p → j < length p → getD p i 0 ≡ getD p j 0 → Joined p i j p
+joined-one p i j d l m same =
+    record {
+      long = refl;
+      down = d;
+      more = λ a b u. ahead u stay;
+      way = ahead (l, same) (back (m, refl) stay);
+      only = λ a b u. ahead (inl u) stay;
+    }
+
+-- a root is given the parent of another, which is below it
+pub joined-root : (p : List ℕ) (i j : ℕ) → Down p → i < length p → j < length p → getD p i 0 ≡ i → getD p j 0 < i → Joined p i j (set p i (getD p j 0))
+joined-root p i j d l m top below =
+    linked p p i j i j i (getD p j 0) (kept-refl p d) l top (omega arith) stay (ahead (m, refl) stay) (ahead (inr (refl, refl)) stay) (λ w. w)

@@ -125,7 +125,7 @@ module _ (k : ℕ) (verts last link : List ℕ) (t : ℕ) where
 -- ---- pairs
 
 -- the same pairs, said another way
-tied-map : {R S : ℕ → ℕ → Type 0} {p : List ℕ} → ((a b : ℕ) → R a b → S a b) → ((a b : ℕ) → S a b → R a b) → Tied R p → Tied S p
+pub tied-map : {R S : ℕ → ℕ → Type 0} {p : List ℕ} → ((a b : ℕ) → R a b → S a b) → ((a b : ℕ) → S a b → R a b) → Tied R p → Tied S p
 tied-map f g T =
     record { down = T .down; sound = λ a b u. chain-map (λ c d r. ahead (f c d r) stay) (T .sound a b u); done = λ a b s. T .done a b (g a b s) }
 

@@ -32,6 +32,21 @@ pub record PiecesCounted (n k : ℕ) (verts labels : List ℕ) (r : ℕ) : Type 
   pub counted : (es : List Element) → Cornered k es n verts → Plain es → r ≡ pieceCount k es
   pub labelled : (es : List Element) → Cornered k es n verts → Plain es → labels ≡ pieceLabels k es
 
+-- The number of pieces alone.
+pub record PieceNumber (n k : ℕ) (verts : List ℕ) (r : ℕ) : Type 0 where
+  pub counted : (es : List Element) → Cornered k es n verts → Plain es → r ≡ pieceCount k es
+
+-- The table has n elements of k corners, all below 1,024; there are 4,096 chains, which are empty, a link and a number for each corner, and a place for each element.
+pub record SidesLent (n k : ℕ) (verts heads : List ℕ) (links lows places : ℕ) : Type 0 where
+  pub corners : Corners n k verts 1024
+  pub two : 2 ≤ k
+  pub few : n * k ≤ 4096
+  pub heads-long : length heads ≡ 4096
+  pub empty : (h : ℕ) → getD heads h 0 ≡ 0
+  pub links-long : n * k ≤ links
+  pub lows-long : n * k ≤ lows
+  pub places-long : places ≡ n
+
 -- ---- bodies
 
 -- Each particle has the lowest particle of its body, whichever elements the table is of. A root is not above its particle, and is its own.

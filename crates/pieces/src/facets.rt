@@ -11,7 +11,7 @@ ghost use Rattle.pieces.specs.Counted.{Lent, PiecesCounted};
 ghost use Rattle.pieces.specs.Places.{sharesBy, larger, topCorner, walked, Met, Walking, ToJoin, Beside, PlaceStep, tops};
 
 // The element of a place. (By a divisor that is written out it is found faster.)
-fn element_of(place: usize, k: usize) -> usize
+pub fn element_of(place: usize, k: usize) -> usize
     requires { ⌜ 1 ≤ k ⌝ }
     ensures { λ r. ⌜ r ≡ place / k ⌝ }
 {
@@ -105,7 +105,7 @@ fn join_corner(
 }
 
 // The larger of two numbers.
-fn larger_of(a: usize, b: usize) -> usize
+pub fn larger_of(a: usize, b: usize) -> usize
     ensures { λ r. ⌜ r ≡ larger a b ⌝ }
 {
     if a < b {
@@ -185,7 +185,7 @@ fn join_places(
 }
 
 // How many places are their own labels.
-fn count_tops(labels: &[usize]) -> usize
+pub fn count_tops(labels: &[usize]) -> usize
     ensures { λ r. ⌜ r ≡ length (tops (now (labels .entry))) ⌝ }
 {
     let mut count: usize = 0;

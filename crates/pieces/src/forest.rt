@@ -26,6 +26,17 @@ pub fn join(parent: &mut [usize], i: usize, j: usize)
     requires { ⌜ (i < length (now parent)) × (j < length (now parent)) × Down (now parent) ⌝ }
     ensures { λ _. ⌜ Joined (now (parent .entry)) i j (now (parent .exit)) ⌝ }
 {
+    let up = parent[i];
+    let other = parent[j];
+    if up == other {
+        return;
+    }
+    if up == i {
+        if other < i {
+            parent[i] = other;
+            return;
+        }
+    }
     let ri = find(parent, i);
     let rj = find(parent, j);
     if ri < rj {

@@ -2,6 +2,7 @@
 // Pieces, which a shared facet holds together, are counted in `facets`.
 pub mod facets;
 mod forest;
+pub mod sides;
 
 ghost use mathlib.Core.Path.{_≡_};
 ghost use Prim.Native.Nat.{ℕ, _+_, _*_, _<_, _≤_};

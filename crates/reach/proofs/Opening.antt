@@ -1,12 +1,11 @@
 -- The answer for all groups, and that it is `opensWithoutConfetti` of the mesh whose elements the table holds. Assumes nothing.
 use mathlib.Core.Path.{_≡_, refl, sym, _∙_, ap}
 use mathlib.Core.Bool.{Bool, true, false, false≢true}
-use mathlib.Core.Logic.{_⊎_, inl, inr, ⊎-elim}
+use mathlib.Core.Logic.{_⊎_, ⊎-elim}
 use mathlib.Core.List.{List, [], _∷_, map}
 use Prim.Native.Nat.{ℕ, suc, _<_, _≤_}
 use native.Mathlib.Omega.{arith}
-use borrow.Author.Tests.{eqb-true}
-use lib.Dec.{leb, eqb}
+use lib.Dec.{leb}
 use lib.ListN.{length}
 use Rattle.lists.specs.Lists.{pick, stands, all, upTo}
 use Rattle.lists.specs.Labels.{labelled}
@@ -21,6 +20,7 @@ use Rattle.reach.specs.Opens.{Numbered, openingAt, Opens}
 use Rattle.reach.specs.Walk.{touching, holdsRow, tally, seeds, reachFrom, tableReach, Rows, Lent, marked, Seeded}
 use Rattle.reach.proofs.Walks.{reach-ext}
 use Rattle.reach.proofs.Tables.{reach-is, held-count}
+use Rattle.model.proofs.Laws.{stands-case}
 
 -- what the walk of one group tells
 pub group-tested : (n k v : ℕ) (verts groups : List ℕ) (g least : ℕ) {seen queue : List ℕ} {tail : ℕ} {r : Bool} → Seeded n (seeds k v verts groups g) seen queue tail
@@ -71,13 +71,6 @@ module _ (n k v : ℕ) (verts groups : List ℕ) (count minimum least : ℕ) (gr
 
 -- ---- the elements of a mesh
 
-stands-cases : (x y : ℕ) (l : List ℕ) → stands x (y ∷ l) ≡ true → (y ≡ x) ⊎ (stands x l ≡ true)
-stands-cases x y l e = by (eqb y x) refl e
-  where
-    by : (t : Bool) → eqb y x ≡ t → pick t true (stands x l) ≡ true → (y ≡ x) ⊎ (stands x l ≡ true)
-    by true q z = inl (eqb-true y x q)
-    by false q z = inr z
-
 not-there : (x : ℕ) (l : List ℕ) → (stands x l ≡ true → ⊥) → stands x l ≡ false
 not-there x l f = by (stands x l) refl
   where
@@ -90,7 +83,7 @@ triangles-from : (i : ℕ) (ts : List Triangle) (x : ℕ) → stands x (map (λ 
 unfolding trianglesFrom
 triangles-from i [] x e = absurd (false≢true e)
 triangles-from i (t ∷ ts) x e =
-    ⊎-elim (λ q. omega arith) (λ z. let h = triangles-from (suc i) ts x z in omega arith) (stands-cases x i (map (λ (e : Element). e .number) (trianglesFrom (suc i) ts)) e)
+    ⊎-elim (λ q. omega arith) (λ z. let h = triangles-from (suc i) ts x z in omega arith) (stands-case x i (map (λ (e : Element). e .number) (trianglesFrom (suc i) ts)) e)
 
 triangles-numbered : (i : ℕ) (ts : List Triangle) → Numbered (trianglesFrom i ts)
 unfolding trianglesFrom
@@ -100,7 +93,7 @@ triangles-numbered i (t ∷ ts) = (not-there i (map (λ (e : Element). e .number
 straps-by : (i : ℕ) (a : Edge) (es : List Edge) (x : ℕ) (t : Bool) → ((x : ℕ) → stands x (map (λ (e : Element). e .number) (strapsFrom (suc i) es)) ≡ true → suc i ≤ x)
     → stands x (map (λ (e : Element). e .number) (pick t (strapElement i a ∷ strapsFrom (suc i) es) (strapsFrom (suc i) es))) ≡ true → i ≤ x
 straps-by i a es x true f e =
-    ⊎-elim (λ q. omega arith) (λ z. let h = f x z in omega arith) (stands-cases x i (map (λ (e : Element). e .number) (strapsFrom (suc i) es)) e)
+    ⊎-elim (λ q. omega arith) (λ z. let h = f x z in omega arith) (stands-case x i (map (λ (e : Element). e .number) (strapsFrom (suc i) es)) e)
 straps-by i a es x false f e = let h = f x e in omega arith
 
 straps-from : (i : ℕ) (es : List Edge) (x : ℕ) → stands x (map (λ (e : Element). e .number) (strapsFrom i es)) ≡ true → i ≤ x

@@ -1,7 +1,7 @@
 -- The walk: breadth first from the marked rows. At its end the marked rows are those with the label of a row that was marked first. Assumes nothing.
 use mathlib.Core.Path.{_≡_, refl, sym, _∙_, ap}
-use mathlib.Core.Bool.{Bool, true, false, _||_, false≢true}
-use mathlib.Core.Logic.{_⊎_, inl, inr, ⊎-elim}
+use mathlib.Core.Bool.{Bool, true, false, _||_}
+use mathlib.Core.Logic.{_⊎_, ⊎-elim}
 use mathlib.Core.List.{List, map}
 use Prim.Native.Nat.{ℕ, _+_, _<_, _≤_, zero-le}
 use native.Mathlib.Omega.{arith}
@@ -17,6 +17,7 @@ use Rattle.lists.proofs.Stores.{map-at}
 use Rattle.lists.proofs.Sifts.{stands-get, stands-made, sift-stands, upTo-stands, upTo-below, and-true, true-and}
 use Rattle.reach.specs.Walk.{seedLabels, reachFrom, marked, Queued, Spread, Walk}
 use Rattle.reach.proofs.Tallies.{both, tally-ext, tally-mono}
+use Rattle.lists.proofs.Truths.{or-cases, or-left}
 
 -- ---- labels of the rows that pass
 
@@ -49,17 +50,9 @@ reach-ext p q n ls h =
 
 -- ---- the walk
 
-or-left : (s t : Bool) → s ≡ true → s || t ≡ true
-or-left true t e = refl
-or-left false t e = absurd (false≢true e)
-
 or-right : (s t : Bool) → t ≡ true → s || t ≡ true
 or-right true t e = refl
 or-right false t e = e
-
-or-cases : (s t : Bool) → s || t ≡ true → (s ≡ true) ⊎ (t ≡ true)
-or-cases true t e = inl refl
-or-cases false t e = inr e
 
 module _ (near : ℕ → ℕ → Bool) (n : ℕ) (either : (i j : ℕ) → near i j ≡ near j i) where
   -- rows that touch are joined

@@ -1,7 +1,8 @@
 -- Laws of a question to an image: it is the question to the mesh that is loaded, and each reply is the reply to one. Assumes nothing.
-use Prim.Native.Nat.{ℕ, _/_, _%_}
+use Prim.Native.Nat.{ℕ, _/_, _%_, _≤_}
 use mathlib.Core.Path.{_≡_, refl, sym, ap, _∙_}
 use mathlib.Core.Bool.{Bool, true, false}
+use mathlib.Core.Logic.{inl}
 use mathlib.Core.List.{List}
 use lib.ListN.{length, take}
 use lib.Dec.{eqb}
@@ -89,6 +90,15 @@ pub groups-replied : (s : List ℕ) (v n : ℕ) (sides t : List ℕ) (lent r : �
 unfolding questionReply
 groups-replied s v n sides t lent r out c e h =
     replied-as (questionReply (Groups v) s t) _ lent r out (either-list (Groups v) s t sides (λ z. ap groupsWords (groups-capped s v n sides t z c e)) ∙ groups-is s v sides) h
+
+-- sides that are few enough are capped at nothing
+pub few-replied : (s : List ℕ) (v : ℕ) (sides t : List ℕ) (lent r : ℕ) (out : List ℕ) → length sides ≤ 2049 → t ≡ take (length sides) sides → Replied (questionReply (Groups v) s t) lent r out
+    → Replied (groupsReply s v sides) lent r out
+few-replied s v sides t lent r out h e f = groups-replied s v (length sides) sides t lent r out (inl (refl, h)) e f
+
+pub few-opens-replied : (s : List ℕ) (v : ℕ) (sides t : List ℕ) (min lent r : ℕ) (out : List ℕ) → length sides ≤ 2049 → t ≡ take (length sides) sides → Replied (questionReply (Opens v min) s t) lent r out
+    → Replied (opensReply s v sides min) lent r out
+few-opens-replied s v sides t min lent r out h e f = opens-replied s v (length sides) sides t min lent r out (inl (refl, h)) e f
 
 -- ---- a list of particles, in words
 

@@ -28,6 +28,12 @@ use Rattle.reading_c.proofs.Siding.{capped-sides, refused-either}
 pub front-few : (n : ℕ) (l : List ℕ) → n ≤ 2049 → length (take n l) ≤ 2049
 front-few n l h = omega (arith, length-take n l)
 
+pub few-front : (n : ℕ) (l : List ℕ) → n ≤ 32 → length (take n l) ≤ 128
+few-front n l h = omega (arith, length-take n l)
+
+pub few-most : (n : ℕ) (l : List ℕ) → n ≤ 32 → length (take n l) ≤ 2049
+few-most n l h = front-few n l (omega arith)
+
 -- the same of the front of a table that has a place for each
 pub front-placed : (n places : ℕ) (l : List ℕ) → n ≤ places → places ≤ 2049 → length (take n l) ≤ 2049
 front-placed n places l h m = front-few n l (omega arith)

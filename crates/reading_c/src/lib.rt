@@ -5,6 +5,7 @@ pub mod listed;
 pub mod meshes;
 pub mod questions;
 pub mod reply;
+pub mod tiny;
 pub mod unread;
 
 // What is asked of a mesh: its pieces, its measure, the measure of what lies in a list of particles, whether sides open a particle with a minimum piece, the groups

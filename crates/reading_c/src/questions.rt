@@ -1,5 +1,5 @@
-// A question to a mesh image: the image is loaded into local blocks, small ones for a small image, and the public entry that answers is called on their fronts. No other
-// function that reads has such blocks.
+// A question to a mesh image: the image is loaded into local blocks, smaller ones for a small or a middling image, and the public entry that answers is called on their
+// fronts. No other function that reads has such blocks, but for the tiny ones of `tiny`.
 ghost use mathlib.Core.Path.{_≡_};
 ghost use mathlib.Core.Bool.{true};
 ghost use Prim.Native.Nat.{_≤_};
@@ -9,7 +9,7 @@ ghost use Rattle.image.specs.Image.{imageSized};
 ghost use Rattle.image.specs.Loads.{Loadable};
 ghost use Rattle.reading_c.specs.Replies.{Replied};
 ghost use Rattle.reading_c.specs.Questions.{questionCall, questionReply};
-ghost use Rattle.image.specs.Small.{smallImage};
+ghost use Rattle.image.specs.Small.{smallImage, middlingImage};
 ghost use Rattle.reading_c.specs.declared.Question.the-variants.{Groups, Unread};
 ghost use Rattle.mesh.specs.Blocks.{givenBefore};
 use crate::Question;
@@ -54,7 +54,7 @@ fn groups_within(
 }
 
 // The groups that few sides make, as those of a small image are, in a small table.
-fn few_groups(
+pub fn few_groups(
     v: usize,
     list: &[usize],
     points: &[f32],
@@ -319,6 +319,33 @@ fn ask_small(q: Question, list: &[usize], bytes: &[u8], out: &mut [u8]) -> u32
     )
 }
 
+// A question to a middling image, in blocks that are cleared in a quarter of the time.
+fn ask_middling(q: Question, list: &[usize], bytes: &[u8], out: &mut [u8]) -> u32
+    requires { ⌜ (imageSized (now bytes) ≡ true) × (length (now list) ≤ 2049) × (middlingImage (now bytes) ≡ true) ⌝ }
+    ensures { λ r. ⌜ Replied (questionReply q (now (bytes .entry)) (now (list .entry))) (length (now (out .entry))) r (now (out .exit)) ⌝ }
+{
+    let mut points = [0.0f32; small::MIDDLING_PARTICLES * mesh::POINT_COLUMNS];
+    let mut roots = [0usize; 2 * small::MIDDLING_PARTICLES];
+    let mut corners = [0usize; 3 * small::MIDDLING_TRIANGLES];
+    let mut volumes = [0.0f32; 2 * small::MIDDLING_TRIANGLES];
+    let mut ends = [0usize; 4 * small::MIDDLING_EDGES];
+    let mut lengths = [0.0f32; 4 * small::MIDDLING_EDGES];
+    let mut outline = [0usize; 2 * small::MIDDLING_BOUNDARY];
+    ask_within(
+        q,
+        list,
+        bytes,
+        &mut points,
+        &mut roots,
+        &mut corners,
+        &mut volumes,
+        &mut ends,
+        &mut lengths,
+        &mut outline,
+        out,
+    )
+}
+
 // A question to any other image, in blocks for the most that a mesh may have.
 fn ask_large(q: Question, list: &[usize], bytes: &[u8], out: &mut [u8]) -> u32
     requires { ⌜ (imageSized (now bytes) ≡ true) × (length (now list) ≤ 2049) ⌝ }
@@ -346,6 +373,17 @@ fn ask_large(q: Question, list: &[usize], bytes: &[u8], out: &mut [u8]) -> u32
     )
 }
 
+// A question to an image that is not small.
+fn ask_larger(q: Question, list: &[usize], bytes: &[u8], out: &mut [u8]) -> u32
+    requires { ⌜ (imageSized (now bytes) ≡ true) × (length (now list) ≤ 2049) ⌝ }
+    ensures { λ r. ⌜ Replied (questionReply q (now (bytes .entry)) (now (list .entry))) (length (now (out .entry))) r (now (out .exit)) ⌝ }
+{
+    if small::is_middling(bytes) {
+        return ask_middling(q, list, bytes, out);
+    }
+    ask_large(q, list, bytes, out)
+}
+
 // A question to an image that has the sizes of a mesh.
 fn ask_loaded(q: Question, list: &[usize], bytes: &[u8], out: &mut [u8]) -> u32
     requires { ⌜ (imageSized (now bytes) ≡ true) × (length (now list) ≤ 2049) ⌝ }
@@ -354,7 +392,7 @@ fn ask_loaded(q: Question, list: &[usize], bytes: &[u8], out: &mut [u8]) -> u32
     if small::is_small(bytes) {
         return ask_small(q, list, bytes, out);
     }
-    ask_large(q, list, bytes, out)
+    ask_larger(q, list, bytes, out)
 }
 
 // A question to an image, beside a list that is no longer than a reply has places for. What is no image of a mesh is refused.

@@ -1,6 +1,7 @@
 -- The groups of a fan in tables are those of the definitions, and so is what they reach.
 use Prim.Native.Nat.{ℕ, zero, suc, _+_, _*_, _/_, _<_, _≤_}
 use native.Mathlib.Omega.{arith}
+use native.Mathlib.Nat.{mul-le-mul-right}
 use mathlib.Core.Path.{_≡_, refl, sym, _∙_, ap, ap₂, subst}
 use mathlib.Core.Bool.{Bool, true, false, not, _&&_}
 use mathlib.Core.List.{List, [], _++_}
@@ -8,14 +9,14 @@ use lib.Dec.{eqb, leb, ltb}
 use lib.ListN.{length, getD, take, drop, set, length-set, length-replicate}
 use lib.Seq.{length-take-le, length-front, take-at}
 use borrow.Author.Tests.{ltb-true, eqb-true}
-use Rattle.lists.specs.Lists.{pick, all, each, padded}
-use Rattle.lists.proofs.Sifts.{and-true, all-get}
+use Rattle.lists.specs.Lists.{pick, stands, all, each, padded}
+use Rattle.lists.proofs.Sifts.{and-true, all-get, sift-length}
 use Rattle.fan.specs.Fan.{Fan, fan, size}
 use Rattle.fan.specs.Groups.{Numbered, numberOne, numberSide, numbered, groupsOf, countOf, labelsOf}
 use Rattle.fan.specs.Calls.{Fits, Counted as GroupsCounted}
 use Rattle.model.specs.Mesh.{Mesh}
 use Rattle.model.specs.Valid.{numbersFit, indicesFit}
-use Rattle.model.specs.Elements.{Element, kindOf, fanOf, gridOf, cornersPer}
+use Rattle.model.specs.Elements.{Element, kindOf, elementsOf, fanOf, gridOf, cornersPer}
 use Rattle.model.specs.Pieces.{opensWithoutConfetti}
 use Rattle.model.specs.Split.{openingOf}
 use Rattle.model.specs.Calls.{sidesOk, refusal}
@@ -27,51 +28,81 @@ use Rattle.elements.proofs.Found.{fan-of}
 use Rattle.reach.specs.Opens.{Opens}
 use Rattle.reach.proofs.Opening.{lent-by, opens-opening}
 use Rattle.arguments.specs.Accepted.{FanFound}
-use Rattle.readings.specs.Fans.{FanAsked, GroupsFilled, WalkAsked}
+use Rattle.arguments.specs.Fans.{FanOf}
+use Rattle.arguments.proofs.Accepted.{Few}
+use Rattle.arguments.proofs.FanRead.{found-fan}
+use Rattle.readings.specs.Fans.{FanAsked, GroupsFilled, WalkAsked, WalksIn, Roomy}
 use Rattle.readings.specs.Answers.{truthOf, placedIn, groupCount, groupsShown, GroupsAnswered}
 use Rattle.readings.specs.declared.Count.the-variants.{Refused as CountRefused, Counted}
 use Rattle.readings.specs.declared.Truth.the-variants.{Refused as TruthRefused, Holds}
-use Rattle.arguments.proofs.Judged.{decided}
+use Rattle.arguments.proofs.Judged.{decided, sides-ok}
 use Rattle.readings.proofs.Refusing.{refuse-by, value-by}
 
--- ---- a fan that was found
+-- ---- a fan that was read
 
-module _ {G : Given} {v n k others count : ℕ} {verts fan-verts : List ℕ} (F : FanFound G v n k others count verts fan-verts) (sides : List ℕ) where
-  -- the fan in its table is the definition's
-  pub grid-is : fan (take (count * k) fan-verts) k v others sides ≡ gridOf (kindOf (meshOf G)) v (fanOf (kindOf (meshOf G)) (meshOf G) v) sides
-  unfolding gridOf
-  grid-is =
-      ap (λ (l : List ℕ). fan l k v others sides) (F .fan-cornered .corners-are)
-      ∙ ap (λ (m : ℕ). fan (each (λ (e : Element). e .corners) (fanOf (kindOf (meshOf G)) (meshOf G) v)) m v others sides) (F .per)
-      ∙ ap (λ (m : ℕ). fan (each (λ (e : Element). e .corners) (fanOf (kindOf (meshOf G)) (meshOf G) v)) (cornersPer (kindOf (meshOf G))) v m sides) (F .others-are)
+-- the fan in its table is the definition's
+pub grid-is : {G : Given} {v k others count : ℕ} {verts : List ℕ} (F : FanOf G v k others count verts) (sides : List ℕ) → count * k ≤ length verts
+    → fan (take (count * k) verts) k v others sides ≡ gridOf (kindOf (meshOf G)) v (fanOf (kindOf (meshOf G)) (meshOf G) v) sides
+unfolding gridOf
+grid-is {G} {v} {k} {others} F sides room =
+    ap (λ (l : List ℕ). fan l k v others sides) (F .cornered room .corners-are)
+    ∙ ap (λ (m : ℕ). fan (each (λ (e : Element). e .corners) (fanOf (kindOf (meshOf G)) (meshOf G) v)) m v others sides) (F .per)
+    ∙ ap (λ (m : ℕ). fan (each (λ (e : Element). e .corners) (fanOf (kindOf (meshOf G)) (meshOf G) v)) (cornersPer (kindOf (meshOf G))) v m sides) (F .others-are)
 
-  module _ (t : Bool) (e : t ≡ (ltb v (length (G .points) / pointColumns) && all (λ s. ltb s 2) sides && eqb (length sides) count)) (said : t ≡ true) where
-    -- there is a side for each element
-    one-each : length sides ≡ count
-    one-each = eqb-true (length sides) count (and-true (ltb v (length (G .points) / pointColumns) && all (λ s. ltb s 2) sides) (eqb (length sides) count) (sym e ∙ said) .1)
+module _ (v p count : ℕ) (sides : List ℕ) (t : Bool) (e : t ≡ (ltb v p && all (λ s. ltb s 2) sides && eqb (length sides) count)) (said : t ≡ true) where
+  -- there is a side for each element
+  pub one-each : length sides ≡ count
+  one-each = eqb-true (length sides) count (and-true (ltb v p && all (λ s. ltb s 2) sides) (eqb (length sides) count) (sym e ∙ said) .1)
 
-    two-sides : (i : ℕ) → i < length sides → getD sides i 0 < 2
-    two-sides i h =
-        let a = and-true (ltb v (length (G .points) / pointColumns) && all (λ s. ltb s 2) sides) (eqb (length sides) count) (sym e ∙ said) .0 in
-        ltb-true _ _ (all-get (λ s. ltb s 2) sides i 0 (and-true (ltb v (length (G .points) / pointColumns)) (all (λ s. ltb s 2) sides) a .1) h)
+  two-sides : (i : ℕ) → i < length sides → getD sides i 0 < 2
+  two-sides i h =
+      let a = and-true (ltb v p && all (λ s. ltb s 2) sides) (eqb (length sides) count) (sym e ∙ said) .0 in
+      ltb-true _ _ (all-get (λ s. ltb s 2) sides i 0 (and-true (ltb v p) (all (λ s. ltb s 2) sides) a .1) h)
 
-    -- so the fan's table can be grouped
-    pub fan-asked : FanAsked (take (count * k) fan-verts) k sides
-    fan-asked =
-        record {
-          few = omega (arith, one-each, F .fan-few);
-          whole = length-take-le (count * k) fan-verts (F .fan-room) ∙ ap (λ (m : ℕ). m * k) (sym one-each);
-          two = two-sides;
-        }
+  -- so the fan's table can be grouped
+  pub fan-asked : (k : ℕ) (verts : List ℕ) → count ≤ 2048 → count * k ≤ length verts → FanAsked (take (count * k) verts) k sides
+  fan-asked k verts few room =
+      record { few = omega (arith, one-each); whole = length-take-le (count * k) verts room ∙ ap (λ (m : ℕ). m * k) (sym one-each); two = two-sides }
 
-    -- and its groups walked from
-    pub walk-asked : WalkAsked n k v verts (length sides) 2048 2048
-    walk-asked =
-        record {
-          asked = λ groups l.
-              lent-by {v = v} {groups = groups} (F .cornered) (record { some = F .corners .width .0; whole = F .corners .room }) (F .corners .few) (F .corners .few)
-              (l ∙ one-each ∙ F .fan-cornered .count ∙ ap length (fan-of (kindOf (meshOf G)) (meshOf G) v));
-        }
+  -- and a table that is roomy has room for it
+  pub roomy-fan : (k lent : ℕ) → Roomy (length sides) lent → Few count k → count * k ≤ lent
+  roomy-fan k lent R W = subst (λ (m : ℕ). m * k ≤ lent) one-each (R k (W .width .1) (subst (λ (m : ℕ). m * k ≤ 4096) (sym one-each) (W .narrow)))
+
+  -- the groups of a fan that was found are walked from
+  pub walk-asked : {G : Given} {n k others : ℕ} {verts fan-verts : List ℕ} → FanFound G v n k others count verts fan-verts → (places : ℕ) → n ≤ places
+      → WalkAsked n k v verts (length sides) places places
+  walk-asked {G} F places h =
+      record {
+        asked = λ groups l.
+            lent-by {v = v} {groups = groups} (F .cornered) (record { some = F .corners .width .0; whole = F .corners .room }) h h
+            (l ∙ one-each ∙ F .fan-cornered .count ∙ ap length (fan-of (kindOf (meshOf G)) (meshOf G) v));
+      }
+
+-- a fan that was found has no more elements than the mesh
+found-within : {G : Given} {v n k others count : ℕ} {verts fan-verts : List ℕ} → FanFound G v n k others count verts fan-verts → count ≤ n
+found-within {G} {v} F =
+    let es : List Element = elementsOf (kindOf (meshOf G)) (meshOf G) in
+    let l = ap length (fan-of (kindOf (meshOf G)) (meshOf G) v) in
+    let w = sift-length (λ (e : Element). stands v (e .corners)) es in
+    omega (arith, F .fan-cornered .count, F .cornered .count, l, w)
+
+-- the same of a fan that was found
+pub found-asked : {G : Given} {v n k others count : ℕ} {verts fan-verts : List ℕ} (F : FanFound G v n k others count verts fan-verts) (sides : List ℕ) (t : Bool)
+    → t ≡ (ltb v (length (G .points) / pointColumns) && all (λ s. ltb s 2) sides && eqb (length sides) count) → t ≡ true
+    → FanAsked (take (count * k) fan-verts) k sides × WalksIn n k v verts (length sides)
+found-asked {G} {v} {k = k} {count = count} {fan-verts = fan-verts} F sides t e said =
+    let p : ℕ = length (G .points) / pointColumns in
+    let w = found-within F in
+    (fan-asked v p count sides t e said k fan-verts (F .fan-few) (F .fan-room), λ places h. (omega (arith, one-each v p count sides t e said), walk-asked v p count sides t e said F places h))
+
+-- the test of the sides among p particles is the definition's
+pub sides-by : {G : Given} {v k others count : ℕ} {verts : List ℕ} (F : FanOf G v k others count verts) (p : ℕ) (sides : List ℕ) (t : Bool) → length (G .points) / pointColumns ≡ p
+    → t ≡ (ltb v p && all (λ s. ltb s 2) sides && eqb (length sides) count) → t ≡ sidesOk (meshOf G) v sides
+sides-by {v = v} {count = count} F p sides t q e = sides-ok F sides t (e ∙ ap (λ (m : ℕ). ltb v m && all (λ s. ltb s 2) sides && eqb (length sides) count) (sym q))
+
+-- a small table for few sides
+pub few-roomy : (sides : ℕ) → sides ≤ 16 → Roomy sides 48
+few-roomy sides h k w n = let a : sides * k ≤ 16 * k = mul-le-mul-right k h in omega arith
 
 -- ---- the front of a lent table
 
@@ -186,4 +217,4 @@ pub opens-found : {G : Given} {v n k others count : ℕ} {verts fan-verts : List
     → Opens n k v verts (groupsOf (fan (take (count * k) fan-verts) k v others sides)) (countOf (fan (take (count * k) fan-verts) k v others sides)) minimum r
     → r ≡ opensWithoutConfetti (kindOf (meshOf G)) (meshOf G) minimum (openingOf (kindOf (meshOf G)) (meshOf G) v sides)
 opens-found {G} F sides minimum r R =
-    opens-opening R (kindOf (meshOf G)) (meshOf G) (sym (F .per)) (F .cornered) sides (ap groupsOf (grid-is F sides)) (ap countOf (grid-is F sides))
+    opens-opening R (kindOf (meshOf G)) (meshOf G) (sym (F .per)) (F .cornered) sides (ap groupsOf (grid-is (found-fan F) sides (F .fan-room))) (ap countOf (grid-is (found-fan F) sides (F .fan-room)))

@@ -3,12 +3,11 @@ ghost use mathlib.Core.Path.{_≡_};
 ghost use mathlib.Core.Bool.{true};
 ghost use Prim.Native.Nat.{_/_};
 ghost use lib.ListN.{length};
-ghost use Rattle.model.specs.Elements.{restMeasure, restMeasureOf};
+ghost use Rattle.model.specs.Elements.{restMeasureOf};
 ghost use Rattle.model.specs.Pieces.{pieces as piecesOf};
 ghost use Rattle.model.specs.Calls.{particlesOk};
 ghost use Rattle.model.specs.Reads.{rootCall, bladeCall, piecesCall, restMeasureCall, restMeasureOfCall};
 ghost use Rattle.mesh.specs.Given.{meshOf, sizesFit};
-ghost use Rattle.pieces.specs.Counted.{Lent, PiecesCounted};
 ghost use Rattle.arguments.specs.Accepted.{Accepted};
 ghost use Rattle.readings.specs.Answers.{numberOf, countOf, testedOf};
 ghost use Rattle.mesh.specs.Blocks.{givenIn, givenBefore};
@@ -18,9 +17,6 @@ use crate::Tested;
 use arguments::tests;
 use blade::Point;
 use float::root::Rooted;
-
-// The most corners of elements whose pieces are counted by a small table of links.
-const FEW_CORNERS: usize = 256;
 
 // The root of a number: 4 where it is below 0 or not finite.
 pub fn root(x: f32) -> Number
@@ -46,36 +42,6 @@ pub fn blade_hit(b0: Point, b1: Point, p: Point, q: Point) -> Tested
     Tested::Refused(2)
 }
 
-// How many pieces few elements have, by a small table of links.
-fn few_pieces(
-    n: usize,
-    k: usize,
-    verts: &[usize],
-    last: &mut [usize],
-    labels: &mut [usize],
-) -> usize
-    requires { ⌜ Lent n k (now verts) (length (now last)) 256 (length (now labels)) ⌝ }
-    ensures { λ r. ⌜ PiecesCounted n k (now (verts .entry)) (now (labels .exit)) r ⌝ }
-{
-    let mut link = [0usize; FEW_CORNERS];
-    pieces::facets::count_pieces(n, k, verts, last, &mut link, labels)
-}
-
-// How many pieces any elements of a mesh have, by a table of links for the most corners.
-fn many_pieces(
-    n: usize,
-    k: usize,
-    verts: &[usize],
-    last: &mut [usize],
-    labels: &mut [usize],
-) -> usize
-    requires { ⌜ Lent n k (now verts) (length (now last)) 4096 (length (now labels)) ⌝ }
-    ensures { λ r. ⌜ PiecesCounted n k (now (verts .entry)) (now (labels .exit)) r ⌝ }
-{
-    let mut link = [0usize; 4096];
-    pieces::facets::count_pieces(n, k, verts, last, &mut link, labels)
-}
-
 // How many pieces an accepted mesh has.
 fn count_pieces(
     points: &[f32],
@@ -89,12 +55,12 @@ fn count_pieces(
     requires { ⌜ Accepted (givenIn points roots corners volumes ends lengths outline) ⌝ }
     ensures { λ r. ⌜ r ≡ piecesOf (meshOf (givenBefore points roots corners volumes ends lengths outline)) ⌝ }
 {
-    let mut numbers = [0usize; 2048];
     let mut verts = [0usize; 4096];
-    let mut measures = [0.0f32; 2048];
-    let mut last = [0usize; 1024];
-    let mut labels = [0usize; 2048];
-    let s = arguments::tables::table(
+    let mut heads = [0u16; 4096];
+    let mut links = [0u16; 4096];
+    let mut lows = [0u16; 4096];
+    let mut parent = [0usize; 2048];
+    let s = arguments::corners::corners_of(
         points,
         roots,
         corners,
@@ -102,16 +68,19 @@ fn count_pieces(
         ends,
         lengths,
         outline,
-        &mut numbers,
         &mut verts,
-        &mut measures,
     );
     let n = s.n;
     let k = s.k;
-    if n * k <= FEW_CORNERS {
-        return few_pieces(n, k, &verts, &mut last, &mut labels[..n]);
-    }
-    many_pieces(n, k, &verts, &mut last, &mut labels[..n])
+    pieces::sides::count_sides(
+        n,
+        k,
+        &verts,
+        &mut heads,
+        &mut links,
+        &mut lows,
+        &mut parent[..n],
+    )
 }
 
 // How many pieces a mesh has.
@@ -134,37 +103,6 @@ pub fn pieces(
     Count::Counted(count_pieces(points, roots, corners, volumes, ends, lengths, outline))
 }
 
-// The measure of an accepted mesh.
-fn whole_measure(
-    points: &[f32],
-    roots: &[usize],
-    corners: &[usize],
-    volumes: &[f32],
-    ends: &[usize],
-    lengths: &[f32],
-    outline: &[usize],
-) -> f32
-    requires { ⌜ Accepted (givenIn points roots corners volumes ends lengths outline) ⌝ }
-    ensures { λ r. ⌜ r ≡ restMeasure (meshOf (givenBefore points roots corners volumes ends lengths outline)) ⌝ }
-{
-    let mut numbers = [0usize; 2048];
-    let mut verts = [0usize; 4096];
-    let mut measures = [0.0f32; 2048];
-    let s = arguments::tables::table(
-        points,
-        roots,
-        corners,
-        volumes,
-        ends,
-        lengths,
-        outline,
-        &mut numbers,
-        &mut verts,
-        &mut measures,
-    );
-    elements::sum_of(s.n, &measures)
-}
-
 // The measure of a mesh.
 pub fn rest_measure(
     points: &[f32],
@@ -182,7 +120,15 @@ pub fn rest_measure(
     if code != 0 {
         return Number::Refused(code);
     }
-    Number::Value(whole_measure(points, roots, corners, volumes, ends, lengths, outline))
+    Number::Value(arguments::measures::whole_measure(
+        points,
+        roots,
+        corners,
+        volumes,
+        ends,
+        lengths,
+        outline,
+    ))
 }
 
 // The measure of what lies in a list of particles of an accepted mesh.

@@ -37,12 +37,9 @@ use Rattle.rewire.specs.Edges.{EndsMoved, SameRows, CopiesGrown, EdgeSet
 use Rattle.work.specs.declared.Grown.{Grown}
 use Rattle.work.specs.declared.Grown.the-variants.{Lacking, Rows}
 use Rattle.work.proofs.Grows.{grown-all}
+use Rattle.lists.proofs.Truths.{pick-self}
 
 -- ---- tests of one edge
-
-pick-self : (t : Bool) → t ≡ pick t true false
-pick-self true = refl
-pick-self false = refl
 
 module _ {t : Bool} (v a b : ℕ) where
   -- an element is no other edge
@@ -385,7 +382,7 @@ pub test-at : (K : Kind) (v : ℕ) (e e′ : Edge) (r t : Bool) → e ≡ e′ �
 test-at K v e e′ r t q h d = subst (λ (z : Edge). not (element? K z) && stands v (endsOf z) ≡ t) q (sym h ∙ d)
 
 -- the far end of an other edge rests in the block
-not-first : (s t : Bool) → not s && t ≡ true → s ≡ false
+pub not-first : (s t : Bool) → not s && t ≡ true → s ≡ false
 not-first true t e = absurd (false≢true e)
 not-first false t e = refl
 

@@ -23,7 +23,7 @@ use Rattle.model.specs.Split.{Part, Opening, groupAt, rewiredStraps, retargeted
 use Rattle.mesh.specs.At.{edgeRow, edgesAt}
 use Rattle.mesh.specs.Workers.{groupOf, Mapped, FanOk}
 use Rattle.mesh.proofs.Lists.{turned, unturned}
-use Rattle.mesh.proofs.Fan.{rewired-as, replaced-self}
+use Rattle.mesh.proofs.Fan.{rewired-as, replaced-self, group-at}
 use Rattle.split_plan.specs.Opened.{blankPart}
 use Rattle.rewire.specs.Stages.{PartsBy, TrianglesRewired, StrapsRewired}
 use Rattle.rewire.specs.Particles.{PartsRoom, EndsMapped}
@@ -101,7 +101,7 @@ eqb-flip a b = by (ℕ-discrete a b)
     by (no q) = rw (ne-eqb a b q, ne-eqb b a (λ r. q (sym r)))
 
 -- an element that comes later has group 0 so far
-group-fresh : (es gs : List ℕ) (i : ℕ) → ((j : ℕ) → j < i → getD es j 0 ≡ getD es i 0 → ⊥) → groupOf (take i es) (take i gs) (getD es i 0) ≡ 0
+pub group-fresh : (es gs : List ℕ) (i : ℕ) → ((j : ℕ) → j < i → getD es j 0 ≡ getD es i 0 → ⊥) → groupOf (take i es) (take i gs) (getD es i 0) ≡ 0
 unfolding groupOf
 group-fresh es gs zero h = refl
 group-fresh [] gs (suc i) h = refl
@@ -119,16 +119,10 @@ group-step (e ∷ es) (g ∷ gs) (suc i) k l m h =
     ap (pick (eqb e k) g) (group-step es gs i k (le-of-suc-le-suc l) (le-of-suc-le-suc m) (λ j p. h (suc j) (suc-le-suc p)))
     ∙ picks-swap e (getD es i 0) k g (getD gs i 0) (groupOf (take i es) (take i gs) k) (h 0 (suc-le-suc zero-le))
 
--- by the numbers and the groups of the parts
-group-at : (ps : List Part) (k : ℕ) → groupOf (map (λ (p : Part). p .number) ps) (map (λ (p : Part). p .group) ps) k ≡ groupAt ps k
-unfolding groupOf groupAt
-group-at [] k = refl
-group-at (p ∷ ps) k = ap (pick (eqb (p .number) k) (p .group)) (group-at ps k)
-
 -- ---- straps
 
 -- v for v changes no edge
-moved-self : (v : ℕ) (e : Edge) → moved v v e ≡ e
+pub moved-self : (v : ℕ) (e : Edge) → moved v v e ≡ e
 moved-self v e =
     λ i.
     record {

@@ -1,19 +1,28 @@
 -- Laws of two particles that an element holds: one row of the columns, and the rows as the model's elements. Assumes nothing.
+use Rattle.lists.proofs.Truths.{not-true}
 use mathlib.Core.Path.{_≡_, refl, sym, _∙_, ap, ap₂}
 use mathlib.Core.Bool.{Bool, true, false, _&&_, _||_}
+use mathlib.Core.Logic.{_⊎_, inl, inr, ⊎-elim}
 use mathlib.Core.List.{List, [], _∷_}
-use Prim.Native.Nat.{ℕ, zero, suc, _+_, _*_, _/_, _<_, _≤_}
+use Prim.Native.Nat.{ℕ, zero, suc, _+_, _*_, _/_, _<_, _≤_, zero-le, _-_}
+use native.Mathlib.Omega.{arith}
+use native.Mathlib.Decide.{ℕ-discrete, decLt}
 use borrow.Author.Tests.{eq-eqb, ne-eqb}
 use lib.ListN.{length, getD}
 use Rattle.lists.specs.Lists.{pick, stands, any, tab, upTo}
+use Rattle.lists.proofs.Sifts.{none-any, upTo-length, upTo-at}
 use Rattle.columns.specs.Block.{cell}
 use Rattle.columns.proofs.Cells.{col-0, col-1}
-use Rattle.columns.proofs.Rows.{any-none, any-more, any-stops, any-end}
+use Rattle.columns.proofs.Rows.{any-none, any-more, any-stops, any-end, and-false}
 use Rattle.elements.proofs.Held.{holdsBoth, both-true, both-false}
 use Rattle.model.specs.Mesh.{Triangle, Edge}
-use Rattle.model.specs.Elements.{Triangles, Straps, Nothing, Element, cornersOf, endsOf, structural?, strapElement, trianglesFrom, strapsFrom, elementsOf, held}
+use Rattle.model.specs.Elements.{Kind, Triangles, Straps, Nothing, Element, cornersOf, endsOf, structural?, strapElement, trianglesFrom, strapsFrom, elementsOf, held}
 use Rattle.mesh.specs.At.{trianglesAt, edgesAt, triangleRow, edgeRow}
-use Rattle.rewire.specs.Edges.{bothIn, triangleHolds, strapHolds, HeldTold}
+use Rattle.links.specs.Links.{lowest, holds, firstOf, nextOf}
+use Rattle.links.specs.Rooms.{LinkRead}
+use Rattle.links.proofs.Lowest.{low-most}
+use Rattle.links.proofs.Walked.{NextIs, next-is}
+use Rattle.rewire.specs.Edges.{bothIn, triangleHolds, strapHolds, WalkRoom, HeldRoom, HeldTold}
 
 -- ---- one row
 
@@ -43,13 +52,18 @@ flag-read : (E : List ℕ) (i : ℕ) → cell 0 (length E / 4) E 2 i ≡ getD E 
 unfolding cell
 flag-read E i = refl
 
--- triangle i, one test behind the other
-module _ (x y : ℕ) (C : List ℕ) (i : ℕ) (s : Bool) (p : s ≡ stands x (threeAt C i)) where
-  pub triangle-both : s ≡ true → (t : Bool) → t ≡ stands y (threeAt C i) → t ≡ triangleHolds x y C i
-  triangle-both q t r = both-true (sym p ∙ q) r ∙ ap (bothIn x y) (corners-read C i)
+-- triangle i, as the table of links reads it
+abbrev cornerIn : List ℕ → ℕ → ℕ → ℕ
+cornerIn C = cell 0 (length C / 3) C
 
-  pub triangle-not : s ≡ false → false ≡ triangleHolds x y C i
-  triangle-not q = both-false (stands y (threeAt C i)) (sym p ∙ q) ∙ ap (bothIn x y) (corners-read C i)
+pub triangle-told : (y : ℕ) (C : List ℕ) (i : ℕ) (r : Bool) → r ≡ stands y (threeAt C i) → r ≡ holds 3 (cornerIn C) y i
+unfolding holds tab
+triangle-told y C i r e = e ∙ ap (stands y) (corners-read C i)
+
+-- one test behind the other
+triangle-both : (x y : ℕ) (C : List ℕ) (i : ℕ) → triangleHolds x y C i ≡ holds 3 (cornerIn C) x i && holds 3 (cornerIn C) y i
+unfolding holds tab
+triangle-both x y C i = refl
 
 -- edge i, one test behind the other
 module _ (x y : ℕ) (E : List ℕ) (i : ℕ) where
@@ -86,6 +100,98 @@ module _ (p : ℕ → Bool) where
   pub passed-all : (n i : ℕ) → any p (upTo i) ≡ false → i ≤ n → n ≤ i → false ≡ any p (upTo n)
   unfolding upTo
   passed-all n i h a b = any-end p n i (λ k. k) h a b
+
+-- ---- the triangles that hold x, link by link
+
+-- at the head of the loop: no triangle below `left` holds both, and the next that holds x is the lowest from there on
+pub record Seeking (x y t : ℕ) (C : List ℕ) (at : ℕ) : Type 0 where
+  pub left : ℕ
+  pub below : left ≤ t
+  pub next : at ≡ lowest (holds 3 (cornerIn C) x) left (t - left)
+  pub none : (j : ℕ) → j < left → triangleHolds x y C j ≡ false
+
+-- what the walk asks, where the elements are triangles
+pub walk-room : {K : Kind} {x t e : ℕ} {C : List ℕ} {le : ℕ} {links : List ℕ} → HeldRoom K x t e C le links → K ≡ Triangles → WalkRoom x t C links
+walk-room R q = record { here = R .here; few = R .few; rows = R .rows; long = R .linked .long q; linked = R .linked .are q }
+
+-- how far the walk can go still
+pub stillLeft : ℕ → ℕ → ℕ
+stillLeft t zero = 0
+stillLeft t (suc j) = t - j
+
+module _ (x y t : ℕ) (C : List ℕ) where
+  pub seeking-start : (at : ℕ) → at ≡ firstOf 3 t (cornerIn C) x → Seeking x y t C at
+  unfolding firstOf
+  seeking-start at e =
+      let z : t - 0 ≡ t = omega arith in
+      record { left = 0; below = zero-le; next = rw z e; none = λ j h. absurd (omega arith) }
+
+  module _ (at : ℕ) (G : Seeking x y t C at) where
+    -- one between that holds x would be the next
+    past : (j : ℕ) → G .left ≤ j → j < t → (at ≡ 0) ⊎ (suc j < at) → triangleHolds x y C j ≡ false
+    past j a b d =
+        triangle-both x y C j
+        ∙ sym
+        (both-false (holds 3 (cornerIn C) y j)
+        (not-true _
+        (λ e.
+        let m = low-most (holds 3 (cornerIn C) x) (G .left) (t - G .left) j a (omega arith) e in
+        ⊎-elim (λ z. omega (arith, m .0, G .next)) (λ z. omega (arith, m .1, G .next)) d)))
+
+    -- none is left
+    pub seeking-done : at ≡ 0 → false ≡ any (triangleHolds x y C) (upTo t)
+    seeking-done z =
+        sym
+        (none-any (triangleHolds x y C) (upTo t) 0
+        (λ j h.
+        let b : j < t = omega (arith, upTo-length t) in
+        ap (triangleHolds x y C) (upTo-at t j b) ∙ elim (decLt j (G .left)) [ yes l ↦ G .none j l | no l ↦ past j (omega arith) b (inl z) ]))
+
+    module _ (some : 0 < at) where
+      abbrev here : NextIs (holds 3 (cornerIn C) x) (G .left) (t - G .left) (at - 1)
+      here = next-is (holds 3 (cornerIn C) x) (G .left) (t - G .left) (at - 1) (sym (G .next) ∙ omega arith)
+
+      pub seeking-within : at - 1 < t
+      seeking-within = omega (arith, here .within, G .below)
+
+      pub seeking-link : (links : List ℕ) → WalkRoom x t C links → LinkRead 1024 3 1024 (length C / 3) x (at - 1) C (length links)
+      seeking-link links W =
+          record {
+            row = record { here = omega (arith, seeking-within, W .rows); columns = omega arith; holding = here .passes };
+            linked = omega (arith, seeking-within, W .few);
+            table = W .long;
+          }
+
+      -- it holds both
+      pub seeking-found : holds 3 (cornerIn C) y (at - 1) ≡ true → true ≡ any (triangleHolds x y C) (upTo t)
+      seeking-found q = passed-here (triangleHolds x y C) t (at - 1) seeking-within (triangle-both x y C (at - 1) ∙ sym (both-true (here .passes) (sym q)))
+
+      -- or the next is asked
+      pub seeking-more : (next : ℕ) → next ≡ nextOf 3 t (cornerIn C) x (at - 1) → holds 3 (cornerIn C) y (at - 1) ≡ false → Seeking x y t C next
+      unfolding nextOf
+      seeking-more next e q =
+          record {
+            left = suc (at - 1);
+            below = seeking-within;
+            next = e;
+            none =
+                λ j h.
+                elim (ℕ-discrete j (at - 1)) [
+                  | yes s ↦ ap (triangleHolds x y C) s ∙ triangle-both x y C (at - 1) ∙ ap (λ (b : Bool). holds 3 (cornerIn C) x (at - 1) && b) q ∙ and-false (holds 3 (cornerIn C) x (at - 1))
+                  | no s ↦ elim (decLt j (G .left)) [ yes l ↦ G .none j l | no l ↦ past j (omega arith) (omega (arith, seeking-within)) (inr (omega arith)) ]
+                ];
+          }
+
+  -- and it is further on
+  pub seeking-less : (at : ℕ) (G : Seeking x y t C at) → 0 < at → (next : ℕ) → next ≡ nextOf 3 t (cornerIn C) x (at - 1) → stillLeft t next < stillLeft t at
+  unfolding stillLeft nextOf
+  seeking-less zero G some next e = absurd (omega arith)
+  seeking-less (suc a) G some zero e = let w = seeking-within (suc a) G some in omega (arith, w)
+  seeking-less (suc a) G some (suc b) e =
+      let w = seeking-within (suc a) G some in
+      let z : suc a - 1 ≡ a = omega arith in
+      let n = next-is (holds 3 (cornerIn C) x) (suc a) (t - suc a) b (sym (e ∙ ap (nextOf 3 t (cornerIn C) x) z)) in
+      omega (arith, w, n .after, n .within)
 
 any-along : {A : Type 0} (p : A → Bool) (n : ℕ) (row : ℕ → A) (f : ℕ → ℕ) → any (λ k. p (row k)) (tab n f) ≡ any p (tab n (λ k. row (f k)))
 unfolding any tab

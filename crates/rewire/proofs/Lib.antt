@@ -2,5 +2,6 @@
 pub mod ParticleLaws
 pub mod FanLaws
 pub mod EdgeLaws
+pub mod LinkedLaws
 pub mod HeldLaws
 pub mod StraddlerLaws

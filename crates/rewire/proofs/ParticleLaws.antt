@@ -111,7 +111,7 @@ only-first {A} f (suc v) (a ∷ l) t h =
     ap₂ _∷_ (rw (eqb·zero-suc v)) (down (l ++ t) ∙ only-first f v l t (le-of-suc-le-suc h) ∙ ap (λ (s : List A). s ++ t) (sym (down l)))
 
 -- two changes at one place that agree on what stands there
-only-same : {A : Type 0} (f g : A → A) (v : ℕ) (l : List A) (d : A) → v < length l → f (getD l v d) ≡ g (getD l v d) → mapAt (onlyAt v f) l ≡ mapAt (onlyAt v g) l
+pub only-same : {A : Type 0} (f g : A → A) (v : ℕ) (l : List A) (d : A) → v < length l → f (getD l v d) ≡ g (getD l v d) → mapAt (onlyAt v f) l ≡ mapAt (onlyAt v g) l
 unfolding mapAt
 only-same f g v [] d h e = absurd (not-suc-le-zero h)
 only-same f g zero (a ∷ l) d h e = ap₂ _∷_ e (mapAt-ext _ _ l (λ k x. rw (eqb·suc-zero k)))
@@ -120,7 +120,7 @@ only-same {A} f g (suc v) (a ∷ l) d h e =
     ap₂ _∷_ (rw (eqb·zero-suc v)) (down f ∙ only-same f g v l d (le-of-suc-le-suc h) e ∙ sym (down g))
 
 -- the mass of v, as the program reads it
-mass-read : (v n : ℕ) (points : List Float) (roots : List ℕ) → v < n → getD points (4 * (length points / pointColumns) + v) nan ≡ getD (particlesAt n points roots) v blank .mass
+pub mass-read : (v n : ℕ) (points : List Float) (roots : List ℕ) → v < n → getD points (4 * (length points / pointColumns) + v) nan ≡ getD (particlesAt n points roots) v blank .mass
 unfolding particlesAt cell
 mass-read v n points roots h = ap (λ (p : Particle). p .mass) (sym (tab-at n (particleRow (length points / pointColumns) (length roots / 2) points roots) v blank h))
 

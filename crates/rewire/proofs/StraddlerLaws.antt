@@ -28,7 +28,8 @@ use Rattle.model.specs.Split.{Opening, ring, copies, made, parted, straddles}
 use Rattle.mesh.specs.At.{edgesAt}
 use Rattle.mesh.specs.Workers.{rowAt}
 use Rattle.work.specs.Places.{EndsIn}
-use Rattle.rewire.specs.Edges.{ElementIs, copiesBy, HeldTold, Straddling, NearMarked, NearRoom, StraddleTold, StraddlersMarked}
+use Rattle.links.specs.Linked.{Linked}
+use Rattle.rewire.specs.Edges.{ElementIs, copiesBy, HeldTold, HeldRoom, Straddling, StraddleRoom, NearMarked, NearRoom, StraddleTold, StraddlersMarked}
 use Rattle.rewire.proofs.EdgeLaws.{edges-many, edges-get}
 
 -- ---- v and its copies
@@ -190,6 +191,12 @@ module _ (K : Kind) (i v before n count t e : ℕ) (verts groups corners ends : 
                   ap not (H .is M W B (S .triangles-are) (S .edges-are) ∙ sym (ap₂ (held K M) (a-is B) (b-is B)))
                   ∙ chain-5 _ _ _ _ _ (none B) (first B false d) (second B false q) (apart O B (S .ringed) true g) ∙ straddles-is O M W B S;
             }
+
+-- what the last test of edge i asks
+pub held-room : (K : Kind) (i n t e lv lg : ℕ) (corners ends links : List ℕ) → StraddleRoom K n t e lv lg (length corners) (length ends) → i < e → EndsIn 1024 e ends → Linked K t corners links
+    → HeldRoom K (getD ends i 0) t e corners (length ends) links
+held-room K i n t e lv lg corners ends links S h E L =
+    record { here = subst (λ (x : ℕ). x < 1024) (col-0 0 (length ends / 4) ends i) (E .first i h); few = S .few; rows = S .corners; ends = S .ends; linked = L }
 
 -- ---- the near
 

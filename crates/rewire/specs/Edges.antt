@@ -1,7 +1,7 @@
 -- What the workers on other edges and straddlers ask and give: helper records that only proofs and contracts between workers need. Definitions only.
 use Prim.Native.Nat.{ℕ, _+_, _*_, _-_, _/_, _<_, _≤_}
 use mathlib.Core.Path.{_≡_}
-use mathlib.Core.Bool.{Bool, false, not, _&&_}
+use mathlib.Core.Bool.{Bool, true, false, not, _&&_}
 use mathlib.Core.List.{List, [], _∷_, map, _++_}
 use lib.ListN.{length, getD, set}
 use lib.Ieee.{Float}
@@ -18,6 +18,10 @@ use Rattle.split_plan.specs.Opened.{Ringed, RingRoom, CornersBelow, ringFrom, O
 use Rattle.work.specs.Rows.{GrownTo, Between}
 use Rattle.work.specs.Places.{EndsIn}
 use Rattle.work.specs.declared.Grown.{Grown}
+use Rattle.work.specs.declared.Grown.the-variants.{Lacking, Rows}
+use Rattle.links.specs.Links.{holds, LinksOf}
+use Rattle.rewire.specs.Particles.{PartsRoom}
+use Rattle.links.specs.Linked.{Linked, EdgesLinked}
 
 -- ---- other edges
 
@@ -80,6 +84,50 @@ pub record NextNamed (v from e : ℕ) (ends : List ℕ) (r : ℕ) : Type 0 where
   pub within : r ≤ e
   pub unnamed : (j : ℕ) → from ≤ j → j < r → stands v (getD ends j 0 ∷ getD ends (length ends / 4 + j) 0 ∷ []) ≡ false
 
+-- ---- other edges, by the table of the edges
+
+-- a table of the first m edges, that has places for `room` of them and a head for each copy, all of which are behind the first p particles
+pub record TableRoom (before count p m room : ℕ) (ends table : List ℕ) : Type 0 where
+  pub linked : EdgesLinked m ends table
+  pub few : room ≤ 2048
+  pub most : before ≤ 1024
+  pub heads : before + count ≤ 1025
+  pub behind : p ≤ before
+
+-- where rows grew, the table is that of all of them
+abbrev pub LinkedGrown : Grown → List ℕ → List ℕ → Type 0
+LinkedGrown Lacking ends table = Unit {0}
+LinkedGrown (Rows m) ends table = EdgesLinked m ends table
+
+-- edge i of m is to have w for v, and has not w already
+pub record EndRoom (i v w m : ℕ) (ends table : List ℕ) : Type 0 where
+  pub linked : EdgesLinked m ends table
+  pub here : i < m
+  pub holding : holds 2 (cell 0 (length ends / 4) ends) v i ≡ true
+  pub head : w < 1024
+  pub fresh : (w ≡ v → ⊥) → (c : ℕ) → c < 2 → cell 0 (length ends / 4) ends c i ≡ w → ⊥
+
+-- the first n numbers rise and name edges at v, of the first e, whose table this is and whose ends are particles that were there before; each group's copy has a head
+pub record StrapsRoom (v before n e : ℕ) (numbers groups ends table : List ℕ) : Type 0 where
+  pub parts : PartsRoom before n e numbers groups
+  pub linked : EdgesLinked e ends table
+  pub ends-in : EndsIn before e ends
+  pub holding : (i : ℕ) → i < n → holds 2 (cell 0 (length ends / 4) ends) v (getD numbers i 0) ≡ true
+  pub copies : (i : ℕ) → i < n → copyFor v before (getD groups i 0) < 1024
+
+-- two different ends below p
+pub record EndsBelow (p : ℕ) (e : Edge) : Type 0 where
+  pub first : e .a < p
+  pub second : e .b < p
+  pub differ : e .a ≡ e .b → ⊥
+
+-- an edge is to be appended behind the first n, whose table this is
+pub record PushRoom (n : ℕ) (e : Edge) (ends : List ℕ) (ll : ℕ) (table : List ℕ) : Type 0 where
+  pub linked : EdgesLinked n ends table
+  pub few : n + 1 ≤ 2048
+  pub columns : EdgeRoom (n + 1) (length ends) ll
+  pub row : EndsBelow 1024 e
+
 -- ---- straddlers
 
 -- v and its copies: `copies` of an opening at v, with so many particles before it, of so many groups
@@ -98,6 +146,22 @@ triangleHolds x y corners i = bothIn x y (cell 0 (length corners / 3) corners 0 
 abbrev pub strapHolds : ℕ → ℕ → List ℕ → ℕ → Bool
 strapHolds x y ends i = eqb (cell 0 (length ends / 4) ends 2 i) 1 && bothIn x y (cell 0 (length ends / 4) ends 0 i ∷ cell 0 (length ends / 4) ends 1 i ∷ [])
 
+-- the table of links is that of the first t triangles of the block, and x has a head in it
+pub record WalkRoom (x t : ℕ) (corners links : List ℕ) : Type 0 where
+  pub here : x < 1024
+  pub few : t ≤ 1024
+  pub rows : t ≤ length corners / 3
+  pub long : 4096 ≤ length links
+  pub linked : LinksOf 1024 3 1024 t (cell 0 (length corners / 3) corners) links
+
+-- what a test of two particles asks: rows within the blocks, the table of links of at most 1,024 triangles, and a head in it for the first
+pub record HeldRoom (K : Kind) (x t e : ℕ) (corners : List ℕ) (le : ℕ) (links : List ℕ) : Type 0 where
+  pub here : x < 1024
+  pub few : t ≤ 1024
+  pub rows : t ≤ length corners / 3
+  pub ends : e ≤ le / 4
+  pub linked : Linked K t corners links
+
 -- r tells whether an element of a mesh with the first t triangles and the first e edges of the blocks holds both x and y
 pub record HeldTold (K : Kind) (x y t e : ℕ) (corners ends : List ℕ) (r : Bool) : Type 0 where
   pub is : (M : Mesh) (volumes lengths : List Float) → M .triangles ≡ trianglesAt t corners volumes → M .edges ≡ edgesAt e ends lengths → r ≡ held K M x y
@@ -111,9 +175,10 @@ pub record Straddling (K : Kind) (O : Opening) (M : Mesh) (v before n count t e 
   pub triangles-are : M .triangles ≡ trianglesAt t corners volumes
   pub edges-are : M .edges ≡ edgesAt e ends lengths
 
--- what a straddler test asks: tables that fit, and rows within the blocks
+-- what a straddler test asks: tables that fit, at most 1,024 triangles, and rows within the blocks
 pub record StraddleRoom (K : Kind) (n t e lv lg lc le : ℕ) : Type 0 where
   pub ring : RingRoom n (cornersPer K) lv lg
+  pub few : t ≤ 1024
   pub corners : t ≤ lc / 3
   pub ends : e ≤ le / 4
 

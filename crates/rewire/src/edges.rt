@@ -56,7 +56,7 @@ pub fn is_element(kind: Kind, structural: usize) -> bool
 }
 
 // Does an edge at v go to its groups: it is no element, and names v?
-fn is_other(kind: Kind, v: usize, row: EdgeRow) -> bool
+pub fn is_other(kind: Kind, v: usize, row: EdgeRow) -> bool
     ensures { λ r. ⌜ r ≡ (not (element? (kindIs kind) (edgeOf row)) && stands v (endsOf (edgeOf row))) ⌝ }
 {
     if is_element(kind, row.structural) {
@@ -69,7 +69,7 @@ fn is_other(kind: Kind, v: usize, row: EdgeRow) -> bool
 }
 
 // The end that isn't v.
-fn far_end(v: usize, row: EdgeRow) -> usize
+pub fn far_end(v: usize, row: EdgeRow) -> usize
     ensures { λ r. ⌜ r ≡ farEnd v (edgeOf row) ⌝ }
 {
     if row.a == v {
@@ -79,7 +79,7 @@ fn far_end(v: usize, row: EdgeRow) -> usize
 }
 
 // A copy of an edge with w for v, impulse 0.
-fn copied(row: EdgeRow, v: usize, w: usize) -> EdgeRow
+pub fn copied(row: EdgeRow, v: usize, w: usize) -> EdgeRow
     ensures { λ r. ⌜ edgeOf r ≡ calmOf (movedOf v w (edgeOf row)) ⌝ }
 {
     EdgeRow {
@@ -95,7 +95,7 @@ fn copied(row: EdgeRow, v: usize, w: usize) -> EdgeRow
 }
 
 // Puts w for v in the ends of edge i.
-fn move_ends(i: usize, v: usize, w: usize, ends: &mut [usize])
+pub fn move_ends(i: usize, v: usize, w: usize, ends: &mut [usize])
     requires { ⌜ i < length (now ends) / 4 ⌝ }
     ensures { λ _. ⌜ EndsMoved i v w (now (ends .entry)) (now (ends .exit)) ⌝ }
 {

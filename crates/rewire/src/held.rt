@@ -1,11 +1,13 @@
-// Does an element hold two particles: asked of the columns of the triangles, or of the edges, and of no table of the elements.
+// Does an element hold two particles: asked of the triangles that the table of links has at one of them, or of the columns of the edges, and of no table of the elements.
 ghost use mathlib.Core.Path.{_≡_};
 ghost use mathlib.Core.List.{[], _∷_};
 ghost use Prim.Native.Nat.{_/_, _<_, _≤_};
 ghost use lib.ListN.{length};
 ghost use Rattle.lists.specs.Lists.{stands, any, upTo};
+ghost use Rattle.columns.specs.Block.{cell};
 ghost use Rattle.elements.specs.Table.{kindIs};
-ghost use Rattle.rewire.specs.Edges.{triangleHolds, strapHolds, HeldTold};
+ghost use Rattle.links.specs.Links.{holds};
+ghost use Rattle.rewire.specs.Edges.{triangleHolds, strapHolds, WalkRoom, HeldRoom, HeldTold};
 use elements::Kind;
 
 // Is w one of the corners a, b and c?
@@ -18,19 +20,13 @@ fn among(w: usize, a: usize, b: usize, c: usize) -> bool
     split_plan::names(w, b, c)
 }
 
-// Does triangle i hold both x and y?
-fn triangle_holds(x: usize, y: usize, i: usize, corners: &[usize]) -> bool
+// Does triangle i hold y?
+fn triangle_holds(y: usize, i: usize, corners: &[usize]) -> bool
     requires { ⌜ i < length (now corners) / 3 ⌝ }
-    ensures { λ r. ⌜ r ≡ triangleHolds x y (now (corners .entry)) i ⌝ }
+    ensures { λ r. ⌜ r ≡ holds 3 (cell 0 (length (now (corners .entry)) / 3) (now (corners .entry))) y i ⌝ }
 {
     let n = corners.len() / 3;
-    let a = corners[i];
-    let b = corners[n + i];
-    let c = corners[2 * n + i];
-    if among(x, a, b, c) {
-        return among(y, a, b, c);
-    }
-    false
+    among(y, corners[i], corners[n + i], corners[2 * n + i])
 }
 
 // Is edge i structural, and does it hold both x and y?
@@ -50,17 +46,19 @@ fn strap_holds(x: usize, y: usize, i: usize, ends: &[usize]) -> bool
     false
 }
 
-// Does one of the first t triangles hold both x and y?
-fn any_triangle(x: usize, y: usize, t: usize, corners: &[usize]) -> bool
-    requires { ⌜ t ≤ length (now corners) / 3 ⌝ }
+// Does one of the first t triangles hold both x and y? Those that hold x are asked, link by link.
+fn any_triangle(x: usize, y: usize, t: usize, corners: &[usize], links: &[u16]) -> bool
+    requires { ⌜ WalkRoom x t (now corners) (now links) ⌝ }
     ensures { λ r. ⌜ r ≡ any (triangleHolds x y (now (corners .entry))) (upTo t) ⌝ }
 {
-    let mut i: usize = 0;
-    while i < t {
-        if triangle_holds(x, y, i, corners) {
+    let rows = corners.len() / 3;
+    let mut at = links::first_at(x, links);
+    while at > 0 {
+        let i = at - 1;
+        if triangle_holds(y, i, corners) {
             return true;
         }
-        i += 1;
+        at = links::next_at(x, i, 3, 1024, 1024, rows, corners, links);
     }
     false
 }
@@ -80,7 +78,7 @@ fn any_strap(x: usize, y: usize, e: usize, ends: &[usize]) -> bool
     false
 }
 
-// Does an element hold both x and y, where the elements are among the first t triangles, or the first e edges?
+// Does an element hold both x and y, where the elements are among the first t triangles, which the table links, or the first e edges?
 pub fn held(
     kind: Kind,
     x: usize,
@@ -89,12 +87,13 @@ pub fn held(
     e: usize,
     corners: &[usize],
     ends: &[usize],
+    links: &[u16],
 ) -> bool
-    requires { ⌜ (t ≤ length (now corners) / 3) × (e ≤ length (now ends) / 4) ⌝ }
+    requires { ⌜ HeldRoom (kindIs kind) x t e (now corners) (length (now ends)) (now links) ⌝ }
     ensures { λ r. ⌜ HeldTold (kindIs kind) x y t e (now (corners .entry)) (now (ends .entry)) r ⌝ }
 {
     match kind {
-        Kind::Triangles => any_triangle(x, y, t, corners),
+        Kind::Triangles => any_triangle(x, y, t, corners, links),
         Kind::Straps => any_strap(x, y, e, ends),
         Kind::Nothing => false,
     }

@@ -2,5 +2,6 @@
 pub mod edges;
 pub mod fans;
 pub mod held;
+pub mod linked;
 pub mod particles;
 pub mod straddling;

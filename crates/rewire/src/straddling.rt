@@ -4,6 +4,7 @@ ghost use Prim.Native.Nat.{_<_, _≤_};
 ghost use lib.ListN.{length};
 ghost use Rattle.lists.specs.Lists.{pick, stands};
 ghost use Rattle.elements.specs.Table.{kindIs};
+ghost use Rattle.links.specs.Linked.{Linked};
 ghost use Rattle.work.specs.Places.{EndsIn};
 ghost use Rattle.rewire.specs.Edges.{copiesBy, StraddleRoom, NearMarked, NearRoom, StraddleTold, StraddlersMarked};
 use elements::Kind;
@@ -38,9 +39,10 @@ fn straddles(
     groups: &[usize],
     corners: &[usize],
     ends: &[usize],
+    links: &[u16],
 ) -> bool
-    requires { ⌜ StraddleRoom (kindIs kind) n t e (length (now verts)) (length (now groups)) (length (now corners)) (length (now ends))
-        × (i < e) ⌝ }
+    requires { ⌜ (let K = kindIs kind in StraddleRoom K n t e (length (now verts)) (length (now groups)) (length (now corners))
+        (length (now ends)) × (i < e) × EndsIn 1024 e (now ends) × Linked K t (now corners) (now links)) ⌝ }
     ensures { λ r. ⌜ StraddleTold (kindIs kind) i v before n count t e (now (verts .entry)) (now (groups .entry)) (now (corners .entry))
         (now (ends .entry)) r ⌝ }
 {
@@ -60,7 +62,7 @@ fn straddles(
     if !split_plan::parted(a, b, n, k, verts, groups) {
         return false;
     }
-    !crate::held::held(kind, a, b, t, e, corners, ends)
+    !crate::held::held(kind, a, b, t, e, corners, ends, links)
 }
 
 // Marks the first m corners of a fan in a table of the particles: they are near v.
@@ -92,10 +94,11 @@ fn near_straddles(
     groups: &[usize],
     corners: &[usize],
     ends: &[usize],
+    links: &[u16],
     near: &[u8],
 ) -> bool
     requires { ⌜ (let K = kindIs kind in StraddleRoom K n t e (length (now verts)) (length (now groups)) (length (now corners))
-        (length (now ends)) × (i < e) × NearRoom K n e (now verts) (now ends) (now near)) ⌝ }
+        (length (now ends)) × (i < e) × NearRoom K n e (now verts) (now ends) (now near) × Linked K t (now corners) (now links)) ⌝ }
     ensures { λ r. ⌜ StraddleTold (kindIs kind) i v before n count t e (now (verts .entry)) (now (groups .entry)) (now (corners .entry))
         (now (ends .entry)) r ⌝ }
 {
@@ -121,6 +124,7 @@ fn near_straddles(
         groups,
         corners,
         ends,
+        links,
     )
 }
 
@@ -131,7 +135,7 @@ fn mark(t: bool) -> usize
     if t { 1 } else { 0 }
 }
 
-// Marks the straddlers among the first e edges with 1, the others with 0; returns how many straddle.
+// Marks the straddlers among the first e edges with 1, the others with 0; returns how many straddle. The table links the t triangles.
 pub fn mark_straddlers(
     kind: Kind,
     v: usize,
@@ -144,10 +148,11 @@ pub fn mark_straddlers(
     groups: &[usize],
     corners: &[usize],
     ends: &[usize],
+    links: &[u16],
     mask: &mut [usize],
 ) -> usize
-    requires { ⌜ StraddleRoom (kindIs kind) n t e (length (now verts)) (length (now groups)) (length (now corners)) (length (now ends))
-        × (e ≤ length (now mask)) × EndsIn 1024 e (now ends) ⌝ }
+    requires { ⌜ (let K = kindIs kind in StraddleRoom K n t e (length (now verts)) (length (now groups)) (length (now corners))
+        (length (now ends)) × (e ≤ length (now mask)) × EndsIn 1024 e (now ends) × Linked K t (now corners) (now links)) ⌝ }
     ensures { λ r. ⌜ StraddlersMarked (kindIs kind) v before n count t e (now (verts .entry)) (now (groups .entry)) (now (corners .entry))
         (now (ends .entry)) (now (mask .exit)) r ⌝ }
 {
@@ -170,6 +175,7 @@ pub fn mark_straddlers(
             groups,
             corners,
             ends,
+            links,
             &near,
         );
         let m = mark(gone);

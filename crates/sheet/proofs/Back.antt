@@ -16,6 +16,7 @@ use Rattle.sheet.specs.declared.Counts.{Counts}
 use Rattle.sheet.specs.declared.Seen.the-variants.{Whole, Refused}
 use Rattle.bits.proofs.Laws.{length-bits, num-bits}
 
+-- a refusal is no whole sheet
 pub never : (n : ℕ) (c : Counts) → Refused n ≡ Whole c → ⊥
 never n c e = let z : _≡_ {A = ℕ} 0 1 = cc in omega arith
 
@@ -52,15 +53,16 @@ shift2 x y a b i zero = refl
 shift2 x y a b i (suc n) =
     rw (getD-next x a i, getD-next y b i, shift2 x y a b (i + 1) n)
 
-row3 : (u v w : ℕ) (r : List ℕ) → Fit (u ∷ v ∷ w ∷ []) r → getD r 0 0 ∷ getD r 1 0 ∷ getD r 2 0 ∷ [] ≡ r
+-- rows of three fields, and of two
+pub row3 : (u v w : ℕ) (r : List ℕ) → Fit (u ∷ v ∷ w ∷ []) r → (getD r 0 0 ∷ getD r 1 0 ∷ getD r 2 0 ∷ [] ≡ r) × (getD r 0 0 < 2 ^ u) × (getD r 1 0 < 2 ^ v) × (getD r 2 0 < 2 ^ w)
 unfolding Fit
 row3 u v w [] f = absurd f
 row3 u v w (x ∷ []) f = absurd (f .1)
 row3 u v w (x ∷ y ∷ []) f = absurd (f .1 .1)
-row3 u v w (x ∷ y ∷ z ∷ []) f = refl
+row3 u v w (x ∷ y ∷ z ∷ []) f = (refl, f .0, f .1 .0, f .1 .1 .0)
 row3 u v w (x ∷ y ∷ z ∷ q ∷ r) f = absurd (f .1 .1 .1)
 
-row2 : (u v : ℕ) (r : List ℕ) → Fit (u ∷ v ∷ []) r → getD r 0 0 ∷ getD r 1 0 ∷ [] ≡ r
+pub row2 : (u v : ℕ) (r : List ℕ) → Fit (u ∷ v ∷ []) r → getD r 0 0 ∷ getD r 1 0 ∷ [] ≡ r
 unfolding Fit
 row2 u v [] f = absurd f
 row2 u v (x ∷ []) f = absurd (f .1)
@@ -71,7 +73,7 @@ pub rows-cols3 : (u v w : ℕ) (rs : List (List ℕ)) → FitAll (u ∷ v ∷ w 
 unfolding FitAll rowsOf
 rows-cols3 u v w [] f = refl
 rows-cols3 u v w (r ∷ rs) f =
-    rw (shift3 (getD r 0 0) (getD r 1 0) (getD r 2 0) (col 0 rs) (col 1 rs) (col 2 rs) 0 (length rs), rows-cols3 u v w rs (f .1), row3 u v w r (f .0))
+    rw (shift3 (getD r 0 0) (getD r 1 0) (getD r 2 0) (col 0 rs) (col 1 rs) (col 2 rs) 0 (length rs), rows-cols3 u v w rs (f .1), row3 u v w r (f .0) .0)
 
 pub rows-cols2 : (u v : ℕ) (rs : List (List ℕ)) → FitAll (u ∷ v ∷ []) rs → rowsOf (col 0 rs ∷ col 1 rs ∷ []) 0 (length rs) ≡ rs
 unfolding FitAll rowsOf

@@ -9,13 +9,13 @@ use lib.ListN.{drop}
 use lib.Seq.{drop-drop}
 use Rattle.lists.specs.Lists.{tab}
 use Rattle.columns.proofs.Rows.{tab-ext}
+use Rattle.lists.proofs.Sifts.{and-true}
 use Rattle.bits.specs.Bits.{fieldAt}
 use Rattle.bits.specs.Rows.{total, unpack, readRows, columnAt}
-use Rattle.sheet.specs.Sheet.{sheetWith, atTriangles, atEdges, atBoundary, atBlade}
+use Rattle.sheet.specs.Sheet.{sheetWith, bladeW, atTriangles, atEdges, atBoundary, atBlade}
 use Rattle.sheet.specs.Work.{okAt, namesAt}
 use Rattle.sheet.specs.Read.{floatOf, bladeOfSheet}
 use Rattle.sheet.specs.declared.Counts.{Counts}
-use Rattle.sheet.proofs.PutLaws.{both}
 
 -- rows by their places
 pub read-tab : (ws : List ℕ) (n : ℕ) (l : List ℕ) (p : ℕ) → readRows ws n (drop p l) ≡ tab n (λ k. unpack ws (drop (p + k * total ws) l))
@@ -32,9 +32,17 @@ read-tab ws (suc n) l p =
 pub names-parts : (c : Counts) (l : List ℕ) → namesAt c l ≡ true
     → (okAt true (c .particles) l (atTriangles c) 30 (c .triangles) ≡ true) × (okAt false (c .particles) l (atEdges c) 21 (c .edges) ≡ true) × (okAt false (c .particles) l (atBoundary c) 20 (c .boundary) ≡ true)
 names-parts c l e =
-    let w = both (okAt true (c .particles) l (atTriangles c) 30 (c .triangles)) (okAt false (c .particles) l (atEdges c) 21 (c .edges) && okAt false (c .particles) l (atBoundary c) 20 (c .boundary)) e in
-    let v = both (okAt false (c .particles) l (atEdges c) 21 (c .edges)) (okAt false (c .particles) l (atBoundary c) 20 (c .boundary)) (w .1) in
+    let w = and-true (okAt true (c .particles) l (atTriangles c) 30 (c .triangles)) (okAt false (c .particles) l (atEdges c) 21 (c .edges) && okAt false (c .particles) l (atBoundary c) 20 (c .boundary)) e in
+    let v = and-true (okAt false (c .particles) l (atEdges c) 21 (c .edges)) (okAt false (c .particles) l (atBoundary c) 20 (c .boundary)) (w .1) in
     (w .0, v .0, v .1)
+
+-- the row of a blade, by the places of its fields
+pub blade-row : (l : List ℕ) (at : ℕ) → fieldAt l at 11 ∷ fieldAt l (at + 11) 11 ∷ fieldAt l (at + 22) 11 ∷ fieldAt l (at + 33) 11 ∷ [] ≡ unpack bladeW (drop at l)
+unfolding unpack
+blade-row l at =
+    let f : at + 11 + 11 ≡ at + 22 = omega arith in
+    let g : at + 22 + 11 ≡ at + 33 = omega arith in
+    rw (drop-drop 11 at l, drop-drop 11 (at + 11) l, f, drop-drop 11 (at + 22) l, g)
 
 -- the blade's fields as a column
 col-blade : (c : Counts) (l : List ℕ) → sheetWith c l .blade ≡ columnAt l (atBlade c) 11 11 4

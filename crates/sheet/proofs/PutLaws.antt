@@ -9,6 +9,7 @@ use borrow.Author.Tests.{eqb-true, leb-true, ltb-false, lt-leb, le-leb}
 use lib.Dec.{leb, ltb}
 use lib.ListN.{length, drop, getD, replicate, length-replicate}
 use lib.Seq.{sets, sets-eq}
+use Rattle.lists.proofs.Sifts.{and-true}
 use Rattle.bits.specs.Rows.{pack, rowsOf}
 use Rattle.lists.specs.Lists.{padded}
 use Rattle.sheet.specs.Sheet.{above, Columns, sheetFrom, countsIn, bladeW, even3, evenOf, allOK, rowOK, tooMany, fitOf, namesOK, answerOf, bytesOf}
@@ -46,20 +47,16 @@ sets-zeros m x h =
     let e : 0 + length x ≡ length x = omega arith in
     sets-eq x (replicate m 0) 0 (omega (arith, length-replicate {A = ℕ} m 0)) ∙ rw (e, drop-zeros (length x) m)
 
-pub both : (a b : Bool) → (a && b) ≡ true → (a ≡ true) × (b ≡ true)
-both true b e = (refl, e)
-both false b e = absurd (let z : _≡_ {A = ℕ} 0 1 = cc in omega arith)
-
 even-three : (a b c : List ℕ) → even3 a b c ≡ true → (length b ≡ length a) × (length c ≡ length a)
 unfolding even3
-even-three a b c e = let w = both _ _ e in (eqb-true _ _ (w .0), eqb-true _ _ (w .1))
+even-three a b c e = let w = and-true _ _ e in (eqb-true _ _ (w .0), eqb-true _ _ (w .1))
 
 pub even-from : (k : Columns) → evenOf k ≡ true → Even k
 even-from k e =
-    let w1 = both _ _ e in
-    let w2 = both _ _ (w1 .1) in
-    let w3 = both _ _ (w2 .1) in
-    let w4 = both _ _ (w3 .1) in
+    let w1 = and-true _ _ e in
+    let w2 = and-true _ _ (w1 .1) in
+    let w3 = and-true _ _ (w2 .1) in
+    let w4 = and-true _ _ (w3 .1) in
     let p = even-three (k .x) (k .y) (k .pinned) (w1 .0) in
     let t = even-three (k .t0) (k .t1) (k .t2) (w2 .0) in
     let g = even-three (k .e0) (k .e1) (k .structural) (w3 .0) in

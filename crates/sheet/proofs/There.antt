@@ -9,26 +9,27 @@ use native.Mathlib.Nat.{zero-mul}
 use lib.Dec.{ltb}
 use lib.ListN.{length, take, getD, replicate}
 use lib.Seq.{take-nil, take-append-add}
+use Rattle.lists.proofs.Sifts.{and-true}
 use Rattle.bits.specs.Bits.{bits, bitsOf, num}
 use Rattle.bits.specs.Rows.{Fit, FitAll, rowsOf}
 use Rattle.sheet.specs.Sheet.{above, Columns, sheetFrom, countsIn, countsOf, headerOf, headerW, boundaryW, bladeW, FitSheet, allBelow, fit3, tooMany}
 use Rattle.sheet.specs.declared.Counts.{Counts}
 use Rattle.bits.proofs.Laws.{length-bits}
-use Rattle.sheet.proofs.PutLaws.{Good, length-rowsOf, both, neither}
+use Rattle.sheet.proofs.PutLaws.{Good, length-rowsOf, neither}
 
 pub below-at : (m : ℕ) (a : List ℕ) (i : ℕ) → allBelow m a ≡ true → i < length a → getD a i 0 < m
 unfolding allBelow
 below-at m [] i e h = absurd (omega arith)
-below-at m (x ∷ a) zero e h = ltb-true x m (both (ltb x m) (allBelow m a) e .0)
-below-at m (x ∷ a) (suc i) e h = below-at m a i (both (ltb x m) (allBelow m a) e .1) (omega arith)
+below-at m (x ∷ a) zero e h = ltb-true x m (and-true (ltb x m) (allBelow m a) e .0)
+below-at m (x ∷ a) (suc i) e h = below-at m a i (and-true (ltb x m) (allBelow m a) e .1) (omega arith)
 
 fit-rows : (w0 w1 w2 : ℕ) (a b c : List ℕ) (i n : ℕ) → i + n ≤ length a → length b ≡ length a → length c ≡ length a
     → fit3 (2 ^ w0) (2 ^ w1) (2 ^ w2) a b c ≡ true → FitAll (w0 ∷ w1 ∷ w2 ∷ []) (rowsOf (a ∷ b ∷ c ∷ []) i n)
 unfolding FitAll Fit rowsOf fit3
 fit-rows w0 w1 w2 a b c i zero r p q e = tt
 fit-rows w0 w1 w2 a b c i (suc n) r p q e =
-    let w = both (allBelow (2 ^ w0) a) (allBelow (2 ^ w1) b && allBelow (2 ^ w2) c) e in
-    let v = both (allBelow (2 ^ w1) b) (allBelow (2 ^ w2) c) (w .1) in (
+    let w = and-true (allBelow (2 ^ w0) a) (allBelow (2 ^ w1) b && allBelow (2 ^ w2) c) e in
+    let v = and-true (allBelow (2 ^ w1) b) (allBelow (2 ^ w2) c) (w .1) in (
       (below-at (2 ^ w0) a i (w .0) (omega arith), (below-at (2 ^ w1) b i (v .0) (omega arith), (below-at (2 ^ w2) c i (v .1) (omega arith), tt))),
       fit-rows w0 w1 w2 a b c (i + 1) n (omega arith) p q e,
     )
@@ -37,8 +38,8 @@ fit-pairs : (a b : List ℕ) (i n : ℕ) → i + n ≤ length a → length b ≡
 unfolding FitAll Fit rowsOf fit3
 fit-pairs a b i zero r p e = tt
 fit-pairs a b i (suc n) r p e =
-    let w = both (allBelow 1024 a) (allBelow 1024 b && allBelow 1024 b) e in
-    let v = both (allBelow 1024 b) (allBelow 1024 b) (w .1) in
+    let w = and-true (allBelow 1024 a) (allBelow 1024 b && allBelow 1024 b) e in
+    let v = and-true (allBelow 1024 b) (allBelow 1024 b) (w .1) in
     ((below-at 1024 a i (w .0) (omega arith), (below-at 1024 b i (v .0) (omega arith), tt)), fit-pairs a b (i + 1) n (omega arith) p e)
 
 fit-blade : (d : List ℕ) → length d ≡ 4 → allBelow 2048 d ≡ true → Fit bladeW d
@@ -70,10 +71,10 @@ module _ (k : Columns) where
   module _ (m : ℕ) (g : Good k m) where
     pub fit-sheet : FitSheet (sheetFrom k)
     fit-sheet =
-        let w1 = both (fit3 2048 2048 2 (k .x) (k .y) (k .pinned)) (fit3 1024 1024 1024 (k .t0) (k .t1) (k .t2) && (fit3 1024 1024 2 (k .e0) (k .e1) (k .structural) && (fit3 1024 1024 1024 (k .b0) (k .b1) (k .b1) && allBelow 2048 (k .blade)))) (g .fit) in
-        let w2 = both (fit3 1024 1024 1024 (k .t0) (k .t1) (k .t2)) (fit3 1024 1024 2 (k .e0) (k .e1) (k .structural) && (fit3 1024 1024 1024 (k .b0) (k .b1) (k .b1) && allBelow 2048 (k .blade))) (w1 .1) in
-        let w3 = both (fit3 1024 1024 2 (k .e0) (k .e1) (k .structural)) (fit3 1024 1024 1024 (k .b0) (k .b1) (k .b1) && allBelow 2048 (k .blade)) (w2 .1) in
-        let w4 = both (fit3 1024 1024 1024 (k .b0) (k .b1) (k .b1)) (allBelow 2048 (k .blade)) (w3 .1) in
+        let w1 = and-true (fit3 2048 2048 2 (k .x) (k .y) (k .pinned)) (fit3 1024 1024 1024 (k .t0) (k .t1) (k .t2) && (fit3 1024 1024 2 (k .e0) (k .e1) (k .structural) && (fit3 1024 1024 1024 (k .b0) (k .b1) (k .b1) && allBelow 2048 (k .blade)))) (g .fit) in
+        let w2 = and-true (fit3 1024 1024 1024 (k .t0) (k .t1) (k .t2)) (fit3 1024 1024 2 (k .e0) (k .e1) (k .structural) && (fit3 1024 1024 1024 (k .b0) (k .b1) (k .b1) && allBelow 2048 (k .blade))) (w1 .1) in
+        let w3 = and-true (fit3 1024 1024 2 (k .e0) (k .e1) (k .structural)) (fit3 1024 1024 1024 (k .b0) (k .b1) (k .b1) && allBelow 2048 (k .blade)) (w2 .1) in
+        let w4 = and-true (fit3 1024 1024 1024 (k .b0) (k .b1) (k .b1)) (allBelow 2048 (k .blade)) (w3 .1) in
         let v = g .even in
         record {
           header = subst (λ (c : Counts). Fit headerW (headerOf c)) (sym counts-from) (fit-header (countsIn k) (g .few));

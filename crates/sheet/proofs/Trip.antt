@@ -10,6 +10,15 @@ use Rattle.sheet.specs.Sheet.{Sheet, headerW, particleW, triangleW, edge
 use Rattle.sheet.specs.declared.Counts.{Counts}
 use Rattle.bits.proofs.RowLaws.{AllBits, bits-drop, pack-unpack, unpack-pack, length-pack, length-writeRows, write-read, read-write, length-read}
 
+-- counts are equal where their headers are
+pub same-counts : (c d : Counts) → headerOf c ≡ headerOf d → c ≡ d
+same-counts c d e =
+    let p : c .particles ≡ d .particles = cc in
+    let t : c .triangles ≡ d .triangles = cc in
+    let g : c .edges ≡ d .edges = cc in
+    let b : c .boundary ≡ d .boundary = cc in
+    λ i. record { particles = p i; triangles = t i; edges = g i; boundary = b i }
+
 -- the header holds the counts
 pub header-counts : (l : List ℕ) → unpack headerW l ≡ headerOf (countsAt l)
 unfolding unpack

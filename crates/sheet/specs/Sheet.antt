@@ -110,6 +110,10 @@ above limits c = ltb (limits .particles) (c .particles) || (ltb (limits .triangl
 abbrev pub most : Counts
 most = record { particles = 1024; triangles = 1024; edges = 2048; boundary = 2048 }
 
+-- the limits of the programs that print text, `cutlist` (R14.1) and `sheetdiff` (R23.4): at most 128 particles, 128 triangles, 256 edges and 256 boundary entries, typed or its own
+abbrev pub limits : Counts
+limits = record { particles = 128; triangles = 128; edges = 256; boundary = 256 }
+
 -- a count is above its limit
 abbrev pub tooMany : Counts → Bool
 tooMany c = above most c

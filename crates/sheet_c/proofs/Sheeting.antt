@@ -1,38 +1,34 @@
 -- Laws of a sheet that is read and replied to: local blocks have room for it, and their words are the sheet's. Assumes nothing.
 use Prim.Native.Nat.{ℕ, _+_, _*_, _/_, _≤_, _<_}
 use native.Mathlib.Omega.{arith}
-use mathlib.Core.Path.{_≡_, refl, sym, ap, ap₂, subst, _∙_}
+use mathlib.Core.Path.{_≡_, refl, sym, ap, subst, _∙_}
 use mathlib.Core.Bool.{Bool, true, false, cond, _||_}
 use mathlib.Core.List.{List, [], _∷_, _++_}
 use lib.Dec.{ltb, eqb}
 use lib.Ieee.{Float}
-use lib.ListN.{length, take, drop, length-append, length-map}
+use lib.ListN.{length, take, length-append}
 use lib.Seq.{take-at, take-length}
 use borrow.Author.Tests.{ltb-false, le-leb}
 use Rattle.lists.specs.Lists.{pick, padded}
-use Rattle.lists.proofs.Rows.{length-mapAt}
-use Rattle.float.specs.Numbers.{zero32}
-use Rattle.model.specs.Reads.{Read, refused, value}
+use Rattle.model.specs.Reads.{refused, value}
 use Rattle.mesh.specs.At.{meshAt}
 use Rattle.mesh.specs.Given.{Lent}
 use Rattle.mesh.specs.Filled.{lent}
 use Rattle.mesh.specs.declared.Counts as M
 use Rattle.mesh.specs.Widths.{pointColumns, particleWords}
-use Rattle.filled.specs.Counts.{countsIn}
-use Rattle.filled.proofs.Held.{mesh-held}
 use Rattle.bits.specs.Bits.{bitsOf}
-use Rattle.bits.specs.Rows.{unpack, readRows}
-use Rattle.bits.proofs.RowLaws.{length-read}
-use Rattle.sheet.specs.Sheet.{Sheet, sheetWith, above, tooMany, most, countsAt, countsOf, namesOK, particleW, triangleW, edgeW, bladeW, atTriangles, atEdges, atBlade}
-use Rattle.sheet.specs.Read.{floatOf, particlesFrom, trianglesFrom, edgesFrom, boundaryFrom, meshOfSheet, bladeOfSheet, countsFor}
+use Rattle.bits.specs.Rows.{unpack}
+use Rattle.sheet.specs.Sheet.{sheetWith, above, tooMany, most, countsAt, namesOK}
+use Rattle.sheet.specs.Read.{meshOfSheet, bladeOfSheet, countsFor}
 use Rattle.sheet.specs.declared.Counts.{Counts}
 use Rattle.sheet.specs.declared.Seen.{Seen as Typed}
 use Rattle.sheet.specs.declared.Seen.the-variants.{Whole as TypedWhole, Refused as TypedRefused}
 use Rattle.sheet.proofs.PutLaws.{neither}
-use Rattle.edition.specs.Edition.{SheetRead, second, bitsIn, typedOf, sheetOf, bytesIn, spareIn, overlong, typedWith, typedSeen, seenIn, seenOf}
-use Rattle.edition.specs.Reading.{roomFor, lentOf, worldOf, bladeLeft, ReadDone}
+use Rattle.edition.specs.Edition.{second, bitsIn, typedOf, sheetOf, bytesIn, spareIn, overlong, typedWith, typedSeen, seenIn, seenOf}
+use Rattle.edition.specs.Reading.{roomFor, lentOf, bladeLeft, ReadDone}
 use Rattle.edition.specs.declared.Seen.{Seen}
 use Rattle.edition.specs.declared.Seen.the-variants.{Whole, Refused}
+use Rattle.edition.proofs.Counted.{mesh-read}
 use Rattle.edition.proofs.Starts.{typed-in}
 use Rattle.edition.proofs.Entering.{outlined, seen-whole-tells}
 use Rattle.image.specs.Words as W
@@ -128,20 +124,6 @@ seen-small s = by (typedSeen most s) (typed-small s)
 
 -- ---- the mesh and the blade of a sheet as it is read
 
--- the mesh has the counts that were told
-counts-mesh : (s : List ℕ) (c : Counts) (f : Bool) → seenOf most s ≡ Whole c f → countsIn (worldOf (Whole c f) (bitsOf s)) ≡ countsFor c
-unfolding worldOf meshOfSheet particlesFrom trianglesFrom edgesFrom boundaryFrom sheetOf typedOf sheetWith
-counts-mesh s c f e =
-    let l = bitsIn (bitsOf s) in
-    let d = countsAt l in
-    let h = sheetOf (bitsOf s) .sheet in
-    let p : length (h .particles) ≡ d .particles = length-read particleW (d .particles) (drop 46 l) in
-    let t : length (h .triangles) ≡ d .triangles = length-read triangleW (d .triangles) (drop (atTriangles d) l) in
-    let g : length (h .edges) ≡ d .edges = length-read edgeW (d .edges) (drop (atEdges d) l) in
-    let k : record { particles = length (h .particles); triangles = length (h .triangles); edges = length (h .edges); boundary = length (h .boundary) } ≡ c =
-    (λ i. record { particles = p i; triangles = t i; edges = g i; boundary = length (h .boundary) }) ∙ sym (seen-whole-tells most s c f e .counts) in
-    rw (length-mapAt _ (h .particles), length-map (h .triangles) _, length-map (h .edges) _, length-map (h .boundary) _) (ap countsFor k)
-
 -- the blade has four numbers
 blade-four : (l : List ℕ) → length (bladeOfSheet (sheetOf l .sheet)) ≡ 4
 unfolding bladeOfSheet sheetOf typedOf sheetWith unpack
@@ -194,10 +176,7 @@ module _ (s : List ℕ) (L : Lent) (r : Seen) (p : List Float) (q k : List ℕ) 
     sheet-storing = record { few = seen-few s c f here; stands = stands-here; four = four′ }
 
     mesh-is : meshAt (countsFor c) p q k v e l o ≡ meshOfSheet (sheetOf (bitsOf s) .sheet)
-    unfolding worldOf
-    mesh-is =
-        subst (λ (x : M.Counts). meshAt x p q k v e l o ≡ meshOfSheet (sheetOf (bitsOf s) .sheet)) (counts-mesh s c f here)
-        (mesh-held (worldOf (Whole c f) (bitsOf s)) L p q k v e l o g (whole-read .blocks) same)
+    mesh-is = mesh-read most s L c f p q k v e l o g b b′ whole-read same
 
     blade-is : b′ ≡ bladeOfSheet (sheetOf (bitsOf s) .sheet)
     unfolding bladeLeft padded

@@ -16,6 +16,7 @@ use Rattle.blade.specs.Points.{minusOf, lengthOf}
 use Rattle.model.specs.Mesh.{Particle, Mesh, blank}
 use Rattle.model.specs.Elements.{at}
 use Rattle.mesh.specs.At.{particleRow, particlesAt, trianglesAt, edgesAt, boundaryAt, meshAt}
+use Rattle.lists.proofs.Sifts.{and-true}
 use Rattle.bits.specs.Bits.{num, fieldAt}
 use Rattle.bits.specs.Rows.{total, unpack, readRows}
 use Rattle.sheet.specs.Sheet.{particleW, triangleW, edgeW}
@@ -28,7 +29,6 @@ use Rattle.mesh.specs.Given.{Lent}
 use Rattle.mesh.specs.Filled.{Filled}
 use Rattle.mesh.specs.declared.Counts as M
 use Rattle.mesh.specs.Widths.{pointColumns}
-use Rattle.sheet.proofs.PutLaws.{both}
 use Rattle.sheet.proofs.MeshReads.{read-tab}
 use Rattle.sheet_rows.proofs.RowReads.{two-named, three-named}
 
@@ -63,10 +63,10 @@ unfolding okAt
 ok-at three p l at st zero e k h = absurd (omega arith)
 ok-at three p l at st (suc n) e zero h =
     let z : at + zero * st ≡ at = omega (arith, zero-mul st) in
-    ap (λ (j : ℕ). rowAt three p l j) z ∙ both (rowAt three p l at) (okAt three p l (at + st) st n) e .0
+    ap (λ (j : ℕ). rowAt three p l j) z ∙ and-true (rowAt three p l at) (okAt three p l (at + st) st n) e .0
 ok-at three p l at st (suc n) e (suc k) h =
     let z : at + suc k * st ≡ at + st + k * st = omega (arith, suc-mul k st) in
-    ap (λ (j : ℕ). rowAt three p l j) z ∙ ok-at three p l (at + st) st n (both (rowAt three p l at) (okAt three p l (at + st) st n) e .1) k (omega arith)
+    ap (λ (j : ℕ). rowAt three p l j) z ∙ ok-at three p l (at + st) st n (and-true (rowAt three p l at) (okAt three p l (at + st) st n) e .1) k (omega arith)
 
 -- where a particle stands, by the points and by the list
 pub place-same : (n : ℕ) (P : List Float) (R : List ℕ) (ps : List Particle) → particlesAt n P R ≡ ps → (k : ℕ) → k < n → pointIn P k ≡ placeIn ps k

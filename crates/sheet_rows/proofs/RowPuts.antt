@@ -14,6 +14,7 @@ use Rattle.mesh.specs.At.{particleBy, particlesAt, trianglesAt, boundaryAt}
 use Rattle.mesh.specs.Widths.{pointColumns}
 use Rattle.mesh.proofs.Columns.{by-columns}
 use Rattle.blade.specs.declared.Point.{Point}
+use Rattle.outline.proofs.Adding.{first-place, second-place}
 use Rattle.sheet.specs.Read.{floatOf, inverseOf, areaOf, particleFrom, triangleFrom}
 
 -- values put at place n of columns c, c + 1, ..
@@ -116,11 +117,6 @@ side-pushed n a b S hs =
     (rows-push n _ _ _ (λ k h i. record { a = old 0 k h i; b = old 1 k h i }) (λ i. record { a = new 0 (omega arith) i; b = new 1 (omega arith) i }))
 
 -- ---- as the program writes the places of the first two columns
-pub first-place : (R n : ℕ) → 0 * R + n ≡ n
-first-place R n = omega arith
-
-pub second-place : (R n : ℕ) → 1 * R + n ≡ R + n
-second-place R n = omega arith
 
 pub particle-put :
     (n x y z : ℕ) (fx fy w : Float) (S : List Float) (T : List ℕ) → fx ≡ floatOf x → fy ≡ floatOf y → w ≡ inverseOf z → n + 1 ≤ length S / pointColumns → n + 1 ≤ length T / 2

@@ -12,12 +12,12 @@ use Rattle.blade.specs.Points.{minusOf, lengthOf}
 use Rattle.float.specs.Numbers.{zero32}
 use Rattle.model.specs.Mesh.{Particle, Triangle, Edge, Side}
 use Rattle.mesh.specs.At.{particlesAt, trianglesAt, edgesAt, boundaryAt}
+use Rattle.lists.proofs.Sifts.{and-true}
 use Rattle.bits.specs.Bits.{fieldAt}
 use Rattle.sheet.specs.Sheet.{pairOK, rowOK}
 use Rattle.sheet.specs.Work.{rowAt, okAt}
 use Rattle.sheet_rows.specs.Work.{particleBits, triangleBits, edgeBits, sideBits}
 use Rattle.sheet.specs.Read.{particleFrom, triangleFrom, edgeFrom, sideFrom}
-use Rattle.sheet.proofs.PutLaws.{both}
 use Rattle.sheet.proofs.SeenLaws.{ok-turn}
 
 -- before the first turn
@@ -72,21 +72,21 @@ edge-made place l at pos i x y z w p e f g h = made-edge place x y z w h ∙ edg
 pub pair-named : (p a b : ℕ) → pairOK p a b ≡ true → (a < p) × (b < p)
 unfolding pairOK
 pair-named p a b e =
-    let w = both _ _ e in
-    let v = both _ _ (w .1) in
+    let w = and-true _ _ e in
+    let v = and-true _ _ (w .1) in
     (ltb-true a p (w .0), ltb-true b p (v .0))
 
 -- so does a row of two
 pub two-named : (three : Bool) (p a b c : ℕ) → rowOK three p a b c ≡ true → (a < p) × (b < p)
 unfolding rowOK
-two-named three p a b c e = pair-named p a b (both _ _ e .0)
+two-named three p a b c e = pair-named p a b (and-true _ _ e .0)
 
 -- and one of three
 pub three-named : (p a b c : ℕ) → rowOK true p a b c ≡ true → (a < p) × (b < p) × (c < p)
 unfolding rowOK
 three-named p a b c e =
-    let w = both _ _ e in
-    let v = both _ _ (w .1) in
+    let w = and-true _ _ e in
+    let v = and-true _ _ (w .1) in
     let q = pair-named p a b (w .0) in
     let r = pair-named p a c (v .0) in
     (q .0, q .1, r .1)
@@ -94,4 +94,4 @@ three-named p a b c e =
 -- of rows that are right, the first is, and the others are
 pub first-right : (three : Bool) (p : ℕ) (l : List ℕ) (pos st n i : ℕ) → i < n → okAt three p l pos st (n - i) ≡ true
     → (rowAt three p l pos ≡ true) × (okAt three p l (pos + st) st (n - (i + 1)) ≡ true)
-first-right three p l pos st n i h e = both _ _ (sym (ok-turn three p l pos st n i h) ∙ e)
+first-right three p l pos st n i h e = and-true _ _ (sym (ok-turn three p l pos st n i h) ∙ e)

@@ -2,7 +2,7 @@
 use Prim.Native.Nat.{ℕ, zero, suc, _+_, _-_, _*_, _≤_}
 use mathlib.Core.Path.{_≡_, refl, sym, ap, ap₂, _∙_}
 use mathlib.Core.Bool.{Bool, true, false, cond}
-use mathlib.Core.List.{List, [], _∷_, _++_, append-assoc, append-nil}
+use mathlib.Core.List.{List, [], _∷_, _++_}
 use native.Mathlib.Omega.{arith}
 use borrow.Author.Tests.{le-leb, leb-true}
 use lib.Dec.{ltb, leb}
@@ -20,7 +20,7 @@ use Rattle.sheet.specs.Sheet as S
 use Rattle.sheet.specs.Work.{Even, Small}
 use Rattle.sheet.proofs.PutLaws.{length-rowsOf, sets-zeros, even-from, not-many, accepted}
 use Rattle.sheet.proofs.There.{limits}
-use Rattle.edition.proofs.Editions.{length-second}
+use Rattle.edition.proofs.Editions.{header-parts, length-second}
 use Rattle.edition.specs.Edition.{header2W, sheet2Bits, ownOf, bytesIn}
 use Rattle.sheet_writing.specs.Writing.{answerOf, putOf}
 
@@ -43,10 +43,6 @@ pub own-columns : (k : Columns) → outlineOf (rows3 (k .t0) (k .t1) (k .t2)) (r
 own-columns k = ap₂ outlineOf (rows-same (k .t0) (k .t1) (k .t2)) (rows-same (k .e0) (k .e1) (k .structural))
 
 -- ---- the parts one after the other
-
-header-parts : (p t e : ℕ) → pack (11 ∷ 11 ∷ 11 ∷ []) (2047 ∷ p ∷ t ∷ []) ++ bits 12 e ≡ pack header2W (2047 ∷ p ∷ t ∷ e ∷ [])
-unfolding pack
-header-parts p t e = simp (append-assoc, append-nil)
 
 module _ (k : Columns) where
   abbrev rp : List (List ℕ)

@@ -1,29 +1,28 @@
 -- On bytes, in the second edition: what was written is read as what was handed in, and what is read is written again byte for byte. Assumes nothing.
-use Prim.Native.Nat.{ℕ, zero, suc, _+_, _-_, _*_, _^_, _<_, _≤_}
+use Prim.Native.Nat.{ℕ, _+_, _-_, _*_, _^_, _<_, _≤_}
 use mathlib.Core.Path.{_≡_, refl, sym, ap, ap₂, _∙_, subst}
 use mathlib.Core.Bool.{Bool, true, false}
 use mathlib.Core.List.{List, [], _∷_, _++_}
 use native.Mathlib.Omega.{arith}
-use native.Mathlib.Nat.{zero-div}
 use borrow.Author.Tests.{le-ltb, le-leb, eq-eqb}
 use lib.Dec.{ltb, leb}
 use lib.ListN.{length, take, drop, getD, replicate, length-drop, length-replicate, take-append-drop}
 use lib.Seq.{take-append-add, drop-at, take-all, length-take-le}
 use Rattle.lists.specs.Lists.{padded}
 use Rattle.bits.specs.Bits.{bits, bitsOf, num, fieldAt}
-use Rattle.bits.specs.Rows.{total, Fit, FitAll, rowsOf, col}
-use Rattle.bits.proofs.Laws.{length-bitsOf, bits-num}
-use Rattle.bits.proofs.RowLaws.{AllBits, bits-bitsOf, bits-drop, fit-read, fit-unpack, length-read}
+use Rattle.bits.specs.Rows.{Fit, FitAll, rowsOf, col}
+use Rattle.bits.proofs.Laws.{length-bitsOf}
+use Rattle.bits.proofs.RowLaws.{zeros-of, take-zeros, bits-bitsOf, bits-drop}
 use Rattle.mesh.specs.Given.{Lent}
 use Rattle.mesh.specs.Filled.{Filled}
 use lib.Ieee.{Float}
-use Rattle.sheet.specs.Sheet.{Sheet, Columns, sheetFrom, columnsOf, countsIn, countsOf, countsAt, headerOf, sheetWith, sheetBits, particleW, triangleW, edgeW, boundaryW, bladeW, atTriangles, atEdges, atBoundary, atBlade, endOf, bytesOf, even3, evenOf, fit3, fitOf, allBelow, tooMany, above, namesOK, FitSheet}
+use Rattle.sheet.specs.Sheet.{Sheet, Columns, sheetFrom, columnsOf, countsIn, countsOf, countsAt, sheetWith, sheetBits, particleW, boundaryW, bladeW, bytesOf, even3, evenOf, fit3, fitOf, allBelow, tooMany, above, namesOK, FitSheet}
 use Rattle.sheet.specs.Read.{meshOfSheet}
 use Rattle.sheet.specs.declared.Counts.{Counts}
 use Rattle.sheet.specs.declared.Seen.the-variants.{Whole as TypedWhole}
 use Rattle.sheet.proofs.PutLaws as F
 use Rattle.sheet.proofs.There.{fit-sheet, bitsOf-take, num-zeros}
-use Rattle.sheet.proofs.Trip.{counts-read}
+use Rattle.sheet.proofs.Trip.{same-counts, counts-read}
 use Rattle.sheet.proofs.Back.{bitsOf-inj, length-col, rows-cols3, rows-cols2, below-col, fit-length, blade-below}
 use Rattle.edition.specs.Edition.{second, bitsIn, sheet2Bits, bounded, ownOf, outlineIn, typedOf, sheetOf, bytesIn, endIn, typedWith, typedSeen, seenIn, seenOf}
 use Rattle.edition.specs.Reading.{roomFor, lentOf, worldOf, ReadDone}
@@ -31,23 +30,11 @@ use Rattle.sheet_writing.specs.Writing.{Handed, columnsFrom, answerOf, p
 use Rattle.edition.specs.Work.{TypedIn}
 use Rattle.edition.specs.declared.Seen.{Seen}
 use Rattle.edition.specs.declared.Seen.the-variants.{Whole}
-use Rattle.edition.proofs.Editions.{bits-in, is-second, second-read, written-read, read-written, first-bits, first-long, length-second}
-use Rattle.edition.proofs.Starts.{in-second, typed-in, header-bits}
+use Rattle.edition.proofs.Editions.{bits-in, is-second, second-read, written-read, read-written, length-second}
+use Rattle.edition.proofs.Starts.{typed-in, header-bits}
+use Rattle.edition.proofs.Fields.{typed-counts, typed-fit}
 use Rattle.edition.proofs.Entering.{outlined, seen-whole-tells}
 use Rattle.sheet_writing.proofs.Putting.{Good, good, put-some}
-
-take-zeros : (n m : ℕ) → n ≤ m → take n (replicate {A = ℕ} m 0) ≡ replicate n 0
-take-zeros zero m h = refl
-take-zeros (suc n) zero h = absurd (omega arith)
-take-zeros (suc n) (suc m) h = ap (λ (l : List ℕ). 0 ∷ l) (take-zeros n m (omega arith))
-
-same-counts : (c d : Counts) → headerOf c ≡ headerOf d → c ≡ d
-same-counts c d e =
-    let p : c .particles ≡ d .particles = cc in
-    let t : c .triangles ≡ d .triangles = cc in
-    let g : c .edges ≡ d .edges = cc in
-    let b : c .boundary ≡ d .boundary = cc in
-    λ i. record { particles = p i; triangles = t i; edges = g i; boundary = b i }
 
 typed-from : (lim : Counts) (s : List ℕ) (c : Counts) → countsAt (bitsIn (bitsOf s)) ≡ c → 6 ≤ length s → typedSeen lim s ≡ typedWith lim c s
 unfolding typedSeen
@@ -157,14 +144,6 @@ module _ (h : Handed) (before after : List ℕ) (same : length after ≡ length 
 
 -- ---- what is read is written again
 
-bits-zero : (n : ℕ) → bits n 0 ≡ replicate n 0
-unfolding bits
-bits-zero zero = refl
-bits-zero (suc n) = rw (zero-div, bits-zero n)
-
-zeros-of : (l : List ℕ) → AllBits l → num l ≡ 0 → l ≡ replicate (length l) 0
-zeros-of l h e = sym (bits-num l h) ∙ (ap (bits (length l)) e ∙ bits-zero (length l))
-
 even-col : (rs : List (List ℕ)) (i j k : ℕ) → even3 (col i rs) (col j rs) (col k rs) ≡ true
 unfolding even3
 even-col rs i j k =
@@ -218,31 +197,14 @@ module _ (lim : Counts) (s : List ℕ) (c : Counts) (f : Bool) (whole : seenOf l
       sym (take-append-drop e l) ∙ (ap (λ (x : List ℕ). x ++ drop e l) (sym w) ∙ ap (λ (x : List ℕ). sheet2Bits S ++ x) (y ∙ ap (λ (i : ℕ). replicate i 0) j))
 
   -- every field of it holds its number
-  all-bits : AllBits (bitsIn l)
-  all-bits = subst AllBits (sym (in-second l two)) (first-bits l (bits-bitsOf s) two (header-bits s (t .six)))
-
-  inside : endOf d ≤ length (bitsIn l)
-  inside = let a = ap length (in-second l two) in let b = first-long l (bits-bitsOf s) two (header-bits s (t .six)) in let m = length-bitsOf s in let q = length-is in omega arith
+  fit : FitSheet S
+  fit = typed-fit s (t .long) (t .few)
 
   pub fit-p : FitAll particleW (S .particles)
-  unfolding sheetWith total
-  fit-p = fit-read particleW (d .particles) (drop 46 (bitsIn l)) (bits-drop 46 (bitsIn l) all-bits) (omega (arith, inside, length-drop 46 (bitsIn l)))
-
-  fit-t : FitAll triangleW (S .triangles)
-  unfolding sheetWith total
-  fit-t = fit-read triangleW (d .triangles) (drop (atTriangles d) (bitsIn l)) (bits-drop (atTriangles d) (bitsIn l) all-bits) (omega (arith, inside, length-drop (atTriangles d) (bitsIn l)))
-
-  fit-e : FitAll edgeW (S .edges)
-  unfolding sheetWith total
-  fit-e = fit-read edgeW (d .edges) (drop (atEdges d) (bitsIn l)) (bits-drop (atEdges d) (bitsIn l) all-bits) (omega (arith, inside, length-drop (atEdges d) (bitsIn l)))
-
-  fit-b : FitAll boundaryW (S .boundary)
-  unfolding sheetWith total
-  fit-b = fit-read boundaryW (d .boundary) (drop (atBoundary d) (bitsIn l)) (bits-drop (atBoundary d) (bitsIn l) all-bits) (omega (arith, inside, length-drop (atBoundary d) (bitsIn l)))
+  fit-p = fit .particles
 
   pub fit-d : Fit bladeW (S .blade)
-  unfolding sheetWith total
-  fit-d = fit-unpack bladeW (drop (atBlade d) (bitsIn l)) (bits-drop (atBlade d) (bitsIn l) all-bits) (omega (arith, inside, length-drop (atBlade d) (bitsIn l)))
+  fit-d = fit .blade
 
   -- its columns make it again
   back-sheet : sheetFrom (columnsOf S) ≡ S
@@ -253,16 +215,13 @@ module _ (lim : Counts) (s : List ℕ) (c : Counts) (f : Bool) (whole : seenOf l
         length-col (S .edges) 0,
         length-col (S .boundary) 0,
         rows-cols3 11 11 1 (S .particles) fit-p,
-        rows-cols3 10 10 10 (S .triangles) fit-t,
-        rows-cols3 10 10 1 (S .edges) fit-e,
-        rows-cols2 10 10 (S .boundary) fit-b,
+        rows-cols3 10 10 10 (S .triangles) (fit .triangles),
+        rows-cols3 10 10 1 (S .edges) (fit .edges),
+        rows-cols2 10 10 (S .boundary) (fit .boundary),
       )
 
   back-counts : countsIn (columnsOf S) ≡ d
-  unfolding sheetWith
-  back-counts =
-      rw (length-col (S .particles) 0, length-col (S .triangles) 0, length-col (S .edges) 0, length-col (S .boundary) 0)
-      (rw (length-read particleW (d .particles) (drop 46 (bitsIn l)), length-read triangleW (d .triangles) (drop (atTriangles d) (bitsIn l)), length-read edgeW (d .edges) (drop (atEdges d) (bitsIn l)), length-read boundaryW (d .boundary) (drop (atBoundary d) (bitsIn l))))
+  back-counts = rw (length-col (S .particles) 0, length-col (S .triangles) 0, length-col (S .edges) 0, length-col (S .boundary) 0) (typed-counts d (bitsIn l))
 
   short : ltb 2048 (length (ownOf S)) ≡ false
   unfolding sheetOf typedOf outlineIn
@@ -278,16 +237,16 @@ module _ (lim : Counts) (s : List ℕ) (c : Counts) (f : Bool) (whole : seenOf l
       let k = columnsOf S in
       let e : evenOf k ≡ true = rw (even-col (S .particles) 0 1 2, even-col (S .triangles) 0 1 2, even-col (S .edges) 0 1 2, even-col (S .boundary) 0 1 1, eq-eqb (length (S .blade)) 4 (fit-length bladeW (S .blade) fit-d)) in
       let p : fit3 2048 2048 2 (k .x) (k .y) (k .pinned) ≡ true = fit-col 11 11 1 (S .particles) fit-p in
-      let r : fit3 1024 1024 1024 (k .t0) (k .t1) (k .t2) ≡ true = fit-col 10 10 10 (S .triangles) fit-t in
-      let g : fit3 1024 1024 2 (k .e0) (k .e1) (k .structural) ≡ true = fit-col 10 10 1 (S .edges) fit-e in
-      let b : fit3 1024 1024 1024 (k .b0) (k .b1) (k .b1) ≡ true = fit-col2 (S .boundary) fit-b in
+      let r : fit3 1024 1024 1024 (k .t0) (k .t1) (k .t2) ≡ true = fit-col 10 10 10 (S .triangles) (fit .triangles) in
+      let g : fit3 1024 1024 2 (k .e0) (k .e1) (k .structural) ≡ true = fit-col 10 10 1 (S .edges) (fit .edges) in
+      let b : fit3 1024 1024 1024 (k .b0) (k .b1) (k .b1) ≡ true = fit-col2 (S .boundary) (fit .boundary) in
       let q : allBelow 2048 (k .blade) ≡ true = blade-below (S .blade) fit-d in
-      let fit : fitOf k ≡ true = rw (p, r, g, b, q) in
+      let fits : fitOf k ≡ true = rw (p, r, g, b, q) in
       let few : tooMany (countsIn k) ≡ false = ap tooMany back-counts ∙ t .few in
       let names : namesOK (sheetFrom k) ≡ true = ap namesOK back-sheet ∙ t .names in
       let own : ltb 2048 (length (ownOf (sheetFrom k))) ≡ false = ap (λ (x : Sheet). ltb 2048 (length (ownOf x))) back-sheet ∙ short in
       let room : leb (bytesIn true (countsIn k)) (length s) ≡ true = ap (λ (x : Counts). leb (bytesIn true x) (length s)) back-counts ∙ le-leb (bytesIn true d) (length s) (omega (arith, length-is)) in
-      rw (e, few, fit, names, own, room)
+      rw (e, few, fits, names, own, room)
 
   -- so what a writer that is handed its fields leaves in as many bytes is the sheet itself
   pub read-then-write : (h : Handed) → columnsFrom h ≡ columnsOf S → (before after : List ℕ) (r : ℕ) → length before ≡ length s → ((i : ℕ) → getD s i 0 < 256) → ((i : ℕ) → getD after i 0 < 256)

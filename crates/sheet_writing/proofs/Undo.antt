@@ -1,7 +1,7 @@
 -- Reading and writing undo each other, told of what the functions return: the mesh and the blade that a reading of a second-edition sheet leaves, written, are the sheet that was read; and
 -- the mesh and the blade read from a sheet that was written are to a writer what was handed in.
 use Prim.Native.Nat.{ℕ, zero, suc, _+_, _<_}
-use mathlib.Core.Path.{_≡_, refl, ap, ap₂, sym, _∙_, subst}
+use mathlib.Core.Path.{_≡_, refl, ap, ap₂, sym, _∙_}
 use mathlib.Core.List.{List, [], _∷_, map}
 use mathlib.Core.Bool.{Bool, true, _&&_}
 use native.Mathlib.Omega.{arith}
@@ -12,7 +12,6 @@ use lib.Dec.{ltb}
 use lib.Ieee.{Float, ne, eq}
 use borrow.Author.Tests.{ltb-true}
 use Rattle.lists.specs.Lists.{mapAt, padded, tab}
-use Rattle.lists.proofs.Rows.{length-mapAt}
 use Rattle.columns.proofs.Rows.{tab-ext, tab-of}
 use Rattle.float.specs.Numbers.{zero32}
 use Rattle.blade.specs.declared.Point.{Point}
@@ -21,23 +20,21 @@ use Rattle.mesh.specs.At.{meshAt}
 use Rattle.mesh.specs.Given.{Lent}
 use Rattle.mesh.specs.Filled.{lent}
 use Rattle.mesh.specs.declared.Counts as M
-use Rattle.filled.specs.Counts.{countsIn}
-use Rattle.filled.proofs.Held.{mesh-held}
+use Rattle.lists.proofs.Sifts.{and-true}
 use Rattle.bits.specs.Bits.{bitsOf}
 use Rattle.bits.specs.Rows.{Fit, FitAll, readRows, rowsOf, col}
-use Rattle.bits.proofs.RowLaws.{length-read}
-use Rattle.sheet.specs.Sheet.{Sheet, Columns, fieldOf, coord, columnsOf, countsAt, sheetFrom, sheetWith, particleW, triangleW, edgeW, boundaryW, bladeW, atTriangles, atEdges, atBoundary, allBelow, fit3, fitOf}
-use Rattle.sheet.specs.Read.{floatOf, inverseOf, particleFrom, particlesFrom, triangleFrom, trianglesFrom, edgeFrom, edgesFrom, boundaryFrom, placeIn, meshOfSheet, bladeOfSheet, countsFor}
+use Rattle.sheet.specs.Sheet.{Sheet, Columns, fieldOf, coord, columnsOf, countsAt, sheetFrom, sheetWith, particleW, boundaryW, bladeW, atBoundary, allBelow, fit3, fitOf}
+use Rattle.sheet.specs.Read.{floatOf, inverseOf, particleFrom, particlesFrom, triangleFrom, trianglesFrom, edgeFrom, edgesFrom, placeIn, meshOfSheet, bladeOfSheet, countsFor}
 use Rattle.sheet.specs.declared.Counts.{Counts}
-use Rattle.sheet.proofs.PutLaws.{both}
 use Rattle.sheet.proofs.CoordLaws.{coord-whole, field-coord, coord-field}
-use Rattle.sheet.proofs.Back.{below-col, fit-length, blade-below}
+use Rattle.sheet.proofs.Back.{row3, below-col, fit-length, blade-below}
 use Rattle.edition.specs.Edition.{second, bitsIn, bounded, ownOf, typedOf, sheetOf, seenOf}
-use Rattle.edition.specs.Reading.{worldOf, bladeLeft, ReadDone}
+use Rattle.edition.specs.Reading.{bladeLeft, ReadDone}
 use Rattle.edition.specs.declared.Seen.the-variants.{Whole}
 use Rattle.edition.proofs.Editions.{counts-second}
 use Rattle.edition.proofs.Starts.{in-second, header-bits, typed-in}
-use Rattle.edition.proofs.Entering.{outlined, seen-whole-tells, lent-whole}
+use Rattle.edition.proofs.Counted.{mesh-read}
+use Rattle.edition.proofs.Entering.{seen-whole-tells, lent-whole}
 use Rattle.sheet_writing.specs.Writing.{Handed, columnsFrom, wholeOf, pinnedOf, handedOf, WriteDone}
 use Rattle.sheet_writing.proofs.Putting.{Good, good}
 use Rattle.sheet_writing.proofs.Trips as T
@@ -67,14 +64,6 @@ map-map : {A B C : Type 0} (h : B → C) (g : A → B) (l : List A) → map h (m
 map-map h g [] = refl
 map-map h g (a ∷ l) = rw (map-map h g l)
 
--- fields of a row
-fit-0 : (r : List ℕ) → Fit particleW r → (getD r 0 0 < 2048) × (getD r 1 0 < 2048) × (getD r 2 0 < 2)
-unfolding Fit
-fit-0 [] f = absurd f
-fit-0 (x ∷ []) f = absurd (f .1)
-fit-0 (x ∷ y ∷ []) f = absurd (f .1 .1)
-fit-0 (x ∷ y ∷ z ∷ r) f = (f .0, f .1 .0, f .1 .1 .0)
-
 -- the columns of a sheet but its boundary's, coordinates as whole numbers
 abbrev handedIn : Sheet → Handed
 handedIn s = record {
@@ -93,15 +82,15 @@ handedIn s = record {
 module _ (s : Sheet) (q : FitAll particleW (s .particles)) where
   whole-x : map (λ (p : Particle). wholeOf (p .x)) (particlesFrom (s .particles)) ≡ map coord (col 0 (s .particles))
   unfolding particlesFrom particleFrom
-  whole-x = particle-col (λ p. wholeOf (p .x)) (λ r. coord (getD r 0 0)) _ (λ k r f. whole-float (getD r 0 0) (fit-0 r f .0)) (s .particles) q ∙ sym (map-map coord (λ r. getD r 0 0) (s .particles))
+  whole-x = particle-col (λ p. wholeOf (p .x)) (λ r. coord (getD r 0 0)) _ (λ k r f. whole-float (getD r 0 0) (row3 11 11 1 r f .1)) (s .particles) q ∙ sym (map-map coord (λ r. getD r 0 0) (s .particles))
 
   whole-y : map (λ (p : Particle). wholeOf (p .y)) (particlesFrom (s .particles)) ≡ map coord (col 1 (s .particles))
   unfolding particlesFrom particleFrom
-  whole-y = particle-col (λ p. wholeOf (p .y)) (λ r. coord (getD r 1 0)) _ (λ k r f. whole-float (getD r 1 0) (fit-0 r f .1)) (s .particles) q ∙ sym (map-map coord (λ r. getD r 1 0) (s .particles))
+  whole-y = particle-col (λ p. wholeOf (p .y)) (λ r. coord (getD r 1 0)) _ (λ k r f. whole-float (getD r 1 0) (row3 11 11 1 r f .2)) (s .particles) q ∙ sym (map-map coord (λ r. getD r 1 0) (s .particles))
 
   whole-pinned : map (λ (p : Particle). pinnedOf (p .inv)) (particlesFrom (s .particles)) ≡ col 2 (s .particles)
   unfolding particlesFrom particleFrom
-  whole-pinned = particle-col (λ p. pinnedOf (p .inv)) (λ r. getD r 2 0) _ (λ k r f. pinned-again (getD r 2 0) (fit-0 r f .2)) (s .particles) q
+  whole-pinned = particle-col (λ p. pinnedOf (p .inv)) (λ r. getD r 2 0) _ (λ k r f. pinned-again (getD r 2 0) (row3 11 11 1 r f .3)) (s .particles) q
 
 triangle-col : {C : Type 0} (place : ℕ → Point) (h : Triangle → C) (rows : List (List ℕ)) → map h (trianglesFrom place rows) ≡ map (λ (r : List ℕ). h (triangleFrom place (getD r 0 0) (getD r 1 0) (getD r 2 0))) rows
 unfolding trianglesFrom
@@ -114,7 +103,7 @@ edge-col place h rows = map-map h _ rows
 whole-blade : (d : List ℕ) → allBelow 2048 d ≡ true → map wholeOf (map floatOf d) ≡ map coord d
 unfolding allBelow
 whole-blade [] e = refl
-whole-blade (n ∷ d) e = let w = both (ltb n 2048) (allBelow 2048 d) e in rw (whole-float n (ltb-true n 2048 (w .0)), whole-blade d (w .1))
+whole-blade (n ∷ d) e = let w = and-true (ltb n 2048) (allBelow 2048 d) e in rw (whole-float n (ltb-true n 2048 (w .0)), whole-blade d (w .1))
 
 -- the mesh and the blade that a sheet is are to a writer its own columns
 pub handed-read : (s : Sheet) → FitAll particleW (s .particles) → allBelow 2048 (s .blade) ≡ true → handedOf (meshOfSheet s) (bladeOfSheet s) ≡ handedIn s
@@ -138,13 +127,13 @@ handed-read s q d =
 fields-again : (a : List ℕ) → allBelow 2048 a ≡ true → map fieldOf (map coord a) ≡ a
 unfolding allBelow
 fields-again [] e = refl
-fields-again (n ∷ a) e = let w = both (ltb n 2048) (allBelow 2048 a) e in rw (field-coord n (ltb-true n 2048 (w .0)), fields-again a (w .1))
+fields-again (n ∷ a) e = let w = and-true (ltb n 2048) (allBelow 2048 a) e in rw (field-coord n (ltb-true n 2048 (w .0)), fields-again a (w .1))
 
 -- and the whole number of each field
 wholes-again : (a : List ℤ) → allBelow 2048 (map fieldOf a) ≡ true → map coord (map fieldOf a) ≡ a
 unfolding allBelow
 wholes-again [] e = refl
-wholes-again (z ∷ a) e = let w = both (ltb (fieldOf z) 2048) (allBelow 2048 (map fieldOf a)) e in rw (coord-field z (ltb-true (fieldOf z) 2048 (w .0)), wholes-again a (w .1))
+wholes-again (z ∷ a) e = let w = and-true (ltb (fieldOf z) 2048) (allBelow 2048 (map fieldOf a)) e in rw (coord-field z (ltb-true (fieldOf z) 2048 (w .0)), wholes-again a (w .1))
 
 -- so the fields of what it is handed are the sheet's
 fields-read : (s : Sheet) → FitAll particleW (s .particles) → allBelow 2048 (s .blade) ≡ true → columnsFrom (handedIn s) ≡ columnsOf (bounded [] s)
@@ -154,15 +143,6 @@ fields-read s q d =
     rw (fields-again (col 0 (s .particles)) x, fields-again (col 1 (s .particles)) y, fields-again (s .blade) d)
 
 -- ---- a sheet read
-
--- the counts of the mesh that a sheet with another boundary is
-counts-mesh : (s : Sheet) (b : List (List ℕ)) → countsIn (record { mesh = meshOfSheet (bounded b s); log = [] }) ≡ countsFor (record { particles = length (s .particles); triangles = length (s .triangles); edges = length (s .edges); boundary = length b })
-unfolding meshOfSheet particlesFrom trianglesFrom edgesFrom boundaryFrom
-counts-mesh s b = rw (length-mapAt _ (s .particles), length-map (s .triangles) _, length-map (s .edges) _, length-map b _)
-
-counts-typed : (l : List ℕ) (d : Counts) (n : ℕ) → _≡_ {A = Counts} (record { particles = length (sheetWith d l .particles); triangles = length (sheetWith d l .triangles); edges = length (sheetWith d l .edges); boundary = n }) (outlined d n)
-unfolding sheetWith
-counts-typed l d n = rw (length-read particleW (d .particles) (drop 46 l), length-read triangleW (d .triangles) (drop (atTriangles d) l), length-read edgeW (d .edges) (drop (atEdges d) l))
 
 four-first : (n : ℕ) (d : List ℕ) → length d ≡ 4 → take 4 (padded n zero32 (map floatOf d)) ≡ map floatOf d
 unfolding padded
@@ -189,17 +169,8 @@ module _ (limits : Counts) (s : List ℕ) (L : Lent) (c : Counts) (f : Bool) (p 
   unfolding sheetOf typedOf
   read-as = refl
 
-  counts-left : countsIn (worldOf (Whole c f) (bitsOf s)) ≡ countsFor c
-  unfolding worldOf
-  counts-left =
-      let z = sheetOf (bitsOf s) .sheet .boundary in
-      ap (λ (x : Sheet). countsIn (record { mesh = meshOfSheet x; log = [] })) read-as
-      ∙ (counts-mesh typed z
-      ∙ ap countsFor (counts-typed (bitsIn (bitsOf s)) (countsAt (bitsIn (bitsOf s))) (length z) ∙ sym (seen-whole-tells limits s c f read-seen .counts)))
-
   pub read-mesh : meshAt (countsFor c) p q k v e l o ≡ meshOfSheet (sheetOf (bitsOf s) .sheet)
-  unfolding worldOf
-  read-mesh = subst (λ (x : M.Counts). meshAt x p q k v e l o ≡ meshOfSheet (sheetOf (bitsOf s) .sheet)) counts-left (mesh-held (worldOf (Whole c f) (bitsOf s)) L p q k v e l o g (R .blocks) same)
+  read-mesh = mesh-read limits s L c f p q k v e l o g b b′ R same
 
   pub read-blade : take 4 b′ ≡ bladeOfSheet (sheetOf (bitsOf s) .sheet)
   unfolding bladeLeft bladeOfSheet sheetOf typedOf
@@ -258,21 +229,21 @@ module _ (a b c : List ℕ) (eb : length b ≡ length a) (ec : length c ≡ leng
 fits-three : (l m n : ℕ) (a b c : List ℕ) → fit3 l m n a b c ≡ true → (allBelow l a ≡ true) × (allBelow m b ≡ true) × (allBelow n c ≡ true)
 unfolding fit3
 fits-three l m n a b c e =
-    let w = both (allBelow l a) (allBelow m b && allBelow n c) e in
-    let v = both (allBelow m b) (allBelow n c) (w .1) in
+    let w = and-true (allBelow l a) (allBelow m b && allBelow n c) e in
+    let v = and-true (allBelow m b) (allBelow n c) (w .1) in
     (w .0, v .0, v .1)
 
 -- the bits hold the particles' numbers and the blade's
 particles-fit : (k : Columns) → fitOf k ≡ true → fit3 2048 2048 2 (k .x) (k .y) (k .pinned) ≡ true
 particles-fit k e =
-    both (fit3 2048 2048 2 (k .x) (k .y) (k .pinned)) (fit3 1024 1024 1024 (k .t0) (k .t1) (k .t2) && (fit3 1024 1024 2 (k .e0) (k .e1) (k .structural) && (fit3 1024 1024 1024 (k .b0) (k .b1) (k .b1) && allBelow 2048 (k .blade)))) e .0
+    and-true (fit3 2048 2048 2 (k .x) (k .y) (k .pinned)) (fit3 1024 1024 1024 (k .t0) (k .t1) (k .t2) && (fit3 1024 1024 2 (k .e0) (k .e1) (k .structural) && (fit3 1024 1024 1024 (k .b0) (k .b1) (k .b1) && allBelow 2048 (k .blade)))) e .0
 
 blade-fits : (k : Columns) → fitOf k ≡ true → allBelow 2048 (k .blade) ≡ true
 blade-fits k e =
-    let w1 = both (fit3 2048 2048 2 (k .x) (k .y) (k .pinned)) (fit3 1024 1024 1024 (k .t0) (k .t1) (k .t2) && (fit3 1024 1024 2 (k .e0) (k .e1) (k .structural) && (fit3 1024 1024 1024 (k .b0) (k .b1) (k .b1) && allBelow 2048 (k .blade)))) e in
-    let w2 = both (fit3 1024 1024 1024 (k .t0) (k .t1) (k .t2)) (fit3 1024 1024 2 (k .e0) (k .e1) (k .structural) && (fit3 1024 1024 1024 (k .b0) (k .b1) (k .b1) && allBelow 2048 (k .blade))) (w1 .1) in
-    let w3 = both (fit3 1024 1024 2 (k .e0) (k .e1) (k .structural)) (fit3 1024 1024 1024 (k .b0) (k .b1) (k .b1) && allBelow 2048 (k .blade)) (w2 .1) in
-    both (fit3 1024 1024 1024 (k .b0) (k .b1) (k .b1)) (allBelow 2048 (k .blade)) (w3 .1) .1
+    let w1 = and-true (fit3 2048 2048 2 (k .x) (k .y) (k .pinned)) (fit3 1024 1024 1024 (k .t0) (k .t1) (k .t2) && (fit3 1024 1024 2 (k .e0) (k .e1) (k .structural) && (fit3 1024 1024 1024 (k .b0) (k .b1) (k .b1) && allBelow 2048 (k .blade)))) e in
+    let w2 = and-true (fit3 1024 1024 1024 (k .t0) (k .t1) (k .t2)) (fit3 1024 1024 2 (k .e0) (k .e1) (k .structural) && (fit3 1024 1024 1024 (k .b0) (k .b1) (k .b1) && allBelow 2048 (k .blade))) (w1 .1) in
+    let w3 = and-true (fit3 1024 1024 2 (k .e0) (k .e1) (k .structural)) (fit3 1024 1024 1024 (k .b0) (k .b1) (k .b1) && allBelow 2048 (k .blade)) (w2 .1) in
+    and-true (fit3 1024 1024 1024 (k .b0) (k .b1) (k .b1)) (allBelow 2048 (k .blade)) (w3 .1) .1
 
 -- what a writer accepts is what the sheet's columns are to it
 handed-written : (h : Handed) (m : ℕ) → Good (columnsFrom h) m → handedIn (sheetFrom (columnsFrom h)) ≡ h

@@ -20,15 +20,17 @@ use Rattle.mesh.specs.At.{trianglesAt, edgesAt}
 use Rattle.mesh.specs.Log.{wordsOf, worldOf, logAt}
 use Rattle.mesh.specs.Given.{Lent, roomsOf, asRooms}
 use Rattle.mesh.specs.Filled.{Filled, Fits, lent}
+use Rattle.filled.specs.Counts.{countsIn}
+use Rattle.filled.proofs.Held.{filled-fits, triangles-held, edges-held, log-held}
 use Rattle.call_frame.specs.Answered.{Answered, countsOf}
 use Rattle.mesh.specs.declared.Counts.{Counts}
 use Rattle.call_frame.specs.declared.Answer.{Answer}
 use Rattle.call_frame.specs.declared.Answer.the-variants.{Refused, Done}
 use Rattle.listing.specs.Listing.{listingBytes, refusedBytes, printed}
 use Rattle.listing.specs.declared.Written.{Written}
-use Rattle.sheetcut.specs.SheetCut.{rooms, fraction, Told}
+use Rattle.listing.specs.Answers.{Told}
+use Rattle.sheetcut.specs.SheetCut.{rooms, fraction}
 use Rattle.sheetcut.specs.Work.{piecesIn, Countable, Listable, textOf}
-use Rattle.sheetcut.proofs.Fillings.{countsIn, triangles-filled, edges-filled, log-filled, filled-fits}
 use Rattle.sheetcut.proofs.Counting.{pieces-in}
 
 module _ (a : Answer) (c : List ℕ) (v : List Float) (e : List ℕ) (l : List Float) where
@@ -73,13 +75,13 @@ module _ (L : Lent) (p : List Float) (r c : List ℕ) (v : List Float) (e : List
 
     -- the blocks have the mesh's triangles, its edges and the words of the log
     triangles-are : trianglesAt (length (M .triangles)) c v ≡ M .triangles
-    triangles-are = triangles-filled (L .corners) (L .volumes) (M .triangles) (fits .corners) (fits .volumes) c v (F .corners) (F .volumes)
+    triangles-are = triangles-held (worldOf M log) L p r c v e l b g F fits
 
     edges-are : edgesAt (length (M .edges)) e l ≡ M .edges
-    edges-are = edges-filled (L .ends) (L .lengths) (M .edges) (fits .ends) (fits .lengths) e l (F .ends) (F .lengths)
+    edges-are = edges-held (worldOf M log) L p r c v e l b g F fits
 
     log-is : logAt (length log) g ≡ map wordsOf log
-    log-is = ap (λ (n : ℕ). logAt n g) (sym (length-map log wordsOf)) ∙ log-filled (L .log) (map wordsOf log) g (F .log)
+    log-is = ap (λ (n : ℕ). logAt n g) (sym (length-map log wordsOf)) ∙ log-held (L .log) (map wordsOf log) g (F .log)
 
     -- so they can be listed
     done-countable : Modest L → indicesFit M ≡ true → Countable (countsOf M log) c v e l × (6 * length log ≤ length g) × (length log ≤ 640)

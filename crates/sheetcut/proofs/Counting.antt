@@ -1,23 +1,21 @@
 -- The table of the triangles and edges at the fronts of blocks: its corners name particles, and its pieces are theirs.
-use Prim.Native.Nat.{ℕ, suc, _*_, _/_, _<_, _≤_}
+use Prim.Native.Nat.{ℕ, _*_, _/_, _≤_}
 use native.Mathlib.Omega.{arith}
 use mathlib.Core.Path.{_≡_, refl, sym, _∙_, ap, subst}
-use mathlib.Core.Bool.{Bool, true, false, not, _&&_}
-use mathlib.Core.List.{List, [], _∷_}
+use mathlib.Core.Bool.{true}
+use mathlib.Core.List.{List}
 use lib.Dec.{ltb}
 use lib.Ieee.{Float}
-use lib.ListN.{length, getD, length-take}
-use lib.Seq.{getD-take}
-use borrow.Author.Tests.{ltb-true}
-use Rattle.lists.specs.Lists.{pick, stands, any, all, each}
-use Rattle.lists.proofs.Sifts.{and-true, true-and, all-append, all-get}
+use lib.ListN.{length}
+use Rattle.lists.specs.Lists.{all, each}
 use Rattle.columns.proofs.Rows.{tab-length}
 use Rattle.model.specs.Mesh.{Triangle, Edge, Mesh}
-use Rattle.model.specs.Valid.{named, cornersOk, endsOk}
-use Rattle.model.specs.Elements.{Kind, Triangles, Straps, Nothing, Element, kindBy, kindOf, cornersOf, endsOf, structural?, strapElement, trianglesFrom, strapsFrom, cornersPer}
+use Rattle.model.specs.Valid.{cornersOk, endsOk}
+use Rattle.model.specs.Elements.{Kind, Triangles, Straps, Nothing, Element, kindOf, cornersPer}
 use Rattle.model.specs.Pieces.{pieceCount, pieces}
-use Rattle.mesh.specs.At.{triangleRow, edgeRow, trianglesAt, edgesAt}
+use Rattle.mesh.specs.At.{triangleRow, trianglesAt, edgesAt}
 use Rattle.mesh.specs.declared.Counts.{Counts}
+use Rattle.mesh.proofs.Lists.{edges-length}
 use Rattle.elements.specs.declared.Kind.{Kind as KindCase}
 use Rattle.elements.specs.Table.{kindIs, elementsIn, KindFound, Cornered, Tabled, TableRoom}
 use Rattle.elements.proofs.Found.{elements-in}
@@ -25,6 +23,7 @@ use Rattle.elements.proofs.Filling.{triangles-length, straps-length}
 use Rattle.reach.proofs.Reached.{plain-in}
 use Rattle.pieces.specs.Counted.{Corners, Lent, PiecesCounted}
 use Rattle.pieces.proofs.Pieces.{two-corners}
+use Rattle.arguments.proofs.Accepted.{allCorners, triangles-below, straps-below, verts-below}
 use Rattle.sheetcut.specs.Work.{piecesIn, Countable}
 
 -- the pieces of a mesh are those of its triangles and edges
@@ -34,51 +33,11 @@ pieces-in M = ap (λ (es : List Element). pieceCount (cornersPer (kindOf M)) es)
 
 -- ---- corners name particles
 
--- those of all elements in one list
-abbrev allCorners : List Element → List ℕ
-allCorners es = each (λ (e : Element). e .corners) es
-
--- names are below the number of particles
-named-below : (n : ℕ) (l : List ℕ) → named n l ≡ true → all (λ x. ltb x n) l ≡ true
-unfolding named all
-named-below n [] e = refl
-named-below n (x ∷ l) e =
-    let a = and-true (ltb x n && not (stands x l)) (named n l) e in
-    true-and (and-true (ltb x n) (not (stands x l)) (a .0) .0) (named-below n l (a .1))
-
-triangles-below : (n i : ℕ) (ts : List Triangle) → all (cornersOk n) ts ≡ true → all (λ x. ltb x n) (allCorners (trianglesFrom i ts)) ≡ true
-unfolding trianglesFrom all cornersOk each
-triangles-below n i [] e = refl
-triangles-below n i (t ∷ ts) e =
-    let a = and-true (cornersOk n t) (all (cornersOk n) ts) e in
-    all-append (λ x. ltb x n) (cornersOf t) (allCorners (trianglesFrom (suc i) ts)) ∙ true-and (named-below n (cornersOf t) (a .0)) (triangles-below n (suc i) ts (a .1))
-
-straps-by : (n i : ℕ) (a : Edge) (es : List Element) (t : Bool) → all (λ x. ltb x n) (endsOf a) ≡ true → all (λ x. ltb x n) (allCorners es) ≡ true
-    → all (λ x. ltb x n) (allCorners (pick t (strapElement i a ∷ es) es)) ≡ true
-unfolding each
-straps-by n i a es true d f = all-append (λ x. ltb x n) (endsOf a) (allCorners es) ∙ true-and d f
-straps-by n i a es false d f = f
-
-straps-below : (n i : ℕ) (es : List Edge) → all (endsOk n) es ≡ true → all (λ x. ltb x n) (allCorners (strapsFrom i es)) ≡ true
-unfolding strapsFrom all endsOk each
-straps-below n i [] e = refl
-straps-below n i (a ∷ es) e =
-    let b = and-true (endsOk n a) (all (endsOk n) es) e in
-    straps-by n i a (strapsFrom (suc i) es) (structural? a) (named-below n (endsOf a) (b .0)) (straps-below n (suc i) es (b .1))
-
 elements-below : (K : Kind) (n : ℕ) (ts : List Triangle) (es : List Edge) → all (cornersOk n) ts ≡ true → all (endsOk n) es ≡ true → all (λ x. ltb x n) (allCorners (elementsIn K ts es)) ≡ true
 unfolding elementsIn all each
 elements-below Triangles n ts es p q = triangles-below n 0 ts p
 elements-below Straps n ts es p q = straps-below n 0 es q
 elements-below Nothing n ts es p q = refl
-
--- the first places of a table of such elements
-verts-below : (p n k : ℕ) (es : List Element) (verts : List ℕ) → all (λ x. ltb x p) (allCorners es) ≡ true → Cornered k es n verts → n * k ≤ length verts
-    → (t : ℕ) → t < n * k → getD verts t 0 < p
-verts-below p n k es verts a C room t h =
-    let e : getD verts t 0 ≡ getD (allCorners es) t 0 = sym (getD-take (n * k) verts t 0 h) ∙ ap (λ (l : List ℕ). getD l t 0) (C .corners-are) in
-    let l : t < length (allCorners es) = omega (arith, ap length (C .corners-are), length-take (n * k) verts) in
-    subst (λ (x : ℕ). x < p) (sym e) (ltb-true _ _ (all-get (λ x. ltb x p) (allCorners es) t 0 a l))
 
 -- ---- the table
 
@@ -99,10 +58,6 @@ triangles-count : (n : ℕ) (C : List ℕ) (U : List Float) → length (triangle
 unfolding trianglesAt
 triangles-count n C U = tab-length n (triangleRow (length C / 3) (length U / 2) C U)
 
-edges-count : (n : ℕ) (E : List ℕ) (L : List Float) → length (edgesAt n E L) ≡ n
-unfolding edgesAt
-edges-count n E L = tab-length n (edgeRow (length E / 4) (length L / 4) E L)
-
 module _ (k : Counts) (C : List ℕ) (U : List Float) (E : List ℕ) (L : List Float) (A : Countable k C U E L) where
   -- tables of 512 elements have room
   pub table-room : TableRoom (k .triangles) (k .edges) (length C) (length U) (length E) (length L) 512 1024 512
@@ -122,7 +77,7 @@ module _ (k : Counts) (C : List ℕ) (U : List Float) (E : List ℕ) (L : List F
       (T : Tabled (cornersPer (kindIs kind)) (elementsIn (kindIs kind) (trianglesAt (k .triangles) C U) (edgesAt (k .edges) E L)) n N Y F) (e : per ≡ cornersPer (kindIs kind)) where
     few-told : Few n (cornersPer (kindIs kind))
     few-told =
-        few-of (kindIs kind) (trianglesAt (k .triangles) C U) (edgesAt (k .edges) E L) n (omega (arith, triangles-count (k .triangles) C U, A .few-triangles)) (omega (arith, edges-count (k .edges) E L, A .few-edges)) (T .cornered .count)
+        few-of (kindIs kind) (trianglesAt (k .triangles) C U) (edgesAt (k .edges) E L) n (omega (arith, triangles-count (k .triangles) C U, A .few-triangles)) (omega (arith, edges-length (k .edges) E L, A .few-edges)) (T .cornered .count)
 
     -- 512 labels are enough
     pub short-told : n ≤ 512

@@ -20,7 +20,9 @@ use Rattle.edition.specs.declared.Seen.the-variants.{Whole, Refused}
 use Rattle.edition.proofs.Entering.{seen-whole-tells}
 use Rattle.listing.specs.Listing.{printed, refusedBytes}
 use Rattle.listing.specs.declared.Written.{Written}
-use Rattle.sheetcut.specs.SheetCut.{limits, rooms, fraction, cutOf, cutSeen, listed, Told}
+use Rattle.sheet.specs.Sheet.{limits}
+use Rattle.listing.specs.Answers.{Told}
+use Rattle.sheetcut.specs.SheetCut.{rooms, fraction, cutOf, cutSeen, listed}
 use Rattle.sheetcut.specs.Work.{Ample, Cuttable, Listable, textOf, fronts, FrontsRead}
 use Rattle.sheetcut.proofs.Answering.{places, cut-listable, cut-text}
 use Rattle.sheetcut.proofs.Reading.{seen-few, fronts-cut}

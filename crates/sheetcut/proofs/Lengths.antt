@@ -1,73 +1,25 @@
 -- How long a listing is: with at most 640 log entries, and numbers of 64 bits, it has at most 65,536 bytes. Assumes nothing.
-use Prim.Native.Nat.{ℕ, zero, suc, _+_, _*_, _/_, _%_, _≤_, _<_}
+use Prim.Native.Nat.{ℕ, zero, suc, _+_, _*_, _≤_}
 use native.Mathlib.Omega.{arith}
-use native.Mathlib.Nat.{suc-mul}
-use native.Mathlib.Decide.{decLe, ℕ-discrete}
+use native.Mathlib.Decide.{ℕ-discrete}
 use borrow.Author.Tests.{ne-eqb}
-use mathlib.Core.Path.{_≡_, refl, ap, subst}
+use mathlib.Core.Path.{_≡_, ap}
 use mathlib.Core.Bool.{Bool, true, false}
 use mathlib.Core.List.{List, [], _∷_, _++_}
 use lib.Dec.{eqb}
-use lib.ListN.{length, take, getD, length-append}
+use lib.ListN.{length, getD, length-append}
 use Rattle.lists.specs.Lists.{pick, sift, each, tab}
-use Rattle.lists.proofs.Stores.{tab-length}
+use Rattle.model.specs.Trace.{All}
 use Rattle.mesh.specs.Log.{Words, entryRow, logAt}
-use Rattle.listing.specs.Listing.{digit, decimal, spaced, line, ofKind, splitLine, edgeLine, insertLine, listingBytes, refusedBytes, replacedWord, replacedLine, tearWord, splitWord, edgeWord, insertWord, particlesWord, piecesWord, refusedWord}
-use Rattle.listing.specs.declared.Written.{Written}
-use Rattle.listing.specs.declared.Written.the-variants.{Short, Bytes}
-use Rattle.listing.proofs.Decimal.{decimal-small, decimal-more}
-use Rattle.listing.proofs.Outcomes.{wrote-bytes, wrote-short, wrote-agree}
-use Rattle.sheetcut.specs.SheetCut.{Told}
+use Rattle.mesh.proofs.Lists.{log-length}
+use Rattle.listing.specs.Listing.{line, ofKind, splitLine, edgeLine, insertLine, listingBytes, replacedWord, replacedLine, tearWord, splitWord, edgeWord, insertWord, particlesWord, piecesWord}
+use Rattle.listing.proofs.Lengths.{Wide, line-long}
 
--- ---- numbers
-
--- ten times itself, k times more
-tens : ℕ → ℕ
-tens zero = 10
-tens (suc k) = 10 * tens k
-
-decimal-long : (k n : ℕ) → n < tens k → length (decimal n) ≤ suc k
-unfolding tens
-decimal-long zero n h = omega (arith, ap length (decimal-small n h))
-decimal-long (suc k) n h =
-    elim (decLe 10 n) [
-      | yes l ↦ omega (arith, ap length (decimal-more n l), length-append (decimal (n / 10)) (digit (n % 10) ∷ []), decimal-long k (n / 10) (omega arith))
-      | no l ↦ omega (arith, ap length (decimal-small n (omega arith)))
-    ]
-
--- numbers of 64 bits
-abbrev pub Wide : ℕ → Type 0
-Wide n = n < 18446744073709551616
-
--- have at most 20 digits
-wide-long : (n : ℕ) → Wide n → length (decimal n) ≤ 20
-unfolding tens
-wide-long n h = let e : tens 19 ≡ 100000000000000000000 = refl in decimal-long 19 n (omega arith)
-
--- ---- lists of short texts
-
--- every entry of a list
-abbrev All : {A : Type 0} → (A → Type 0) → List A → Type 0
-All P [] = Unit {0}
-All P (a ∷ l) = P a × All P l
-
-module _ {A : Type 0} (P : A → Type 0) where
-  all-tab : (n : ℕ) (f : ℕ → A) → ((k : ℕ) → P (f k)) → All P (tab n f)
-  unfolding tab
-  all-tab zero f h = tt
-  all-tab (suc n) f h = (h 0, all-tab n (λ k. f (suc k)) (λ k. h (suc k)))
-
-  each-long : (f : A → List ℕ) (m : ℕ) → ((a : A) → P a → length (f a) ≤ m) → (l : List A) → All P l → length (each f l) ≤ length l * m
-  unfolding each
-  each-long f m few [] h = omega arith
-  each-long f m few (a ∷ l) h = omega (arith, length-append (f a) (each f l), suc-mul (length l) m, few a (h .0), each-long f m few l (h .1))
-
--- a line has its word, at most 21 bytes a number, and its end
-line-long : (word numbers : List ℕ) → All Wide numbers → length (line word numbers) ≤ length word + length numbers * 21 + 1
-unfolding line
-line-long word numbers h =
-    let e = each-long Wide spaced 21 (λ n w. omega (arith, wide-long n w)) numbers h in
-    omega (arith, length-append (word ++ each spaced numbers) (10 ∷ []), length-append word (each spaced numbers))
+-- what holds of each entry of a table
+all-tab : {A : Type 0} (P : A → Type 0) (n : ℕ) (f : ℕ → A) → ((k : ℕ) → P (f k)) → All P (tab n f)
+unfolding tab
+all-tab P zero f h = tt
+all-tab P (suc n) f h = (h 0, all-tab P n (λ k. f (suc k)) (λ k. h (suc k)))
 
 -- ---- the listing
 
@@ -119,10 +71,6 @@ kinds-long (e ∷ log) h =
     let one = by-kind (e .kind) (splitLine e) (edgeLine e) (insertLine e) (omega (arith, s)) (omega (arith, r)) (omega (arith, i)) in
     omega (arith, kind-first 1 splitLine e log, kind-first 2 edgeLine e log, kind-first 3 insertLine e log, one, kinds-long log (h .1))
 
-log-length : (n : ℕ) (g : List ℕ) → length (logAt n g) ≡ n
-unfolding logAt
-log-length n g = tab-length n (entryRow g)
-
 -- the line of a replaced outline, or none
 replaced-long : (replaced : Bool) → length (replacedLine replaced) ≤ 17
 unfolding replacedLine
@@ -144,21 +92,3 @@ listing-few replaced n g particles found few words p q =
     let m = line-long particlesWord (particles ∷ []) (p, tt) in
     let z = line-long piecesWord (found ∷ []) (q, tt) in
     omega (arith, seven (line tearWord (1 ∷ [])) (replacedLine replaced) (each splitLine (ofKind 1 log)) (each edgeLine (ofKind 2 log)) (each insertLine (ofKind 3 log)) (line particlesWord (particles ∷ [])) (line piecesWord (found ∷ [])))
-
--- the line of a refusal
-pub refused-few : (n : ℕ) → Wide n → length (refusedBytes n) ≤ 65536
-unfolding refusedBytes
-refused-few n h = let e = line-long refusedWord (n ∷ []) (h, tt) in omega arith
-
--- ---- what is told
-
--- so many lent bytes hold the whole text, and the answer is its length
-pub told-whole : (text : List ℕ) (lent : ℕ) (s : List ℕ) (r : Written) → Told text lent s r → 65536 ≤ lent → (r ≡ Bytes (length text)) × (take (length text) s ≡ text)
-told-whole text lent s Short T h = absurd (omega (arith, wrote-short text lent s Short (T .wrote) refl .0, T .enough))
-told-whole text lent s (Bytes n) T h =
-    let w = wrote-bytes text lent s (Bytes n) (T .wrote) n refl in
-    (ap Bytes (w .0), subst (λ (k : ℕ). take k s ≡ text) (w .0) (w .1))
-
--- two outcomes of one call agree
-pub told-agree : (text : List ℕ) (lent : ℕ) (s s′ : List ℕ) (r r′ : Written) → Told text lent s r → Told text lent s′ r′ → (s ≡ s′) × (r ≡ r′)
-told-agree text lent s s′ r r′ T T′ = wrote-agree text lent s s′ r r′ (T .wrote) (T′ .wrote)

@@ -1,6 +1,5 @@
 -- The laws of the program from bytes to bytes.
 pub mod Lengths
-pub mod Fillings
 pub mod Counting
 pub mod Answering
 pub mod Reading

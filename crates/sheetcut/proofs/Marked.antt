@@ -1,7 +1,7 @@
 -- The marks of crossings bring a sheet no new refusal: the 640 log entries that are lent have room for 256 and for every mark. Assumes nothing.
 use Prim.Native.Nat.{ℕ, zero, suc, _≤_}
 use native.Mathlib.Omega.{arith}
-use mathlib.Core.Path.{_≡_, refl, sym, ap, _∙_, subst}
+use mathlib.Core.Path.{_≡_, refl, sym, ap, _∙_}
 use mathlib.Core.Bool.{Bool, true, _&&_}
 use mathlib.Core.List.{List, _++_}
 use lib.ListN.{length}
@@ -15,12 +15,12 @@ use Rattle.model.proofs.Kept.{unless-done, outcome-done}
 use Rattle.model.proofs.Marks.{marks-few, roomier, marks-fit, as-unmarked}
 use Rattle.mesh.specs.declared.Counts as M
 use Rattle.bits.specs.Bits.{bitsOf}
-use Rattle.sheet.specs.Sheet.{Sheet}
+use Rattle.sheet.specs.Sheet.{Sheet, limits}
 use Rattle.sheet.specs.Read.{meshOfSheet, bladeOfSheet}
 use Rattle.sheet.specs.declared.Counts.{Counts}
 use Rattle.edition.specs.Edition.{sheetOf, seenOf}
 use Rattle.edition.specs.declared.Seen.the-variants.{Whole}
-use Rattle.sheetcut.specs.SheetCut.{limits, rooms, fraction, bladeOf, cutOf}
+use Rattle.sheetcut.specs.SheetCut.{rooms, fraction, bladeOf, cutOf}
 use Rattle.sheetcut.proofs.Reading.{seen-few, mesh-counts}
 
 -- the rooms without places for marks

@@ -2,18 +2,15 @@
 use Prim.Native.Nat.{ℕ, _+_, _-_, _*_, _/_, _%_, _≤_}
 use native.Mathlib.Omega.{arith}
 use mathlib.Core.Path.{_≡_, refl, sym, ap, _∙_, subst}
-use mathlib.Core.Bool.{Bool, true, false, cond, _||_}
+use mathlib.Core.Bool.{Bool, true}
 use mathlib.Core.List.{List, [], _∷_, _++_}
-use lib.Dec.{ltb, eqb}
 use lib.Ieee.{Float, nan}
-use lib.ListN.{length, take, drop, getD, replicate, length-map, length-append, length-drop, length-take}
+use lib.ListN.{length, take, drop, getD, replicate, length-append, length-drop, length-take}
 use lib.Seq.{length-take-le, take-at}
-use borrow.Author.Tests.{ltb-false, le-leb, eq-eqb}
+use borrow.Author.Tests.{le-leb, eq-eqb}
 use Rattle.lists.specs.Lists.{padded}
 use Rattle.lists.proofs.Sifts.{true-and}
-use Rattle.lists.proofs.Rows.{length-mapAt}
 use Rattle.float.specs.Numbers.{zero32}
-use Rattle.blade.specs.declared.Point.{Point}
 use Rattle.model.specs.Cut.{Line}
 use Rattle.model.specs.Calls.{cutCall}
 use Rattle.mesh.specs.At.{meshAt}
@@ -22,64 +19,32 @@ use Rattle.mesh.specs.Given.{Given, Lent, given, sizes, meshOf, listFits, lengt
 use Rattle.mesh.specs.Filled.{Filled, Fits, pointOf, rootOf, cornerOf, volumeOf, endOf, lengthOf, sideOf, lent}
 use Rattle.mesh.specs.declared.Counts as M
 use Rattle.mesh.specs.Widths.{pointColumns}
+use Rattle.filled.specs.Counts.{countsIn}
+use Rattle.filled.proofs.Held.{field-long, mesh-filled}
 use Rattle.bits.specs.Bits.{bitsOf, fieldAt}
-use Rattle.bits.proofs.RowLaws.{length-read}
-use Rattle.sheet.specs.Sheet.{Sheet, sheetWith, above, tooMany, countsAt, namesOK, particleW, triangleW, edgeW, atTriangles, atEdges, atBlade}
-use Rattle.sheet.specs.Read.{floatOf, particlesFrom, trianglesFrom, edgesFrom, boundaryFrom, placeIn, meshOfSheet, bladeOfSheet, countsFor}
+use Rattle.sheet.specs.Sheet.{limits, countsAt, atBlade}
+use Rattle.sheet.specs.Read.{floatOf, meshOfSheet, bladeOfSheet, countsFor}
 use Rattle.sheet.specs.declared.Counts.{Counts}
-use Rattle.sheet.specs.declared.Seen.the-variants.{Whole as TypedWhole, Refused as TypedRefused}
-use Rattle.sheet.proofs.Back.{never}
-use Rattle.sheet.proofs.PutLaws.{neither}
 use Rattle.sheet.proofs.MeshReads.{blade-read}
-use Rattle.edition.specs.Edition.{second, bitsIn, typedOf, sheetOf, bytesIn, spareIn, typedWith, typedSeen, seenOf}
+use Rattle.edition.specs.Edition.{bitsIn, typedOf, sheetOf, seenOf}
 use Rattle.edition.specs.Reading.{roomFor, lentOf, worldOf, bladeLeft, ReadDone}
 use Rattle.edition.specs.declared.Seen.{Seen}
-use Rattle.edition.specs.declared.Seen.the-variants.{Whole, Refused}
+use Rattle.edition.specs.declared.Seen.the-variants.{Whole}
+use Rattle.edition.proofs.Starts.{typed-within}
 use Rattle.edition.proofs.Entering.{seen-whole-tells}
-use Rattle.sheetcut.specs.SheetCut.{limits, rooms, fraction, bladeOf, cutOf}
+use Rattle.edition.proofs.Counted.{mesh-counts as counted}
+use Rattle.edition.proofs.Limited.{Few, not-above}
+use Rattle.sheetcut.specs.SheetCut.{rooms, fraction, bladeOf, cutOf}
 use Rattle.sheetcut.specs.Work.{Exact, Ample, fronts, FrontsRead}
-use Rattle.sheetcut.proofs.Fillings.{block-long, countsIn, mesh-filled}
 
 -- ---- the counts
 
-whole : (a b d x y z : Bool) (k c : Counts) → cond a (TypedRefused 9) (cond (b || d) (TypedRefused 1) (cond x (cond y (cond z (TypedWhole k) (TypedRefused 3)) (TypedRefused 9)) (TypedRefused 9))) ≡ TypedWhole c
-    → (d ≡ false) × (k ≡ c)
-whole true b d x y z k c e = absurd (never 9 c e)
-whole false true d x y z k c e = absurd (never 1 c e)
-whole false false true x y z k c e = absurd (never 1 c e)
-whole false false false false y z k c e = absurd (never 9 c e)
-whole false false false true false z k c e = absurd (never 9 c e)
-whole false false false true true false k c e = absurd (never 3 c e)
-whole false false false true true true k c e = (refl, cc)
-
--- no count above the program's limits
-pub record Few (c : Counts) : Type 0 where
-  pub particles : c .particles ≤ 128
-  pub triangles : c .triangles ≤ 128
-  pub edges : c .edges ≤ 256
-  pub boundary : c .boundary ≤ 256
-
-pub not-above : (c : Counts) → above limits c ≡ false → Few c
-unfolding above
-not-above c e =
-    let u = neither (ltb 128 (c .particles)) (ltb 128 (c .triangles) || (ltb 256 (c .edges) || ltb 256 (c .boundary))) e in
-    let v = neither (ltb 128 (c .triangles)) (ltb 256 (c .edges) || ltb 256 (c .boundary)) (u .1) in
-    let w = neither (ltb 256 (c .edges)) (ltb 256 (c .boundary)) (v .1) in
-    record { particles = ltb-false 128 (c .particles) (u .0); triangles = ltb-false 128 (c .triangles) (v .0); edges = ltb-false 256 (c .edges) (w .0); boundary = ltb-false 256 (c .boundary) (w .1) }
-
 -- a whole sheet keeps the limits
-typed-few : (s : List ℕ) (c : Counts) → typedSeen limits s ≡ TypedWhole c → Few c
-unfolding typedSeen typedWith
-typed-few s c e =
-    let l = bitsOf s in
-    let d = countsAt (bitsIn l) in
-    let w = whole (ltb (length s) 6) (tooMany d) (above limits d) (eqb (length s) (bytesIn (second l) d)) (eqb (spareIn d s) 0) (namesOK (sheetWith d (bitsIn l))) d c e in
-    subst Few (w .1) (not-above d (w .0))
-
 pub seen-few : (s : List ℕ) (c : Counts) (f : Bool) → seenOf limits s ≡ Whole c f → Few c
 seen-few s c f e =
     let w = seen-whole-tells limits s c f e in
-    let F = typed-few s (countsAt (bitsIn (bitsOf s))) (w .typed) in
+    let d = countsAt (bitsIn (bitsOf s)) in
+    let F = not-above d (typed-within limits s d (w .typed)) in
     let p = ap (λ (x : Counts). x .particles) (w .counts) in
     let t = ap (λ (x : Counts). x .triangles) (w .counts) in
     let g = ap (λ (x : Counts). x .edges) (w .counts) in
@@ -94,37 +59,10 @@ seen-told s c f e = e ∙ ap (λ (t : Bool). Whole c t) (seen-whole-tells limits
 abbrev pub world-read : List ℕ → World
 world-read l = record { mesh = meshOfSheet (sheetOf l .sheet); log = [] }
 
--- each list has as many entries as rows
-particles-long : (rows : List (List ℕ)) → length (particlesFrom rows) ≡ length rows
-unfolding particlesFrom
-particles-long rows = length-mapAt _ rows
-
-triangles-long : (place : ℕ → Point) (rows : List (List ℕ)) → length (trianglesFrom place rows) ≡ length rows
-unfolding trianglesFrom
-triangles-long place rows = length-map rows _
-
-edges-long : (place : ℕ → Point) (rows : List (List ℕ)) → length (edgesFrom place rows) ≡ length rows
-unfolding edgesFrom
-edges-long place rows = length-map rows _
-
-boundary-long : (rows : List (List ℕ)) → length (boundaryFrom rows) ≡ length rows
-unfolding boundaryFrom
-boundary-long rows = length-map rows _
-
--- so the mesh has as many as the counts say
+-- it has as many entries as the counts say
 pub mesh-counts : (s : List ℕ) (c : Counts) (f : Bool) → seenOf limits s ≡ Whole c f → countsIn (world-read (bitsOf s)) ≡ countsFor c
-unfolding meshOfSheet sheetWith sheetOf typedOf
-mesh-counts s c f seen =
-    let m = bitsIn (bitsOf s) in
-    let d = countsAt m in
-    let S : Sheet = sheetOf (bitsOf s) .sheet in
-    let w = seen-whole-tells limits s c f seen .counts in
-    let place = placeIn (particlesFrom (S .particles)) in
-    let p = particles-long (S .particles) ∙ length-read particleW (d .particles) (drop 46 m) ∙ sym (ap (λ (x : Counts). x .particles) w) in
-    let t = triangles-long place (S .triangles) ∙ length-read triangleW (d .triangles) (drop (atTriangles d) m) ∙ sym (ap (λ (x : Counts). x .triangles) w) in
-    let e = edges-long place (S .edges) ∙ length-read edgeW (d .edges) (drop (atEdges d) m) ∙ sym (ap (λ (x : Counts). x .edges) w) in
-    let b = boundary-long (S .boundary) ∙ sym (ap (λ (x : Counts). x .boundary) w) in
-    λ i. record { particles = p i; triangles = t i; edges = e i; boundary = b i; log = 0 }
+unfolding worldOf
+mesh-counts s c f seen = counted limits s c f seen
 
 -- ---- sizes
 
@@ -226,13 +164,13 @@ module _ (s : List ℕ) (c : Counts) (L : Lent) (r : Seen) (P : List Float) (R C
       let H = read-fits in
       λ i.
       record {
-        points = (ap length (F .points) ∙ block-long pointOf (W .mesh .particles) zero32 nan (L .points) pointColumns (L .points / pointColumns) (H .points) (omega arith)) i;
-        roots = (ap length (F .roots) ∙ block-long rootOf (W .mesh .particles) 0 0 (L .roots) 2 (L .roots / 2) (H .roots) (omega arith)) i;
-        corners = (ap length (F .corners) ∙ block-long cornerOf (W .mesh .triangles) 0 0 (L .corners) 3 (L .corners / 3) (H .corners) (omega arith)) i;
-        volumes = (ap length (F .volumes) ∙ block-long volumeOf (W .mesh .triangles) zero32 nan (L .volumes) 2 (L .volumes / 2) (H .volumes) (omega arith)) i;
-        ends = (ap length (F .ends) ∙ block-long endOf (W .mesh .edges) 0 0 (L .ends) 4 (L .ends / 4) (H .ends) (omega arith)) i;
-        lengths = (ap length (F .lengths) ∙ block-long lengthOf (W .mesh .edges) zero32 nan (L .lengths) 4 (L .lengths / 4) (H .lengths) (omega arith)) i;
-        outline = (ap length (F .outline) ∙ block-long sideOf (W .mesh .boundary) 0 0 (L .outline) 2 (L .outline / 2) (H .outline) (omega arith)) i;
+        points = field-long zero32 (L .points) pointColumns pointOf (W .mesh .particles) P (F .points) (H .points) (omega arith) i;
+        roots = field-long 0 (L .roots) 2 rootOf (W .mesh .particles) R (F .roots) (H .roots) (omega arith) i;
+        corners = field-long 0 (L .corners) 3 cornerOf (W .mesh .triangles) C (F .corners) (H .corners) (omega arith) i;
+        volumes = field-long zero32 (L .volumes) 2 volumeOf (W .mesh .triangles) U (F .volumes) (H .volumes) (omega arith) i;
+        ends = field-long 0 (L .ends) 4 endOf (W .mesh .edges) E (F .ends) (H .ends) (omega arith) i;
+        lengths = field-long zero32 (L .lengths) 4 lengthOf (W .mesh .edges) N (F .lengths) (H .lengths) (omega arith) i;
+        outline = field-long 0 (L .outline) 2 sideOf (W .mesh .boundary) O (F .outline) (H .outline) (omega arith) i;
         log = L .log;
       }
 

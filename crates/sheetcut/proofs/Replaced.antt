@@ -19,7 +19,8 @@ use Rattle.edition.proofs.Editions.{editions-agree}
 use Rattle.edition.proofs.Entering.{seen-whole-tells}
 use Rattle.listing.specs.Listing.{refusedBytes, printed}
 use Rattle.listing.proofs.Replaced.{replaced-told}
-use Rattle.sheetcut.specs.SheetCut.{limits, cutOf, cutSeen, sheetCut, listed}
+use Rattle.sheet.specs.Sheet.{limits}
+use Rattle.sheetcut.specs.SheetCut.{cutOf, cutSeen, sheetCut, listed}
 
 -- a sheet that is cut: the byte behind `tear 1` is an `o` exactly where its typed outline was replaced
 pub line-exactly : (s : List ℕ) (M : Mesh) (log : List Entry) (changed : Bool) → sheetCut s ≡ done M log changed → eqb (getD (listed s) 7 0) 111 ≡ sheetOf (bitsOf s) .replaced

@@ -12,7 +12,7 @@ use Rattle.model.specs.Starred.{tenth, listingMesh, blade}
 use Rattle.mesh.specs.Log.{wordsOf}
 use Rattle.bits.specs.Bits.{bits, bitsOf, num}
 use Rattle.bits.specs.Rows.{total, unpack, readRows}
-use Rattle.sheet.specs.Sheet.{Sheet, sheetWith, allOK, rowOK, pairOK, above}
+use Rattle.sheet.specs.Sheet.{Sheet, sheetWith, allOK, rowOK, pairOK, above, limits}
 use Rattle.sheet.specs.Read.{meshOfSheet, bladeOfSheet}
 use Rattle.sheet.proofs.Cases.{worked, workedCounts, worked-mesh, worked-blade}
 use Rattle.outline.specs.Outline.{single, outlineOf, outlineOfTriangles, within, sameSides, settled as settledOutline}
@@ -20,8 +20,8 @@ use Rattle.edition.specs.Edition.{asFirst, bitsIn, outlineIn, replacedIn, typed
 use Rattle.edition.specs.declared.Seen.the-variants.{Whole, Refused}
 use Rattle.edition.proofs.Cases.{worked2, worked2-read, short}
 use Rattle.listing.specs.Listing.{printed, listingBytes, refusedBytes}
-use Rattle.listing.proofs.Worked.{replaced-bytes, worked-log, worked-listing, replaced-listing, worked-refused}
-use Rattle.sheetcut.specs.SheetCut.{limits, rooms, fraction, bladeOf, cutOf, listed}
+use Rattle.listing.proofs.Worked.{worked-bytes, replaced-bytes, worked-log, worked-listing, replaced-listing, worked-refused}
+use Rattle.sheetcut.specs.SheetCut.{rooms, fraction, bladeOf, cutOf, listed}
 use Rattle.sheetcut.proofs.Cutting.{listed-whole, listed-refused}
 -- opened
 use Rattle.lists.specs.Lists.{any, all, sift, siftAt, find, fold, each, pairs, mapAt, tab, upTo, rising, distinct, disjoint, padded, keep, keptOf, nth}
@@ -44,16 +44,6 @@ use Rattle.model.specs.Calls.{sidesOk, strictly, particlesOk, refusal, tooSmall
 use Rattle.model.specs.Reads.{bladeCall, groupsCall, restMeasureCall, restMeasureOfCall, opensCall, piecesCall, stateCall}
 
 -- end
-
--- `tear 1`, `split 4 0`, `split 5 2`, `edge 1 3`, `particles 6`, `pieces 2`, a line each
-abbrev pub worked-bytes : List ℕ
-worked-bytes =
-    116 ∷ 101 ∷ 97 ∷ 114 ∷ 32 ∷ 49 ∷ 10
-    ∷ 115 ∷ 112 ∷ 108 ∷ 105 ∷ 116 ∷ 32 ∷ 52 ∷ 32 ∷ 48 ∷ 10
-    ∷ 115 ∷ 112 ∷ 108 ∷ 105 ∷ 116 ∷ 32 ∷ 53 ∷ 32 ∷ 50 ∷ 10
-    ∷ 101 ∷ 100 ∷ 103 ∷ 101 ∷ 32 ∷ 49 ∷ 32 ∷ 51 ∷ 10
-    ∷ 112 ∷ 97 ∷ 114 ∷ 116 ∷ 105 ∷ 99 ∷ 108 ∷ 101 ∷ 115 ∷ 32 ∷ 54 ∷ 10
-    ∷ 112 ∷ 105 ∷ 101 ∷ 99 ∷ 101 ∷ 115 ∷ 32 ∷ 50 ∷ 10 ∷ []
 
 -- ---- from the bytes to the mesh
 

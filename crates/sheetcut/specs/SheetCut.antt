@@ -1,29 +1,22 @@
 -- The program `cutlist` (docs/RULES.md, R14) as a function of bytes: the cut of a sheet, and what is printed of it. Definitions only.
-use Prim.Native.Nat.{ℕ, _≤_}
+use Prim.Native.Nat.{ℕ}
 use mathlib.Core.Bool.{true}
 use mathlib.Core.List.{List}
-use lib.ListN.{length, getD}
+use lib.ListN.{getD}
 use lib.Ieee.{Float, binary32, ofBits}
 use Rattle.float.specs.Numbers.{zero32}
 use Rattle.model.specs.Run.{Rooms}
 use Rattle.model.specs.Cut.{Line}
 use Rattle.model.specs.Calls.{Outcome, refused, cutCall}
 use Rattle.bits.specs.Bits.{bitsOf}
-use Rattle.sheet.specs.Sheet.{Sheet}
+use Rattle.sheet.specs.Sheet.{Sheet, limits}
 use Rattle.sheet.specs.Read.{meshOfSheet, bladeOfSheet}
-use Rattle.sheet.specs.declared.Counts.{Counts}
 use Rattle.edition.specs.Edition.{sheetOf, seenOf}
 use Rattle.edition.specs.declared.Seen.{Seen}
 use Rattle.edition.specs.declared.Seen.the-variants.{Whole, Refused}
 use Rattle.listing.specs.Listing.{printed}
-use Rattle.listing.specs.Answers.{Wrote}
-use Rattle.listing.specs.declared.Written.{Written}
 
--- a sheet has at most 128 particles, 128 triangles, 256 edges and 256 boundary entries, typed or its own
-abbrev pub limits : Counts
-limits = record { particles = 128; triangles = 128; edges = 256; boundary = 256 }
-
--- twice those particle, edge and boundary places are lent, as many triangle places, and 640 log entries: those of a cut, and a mark for each pair of a triangle's corners
+-- twice the particle, edge and boundary places of `limits` are lent, as many triangle places, and 640 log entries: those of a cut, and a mark for each pair of a triangle's corners
 abbrev pub rooms : Rooms
 rooms = record { particles = 256; triangles = 128; edges = 512; boundary = 512; log = 640 }
 
@@ -51,8 +44,3 @@ sheetCut s = cutSeen (seenOf limits s) s
 -- the bytes that the program prints for the bytes that it reads: those of the cut, with the line `outline replaced` where the sheet's typed outline was
 abbrev pub listed : List ℕ → List ℕ
 listed s = printed (sheetOf (bitsOf s) .replaced) (sheetCut s)
-
--- what is told of a text that was to be written: the answer and every lent byte; and 65,536 bytes are always enough for it
-pub record Told (text : List ℕ) (lent : ℕ) (s : List ℕ) (r : Written) : Type 0 where
-  pub wrote : Wrote text lent s r
-  pub enough : length text ≤ 65536

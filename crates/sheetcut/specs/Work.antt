@@ -24,7 +24,7 @@ use Rattle.sheet.specs.Read.{meshOfSheet, bladeOfSheet}
 use Rattle.sheet.specs.declared.Counts as S
 use Rattle.edition.specs.Edition.{sheetOf, seenOf}
 use Rattle.edition.specs.declared.Seen.the-variants.{Whole}
-use Rattle.sheetcut.specs.SheetCut.{limits}
+use Rattle.sheet.specs.Sheet.{limits}
 use denote.Ref.{now}
 use Rattle.mesh.specs.Blocks.{Numbers, Indices}
 use Rattle.model.specs.Cut.{Line}

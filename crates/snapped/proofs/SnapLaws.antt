@@ -40,6 +40,7 @@ use Rattle.marks.specs.Marking.{bladeFrom}
 use Rattle.cut.specs.Running.{sidesIn, splitIn}
 use Rattle.snapped.specs.Snapping.{beyond, slackBeyond, SlackFrom, EdgesHere}
 use Rattle.snapped.proofs.SteadyRuns.{Steady}
+use Rattle.lists.proofs.Truths.{or-end}
 
 -- ---- the copies of a split
 
@@ -72,16 +73,12 @@ made-stands O w h = by (stands w (made O)) refl
           | no n ↦ sym (lt-leb (O .before) w (omega (arith, n)))
         ]
 
-or-none : (s : Bool) → (s || false) ≡ s
-or-none true = refl
-or-none false = refl
-
 -- so the edges at them are those with an end there
 copy-beyond : (O : Opening) (e : Edge) → Ends (O .before + (O .count - 1)) e → atCopy O e ≡ beyond (O .before) e
 unfolding any beyond
 copy-beyond O e P =
     (λ i. made-stands O (e .a) (P .first) i || (made-stands O (e .b) (P .second) i || false))
-    ∙ ap (λ (s : Bool). leb (O .before) (e .a) || s) (or-none (leb (O .before) (e .b)))
+    ∙ ap (λ (s : Bool). leb (O .before) (e .a) || s) (or-end (leb (O .before) (e .b)))
 
 -- an edge of the particles before has no end there
 none-beyond : (n : ℕ) (e : Edge) → Ends n e → beyond n e ≡ false

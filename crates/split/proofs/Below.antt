@@ -13,30 +13,13 @@ use Rattle.model.specs.Valid.{indicesFit}
 use Rattle.model.specs.Elements.{Kind, Triangles, Straps, Nothing, Element, structural?, strapElement, trianglesFrom, strapsFrom, elementsOf, fanOf, cornersPer}
 use Rattle.model.specs.Trace.{All, Sound}
 use Rattle.model.proofs.Laws.{all-over, all-sift, all-eachOf, all-in, all-map, pick-both}
-use Rattle.model.proofs.Indexed.{Indexed, Pair}
+use Rattle.model.proofs.Indexed.{Indexed, Pair, numbers-from}
 use Rattle.model.proofs.Accepted.{accepted-indexed}
 use Rattle.elements.specs.Table.{elementsIn, Cornered, Tabled}
 use Rattle.elements.proofs.Filling.{triangles-length, straps-length}
+use Rattle.model.proofs.Inserted.{straps-inside}
 
 -- ---- numbers
-
--- those of triangles
-triangle-numbers : (i : ℕ) (ts : List Triangle) → All (λ (e : Element). e .number < i + length ts) (trianglesFrom i ts)
-unfolding trianglesFrom
-triangle-numbers i [] = tt
-triangle-numbers i (t ∷ ts) = (
-  omega arith,
-  all-over (λ (e : Element). e .number < suc i + length ts) (λ (e : Element). e .number < i + suc (length ts)) (λ e u. omega arith) (trianglesFrom (suc i) ts) (triangle-numbers (suc i) ts),
-)
-
--- those of straps
-strap-numbers : (i : ℕ) (es : List Edge) → All (λ (e : Element). e .number < i + length es) (strapsFrom i es)
-unfolding strapsFrom
-strap-numbers i [] = tt
-strap-numbers i (a ∷ es) =
-    let r : All (λ (e : Element). e .number < i + suc (length es)) (strapsFrom (suc i) es)
-    = all-over (λ (e : Element). e .number < suc i + length es) (λ (e : Element). e .number < i + suc (length es)) (λ e u. omega arith) (strapsFrom (suc i) es) (strap-numbers (suc i) es) in
-    pick-both (All (λ (e : Element). e .number < i + suc (length es))) (structural? a) (strapElement i a ∷ strapsFrom (suc i) es) (strapsFrom (suc i) es) (omega arith, r) r
 
 -- the number of rows that a kind's elements stand in
 abbrev pub rowsOf : Kind → Mesh → ℕ
@@ -47,8 +30,8 @@ rowsOf Nothing M = 0
 -- the elements' numbers name rows
 pub element-numbers : (K : Kind) (M : Mesh) → All (λ (e : Element). e .number < rowsOf K M) (elementsOf K M)
 unfolding elementsOf
-element-numbers Triangles M = all-over (λ (e : Element). e .number < 0 + length (M .triangles)) (λ (e : Element). e .number < length (M .triangles)) (λ e u. omega arith) (trianglesFrom 0 (M .triangles)) (triangle-numbers 0 (M .triangles))
-element-numbers Straps M = all-over (λ (e : Element). e .number < 0 + length (M .edges)) (λ (e : Element). e .number < length (M .edges)) (λ e u. omega arith) (strapsFrom 0 (M .edges)) (strap-numbers 0 (M .edges))
+element-numbers Triangles M = all-over (λ (e : Element). e .number < 0 + length (M .triangles)) (λ (e : Element). e .number < length (M .triangles)) (λ e u. omega arith) (trianglesFrom 0 (M .triangles)) (numbers-from 0 (M .triangles))
+element-numbers Straps M = all-over (λ (e : Element). e .number < 0 + length (M .edges)) (λ (e : Element). e .number < length (M .edges)) (λ e u. omega arith) (strapsFrom 0 (M .edges)) (straps-inside 0 (M .edges))
 element-numbers Nothing M = tt
 
 -- ---- corners

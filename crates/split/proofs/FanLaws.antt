@@ -20,13 +20,10 @@ use Rattle.elements.specs.Table.{Tabled, holding, kindIs, elementsIn}
 use Rattle.elements.specs.declared.Kind.{Kind as KindCase}
 use Rattle.elements.specs.declared.Kind.the-variants.{Triangles as TrianglesCase, Straps as StrapsCase, Nothing as NothingCase}
 use Rattle.elements.proofs.Tables.{tabled-none}
-use Rattle.elements.proofs.Filling.{Filling, filling-start, filling-push, front-two, strapAt, straps-push}
+use Rattle.elements.proofs.Filling.{Filling, filling-start, filling-push, front-two, strapAt, straps-push, strap-read}
+use Rattle.lists.proofs.Truths.{pick-self}
 
 -- ---- the tests
-
-pick-self : (t : Bool) → t ≡ pick t true false
-pick-self true = refl
-pick-self false = refl
 
 pub strap-other : (v s a b : ℕ) → (s ≡ 1 → ⊥) → false ≡ eqb s 1 && stands v (a ∷ b ∷ [])
 strap-other v s a b n = rw (ne-eqb s 1 n)
@@ -44,15 +41,6 @@ holding-more : (v : ℕ) (es : List Element) (e : Element) (s : Bool) → holdin
 unfolding sift
 holding-more v es e true = sift-append (λ (x : Element). stands v (x .corners)) es (e ∷ [])
 holding-more v es e false = sift-append (λ (x : Element). stands v (x .corners)) es []
-
--- edge i of a block, as an element
-strap-read : (E : List ℕ) (L : List Float) (i : ℕ) → strapElement i (edgeRow (length E / 4) (length L / 4) E L i) ≡ strapAt E L i
-unfolding cell
-strap-read E L i =
-    let a : 0 * (length E / 4) + i ≡ i = omega arith in
-    let b : 1 * (length E / 4) + i ≡ length E / 4 + i = omega arith in
-    let m : 1 * (length L / 4) + i ≡ length L / 4 + i = omega arith in
-    λ s. record { number = i; corners = getD E (a s) 0 ∷ getD E (b s) 0 ∷ []; measure = getD L (m s) nan }
 
 straps-held : (v : ℕ) (E : List ℕ) (L : List Float) (i : ℕ)
     → holding v (strapsFrom 0 (edgesAt (i + 1) E L))

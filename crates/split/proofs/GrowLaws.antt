@@ -29,13 +29,14 @@ use Rattle.mesh.specs.Workers.{rowAt}
 use Rattle.rewire.specs.Edges.{EdgesRoom}
 use Rattle.work.specs.declared.Grown.{Grown}
 use Rattle.work.specs.declared.Grown.the-variants.{Lacking as NoRoom, Rows}
-use Rattle.mesh.proofs.Fan.{replaced-self}
 use Rattle.rewire.proofs.EdgeLaws.{edges-many, edges-get}
 use Rattle.split.specs.Tables.{Opens, TablesFit}
 use Rattle.work.specs.Places.{EndsIn}
 use Rattle.split.specs.Steps.{GrowRoom, GrowthTold}
 use Rattle.split.specs.Growing.{StrapsNamed, ElementsRoom, ElementsRewired, ShareRoom, SharedOut}
 use Rattle.split.specs.declared.Grew.the-variants.{Lacking, Longest}
+use Rattle.rewire.proofs.FanLaws.{moved-self}
+use Rattle.mesh.proofs.Lists.{particles-length}
 
 -- ---- elements
 
@@ -120,21 +121,6 @@ unfolding groupAt
 group-none [] k h = refl
 group-none (p ∷ ps) k h = rw (ne-eqb (p .number) k (h 0 (suc-le-suc zero-le))) (group-none ps k (λ i l. h (suc i) (suc-le-suc l)))
 
--- v for v changes no edge
-moved-self : (v : ℕ) (e : Edge) → moved v v e ≡ e
-moved-self v e =
-    λ i.
-    record {
-      a = replaced-self v (e .a) i;
-      b = replaced-self v (e .b) i;
-      structural = e .structural;
-      torn = e .torn;
-      rest = e .rest;
-      initial = e .initial;
-      impulse = e .impulse;
-      stress = e .stress;
-    }
-
 -- equal lists have equal rows, and a list that was changed by number has changed rows
 module _ (e : ℕ) (A A′ : List ℕ) (B : List Float) (j : ℕ) (h : j < e) where
   row-same : edgesAt e A′ B ≡ edgesAt e A B → rowAt A′ B j ≡ rowAt A B j
@@ -197,10 +183,6 @@ copied-long O ps h =
     length-map (upTo (O .count - 1)) (λ (g : ℕ). portion O (suc g) (getD ps (O .v) blank)) ∙ upTo-length (O .count - 1) in
     length-append (mapAt (onlyAt (O .v) (portion O 0)) ps) (map (λ (g : ℕ). portion O (suc g) (getD ps (O .v) blank)) (upTo (O .count - 1)))
     ∙ omega (arith, first, second)
-
-pub particles-many : (n : ℕ) (points : List Float) (roots : List ℕ) → length (particlesAt n points roots) ≡ n
-unfolding particlesAt
-particles-many n points roots = tab-length n _
 
 -- the particles and the triangles where the edges are at their longest
 pub longest-particles : (K : Kind) (O : Opening) (A : Mesh) → 1 ≤ O .count → length (atLongest K O A .particles) ≡ length (A .particles) + O .count - 1
@@ -310,7 +292,7 @@ module _ {K : Kind} {O : Opening} {v n count : ℕ} {numbers verts : List ℕ} {
   grown-particles two =
       let is = T .count-is in
       longest-particles K O (meshAt k points roots corners volumes ends lengths outline) (omega arith)
-      ∙ ap₂ (λ (a b : ℕ). a + b - 1) (particles-many (k .particles) points roots) is
+      ∙ ap₂ (λ (a b : ℕ). a + b - 1) (particles-length (k .particles) points roots) is
 
 -- parts 1 to 3 over the blocks: what is told in each case
 module _ {K : Kind} {L : Rooms} {k : Counts} {v n count lr lc : ℕ} {numbers verts : List ℕ} {measures : List Float} {groups : List ℕ} (points : List Float) (roots corners ends : List ℕ) (lengths : List Float)

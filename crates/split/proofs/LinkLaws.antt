@@ -10,7 +10,6 @@ use lib.Seq.{length-take-le, getD-take}
 use lib.Ieee.{Float}
 use borrow.Author.Tests.{eq-eqb, ne-eqb}
 use Rattle.lists.specs.Lists.{all}
-use Rattle.model.proofs.Laws.{and-true}
 use Rattle.columns.specs.Block.{cell}
 use Rattle.model.specs.Mesh.{Mesh}
 use Rattle.model.specs.Elements.{Kind, Triangles, Element, fanOf}
@@ -43,6 +42,11 @@ use Rattle.split.specs.declared.Grew.the-variants.{Longest}
 use Rattle.split.proofs.GrowLaws.{tableOpening, table-parts, longest-triangles}
 use Rattle.split.proofs.StepLaws.{world-mesh, all-settled}
 use Rattle.split.proofs.TabledLaws.{fan-lent}
+use Rattle.lists.proofs.Sifts.{and-true}
+
+-- behind parts 1 to 3, where they had room
+pub grown-linked : {K : Kind} {t e : ℕ} {corners links : List ℕ} {g : Grew} → LinkedGrown K t corners links g → g ≡ Longest e → Linked K t corners links
+grown-linked {K} {t} {e} {corners} {links} X q = subst (LinkedGrown K t corners links) q X
 
 -- ---- a fan read from the table
 
@@ -210,4 +214,4 @@ module _ (K : Kind) (L : Rooms) (k : Counts) (points : List Float) (roots corner
       → Stepped K (openedBy K M v n count groups) L extra (worldAt k points roots corners volumes ends lengths outline log) (λ q. worldAt q points′ roots′ corners′ volumes ends″ lengths″ outline″ log″) r × LinkedAfter K corners′ links′ r
   settled-linked {v} {n} {count} {groups = groups} F points′ roots′ corners′ ends′ lengths′ g e extra ends″ lengths″ outline″ log″ links′ r T X q S =
       let Z = all-settled K L k points roots corners volumes ends lengths outline log P F points′ roots′ corners′ ends′ lengths′ g e extra ends″ lengths″ outline″ log″ r T q S in
-      (Z, linked-stepped (openedBy K M v n count groups) extra points′ roots′ corners′ ends″ lengths″ outline″ log″ links′ r Z (subst (λ (z : Grew). LinkedGrown K (k .triangles) corners′ links′ z) q X))
+      (Z, linked-stepped (openedBy K M v n count groups) extra points′ roots′ corners′ ends″ lengths″ outline″ log″ links′ r Z (grown-linked X q))

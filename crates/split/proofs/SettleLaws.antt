@@ -144,7 +144,7 @@ module _ (K : Kind) (L : Rooms) (k : Counts) (v before n count extra : ℕ) (num
       record {
         here = A .here;
         ends-in = A .ends-in;
-        straddle = record { ring = A .ring; corners = omega (arith, C .triangles, R .corners); ends = omega (arith, C .edges, R .ends) };
+        straddle = record { ring = A .ring; few = omega (arith, C .triangles, R .few-triangles); corners = omega (arith, C .triangles, R .corners); ends = omega (arith, C .edges, R .ends) };
         few-edges = omega (arith, C .edges, R .few-edges);
         lengths = omega (arith, C .edges, R .lengths);
         some = omega (arith, A .two);

@@ -58,11 +58,12 @@ GrewIn K L k v n count numbers verts measures groups points roots corners ends l
 
 -- ---- parts 4 to 6
 
--- the blocks have room, and the tables hold a split of v, of which parts 1 to 3 are done
-abbrev pub SettleIn : Kind → Rooms → Counts → ℕ → ℕ → ℕ → ℕ → ℕ → IndicesIn → IndicesIn → IndicesIn → NumbersIn → IndicesIn → NumbersIn → IndicesIn → NumbersIn → IndicesIn → IndicesIn → IndicesIn → Type 0
-SettleIn K L k v before n count extra numbers verts groups points corners volumes ends lengths outline log mask =
+-- the blocks have room, the tables hold a split of v, of which parts 1 to 3 are done, and the links are those of the block
+abbrev pub SettleIn : Kind → Rooms → Counts → ℕ → ℕ → ℕ → ℕ → ℕ → IndicesIn → IndicesIn → IndicesIn → NumbersIn → IndicesIn → NumbersIn → IndicesIn → NumbersIn → IndicesIn → IndicesIn → IndicesIn → IndicesIn → Type 0
+SettleIn K L k v before n count extra numbers verts groups points corners volumes ends lengths outline log mask links =
     SettleAsked K L k v before n count extra (now numbers) (now verts) (now groups) (length (now points)) (length (now corners)) (length (now volumes)) (now ends) (length (now lengths)) (now outline) (length (now log))
     × MaskIn mask
+    × LinkedIn K k corners links
 
 -- what they came to, whatever stands in the block of roots
 abbrev pub SettledIn : Kind → Rooms → ℕ → ℕ → ℕ → ℕ → ℕ → Counts → Indices → Indices → Indices → Numbers → Indices → Numbers → Indices → Numbers → Indices → Indices → Ran → Type 0

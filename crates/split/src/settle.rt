@@ -4,6 +4,7 @@ ghost use Prim.Native.Nat.{_+_, _/_, _<_, _≤_};
 ghost use lib.ListN.{length};
 ghost use lib.Dec.{leb};
 ghost use Rattle.elements.specs.Table.{kindIs};
+ghost use Rattle.links.specs.Linked.{LinkedIn};
 ghost use Rattle.work.specs.Removal.{markedOf};
 ghost use Rattle.split.specs.Settling.{FacetsAsked, FacetsTold, BoundaryAsked, BoundaryTold, CopiesNoted, SplitAsked, SplitNoted, DropAsked, Dropped};
 ghost use Rattle.split.specs.Blocks.{MaskIn, SettleIn, SettledIn};
@@ -145,7 +146,7 @@ fn note_split(
     work::removal::note_marked(mask, e, s, at + m, ends, log)
 }
 
-// The straddlers go, and the log tells of the split, if it has room for that and for `extra` entries more; `rows` boundary entries are there by now. The mask is lent to mark them in.
+// The straddlers go, and the log tells of the split, if it has room for that and for `extra` entries more; `rows` boundary entries are there by now. The mask is lent to mark them in, and the table links the triangles.
 fn drop_straddlers(
     kind: Kind,
     v: usize,
@@ -163,9 +164,10 @@ fn drop_straddlers(
     lengths: &mut [f32],
     log: &mut [u32],
     mask: &mut [usize],
+    links: &[u16],
 ) -> Ran
     requires { ⌜ DropAsked (kindIs kind) room k v before n count extra (length (now verts)) (length (now groups)) (length (now corners))
-        (now ends) (length (now lengths)) (length (now log)) × MaskIn mask ⌝ }
+        (now ends) (length (now lengths)) (length (now log)) × MaskIn mask × LinkedIn (kindIs kind) k corners links ⌝ }
     ensures { λ r. ⌜ Dropped (kindIs kind) room k v before n count extra rows (now (verts .entry)) (now (groups .entry))
         (now (corners .entry)) (now (ends .entry)) (now (ends .exit)) (now (lengths .entry)) (now (lengths .exit)) (now (log .entry))
         (now (log .exit)) r ⌝ }
@@ -182,6 +184,7 @@ fn drop_straddlers(
         groups,
         corners,
         ends,
+        links,
         mask,
     );
     let m = count - 1;
@@ -199,7 +202,7 @@ fn drop_straddlers(
     })
 }
 
-// Parts 4 to 6 of a split and its log, on a mesh whose edges are at their longest, with `extra` entries to come.
+// Parts 4 to 6 of a split and its log, on a mesh whose edges are at their longest and whose triangles the table links, with `extra` entries to come.
 pub fn settle(
     kind: Kind,
     v: usize,
@@ -220,9 +223,10 @@ pub fn settle(
     outline: &mut [usize],
     log: &mut [u32],
     mask: &mut [usize],
+    links: &[u16],
 ) -> Ran
     requires { ⌜ SettleIn (kindIs kind) room k v before n count extra numbers verts groups points corners volumes ends lengths outline log
-        mask ⌝ }
+        mask links ⌝ }
     ensures { λ r. ⌜ SettledIn (kindIs kind) room extra v before n count k numbers verts groups points corners volumes ends lengths outline
         log r ⌝ }
 {
@@ -261,5 +265,6 @@ pub fn settle(
         lengths,
         log,
         mask,
+        links,
     )
 }

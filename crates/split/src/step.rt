@@ -102,6 +102,7 @@ pub fn split_opened(
                 outline,
                 log,
                 mask,
+                links,
             )
         }
     }

@@ -1,5 +1,5 @@
 -- What the readers of an opening ask and answer, for every opening that their tables hold. Only contracts between workers need this file. Definitions only.
-use Prim.Native.Nat.{ℕ, _/_, _<_, _≤_}
+use Prim.Native.Nat.{ℕ, _+_, _/_, _<_, _≤_}
 use mathlib.Core.Path.{_≡_}
 use mathlib.Core.Bool.{Bool, not}
 use mathlib.Core.List.{List}
@@ -95,6 +95,7 @@ pub record TowardIs (x v n k : ℕ) (verts groups : List ℕ) (points : List Flo
   pub is : (O : Opening) (M : Mesh) (p : ℕ) → Ringed k O n verts groups → O .v ≡ v → RestsIn M p points → p ≤ length points / pointColumns → x < p → v < p → CornersBelow p n k verts
       → r ≡ toward M O x
 
--- the number that stands for v in group g, of so many groups
+-- the number that stands for v in group g, of so many groups: v, or one of the copies behind the particles that were there before
 pub record CopyIs (v before count g r : ℕ) : Type 0 where
   pub is : (g ≡ 0) ⊎ (g < count) → r ≡ copyFor v before g
+  pub among : (r ≡ v) ⊎ ((before ≤ r) × (r + 1 < before + count))

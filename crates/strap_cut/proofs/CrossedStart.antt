@@ -1,25 +1,22 @@
 -- Laws of the crossings of an input: they name its edges, nothing is marked at first, and all of them are done. Assumes nothing.
-use Prim.Native.Nat.{ℕ, zero, suc, _+_, _-_, _/_, _<_, _≤_}
+use Prim.Native.Nat.{ℕ, zero, suc, _-_, _/_, _<_, _≤_}
 use native.Mathlib.Omega.{arith}
 use mathlib.Core.Path.{_≡_, refl, sym, ap, _∙_, subst}
-use mathlib.Core.Bool.{Bool, true, false}
-use mathlib.Core.List.{List, [], _∷_}
+use mathlib.Core.List.{List, []}
 use lib.ListN.{length, getD, replicate}
 use lib.Ieee.{Float, nan}
 use borrow.Author.Tests.{ne-eqb}
-use Rattle.lists.specs.Lists.{pick, fold, padded}
+use Rattle.lists.specs.Lists.{fold, padded}
 use Rattle.lists.proofs.Stores.{tab-at, tab-length}
 use Rattle.blade.specs.declared.Point.{Point}
-use Rattle.blade.specs.declared.Hit.{Hit}
 use Rattle.blade.specs.declared.Hit.the-variants.{Miss, Hit as HitAt}
 use Rattle.columns.proofs.Cells.{col-0, col-1}
-use Rattle.model.specs.Mesh.{Edge, Mesh}
-use Rattle.model.specs.Elements.{Element, edgeAt, structural?, strapElement, strapsFrom, elementsOf}
+use Rattle.model.specs.Mesh.{Mesh}
 use Rattle.model.specs.Trace.{All}
 use Rattle.model.specs.Run.{Run}
 use Rattle.model.specs.Calls.{firstFault}
-use Rattle.model.specs.Cut.{Blade, Crossing, meets, crossingAt, crossings, strapping, crossed}
-use Rattle.model.proofs.Laws.{all-over, all-in, all-eachOf}
+use Rattle.model.specs.Cut.{Crossing, crossings, strapping, crossed}
+use Rattle.model.proofs.Laws.{all-in}
 use Rattle.mesh.specs.At.{meshAt}
 use Rattle.mesh.specs.Log.{World, worldOf, worldAt}
 use Rattle.mesh.specs.Given.{Lent, asRooms}
@@ -36,6 +33,7 @@ use Rattle.crossing.specs.Bends.{EndsBelow}
 use Rattle.crossing.specs.Crossings.{crossed-in, CrossingsAre}
 use Rattle.crossing.specs.Crossed.{ranOf, StrapMarks, Crosses, CrossTold, CrossingsIn}
 use Rattle.crossing.proofs.CrossedRuns.{entries-to, words-to, ready-to}
+use Rattle.model.proofs.Inserted.{crossings-inside}
 
 -- ---- nothing is marked
 
@@ -59,27 +57,6 @@ marks-none R bends snapped zb zs =
     }
 
 -- ---- the crossings of a mesh name its edges
-
-straps-inside : (i : ℕ) (es : List Edge) → All (λ (e : Element). e .number < i + length es) (strapsFrom i es)
-unfolding strapsFrom
-straps-inside i [] = tt
-straps-inside i (e ∷ es) =
-    by (structural? e) (all-over (λ (x : Element). x .number < suc i + length es) (λ (x : Element). x .number < i + suc (length es)) (λ x u. omega arith) (strapsFrom (suc i) es) (straps-inside (suc i) es))
-  where
-    by : (b : Bool) → All (λ (x : Element). x .number < i + suc (length es)) (strapsFrom (suc i) es)
-        → All (λ (x : Element). x .number < i + suc (length es)) (pick b (strapElement i e ∷ strapsFrom (suc i) es) (strapsFrom (suc i) es))
-    by true h = (omega arith, h)
-    by false h = h
-
-hit-inside : (n i : ℕ) → i < n → (h : Hit) → All (λ (c : Crossing). c .number < n) (crossingAt i h)
-hit-inside n i u Miss = tt
-hit-inside n i u (HitAt t p) = (u, tt)
-
-crossings-inside : (B : Blade) (M : Mesh) → All (λ (c : Crossing). c .number < length (M .edges)) (crossings B M)
-unfolding crossings elementsOf
-crossings-inside B M =
-    all-eachOf (λ (e : Element). e .number < 0 + length (M .edges)) (λ (c : Crossing). c .number < length (M .edges)) _
-    (λ e u. hit-inside (length (M .edges)) (e .number) (omega arith) (meets B M (edgeAt M (e .number) .a) (edgeAt M (e .number) .b))) (strapsFrom 0 (M .edges)) (straps-inside 0 (M .edges))
 
 -- so do those that were found in the blocks
 module _ (b0 b1 : Point) (e : ℕ) (points : List Float) (ends numbers : List ℕ) (ts : List Float) (m : ℕ) (C : CrossingsAre b0 b1 e points ends numbers ts m) where

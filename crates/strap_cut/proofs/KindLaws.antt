@@ -35,6 +35,10 @@ module _ (L : Rooms) (W : World) (at : Counts → World) (pass : Pass) (kind : K
   pub pinched-triangles : (r : Ran) → kind ≡ Triangles → pass ≡ Pinched → Works (splitPinched Facets) L W at r → Passes r pass kind
   pinched-triangles r e p F = subst (λ (q : Pass). Passes r q kind) (sym p) (subst (Passes r Pinched) (sym e) (record { went = F .went }))
 
+  -- a mesh of a known kind
+  pub pass-known : (K : Kind) {r : Ran} → kind ≡ K → Passes r pass K → Passes r pass kind
+  pass-known K {r} e F = subst (Passes r pass) (sym e) F
+
 -- no strap is pinched
 pub pinched-straps : (L : Rooms) (at : Counts → World) (pass : Pass) (kind : Kind) (k : Counts) → kind ≡ Straps → pass ≡ Pinched → Within k L → Works (passed pass (kindIs kind)) L (at k) at (Done k)
 unfolding splitPinched

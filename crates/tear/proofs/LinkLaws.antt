@@ -27,6 +27,7 @@ use Rattle.work.specs.Places.{EndsIn}
 use Rattle.work.specs.Working.{Ready}
 use Rattle.work.proofs.Placed.{particles-count, ends-in}
 use Rattle.tear.specs.Loads.{endSum, FirstFrom, Linked, Numbered}
+use Rattle.lists.proofs.Truths.{not-true}
 
 -- ---- linking
 
@@ -122,10 +123,6 @@ one-of x a b q = by (ℕ-discrete a x) (ℕ-discrete b x)
     by (yes p) d = inl p
     by (no n) (yes p) = inr p
     by (no n) (no m) = let f : _≡_ {A = Bool} false true = rw (ne-eqb a x n, ne-eqb b x m) at q in let z : _≡_ {A = ℕ} 0 1 = cc in absurd (omega arith)
-
-not-true : (t : Bool) → (t ≡ true → ⊥) → t ≡ false
-not-true true n = absurd (n refl)
-not-true false n = refl
 
 -- two that differ are the ends of an edge only if their sum is its own
 pub other-sum : (x y a b : ℕ) → (x ≡ y → ⊥) → (a + b ≡ x + y → ⊥) → stands x (a ∷ b ∷ []) && stands y (a ∷ b ∷ []) ≡ false

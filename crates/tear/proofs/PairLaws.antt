@@ -10,13 +10,13 @@ use lib.ListN.{length, getD}
 use lib.Dec.{eqb}
 use lib.Ieee.{Float}
 use Rattle.lists.specs.Lists.{pick, stands, any, find}
-use Rattle.lists.proofs.Sifts.{any-get, stands-get}
+use Rattle.lists.proofs.Sifts.{any-get, stands-get, and-true}
 use Rattle.model.specs.Mesh.{Edge, Mesh, blankEdge}
 use Rattle.model.specs.Elements.{Kind, Element, elementsOf, held, cornersPer}
 use Rattle.model.specs.Run.{Run, splitsOf}
 use Rattle.model.specs.Crack.{family, crossPairs, joins, firstOf, currentOf, currentPair}
 use Rattle.model.specs.Trace.{All}
-use Rattle.model.proofs.Laws.{and-true, all-in, Found}
+use Rattle.model.proofs.Laws.{all-in, Found}
 use Rattle.model.proofs.Indexed.{Pair as Two, Indexed}
 use Rattle.model.proofs.Accepted.{accepted-indexed}
 use Rattle.mesh.specs.At.{trianglesAt, edgesAt, meshAt}

@@ -24,6 +24,7 @@ use Rattle.mesh.specs.At.{edgeRow, edgesAt, particleBy, particleRow, particlesA
 use Rattle.mesh.specs.Widths.{pointColumns}
 use Rattle.rewire.specs.Edges.{copiesBy}
 use Rattle.tear.specs.Tears.{bridgesBy, slackBy, Slackened, madeBy, Damaged}
+use Rattle.lists.proofs.Truths.{mark-or}
 
 -- ---- bridges
 
@@ -212,19 +213,13 @@ hurt-more R l roots₀ roots w H here fits =
         ∙ pick-stay (stands k l) (stands k (w ∷ [])) (cell 0 R roots₀ 1 k) (sym (one-stands k w) ∙ ne-eqb w k ne)
         ∙ ap (λ (b : Bool). pick b 1 (cell 0 R roots₀ 1 k)) (sym (stands-append k l (w ∷ [])))
 
--- some, and then some more
-pick-both : (s t : Bool) (x : ℕ) → pick t 1 (pick s 1 x) ≡ pick (s || t) 1 x
-pick-both true true x = refl
-pick-both true false x = refl
-pick-both false t x = refl
-
 hurt-then : (R : ℕ) (l m roots₀ roots₁ roots : List ℕ) → Hurt R l roots₀ roots₁ → Hurt R m roots₁ roots → Hurt R (l ++ m) roots₀ roots
 hurt-then R l m roots₀ roots₁ roots H I =
     record {
       long = I .long ∙ H .long;
       root-is = λ k h. I .root-is k h ∙ H .root-is k h;
       damaged-is = λ k h.
-          I .damaged-is k h ∙ ap (λ (x : ℕ). pick (stands k m) 1 x) (H .damaged-is k h) ∙ pick-both (stands k l) (stands k m) (cell 0 R roots₀ 1 k)
+          I .damaged-is k h ∙ ap (λ (x : ℕ). pick (stands k m) 1 x) (H .damaged-is k h) ∙ mark-or (stands k l) (stands k m) (cell 0 R roots₀ 1 k)
           ∙ ap (λ (b : Bool). pick b 1 (cell 0 R roots₀ 1 k)) (sym (stands-append k l m));
     }
 

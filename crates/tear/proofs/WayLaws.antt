@@ -32,6 +32,7 @@ use Rattle.elements.proofs.Fans.{sift-more}
 use Rattle.elements.proofs.Measures.{sum-push, sum-none}
 use Rattle.split_plan.specs.Opened.{restIn, RestsIn, CornersBelow}
 use Rattle.tear.specs.Ways.{offsetsBy, sideBy, FarSides, LoadIs, MeanIn, MeanTold, meanOf, twoBy}
+use Rattle.split_plan.proofs.Rings.{rowOf}
 
 -- ---- offsets added
 
@@ -102,10 +103,6 @@ side-is M p points r v w lv lw e below =
     let same : map (λ x. minusOf (restIn points x) (restIn points v)) (e .corners) ≡ map (λ x. minusOf (restOf M x) (restOf M v)) (e .corners)
     = map-agree (λ x. minusOf (restIn points x) (restIn points v)) (λ x. minusOf (restOf M x) (restOf M v)) (e .corners) (λ j h. ap₂ minusOf (sym (r _ (below j h))) (sym (r v lv))) in
     ap₂ (λ (l : List Point) (d : Point). pick (lt zero32 (dotOf (sumOf l) d)) 1 0) same (ap₂ minusOf (sym (r w lw)) (sym (r v lv)))
-
--- the row at place i
-abbrev rowOf : ℕ → List ℕ → ℕ → List ℕ
-rowOf k verts i = take k (drop (i * k) verts)
 
 -- the corners of a row are among those of the table
 pub row-under : (p n k : ℕ) (verts : List ℕ) → CornersBelow p n k verts → (i m a : ℕ) → i < n → a ≡ i * k → m ≡ k → (j : ℕ) → j < length (take m (drop a verts)) → getD (take m (drop a verts)) j 0 < p

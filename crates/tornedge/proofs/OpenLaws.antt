@@ -13,7 +13,7 @@ use lib.Dec.{eqb, ltb}
 use lib.Ieee.{Float, ne}
 use Rattle.lists.specs.Lists.{pick, stands, find}
 use Rattle.lists.specs.Chain.{Chain, stay, ahead as onward, back}
-use Rattle.lists.proofs.Sifts.{stands-get}
+use Rattle.lists.proofs.Sifts.{stands-get, and-true}
 use Rattle.float.specs.Numbers.{zero32}
 use Rattle.float.specs.Order.{totalCmp}
 use Rattle.columns.specs.Block.{cell}
@@ -25,7 +25,7 @@ use Rattle.model.specs.Run.{opened, Run}
 use Rattle.model.specs.Split.{Opening, openingOf, splits?, splitMade, splitStep}
 use Rattle.model.specs.Pieces.{opensWithoutConfetti}
 use Rattle.model.specs.Crack.{farSide, meanLoad, Way, twoSided, wayAt, ahead, before?, inOrder, waysOf, firstOf, torn, crackBy, crackPair, crackEdge}
-use Rattle.model.proofs.Laws.{and-true, pick-both}
+use Rattle.model.proofs.Laws.{pick-both}
 use Rattle.model.proofs.Splitting.{two-groups}
 use Rattle.mesh.specs.At.{meshAt}
 use Rattle.mesh.specs.Log.{World, worldOf}

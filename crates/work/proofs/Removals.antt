@@ -2,7 +2,7 @@
 use mathlib.Core.Path.{_≡_, refl, sym, _∙_, ap, ap₂, subst}
 use mathlib.Core.Bool.{Bool, true, false, _&&_}
 use mathlib.Core.List.{List, [], _∷_, _++_, map, append-nil, append-assoc, map-append}
-use Prim.Native.Nat.{ℕ, suc, _+_, _/_, _-_, _<_, _≤_, zero-le}
+use Prim.Native.Nat.{ℕ, _+_, _/_, _-_, _<_, _≤_, zero-le}
 use native.Mathlib.Omega.{arith}
 use borrow.Author.Count.{below-more}
 use borrow.Author.Tests.{eq-eqb, ne-eqb}
@@ -17,7 +17,7 @@ use Rattle.columns.specs.Block.{BlockKept}
 use Rattle.columns.proofs.Cells.{col-0, col-1}
 use Rattle.columns.specs.View.{NextMarked}
 use Rattle.columns.proofs.Keep.{compact-start, compact-done}
-use Rattle.columns.proofs.Rows.{rows-keep, no}
+use Rattle.columns.proofs.Rows.{rows-keep}
 use Rattle.lists.proofs.Walks.{sift-same, tab-split}
 use Rattle.model.specs.Mesh.{Edge}
 use Rattle.mesh.specs.At.{edgesAt, boundaryAt}
@@ -28,6 +28,8 @@ use Rattle.mesh.specs.declared.Rooms.{Rooms}
 use Rattle.work.specs.Removal.{marked, markedOf, goneWords, NoteRoom, EdgesNoted, GoneRoom, BlocksGone}
 use Rattle.model.specs.Run.{edge}
 use Rattle.model.specs.Split.{goneEntries}
+use Rattle.lists.proofs.Truths.{untrue}
+use Rattle.columns.proofs.Blocks.{kept-few}
 
 -- ---- marks
 
@@ -99,7 +101,7 @@ module _ (mask : List ℕ) where
   marked-skip : (i : ℕ) → (getD mask i 0 ≡ 1 → ⊥) → markedOf mask (i + 1) ≡ markedOf mask i
   marked-skip i n = marked-step i ∙ ap (λ (t : Bool). markedOf mask i ++ pick t (i ∷ []) []) (ne-eqb (getD mask i 0) 1 n) ∙ append-nil (markedOf mask i)
 
-  -- the marked below a are no more than those below n
+  -- the marked below a are untrue more than those below n
   marked-most : (a n : ℕ) → a ≤ n → length (markedOf mask a) ≤ length (markedOf mask n)
   unfolding markedOf upTo
   marked-most a n h =
@@ -181,19 +183,13 @@ pick-most : {A : Type 0} (t : Bool) (a b : List A) (n : ℕ) → length a ≤ n 
 pick-most true a b n p q = p
 pick-most false a b n p q = q
 
-keep-most : {A : Type 0} (m : List ℕ) (l : List A) → length (keep m l) ≤ length l
-unfolding keep
-keep-most m [] = omega arith
-keep-most [] (a ∷ l) = let h = keep-most [] l in omega arith
-keep-most (b ∷ m) (a ∷ l) = let h = keep-most m l in pick-most (eqb b 1) (keep m l) (a ∷ keep m l) (suc (length l)) (omega arith) (omega arith)
-
 kept-most : (m : List ℕ) (n : ℕ) → keptOf m n ≤ n
 unfolding keptOf
-kept-most m n = omega (arith, keep-most m (upTo n), upTo-length n)
+kept-most m n = omega (arith, kept-few m (upTo n), upTo-length n)
 
 -- ---- where none is marked
 
--- no number stands in a list of none
+-- untrue number stands in a list of none
 none-stands : (l : List ℕ) → length l ≡ 0 → (x : ℕ) → stands x l ≡ false
 none-stands [] e x = refl
 none-stands (y ∷ l) e x = absurd (omega arith)
@@ -214,7 +210,7 @@ none-next mask n z =
     record {
       above = zero-le;
       below = omega arith;
-      none = λ k _ h t. no (sym (unmarked mask n z k h) ∙ eq-eqb _ _ t);
+      none = λ k _ h t. untrue (sym (unmarked mask n z k h) ∙ eq-eqb _ _ t);
       stop = λ h. absurd (omega arith);
     }
 

@@ -39,7 +39,7 @@ log-lacks L N p e b l = rw (le-ltb _ _ p, le-ltb _ _ e, le-ltb _ _ b, lt-ltb _ _
 abbrev pub needBehind : Run → Mesh → List Entry → ℕ → ℕ → Need
 needBehind R M more e b = record { particles = length (M .particles); edges = e; boundary = b; log = length (R .log ++ more) }
 
-pick-same : (t : ℕ) → pick (eqb t 0) 0 t ≡ t
+pub pick-same : (t : ℕ) → pick (eqb t 0) 0 t ≡ t
 pick-same zero = refl
 pick-same (suc t) = rw (ne-eqb (suc t) 0 (λ d. omega arith))
 

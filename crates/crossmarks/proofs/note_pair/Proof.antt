@@ -15,65 +15,50 @@ use Rattle.marks.proofs.particles.place.Reads as place-reads
 use Rattle.work.proofs.notes.bits_of.Reads as bits-of-reads
 use Rattle.work.proofs.notes.note.Reads as note-reads
 
--- src/lib.rt:35:40
 place-requires : tie.Need-place-requires
 place-requires c κs = search needs
 
--- src/lib.rt:35:58
 place-requires-2 : tie.Need-place-requires-2
 place-requires-2 c κs = search needs
 
--- src/lib.rt:35:9
 tested-requires : tie.Need-tested-requires
 tested-requires c κs = search needs
 
--- src/lib.rt:36:18
 enum-known-hit : tie.Need-enum-known-hit
 enum-known-hit c = search needs
 
--- src/lib.rt:37:9
 enum-told : tie.Need-enum-told
 enum-told c = search needs
 
--- src/lib.rt:37:9
 returns : tie.Need-returns
 returns c =
     let A = c .before .before .before .before .before .before .before .args in
     pair-miss (bladeBy (A .rule) (A .b0) (A .b1)) (A .points .now) (A .x) (A .y) _ _ _ (A .n) _ (c .before .before .before .before .place .ensures) (c .before .before .before .place2 .ensures) (c .before .before .tested .ensures) (c .enum-told .given .1)
 
--- src/lib.rt:40:13
 bits-of-requires : tie.Need-bits-of-requires
 bits-of-requires c κs = search needs
 
--- src/lib.rt:41:13
 bits-of-requires-2 : tie.Need-bits-of-requires-2
 bits-of-requires-2 c κs = search needs
 
--- src/lib.rt:42:33
 cast-note : tie.Need-cast-note
 cast-note c = search needs
 
--- src/lib.rt:42:43
 cast-note-2 : tie.Need-cast-note-2
 cast-note-2 c = search needs
 
--- src/lib.rt:42:65
 bits-of-requires-3 : tie.Need-bits-of-requires-3
 bits-of-requires-3 c κs = search needs
 
--- src/lib.rt:42:9
 note-requires : tie.Need-note-requires
 note-requires c κs = search needs
 
--- src/lib.rt:44:5
 add-result : tie.Need-add-result
 add-result c = search needs
 
--- src/lib.rt:23:1
 same-length : tie.Need-same-length
 same-length c = ⊎-elim (λ w. ap length (w .8) ∙ w .5 .kept .1 .1 .1 .1 .1 .1 .1 .0) (λ w. ap length (w .1)) (c .if1 .came)
 
--- src/lib.rt:23:1
 returns-2 : tie.Need-returns-2
 returns-2 c =
     let A = c .before .before .before .before .before .before .before .before .before .args in

@@ -8,7 +8,7 @@ use borrow.Author.Needs.{needs}
 use Rattle.io.specs.Counts.{Counts}
 use Rattle.listing.specs.declared.Written.{Written}
 use Rattle.listing.specs.declared.Written.the-variants.{Short, Bytes}
-use Rattle.sheetcut.proofs.Lengths.{told-whole}
+use Rattle.listing.proofs.Outcomes.{told-whole}
 use Rattle.cutlist.proofs.list_sheet.Statement.{statement}
 use Rattle.cutlist.proofs.list_sheet.Tie as tie
 

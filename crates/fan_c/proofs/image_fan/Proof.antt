@@ -1,4 +1,4 @@
--- `fan_c::image_fan` meets its contract: a small image is asked in small blocks, any other in large ones. Assumes nothing.
+-- `fan_c::image_fan` meets its contract: a small image is asked in small blocks, any other in larger ones. Assumes nothing.
 use mathlib.Core.Path.{sym, _∙_}
 use Rattle.image.proofs.Loading.{sized-counts}
 use borrow.Author.Needs.{needs}
@@ -17,8 +17,8 @@ same-length c = search needs
 returns : tie.Need-returns
 returns c = search needs
 
-large-fan-requires : tie.Need-large-fan-requires
-large-fan-requires c κs = search needs
+larger-fan-requires : tie.Need-larger-fan-requires
+larger-fan-requires c κs = search needs
 
 same-length-2 : tie.Need-same-length-2
 same-length-2 c = search needs
@@ -34,6 +34,6 @@ image-fan-spec =
     small-fan-requires
     same-length
     returns
-    large-fan-requires
+    larger-fan-requires
     same-length-2
     returns-2)

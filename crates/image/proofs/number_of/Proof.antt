@@ -1,31 +1,23 @@
--- `image::number_of` meets its contract: a NaN pattern gives an infinity. Assumes nothing.
+-- `image::number_of` meets its contract: the bits that are kept make no NaN pattern. Assumes nothing.
 use mathlib.Core.Path.{sym, subst}
 use mathlib.Core.Bool.{Bool, not}
 use lib.Dec.{T}
-use lib.Ieee.{ofBits, nanBits}
-use Rattle.image.proofs.Words.{number-nan, no-nan, number-plain}
+use Rattle.image.proofs.Words.{kept-bits}
 use borrow.Author.Needs.{needs}
 use Rattle.image.proofs.number_of.Statement.{statement}
 use Rattle.image.proofs.number_of.Tie as tie
 
-float-from-bits-result : tie.Need-float-from-bits-result
-unfolding nanBits
-float-from-bits-result c = tt
-
-returns : tie.Need-returns
-unfolding ofBits
-returns c = number-nan _ (c .if1 .taken)
-
 cast-result : tie.Need-cast-result
 cast-result c = search needs
 
-float-from-bits-result-2 : tie.Need-float-from-bits-result-2
-float-from-bits-result-2 c = subst (λ (z : Bool). T (not z)) (sym (no-nan _ (c .if1 .left))) tt
+kept-requires : tie.Need-kept-requires
+kept-requires c κs = search needs
 
-returns-2 : tie.Need-returns-2
-returns-2 c = number-plain _ (c .if1 .left)
+float-from-bits-result : tie.Need-float-from-bits-result
+float-from-bits-result c = subst (λ (z : Bool). T (not z)) (sym (kept-bits _ _ (c .before .pre) (c .kept .ensures) .0)) tt
+
+returns : tie.Need-returns
+returns c = kept-bits _ _ (c .before .pre) (c .kept .ensures) .1
 
 pub number-of-spec : {M : Type 1} → statement M
-number-of-spec =
-    tie.close
-    (tie.spec float-from-bits-result returns cast-result float-from-bits-result-2 returns-2)
+number-of-spec = tie.close (tie.spec cast-result kept-requires float-from-bits-result returns)

@@ -3,7 +3,8 @@ use Prim.Native.Nat.{_/_}
 use lib.ListN.{length}
 use lib.ListN.{length-set}
 use native.Mathlib.Omega.{arith}
-use Rattle.sheet_rows.proofs.RowPuts.{putCols, side-pushed, first-place, second-place}
+use Rattle.outline.proofs.Adding.{first-place, second-place}
+use Rattle.sheet_rows.proofs.RowPuts.{putCols, side-pushed}
 use borrow.Author.Needs.{needs}
 use Rattle.sheet_rows.proofs.put_side.Statement.{statement}
 use Rattle.sheet_rows.proofs.put_side.Tie as tie

@@ -2,7 +2,8 @@
 use Rattle.sheetcut.proofs.Answering.{done-listable, refused-text, done-text}
 use native.Mathlib.Omega.{arith}
 use borrow.Author.Needs.{needs}
-use Rattle.sheetcut.proofs.Lengths.{listing-few, refused-few}
+use Rattle.listing.proofs.Lengths.{refused-few}
+use Rattle.sheetcut.proofs.Lengths.{listing-few}
 use Rattle.sheetcut.proofs.list_answer.Statement.{statement}
 use Rattle.sheetcut.proofs.list_answer.Tie as tie
 

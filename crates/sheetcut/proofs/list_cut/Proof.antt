@@ -1,7 +1,7 @@
 -- `sheetcut::list_cut` meets its contract: the refusal of the sheet, or the listing of a whole one. Assumes nothing.
 use native.Mathlib.Omega.{arith}
 use borrow.Author.Needs.{needs}
-use Rattle.sheetcut.proofs.Lengths.{refused-few}
+use Rattle.listing.proofs.Lengths.{refused-few}
 use mathlib.Core.Path.{sym, _∙_}
 use Rattle.sheetcut.proofs.Cutting.{whole-listed, refused-listed}
 use Rattle.sheetcut.proofs.list_cut.Statement.{statement}

@@ -8,7 +8,7 @@ use borrow.Author.Needs.{needs}
 use Rattle.io.specs.Counts.{Counts}
 use Rattle.listing.specs.declared.Written.{Written}
 use Rattle.listing.specs.declared.Written.the-variants.{Short, Bytes}
-use Rattle.differing.proofs.Printed.{told-whole}
+use Rattle.listing.proofs.Outcomes.{told-whole}
 use Rattle.sheetdiff.proofs.list_files.Statement.{statement}
 use Rattle.sheetdiff.proofs.list_files.Tie as tie
 

@@ -1,13 +1,17 @@
--- `crack::body::crack_torn` meets its contract: the tables hold the ends and the loads of the input, and the fans. Assumes nothing.
+-- `crack::body::crack_torn` meets its contract: there is nothing to do; or the tables hold the ends and the loads of the input, and the fans. Assumes nothing.
 use native.Mathlib.Omega.{arith}
 use lib.ListN.{getD-replicate}
 use Rattle.elements.specs.Table.{kindIs}
+use Rattle.mesh.specs.Log.{worldAt}
 use Rattle.split.proofs.LinkLaws.{linkable-ready}
 use Rattle.tear.proofs.LinkLaws.{numbered}
-use Rattle.crack.proofs.BodyLaws.{turns-work}
+use Rattle.crack.proofs.BodyLaws.{turns-none, turns-work}
 use borrow.Author.Needs.{needs}
 use Rattle.crack.proofs.body.crack_torn.Statement.{statement}
 use Rattle.crack.proofs.body.crack_torn.Tie as tie
+
+returns : tie.Need-returns
+returns c = let A = c .before .before .before .before .before .before .before .before .before .before .args in turns-none (kindIs (A .kind)) (A .minimum) (A .torn .now) {at = λ q. worldAt q (A .points .now) (A .roots .now) (A .corners .now) (A .volumes .now) (A .ends .now) (A .lengths .now) (A .outline .now) (A .log .now)} (A .k) (c .if1 .taken) (c .before .before .before .before .before .before .before .before .before .before .pre .0 .counts)
 
 slice-aggregate-read-loads : tie.Need-slice-aggregate-read-loads
 slice-aggregate-read-loads c = search needs
@@ -19,7 +23,7 @@ slice-aggregate-read-loads-3 : tie.Need-slice-aggregate-read-loads-3
 slice-aggregate-read-loads-3 c = search needs
 
 read-loads-requires : tie.Need-read-loads-requires
-read-loads-requires c κs = let P = c .before .before .before .before .before .before .before .before .before .before .before .before .before .before .before .pre .0 in let A = c .before .before .before .before .before .before .before .before .before .before .before .before .before .before .before .args in
+read-loads-requires c κs = let P = c .before .before .before .before .before .before .before .before .before .before .before .before .before .before .before .before .pre .0 in let A = c .before .before .before .before .before .before .before .before .before .before .before .before .before .before .before .before .args in
     let N = numbered (A .room) (A .k) (A .points .now) (A .roots .now) (A .corners .now) (A .volumes .now) (A .ends .now) (A .lengths .now) (A .outline .now) _ P in (
       record {
         corners = omega (arith, P .counts .triangles, P .rooms .corners);
@@ -44,7 +48,7 @@ slice-aggregate-keep-ends-2 : tie.Need-slice-aggregate-keep-ends-2
 slice-aggregate-keep-ends-2 c = search needs
 
 keep-ends-requires : tie.Need-keep-ends-requires
-keep-ends-requires c κs = let P = c .before .before .before .before .before .before .before .before .before .before .before .before .before .before .before .before .before .before .before .before .before .before .pre .0 in let R = c .before .before .before .before .before .before .read-loads .kept in
+keep-ends-requires c κs = let P = c .before .before .before .before .before .before .before .before .before .before .before .before .before .before .before .before .before .before .before .before .before .before .before .pre .0 in let R = c .before .before .before .before .before .before .read-loads .kept in
     record {
       ends = omega (arith, P .counts .edges, P .rooms .ends);
       first = omega (arith, P .counts .edges, P .rooms .few-edges, R .1 .1 .1 .1 .1 .1 .0);
@@ -55,7 +59,7 @@ slice-aggregate-link-mesh : tie.Need-slice-aggregate-link-mesh
 slice-aggregate-link-mesh c = search needs
 
 link-mesh-requires : tie.Need-link-mesh-requires
-link-mesh-requires c κs = let P = c .before .before .before .before .before .before .before .before .before .before .before .before .before .before .before .before .before .before .before .before .before .before .before .before .before .before .before .pre in let A = c .before .before .before .before .before .before .before .before .before .before .before .before .before .before .before .before .before .before .before .before .before .before .before .before .before .before .before .args in linkable-ready (kindIs (A .kind)) (A .room) (A .k) (A .points .now) (A .roots .now) (A .corners .now) (A .volumes .now) (A .ends .now) (A .lengths .now) (A .outline .now) (A .log .now) (P .0) _ (λ e. omega arith)
+link-mesh-requires c κs = let P = c .before .before .before .before .before .before .before .before .before .before .before .before .before .before .before .before .before .before .before .before .before .before .before .before .before .before .before .before .pre in let A = c .before .before .before .before .before .before .before .before .before .before .before .before .before .before .before .before .before .before .before .before .before .before .before .before .before .before .before .before .args in linkable-ready (kindIs (A .kind)) (A .room) (A .k) (A .points .now) (A .roots .now) (A .corners .now) (A .volumes .now) (A .ends .now) (A .lengths .now) (A .outline .now) (A .log .now) (P .0) _ (λ e. omega arith)
 
 slice-aggregate-crack-listed : tie.Need-slice-aggregate-crack-listed
 slice-aggregate-crack-listed c = search needs
@@ -70,7 +74,7 @@ slice-aggregate-crack-listed-4 : tie.Need-slice-aggregate-crack-listed-4
 slice-aggregate-crack-listed-4 c = search needs
 
 crack-listed-requires : tie.Need-crack-listed-requires
-crack-listed-requires c κs = let P = c .before .before .before .before .before .before .before .before .before .before .before .before .before .before .before .before .before .before .before .before .before .before .before .before .before .before .before .before .before .before .before .before .before .before .before .before .before .before .before .before .pre in let A = c .before .before .before .before .before .before .before .before .before .before .before .before .before .before .before .before .before .before .before .before .before .before .before .before .before .before .before .before .before .before .before .before .before .before .before .before .before .before .before .before .args in let R = c .before .before .before .before .before .before .before .before .before .before .before .before .before .before .before .before .before .before .before .before .before .before .before .before .read-loads .kept in let K = c .before .before .before .before .before .before .before .before .before .before .before .before .before .before .before .before .before .keep-ends in
+crack-listed-requires c κs = let P = c .before .before .before .before .before .before .before .before .before .before .before .before .before .before .before .before .before .before .before .before .before .before .before .before .before .before .before .before .before .before .before .before .before .before .before .before .before .before .before .before .before .pre in let A = c .before .before .before .before .before .before .before .before .before .before .before .before .before .before .before .before .before .before .before .before .before .before .before .before .before .before .before .before .before .before .before .before .before .before .before .before .before .before .before .before .before .args in let R = c .before .before .before .before .before .before .before .before .before .before .before .before .before .before .before .before .before .before .before .before .before .before .before .before .read-loads .kept in let K = c .before .before .before .before .before .before .before .before .before .before .before .before .before .before .before .before .before .keep-ends in
     let N = numbered (A .room) (A .k) (A .points .now) (A .roots .now) (A .corners .now) (A .volumes .now) (A .ends .now) (A .lengths .now) (A .outline .now) _ (P .0) in (
       P .0,
       record {
@@ -105,14 +109,15 @@ same-length-6 c = c .before .before .before .before .before .before .before .bef
 same-length-7 : tie.Need-same-length-7
 same-length-7 c = c .before .before .before .before .before .before .before .before .before .before .before .before .before .before .before .crack-listed .kept .1 .1 .1 .1 .1 .1 .1 .1 .1 .1 .1 .1 .1 .1 .1 .1 .0
 
-returns : tie.Need-returns
-returns c = let A = c .before .before .before .before .before .before .before .before .before .before .before .before .before .before .before .before .before .before .before .before .before .before .before .before .before .before .before .before .before .before .before .before .before .before .before .before .before .before .before .before .before .before .before .before .before .before .before .before .before .before .before .before .before .before .before .before .args in
+returns-2 : tie.Need-returns-2
+returns-2 c = let A = c .before .before .before .before .before .before .before .before .before .before .before .before .before .before .before .before .before .before .before .before .before .before .before .before .before .before .before .before .before .before .before .before .before .before .before .before .before .before .before .before .before .before .before .before .before .before .before .before .before .before .before .before .before .before .before .before .before .args in
     turns-work (kindIs (A .kind)) (A .minimum) (A .torn .now) (A .k) (A .points .now) (A .roots .now) (A .corners .now) (A .volumes .now) (A .ends .now) (A .lengths .now) (A .outline .now) (A .log .now) _ _ _ (c .before .before .before .before .before .before .before .before .before .before .before .before .before .before .before .before .before .before .before .before .before .before .before .before .before .before .before .before .before .before .before .before .before .keep-ends .ensures) (c .before .before .before .before .before .before .before .before .before .before .before .before .before .before .before .before .before .before .before .before .before .before .before .before .before .before .before .before .before .before .before .before .before .before .before .before .before .before .before .before .read-loads .ensures) (c .before .before .before .before .before .before .before .before .before .before .before .before .before .before .before .crack-listed .ensures)
 
 pub crack-torn-spec : {M : Type 1} → statement M
 crack-torn-spec =
     tie.close
     (tie.spec
+    returns
     slice-aggregate-read-loads
     slice-aggregate-read-loads-2
     slice-aggregate-read-loads-3
@@ -134,4 +139,4 @@ crack-torn-spec =
     same-length-5
     same-length-6
     same-length-7
-    returns)
+    returns-2)

@@ -1,5 +1,5 @@
 -- `differing::whole::blade_at` meets its contract: field by field. Assumes nothing.
-use Rattle.differing.proofs.Wholes.{blade-row}
+use Rattle.sheet.proofs.MeshReads.{blade-row}
 use Rattle.bits.specs.Bits.{bitsOf}
 use mathlib.Core.List.{[], _∷_}
 use mathlib.Core.Path.{_∙_}

@@ -4,40 +4,12 @@ use borrow.Author.Needs.{needs}
 use Rattle.image.proofs.small.is_small.Statement.{statement}
 use Rattle.image.proofs.small.is_small.Tie as tie
 
-word-at-requires : tie.Need-word-at-requires
-word-at-requires c κs = search needs
-
-word-at-requires-2 : tie.Need-word-at-requires-2
-word-at-requires-2 c κs = search needs
-
-word-at-requires-3 : tie.Need-word-at-requires-3
-word-at-requires-3 c κs = search needs
-
-word-at-requires-4 : tie.Need-word-at-requires-4
-word-at-requires-4 c κs = search needs
-
-both-requires : tie.Need-both-requires
-both-requires c κs = search needs
-
-both-requires-2 : tie.Need-both-requires-2
-both-requires-2 c κs = search needs
-
-both-requires-3 : tie.Need-both-requires-3
-both-requires-3 c κs = search needs
+within-requires : tie.Need-within-requires
+within-requires c κs = search needs
 
 returns : tie.Need-returns
 unfolding smallImage
-returns c = cc
+returns c = c .within .ensures
 
 pub is-small-spec : {M : Type 1} → statement M
-is-small-spec =
-    tie.close
-    (tie.spec
-    word-at-requires
-    word-at-requires-2
-    word-at-requires-3
-    word-at-requires-4
-    both-requires
-    both-requires-2
-    both-requires-3
-    returns)
+is-small-spec = tie.close (tie.spec within-requires returns)

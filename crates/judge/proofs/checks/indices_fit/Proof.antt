@@ -18,13 +18,13 @@ both-requires : tie.Need-both-requires
 both-requires c κs = search needs
 
 pairs-fit-requires : tie.Need-pairs-fit-requires
-pairs-fit-requires c κs = ((c .before .before .before .before .before .before .before .before .before .before .pre .ends), omega arith)
+pairs-fit-requires c κs = ((c .before .before .before .before .before .before .before .before .before .before .pre .ends), omega arith, omega arith)
 
 both-requires-2 : tie.Need-both-requires-2
 both-requires-2 c κs = search needs
 
 pairs-fit-requires-2 : tie.Need-pairs-fit-requires-2
-pairs-fit-requires-2 c κs = ((c .before .before .before .before .before .before .before .before .before .before .before .before .pre .outline), omega arith)
+pairs-fit-requires-2 c κs = ((c .before .before .before .before .before .before .before .before .before .before .before .before .pre .outline), omega arith, omega arith)
 
 both-requires-3 : tie.Need-both-requires-3
 both-requires-3 c κs = search needs

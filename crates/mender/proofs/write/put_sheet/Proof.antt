@@ -1,6 +1,7 @@
 -- `mender::write::put_sheet` meets its contract. Assumes nothing.
 use Rattle.mender.proofs.Joined.{sheet-put}
-use Rattle.mender.proofs.Whole.{sizes, plan, room-out, kept-in, kept-counts, zeros-taken, take-zeros}
+use Rattle.bits.proofs.RowLaws.{take-zeros}
+use Rattle.mender.proofs.Whole.{sizes, plan, room-out, kept-in, kept-counts, zeros-taken}
 use Rattle.mending.proofs.Bytes.{held-six}
 use lib.Seq.{length-take-le}
 use lib.ListN.{length}

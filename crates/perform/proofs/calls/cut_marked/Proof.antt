@@ -1,12 +1,14 @@
--- `perform::calls::cut_marked` meets its contract: the cut comes behind its marks. Assumes nothing.
-use mathlib.Core.Path.{refl, _∙_}
+-- `perform::calls::cut_marked` meets its contract: the cut comes behind its marks, unless they tell that there is none. Assumes nothing.
+use mathlib.Core.Path.{refl, sym, _∙_, ap}
 use borrow.Author.Needs.{needs}
 use Rattle.elements.specs.Table.{kindIs}
 use Rattle.marks.specs.Marking.{bladeBy}
-use Rattle.mesh.specs.Log.{worldAt}
+use Rattle.mesh.specs.Log.{World, worldAt}
+use Rattle.call_frame.proofs.Calls.{unlogged}
 use Rattle.mesh.proofs.Agree.{lent-path}
 use Rattle.work.proofs.Runs.{works-known}
 use Rattle.crack.proofs.BodyLaws.{left-ready, left-entries, left-words}
+use Rattle.perform.proofs.PassedBy.{marks-passed}
 use Rattle.perform.proofs.Worked.{marked-indexed, marks-refused, marks-done}
 use Rattle.perform.proofs.calls.cut_marked.Statement.{statement}
 use Rattle.perform.proofs.calls.cut_marked.Tie as tie
@@ -46,42 +48,71 @@ returns c =
     let A = c .before .before .before .before .before .before .before .before .before .before .before .before .before .before .before .before .before .before .before .before .args in
     marks-refused (kindIs (A .kind)) (bladeBy (A .rule) (A .b0) (A .b1)) (A .f) (c .before .before .before .before .note-crossings .ensures) _ (c .enum-told .given .1)
 
+passed-by-requires : tie.Need-passed-by-requires
+passed-by-requires c κs = search needs
+
+same-length-8 : tie.Need-same-length-8
+same-length-8 c = refl
+
+same-length-9 : tie.Need-same-length-9
+same-length-9 c = refl
+
+same-length-10 : tie.Need-same-length-10
+same-length-10 c = refl
+
+same-length-11 : tie.Need-same-length-11
+same-length-11 c = refl
+
+same-length-12 : tie.Need-same-length-12
+same-length-12 c = refl
+
+same-length-13 : tie.Need-same-length-13
+same-length-13 c = refl
+
+same-length-14 : tie.Need-same-length-14
+same-length-14 c = c .before .before .before .before .before .before .before .note-crossings .kept .1 .1 .1 .1 .1 .1 .1 .1 .1 .1 .1 .1 .1 .0
+
+returns-2 : tie.Need-returns-2
+returns-2 c =
+    let A = c .before .before .before .before .before .before .before .before .before .before .before .before .before .before .before .before .before .before .before .before .before .before .before .args in
+    marks-passed (A .rule) (A .kind) (A .b0) (A .b1) (A .f) _ (sym (c .before .passed-by .ensures) ∙ c .if1 .taken) (λ z. ap (λ (x : World). x .log) (unlogged _ _ _ _ _ _ _ _ _ z)) (works-known _ _ (c .before .before .before .ran .given .1) (c .before .before .before .before .before .before .before .note-crossings .ensures))
+
 run-requires : tie.Need-run-requires
 unfolding worldAt
 run-requires c κs =
-    let A = c .before .before .before .before .before .before .before .before .before .before .before .before .before .before .before .before .before .before .before .before .before .before .before .before .before .before .before .before .args in
-    let P = c .before .before .before .before .before .before .before .before .before .before .before .before .before .before .before .before .before .before .before .before .before .before .before .before .before .before .before .before .pre in
-    let S = c .before .before .before .before .before .before .before .before .before .before .before .before .note-crossings in
-    let F = works-known _ _ (c .before .before .before .before .before .before .before .before .ran .given .1) (S .ensures) in (
+    let A = c .before .before .before .before .before .before .before .before .before .before .before .before .before .before .before .before .before .before .before .before .before .before .before .before .before .before .before .before .before .before .args in
+    let P = c .before .before .before .before .before .before .before .before .before .before .before .before .before .before .before .before .before .before .before .before .before .before .before .before .before .before .before .before .before .before .pre in
+    let S = c .before .before .before .before .before .before .before .before .before .before .before .before .before .before .note-crossings in
+    let F = works-known _ _ (c .before .before .before .before .before .before .before .before .before .before .ran .given .1) (S .ensures) in (
       left-ready F (P .1 .entries) (P .1 .words) (marked-indexed (kindIs (A .kind)) (bladeBy (A .rule) (A .b0) (A .b1))) (A .k) _ _ (P .0) (lent-path _ _ refl refl refl refl refl refl refl (S .kept .1 .1 .1 .1 .1 .1 .1 .1 .1 .1 .1 .1 .1 .0)),
       record { entries = left-entries F (P .1 .entries) (P .1 .words); words = left-words F (P .1 .entries) (P .1 .words) },
     )
 
-same-length-8 : tie.Need-same-length-8
-same-length-8 c = c .before .before .before .before .before .before .before .before .before .before .before .before .before .before .run .kept .1 .1 .1 .1 .0
+same-length-15 : tie.Need-same-length-15
+same-length-15 c = c .before .before .before .before .before .before .before .before .before .before .before .before .before .before .run .kept .1 .1 .1 .1 .0
 
-same-length-9 : tie.Need-same-length-9
-same-length-9 c = c .before .before .before .before .before .before .before .before .before .before .before .before .before .before .run .kept .1 .1 .1 .1 .1 .0
+same-length-16 : tie.Need-same-length-16
+same-length-16 c = c .before .before .before .before .before .before .before .before .before .before .before .before .before .before .run .kept .1 .1 .1 .1 .1 .0
 
-same-length-10 : tie.Need-same-length-10
-same-length-10 c = c .before .before .before .before .before .before .before .before .before .before .before .before .before .before .run .kept .1 .1 .1 .1 .1 .1 .0
+same-length-17 : tie.Need-same-length-17
+same-length-17 c = c .before .before .before .before .before .before .before .before .before .before .before .before .before .before .run .kept .1 .1 .1 .1 .1 .1 .0
 
-same-length-11 : tie.Need-same-length-11
-same-length-11 c = c .before .before .before .before .before .before .before .before .before .before .before .before .before .before .run .kept .1 .1 .1 .1 .1 .1 .1 .1 .0
+same-length-18 : tie.Need-same-length-18
+same-length-18 c = c .before .before .before .before .before .before .before .before .before .before .before .before .before .before .run .kept .1 .1 .1 .1 .1 .1 .1 .1 .0
 
-same-length-12 : tie.Need-same-length-12
-same-length-12 c = c .before .before .before .before .before .before .before .before .before .before .before .before .before .before .run .kept .1 .1 .1 .1 .1 .1 .1 .1 .1 .0
+same-length-19 : tie.Need-same-length-19
+same-length-19 c = c .before .before .before .before .before .before .before .before .before .before .before .before .before .before .run .kept .1 .1 .1 .1 .1 .1 .1 .1 .1 .0
 
-same-length-13 : tie.Need-same-length-13
-same-length-13 c = c .before .before .before .before .before .before .before .before .before .before .before .before .before .before .run .kept .1 .1 .1 .1 .1 .1 .1 .1 .1 .1 .0
+same-length-20 : tie.Need-same-length-20
+same-length-20 c = c .before .before .before .before .before .before .before .before .before .before .before .before .before .before .run .kept .1 .1 .1 .1 .1 .1 .1 .1 .1 .1 .0
 
-same-length-14 : tie.Need-same-length-14
-same-length-14 c = c .before .before .before .before .before .before .before .before .before .before .before .before .before .before .run .kept .1 .1 .1 .1 .1 .1 .1 .1 .1 .1 .1 .0 ∙ c .before .before .before .before .before .before .before .before .before .before .before .before .before .before .before .before .before .before .before .before .before .before .before .before .before .before .before .note-crossings .kept .1 .1 .1 .1 .1 .1 .1 .1 .1 .1 .1 .1 .1 .0
+same-length-21 : tie.Need-same-length-21
+same-length-21 c = c .before .before .before .before .before .before .before .before .before .before .before .before .before .before .run .kept .1 .1 .1 .1 .1 .1 .1 .1 .1 .1 .1 .0 ∙ c .before .before .before .before .before .before .before .before .before .before .before .before .before .before .before .before .before .before .before .before .before .before .before .before .before .before .before .before .before .note-crossings .kept .1 .1 .1 .1 .1 .1 .1 .1 .1 .1 .1 .1 .1 .0
 
-returns-2 : tie.Need-returns-2
-returns-2 c =
-    let A = c .before .before .before .before .before .before .before .before .before .before .before .before .before .before .before .before .before .before .before .before .before .before .before .before .before .before .before .before .before .before .before .before .before .before .before .before .before .before .before .before .before .before .before .args in
-    marks-done (kindIs (A .kind)) (bladeBy (A .rule) (A .b0) (A .b1)) (A .f) (c .before .before .before .before .before .before .before .before .before .before .before .before .before .before .before .before .before .before .before .before .before .before .before .before .before .before .before .note-crossings .ensures) _ (c .before .before .before .before .before .before .before .before .before .before .before .before .before .before .before .before .before .before .before .before .before .before .before .ran .given .1) (c .before .before .before .before .before .before .before .before .before .before .before .before .before .before .run .ensures)
+returns-3 : tie.Need-returns-3
+returns-3 c =
+    let A = c .before .before .before .before .before .before .before .before .before .before .before .before .before .before .before .before .before .before .before .before .before .before .before .before .before .before .before .before .before .before .before .before .before .before .before .before .before .before .before .before .before .before .before .before .before .args in
+    marks-done (kindIs (A .kind)) (bladeBy (A .rule) (A .b0) (A .b1)) (A .f) (c .before .before .before .before .before .before .before .before .before .before .before .before .before .before .before .before .before .before .before .before .before .before .before .before .before .before .before .before .before .note-crossings .ensures) _ (c .before .before .before .before .before .before .before .before .before .before .before .before .before .before .before .before .before .before .before .before .before .before .before .before .before .ran .given .1) (c .before .before .before .before .before .before .before .before .before .before .before .before .before .before .run .ensures)
 
 pub cut-marked-spec : {M : Type 1} → statement M
 cut-marked-spec =
@@ -98,7 +129,7 @@ cut-marked-spec =
     same-length-6
     same-length-7
     returns
-    run-requires
+    passed-by-requires
     same-length-8
     same-length-9
     same-length-10
@@ -106,4 +137,13 @@ cut-marked-spec =
     same-length-12
     same-length-13
     same-length-14
-    returns-2)
+    returns-2
+    run-requires
+    same-length-15
+    same-length-16
+    same-length-17
+    same-length-18
+    same-length-19
+    same-length-20
+    same-length-21
+    returns-3)

@@ -1,4 +1,4 @@
--- `reading_c::questions::ask_loaded` meets its contract: a small image is asked in small blocks, any other in large ones. Assumes nothing.
+-- `reading_c::questions::ask_loaded` meets its contract: a small image is asked in small blocks, any other in larger ones. Assumes nothing.
 use mathlib.Core.Path.{sym, _∙_}
 use Rattle.image.proofs.Loading.{sized-counts}
 use borrow.Author.Needs.{needs}
@@ -17,8 +17,8 @@ same-length c = search needs
 returns : tie.Need-returns
 returns c = search needs
 
-ask-large-requires : tie.Need-ask-large-requires
-ask-large-requires c κs = search needs
+ask-larger-requires : tie.Need-ask-larger-requires
+ask-larger-requires c κs = search needs
 
 same-length-2 : tie.Need-same-length-2
 same-length-2 c = search needs
@@ -34,6 +34,6 @@ ask-loaded-spec =
     ask-small-requires
     same-length
     returns
-    ask-large-requires
+    ask-larger-requires
     same-length-2
     returns-2)

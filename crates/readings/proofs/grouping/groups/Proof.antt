@@ -1,6 +1,8 @@
 -- `readings::grouping::groups` meets its contract: the faults of the mesh, or the groups. Assumes nothing.
+use mathlib.Core.Path.{refl, sym, _∙_}
+use Rattle.arguments.proofs.Accepted.{sizes-of}
 use Rattle.mesh.specs.Given.{given}
-use Rattle.arguments.proofs.Judged.{undecided}
+use Rattle.arguments.proofs.Judged.{undecided, accepted}
 use Rattle.readings.proofs.Grouped.{groups-refused}
 use borrow.Author.Needs.{needs}
 use Rattle.readings.proofs.grouping.groups.Statement.{statement}
@@ -20,14 +22,31 @@ returns c = let A = c .before .before .before .before .before .before .before .b
     let G = given (A .points .now) (A .roots .now) (A .corners .now) (A .volumes .now) (A .ends .now) (A .lengths .now) (A .outline .now) in
     groups-refused G (A .v) (A .sides .now) _ _ _ (undecided G _ _ (c .before .before .before .before .before .judge .ensures) (c .before .before .before .before .if1 .taken)) (c .before .before .before .before .if1 .taken) (c .before .before .clear-usize .ensures)
 
-mesh-groups-requires : tie.Need-mesh-groups-requires
-mesh-groups-requires c κs = search needs
+few-groups-requires : tie.Need-few-groups-requires
+few-groups-requires c κs = let A = c .before .before .before .before .before .before .before .before .before .before .before .before .before .args in
+    let G = given (A .points .now) (A .roots .now) (A .corners .now) (A .volumes .now) (A .ends .now) (A .lengths .now) (A .outline .now) in
+    let s = sizes-of (accepted G (sym (c .before .before .before .judge .ensures) ∙ c .before .before .if1 .left)) in
+    (s .few-triangles, s .few-edges, c .before .if2 .taken)
 
 same-length-2 : tie.Need-same-length-2
 same-length-2 c = search needs
 
 returns-2 : tie.Need-returns-2
-returns-2 c = search needs
+returns-2 c = let A = c .before .before .before .before .before .before .before .before .before .before .before .before .before .before .before .before .args in
+    c .before .before .few-groups .ensures (A .points .now) (A .roots .now) (A .volumes .now) (A .lengths .now) (A .outline .now) refl (sym (c .before .before .before .before .before .before .judge .ensures) ∙ c .before .before .before .before .before .if1 .left)
+
+many-groups-requires : tie.Need-many-groups-requires
+many-groups-requires c κs = let A = c .before .before .before .before .before .before .before .before .before .before .before .before .before .args in
+    let G = given (A .points .now) (A .roots .now) (A .corners .now) (A .volumes .now) (A .ends .now) (A .lengths .now) (A .outline .now) in
+    let s = sizes-of (accepted G (sym (c .before .before .before .judge .ensures) ∙ c .before .before .if1 .left)) in
+    (s .few-triangles, s .few-edges)
+
+same-length-3 : tie.Need-same-length-3
+same-length-3 c = search needs
+
+returns-3 : tie.Need-returns-3
+returns-3 c = let A = c .before .before .before .before .before .before .before .before .before .before .before .before .before .before .before .before .args in
+    c .before .before .many-groups .ensures (A .points .now) (A .roots .now) (A .volumes .now) (A .lengths .now) (A .outline .now) refl (sym (c .before .before .before .before .before .before .judge .ensures) ∙ c .before .before .before .before .before .if1 .left)
 
 pub groups-spec : {M : Type 1} → statement M
 groups-spec =
@@ -37,6 +56,9 @@ groups-spec =
     clear-usize-requires
     same-length
     returns
-    mesh-groups-requires
+    few-groups-requires
     same-length-2
-    returns-2)
+    returns-2
+    many-groups-requires
+    same-length-3
+    returns-3)

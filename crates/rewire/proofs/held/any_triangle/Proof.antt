@@ -1,40 +1,42 @@
--- `rewire::held::any_triangle` meets its contract. The invariant: no triangle so far holds both. Assumes nothing.
-use Rattle.rewire.proofs.HeldLaws.{passed-none, passed-more, passed-here, passed-all}
-use Rattle.rewire.specs.Edges.{triangleHolds}
-use Rattle.lists.specs.Lists.{any, upTo}
-use mathlib.Core.Path.{_≡_, sym, _∙_}
-use mathlib.Core.Bool.{false}
+-- `rewire::held::any_triangle` meets its contract: no triangle before the next that holds x holds both (`Seeking` of proofs/HeldLaws.antt). Assumes nothing.
+use Rattle.rewire.proofs.HeldLaws.{Seeking, stillLeft, seeking-start, seeking-within, seeking-link, seeking-found, seeking-more, seeking-less, seeking-done}
+use mathlib.Core.Path.{sym, _∙_}
 use native.Mathlib.Omega.{arith}
-use Prim.Native.Nat.{_-_, _≤_}
 use Rattle.rewire.proofs.held.any_triangle.Statement.{statement}
 use Rattle.rewire.proofs.held.any_triangle.Tie as tie
 
 abbrev Inv-loop : tie.InvT-loop
-Inv-loop x y t corners i₀ i = (i ≤ t) × (any (triangleHolds x y corners) (upTo i) ≡ false)
+Inv-loop x y t corners links rows at₀ at = Seeking x y t corners at
 
 abbrev μ-loop : tie.MeasureT-loop
-μ-loop x y t corners i₀ i = t - i
+μ-loop x y t corners links rows at₀ at = stillLeft t at
+
+first-at-requires : tie.Need-first-at-requires Inv-loop μ-loop
+first-at-requires c κs = omega (arith, c .before .before .pre .here, c .before .before .pre .long)
 
 loop-holds : tie.Need-loop-holds Inv-loop μ-loop
-loop-holds c = let A = c .before .args in (omega arith, passed-none (triangleHolds (A .x) (A .y) (A .corners .now)))
+loop-holds c = seeking-start _ _ _ _ _ (c .first-at .ensures .is _ _ _ _ _ (c .before .before .before .pre .linked) (c .before .before .before .pre .here))
+
+sub-i : tie.Need-sub-i Inv-loop μ-loop
+sub-i c = c .loop-test .taken
 
 triangle-holds-requires : tie.Need-triangle-holds-requires Inv-loop μ-loop
-triangle-holds-requires c κs = omega arith
+triangle-holds-requires c κs = let w = seeking-within _ _ _ _ _ (c .before .loop .inv) (c .loop-test .taken) in omega (arith, w, c .before .before .before .before .before .pre .rows)
 
 returns : tie.Need-returns Inv-loop μ-loop
-returns c = let A = c .before .before .before .before .before .args in passed-here (triangleHolds (A .x) (A .y) (A .corners .now)) (A .t) (c .before .before .before .loop .i) (c .before .before .loop-test .taken) (sym (c .before .triangle-holds .ensures) ∙ c .if1 .taken)
+returns c = seeking-found _ _ _ _ _ (c .before .before .before .loop .inv) (c .before .before .loop-test .taken) (sym (c .before .triangle-holds .ensures) ∙ c .if1 .taken)
 
-add-i : tie.Need-add-i Inv-loop μ-loop
-add-i c = omega arith
+next-at-requires : tie.Need-next-at-requires Inv-loop μ-loop
+next-at-requires c κs = seeking-link _ _ _ _ _ (c .before .before .before .loop .inv) (c .before .before .loop-test .taken) _ (c .before .before .before .before .before .before .before .pre)
 
 loop-less : tie.Need-loop-less Inv-loop μ-loop
-loop-less c = omega arith
+loop-less c = seeking-less _ _ _ _ _ (c .before .before .before .before .loop .inv) (c .before .before .before .loop-test .taken) _ (c .next-at .ensures .is _ (c .before .before .before .before .before .before .before .before .pre .linked))
 
 loop-again : tie.Need-loop-again Inv-loop μ-loop
-loop-again c = let A = c .before .before .before .before .before .args in (omega arith, passed-more (triangleHolds (A .x) (A .y) (A .corners .now)) (c .before .before .before .loop .i) (c .before .before .before .loop .inv .1) (sym (c .before .triangle-holds .ensures) ∙ c .if1 .left))
+loop-again c = seeking-more _ _ _ _ _ (c .before .before .before .before .loop .inv) (c .before .before .before .loop-test .taken) _ (c .next-at .ensures .is _ (c .before .before .before .before .before .before .before .before .pre .linked)) (sym (c .before .before .triangle-holds .ensures) ∙ c .before .if1 .left)
 
 returns-2 : tie.Need-returns-2 Inv-loop μ-loop
-returns-2 c = let A = c .before .before .before .args in passed-all (triangleHolds (A .x) (A .y) (A .corners .now)) (A .t) (c .before .loop .i) (c .before .loop .inv .1) (c .before .loop .inv .0) (c .loop-test .left)
+returns-2 c = seeking-done _ _ _ _ _ (c .before .loop .inv) (omega arith)
 
 pub any-triangle-spec : {M : Type 1} → statement M
 any-triangle-spec =
@@ -42,10 +44,12 @@ any-triangle-spec =
     (tie.spec
     Inv-loop
     μ-loop
+    first-at-requires
     loop-holds
+    sub-i
     triangle-holds-requires
     returns
-    add-i
+    next-at-requires
     loop-less
     loop-again
     returns-2)

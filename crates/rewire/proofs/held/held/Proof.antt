@@ -1,5 +1,7 @@
 -- `rewire::held::held` meets its contract: by cases of the kind. Assumes nothing.
-use Rattle.rewire.proofs.HeldLaws.{held-triangles, held-straps, held-nothing}
+use Rattle.rewire.proofs.HeldLaws.{walk-room, held-triangles, held-straps, held-nothing}
+use Rattle.elements.specs.Table.{kindIs}
+use mathlib.Core.Path.{ap}
 use borrow.Author.Needs.{needs}
 use Rattle.rewire.proofs.held.held.Statement.{statement}
 use Rattle.rewire.proofs.held.held.Tie as tie
@@ -8,7 +10,7 @@ enum-told : tie.Need-enum-told
 enum-told c = search needs
 
 any-triangle-requires : tie.Need-any-triangle-requires
-any-triangle-requires c κs = search needs
+any-triangle-requires c κs = walk-room (c .before .before .before .before .before .pre) (ap kindIs (c .enum-told .given .1))
 
 enum-told-2 : tie.Need-enum-told-2
 enum-told-2 c = search needs

@@ -8,24 +8,24 @@ use Rattle.rewire.proofs.straddling.mark_straddlers.Statement.{statemen
 use Rattle.rewire.proofs.straddling.mark_straddlers.Tie as tie
 
 abbrev Inv-loop : tie.InvT-loop
-Inv-loop kind v before n count t e verts groups corners ends mask₀ near k marked₀ i₀ mask marked i =
+Inv-loop kind v before n count t e verts groups corners ends links mask₀ near k marked₀ i₀ mask marked i =
     Marking (kindIs kind) v before n count t e verts groups corners ends mask₀ mask marked i
 
 abbrev μ-loop : tie.MeasureT-loop
-μ-loop kind v before n count t e verts groups corners ends mask₀ near k marked₀ i₀ mask marked i =
+μ-loop kind v before n count t e verts groups corners ends links mask₀ near k marked₀ i₀ mask marked i =
     e - i
 
 corners-per-requires : tie.Need-corners-per-requires Inv-loop μ-loop
 corners-per-requires c κs = search needs
 
 mul-mark-corners : tie.Need-mul-mark-corners Inv-loop μ-loop
-mul-mark-corners c = omega (arith, corners-fit (kindIs (c .before .before .before .before .before .before .args .kind)) (c .before .before .before .before .before .before .args .n) (c .corners-per .ensures) (c .before .before .before .before .before .before .pre .0 .ring))
+mul-mark-corners c = omega (arith, corners-fit (kindIs (c .before .before .before .before .before .before .before .args .kind)) (c .before .before .before .before .before .before .before .args .n) (c .corners-per .ensures) (c .before .before .before .before .before .before .before .pre .0 .ring))
 
 slice-aggregate-mark-corners : tie.Need-slice-aggregate-mark-corners Inv-loop μ-loop
 slice-aggregate-mark-corners c = search needs
 
 mark-corners-requires : tie.Need-mark-corners-requires Inv-loop μ-loop
-mark-corners-requires c κs = corners-fit (kindIs (c .before .before .before .before .before .before .before .args .kind)) (c .before .before .before .before .before .before .before .args .n) (c .before .corners-per .ensures) (c .before .before .before .before .before .before .before .pre .0 .ring)
+mark-corners-requires c κs = corners-fit (kindIs (c .before .before .before .before .before .before .before .before .args .kind)) (c .before .before .before .before .before .before .before .before .args .n) (c .before .corners-per .ensures) (c .before .before .before .before .before .before .before .before .pre .0 .ring)
 
 loop-holds : tie.Need-loop-holds Inv-loop μ-loop
 loop-holds c = marking-start _ _ _ _ _ _ _ _ _ _ _ _
@@ -34,19 +34,19 @@ slice-aggregate-near-straddles : tie.Need-slice-aggregate-near-straddles Inv-loo
 slice-aggregate-near-straddles c = search needs
 
 near-straddles-requires : tie.Need-near-straddles-requires Inv-loop μ-loop
-near-straddles-requires c κs = (c .before .before .before .before .before .before .before .before .before .before .before .before .pre .0, c .before .loop-test .taken, near-room (kindIs (c .before .before .before .before .before .before .before .before .before .before .before .before .args .kind)) (c .before .before .before .before .before .before .before .before .before .before .before .before .args .n) (c .before .before .before .before .before .before .corners-per .ensures) (c .before .before .before .before .mark-corners .ensures) (c .before .before .before .before .before .before .before .before .before .before .before .before .pre .2) (omega (arith, c .before .before .before .before .mark-corners .kept .1 .1 .0)))
+near-straddles-requires c κs = (c .before .before .before .before .before .before .before .before .before .before .before .before .before .pre .0, c .before .loop-test .taken, near-room (kindIs (c .before .before .before .before .before .before .before .before .before .before .before .before .before .args .kind)) (c .before .before .before .before .before .before .before .before .before .before .before .before .before .args .n) (c .before .before .before .before .before .before .corners-per .ensures) (c .before .before .before .before .mark-corners .ensures) (c .before .before .before .before .before .before .before .before .before .before .before .before .before .pre .2) (omega (arith, c .before .before .before .before .mark-corners .kept .1 .1 .0)), c .before .before .before .before .before .before .before .before .before .before .before .before .before .pre .3)
 
 mark-requires : tie.Need-mark-requires Inv-loop μ-loop
 mark-requires c κs = search needs
 
 mul-mask : tie.Need-mul-mask Inv-loop μ-loop
-mul-mask c = omega (arith, c .before .before .before .loop-test .taken, c .before .before .before .before .before .before .before .before .before .before .before .before .before .before .pre .0 .ends)
+mul-mask c = omega (arith, c .before .before .before .loop-test .taken, c .before .before .before .before .before .before .before .before .before .before .before .before .before .before .before .pre .0 .ends, c .before .before .before .before .before .before .before .before .before .before .before .before .before .before .before .good .1 .1 .1 .1 .1 .1 .1 .1 .1 .1 .0)
 
 slice-write-mask : tie.Need-slice-write-mask Inv-loop μ-loop
-slice-write-mask c = omega (arith, c .before .before .before .loop-test .taken, c .before .before .before .before .before .before .before .before .before .before .before .before .before .before .pre .1, c .before .before .before .before .loop .inv .long)
+slice-write-mask c = omega (arith, c .before .before .before .loop-test .taken, c .before .before .before .before .before .before .before .before .before .before .before .before .before .before .before .pre .1, c .before .before .before .before .loop .inv .long)
 
 add-marked : tie.Need-add-marked Inv-loop μ-loop
-add-marked c = omega (arith, c .before .before .before .before .loop .inv .few, c .before .before .before .loop-test .taken, c .before .before .before .before .before .before .before .before .before .before .before .before .before .before .pre .0 .ends, c .mark .ensures, pick-small (c .before .near-straddles .result))
+add-marked c = omega (arith, c .before .before .before .before .loop .inv .few, c .before .before .before .loop-test .taken, c .before .before .before .before .before .before .before .before .before .before .before .before .before .before .before .pre .0 .ends, c .mark .ensures, pick-small (c .before .near-straddles .result))
 
 add-i : tie.Need-add-i Inv-loop μ-loop
 add-i c = omega (arith, c .before .before .before .loop-test .taken)
@@ -55,7 +55,7 @@ loop-less : tie.Need-loop-less Inv-loop μ-loop
 loop-less c = omega (arith, c .before .before .before .loop-test .taken)
 
 loop-again : tie.Need-loop-again Inv-loop μ-loop
-loop-again c = marking-step _ _ _ _ _ _ _ _ _ _ _ _ _ _ _ (c .before .before .before .before .loop .inv) (c .before .near-straddles .result) (c .mark .result) (c .before .before .before .loop-test .taken) (c .before .before .before .before .before .before .before .before .before .before .before .before .before .before .pre .1) (c .before .near-straddles .ensures) (c .mark .ensures)
+loop-again c = marking-step _ _ _ _ _ _ _ _ _ _ _ _ _ _ _ (c .before .before .before .before .loop .inv) (c .before .near-straddles .result) (c .mark .result) (c .before .before .before .loop-test .taken) (c .before .before .before .before .before .before .before .before .before .before .before .before .before .before .before .pre .1) (c .before .near-straddles .ensures) (c .mark .ensures)
 
 same-length : tie.Need-same-length Inv-loop μ-loop
 same-length c = c .before .loop .inv .long

@@ -24,23 +24,23 @@ shared-slice-read-b : tie.Need-shared-slice-read-b
 shared-slice-read-b c = search needs
 
 shared-slice-read-if1 : tie.Need-shared-slice-read-if1
-shared-slice-read-if1 c = let A = c .before .before .before .before .before .before .before .before .args in
-    let P = c .before .before .before .before .before .before .before .before .pre in
+shared-slice-read-if1 c = let A = c .before .before .before .before .before .before .before .before .before .args in
+    let P = c .before .before .before .before .before .before .before .before .before .pre in
     omega (arith, col-0 0 (length (A .ends .now) / 4) (A .ends .now) (A .i), P .2 .ends-in .first (A .i) (P .1), P .2 .places)
 
 returns : tie.Need-returns
-returns c = told-far-first _ _ _ _ _ _ _ _ _ _ _ _ _ (c .before .before .before .before .before .before .before .before .before .pre .0 .ring) (c .before .before .before .before .before .before .before .before .before .pre .2) (c .before .before .before .before .before .before .before .before .before .pre .1) (c .if1 .taken)
+returns c = told-far-first _ _ _ _ _ _ _ _ _ _ _ _ _ (c .before .before .before .before .before .before .before .before .before .before .pre .0 .ring) (c .before .before .before .before .before .before .before .before .before .before .pre .2) (c .before .before .before .before .before .before .before .before .before .before .pre .1) (c .if1 .taken)
 
 shared-slice-read-if2 : tie.Need-shared-slice-read-if2
-shared-slice-read-if2 c = let A = c .before .before .before .before .before .before .before .before .before .before .args in
-    let P = c .before .before .before .before .before .before .before .before .before .before .pre in
+shared-slice-read-if2 c = let A = c .before .before .before .before .before .before .before .before .before .before .before .args in
+    let P = c .before .before .before .before .before .before .before .before .before .before .before .pre in
     omega (arith, col-1 0 (length (A .ends .now) / 4) (A .ends .now) (A .i), P .2 .ends-in .second (A .i) (P .1), P .2 .places)
 
 returns-2 : tie.Need-returns-2
-returns-2 c = told-far-second _ _ _ _ _ _ _ _ _ _ _ _ _ (c .before .before .before .before .before .before .before .before .before .before .before .pre .0 .ring) (c .before .before .before .before .before .before .before .before .before .before .before .pre .2) (c .before .before .before .before .before .before .before .before .before .before .before .pre .1) (c .if2 .taken)
+returns-2 c = told-far-second _ _ _ _ _ _ _ _ _ _ _ _ _ (c .before .before .before .before .before .before .before .before .before .before .before .before .pre .0 .ring) (c .before .before .before .before .before .before .before .before .before .before .before .before .pre .2) (c .before .before .before .before .before .before .before .before .before .before .before .before .pre .1) (c .if2 .taken)
 
 straddles-requires : tie.Need-straddles-requires
-straddles-requires c κs = (c .before .before .before .before .before .before .before .before .before .before .before .pre .0, c .before .before .before .before .before .before .before .before .before .before .before .pre .1)
+straddles-requires c κs = let P = c .before .before .before .before .before .before .before .before .before .before .before .before .pre in (P .0, P .1, P .2 .ends-in, P .3)
 
 returns-3 : tie.Need-returns-3
 returns-3 c = c .straddles .ensures

@@ -1,5 +1,5 @@
 -- `rewire::straddling::straddles` meets its contract: one test behind the other, in the order of the definition. Assumes nothing.
-use Rattle.rewire.proofs.StraddlerLaws.{told-element, told-first, told-second, told-joined, told-held}
+use Rattle.rewire.proofs.StraddlerLaws.{told-element, told-first, told-second, told-joined, told-held, held-room}
 use borrow.Author.Tests.{not-true, not-false}
 use mathlib.Core.Path.{sym, subst}
 use Prim.Native.Nat.{ℕ}
@@ -58,13 +58,13 @@ corners-per-requires : tie.Need-corners-per-requires
 corners-per-requires c κs = search needs
 
 parted-requires : tie.Need-parted-requires
-parted-requires c κs = let A = c .before .before .before .before .before .before .before .before .before .before .before .before .before .before .args in subst (λ (k : ℕ). RingRoom (A .n) k (length (A .verts .now)) (length (A .groups .now))) (sym (c .corners-per .ensures)) (c .before .before .before .before .before .before .before .before .before .before .before .before .before .before .pre .0 .ring)
+parted-requires c κs = let A = c .before .before .before .before .before .before .before .before .before .before .before .before .before .before .before .args in subst (λ (k : ℕ). RingRoom (A .n) k (length (A .verts .now)) (length (A .groups .now))) (sym (c .corners-per .ensures)) (c .before .before .before .before .before .before .before .before .before .before .before .before .before .before .before .pre .0 .ring)
 
 returns-4 : tie.Need-returns-4
 returns-4 c = told-joined _ _ _ _ _ _ _ _ _ _ _ _ (c .before .before .before .before .before .before .before .before .is-element .result) (c .before .before .before .before .before .before .before .before .is-element .ensures) (c .before .before .before .before .before .before .before .if1 .left) (c .before .before .before .before .before .before .is-copy .result) (c .before .before .before .before .before .before .is-copy .ensures) (c .before .before .before .before .before .if2 .left) (c .before .before .before .before .is-copy2 .result) (c .before .before .before .before .is-copy2 .ensures) (c .before .before .before .if3 .left) (c .before .before .corners-per .result) (c .before .before .corners-per .ensures) (c .before .parted .result) (c .before .parted .ensures) (not-true _ (c .if4 .taken))
 
 held-requires : tie.Need-held-requires
-held-requires c κs = (c .before .before .before .before .before .before .before .before .before .before .before .before .before .before .before .before .pre .0 .corners, c .before .before .before .before .before .before .before .before .before .before .before .before .before .before .before .before .pre .0 .ends)
+held-requires c κs = held-room _ _ _ _ _ _ _ _ _ _ (c .before .before .before .before .before .before .before .before .before .before .before .before .before .before .before .before .before .pre .0) (c .before .before .before .before .before .before .before .before .before .before .before .before .before .before .before .before .before .pre .1) (c .before .before .before .before .before .before .before .before .before .before .before .before .before .before .before .before .before .pre .2) (c .before .before .before .before .before .before .before .before .before .before .before .before .before .before .before .before .before .pre .3)
 
 returns-5 : tie.Need-returns-5
 returns-5 c = told-held _ _ _ _ _ _ _ _ _ _ _ _ (c .before .before .before .before .before .before .before .before .before .is-element .result) (c .before .before .before .before .before .before .before .before .before .is-element .ensures) (c .before .before .before .before .before .before .before .before .if1 .left) (c .before .before .before .before .before .before .before .is-copy .result) (c .before .before .before .before .before .before .before .is-copy .ensures) (c .before .before .before .before .before .before .if2 .left) (c .before .before .before .before .before .is-copy2 .result) (c .before .before .before .before .before .is-copy2 .ensures) (c .before .before .before .before .if3 .left) (c .before .before .before .corners-per .result) (c .before .before .before .corners-per .ensures) (c .before .before .parted .result) (c .before .before .parted .ensures) (not-false _ (c .before .if4 .left)) (c .held .result) (c .held .ensures)
