@@ -1,11 +1,13 @@
-//! The fan of a particle read from the table of links, beside the scan, and the table through runs of splits beside one that is built anew.
+//! The fan of a particle read from the table of links, beside the scan, and the tables of triangles and edges through runs of splits beside those that are built anew.
 //!   fans COUNT SEED      COUNT random meshes, each split some twelve times; a difference ends with 1
 //!   fans faults SEED     wrong tables are put in the place of the right one; each must be found
 //!   fans time            one fan by the table and by the scan, on grids of 8, 16 and 22 squares a side
 use std::time::Instant;
 
 unsafe extern "C" {
-    fn fans_build(t: usize, corners: *const usize, corners_len: usize, links: *mut u16, links_len: usize);
+    fn fans_build(
+        t: usize, e: usize, corners: *const usize, corners_len: usize, ends: *const usize, ends_len: usize, links: *mut u16, links_len: usize,
+    );
     fn fans_walk(
         v: usize, t: usize, corners: *const usize, corners_len: usize, volumes: *const f32, volumes_len: usize, links: *const u16, links_len: usize,
         numbers: *mut usize, numbers_len: usize, verts: *mut usize, verts_len: usize, measures: *mut f32, measures_len: usize,
@@ -34,9 +36,11 @@ impl Rng {
 }
 
 const HEADS: usize = 1024;
-const PLACES: usize = 4096;
+/// The table of the triangles, and where that of the edges starts; and both.
+const TRIANGLES: usize = 4096;
+const PLACES: usize = TRIANGLES + 1024 + 2 * 2048;
 
-/// The blocks of a mesh of triangles without edges. The columns of the corners may be longer than 1,024.
+/// The blocks of a mesh of triangles with edges that are no elements. The columns of the corners may be longer than 1,024.
 struct Blocks {
     counts: [usize; 5],
     points: Vec<f32>,
@@ -49,9 +53,9 @@ struct Blocks {
     log: Vec<u32>,
 }
 impl Blocks {
-    fn new(particles: usize, rows: &[[usize; 3]], size: usize) -> Blocks {
+    fn new(particles: usize, rows: &[[usize; 3]], edges: &[[usize; 2]], size: usize) -> Blocks {
         let mut b = Blocks {
-            counts: [particles, rows.len(), 0, 0, 0],
+            counts: [particles, rows.len(), edges.len(), 0, 0],
             points: vec![0.0; 8 * 1024],
             roots: vec![0; 2 * 1024],
             corners: vec![0; 3 * size],
@@ -78,12 +82,23 @@ impl Blocks {
             }
             b.volumes[i] = 0.5 + (i % 5) as f32;
         }
+        for (i, r) in edges.iter().enumerate() {
+            b.ends[i] = r[0];
+            b.ends[2048 + i] = r[1];
+            b.ends[2 * 2048 + i] = i % 2;
+            b.lengths[i] = 1.0 + (i % 7) as f32;
+            b.lengths[2048 + i] = 1.0;
+        }
         b
     }
     fn built(&self) -> Vec<u16> {
         let mut links = vec![65_535; PLACES];
-        // SAFETY: two runs apart from each other, each with its own length.
-        unsafe { fans_build(self.counts[1], self.corners.as_ptr(), self.corners.len(), links.as_mut_ptr(), links.len()) };
+        // SAFETY: runs apart from each other, each with its own length.
+        unsafe {
+            fans_build(
+                self.counts[1], self.counts[2], self.corners.as_ptr(), self.corners.len(), self.ends.as_ptr(), self.ends.len(), links.as_mut_ptr(), links.len(),
+            )
+        };
         links
     }
     /// Numbers, corners and measures of the fan of v.
@@ -148,7 +163,21 @@ fn mesh(r: &mut Rng) -> Blocks {
         rows[i].rotate_left(r.below(3));
     }
     let size = if r.below(4) == 0 { 1024 + r.below(40) } else { 1024 };
-    Blocks::new(particles, &rows, size)
+    // Sides of triangles, the far corners of two that share one, and any pairs, some of them twice.
+    let near = |r: &mut Rng| {
+        let t = rows[r.below(rows.len())];
+        let s = rows[r.below(rows.len())];
+        let a = t[r.below(3)];
+        let b = if r.below(3) == 0 { s[r.below(3)] } else { t[r.below(3)] };
+        [a, b]
+    };
+    let any = |r: &mut Rng| [r.below(particles), r.below(particles)];
+    let count = r.below(3 * particles);
+    let edges: Vec<[usize; 2]> = (0..count)
+        .map(|_| if rows.is_empty() || r.below(4) == 0 { any(r) } else { near(r) })
+        .filter(|e| e[0] != e[1])
+        .collect();
+    Blocks::new(particles, &rows, &edges, size)
 }
 
 /// How many fans of the blocks are read otherwise from the table than by the scan.
@@ -158,7 +187,7 @@ fn other_fans(b: &Blocks, links: &[u16]) -> usize {
 
 fn compare(count: usize, seed: u64) -> i32 {
     let mut r = Rng(seed * 2 + 1);
-    let (mut splits, mut fans, mut copies, mut wide) = (0, 0, 0, 0);
+    let (mut splits, mut fans, mut copies, mut wide, mut more, mut gone) = (0, 0, 0, 0, 0, 0);
     for case in 0..count {
         let mut b = mesh(&mut r);
         let mut links = b.built();
@@ -168,26 +197,46 @@ fn compare(count: usize, seed: u64) -> i32 {
             fans += b.counts[0];
             let fresh = b.built();
             if other != 0 || links != fresh {
-                println!("case {case}, step {step}: {other} fans are read otherwise, the table is {}", if links == fresh { "that of a fresh build" } else { "another" });
+                let told = |same: bool| if same { "that of a fresh build" } else { "another" };
+                println!(
+                    "case {case}, step {step}: {other} fans are read otherwise, the triangles' table is {}, the edges' {}",
+                    told(links[..TRIANGLES] == fresh[..TRIANGLES]),
+                    told(links[TRIANGLES..] == fresh[TRIANGLES..])
+                );
                 return 1;
             }
             let v = r.below(b.counts[0]);
             let mut sides: Vec<usize> = (0..2048).map(|_| r.below(2)).collect();
-            let before = b.counts[0];
+            let before = b.counts;
             if b.split(v, &mut sides, &mut links) != 0 {
                 break;
             }
-            splits += usize::from(b.counts[0] > before);
-            copies += b.counts[0] - before;
+            splits += usize::from(b.counts[0] > before[0]);
+            copies += b.counts[0] - before[0];
+            more += b.counts[2].saturating_sub(before[2]);
+            // A removed edge is an entry of kind 2.
+            gone += (before[4]..b.counts[4]).filter(|i| b.log[6 * i] == 2).count();
         }
     }
-    println!("{count} meshes ({wide} with longer columns), {splits} splits with {copies} copies: {fans} fans as the scan reads them, every table that of a fresh build");
-    i32::from(count > 0 && (splits == 0 || copies <= splits))
+    println!(
+        "{count} meshes ({wide} with longer columns), {splits} splits with {copies} copies; edges grew by {more}, {gone} went: {fans} fans as the scan reads them, every table that of a fresh build"
+    );
+    i32::from(count > 0 && (splits == 0 || copies <= splits || more == 0 || gone == 0))
 }
 
 /// Wrong tables: each must give another fan somewhere, or not be the one of a fresh build.
 fn faults(seed: u64) -> i32 {
-    let names = ["the copy's list not threaded", "the head of v left", "a list that falls", "one triangle left out", "the table of the mesh before"];
+    let names = [
+        "the copy's list not threaded",
+        "the head of v left",
+        "a list that falls",
+        "one triangle left out",
+        "the table of the mesh before",
+        "the edges at a copy not listed",
+        "the edges at v left",
+        "the edges' table of the mesh before",
+        "the last edge left out",
+    ];
     let mut status = 0;
     for (f, name) in names.iter().enumerate() {
         let mut r = Rng(seed * 2 + 1);
@@ -218,9 +267,19 @@ fn faults(seed: u64) -> i32 {
                     links = b.built();
                     b.counts[1] += 1;
                 }
-                _ => links = before.0,
+                4 => links = before.0,
+                5 => links[TRIANGLES + before.1] = 0,
+                6 => links[TRIANGLES + v] = before.0[TRIANGLES + v],
+                7 => links[TRIANGLES..].copy_from_slice(&before.0[TRIANGLES..]),
+                _ => {
+                    let Some(fewer) = b.counts[2].checked_sub(1) else { return false };
+                    b.counts[2] = fewer;
+                    links = b.built();
+                    b.counts[2] += 1;
+                }
             }
-            other_fans(&b, &links) != 0 && links != b.built()
+            // Fans are read from the triangles' table alone.
+            (f > 4 || other_fans(&b, &links) != 0) && links != b.built()
         });
         println!("{name}: {}", if found { "found" } else { "NOT FOUND" });
         status |= i32::from(!found);
@@ -243,7 +302,7 @@ fn time() -> i32 {
     println!("one fan, ns        by the table   by the scan   table / scan   the table built, us");
     for n in [8, 16, 22] {
         let (particles, rows) = grid(n);
-        let b = Blocks::new(particles, &rows, 1024);
+        let b = Blocks::new(particles, &rows, &[], 1024);
         let links = b.built();
         let (mut numbers, mut verts, mut measures) = (vec![0; 2048], vec![0; 4096], vec![0.0; 2048]);
         let mut held = 0;

@@ -1,5 +1,5 @@
 -- Laws of a whole crack: what a worker leaves is ready for the next, a crack keeps the number of triangles, the torn edges come one behind the other, and the end comes behind them all. Assumes nothing.
-use Prim.Native.Nat.{ℕ, _+_, _/_, _<_, _≤_}
+use Prim.Native.Nat.{ℕ, _+_, _-_, _/_, _<_, _≤_}
 use native.Mathlib.Omega.{arith}
 use mathlib.Core.Path.{_≡_, refl, sym, ap, _∙_, subst}
 use mathlib.Core.Bool.{Bool, true, false, not}
@@ -15,6 +15,7 @@ use Rattle.lists.specs.Lists.{pick, sift, fold, empty}
 use Rattle.lists.proofs.Sifts.{pick-by, sift-append, fold-append}
 use Rattle.lists.proofs.Stores.{at-eq, tab-at, tab-length}
 use Rattle.columns.specs.Block.{cell}
+use Rattle.columns.proofs.Cells.{col-0, col-1}
 use Rattle.model.specs.Mesh.{Mesh, Triangle, Edge, blankEdge}
 use Rattle.model.specs.Elements.{Kind, Triangles, Straps, Nothing, edgeAt}
 use Rattle.model.specs.Valid.{indicesFit}
@@ -42,7 +43,7 @@ use Rattle.work.specs.declared.Ran.the-variants.{Refused, Done}
 use Rattle.work.proofs.Placed.{corners-in, ends-in, sides-in}
 use Rattle.work.proofs.Runs.{works-stay, works-as, works-then, works-refused, works-known}
 use Rattle.tear.specs.Loads.{LoadsRead}
-use Rattle.crack.specs.Bodies.{EndsKept, endsListed, CracksTold, crackTurns, crackEnd}
+use Rattle.crack.specs.Bodies.{NarrowRoom, EndsRoom, EndsKept, endsListed, CracksTold, crackTurns, crackEnd}
 use Rattle.lists.proofs.Truths.{of-not, of-not-false}
 
 -- ---- what a worker leaves is ready for the next
@@ -145,7 +146,23 @@ copied-at o n e s t same fits h i l =
     let long : length (take n (drop o s)) ≡ n = length-take-le n (drop o s) (omega (arith, length-drop o s)) in
     sym (getD-take (length (take n (drop o s))) t i 0 (omega arith)) ∙ ap (λ (x : List ℕ). getD x i 0) h ∙ getD-take n (drop o s) i 0 (omega arith) ∙ getD-drop o s i 0
 
--- the first two columns of the ends
+-- a part of a column whose numbers are below 1,024 fits 16 bits
+part-narrow : (o n e : ℕ) (s : List ℕ) (ld : ℕ) → n ≡ e → o + e ≤ length s → e ≤ ld → ((i : ℕ) → i < e → getD s (o + i) 0 < 1024) → NarrowRoom (take n (drop o s)) ld
+part-narrow o n e s ld same fits room few =
+    let long : length (take n (drop o s)) ≡ n = length-take-le n (drop o s) (omega (arith, length-drop o s)) in
+    record {
+      places = omega arith;
+      fits = λ i l. let at : getD (take n (drop o s)) i 0 ≡ getD s (o + i) 0 = getD-take n (drop o s) i 0 (omega arith) ∙ getD-drop o s i 0 in omega (arith, few i (omega arith));
+    }
+
+-- the first two columns of the ends fit, and are kept
+module _ (e : ℕ) (ends : List ℕ) (lf lt : ℕ) (P : EndsRoom e ends lf lt) where
+  pub first-narrow : NarrowRoom (take e ends) lf
+  first-narrow = part-narrow 0 e e ends lf refl (omega (arith, P .inside)) (P .first) (λ i l. subst (λ (x : ℕ). x < 1024) (col-0 0 (length ends / 4) ends i ∙ at-eq ends (omega arith)) (P .below .first i l))
+
+  pub second-narrow : NarrowRoom (take (length ends / 4 + e - length ends / 4) (drop (length ends / 4) ends)) lt
+  second-narrow = part-narrow (length ends / 4) (length ends / 4 + e - length ends / 4) e ends lt (omega arith) (omega (arith, P .inside)) (P .second) (λ i l. subst (λ (x : ℕ). x < 1024) (col-1 0 (length ends / 4) ends i) (P .below .second i l))
+
 pub columns-kept : (e n : ℕ) (ends from to : List ℕ) → e ≤ length ends / 4 → n ≡ e → take (length (take e ends)) from ≡ take e ends → take (length (take n (drop (length ends / 4) ends))) to ≡ take n (drop (length ends / 4) ends)
     → EndsKept e ends from to
 unfolding cell

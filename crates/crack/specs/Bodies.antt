@@ -16,14 +16,21 @@ use Rattle.mesh.specs.Log.{World}
 use Rattle.mesh.specs.declared.Counts.{Counts}
 use Rattle.mesh.specs.declared.Rooms.{Rooms}
 use Rattle.work.specs.Working.{Works, Logged}
+use Rattle.work.specs.Places.{EndsIn}
 use Rattle.work.specs.declared.Ran.{Ran}
 use Rattle.tear.specs.Tried.{LoadsLong}
 
 -- ---- the ends of the torn edges in the input
 
--- e edges stand in their block, and have room in two tables
-pub record EndsRoom (e le lf lt : ℕ) : Type 0 where
-  pub ends : e ≤ le / 4
+-- what is asked where numbers go into a table of 16 bits each: they fit, and have their places
+pub record NarrowRoom (src : List ℕ) (ld : ℕ) : Type 0 where
+  pub places : length src ≤ ld
+  pub fits : (i : ℕ) → i < length src → getD src i 0 < 65536
+
+-- e edges stand in their block, their ends are below 1,024, and they have room in two tables
+pub record EndsRoom (e : ℕ) (ends : List ℕ) (lf lt : ℕ) : Type 0 where
+  pub inside : e ≤ length ends / 4
+  pub below : EndsIn 1024 e ends
   pub first : e ≤ lf
   pub second : e ≤ lt
 

@@ -1,12 +1,12 @@
 // The crack of a whole body: the torn edges of the input in turn, and what comes behind them.
 ghost use mathlib.Core.Path.{_≡_};
 ghost use mathlib.Core.List.{[], _∷_};
-ghost use lib.ListN.{length};
+ghost use lib.ListN.{length, take};
 ghost use Rattle.elements.specs.Table.{kindIs};
 ghost use Rattle.links.specs.Linked.{LinkedIn};
 ghost use Rattle.model.specs.Crack.{crack};
 ghost use Rattle.work.specs.Working.{Logged};
-ghost use Rattle.crack.specs.Bodies.{EndsRoom, EndsKept, endsListed, CracksRoom, CracksTold, crackTurns, crackEnd};
+ghost use Rattle.crack.specs.Bodies.{NarrowRoom, EndsRoom, EndsKept, endsListed, CracksRoom, CracksTold, crackTurns, crackEnd};
 ghost use Rattle.mesh.specs.Blocks.{worldBefore, worldBehind};
 ghost use Rattle.work.specs.Blocks.{ReadyIn, WorksIn};
 ghost use Rattle.split.specs.Blocks.{LinkedBehind};
@@ -16,15 +16,27 @@ use mesh::Rooms;
 use strap_cut::kinds::Pass;
 use work::Ran;
 
+// Copies numbers that fit 16 bits to the front of a table of such.
+fn narrow(src: &[usize], dst: &mut [u16])
+    requires { ⌜ NarrowRoom (now src) (length (now dst)) ⌝ }
+    ensures { λ _. ⌜ take (length (now (src .entry))) (now (dst .exit)) ≡ now (src .entry) ⌝ }
+{
+    let mut i: usize = 0;
+    while i < src.len() {
+        dst[i] = src[i] as u16;
+        i += 1;
+    }
+}
+
 // Keeps the ends of the first e edges in two tables, as a crack changes their block.
-fn keep_ends(e: usize, ends: &[usize], from: &mut [usize], to: &mut [usize])
-    requires { ⌜ EndsRoom e (length (now ends)) (length (now from)) (length (now to)) ⌝ }
+fn keep_ends(e: usize, ends: &[usize], from: &mut [u16], to: &mut [u16])
+    requires { ⌜ EndsRoom e (now ends) (length (now from)) (length (now to)) ⌝ }
     ensures { λ _. ⌜ EndsKept e (now (ends .entry)) (now (from .exit)) (now (to .exit)) ⌝ }
 {
     let size = ends.len() / 4;
     let last = size + e;
-    columns::copy_usize(&ends[..e], from);
-    columns::copy_usize(&ends[size..last], to);
+    narrow(&ends[..e], from);
+    narrow(&ends[size..last], to);
 }
 
 // Cracks torn edge number `number` of the input by its ends there; a number not below e is skipped.
@@ -33,8 +45,8 @@ fn crack_numbered(
     minimum: usize,
     number: usize,
     e: usize,
-    from: &[usize],
-    to: &[usize],
+    from: &[u16],
+    to: &[u16],
     loads: &[f32],
     k: Counts,
     room: Rooms,
@@ -49,10 +61,10 @@ fn crack_numbered(
     links: &mut [u16],
 ) -> Ran
     requires { ⌜ (let K = kindIs kind in ReadyIn room k points roots corners volumes ends lengths outline log
-        × CracksRoom K e (now from) (now to) k (length (now loads)) (now log) × LinkedIn K k corners links) ⌝ }
+        × CracksRoom K e (now from) (now to) k (length (now loads)) (now log) × LinkedIn K k corners ends links) ⌝ }
     ensures { λ r. ⌜ (let K = kindIs kind in CracksTold K minimum (k .triangles) (endsListed e (now (from .entry)) (now (to .entry)) (number
         ∷ [])) (now (loads .entry)) room (worldBefore k points roots corners volumes ends lengths outline log)
-        (λ q. worldBehind q points roots corners volumes ends lengths outline log) r × LinkedBehind K corners links r) ⌝ }
+        (λ q. worldBehind q points roots corners volumes ends lengths outline log) r × LinkedBehind K corners ends links r) ⌝ }
 {
     if number >= e {
         return Ran::Done(k);
@@ -60,8 +72,8 @@ fn crack_numbered(
     tornedge::crack_edge(
         kind,
         minimum,
-        from[number],
-        to[number],
+        from[number] as usize,
+        to[number] as usize,
         loads,
         k,
         room,
@@ -83,8 +95,8 @@ fn crack_listed(
     minimum: usize,
     torn: &[usize],
     e: usize,
-    from: &[usize],
-    to: &[usize],
+    from: &[u16],
+    to: &[u16],
     loads: &[f32],
     k: Counts,
     room: Rooms,
@@ -99,7 +111,7 @@ fn crack_listed(
     links: &mut [u16],
 ) -> Ran
     requires { ⌜ (let K = kindIs kind in ReadyIn room k points roots corners volumes ends lengths outline log
-        × CracksRoom K e (now from) (now to) k (length (now loads)) (now log) × LinkedIn K k corners links) ⌝ }
+        × CracksRoom K e (now from) (now to) k (length (now loads)) (now log) × LinkedIn K k corners ends links) ⌝ }
     ensures { λ r. ⌜ CracksTold (kindIs kind) minimum (k .triangles) (endsListed e (now (from .entry)) (now (to .entry))
         (now (torn .entry))) (now (loads .entry)) room (worldBefore k points roots corners volumes ends lengths outline log)
         (λ q. worldBehind q points roots corners volumes ends lengths outline log) r ⌝ }
@@ -159,8 +171,9 @@ fn crack_torn(
     if torn.len() == 0 {
         return Ran::Done(k);
     }
-    let mut from = [k.edges; 2048];
-    let mut to = [0usize; 2048];
+    let none = k.edges as u16;
+    let mut from = [none; 2048];
+    let mut to = [0u16; 2048];
     let mut loads = [0.0f32; 1024];
     tear::loads::read_loads(
         k.triangles,
@@ -174,8 +187,8 @@ fn crack_torn(
         &mut loads,
     );
     keep_ends(k.edges, ends, &mut from, &mut to);
-    let mut links = [0u16; 4096];
-    links::link_mesh(kind, k.triangles, corners, &mut links);
+    let mut links = [0u16; 9216];
+    links::link_mesh(kind, k.triangles, k.edges, corners, ends, &mut links);
     crack_listed(
         kind,
         minimum,

@@ -73,9 +73,9 @@ pub fn split_one(
     links: &mut [u16],
 ) -> Ran
     requires { ⌜ ReadyIn room k points roots corners volumes ends lengths outline log × (v < k .particles)
-        × TablesIn numbers verts measures sides groups × LinkedIn (kindIs kind) k corners links ⌝ }
+        × TablesIn numbers verts measures sides groups × LinkedIn (kindIs kind) k corners ends links ⌝ }
     ensures { λ r. ⌜ (let K = kindIs kind in WorksIn (λ R. splitIn way K R v) room k points roots corners volumes ends lengths outline log r
-        × LinkedBehind K corners links r) ⌝ }
+        × LinkedBehind K corners ends links r) ⌝ }
 {
     let n = split::fans::fan_tables(
         kind,
@@ -139,9 +139,9 @@ pub fn split_marked(
     links: &mut [u16],
 ) -> Ran
     requires { ⌜ ReadyIn room k points roots corners volumes ends lengths outline log × Chosen p k (now log) (length (now marks))
-        × TablesIn numbers verts measures sides groups × LinkedIn (kindIs kind) k corners links ⌝ }
+        × TablesIn numbers verts measures sides groups × LinkedIn (kindIs kind) k corners ends links ⌝ }
     ensures { λ r. ⌜ (let K = kindIs kind in WorksIn (λ R. fold (splitIn way K) R (chosen p (now (marks .entry)))) room k points roots
-        corners volumes ends lengths outline log r × LinkedBehind K corners links r) ⌝ }
+        corners volumes ends lengths outline log r × LinkedBehind K corners ends links r) ⌝ }
 {
     let mut counts = k;
     let mut v: usize = 0;
@@ -201,9 +201,9 @@ pub fn split_pinched(
     links: &mut [u16],
 ) -> Ran
     requires { ⌜ ReadyIn room k points roots corners volumes ends lengths outline log × Logged (k .log) (now log)
-        × (1024 ≤ length (now marks)) × TablesIn numbers verts measures sides groups × LinkedIn Triangles k corners links ⌝ }
+        × (1024 ≤ length (now marks)) × TablesIn numbers verts measures sides groups × LinkedIn Triangles k corners ends links ⌝ }
     ensures { λ r. ⌜ WorksIn (splitPinched Triangles) room k points roots corners volumes ends lengths outline log r
-        × LinkedBehind Triangles corners links r ⌝ }
+        × LinkedBehind Triangles corners ends links r ⌝ }
 {
     particles::mark_near(k.log, log, groups);
     particles::mark_pinched(k.triangles, corners, groups, marks);
@@ -255,9 +255,9 @@ pub fn cut_facets(
     links: &mut [u16],
 ) -> Ran
     requires { ⌜ ReadyIn room k points roots corners volumes ends lengths outline log × Logged (k .log) (now log)
-        × (1024 ≤ length (now marks)) × TablesIn numbers verts measures sides groups × LinkedIn Triangles k corners links ⌝ }
+        × (1024 ≤ length (now marks)) × TablesIn numbers verts measures sides groups × LinkedIn Triangles k corners ends links ⌝ }
     ensures { λ r. ⌜ WorksIn (cutFacets (bladeBy rule b0 b1)) room k points roots corners volumes ends lengths outline log r
-        × LinkedBehind Triangles corners links r ⌝ }
+        × LinkedBehind Triangles corners ends links r ⌝ }
 {
     particles::mark_candidates(rule, b0, b1, k.triangles, points, corners, marks);
     let ran = split_marked(

@@ -7,7 +7,8 @@ ghost use Rattle.fan.specs.Fan.{fan, sharedOthers, nearTest};
 ghost use Rattle.fan.specs.Calls.{Fits, Counted};
 ghost use Rattle.fan.specs.Parts.{Turning, Turns};
 ghost use Rattle.fan.specs.Sides.{groupsOn, Sided};
-ghost use Rattle.fan.specs.Spread.{Reached, Reaching, Onward, Next, Settled, Spread};
+ghost use Rattle.fan.specs.Spread.{besideTest, Reached, Reaching, Touching, Onward, Next, Settled, Spread};
+ghost use Rattle.fan.specs.Corners.{LinkedFrom, Lent, Holds};
 
 // Does x stand in b?
 pub fn stands_in(x: usize, b: &[usize]) -> bool
@@ -130,8 +131,28 @@ fn reach_above(
     }
 }
 
-// Spreads the label from a, which has it: each untouched neighbour is reached, and a is marked as spread.
-fn spread_from(
+// Are the two elements neighbours, in whichever order?
+fn beside(
+    verts: &[usize],
+    k: usize,
+    v: usize,
+    needed: usize,
+    sides: &[usize],
+    a: usize,
+    j: usize,
+) -> bool
+    requires { ⌜ length (now verts) ≡ length (now sides) * k ⌝ }
+    requires { ⌜ (a < length (now sides)) × (j < length (now sides)) ⌝ }
+    ensures { λ r. ⌜ r ≡ besideTest (fan (now (verts .entry)) k v needed (now (sides .entry))) a j ⌝ }
+{
+    if a < j {
+        return near(verts, k, v, needed, sides, a, j);
+    }
+    near(verts, k, v, needed, sides, j, a)
+}
+
+// Reaches j, where it is an untouched neighbour of a, which has the label. (None is as low as the label.)
+fn reach_one(
     verts: &[usize],
     k: usize,
     v: usize,
@@ -139,14 +160,146 @@ fn spread_from(
     sides: &[usize],
     label: usize,
     a: usize,
+    j: usize,
     table: &mut [usize],
 )
-    requires { ⌜ length (now verts) ≡ length (now sides) * k ⌝ }
+    requires { ⌜ (length (now verts) ≡ length (now sides) * k) × (j < length (now sides)) ⌝ }
+    requires { ⌜ Reached (fan (now verts) k v needed (now sides)) label a (now table) ⌝ }
+    ensures { λ _. ⌜ Touching (fan (now (verts .entry)) k v needed (now (sides .entry))) label a (now (table .entry)) (now (table .exit))
+        (λ b. b ≡ j) ⌝ }
+{
+    if label < j {
+        if table[j] == j {
+            if beside(verts, k, v, needed, sides, a, j) {
+                table[j] = label;
+            }
+        }
+    }
+}
+
+// The same number in more bits.
+fn wide(x: u16) -> usize
+    ensures { λ r. ⌜ r ≡ x ⌝ }
+{
+    x as usize
+}
+
+// Links the corners' places in chains, by the last six bits of their particles: heads[b] is the first place of chain b, nexts[p] the one behind p in its chain.
+// A number that is no place ends a chain. The last place is linked first, so that a chain rises.
+fn link_corners(verts: &[usize], heads: &mut [u16], nexts: &mut [u16])
+    requires { ⌜ LinkedFrom (now verts) (now heads) (now nexts) (length (now verts)) ⌝ }
+    ensures { λ _. ⌜ LinkedFrom (now (verts .entry)) (now (heads .exit)) (now (nexts .exit)) 0 ⌝ }
+{
+    let mut p = verts.len();
+    while 0 < p {
+        p -= 1;
+        let b = verts[p] % 64;
+        nexts[p] = heads[b];
+        heads[b] = p as u16;
+    }
+}
+
+// Reaches the untouched neighbours of a that hold the particle x, along its chain.
+fn reach_holders(
+    verts: &[usize],
+    k: usize,
+    v: usize,
+    needed: usize,
+    sides: &[usize],
+    heads: &[u16],
+    nexts: &[u16],
+    label: usize,
+    a: usize,
+    x: usize,
+    table: &mut [usize],
+)
+    requires { ⌜ (length (now verts) ≡ length (now sides) * k) × LinkedFrom (now verts) (now heads) (now nexts) 0 ⌝ }
+    requires { ⌜ Reached (fan (now verts) k v needed (now sides)) label a (now table) ⌝ }
+    ensures { λ _. ⌜ Touching (fan (now (verts .entry)) k v needed (now (sides .entry))) label a (now (table .entry)) (now (table .exit))
+        (Holds (fan (now (verts .entry)) k v needed (now (sides .entry))) x (length (now (verts .entry)))) ⌝ }
+{
+    let mut p = wide(heads[x % 64]);
+    while p < verts.len() {
+        if verts[p] == x {
+            reach_one(verts, k, v, needed, sides, label, a, p / k, table);
+        }
+        p = wide(nexts[p]);
+    }
+}
+
+// Reaches the untouched neighbours of a, which has the label: each of them holds a particle of a besides v.
+fn reach_linked(
+    verts: &[usize],
+    k: usize,
+    v: usize,
+    needed: usize,
+    sides: &[usize],
+    heads: &[u16],
+    nexts: &[u16],
+    label: usize,
+    a: usize,
+    table: &mut [usize],
+)
+    requires { ⌜ (length (now verts) ≡ length (now sides) * k) × LinkedFrom (now verts) (now heads) (now nexts) 0 × (0 < needed) ⌝ }
+    requires { ⌜ Reached (fan (now verts) k v needed (now sides)) label a (now table) ⌝ }
+    ensures { λ _. ⌜ Reaching (fan (now (verts .entry)) k v needed (now (sides .entry))) label a (now (table .entry)) (now (table .exit))
+        (length (now (sides .entry))) ⌝ }
+{
+    let mut p = a * k;
+    let end = p + k;
+    while p < end {
+        let x = verts[p];
+        if x != v {
+            reach_holders(verts, k, v, needed, sides, heads, nexts, label, a, x, table);
+        }
+        p += 1;
+    }
+}
+
+// Reaches the untouched neighbours of a: along chains where corners are linked, else among all elements.
+fn reach_all(
+    verts: &[usize],
+    k: usize,
+    v: usize,
+    needed: usize,
+    sides: &[usize],
+    heads: &[u16],
+    nexts: &[u16],
+    label: usize,
+    a: usize,
+    table: &mut [usize],
+)
+    requires { ⌜ (length (now verts) ≡ length (now sides) * k) × Lent (fan (now verts) k v needed (now sides)) (now heads) (now nexts) ⌝ }
+    requires { ⌜ Reached (fan (now verts) k v needed (now sides)) label a (now table) ⌝ }
+    ensures { λ _. ⌜ Reaching (fan (now (verts .entry)) k v needed (now (sides .entry))) label a (now (table .entry)) (now (table .exit))
+        (length (now (sides .entry))) ⌝ }
+{
+    if heads.len() == 64 {
+        reach_linked(verts, k, v, needed, sides, heads, nexts, label, a, table);
+    } else {
+        reach_below(verts, k, v, needed, sides, label, a, table);
+        reach_above(verts, k, v, needed, sides, label, a, table);
+    }
+}
+
+// Spreads the label from a, which has it: each untouched neighbour is reached, and a is marked as spread.
+fn spread_from(
+    verts: &[usize],
+    k: usize,
+    v: usize,
+    needed: usize,
+    sides: &[usize],
+    heads: &[u16],
+    nexts: &[u16],
+    label: usize,
+    a: usize,
+    table: &mut [usize],
+)
+    requires { ⌜ (length (now verts) ≡ length (now sides) * k) × Lent (fan (now verts) k v needed (now sides)) (now heads) (now nexts) ⌝ }
     requires { ⌜ Reached (fan (now verts) k v needed (now sides)) label a (now table) ⌝ }
     ensures { λ _. ⌜ Onward (fan (now (verts .entry)) k v needed (now (sides .entry))) label a (now (table .entry)) (now (table .exit)) ⌝ }
 {
-    reach_below(verts, k, v, needed, sides, label, a, table);
-    reach_above(verts, k, v, needed, sides, label, a, table);
+    reach_all(verts, k, v, needed, sides, heads, nexts, label, a, table);
     table[a] = label + sides.len();
 }
 
@@ -172,17 +325,19 @@ fn spread_label(
     v: usize,
     needed: usize,
     sides: &[usize],
+    heads: &[u16],
+    nexts: &[u16],
     label: usize,
     table: &mut [usize],
 )
-    requires { ⌜ length (now verts) ≡ length (now sides) * k ⌝ }
+    requires { ⌜ (length (now verts) ≡ length (now sides) * k) × Lent (fan (now verts) k v needed (now sides)) (now heads) (now nexts) ⌝ }
     requires { ⌜ Settled (fan (now verts) k v needed (now sides)) label (now table) ⌝ }
     requires { ⌜ (label < length (now sides)) × (getD (now table) label 0 ≡ label) ⌝ }
     ensures { λ _. ⌜ Settled (fan (now (verts .entry)) k v needed (now (sides .entry))) (label + 1) (now (table .exit)) ⌝ }
 {
     let mut a = label;
     while a < sides.len() {
-        spread_from(verts, k, v, needed, sides, label, a, table);
+        spread_from(verts, k, v, needed, sides, heads, nexts, label, a, table);
         a = next_reached(table, label);
     }
 }
@@ -194,19 +349,77 @@ fn spread_all(
     v: usize,
     needed: usize,
     sides: &[usize],
+    heads: &[u16],
+    nexts: &[u16],
     table: &mut [usize],
 )
     requires { ⌜ (length (now verts) ≡ length (now sides) * k) × (length (now table) ≡ length (now sides)) ⌝ }
+    requires { ⌜ Lent (fan (now verts) k v needed (now sides)) (now heads) (now nexts) ⌝ }
     ensures { λ _. ⌜ Spread (fan (now (verts .entry)) k v needed (now (sides .entry))) (now (table .exit)) ⌝ }
 {
     own_numbers(table);
     let mut i = 0;
     while i < sides.len() {
         if table[i] == i {
-            spread_label(verts, k, v, needed, sides, i, table);
+            spread_label(verts, k, v, needed, sides, heads, nexts, i, table);
         }
         i += 1;
     }
+}
+
+// Spreads all labels where no corner is linked: there are not as many heads as chains.
+fn spread_few(
+    verts: &[usize],
+    k: usize,
+    v: usize,
+    needed: usize,
+    sides: &[usize],
+    table: &mut [usize],
+)
+    requires { ⌜ (length (now verts) ≡ length (now sides) * k) × (length (now table) ≡ length (now sides)) × (0 < needed) ⌝ }
+    ensures { λ _. ⌜ Spread (fan (now (verts .entry)) k v needed (now (sides .entry))) (now (table .exit)) ⌝ }
+{
+    let none = [0u16; 1];
+    spread_all(verts, k, v, needed, sides, &none, &none, table);
+}
+
+// Spreads all labels along chains of corners.
+fn spread_many(
+    verts: &[usize],
+    k: usize,
+    v: usize,
+    needed: usize,
+    sides: &[usize],
+    table: &mut [usize],
+)
+    requires { ⌜ (length (now verts) ≡ length (now sides) * k) × (length (now table) ≡ length (now sides)) × (0 < needed) × (length (now verts) ≤ 4096) ⌝ }
+    ensures { λ _. ⌜ Spread (fan (now (verts .entry)) k v needed (now (sides .entry))) (now (table .exit)) ⌝ }
+{
+    let mut heads = [4096u16; 64];
+    let mut nexts = [0u16; 4096];
+    link_corners(verts, &mut heads, &mut nexts);
+    spread_all(verts, k, v, needed, sides, &heads, &nexts, table);
+}
+
+// Spreads all labels. To link corners pays in a large fan only.
+fn spread_labels(
+    verts: &[usize],
+    k: usize,
+    v: usize,
+    needed: usize,
+    sides: &[usize],
+    table: &mut [usize],
+)
+    requires { ⌜ (length (now verts) ≡ length (now sides) * k) × (length (now table) ≡ length (now sides)) × (0 < needed) ⌝ }
+    ensures { λ _. ⌜ Spread (fan (now (verts .entry)) k v needed (now (sides .entry))) (now (table .exit)) ⌝ }
+{
+    if 32 < sides.len() {
+        if verts.len() <= 4096 {
+            spread_many(verts, k, v, needed, sides, table);
+            return;
+        }
+    }
+    spread_few(verts, k, v, needed, sides, table);
 }
 
 // Numbers the elements of one side, from a count. An element still to be numbered has its label plus the number of elements in its place; one that is its
@@ -276,7 +489,7 @@ pub fn groups_of(
     if needed == 0 {
         return groups_by_side(sides, groups);
     }
-    spread_all(verts, k, v, needed, sides, groups);
+    spread_labels(verts, k, v, needed, sides, groups);
     let low = number_side(sides, 0, 0, groups);
     number_side(sides, 1, low, groups)
 }

@@ -12,9 +12,9 @@ use Rattle.lists.proofs.Sifts.{all-tab, stands-made}
 use Rattle.lists.proofs.Stores.{tab-length, tab-at}
 use Rattle.columns.specs.Block.{cell}
 use Rattle.model.specs.Elements.{Kind, Triangles, Straps, Nothing}
-use Rattle.model.specs.Valid.{named, cornersOk}
+use Rattle.model.specs.Valid.{named, cornersOk, endsOk}
 use Rattle.model.proofs.Kept.{named-first}
-use Rattle.mesh.specs.At.{trianglesAt}
+use Rattle.mesh.specs.At.{trianglesAt, edgesAt}
 use Rattle.links.specs.Links.{LinksOf}
 use Rattle.links.specs.Rooms.{CornersApart, BuildRoom}
 use Rattle.links.specs.Linked.{Linked, Linkable}
@@ -44,6 +44,15 @@ corners-apart n t C W e =
     record {
       below = λ c i hc hi. named-below n 3 (λ j. cell 0 (length C / 3) C j i) (all-tab (cornersOk n) t _ e i hi) c hc;
       apart = λ b c i l hc hi q. named-apart n 3 (λ j. cell 0 (length C / 3) C j i) (all-tab (cornersOk n) t _ e i hi) b c l hc q;
+    }
+
+-- and so can that of its edges
+pub ends-apart : (n e : ℕ) (E : List ℕ) (W : List Float) → all (endsOk n) (edgesAt e E W) ≡ true → CornersApart n 2 e (cell 0 (length E / 4) E)
+unfolding endsOk edgesAt tab
+ends-apart n e E W q =
+    record {
+      below = λ c i hc hi. named-below n 2 (λ j. cell 0 (length E / 4) E j i) (all-tab (endsOk n) e _ q i hi) c hc;
+      apart = λ b c i l hc hi. named-apart n 2 (λ j. cell 0 (length E / 4) E j i) (all-tab (endsOk n) e _ q i hi) b c l hc;
     }
 
 -- more particles do no harm

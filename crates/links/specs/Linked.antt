@@ -1,9 +1,9 @@
--- The tables that a call keeps beside the lent blocks. That of the triangles has 1,024 heads, and behind them three columns of 1,024 links; straps have none.
--- That of the edges has 1,024 heads, and behind them two columns of 2,048 links. Definitions only.
+-- The tables that a call keeps beside the lent blocks, one behind the other. That of the triangles has 1,024 heads, and behind them three columns of 1,024 links; straps have none.
+-- That of the edges starts at place 4,096: it has 1,024 heads, and behind them two columns of 2,048 links. Definitions only.
 use Prim.Native.Nat.{ℕ, _/_, _≤_}
 use mathlib.Core.Path.{_≡_}
 use mathlib.Core.List.{List}
-use lib.ListN.{length}
+use lib.ListN.{length, drop}
 use Rattle.columns.specs.Block.{cell}
 use Rattle.model.specs.Elements.{Kind, Triangles}
 use Rattle.links.specs.Links.{LinksOf}
@@ -39,6 +39,20 @@ pub record EdgesLinkable (e : ℕ) (ends : List ℕ) (lt : ℕ) : Type 0 where
   pub rows : e ≤ length ends / 4
   pub apart : CornersApart 1024 2 e (cell 0 (length ends / 4) ends)
 
--- `Linked` of a block and a table, as a contract names them
-abbrev pub LinkedIn : Kind → Counts → IndicesIn → IndicesIn → Type 0
-LinkedIn K k corners links = Linked K (k .triangles) (now corners) (now links)
+-- ---- both
+
+-- the table of a call: that of the triangles, and behind it that of the edges
+pub record MeshLinked (K : Kind) (t e : ℕ) (corners ends links : List ℕ) : Type 0 where
+  pub long : 9216 ≤ length links
+  pub triangles : Linked K t corners links
+  pub edges : EdgesLinked e ends (drop 4096 links)
+
+-- such a table can be built in lt places
+pub record MeshLinkable (K : Kind) (t e : ℕ) (corners ends : List ℕ) (lt : ℕ) : Type 0 where
+  pub long : 9216 ≤ lt
+  pub triangles : Linkable K t corners 4096
+  pub edges : EdgesLinkable e ends 5120
+
+-- `MeshLinked` of blocks and a table, as a contract names them
+abbrev pub LinkedIn : Kind → Counts → IndicesIn → IndicesIn → IndicesIn → Type 0
+LinkedIn K k corners ends links = MeshLinked K (k .triangles) (k .edges) (now corners) (now ends) (now links)

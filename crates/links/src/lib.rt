@@ -11,7 +11,7 @@ ghost use Rattle.mesh.specs.At.{trianglesAt};
 ghost use Rattle.elements.specs.Table.{Tabled, holding, kindIs};
 ghost use Rattle.links.specs.Links.{LinksOf, cornerAfter, cornerMoved, cornerGone, cornerDropped, lessOne};
 ghost use Rattle.links.specs.Rooms.{BuildRoom, RowLent, RowRead, LinkRead, CellLinked, ColumnOf, Cleared, FirstIs, NextIs, FanLinked, SplitRoom, ListRoom, CellsListed, SlotRoom, SlotOf, ChainRoom, CellPut, CellTaken, AppendRoom, MoveRoom, DropRoom, RaiseRoom, LinksRaised, NumbersLowered};
-ghost use Rattle.links.specs.Linked.{Linked, Linkable, EdgesLinked, EdgesLinkable};
+ghost use Rattle.links.specs.Linked.{Linked, Linkable, EdgesLinked, EdgesLinkable, MeshLinked, MeshLinkable};
 use elements::Kind;
 
 // Puts 0 into every place of a table.
@@ -74,7 +74,7 @@ pub fn build_links(
 }
 
 // Builds the table of t triangles, where the elements are triangles.
-pub fn link_mesh(kind: Kind, t: usize, corners: &[usize], links: &mut [u16])
+fn link_triangles(kind: Kind, t: usize, corners: &[usize], links: &mut [u16])
     requires { ⌜ Linkable (kindIs kind) t (now corners) (length (now links)) ⌝ }
     ensures { λ _. ⌜ Linked (kindIs kind) t (now (corners .entry)) (now (links .exit)) ⌝ }
 {
@@ -95,6 +95,22 @@ pub fn link_edges(e: usize, ends: &[usize], table: &mut [u16])
 {
     let rows = ends.len() / 4;
     build_links(e, 2, 1024, 2048, rows, ends, table);
+}
+
+// Builds the tables of t triangles and of e edges, one behind the other.
+pub fn link_mesh(
+    kind: Kind,
+    t: usize,
+    e: usize,
+    corners: &[usize],
+    ends: &[usize],
+    links: &mut [u16],
+)
+    requires { ⌜ MeshLinkable (kindIs kind) t e (now corners) (now ends) (length (now links)) ⌝ }
+    ensures { λ _. ⌜ MeshLinked (kindIs kind) t e (now (corners .entry)) (now (ends .entry)) (now (links .exit)) ⌝ }
+{
+    link_triangles(kind, t, corners, &mut links[..4096]);
+    link_edges(e, ends, &mut links[4096..]);
 }
 
 // The column of v among the corners of cell i, which holds it.

@@ -1,9 +1,9 @@
 -- Laws of tables of corners: where each corner of an element stands, and that links between corners join what elements hold together. Assumes nothing.
 use mathlib.Core.Path.{_≡_, refl, sym, _∙_, ap, subst}
 use mathlib.Core.List.{List, [], _∷_, _++_, map}
-use Prim.Native.Nat.{ℕ, zero, suc, _+_, _*_, _<_, _≤_, zero-le, suc-le-suc}
+use Prim.Native.Nat.{ℕ, zero, suc, _+_, _*_, _/_, _<_, _≤_, zero-le, suc-le-suc}
 use native.Mathlib.Omega.{arith}
-use native.Mathlib.Nat.{not-suc-le-zero, le-of-suc-le-suc, mul-le-mul-right}
+use native.Mathlib.Nat.{not-suc-le-zero, le-of-suc-le-suc, mul-le-mul-right, div-lt-iff-lt-mul}
 use native.Mathlib.Decide.{decLt}
 use lib.ListN.{length, getD, List·getD-append}
 use lib.Seq.{getD-append-add, getD-take}
@@ -35,6 +35,10 @@ row-same k e c i j lc lj h =
 -- a place of the first n rows lies in one of them
 pub row-within : (k e c n : ℕ) → e * k + c < n * k → e < n
 row-within k e c n h = elim (decLt e n) [ yes l ↦ l | no m ↦ absurd (let o : n ≤ e = omega arith in omega (arith, mul-le-mul-right k o)) ]
+
+-- the row of a place
+pub place-in : (n k t : ℕ) → 1 ≤ k → t < n * k → t / k < n
+place-in n k t one l = div-lt-iff-lt-mul one .1 l
 
 -- rows of k, one behind the other: place c of row i
 pub each-at : {A : Type 0} (f : A → List ℕ) (k : ℕ) (l : List A) → ((i : ℕ) → i < length l → length (getD (map f l) i []) ≡ k)

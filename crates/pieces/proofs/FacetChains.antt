@@ -25,15 +25,14 @@ use Rattle.pieces.specs.Classes.{Share, Classes, Holds}
 use Rattle.pieces.specs.Counted.{PieceNumber, SidesLent}
 use Rattle.pieces.specs.Forest.{Up, Down, Kept, Joined}
 use Rattle.pieces.specs.Tables.{Tied}
-use Rattle.pieces.specs.Places.{larger, tops}
-use Rattle.pieces.specs.Sides.{smaller, after, lowOf, highOf, LastIn, Filed, Headed, Sought, FacetFound, SameFacet, Sided, SideRoom, FacetStep}
-use Rattle.pieces.proofs.Corners.{row-before, corner-at, corner-held, holds-corner}
+use Rattle.pieces.specs.Sides.{smaller, larger, tops, after, lowOf, highOf, LastIn, Filed, Headed, Sought, FacetFound, SameFacet, Sided, SideRoom, FacetStep}
+use Rattle.pieces.proofs.Corners.{place-in, corner-at, corner-held, holds-corner}
 use Rattle.pieces.proofs.Distinct.{once-same}
 use Rattle.pieces.proofs.Counts.{classes-map}
 use Rattle.pieces.proofs.Parents.{kept-refl, kept-trans, raised, raised-flat}
-use Rattle.pieces.proofs.Trees.{tied-start, tied-flat}
+use Rattle.pieces.proofs.Trees.{tied-start, tied-map, tied-flat}
 use Rattle.pieces.proofs.Pieces.{share-turned, count-only}
-use Rattle.pieces.proofs.Places.{tied-map, tops-stand, place-in}
+use Rattle.pieces.proofs.Tops.{tops-stand}
 
 -- ---- chains
 
@@ -255,18 +254,22 @@ room-for p q r s R =
       parents-long = s ∙ R .parents-long;
     }
 
+-- elements are as many as their parents
+pub room-own : {n k : ℕ} {verts : List ℕ} {a b c d : ℕ} → SideRoom n k verts a b c d → SideRoom d k verts a b c d
+room-own {n} {k} {verts} {a} {b} {c} {d} R = subst (λ (m : ℕ). SideRoom m k verts a b c d) (sym (R .parents-long)) R
+
 -- ---- one facet more
 
 module _ {n k : ℕ} {verts heads links lows parent : List ℕ} {t i low high : ℕ} (R : SideRoom n k verts (length heads) (length links) (length lows) (length parent)) (F : FacetStep n k verts t i low high)
     (S : Sided k verts heads links lows t parent) where
   -- the chain of the facet, its head, and the tables with it
-  in-chain : 3 * lowOf k verts t + highOf k verts t ≡ 3 * low + high
+  pub in-chain : 3 * lowOf k verts t + highOf k verts t ≡ 3 * low + high
   in-chain = omega (arith, F .is-low, F .is-high)
 
-  head-room : 3 * low + high < length heads
+  pub head-room : 3 * low + high < length heads
   head-room = omega (arith, F .chain, R .heads-long)
 
-  placed : Filed (lowOf k verts) (highOf k verts) (set links t (getD heads (3 * low + high) 0)) (set lows t low) (t + 1)
+  pub placed : Filed (lowOf k verts) (highOf k verts) (set links t (getD heads (3 * low + high) 0)) (set lows t low) (t + 1)
   placed =
       filed-more (lowOf k verts) (highOf k verts) t (3 * low + high) in-chain links lows (getD heads (3 * low + high) 0) low (omega (arith, F .inside, R .links-long)) (omega (arith, F .inside, R .lows-long))
       (S .headed .head (3 * low + high) head-room) (F .is-low) (S .filed)
@@ -274,10 +277,12 @@ module _ {n k : ℕ} {verts heads links lows parent : List ℕ} {t i low high : 
   placed-head : Headed (lowOf k verts) (highOf k verts) (set heads (3 * low + high) (t + 1)) (t + 1)
   placed-head = headed-more (lowOf k verts) (highOf k verts) t (3 * low + high) in-chain heads head-room (S .headed)
 
-  pub sought : (w : ℕ) → w ≡ getD heads (3 * low + high) 0
-      → Sought (lowOf k verts) (highOf k verts) t low w (set links t (getD heads (3 * low + high) 0)) (set lows t low)
+  abbrev pub sought : (w : ℕ) → w ≡ getD heads (3 * low + high) 0 → Sought low w (set links t (getD heads (3 * low + high) 0)) (set lows t low)
   sought w e =
       record {
+        f = lowOf k verts;
+        g = highOf k verts;
+        t = t;
         is-low = F .is-low;
         start = subst (λ (h : ℕ). LastIn (lowOf k verts) (highOf k verts) h t w) (sym in-chain) (subst (λ (x : ℕ). LastIn (lowOf k verts) (highOf k verts) (3 * low + high) t x) (sym e) (S .headed .head (3 * low + high) head-room));
         filed = filed-fewer (omega arith) placed;
@@ -358,33 +363,53 @@ unfolding highOf
 high-two verts t = refl
 
 -- what is told of the facet of place t of triangle i, whose other corner is at u
-facet-three : {n : ℕ} (verts : List ℕ) (i t u low high : ℕ) → ((s : ℕ) → s < n * 3 → getD verts s 0 < 1024) → t < n * 3 → u < n * 3 → i ≡ t / 3 → after t ≡ u
-    → low ≡ smaller (getD verts t 0) (getD verts u 0) → high ≡ larger (getD verts t 0) (getD verts u 0) → FacetStep n 3 verts t i low high
-facet-three verts i t u low high small lt lu row e p q =
+facet-three : {n : ℕ} (verts : List ℕ) (i t u : ℕ) → ((s : ℕ) → s < n * 3 → getD verts s 0 < 1024) → t < n * 3 → u < n * 3 → i ≡ t / 3 → after t ≡ u
+    → FacetStep n 3 verts t i (smaller (getD verts t 0) (getD verts u 0)) (larger (getD verts t 0) (getD verts u 0))
+facet-three verts i t u small lt lu row e =
     record {
       inside = lt;
       row = row;
-      is-low = p ∙ sym (low-three verts t u e);
-      is-high = q ∙ sym (high-three verts t u e);
-      chain = omega (arith, pair-chain (getD verts t 0) (getD verts u 0) (small t lt) (small u lu));
+      is-low = sym (low-three verts t u e);
+      is-high = sym (high-three verts t u e);
+      chain = pair-chain (getD verts t 0) (getD verts u 0) (small t lt) (small u lu);
     }
 
-module _ {n : ℕ} (verts : List ℕ) (i low high : ℕ) (small : (s : ℕ) → s < n * 3 → getD verts s 0 < 1024) (l : i < n) where
-  pub facet-first : low ≡ smaller (getD verts (i * 3) 0) (getD verts (i * 3 + 1) 0) → high ≡ larger (getD verts (i * 3) 0) (getD verts (i * 3 + 1) 0) → FacetStep n 3 verts (i * 3) i low high
+module _ {n : ℕ} (verts : List ℕ) (i : ℕ) (small : (s : ℕ) → s < n * 3 → getD verts s 0 < 1024) (l : i < n) where
+  pub facet-first : FacetStep n 3 verts (i * 3) i (smaller (getD verts (i * 3) 0) (getD verts (i * 3 + 1) 0)) (larger (getD verts (i * 3) 0) (getD verts (i * 3 + 1) 0))
   unfolding after
-  facet-first p q = facet-three verts i (i * 3) (i * 3 + 1) low high small (omega arith) (omega arith) (omega arith) (omega arith) p q
+  facet-first = facet-three verts i (i * 3) (i * 3 + 1) small (omega arith) (omega arith) (omega arith) (omega arith)
 
-  pub facet-second : low ≡ smaller (getD verts (i * 3 + 1) 0) (getD verts (i * 3 + 2) 0) → high ≡ larger (getD verts (i * 3 + 1) 0) (getD verts (i * 3 + 2) 0) → FacetStep n 3 verts (i * 3 + 1) i low high
+  pub facet-second : FacetStep n 3 verts (i * 3 + 1) i (smaller (getD verts (i * 3 + 1) 0) (getD verts (i * 3 + 2) 0)) (larger (getD verts (i * 3 + 1) 0) (getD verts (i * 3 + 2) 0))
   unfolding after
-  facet-second p q = facet-three verts i (i * 3 + 1) (i * 3 + 2) low high small (omega arith) (omega arith) (omega arith) (omega arith) p q
+  facet-second = facet-three verts i (i * 3 + 1) (i * 3 + 2) small (omega arith) (omega arith) (omega arith) (omega arith)
 
-  pub facet-third : low ≡ smaller (getD verts (i * 3 + 2) 0) (getD verts (i * 3) 0) → high ≡ larger (getD verts (i * 3 + 2) 0) (getD verts (i * 3) 0) → FacetStep n 3 verts (i * 3 + 2) i low high
+  pub facet-third : FacetStep n 3 verts (i * 3 + 2) i (smaller (getD verts (i * 3 + 2) 0) (getD verts (i * 3) 0)) (larger (getD verts (i * 3 + 2) 0) (getD verts (i * 3) 0))
   unfolding after
-  facet-third p q = facet-three verts i (i * 3 + 2) (i * 3) low high small (omega arith) (omega arith) (omega arith) (omega arith) p q
+  facet-third = facet-three verts i (i * 3 + 2) (i * 3) small (omega arith) (omega arith) (omega arith) (omega arith)
 
-pub facet-strap : {n : ℕ} (verts : List ℕ) (i t x : ℕ) → ((s : ℕ) → s < n * 2 → getD verts s 0 < 1024) → t < n * 2 → i ≡ t / 2 → x ≡ getD verts t 0 → FacetStep n 2 verts t i 0 x
-facet-strap verts i t x small lt row e =
-    record { inside = lt; row = row; is-low = sym (low-two verts t); is-high = e ∙ sym (high-two verts t); chain = omega (arith, small t lt) }
+-- of a strap the other corner is 0
+beside-zero : (x : ℕ) → (smaller 0 x ≡ 0) × (larger 0 x ≡ x)
+unfolding smaller larger
+beside-zero zero = (refl, refl)
+beside-zero (suc x) = (rw (lt-ltb 0 (suc x) (omega arith)), rw (lt-ltb 0 (suc x) (omega arith)))
+
+pub facet-strap : {n : ℕ} (verts : List ℕ) (i t : ℕ) → ((s : ℕ) → s < n * 2 → getD verts s 0 < 1024) → t < n * 2 → i ≡ t / 2
+    → FacetStep n 2 verts t i (smaller 0 (getD verts t 0)) (larger 0 (getD verts t 0))
+facet-strap verts i t small lt row =
+    let z = beside-zero (getD verts t 0) in
+    let p = z .0 in
+    let q = z .1 in
+    record {
+      inside = lt;
+      row = row;
+      is-low = p ∙ sym (low-two verts t);
+      is-high = q ∙ sym (high-two verts t);
+      chain = omega (arith, small t lt);
+    }
+
+-- the lower and the higher, known by other terms
+pub facet-with : {n k : ℕ} {verts : List ℕ} {t i low high a b : ℕ} → a ≡ low → b ≡ high → FacetStep n k verts t i low high → FacetStep n k verts t i a b
+facet-with p q F = rw (p, q) F
 
 -- ---- common facets, and shared ones
 

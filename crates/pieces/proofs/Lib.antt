@@ -7,8 +7,6 @@ pub mod Trees
 pub mod Marks
 pub mod Laws
 pub mod Pieces
-pub mod Loops
-pub mod Told
-pub mod Places
+pub mod Tops
 pub mod FacetChains
 pub mod Examples

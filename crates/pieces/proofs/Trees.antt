@@ -26,6 +26,11 @@ tied-start p own none =
       done = λ a b r. absurd (none a b r);
     }
 
+-- the same pairs, said another way
+pub tied-map : {R S : ℕ → ℕ → Type 0} {p : List ℕ} → ((a b : ℕ) → R a b → S a b) → ((a b : ℕ) → S a b → R a b) → Tied R p → Tied S p
+tied-map f g T =
+    record { down = T .down; sound = λ a b u. chain-map (λ c d r. ahead (f c d r) stay) (T .sound a b u); done = λ a b s. T .done a b (g a b s) }
+
 -- a pair more is joined
 pub tied-join : {R S : ℕ → ℕ → Type 0} {p q : List ℕ} (x y : ℕ) → Tied R p → Joined p x y q
     → ((a b : ℕ) → R a b → S a b) → S x y → ((a b : ℕ) → S a b → R a b ⊎ ((a ≡ x) × (b ≡ y))) → Tied S q

@@ -6,7 +6,7 @@ use lib.ListN.{length, getD}
 use Rattle.lists.specs.Lists.{pick}
 use Rattle.lists.specs.Labels.{Lowest}
 use Rattle.model.specs.Elements.{Element}
-use Rattle.model.specs.Pieces.{pieceLabels, pieceCount}
+use Rattle.model.specs.Pieces.{pieceCount}
 use Rattle.elements.specs.Table.{Cornered}
 use Rattle.reach.specs.Reached.{Plain}
 use Rattle.pieces.specs.Classes.{heldBy, Together}
@@ -20,19 +20,7 @@ pub record Corners (n k : ℕ) (verts : List ℕ) (particles : ℕ) : Type 0 whe
 
 -- ---- pieces
 
--- The table has n elements of k corners below a count of particles; there is a place for each corner, and one for each element.
-pub record Lent (n k : ℕ) (verts : List ℕ) (particles links labels : ℕ) : Type 0 where
-  pub corners : Corners n k verts particles
-  pub two : 2 ≤ k
-  pub link-room : n * k ≤ links
-  pub label-room : labels ≡ n
-
--- The number of pieces, and the label of each element, whichever elements the table is of, where none names a particle twice.
-pub record PiecesCounted (n k : ℕ) (verts labels : List ℕ) (r : ℕ) : Type 0 where
-  pub counted : (es : List Element) → Cornered k es n verts → Plain es → r ≡ pieceCount k es
-  pub labelled : (es : List Element) → Cornered k es n verts → Plain es → labels ≡ pieceLabels k es
-
--- The number of pieces alone.
+-- The number of pieces, whichever elements the table is of, where none names a particle twice.
 pub record PieceNumber (n k : ℕ) (verts : List ℕ) (r : ℕ) : Type 0 where
   pub counted : (es : List Element) → Cornered k es n verts → Plain es → r ≡ pieceCount k es
 

@@ -1,9 +1,8 @@
--- The crate's definitions: what a reader must believe is in Classes and Counted; Examples has meshes that are computed; Forest, Tables, Places and Sides
+-- The crate's definitions: what a reader must believe is in Classes and Counted; Examples has meshes that are computed; Forest, Tables and Sides
 -- only proofs need.
 pub mod Classes
 pub mod Counted
 pub mod Examples
 pub mod Forest
 pub mod Tables
-pub mod Places
 pub mod Sides

@@ -4,16 +4,19 @@ use mathlib.Core.Path.{_≡_}
 use mathlib.Core.List.{List}
 use lib.Dec.{eqb, ltb}
 use lib.ListN.{length, getD}
-use Rattle.lists.specs.Lists.{pick}
+use Rattle.lists.specs.Lists.{pick, sift, upTo}
 use Rattle.reach.specs.Walk.{Rows}
 use Rattle.pieces.specs.Tables.{Tied}
-use Rattle.pieces.specs.Places.{larger}
 
 -- ---- facets
 
 -- the smaller of two numbers
 unfoldable pub smaller : ℕ → ℕ → ℕ
 smaller a b = pick (ltb a b) a b
+
+-- the larger of two numbers
+unfoldable pub larger : ℕ → ℕ → ℕ
+larger a b = pick (ltb a b) b a
 
 -- the corner behind place t in its triangle, and the first behind the third
 unfoldable pub after : ℕ → ℕ
@@ -43,8 +46,11 @@ pub record Filed (f g : ℕ → ℕ) (links lows : List ℕ) (t : ℕ) : Type 0 
 pub record Headed (f g : ℕ → ℕ) (heads : List ℕ) (t : ℕ) : Type 0 where
   pub head : (h : ℕ) → h < length heads → LastIn f g h t (getD heads h 0)
 
--- what is asked where the facet of place t is looked for, whose chain begins at e
-pub record Sought (f g : ℕ → ℕ) (t low e : ℕ) (links lows : List ℕ) : Type 0 where
+-- what is asked where the facet of some place t, with this lower corner, is looked for in the chain that begins at e
+pub record Sought (low e : ℕ) (links lows : List ℕ) : Type 0 where
+  pub f : ℕ → ℕ
+  pub g : ℕ → ℕ
+  pub t : ℕ
   pub is-low : low ≡ f t
   pub start : LastIn f g (3 * f t + g t) t e
   pub filed : Filed f g links lows t
@@ -76,6 +82,10 @@ pub record Sided (k : ℕ) (verts heads links lows : List ℕ) (t : ℕ) (parent
   pub filed : Filed (lowOf k verts) (highOf k verts) links lows t
   pub tied : Tied (SameFacet k (lowOf k verts) (highOf k verts) t) parent
 
+-- the places that are their own parents
+unfoldable pub tops : List ℕ → List ℕ
+tops p = sift (λ i. eqb (getD p i 0) i) (upTo (length p))
+
 -- ---- room
 
 -- a table of n rows of k particles below 1,024, and room beside it: 4,096 chains, a link and a lower for each place, a parent for each row
@@ -95,3 +105,17 @@ pub record FacetStep (n k : ℕ) (verts : List ℕ) (t i low high : ℕ) : Type 
   pub is-low : low ≡ lowOf k verts t
   pub is-high : high ≡ highOf k verts t
   pub chain : 3 * low + high < 4096
+
+-- and beside which table it is
+pub record Putting (k t i low high : ℕ) (heads links lows parent : List ℕ) : Type 0 where
+  pub n : ℕ
+  pub verts : List ℕ
+  pub room : SideRoom n k verts (length heads) (length links) (length lows) (length parent)
+  pub step : FacetStep n k verts t i low high
+  pub sided : Sided k verts heads links lows t parent
+
+-- it is put there, and its element joined, whichever table it is
+abbrev pub IsPut : ℕ → ℕ → ℕ → ℕ → ℕ → List ℕ → List ℕ → List ℕ → List ℕ → List ℕ → List ℕ → List ℕ → List ℕ → Type 0
+IsPut k t i low high heads links lows parent heads′ links′ lows′ parent′ =
+    (n : ℕ) (verts : List ℕ) → SideRoom n k verts (length heads) (length links) (length lows) (length parent) → FacetStep n k verts t i low high → Sided k verts heads links lows t parent
+    → Sided k verts heads′ links′ lows′ (t + 1) parent′

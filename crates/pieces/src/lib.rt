@@ -1,6 +1,5 @@
 // Bodies, which one shared particle holds together: the lowest particle of each particle's body, and which particles the elements of a table hold.
-// Pieces, which a shared facet holds together, are counted in `facets`.
-pub mod facets;
+// Pieces, which a shared facet holds together, are counted in `sides`.
 mod forest;
 pub mod sides;
 

@@ -6,7 +6,6 @@ use mathlib.Core.List.{List, [], _∷_, _++_, map, map-append, append-nil, appen
 use Prim.Native.Nat.{ℕ, zero, suc, _+_, _*_, _/_, _-_, _<_, _≤_, zero-le, suc-le-suc}
 use native.Mathlib.Omega.{arith}
 use native.Mathlib.Numerals.{add-one}
-use borrow.Author.Count.{below-more}
 use borrow.Author.Tests.{eq-eqb, ne-eqb, le-leb, lt-leb, leb-false}
 use lib.Dec.{eqb, leb}
 use lib.ListN.{length, getD, take, drop, set, length-set, length-append, length-map, length-drop, List·getD-append, take-append-drop}
@@ -15,7 +14,7 @@ use lib.Ieee.{Float, nan, neg, lt}
 use Rattle.lists.specs.Lists.{pick, stands, each, tab, fold, headOr, rest, orElse, sift, upTo}
 use Rattle.lists.specs.Labels.{replaced}
 use Rattle.lists.proofs.Stores.{tab-length, tab-at}
-use Rattle.lists.proofs.Sifts.{pick-by, and-true, tab-ext, each-append, sift-stands, rising-stands, upTo-below}
+use Rattle.lists.proofs.Sifts.{pick-by, and-true, each-append, sift-stands, rising-stands, upTo-below}
 use Rattle.lists.proofs.Rows.{rows-store}
 use Rattle.float.specs.Numbers.{largest}
 use Rattle.blade.specs.declared.Point.{Point}
@@ -156,11 +155,6 @@ module _ (i v w : ℕ) (s : List ℕ) (a b : ℕ) (h : i < length s / 4) (ea : a
       subst (λ (j : ℕ). EndsMoved i v w s (set (set s i a) j b)) e₁ (subst (λ (j : ℕ). EndsMoved i v w s (set (set s j a) (1 * (length s / 4) + i) b)) e₀ moved-cols)
 
 module _ (n : ℕ) (A A′ : List ℕ) (B B′ : List Float) where
-  -- equal rows are equal edges
-  pub same-edges : SameRows n A A′ B B′ → edgesAt n A′ B′ ≡ edgesAt n A B
-  unfolding edgesAt
-  same-edges h = tab-ext n (rowAt A′ B′) (rowAt A B) h
-
   -- one row that changed
   pub set-edges : (i : ℕ) (a : Edge) → ((j : ℕ) → j < n → (j ≡ i → ⊥) → rowAt A′ B′ j ≡ rowAt A B j) → rowAt A′ B′ i ≡ a → edgesAt n A′ B′ ≡ set (edgesAt n A B) i a
   unfolding edgesAt
@@ -630,25 +624,6 @@ unnamed-none : (K : Kind) (v i : ℕ) (ends : List ℕ) (lengths : List Float) �
 unnamed-none K v i ends lengths h =
     not-second (element? K (rowAt ends lengths i)) (stands v (endsOf (rowAt ends lengths i)))
     (ap₂ (λ (a b : ℕ). stands v (a ∷ b ∷ [])) (col-0 0 (length ends / 4) ends i) (col-1 0 (length ends / 4) ends i) ∙ h)
-
--- the search for the next that names v: at its start, past one that does not, and at its end
-module _ {v from : ℕ} {ends : List ℕ} where
-  pub named-start : NextNamed v from from ends from
-  named-start = record { onward = omega arith; within = omega arith; unnamed = λ j a b. absurd (omega arith) }
-
-  module _ {i : ℕ} (N : NextNamed v from i ends i) where
-    pub named-on : stands v (getD ends i 0 ∷ getD ends (length ends / 4 + i) 0 ∷ []) ≡ false → NextNamed v from (i + 1) ends (i + 1)
-    named-on h =
-        record {
-          onward = omega (arith, N .onward);
-          within = omega arith;
-          unnamed =
-              λ j a b.
-              below-more (λ (k : ℕ). from ≤ k → stands v (getD ends k 0 ∷ getD ends (length ends / 4 + k) 0 ∷ []) ≡ false) i (λ k l m. N .unnamed k m l) (λ m. h) j b a;
-        }
-
-    pub named-here : {e : ℕ} → i ≤ e → NextNamed v from e ends i
-    named-here l = record { onward = N .onward; within = l; unnamed = N .unnamed }
 
 module _ {K : Kind} {v before k n count p e room : ℕ} {verts groups : List ℕ} {points : List Float} {ends₀ : List ℕ} {lengths₀ : List Float} (wide : room ≤ length ends₀ / 4) {ends : List ℕ} {lengths : List Float} {rows i : ℕ}
     (P : Passing K v before k n count p e room verts groups points ends₀ ends lengths₀ lengths rows i) where

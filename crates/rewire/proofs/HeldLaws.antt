@@ -119,6 +119,16 @@ pub stillLeft : ℕ → ℕ → ℕ
 stillLeft t zero = 0
 stillLeft t (suc j) = t - j
 
+-- the lowest that passes behind a number is further on
+pub further-on : (p : ℕ → Bool) (t at : ℕ) → 0 < at → at - 1 < t → (next : ℕ) → next ≡ lowest p (suc (at - 1)) (t - suc (at - 1)) → stillLeft t next < stillLeft t at
+unfolding stillLeft
+further-on p t zero some w next e = absurd (omega arith)
+further-on p t (suc a) some w zero e = omega arith
+further-on p t (suc a) some w (suc b) e =
+    let z : suc a - 1 ≡ a = omega arith in
+    let n = next-is p (suc a) (t - suc a) b (sym (e ∙ ap (λ (i : ℕ). lowest p (suc i) (t - suc i)) z)) in
+    omega (arith, n .after, n .within)
+
 module _ (x y t : ℕ) (C : List ℕ) where
   pub seeking-start : (at : ℕ) → at ≡ firstOf 3 t (cornerIn C) x → Seeking x y t C at
   unfolding firstOf
@@ -184,14 +194,8 @@ module _ (x y t : ℕ) (C : List ℕ) where
 
   -- and it is further on
   pub seeking-less : (at : ℕ) (G : Seeking x y t C at) → 0 < at → (next : ℕ) → next ≡ nextOf 3 t (cornerIn C) x (at - 1) → stillLeft t next < stillLeft t at
-  unfolding stillLeft nextOf
-  seeking-less zero G some next e = absurd (omega arith)
-  seeking-less (suc a) G some zero e = let w = seeking-within (suc a) G some in omega (arith, w)
-  seeking-less (suc a) G some (suc b) e =
-      let w = seeking-within (suc a) G some in
-      let z : suc a - 1 ≡ a = omega arith in
-      let n = next-is (holds 3 (cornerIn C) x) (suc a) (t - suc a) b (sym (e ∙ ap (nextOf 3 t (cornerIn C) x) z)) in
-      omega (arith, w, n .after, n .within)
+  unfolding nextOf
+  seeking-less at G some next e = further-on (holds 3 (cornerIn C) x) t at some (seeking-within at G some) next e
 
 any-along : {A : Type 0} (p : A → Bool) (n : ℕ) (row : ℕ → A) (f : ℕ → ℕ) → any (λ k. p (row k)) (tab n f) ≡ any p (tab n (λ k. row (f k)))
 unfolding any tab

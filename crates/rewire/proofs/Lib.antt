@@ -5,3 +5,5 @@ pub mod EdgeLaws
 pub mod LinkedLaws
 pub mod HeldLaws
 pub mod StraddlerLaws
+pub mod MarkLaws
+pub mod DropLaws

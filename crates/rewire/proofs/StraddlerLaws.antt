@@ -1,36 +1,32 @@
--- Laws of straddlers: v and its copies as a test of numbers, the test of one edge, the particles near v, and the marks. Assumes nothing.
+-- Laws of straddlers: v and its copies as a test of numbers, the test of one edge, and the particles near v. Assumes nothing.
 use mathlib.Core.Path.{_≡_, refl, sym, _∙_, ap, ap₂, subst}
 use mathlib.Core.Logic.{⊎-elim}
 use mathlib.Core.Bool.{Bool, true, false, not, _&&_, _||_, false≢true}
-use mathlib.Core.List.{List, [], _∷_, map}
+use mathlib.Core.List.{List, _∷_, map}
 use Prim.Native.Nat.{ℕ, _+_, _*_, _/_, _-_, _<_, _≤_}
 use native.Mathlib.Omega.{arith}
 use borrow.Author.Count.{below-more}
 use borrow.Author.Tests.{eq-eqb, ne-eqb, ltb-true, ltb-false}
-use lib.Dec.{eqb, ltb}
-use lib.ListN.{length, getD, set, take, drop, length-set, length-append, length-map, length-take}
-use lib.Seq.{getD-set-same, getD-set-other, getD-take, getD-drop}
+use lib.Dec.{ltb}
+use lib.ListN.{length, getD, set, take, drop, length-set, length-map, length-take}
+use lib.Seq.{getD-set-same, getD-take, getD-drop}
 use lib.Ieee.{Float}
-use Rattle.lists.specs.Lists.{pick, stands, any, empty, disjoint, sift, tab, upTo}
+use Rattle.lists.specs.Lists.{stands, any, empty, disjoint, upTo}
 use Rattle.lists.proofs.Stores.{map-at, stored}
 use Rattle.lists.proofs.Sifts.{stands-made, stands-get, upTo-length, upTo-at}
-use Rattle.lists.proofs.Steps.{sift-step}
-use Rattle.columns.proofs.Rows.{keep-sift}
 use Rattle.columns.specs.Block.{cell}
 use Rattle.columns.proofs.Cells.{col-0, col-1}
 use Rattle.split_plan.specs.Answers.{Parted}
 use Rattle.split_plan.specs.Opened.{Ringed, RingRoom}
 use Rattle.split_plan.proofs.Rings.{ring-empty, row-fits}
-use Rattle.lists.proofs.Walks.{not-so, sift-same}
-use Rattle.model.specs.Mesh.{Edge, Mesh, blankEdge}
+use Rattle.lists.proofs.Walks.{not-so}
+use Rattle.model.specs.Mesh.{Mesh}
 use Rattle.model.specs.Elements.{Kind, element?, endsOf, held, cornersPer}
 use Rattle.model.specs.Split.{Opening, ring, copies, made, parted, straddles}
-use Rattle.mesh.specs.At.{edgesAt}
 use Rattle.mesh.specs.Workers.{rowAt}
 use Rattle.work.specs.Places.{EndsIn}
 use Rattle.links.specs.Linked.{Linked}
-use Rattle.rewire.specs.Edges.{ElementIs, copiesBy, HeldTold, HeldRoom, Straddling, StraddleRoom, NearMarked, NearRoom, StraddleTold, StraddlersMarked}
-use Rattle.rewire.proofs.EdgeLaws.{edges-many, edges-get}
+use Rattle.rewire.specs.Edges.{ElementIs, copiesBy, HeldTold, HeldRoom, Straddling, StraddleRoom, NearMarked, NearRoom, StraddleTold}
 
 -- ---- v and its copies
 
@@ -98,11 +94,12 @@ unfolding chain
 chain-1 true x y t h e = refl
 chain-1 false x y t h e = absurd (false≢true e)
 
-chain-2 : (s x y t h : Bool) → s ≡ false → x ≡ true → false ≡ chain s x y t h
+-- whatever comes before it
+chain-2 : (s x y t h : Bool) → x ≡ true → false ≡ chain s x y t h
 unfolding chain
-chain-2 true x y t h e d = absurd (false≢true (sym e))
-chain-2 false true y t h e d = refl
-chain-2 false false y t h e d = absurd (false≢true d)
+chain-2 true x y t h d = refl
+chain-2 false true y t h d = refl
+chain-2 false false y t h d = absurd (false≢true d)
 
 chain-3 : (s x y t h : Bool) → s ≡ false → x ≡ false → y ≡ true → false ≡ chain s x y t h
 unfolding chain
@@ -152,6 +149,11 @@ module _ (K : Kind) (i v before n count t e : ℕ) (verts groups corners ends : 
   told-apart : ((O : Opening) (lengths : List Float) → Ringed (cornersPer K) O n verts groups → parted O (rowAt ends lengths i .a) (rowAt ends lengths i .b) ≡ false) → Told false
   told-apart h = record { is = λ O M W B S. chain-4 _ _ _ _ _ (h O B (S .ringed)) ∙ straddles-is O M W B S }
 
+  -- one whose first end is v
+  pub told-at : getD ends i 0 ≡ v → Told false
+  told-at q =
+      record { is = λ O M W B S. chain-2 _ _ _ _ _ (ap (λ (z : ℕ). stands z (copiesBy v before count)) (a-is B ∙ q) ∙ sym (copy-self v v before count refl)) ∙ straddles-is O M W B S }
+
   -- an element
   pub told-element : (s : Bool) → ElementIs K (getD ends (2 * (length ends / 4) + i) 0) s → s ≡ true → Told false
   told-element s E f = record { is = λ O M W B S. chain-1 _ _ _ _ _ (sym (E .is (rowAt ends B i) (flag-is B)) ∙ f) ∙ straddles-is O M W B S }
@@ -165,7 +167,7 @@ module _ (K : Kind) (i v before n count t e : ℕ) (verts groups corners ends : 
 
     -- one that ends at a copy
     pub told-first : x ≡ true → Told false
-    told-first d = record { is = λ O M W B S. chain-2 _ _ _ _ _ (none B) (first B true d) ∙ straddles-is O M W B S }
+    told-first d = record { is = λ O M W B S. chain-2 _ _ _ _ _ (first B true d) ∙ straddles-is O M W B S }
 
     module _ (d : x ≡ false) (y : Bool) (Y : y ≡ stands (getD ends (length ends / 4 + i) 0) (copiesBy v before count)) where
       second : (B : List Float) (u : Bool) → y ≡ u → stands (rowAt ends B i .b) (copiesBy v before count) ≡ u
@@ -250,8 +252,8 @@ module _ (m : ℕ) (verts near₀ : List ℕ) where
   pub nearing-done : (near : List ℕ) (i : ℕ) → Nearing m verts near₀ near i → m ≤ i → NearMarked m verts near
   nearing-done near i G h = record { marked = λ j l. G .marked .marked j (omega arith) }
 
--- a particle that is not marked stands in no ring
-module _ {k n lv lg : ℕ} {verts groups near : List ℕ} (room : RingRoom n k lv lg) (N : NearMarked (n * k) verts near) (O : Opening) (R : Ringed k O n verts groups) (x : ℕ) (b : x < length near) (off : getD near x 0 ≡ 1 → ⊥) where
+-- a particle that is no corner stands in no ring
+module _ {k n lv lg : ℕ} {verts groups : List ℕ} (room : RingRoom n k lv lg) (O : Opening) (R : Ringed k O n verts groups) (x : ℕ) (none : (j : ℕ) → j < n * k → getD verts j 0 ≡ x → ⊥) where
   far-ring : not (empty (ring O x)) ≡ false
   far-ring =
       sym
@@ -262,10 +264,9 @@ module _ {k n lv lg : ℕ} {verts groups near : List ℕ} (room : RingRoom n k l
       let j = w .0 in
       let jk : j < k = omega (arith, w .1 .0) in
       let at : getD (take k (drop (i * k) verts)) j 0 ≡ getD verts (i * k + j) 0 = getD-take k (drop (i * k) verts) j 0 jk ∙ getD-drop (i * k) verts j 0 in
-      let is : getD verts (i * k + j) 0 ≡ x = sym at ∙ w .1 .1 in
       let all : RingRoom n k (n * k) n = record { few = room .few; corners = room .corners; verts = omega arith; groups = omega arith } in
       let low : i * k + j < n * k = omega (arith, row-fits all i l) in
-      off (subst (λ (z : ℕ). getD near z 0 ≡ 1) is (N .marked (i * k + j) low (omega arith)))))
+      none (i * k + j) low (sym at ∙ w .1 .1)))
 
   -- and is parted from none
   far-first : (y : ℕ) → parted O x y ≡ false
@@ -276,21 +277,33 @@ module _ {k n lv lg : ℕ} {verts groups near : List ℕ} (room : RingRoom n k l
   unfolding parted
   far-second y = rw far-ring (second-off (not (empty (ring O y))) (disjoint (ring O y) (ring O x)))
 
+-- one that is not marked as near is no corner
+not-near : {m : ℕ} {verts near : List ℕ} → NearMarked m verts near → (x : ℕ) → x < length near → (getD near x 0 ≡ 1 → ⊥) → (j : ℕ) → j < m → getD verts j 0 ≡ x → ⊥
+not-near {m} {verts} {near} N x b off j l e = off (subst (λ (z : ℕ). getD near z 0 ≡ 1) e (N .marked j l (omega arith)))
+
+module _ (K : Kind) (i v before n count t e : ℕ) (verts groups corners ends : List ℕ) {lv lg : ℕ} (room : RingRoom n (cornersPer K) lv lg) where
+  -- an edge whose first end is no corner, and one whose second is none
+  pub told-none : ((j : ℕ) → j < n * cornersPer K → getD verts j 0 ≡ getD ends i 0 → ⊥) → StraddleTold K i v before n count t e verts groups corners ends false
+  told-none none =
+      told-apart K i v before n count t e verts groups corners ends
+      (λ O B R. far-first room O R (rowAt ends B i .a) (λ j l q. none j l (q ∙ col-0 0 (length ends / 4) ends i)) (rowAt ends B i .b))
+
+  told-none-second : ((j : ℕ) → j < n * cornersPer K → getD verts j 0 ≡ getD ends (length ends / 4 + i) 0 → ⊥) → StraddleTold K i v before n count t e verts groups corners ends false
+  told-none-second none =
+      told-apart K i v before n count t e verts groups corners ends
+      (λ O B R. far-second room O R (rowAt ends B i .b) (λ j l q. none j l (q ∙ col-1 0 (length ends / 4) ends i)) (rowAt ends B i .a))
+
 module _ (K : Kind) (i v before n count t e : ℕ) (verts groups corners ends near : List ℕ) {lv lg : ℕ} (room : RingRoom n (cornersPer K) lv lg) (N : NearRoom K n e verts ends near) (h : i < e) where
   -- an edge whose first end is not near, and one whose second is not
   pub told-far-first : (getD near (getD ends i 0) 0 ≡ 1 → ⊥) → StraddleTold K i v before n count t e verts groups corners ends false
   told-far-first off =
-      let low = N .ends-in .first i h in
-      let wide = N .places in
-      told-apart K i v before n count t e verts groups corners ends
-      (λ O B R. far-first room (N .corners-near) O R (rowAt ends B i .a) (omega arith) (λ q. off (sym (ap (λ (z : ℕ). getD near z 0) (col-0 0 (length ends / 4) ends i)) ∙ q)) (rowAt ends B i .b))
+      told-none K i v before n count t e verts groups corners ends room
+      (not-near (N .corners-near) (getD ends i 0) (omega (arith, N .ends-in .first i h, col-0 0 (length ends / 4) ends i, N .places)) off)
 
   pub told-far-second : (getD near (getD ends (length ends / 4 + i) 0) 0 ≡ 1 → ⊥) → StraddleTold K i v before n count t e verts groups corners ends false
   told-far-second off =
-      let low = N .ends-in .second i h in
-      let wide = N .places in
-      told-apart K i v before n count t e verts groups corners ends
-      (λ O B R. far-second room (N .corners-near) O R (rowAt ends B i .b) (omega arith) (λ q. off (sym (ap (λ (z : ℕ). getD near z 0) (col-1 0 (length ends / 4) ends i)) ∙ q)) (rowAt ends B i .a))
+      told-none-second K i v before n count t e verts groups corners ends room
+      (not-near (N .corners-near) (getD ends (length ends / 4 + i) 0) (omega (arith, N .ends-in .second i h, col-1 0 (length ends / 4) ends i, N .places)) off)
 
 -- what marking the corners of a fan of n parts asks, and what it gives
 module _ (K : Kind) (n : ℕ) {k : ℕ} (per : k ≡ cornersPer K) where
@@ -300,86 +313,3 @@ module _ (K : Kind) (n : ℕ) {k : ℕ} (per : k ≡ cornersPer K) where
   pub near-room : {e : ℕ} {verts ends near : List ℕ} → NearMarked (n * k) verts near → EndsIn 1024 e ends → 1024 ≤ length near → NearRoom K n e verts ends near
   near-room {e} {verts} {ends} {near} N E l =
       record { corners-near = subst (λ (z : ℕ). NearMarked (n * z) verts near) per N; ends-in = E; places = l }
-
--- ---- the marks
-
-pub pick-small : (t : Bool) → pick t 1 0 ≤ 1
-pick-small true = omega arith
-pick-small false = omega arith
-
-pick-mark : (t : Bool) → eqb (pick t 1 0) 1 ≡ not (not t)
-pick-mark true = eq-eqb 1 1 refl
-pick-mark false = ne-eqb 0 1 (λ q. omega arith)
-
--- a mark counts for itself
-mark-length : (i : ℕ) (t : Bool) (m : ℕ) → m ≡ pick t 1 0 → length (pick (eqb m 1) (i ∷ []) []) ≡ m
-mark-length i true m q = rw (eq-eqb m 1 q) (sym q)
-mark-length i false m q = rw (ne-eqb m 1 (λ z. omega arith)) (sym q)
-
--- is place j marked
-abbrev marked? : List ℕ → ℕ → Bool
-marked? mask j = eqb (getD mask j 0) 1
-
--- one more mark, behind i places
-marks-more : (mask : List ℕ) (i : ℕ) (t : Bool) (m : ℕ) → i < length mask → m ≡ pick t 1 0
-    → length (sift (marked? mask) (upTo i)) + m ≡ length (sift (marked? (set mask i m)) (upTo (i + 1)))
-unfolding upTo
-marks-more mask i t m h q =
-    let mask′ = set mask i m in
-    let old : sift (marked? mask′) (tab i (λ k. k)) ≡ sift (marked? mask) (tab i (λ k. k)) =
-    sift-same (marked? mask′) (marked? mask) i (λ k. k) (λ j l. ap (λ (z : ℕ). eqb z 1) (getD-set-other mask i j m 0 (λ z. omega arith))) in
-    let new : length (pick (marked? mask′ i) (i ∷ []) []) ≡ m = ap (λ (z : ℕ). length (pick (eqb z 1) (i ∷ []) [])) (getD-set-same mask i m 0 h) ∙ mark-length i t m q in
-    sym
-    (ap length (sift-step (marked? mask′) (λ k. k) i) ∙ length-append (sift (marked? mask′) (tab i (λ k. k))) (pick (marked? mask′ i) (i ∷ []) [])
-    ∙ ap₂ (λ (a b : ℕ). a + b) (ap length old) new)
-
--- at the head of the loop: the first i edges are marked
-pub record Marking (K : Kind) (v before n count t e : ℕ) (verts groups corners ends mask₀ mask : List ℕ) (marked i : ℕ) : Type 0 where
-  pub marks :
-      (O : Opening) (M : Mesh) (volumes lengths : List Float) → Straddling K O M v before n count t e verts groups corners volumes ends lengths
-      → (j : ℕ) → j < i → getD mask j 0 ≡ pick (straddles K M O (rowAt ends lengths j)) 1 0
-  pub counted : marked ≡ length (sift (marked? mask) (upTo i))
-  pub few : marked ≤ i
-  pub inside : i ≤ e
-  pub long : length mask ≡ length mask₀
-
-module _ (K : Kind) (v before n count t e : ℕ) (verts groups corners ends mask₀ : List ℕ) where
-  pub marking-start : Marking K v before n count t e verts groups corners ends mask₀ mask₀ 0 0
-  unfolding sift upTo tab
-  marking-start = record { marks = λ O M W B S j l. absurd (omega arith); counted = refl; few = omega arith; inside = omega arith; long = refl }
-
-  module _ (mask : List ℕ) (marked i : ℕ) (G : Marking K v before n count t e verts groups corners ends mask₀ mask marked i) where
-    -- one more edge
-    pub marking-step : (r : Bool) (m : ℕ) → i < e → e ≤ length mask₀ → StraddleTold K i v before n count t e verts groups corners ends r → m ≡ pick r 1 0
-        → Marking K v before n count t e verts groups corners ends mask₀ (set mask i m) (marked + m) (i + 1)
-    marking-step r m h room T q =
-        let long = G .long in
-        let few = G .few in
-        record {
-          marks =
-              λ O M W B S.
-              below-more (λ (j : ℕ). getD (set mask i m) j 0 ≡ pick (straddles K M O (rowAt ends B j)) 1 0) i
-              (λ j l. getD-set-other mask i j m 0 (λ z. omega arith) ∙ G .marks O M W B S j l)
-              (getD-set-same mask i m 0 (omega arith) ∙ q ∙ ap (λ (z : Bool). pick z 1 0) (T .is O M W B S));
-          counted = ap (λ (z : ℕ). z + m) (G .counted) ∙ marks-more mask i r m (omega arith) q;
-          few = omega (arith, q, pick-small r);
-          inside = omega arith;
-          long = length-set mask i m ∙ G .long;
-        }
-
-    -- after the last edge
-    pub marking-done : e ≤ i → StraddlersMarked K v before n count t e verts groups corners ends mask marked
-    marking-done h =
-        let in-all = G .inside in
-        let all : i ≡ e = omega arith in
-        record {
-          marks = λ O M W B S j l. G .marks O M W B S j (omega arith);
-          kept =
-              λ O M W B S.
-              keep-sift (λ (a : Edge). not (straddles K M O a)) blankEdge mask (edgesAt e ends B)
-              (λ j l.
-              let b : j < e = omega (arith, edges-many e ends B) in
-              ap (λ (z : ℕ). eqb z 1) (G .marks O M W B S j (omega arith)) ∙ pick-mark (straddles K M O (rowAt ends B j))
-              ∙ ap (λ (a : Edge). not (not (straddles K M O a))) (sym (edges-get e ends B j b)));
-          counted = G .counted ∙ ap (λ (z : ℕ). length (sift (marked? mask) (upTo z))) all;
-        }

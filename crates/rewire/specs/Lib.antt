@@ -2,3 +2,5 @@
 pub mod Stages
 pub mod Particles
 pub mod Edges
+pub mod Marks
+pub mod Drops

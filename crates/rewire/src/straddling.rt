@@ -2,11 +2,12 @@
 ghost use mathlib.Core.Path.{_≡_};
 ghost use Prim.Native.Nat.{_<_, _≤_};
 ghost use lib.ListN.{length};
-ghost use Rattle.lists.specs.Lists.{pick, stands};
+ghost use Rattle.lists.specs.Lists.{stands};
 ghost use Rattle.elements.specs.Table.{kindIs};
-ghost use Rattle.links.specs.Linked.{Linked};
+ghost use Rattle.links.specs.Linked.{Linked, EdgesLinked};
 ghost use Rattle.work.specs.Places.{EndsIn};
 ghost use Rattle.rewire.specs.Edges.{copiesBy, StraddleRoom, NearMarked, NearRoom, StraddleTold, StraddlersMarked};
+ghost use Rattle.rewire.specs.Marks.{MarkRoom, EdgeMarked, EdgesMarked};
 use elements::Kind;
 
 // Is w v or one of its copies?
@@ -128,14 +129,121 @@ fn near_straddles(
     )
 }
 
-// 1 if t, else 0.
-fn mark(t: bool) -> usize
-    ensures { λ r. ⌜ r ≡ pick t 1 0 ⌝ }
+// Marks edge i of the first e if x is its first end and it straddles; r are marked before, and as many as is returned behind it.
+fn mark_edge(
+    x: usize,
+    i: usize,
+    r: usize,
+    kind: Kind,
+    v: usize,
+    before: usize,
+    n: usize,
+    count: usize,
+    t: usize,
+    e: usize,
+    verts: &[usize],
+    groups: &[usize],
+    corners: &[usize],
+    ends: &[usize],
+    links: &[u16],
+    near: &[u8],
+    mask: &mut [usize],
+) -> usize
+    requires { ⌜ MarkRoom (kindIs kind) v before n count t e (now verts) (now groups) (now corners) (now ends) (now links) (now near)
+        (now mask) r × (i < e) ⌝ }
+    ensures { λ q. ⌜ EdgeMarked (kindIs kind) v before n count t e (now (verts .entry)) (now (groups .entry)) (now (corners .entry))
+        (now (ends .entry)) x i (now (mask .entry)) (now (mask .exit)) q ⌝ }
 {
-    if t { 1 } else { 0 }
+    if ends[i] != x {
+        return r;
+    }
+    if mask[i] == 1 {
+        return r;
+    }
+    if !near_straddles(
+        kind,
+        i,
+        v,
+        before,
+        n,
+        count,
+        t,
+        e,
+        verts,
+        groups,
+        corners,
+        ends,
+        links,
+        near,
+    ) {
+        return r;
+    }
+    mask[i] = 1;
+    r + 1
 }
 
-// Marks the straddlers among the first e edges with 1, the others with 0; returns how many straddle. The table links the t triangles.
+// Marks the straddlers whose first end is x, which the table of the edges has at x. None ends at v, and what is no particle has no edge.
+fn mark_edges_at(
+    x: usize,
+    r: usize,
+    kind: Kind,
+    v: usize,
+    before: usize,
+    n: usize,
+    count: usize,
+    t: usize,
+    e: usize,
+    verts: &[usize],
+    groups: &[usize],
+    corners: &[usize],
+    ends: &[usize],
+    links: &[u16],
+    table: &[u16],
+    near: &[u8],
+    mask: &mut [usize],
+) -> usize
+    requires { ⌜ MarkRoom (kindIs kind) v before n count t e (now verts) (now groups) (now corners) (now ends) (now links) (now near)
+        (now mask) r × EdgesLinked e (now ends) (now table) ⌝ }
+    ensures { λ q. ⌜ EdgesMarked (kindIs kind) v before n count t e (now (verts .entry)) (now (groups .entry)) (now (corners .entry))
+        (now (ends .entry)) x (now (mask .entry)) (now (mask .exit)) q ⌝ }
+{
+    if x == v {
+        return r;
+    }
+    if x >= 1024 {
+        return r;
+    }
+    let rows = ends.len() / 4;
+    let mut marked = r;
+    let mut at = links::first_at(x, table);
+    while at > 0 {
+        let i = at - 1;
+        marked = mark_edge(
+            x,
+            i,
+            marked,
+            kind,
+            v,
+            before,
+            n,
+            count,
+            t,
+            e,
+            verts,
+            groups,
+            corners,
+            ends,
+            links,
+            near,
+            mask,
+        );
+        at = links::next_at(x, i, 2, 1024, 2048, rows, ends, table);
+    }
+    marked
+}
+
+// Marks the straddlers among the first e edges with 1, the others with 0; returns how many straddle. The one table links the t triangles, the other the e edges.
+// Both ends of a straddler are corners of the fan, so the edges at these are walked, and no others.
 pub fn mark_straddlers(
     kind: Kind,
     v: usize,
@@ -149,22 +257,26 @@ pub fn mark_straddlers(
     corners: &[usize],
     ends: &[usize],
     links: &[u16],
+    table: &[u16],
     mask: &mut [usize],
 ) -> usize
     requires { ⌜ (let K = kindIs kind in StraddleRoom K n t e (length (now verts)) (length (now groups)) (length (now corners))
-        (length (now ends)) × (e ≤ length (now mask)) × EndsIn 1024 e (now ends) × Linked K t (now corners) (now links)) ⌝ }
+        (length (now ends)) × (e ≤ length (now mask)) × EndsIn 1024 e (now ends) × Linked K t (now corners) (now links)
+        × EdgesLinked e (now ends) (now table)) ⌝ }
     ensures { λ r. ⌜ StraddlersMarked (kindIs kind) v before n count t e (now (verts .entry)) (now (groups .entry)) (now (corners .entry))
         (now (ends .entry)) (now (mask .exit)) r ⌝ }
 {
     let mut near = [0u8; 1024];
-    let k = elements::corners_per(kind);
-    mark_corners(n * k, verts, &mut near);
+    let m = n * elements::corners_per(kind);
+    mark_corners(m, verts, &mut near);
+    columns::clear_usize(0, &mut mask[0..e]);
     let mut marked: usize = 0;
-    let mut i: usize = 0;
-    while i < e {
-        let gone = near_straddles(
+    let mut q: usize = 0;
+    while q < m {
+        marked = mark_edges_at(
+            verts[q],
+            marked,
             kind,
-            i,
             v,
             before,
             n,
@@ -176,12 +288,11 @@ pub fn mark_straddlers(
             corners,
             ends,
             links,
+            table,
             &near,
+            mask,
         );
-        let m = mark(gone);
-        mask[i] = m;
-        marked += m;
-        i += 1;
+        q += 1;
     }
     marked
 }

@@ -6,7 +6,7 @@ use mathlib.Core.Bool.{true}
 use mathlib.Core.List.{List}
 use lib.Dec.{ltb}
 use lib.Ieee.{Float}
-use lib.ListN.{length}
+use lib.ListN.{length, getD}
 use Rattle.lists.specs.Lists.{all, each}
 use Rattle.columns.proofs.Rows.{tab-length}
 use Rattle.model.specs.Mesh.{Triangle, Edge, Mesh}
@@ -21,7 +21,7 @@ use Rattle.elements.specs.Table.{kindIs, elementsIn, KindFound, Cornered, Table
 use Rattle.elements.proofs.Found.{elements-in}
 use Rattle.elements.proofs.Filling.{triangles-length, straps-length}
 use Rattle.reach.proofs.Reached.{plain-in}
-use Rattle.pieces.specs.Counted.{Corners, Lent, PiecesCounted}
+use Rattle.pieces.specs.Counted.{Corners, SidesLent, PieceNumber}
 use Rattle.pieces.proofs.Pieces.{two-corners}
 use Rattle.arguments.proofs.Accepted.{allCorners, triangles-below, straps-below, verts-below}
 use Rattle.sheetcut.specs.Work.{piecesIn, Countable}
@@ -79,19 +79,19 @@ module _ (k : Counts) (C : List ℕ) (U : List Float) (E : List ℕ) (L : List F
     few-told =
         few-of (kindIs kind) (trianglesAt (k .triangles) C U) (edgesAt (k .edges) E L) n (omega (arith, triangles-count (k .triangles) C U, A .few-triangles)) (omega (arith, edges-length (k .edges) E L, A .few-edges)) (T .cornered .count)
 
-    -- 512 labels are enough
+    -- 512 places are enough
     pub short-told : n ≤ 512
     short-told = few-told .short
 
     -- the corners of the table name particles
-    corners-told : 1024 ≤ length Y → Corners n per Y 256
+    corners-told : 1024 ≤ length Y → Corners n per Y 1024
     corners-told long =
         let ts = trianglesAt (k .triangles) C U in
         let es = edgesAt (k .edges) E L in
         let W : Few n (cornersPer (kindIs kind)) = few-told in
         let w = cornersPer (kindIs kind) in
         let room : n * w ≤ length Y = omega (arith, W .narrow) in
-        subst (λ (x : ℕ). Corners n x Y 256) (sym e)
+        subst (λ (x : ℕ). Corners n x Y 1024) (sym e)
         (record {
           width = W .width;
           few = W .few;
@@ -101,16 +101,26 @@ module _ (k : Counts) (C : List ℕ) (U : List Float) (E : List ℕ) (L : List F
               omega (arith, b, A .few-particles);
         })
 
-    -- the table meets what the count asks
-    pub lent-told : {labels : ℕ} → 1024 ≤ length Y → labels ≡ n → Lent n per Y 256 1024 labels
-    lent-told long d =
+    -- the table meets what the count asks, with empty chains and room for each corner and each element
+    pub lent-told : {heads : List ℕ} {links lows places : ℕ} → 1024 ≤ length Y → length heads ≡ 4096 → ((h : ℕ) → getD heads h 0 ≡ 0) → 1024 ≤ links → 1024 ≤ lows → places ≡ n
+        → SidesLent n per Y heads links lows places
+    lent-told long chains empty a b d =
         let W : Few n per = subst (λ (x : ℕ). Few n x) (sym e) few-told in
-        record { corners = corners-told long; two = (let h = two-corners (kindIs kind) in omega arith); link-room = W .narrow; label-room = d }
+        record {
+          corners = corners-told long;
+          two = (let h = two-corners (kindIs kind) in omega arith);
+          few = omega (arith, W .narrow);
+          heads-long = chains;
+          empty = empty;
+          links-long = omega (arith, W .narrow);
+          lows-long = omega (arith, W .narrow);
+          places-long = d;
+        }
 
     -- the pieces of the table are those of the triangles and edges
-    pub pieces-told : (labels : List ℕ) (r : ℕ) → KindFound (k .triangles) (k .edges) E kind → PiecesCounted n per Y labels r → r ≡ piecesIn (trianglesAt (k .triangles) C U) (edgesAt (k .edges) E L)
+    pub pieces-told : (r : ℕ) → KindFound (k .triangles) (k .edges) E kind → PieceNumber n per Y r → r ≡ piecesIn (trianglesAt (k .triangles) C U) (edgesAt (k .edges) E L)
     unfolding piecesIn
-    pieces-told labels r K P =
+    pieces-told r K P =
         let ts = trianglesAt (k .triangles) C U in
         let es = edgesAt (k .edges) E L in
         let Z : Cornered per (elementsIn (kindIs kind) ts es) n Y = subst (λ (x : ℕ). Cornered x (elementsIn (kindIs kind) ts es) n Y) (sym e) (T .cornered) in

@@ -52,9 +52,10 @@ fn count_pieces(
     let mut numbers = [0usize; 512];
     let mut verts = [0usize; 1024];
     let mut measures = [0.0f32; 512];
-    let mut last = [0usize; 256];
-    let mut link = [0usize; 1024];
-    let mut labels = [0usize; 512];
+    let mut heads = [0u16; 4096];
+    let mut links = [0u16; 1024];
+    let mut lows = [0u16; 1024];
+    let mut parent = [0usize; 512];
     let t = k.triangles;
     let e = k.edges;
     let kind = elements::kind_of(t, e, ends);
@@ -71,7 +72,15 @@ fn count_pieces(
         &mut measures,
     );
     let per = elements::corners_per(kind);
-    pieces::facets::count_pieces(n, per, &verts, &mut last, &mut link, &mut labels[..n])
+    pieces::sides::count_sides(
+        n,
+        per,
+        &verts,
+        &mut heads,
+        &mut links,
+        &mut lows,
+        &mut parent[..n],
+    )
 }
 
 // Writes the listing of an answer that goes with the blocks, with the line of a replaced outline or without, or the line of its refusal.

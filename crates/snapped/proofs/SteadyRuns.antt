@@ -2,7 +2,7 @@
 use mathlib.Core.Path.{_≡_, refl, sym, _∙_, ap, subst}
 use mathlib.Core.Bool.{Bool, true, false}
 use mathlib.Core.List.{List, [], _∷_, map}
-use Prim.Native.Nat.{ℕ, _+_, _<_, _≤_}
+use Prim.Native.Nat.{ℕ, zero, suc, _+_, _<_, _≤_}
 use native.Mathlib.Omega.{arith}
 use borrow.Author.Tests.{eq-eqb, ne-eqb}
 use lib.ListN.{length, getD, drop}
@@ -84,6 +84,13 @@ module _ (step : Run → ℕ → Run) (S : Steady step) (L : Rooms) (marks : Lis
       pub steps-end : {at′ : Counts → World} (r : Ran) (c : ℕ) → r ≡ Refused c → (p : ℕ) → v < p → Works (λ (R : Run). step R v) L (at k) at′ r → Works (stepsTo p) L W at′ r
       steps-end {at′} r c e p h G =
           subst (λ (x : Ran). Works (stepsTo p) L W at′ x) (sym e) (steps-stop p h (subst (λ (x : Ran). Works (λ (R : Run). step R v) L (at k) at′ x) e G))
+
+  -- where none of the first p is marked nothing is done
+  pub steps-idle : {at : Counts → World} (k : Counts) → Within k L → (p : ℕ) → ((v : ℕ) → v < p → getD marks v 0 ≡ 1 → ⊥) → Works (stepsTo p) L (at k) at (Done k)
+  steps-idle {at} k b zero h = steps-none {at = at} k b
+  steps-idle {at} k b (suc p) h =
+      let e : p + 1 ≡ suc p = omega arith in
+      subst (λ (m : ℕ). Works (stepsTo m) L (at k) at (Done k)) e (steps-skip p (steps-idle {at = at} k b p (λ v l. h v (omega arith))) (h p (omega arith)))
 
   pub steps-all : {W : World} {at : Counts → World} {r : Ran} (v p : ℕ) → v ≡ p → Works (stepsTo v) L W at r → Works (stepsTo p) L W at r
   steps-all {W} {at} {r} v p e F = subst (λ (m : ℕ). Works (stepsTo m) L W at r) e F

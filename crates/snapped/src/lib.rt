@@ -7,6 +7,9 @@ ghost use Rattle.lists.specs.Lists.{fold};
 ghost use Rattle.model.specs.Cut.{splitSnapped};
 ghost use Rattle.mesh.specs.Filled.{lent};
 ghost use Rattle.marks.specs.Marking.{bladeFrom};
+ghost use Rattle.model.specs.Elements.{Straps};
+ghost use Rattle.links.specs.Linked.{LinkedIn};
+ghost use Rattle.split.specs.Blocks.{LinkedBehind};
 ghost use Rattle.cut.specs.Running.{chosen, Chosen, TablesIn};
 ghost use Rattle.snapped.specs.Snapping.{EdgeHere, SlackAt, EdgesHere, SlackFrom, Snappable};
 ghost use Rattle.work.specs.Blocks.{ReadyIn, WorksIn};
@@ -55,7 +58,6 @@ pub fn slacken_from(from: usize, e: usize, ends: &[usize], lengths: &mut [f32])
 }
 
 // Splits v by the blade. The edges at its copies are slack: the copies are the particles behind those of before.
-// Straps have no links, so one place stands for the table of them.
 pub fn split_snapped(
     b0: Point,
     b1: Point,
@@ -75,13 +77,14 @@ pub fn split_snapped(
     measures: &mut [f32],
     sides: &mut [usize],
     groups: &mut [usize],
+    links: &mut [u16],
 ) -> Ran
     requires { ⌜ ReadyIn room k points roots corners volumes ends lengths outline log × Snappable v k (now log)
-        × TablesIn numbers verts measures sides groups ⌝ }
-    ensures { λ r. ⌜ WorksIn (λ R. splitSnapped (bladeFrom b0 b1) R v) room k points roots corners volumes ends lengths outline log r ⌝ }
+        × TablesIn numbers verts measures sides groups × LinkedIn Straps k corners ends links ⌝ }
+    ensures { λ r. ⌜ WorksIn (λ R. splitSnapped (bladeFrom b0 b1) R v) room k points roots corners volumes ends lengths outline log r
+        × LinkedBehind Straps corners ends links r ⌝ }
 {
     let before = k.particles;
-    let mut none = [0u16; 1];
     let ran = split_one(
         Parting::Blade(Rule::Rounded, b0, b1),
         Kind::Straps,
@@ -101,7 +104,7 @@ pub fn split_snapped(
         measures,
         sides,
         groups,
-        &mut none,
+        links,
     );
     let Ran::Done(next) = ran else {
         return ran;
@@ -114,7 +117,7 @@ pub fn split_snapped(
 }
 
 // Splits each marked particle below p so, in rising order, until one lacks room. All share the lent tables.
-pub fn split_all_snapped(
+fn split_each_snapped(
     b0: Point,
     b1: Point,
     p: usize,
@@ -134,9 +137,10 @@ pub fn split_all_snapped(
     measures: &mut [f32],
     sides: &mut [usize],
     groups: &mut [usize],
+    links: &mut [u16],
 ) -> Ran
     requires { ⌜ ReadyIn room k points roots corners volumes ends lengths outline log × Chosen p k (now log) (length (now marks))
-        × TablesIn numbers verts measures sides groups ⌝ }
+        × TablesIn numbers verts measures sides groups × LinkedIn Straps k corners ends links ⌝ }
     ensures { λ r. ⌜ WorksIn (λ R. fold (splitSnapped (bladeFrom b0 b1)) R (chosen p (now (marks .entry)))) room k points roots corners
         volumes ends lengths outline log r ⌝ }
 {
@@ -166,6 +170,7 @@ pub fn split_all_snapped(
             measures,
             sides,
             groups,
+            links,
         );
         let Ran::Done(next) = ran else {
             return ran;
@@ -174,4 +179,67 @@ pub fn split_all_snapped(
         v += 1;
     }
     Ran::Done(counts)
+}
+
+// Splits each marked particle below p so; where none is marked nothing is done. The tables of triangles and edges are built once, and every split keeps them.
+pub fn split_all_snapped(
+    b0: Point,
+    b1: Point,
+    p: usize,
+    marks: &[usize],
+    k: Counts,
+    room: Rooms,
+    points: &mut [f32],
+    roots: &mut [usize],
+    corners: &mut [usize],
+    volumes: &[f32],
+    ends: &mut [usize],
+    lengths: &mut [f32],
+    outline: &mut [usize],
+    log: &mut [u32],
+    numbers: &mut [usize],
+    verts: &mut [usize],
+    measures: &mut [f32],
+    sides: &mut [usize],
+    groups: &mut [usize],
+) -> Ran
+    requires { ⌜ ReadyIn room k points roots corners volumes ends lengths outline log × Chosen p k (now log) (length (now marks))
+        × TablesIn numbers verts measures sides groups ⌝ }
+    ensures { λ r. ⌜ WorksIn (λ R. fold (splitSnapped (bladeFrom b0 b1)) R (chosen p (now (marks .entry)))) room k points roots corners
+        volumes ends lengths outline log r ⌝ }
+{
+    if columns::next_marked(marks, 0, p) == p {
+        return Ran::Done(k);
+    }
+    let mut links = [0u16; 9216];
+    links::link_mesh(
+        Kind::Straps,
+        k.triangles,
+        k.edges,
+        corners,
+        ends,
+        &mut links,
+    );
+    split_each_snapped(
+        b0,
+        b1,
+        p,
+        marks,
+        k,
+        room,
+        points,
+        roots,
+        corners,
+        volumes,
+        ends,
+        lengths,
+        outline,
+        log,
+        numbers,
+        verts,
+        measures,
+        sides,
+        groups,
+        &mut links,
+    )
 }

@@ -14,7 +14,7 @@ use Rattle.lists.proofs.Rows.{length-mapAt, mapAt-at}
 use Rattle.columns.specs.Block.{cell}
 use Rattle.model.specs.Mesh.{Particle, Triangle, Edge, Side, Mesh, blank, blankEdge}
 use Rattle.model.specs.Elements.{Kind, Triangles, Straps, Nothing, element?, restOf, cornersPer}
-use Rattle.model.specs.Split.{Part, Opening, copyOf, copyFor, groupAt, retargeted, moved, portion, onlyAt, copied, rewiredTriangles, rewiredStraps, otherEdges, atLongest}
+use Rattle.model.specs.Split.{Part, Opening, copyOf, copyFor, groupAt, moved, portion, onlyAt, copied, rewiredTriangles, rewiredStraps, otherEdges, atLongest}
 use Rattle.model.specs.Run as M
 use Rattle.model.specs.Calls.{tooSmall}
 use Rattle.mesh.specs.At.{particlesAt, edgesAt, boundaryAt, meshAt}
@@ -40,17 +40,17 @@ use Rattle.mesh.proofs.Lists.{particles-length}
 
 -- ---- elements
 
-module _ {K : Kind} {before n lc le : ℕ} {numbers groups : List ℕ} (R : ElementsRoom K before n lc le numbers groups) where
+module _ {K : Kind} {before n lc e : ℕ} {numbers groups : List ℕ} (R : ElementsRoom K before n lc e numbers groups) where
   -- the tables fit a list whose rows they name
   room-of : (rows : ℕ) → ((i : ℕ) → i < n → getD numbers i 0 < rows) → PartsRoom before n rows numbers groups
   room-of rows h = record { some = R .some; numbers-long = R .numbers-long; groups-long = R .groups-long; rising = R .rising; within = h; small = R .small }
 
   -- the triangles, and the edges
   pub triangles-room : K ≡ Triangles → PartsRoom before n (lc / 3) numbers groups
-  triangles-room e = room-of (lc / 3) (R .in-triangles e)
+  triangles-room q = room-of (lc / 3) (R .in-triangles q)
 
-  pub straps-room : K ≡ Straps → PartsRoom before n (le / 4) numbers groups
-  straps-room e = room-of (le / 4) (R .in-edges e)
+  pub straps-room : K ≡ Straps → PartsRoom before n e numbers groups
+  straps-room q = room-of e (R .in-edges q)
 
 module _ {K : Kind} {v before n : ℕ} {numbers groups corners ends : List ℕ} where
   -- where the elements are triangles the edges are as they were
@@ -134,7 +134,7 @@ module _ (e : ℕ) (A A′ : List ℕ) (B : List Float) (j : ℕ) (h : j < e) wh
 
 -- straps moved by an opening whose numbers these are: an edge that they do not name, so one that is not structural, is as it was
 strap-kept :
-    (O : Opening) (v before n e : ℕ) (numbers groups ends ends′ : List ℕ) (lengths : List Float) → PartsBy O v before n numbers groups → StrapsNamed Straps n numbers ends
+    (O : Opening) (v before n e : ℕ) (numbers groups ends ends′ : List ℕ) (lengths : List Float) → PartsBy O v before n numbers groups → StrapsNamed Straps v n numbers ends
     → edgesAt e ends′ lengths ≡ rewiredStraps Straps O (edgesAt e ends lengths)
     → (j : ℕ) → j < e → element? Straps (rowAt ends′ lengths j) ≡ false → rowAt ends′ lengths j ≡ rowAt ends lengths j
 unfolding rewiredStraps
@@ -159,7 +159,7 @@ strap-kept O v before n e numbers groups ends ends′ lengths P S E j l t =
 -- a row that is no element is as it was
 pub row-kept :
     (K : Kind) (v before n e : ℕ) (numbers groups corners corners′ ends ends′ : List ℕ) (lengths : List Float)
-    → ((i j : ℕ) → i < j → j < n → getD numbers i 0 < getD numbers j 0) → e ≤ length ends / 4 → StrapsNamed K n numbers ends
+    → ((i j : ℕ) → i < j → j < n → getD numbers i 0 < getD numbers j 0) → e ≤ length ends / 4 → StrapsNamed K v n numbers ends
     → ElementsRewired K v before n numbers groups corners corners′ ends ends′
     → (j : ℕ) → j < e → element? K (rowAt ends′ lengths j) ≡ false → rowAt ends′ lengths j ≡ rowAt ends lengths j
 unfolding rewiredStraps
@@ -184,16 +184,10 @@ copied-long O ps h =
     length-append (mapAt (onlyAt (O .v) (portion O 0)) ps) (map (λ (g : ℕ). portion O (suc g) (getD ps (O .v) blank)) (upTo (O .count - 1)))
     ∙ omega (arith, first, second)
 
--- the particles and the triangles where the edges are at their longest
+-- the particles where the edges are at their longest
 pub longest-particles : (K : Kind) (O : Opening) (A : Mesh) → 1 ≤ O .count → length (atLongest K O A .particles) ≡ length (A .particles) + O .count - 1
 unfolding atLongest
 longest-particles K O A h = copied-long O (A .particles) h
-
-pub longest-triangles : (K : Kind) (O : Opening) (A : Mesh) → length (atLongest K O A .triangles) ≡ length (A .triangles)
-unfolding atLongest rewiredTriangles
-longest-triangles Triangles O A = length-mapAt (λ i. retargeted (O .v) (copyOf O (groupAt (O .fan) i))) (A .triangles)
-longest-triangles Straps O A = refl
-longest-triangles Nothing O A = refl
 
 -- ---- what lacks
 
@@ -221,7 +215,7 @@ mesh-path d ea eb ec = λ i. record { particles = ea i; triangles = eb i; edges 
 module _ {K : Kind} {L : Rooms} {k : Counts} {v n count lp lr lc le ll : ℕ} {numbers verts : List ℕ} {measures : List Float} {groups : List ℕ} (R : GrowRoom L k lp lr lc le ll)
     (F : TablesFit K (k .particles) (k .triangles) (k .edges) v n count numbers verts measures groups) where
   -- what the elements ask
-  pub elements-room : count - 1 ≤ L .particles - k .particles → ElementsRoom K (k .particles) n lc le numbers groups
+  pub elements-room : count - 1 ≤ L .particles - k .particles → ElementsRoom K (k .particles) n lc (k .edges) numbers groups
   elements-room fits =
       let few = R .few-particles in
       let two = F .two in
@@ -232,7 +226,7 @@ module _ {K : Kind} {L : Rooms} {k : Counts} {v n count lp lr lc le ll : ℕ} {n
         groups-long = F .ring .groups;
         rising = F .rising;
         in-triangles = λ e i h. omega (arith, F .in-triangles e i h, R .corners);
-        in-edges = λ e i h. omega (arith, F .in-edges e i h, R .edges, R .ends);
+        in-edges = F .in-edges;
         small = λ i h. omega (arith, F .below i h);
       }
 
@@ -256,7 +250,7 @@ module _ {K : Kind} {L : Rooms} {k : Counts} {v n count lp lr lc le ll : ℕ} {n
 pub edges-room :
     {K : Kind} {L : Rooms} {k : Counts} {v n count lp lr lc : ℕ} {numbers verts : List ℕ} {measures : List Float} {groups corners corners′ ends ends′ : List ℕ} {lengths : List Float}
     → GrowRoom L k lp lr lc (length ends) (length lengths) → TablesFit K (k .particles) (k .triangles) (k .edges) v n count numbers verts measures groups
-    → EndsIn (k .particles) (k .edges) ends → StrapsNamed K n numbers ends → count - 1 ≤ L .particles - k .particles
+    → EndsIn (k .particles) (k .edges) ends → StrapsNamed K v n numbers ends → count - 1 ≤ L .particles - k .particles
     → ElementsRewired K v (k .particles) n numbers groups corners corners′ ends ends′ → length ends′ ≡ length ends → (c : ℕ) → c ≡ cornersPer K
     → EdgesRoom K v (k .particles) c n count (k .particles) (k .edges) (L .edges) verts groups lp ends′ lengths
 edges-room {K} {L} {k} {v} {n} {count} {lp} {lr} {lc} {numbers} {verts} {measures} {groups} {corners} {corners′} {ends} {ends′} {lengths} R F I S fits E long c e =

@@ -7,46 +7,51 @@ use mathlib.Core.Bool.{_&&_}
 use mathlib.Core.List.{List, [], map}
 use lib.ListN.{length, getD, take}
 use lib.Seq.{length-take-le, getD-take}
+use borrow.Rule.Slice.PartMut.{midOf, putMid}
 use lib.Ieee.{Float}
 use borrow.Author.Tests.{eq-eqb, ne-eqb}
 use Rattle.lists.specs.Lists.{all}
 use Rattle.columns.specs.Block.{cell}
 use Rattle.model.specs.Mesh.{Mesh}
-use Rattle.model.specs.Elements.{Kind, Triangles, Element, fanOf}
+use Rattle.model.specs.Elements.{Kind, Triangles, Straps, Element, fanOf}
 use Rattle.model.specs.Valid.{indicesFit, rootOk, cornersOk, endsOk, sideOk}
-use Rattle.model.specs.Split.{Part, Opening, copyFor, settled}
+use Rattle.model.specs.Split.{Part, Opening, copyFor}
 use Rattle.mesh.specs.At.{meshAt}
-use Rattle.mesh.specs.Log.{World, worldAt}
 use Rattle.mesh.specs.Filled.{lent}
 use Rattle.mesh.specs.declared.Counts.{Counts}
 use Rattle.mesh.specs.declared.Rooms.{Rooms}
 use Rattle.links.specs.Links.{LinksOf, cornerAfter}
 use Rattle.links.specs.Rooms.{CornersApart, FanLinked, SplitRoom}
-use Rattle.links.specs.Linked.{Linked, Linkable}
-use Rattle.links.proofs.Accepted.{corners-apart, apart-below}
+use Rattle.links.specs.Linked.{Linked, EdgesLinked, MeshLinked, MeshLinkable}
+use Rattle.links.proofs.Accepted.{corners-apart, ends-apart, apart-below}
+use Rattle.links.proofs.Parts.{edges-back}
 use Rattle.links.proofs.Fanned.{fan-numbers}
 use Rattle.links.proofs.Same.{links-split}
 use Rattle.rewire.specs.Stages.{PartsBy, TrianglesRewired}
 use Rattle.rewire.specs.Particles.{PartsRoom}
+use Rattle.rewire.specs.Edges.{StrapsRoom, TableRoom, LinkedGrown as EdgesGrew}
+use Rattle.rewire.proofs.LinkedLaws.{linked-rows}
 use Rattle.rewire.proofs.FanLaws.{numbers-are, groups-are}
 use Rattle.work.specs.Working.{Ready}
-use Rattle.work.proofs.Placed.{particles-count, triangles-count}
+use Rattle.work.proofs.Placed.{particles-count}
 use Rattle.work.specs.declared.Ran.{Ran}
 use Rattle.work.specs.declared.Ran.the-variants.{Refused, Done}
-use Rattle.split.specs.Tables.{FanGrouped, openedBy, TablesFit, FanLent, SidesGiven}
-use Rattle.split.specs.Steps.{GrowRoom, grownCounts, GrowthTold, settledWorld, splitWorld, Stepped}
-use Rattle.split.specs.Settling.{SettledFor}
+use Rattle.split.specs.Tables.{FanGrouped, TablesFit, FanLent, SidesGiven}
+use Rattle.split.specs.Steps.{GrowRoom}
+use Rattle.work.specs.Places.{EndsIn}
+use Rattle.work.specs.declared.Grown.{Grown}
+use Rattle.work.specs.declared.Grown.the-variants.{Rows}
+use Rattle.split.specs.Growing.{StrapsNamed, ElementsRoom}
 use Rattle.split.specs.Linking.{LinkedAfter, LinkedGrown, FanNamed, HeadsRoom}
 use Rattle.split.specs.declared.Grew.{Grew}
 use Rattle.split.specs.declared.Grew.the-variants.{Longest}
-use Rattle.split.proofs.GrowLaws.{tableOpening, table-parts, longest-triangles}
-use Rattle.split.proofs.StepLaws.{world-mesh, all-settled}
+use Rattle.split.proofs.GrowLaws.{tableOpening, table-parts, straps-room}
 use Rattle.split.proofs.TabledLaws.{fan-lent}
 use Rattle.lists.proofs.Sifts.{and-true}
 
 -- behind parts 1 to 3, where they had room
-pub grown-linked : {K : Kind} {t e : ℕ} {corners links : List ℕ} {g : Grew} → LinkedGrown K t corners links g → g ≡ Longest e → Linked K t corners links
-grown-linked {K} {t} {e} {corners} {links} X q = subst (LinkedGrown K t corners links) q X
+pub grown-linked : {K : Kind} {t e : ℕ} {corners ends links : List ℕ} {g : Grew} → LinkedGrown K t corners ends links g → g ≡ Longest e → MeshLinked K t e corners ends links
+grown-linked {K} {t} {e} {corners} {ends} {links} X q = subst (LinkedGrown K t corners ends links) q X
 
 -- ---- a fan read from the table
 
@@ -127,14 +132,30 @@ heads-room {L = L} {k} {v} {count = count} {groups = groups} R F fits =
     copy g l (yes q) = rw (eq-eqb g 0 q) (omega (arith, F .here, R .particles, R .few-particles))
     copy g l (no q) = rw (ne-eqb g 0 q) (omega (arith, R .particles, R .few-particles, q))
 
--- a split leaves as many triangles
-split-triangles : (K : Kind) (O : Opening) (W : World) → length (splitWorld K O W .mesh .triangles) ≡ length (W .mesh .triangles)
-unfolding splitWorld settledWorld settled
-split-triangles K O W = longest-triangles K O (W .mesh)
+-- the straps of the fan, whose table this is
+pub straps-linked :
+    {K : Kind} {v before t n lc e : ℕ} {numbers groups ends table : List ℕ} → ElementsRoom K before n lc e numbers groups → EndsIn before e ends → StrapsNamed K v n numbers ends → HeadsRoom v before t n lc groups
+    → EdgesLinked e ends table → K ≡ Straps → StrapsRoom v before n e numbers groups ends table
+straps-linked R I S H L q = record { parts = straps-room R q; linked = L; ends-in = I; holding = S .holding q; copies = H .copies }
+
+-- the other edges, whose table this is
+pub table-room : {K : Kind} {L : Rooms} {k : Counts} {v n count lp lr lc le ll : ℕ} {numbers verts : List ℕ} {measures : List Float} {groups ends table : List ℕ}
+    → GrowRoom L k lp lr lc le ll → TablesFit K (k .particles) (k .triangles) (k .edges) v n count numbers verts measures groups → count - 1 ≤ L .particles - k .particles
+    → EdgesLinked (k .edges) ends table → TableRoom (k .particles) count (k .particles) (k .edges) (L .edges) ends table
+table-room R F fits X =
+    let few = R .few-particles in
+    let most = R .particles in
+    let two = F .two in
+    record { linked = X; few = R .few-edges; most = omega arith; heads = omega arith; behind = omega arith }
+
+-- the tables behind parts 1 to 3: the triangles' is as it was, the edges' has grown
+pub grown-back : {K : Kind} {t e m : ℕ} {C E E′ l : List ℕ} {r : Grown} (x : List ℕ) → MeshLinked K t e C E l → length x ≡ length (midOf 4096 (length l - 4096) l) → r ≡ Rows m → EdgesGrew r E′ x
+    → MeshLinked K t m C E′ (putMid 4096 (length l - 4096) l x)
+grown-back x M n q X = edges-back M n (linked-rows q X)
 
 -- behind a worker that is done the next one finds what it asks
-pub linked-done : {K : Kind} {corners links : List ℕ} (r : Ran) (q : Counts) → r ≡ Done q → LinkedAfter K corners links r → Linked K (q .triangles) corners links
-linked-done {K} {corners} {links} r q e X = subst (λ (z : Ran). LinkedAfter K corners links z) e X
+pub linked-done : {K : Kind} {corners ends links : List ℕ} (r : Ran) (q : Counts) → r ≡ Done q → LinkedAfter K corners ends links r → MeshLinked K (q .triangles) (q .edges) corners ends links
+linked-done {K} {corners} {ends} {links} r q e X = subst (λ (z : Ran). LinkedAfter K corners ends links z) e X
 
 -- ---- beside a mesh in blocks
 
@@ -154,27 +175,43 @@ module _ (K : Kind) (L : Rooms) (k : Counts) (points : List Float) (roots corner
       subst (λ (m : ℕ). CornersApart m 3 (k .triangles) (cell 0 (length corners / 3) corners)) (particles-count k points roots corners volumes ends lengths outline)
       (corners-apart n (k .triangles) corners volumes (r .1))
 
-  -- the table can be built in lt places
-  pub linkable-ready : (lt : ℕ) → (K ≡ Triangles → 4096 ≤ lt) → Linkable K (k .triangles) corners lt
+  -- nor has an edge an end twice
+  ends-ready : CornersApart (k .particles) 2 (k .edges) (cell 0 (length ends / 4) ends)
+  unfolding indicesFit meshAt
+  ends-ready =
+      let n = length (M .particles) in
+      let p = and-true (all (rootOk n) (M .particles) && all (cornersOk n) (M .triangles) && all (endsOk n) (M .edges)) (all (sideOk n) (M .boundary)) (P .indices) in
+      let q = and-true (all (rootOk n) (M .particles) && all (cornersOk n) (M .triangles)) (all (endsOk n) (M .edges)) (p .0) in
+      subst (λ (m : ℕ). CornersApart m 2 (k .edges) (cell 0 (length ends / 4) ends)) (particles-count k points roots corners volumes ends lengths outline)
+      (ends-apart n (k .edges) ends lengths (q .1))
+
+  -- the tables can be built in lt places
+  pub linkable-ready : (lt : ℕ) → 9216 ≤ lt → MeshLinkable K (k .triangles) (k .edges) corners ends lt
   linkable-ready lt long =
       let R = P .rooms in
       let C = P .counts in
+      let most : k .particles ≤ 1024 = omega (arith, C .particles, R .few-particles) in
       record {
-        few = omega (arith, C .triangles, R .few-triangles);
-        rows = omega (arith, C .triangles, R .corners);
         long = long;
-        apart = λ e. apart-below (k .particles) 1024 3 (k .triangles) (cell 0 (length corners / 3) corners) (omega (arith, C .particles, R .few-particles)) apart-ready;
+        triangles = record {
+          few = omega (arith, C .triangles, R .few-triangles);
+          rows = omega (arith, C .triangles, R .corners);
+          long = λ e. omega arith;
+          apart = λ e. apart-below (k .particles) 1024 3 (k .triangles) (cell 0 (length corners / 3) corners) most apart-ready;
+        };
+        edges = record {
+          long = omega arith;
+          few = omega (arith, C .edges, R .few-edges);
+          rows = omega (arith, C .edges, R .ends);
+          apart = apart-below (k .particles) 1024 2 (k .edges) (cell 0 (length ends / 4) ends) most ends-ready;
+        };
       }
 
   -- what reading the fan of v asks
-  pub fan-ready : {v : ℕ} {links : List ℕ} (ln lk lm : ℕ) → v < k .particles → Linked K (k .triangles) corners links → 2048 ≤ ln → 4096 ≤ lk → 2048 ≤ lm
+  pub fan-ready : {v : ℕ} {links : List ℕ} (ln lk lm : ℕ) → v < k .particles → MeshLinked K (k .triangles) (k .edges) corners ends links → 2048 ≤ ln → 4096 ≤ lk → 2048 ≤ lm
       → FanLent (k .triangles) (k .edges) (length corners) (length volumes) (length ends) (length lengths) ln lk lm × Linked K (k .triangles) corners links × (v < 1024)
   fan-ready ln lk lm h X a b c =
-      (fan-lent K L k points roots corners volumes ends lengths outline log P ln lk lm a b c, X, omega (arith, h, P .counts .particles, P .rooms .few-particles))
-
-  -- v is among the particles, where sides are given for its fan
-  pub here-given : {v : ℕ} {sides : List ℕ} → SidesGiven K M v sides → v < k .particles
-  here-given {v} S = subst (λ (p : ℕ). v < p) (particles-count k points roots corners volumes ends lengths outline) (S .here)
+      (fan-lent K L k points roots corners volumes ends lengths outline log P ln lk lm a b c, X .triangles, omega (arith, h, P .counts .particles, P .rooms .few-particles))
 
   -- the tables of a fan name the triangles that hold v
   pub fan-named : {v n count : ℕ} {numbers verts : List ℕ} {measures : List Float} {groups : List ℕ} → FanGrouped K M v n count numbers verts measures groups → FanNamed K v (k .particles) (k .triangles) n numbers corners
@@ -184,34 +221,3 @@ module _ (K : Kind) (L : Rooms) (k : Counts) (points : List Float) (roots corner
         apart = λ e. apart-ready;
         fan = λ e. F .tabled .numbers-are ∙ ap (λ (X : Kind). map (λ (x : Element). x .number) (fanOf X M v)) e ∙ fan-numbers M (k .triangles) corners volumes v refl;
       }
-
-  -- the step leaves as many triangles, so the table that its first half left is that of the block
-  linked-stepped : (O : Opening) (extra : ℕ) (points′ : List Float) (roots′ corners′ ends′ : List ℕ) (lengths′ : List Float) (outline′ log′ links′ : List ℕ) (r : Ran)
-      → Stepped K O L extra (worldAt k points roots corners volumes ends lengths outline log) (λ q. worldAt q points′ roots′ corners′ volumes ends′ lengths′ outline′ log′) r
-      → Linked K (k .triangles) corners′ links′ → LinkedAfter K corners′ links′ r
-  linked-stepped O extra points′ roots′ corners′ ends′ lengths′ outline′ log′ links′ (Refused c) S X = tt
-  linked-stepped O extra points′ roots′ corners′ ends′ lengths′ outline′ log′ links′ (Done q) S X = subst (λ (t : ℕ). Linked K t corners′ links′) (sym same) X
-    where
-      W : World
-      W = worldAt k points roots corners volumes ends lengths outline log
-
-      same : q .triangles ≡ k .triangles
-      same =
-          sym (triangles-count q points′ roots′ corners′ volumes ends′ lengths′ outline′)
-          ∙ ap (λ (X : Mesh). length (X .triangles)) (sym (world-mesh q points′ roots′ corners′ volumes ends′ lengths′ outline′ log′))
-          ∙ ap (λ (X : World). length (X .mesh .triangles)) (S .3)
-          ∙ split-triangles K O W
-          ∙ ap (λ (X : Mesh). length (X .triangles)) (world-mesh k points roots corners volumes ends lengths outline log)
-          ∙ triangles-count k points roots corners volumes ends lengths outline
-
-  -- the two halves make the step, and the table is what the first one left
-  pub settled-linked : {v n count : ℕ} {numbers verts : List ℕ} {measures : List Float} {groups : List ℕ} (F : FanGrouped K M v n count numbers verts measures groups)
-      (points′ : List Float) (roots′ corners′ ends′ : List ℕ) (lengths′ : List Float) (g : Grew) (e extra : ℕ) (ends″ : List ℕ) (lengths″ : List Float) (outline″ log″ links′ : List ℕ) (r : Ran)
-      → GrowthTold K L k v n count numbers verts measures groups (λ q vol out. meshAt q points roots corners vol ends lengths out) (λ q vol out. meshAt q points′ roots′ corners′ vol ends′ lengths′ out) g
-      → LinkedGrown K (k .triangles) corners′ links′ g → g ≡ Longest e
-      → SettledFor K L extra v (k .particles) n count numbers verts groups (λ s. worldAt (grownCounts k (k .particles + count - 1) e) points′ s corners′ volumes ends′ lengths′ outline log)
-      (λ s q. worldAt q points′ s corners′ volumes ends″ lengths″ outline″ log″) r
-      → Stepped K (openedBy K M v n count groups) L extra (worldAt k points roots corners volumes ends lengths outline log) (λ q. worldAt q points′ roots′ corners′ volumes ends″ lengths″ outline″ log″) r × LinkedAfter K corners′ links′ r
-  settled-linked {v} {n} {count} {groups = groups} F points′ roots′ corners′ ends′ lengths′ g e extra ends″ lengths″ outline″ log″ links′ r T X q S =
-      let Z = all-settled K L k points roots corners volumes ends lengths outline log P F points′ roots′ corners′ ends′ lengths′ g e extra ends″ lengths″ outline″ log″ r T q S in
-      (Z, linked-stepped (openedBy K M v n count groups) extra points′ roots′ corners′ ends″ lengths″ outline″ log″ links′ r Z (grown-linked X q))

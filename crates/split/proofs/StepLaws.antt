@@ -91,7 +91,7 @@ module _ (K : Kind) (L : Rooms) (k : Counts) (points : List Float) (roots corner
   pub ends-here : EndsIn (k .particles) (k .edges) ends
   ends-here = ends-in k points roots corners volumes ends lengths outline (P .indices)
 
-  pub named-here : StrapsNamed K n numbers ends
+  pub named-here : StrapsNamed K v n numbers ends
   named-here = straps-named K k points roots corners volumes ends lengths outline v n numbers verts measures (F .tabled)
 
   opens : Opens K O v (k .particles) n count numbers verts measures groups

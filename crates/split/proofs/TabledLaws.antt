@@ -85,15 +85,17 @@ module _ {K : Kind} {M : Mesh} {v n : ℕ} {numbers verts : List ℕ} {measures 
     pub splits-not : count < 2 → splits? (openingOf K M v (take n sides)) M ≡ false
     splits-not h = splits-told ∙ ap (λ (b : Bool). b && ne (particle M v .inv) zero32) (lt-leb 2 count h)
 
-    pub splits-pinned : ne (particle M v .inv) zero32 ≡ false → splits? (openingOf K M v (take n sides)) M ≡ false
-    splits-pinned e = splits-told ∙ ap (λ (b : Bool). leb 2 count && b) e ∙ and-false (leb 2 count)
-      where
-        and-false : (b : Bool) → (b && false) ≡ false
-        and-false true = refl
-        and-false false = refl
-
     pub splits-so : 2 ≤ count → ne (particle M v .inv) zero32 ≡ true → splits? (openedBy K M v n count groups) M ≡ true
     splits-so h e = ap (λ (O : Opening). splits? O M) opening-found ∙ splits-told ∙ ap (λ (b : Bool). leb 2 count && b) e ∙ ap (λ (b : Bool). b && true) (le-leb 2 count h)
+
+-- one that is pinned does not split
+and-false : (b : Bool) → (b && false) ≡ false
+and-false true = refl
+and-false false = refl
+
+splits-pinned : (K : Kind) (M : Mesh) (v : ℕ) (sides : List ℕ) → ne (particle M v .inv) zero32 ≡ false → splits? (openingOf K M v sides) M ≡ false
+unfolding splits? openingOf
+splits-pinned K M v sides e = ap (λ (b : Bool). leb 2 (openingOf K M v sides .count) && b) e ∙ and-false (leb 2 (openingOf K M v sides .count))
 
 -- ---- over the blocks
 
@@ -129,7 +131,7 @@ module _ (K : Kind) (L : Rooms) (k : Counts) (points : List Float) (roots corner
     few-stays h = stays (splits-not F G h)
 
     pub pinned-stays : (t : Bool) → t ≡ ne (getD points (5 * (length points / pointColumns) + v) nan) zero32 → t ≡ false → Works (splitBySides K v (take n sides)) L (at k) at (Done k)
-    pinned-stays t u e = stays (splits-pinned F G (ap (λ (x : Float). ne x zero32) inverse-is ∙ sym u ∙ e))
+    pinned-stays t u e = stays (splits-pinned K M v (take n sides) (ap (λ (x : Float). ne x zero32) inverse-is ∙ sym u ∙ e))
 
     pub split-works : 2 ≤ count → (t : Bool) → t ≡ ne (getD points (5 * (length points / pointColumns) + v) nan) zero32 → t ≡ true → (at′ : Counts → World) (r : Ran)
         → Stepped K (openedBy K M v n count groups) L 0 (at k) at′ r → Works (splitBySides K v (take n sides)) L (at k) at′ r
@@ -158,6 +160,19 @@ module _ (K : Kind) (L : Rooms) (k : Counts) (points : List Float) (roots corner
         verts = b;
         measures = c;
       }
+
+  -- v is there, where sides are given for its fan
+  pub given-in : {v : ℕ} {sides : List ℕ} → SidesGiven K (meshAt k points roots corners volumes ends lengths outline) v sides → v < k .particles
+  given-in {v} S = subst (λ (p : ℕ). v < p) (particles-count k points roots corners volumes ends lengths outline) (S .here)
+
+  -- where it is pinned, the mesh stays as it is
+  pub given-pinned : {v : ℕ} {sides : List ℕ} → SidesGiven K (meshAt k points roots corners volumes ends lengths outline) v sides → (t : Bool) → t ≡ ne (getD points (5 * (length points / pointColumns) + v) nan) zero32 → t ≡ false
+      → Works (splitBySides K v sides) L (worldAt k points roots corners volumes ends lengths outline log) (λ q. worldAt q points roots corners volumes ends lengths outline log) (Done k)
+  given-pinned {v} {sides} S t u e =
+      works-unsplit K v sides L (λ q. worldAt q points roots corners volumes ends lengths outline log) k (P .counts)
+      (ap (λ (X : Mesh). splits? (openingOf K X v sides) X) (world-mesh k points roots corners volumes ends lengths outline log)
+      ∙ splits-pinned K (meshAt k points roots corners volumes ends lengths outline) v sides
+      (ap (λ (x : Float). ne x zero32) (inverse-at k points roots corners volumes ends lengths outline v (given-in S)) ∙ sym u ∙ e))
 
   module _ {v n : ℕ} {numbers verts : List ℕ} {measures : List Float} (F : FanRead K v (k .triangles) (k .edges) corners volumes ends lengths n numbers verts measures) where
     -- the tables hold the fan of the mesh in the blocks

@@ -9,14 +9,14 @@ use Rattle.mesh.specs.Log.{worldAt}
 use Rattle.mesh.specs.Blocks.{NumbersIn, IndicesIn, Numbers, Indices}
 use Rattle.mesh.specs.declared.Counts.{Counts}
 use Rattle.mesh.specs.declared.Rooms.{Rooms}
-use Rattle.links.specs.Linked.{LinkedIn}
+use Rattle.links.specs.Linked.{MeshLinked, LinkedIn}
 use Rattle.work.specs.Places.{EndsIn}
 use Rattle.work.specs.declared.Ran.{Ran}
 use Rattle.split.specs.declared.Grew.{Grew}
 use Rattle.split.specs.Tables.{FanGrouped, FanSided, TablesFit}
 use Rattle.split.specs.Steps.{GrowRoom, GrowthTold}
-use Rattle.split.specs.Growing.{StrapsNamed}
-use Rattle.split.specs.Linking.{FanNamed, LinkedAfter, LinkedGrown}
+use Rattle.split.specs.Growing.{StrapsNamed, ElementsRoom}
+use Rattle.split.specs.Linking.{FanNamed, HeadsRoom, LinkedAfter, LinkedGrown}
 use Rattle.split.specs.Settling.{SettleAsked, SettledFor}
 
 -- ---- the tables of a fan
@@ -28,25 +28,36 @@ GroupedIn K M v n count numbers verts measures groups = FanGrouped K M v n count
 abbrev pub SidedIn : Kind → Mesh → ℕ → ℕ → IndicesIn → IndicesIn → NumbersIn → IndicesIn → Type 0
 SidedIn K M v n numbers verts measures sides = FanSided K M v n (now numbers) (now verts) (now measures) (now sides)
 
--- a table has a place for each edge, to mark it in
+-- a table has a place for each edge, to mark or to list it in
 abbrev pub MaskIn : IndicesIn → Type 0
 MaskIn mask = 2048 ≤ length (now mask)
 
--- behind a worker that came to r: where it is done, the table of links is that of the block again
-abbrev pub LinkedBehind : Kind → Indices → Indices → Ran → Type 0
-LinkedBehind K corners links r = LinkedAfter K (now (corners .exit)) (now (links .exit)) r
+-- behind a worker that came to r: where it is done, the tables of links are those of the blocks again
+abbrev pub LinkedBehind : Kind → Indices → Indices → Indices → Ran → Type 0
+LinkedBehind K corners ends links r = LinkedAfter K (now (corners .exit)) (now (ends .exit)) (now (links .exit)) r
 
 -- ---- parts 1 to 3
 
+-- the elements of the fan have room, their tables are those of the blocks, and the ends name particles
+abbrev pub ElementsIn : Kind → ℕ → ℕ → ℕ → ℕ → ℕ → IndicesIn → IndicesIn → IndicesIn → IndicesIn → IndicesIn → Type 0
+ElementsIn K v before t e n numbers groups corners ends links =
+    ElementsRoom K before n (length (now corners)) e (now numbers) (now groups)
+    × MeshLinked K t e (now corners) (now ends) (now links)
+    × FanNamed K v before t n (now numbers) (now corners)
+    × HeadsRoom v before t n (length (now corners)) (now groups)
+    × EndsIn before e (now ends)
+    × StrapsNamed K v n (now numbers) (now ends)
+
 -- the blocks have room, the tables hold a split of v by `count` groups of n elements, the ends name particles, and the links are those of the block
-abbrev pub GrowIn : Kind → Rooms → Counts → ℕ → ℕ → ℕ → IndicesIn → IndicesIn → NumbersIn → IndicesIn → NumbersIn → IndicesIn → IndicesIn → IndicesIn → NumbersIn → IndicesIn → Type 0
-GrowIn K L k v n count numbers verts measures groups points roots corners ends lengths links =
+abbrev pub GrowIn : Kind → Rooms → Counts → ℕ → ℕ → ℕ → IndicesIn → IndicesIn → NumbersIn → IndicesIn → NumbersIn → IndicesIn → IndicesIn → IndicesIn → NumbersIn → IndicesIn → IndicesIn → Type 0
+GrowIn K L k v n count numbers verts measures groups points roots corners ends lengths list links =
     GrowRoom L k (length (now points)) (length (now roots)) (length (now corners)) (length (now ends)) (length (now lengths))
     × TablesFit K (k .particles) (k .triangles) (k .edges) v n count (now numbers) (now verts) (now measures) (now groups)
     × EndsIn (k .particles) (k .edges) (now ends)
-    × StrapsNamed K n (now numbers) (now ends)
-    × LinkedIn K k corners links
+    × StrapsNamed K v n (now numbers) (now ends)
+    × LinkedIn K k corners ends links
     × FanNamed K v (k .particles) (k .triangles) n (now numbers) (now corners)
+    × MaskIn list
 
 -- what they came to, whatever stands in the blocks of volumes and of the outline
 abbrev pub GrewIn : Kind → Rooms → Counts → ℕ → ℕ → ℕ → Indices → Indices → Numbers → Indices → Numbers → Indices → Indices → Indices → Numbers → Indices → Grew → Type 0
@@ -54,7 +65,7 @@ GrewIn K L k v n count numbers verts measures groups points roots corners ends l
     GrowthTold K L k v n count (now (numbers .entry)) (now (verts .entry)) (now (measures .entry)) (now (groups .entry))
     (λ q volumes outline. meshAt q (now (points .entry)) (now (roots .entry)) (now (corners .entry)) volumes (now (ends .entry)) (now (lengths .entry)) outline)
     (λ q volumes outline. meshAt q (now (points .exit)) (now (roots .exit)) (now (corners .exit)) volumes (now (ends .exit)) (now (lengths .exit)) outline) r
-    × LinkedGrown K (k .triangles) (now (corners .exit)) (now (links .exit)) r
+    × LinkedGrown K (k .triangles) (now (corners .exit)) (now (ends .exit)) (now (links .exit)) r
 
 -- ---- parts 4 to 6
 
@@ -63,11 +74,12 @@ abbrev pub SettleIn : Kind → Rooms → Counts → ℕ → ℕ → ℕ → ℕ 
 SettleIn K L k v before n count extra numbers verts groups points corners volumes ends lengths outline log mask links =
     SettleAsked K L k v before n count extra (now numbers) (now verts) (now groups) (length (now points)) (length (now corners)) (length (now volumes)) (now ends) (length (now lengths)) (now outline) (length (now log))
     × MaskIn mask
-    × LinkedIn K k corners links
+    × LinkedIn K k corners ends links
 
 -- what they came to, whatever stands in the block of roots
-abbrev pub SettledIn : Kind → Rooms → ℕ → ℕ → ℕ → ℕ → ℕ → Counts → Indices → Indices → Indices → Numbers → Indices → Numbers → Indices → Numbers → Indices → Indices → Ran → Type 0
-SettledIn K L extra v before n count k numbers verts groups points corners volumes ends lengths outline log r =
+abbrev pub SettledIn : Kind → Rooms → ℕ → ℕ → ℕ → ℕ → ℕ → Counts → Indices → Indices → Indices → Numbers → Indices → Numbers → Indices → Numbers → Indices → Indices → Indices → Ran → Type 0
+SettledIn K L extra v before n count k numbers verts groups points corners volumes ends lengths outline log links r =
     SettledFor K L extra v before n count (now (numbers .entry)) (now (verts .entry)) (now (groups .entry))
     (λ roots. worldAt k (now (points .entry)) roots (now (corners .entry)) (now (volumes .entry)) (now (ends .entry)) (now (lengths .entry)) (now (outline .entry)) (now (log .entry)))
     (λ roots q. worldAt q (now (points .exit)) roots (now (corners .exit)) (now (volumes .exit)) (now (ends .exit)) (now (lengths .exit)) (now (outline .exit)) (now (log .exit))) r
+    × LinkedBehind K corners ends links r

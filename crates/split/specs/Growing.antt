@@ -1,6 +1,7 @@
 -- Parts 1 to 3 of a split in their steps: elements rewired, and masses shared out. Only contracts between workers need this file. Definitions only.
 use Prim.Native.Nat.{ℕ, _+_, _-_, _/_, _<_, _≤_}
 use mathlib.Core.Path.{_≡_}
+use mathlib.Core.Bool.{true}
 use mathlib.Core.List.{List}
 use lib.ListN.{length, getD}
 use lib.Ieee.{Float}
@@ -11,20 +12,22 @@ use Rattle.mesh.specs.At.{particlesAt, trianglesAt, edgesAt}
 use Rattle.mesh.specs.Widths.{pointColumns}
 use Rattle.split_plan.specs.Opened.{Weighted}
 use Rattle.split_plan.specs.Answers.{Grouped}
+use Rattle.links.specs.Links.{holds}
 use Rattle.rewire.specs.Stages.{PartsBy}
 
--- the straps that the tables name are structural edges
-pub record StrapsNamed (K : Kind) (n : ℕ) (numbers ends : List ℕ) : Type 0 where
+-- the straps that the tables name are structural edges at v
+pub record StrapsNamed (K : Kind) (v n : ℕ) (numbers ends : List ℕ) : Type 0 where
   pub structural : K ≡ Straps → (i : ℕ) → i < n → cell 0 (length ends / 4) ends 2 (getD numbers i 0) ≡ 1
+  pub holding : K ≡ Straps → (i : ℕ) → i < n → holds 2 (cell 0 (length ends / 4) ends) v (getD numbers i 0) ≡ true
 
--- the first n numbers rise and name triangles or straps of blocks of lc and le places, and the copies of their groups are small
-pub record ElementsRoom (K : Kind) (before n lc le : ℕ) (numbers groups : List ℕ) : Type 0 where
+-- the first n numbers rise and name triangles of a block of lc places, or straps among e edges, and the copies of their groups are small
+pub record ElementsRoom (K : Kind) (before n lc e : ℕ) (numbers groups : List ℕ) : Type 0 where
   pub some : 0 < before
   pub numbers-long : n ≤ length numbers
   pub groups-long : n ≤ length groups
   pub rising : (i j : ℕ) → i < j → j < n → getD numbers i 0 < getD numbers j 0
   pub in-triangles : K ≡ Triangles → (i : ℕ) → i < n → getD numbers i 0 < lc / 3
-  pub in-edges : K ≡ Straps → (i : ℕ) → i < n → getD numbers i 0 < le / 4
+  pub in-edges : K ≡ Straps → (i : ℕ) → i < n → getD numbers i 0 < e
   pub small : (i : ℕ) → i < n → before + getD groups i 0 ≤ 65536
 
 -- the elements of the fan have their groups' copies for v, in the list of their kind

@@ -1,4 +1,4 @@
--- The table of fans through a split: what the workers ask of it, and what they leave. Definitions only.
+-- The tables of triangles and edges through a split: what the workers ask of them, and what they leave. Definitions only.
 use Prim.Native.Nat.{ℕ, _/_, _<_, _≤_}
 use mathlib.Core.Path.{_≡_}
 use mathlib.Core.List.{List}
@@ -8,23 +8,23 @@ use Rattle.model.specs.Elements.{Kind, Triangles}
 use Rattle.model.specs.Split.{copyFor}
 use Rattle.links.specs.Links.{cellsOf}
 use Rattle.links.specs.Rooms.{CornersApart}
-use Rattle.links.specs.Linked.{Linked}
+use Rattle.links.specs.Linked.{MeshLinked}
 use Rattle.work.specs.declared.Ran.{Ran}
 use Rattle.work.specs.declared.Ran.the-variants.{Refused, Done}
 use Rattle.split.specs.declared.Grew.{Grew}
 use Rattle.split.specs.declared.Grew.the-variants.{Lacking, Longest}
 
--- behind a worker: where it is done, the table is that of the block again
-abbrev pub LinkedAfter : Kind → List ℕ → List ℕ → Ran → Type 0
-LinkedAfter K corners links (Refused c) = Unit {0}
-LinkedAfter K corners links (Done q) = Linked K (q .triangles) corners links
+-- behind a worker: where it is done, the tables are those of the blocks again
+abbrev pub LinkedAfter : Kind → List ℕ → List ℕ → List ℕ → Ran → Type 0
+LinkedAfter K corners ends links (Refused c) = Unit {0}
+LinkedAfter K corners ends links (Done q) = MeshLinked K (q .triangles) (q .edges) corners ends links
 
 -- ---- only contracts between workers need what follows
 
--- behind parts 1 to 3: where they had room, the table is that of the block again
-abbrev pub LinkedGrown : Kind → ℕ → List ℕ → List ℕ → Grew → Type 0
-LinkedGrown K t corners links (Lacking c) = Unit {0}
-LinkedGrown K t corners links (Longest e) = Linked K t corners links
+-- behind parts 1 to 3: where they had room, the tables are those of the blocks again
+abbrev pub LinkedGrown : Kind → ℕ → List ℕ → List ℕ → List ℕ → Grew → Type 0
+LinkedGrown K t corners ends links (Lacking c) = Unit {0}
+LinkedGrown K t corners ends links (Longest e) = MeshLinked K t e corners ends links
 
 -- where the elements are triangles: the corners of t triangles are among so many particles, none has one twice, and the first n numbers are of those that hold v
 pub record FanNamed (K : Kind) (v before t n : ℕ) (numbers corners : List ℕ) : Type 0 where

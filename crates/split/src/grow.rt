@@ -5,12 +5,11 @@ ghost use Rattle.columns.specs.Block.{cell};
 ghost use Rattle.elements.specs.Table.{kindIs};
 ghost use Rattle.links.specs.Links.{LinksOf};
 ghost use Rattle.links.specs.Rooms.{SplitRoom};
-ghost use Rattle.links.specs.Linked.{Linked};
+ghost use Rattle.links.specs.Linked.{MeshLinked};
 ghost use Rattle.rewire.specs.Stages.{TrianglesRewired};
 ghost use Rattle.rewire.specs.Particles.{PartsRoom};
-ghost use Rattle.split.specs.Linking.{FanNamed, HeadsRoom};
-ghost use Rattle.split.specs.Growing.{ElementsRoom, ElementsRewired, ShareRoom, SharedOut};
-ghost use Rattle.split.specs.Blocks.{GrowIn, GrewIn};
+ghost use Rattle.split.specs.Growing.{ElementsRewired, ShareRoom, SharedOut};
+ghost use Rattle.split.specs.Blocks.{ElementsIn, GrowIn, GrewIn};
 use crate::Grew;
 use elements::Kind;
 use mesh::Counts;
@@ -51,12 +50,13 @@ fn rewire_linked(
     rewire::fans::rewire_triangles(v, before, n, numbers, groups, corners);
 }
 
-// Puts the copies of the groups for v in the elements of the fan, triangles or straps. There are t triangles.
+// Puts the copies of the groups for v in the elements of the fan, triangles or straps. There are t triangles and e edges.
 fn rewire_elements(
     kind: Kind,
     v: usize,
     before: usize,
     t: usize,
+    e: usize,
     n: usize,
     numbers: &[usize],
     groups: &[usize],
@@ -64,18 +64,35 @@ fn rewire_elements(
     ends: &mut [usize],
     links: &mut [u16],
 )
-    requires { ⌜ (let K = kindIs kind in ElementsRoom K before n (length (now corners)) (length (now ends)) (now numbers) (now groups) ×
-        Linked K t (now corners) (now links) × FanNamed K v before t n (now numbers) (now corners) × HeadsRoom v before t n
-        (length (now corners)) (now groups)) ⌝ }
+    requires { ⌜ ElementsIn (kindIs kind) v before t e n numbers groups corners ends links ⌝ }
     ensures { λ _. ⌜ ElementsRewired (kindIs kind) v before n (now (numbers .entry)) (now (groups .entry)) (now (corners .entry))
-        (now (corners .exit)) (now (ends .entry)) (now (ends .exit)) × Linked (kindIs kind) t (now (corners .exit)) (now (links .exit)) ⌝ }
+        (now (corners .exit)) (now (ends .entry)) (now (ends .exit)) × MeshLinked (kindIs kind) t e (now (corners .exit)) (now (ends .exit))
+        (now (links .exit)) ⌝ }
 {
     match kind {
         Kind::Triangles => {
-            rewire_linked(v, before, t, n, numbers, groups, corners, links);
+            rewire_linked(
+                v,
+                before,
+                t,
+                n,
+                numbers,
+                groups,
+                corners,
+                &mut links[..4096],
+            );
         }
         Kind::Straps => {
-            rewire::fans::rewire_straps(v, before, n, numbers, groups, ends);
+            rewire::linked::rewire_straps(
+                v,
+                before,
+                n,
+                e,
+                numbers,
+                groups,
+                ends,
+                &mut links[4096..],
+            );
         }
         Kind::Nothing => {}
     }
@@ -100,7 +117,7 @@ fn share_out(
     rewire::particles::copy_particles(v, before, count, n, total, groups, measures, points, roots);
 }
 
-// Parts 1 to 3 of a split of v by the groups of its fan: after them the edges are at their longest.
+// Parts 1 to 3 of a split of v by the groups of its fan: after them the edges are at their longest. The list is lent for the edges at v.
 pub fn grow(
     kind: Kind,
     v: usize,
@@ -117,9 +134,10 @@ pub fn grow(
     corners: &mut [usize],
     ends: &mut [usize],
     lengths: &mut [f32],
+    list: &mut [usize],
     links: &mut [u16],
 ) -> Grew
-    requires { ⌜ GrowIn (kindIs kind) room k v n count numbers verts measures groups points roots corners ends lengths links ⌝ }
+    requires { ⌜ GrowIn (kindIs kind) room k v n count numbers verts measures groups points roots corners ends lengths list links ⌝ }
     ensures { λ r. ⌜ GrewIn (kindIs kind) room k v n count numbers verts measures groups points roots corners ends lengths links r ⌝ }
 {
     let before = k.particles;
@@ -127,9 +145,22 @@ pub fn grow(
         return Grew::Lacking(5);
     }
     let t = k.triangles;
-    rewire_elements(kind, v, before, t, n, numbers, groups, corners, ends, links);
+    let e = k.edges;
+    rewire_elements(
+        kind,
+        v,
+        before,
+        t,
+        e,
+        n,
+        numbers,
+        groups,
+        corners,
+        ends,
+        links,
+    );
     let per = elements::corners_per(kind);
-    let grown = rewire::edges::other_edges(
+    let grown = rewire::linked::other_edges(
         kind,
         v,
         before,
@@ -137,13 +168,15 @@ pub fn grow(
         n,
         count,
         before,
-        k.edges,
+        e,
         room.edges,
         verts,
         groups,
         points,
         ends,
         lengths,
+        &mut links[4096..],
+        list,
     );
     let Grown::Rows(m) = grown else {
         return Grew::Lacking(6);

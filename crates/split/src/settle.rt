@@ -7,7 +7,7 @@ ghost use Rattle.elements.specs.Table.{kindIs};
 ghost use Rattle.links.specs.Linked.{LinkedIn};
 ghost use Rattle.work.specs.Removal.{markedOf};
 ghost use Rattle.split.specs.Settling.{FacetsAsked, FacetsTold, BoundaryAsked, BoundaryTold, CopiesNoted, SplitAsked, SplitNoted, DropAsked, Dropped};
-ghost use Rattle.split.specs.Blocks.{MaskIn, SettleIn, SettledIn};
+ghost use Rattle.split.specs.Blocks.{MaskIn, SettleIn, SettledIn, LinkedBehind};
 use elements::Kind;
 use mesh::Counts;
 use mesh::Rooms;
@@ -164,14 +164,15 @@ fn drop_straddlers(
     lengths: &mut [f32],
     log: &mut [u32],
     mask: &mut [usize],
-    links: &[u16],
+    links: &mut [u16],
 ) -> Ran
     requires { ⌜ DropAsked (kindIs kind) room k v before n count extra (length (now verts)) (length (now groups)) (length (now corners))
-        (now ends) (length (now lengths)) (length (now log)) × MaskIn mask × LinkedIn (kindIs kind) k corners links ⌝ }
+        (now ends) (length (now lengths)) (length (now log)) × MaskIn mask × LinkedIn (kindIs kind) k corners ends links ⌝ }
     ensures { λ r. ⌜ Dropped (kindIs kind) room k v before n count extra rows (now (verts .entry)) (now (groups .entry))
         (now (corners .entry)) (now (ends .entry)) (now (ends .exit)) (now (lengths .entry)) (now (lengths .exit)) (now (log .entry))
-        (now (log .exit)) r ⌝ }
+        (now (log .exit)) r × LinkedBehind (kindIs kind) corners ends links r ⌝ }
 {
+    let shared = &links[..];
     let s = rewire::straddling::mark_straddlers(
         kind,
         v,
@@ -184,7 +185,8 @@ fn drop_straddlers(
         groups,
         corners,
         ends,
-        links,
+        shared,
+        &shared[4096..],
         mask,
     );
     let m = count - 1;
@@ -192,7 +194,7 @@ fn drop_straddlers(
         return Ran::Refused(8);
     }
     let entries = note_split(v, before, m, k.log, k.edges, s, mask, ends, log);
-    let left = work::removal::drop_marked(mask, k.edges, s, ends, lengths);
+    let left = rewire::linked::drop_marked(mask, k.edges, s, ends, lengths, &mut links[4096..]);
     Ran::Done(Counts {
         particles: k.particles,
         triangles: k.triangles,
@@ -223,12 +225,12 @@ pub fn settle(
     outline: &mut [usize],
     log: &mut [u32],
     mask: &mut [usize],
-    links: &[u16],
+    links: &mut [u16],
 ) -> Ran
     requires { ⌜ SettleIn (kindIs kind) room k v before n count extra numbers verts groups points corners volumes ends lengths outline log
         mask links ⌝ }
     ensures { λ r. ⌜ SettledIn (kindIs kind) room extra v before n count k numbers verts groups points corners volumes ends lengths outline
-        log r ⌝ }
+        log links r ⌝ }
 {
     let grown = open_boundary(
         kind,

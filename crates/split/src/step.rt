@@ -46,9 +46,9 @@ pub fn split_opened(
 ) -> Ran
     requires { ⌜ (let K = kindIs kind in ReadyIn room k points roots corners volumes ends lengths outline log
         × GroupedIn K (meshIn k points roots corners volumes ends lengths outline) v n count numbers verts measures groups × (extra ≤ 1)
-        × MaskIn mask × LinkedIn K k corners links) ⌝ }
+        × MaskIn mask × LinkedIn K k corners ends links) ⌝ }
     ensures { λ r. ⌜ (let K = kindIs kind in OverBlocks (λ M W at. Stepped K (openedBy K M v n count (now (groups .entry))) room extra
-        W at r) k points roots corners volumes ends lengths outline log × LinkedBehind K corners links r) ⌝ }
+        W at r) k points roots corners volumes ends lengths outline log × LinkedBehind K corners ends links r) ⌝ }
 {
     let before = k.particles;
     let t = k.triangles;
@@ -70,6 +70,7 @@ pub fn split_opened(
         corners,
         ends,
         lengths,
+        mask,
         links,
     );
     match grew {
@@ -141,9 +142,9 @@ pub fn split_tabled(
 ) -> Ran
     requires { ⌜ (let K = kindIs kind in ReadyIn room k points roots corners volumes ends lengths outline log
         × SidedIn K (meshIn k points roots corners volumes ends lengths outline) v n numbers verts measures sides × MaskIn sides
-        × MaskIn groups × LinkedIn K k corners links) ⌝ }
+        × MaskIn groups × LinkedIn K k corners ends links) ⌝ }
     ensures { λ r. ⌜ (let K = kindIs kind in WorksIn (splitBySides K v (take n (now (sides .entry)))) room k points roots corners volumes
-        ends lengths outline log r × LinkedBehind K corners links r) ⌝ }
+        ends lengths outline log r × LinkedBehind K corners ends links r) ⌝ }
 {
     let count = crate::fans::group_fan(kind, v, n, verts, sides, groups);
     if count < 2 {
@@ -177,7 +178,7 @@ pub fn split_tabled(
     Ran::Done(k)
 }
 
-// Splits v by a side for each element of its fan, by tables of its own.
+// Splits v by a side for each element of its fan, by tables of its own; where v is pinned none is made.
 fn split_fan(
     kind: Kind,
     v: usize,
@@ -198,13 +199,16 @@ fn split_fan(
     ensures { λ r. ⌜ WorksIn (splitBySides (kindIs kind) v (now (sides .entry))) room k points roots corners volumes ends lengths outline
         log r ⌝ }
 {
+    if !is_free(v, points) {
+        return Ran::Done(k);
+    }
     let mut numbers = [0usize; 2048];
     let mut verts = [0usize; 4096];
     let mut measures = [0.0f32; 2048];
     let mut own = [0usize; 2048];
     let mut groups = [0usize; 2048];
-    let mut links = [0u16; 4096];
-    links::link_mesh(kind, k.triangles, corners, &mut links);
+    let mut links = [0u16; 9216];
+    links::link_mesh(kind, k.triangles, k.edges, corners, ends, &mut links);
     let n = crate::fans::fan_tables(
         kind,
         v,

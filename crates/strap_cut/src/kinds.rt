@@ -44,8 +44,15 @@ fn cut_triangles(
     let mut measures = [0.0f32; 2048];
     let mut sides = [0usize; 2048];
     let mut groups = [0usize; 2048];
-    let mut links = [0u16; 4096];
-    links::link_mesh(Kind::Triangles, k.triangles, corners, &mut links);
+    let mut links = [0u16; 9216];
+    links::link_mesh(
+        Kind::Triangles,
+        k.triangles,
+        k.edges,
+        corners,
+        ends,
+        &mut links,
+    );
     cut::facets::cut_facets(
         rule,
         b0,
@@ -92,8 +99,15 @@ fn split_triangles(
     let mut measures = [0.0f32; 2048];
     let mut sides = [0usize; 2048];
     let mut groups = [0usize; 2048];
-    let mut links = [0u16; 4096];
-    links::link_mesh(Kind::Triangles, k.triangles, corners, &mut links);
+    let mut links = [0u16; 9216];
+    links::link_mesh(
+        Kind::Triangles,
+        k.triangles,
+        k.edges,
+        corners,
+        ends,
+        &mut links,
+    );
     cut::facets::split_pinched(
         k,
         room,

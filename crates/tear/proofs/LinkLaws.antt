@@ -96,6 +96,10 @@ module _ (e : ℕ) (ends heads₀ nexts₀ heads nexts : List ℕ) (j : ℕ) (L 
   pub sum-met : EndsIn 1024 e ends → 0 < j → endSum ends (j - 1) < 2047
   sum-met B h = sum-small e ends (j - 1) B (omega (arith, L .inside))
 
+  -- the head that a turn reads is at least j: where it fits, the number of the edge does
+  pub head-met : EndsIn 1024 e ends → 0 < j → j ≤ getD heads (endSum ends (j - 1)) 0
+  head-met B h = let small = sum-met B h in L .linked .head (endSum ends (j - 1)) (omega (arith, small)) .from
+
   -- a turn
   pub linking-more : EndsIn 1024 e ends → 2048 ≤ length heads₀ → e ≤ length nexts₀ → 0 < j → Linking e ends heads₀ nexts₀ (set heads (endSum ends (j - 1)) (j - 1)) (set nexts (j - 1) (getD heads (endSum ends (j - 1)) 0)) (j - 1)
   linking-more B long room h =

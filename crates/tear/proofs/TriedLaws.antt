@@ -15,7 +15,7 @@ use Rattle.mesh.specs.At.{trianglesAt, edgesAt, meshAt}
 use Rattle.mesh.specs.declared.Counts.{Counts}
 use Rattle.elements.specs.Table.{Cornered, Tabled, TableRoom, elementsIn}
 use Rattle.elements.proofs.Found.{elements-in, fan-of}
-use Rattle.links.specs.Linked.{Linked}
+use Rattle.links.specs.Linked.{Linked, MeshLinked}
 use Rattle.reach.specs.Walk.{Lent}
 use Rattle.reach.specs.Opens.{Opens}
 use Rattle.reach.proofs.Opening.{lent-by, opens-is}
@@ -34,7 +34,7 @@ module _ (K : Kind) (k : Counts) (points : List Float) (roots corners : List ℕ
   M = meshAt k points roots corners volumes ends lengths outline
 
   -- what reading the fan asks
-  pub way-lent : {links : List ℕ} (ln lk lm ls : ℕ) → WayTables ln lk lm ls → Linked K (k .triangles) corners links
+  pub way-lent : {links : List ℕ} (ln lk lm ls : ℕ) → WayTables ln lk lm ls → MeshLinked K (k .triangles) (k .edges) corners ends links
       → FanLent (k .triangles) (k .edges) (length corners) (length volumes) (length ends) (length lengths) ln lk lm × Linked K (k .triangles) corners links × (v < 1024)
   way-lent ln lk lm ls T X = (
     record {
@@ -47,7 +47,7 @@ module _ (K : Kind) (k : Counts) (points : List Float) (roots corners : List ℕ
       verts = T .verts;
       measures = T .measures;
     },
-    X,
+    X .triangles,
     omega (arith, P .v-in, P .few-particles),
   )
 

@@ -31,7 +31,7 @@ pub fn both_ends(x: usize, y: usize, a: usize, b: usize) -> bool
 }
 
 // Links the edges whose ends have the same sum: the first of each sum in heads, and behind each edge the next in nexts; e where there is none.
-fn link_edges(e: usize, ends: &[usize], heads: &mut [usize], nexts: &mut [usize])
+fn link_sums(e: usize, ends: &[usize], heads: &mut [u16], nexts: &mut [u16])
     requires { ⌜ LinkRoom e (now ends) (now heads) (length (now nexts)) ⌝ }
     ensures { λ _. ⌜ Linked 0 e (now (ends .entry)) (now (heads .exit)) (now (nexts .exit)) ⌝ }
 {
@@ -41,7 +41,7 @@ fn link_edges(e: usize, ends: &[usize], heads: &mut [usize], nexts: &mut [usize]
         i -= 1;
         let sum = ends[i] + ends[c + i];
         nexts[i] = heads[sum];
-        heads[sum] = i;
+        heads[sum] = i as u16;
     }
 }
 
@@ -53,8 +53,8 @@ fn pair_load(
     e: usize,
     ends: &[usize],
     lengths: &[f32],
-    heads: &[usize],
-    nexts: &[usize],
+    heads: &[u16],
+    nexts: &[u16],
 ) -> f32
     requires { ⌜ EdgeRoom e (length (now ends)) (length (now lengths)) × Links e (now ends) (now heads) (now nexts) × Apart x y ⌝ }
     ensures { λ r. ⌜ PairLoad load x y e (now (ends .entry)) (now (lengths .entry)) r ⌝ }
@@ -63,13 +63,13 @@ fn pair_load(
     let m = lengths.len() / 4;
     let mut most: f32 = 0.0;
     let mut found = false;
-    let mut i = heads[x + y];
+    let mut i = heads[x + y] as usize;
     while i < e {
         if both_ends(x, y, ends[i], ends[c + i]) {
             most = float::larger::larger(most, lengths[3 * m + i]);
             found = true;
         }
-        i = nexts[i];
+        i = nexts[i] as usize;
     }
     if found {
         return float::larger::larger(load, most);
@@ -85,8 +85,8 @@ fn triangle_load(
     volumes: &[f32],
     ends: &[usize],
     lengths: &[f32],
-    heads: &[usize],
-    nexts: &[usize],
+    heads: &[u16],
+    nexts: &[u16],
 ) -> f32
     requires { ⌜ LoadRoom (i < length (now corners) / 3) (i < length (now volumes) / 2) e (length (now ends)) (length (now lengths))
         × Links e (now ends) (now heads) (now nexts) × Sound 1024 (triangleRow (length (now corners) / 3) (length (now volumes) / 2)
@@ -112,8 +112,8 @@ fn linked_loads(
     volumes: &[f32],
     ends: &[usize],
     lengths: &[f32],
-    heads: &[usize],
-    nexts: &[usize],
+    heads: &[u16],
+    nexts: &[u16],
     loads: &mut [f32],
 )
     requires { ⌜ LoadRoom (t ≤ length (now corners) / 3) (t ≤ length (now volumes) / 2) e (length (now ends)) (length (now lengths))
@@ -136,8 +136,8 @@ pub fn read_loads(
     volumes: &[f32],
     ends: &[usize],
     lengths: &[f32],
-    heads: &mut [usize],
-    nexts: &mut [usize],
+    heads: &mut [u16],
+    nexts: &mut [u16],
     loads: &mut [f32],
 )
     requires { ⌜ LoadRoom (t ≤ length (now corners) / 3) (t ≤ length (now volumes) / 2) e (length (now ends)) (length (now lengths))
@@ -146,6 +146,6 @@ pub fn read_loads(
     ensures { λ _. ⌜ LoadsRead t e (now (corners .entry)) (now (volumes .entry)) (now (ends .entry)) (now (lengths .entry))
         (now (loads .exit)) ⌝ }
 {
-    link_edges(e, ends, heads, nexts);
+    link_sums(e, ends, heads, nexts);
     linked_loads(t, e, corners, volumes, ends, lengths, heads, nexts, loads);
 }

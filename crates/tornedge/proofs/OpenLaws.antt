@@ -37,7 +37,7 @@ use Rattle.mesh.specs.Widths.{pointColumns}
 use Rattle.elements.specs.Table.{TableRoom}
 use Rattle.work.specs.Working.{Within, Ready, Works}
 use Rattle.split.specs.Tables.{FanGrouped, FanSided, GroupsFound, openedBy}
-use Rattle.links.specs.Linked.{Linked}
+use Rattle.links.specs.Linked.{MeshLinked}
 use Rattle.split.specs.Linking.{LinkedAfter}
 use Rattle.work.specs.declared.Ran.{Ran}
 use Rattle.work.specs.declared.Ran.the-variants.{Done}
@@ -204,12 +204,12 @@ module _ (K : Kind) (min v w : ℕ) (ab xy : ℕ × ℕ) (L : Rooms) (W : World)
         taken-works at′ (Done k) (λ ls. none) (λ ls. ap₂ (λ (y z : Option Way). firstOf y z) (shut .0 ls) (S .0 ls))
         (λ ls. subst (λ (X : World). Works (λ R. R) L X at′ (Done k)) (S .1) (works-stay {at = at′} k b))
 
--- the table behind a way that opened, and behind one that did not
-pub linked-torn : (K : Kind) (t : ℕ) (corners links : List ℕ) (s : Tried) (r : Ran) → s ≡ Tore r → LinkedTried K t corners links s → LinkedAfter K corners links r
-linked-torn K t corners links s r e X = subst (LinkedTried K t corners links) e X
+-- the tables behind a way that opened, and behind one that did not
+pub linked-torn : (K : Kind) (t e : ℕ) (corners ends links : List ℕ) (s : Tried) (r : Ran) → s ≡ Tore r → LinkedTried K t e corners ends links s → LinkedAfter K corners ends links r
+linked-torn K t e corners ends links s r q X = subst (LinkedTried K t e corners ends links) q X
 
-pub linked-shut : (K : Kind) (t : ℕ) (corners links : List ℕ) (s : Tried) → s ≡ Not → LinkedTried K t corners links s → Linked K t corners links
-linked-shut K t corners links s e X = subst (LinkedTried K t corners links) e X
+pub linked-shut : (K : Kind) (t e : ℕ) (corners ends links : List ℕ) (s : Tried) → s ≡ Not → LinkedTried K t e corners ends links s → MeshLinked K t e corners ends links
+linked-shut K t e corners ends links s q X = subst (LinkedTried K t e corners ends links) q X
 
 -- ---- their order
 

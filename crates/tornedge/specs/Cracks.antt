@@ -13,7 +13,7 @@ use Rattle.model.specs.Run.{opened}
 use Rattle.model.specs.Split.{Opening, splitStep}
 use Rattle.model.specs.Pieces.{opensWithoutConfetti}
 use Rattle.model.specs.Crack.{Way, wayAt, firstOf, torn, crackBy, crackPair, crackEdge}
-use Rattle.links.specs.Linked.{Linked}
+use Rattle.links.specs.Linked.{MeshLinked}
 use Rattle.mesh.specs.Log.{World}
 use Rattle.mesh.specs.declared.Counts.{Counts}
 use Rattle.mesh.specs.declared.Rooms.{Rooms}
@@ -47,10 +47,10 @@ abbrev pub TriedTo : Kind → ℕ → ℕ → ℕ → ℕ × ℕ → ℕ × ℕ 
 TriedTo K min v w ab xy L k W at Not = ((ls : List Float) → openWay K ls min (W .mesh) v w ≡ none) × (at k ≡ W)
 TriedTo K min v w ab xy L k W at (Tore r) = (ls : List Float) → (p : Way) × ((openWay K ls min (W .mesh) v w ≡ some p) × Works (crackBy K (some p) ab xy) L W at r)
 
--- behind a way that was tried: the table is that of the block, as it was or as the split left it
-abbrev pub LinkedTried : Kind → ℕ → List ℕ → List ℕ → Tried → Type 0
-LinkedTried K t corners links Not = Linked K t corners links
-LinkedTried K t corners links (Tore r) = LinkedAfter K corners links r
+-- behind a way that was tried: the tables are those of the blocks, as they were or as the split left them
+abbrev pub LinkedTried : Kind → ℕ → ℕ → List ℕ → List ℕ → List ℕ → Tried → Type 0
+LinkedTried K t e corners ends links Not = MeshLinked K t e corners ends links
+LinkedTried K t e corners ends links (Tore r) = LinkedAfter K corners ends links r
 
 -- ---- one edge
 
@@ -66,6 +66,6 @@ pub record PairTold (K : Kind) (min t : ℕ) (ab xy : ℕ × ℕ) (loads : List 
 pub record CrackTold (K : Kind) (min a b t : ℕ) (loads : List Float) (L : Rooms) (W : World) (at : Counts → World) (r : Ran) : Type 0 where
   pub works : (ls : List Float) → (K ≡ Triangles → take t loads ≡ ls) → Works (λ R. crackEdge K ls min R (a, b)) L W at r
 
--- `LinkedTried` of a block and a table, as a contract names them
-abbrev pub TriedBehind : Kind → Counts → Indices → Indices → Tried → Type 0
-TriedBehind K k corners links r = LinkedTried K (k .triangles) (now (corners .exit)) (now (links .exit)) r
+-- `LinkedTried` of blocks and a table, as a contract names them
+abbrev pub TriedBehind : Kind → Counts → Indices → Indices → Indices → Tried → Type 0
+TriedBehind K k corners ends links r = LinkedTried K (k .triangles) (k .edges) (now (corners .exit)) (now (ends .exit)) (now (links .exit)) r

@@ -55,9 +55,9 @@ fn open_way(
 ) -> Tried
     requires { ⌜ (let K = kindIs kind in let M = meshIn k points roots corners volumes ends lengths outline in ReadyIn room k points roots
         corners volumes ends lengths outline log × SidedIn K M v n numbers verts measures sides × (twoSided M v (take n (now sides)) ≡ true)
-        × TearAsked v w x y a b (k .particles) × MaskIn sides × LinkedIn K k corners links) ⌝ }
+        × TearAsked v w x y a b (k .particles) × MaskIn sides × LinkedIn K k corners ends links) ⌝ }
     ensures { λ r. ⌜ (let K = kindIs kind in OverBlocks (λ M W at. OpenedTo K minimum (openingOf K M v (take n (now (sides .entry))))
-        (a, b) (x, y) room k W at r) k points roots corners volumes ends lengths outline log × TriedBehind K k corners links r) ⌝ }
+        (a, b) (x, y) room k W at r) k points roots corners volumes ends lengths outline log × TriedBehind K k corners ends links r) ⌝ }
 {
     let mut groups = [0usize; 2048];
     let count = split::fans::group_fan(kind, v, n, verts, sides, &mut groups);
@@ -132,10 +132,10 @@ fn try_way(
     links: &mut [u16],
 ) -> Tried
     requires { ⌜ ReadyIn room k points roots corners volumes ends lengths outline log × WayAsked v w x y a b (k .particles)
-        × LinkedIn (kindIs kind) k corners links ⌝ }
+        × LinkedIn (kindIs kind) k corners ends links ⌝ }
     ensures { λ r. ⌜ (let K = kindIs kind in TriedTo K minimum v w (a, b) (x, y) room k
         (worldBefore k points roots corners volumes ends lengths outline log) (λ q. worldBehind q points roots corners volumes ends lengths
-        outline log) r × TriedBehind K k corners links r) ⌝ }
+        outline log) r × TriedBehind K k corners ends links r) ⌝ }
 {
     let mut numbers = [0usize; 2048];
     let mut verts = [0usize; 4096];
@@ -213,10 +213,10 @@ fn crack_ends(
     links: &mut [u16],
 ) -> Ran
     requires { ⌜ ReadyIn room k points roots corners volumes ends lengths outline log × WayAsked v w x y a b (k .particles)
-        × WayAsked w v x y a b (k .particles) × LinkedIn (kindIs kind) k corners links ⌝ }
+        × WayAsked w v x y a b (k .particles) × LinkedIn (kindIs kind) k corners ends links ⌝ }
     ensures { λ r. ⌜ (let K = kindIs kind in EndsTold K minimum v w (a, b) (x, y) room
         (worldBefore k points roots corners volumes ends lengths outline log) (λ q. worldBehind q points roots corners volumes ends lengths
-        outline log) r × LinkedBehind K corners links r) ⌝ }
+        outline log) r × LinkedBehind K corners ends links r) ⌝ }
 {
     let first = try_way(
         kind,
@@ -291,9 +291,9 @@ fn crack_pair(
     links: &mut [u16],
 ) -> Ran
     requires { ⌜ (let K = kindIs kind in ReadyIn room k points roots corners volumes ends lengths outline log × LoadsLong K k
-        (length (now loads)) × (x < k .particles) × (y < k .particles) × (a < 1024) × (b < 1024) × LinkedIn K k corners links) ⌝ }
+        (length (now loads)) × (x < k .particles) × (y < k .particles) × (a < 1024) × (b < 1024) × LinkedIn K k corners ends links) ⌝ }
     ensures { λ r. ⌜ (let K = kindIs kind in OverBlocks (λ M W at. PairTold K minimum (k .triangles) (a, b) (x, y) (now (loads .entry)) room W
-        at r) k points roots corners volumes ends lengths outline log × LinkedBehind K corners links r) ⌝ }
+        at r) k points roots corners volumes ends lengths outline log × LinkedBehind K corners ends links r) ⌝ }
 {
     let other = tear::edge::turned(
         kind,
@@ -355,10 +355,10 @@ pub fn crack_edge(
     links: &mut [u16],
 ) -> Ran
     requires { ⌜ (let K = kindIs kind in ReadyIn room k points roots corners volumes ends lengths outline log × Logged (k .log) (now log)
-        × LoadsLong K k (length (now loads)) × (a < 1024) × (b < 1024) × LinkedIn K k corners links) ⌝ }
+        × LoadsLong K k (length (now loads)) × (a < 1024) × (b < 1024) × LinkedIn K k corners ends links) ⌝ }
     ensures { λ r. ⌜ (let K = kindIs kind in CrackTold K minimum a b (k .triangles) (now (loads .entry)) room
         (worldBefore k points roots corners volumes ends lengths outline log) (λ q. worldBehind q points roots corners volumes ends lengths
-        outline log) r × LinkedBehind K corners links r) ⌝ }
+        outline log) r × LinkedBehind K corners ends links r) ⌝ }
 {
     let pair = tear::edge::pair_now(
         kind,

@@ -151,17 +151,16 @@ fn tearing_rows() -> Vec<Rows> {
         let fan = second::fan(m, second::kind(m), v).len();
         Args::Split { v, sides: (0..fan).map(|i| (2 * i >= fan) as u8).collect() }
     };
+    // Nothing splits, but the tables are made that a split needs.
+    let whole = |m: &Mesh| Args::Split { v, sides: vec![0; second::fan(m, second::kind(m), v).len()] };
     let apart = second::cut(&m, Blade::new(-1., -1., 23., 23.), 0.1).mesh;
     let mut joined = apart.clone();
     (m.px.len()..apart.px.len()).for_each(|copy| joined.edge(apart.root[copy], copy as u32, false, 0.0));
     let pin = "grid, split at a pinned particle (idle)";
     let pin_apart = "grid in two pieces, split at a pinned particle (idle)";
     vec![
-        rows(
-            &m,
-            (pin, &pinned(&m, v), split(&m)),
-            [("grid, two sides at the middle", split(&m)), ("grid", Args::Straddlers)],
-        ),
+        rows(&m, (pin, &pinned(&m, v), split(&m)), [("grid", Args::Straddlers)]),
+        rows(&m, ("grid, all on one side (idle)", &m, whole(&m)), [("grid, two sides at the middle", split(&m))]),
         rows(&apart, (pin_apart, &pinned(&apart, v), split(&apart)), [("grid in two pieces", Args::Straddlers)]),
         rows(
             &joined,
@@ -188,16 +187,20 @@ fn tearing_rows() -> Vec<Rows> {
         ),
     ]
 }
-/// The same split on grids of 8, 16 and 22, and the same cut of one strap on ropes of 250, 500 and 1,000: the work apart is to stay what it is.
+/// The same split on grids of 8, 16 and 22 and on ropes of 250, 500 and 1,000: the work apart is to stay what it is. The idle call has the same tables made, and all sides
+/// of the fan alike, so that nothing splits: what a call does once, however many particles it splits, is not the split's. Behind them the same cut of one strap on those ropes.
 fn growth_rows() -> Vec<Rows> {
+    let split_of = |name: &'static str, m: &Mesh, v: u32| {
+        let fan = second::fan(m, second::kind(m), v).len();
+        let split = |two: bool| Args::Split { v, sides: (0..fan).map(|i| (two && 2 * i >= fan) as u8).collect() };
+        rows(m, ("the same, all on one side (idle)", m, split(false)), [(name, split(true))])
+    };
     let grids = [("grid of 8", 8), ("grid of 16", 16), ("grid of 22", 22)].map(|(name, size)| {
-        let m = grid(size, size, &mut Rng::new(1), 0.0);
-        let v = ((size / 2) * (size + 1) + size / 2) as u32;
-        let fan = second::fan(&m, second::kind(&m), v).len();
-        let split = || Args::Split { v, sides: (0..fan).map(|i| (2 * i >= fan) as u8).collect() };
-        rows(&m, ("the same, pinned (idle)", &pinned(&m, v), split()), [(name, split())])
+        split_of(name, &grid(size, size, &mut Rng::new(1), 0.0), ((size / 2) * (size + 1) + size / 2) as u32)
     });
-    let ropes = [("rope of 250", 250), ("rope of 500", 500), ("rope of 1,000", 1000)].map(|(name, size)| {
+    let split_ropes =
+        [("rope of 250", 250), ("rope of 500", 500), ("rope of 1,000", 1000)].map(|(name, size)| split_of(name, &rope(size), 60));
+    let ropes = [("strap in a rope of 250", 250), ("strap in a rope of 500", 500), ("strap in a rope of 1,000", 1000)].map(|(name, size)| {
         let line = rope(size);
         let blade = |x: f32, y0: f32, y1: f32| Args::Cut {
             blade: [x, y0, x, y1].map(f32::to_bits),
@@ -207,7 +210,7 @@ fn growth_rows() -> Vec<Rows> {
         };
         rows(&line, ("the same, missed (idle)", &line, blade(60.25, -3., -2.)), [(name, blade(60.25, -1., 2.))])
     });
-    grids.into_iter().chain(ropes).collect()
+    grids.into_iter().chain(split_ropes).chain(ropes).collect()
 }
 /// The body that `connected_pieces` counts: elements alone. It goes by shared particles, ours by shared sides: the Rust has no such count.
 fn elements_alone(m: &Mesh) -> SoftBody {
@@ -494,10 +497,10 @@ fn wanted(all: &[Measured], grown: &[Measured]) {
         let what = format!("all rows: ours / Rust from the image; the largest is `{}`, {}", r.function, r.mesh);
         verdict(&format!("{what}; {rows} of {} rows reach it", imaged.len()), *got, FROM_IMAGE);
     }
-    for kind in ["grid", "rope"] {
+    for (kind, of) in [("grid", "split"), ("rope", "split"), ("strap", "cut")] {
         let apart: Vec<f64> = grown.iter().filter(|r| r.mesh.starts_with(kind)).filter_map(|r| r.apart).collect();
         if let (Some(first), Some(last)) = (apart.first(), apart.last()) {
-            let what = format!("the work apart of one split, largest {kind} / smallest: {} / {}", time(*last), time(*first));
+            let what = format!("the work apart of one {of}, {kind}: in the largest / in the smallest: {} / {}", time(*last), time(*first));
             verdict(&what, last / first, GROWTH);
         }
     }

@@ -4,7 +4,7 @@
 //! replay read FILE: the Rust, the archive and every wrong variant of the second writing against it.
 use crate::api::Mesh;
 use crate::entries::{Args, ENTRIES, Entry, GROUPS, Group, Input, Lending, Raw, Table, archive, call};
-use crate::expect::{Expected, expected, fault, hex_words};
+use crate::expect::{Expected, checked, expected, fault, hex_words, outcome};
 use crate::faults::{Fault, faults, plant};
 use crate::image::Image;
 use crate::inputs::{Kind, fields, input, need};
@@ -31,37 +31,82 @@ const TRIES: u64 = 2_000;
 // ---- the list -----------------------------------------------------------------------------
 
 fn plain(image: Mesh, args: Args) -> Raw {
-    let lending = Lending { places: [64, 64, 64, 64], length: None, log: 24 * 8 };
+    lent(image, args, [64, 64, 64, 64], 8)
+}
+/// A call with these places of particles, triangles, edges and boundary, and of log entries.
+fn lent(image: Mesh, args: Args, places: [u32; 4], entries: usize) -> Raw {
+    let lending = Lending { places, length: None, log: 24 * entries };
     let mut i = Input { image: Image::new(image), args, lending, out: 0 };
     i.out = need(&i);
     i.raw()
+}
+/// The worked strap.
+fn strap() -> Mesh {
+    let mut m = Mesh::default();
+    m.particle(0., 0., 1.0, false);
+    m.particle(8., 0., 1.0, false);
+    m.edge(0, 1, true, 8.0);
+    m
+}
+/// The worked square.
+fn square() -> Mesh {
+    let mut m = Mesh::default();
+    for (x, y) in [(0., 0.), (4., 0.), (4., 4.), (0., 4.)] {
+        m.particle(x, y, 1.0, false);
+    }
+    m.triangle(0, 1, 2, 8.0);
+    m.triangle(0, 2, 3, 8.0);
+    m.edge(0, 2, true, 32f32.sqrt());
+    m.edge(1, 3, false, 32f32.sqrt());
+    for i in 0..4 {
+        m.bound(i, (i + 1) % 4);
+    }
+    m
+}
+/// Six straps in a row, loaded and moving, of which the third is torn.
+fn row() -> Mesh {
+    let mut m = Mesh::default();
+    for i in 0..7 {
+        m.particle(i as f32, 1.0, 1.0, false);
+    }
+    (m.vx, m.vy) = (vec![1.0; 7], vec![1.0; 7]);
+    for i in 0..6 {
+        m.edge(i, i + 1, true, 1.0);
+    }
+    (m.impulse, m.estress) = (vec![1.0; 6], vec![1.0; 6]);
+    m.torn[2] = 1;
+    m
+}
+fn cut(edition: u32, b: [f32; 4], fraction: f32) -> Args {
+    Args::Cut { blade: b.map(f32::to_bits), length: None, edition, fraction: fraction.to_bits() }
+}
+/// The two worked cuts, a split and a crack, with as many places as they take on their way: the square has three edges until a straddler goes.
+/// The row opens behind its torn strap: before it a part of two straps would come off, and three is the least.
+fn just_enough() -> Vec<Raw> {
+    vec![
+        lent(strap(), cut(1, [2., -1., 2., 1.], 0.1), [4, 0, 2, 0], 2),
+        lent(square(), cut(1, [-1., -1., 5., 5.], 0.1), [6, 2, 3, 6], 8),
+        lent(square(), Args::Split { v: 0, sides: vec![0, 1] }, [5, 2, 3, 6], 8),
+        lent(row(), Args::Crack { torn: vec![2], length: None, minimum: 3 }, [8, 0, 6, 0], 2),
+    ]
+}
+/// The mesh that a call gives; one of triangles comes without edges and boundary, which its pieces do not ask for.
+fn given(c: &Raw) -> Mesh {
+    let before = checked(c).expect("an accepted call");
+    let mut m = outcome(c, &before).mesh;
+    if !m.ta.is_empty() {
+        m.drop_rows(2, &vec![true; m.ea.len()]);
+        m.drop_rows(3, &vec![true; m.ba.len()]);
+    }
+    m
 }
 /// The cases to hold (R15) for the entries that give a mesh.
 fn document_tearing() -> Vec<Raw> {
     let fan = document_fan();
     let mut pinned = fan.clone();
     pinned.inv[0] = 0.0;
-    let mut strap = Mesh::default();
-    strap.particle(0., 0., 1.0, false);
-    strap.particle(8., 0., 1.0, false);
-    strap.edge(0, 1, true, 8.0);
-    let mut square = Mesh::default();
-    for (x, y) in [(0., 0.), (4., 0.), (4., 4.), (0., 4.)] {
-        square.particle(x, y, 1.0, false);
-    }
-    square.triangle(0, 1, 2, 8.0);
-    square.triangle(0, 2, 3, 8.0);
-    square.edge(0, 2, true, 32f32.sqrt());
-    square.edge(1, 3, false, 32f32.sqrt());
-    for i in 0..4 {
-        square.bound(i, (i + 1) % 4);
-    }
-    let cut = |edition: u32, b: [f32; 4]| Args::Cut {
-        blade: b.map(f32::to_bits),
-        length: None,
-        edition,
-        fraction: 0.1f32.to_bits(),
-    };
+    let (strap, square) = (strap(), square());
+    let cut = |edition: u32, b: [f32; 4]| cut(edition, b, 0.1);
     let blade = |b: [f32; 4]| cut(1, b);
     let mut moving = strap.clone();
     (moving.vx, moving.vy) = (vec![1.0, -3.0], vec![0.1, 0.7]);
@@ -89,6 +134,9 @@ fn document_tearing() -> Vec<Raw> {
         plain(square.clone(), cut(0, diagonal)),
         plain(Mesh::default(), cut(2, diagonal)),
     ];
+    // The first of them again, as much lent, with a fraction above a half.
+    let enough = just_enough();
+    let above = Raw { number: 0.75f32.to_bits(), ..enough[0].clone() };
     let split = |m: &Mesh, sides: Vec<u8>| plain(m.clone(), Args::Split { v: 0, sides });
     vec![
         split(&fan, vec![0, 0, 0]),
@@ -102,6 +150,8 @@ fn document_tearing() -> Vec<Raw> {
     ]
     .into_iter()
     .chain(editions)
+    .chain(enough)
+    .chain([above])
     .collect()
 }
 /// The cases to hold (R15) for the entries that read.
@@ -124,6 +174,11 @@ fn document() -> Vec<Raw> {
     for x in [0.0f32, 4.0, 0.25] {
         list.push(plain(Mesh::default(), Args::Root { bits: x.to_bits() }));
     }
+    list.push(plain(square(), Args::Pieces));
+    for sides in [vec![0, 0], vec![0, 1], vec![0, 2]] {
+        list.push(plain(square(), Args::Groups { v: 0, sides }));
+    }
+    list.extend(just_enough().iter().map(|c| plain(given(c), Args::Pieces)));
     list
 }
 /// The worked sheet (R15.7) in both editions and without its outline, its fields, its listings, and the fan of a corner of its square.

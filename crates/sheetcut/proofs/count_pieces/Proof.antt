@@ -2,7 +2,10 @@
 use native.Mathlib.Omega.{arith}
 use borrow.Author.Needs.{needs}
 use mathlib.Core.Path.{sym}
+use Prim.Native.Nat.{ℕ}
+use lib.ListN.{length-replicate}
 use lib.Seq.{length-take-le}
+use Rattle.arguments.proofs.Cornering.{blank}
 use Rattle.sheetcut.proofs.Counting.{short-told, lent-told, pieces-told}
 use Rattle.sheetcut.proofs.count_pieces.Statement.{statement}
 use Rattle.sheetcut.proofs.count_pieces.Tie as tie
@@ -25,29 +28,33 @@ element-table-requires c κs = search needs
 corners-per-requires : tie.Need-corners-per-requires
 corners-per-requires c κs = search needs
 
-slice-aggregate-count-pieces : tie.Need-slice-aggregate-count-pieces
-slice-aggregate-count-pieces c = search needs
+slice-aggregate-count-sides : tie.Need-slice-aggregate-count-sides
+slice-aggregate-count-sides c = search needs
 
-slice-aggregate-count-pieces-2 : tie.Need-slice-aggregate-count-pieces-2
-slice-aggregate-count-pieces-2 c = search needs
+slice-aggregate-count-sides-2 : tie.Need-slice-aggregate-count-sides-2
+slice-aggregate-count-sides-2 c = search needs
 
-slice-aggregate-count-pieces-3 : tie.Need-slice-aggregate-count-pieces-3
-slice-aggregate-count-pieces-3 c = search needs
+slice-aggregate-count-sides-3 : tie.Need-slice-aggregate-count-sides-3
+slice-aggregate-count-sides-3 c = search needs
 
-array-borrow-prefix-labels : tie.Need-array-borrow-prefix-labels
-array-borrow-prefix-labels c = short-told (c .before .before .before .before .before .before .before .before .before .before .before .before .before .before .before .before .args .k) _ _ _ _ (c .before .before .before .before .before .before .before .before .before .before .before .before .before .before .before .before .pre) (c .before .before .before .before .before .before .before .before .before .before .before .kind-of .result) _ _ _ _ _ (c .before .before .before .before .before .before .before .element-table .ensures) (c .before .before .before .corners-per .ensures)
+slice-aggregate-count-sides-4 : tie.Need-slice-aggregate-count-sides-4
+slice-aggregate-count-sides-4 c = search needs
 
-slice-aggregate-count-pieces-4 : tie.Need-slice-aggregate-count-pieces-4
-slice-aggregate-count-pieces-4 c = sym (length-take-le _ _ (short-told (c .before .before .before .before .before .before .before .before .before .before .before .before .before .before .before .before .before .args .k) _ _ _ _ (c .before .before .before .before .before .before .before .before .before .before .before .before .before .before .before .before .before .pre) (c .before .before .before .before .before .before .before .before .before .before .before .before .kind-of .result) _ _ _ _ _ (c .before .before .before .before .before .before .before .before .element-table .ensures) (c .before .before .before .before .corners-per .ensures)))
+array-borrow-prefix-parent : tie.Need-array-borrow-prefix-parent
+array-borrow-prefix-parent c = short-told (c .before .before .before .before .before .before .before .before .before .before .before .before .before .before .before .before .before .args .k) _ _ _ _ (c .before .before .before .before .before .before .before .before .before .before .before .before .before .before .before .before .before .pre) (c .before .before .before .before .before .before .before .before .before .before .before .before .kind-of .result) _ _ _ _ _ (c .before .before .before .before .before .before .before .before .element-table .ensures) (c .before .before .before .before .corners-per .ensures)
 
-count-pieces-requires : tie.Need-count-pieces-requires
-count-pieces-requires c κs =
-    let T = c .before .before .before .before .before .before .before .before .element-table in
-    lent-told (c .before .before .before .before .before .before .before .before .before .before .before .before .before .before .before .before .before .args .k) _ _ _ _ (c .before .before .before .before .before .before .before .before .before .before .before .before .before .before .before .before .before .pre) (c .before .before .before .before .before .before .before .before .before .before .before .before .kind-of .result) _ _ _ _ _ (c .before .before .before .before .before .before .before .before .element-table .ensures) (c .before .before .before .before .corners-per .ensures) (omega (arith, T .kept .1 .1 .1 .1 .1 .1 .1 .1 .0)) (length-take-le _ _ (short-told (c .before .before .before .before .before .before .before .before .before .before .before .before .before .before .before .before .before .args .k) _ _ _ _ (c .before .before .before .before .before .before .before .before .before .before .before .before .before .before .before .before .before .pre) (c .before .before .before .before .before .before .before .before .before .before .before .before .kind-of .result) _ _ _ _ _ (c .before .before .before .before .before .before .before .before .element-table .ensures) (c .before .before .before .before .corners-per .ensures)))
+slice-aggregate-count-sides-5 : tie.Need-slice-aggregate-count-sides-5
+slice-aggregate-count-sides-5 c = sym (length-take-le _ _ (short-told (c .before .before .before .before .before .before .before .before .before .before .before .before .before .before .before .before .before .before .args .k) _ _ _ _ (c .before .before .before .before .before .before .before .before .before .before .before .before .before .before .before .before .before .before .pre) (c .before .before .before .before .before .before .before .before .before .before .before .before .before .kind-of .result) _ _ _ _ _ (c .before .before .before .before .before .before .before .before .before .element-table .ensures) (c .before .before .before .before .before .corners-per .ensures)))
+
+count-sides-requires : tie.Need-count-sides-requires
+count-sides-requires c κs =
+    let T = c .before .before .before .before .before .before .before .before .before .element-table in
+    let h = length-replicate {A = ℕ} 4096 0 in
+    lent-told (c .before .before .before .before .before .before .before .before .before .before .before .before .before .before .before .before .before .before .args .k) _ _ _ _ (c .before .before .before .before .before .before .before .before .before .before .before .before .before .before .before .before .before .before .pre) (c .before .before .before .before .before .before .before .before .before .before .before .before .before .kind-of .result) _ _ _ _ _ (c .before .before .before .before .before .before .before .before .before .element-table .ensures) (c .before .before .before .before .before .corners-per .ensures) (omega (arith, T .kept .1 .1 .1 .1 .1 .1 .1 .1 .0)) h (λ i. blank 4096 i) (omega arith) (omega arith) (length-take-le _ _ (short-told (c .before .before .before .before .before .before .before .before .before .before .before .before .before .before .before .before .before .before .args .k) _ _ _ _ (c .before .before .before .before .before .before .before .before .before .before .before .before .before .before .before .before .before .before .pre) (c .before .before .before .before .before .before .before .before .before .before .before .before .before .kind-of .result) _ _ _ _ _ (c .before .before .before .before .before .before .before .before .before .element-table .ensures) (c .before .before .before .before .before .corners-per .ensures)))
 
 returns : tie.Need-returns
 returns c =
-    pieces-told (c .before .before .before .before .before .before .before .before .before .before .before .before .before .before .before .before .before .before .before .before .before .args .k) _ _ _ _ (c .before .before .before .before .before .before .before .before .before .before .before .before .before .before .before .before .before .before .before .before .before .pre) _ _ _ _ _ _ (c .before .before .before .before .before .before .before .before .before .before .before .before .element-table .ensures) (c .before .before .before .before .before .before .before .before .corners-per .ensures) _ _ (c .before .before .before .before .before .before .before .before .before .before .before .before .before .before .before .before .kind-of .ensures) (c .before .before .before .count-pieces .ensures)
+    pieces-told (c .before .before .before .before .before .before .before .before .before .before .before .before .before .before .before .before .before .before .before .before .before .before .before .args .k) _ _ _ _ (c .before .before .before .before .before .before .before .before .before .before .before .before .before .before .before .before .before .before .before .before .before .before .before .pre) _ _ _ _ _ _ (c .before .before .before .before .before .before .before .before .before .before .before .before .before .before .element-table .ensures) (c .before .before .before .before .before .before .before .before .before .before .corners-per .ensures) _ (c .before .before .before .before .before .before .before .before .before .before .before .before .before .before .before .before .before .before .kind-of .ensures) (c .before .before .before .before .count-sides .ensures)
 
 pub count-pieces-spec : {M : Type 1} → statement M
 count-pieces-spec =
@@ -59,10 +66,11 @@ count-pieces-spec =
     slice-aggregate-element-table-3
     element-table-requires
     corners-per-requires
-    slice-aggregate-count-pieces
-    slice-aggregate-count-pieces-2
-    slice-aggregate-count-pieces-3
-    array-borrow-prefix-labels
-    slice-aggregate-count-pieces-4
-    count-pieces-requires
+    slice-aggregate-count-sides
+    slice-aggregate-count-sides-2
+    slice-aggregate-count-sides-3
+    slice-aggregate-count-sides-4
+    array-borrow-prefix-parent
+    slice-aggregate-count-sides-5
+    count-sides-requires
     returns)

@@ -1,193 +1,87 @@
--- `snapped::split_all_snapped` meets its contract. The invariant: the marked particles so far are split, no step lacked room, and the tables are as long as ever. Assumes nothing.
-use Rattle.snapped.proofs.SteadyRuns.{stepsTo, steps-none, steps-skip, steps-next, steps-end, steps-all, steps-ready, steps-grown, steps-entries, steps-words}
+-- `snapped::split_all_snapped` meets its contract: where none is marked nothing is done, and else each in turn over tables built for all of them. Assumes nothing.
+use Rattle.snapped.proofs.SteadyRuns.{steps-idle}
 use Rattle.snapped.proofs.SnapLaws.{snap-steady}
+use Rattle.split.proofs.LinkLaws.{linkable-ready}
 use Rattle.marks.specs.Marking.{bladeFrom}
 use Rattle.model.specs.Cut.{splitSnapped}
-use Rattle.work.proofs.Placed.{particles-count}
-use Rattle.work.specs.declared.Ran.the-variants.{Done}
-use Rattle.work.specs.Working.{Works}
-use Rattle.mesh.proofs.Agree.{lent-path}
+use Rattle.model.specs.Elements.{Straps}
 use Rattle.mesh.specs.Log.{worldAt}
-use Rattle.mesh.specs.Filled.{lent}
-use Rattle.mesh.specs.Given.{Lent}
-use Prim.Native.Nat.{_≤_, _-_}
-use mathlib.Core.Path.{_≡_, refl, _∙_, ap}
-use lib.ListN.{length}
-use borrow.Author.Needs.{needs}
 use native.Mathlib.Omega.{arith}
+use borrow.Author.Needs.{needs}
 use Rattle.snapped.proofs.split_all_snapped.Statement.{statement}
 use Rattle.snapped.proofs.split_all_snapped.Tie as tie
 
-abbrev Inv-loop : tie.InvT-loop
-Inv-loop b0 b1 p marks room points₀ roots₀ corners₀ volumes ends₀ lengths₀ outline₀ log₀ numbers₀ verts₀ measures₀ sides₀ groups₀ counts₀ v₀ points roots corners ends lengths outline log numbers verts measures sides groups counts v = (v ≤ p) × (lent points roots corners volumes ends lengths outline log ≡ lent points₀ roots₀ corners₀ volumes ends₀ lengths₀ outline₀ log₀) × Works (stepsTo (splitSnapped (bladeFrom b0 b1)) (snap-steady (bladeFrom b0 b1)) room marks v) room (worldAt counts₀ points₀ roots₀ corners₀ volumes ends₀ lengths₀ outline₀ log₀) (λ q. worldAt q points roots corners volumes ends lengths outline log) (Done counts) × (length numbers ≡ length numbers₀) × (length verts ≡ length verts₀) × (length measures ≡ length measures₀) × (length sides ≡ length sides₀) × (length groups ≡ length groups₀)
+next-marked-requires : tie.Need-next-marked-requires
+next-marked-requires c κs = let P = c .before .before .before .before .before .before .before .before .before .before .before .before .before .before .pre in
+    (omega arith, omega (arith, P .1 .long))
 
-abbrev μ-loop : tie.MeasureT-loop
-μ-loop b0 b1 p marks room points₀ roots₀ corners₀ volumes ends₀ lengths₀ outline₀ log₀ numbers₀ verts₀ measures₀ sides₀ groups₀ counts₀ v₀ points roots corners ends lengths outline log numbers verts measures sides groups counts v = p - v
+returns : tie.Need-returns
+returns c = let A = c .before .before .before .before .before .before .before .before .before .before .before .before .before .before .before .before .args in let P = c .before .before .before .before .before .before .before .before .before .before .before .before .before .before .before .before .pre in let N = c .before .next-marked .ensures in let B = bladeFrom (A .b0) (A .b1) in
+    steps-idle (splitSnapped B) (snap-steady B) (A .room) (A .marks .now) {at = λ q. worldAt q (A .points .now) (A .roots .now) (A .corners .now) (A .volumes .now) (A .ends .now) (A .lengths .now) (A .outline .now) (A .log .now)} (A .k) (P .0 .counts) (A .p) (λ v l. N .none v (omega arith) (omega (arith, c .if1 .taken)))
 
-loop-holds : tie.Need-loop-holds Inv-loop μ-loop
-loop-holds c = let A = c .before .before .before .before .before .before .before .before .before .before .before .before .before .before .args in
-    let B = bladeFrom (A .b0) (A .b1) in
-    (omega arith, refl, steps-none (splitSnapped B) (snap-steady B) (A .room) (A .marks .now) {at = λ q. worldAt q (A .points .now) (A .roots .now) (A .corners .now) (A .volumes .now) (A .ends .now) (A .lengths .now) (A .outline .now) (A .log .now)} (A .k) (c .before .before .before .before .before .before .before .before .before .before .before .before .before .before .pre .0 .counts), refl, refl, refl, refl, refl)
+slice-aggregate-link-mesh : tie.Need-slice-aggregate-link-mesh
+slice-aggregate-link-mesh c = search needs
 
-mul-if1 : tie.Need-mul-if1 Inv-loop μ-loop
-mul-if1 c = omega (arith, c .before .before .before .before .before .before .before .before .before .before .before .before .before .before .before .before .pre .1 .long)
+link-mesh-requires : tie.Need-link-mesh-requires
+link-mesh-requires c κs = let A = c .before .before .before .before .before .before .before .before .before .before .before .before .before .before .before .before .before .before .before .args in let P = c .before .before .before .before .before .before .before .before .before .before .before .before .before .before .before .before .before .before .before .pre in
+    linkable-ready Straps (A .room) (A .k) (A .points .now) (A .roots .now) (A .corners .now) (A .volumes .now) (A .ends .now) (A .lengths .now) (A .outline .now) (A .log .now) (P .0) _ (omega arith)
 
-shared-slice-read-if1 : tie.Need-shared-slice-read-if1 Inv-loop μ-loop
-shared-slice-read-if1 c = omega (arith, c .before .before .before .before .before .before .before .before .before .before .before .before .before .before .before .before .before .pre .1 .long)
+slice-aggregate-split-each-snapped : tie.Need-slice-aggregate-split-each-snapped
+slice-aggregate-split-each-snapped c = search needs
 
-add-v : tie.Need-add-v Inv-loop μ-loop
-add-v c = let P = c .before .before .before .before .before .before .before .before .before .before .before .before .before .before .before .before .before .before .pre in
-    omega (arith, P .1 .inside, P .0 .counts .particles, P .0 .rooms .few-particles, c .before .before .loop-test .taken)
+split-each-snapped-requires : tie.Need-split-each-snapped-requires
+split-each-snapped-requires c κs = let P = c .before .before .before .before .before .before .before .before .before .before .before .before .before .before .before .before .before .before .before .before .before .before .before .before .before .before .before .before .before .before .before .before .before .before .pre in
+    (P .0, P .1, P .2, c .before .before .before .before .before .before .before .before .before .before .before .before .before .before .link-mesh .ensures)
 
-loop-less : tie.Need-loop-less Inv-loop μ-loop
-loop-less c = omega (arith, c .before .before .loop-test .taken)
+same-length : tie.Need-same-length
+same-length c = c .before .before .before .before .before .before .before .before .before .before .before .before .before .before .before .before .before .before .before .before .before .before .before .before .before .split-each-snapped .kept .1 .1 .1 .1 .1 .1 .0
 
-loop-again : tie.Need-loop-again Inv-loop μ-loop
-loop-again c = let A = c .before .before .before .before .before .before .before .before .before .before .before .before .before .before .before .before .before .before .args in
-    let L = c .before .before .before .loop in
-    let B = bladeFrom (A .b0) (A .b1) in
-    (omega (arith, c .before .before .loop-test .taken), L .inv .1, steps-skip (splitSnapped B) (snap-steady B) (A .room) (A .marks .now) (L .v) (L .inv .2) (c .if1 .taken), L .inv .3, L .inv .4, L .inv .5, L .inv .6, L .inv .7)
+same-length-2 : tie.Need-same-length-2
+same-length-2 c = c .before .before .before .before .before .before .before .before .before .before .before .before .before .before .before .before .before .before .before .before .before .before .before .before .before .split-each-snapped .kept .1 .1 .1 .1 .1 .1 .1 .0
 
-split-snapped-requires : tie.Need-split-snapped-requires Inv-loop μ-loop
-unfolding worldAt
-split-snapped-requires c κs = let A = c .before .before .before .before .before .before .before .before .before .before .before .before .before .before .before .before .before .before .before .before .before .before .before .before .before .before .before .before .before .before .args in
-    let P = c .before .before .before .before .before .before .before .before .before .before .before .before .before .before .before .before .before .before .before .before .before .before .before .before .before .before .before .before .before .before .pre in
-    let L = c .before .before .before .before .before .before .before .before .before .before .before .before .before .before .before .loop in
-    let B = bladeFrom (A .b0) (A .b1) in
-    let G = P .1 .logged in (
-      steps-ready (splitSnapped B) (snap-steady B) (A .room) (A .marks .now) (L .v) (L .inv .2) (G .entries) (G .words) (A .k) _ _ (P .0) (L .inv .1),
-      record {
-        logged = record { entries = steps-entries (splitSnapped B) (snap-steady B) (A .room) (A .marks .now) (L .v) (L .inv .2) (G .entries) (G .words); words = steps-words (splitSnapped B) (snap-steady B) (A .room) (A .marks .now) (L .v) (L .inv .2) (G .entries) (G .words) };
-        here = omega (arith, P .1 .inside, steps-grown (splitSnapped B) (snap-steady B) (A .room) (A .marks .now) (L .v) (L .inv .2) (G .entries) (G .words), particles-count (A .k) (A .points .now) (A .roots .now) (A .corners .now) (A .volumes .now) (A .ends .now) (A .lengths .now) (A .outline .now), particles-count (L .counts) (L .points) (L .roots) (L .corners) (A .volumes .now) (L .ends) (L .lengths) (L .outline));
-      },
-      record { numbers = omega (arith, P .2 .numbers, L .inv .3); verts = omega (arith, P .2 .verts, L .inv .4); measures = omega (arith, P .2 .measures, L .inv .5); sides = omega (arith, P .2 .sides, L .inv .6); groups = omega (arith, P .2 .groups, L .inv .7) },
-    )
+same-length-3 : tie.Need-same-length-3
+same-length-3 c = c .before .before .before .before .before .before .before .before .before .before .before .before .before .before .before .before .before .before .before .before .before .before .before .before .before .split-each-snapped .kept .1 .1 .1 .1 .1 .1 .1 .1 .0
 
-enum-known-ran : tie.Need-enum-known-ran Inv-loop μ-loop
-enum-known-ran c = search needs
+same-length-4 : tie.Need-same-length-4
+same-length-4 c = c .before .before .before .before .before .before .before .before .before .before .before .before .before .before .before .before .before .before .before .before .before .before .before .before .before .split-each-snapped .kept .1 .1 .1 .1 .1 .1 .1 .1 .1 .1 .0
 
-enum-told : tie.Need-enum-told Inv-loop μ-loop
-enum-told c = search needs
+same-length-5 : tie.Need-same-length-5
+same-length-5 c = c .before .before .before .before .before .before .before .before .before .before .before .before .before .before .before .before .before .before .before .before .before .before .before .before .before .split-each-snapped .kept .1 .1 .1 .1 .1 .1 .1 .1 .1 .1 .1 .0
 
-same-length : tie.Need-same-length Inv-loop μ-loop
-same-length c = c .before .before .before .before .before .before .before .before .before .before .before .before .before .before .before .before .before .before .before .before .before .before .before .before .before .before .split-snapped .kept .1 .1 .1 .1 .1 .0 ∙ ap (λ (I : Lent). I .points) (c .before .before .before .before .before .before .before .before .before .before .before .before .before .before .before .before .before .before .before .before .before .before .before .before .before .before .before .before .before .before .before .before .before .before .before .before .before .before .before .before .before .before .loop .inv .1)
+same-length-6 : tie.Need-same-length-6
+same-length-6 c = c .before .before .before .before .before .before .before .before .before .before .before .before .before .before .before .before .before .before .before .before .before .before .before .before .before .split-each-snapped .kept .1 .1 .1 .1 .1 .1 .1 .1 .1 .1 .1 .1 .0
 
-same-length-2 : tie.Need-same-length-2 Inv-loop μ-loop
-same-length-2 c = c .before .before .before .before .before .before .before .before .before .before .before .before .before .before .before .before .before .before .before .before .before .before .before .before .before .before .split-snapped .kept .1 .1 .1 .1 .1 .1 .0 ∙ ap (λ (I : Lent). I .roots) (c .before .before .before .before .before .before .before .before .before .before .before .before .before .before .before .before .before .before .before .before .before .before .before .before .before .before .before .before .before .before .before .before .before .before .before .before .before .before .before .before .before .before .loop .inv .1)
+same-length-7 : tie.Need-same-length-7
+same-length-7 c = c .before .before .before .before .before .before .before .before .before .before .before .before .before .before .before .before .before .before .before .before .before .before .before .before .before .split-each-snapped .kept .1 .1 .1 .1 .1 .1 .1 .1 .1 .1 .1 .1 .1 .0
 
-same-length-3 : tie.Need-same-length-3 Inv-loop μ-loop
-same-length-3 c = c .before .before .before .before .before .before .before .before .before .before .before .before .before .before .before .before .before .before .before .before .before .before .before .before .before .before .split-snapped .kept .1 .1 .1 .1 .1 .1 .1 .0 ∙ ap (λ (I : Lent). I .corners) (c .before .before .before .before .before .before .before .before .before .before .before .before .before .before .before .before .before .before .before .before .before .before .before .before .before .before .before .before .before .before .before .before .before .before .before .before .before .before .before .before .before .before .loop .inv .1)
+same-length-8 : tie.Need-same-length-8
+same-length-8 c = c .before .before .before .before .before .before .before .before .before .before .before .before .before .before .before .before .before .before .before .before .before .before .before .before .before .split-each-snapped .kept .1 .1 .1 .1 .1 .1 .1 .1 .1 .1 .1 .1 .1 .1 .0
 
-same-length-4 : tie.Need-same-length-4 Inv-loop μ-loop
-same-length-4 c = c .before .before .before .before .before .before .before .before .before .before .before .before .before .before .before .before .before .before .before .before .before .before .before .before .before .before .split-snapped .kept .1 .1 .1 .1 .1 .1 .1 .1 .1 .0 ∙ ap (λ (I : Lent). I .ends) (c .before .before .before .before .before .before .before .before .before .before .before .before .before .before .before .before .before .before .before .before .before .before .before .before .before .before .before .before .before .before .before .before .before .before .before .before .before .before .before .before .before .before .loop .inv .1)
+same-length-9 : tie.Need-same-length-9
+same-length-9 c = c .before .before .before .before .before .before .before .before .before .before .before .before .before .before .before .before .before .before .before .before .before .before .before .before .before .split-each-snapped .kept .1 .1 .1 .1 .1 .1 .1 .1 .1 .1 .1 .1 .1 .1 .1 .0
 
-same-length-5 : tie.Need-same-length-5 Inv-loop μ-loop
-same-length-5 c = c .before .before .before .before .before .before .before .before .before .before .before .before .before .before .before .before .before .before .before .before .before .before .before .before .before .before .split-snapped .kept .1 .1 .1 .1 .1 .1 .1 .1 .1 .1 .0 ∙ ap (λ (I : Lent). I .lengths) (c .before .before .before .before .before .before .before .before .before .before .before .before .before .before .before .before .before .before .before .before .before .before .before .before .before .before .before .before .before .before .before .before .before .before .before .before .before .before .before .before .before .before .loop .inv .1)
+same-length-10 : tie.Need-same-length-10
+same-length-10 c = c .before .before .before .before .before .before .before .before .before .before .before .before .before .before .before .before .before .before .before .before .before .before .before .before .before .split-each-snapped .kept .1 .1 .1 .1 .1 .1 .1 .1 .1 .1 .1 .1 .1 .1 .1 .1 .0
 
-same-length-6 : tie.Need-same-length-6 Inv-loop μ-loop
-same-length-6 c = c .before .before .before .before .before .before .before .before .before .before .before .before .before .before .before .before .before .before .before .before .before .before .before .before .before .before .split-snapped .kept .1 .1 .1 .1 .1 .1 .1 .1 .1 .1 .1 .0 ∙ ap (λ (I : Lent). I .outline) (c .before .before .before .before .before .before .before .before .before .before .before .before .before .before .before .before .before .before .before .before .before .before .before .before .before .before .before .before .before .before .before .before .before .before .before .before .before .before .before .before .before .before .loop .inv .1)
+same-length-11 : tie.Need-same-length-11
+same-length-11 c = c .before .before .before .before .before .before .before .before .before .before .before .before .before .before .before .before .before .before .before .before .before .before .before .before .before .split-each-snapped .kept .1 .1 .1 .1 .1 .1 .1 .1 .1 .1 .1 .1 .1 .1 .1 .1 .1 .0
 
-same-length-7 : tie.Need-same-length-7 Inv-loop μ-loop
-same-length-7 c = c .before .before .before .before .before .before .before .before .before .before .before .before .before .before .before .before .before .before .before .before .before .before .before .before .before .before .split-snapped .kept .1 .1 .1 .1 .1 .1 .1 .1 .1 .1 .1 .1 .0 ∙ ap (λ (I : Lent). I .log) (c .before .before .before .before .before .before .before .before .before .before .before .before .before .before .before .before .before .before .before .before .before .before .before .before .before .before .before .before .before .before .before .before .before .before .before .before .before .before .before .before .before .before .loop .inv .1)
+same-length-12 : tie.Need-same-length-12
+same-length-12 c = c .before .before .before .before .before .before .before .before .before .before .before .before .before .before .before .before .before .before .before .before .before .before .before .before .before .split-each-snapped .kept .1 .1 .1 .1 .1 .1 .1 .1 .1 .1 .1 .1 .1 .1 .1 .1 .1 .1 .0
 
-same-length-8 : tie.Need-same-length-8 Inv-loop μ-loop
-same-length-8 c = c .before .before .before .before .before .before .before .before .before .before .before .before .before .before .before .before .before .before .before .before .before .before .before .before .before .before .split-snapped .kept .1 .1 .1 .1 .1 .1 .1 .1 .1 .1 .1 .1 .1 .0 ∙ c .before .before .before .before .before .before .before .before .before .before .before .before .before .before .before .before .before .before .before .before .before .before .before .before .before .before .before .before .before .before .before .before .before .before .before .before .before .before .before .before .before .before .loop .inv .3
-
-same-length-9 : tie.Need-same-length-9 Inv-loop μ-loop
-same-length-9 c = c .before .before .before .before .before .before .before .before .before .before .before .before .before .before .before .before .before .before .before .before .before .before .before .before .before .before .split-snapped .kept .1 .1 .1 .1 .1 .1 .1 .1 .1 .1 .1 .1 .1 .1 .0 ∙ c .before .before .before .before .before .before .before .before .before .before .before .before .before .before .before .before .before .before .before .before .before .before .before .before .before .before .before .before .before .before .before .before .before .before .before .before .before .before .before .before .before .before .loop .inv .4
-
-same-length-10 : tie.Need-same-length-10 Inv-loop μ-loop
-same-length-10 c = c .before .before .before .before .before .before .before .before .before .before .before .before .before .before .before .before .before .before .before .before .before .before .before .before .before .before .split-snapped .kept .1 .1 .1 .1 .1 .1 .1 .1 .1 .1 .1 .1 .1 .1 .1 .0 ∙ c .before .before .before .before .before .before .before .before .before .before .before .before .before .before .before .before .before .before .before .before .before .before .before .before .before .before .before .before .before .before .before .before .before .before .before .before .before .before .before .before .before .before .loop .inv .5
-
-same-length-11 : tie.Need-same-length-11 Inv-loop μ-loop
-same-length-11 c = c .before .before .before .before .before .before .before .before .before .before .before .before .before .before .before .before .before .before .before .before .before .before .before .before .before .before .split-snapped .kept .1 .1 .1 .1 .1 .1 .1 .1 .1 .1 .1 .1 .1 .1 .1 .1 .0 ∙ c .before .before .before .before .before .before .before .before .before .before .before .before .before .before .before .before .before .before .before .before .before .before .before .before .before .before .before .before .before .before .before .before .before .before .before .before .before .before .before .before .before .before .loop .inv .6
-
-same-length-12 : tie.Need-same-length-12 Inv-loop μ-loop
-same-length-12 c = c .before .before .before .before .before .before .before .before .before .before .before .before .before .before .before .before .before .before .before .before .before .before .before .before .before .before .split-snapped .kept .1 .1 .1 .1 .1 .1 .1 .1 .1 .1 .1 .1 .1 .1 .1 .1 .1 .0 ∙ c .before .before .before .before .before .before .before .before .before .before .before .before .before .before .before .before .before .before .before .before .before .before .before .before .before .before .before .before .before .before .before .before .before .before .before .before .before .before .before .before .before .before .loop .inv .7
-
-returns : tie.Need-returns Inv-loop μ-loop
-returns c = let A = c .before .before .before .before .before .before .before .before .before .before .before .before .before .before .before .before .before .before .before .before .before .before .before .before .before .before .before .before .before .before .before .before .before .before .before .before .before .before .before .before .before .before .before .before .before .before .before .before .before .before .before .before .before .before .before .before .before .args in
-    let L = c .before .before .before .before .before .before .before .before .before .before .before .before .before .before .before .before .before .before .before .before .before .before .before .before .before .before .before .before .before .before .before .before .before .before .before .before .before .before .before .before .before .before .loop in
-    let B = bladeFrom (A .b0) (A .b1) in
-    steps-end (splitSnapped B) (snap-steady B) (A .room) (A .marks .now) (L .v) (L .inv .2) (c .before .before .before .before .before .before .before .before .before .before .before .before .before .before .before .before .before .before .before .before .before .before .before .before .before .before .before .before .before .before .before .before .before .before .before .before .before .before .before .if1 .left) _ _ (c .enum-told .given .1) (A .p) (c .before .before .before .before .before .before .before .before .before .before .before .before .before .before .before .before .before .before .before .before .before .before .before .before .before .before .before .before .before .before .before .before .before .before .before .before .before .before .before .before .before .loop-test .taken) (c .before .before .before .before .before .before .before .before .before .before .before .before .before .before .before .before .before .before .before .before .before .before .before .before .before .before .split-snapped .ensures)
-
-add-v-2 : tie.Need-add-v-2 Inv-loop μ-loop
-add-v-2 c = omega (arith, c .before .before .before .before .before .before .before .before .before .before .before .before .before .before .before .before .before .before .before .before .before .before .before .before .before .before .before .before .before .before .before .before .before .before .before .before .before .before .before .before .before .before .before .before .before .before .before .before .before .before .before .before .before .before .before .before .before .before .pre .1 .inside, c .before .before .before .before .before .before .before .before .before .before .before .before .before .before .before .before .before .before .before .before .before .before .before .before .before .before .before .before .before .before .before .before .before .before .before .before .before .before .before .before .before .before .before .before .before .before .before .before .before .before .before .before .before .before .before .before .before .before .pre .0 .counts .particles, c .before .before .before .before .before .before .before .before .before .before .before .before .before .before .before .before .before .before .before .before .before .before .before .before .before .before .before .before .before .before .before .before .before .before .before .before .before .before .before .before .before .before .before .before .before .before .before .before .before .before .before .before .before .before .before .before .before .before .pre .0 .rooms .few-particles, c .before .before .before .before .before .before .before .before .before .before .before .before .before .before .before .before .before .before .before .before .before .before .before .before .before .before .before .before .before .before .before .before .before .before .before .before .before .before .before .before .before .before .loop-test .taken)
-
-loop-less-2 : tie.Need-loop-less-2 Inv-loop μ-loop
-loop-less-2 c = omega (arith, c .before .before .before .before .before .before .before .before .before .before .before .before .before .before .before .before .before .before .before .before .before .before .before .before .before .before .before .before .before .before .before .before .before .before .before .before .before .before .before .before .before .before .loop-test .taken)
-
-loop-again-2 : tie.Need-loop-again-2 Inv-loop μ-loop
-loop-again-2 c = let A = c .before .before .before .before .before .before .before .before .before .before .before .before .before .before .before .before .before .before .before .before .before .before .before .before .before .before .before .before .before .before .before .before .before .before .before .before .before .before .before .before .before .before .before .before .before .before .before .before .before .before .before .before .before .before .before .before .before .before .args in
-    let L = c .before .before .before .before .before .before .before .before .before .before .before .before .before .before .before .before .before .before .before .before .before .before .before .before .before .before .before .before .before .before .before .before .before .before .before .before .before .before .before .before .before .before .before .loop in
-    let B = bladeFrom (A .b0) (A .b1) in (
-      omega (arith, c .before .before .before .before .before .before .before .before .before .before .before .before .before .before .before .before .before .before .before .before .before .before .before .before .before .before .before .before .before .before .before .before .before .before .before .before .before .before .before .before .before .before .loop-test .taken),
-      lent-path _ _ (c .before .before .before .before .before .before .before .before .before .before .before .before .before .before .before .before .before .before .before .before .before .before .before .before .before .before .before .split-snapped .kept .1 .1 .1 .1 .1 .0) (c .before .before .before .before .before .before .before .before .before .before .before .before .before .before .before .before .before .before .before .before .before .before .before .before .before .before .before .split-snapped .kept .1 .1 .1 .1 .1 .1 .0) (c .before .before .before .before .before .before .before .before .before .before .before .before .before .before .before .before .before .before .before .before .before .before .before .before .before .before .before .split-snapped .kept .1 .1 .1 .1 .1 .1 .1 .0) refl (c .before .before .before .before .before .before .before .before .before .before .before .before .before .before .before .before .before .before .before .before .before .before .before .before .before .before .before .split-snapped .kept .1 .1 .1 .1 .1 .1 .1 .1 .1 .0) (c .before .before .before .before .before .before .before .before .before .before .before .before .before .before .before .before .before .before .before .before .before .before .before .before .before .before .before .split-snapped .kept .1 .1 .1 .1 .1 .1 .1 .1 .1 .1 .0) (c .before .before .before .before .before .before .before .before .before .before .before .before .before .before .before .before .before .before .before .before .before .before .before .before .before .before .before .split-snapped .kept .1 .1 .1 .1 .1 .1 .1 .1 .1 .1 .1 .0) (c .before .before .before .before .before .before .before .before .before .before .before .before .before .before .before .before .before .before .before .before .before .before .before .before .before .before .before .split-snapped .kept .1 .1 .1 .1 .1 .1 .1 .1 .1 .1 .1 .1 .0) ∙ L .inv .1,
-      steps-next (splitSnapped B) (snap-steady B) (A .room) (A .marks .now) (L .v) (L .inv .2) (c .before .before .before .before .before .before .before .before .before .before .before .before .before .before .before .before .before .before .before .before .before .before .before .before .before .before .before .before .before .before .before .before .before .before .before .before .before .before .before .before .if1 .left) _ _ (c .before .ran .given .1) (c .before .before .before .before .before .before .before .before .before .before .before .before .before .before .before .before .before .before .before .before .before .before .before .before .before .before .before .split-snapped .ensures),
-      c .before .before .before .before .before .before .before .before .before .before .before .before .before .before .before .before .before .before .before .before .before .before .before .before .before .before .before .split-snapped .kept .1 .1 .1 .1 .1 .1 .1 .1 .1 .1 .1 .1 .1 .0 ∙ L .inv .3,
-      c .before .before .before .before .before .before .before .before .before .before .before .before .before .before .before .before .before .before .before .before .before .before .before .before .before .before .before .split-snapped .kept .1 .1 .1 .1 .1 .1 .1 .1 .1 .1 .1 .1 .1 .1 .0 ∙ L .inv .4,
-      c .before .before .before .before .before .before .before .before .before .before .before .before .before .before .before .before .before .before .before .before .before .before .before .before .before .before .before .split-snapped .kept .1 .1 .1 .1 .1 .1 .1 .1 .1 .1 .1 .1 .1 .1 .1 .0 ∙ L .inv .5,
-      c .before .before .before .before .before .before .before .before .before .before .before .before .before .before .before .before .before .before .before .before .before .before .before .before .before .before .before .split-snapped .kept .1 .1 .1 .1 .1 .1 .1 .1 .1 .1 .1 .1 .1 .1 .1 .1 .0 ∙ L .inv .6,
-      c .before .before .before .before .before .before .before .before .before .before .before .before .before .before .before .before .before .before .before .before .before .before .before .before .before .before .before .split-snapped .kept .1 .1 .1 .1 .1 .1 .1 .1 .1 .1 .1 .1 .1 .1 .1 .1 .1 .0 ∙ L .inv .7,
-    )
-
-same-length-13 : tie.Need-same-length-13 Inv-loop μ-loop
-same-length-13 c = ap (λ (I : Lent). I .points) (c .before .loop .inv .1)
-
-same-length-14 : tie.Need-same-length-14 Inv-loop μ-loop
-same-length-14 c = ap (λ (I : Lent). I .roots) (c .before .loop .inv .1)
-
-same-length-15 : tie.Need-same-length-15 Inv-loop μ-loop
-same-length-15 c = ap (λ (I : Lent). I .corners) (c .before .loop .inv .1)
-
-same-length-16 : tie.Need-same-length-16 Inv-loop μ-loop
-same-length-16 c = ap (λ (I : Lent). I .ends) (c .before .loop .inv .1)
-
-same-length-17 : tie.Need-same-length-17 Inv-loop μ-loop
-same-length-17 c = ap (λ (I : Lent). I .lengths) (c .before .loop .inv .1)
-
-same-length-18 : tie.Need-same-length-18 Inv-loop μ-loop
-same-length-18 c = ap (λ (I : Lent). I .outline) (c .before .loop .inv .1)
-
-same-length-19 : tie.Need-same-length-19 Inv-loop μ-loop
-same-length-19 c = ap (λ (I : Lent). I .log) (c .before .loop .inv .1)
-
-same-length-20 : tie.Need-same-length-20 Inv-loop μ-loop
-same-length-20 c = c .before .loop .inv .3
-
-same-length-21 : tie.Need-same-length-21 Inv-loop μ-loop
-same-length-21 c = c .before .loop .inv .4
-
-same-length-22 : tie.Need-same-length-22 Inv-loop μ-loop
-same-length-22 c = c .before .loop .inv .5
-
-same-length-23 : tie.Need-same-length-23 Inv-loop μ-loop
-same-length-23 c = c .before .loop .inv .6
-
-same-length-24 : tie.Need-same-length-24 Inv-loop μ-loop
-same-length-24 c = c .before .loop .inv .7
-
-returns-2 : tie.Need-returns-2 Inv-loop μ-loop
-returns-2 c = let A = c .before .before .before .before .before .before .before .before .before .before .before .before .before .before .before .before .args in
-    let L = c .before .loop in
-    let B = bladeFrom (A .b0) (A .b1) in
-    steps-all (splitSnapped B) (snap-steady B) (A .room) (A .marks .now) (L .v) (A .p) (omega arith) (L .inv .2)
+returns-2 : tie.Need-returns-2
+returns-2 c = c .before .before .before .before .before .before .before .before .before .before .before .before .before .before .before .before .before .before .before .before .before .before .before .before .before .split-each-snapped .ensures
 
 pub split-all-snapped-spec : {M : Type 1} → statement M
 split-all-snapped-spec =
     tie.close
     (tie.spec
-    Inv-loop
-    μ-loop
-    loop-holds
-    mul-if1
-    shared-slice-read-if1
-    add-v
-    loop-less
-    loop-again
-    split-snapped-requires
-    enum-known-ran
-    enum-told
+    next-marked-requires
+    returns
+    slice-aggregate-link-mesh
+    link-mesh-requires
+    slice-aggregate-split-each-snapped
+    split-each-snapped-requires
     same-length
     same-length-2
     same-length-3
@@ -200,20 +94,4 @@ split-all-snapped-spec =
     same-length-10
     same-length-11
     same-length-12
-    returns
-    add-v-2
-    loop-less-2
-    loop-again-2
-    same-length-13
-    same-length-14
-    same-length-15
-    same-length-16
-    same-length-17
-    same-length-18
-    same-length-19
-    same-length-20
-    same-length-21
-    same-length-22
-    same-length-23
-    same-length-24
     returns-2)

@@ -1,10 +1,10 @@
--- `crack::body::crack_listed` meets its contract: the loop over the list is `ListedTo` of proofs/ListedLaws.antt, and the table is that of the block. Assumes nothing.
+-- `crack::body::crack_listed` meets its contract: the loop over the list is `ListedTo` of proofs/ListedLaws.antt, and the tables are those of the blocks. Assumes nothing.
 use Prim.Native.Nat.{_-_}
 use native.Mathlib.Omega.{arith}
 use mathlib.Core.Path.{_≡_, refl, _∙_, ap}
 use lib.ListN.{length}
 use Rattle.elements.specs.Table.{kindIs}
-use Rattle.links.specs.Linked.{Linked}
+use Rattle.links.specs.Linked.{MeshLinked}
 use Rattle.mesh.specs.Given.{Lent}
 use Rattle.mesh.proofs.Agree.{lent-path}
 use Rattle.split.proofs.LinkLaws.{linked-done}
@@ -14,7 +14,7 @@ use Rattle.crack.proofs.body.crack_listed.Statement.{statement}
 use Rattle.crack.proofs.body.crack_listed.Tie as tie
 
 abbrev Inv-loop : tie.InvT-loop
-Inv-loop kind minimum torn e from to loads room points₀ roots₀ corners₀ volumes ends₀ lengths₀ outline₀ log₀ links₀ counts₀ i₀ points roots corners ends lengths outline log links counts i = ListedTo (kindIs kind) minimum torn e from to loads room counts₀ points₀ roots₀ corners₀ volumes ends₀ lengths₀ outline₀ log₀ points roots corners ends lengths outline log counts i × Linked (kindIs kind) (counts .triangles) corners links × (length links ≡ length links₀)
+Inv-loop kind minimum torn e from to loads room points₀ roots₀ corners₀ volumes ends₀ lengths₀ outline₀ log₀ links₀ counts₀ i₀ points roots corners ends lengths outline log links counts i = ListedTo (kindIs kind) minimum torn e from to loads room counts₀ points₀ roots₀ corners₀ volumes ends₀ lengths₀ outline₀ log₀ points roots corners ends lengths outline log counts i × MeshLinked (kindIs kind) (counts .triangles) (counts .edges) corners ends links × (length links ≡ length links₀)
 
 abbrev μ-loop : tie.MeasureT-loop
 μ-loop kind minimum torn e from to loads room points₀ roots₀ corners₀ volumes ends₀ lengths₀ outline₀ log₀ links₀ counts₀ i₀ points roots corners ends lengths outline log links counts i = length torn - i

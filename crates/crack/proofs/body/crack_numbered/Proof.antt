@@ -45,11 +45,17 @@ mul-crack-edge c = omega (arith, c .if1 .left, c .before .before .before .before
 shared-slice-read-crack-edge : tie.Need-shared-slice-read-crack-edge
 shared-slice-read-crack-edge c = omega (arith, c .before .if1 .left, c .before .before .before .before .before .before .before .before .before .before .before .before .before .before .pre .1 .first)
 
+cast-crack-edge : tie.Need-cast-crack-edge
+cast-crack-edge c = omega (arith, c .shared-slice-known5 .given (c .before .before .before .before .before .before .before .before .before .before .before .before .before .before .args .number))
+
 mul-crack-edge-2 : tie.Need-mul-crack-edge-2
 mul-crack-edge-2 c = omega (arith, c .before .if1 .left, c .before .before .before .before .before .before .before .before .before .before .before .before .before .before .pre .1 .second)
 
 shared-slice-read-crack-edge-2 : tie.Need-shared-slice-read-crack-edge-2
 shared-slice-read-crack-edge-2 c = omega (arith, c .before .before .if1 .left, c .before .before .before .before .before .before .before .before .before .before .before .before .before .before .before .pre .1 .second)
+
+cast-crack-edge-2 : tie.Need-cast-crack-edge-2
+cast-crack-edge-2 c = omega (arith, c .shared-slice-known6 .given (c .before .before .before .before .before .before .before .before .before .before .before .before .before .before .before .args .number))
 
 crack-edge-requires : tie.Need-crack-edge-requires
 crack-edge-requires c κs = let P = c .before .before .before .before .before .before .before .before .before .before .before .before .before .before .before .before .before .before .before .before .before .before .before .pre in (P .0, P .1 .logged, P .1 .loads, P .1 .first-few (c .before .before .before .before .before .before .before .before .before .before .before .before .before .before .before .before .before .before .before .before .before .before .before .args .number) (omega (arith, c .before .before .before .before .before .before .before .before .before .before .if1 .left)), P .1 .second-few (c .before .before .before .before .before .before .before .before .before .before .before .before .before .before .before .before .before .before .before .before .before .before .before .args .number) (omega (arith, c .before .before .before .before .before .before .before .before .before .before .if1 .left)), P .2)
@@ -89,8 +95,10 @@ crack-numbered-spec =
     returns
     mul-crack-edge
     shared-slice-read-crack-edge
+    cast-crack-edge
     mul-crack-edge-2
     shared-slice-read-crack-edge-2
+    cast-crack-edge-2
     crack-edge-requires
     same-length
     same-length-2

@@ -13,6 +13,9 @@ use Rattle.crack.proofs.body.crack_torn.Tie as tie
 returns : tie.Need-returns
 returns c = let A = c .before .before .before .before .before .before .before .before .before .before .args in turns-none (kindIs (A .kind)) (A .minimum) (A .torn .now) {at = λ q. worldAt q (A .points .now) (A .roots .now) (A .corners .now) (A .volumes .now) (A .ends .now) (A .lengths .now) (A .outline .now) (A .log .now)} (A .k) (c .if1 .taken) (c .before .before .before .before .before .before .before .before .before .before .pre .0 .counts)
 
+cast-none : tie.Need-cast-none
+cast-none c = let P = c .before .before .before .before .before .before .before .before .before .before .before .pre .0 in omega (arith, P .counts .edges, P .rooms .few-edges)
+
 slice-aggregate-read-loads : tie.Need-slice-aggregate-read-loads
 slice-aggregate-read-loads c = search needs
 
@@ -23,7 +26,7 @@ slice-aggregate-read-loads-3 : tie.Need-slice-aggregate-read-loads-3
 slice-aggregate-read-loads-3 c = search needs
 
 read-loads-requires : tie.Need-read-loads-requires
-read-loads-requires c κs = let P = c .before .before .before .before .before .before .before .before .before .before .before .before .before .before .before .before .pre .0 in let A = c .before .before .before .before .before .before .before .before .before .before .before .before .before .before .before .before .args in
+read-loads-requires c κs = let P = c .before .before .before .before .before .before .before .before .before .before .before .before .before .before .before .before .before .pre .0 in let A = c .before .before .before .before .before .before .before .before .before .before .before .before .before .before .before .before .before .args in
     let N = numbered (A .room) (A .k) (A .points .now) (A .roots .now) (A .corners .now) (A .volumes .now) (A .ends .now) (A .lengths .now) (A .outline .now) _ P in (
       record {
         corners = omega (arith, P .counts .triangles, P .rooms .corners);
@@ -48,9 +51,10 @@ slice-aggregate-keep-ends-2 : tie.Need-slice-aggregate-keep-ends-2
 slice-aggregate-keep-ends-2 c = search needs
 
 keep-ends-requires : tie.Need-keep-ends-requires
-keep-ends-requires c κs = let P = c .before .before .before .before .before .before .before .before .before .before .before .before .before .before .before .before .before .before .before .before .before .before .before .pre .0 in let R = c .before .before .before .before .before .before .read-loads .kept in
+keep-ends-requires c κs = let P = c .before .before .before .before .before .before .before .before .before .before .before .before .before .before .before .before .before .before .before .before .before .before .before .before .pre .0 in let A = c .before .before .before .before .before .before .before .before .before .before .before .before .before .before .before .before .before .before .before .before .before .before .before .before .args in let R = c .before .before .before .before .before .before .read-loads .kept in
     record {
-      ends = omega (arith, P .counts .edges, P .rooms .ends);
+      inside = omega (arith, P .counts .edges, P .rooms .ends);
+      below = numbered (A .room) (A .k) (A .points .now) (A .roots .now) (A .corners .now) (A .volumes .now) (A .ends .now) (A .lengths .now) (A .outline .now) _ P .ends-in;
       first = omega (arith, P .counts .edges, P .rooms .few-edges, R .1 .1 .1 .1 .1 .1 .0);
       second = omega (arith, P .counts .edges, P .rooms .few-edges, R .1 .1 .1 .1 .1 .1 .1 .0);
     }
@@ -59,7 +63,7 @@ slice-aggregate-link-mesh : tie.Need-slice-aggregate-link-mesh
 slice-aggregate-link-mesh c = search needs
 
 link-mesh-requires : tie.Need-link-mesh-requires
-link-mesh-requires c κs = let P = c .before .before .before .before .before .before .before .before .before .before .before .before .before .before .before .before .before .before .before .before .before .before .before .before .before .before .before .before .pre in let A = c .before .before .before .before .before .before .before .before .before .before .before .before .before .before .before .before .before .before .before .before .before .before .before .before .before .before .before .before .args in linkable-ready (kindIs (A .kind)) (A .room) (A .k) (A .points .now) (A .roots .now) (A .corners .now) (A .volumes .now) (A .ends .now) (A .lengths .now) (A .outline .now) (A .log .now) (P .0) _ (λ e. omega arith)
+link-mesh-requires c κs = let P = c .before .before .before .before .before .before .before .before .before .before .before .before .before .before .before .before .before .before .before .before .before .before .before .before .before .before .before .before .before .before .pre in let A = c .before .before .before .before .before .before .before .before .before .before .before .before .before .before .before .before .before .before .before .before .before .before .before .before .before .before .before .before .before .before .args in linkable-ready (kindIs (A .kind)) (A .room) (A .k) (A .points .now) (A .roots .now) (A .corners .now) (A .volumes .now) (A .ends .now) (A .lengths .now) (A .outline .now) (A .log .now) (P .0) _ (omega arith)
 
 slice-aggregate-crack-listed : tie.Need-slice-aggregate-crack-listed
 slice-aggregate-crack-listed c = search needs
@@ -74,7 +78,7 @@ slice-aggregate-crack-listed-4 : tie.Need-slice-aggregate-crack-listed-4
 slice-aggregate-crack-listed-4 c = search needs
 
 crack-listed-requires : tie.Need-crack-listed-requires
-crack-listed-requires c κs = let P = c .before .before .before .before .before .before .before .before .before .before .before .before .before .before .before .before .before .before .before .before .before .before .before .before .before .before .before .before .before .before .before .before .before .before .before .before .before .before .before .before .before .pre in let A = c .before .before .before .before .before .before .before .before .before .before .before .before .before .before .before .before .before .before .before .before .before .before .before .before .before .before .before .before .before .before .before .before .before .before .before .before .before .before .before .before .before .args in let R = c .before .before .before .before .before .before .before .before .before .before .before .before .before .before .before .before .before .before .before .before .before .before .before .before .read-loads .kept in let K = c .before .before .before .before .before .before .before .before .before .before .before .before .before .before .before .before .before .keep-ends in
+crack-listed-requires c κs = let P = c .before .before .before .before .before .before .before .before .before .before .before .before .before .before .before .before .before .before .before .before .before .before .before .before .before .before .before .before .before .before .before .before .before .before .before .before .before .before .before .before .before .before .before .pre in let A = c .before .before .before .before .before .before .before .before .before .before .before .before .before .before .before .before .before .before .before .before .before .before .before .before .before .before .before .before .before .before .before .before .before .before .before .before .before .before .before .before .before .before .before .args in let R = c .before .before .before .before .before .before .before .before .before .before .before .before .before .before .before .before .before .before .before .before .before .before .before .before .before .read-loads .kept in let K = c .before .before .before .before .before .before .before .before .before .before .before .before .before .before .before .before .before .before .keep-ends in
     let N = numbered (A .room) (A .k) (A .points .now) (A .roots .now) (A .corners .now) (A .volumes .now) (A .ends .now) (A .lengths .now) (A .outline .now) _ (P .0) in (
       P .0,
       record {
@@ -110,14 +114,15 @@ same-length-7 : tie.Need-same-length-7
 same-length-7 c = c .before .before .before .before .before .before .before .before .before .before .before .before .before .before .before .crack-listed .kept .1 .1 .1 .1 .1 .1 .1 .1 .1 .1 .1 .1 .1 .1 .1 .1 .0
 
 returns-2 : tie.Need-returns-2
-returns-2 c = let A = c .before .before .before .before .before .before .before .before .before .before .before .before .before .before .before .before .before .before .before .before .before .before .before .before .before .before .before .before .before .before .before .before .before .before .before .before .before .before .before .before .before .before .before .before .before .before .before .before .before .before .before .before .before .before .before .before .before .args in
-    turns-work (kindIs (A .kind)) (A .minimum) (A .torn .now) (A .k) (A .points .now) (A .roots .now) (A .corners .now) (A .volumes .now) (A .ends .now) (A .lengths .now) (A .outline .now) (A .log .now) _ _ _ (c .before .before .before .before .before .before .before .before .before .before .before .before .before .before .before .before .before .before .before .before .before .before .before .before .before .before .before .before .before .before .before .before .before .keep-ends .ensures) (c .before .before .before .before .before .before .before .before .before .before .before .before .before .before .before .before .before .before .before .before .before .before .before .before .before .before .before .before .before .before .before .before .before .before .before .before .before .before .before .before .read-loads .ensures) (c .before .before .before .before .before .before .before .before .before .before .before .before .before .before .before .crack-listed .ensures)
+returns-2 c = let A = c .before .before .before .before .before .before .before .before .before .before .before .before .before .before .before .before .before .before .before .before .before .before .before .before .before .before .before .before .before .before .before .before .before .before .before .before .before .before .before .before .before .before .before .before .before .before .before .before .before .before .before .before .before .before .before .before .before .before .before .args in
+    turns-work (kindIs (A .kind)) (A .minimum) (A .torn .now) (A .k) (A .points .now) (A .roots .now) (A .corners .now) (A .volumes .now) (A .ends .now) (A .lengths .now) (A .outline .now) (A .log .now) _ _ _ (c .before .before .before .before .before .before .before .before .before .before .before .before .before .before .before .before .before .before .before .before .before .before .before .before .before .before .before .before .before .before .before .before .before .before .keep-ends .ensures) (c .before .before .before .before .before .before .before .before .before .before .before .before .before .before .before .before .before .before .before .before .before .before .before .before .before .before .before .before .before .before .before .before .before .before .before .before .before .before .before .before .before .read-loads .ensures) (c .before .before .before .before .before .before .before .before .before .before .before .before .before .before .before .crack-listed .ensures)
 
 pub crack-torn-spec : {M : Type 1} → statement M
 crack-torn-spec =
     tie.close
     (tie.spec
     returns
+    cast-none
     slice-aggregate-read-loads
     slice-aggregate-read-loads-2
     slice-aggregate-read-loads-3

@@ -1,7 +1,7 @@
 -- `cut::facets::split_marked` meets its contract. The invariant: the marked particles so far are split, no step lacked room, the table of links is that of the block, and the tables are as long as ever. Assumes nothing.
 use Rattle.cut.proofs.RunLaws.{splitTo, run-none, run-skip, run-next, run-end, run-all, ready-at, grown-at}
 use Rattle.split.proofs.LinkLaws.{linked-done}
-use Rattle.links.specs.Linked.{Linked}
+use Rattle.links.specs.Linked.{MeshLinked}
 use Rattle.work.proofs.Placed.{particles-count}
 use Rattle.work.specs.declared.Ran.the-variants.{Done}
 use Rattle.work.specs.Working.{Works}
@@ -19,7 +19,7 @@ use Rattle.cut.proofs.facets.split_marked.Statement.{statement}
 use Rattle.cut.proofs.facets.split_marked.Tie as tie
 
 abbrev Inv-loop : tie.InvT-loop
-Inv-loop way kind p marks room points₀ roots₀ corners₀ volumes ends₀ lengths₀ outline₀ log₀ numbers₀ verts₀ measures₀ sides₀ groups₀ links₀ counts₀ v₀ points roots corners ends lengths outline log numbers verts measures sides groups links counts v = (v ≤ p) × (lent points roots corners volumes ends lengths outline log ≡ lent points₀ roots₀ corners₀ volumes ends₀ lengths₀ outline₀ log₀) × Works (splitTo way (kindIs kind) room marks v) room (worldAt counts₀ points₀ roots₀ corners₀ volumes ends₀ lengths₀ outline₀ log₀) (λ q. worldAt q points roots corners volumes ends lengths outline log) (Done counts) × (length numbers ≡ length numbers₀) × (length verts ≡ length verts₀) × (length measures ≡ length measures₀) × (length sides ≡ length sides₀) × (length groups ≡ length groups₀) × (length links ≡ length links₀) × Linked (kindIs kind) (counts .triangles) corners links
+Inv-loop way kind p marks room points₀ roots₀ corners₀ volumes ends₀ lengths₀ outline₀ log₀ numbers₀ verts₀ measures₀ sides₀ groups₀ links₀ counts₀ v₀ points roots corners ends lengths outline log numbers verts measures sides groups links counts v = (v ≤ p) × (lent points roots corners volumes ends lengths outline log ≡ lent points₀ roots₀ corners₀ volumes ends₀ lengths₀ outline₀ log₀) × Works (splitTo way (kindIs kind) room marks v) room (worldAt counts₀ points₀ roots₀ corners₀ volumes ends₀ lengths₀ outline₀ log₀) (λ q. worldAt q points roots corners volumes ends lengths outline log) (Done counts) × (length numbers ≡ length numbers₀) × (length verts ≡ length verts₀) × (length measures ≡ length measures₀) × (length sides ≡ length sides₀) × (length groups ≡ length groups₀) × (length links ≡ length links₀) × MeshLinked (kindIs kind) (counts .triangles) (counts .edges) corners ends links
 
 abbrev μ-loop : tie.MeasureT-loop
 μ-loop way kind p marks room points₀ roots₀ corners₀ volumes ends₀ lengths₀ outline₀ log₀ numbers₀ verts₀ measures₀ sides₀ groups₀ links₀ counts₀ v₀ points roots corners ends lengths outline log numbers verts measures sides groups links counts v = p - v

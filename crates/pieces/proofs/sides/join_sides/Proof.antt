@@ -8,7 +8,7 @@ use Prim.Native.Nat.{ℕ, _+_, _*_, _≤_, _-_}
 use lib.ListN.{length}
 use Rattle.pieces.specs.Tables.{Tied}
 use Rattle.pieces.specs.Sides.{lowOf, highOf, SameFacet, Sided, SideRoom}
-use Rattle.pieces.proofs.FacetChains.{room-of, room-for, sided-none, sided-same}
+use Rattle.pieces.proofs.FacetChains.{room-of, room-for, room-own, sided-none, sided-same}
 use Rattle.pieces.proofs.sides.join_sides.Statement.{statement}
 use Rattle.pieces.proofs.sides.join_sides.Tie as tie
 
@@ -36,8 +36,8 @@ join-triangle-requires c κs =
     let O = c .before .before .before .before .before .before .before .before .before .own-numbers in
     let e : A .k ≡ 3 = omega (arith, P .two, P .corners .width .1, c .before .before .before .before .if1 .taken) in
     let b : SideRoom (A .n) (A .k) (A .verts .now) (length (L .heads)) (length (L .links)) (length (L .lows)) (length (L .parent)) = room-for (L .inv .1) (L .inv .2) (L .inv .3) (L .inv .4 ∙ O .kept .0) (room-of P) in (
-      subst (λ (k : ℕ). SideRoom (A .n) k (A .verts .now) (length (L .heads)) (length (L .links)) (length (L .lows)) (length (L .parent))) e b,
-      search needs,
+      room-own (subst (λ (k : ℕ). SideRoom (A .n) k (A .verts .now) (length (L .heads)) (length (L .links)) (length (L .lows)) (length (L .parent))) e b),
+      omega (arith, b .parents-long),
       subst (λ (k : ℕ). Sided k (A .verts .now) (L .heads) (L .links) (L .lows) (L .i * k) (L .parent)) e (L .inv .5),
     )
 
@@ -49,8 +49,8 @@ join-strap-requires c κs =
     let O = c .before .before .before .before .before .before .before .before .before .own-numbers in
     let e : A .k ≡ 2 = omega (arith, P .two, P .corners .width .1, c .before .before .before .before .if1 .left) in
     let b : SideRoom (A .n) (A .k) (A .verts .now) (length (L .heads)) (length (L .links)) (length (L .lows)) (length (L .parent)) = room-for (L .inv .1) (L .inv .2) (L .inv .3) (L .inv .4 ∙ O .kept .0) (room-of P) in (
-      subst (λ (k : ℕ). SideRoom (A .n) k (A .verts .now) (length (L .heads)) (length (L .links)) (length (L .lows)) (length (L .parent))) e b,
-      search needs,
+      room-own (subst (λ (k : ℕ). SideRoom (A .n) k (A .verts .now) (length (L .heads)) (length (L .links)) (length (L .lows)) (length (L .parent))) e b),
+      omega (arith, b .parents-long),
       subst (λ (k : ℕ). Sided k (A .verts .now) (L .heads) (L .links) (L .lows) (L .i * k) (L .parent)) e (L .inv .5),
     )
 
@@ -69,20 +69,20 @@ loop-again c =
     (λ w.
     let e : A .k ≡ 3 = omega (arith, P .two, P .corners .width .1, w .0 .taken) in (
       omega arith,
-      ap (λ (p : List ℕ). length p) (w .14) ∙ w .5 .kept .1 .1 .1 .0 ∙ L .inv .1,
-      ap (λ (p : List ℕ). length p) (w .15) ∙ w .5 .kept .1 .1 .1 .1 .0 ∙ L .inv .2,
-      ap (λ (p : List ℕ). length p) (w .16) ∙ w .5 .kept .1 .1 .1 .1 .1 .0 ∙ L .inv .3,
-      ap (λ (p : List ℕ). length p) (w .17) ∙ w .5 .kept .1 .1 .1 .1 .1 .1 .0 ∙ L .inv .4,
-      sided-same (w .14) (w .15) (w .16) (w .17) (subst (λ (k : ℕ). Sided k (A .verts .now) (w .5 .last .1 .1 .1 .0) (w .5 .last .1 .1 .1 .1 .0) (w .5 .last .1 .1 .1 .1 .1 .0) ((L .i + 1) * k) (w .5 .last .1 .1 .1 .1 .1 .1 .0)) (sym e) (w .5 .ensures)),
+      ap (λ (p : List ℕ). length p) (w .14) ∙ w .5 .kept .1 .1 .0 ∙ L .inv .1,
+      ap (λ (p : List ℕ). length p) (w .15) ∙ w .5 .kept .1 .1 .1 .0 ∙ L .inv .2,
+      ap (λ (p : List ℕ). length p) (w .16) ∙ w .5 .kept .1 .1 .1 .1 .0 ∙ L .inv .3,
+      ap (λ (p : List ℕ). length p) (w .17) ∙ w .5 .kept .1 .1 .1 .1 .1 .0 ∙ L .inv .4,
+      sided-same (w .14) (w .15) (w .16) (w .17) (subst (λ (k : ℕ). Sided k (A .verts .now) (w .5 .last .1 .1 .0) (w .5 .last .1 .1 .1 .0) (w .5 .last .1 .1 .1 .1 .0) ((L .i + 1) * k) (w .5 .last .1 .1 .1 .1 .1 .0)) (sym e) (w .5 .ensures)),
     ))
     (λ w.
     let e : A .k ≡ 2 = omega (arith, P .two, P .corners .width .1, w .0 .left) in (
       omega arith,
-      ap (λ (p : List ℕ). length p) (w .14) ∙ w .5 .kept .1 .1 .1 .0 ∙ L .inv .1,
-      ap (λ (p : List ℕ). length p) (w .15) ∙ w .5 .kept .1 .1 .1 .1 .0 ∙ L .inv .2,
-      ap (λ (p : List ℕ). length p) (w .16) ∙ w .5 .kept .1 .1 .1 .1 .1 .0 ∙ L .inv .3,
-      ap (λ (p : List ℕ). length p) (w .17) ∙ w .5 .kept .1 .1 .1 .1 .1 .1 .0 ∙ L .inv .4,
-      sided-same (w .14) (w .15) (w .16) (w .17) (subst (λ (k : ℕ). Sided k (A .verts .now) (w .5 .last .1 .1 .1 .0) (w .5 .last .1 .1 .1 .1 .0) (w .5 .last .1 .1 .1 .1 .1 .0) ((L .i + 1) * k) (w .5 .last .1 .1 .1 .1 .1 .1 .0)) (sym e) (w .5 .ensures)),
+      ap (λ (p : List ℕ). length p) (w .14) ∙ w .5 .kept .1 .1 .0 ∙ L .inv .1,
+      ap (λ (p : List ℕ). length p) (w .15) ∙ w .5 .kept .1 .1 .1 .0 ∙ L .inv .2,
+      ap (λ (p : List ℕ). length p) (w .16) ∙ w .5 .kept .1 .1 .1 .1 .0 ∙ L .inv .3,
+      ap (λ (p : List ℕ). length p) (w .17) ∙ w .5 .kept .1 .1 .1 .1 .1 .0 ∙ L .inv .4,
+      sided-same (w .14) (w .15) (w .16) (w .17) (subst (λ (k : ℕ). Sided k (A .verts .now) (w .5 .last .1 .1 .0) (w .5 .last .1 .1 .1 .0) (w .5 .last .1 .1 .1 .1 .0) ((L .i + 1) * k) (w .5 .last .1 .1 .1 .1 .1 .0)) (sym e) (w .5 .ensures)),
     ))
     (c .if1 .came)
 

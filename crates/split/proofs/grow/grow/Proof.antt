@@ -1,7 +1,9 @@
--- `split::grow::grow` meets its contract: each answer is one law of proofs/GrowLaws.antt, and the table is what the rewiring left. Assumes nothing.
-use mathlib.Core.Path.{refl}
+-- `split::grow::grow` meets its contract: what each part asks and tells is in proofs/GrowLaws.antt, of the tables in proofs/LinkLaws.antt. Assumes nothing.
+use Rattle.split.proofs.LinkLaws.{heads-room, table-room, grown-back}
 use Rattle.split.proofs.GrowLaws.{elements-room, edges-room, share-room, grow-lacks-particles, grow-lacks-edges, grow-done}
-use Rattle.split.proofs.LinkLaws.{heads-room}
+use Rattle.links.proofs.Parts.{edges-lent}
+use mathlib.Core.Path.{refl}
+use native.Mathlib.Omega.{arith}
 use borrow.Author.Needs.{needs}
 use Rattle.split.proofs.grow.grow.Statement.{statement}
 use Rattle.split.proofs.grow.grow.Tie as tie
@@ -13,16 +15,25 @@ sub-if1-2 : tie.Need-sub-if1-2
 sub-if1-2 c = search needs
 
 returns : tie.Need-returns
-returns c = (grow-lacks-particles _ _ _ _ _ (c .before .before .before .before .before .before .before .before .before .before .before .before .pre .0) (c .before .before .before .before .before .before .before .before .before .before .before .before .pre .1) _ (c .if1 .taken), tt)
+returns c = (grow-lacks-particles _ _ _ _ _ (c .before .before .before .before .before .before .before .before .before .before .before .before .before .pre .0) (c .before .before .before .before .before .before .before .before .before .before .before .before .before .pre .1) _ (c .if1 .taken), tt)
 
 rewire-elements-requires : tie.Need-rewire-elements-requires
-rewire-elements-requires c κs = (elements-room (c .before .before .before .before .before .before .before .before .before .before .before .before .before .before .before .pre .0) (c .before .before .before .before .before .before .before .before .before .before .before .before .before .before .before .pre .1) (c .before .before .before .if1 .left), c .before .before .before .before .before .before .before .before .before .before .before .before .before .before .before .pre .4, c .before .before .before .before .before .before .before .before .before .before .before .before .before .before .before .pre .5, heads-room (c .before .before .before .before .before .before .before .before .before .before .before .before .before .before .before .pre .0) (c .before .before .before .before .before .before .before .before .before .before .before .before .before .before .before .pre .1) (c .before .before .before .if1 .left))
+rewire-elements-requires c κs = let P = c .before .before .before .before .before .before .before .before .before .before .before .before .before .before .before .before .pre in let h = c .before .before .before .if1 .left in (elements-room (P .0) (P .1) h, P .4, P .5, heads-room (P .0) (P .1) h, P .2, P .3)
 
 corners-per-requires : tie.Need-corners-per-requires
 corners-per-requires c κs = search needs
 
+sub-other-edges : tie.Need-sub-other-edges
+sub-other-edges c = search needs
+
+part-other-edges-start : tie.Need-part-other-edges-start
+part-other-edges-start c = search needs
+
+part-other-edges-end : tie.Need-part-other-edges-end
+part-other-edges-end c = search needs
+
 other-edges-requires : tie.Need-other-edges-requires
-other-edges-requires c κs = edges-room (c .before .before .before .before .before .before .before .before .before .before .before .before .before .before .before .before .before .before .before .before .before .before .before .before .before .before .pre .0) (c .before .before .before .before .before .before .before .before .before .before .before .before .before .before .before .before .before .before .before .before .before .before .before .before .before .before .pre .1) (c .before .before .before .before .before .before .before .before .before .before .before .before .before .before .before .before .before .before .before .before .before .before .before .before .before .before .pre .2) (c .before .before .before .before .before .before .before .before .before .before .before .before .before .before .before .before .before .before .before .before .before .before .before .before .before .before .pre .3) (c .before .before .before .before .before .before .before .before .before .before .before .before .before .before .if1 .left) (c .before .before .before .before .before .before .before .before .before .before .rewire-elements .ensures .0) (c .before .before .before .before .before .before .before .before .before .before .rewire-elements .kept .1 .1 .1 .1 .1 .1 .1 .1 .0) _ (c .before .before .before .corners-per .ensures)
+other-edges-requires c κs = let P = c .before .before .before .before .before .before .before .before .before .before .before .before .before .before .before .before .before .before .before .before .before .before .before .before .before .before .before .before .before .pre in let h = c .before .before .before .before .before .before .before .before .before .before .before .before .before .before .before .before .if1 .left in let R = c .before .before .before .before .before .before .before .before .before .before .before .before .rewire-elements in (edges-room (P .0) (P .1) (P .2) (P .3) h (R .ensures .0) (R .kept .1 .1 .1 .1 .1 .1 .1 .1 .1 .0) _ (c .before .before .before .before .before .corners-per .ensures), table-room (P .0) (P .1) h (edges-lent (R .ensures .1)), omega (arith, P .6, P .0 .few-edges, P .0 .edges))
 
 enum-known-grown : tie.Need-enum-known-grown
 enum-known-grown c = search needs
@@ -45,14 +56,14 @@ same-length-4 c = search needs
 same-length-5 : tie.Need-same-length-5
 same-length-5 c = search needs
 
-returns-2 : tie.Need-returns-2
-returns-2 c = (grow-lacks-edges _ _ _ _ _ (c .before .before .before .before .before .before .before .before .before .before .before .before .before .before .before .before .before .before .before .before .before .before .before .before .before .before .before .before .before .before .before .before .before .pre .0) (c .before .before .before .before .before .before .before .before .before .before .before .before .before .before .before .before .before .before .before .before .before .before .before .before .before .before .before .before .before .before .before .before .before .pre .1) (c .before .before .before .before .before .before .before .before .before .before .before .before .before .before .before .before .before .before .before .before .before .if1 .left) (c .before .before .before .before .before .before .before .before .before .before .before .before .before .before .before .before .before .rewire-elements .ensures .0) (c .before .before .before .before .before .before .before .before .before .before .corners-per .ensures) (c .before .before .before .before .before .before .other-edges .ensures) _ (c .enum-told .given .1), tt)
-
-share-out-requires : tie.Need-share-out-requires
-share-out-requires c κs = share-room (c .before .before .before .before .before .before .before .before .before .before .before .before .before .before .before .before .before .before .before .before .before .before .before .before .before .before .before .before .before .before .before .before .before .before .before .before .pre .0) (c .before .before .before .before .before .before .before .before .before .before .before .before .before .before .before .before .before .before .before .before .before .before .before .before .before .before .before .before .before .before .before .before .before .before .before .before .pre .1) (c .before .before .before .before .before .before .before .before .before .before .before .before .before .before .before .before .before .before .before .before .before .before .before .before .if1 .left)
-
 same-length-6 : tie.Need-same-length-6
 same-length-6 c = search needs
+
+returns-2 : tie.Need-returns-2
+returns-2 c = let P = c .before .before .before .before .before .before .before .before .before .before .before .before .before .before .before .before .before .before .before .before .before .before .before .before .before .before .before .before .before .before .before .before .before .before .before .before .before .before .before .before .pre in (grow-lacks-edges _ _ _ _ _ (P .0) (P .1) (c .before .before .before .before .before .before .before .before .before .before .before .before .before .before .before .before .before .before .before .before .before .before .before .before .before .before .before .if1 .left) (c .before .before .before .before .before .before .before .before .before .before .before .before .before .before .before .before .before .before .before .before .before .before .before .rewire-elements .ensures .0) (c .before .before .before .before .before .before .before .before .before .before .before .before .before .before .before .before .corners-per .ensures) (c .before .before .before .before .before .before .before .before .before .before .other-edges .ensures .0) _ (c .enum-told .given .1), tt)
+
+share-out-requires : tie.Need-share-out-requires
+share-out-requires c κs = share-room (c .before .before .before .before .before .before .before .before .before .before .before .before .before .before .before .before .before .before .before .before .before .before .before .before .before .before .before .before .before .before .before .before .before .before .before .before .before .before .before .before .before .before .before .pre .0) (c .before .before .before .before .before .before .before .before .before .before .before .before .before .before .before .before .before .before .before .before .before .before .before .before .before .before .before .before .before .before .before .before .before .before .before .before .before .before .before .before .before .before .before .pre .1) (c .before .before .before .before .before .before .before .before .before .before .before .before .before .before .before .before .before .before .before .before .before .before .before .before .before .before .before .before .before .before .if1 .left)
 
 same-length-7 : tie.Need-same-length-7
 same-length-7 c = search needs
@@ -69,8 +80,14 @@ same-length-10 c = search needs
 same-length-11 : tie.Need-same-length-11
 same-length-11 c = search needs
 
+same-length-12 : tie.Need-same-length-12
+same-length-12 c = search needs
+
+same-length-13 : tie.Need-same-length-13
+same-length-13 c = search needs
+
 returns-3 : tie.Need-returns-3
-returns-3 c = (grow-done _ _ _ _ _ (c .before .before .before .before .before .before .before .before .before .before .before .before .before .before .before .before .before .before .before .before .before .before .before .before .before .before .before .before .before .before .before .before .before .before .before .before .before .before .before .before .before .pre .0) (c .before .before .before .before .before .before .before .before .before .before .before .before .before .before .before .before .before .before .before .before .before .before .before .before .before .before .before .before .before .before .before .before .before .before .before .before .before .before .before .before .before .pre .1) (c .before .before .before .before .before .before .before .before .before .before .before .before .before .before .before .before .before .before .before .before .before .before .before .before .before .before .before .before .before .if1 .left) (c .before .before .before .before .before .before .before .before .before .before .before .before .before .before .before .before .before .before .before .before .before .before .before .before .before .rewire-elements .ensures .0) (c .before .before .before .before .before .before .before .before .before .before .before .before .before .before .before .before .before .before .corners-per .ensures) (c .before .before .before .before .before .before .before .before .before .before .before .before .before .before .other-edges .ensures) _ (c .before .before .before .before .before .before .before .before .grown .given .1) refl (c .before .before .before .before .share-out .ensures), c .before .before .before .before .before .before .before .before .before .before .before .before .before .before .before .before .before .before .before .before .before .before .before .before .before .rewire-elements .ensures .1)
+returns-3 c = let P = c .before .before .before .before .before .before .before .before .before .before .before .before .before .before .before .before .before .before .before .before .before .before .before .before .before .before .before .before .before .before .before .before .before .before .before .before .before .before .before .before .before .before .before .before .before .before .before .before .pre in let R = c .before .before .before .before .before .before .before .before .before .before .before .before .before .before .before .before .before .before .before .before .before .before .before .before .before .before .before .before .before .before .before .rewire-elements in let G = c .before .before .before .before .before .before .before .before .before .before .before .before .before .before .before .before .before .before .other-edges in (grow-done _ _ _ _ _ (P .0) (P .1) (c .before .before .before .before .before .before .before .before .before .before .before .before .before .before .before .before .before .before .before .before .before .before .before .before .before .before .before .before .before .before .before .before .before .before .before .if1 .left) (R .ensures .0) (c .before .before .before .before .before .before .before .before .before .before .before .before .before .before .before .before .before .before .before .before .before .before .before .before .corners-per .ensures) (G .ensures .0) _ (c .before .before .before .before .before .before .before .before .grown .given .1) refl (c .before .before .before .before .share-out .ensures), grown-back (G .last .1 .1 .1 .1 .1 .1 .1 .1 .1 .1 .1 .1 .1 .1 .0) (R .ensures .1) (G .kept .1 .1 .1 .1 .1 .1 .1 .1 .1 .1 .1 .1 .1 .1 .0) (c .before .before .before .before .before .before .before .before .grown .given .1) (G .ensures .1))
 
 pub grow-spec : {M : Type 1} → statement M
 grow-spec =
@@ -81,6 +98,9 @@ grow-spec =
     returns
     rewire-elements-requires
     corners-per-requires
+    sub-other-edges
+    part-other-edges-start
+    part-other-edges-end
     other-edges-requires
     enum-known-grown
     enum-told
@@ -89,12 +109,14 @@ grow-spec =
     same-length-3
     same-length-4
     same-length-5
+    same-length-6
     returns-2
     share-out-requires
-    same-length-6
     same-length-7
     same-length-8
     same-length-9
     same-length-10
     same-length-11
+    same-length-12
+    same-length-13
     returns-3)

@@ -6,8 +6,7 @@ use Rattle.split.proofs.settle.settle.Statement.{statement}
 use Rattle.split.proofs.settle.settle.Tie as tie
 
 open-boundary-requires : tie.Need-open-boundary-requires
-open-boundary-requires c κs = let A = c .before .before .before .before .before .before .before .before .before .before .before .before .before .args in
-    let P = c .before .before .before .before .before .before .before .before .before .before .before .before .before .pre .0 in
+open-boundary-requires c κs = let A = c .before .before .before .before .before .before .before .before .before .before .before .before .before .args in let P = c .before .before .before .before .before .before .before .before .before .before .before .before .before .pre .0 in
     boundary-asked (kindIs (A .kind)) (A .room) (A .k) (A .v) (A .before) (A .n) (A .count) (A .extra) (A .numbers .now) (A .verts .now) (A .groups .now) (A .points .now) (A .corners .now) (A .volumes .now) (A .ends .now) (A .lengths .now) (A .outline .now) (A .log .now) P
 
 enum-known-grown : tie.Need-enum-known-grown
@@ -20,34 +19,34 @@ same-length : tie.Need-same-length
 same-length c = c .before .before .before .before .open-boundary .kept .1 .1 .1 .1 .1 .1 .1 .1 .1 .1 .1 .1 .0
 
 returns : tie.Need-returns
-returns c = let A = c .before .before .before .before .before .before .before .before .before .before .before .before .before .before .before .before .before .before .args in
-    let P = c .before .before .before .before .before .before .before .before .before .before .before .before .before .before .before .before .before .before .pre .0 in
-    refused-boundary (kindIs (A .kind)) (A .room) (A .k) (A .v) (A .before) (A .n) (A .count) (A .extra) (A .numbers .now) (A .verts .now) (A .groups .now) (A .points .now) (A .corners .now) (A .volumes .now) (A .ends .now) (A .lengths .now) (A .outline .now) (A .log .now) P _ _ (c .before .before .before .before .open-boundary .ensures) (c .enum-told .given .1) _
+returns c = let A = c .before .before .before .before .before .before .before .before .before .before .before .before .before .before .before .before .before .before .args in let P = c .before .before .before .before .before .before .before .before .before .before .before .before .before .before .before .before .before .before .pre .0 in
+    (refused-boundary (kindIs (A .kind)) (A .room) (A .k) (A .v) (A .before) (A .n) (A .count) (A .extra) (A .numbers .now) (A .verts .now) (A .groups .now) (A .points .now) (A .corners .now) (A .volumes .now) (A .ends .now) (A .lengths .now) (A .outline .now) (A .log .now) P _ _ (c .before .before .before .before .open-boundary .ensures) (c .enum-told .given .1) _, tt)
 
 drop-straddlers-requires : tie.Need-drop-straddlers-requires
-drop-straddlers-requires c κs = let A = c .before .before .before .before .before .before .before .before .before .before .before .before .before .before .before .before .before .before .before .before .before .before .before .args in
-    let P = c .before .before .before .before .before .before .before .before .before .before .before .before .before .before .before .before .before .before .before .before .before .before .before .pre .0 in
-    (drop-asked (kindIs (A .kind)) (A .room) (A .k) (A .v) (A .before) (A .n) (A .count) (A .extra) (A .numbers .now) (A .verts .now) (A .groups .now) (A .points .now) (A .corners .now) (A .volumes .now) (A .ends .now) (A .lengths .now) (A .outline .now) (A .log .now) P, c .before .before .before .before .before .before .before .before .before .before .before .before .before .before .before .before .before .before .before .before .before .before .before .pre .1, c .before .before .before .before .before .before .before .before .before .before .before .before .before .before .before .before .before .before .before .before .before .before .before .pre .2)
+drop-straddlers-requires c κs = let A = c .before .before .before .before .before .before .before .before .before .before .before .before .before .before .before .before .before .before .before .before .before .before .before .before .args in let P = c .before .before .before .before .before .before .before .before .before .before .before .before .before .before .before .before .before .before .before .before .before .before .before .before .pre .0 in
+    (drop-asked (kindIs (A .kind)) (A .room) (A .k) (A .v) (A .before) (A .n) (A .count) (A .extra) (A .numbers .now) (A .verts .now) (A .groups .now) (A .points .now) (A .corners .now) (A .volumes .now) (A .ends .now) (A .lengths .now) (A .outline .now) (A .log .now) P, c .before .before .before .before .before .before .before .before .before .before .before .before .before .before .before .before .before .before .before .before .before .before .before .before .pre .1, c .before .before .before .before .before .before .before .before .before .before .before .before .before .before .before .before .before .before .before .before .before .before .before .before .pre .2)
 
 same-length-2 : tie.Need-same-length-2
-same-length-2 c = c .before .before .before .before .before .before .before .before .drop-straddlers .kept .1 .1 .1 .1 .1 .1 .1 .1 .1 .1 .1 .1 .0
+same-length-2 c = c .before .before .before .before .before .before .before .before .before .before .drop-straddlers .kept .1 .1 .1 .1 .1 .1 .1 .1 .1 .1 .1 .1 .0
 
 same-length-3 : tie.Need-same-length-3
-same-length-3 c = c .before .before .before .before .before .before .before .before .drop-straddlers .kept .1 .1 .1 .1 .1 .1 .1 .1 .1 .1 .1 .1 .1 .0
+same-length-3 c = c .before .before .before .before .before .before .before .before .before .before .drop-straddlers .kept .1 .1 .1 .1 .1 .1 .1 .1 .1 .1 .1 .1 .1 .0
 
 same-length-4 : tie.Need-same-length-4
-same-length-4 c = c .before .before .before .before .before .before .before .before .before .before .before .before .before .before .before .before .before .before .open-boundary .kept .1 .1 .1 .1 .1 .1 .1 .1 .1 .1 .1 .1 .0
+same-length-4 c = c .before .before .before .before .before .before .before .before .before .before .before .before .before .before .before .before .before .before .before .before .before .open-boundary .kept .1 .1 .1 .1 .1 .1 .1 .1 .1 .1 .1 .1 .0
 
 same-length-5 : tie.Need-same-length-5
-same-length-5 c = c .before .before .before .before .before .before .before .before .drop-straddlers .kept .1 .1 .1 .1 .1 .1 .1 .1 .1 .1 .1 .1 .1 .1 .0
+same-length-5 c = c .before .before .before .before .before .before .before .before .before .before .drop-straddlers .kept .1 .1 .1 .1 .1 .1 .1 .1 .1 .1 .1 .1 .1 .1 .0
 
 same-length-6 : tie.Need-same-length-6
-same-length-6 c = c .before .before .before .before .before .before .before .before .drop-straddlers .kept .1 .1 .1 .1 .1 .1 .1 .1 .1 .1 .1 .1 .1 .1 .1 .0
+same-length-6 c = c .before .before .before .before .before .before .before .before .before .before .drop-straddlers .kept .1 .1 .1 .1 .1 .1 .1 .1 .1 .1 .1 .1 .1 .1 .1 .0
+
+same-length-7 : tie.Need-same-length-7
+same-length-7 c = c .before .before .before .before .before .before .before .before .before .before .drop-straddlers .kept .1 .1 .1 .1 .1 .1 .1 .1 .1 .1 .1 .1 .1 .1 .1 .1 .0
 
 returns-2 : tie.Need-returns-2
-returns-2 c = let A = c .before .before .before .before .before .before .before .before .before .before .before .before .before .before .before .before .before .before .before .before .before .before .before .before .before .before .before .before .before .before .before .before .args in
-    let P = c .before .before .before .before .before .before .before .before .before .before .before .before .before .before .before .before .before .before .before .before .before .before .before .before .before .before .before .before .before .before .before .before .pre .0 in
-    settled-told (kindIs (A .kind)) (A .room) (A .k) (A .v) (A .before) (A .n) (A .count) (A .extra) (A .numbers .now) (A .verts .now) (A .groups .now) (A .points .now) (A .corners .now) (A .volumes .now) (A .ends .now) (A .lengths .now) (A .outline .now) (A .log .now) P _ _ _ (c .before .before .before .before .before .before .before .before .before .before .before .before .before .before .before .before .before .before .open-boundary .ensures) (c .before .before .before .before .before .before .before .before .before .before .before .before .before .before .grown .given .1) _ _ _ _ (c .before .before .before .before .before .before .before .before .drop-straddlers .ensures)
+returns-2 c = let A = c .before .before .before .before .before .before .before .before .before .before .before .before .before .before .before .before .before .before .before .before .before .before .before .before .before .before .before .before .before .before .before .before .before .before .before .args in let P = c .before .before .before .before .before .before .before .before .before .before .before .before .before .before .before .before .before .before .before .before .before .before .before .before .before .before .before .before .before .before .before .before .before .before .before .pre .0 in let D = c .before .before .before .before .before .before .before .before .before .before .drop-straddlers in
+    (settled-told (kindIs (A .kind)) (A .room) (A .k) (A .v) (A .before) (A .n) (A .count) (A .extra) (A .numbers .now) (A .verts .now) (A .groups .now) (A .points .now) (A .corners .now) (A .volumes .now) (A .ends .now) (A .lengths .now) (A .outline .now) (A .log .now) P _ _ _ (c .before .before .before .before .before .before .before .before .before .before .before .before .before .before .before .before .before .before .before .before .before .open-boundary .ensures) (c .before .before .before .before .before .before .before .before .before .before .before .before .before .before .before .before .before .grown .given .1) _ _ _ _ (D .ensures .0), D .ensures .1)
 
 pub settle-spec : {M : Type 1} → statement M
 settle-spec =
@@ -64,4 +63,5 @@ settle-spec =
     same-length-4
     same-length-5
     same-length-6
+    same-length-7
     returns-2)

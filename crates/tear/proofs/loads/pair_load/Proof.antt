@@ -1,5 +1,5 @@
 -- `tear::loads::pair_load` meets its contract: the loop over the edges of one sum is `Walking` of proofs/LoadLaws.antt. Assumes nothing.
-use Prim.Native.Nat.{_-_}
+use Prim.Native.Nat.{_+_, _-_}
 use native.Mathlib.Omega.{arith}
 use mathlib.Core.Logic.{⊎-elim}
 use mathlib.Core.Path.{refl}
@@ -23,6 +23,9 @@ mul-i c = omega (arith, c .before .before .before .before .pre .2 .first, c .bef
 
 shared-slice-read-i : tie.Need-shared-slice-read-i Inv-loop μ-loop
 shared-slice-read-i c = omega (arith, c .before .before .before .before .before .pre .2 .first, c .before .before .before .before .before .pre .2 .second, c .before .before .before .before .before .pre .1 .heads-long)
+
+cast-i : tie.Need-cast-i Inv-loop μ-loop
+cast-i c = let A = c .before .before .before .before .before .args in omega (arith, c .shared-slice-known5 .given (A .x + A .y))
 
 loop-holds : tie.Need-loop-holds Inv-loop μ-loop
 unfolding ofBits
@@ -68,6 +71,9 @@ mul-i-2 c = omega (arith, c .before .before .before .before .before .before .bef
 shared-slice-read-i-2 : tie.Need-shared-slice-read-i-2 Inv-loop μ-loop
 shared-slice-read-i-2 c = omega (arith, c .before .before .before .before .before .before .before .before .before .before .before .before .pre .1 .nexts-long, c .before .before .before .before .before .loop-test .taken)
 
+cast-i-2 : tie.Need-cast-i-2 Inv-loop μ-loop
+cast-i-2 c = omega (arith, c .shared-slice-known9 .given (c .before .before .before .before .before .before .loop .i))
+
 loop-less : tie.Need-loop-less Inv-loop μ-loop
 loop-less c = omega (arith, c .before .before .before .before .before .before .before .before .before .before .before .before .pre .1 .linked .next _ (omega arith) (c .before .before .before .before .before .loop-test .taken) .from, c .before .before .before .before .before .loop-test .taken)
 
@@ -96,6 +102,7 @@ pair-load-spec =
     add-i
     mul-i
     shared-slice-read-i
+    cast-i
     loop-holds
     mul-both-ends
     shared-slice-read-both-ends
@@ -110,6 +117,7 @@ pair-load-spec =
     larger-requires
     mul-i-2
     shared-slice-read-i-2
+    cast-i-2
     loop-less
     loop-again
     larger-requires-2
