@@ -159,7 +159,7 @@ fn tearing_rows() -> Vec<Rows> {
     let pin = "grid, split at a pinned particle (idle)";
     let pin_apart = "grid in two pieces, split at a pinned particle (idle)";
     vec![
-        rows(&m, (pin, &pinned(&m, v), split(&m)), [("grid", Args::Straddlers)]),
+        rows(&m, (pin, &pinned(&m, v), split(&m)), [("grid, tables and two sides", split(&m)), ("grid", Args::Straddlers)]),
         rows(&m, ("grid, all on one side (idle)", &m, whole(&m)), [("grid, two sides at the middle", split(&m))]),
         rows(&apart, (pin_apart, &pinned(&apart, v), split(&apart)), [("grid in two pieces", Args::Straddlers)]),
         rows(
@@ -190,16 +190,26 @@ fn tearing_rows() -> Vec<Rows> {
 /// The same split on grids of 8, 16 and 22 and on ropes of 250, 500 and 1,000: the work apart is to stay what it is. The idle call has the same tables made, and all sides
 /// of the fan alike, so that nothing splits: what a call does once, however many particles it splits, is not the split's. Behind them the same cut of one strap on those ropes.
 fn growth_rows() -> Vec<Rows> {
-    let split_of = |name: &'static str, m: &Mesh, v: u32| {
+    let sides_of = |m: &Mesh, v: u32, two: bool| {
         let fan = second::fan(m, second::kind(m), v).len();
-        let split = |two: bool| Args::Split { v, sides: (0..fan).map(|i| (two && 2 * i >= fan) as u8).collect() };
-        rows(m, ("the same, all on one side (idle)", m, split(false)), [(name, split(true))])
+        Args::Split { v, sides: (0..fan).map(|i| (two && 2 * i >= fan) as u8).collect() }
+    };
+    let split_of = |name: &'static str, m: &Mesh, v: u32| {
+        rows(m, ("the same, all on one side (idle)", m, sides_of(m, v, false)), [(name, sides_of(m, v, true))])
+    };
+    // Apart from a call at a pinned particle, which makes no table: the tables are in it.
+    let tabled_of = |name: &'static str, m: &Mesh, v: u32| {
+        rows(m, ("the same, pinned (idle)", &pinned(m, v), sides_of(m, v, true)), [(name, sides_of(m, v, true))])
     };
     let grids = [("grid of 8", 8), ("grid of 16", 16), ("grid of 22", 22)].map(|(name, size)| {
         split_of(name, &grid(size, size, &mut Rng::new(1), 0.0), ((size / 2) * (size + 1) + size / 2) as u32)
     });
     let split_ropes =
         [("rope of 250", 250), ("rope of 500", 500), ("rope of 1,000", 1000)].map(|(name, size)| split_of(name, &rope(size), 60));
+    let tabled_grids = [("tables and grid of 8", 8), ("tables and grid of 22", 22)].map(|(name, size)| {
+        tabled_of(name, &grid(size, size, &mut Rng::new(1), 0.0), ((size / 2) * (size + 1) + size / 2) as u32)
+    });
+    let tabled_ropes = [("tables and rope of 250", 250), ("tables and rope of 1,000", 1000)].map(|(name, size)| tabled_of(name, &rope(size), 60));
     let ropes = [("strap in a rope of 250", 250), ("strap in a rope of 500", 500), ("strap in a rope of 1,000", 1000)].map(|(name, size)| {
         let line = rope(size);
         let blade = |x: f32, y0: f32, y1: f32| Args::Cut {
@@ -210,7 +220,7 @@ fn growth_rows() -> Vec<Rows> {
         };
         rows(&line, ("the same, missed (idle)", &line, blade(60.25, -3., -2.)), [(name, blade(60.25, -1., 2.))])
     });
-    grids.into_iter().chain(split_ropes).chain(ropes).collect()
+    grids.into_iter().chain(split_ropes).chain(tabled_grids).chain(tabled_ropes).chain(ropes).collect()
 }
 /// The body that `connected_pieces` counts: elements alone. It goes by shared particles, ours by shared sides: the Rust has no such count.
 fn elements_alone(m: &Mesh) -> SoftBody {
@@ -385,7 +395,7 @@ pub fn run(words: &[String]) -> i32 {
         "\"The work apart\", where a mesh is given: ours less an idle call, in which nothing is split but decoding,"
     );
     println!(
-        "checks, copy and store are done; the median of differences, the two timed in turn. Its row stands before."
+        "checks, copy and store are done; the median of differences, the two timed in turn. Its row stands before. A split's idle call makes its tables too, but in the rows that say \"tables\"."
     );
     println!(
         "Straddlers have no idle call, so that of a split is taken; pieces none, so that of the rest measure. A cut that misses has looked at every element."
@@ -445,11 +455,12 @@ enum Of {
     Copy,
 }
 /// The ratios that are wanted of single rows: function, the mesh's first words, of what, at most.
-const WANTED: [(&str, &str, Of, f64); 16] = [
+const WANTED: [(&str, &str, Of, f64); 17] = [
     ("bench_cut", "grid, diagonal", Of::Alone, 0.25),
     ("bench_cut", "grid, slanted", Of::Alone, 0.25),
     ("bench_crack", "grid, ten torn edges", Of::Alone, 0.08),
     ("bench_split", "grid, two sides", Of::Apart, 0.25),
+    ("bench_split", "grid, tables and two sides", Of::Apart, 0.25),
     ("bench_cut", "rope of 1,000, one strap", Of::Alone, 1.0),
     ("bench_cut", "rope of 1,000, ten straps", Of::Alone, 1.0),
     ("bench_cut", "rope of 1,000, one strap", Of::Apart, 1.0),
@@ -497,7 +508,7 @@ fn wanted(all: &[Measured], grown: &[Measured]) {
         let what = format!("all rows: ours / Rust from the image; the largest is `{}`, {}", r.function, r.mesh);
         verdict(&format!("{what}; {rows} of {} rows reach it", imaged.len()), *got, FROM_IMAGE);
     }
-    for (kind, of) in [("grid", "split"), ("rope", "split"), ("strap", "cut")] {
+    for (kind, of) in [("grid", "split"), ("rope", "split"), ("tables and grid", "split"), ("tables and rope", "split"), ("strap", "cut")] {
         let apart: Vec<f64> = grown.iter().filter(|r| r.mesh.starts_with(kind)).filter_map(|r| r.apart).collect();
         if let (Some(first), Some(last)) = (apart.first(), apart.last()) {
             let what = format!("the work apart of one {of}, {kind}: in the largest / in the smallest: {} / {}", time(*last), time(*first));
