@@ -1,7 +1,7 @@
 #!/usr/bin/env python3
-"""Makes crate model's computed cases of the oracle's vectors.
+"""Makes the computed cases of crates model and model_cases of the oracle's vectors.
 
-    cases.py                  cases.txt and cases.names -> crates/model/proofs/Case*.antt, a file for each section
+    cases.py                  cases.txt and cases.names -> crates/model/proofs/Case*.antt and crates/model_cases/proofs/Case*.antt, a file for each section
     cases.py FILE FOLDER N    any vector file, N cases to a file (CaseRandom1.antt, ..), for a try outside the repository
 
 cases.txt and cases.names are written by `oracle/run cases oracle/cases` from the published Rust."""
@@ -11,6 +11,8 @@ HERE = os.path.dirname(os.path.abspath(__file__))
 CRATES = os.path.join(HERE, '..', '..', 'crates')
 # the file of each section, a hundred numbers to a section
 SECTIONS = {1: 'Groups', 2: 'Splits', 3: 'Cuts', 4: 'Grid', 5: 'Straps', 6: 'Cracks', 7: 'TriangleCracks', 8: 'Loads', 9: 'Reads', 10: 'Refusals', 11: 'Rooms'}
+# the sections that stand in crate model, where each edit that must fail meets a case; the others stand above it, in crate model_cases
+BESIDE = ['Groups', 'Splits', 'Cuts', 'Straps', 'Loads', 'Reads']
 # the modules whose definitions are computed
 OPENED = [('lists', ['Lists', 'Labels']), ('float', ['Numbers', 'Ranges', 'Root', 'Order']), ('blade', ['Points', 'Blade']), ('fan', ['Groups']),
           ('model', ['Valid', 'Elements', 'Split', 'Pieces', 'Cut', 'Crack', 'Run', 'Calls', 'Reads'])]
@@ -232,7 +234,11 @@ def main():
         cases = read(os.path.join(HERE, 'cases.txt'))
         for n, title in SECTIONS.items():
             part = [c for c in cases if c['no'] // 100 == n]
-            write(os.path.join(CRATES, 'model', 'proofs', 'Case%s.antt' % title), title, part, names)
+            path = os.path.join(CRATES, 'model' if title in BESIDE else 'model_cases', 'proofs', 'Case%s.antt' % title)
+            write(path, title, part, names)
+            if title not in BESIDE:
+                text = open(path).read()
+                open(path, 'w').write(text.replace('model·specs.specs.', 'model.specs.').replace('model·proofs.proofs.', 'model.proofs.'))
             print('Case%s' % title, len(part))
         starred(os.path.join(CRATES, 'model', 'proofs', 'Starred.antt'))
     else:

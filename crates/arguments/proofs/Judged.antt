@@ -1,23 +1,15 @@
--- The faults of a mesh come before its arguments: what an accepted mesh is, and when its arguments decide.
-use Prim.Native.Nat.{ℕ, _/_}
-use native.Mathlib.Omega.{arith}
+-- The faults of a mesh come before its arguments, and when these decide. Assumes nothing.
+use Prim.Native.Nat.{ℕ}
 use mathlib.Core.Path.{_≡_, refl, sym, _∙_, ap}
 use mathlib.Core.Bool.{Bool, true, false, not, _&&_}
-use mathlib.Core.List.{List}
-use lib.Dec.{eqb, ltb}
-use lib.ListN.{length}
-use Rattle.lists.specs.Lists.{pick, all}
+use Rattle.lists.specs.Lists.{pick}
 use Rattle.model.specs.Mesh.{Mesh}
 use Rattle.model.specs.Valid.{numbersFit, indicesFit}
-use Rattle.model.specs.Calls.{sidesOk, refusal}
+use Rattle.model.specs.Calls.{refusal}
 use Rattle.mesh.specs.Given.{Given, meshOf, sizesFit}
-use Rattle.mesh.specs.Widths.{pointColumns}
 use Rattle.judge.specs.Checks.{thenCheck, firstFrom, faultIn, faultOf}
-use Rattle.judge.proofs.Joined.{then-zero, then-stays}
-use Rattle.arguments.specs.Accepted.{Accepted}
-use Rattle.arguments.specs.Fans.{FanOf}
+use Rattle.judge.proofs.Joined.{then-stays}
 use Rattle.arguments.specs.Beside.{withNumbers}
-use Rattle.arguments.proofs.Accepted.{particles-count}
 
 -- ---- the order of the refusals
 
@@ -51,14 +43,6 @@ sized-refuses M beside t = all-in-order true (numbersFit M) (indicesFit M) besid
 pub arguments-refuse : (G : Given) (t : Bool) → thenCheck (faultOf G) t 4 ≡ refusal (sizesFit G) (meshOf G) true t
 arguments-refuse G t = beside-refuses G true t
 
--- a mesh without a fault is accepted
-pub accepted : (G : Given) → faultOf G ≡ 0 → Accepted G
-unfolding faultOf firstFrom
-accepted G e =
-    let a = then-zero (thenCheck (thenCheck 0 (sizesFit G) 1) (numbersFit (meshOf G)) 2) (indicesFit (meshOf G)) 3 (λ q. omega arith) e in
-    let b = then-zero (thenCheck 0 (sizesFit G) 1) (numbersFit (meshOf G)) 2 (λ q. omega arith) (a .0) in
-    record { sized = then-zero 0 (sizesFit G) 1 (λ q. omega arith) (b .0) .1; indices = a .1 }
-
 -- ---- arguments of a mesh without a fault
 
 -- they alone decide
@@ -83,13 +67,3 @@ module _ (M : Mesh) (code fault : ℕ) (numbers beside : Bool) (first : code ≡
   -- where there is none, they decide
   pub beside-judged : (r : ℕ) (t u : Bool) → r ≡ thenCheck code t 4 → t ≡ u → r ≡ refusal true M beside u
   beside-judged r t u e q = e ∙ ap (λ (n : ℕ). thenCheck n t 4) code-is ∙ sized-refuses M beside t ∙ ap (refusal true M beside) q
-
--- ---- the sides of a fan
-
--- where it was read, their test is the definition's
-pub sides-ok : {G : Given} {v k others count : ℕ} {verts : List ℕ} (F : FanOf G v k others count verts) (sides : List ℕ) (t : Bool)
-    → t ≡ (ltb v (length (G .points) / pointColumns) && all (λ s. ltb s 2) sides && eqb (length sides) count) → t ≡ sidesOk (meshOf G) v sides
-unfolding sidesOk
-sides-ok {G} {v} {count = count} F sides t e =
-    e ∙ ap (λ (p : ℕ). ltb v p && all (λ s. ltb s 2) sides && eqb (length sides) count) (sym (particles-count G))
-    ∙ ap (λ (c : ℕ). ltb v (length (meshOf G .particles)) && all (λ s. ltb s 2) sides && eqb (length sides) c) (F .count-is)

@@ -1,7 +1,2 @@
--- What is known of an accepted mesh, and of the tables of its elements.
-pub mod Accepted
-pub mod Cornering
--- The fan of a particle, read from the columns.
-pub mod Fans
--- Numbers beside it.
+-- Numbers beside a mesh.
 pub mod Beside

@@ -4,7 +4,7 @@ use mathlib.Core.List.{List}
 use Prim.Native.Nat.{ℕ}
 use Rattle.model.specs.Reads.{Read}
 use Rattle.reading_c.specs.Replies.{Replied}
-use Rattle.bench_c.specs.Torn.{BothReplied}
+use Rattle.mesh_replies.specs.Both.{BothReplied}
 
 -- the functions that read a mesh or numbers: the number that is returned, and every result byte
 pub replied-agree : (o : Read (List ℕ)) (lent r r′ : ℕ) (s s′ : List ℕ) → Replied o lent r s → Replied o lent r′ s′ → (r ≡ r′) × (s ≡ s′)

@@ -6,20 +6,20 @@ use mathlib.Core.Bool.{Bool, true, false}
 use mathlib.Core.List.{List, []}
 use lib.ListN.{length}
 use lib.Dec.{eqb, leb}
-use lib.Ieee.{Float}
 use borrow.Author.Tests.{eq-eqb, ne-eqb, leb-true}
 use Rattle.lists.proofs.Sifts.{and-true}
-use Rattle.blade.specs.declared.Point.{Point}
-use Rattle.model.specs.Calls.{Outcome, refusal, bladeOk, cutCall, crackCall}
+use Rattle.model.specs.Calls.{Outcome, refusal, bladeOk, crackCall}
 use Rattle.model.specs.Reads.{refused}
 use Rattle.mesh.specs.Given.{meshOf}
 use Rattle.mesh_calls.specs.Jobs.{jobNumbers, jobCall}
+use Rattle.mesh_calls.specs.declared.Job.{Job}
 use Rattle.mesh_calls.specs.declared.Job.the-variants.{Cut, Crack}
 use Rattle.mesh_calls.proofs.Jobs.{cut-is, crack-is}
 use Rattle.image.specs.Words.{wordsFrom, numberOf}
 use Rattle.image.specs.Image.{imageOf, imageSized}
 use Rattle.reading_c.specs.Replies.{pointAt}
-use Rattle.bench_c.specs.Torn.{BothReplied, OutcomeReplied, withRooms, roomsIn, ifRead, cutOutcome, wordsFew, crackOutcome}
+use Rattle.mesh_replies.specs.Both.{BothReplied}
+use Rattle.bench_c.specs.Torn.{OutcomeReplied, withRooms, roomsIn, ifRead, bladeIn, cutOutcome, wordsFew, crackOutcome}
 
 module _ (s rooms : List ℕ) (lent logged x : ℕ) (out log : List ℕ) where
   -- bytes that were read
@@ -38,16 +38,15 @@ module _ (s rooms : List ℕ) (lent logged x : ℕ) (out log : List ℕ) where
     unfolding cutOutcome
     cut-misread code n f h = misread-replied (eqb (length blade) 16) _ code (ne-eqb (length blade) 16 n) f h
 
-    pub cut-replied : (b0 b1 : Point) (f : Float) (ls : List ℕ) → length blade ≡ 16 → b0 ≡ pointAt blade 0 → b1 ≡ pointAt blade 2 → f ≡ numberOf bits
-        → OutcomeReplied (withRooms s rooms (jobNumbers (Cut edition b0 b1 f)) (jobCall (Cut edition b0 b1 f) ls (imageSized s) (meshOf (imageOf s)) (roomsIn rooms logged))) lent logged x out log
+    pub cut-replied : (job : Job) (ls : List ℕ) → length blade ≡ 16 → job ≡ Cut edition (pointAt blade 0) (pointAt blade 2) (numberOf bits)
+        → OutcomeReplied (withRooms s rooms (jobNumbers job) (jobCall job ls (imageSized s) (meshOf (imageOf s)) (roomsIn rooms logged))) lent logged x out log
         → OutcomeReplied (cutOutcome s blade edition bits rooms logged) lent logged x out log
     unfolding cutOutcome
-    cut-replied b0 b1 f ls n e0 e1 ef h =
-        let told : Point → Point → Float → Outcome = λ p q y. withRooms s rooms (bladeOk (record { from = p; to = q })) (cutCall (imageSized s) (meshOf (imageOf s)) edition (record { from = p; to = q }) y (roomsIn rooms logged)) in
+    cut-replied job ls n e h =
         read-replied (eqb (length blade) 16) _ (eq-eqb (length blade) 16 n)
         (subst (λ (o : Outcome). OutcomeReplied o lent logged x out log)
-        (ap (withRooms s rooms (bladeOk (record { from = b0; to = b1 }))) (cut-is edition b0 b1 f ls (imageSized s) (meshOf (imageOf s)) (roomsIn rooms logged))
-        ∙ ap (λ (p : Point). told p b1 f) e0 ∙ ap (λ (q : Point). told (pointAt blade 0) q f) e1 ∙ ap (told (pointAt blade 0) (pointAt blade 2)) ef)
+        (ap (λ (j : Job). withRooms s rooms (jobNumbers j) (jobCall j ls (imageSized s) (meshOf (imageOf s)) (roomsIn rooms logged))) e
+        ∙ ap (withRooms s rooms (bladeOk (bladeIn blade))) (cut-is edition (pointAt blade 0) (pointAt blade 2) (numberOf bits) ls (imageSized s) (meshOf (imageOf s)) (roomsIn rooms logged)))
         h)
 
   -- ---- the crack

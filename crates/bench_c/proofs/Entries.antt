@@ -1,5 +1,5 @@
 -- Laws of the C functions that give a mesh: rooms, and the job that each is. Assumes nothing.
-use Prim.Native.Nat.{ℕ, zero, suc, _/_, _<_, min}
+use Prim.Native.Nat.{ℕ, zero, suc, _<_, min}
 use native.Mathlib.Omega.{arith}
 use mathlib.Core.Path.{_≡_, refl, sym, ap, subst, _∙_}
 use mathlib.Core.Bool.{Bool, true, false, not, _&&_}
@@ -23,49 +23,22 @@ use Rattle.mesh_calls.specs.Jobs.{jobNumbers, jobArguments, jobEdition, jobRefu
 use Rattle.mesh_calls.specs.declared.Job.{Job}
 use Rattle.mesh_calls.specs.declared.Job.the-variants.{Straddlers, Split, Cut, Crack}
 use Rattle.mesh_calls.proofs.Jobs.{straddlers-is, split-is}
-use Rattle.image.specs.Words.{wordAt}
 use Rattle.image.specs.Image.{imageOf, imageSized}
 use Rattle.reading_c.specs.Given.{Capped}
-use Rattle.bench_c.specs.Torn.{BothReplied, OutcomeReplied, withRooms, roomsIn, splitOutcome, straddlersOutcome}
-use Rattle.bench_c.specs.Told.{Limited, roomsGiven, roomsToo}
+use Rattle.mesh_replies.specs.Both.{BothReplied}
+use Rattle.bench_c.specs.Torn.{OutcomeReplied, withRooms, roomsIn, splitOutcome, straddlersOutcome}
+use Rattle.call_words.specs.Rooms.{roomsGiven, roomsToo}
 use Rattle.reading_c.proofs.Siding.{capped-sides}
 use Rattle.bench_c.proofs.Tearings.{checked, checked-small, checked-replied}
 use Rattle.replies.proofs.Saying.{pick-small}
 
 -- ---- rooms
 
-pub rooms-made : (s : List ℕ) (logged a b c d a′ b′ c′ d′ e : ℕ) → a′ ≡ wordAt s 0 → b′ ≡ wordAt s 1 → c′ ≡ wordAt s 2 → d′ ≡ wordAt s 3 → a ≡ min 1024 a′ → b ≡ min 1024 b′ → c ≡ min 2048 c′ → d ≡ min 2048 d′ → e ≡ min 4096 (logged / 24)
-    → _≡_ {A = Rooms} (record { particles = a; triangles = b; edges = c; boundary = d; log = e }) (roomsGiven s logged)
-unfolding roomsGiven
-rooms-made s logged a b c d a′ b′ c′ d′ e wa wb wc wd ea eb ec ed ee i =
-    record { particles = (ea ∙ ap (min 1024) wa) i; triangles = (eb ∙ ap (min 1024) wb) i; edges = (ec ∙ ap (min 2048) wc) i; boundary = (ed ∙ ap (min 2048) wd) i; log = ee i }
-
-given-limited : (s : List ℕ) (logged : ℕ) → Limited (roomsGiven s logged) logged
-unfolding roomsGiven
-given-limited s logged = record { particles = omega arith; triangles = omega arith; edges = omega arith; boundary = omega arith; log = omega arith; entries = omega arith }
-
-pub made-limited : (s : List ℕ) (logged : ℕ) (R : Rooms) → R ≡ roomsGiven s logged → Limited R logged
-made-limited s logged R e = subst (λ (Q : Rooms). Limited Q logged) (sym e) (given-limited s logged)
-
--- no rooms
-pub none-limited : (logged : ℕ) → Limited (record { particles = 0; triangles = 0; edges = 0; boundary = 0; log = 0 }) logged
-none-limited logged = record { particles = omega arith; triangles = omega arith; edges = omega arith; boundary = omega arith; log = omega arith; entries = omega arith }
-
 made-as : (s : List ℕ) (logged : ℕ) (R : Rooms) → R ≡ roomsGiven s logged → asRooms R ≡ roomsIn s logged
 unfolding roomsGiven
 made-as s logged R e = ap asRooms e
 
 -- ---- the checks, and rooms that could not be read
-
--- the code itself, 4 in the place of none, or at most 4
-pub rooms-right : (code : ℕ) (b : Bool) → b ≡ true → code ≡ roomsToo code b
-rooms-right code b e = sym (ap (roomsToo code) e)
-
-pub rooms-none : (code : ℕ) (b : Bool) → b ≡ false → code ≡ 0 → 4 ≡ roomsToo code b
-rooms-none code b e z = sym (ap (roomsToo code) e ∙ ap (λ (n : ℕ). roomsToo n false) z)
-
-pub rooms-late : (code : ℕ) (b : Bool) (r : ℕ) → b ≡ false → (code ≡ 0 → ⊥) → r ≡ min code 4 → r ≡ roomsToo code b
-rooms-late code b r e n q = q ∙ sym (ap (roomsToo code) e ∙ ap (λ (z : Bool). pick z 4 (min code 4)) (ne-eqb code 0 n))
 
 -- what a cut's edition refuses comes behind 4
 late : (j : Job) (M : Mesh) → _≡_ {A = ℕ} (roomsToo (jobEdition j M) false) 4

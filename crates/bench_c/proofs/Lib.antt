@@ -1,7 +1,4 @@
--- The laws of replies (any two agree: Agree), of an image that is read into blocks, and of jobs.
-pub mod Places
-pub mod Shown
-pub mod Tellings
+-- The laws of replies (any two agree: Agree) and of jobs.
 pub mod Outcomes
 pub mod Tearings
 pub mod Entries

@@ -22,12 +22,14 @@ use Rattle.call_frame.specs.Framed.{wordsChange, Came}
 use Rattle.call_frame.specs.declared.Answer.{Answer}
 use Rattle.call_frame.specs.declared.Answer.the-variants.{Refused, Done}
 use Rattle.image.specs.Image.{imageWordsOf}
-use Rattle.image.specs.Stores.{blockWords}
+use Rattle.image_writing.specs.Stores.{blockWords}
 use Rattle.reading_c.specs.Given.{SmallCode}
-use Rattle.bench_c.specs.Torn.{meshReply, logReply, BothReplied, OutcomeReplied}
-use Rattle.bench_c.specs.Told.{meshTold, logTold, Telling, Limited}
-use Rattle.image.proofs.Rows.{rows-image}
-use Rattle.bench_c.proofs.Shown.{standing, rows-log}
+use Rattle.mesh_replies.specs.Both.{BothReplied}
+use Rattle.mesh_replies.specs.Told.{meshTold, logTold, Telling}
+use Rattle.call_words.specs.Rooms.{Limited}
+use Rattle.bench_c.specs.Torn.{meshReply, logReply, OutcomeReplied}
+use Rattle.image_writing.proofs.Rows.{rows-image}
+use Rattle.mesh_replies.proofs.Shown.{standing, rows-log}
 use Rattle.replies.proofs.Saying.{pick-small}
 
 -- ---- refusals are small

@@ -32,8 +32,10 @@ use Rattle.mesh_calls.specs.declared.Job.the-variants.{Straddlers, Split, Cut, 
 use Rattle.perform.proofs.Performed.{job-refused, job-asked, job-came}
 use Rattle.image.specs.Image.{imageOf, imageSized}
 use Rattle.reading_c.specs.Given.{SmallCode}
-use Rattle.bench_c.specs.Torn.{meshReply, BothReplied, OutcomeReplied}
-use Rattle.bench_c.specs.Told.{meshTold, logTold, Telling, Limited}
+use Rattle.mesh_replies.specs.Both.{BothReplied}
+use Rattle.mesh_replies.specs.Told.{meshTold, logTold, Telling}
+use Rattle.call_words.specs.Rooms.{Limited}
+use Rattle.bench_c.specs.Torn.{meshReply, OutcomeReplied}
 use Rattle.replies.proofs.Saying.{refusal-small, pick-small}
 use Rattle.image.proofs.Loading.{sized-input}
 use Rattle.bench_c.proofs.Outcomes.{fault-small, unless-small, came-telling, came-replied}

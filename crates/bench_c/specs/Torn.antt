@@ -1,6 +1,5 @@
 -- What the C functions that give a mesh answer, as docs/C-FUNCTIONS.md has it: the words of the answer, the words of the log, and the rooms. Definitions only.
 use Prim.Native.Nat.{ℕ, _/_, _%_, min}
-use mathlib.Core.Path.{_≡_}
 use mathlib.Core.Bool.{Bool, true, false, _&&_}
 use mathlib.Core.List.{List, [], _∷_, map}
 use lib.ListN.{length}
@@ -13,9 +12,10 @@ use Rattle.model.specs.Calls.{refused as turnedDown}
 use Rattle.model.specs.Reads.{Read, refused, value}
 use Rattle.mesh.specs.Given.{meshOf}
 use Rattle.mesh.specs.Log.{wordsOf, wordsIn}
-use Rattle.image.specs.Words.{wordAt, wordsFrom, numberOf, written}
+use Rattle.image.specs.Words.{wordAt, wordsFrom, numberOf}
 use Rattle.image.specs.Image.{imageOf, imageSized, imageWordsOf}
-use Rattle.reading_c.specs.Replies.{lentEnough, codeOf, shownOf, pointAt}
+use Rattle.reading_c.specs.Replies.{pointAt}
+use Rattle.mesh_replies.specs.Both.{BothReplied}
 
 -- ---- the words of an outcome
 
@@ -31,18 +31,7 @@ logReply (done M l c) = wordsIn (map wordsOf l)
 
 -- ---- the reply
 
--- the words that the log's bytes show beside an answer: none beside a refusal
-abbrev pub beside : Read (List ℕ) → List ℕ → List ℕ
-beside (refused n) ws = []
-beside (value vs) ws = ws
-
--- what a C function with `lent` result bytes and `logged` log bytes returns, and leaves in both
-pub record BothReplied (o : Read (List ℕ)) (ws : List ℕ) (lent logged r : ℕ) (out log : List ℕ) : Type 0 where
-  pub code : r ≡ codeOf (lentEnough lent o)
-  pub bytes : out ≡ written lent (shownOf (lentEnough lent o))
-  pub entries : log ≡ written logged (beside (lentEnough lent o) ws)
-
--- the same of an outcome
+-- what a C function with `lent` result bytes and `logged` log bytes returns, and leaves in both, for an outcome
 abbrev pub OutcomeReplied : Outcome → ℕ → ℕ → ℕ → List ℕ → List ℕ → Type 0
 OutcomeReplied o lent logged r out log = BothReplied (meshReply o) (logReply o) lent logged r out log
 

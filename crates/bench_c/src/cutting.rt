@@ -19,20 +19,11 @@ pub extern "C" fn bench_cut(
         (length (now (log .entry)))) (length (now (out .entry))) (length (now (log .entry))) r (now (out .exit)) (now (log .exit)) ⌝ }
 {
     if blade.len() != 16 {
-        return crate::outcome::refuse(reading_c::unread::unread(bytes), out, log);
+        return mesh_replies::outcome::refuse(reading_c::unread::unread(bytes), out, log);
     }
     let none = [0usize; 1];
-    let b0 = reading_c::leaves::point_at(blade, 0);
-    let b1 = reading_c::leaves::point_at(blade, 2);
-    let f = image::number_of(fraction as usize);
-    crate::tearing::reply_job(
-        Job::Cut(edition as usize, b0, b1, f),
-        &none,
-        bytes,
-        rooms,
-        out,
-        log,
-    )
+    let job = call_words::cut_job(blade, edition, fraction);
+    crate::tearing::reply_job(job, &none, bytes, rooms, out, log)
 }
 
 // Are so many bytes at most 2,048 whole words?
@@ -68,5 +59,5 @@ pub extern "C" fn bench_crack(
             log,
         );
     }
-    crate::outcome::refuse(reading_c::unread::unread(bytes), out, log)
+    mesh_replies::outcome::refuse(reading_c::unread::unread(bytes), out, log)
 }

@@ -4,7 +4,5 @@ pub mod fans;
 pub mod leaves;
 pub mod listed;
 pub mod meshes;
-pub mod outcome;
-pub mod placing;
 pub mod sheets;
 pub mod tearing;

@@ -9,7 +9,8 @@ ghost use Rattle.call_frame.specs.Framed.{RoomsLent, Begun};
 ghost use Rattle.mesh_calls.specs.Jobs.{jobNumbers, jobRefusal, jobCall};
 ghost use Rattle.image.specs.Image.{imageOf, imageSized};
 ghost use Rattle.bench_c.specs.Torn.{OutcomeReplied, roomsIn, withRooms, splitOutcome, straddlersOutcome};
-ghost use Rattle.bench_c.specs.Told.{Limited, roomsGiven, roomsToo, JobReplied};
+ghost use Rattle.call_words.specs.Rooms.{Limited, roomsGiven};
+ghost use Rattle.bench_c.specs.Told.{JobReplied};
 ghost use Rattle.mesh.specs.Blocks.{meshIn, blocksIn};
 use mesh::Rooms;
 use mesh_calls::Job;
@@ -36,7 +37,7 @@ fn reply_work(
     ensures { λ r. ⌜ JobReplied job list bytes room out log r ⌝ }
 {
     let mut words = [0u32; 24576];
-    let k = crate::placing::image_counts(bytes);
+    let k = mesh_replies::placing::image_counts(bytes);
     let ran = perform::calls::work(
         job,
         list,
@@ -51,7 +52,7 @@ fn reply_work(
         outline,
         &mut words,
     );
-    crate::outcome::reply_ran(
+    mesh_replies::outcome::reply_ran(
         ran,
         points,
         roots,
@@ -87,10 +88,10 @@ fn reply_accepted(
         (asRooms room) ≡ 0) × (meshIn (sizes I) points roots corners volumes ends lengths outline ≡ meshOf I)) ⌝ }
     ensures { λ r. ⌜ JobReplied job list bytes room out log r ⌝ }
 {
-    let k = crate::placing::image_counts(bytes);
+    let k = mesh_replies::placing::image_counts(bytes);
     let lack = call_frame::frame::lacking(k, room);
     if lack != 0 {
-        return crate::outcome::refuse(lack, out, log);
+        return mesh_replies::outcome::refuse(lack, out, log);
     }
     reply_work(
         job,
@@ -107,41 +108,6 @@ fn reply_accepted(
         out,
         log,
     )
-}
-
-// The rooms that four words and so many log bytes are; other bytes are none.
-fn rooms_in(rooms: &[u8], logged: usize) -> Rooms
-    ensures { λ r. ⌜ Limited r logged × (length (now (rooms .entry)) ≡ 16 → r ≡ roomsGiven (now (rooms .entry)) logged) ⌝ }
-{
-    if rooms.len() != 16 {
-        return Rooms {
-            particles: 0,
-            triangles: 0,
-            edges: 0,
-            boundary: 0,
-            log: 0,
-        };
-    }
-    Rooms {
-        particles: mesh::whole::least(1024, image::word_at(rooms, 0)),
-        triangles: mesh::whole::least(1024, image::word_at(rooms, 1)),
-        edges: mesh::whole::least(2048, image::word_at(rooms, 2)),
-        boundary: mesh::whole::least(2048, image::word_at(rooms, 3)),
-        log: mesh::whole::least(4096, logged / 24),
-    }
-}
-
-// The refusal of a job, where the rooms are four words; other rooms are a bad argument, 4, which comes behind 1 to 3 and before the rest.
-fn with_rooms(code: usize, sixteen: bool) -> usize
-    ensures { λ r. ⌜ r ≡ roomsToo code sixteen ⌝ }
-{
-    if sixteen {
-        return code;
-    }
-    if code == 0 {
-        return 4;
-    }
-    mesh::whole::least(code, 4)
 }
 
 // A job on an image that has the sizes of a mesh: it is read into local blocks, judged where it stands, and worked on there.
@@ -167,8 +133,8 @@ fn reply_sized(
     let mut ends = [0usize; 8192];
     let mut lengths = [0.0f32; 8192];
     let mut outline = [0usize; 4096];
-    let k = crate::placing::image_counts(bytes);
-    crate::placing::place_image(
+    let k = mesh_replies::placing::image_counts(bytes);
+    mesh_replies::placing::place_image(
         bytes,
         k,
         &mut points,
@@ -192,9 +158,9 @@ fn reply_sized(
         &lengths,
         &outline,
     );
-    let code = with_rooms(fault, rooms.len() == 16);
+    let code = call_words::with_rooms(fault, rooms.len() == 16);
     if code != 0 {
-        return crate::outcome::refuse(code, out, log);
+        return mesh_replies::outcome::refuse(code, out, log);
     }
     reply_accepted(
         job,
@@ -228,10 +194,10 @@ pub fn reply_job(
         (now (out .exit)) (now (log .exit)) ⌝ }
 {
     if image::image_sized(bytes) {
-        let room = rooms_in(rooms, log.len());
+        let room = call_words::rooms_in(rooms, log.len());
         return reply_sized(job, list, room, bytes, rooms, out, log);
     }
-    crate::outcome::refuse(1, out, log)
+    mesh_replies::outcome::refuse(1, out, log)
 }
 
 // The straddlers across the pieces of a mesh image removed. The job looks at no list.

@@ -11,7 +11,7 @@ use Rattle.lists.proofs.Stores.{tab-length}
 use Rattle.model.specs.Mesh.{Mesh}
 use Rattle.model.specs.Run.{Entry, split, edge, insert, opened, met, Run, start, changes, changed}
 use Rattle.model.specs.Calls.{firstFault, Outcome, refused, done, fitted, outcome, unless}
-use Rattle.model.proofs.Steps.{Onward, refused-early}
+use Rattle.model_laws.proofs.Steps.{Onward, refused-early}
 use Rattle.mesh.specs.At.{meshAt, trianglesAt, boundaryAt}
 use Rattle.mesh.specs.Log.{World, wordsOf, worldOf, logAt, worldAt}
 use Rattle.mesh.specs.Given.{Given, Lent, meshOf, roomsOf, asRooms}

@@ -25,11 +25,11 @@ use Rattle.model.specs.Pieces.{removeStraddlers}
 use Rattle.model.specs.Cut.{splitPinched}
 use Rattle.model.specs.Crack.{Way, torn, loadsOf, currentPair, crackBy, crackPair, crackEdge, tornEnds, crack}
 use Rattle.model.specs.Calls.{firstFault}
-use Rattle.model.proofs.Laws.{length-mapAt}
-use Rattle.model.proofs.Steps.{Onward, onward-stay, onward-then, onward-pick, onward-fold, edge-onward, pinched-onward, straddlers-onward}
-use Rattle.model.proofs.Traced.{Still, still-torn}
-use Rattle.model.proofs.Indexed.{Indexed, edge-indexed, fold-indexed}
-use Rattle.model.proofs.Accepted.{accepted-indexed, indexed-accepted}
+use Rattle.model_laws.proofs.Laws.{length-mapAt}
+use Rattle.model_laws.proofs.Steps.{Onward, onward-stay, onward-then, onward-pick, onward-fold, edge-onward, pinched-onward, straddlers-onward}
+use Rattle.model_laws.proofs.Traced.{Still, still-torn}
+use Rattle.model_laws.proofs.Indexed.{Indexed, edge-indexed, fold-indexed}
+use Rattle.model_laws.proofs.Accepted.{accepted-indexed, indexed-accepted}
 use Rattle.mesh.specs.At.{meshAt, edgeRow, edgesAt}
 use Rattle.mesh.specs.Log.{World, worldOf, wordsOf, worldAt}
 use Rattle.mesh.specs.Given.{Lent, asRooms}

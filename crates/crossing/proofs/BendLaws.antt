@@ -8,12 +8,12 @@ use mathlib.Core.Path.{_≡_, refl, sym, ap, ap₂, _∙_, subst}
 use mathlib.Core.Logic.{_⊎_, inl, inr, ⊎-elim}
 use mathlib.Core.Bool.{Bool, true, false, not, _&&_, _||_, false≢true}
 use mathlib.Core.List.{List, [], _∷_, _++_, map, map-append, append-nil}
-use lib.ListN.{length, getD, set, take, length-set, getD-replicate}
+use lib.ListN.{length, getD, set, length-set}
 use lib.Seq.{getD-set-same, getD-set-other}
 use lib.Dec.{eqb}
 use lib.Ieee.{Float}
 use borrow.Author.Tests.{eq-eqb, ne-eqb}
-use Rattle.lists.specs.Lists.{pick, stands, headOr, sift, each, mapAt, tab, padded}
+use Rattle.lists.specs.Lists.{pick, stands, headOr, sift, each, mapAt, tab}
 use Rattle.lists.proofs.Sifts.{sift-append, stands-append, pick-by}
 use Rattle.lists.proofs.Rows.{rows-map}
 use Rattle.lists.proofs.Steps.{sift-step, each-step}
@@ -24,10 +24,9 @@ use Rattle.model.specs.Elements.{structural?, farEnd, besides}
 use Rattle.model.specs.Cut.{strapsAt, sideAlong, only, bends, numbersOf, bendsOver}
 use Rattle.mesh.specs.At.{edgesAt}
 use Rattle.elements.specs.Workers.{marked}
-use Rattle.elements.proofs.Measures.{cleared-long}
 use Rattle.mesh.specs.Workers.{rowAt}
 use Rattle.insert.specs.Shares.{strapAt, StrapTold}
-use Rattle.crossing.specs.Bends.{FarIs, nearBy, NeighbourIs, EndsBelow, SideMarked, onlyBy, bendBy, BendTold, BetweenMarked, BendsMarked}
+use Rattle.crossing.specs.Bends.{FarIs, nearBy, NeighbourIs, EndsBelow, SideRoom, SideMarked, onlyBy, bendBy, BendTold, BetweenMarked, BendsMarked}
 use Rattle.lists.proofs.Truths.{or-end}
 
 -- ---- the far end
@@ -131,22 +130,15 @@ along-step v w i ends B =
     ∙ ap (besides w) (map-append (farEnd v) (sift (strapAt v) (tab i (rowAt ends B))) (pick (strapAt v (rowAt ends B i)) (rowAt ends B i ∷ []) []))
     ∙ sift-append (λ x. not (eqb x w)) (map (farEnd v) (sift (strapAt v) (tab i (rowAt ends B)))) (map (farEnd v) (pick (strapAt v (rowAt ends B i)) (rowAt ends B i ∷ []) []))
 
--- a cleared table has 0 at each place
-blank-at : (n : ℕ) (m : List ℕ) (x : ℕ) → m ≡ padded n 0 [] → x < length m → getD m x 0 ≡ 0
-unfolding padded
-blank-at n m x e h =
-    let l : x < n - 0 = omega (arith, cleared-long n m e) in
-    ap (λ (t : List ℕ). getD t x 0) e ∙ getD-replicate (n - 0) x 0 0 l
-
 -- at the head of the loop: v and its neighbours along the first i edges are marked
 pub record SideMarking (v w e : ℕ) (ends side₀ side : List ℕ) (i : ℕ) : Type 0 where
   pub long : length side ≡ length side₀
   pub inside : i ≤ e
   pub marks : (B : List Float) (x : ℕ) → x < length side → marked side x ≡ stands x (v ∷ alongFirst v w i ends B)
 
-pub marking-start : (v w e : ℕ) (ends side₀ side : List ℕ) → v < length side → side ≡ padded (length side₀) 0 (take 0 side₀) → SideMarking v w e ends (set side v 1) (set side v 1) 0
+pub marking-start : (v w e : ℕ) (ends side : List ℕ) → SideRoom v e ends side → SideMarking v w e ends (set side v 1) (set side v 1) 0
 unfolding edgesAt tab sift besides
-marking-start v w e ends side₀ side here cleared =
+marking-start v w e ends side R =
     record {
       long = refl;
       inside = omega arith;
@@ -154,9 +146,9 @@ marking-start v w e ends side₀ side here cleared =
           λ B x l.
           let k : x < length side = omega (arith, length-set side v 1) in
           elim (ℕ-discrete x v) [
-            | yes q ↦ mark-here side v x here q ∙ sym (ap (λ (t : Bool). pick t true false) (eq-eqb v x (sym q)))
+            | yes q ↦ mark-here side v x (R .here) q ∙ sym (ap (λ (t : Bool). pick t true false) (eq-eqb v x (sym q)))
             | no n ↦
-                mark-there side v x n ∙ ne-eqb (getD side x 0) 1 (λ d. omega (arith, blank-at (length side₀) side x cleared k))
+                mark-there side v x n ∙ ne-eqb (getD side x 0) 1 (λ d. omega (arith, R .blank x k))
                 ∙ sym (ap (λ (t : Bool). pick t true false) (ne-eqb v x (λ d. n (sym d))))
           ];
     }

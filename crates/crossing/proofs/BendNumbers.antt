@@ -12,7 +12,7 @@ use Rattle.model.specs.Mesh.{Edge, Mesh}
 use Rattle.model.specs.Trace.{All}
 use Rattle.model.specs.Run.{Run, stepTo}
 use Rattle.model.specs.Cut.{Crossing, insertionOf, insertable, sideAlong, bends, numbersOf, bendsOver, insertedMesh, insertStep, Strapping, insertedAt, snappedAt, crossed, strapping}
-use Rattle.model.proofs.Laws.{all-over, all-append, all-in}
+use Rattle.model_laws.proofs.Laws.{all-over, all-append, all-in}
 use Rattle.crossing.specs.Crossed.{ranOf, bendsOf}
 use Rattle.insert.proofs.StepLaws.{edges-need}
 

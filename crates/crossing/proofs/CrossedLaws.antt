@@ -13,7 +13,7 @@ use Rattle.columns.proofs.Cells.{col-0, col-1}
 use Rattle.model.specs.Run.{Run}
 use Rattle.model.specs.Calls.{firstFault}
 use Rattle.model.specs.Cut.{Crossing, Insertion, insertionOf, insertable, nearEnd, bendsOver, insertStep, Strapping, strapping, insertedAt, snappedAt, crossed}
-use Rattle.model.proofs.Steps.{runOf, fault-stays, crossings-onward}
+use Rattle.model_laws.proofs.Steps.{runOf, fault-stays, crossings-onward}
 use Rattle.mesh.specs.At.{meshAt}
 use Rattle.mesh.specs.Log.{World, worldOf, worldAt}
 use Rattle.mesh.specs.Given.{asRooms}

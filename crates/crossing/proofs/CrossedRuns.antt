@@ -15,10 +15,10 @@ use Rattle.model.specs.Trace.{All}
 use Rattle.model.specs.Run.{Entry, Run, stepTo}
 use Rattle.model.specs.Calls.{firstFault}
 use Rattle.model.specs.Cut.{Crossing, insertionOf, insertable, insertedMesh, insertStep, Strapping, strapping, insertedAt, snappedAt, crossed}
-use Rattle.model.proofs.Laws.{all-in}
-use Rattle.model.proofs.Indexed.{Indexed, Pair}
-use Rattle.model.proofs.Inserted.{inserted-indexed, more-edges}
-use Rattle.model.proofs.Accepted.{accepted-indexed, indexed-accepted}
+use Rattle.model_laws.proofs.Laws.{all-in}
+use Rattle.model_laws.proofs.Indexed.{Indexed, Pair}
+use Rattle.model_laws.proofs.Inserted.{inserted-indexed, more-edges}
+use Rattle.model_laws.proofs.Accepted.{accepted-indexed, indexed-accepted}
 use Rattle.mesh.specs.At.{meshAt}
 use Rattle.mesh.specs.Log.{World, worldOf, wordsOf, worldAt}
 use Rattle.mesh.specs.Given.{Lent, asRooms}

@@ -25,7 +25,7 @@ use Rattle.model.specs.Cut.{Crossing, crossingAt, meets, crossings}
 use Rattle.mesh.specs.At.{edgesAt}
 use Rattle.elements.proofs.Filling.{straps-push}
 use Rattle.mesh.specs.Workers.{rowAt}
-use Rattle.rewire.proofs.EdgeLaws.{edges-get}
+use Rattle.work.proofs.Grows.{edges-get}
 use Rattle.insert.specs.Shares.{Stands}
 use Rattle.marks.specs.Marking.{bladeFrom}
 use Rattle.crossing.specs.Bends.{EndsBelow}

@@ -279,8 +279,3 @@ zeros-mark n m j l = ap (λ (x : ℕ). eqb x 1) (zeros-at n j)
     zeros-at zero j = refl
     zeros-at (suc n) zero = refl
     zeros-at (suc n) (suc j) = zeros-at n j
-
--- and so does a table that was cleared
-pub cleared-mark : (n : ℕ) (l : List ℕ) → l ≡ padded n 0 [] → (m j : ℕ) → j < m → marked l j ≡ false
-unfolding padded
-cleared-mark n l e m j h = ap (λ (t : List ℕ). marked t j) e ∙ zeros-mark (n - 0) m j h

@@ -34,10 +34,11 @@ pub record EndsBelow (n e : ℕ) (ends : List ℕ) : Type 0 where
   pub first : (j : ℕ) → j < e → getD ends j 0 < n
   pub second : (j : ℕ) → j < e → getD ends (length ends / 4 + j) 0 < n
 
--- v and all ends have places in a table
-pub record SideRoom (v e : ℕ) (ends : List ℕ) (ls : ℕ) : Type 0 where
-  pub here : v < ls
-  pub ends-in : EndsBelow ls e ends
+-- v and all ends have places in a table, and nothing is marked in it
+pub record SideRoom (v e : ℕ) (ends side : List ℕ) : Type 0 where
+  pub here : v < length side
+  pub ends-in : EndsBelow (length side) e ends
+  pub blank : (x : ℕ) → x < length side → getD side x 0 ≡ 0
 
 -- exactly v's side of (v, w) is marked
 pub record SideMarked (v w e : ℕ) (ends side′ : List ℕ) : Type 0 where

@@ -32,23 +32,26 @@ fn neighbour(v: usize, w: usize, i: usize, ends: &[usize]) -> usize
     v
 }
 
-// Marks v and its neighbours along the first e edges' straps, but w.
-fn mark_side(v: usize, w: usize, e: usize, ends: &[usize], side: &mut [usize])
-    requires { ⌜ SideRoom v e (now ends) (length (now side)) ⌝ }
-    ensures { λ _. ⌜ SideMarked v w e (now (ends .entry)) (now (side .exit)) ⌝ }
+// Marks v and its neighbours along the first e edges' straps, but w, in the one table; w and its neighbours, but v, in the other. Nothing is marked in them before.
+fn mark_sides(v: usize, w: usize, e: usize, ends: &[usize], first: &mut [u8], second: &mut [u8])
+    requires { ⌜ SideRoom v e (now ends) (now first) × SideRoom w e (now ends) (now second) ⌝ }
+    ensures { λ _. ⌜ SideMarked v w e (now (ends .entry)) (now (first .exit))
+        × SideMarked w v e (now (ends .entry)) (now (second .exit)) ⌝ }
 {
-    columns::clear_usize(0, side);
-    side[v] = 1;
+    first[v] = 1;
+    second[w] = 1;
     let mut i: usize = 0;
     while i < e {
         let x = neighbour(v, w, i, ends);
-        side[x] = 1;
+        first[x] = 1;
+        let y = neighbour(w, v, i, ends);
+        second[y] = 1;
         i += 1;
     }
 }
 
 // Is w marked in the first table, and not in the second?
-fn only(w: usize, first: &[usize], second: &[usize]) -> bool
+fn only(w: usize, first: &[u8], second: &[u8]) -> bool
     requires { ⌜ (w < length (now first)) × (w < length (now second)) ⌝ }
     ensures { λ r. ⌜ r ≡ onlyBy (now (first .entry)) (now (second .entry)) w ⌝ }
 {
@@ -59,7 +62,7 @@ fn only(w: usize, first: &[usize], second: &[usize]) -> bool
 }
 
 // Is edge i a bend edge between the two sides?
-fn bend(i: usize, ends: &[usize], first: &[usize], second: &[usize]) -> bool
+fn bend(i: usize, ends: &[usize], first: &[u8], second: &[u8]) -> bool
     requires { ⌜ BendRoom i (now ends) (length (now first)) (length (now second)) ⌝ }
     ensures { λ r. ⌜ BendTold i (now (ends .entry)) (now (first .entry)) (now (second .entry)) r ⌝ }
 {
@@ -79,7 +82,7 @@ fn bend(i: usize, ends: &[usize], first: &[usize], second: &[usize]) -> bool
 }
 
 // Marks the bend edges between the two sides among the first e.
-fn mark_between(e: usize, ends: &[usize], first: &[usize], second: &[usize], marks: &mut [usize])
+fn mark_between(e: usize, ends: &[usize], first: &[u8], second: &[u8], marks: &mut [usize])
     requires { ⌜ BetweenRoom e (now ends) (length (now first)) (length (now second)) (length (now marks)) ⌝ }
     ensures { λ _. ⌜ BetweenMarked e (now (ends .entry)) (now (first .entry)) (now (second .entry)) (now (marks .entry))
         (now (marks .exit)) ⌝ }
@@ -93,20 +96,13 @@ fn mark_between(e: usize, ends: &[usize], first: &[usize], second: &[usize], mar
     }
 }
 
-// Marks the bend edges over the strap (a, b) among the first e edges. Two tables are lent for its sides.
-pub fn mark_bends(
-    a: usize,
-    b: usize,
-    e: usize,
-    ends: &[usize],
-    marks: &mut [usize],
-    first: &mut [usize],
-    second: &mut [usize],
-)
-    requires { ⌜ BendsRoom a b e (now ends) (length (now marks)) × (1024 ≤ length (now first)) × (1024 ≤ length (now second)) ⌝ }
+// Marks the bend edges over the strap (a, b) among the first e edges. Its sides are marked in two tables of the particles.
+pub fn mark_bends(a: usize, b: usize, e: usize, ends: &[usize], marks: &mut [usize])
+    requires { ⌜ BendsRoom a b e (now ends) (length (now marks)) ⌝ }
     ensures { λ _. ⌜ BendsMarked a b e (now (ends .entry)) (now (marks .entry)) (now (marks .exit)) ⌝ }
 {
-    mark_side(a, b, e, ends, first);
-    mark_side(b, a, e, ends, second);
-    mark_between(e, ends, first, second, marks);
+    let mut first = [0u8; 1024];
+    let mut second = [0u8; 1024];
+    mark_sides(a, b, e, ends, &mut first, &mut second);
+    mark_between(e, ends, &first, &second, marks);
 }

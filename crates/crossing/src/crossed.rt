@@ -25,17 +25,14 @@ fn cross(
     log: &mut [u32],
     bends: &mut [usize],
     snapped: &mut [usize],
-    first: &mut [usize],
-    second: &mut [usize],
 ) -> Ran
-    requires { ⌜ CrossIn room k points roots ends lengths outline log bends snapped × (number < k .edges) × (1024 ≤ length (now first))
-        × (1024 ≤ length (now second)) ⌝ }
+    requires { ⌜ CrossIn room k points roots ends lengths outline log bends snapped × (number < k .edges) ⌝ }
     ensures { λ r. ⌜ CrossedIn f (record { number = number; t = t } ∷ []) room k points roots ends lengths outline log bends snapped r ⌝ }
 {
     let plan = plan::plan_at(f, number, t, k.particles, k.edges, points, ends, lengths);
     let row = plan.row;
     if plan::insertable(f, t, plan, points) {
-        crate::bends::mark_bends(row.a, row.b, k.edges, ends, bends, first, second);
+        crate::bends::mark_bends(row.a, row.b, k.edges, ends, bends);
         return insert::step::insert(plan, k, room, points, roots, ends, lengths, outline, log);
     }
     let near = plan::near_end(row.a, row.b, t);
@@ -59,11 +56,9 @@ pub fn cross_all(
     log: &mut [u32],
     bends: &mut [usize],
     snapped: &mut [usize],
-    first: &mut [usize],
-    second: &mut [usize],
 ) -> Ran
     requires { ⌜ CrossIn room k points roots ends lengths outline log bends snapped
-        × CrossingsIn m (now numbers) (length (now ts)) k (now log) × (1024 ≤ length (now first)) × (1024 ≤ length (now second)) ⌝ }
+        × CrossingsIn m (now numbers) (length (now ts)) k (now log) ⌝ }
     ensures { λ r. ⌜ CrossedIn f (crossed-in m (now (numbers .entry)) (now (ts .entry))) room k points roots ends lengths outline log bends
         snapped r ⌝ }
 {
@@ -84,8 +79,6 @@ pub fn cross_all(
             log,
             bends,
             snapped,
-            first,
-            second,
         );
         let Ran::Done(next) = ran else {
             return ran;

@@ -24,10 +24,9 @@ fn count_marked(n: usize, marks: &[usize]) -> usize
     count
 }
 
-// The marked edges go; nothing happens where none is marked. The other table is lent for a mask of the boundary, which loses nothing.
+// The marked edges go; nothing happens where none is marked. The boundary loses nothing: no entry of it is marked.
 pub fn remove_bends(
     bends: &[usize],
-    none: &mut [usize],
     k: Counts,
     room: Rooms,
     ends: &mut [usize],
@@ -35,8 +34,7 @@ pub fn remove_bends(
     outline: &mut [usize],
     log: &mut [u32],
 ) -> Ran
-    requires { ⌜ UnbentRoom room k (length (now bends)) (now ends) (length (now lengths)) (length (now outline)) (length (now log))
-        × (2048 ≤ length (now none)) ⌝ }
+    requires { ⌜ UnbentRoom room k (length (now bends)) (now ends) (length (now lengths)) (length (now outline)) (length (now log)) ⌝ }
     ensures { λ r. ⌜ UnbentTold room k (now (bends .entry)) (now (ends .entry)) (now (lengths .entry)) (now (outline .entry))
         (now (log .entry)) (now (ends .exit)) (now (lengths .exit)) (now (outline .exit)) (now (log .exit)) r ⌝ }
 {
@@ -44,6 +42,6 @@ pub fn remove_bends(
     if s == 0 {
         return Ran::Done(k);
     }
-    columns::clear_usize(0, none);
-    work::removal::remove_marked(k, room, s, bends, none, ends, lengths, outline, log)
+    let none = [0usize; 2048];
+    work::removal::remove_marked(k, room, s, bends, &none, ends, lengths, outline, log)
 }

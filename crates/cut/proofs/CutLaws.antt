@@ -13,7 +13,7 @@ use Rattle.model.specs.Mesh.{Mesh}
 use Rattle.model.specs.Elements.{Triangles}
 use Rattle.model.specs.Run.{Run, splitsOf}
 use Rattle.model.specs.Cut.{Blade, splitByBlade, splitFree, pinched, splitPinched, candidates, cutFacets}
-use Rattle.model.proofs.Steps.{Onward, onward-stay, onward-pick, pinched-onward}
+use Rattle.model_laws.proofs.Steps.{Onward, onward-stay, onward-pick, pinched-onward}
 use Rattle.mesh.specs.At.{meshAt, trianglesAt}
 use Rattle.mesh.specs.Log.{World, worldOf, wordsOf, worldAt}
 use Rattle.mesh.specs.Given.{Lent}

@@ -17,7 +17,7 @@ use Rattle.mesh.specs.Widths.{pointColumns}
 use Rattle.elements.specs.Table.{Tabled}
 use Rattle.split_plan.specs.Opened.{CornersBelow}
 use Rattle.work.specs.Working.{Ready}
-use Rattle.split.specs.Tables.{FanRead, FanSided}
+use Rattle.split.specs.Tables.{FanTables, FanSided}
 use Rattle.split.proofs.Below.{table-below, fan-corners}
 use Rattle.work.proofs.Placed.{particles-count}
 use Rattle.cut.specs.declared.facets.Parting.{Parting}
@@ -62,48 +62,43 @@ blade-parts w K v n verts points sides rule b0 b1 e S = subst (λ (x : Parting).
 
 module _ (K : Kind) (k : Counts) (points : List Float) (roots corners : List ℕ) (volumes : List Float) (ends : List ℕ) (lengths : List Float) (outline : List ℕ) (L : Rooms) (I : Lent)
     (Y : Ready L k I (meshAt k points roots corners volumes ends lengths outline)) (lent : I .points ≡ length points) (v : ℕ) (here : v < k .particles) (n : ℕ) (numbers verts : List ℕ) (measures : List Float)
-    (F : FanRead K v (k .triangles) (k .edges) corners volumes ends lengths n numbers verts measures) (long : 4096 ≤ length verts) where
+    (F : FanTables K v (k .triangles) (k .edges) corners volumes ends lengths n numbers verts measures) (ns : n ≤ length numbers) (long : n * cornersPer K ≤ length verts) (ms : n ≤ length measures) where
   abbrev mesh : Mesh
   mesh = meshAt k points roots corners volumes ends lengths outline
 
   fan-tabled : Tabled (cornersPer K) (fanOf K mesh v) n numbers verts measures
   unfolding meshAt
-  fan-tabled = F .tabled mesh refl refl
-
-  fan-long : n * cornersPer K ≤ length verts
-  fan-long = let h = F .narrow in omega arith
+  fan-tabled = F .read ns long ms .tabled mesh refl refl
 
   fan-below : CornersBelow (k .particles) n (cornersPer K) verts
   fan-below j h =
       let c : length (mesh .particles) ≡ k .particles = particles-count k points roots corners volumes ends lengths outline in
-      let b : getD verts j 0 < length (mesh .particles) = table-below _ n (cornersPer K) (fanOf K mesh v) verts (fan-corners K mesh v (Y .indices)) (fan-tabled .cornered) fan-long j h in
+      let b : getD verts j 0 < length (mesh .particles) = table-below _ n (cornersPer K) (fanOf K mesh v) verts (fan-corners K mesh v (Y .indices)) (fan-tabled .cornered) long j h in
       omega arith
 
-  pub fan-room : (ls : ℕ) → 2048 ≤ ls → SidesRoom v (cornersPer K) n verts (length points) ls
+  pub fan-room : (ls : ℕ) → n ≤ ls → SidesRoom v (cornersPer K) n verts (length points) ls
   fan-room ls h =
       let a : k .particles ≤ L .particles = Y .counts .particles in
       let b : L .particles ≤ length points / pointColumns = subst (λ (m : ℕ). L .particles ≤ m / pointColumns) lent (Y .rooms .points) in
-      let f : n ≤ 2048 = F .few in
       record {
         here = omega arith;
-        few = f;
-        long = fan-long;
-        sides-long = omega arith;
+        few = F .few;
+        long = long;
+        sides-long = h;
         corners-in = λ j l. let g : getD verts j 0 < k .particles = fan-below j l in omega arith;
       }
 
   module _ (w : Parting) (sides : List ℕ) (S : SidesFor w K v n verts points sides) where
-    pub fan-sided : 2048 ≤ length numbers → 2048 ≤ length measures → 2048 ≤ length sides → FanSided K mesh v n numbers verts measures sides
-    fan-sided a b d =
-        let f : n ≤ 2048 = F .few in
+    pub fan-sided : n ≤ length sides → FanSided K mesh v n numbers verts measures sides
+    fan-sided d =
         record {
           here = let c : length (mesh .particles) ≡ k .particles = particles-count k points roots corners volumes ends lengths outline in omega arith;
           tabled = fan-tabled;
-          few = f;
-          numbers-long = omega arith;
-          verts-long = fan-long;
-          measures-long = omega arith;
-          sides-long = omega arith;
+          few = F .few;
+          numbers-long = ns;
+          verts-long = long;
+          measures-long = ms;
+          sides-long = d;
           two = S .two;
         }
 

@@ -14,10 +14,10 @@ use Rattle.model.specs.Valid.{indicesFit}
 use Rattle.model.specs.Run.{Entry, Run, stepTo}
 use Rattle.model.specs.Split.{Opening, openingOf, splits?, splitMade, splitStep, splitBySides, settled, atLongest}
 use Rattle.model.specs.Calls.{firstFault}
-use Rattle.model.proofs.Steps.{Onward, onward-fold, sides-onward}
-use Rattle.model.proofs.Traced.{copied-length}
-use Rattle.model.proofs.Indexed.{Indexed, sides-indexed, fold-indexed}
-use Rattle.model.proofs.Accepted.{accepted-indexed, indexed-accepted}
+use Rattle.model_laws.proofs.Steps.{Onward, onward-fold, sides-onward}
+use Rattle.model_laws.proofs.Traced.{copied-length}
+use Rattle.model_laws.proofs.Indexed.{Indexed, sides-indexed, fold-indexed}
+use Rattle.model_laws.proofs.Accepted.{accepted-indexed, indexed-accepted}
 use Rattle.mesh.specs.Log.{World, worldOf, wordsOf}
 use Rattle.mesh.specs.Given.{Lent, asRooms}
 use Rattle.mesh.specs.declared.Counts.{Counts}

@@ -2,7 +2,7 @@
 use Prim.Native.Nat.{ℕ, _<_, _≤_}
 use mathlib.Core.Path.{_≡_}
 use mathlib.Core.List.{List, map}
-use lib.ListN.{getD, take, length}
+use lib.ListN.{getD, take}
 use lib.Ieee.{Float}
 use Rattle.lists.specs.Lists.{sift, upTo}
 use Rattle.model.specs.Mesh.{Mesh}
@@ -17,8 +17,6 @@ use Rattle.marks.specs.Marking.{PlacesIn, bladeBy, marked?}
 use Rattle.cut.specs.declared.facets.Parting.{Parting}
 use Rattle.cut.specs.declared.facets.Parting.the-variants.{Free, Blade as BladeFrom}
 use Rattle.work.specs.Working.{Logged}
-use denote.Ref.{now}
-use Rattle.mesh.specs.Blocks.{NumbersIn, IndicesIn}
 
 -- the sides of v's fan: all 0, or by a blade
 unfoldable pub sidesIn : Parting → Kind → Mesh → ℕ → List ℕ
@@ -34,14 +32,6 @@ pub record SidesFor (w : Parting) (K : Kind) (v n : ℕ) (verts : List ℕ) (poi
   pub are : (M : Mesh) (p : ℕ) → Cornered (cornersPer K) (fanOf K M v) n verts → PlacesIn M p points → v < p → CornersBelow p n (cornersPer K) verts → take n sides ≡ sidesIn w K M v
   pub two : (i : ℕ) → i < n → getD sides i 0 < 2
 
--- tables with room for any fan: numbers, corners, measures, sides and groups
-pub record TablesLong (ln lk lm ls lg : ℕ) : Type 0 where
-  pub numbers : 2048 ≤ ln
-  pub verts : 4096 ≤ lk
-  pub measures : 2048 ≤ lm
-  pub sides : 2048 ≤ ls
-  pub groups : 2048 ≤ lg
-
 -- the particles below p that are marked, rising
 unfoldable pub chosen : ℕ → List ℕ → List ℕ
 chosen p marks = sift (marked? marks) (upTo p)
@@ -51,7 +41,3 @@ pub record Chosen (p : ℕ) (k : Counts) (log : List ℕ) (lm : ℕ) : Type 0 wh
   pub logged : Logged (k .log) log
   pub inside : p ≤ k .particles
   pub long : p ≤ lm
-
--- `TablesLong` of tables, as a contract names them
-abbrev pub TablesIn : IndicesIn → IndicesIn → NumbersIn → IndicesIn → IndicesIn → Type 0
-TablesIn numbers verts measures sides groups = TablesLong (length (now numbers)) (length (now verts)) (length (now measures)) (length (now sides)) (length (now groups))

@@ -10,9 +10,9 @@ ghost use Rattle.work.specs.Working.{Logged};
 ghost use Rattle.marks.specs.Marking.{bladeBy};
 ghost use Rattle.marks.specs.Sided.{SidesRoom};
 ghost use Rattle.links.specs.Linked.{LinkedIn};
-ghost use Rattle.cut.specs.Running.{splitIn, SidesFor, chosen, Chosen, TablesIn};
+ghost use Rattle.cut.specs.Running.{splitIn, SidesFor, chosen, Chosen};
 ghost use Rattle.work.specs.Blocks.{ReadyIn, WorksIn};
-ghost use Rattle.split.specs.Blocks.{LinkedBehind};
+ghost use Rattle.split.specs.Blocks.{MaskIn, LinkedBehind};
 use blade::Point;
 use elements::Kind;
 use marks::Rule;
@@ -20,6 +20,11 @@ use marks::particles;
 use marks::sides::blade_sides;
 use mesh::Counts;
 use mesh::Rooms;
+use split::fans::FEW;
+use split::fans::FEW_CORNERS;
+use split::fans::MANY;
+use split::fans::MANY_CORNERS;
+use split::fans::fan_tables;
 use split::step::split_tabled;
 use work::Ran;
 
@@ -50,7 +55,74 @@ fn part_fan(
     }
 }
 
-// Splits v by the sides of its fan. The tables are lent to work in: what stands in them does not matter. That of the links alone must be the one of the block, and is so again after it.
+// Splits v by the sides of its fan, in tables with room for any fan.
+fn split_many(
+    way: Parting,
+    kind: Kind,
+    v: usize,
+    k: Counts,
+    room: Rooms,
+    points: &mut [f32],
+    roots: &mut [usize],
+    corners: &mut [usize],
+    volumes: &[f32],
+    ends: &mut [usize],
+    lengths: &mut [f32],
+    outline: &mut [usize],
+    log: &mut [u32],
+    list: &mut [usize],
+    links: &mut [u16],
+) -> Ran
+    requires { ⌜ ReadyIn room k points roots corners volumes ends lengths outline log × (v < k .particles)
+        × MaskIn list × LinkedIn (kindIs kind) k corners ends links ⌝ }
+    ensures { λ r. ⌜ (let K = kindIs kind in WorksIn (λ R. splitIn way K R v) room k points roots corners volumes ends lengths outline log r
+        × LinkedBehind K corners ends links r) ⌝ }
+{
+    let mut numbers = [0usize; MANY];
+    let mut verts = [0usize; MANY_CORNERS];
+    let mut measures = [0.0f32; MANY];
+    let mut sides = [0usize; MANY];
+    let mut groups = [0usize; MANY];
+    let n = fan_tables(
+        kind,
+        v,
+        k.triangles,
+        k.edges,
+        corners,
+        volumes,
+        ends,
+        lengths,
+        &mut numbers,
+        &mut verts,
+        &mut measures,
+        links,
+    );
+    part_fan(way, kind, v, n, &verts, points, &mut sides);
+    split_tabled(
+        kind,
+        v,
+        n,
+        &numbers,
+        &verts,
+        &measures,
+        &sides,
+        &mut groups,
+        k,
+        room,
+        points,
+        roots,
+        corners,
+        volumes,
+        ends,
+        lengths,
+        outline,
+        log,
+        list,
+        links,
+    )
+}
+
+// Splits v by the sides of its fan, in small tables if the fan is small. The list is lent to work in: what stands in it does not matter. The tables of links must be those of the blocks, and are so again after it.
 pub fn split_one(
     way: Parting,
     kind: Kind,
@@ -65,19 +137,20 @@ pub fn split_one(
     lengths: &mut [f32],
     outline: &mut [usize],
     log: &mut [u32],
-    numbers: &mut [usize],
-    verts: &mut [usize],
-    measures: &mut [f32],
-    sides: &mut [usize],
-    groups: &mut [usize],
+    list: &mut [usize],
     links: &mut [u16],
 ) -> Ran
     requires { ⌜ ReadyIn room k points roots corners volumes ends lengths outline log × (v < k .particles)
-        × TablesIn numbers verts measures sides groups × LinkedIn (kindIs kind) k corners ends links ⌝ }
+        × MaskIn list × LinkedIn (kindIs kind) k corners ends links ⌝ }
     ensures { λ r. ⌜ (let K = kindIs kind in WorksIn (λ R. splitIn way K R v) room k points roots corners volumes ends lengths outline log r
         × LinkedBehind K corners ends links r) ⌝ }
 {
-    let n = split::fans::fan_tables(
+    let mut numbers = [0usize; FEW];
+    let mut verts = [0usize; FEW_CORNERS];
+    let mut measures = [0.0f32; FEW];
+    let mut sides = [0usize; FEW];
+    let mut groups = [0usize; FEW];
+    let n = fan_tables(
         kind,
         v,
         k.triangles,
@@ -86,21 +159,40 @@ pub fn split_one(
         volumes,
         ends,
         lengths,
-        numbers,
-        verts,
-        measures,
+        &mut numbers,
+        &mut verts,
+        &mut measures,
         links,
     );
-    part_fan(way, kind, v, n, verts, points, sides);
+    if n > FEW {
+        return split_many(
+            way,
+            kind,
+            v,
+            k,
+            room,
+            points,
+            roots,
+            corners,
+            volumes,
+            ends,
+            lengths,
+            outline,
+            log,
+            list,
+            links,
+        );
+    }
+    part_fan(way, kind, v, n, &verts, points, &mut sides);
     split_tabled(
         kind,
         v,
         n,
-        numbers,
-        verts,
-        measures,
-        sides,
-        groups,
+        &numbers,
+        &verts,
+        &measures,
+        &sides,
+        &mut groups,
         k,
         room,
         points,
@@ -111,11 +203,12 @@ pub fn split_one(
         lengths,
         outline,
         log,
+        list,
         links,
     )
 }
 
-// Splits each marked particle below p, in rising order, until one lacks room. All share the lent tables.
+// Splits each marked particle below p, in rising order, until one lacks room. All share the lent list.
 pub fn split_marked(
     way: Parting,
     kind: Kind,
@@ -131,15 +224,11 @@ pub fn split_marked(
     lengths: &mut [f32],
     outline: &mut [usize],
     log: &mut [u32],
-    numbers: &mut [usize],
-    verts: &mut [usize],
-    measures: &mut [f32],
-    sides: &mut [usize],
-    groups: &mut [usize],
+    list: &mut [usize],
     links: &mut [u16],
 ) -> Ran
     requires { ⌜ ReadyIn room k points roots corners volumes ends lengths outline log × Chosen p k (now log) (length (now marks))
-        × TablesIn numbers verts measures sides groups × LinkedIn (kindIs kind) k corners ends links ⌝ }
+        × MaskIn list × LinkedIn (kindIs kind) k corners ends links ⌝ }
     ensures { λ r. ⌜ (let K = kindIs kind in WorksIn (λ R. fold (splitIn way K) R (chosen p (now (marks .entry)))) room k points roots
         corners volumes ends lengths outline log r × LinkedBehind K corners ends links r) ⌝ }
 {
@@ -164,11 +253,7 @@ pub fn split_marked(
             lengths,
             outline,
             log,
-            numbers,
-            verts,
-            measures,
-            sides,
-            groups,
+            list,
             links,
         );
         let Ran::Done(next) = ran else {
@@ -180,7 +265,7 @@ pub fn split_marked(
     Ran::Done(counts)
 }
 
-// Splits the particles near a split that were left joining two pieces alone. The table of groups first holds which particles are near.
+// Splits the particles near a split that were left joining two pieces alone. The list first holds which particles are near.
 pub fn split_pinched(
     k: Counts,
     room: Rooms,
@@ -193,20 +278,16 @@ pub fn split_pinched(
     outline: &mut [usize],
     log: &mut [u32],
     marks: &mut [usize],
-    numbers: &mut [usize],
-    verts: &mut [usize],
-    measures: &mut [f32],
-    sides: &mut [usize],
-    groups: &mut [usize],
+    list: &mut [usize],
     links: &mut [u16],
 ) -> Ran
     requires { ⌜ ReadyIn room k points roots corners volumes ends lengths outline log × Logged (k .log) (now log)
-        × (1024 ≤ length (now marks)) × TablesIn numbers verts measures sides groups × LinkedIn Triangles k corners ends links ⌝ }
+        × (1024 ≤ length (now marks)) × MaskIn list × LinkedIn Triangles k corners ends links ⌝ }
     ensures { λ r. ⌜ WorksIn (splitPinched Triangles) room k points roots corners volumes ends lengths outline log r
         × LinkedBehind Triangles corners ends links r ⌝ }
 {
-    particles::mark_near(k.log, log, groups);
-    particles::mark_pinched(k.triangles, corners, groups, marks);
+    particles::mark_near(k.log, log, list);
+    particles::mark_pinched(k.triangles, corners, list, marks);
     split_marked(
         Parting::Free,
         Kind::Triangles,
@@ -222,16 +303,12 @@ pub fn split_pinched(
         lengths,
         outline,
         log,
-        numbers,
-        verts,
-        measures,
-        sides,
-        groups,
+        list,
         links,
     )
 }
 
-// Splits the candidates by the blade; then, if anything split, the pinched. Both share the lent tables.
+// Splits the candidates by the blade; then, if anything split, the pinched. Both share the lent list.
 pub fn cut_facets(
     rule: Rule,
     b0: Point,
@@ -247,15 +324,11 @@ pub fn cut_facets(
     outline: &mut [usize],
     log: &mut [u32],
     marks: &mut [usize],
-    numbers: &mut [usize],
-    verts: &mut [usize],
-    measures: &mut [f32],
-    sides: &mut [usize],
-    groups: &mut [usize],
+    list: &mut [usize],
     links: &mut [u16],
 ) -> Ran
     requires { ⌜ ReadyIn room k points roots corners volumes ends lengths outline log × Logged (k .log) (now log)
-        × (1024 ≤ length (now marks)) × TablesIn numbers verts measures sides groups × LinkedIn Triangles k corners ends links ⌝ }
+        × (1024 ≤ length (now marks)) × MaskIn list × LinkedIn Triangles k corners ends links ⌝ }
     ensures { λ r. ⌜ WorksIn (cutFacets (bladeBy rule b0 b1)) room k points roots corners volumes ends lengths outline log r
         × LinkedBehind Triangles corners ends links r ⌝ }
 {
@@ -275,11 +348,7 @@ pub fn cut_facets(
         lengths,
         outline,
         log,
-        numbers,
-        verts,
-        measures,
-        sides,
-        groups,
+        list,
         links,
     );
     let Ran::Done(counts) = ran else {
@@ -298,11 +367,7 @@ pub fn cut_facets(
             outline,
             log,
             marks,
-            numbers,
-            verts,
-            measures,
-            sides,
-            groups,
+            list,
             links,
         );
     }

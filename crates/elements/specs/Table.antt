@@ -7,7 +7,7 @@ use lib.ListN.{length, getD, take}
 use lib.Ieee.{Float}
 use Rattle.lists.specs.Lists.{stands, any, all, sift, each}
 use Rattle.model.specs.Mesh.{Triangle, Edge}
-use Rattle.model.specs.Elements.{Kind, Triangles, Straps, Nothing, Element, structural?, kindBy, trianglesFrom, strapsFrom, sum}
+use Rattle.model.specs.Elements.{Kind, Triangles, Straps, Nothing, Element, element?, structural?, kindBy, trianglesFrom, strapsFrom, sum}
 use Rattle.mesh.specs.At.{trianglesAt, edgesAt}
 use Rattle.elements.specs.declared.Kind.{Kind as KindCase}
 use Rattle.elements.specs.declared.Kind.the-variants.{Triangles as TrianglesCase, Straps as StrapsCase, Nothing as NothingCase}
@@ -43,6 +43,10 @@ pub record Tabled (k : ℕ) (es : List Element) (n : ℕ) (numbers verts : List 
 -- the kind of a mesh with t triangles, whose first e edges have these ends, whatever the other columns hold
 pub record KindFound (t e : ℕ) (ends : List ℕ) (r : KindCase) : Type 0 where
   pub is : (corners : List ℕ) (volumes lengths : List Float) → kindIs r ≡ kindBy (trianglesAt t corners volumes) (any structural? (edgesAt e ends lengths))
+
+-- r tells whether an edge with this flag is an element, whatever else it has
+pub record ElementIs (K : Kind) (structural : ℕ) (r : Bool) : Type 0 where
+  pub is : (e : Edge) → e .structural ≡ structural → r ≡ element? K e
 
 -- what is asked of a table's room and of the blocks that it is made of
 pub record TableRoom (t e lc lv le ll ln lk lm : ℕ) : Type 0 where

@@ -6,7 +6,7 @@ ghost use lib.ListN.{length, getD, take, drop};
 ghost use Rattle.lists.specs.Lists.{stands, all};
 ghost use Rattle.model.specs.Elements.{cornersPer, facetOthers, trianglesFrom, strapsFrom, sum};
 ghost use Rattle.mesh.specs.At.{trianglesAt, edgesAt};
-ghost use Rattle.elements.specs.Table.{kindIs, elementsIn, KindFound, Tabled, TableRoom, FanTabled, FanRoom, MeasuredWithin, MarkRoom, HeldBoth};
+ghost use Rattle.elements.specs.Table.{kindIs, elementsIn, KindFound, ElementIs, Tabled, TableRoom, FanTabled, FanRoom, MeasuredWithin, MarkRoom, HeldBoth};
 ghost use Rattle.elements.specs.Workers.{TriangleRoom, StrapRoom, marked, Marked, MeasuredMarked, PassRoom};
 
 // A mesh is triangles, or straps, or nothing.
@@ -54,6 +54,17 @@ pub fn facet_others(kind: Kind) -> usize
         Kind::Triangles => 1,
         Kind::Straps => 0,
         Kind::Nothing => 0,
+    }
+}
+
+// Is an edge with this flag an element?
+pub fn is_element(kind: Kind, structural: usize) -> bool
+    ensures { λ r. ⌜ ElementIs (kindIs kind) structural r ⌝ }
+{
+    match kind {
+        Kind::Triangles => false,
+        Kind::Straps => structural == 1,
+        Kind::Nothing => false,
     }
 }
 

@@ -1,10 +1,7 @@
--- The crate's definitions. What a reader must believe: Fan, Grouping, Calls and Cases. Groups computes the same. Parts, Spread, Corners and Sides only proofs need.
+-- The crate's definitions. What a reader must believe: Fan, Grouping, Calls and Cases. Groups computes the same. Parts only proofs need.
 pub mod Fan
 pub mod Grouping
 pub mod Groups
 pub mod Calls
 pub mod Cases
 pub mod Parts
-pub mod Spread
-pub mod Corners
-pub mod Sides

@@ -68,7 +68,7 @@ fn grow(reader: &mut [u8], part: &[u8])
     let at = 8 + k;
     let end = at + n;
     copy_bytes(&part[..n], &mut reader[at..end]);
-    image::put_word(reader, 0, k + n);
+    image_writing::put_word(reader, 0, k + n);
 }
 
 // Opens a reader, whatever stood in its bytes: it was fed nothing.
@@ -78,8 +78,8 @@ pub fn open_reader(reader: &mut [u8]) -> u32
     if reader.len() != SIZE {
         return 4;
     }
-    image::put_word(reader, 0, 0);
-    image::put_word(reader, 1, 0);
+    image_writing::put_word(reader, 0, 0);
+    image_writing::put_word(reader, 1, 0);
     0
 }
 
@@ -100,7 +100,7 @@ pub fn shut_reader(reader: &mut [u8]) -> u32
 {
     let why = standing_of(reader);
     if why == 0 {
-        image::put_word(reader, 1, 1);
+        image_writing::put_word(reader, 1, 1);
     }
     why
 }

@@ -23,11 +23,11 @@ use Rattle.model.specs.Cut.{Line, Blade, splitEnds, nearCorners, splitByBlade, 
 use Rattle.model.specs.Crack.{loadsOf, tornEnds, crackEdge, crack}
 use Rattle.model.specs.Calls.{trianglesLent, bladeOf, outcome, done, cutCall, crackCall}
 use Rattle.model.specs.Trace.{All, Sound}
-use Rattle.model.proofs.Traced.{copiesFrom, step-splits, splits-here, copied-length, no-splits}
-use Rattle.model.proofs.Indexed.{Indexed, sides-indexed, fold-indexed, straddlers-indexed, edge-indexed}
-use Rattle.model.proofs.Accepted.{accepted-indexed}
-use Rattle.model.proofs.Kept.{outcome-done, unless-done, no-refusal, cut-no-refusal}
-use Rattle.model.proofs.Laws.{false-true, all-append, all-tab, all-in, length-mapAt, getD-mapAt, each-append, stands-head, stands-tail, stands-case}
+use Rattle.model_laws.proofs.Traced.{copiesFrom, step-splits, splits-here, copied-length, no-splits}
+use Rattle.model_laws.proofs.Indexed.{Indexed, sides-indexed, fold-indexed, straddlers-indexed, edge-indexed}
+use Rattle.model_laws.proofs.Accepted.{accepted-indexed}
+use Rattle.model_laws.proofs.Kept.{outcome-done, unless-done, no-refusal, cut-no-refusal}
+use Rattle.model_laws.proofs.Laws.{false-true, all-append, all-tab, all-in, length-mapAt, getD-mapAt, each-append, stands-head, stands-tail, stands-case}
 use Rattle.hanging.specs.Hanging.{HeldBy, Joined, Pinned, Firm, Touching, copiesBehind, SpokenOf, cutBegins, crackBegins}
 use Rattle.hanging.proofs.Opened.{held-low, joined-few, joined-old, joined-new}
 

@@ -18,10 +18,10 @@ use Rattle.model.specs.Run.{Entry, Rooms}
 use Rattle.model.specs.Cut.{Line}
 use Rattle.model.specs.Calls.{done, cutCall}
 use Rattle.model.specs.Pieces.{cornersAt, pieces, bodies}
-use Rattle.model.proofs.Accepted.{cut-accepted}
-use Rattle.model.proofs.Laws.{false-true, stands-head, stands-case}
-use Rattle.pieces.specs.Classes.{Holds, Share, ShareAt, NoHangingCorner}
-use Rattle.pieces.proofs.Pieces.{no-hanging-corner}
+use Rattle.model_laws.proofs.Accepted.{cut-accepted}
+use Rattle.model_laws.proofs.Laws.{false-true, stands-head, stands-case}
+use Rattle.piece_classes.specs.Classes.{Holds, Share, ShareAt, NoHangingCorner}
+use Rattle.piece_classes.proofs.Pieces.{no-hanging-corner}
 use Rattle.hanging.specs.Hanging.{HeldBy, Beside, Joined, Firm, Unpinched, Unpinned}
 use Rattle.hanging.proofs.Farther.{cut-all-firm}
 

@@ -20,11 +20,11 @@ use Rattle.model.specs.Run.{Entry, Rooms, Run, start, stepTo, splitsOf}
 use Rattle.model.specs.Split.{Opening, openingOf, splits?, copyFor, groupAt, rewiredTriangles, straddles, atLongest, settled, splitEntries, goneEntries, splitMade, splitStep, splitBySides}
 use Rattle.model.specs.Cut.{Line, Blade, splitEnds, nearCorners, splitByBlade, candidates, pinched, splitFree, splitPinched, cutFacets, markedBy, cutAlong, cut}
 use Rattle.model.specs.Calls.{bladeOf, outcome, done, cutCall}
-use Rattle.model.proofs.Traced.{copiesFrom, step-splits, splits-here, at-below, opening-fits}
-use Rattle.model.proofs.Indexed.{Indexed, sides-indexed}
-use Rattle.model.proofs.Accepted.{accepted-indexed}
-use Rattle.model.proofs.Kept.{outcome-done, unless-done, cut-no-refusal}
-use Rattle.model.proofs.Laws.{false-true, each-append, stands-head, stands-tail, stands-case}
+use Rattle.model_laws.proofs.Traced.{copiesFrom, step-splits, splits-here, at-below, opening-fits}
+use Rattle.model_laws.proofs.Indexed.{Indexed, sides-indexed}
+use Rattle.model_laws.proofs.Accepted.{accepted-indexed}
+use Rattle.model_laws.proofs.Kept.{outcome-done, unless-done, cut-no-refusal}
+use Rattle.model_laws.proofs.Laws.{false-true, each-append, stands-head, stands-tail, stands-case}
 use Rattle.hanging.specs.Hanging.{HeldBy, Beside, Joined, Firm, Unpinched, Touching, cutBegins}
 use Rattle.hanging.proofs.Opened.{moved, kept-held, copy-held, back-held}
 use Rattle.hanging.proofs.Closing.{Under, Passed, pass, begun, or-first, touching-pinched}

@@ -2,5 +2,4 @@
 pub mod Words
 pub mod Image
 pub mod Loads
-pub mod Stores
 pub mod Small

@@ -13,9 +13,9 @@ use Rattle.float.specs.Ranges.{finite?, number?, volume?, notBelow0?}
 use Rattle.model.specs.Mesh.{Particle, Triangle, Edge, Side, Mesh}
 use Rattle.model.specs.Valid.{flag?, particleOk, triangleOk, edgeOk, numbersFit}
 use Rattle.model.specs.Trace.{All, Sound}
-use Rattle.model.proofs.Laws.{all-over, all-map, all-from}
-use Rattle.model.proofs.Indexed.{Pair, Indexed}
-use Rattle.model.proofs.Accepted.{accepted-indexed}
+use Rattle.model_laws.proofs.Laws.{all-over, all-map, all-from}
+use Rattle.model_laws.proofs.Indexed.{Pair, Indexed}
+use Rattle.model_laws.proofs.Accepted.{accepted-indexed}
 use Rattle.mesh.specs.Given.{given, meshOf}
 use Rattle.mesh.specs.Filled.{pointOf, rootOf, cornerOf, volumeOf, endOf, lengthOf, sideOf}
 use Rattle.mesh.specs.Widths.{pointColumns, particleWords}

@@ -14,7 +14,7 @@ use Rattle.lists.proofs.Stores.{map-at}
 use Rattle.columns.specs.Block.{stack}
 use Rattle.columns.proofs.Rows.{tab-ext, tab-of}
 use Rattle.model.specs.Trace.{All}
-use Rattle.model.proofs.Laws.{all-in, all-append}
+use Rattle.model_laws.proofs.Laws.{all-in, all-append}
 use Rattle.image.specs.Words.{wordAt, wordsFrom, numbersFrom, numberOf, bytesOf, bitsIn}
 use Rattle.imaged.specs.Bytes.{bytesIn}
 

@@ -21,8 +21,8 @@ use Rattle.mesh.specs.declared.EdgeRow.{EdgeRow}
 use Rattle.mesh.proofs.Lists.{particles-length}
 use Rattle.mesh.specs.Widths.{pointColumns}
 use Rattle.split_plan.specs.Opened.{restIn}
-use Rattle.rewire.proofs.ParticleLaws.{weighed-by, mass-read, only-same}
-use Rattle.rewire.proofs.EdgeLaws.{edges-many}
+use Rattle.copies.proofs.ParticleLaws.{weighed-by, mass-read, only-same}
+use Rattle.work.proofs.Grows.{edges-many}
 use Rattle.insert.specs.Plans.{planned}
 use Rattle.insert.specs.Inserts.{EdgeStored, EdgesRoom, EdgesInserted, placeIn, velocityIn, Lightened, particleOf, BetweenIs, ParticlesRoom, ParticlesInserted}
 use Rattle.insert.specs.declared.plan.Plan.{Plan}

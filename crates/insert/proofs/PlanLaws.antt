@@ -19,7 +19,7 @@ use Rattle.mesh.specs.Workers.{edgeOf, rowAt}
 use Rattle.mesh.specs.declared.EdgeRow.{EdgeRow}
 use Rattle.mesh.proofs.Lists.{particles-length}
 use Rattle.mesh.specs.Widths.{pointColumns}
-use Rattle.rewire.proofs.EdgeLaws.{edges-get}
+use Rattle.work.proofs.Grows.{edges-get}
 use Rattle.insert.specs.Shares.{Stands, ShareIs}
 use Rattle.insert.specs.Plans.{planned, PlanRoom, PlanIs, InsertableIs}
 use Rattle.insert.specs.declared.plan.Plan.{Plan}

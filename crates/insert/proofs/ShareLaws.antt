@@ -19,9 +19,9 @@ use Rattle.mesh.specs.At.{edgesAt}
 use Rattle.mesh.specs.Workers.{rowAt}
 use Rattle.mesh.specs.Widths.{pointColumns}
 use Rattle.elements.proofs.Measures.{sum-push, sum-none}
-use Rattle.insert.specs.Shares.{strapAt, StrapTold, totalAt, ShareIs}
+use Rattle.insert.specs.Shares.{strapAt, StrapTold, totalAt, shareBy, ShareIs}
 use Rattle.lists.proofs.Truths.{pick-self}
-use Rattle.rewire.proofs.ParticleLaws.{mass-read}
+use Rattle.copies.proofs.ParticleLaws.{mass-read}
 
 -- ---- one edge
 
@@ -88,15 +88,19 @@ module _ (v : ℕ) (ends : List ℕ) (lengths : List Float) where
 
 -- ---- the share
 
-pub share-is : (v : ℕ) (len : Float) (e : ℕ) (points : List Float) (ends : List ℕ) (lengths : List Float) (total : Float) (t : Bool) → total ≡ totalAt v (edgesAt e ends lengths) → lt zero32 total ≡ t
-    → ShareIs v len e points ends lengths (pick t (shareOf (getD points (4 * (length points / pointColumns) + v) nan) len total) zero32)
+-- the branch that is taken
+pub share-taken : (v : ℕ) (len total : Float) (points : List Float) (t : Bool) → lt zero32 total ≡ t
+    → pick t (shareOf (getD points (4 * (length points / pointColumns) + v) nan) len total) zero32 ≡ shareBy v len total points
+share-taken v len total points t d = ap (λ (b : Bool). pick b (shareOf (getD points (4 * (length points / pointColumns) + v) nan) len total) zero32) (sym d)
+
+pub share-is : (v : ℕ) (len : Float) (e : ℕ) (points : List Float) (ends : List ℕ) (lengths : List Float) (total r : Float) → total ≡ totalAt v (edgesAt e ends lengths)
+    → r ≡ shareBy v len total points → ShareIs v len e points ends lengths r
 unfolding totalAt strapShare strapsAt
-share-is v len e points ends lengths total t q d =
+share-is v len e points ends lengths total r q d =
     record {
       is =
           λ M n roots S h.
           let w : total ≡ totalAt v (M .edges) = q ∙ ap (totalAt v) (sym (S .edges-are)) in
           let m : getD points (4 * (length points / pointColumns) + v) nan ≡ particle M v .mass = mass-read v n points roots h ∙ ap (λ (l : List Particle). getD l v blank .mass) (sym (S .particles-are)) in
-          ap (λ (b : Bool). pick b (shareOf (getD points (4 * (length points / pointColumns) + v) nan) len total) zero32) (sym d)
-          ∙ ap₂ (λ (x y : Float). pick (lt zero32 y) (shareOf x len y) zero32) m w;
+          d ∙ ap₂ (λ (x y : Float). pick (lt zero32 y) (shareOf x len y) zero32) m w;
     }

@@ -16,7 +16,7 @@ use Rattle.model.specs.Run.{insert, Need, Run, stepTo}
 use Rattle.model.specs.Run as M
 use Rattle.model.specs.Calls.{tooSmall, firstFault}
 use Rattle.model.specs.Cut.{Insertion, half-a, half-b, lightened, shortened, appended, insertedParticles, insertedEdges, insertedSides, insertedMesh, insertStep}
-use Rattle.model.proofs.Steps.{fault-front}
+use Rattle.model_laws.proofs.Steps.{fault-front}
 use Rattle.mesh.specs.At.{particlesAt, trianglesAt, edgesAt, boundaryAt, meshAt}
 use Rattle.mesh.specs.Log.{World, Words, wordsOf, logAt, worldOf, worldAt}
 use Rattle.mesh.specs.Given.{asRooms}

@@ -66,9 +66,10 @@ pub fn plan_at(
     requires { ⌜ PlanRoom number n e (length (now points)) (now ends) (length (now lengths)) ⌝ }
     ensures { λ r. ⌜ PlanIs f number t n e (now (points .entry)) (now (ends .entry)) (now (lengths .entry)) r ⌝ }
 {
-    let row = rewire::edges::edge_at(number, ends, lengths);
-    let first = shares::strap_share(row.a, row.initial, e, points, ends, lengths);
-    let second = shares::strap_share(row.b, row.initial, e, points, ends, lengths);
+    let row = copies::edges::edge_at(number, ends, lengths);
+    let totals = shares::strap_totals(row.a, row.b, e, ends, lengths);
+    let first = shares::share_of(row.a, row.initial, totals.first, points);
+    let second = shares::share_of(row.b, row.initial, totals.second, points);
     Plan {
         number: number,
         row: row,

@@ -5,7 +5,7 @@ ghost use lib.ListN.{length};
 ghost use Rattle.mesh.specs.At.{edgesAt};
 ghost use Rattle.mesh.specs.Workers.{EdgeRoom};
 ghost use Rattle.mesh.specs.Widths.{pointColumns};
-ghost use Rattle.insert.specs.Shares.{StrapTold, totalAt, ShareIs};
+ghost use Rattle.insert.specs.Shares.{StrapTold, totalAt, shareBy};
 
 // Is edge i structural, with an end at v?
 pub fn strap_at(v: usize, i: usize, ends: &[usize]) -> bool
@@ -22,37 +22,43 @@ pub fn strap_at(v: usize, i: usize, ends: &[usize]) -> bool
     ends[c + i] == v
 }
 
-// The initial lengths of the structural edges at v among the first e, added in edge order.
-fn strap_total(v: usize, e: usize, ends: &[usize], lengths: &[f32]) -> f32
+// The straps at two particles, by their initial lengths added.
+pub struct Totals {
+    pub first: f32,
+    pub second: f32,
+}
+
+// The initial lengths of the structural edges at v and of those at w among the first e, both added in edge order. One pass serves for both ends of a strap.
+pub fn strap_totals(v: usize, w: usize, e: usize, ends: &[usize], lengths: &[f32]) -> Totals
     requires { ⌜ EdgeRoom e (length (now ends)) (length (now lengths)) ⌝ }
-    ensures { λ r. ⌜ r ≡ totalAt v (edgesAt e (now (ends .entry)) (now (lengths .entry))) ⌝ }
+    ensures { λ r. ⌜ (r .first ≡ totalAt v (edgesAt e (now (ends .entry)) (now (lengths .entry))))
+        × (r .second ≡ totalAt w (edgesAt e (now (ends .entry)) (now (lengths .entry)))) ⌝ }
 {
     let l = lengths.len() / 4;
     let mut s: f32 = 0.0;
+    let mut t: f32 = 0.0;
     let mut i: usize = 0;
     while i < e {
         if strap_at(v, i, ends) {
             s = s + lengths[l + i];
         }
+        if strap_at(w, i, ends) {
+            t = t + lengths[l + i];
+        }
         i += 1;
     }
-    s
+    Totals {
+        first: s,
+        second: t,
+    }
 }
 
-// The share of v's mass that a strap of length len has.
-pub fn strap_share(
-    v: usize,
-    len: f32,
-    e: usize,
-    points: &[f32],
-    ends: &[usize],
-    lengths: &[f32],
-) -> f32
-    requires { ⌜ EdgeRoom e (length (now ends)) (length (now lengths)) × (v < length (now points) / pointColumns) ⌝ }
-    ensures { λ r. ⌜ ShareIs v len e (now (points .entry)) (now (ends .entry)) (now (lengths .entry)) r ⌝ }
+// The share of v's mass that a strap of length len has among straps of this length in all.
+pub fn share_of(v: usize, len: f32, total: f32, points: &[f32]) -> f32
+    requires { ⌜ v < length (now points) / pointColumns ⌝ }
+    ensures { λ r. ⌜ r ≡ shareBy v len total (now (points .entry)) ⌝ }
 {
     let p = points.len() / mesh::POINT_COLUMNS;
-    let total = strap_total(v, e, ends, lengths);
     if 0.0 < total {
         return points[4 * p + v] * len / total;
     }

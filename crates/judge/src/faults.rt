@@ -22,14 +22,14 @@ pub fn index(n: usize, room: usize, a: usize) -> usize
 }
 
 // Two indices that differ: the bits in which they do are a number from 1 on, and 1 less is no fault. (Of none it wraps.)
-fn differ(a: usize, b: usize) -> usize
+pub fn differ(a: usize, b: usize) -> usize
     ensures { λ r. ⌜ r ≡ (bitXor a b + 18446744073709551615) % 2 ^ 64 ⌝ }
 {
     std::num::wrapping_add_usize(a ^ b, 18446744073709551615)
 }
 
 // One of n particles that is another than a, where a is one of them.
-fn other(n: usize, room: usize, a: usize, b: usize) -> usize
+pub fn other(n: usize, room: usize, a: usize, b: usize) -> usize
     requires { ⌜ n + room ≡ 9223372036854775808 ⌝ }
     ensures { λ r. ⌜ (a < n → fine r ≡ (ltb b n && not (eqb b a))) ⌝ }
 {

@@ -27,12 +27,12 @@ use Rattle.model.specs.Cut.{slack, slackened, markedBy, cut}
 use Rattle.model.specs.Crack.{hurt, damagedAt, bridges, torn, crack}
 use Rattle.model.specs.Calls.{bladeOk, fractionOk, sidesOk, trianglesLent, known, bladeOf, cutRefusal, tooSmall, firstFault, outcome, cutCall, crackCall, splitCall, straddlersCall}
 use Rattle.model.specs.Trace.{All, Sound}
-use Rattle.model.proofs.Traced.{splits-here}
-use Rattle.model.proofs.Steps.{fault-front}
-use Rattle.model.proofs.Kept.{accepted-sound, unless-done, no-refusal, cut-no-refusal, Passed}
-use Rattle.model.proofs.Accepted.{accepted-indexed, indexed-accepted, cut-accepted, crack-accepted, split-accepted, straddlers-accepted}
-use Rattle.model.proofs.Indexed.{Pair, Indexed, Ends, Sides}
-use Rattle.model.proofs.Laws.{both, pick-both, all-in, all-over, all-append, all-map, all-mapAt, all-eachOf, all-sift, all-below, all-from, all-to, all-yes, length-mapAt}
+use Rattle.model_laws.proofs.Traced.{splits-here}
+use Rattle.model_laws.proofs.Steps.{fault-front}
+use Rattle.model_laws.proofs.Kept.{accepted-sound, unless-done, no-refusal, cut-no-refusal, Passed}
+use Rattle.model_laws.proofs.Accepted.{accepted-indexed, indexed-accepted, cut-accepted, crack-accepted, split-accepted, straddlers-accepted}
+use Rattle.model_laws.proofs.Indexed.{Pair, Indexed, Ends, Sides}
+use Rattle.model_laws.proofs.Laws.{both, pick-both, all-in, all-over, all-append, all-map, all-mapAt, all-eachOf, all-sift, all-below, all-from, all-to, all-yes, length-mapAt}
 use Rattle.lineage.specs.History.{Particle32, Triangle32, Edge32, Stored, Called, cutting, cracking, splitting, removing, Moved, History, first, calling, moving, HostStores, Accepted, Again}
 use Rattle.lineage.proofs.Induction.{Sided, Behind, nothing-more, tearing, Kept}
 use Rattle.lineage.proofs.Grown.{Grown, Growing, growing-start, growing-kept}

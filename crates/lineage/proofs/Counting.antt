@@ -9,7 +9,7 @@ use borrow.Author.Tests.{ne-eqb}
 use lib.ListN.{length, length-append}
 use Rattle.lists.specs.Lists.{pick, stands, sift, upTo, tab, rising}
 use Rattle.lists.proofs.Sifts.{sift-append, upTo-suc}
-use Rattle.model.proofs.Laws.{none-rising}
+use Rattle.model_laws.proofs.Laws.{none-rising}
 
 -- one for a test that holds
 abbrev one? : Bool → ℕ

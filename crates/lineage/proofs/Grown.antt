@@ -23,9 +23,9 @@ use Rattle.model.specs.Pieces.{withoutStraddlers, straddlersGone, removeStraddl
 use Rattle.model.specs.Cut.{slackened, markedBy}
 use Rattle.model.specs.Crack.{hurt, damagedAt, torn}
 use Rattle.model.specs.Trace.{All, Sound, Hold, Held}
-use Rattle.model.proofs.Traced.{Fitting, opening-fits, copiesFrom, step-splits, splits-here, copied-length, at-below, sound-step, Still, still-torn, all-any, Any}
-use Rattle.model.proofs.Holding.{opening-full, split-held}
-use Rattle.model.proofs.Laws.{all-mapAt, all-over, all-append, tab-all, map-mapAt, length-mapAt, pick-both}
+use Rattle.model_laws.proofs.Traced.{Fitting, opening-fits, copiesFrom, step-splits, splits-here, copied-length, at-below, sound-step, Still, still-torn, all-any, Any}
+use Rattle.model_laws.proofs.Holding.{opening-full, split-held}
+use Rattle.model_laws.proofs.Laws.{all-mapAt, all-over, all-append, tab-all, map-mapAt, length-mapAt, pick-both}
 use Rattle.lineage.specs.History.{rootsOf}
 use Rattle.lineage.proofs.Induction.{Sided, Behind, nothing-more, tearing, Kept}
 

@@ -22,17 +22,17 @@ use Rattle.model.specs.Cut.{Line as BladeLine, cut}
 use Rattle.model.specs.Crack.{crack}
 use Rattle.model.specs.Calls.{bladeOk, fractionOk, sidesOk, trianglesLent, refusal, known, wholeMesh, wholeLine, editionRefusal, bladeOf, firstOf, cutRefusal, tooSmall, firstFault, Outcome, refused, done, fitted, outcome, unless, cutCall, crackCall, splitCall, straddlersCall}
 use Rattle.model.specs.Trace.{All, originOf, Sound, tracedBack, Hold, Kept}
-use Rattle.model.proofs.Traced.{origin-append}
-use Rattle.model.proofs.Kept.{accepted-sound, outcome-done, unless-done, no-refusal, cut-keeps, crack-keeps, split-keeps, straddlers-keep}
-use Rattle.model.proofs.Splitting.{Sided, sides-accepted}
-use Rattle.model.proofs.Laws.{false-true, all-over, all-append, each-append}
+use Rattle.model_laws.proofs.Traced.{origin-append}
+use Rattle.model_laws.proofs.Kept.{accepted-sound, outcome-done, unless-done, no-refusal, cut-keeps, crack-keeps, split-keeps, straddlers-keep}
+use Rattle.model_laws.proofs.Splitting.{Sided, sides-accepted}
+use Rattle.model_laws.proofs.Laws.{false-true, all-over, all-append, each-append}
 use Rattle.lineage.specs.History.{Begins, Moved, History, Called, cutting, cracking, splitting, removing, first, calling, moving, rootsOf, Lasting, inUse, mostParticles, Afternoon, EveryRun, Within, Unrefused, Roomy}
 use Rattle.lineage.proofs.Induction.{sides-kept, cut-kept, crack-kept, Kept as KeptBySteps}
 use Rattle.lineage.proofs.Counting.{among, among-room, among-most}
 use Rattle.lineage.proofs.Grown.{Grown, grown-same, grown-then, column, rootsBy, roots-by, Growing, growing-start, growing-kept}
 use Rattle.lineage.proofs.Moves.{moved-grown, by-corners}
 use Rattle.lists.proofs.Truths.{or-cases}
-use Rattle.model.proofs.Exactly.{map-on}
+use Rattle.model_laws.proofs.Exactly.{map-on}
 
 -- ---- the runs of the calls on triangles
 

@@ -16,9 +16,9 @@ use Rattle.model.specs.Pieces.{removeStraddlers}
 use Rattle.model.specs.Cut.{Blade, bladeSides, splitByBlade, splitFree, pinched, splitPinched, candidates, cutFacets, markedBy, cutAlong, cut}
 use Rattle.model.specs.Crack.{Way, beyond, farSide, twoSided, meanLoad, torn, crackBy, crackPair, crackEdge, currentPair, waysOf, wayAt, loadsOf, tornEnds, crack}
 use Rattle.model.specs.Trace.{All}
-use Rattle.model.proofs.Traced.{order-fits}
-use Rattle.model.proofs.Laws.{pick-one, Found, find-fits}
-use Rattle.model.proofs.Rules.{two-all, pick-two, blade-two, blade-every}
+use Rattle.model_laws.proofs.Traced.{order-fits}
+use Rattle.model_laws.proofs.Laws.{pick-one, Found, find-fits}
+use Rattle.model_laws.proofs.Rules.{two-all, pick-two, blade-two, blade-every}
 
 -- a split at v of M: a side, 0 or 1, for each element of its fan
 pub record Sided (M : Mesh) (O : Opening) : Type 0 where

@@ -26,8 +26,8 @@ use Rattle.model.specs.Mesh.{Triangle, Mesh}
 use Rattle.model.specs.Elements.{Triangles, Element, sum, trianglesFrom, elementsOf, fanOf, gridOf}
 use Rattle.model.specs.Split.{Part, partsOf, Opening, openingOf, weightOf, totalOf, massOf}
 use Rattle.model.specs.Trace.{All}
-use Rattle.model.proofs.Traced.{parts-all, Any, all-any}
-use Rattle.model.proofs.Laws.{pick-both, all-map, all-sift, all-below, tab-all}
+use Rattle.model_laws.proofs.Traced.{parts-all, Any, all-any}
+use Rattle.model_laws.proofs.Laws.{pick-both, all-map, all-sift, all-below, tab-all}
 use Rattle.lineage.proofs.Sums.{UpTo, NoMore, Totalled, totalled-up, limit-units, equal-in-range}
 
 -- ---- how many groups

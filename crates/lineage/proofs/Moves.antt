@@ -9,7 +9,7 @@ use Rattle.float.specs.Numbers.{zero32}
 use Rattle.model.specs.Mesh.{Particle, Triangle, Mesh, blankTriangle}
 use Rattle.model.specs.Elements.{cornersOf}
 use Rattle.model.specs.Trace.{All, Sound, Hold}
-use Rattle.model.proofs.Laws.{all-map, all-over}
+use Rattle.model_laws.proofs.Laws.{all-map, all-over}
 use Rattle.lineage.specs.History.{Moved, rootsOf}
 use Rattle.lineage.proofs.Grown.{Grown, column, rootsBy, roots-by}
 use Rattle.lists.proofs.Sifts.{map-ext}

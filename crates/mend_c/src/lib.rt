@@ -15,14 +15,14 @@ pub fn mend(broken: &[u8], mended: &mut [u8], text: &mut [u8], counts: &mut [u8]
             if counts.len() < 8 {
                 bits::blank(mended);
                 listing::finish(text, Written::Short);
-                image::clear_bytes(counts);
+                image_writing::clear_bytes(counts);
                 return 4;
             }
-            image::write_two(counts, n, k);
+            image_writing::write_two(counts, n, k);
             0
         }
         Mended::Short => {
-            image::clear_bytes(counts);
+            image_writing::clear_bytes(counts);
             4
         }
         Mended::Refused(code) => replies::reply_refused(code, counts),

@@ -15,7 +15,7 @@ use Rattle.model.specs.Mesh.{Particle, Mesh}
 use Rattle.model.specs.Elements.{straps?, at, kindOf}
 use Rattle.model.specs.Run.{Rooms}
 use Rattle.model.specs.Calls.{wholeMesh, exactRefusal, firstOf, refusal}
-use Rattle.model.proofs.Laws.{false-true}
+use Rattle.model_laws.proofs.Laws.{false-true}
 use Rattle.mesh.specs.At.{meshAt, particlesAt, particleRow}
 use Rattle.mesh.specs.declared.Counts.{Counts}
 use Rattle.mesh.specs.Widths.{pointColumns}

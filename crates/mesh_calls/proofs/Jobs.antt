@@ -13,10 +13,10 @@ use Rattle.model.specs.Elements.{Kind, kindOf}
 use Rattle.model.specs.Run.{Run, Rooms as RoomsOf, start}
 use Rattle.model.specs.Cut.{Line, rounded, exact, cut}
 use Rattle.model.specs.Calls.{sidesOk, fractionOk, trianglesLent, refusal, known, exactRefusal, firstOf, cutRefusal, Outcome, outcome, unless, splitCall, straddlersCall, cutCall, crackCall}
-use Rattle.model.proofs.Exactly.{signs-exact}
-use Rattle.model.proofs.Kept.{cut-no-refusal}
-use Rattle.model.proofs.Whole.{exactable}
-use Rattle.model.proofs.Steps.{Onward, sides-onward, straddlers-onward, cut-onward, crack-onward}
+use Rattle.model_laws.proofs.Exactly.{signs-exact}
+use Rattle.model_laws.proofs.Kept.{cut-no-refusal}
+use Rattle.model_laws.proofs.Whole.{exactable}
+use Rattle.model_laws.proofs.Steps.{Onward, sides-onward, straddlers-onward, cut-onward, crack-onward}
 use Rattle.blade.specs.declared.Point.{Point}
 use Rattle.marks.specs.Marking.{ruleIs, bladeBy}
 use Rattle.marks.specs.declared.Rule.the-variants.{Rounded, Signs}

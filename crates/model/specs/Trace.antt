@@ -1,4 +1,4 @@
--- What a run of splits keeps of the triangles: the words of the theorems in proofs/Traced.antt and proofs/Holding.antt. Definitions only.
+-- What a run of splits keeps of the triangles: the words of the theorems in proofs/Traced.antt and proofs/Holding.antt of crate model_laws. Definitions only.
 use Prim.Native.Nat.{ℕ, _<_}
 use mathlib.Core.Path.{_≡_}
 use mathlib.Core.Bool.{true}

@@ -17,7 +17,7 @@ use Rattle.model.specs.Mesh.{Edge, Mesh, blankEdge}
 use Rattle.model.specs.Elements.{Triangles, Straps, Nothing, Element, edgeAt, endsOf, structural?, strapElement, strapsFrom, elementsOf}
 use Rattle.model.specs.Run.{Entry, Run, stepTo, splitsOf}
 use Rattle.model.specs.Cut.{Blade, hit?, meets, ifMet, candidates, splitByBlade, splitPinched, cutFacets, Crossing, crossingAt, crossings, crossed, strapping, unbent, afterCrossings, cutSegments, markAt, markOf, marksOf, markedBy, cutAlong, cut}
-use Rattle.model.proofs.Laws.{none-rising}
+use Rattle.model_laws.proofs.Laws.{none-rising}
 use Rattle.mesh.specs.Log.{World, Words, wordsOf, worldOf}
 use Rattle.mesh.specs.declared.Counts.{Counts}
 use Rattle.mesh.specs.declared.Rooms.{Rooms}

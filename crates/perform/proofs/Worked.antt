@@ -7,9 +7,9 @@ use lib.Ieee.{Float}
 use Rattle.model.specs.Elements.{Kind, kindOf}
 use Rattle.model.specs.Run.{Run}
 use Rattle.model.specs.Cut.{Blade, markedBy, cutAlong, cut}
-use Rattle.model.proofs.Steps.{along-onward}
-use Rattle.model.proofs.Indexed.{Indexed}
-use Rattle.model.proofs.Marks.{marked-mesh}
+use Rattle.model_laws.proofs.Steps.{along-onward}
+use Rattle.model_laws.proofs.Indexed.{Indexed}
+use Rattle.model_laws.proofs.Marks.{marked-mesh}
 use Rattle.mesh.specs.At.{meshAt}
 use Rattle.mesh.specs.Log.{World}
 use Rattle.mesh.specs.Filled.{lent}

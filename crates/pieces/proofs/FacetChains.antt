@@ -21,17 +21,17 @@ use Rattle.model.specs.Elements.{Element}
 use Rattle.model.specs.Pieces.{pieceCount, cornersAt}
 use Rattle.elements.specs.Table.{Cornered}
 use Rattle.reach.specs.Reached.{Plain}
-use Rattle.pieces.specs.Classes.{Share, Classes, Holds}
+use Rattle.piece_classes.specs.Classes.{Share, Classes, Holds}
 use Rattle.pieces.specs.Counted.{PieceNumber, SidesLent}
-use Rattle.pieces.specs.Forest.{Up, Down, Kept, Joined}
-use Rattle.pieces.specs.Tables.{Tied}
+use Rattle.bodies.specs.Forest.{Up, Down, Kept, Joined}
+use Rattle.bodies.specs.Tables.{Tied}
 use Rattle.pieces.specs.Sides.{smaller, larger, tops, after, lowOf, highOf, LastIn, Filed, Headed, Sought, FacetFound, SameFacet, Sided, SideRoom, FacetStep}
-use Rattle.pieces.proofs.Corners.{place-in, corner-at, corner-held, holds-corner}
-use Rattle.pieces.proofs.Distinct.{once-same}
-use Rattle.pieces.proofs.Counts.{classes-map}
-use Rattle.pieces.proofs.Parents.{kept-refl, kept-trans, raised, raised-flat}
-use Rattle.pieces.proofs.Trees.{tied-start, tied-map, tied-flat}
-use Rattle.pieces.proofs.Pieces.{share-turned, count-only}
+use Rattle.bodies.proofs.Corners.{place-in, corner-at, corner-held, holds-corner}
+use Rattle.piece_classes.proofs.Distinct.{once-same}
+use Rattle.piece_classes.proofs.Counts.{classes-map}
+use Rattle.bodies.proofs.Parents.{kept-refl, kept-trans, raised, raised-flat}
+use Rattle.bodies.proofs.Trees.{tied-start, tied-map, tied-flat}
+use Rattle.piece_classes.proofs.Pieces.{share-turned, count-only}
 use Rattle.pieces.proofs.Tops.{tops-stand}
 
 -- ---- chains

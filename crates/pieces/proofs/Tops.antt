@@ -15,11 +15,11 @@ use Rattle.lists.proofs.Labelled.{lowest-same, lowest-down, lowest-flat}
 use Rattle.lists.proofs.Sifts.{and-true, true-and, sift-stands, stands-get, stands-made, upTo-stands, upTo-below}
 use Rattle.lists.proofs.Steps.{sift-step}
 use Rattle.fan.specs.Fan.{Distinct}
-use Rattle.pieces.specs.Classes.{Classes}
+use Rattle.piece_classes.specs.Classes.{Classes}
 use Rattle.pieces.specs.Sides.{tops}
-use Rattle.pieces.proofs.Distinct.{once-same}
-use Rattle.pieces.proofs.Counts.{upTo-once}
-use Rattle.pieces.proofs.Pieces.{sift-differ}
+use Rattle.piece_classes.proofs.Distinct.{once-same}
+use Rattle.piece_classes.proofs.Counts.{upTo-once}
+use Rattle.piece_classes.proofs.Pieces.{sift-differ}
 
 -- ---- tops among the first places
 

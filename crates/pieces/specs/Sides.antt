@@ -6,7 +6,7 @@ use lib.Dec.{eqb, ltb}
 use lib.ListN.{length, getD}
 use Rattle.lists.specs.Lists.{pick, sift, upTo}
 use Rattle.reach.specs.Walk.{Rows}
-use Rattle.pieces.specs.Tables.{Tied}
+use Rattle.bodies.specs.Tables.{Tied}
 
 -- ---- facets
 

@@ -6,7 +6,7 @@ ghost use mathlib.Core.Path.{_≡_};
 ghost use Prim.Native.Nat.{_+_, _*_, _/_, _<_, _≤_};
 ghost use lib.ListN.{length};
 ghost use Rattle.pieces.specs.Counted.{SidesLent, PieceNumber};
-ghost use Rattle.pieces.specs.Tables.{Tied};
+ghost use Rattle.bodies.specs.Tables.{Tied};
 ghost use Rattle.pieces.specs.Sides.{smaller, larger, tops, lowOf, highOf, Sought, FacetFound, SameFacet, Sided, SideRoom, Putting, IsPut};
 
 // The same number in more bits.
@@ -92,7 +92,7 @@ fn join_facet(
     let e = find_facet(low, wide(first), links, lows);
     if 0 < e {
         let j = element_of(e - 1, k);
-        crate::forest::join(parent, i, j);
+        bodies::forest::join(parent, i, j);
     }
 }
 

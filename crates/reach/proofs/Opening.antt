@@ -20,7 +20,7 @@ use Rattle.reach.specs.Opens.{Numbered, openingAt, Opens}
 use Rattle.reach.specs.Walk.{touching, holdsRow, tally, seeds, reachFrom, tableReach, Rows, Lent, marked, Seeded}
 use Rattle.reach.proofs.Walks.{reach-ext}
 use Rattle.reach.proofs.Tables.{reach-is, held-count}
-use Rattle.model.proofs.Laws.{stands-case}
+use Rattle.model_laws.proofs.Laws.{stands-case}
 
 -- what the walk of one group tells
 pub group-tested : (n k v : ℕ) (verts groups : List ℕ) (g least : ℕ) {seen queue : List ℕ} {tail : ℕ} {r : Bool} → Seeded n (seeds k v verts groups g) seen queue tail

@@ -1,6 +1,6 @@
 -- Laws of a question to an image: it is the question to the mesh that is loaded, and each reply is the reply to one. Assumes nothing.
 use Prim.Native.Nat.{ℕ, _/_, _%_, _≤_}
-use mathlib.Core.Path.{_≡_, refl, sym, ap, _∙_}
+use mathlib.Core.Path.{_≡_, refl, sym, ap, subst, _∙_}
 use mathlib.Core.Bool.{Bool, true, false}
 use mathlib.Core.Logic.{inl}
 use mathlib.Core.List.{List}
@@ -31,6 +31,10 @@ unfolding questionReply
 asked-on q s l G lent r out h e f =
     replied-as (questionCall q (sizesFit G) (meshOf G) l) _ lent r out
     (ap (λ (H : Given). questionCall q (sizesFit H) (meshOf H) l) e ∙ ap (λ (b : Bool). questionCall q b (meshOf (imageOf s)) l) (sized-input s h)) f
+
+-- a question in one of its cases
+pub asked-as : (q : Question) (s l : List ℕ) (lent r : ℕ) (out : List ℕ) (q′ : Question) → q ≡ q′ → Replied (questionReply q′ s l) lent r out → Replied (questionReply q s l) lent r out
+asked-as q s l lent r out q′ e h = subst (λ (x : Question). Replied (questionReply x s l) lent r out) (sym e) h
 
 -- what has not the sizes of a mesh is refused, whatever is asked
 unsized-call : (q : Question) (M : Mesh) (l : List ℕ) → questionCall q false M l ≡ refused 1

@@ -1,4 +1,4 @@
--- The laws of replies, of a question to a mesh and to its image, of the sides, groups and lists beside it, and of a tiny image.
+-- The laws of replies, of a question to a mesh and to its image, of the sides, groups and lists beside it, of a tiny image, and of one whose elements stand in a table.
 pub mod Replying
 pub mod Siding
 pub mod Grouping
@@ -6,3 +6,4 @@ pub mod Listing
 pub mod Asking
 pub mod Answering
 pub mod Tininess
+pub mod Tabling

@@ -11,17 +11,17 @@ use lib.Ieee.{Float}
 use borrow.Author.Tests.{ltb-true}
 use Rattle.lists.specs.Lists.{all}
 use Rattle.lists.proofs.Sifts.{and-true}
-use Rattle.lists.proofs.Stores.{tab-length}
 use Rattle.model.specs.Mesh.{Mesh}
 use Rattle.model.specs.Elements.{restMeasureOf}
 use Rattle.model.specs.Calls.{present, strictly, particlesOk, refusal}
 use Rattle.model.specs.Reads.{orRefused, restMeasureOfCall}
 use Rattle.mesh.specs.Given.{meshOf}
 use Rattle.judge.proofs.Joined.{Sized, sizes-told}
-use Rattle.arguments.proofs.Accepted.{particles-count}
+use Rattle.mesh_tables.proofs.Accepted.{particles-count}
 use Rattle.readings.specs.declared.Number.{Number}
 use Rattle.readings.specs.Answers.{numberOf}
-use Rattle.image.specs.Words.{wordAt, wordsFrom}
+use Rattle.image.specs.Words.{wordsFrom}
+use Rattle.image.proofs.InBlocks.{words-long}
 use Rattle.image.specs.Image.{imageOf, imageSized}
 use Rattle.reading_c.specs.Given.{numberReply, SmallCode, Capped}
 use Rattle.replies.proofs.Saying.{refusal-small}
@@ -69,10 +69,6 @@ bad-calls z M t l e f =
     ap (λ (b : Bool). orRefused (refusal z M true b) (restMeasureOf M t)) e ∙ refused-either z M (restMeasureOf M t) (restMeasureOf M l)
     ∙ sym (ap (λ (b : Bool). orRefused (refusal z M true b) (restMeasureOf M l)) f)
 
-words-long : (b : List ℕ) (n : ℕ) → length (wordsFrom b 0 n) ≡ n
-unfolding wordsFrom
-words-long b n = tab-length n (λ k. wordAt b (0 + k))
-
 pub words-capped : (s b : List ℕ) (m n : ℕ) → imageSized s ≡ true → Capped m 1025 n
     → restMeasureOfCall (imageSized s) (meshOf (imageOf s)) (wordsFrom b 0 n) ≡ restMeasureOfCall (imageSized s) (meshOf (imageOf s)) (wordsFrom b 0 m)
 words-capped s b m n h c =
@@ -81,8 +77,8 @@ words-capped s b m n h c =
     (λ y.
     let f = particles-small s h in
     bad-calls (imageSized s) (meshOf (imageOf s)) (wordsFrom b 0 n) (wordsFrom b 0 m)
-    (many-wrong (meshOf (imageOf s)) (wordsFrom b 0 n) f (omega (arith, words-long b n, y .0)))
-    (many-wrong (meshOf (imageOf s)) (wordsFrom b 0 m) f (omega (arith, words-long b m, y .1))))
+    (many-wrong (meshOf (imageOf s)) (wordsFrom b 0 n) f (omega (arith, words-long b 0 n, y .0)))
+    (many-wrong (meshOf (imageOf s)) (wordsFrom b 0 m) f (omega (arith, words-long b 0 m, y .1))))
     c
 
 -- capped words stand in the bytes

@@ -10,6 +10,14 @@ use Rattle.image.specs.Image.{imageOf, imageSized}
 use Rattle.reading_c.specs.Replies.{countWords, numberWords, truthWords, groupsWords}
 use Rattle.reading_c.specs.declared.Question.{Question}
 use Rattle.reading_c.specs.declared.Question.the-variants.{Pieces, Measure, MeasureOf, Opens, Groups, Unread}
+use Rattle.reading_c.specs.declared.Asked.{Asked}
+use Rattle.reading_c.specs.declared.Asked.the-variants.{Opens as OpensAsked, Groups as GroupsAsked, Unread as UnreadAsked}
+
+-- the question that is put to blocks
+abbrev pub questionOf : Asked → Question
+questionOf (OpensAsked v min) = Opens v min
+questionOf (GroupsAsked v) = Groups v
+questionOf UnreadAsked = Unread
 
 -- the words of the answer to a question; the list is the particles of a measure, or the sides at a particle
 abbrev pub questionCall : Question → Bool → Mesh → List ℕ → Read (List ℕ)

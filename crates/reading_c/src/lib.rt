@@ -5,6 +5,7 @@ pub mod listed;
 pub mod meshes;
 pub mod questions;
 pub mod reply;
+pub mod tabled;
 pub mod tiny;
 pub mod unread;
 
@@ -14,6 +15,13 @@ pub enum Question {
     Pieces,
     Measure,
     MeasureOf,
+    Opens(usize, usize),
+    Groups(usize),
+    Unread,
+}
+
+// The questions that are put to the blocks of a mesh.
+pub enum Asked {
     Opens(usize, usize),
     Groups(usize),
     Unread,

@@ -1,5 +1,5 @@
-// A question to a mesh image: the image is loaded into local blocks, smaller ones for a small or a middling image, and the public entry that answers is called on their
-// fronts. No other function that reads has such blocks, but for the tiny ones of `tiny`.
+// A question to a mesh image. Pieces and measures are answered by `tabled`, from its bytes. For the others the image is loaded into local blocks, smaller ones for a small
+// or a middling image, and the public entry that answers is called on their fronts. No other function that reads has such blocks, but for the tiny ones of `tiny`.
 ghost use mathlib.Core.Path.{_≡_};
 ghost use mathlib.Core.Bool.{true};
 ghost use Prim.Native.Nat.{_≤_};
@@ -8,16 +8,17 @@ ghost use Rattle.mesh.specs.Given.{meshOf, sizesFit};
 ghost use Rattle.image.specs.Image.{imageSized};
 ghost use Rattle.image.specs.Loads.{Loadable};
 ghost use Rattle.reading_c.specs.Replies.{Replied};
-ghost use Rattle.reading_c.specs.Questions.{questionCall, questionReply};
+ghost use Rattle.reading_c.specs.Questions.{questionOf, questionCall, questionReply};
 ghost use Rattle.image.specs.Small.{smallImage, middlingImage};
 ghost use Rattle.reading_c.specs.declared.Question.the-variants.{Groups, Unread};
 ghost use Rattle.mesh.specs.Blocks.{givenBefore};
+use crate::Asked;
 use crate::Question;
 use crate::reply;
+use crate::tabled;
 use image::small;
 use judge::checks;
 use readings::grouping;
-use readings::reading;
 
 // The groups that sides make at a particle, by a lent table that has a place for each side.
 fn groups_within(
@@ -166,7 +167,7 @@ fn ask_groups(
 
 // A question to the mesh that blocks are.
 fn ask(
-    q: Question,
+    q: Asked,
     list: &[usize],
     points: &[f32],
     roots: &[usize],
@@ -179,31 +180,10 @@ fn ask(
 ) -> u32
     requires { ⌜ length (now list) ≤ 2049 ⌝ }
     ensures { λ r. ⌜ (let G = givenBefore points roots corners volumes ends lengths outline in
-        Replied (questionCall q (sizesFit G) (meshOf G) (now (list .entry))) (length (now (out .entry))) r (now (out .exit))) ⌝ }
+        Replied (questionCall (questionOf q) (sizesFit G) (meshOf G) (now (list .entry))) (length (now (out .entry))) r (now (out .exit))) ⌝ }
 {
     match q {
-        Question::Pieces => {
-            let a = reading::pieces(points, roots, corners, volumes, ends, lengths, outline);
-            return reply::reply_count(a, out);
-        }
-        Question::Measure => {
-            let a = reading::rest_measure(points, roots, corners, volumes, ends, lengths, outline);
-            return reply::reply_number(a, out);
-        }
-        Question::MeasureOf => {
-            let a = reading::rest_measure_of(
-                points,
-                roots,
-                corners,
-                volumes,
-                ends,
-                lengths,
-                outline,
-                list,
-            );
-            return reply::reply_number(a, out);
-        }
-        Question::Opens(v, minimum) => {
+        Asked::Opens(v, minimum) => {
             let a = grouping::opens_without_confetti(
                 points,
                 roots,
@@ -218,7 +198,7 @@ fn ask(
             );
             return reply::reply_truth(a, out);
         }
-        Question::Groups(v) => {
+        Asked::Groups(v) => {
             return ask_groups(
                 v,
                 list,
@@ -232,7 +212,7 @@ fn ask(
                 out,
             );
         }
-        Question::Unread => {
+        Asked::Unread => {
             let code = checks::judge(points, roots, corners, volumes, ends, lengths, outline);
             return replies::reply_refused(judge::tests::first(code, false, 4), out);
         }
@@ -241,7 +221,7 @@ fn ask(
 
 // A question to an image that has the sizes of a mesh, by seven lent blocks that have room for it.
 fn ask_within(
-    q: Question,
+    q: Asked,
     list: &[usize],
     bytes: &[u8],
     points: &mut [f32],
@@ -256,7 +236,8 @@ fn ask_within(
     requires { ⌜ (imageSized (now bytes) ≡ true) × (length (now list) ≤ 2049)
         × Loadable (now bytes) (length (now points)) (length (now roots)) (length (now corners)) (length (now volumes)) (length (now ends))
         (length (now lengths)) (length (now outline)) ⌝ }
-    ensures { λ r. ⌜ Replied (questionReply q (now (bytes .entry)) (now (list .entry))) (length (now (out .entry))) r (now (out .exit)) ⌝ }
+    ensures { λ r. ⌜ Replied (questionReply (questionOf q) (now (bytes .entry)) (now (list .entry))) (length (now (out .entry))) r
+        (now (out .exit)) ⌝ }
 {
     let p = image::word_at(bytes, 0);
     let t = image::word_at(bytes, 1);
@@ -293,9 +274,10 @@ fn ask_within(
 }
 
 // A question to a small image, in small blocks: they are cleared in a sixteenth of the time.
-fn ask_small(q: Question, list: &[usize], bytes: &[u8], out: &mut [u8]) -> u32
+fn ask_small(q: Asked, list: &[usize], bytes: &[u8], out: &mut [u8]) -> u32
     requires { ⌜ (imageSized (now bytes) ≡ true) × (length (now list) ≤ 2049) × (smallImage (now bytes) ≡ true) ⌝ }
-    ensures { λ r. ⌜ Replied (questionReply q (now (bytes .entry)) (now (list .entry))) (length (now (out .entry))) r (now (out .exit)) ⌝ }
+    ensures { λ r. ⌜ Replied (questionReply (questionOf q) (now (bytes .entry)) (now (list .entry))) (length (now (out .entry))) r
+        (now (out .exit)) ⌝ }
 {
     let mut points = [0.0f32; small::PARTICLES * mesh::POINT_COLUMNS];
     let mut roots = [0usize; 2 * small::PARTICLES];
@@ -320,9 +302,10 @@ fn ask_small(q: Question, list: &[usize], bytes: &[u8], out: &mut [u8]) -> u32
 }
 
 // A question to a middling image, in blocks that are cleared in a quarter of the time.
-fn ask_middling(q: Question, list: &[usize], bytes: &[u8], out: &mut [u8]) -> u32
+fn ask_middling(q: Asked, list: &[usize], bytes: &[u8], out: &mut [u8]) -> u32
     requires { ⌜ (imageSized (now bytes) ≡ true) × (length (now list) ≤ 2049) × (middlingImage (now bytes) ≡ true) ⌝ }
-    ensures { λ r. ⌜ Replied (questionReply q (now (bytes .entry)) (now (list .entry))) (length (now (out .entry))) r (now (out .exit)) ⌝ }
+    ensures { λ r. ⌜ Replied (questionReply (questionOf q) (now (bytes .entry)) (now (list .entry))) (length (now (out .entry))) r
+        (now (out .exit)) ⌝ }
 {
     let mut points = [0.0f32; small::MIDDLING_PARTICLES * mesh::POINT_COLUMNS];
     let mut roots = [0usize; 2 * small::MIDDLING_PARTICLES];
@@ -347,9 +330,10 @@ fn ask_middling(q: Question, list: &[usize], bytes: &[u8], out: &mut [u8]) -> u3
 }
 
 // A question to any other image, in blocks for the most that a mesh may have.
-fn ask_large(q: Question, list: &[usize], bytes: &[u8], out: &mut [u8]) -> u32
+fn ask_large(q: Asked, list: &[usize], bytes: &[u8], out: &mut [u8]) -> u32
     requires { ⌜ (imageSized (now bytes) ≡ true) × (length (now list) ≤ 2049) ⌝ }
-    ensures { λ r. ⌜ Replied (questionReply q (now (bytes .entry)) (now (list .entry))) (length (now (out .entry))) r (now (out .exit)) ⌝ }
+    ensures { λ r. ⌜ Replied (questionReply (questionOf q) (now (bytes .entry)) (now (list .entry))) (length (now (out .entry))) r
+        (now (out .exit)) ⌝ }
 {
     let mut points = [0.0f32; 1024 * mesh::POINT_COLUMNS];
     let mut roots = [0usize; 2048];
@@ -374,9 +358,10 @@ fn ask_large(q: Question, list: &[usize], bytes: &[u8], out: &mut [u8]) -> u32
 }
 
 // A question to an image that is not small.
-fn ask_larger(q: Question, list: &[usize], bytes: &[u8], out: &mut [u8]) -> u32
+fn ask_larger(q: Asked, list: &[usize], bytes: &[u8], out: &mut [u8]) -> u32
     requires { ⌜ (imageSized (now bytes) ≡ true) × (length (now list) ≤ 2049) ⌝ }
-    ensures { λ r. ⌜ Replied (questionReply q (now (bytes .entry)) (now (list .entry))) (length (now (out .entry))) r (now (out .exit)) ⌝ }
+    ensures { λ r. ⌜ Replied (questionReply (questionOf q) (now (bytes .entry)) (now (list .entry))) (length (now (out .entry))) r
+        (now (out .exit)) ⌝ }
 {
     if small::is_middling(bytes) {
         return ask_middling(q, list, bytes, out);
@@ -385,14 +370,42 @@ fn ask_larger(q: Question, list: &[usize], bytes: &[u8], out: &mut [u8]) -> u32
 }
 
 // A question to an image that has the sizes of a mesh.
-fn ask_loaded(q: Question, list: &[usize], bytes: &[u8], out: &mut [u8]) -> u32
+fn ask_loaded(q: Asked, list: &[usize], bytes: &[u8], out: &mut [u8]) -> u32
     requires { ⌜ (imageSized (now bytes) ≡ true) × (length (now list) ≤ 2049) ⌝ }
-    ensures { λ r. ⌜ Replied (questionReply q (now (bytes .entry)) (now (list .entry))) (length (now (out .entry))) r (now (out .exit)) ⌝ }
+    ensures { λ r. ⌜ Replied (questionReply (questionOf q) (now (bytes .entry)) (now (list .entry))) (length (now (out .entry))) r
+        (now (out .exit)) ⌝ }
 {
     if small::is_small(bytes) {
         return ask_small(q, list, bytes, out);
     }
     ask_larger(q, list, bytes, out)
+}
+
+// A question to an image that has the sizes of a mesh: its elements answer, or its blocks.
+fn ask_sized(q: Question, list: &[usize], bytes: &[u8], out: &mut [u8]) -> u32
+    requires { ⌜ (imageSized (now bytes) ≡ true) × (length (now list) ≤ 2049) ⌝ }
+    ensures { λ r. ⌜ Replied (questionReply q (now (bytes .entry)) (now (list .entry))) (length (now (out .entry))) r (now (out .exit)) ⌝ }
+{
+    match q {
+        Question::Pieces => {
+            return reply::reply_count(tabled::pieces(bytes), out);
+        }
+        Question::Measure => {
+            return reply::reply_number(tabled::measure(bytes), out);
+        }
+        Question::MeasureOf => {
+            return reply::reply_number(tabled::measure_of(bytes, list), out);
+        }
+        Question::Opens(v, minimum) => {
+            return ask_loaded(Asked::Opens(v, minimum), list, bytes, out);
+        }
+        Question::Groups(v) => {
+            return ask_loaded(Asked::Groups(v), list, bytes, out);
+        }
+        Question::Unread => {
+            return ask_loaded(Asked::Unread, list, bytes, out);
+        }
+    }
 }
 
 // A question to an image, beside a list that is no longer than a reply has places for. What is no image of a mesh is refused.
@@ -401,7 +414,7 @@ pub fn image_asked(q: Question, list: &[usize], bytes: &[u8], out: &mut [u8]) ->
     ensures { λ r. ⌜ Replied (questionReply q (now (bytes .entry)) (now (list .entry))) (length (now (out .entry))) r (now (out .exit)) ⌝ }
 {
     if image::image_sized(bytes) {
-        return ask_loaded(q, list, bytes, out);
+        return ask_sized(q, list, bytes, out);
     }
     replies::reply_refused(1, out)
 }

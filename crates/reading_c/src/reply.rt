@@ -19,7 +19,7 @@ pub fn reply_number(a: Number, out: &mut [u8]) -> u32
             return replies::reply_refused(code, out);
         }
         Number::Value(x) => {
-            return replies::reply_one(image::bits_of(x), out);
+            return replies::reply_one(image_writing::bits_of(x), out);
         }
     }
 }
@@ -87,7 +87,11 @@ pub fn reply_tested(a: Tested, out: &mut [u8]) -> u32
                 return replies::reply_words(0, &none, out);
             }
             Hit::Hit(t, p) => {
-                let found = [image::bits_of(t), image::bits_of(p.x), image::bits_of(p.y)];
+                let found = [
+                    image_writing::bits_of(t),
+                    image_writing::bits_of(p.x),
+                    image_writing::bits_of(p.y),
+                ];
                 return replies::reply_words(1, &found, out);
             }
         },

@@ -27,15 +27,16 @@ use Rattle.judge.specs.Checks.{faultOf}
 use Rattle.elements.proofs.Found.{fan-of}
 use Rattle.reach.specs.Opens.{Opens}
 use Rattle.reach.proofs.Opening.{lent-by, opens-opening}
-use Rattle.arguments.specs.Accepted.{FanFound}
-use Rattle.arguments.specs.Fans.{FanOf}
-use Rattle.arguments.proofs.Accepted.{Few}
-use Rattle.arguments.proofs.FanRead.{found-fan}
+use Rattle.mesh_tables.specs.Accepted.{FanFound}
+use Rattle.mesh_tables.specs.Fans.{FanOf}
+use Rattle.mesh_tables.proofs.Accepted.{Few}
+use Rattle.mesh_tables.proofs.FanRead.{found-fan}
 use Rattle.readings.specs.Fans.{FanAsked, GroupsFilled, WalkAsked, WalksIn, Roomy}
 use Rattle.readings.specs.Answers.{truthOf, placedIn, groupCount, groupsShown, GroupsAnswered}
 use Rattle.readings.specs.declared.Count.the-variants.{Refused as CountRefused, Counted}
 use Rattle.readings.specs.declared.Truth.the-variants.{Refused as TruthRefused, Holds}
-use Rattle.arguments.proofs.Judged.{decided, sides-ok}
+use Rattle.arguments.proofs.Judged.{decided}
+use Rattle.mesh_tables.proofs.Checked.{sides-ok}
 use Rattle.readings.proofs.Refusing.{refuse-by, value-by}
 
 -- ---- a fan that was read

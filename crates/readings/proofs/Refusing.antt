@@ -21,9 +21,10 @@ use Rattle.mesh.specs.Widths.{pointColumns}
 use Rattle.judge.specs.Checks.{thenCheck, faultOf}
 use Rattle.judge.proofs.Joined.{then-zero}
 use Rattle.judge.proofs.Refusals.{fault-refuses}
-use Rattle.arguments.specs.Accepted.{Accepted}
-use Rattle.arguments.proofs.Accepted.{particles-count}
-use Rattle.arguments.proofs.Judged.{arguments-refuse, accepted}
+use Rattle.mesh_tables.specs.Accepted.{Accepted}
+use Rattle.mesh_tables.proofs.Accepted.{particles-count}
+use Rattle.arguments.proofs.Judged.{arguments-refuse}
+use Rattle.mesh_tables.proofs.Checked.{accepted}
 use Rattle.readings.specs.Answers.{numberOf, countOf, testedOf}
 use Rattle.readings.specs.declared.Number.the-variants.{Refused as NumberRefused, Value}
 use Rattle.readings.specs.declared.Count.the-variants.{Refused as CountRefused, Counted}

@@ -13,9 +13,9 @@ ghost use Rattle.readings.specs.Answers.{GroupsAnswered, truthOf};
 ghost use Rattle.mesh.specs.Blocks.{givenIn, givenBefore};
 use crate::Count;
 use crate::Truth;
-use arguments::fans;
-use arguments::tables;
 use arguments::tests;
+use mesh_tables::fans;
+use mesh_tables::tables;
 
 // The most sides at a particle whose groups are made by a small table of corners.
 const FEW_SIDES: usize = 16;
@@ -37,7 +37,7 @@ fn fill_groups(
         (now (groups .exit)) r ⌝ }
 {
     let s = sides.len();
-    let n = fan::groups_of(verts, k, v, others, sides, &mut groups[..s]);
+    let n = fan_groups::groups_of(verts, k, v, others, sides, &mut groups[..s]);
     columns::clear_usize(s, groups);
     n
 }
@@ -155,7 +155,7 @@ fn fan_opens(
         (fan (now («fan_verts» .entry)) k v others (now (sides .entry)))) minimum r ⌝ }
 {
     let s = sides.len();
-    let count = fan::groups_of(fan_verts, k, v, others, sides, &mut groups[..s]);
+    let count = fan_groups::groups_of(fan_verts, k, v, others, sides, &mut groups[..s]);
     reach::opens_without_confetti(n, k, v, verts, &groups[..s], count, minimum, seen, queue)
 }
 

@@ -8,7 +8,7 @@ ghost use Rattle.model.specs.Pieces.{pieces as piecesOf};
 ghost use Rattle.model.specs.Calls.{particlesOk};
 ghost use Rattle.model.specs.Reads.{rootCall, bladeCall, piecesCall, restMeasureCall, restMeasureOfCall};
 ghost use Rattle.mesh.specs.Given.{meshOf, sizesFit};
-ghost use Rattle.arguments.specs.Accepted.{Accepted};
+ghost use Rattle.mesh_tables.specs.Accepted.{Accepted};
 ghost use Rattle.readings.specs.Answers.{numberOf, countOf, testedOf};
 ghost use Rattle.mesh.specs.Blocks.{givenIn, givenBefore};
 use crate::Count;
@@ -60,7 +60,7 @@ fn count_pieces(
     let mut links = [0u16; 4096];
     let mut lows = [0u16; 4096];
     let mut parent = [0usize; 2048];
-    let s = arguments::corners::corners_of(
+    let s = mesh_tables::corners::corners_of(
         points,
         roots,
         corners,
@@ -120,7 +120,7 @@ pub fn rest_measure(
     if code != 0 {
         return Number::Refused(code);
     }
-    Number::Value(arguments::measures::whole_measure(
+    Number::Value(mesh_tables::measures::whole_measure(
         points,
         roots,
         corners,
@@ -150,7 +150,7 @@ fn listed_measure(
     let mut verts = [0usize; 4096];
     let mut measures = [0.0f32; 2048];
     let mut marks = [0usize; 1024];
-    let s = arguments::tables::table(
+    let s = mesh_tables::tables::table(
         points,
         roots,
         corners,

@@ -10,7 +10,7 @@ pub fn reply_refused(code: usize, out: &mut [u8]) -> u32
     requires { ⌜ code < 256 ⌝ }
     ensures { λ r. ⌜ Replied (refused code) (length (now (out .entry))) r (now (out .exit)) ⌝ }
 {
-    image::clear_bytes(out);
+    image_writing::clear_bytes(out);
     code as u32
 }
 
@@ -19,10 +19,10 @@ pub fn reply_one(w: usize, out: &mut [u8]) -> u32
     ensures { λ r. ⌜ Replied (value (w ∷ [])) (length (now (out .entry))) r (now (out .exit)) ⌝ }
 {
     if out.len() < 4 {
-        image::clear_bytes(out);
+        image_writing::clear_bytes(out);
         return 4;
     }
-    image::write_one(out, w);
+    image_writing::write_one(out, w);
     0
 }
 
@@ -33,9 +33,9 @@ pub fn reply_words(first: usize, table: &[usize], out: &mut [u8]) -> u32
 {
     let n = table.len();
     if out.len() < 4 * n + 4 {
-        image::clear_bytes(out);
+        image_writing::clear_bytes(out);
         return 4;
     }
-    image::words_out(out, first, table, n);
+    image_writing::words_out(out, first, table, n);
     0
 }

@@ -3,28 +3,26 @@ use mathlib.Core.Path.{_≡_, refl, sym, _∙_, ap, ap₂, subst}
 use mathlib.Core.Logic.{_⊎_, inl, inr}
 use mathlib.Core.Bool.{Bool, true, false, not, _&&_, false≢true}
 use mathlib.Core.List.{List, [], _∷_, _++_, map, map-append, append-nil, append-assoc}
-use Prim.Native.Nat.{ℕ, zero, suc, _+_, _*_, _/_, _-_, _<_, _≤_, zero-le, suc-le-suc}
+use Prim.Native.Nat.{ℕ, zero, suc, _+_, _/_, _-_, _<_, _≤_, zero-le, suc-le-suc}
 use native.Mathlib.Omega.{arith}
 use native.Mathlib.Numerals.{add-one}
-use borrow.Author.Tests.{eq-eqb, ne-eqb, le-leb, lt-leb, leb-false}
+use borrow.Author.Tests.{eq-eqb, le-leb, lt-leb, leb-false}
 use lib.Dec.{eqb, leb}
-use lib.ListN.{length, getD, take, drop, set, length-set, length-append, length-map, length-drop, List·getD-append, take-append-drop}
+use lib.ListN.{length, getD, take, drop, set, length-append, length-map, length-drop, List·getD-append, take-append-drop}
 use lib.Seq.{drop-cons, take-suc, set-at, getD-at, take-length, drop-length, set-getD, length-take-le}
-use lib.Ieee.{Float, nan, neg, lt}
+use lib.Ieee.{Float, neg, lt}
 use Rattle.lists.specs.Lists.{pick, stands, each, tab, fold, headOr, rest, orElse, sift, upTo}
-use Rattle.lists.specs.Labels.{replaced}
 use Rattle.lists.proofs.Stores.{tab-length, tab-at}
 use Rattle.lists.proofs.Sifts.{pick-by, and-true, each-append, sift-stands, rising-stands, upTo-below}
 use Rattle.lists.proofs.Rows.{rows-store}
 use Rattle.float.specs.Numbers.{largest}
 use Rattle.blade.specs.declared.Point.{Point}
 use Rattle.blade.specs.Points.{sumOf, minusOf}
-use Rattle.columns.specs.Block.{cell}
-use Rattle.columns.proofs.Cells.{store-same, store-row, store-col, col-0, col-1}
+use Rattle.columns.proofs.Cells.{col-0, col-1}
 use Rattle.model.specs.Mesh.{Edge, Mesh, blankEdge}
 use Rattle.model.specs.Elements.{Kind, element?, endsOf, farEnd, besides, restOf}
 use Rattle.model.specs.Split.{Part, Opening, Best, better, scoreOf, scored, toward, ring, edgeGroups, copyFor, moved, calm, stayed, doubled, otherEdges}
-use Rattle.mesh.specs.At.{edgeRow, edgesAt}
+use Rattle.mesh.specs.At.{edgesAt}
 use Rattle.split_plan.specs.Opened.{partAt, Ringed, ringFrom, OpeningIn}
 use Rattle.split_plan.specs.Answers.{NextGroup, CopyIs}
 use Rattle.split_plan.proofs.Rings.{ring-next, ring-first}
@@ -32,127 +30,13 @@ use Rattle.split_plan.proofs.Weights.{fan-tab}
 use Rattle.rewire.specs.Stages.{EdgesGrown}
 use Rattle.work.specs.Rows.{GrownTo, Between}
 use Rattle.mesh.specs.Workers.{rowAt}
-use Rattle.rewire.specs.Edges.{EndsMoved, SameRows, CopiesGrown, EdgeSettled, NextNamed}
+use Rattle.copies.specs.Ends.{EndsMoved}
+use Rattle.rewire.specs.Edges.{SameRows, CopiesGrown, EdgeSettled, NextNamed}
 use Rattle.work.specs.declared.Grown.{Grown}
 use Rattle.work.specs.declared.Grown.the-variants.{Lacking, Rows}
-use Rattle.work.proofs.Grows.{grown-all}
-use Rattle.lists.proofs.Truths.{pick-self}
-
--- ---- tests of one edge
-
-module _ {t : Bool} (v a b : ℕ) where
-  -- an element is no other edge
-  pub other-element : t ≡ true → false ≡ not t && stands v (a ∷ b ∷ [])
-  other-element e = rw e
-
-  -- one that is none, by its first end, and by its second
-  pub other-first : t ≡ false → a ≡ v → true ≡ not t && stands v (a ∷ b ∷ [])
-  other-first e q = rw (e, eq-eqb a v q)
-
-  pub other-second : t ≡ false → (a ≡ v → ⊥) → eqb b v ≡ not t && stands v (a ∷ b ∷ [])
-  other-second e q = rw (e, ne-eqb a v q) (pick-self (eqb b v))
+use Rattle.work.proofs.Grows.{grown-all, edges-many, edges-get}
 
 -- ---- rows of the edges
-
--- a row as a program reads it
-pub row-read : (A : List ℕ) (B : List Float) (i : ℕ)
-    → _≡_ {A = Edge}
-    (record {
-      a = getD A i 0;
-      b = getD A (length A / 4 + i) 0;
-      structural = getD A (2 * (length A / 4) + i) 0;
-      torn = getD A (3 * (length A / 4) + i) 0;
-      rest = getD B i nan;
-      initial = getD B (length B / 4 + i) nan;
-      impulse = getD B (2 * (length B / 4) + i) nan;
-      stress = getD B (3 * (length B / 4) + i) nan;
-    })
-    (rowAt A B i)
-unfolding cell
-row-read A B i =
-    λ h.
-    record {
-      a = sym (col-0 0 (length A / 4) A i) h;
-      b = sym (col-1 0 (length A / 4) A i) h;
-      structural = getD A (2 * (length A / 4) + i) 0;
-      torn = getD A (3 * (length A / 4) + i) 0;
-      rest = sym (col-0 nan (length B / 4) B i) h;
-      initial = sym (col-1 nan (length B / 4) B i) h;
-      impulse = getD B (2 * (length B / 4) + i) nan;
-      stress = getD B (3 * (length B / 4) + i) nan;
-    }
-
--- two stores put w for v in the ends of edge i
-module _ (i v w : ℕ) (s : List ℕ) (a b : ℕ) (h : i < length s / 4) (ea : a ≡ replaced v w (getD s i 0)) (eb : b ≡ replaced v w (getD s (length s / 4 + i) 0)) where
-  s₁ : List ℕ
-  s₁ = set s (0 * (length s / 4) + i) a
-
-  s₂ : List ℕ
-  unfolding s₁
-  s₂ = set s₁ (1 * (length s / 4) + i) b
-
-  long : length s₂ ≡ length s
-  unfolding s₁ s₂
-  long = simp length-set
-
-  at-0 : cell 0 (length s / 4) s₂ 0 i ≡ replaced v w (cell 0 (length s / 4) s 0 i)
-  unfolding s₁ s₂
-  at-0 =
-      store-col 0 (length s / 4) s₁ 1 i b 0 i h h (λ q. omega arith) ∙ store-same 0 (length s / 4) s 0 i a (omega arith) ∙ ea
-      ∙ ap (replaced v w) (sym (col-0 0 (length s / 4) s i))
-
-  at-1 : cell 0 (length s / 4) s₂ 1 i ≡ replaced v w (cell 0 (length s / 4) s 1 i)
-  unfolding s₁ s₂
-  at-1 = store-same 0 (length s / 4) s₁ 1 i b (simp length-set (omega arith)) ∙ eb ∙ ap (replaced v w) (sym (col-1 0 (length s / 4) s i))
-
-  beside : (c : ℕ) → 2 ≤ c → cell 0 (length s / 4) s₂ c i ≡ cell 0 (length s / 4) s c i
-  unfolding s₁ s₂
-  beside c l = store-col 0 (length s / 4) s₁ 1 i b c i h h (λ q. omega arith) ∙ store-col 0 (length s / 4) s 0 i a c i h h (λ q. omega arith)
-
-  other-row : (c j : ℕ) → j < length s / 4 → (j ≡ i → ⊥) → cell 0 (length s / 4) s₂ c j ≡ cell 0 (length s / 4) s c j
-  unfolding s₁ s₂
-  other-row c j l n = store-row 0 (length s / 4) s₁ 1 i b c j l h n ∙ store-row 0 (length s / 4) s 0 i a c j l h n
-
-  moved-cols : EndsMoved i v w s s₂
-  moved-cols =
-      record {
-        here =
-            λ B.
-            ap (λ (m : ℕ). edgeRow (m / 4) (length B / 4) s₂ B i) long
-            ∙ (λ z.
-            record {
-              a = at-0 z;
-              b = at-1 z;
-              structural = beside 2 (omega arith) z;
-              torn = beside 3 (omega arith) z;
-              rest = cell nan (length B / 4) B 0 i;
-              initial = cell nan (length B / 4) B 1 i;
-              impulse = cell nan (length B / 4) B 2 i;
-              stress = cell nan (length B / 4) B 3 i;
-            });
-        others =
-            λ B j l n.
-            ap (λ (m : ℕ). edgeRow (m / 4) (length B / 4) s₂ B j) long
-            ∙ (λ z.
-            record {
-              a = other-row 0 j l n z;
-              b = other-row 1 j l n z;
-              structural = other-row 2 j l n z;
-              torn = other-row 3 j l n z;
-              rest = cell nan (length B / 4) B 0 j;
-              initial = cell nan (length B / 4) B 1 j;
-              impulse = cell nan (length B / 4) B 2 j;
-              stress = cell nan (length B / 4) B 3 j;
-            });
-      }
-
-  -- as the program writes the places
-  pub ends-moved : EndsMoved i v w s (set (set s i a) (length s / 4 + i) b)
-  unfolding s₁ s₂
-  ends-moved =
-      let e₀ : 0 * (length s / 4) + i ≡ i = omega arith in
-      let e₁ : 1 * (length s / 4) + i ≡ length s / 4 + i = omega arith in
-      subst (λ (j : ℕ). EndsMoved i v w s (set (set s i a) j b)) e₁ (subst (λ (j : ℕ). EndsMoved i v w s (set (set s j a) (1 * (length s / 4) + i) b)) e₀ moved-cols)
 
 module _ (n : ℕ) (A A′ : List ℕ) (B B′ : List Float) where
   -- one row that changed
@@ -168,15 +52,6 @@ module _ (n : ℕ) (A A′ : List ℕ) (B B′ : List Float) where
       ∙ ap (λ (s : List Edge). getD s j blankEdge) e
       ∙ List·getD-append (tab n (rowAt A B)) (x ∷ []) blankEdge j (omega (arith, tab-length n (rowAt A B)))
       ∙ tab-at n (rowAt A B) j blankEdge l
-
--- how many edges, and which at a place
-pub edges-many : (n : ℕ) (A : List ℕ) (B : List Float) → length (edgesAt n A B) ≡ n
-unfolding edgesAt
-edges-many n A B = tab-length n (rowAt A B)
-
-pub edges-get : (n : ℕ) (A : List ℕ) (B : List Float) (j : ℕ) → j < n → getD (edgesAt n A B) j blankEdge ≡ rowAt A B j
-unfolding edgesAt
-edges-get n A B j l = tab-at n (rowAt A B) j blankEdge l
 
 -- ---- a walk along a ring
 

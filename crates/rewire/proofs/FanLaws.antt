@@ -26,7 +26,7 @@ use Rattle.mesh.proofs.Lists.{turned, unturned}
 use Rattle.mesh.proofs.Fan.{rewired-as, replaced-self, group-at}
 use Rattle.split_plan.specs.Opened.{blankPart}
 use Rattle.rewire.specs.Stages.{PartsBy, TrianglesRewired, StrapsRewired}
-use Rattle.rewire.specs.Particles.{PartsRoom, EndsMapped}
+use Rattle.rewire.specs.Parts.{PartsRoom, EndsMapped}
 
 -- ---- the tables and the parts of an opening
 

@@ -25,19 +25,22 @@ use Rattle.model.specs.Split.{moved, calm, onlyAt, copyFor}
 use Rattle.mesh.specs.At.{edgesAt}
 use Rattle.mesh.specs.Workers.{rowAt, groupOf}
 use Rattle.mesh.proofs.Fan.{replaced-self}
-use Rattle.links.specs.Links.{holds, cellsOf, LinksOf, cornerMoved}
-use Rattle.links.specs.Rooms.{CellsListed, ListRoom, RowRead, ColumnOf, MoveRoom, AppendRoom}
+use Rattle.links.specs.Links.{holds, cellsOf, LinksOf}
+use Rattle.link_changes.specs.Changes.{cornerMoved, MoveRoom, AppendRoom}
+use Rattle.links.specs.Rooms.{CellsListed, ListRoom, RowRead, ColumnOf}
 use Rattle.links.specs.Linked.{EdgesLinked}
-use Rattle.links.proofs.Chained.{moved-here, moved-row, moved-column}
-use Rattle.links.proofs.Edged.{edges-append-room, edges-appended, edges-move-room, edges-moved}
+use Rattle.link_changes.proofs.Chained.{moved-here, moved-row, moved-column}
+use Rattle.link_changes.proofs.Edged.{edges-append-room, edges-appended, edges-move-room, edges-moved}
 use Rattle.links.proofs.Gaps.{Gap, Stop, gap-first, gap-stop}
 use Rattle.split_plan.specs.Answers.{CopyIs}
 use Rattle.work.specs.declared.Grown.{Grown}
+use Rattle.work.proofs.Grows.{edges-many, edges-get}
 use Rattle.work.specs.declared.Grown.the-variants.{Rows}
-use Rattle.rewire.specs.Edges.{EndsMoved, SettleRoom, EdgeSettled, EdgesRoom, NextNamed, TableRoom, LinkedGrown, EndRoom, StrapsRoom, EndsBelow, PushRoom}
-use Rattle.rewire.specs.Particles.{EndsMapped}
+use Rattle.copies.specs.Ends.{EndsMoved}
+use Rattle.rewire.specs.Edges.{SettleRoom, EdgeSettled, EdgesRoom, NextNamed, TableRoom, LinkedGrown, EndRoom, StrapsRoom, EndsBelow, PushRoom}
+use Rattle.rewire.specs.Parts.{EndsMapped}
 use Rattle.rewire.proofs.FanLaws.{moved-self, group-fresh, Moving, moving-more}
-use Rattle.rewire.proofs.EdgeLaws.{not-first, pushed-same, edges-many, edges-get, Passing, passing-start, passing-step, passing-next, ends-ahead}
+use Rattle.rewire.proofs.EdgeLaws.{not-first, pushed-same, Passing, passing-start, passing-step, passing-next, ends-ahead}
 
 -- ---- a row of the block, and its two cells
 

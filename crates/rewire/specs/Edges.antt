@@ -1,17 +1,16 @@
--- What the workers on other edges and straddlers ask and give: helper records that only proofs and contracts between workers need. Definitions only.
-use Prim.Native.Nat.{ℕ, _+_, _*_, _-_, _/_, _<_, _≤_}
+-- What the workers on other edges ask and give: helper records that only proofs and contracts between workers need. Definitions only.
+use Prim.Native.Nat.{ℕ, _+_, _-_, _/_, _<_, _≤_}
 use mathlib.Core.Path.{_≡_}
-use mathlib.Core.Bool.{Bool, true, false, not, _&&_}
+use mathlib.Core.Bool.{true, false}
 use mathlib.Core.List.{List, [], _∷_, map, _++_}
 use lib.ListN.{length, getD, set}
 use lib.Ieee.{Float}
 use Rattle.model.specs.Mesh.{Edge, Mesh}
-use lib.Dec.{eqb}
-use Rattle.lists.specs.Lists.{pick, stands, upTo, sift, keep}
+use Rattle.lists.specs.Lists.{stands}
 use Rattle.columns.specs.Block.{cell}
-use Rattle.model.specs.Elements.{Kind, element?, held, cornersPer}
-use Rattle.model.specs.Split.{Opening, copyFor, moved, calm, stayed, doubled, straddles}
-use Rattle.mesh.specs.At.{edgesAt, trianglesAt}
+use Rattle.model.specs.Elements.{Kind, element?}
+use Rattle.model.specs.Split.{Opening, copyFor, moved, calm, stayed, doubled}
+use Rattle.mesh.specs.At.{edgesAt}
 use Rattle.mesh.specs.Workers.{EdgeRoom, rowAt}
 use Rattle.mesh.specs.Widths.{pointColumns}
 use Rattle.split_plan.specs.Opened.{Ringed, RingRoom, CornersBelow, ringFrom, OpeningIn}
@@ -19,20 +18,11 @@ use Rattle.work.specs.Rows.{GrownTo, Between}
 use Rattle.work.specs.Places.{EndsIn}
 use Rattle.work.specs.declared.Grown.{Grown}
 use Rattle.work.specs.declared.Grown.the-variants.{Lacking, Rows}
-use Rattle.links.specs.Links.{holds, LinksOf}
-use Rattle.rewire.specs.Particles.{PartsRoom}
-use Rattle.links.specs.Linked.{Linked, EdgesLinked}
+use Rattle.links.specs.Links.{holds}
+use Rattle.rewire.specs.Parts.{PartsRoom}
+use Rattle.links.specs.Linked.{EdgesLinked}
 
 -- ---- other edges
-
--- r tells whether an edge with this flag is an element, whatever else it has
-pub record ElementIs (K : Kind) (structural : ℕ) (r : Bool) : Type 0 where
-  pub is : (e : Edge) → e .structural ≡ structural → r ≡ element? K e
-
--- edge i has w for v, and no other row changed
-pub record EndsMoved (i v w : ℕ) (ends ends′ : List ℕ) : Type 0 where
-  pub here : (lengths : List Float) → rowAt ends′ lengths i ≡ moved v w (rowAt ends lengths i)
-  pub others : (lengths : List Float) (j : ℕ) → j < length ends / 4 → (j ≡ i → ⊥) → rowAt ends′ lengths j ≡ rowAt ends lengths j
 
 -- rows below m are as they were
 abbrev pub SameRows : ℕ → List ℕ → List ℕ → List Float → List Float → Type 0
@@ -127,83 +117,3 @@ pub record PushRoom (n : ℕ) (e : Edge) (ends : List ℕ) (ll : ℕ) (table : L
   pub few : n + 1 ≤ 2048
   pub columns : EdgeRoom (n + 1) (length ends) ll
   pub row : EndsBelow 1024 e
-
--- ---- straddlers
-
--- v and its copies: `copies` of an opening at v, with so many particles before it, of so many groups
-abbrev pub copiesBy : ℕ → ℕ → ℕ → List ℕ
-copiesBy v before count = v ∷ map (λ g. before + g) (upTo (count - 1))
-
--- both x and y stand in the list
-abbrev pub bothIn : ℕ → ℕ → List ℕ → Bool
-bothIn x y l = stands x l && stands y l
-
--- triangle i of a block holds both x and y
-abbrev pub triangleHolds : ℕ → ℕ → List ℕ → ℕ → Bool
-triangleHolds x y corners i = bothIn x y (cell 0 (length corners / 3) corners 0 i ∷ cell 0 (length corners / 3) corners 1 i ∷ cell 0 (length corners / 3) corners 2 i ∷ [])
-
--- edge i of a block is structural and holds both
-abbrev pub strapHolds : ℕ → ℕ → List ℕ → ℕ → Bool
-strapHolds x y ends i = eqb (cell 0 (length ends / 4) ends 2 i) 1 && bothIn x y (cell 0 (length ends / 4) ends 0 i ∷ cell 0 (length ends / 4) ends 1 i ∷ [])
-
--- the table of links is that of the first t triangles of the block, and x has a head in it
-pub record WalkRoom (x t : ℕ) (corners links : List ℕ) : Type 0 where
-  pub here : x < 1024
-  pub few : t ≤ 1024
-  pub rows : t ≤ length corners / 3
-  pub long : 4096 ≤ length links
-  pub linked : LinksOf 1024 3 1024 t (cell 0 (length corners / 3) corners) links
-
--- what a test of two particles asks: rows within the blocks, the table of links of at most 1,024 triangles, and a head in it for the first
-pub record HeldRoom (K : Kind) (x t e : ℕ) (corners : List ℕ) (le : ℕ) (links : List ℕ) : Type 0 where
-  pub here : x < 1024
-  pub few : t ≤ 1024
-  pub rows : t ≤ length corners / 3
-  pub ends : e ≤ le / 4
-  pub linked : Linked K t corners links
-
--- r tells whether an element of a mesh with the first t triangles and the first e edges of the blocks holds both x and y
-pub record HeldTold (K : Kind) (x y t e : ℕ) (corners ends : List ℕ) (r : Bool) : Type 0 where
-  pub is : (M : Mesh) (volumes lengths : List Float) → M .triangles ≡ trianglesAt t corners volumes → M .edges ≡ edgesAt e ends lengths → r ≡ held K M x y
-
--- an opening in tables, and a mesh with the first t triangles and the first e edges of the blocks
-pub record Straddling (K : Kind) (O : Opening) (M : Mesh) (v before n count t e : ℕ) (verts groups corners : List ℕ) (volumes : List Float) (ends : List ℕ) (lengths : List Float) : Type 0 where
-  pub at : O .v ≡ v
-  pub before-is : O .before ≡ before
-  pub count-is : O .count ≡ count
-  pub ringed : Ringed (cornersPer K) O n verts groups
-  pub triangles-are : M .triangles ≡ trianglesAt t corners volumes
-  pub edges-are : M .edges ≡ edgesAt e ends lengths
-
--- what a straddler test asks: tables that fit, at most 1,024 triangles, and rows within the blocks
-pub record StraddleRoom (K : Kind) (n t e lv lg lc le : ℕ) : Type 0 where
-  pub ring : RingRoom n (cornersPer K) lv lg
-  pub few : t ≤ 1024
-  pub corners : t ≤ lc / 3
-  pub ends : e ≤ le / 4
-
--- each of the first m corners of a fan that has a place in the table is marked there
-pub record NearMarked (m : ℕ) (verts near : List ℕ) : Type 0 where
-  pub marked : (j : ℕ) → j < m → getD verts j 0 < length near → getD near (getD verts j 0) 0 ≡ 1
-
--- what the test of an edge by a table of the near asks besides: the corners of the fan are marked, and the ends of the edges have places
-pub record NearRoom (K : Kind) (n e : ℕ) (verts ends near : List ℕ) : Type 0 where
-  pub corners-near : NearMarked (n * cornersPer K) verts near
-  pub ends-in : EndsIn 1024 e ends
-  pub places : 1024 ≤ length near
-
--- r tells whether edge i straddles
-pub record StraddleTold (K : Kind) (i v before n count t e : ℕ) (verts groups corners ends : List ℕ) (r : Bool) : Type 0 where
-  pub is :
-      (O : Opening) (M : Mesh) (volumes lengths : List Float) → Straddling K O M v before n count t e verts groups corners volumes ends lengths
-      → r ≡ straddles K M O (rowAt ends lengths i)
-
--- the mask marks the straddlers among the first e edges, and r of them are marked
-pub record StraddlersMarked (K : Kind) (v before n count t e : ℕ) (verts groups corners ends mask′ : List ℕ) (r : ℕ) : Type 0 where
-  pub marks :
-      (O : Opening) (M : Mesh) (volumes lengths : List Float) → Straddling K O M v before n count t e verts groups corners volumes ends lengths
-      → (i : ℕ) → i < e → getD mask′ i 0 ≡ pick (straddles K M O (rowAt ends lengths i)) 1 0
-  pub kept :
-      (O : Opening) (M : Mesh) (volumes lengths : List Float) → Straddling K O M v before n count t e verts groups corners volumes ends lengths
-      → keep mask′ (edgesAt e ends lengths) ≡ sift (λ (a : Edge). not (straddles K M O a)) (edgesAt e ends lengths)
-  pub counted : r ≡ length (sift (λ i. eqb (getD mask′ i 0) 1) (upTo e))

@@ -1,6 +1,4 @@
--- What each list of a mesh becomes in a split, as the workers promise it.
+-- What elements and other edges become in a split, as the workers promise it.
 pub mod Stages
-pub mod Particles
+pub mod Parts
 pub mod Edges
-pub mod Marks
-pub mod Drops

@@ -2,7 +2,7 @@
 ghost use Prim.Native.Nat.{_/_};
 ghost use lib.ListN.{length};
 ghost use Rattle.rewire.specs.Stages.{TrianglesRewired};
-ghost use Rattle.rewire.specs.Particles.{PartsRoom};
+ghost use Rattle.rewire.specs.Parts.{PartsRoom};
 
 // Puts the copies of the groups for v in the corners of the fan's triangles.
 pub fn rewire_triangles(

@@ -1,7 +1,3 @@
-// What each list of a mesh becomes in a split: particles copied, elements rewired, other edges, straddlers. (The boundary: crate boundary.)
-pub mod edges;
+// What elements and other edges become in a split, and the table of the edges with them. (Particles: crate copies; the boundary: crate boundary; straddlers: crates straddling and edge_drops.)
 pub mod fans;
-pub mod held;
 pub mod linked;
-pub mod particles;
-pub mod straddling;

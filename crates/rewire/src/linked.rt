@@ -1,16 +1,15 @@
-// The straps of a fan, the other edges at v, which the table of the edges at each particle finds, and marked edges that go: the table is kept true.
+// The straps of a fan, and the other edges at v, which the table of the edges at each particle finds: the table is kept true.
 ghost use mathlib.Core.Path.{_≡_};
 ghost use mathlib.Core.List.{[], _∷_, _++_};
-ghost use Prim.Native.Nat.{_+_, _-_, _<_, _≤_, _/_};
+ghost use Prim.Native.Nat.{_+_, _<_, _≤_, _/_};
 ghost use lib.ListN.{length};
 ghost use Rattle.elements.specs.Table.{kindIs};
 ghost use Rattle.mesh.specs.At.{edgesAt};
-ghost use Rattle.mesh.specs.Workers.{edgeOf, Removed};
+ghost use Rattle.mesh.specs.Workers.{edgeOf};
 ghost use Rattle.links.specs.Linked.{EdgesLinked};
 ghost use Rattle.rewire.specs.Stages.{StrapsRewired, EdgesGrown};
-ghost use Rattle.rewire.specs.Edges.{EndsMoved, CopyRoom, CopiesGrown, SettleRoom, EdgeSettled, EdgesRoom, TableRoom, LinkedGrown, EndRoom, StrapsRoom, EndsBelow, PushRoom};
-ghost use Rattle.work.specs.Removal.{MarkedRoom};
-ghost use Rattle.rewire.specs.Drops.{EndOfMarks, without, DropAsked};
+ghost use Rattle.copies.specs.Ends.{EndsMoved};
+ghost use Rattle.rewire.specs.Edges.{CopyRoom, CopiesGrown, SettleRoom, EdgeSettled, EdgesRoom, TableRoom, LinkedGrown, EndRoom, StrapsRoom, EndsBelow, PushRoom};
 use elements::Kind;
 use mesh::EdgeRow;
 use work::Grown;
@@ -25,8 +24,8 @@ fn move_end(i: usize, v: usize, w: usize, m: usize, ends: &mut [usize], table: &
     }
     let span = ends.len() / 4;
     let c = links::corner_at(v, i, 2, span, ends);
-    links::move_corner(i, c, w, m, 2, 1024, 2048, span, ends, table);
-    crate::edges::move_ends(i, v, w, ends);
+    link_changes::move_corner(i, c, w, m, 2, 1024, 2048, span, ends, table);
+    copies::edges::move_ends(i, v, w, ends);
 }
 
 // Puts the copies of the groups for v at the ends of the fan's straps, of the first e edges.
@@ -62,7 +61,7 @@ fn push_edge(n: usize, row: EdgeRow, ends: &mut [usize], lengths: &mut [f32], ta
 {
     mesh::rows::append_edge(n, row, ends, lengths);
     let span = ends.len() / 4;
-    links::append_cell(n, 2, 1024, 2048, span, ends, table);
+    link_changes::append_cell(n, 2, 1024, 2048, span, ends, table);
 }
 
 // Appends a copy of an edge for each group from `from` on that holds x.
@@ -96,7 +95,7 @@ fn append_copies(
             return Grown::Lacking;
         }
         let w = split_plan::copy_number(v, before, count, g);
-        let copy = crate::edges::copied(row, v, w);
+        let copy = copies::edges::copied(row, v, w);
         push_edge(rows, copy, ends, lengths, table);
         rows += 1;
         g = split_plan::next_group(x, g + 1, count, n, k, verts, groups);
@@ -129,11 +128,11 @@ fn settle_edge(
         (now (points .entry)) (now (ends .entry)) (now (ends .exit)) (now (lengths .entry)) (now (lengths .exit)) r
         × LinkedGrown r (now (ends .exit)) (now (table .exit)) ⌝ }
 {
-    let row = crate::edges::edge_at(i, ends, lengths);
-    if !crate::edges::is_other(kind, v, row) {
+    let row = copies::edges::edge_at(i, ends, lengths);
+    if !copies::edges::is_other(kind, v, row) {
         return Grown::Rows(m);
     }
-    let x = crate::edges::far_end(v, row);
+    let x = copies::edges::far_end(v, row);
     let first = split_plan::next_group(x, 0, count, n, k, verts, groups);
     if first < count {
         let w = split_plan::copy_number(v, before, count, first);
@@ -218,64 +217,4 @@ pub fn other_edges(
         q += 1;
     }
     Grown::Rows(rows)
-}
-
-// Removes edge i of the first m from the table and from the blocks: the rows behind it move up by one.
-fn drop_row(i: usize, m: usize, ends: &mut [usize], lengths: &mut [f32], table: &mut [u16])
-    requires { ⌜ DropAsked i m (now ends) (length (now lengths)) (now table) ⌝ }
-    ensures { λ _. ⌜ (edgesAt (m - 1) (now (ends .exit)) (now (lengths .exit))
-        ≡ without i (edgesAt m (now (ends .entry)) (now (lengths .entry))))
-        × EdgesLinked (m - 1) (now (ends .exit)) (now (table .exit)) ⌝ }
-{
-    let span = ends.len() / 4;
-    let places = lengths.len() / 4;
-    let behind = m - 1 - i;
-    links::drop_cell(i, m, 2, 1024, 2048, span, ends, table);
-    columns::shift_block_usize(i, i + 1, behind, 4, span, ends);
-    columns::shift_block_f32(i, i + 1, behind, 4, places, lengths);
-}
-
-// The place behind the last marked one before `to`; 0 where there is none.
-fn end_of_marks(mask: &[usize], to: usize) -> usize
-    requires { ⌜ to ≤ length (now mask) ⌝ }
-    ensures { λ r. ⌜ EndOfMarks (now (mask .entry)) to r ⌝ }
-{
-    let mut i = to;
-    while i > 0 {
-        if mask[i - 1] == 1 {
-            return i;
-        }
-        i -= 1;
-    }
-    i
-}
-
-// Removes the s marked edges from the first n, the last of them first, from the blocks and from the table; returns how many are left.
-// What stands before the first marked edge is not looked at. The last one goes apart from the others: called twice, `drop_row` stays a function, and the search is a plain loop.
-pub fn drop_marked(
-    mask: &[usize],
-    n: usize,
-    s: usize,
-    ends: &mut [usize],
-    lengths: &mut [f32],
-    table: &mut [u16],
-) -> usize
-    requires { ⌜ MarkedRoom (now mask) n s (length (now ends)) (length (now lengths)) × EdgesLinked n (now ends) (now table) ⌝ }
-    ensures { λ r. ⌜ Removed (now (mask .entry)) n r (edgesAt n (now (ends .entry)) (now (lengths .entry))) (edgesAt r (now (ends .exit))
-        (now (lengths .exit))) × EdgesLinked r (now (ends .exit)) (now (table .exit)) ⌝ }
-{
-    if s == 0 {
-        return n;
-    }
-    let mut i = end_of_marks(mask, n) - 1;
-    drop_row(i, n, ends, lengths, table);
-    let mut left = n - 1;
-    let mut more = s - 1;
-    while more > 0 {
-        i = end_of_marks(mask, i) - 1;
-        drop_row(i, left, ends, lengths, table);
-        left -= 1;
-        more -= 1;
-    }
-    left
 }

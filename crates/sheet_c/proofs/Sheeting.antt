@@ -34,9 +34,9 @@ use Rattle.edition.proofs.Entering.{outlined, seen-whole-tells}
 use Rattle.image.specs.Words as W
 use Rattle.image.specs.Words.{written, putWords}
 use Rattle.image.specs.Image.{imageWordsOf}
-use Rattle.image.specs.Stores.{blockWords, Standing, Storable}
-use Rattle.image.proofs.Puts.{put-written, bits-length}
-use Rattle.image.proofs.Rows.{rows-image, block-words-long}
+use Rattle.image_writing.specs.Stores.{blockWords, Standing, Storable}
+use Rattle.image_writing.proofs.Puts.{put-written, bits-length}
+use Rattle.image_writing.proofs.Rows.{rows-image, block-words-long}
 use Rattle.replies.specs.Reply.{Replied}
 use Rattle.replies.proofs.Saying.{says, says-short, replied-as}
 use Rattle.sheet_c.specs.Sheets.{sheetWords, sheetTold, sheetReply}

@@ -7,7 +7,7 @@ use lib.ListN.{length}
 use lib.Dec.{leb}
 use lib.Ieee.{Float}
 use Rattle.image.specs.Words.{wordAt, bitsIn}
-use Rattle.image.specs.Stores.{blockWords, Standing}
+use Rattle.image_writing.specs.Stores.{blockWords, Standing}
 use Rattle.sheet.specs.Read.{countsFor}
 use Rattle.sheet.specs.declared.Counts.{Counts}
 use Rattle.sheet_c.specs.Fields.{fieldWords}

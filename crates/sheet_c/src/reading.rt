@@ -61,9 +61,9 @@ fn reply_blocks(
     {
         return replies::reply_refused(4, out);
     }
-    image::write_one(out, first);
-    image::store_numbers(blade, 1, out);
-    image::store(
+    image_writing::write_one(out, first);
+    image_writing::store_numbers(blade, 1, out);
+    image_writing::store(
         k,
         points,
         roots,

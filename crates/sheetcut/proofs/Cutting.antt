@@ -23,9 +23,12 @@ use Rattle.listing.specs.declared.Written.{Written}
 use Rattle.sheet.specs.Sheet.{limits}
 use Rattle.listing.specs.Answers.{Told}
 use Rattle.sheetcut.specs.SheetCut.{rooms, fraction, cutOf, cutSeen, listed}
-use Rattle.sheetcut.specs.Work.{Ample, Cuttable, Listable, textOf, fronts, FrontsRead}
+use Rattle.answer_listing.specs.Listed.{Listable, textOf}
+use Rattle.sheet_fronts.specs.Fronts.{Ample, fronts, FrontsRead}
+use Rattle.sheetcut.specs.Work.{Cuttable}
 use Rattle.sheetcut.proofs.Answering.{places, cut-listable, cut-text}
-use Rattle.sheetcut.proofs.Reading.{seen-few, fronts-cut}
+use Rattle.sheet_fronts.proofs.Reading.{seen-few}
+use Rattle.sheetcut.proofs.Reading.{fronts-cut}
 
 -- ---- the cut of blocks
 

@@ -1,6 +1,4 @@
 -- The laws of the program from bytes to bytes.
-pub mod Lengths
-pub mod Counting
 pub mod Answering
 pub mod Reading
 pub mod Cutting

@@ -10,9 +10,9 @@ use Rattle.model.specs.Elements.{kindOf}
 use Rattle.model.specs.Run.{Entry, Rooms, Run, start, changed}
 use Rattle.model.specs.Cut.{Line, rounded, Blade, marksOf, cutAlong, cut}
 use Rattle.model.specs.Calls.{bladeOk, fractionOk, trianglesLent, refusal, firstFault, Outcome, refused, done, fitted, outcome, unless, cutCall}
-use Rattle.model.proofs.Whole.{edition-first}
-use Rattle.model.proofs.Kept.{unless-done, outcome-done}
-use Rattle.model.proofs.Marks.{marks-few, roomier, marks-fit, as-unmarked}
+use Rattle.model_laws.proofs.Whole.{edition-first}
+use Rattle.model_laws.proofs.Kept.{unless-done, outcome-done}
+use Rattle.model_laws.proofs.Marks.{marks-few, roomier, marks-fit, as-unmarked}
 use Rattle.mesh.specs.declared.Counts as M
 use Rattle.bits.specs.Bits.{bitsOf}
 use Rattle.sheet.specs.Sheet.{Sheet, limits}
@@ -21,7 +21,7 @@ use Rattle.sheet.specs.declared.Counts.{Counts}
 use Rattle.edition.specs.Edition.{sheetOf, seenOf}
 use Rattle.edition.specs.declared.Seen.the-variants.{Whole}
 use Rattle.sheetcut.specs.SheetCut.{rooms, fraction, bladeOf, cutOf}
-use Rattle.sheetcut.proofs.Reading.{seen-few, mesh-counts}
+use Rattle.sheet_fronts.proofs.Reading.{seen-few, mesh-counts}
 
 -- the rooms without places for marks
 abbrev pub unmarkedRooms : Rooms

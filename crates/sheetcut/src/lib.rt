@@ -1,19 +1,16 @@
 // The program of docs/RULES.md, R14, from bytes to bytes: a sheet is read, cut and listed.
 ghost use mathlib.Core.Path.{_≡_};
-ghost use mathlib.Core.List.{[]};
-ghost use lib.ListN.{length, getD};
-ghost use lib.Ieee.{nan};
+ghost use lib.ListN.{length};
 ghost use Rattle.model.specs.Calls.{cutCall};
 ghost use Rattle.mesh.specs.Given.{meshOf, sizesFit};
 ghost use Rattle.bits.specs.Bits.{bitsOf};
 ghost use Rattle.edition.specs.Edition.{sheetOf, seenOf};
 ghost use Rattle.edition.specs.declared.Seen.the-variants.{Whole};
 ghost use Rattle.listing.specs.Listing.{printed};
-ghost use Rattle.mesh.specs.At.{trianglesAt, edgesAt};
 ghost use Rattle.sheet.specs.Sheet.{limits as most};
 ghost use Rattle.listing.specs.Answers.{Told};
 ghost use Rattle.sheetcut.specs.SheetCut.{fraction as tenth, rooms, cutOf, listed};
-ghost use Rattle.sheetcut.specs.Work.{piecesIn, Countable, Listable, textOf, Roomy, Cuttable, fronts, FrontsRead, frontsBefore, lineBefore};
+ghost use Rattle.sheetcut.specs.Work.{Cuttable, frontsBefore, lineBefore};
 ghost use Rattle.mesh.specs.Blocks.{givenBefore, blocksIn};
 use blade::Point;
 use call_frame::Answer;
@@ -22,128 +19,11 @@ use listing::Written;
 use mesh::Counts;
 use sheet::Counts as SheetCounts;
 
-// The most that a sheet may have.
-const LIMITS: SheetCounts = SheetCounts {
-    particles: 128,
-    triangles: 128,
-    edges: 256,
-    boundary: 256,
-};
-
 // The insertion fraction.
 fn fraction() -> f32
     ensures { λ r. ⌜ r ≡ tenth ⌝ }
 {
     0.1
-}
-
-// How many pieces the triangles and edges at the fronts of blocks make.
-fn count_pieces(
-    k: Counts,
-    corners: &[usize],
-    volumes: &[f32],
-    ends: &[usize],
-    lengths: &[f32],
-) -> usize
-    requires { ⌜ Countable k (now corners) (now volumes) (now ends) (now lengths) ⌝ }
-    ensures { λ r. ⌜ r ≡ piecesIn (trianglesAt (k .triangles) (now (corners .entry)) (now (volumes .entry))) (edgesAt (k .edges)
-        (now (ends .entry)) (now (lengths .entry))) ⌝ }
-{
-    let mut numbers = [0usize; 512];
-    let mut verts = [0usize; 1024];
-    let mut measures = [0.0f32; 512];
-    let mut heads = [0u16; 4096];
-    let mut links = [0u16; 1024];
-    let mut lows = [0u16; 1024];
-    let mut parent = [0usize; 512];
-    let t = k.triangles;
-    let e = k.edges;
-    let kind = elements::kind_of(t, e, ends);
-    let n = elements::element_table(
-        kind,
-        t,
-        e,
-        corners,
-        volumes,
-        ends,
-        lengths,
-        &mut numbers,
-        &mut verts,
-        &mut measures,
-    );
-    let per = elements::corners_per(kind);
-    pieces::sides::count_sides(
-        n,
-        per,
-        &verts,
-        &mut heads,
-        &mut links,
-        &mut lows,
-        &mut parent[..n],
-    )
-}
-
-// Writes the listing of an answer that goes with the blocks, with the line of a replaced outline or without, or the line of its refusal.
-fn list_answer(
-    replaced: bool,
-    a: Answer,
-    corners: &[usize],
-    volumes: &[f32],
-    ends: &[usize],
-    lengths: &[f32],
-    log: &[u32],
-    out: &mut [u8],
-) -> Written
-    requires { ⌜ Listable a (now corners) (now volumes) (now ends) (now lengths) (length (now log)) ⌝ }
-    ensures { λ r. ⌜ Told (textOf replaced a (now (corners .entry)) (now (volumes .entry)) (now (ends .entry)) (now (lengths .entry))
-        (now (log .entry))) (length (now (out .entry))) (now (out .exit)) r ⌝ }
-{
-    match a {
-        Answer::Refused(n) => listing::write_refused(n, out),
-        Answer::Done(k, changed) => {
-            let found = count_pieces(k, corners, volumes, ends, lengths);
-            listing::write_listing(replaced, k.log, log, k.particles, found, out)
-        }
-    }
-}
-
-// Reads a whole sheet with counts c to the fronts of blocks, exactly as long as its lists need, and its blade.
-fn read_fronts(
-    sheet: &[u8],
-    c: SheetCounts,
-    points: &mut [f32],
-    roots: &mut [usize],
-    corners: &mut [usize],
-    volumes: &mut [f32],
-    ends: &mut [usize],
-    lengths: &mut [f32],
-    outline: &mut [usize],
-    blade: &mut [f32],
-)
-    requires { ⌜ Roomy (now sheet) c (blocksIn points roots corners volumes ends lengths outline) (length (now blade)) ⌝ }
-    ensures { λ _. ⌜ FrontsRead (now (sheet .entry)) c (now (points .exit)) (now (roots .exit)) (now (corners .exit)) (now (volumes .exit))
-        (now (ends .exit)) (now (lengths .exit)) (now (outline .exit)) (now (blade .exit)) ⌝ }
-{
-    let p = mesh::POINT_COLUMNS * c.particles;
-    let r = 2 * c.particles;
-    let t = 3 * c.triangles;
-    let v = 2 * c.triangles;
-    let e = 4 * c.edges;
-    let o = 2 * c.boundary;
-    let mut log = [0usize; 6];
-    edition::read::read(
-        sheet,
-        LIMITS,
-        &mut points[..p],
-        &mut roots[..r],
-        &mut corners[..t],
-        &mut volumes[..v],
-        &mut ends[..e],
-        &mut lengths[..e],
-        &mut outline[..o],
-        &mut log,
-        blade,
-    );
 }
 
 // Cuts a mesh along a blade, with the fraction and the places that the program lends, and writes the listing.
@@ -193,7 +73,7 @@ fn list_blocks(
         &mut cut_outline,
         &mut log,
     );
-    list_answer(
+    answer_listing::list_answer(
         replaced,
         a,
         &cut_corners,
@@ -267,7 +147,7 @@ fn list_whole(sheet: &[u8], c: SheetCounts, replaced: bool, out: &mut [u8]) -> W
     let mut lengths = [0.0f32; 1024];
     let mut outline = [0usize; 512];
     let mut blade = [0.0f32; 4];
-    read_fronts(
+    sheet_fronts::read_fronts(
         sheet,
         c,
         &mut points,
@@ -298,7 +178,7 @@ fn list_whole(sheet: &[u8], c: SheetCounts, replaced: bool, out: &mut [u8]) -> W
 pub fn list_cut(bytes: &[u8], out: &mut [u8]) -> Written
     ensures { λ r. ⌜ Told (listed (now (bytes .entry))) (length (now (out .entry))) (now (out .exit)) r ⌝ }
 {
-    let seen = edition::look(bytes, LIMITS);
+    let seen = edition::look(bytes, sheet_fronts::LIMITS);
     match seen {
         Seen::Whole(c, replaced) => list_whole(bytes, c, replaced, out),
         Seen::Refused(n) => listing::write_refused(n, out),

@@ -20,11 +20,11 @@ use Rattle.model.specs.Run.{Entry, Run, stepTo, withMesh}
 use Rattle.model.specs.Split.{Opening, openingOf, splits?, made, atLongest, settled, splitMade, splitStep, splitBySides}
 use Rattle.model.specs.Cut.{Blade, bladeSides, slack, slackened, withEdges, atCopy, splitSnapped}
 use Rattle.model.specs.Calls.{firstFault}
-use Rattle.model.proofs.Laws.{all-over}
-use Rattle.model.proofs.Traced.{copied-length}
-use Rattle.model.proofs.Steps.{snapped-onward}
-use Rattle.model.proofs.Indexed.{Indexed, Ends, sides-indexed, snapped-indexed}
-use Rattle.model.proofs.Accepted.{accepted-indexed}
+use Rattle.model_laws.proofs.Laws.{all-over}
+use Rattle.model_laws.proofs.Traced.{copied-length}
+use Rattle.model_laws.proofs.Steps.{snapped-onward}
+use Rattle.model_laws.proofs.Indexed.{Indexed, Ends, sides-indexed, snapped-indexed}
+use Rattle.model_laws.proofs.Accepted.{accepted-indexed}
 use Rattle.mesh.specs.Log.{World, worldOf, worldAt, wordsOf}
 use Rattle.mesh.specs.At.{meshAt}
 use Rattle.mesh.specs.Given.{Lent, asRooms}

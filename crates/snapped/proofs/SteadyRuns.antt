@@ -11,9 +11,9 @@ use Rattle.lists.proofs.Sifts.{fold-append}
 use Rattle.model.specs.Valid.{indicesFit}
 use Rattle.model.specs.Run.{Entry, Run}
 use Rattle.model.specs.Calls.{firstFault}
-use Rattle.model.proofs.Steps.{Onward, onward-fold}
-use Rattle.model.proofs.Indexed.{Indexed, fold-indexed}
-use Rattle.model.proofs.Accepted.{accepted-indexed, indexed-accepted}
+use Rattle.model_laws.proofs.Steps.{Onward, onward-fold}
+use Rattle.model_laws.proofs.Indexed.{Indexed, fold-indexed}
+use Rattle.model_laws.proofs.Accepted.{accepted-indexed, indexed-accepted}
 use Rattle.mesh.specs.Log.{World, worldOf, wordsOf}
 use Rattle.mesh.specs.Given.{Lent, asRooms}
 use Rattle.mesh.specs.declared.Counts.{Counts}

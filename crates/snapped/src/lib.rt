@@ -5,12 +5,11 @@ ghost use lib.Dec.{leb};
 ghost use lib.ListN.{length};
 ghost use Rattle.lists.specs.Lists.{fold};
 ghost use Rattle.model.specs.Cut.{splitSnapped};
-ghost use Rattle.mesh.specs.Filled.{lent};
 ghost use Rattle.marks.specs.Marking.{bladeFrom};
 ghost use Rattle.model.specs.Elements.{Straps};
 ghost use Rattle.links.specs.Linked.{LinkedIn};
-ghost use Rattle.split.specs.Blocks.{LinkedBehind};
-ghost use Rattle.cut.specs.Running.{chosen, Chosen, TablesIn};
+ghost use Rattle.split.specs.Blocks.{MaskIn, LinkedBehind};
+ghost use Rattle.cut.specs.Running.{chosen, Chosen};
 ghost use Rattle.snapped.specs.Snapping.{EdgeHere, SlackAt, EdgesHere, SlackFrom, Snappable};
 ghost use Rattle.work.specs.Blocks.{ReadyIn, WorksIn};
 use blade::Point;
@@ -72,15 +71,11 @@ pub fn split_snapped(
     lengths: &mut [f32],
     outline: &mut [usize],
     log: &mut [u32],
-    numbers: &mut [usize],
-    verts: &mut [usize],
-    measures: &mut [f32],
-    sides: &mut [usize],
-    groups: &mut [usize],
+    list: &mut [usize],
     links: &mut [u16],
 ) -> Ran
     requires { ⌜ ReadyIn room k points roots corners volumes ends lengths outline log × Snappable v k (now log)
-        × TablesIn numbers verts measures sides groups × LinkedIn Straps k corners ends links ⌝ }
+        × MaskIn list × LinkedIn Straps k corners ends links ⌝ }
     ensures { λ r. ⌜ WorksIn (λ R. splitSnapped (bladeFrom b0 b1) R v) room k points roots corners volumes ends lengths outline log r
         × LinkedBehind Straps corners ends links r ⌝ }
 {
@@ -99,11 +94,7 @@ pub fn split_snapped(
         lengths,
         outline,
         log,
-        numbers,
-        verts,
-        measures,
-        sides,
-        groups,
+        list,
         links,
     );
     let Ran::Done(next) = ran else {
@@ -116,7 +107,7 @@ pub fn split_snapped(
     Ran::Done(next)
 }
 
-// Splits each marked particle below p so, in rising order, until one lacks room. All share the lent tables.
+// Splits each marked particle below p so, in rising order, until one lacks room. All share the lent list.
 fn split_each_snapped(
     b0: Point,
     b1: Point,
@@ -132,15 +123,11 @@ fn split_each_snapped(
     lengths: &mut [f32],
     outline: &mut [usize],
     log: &mut [u32],
-    numbers: &mut [usize],
-    verts: &mut [usize],
-    measures: &mut [f32],
-    sides: &mut [usize],
-    groups: &mut [usize],
+    list: &mut [usize],
     links: &mut [u16],
 ) -> Ran
     requires { ⌜ ReadyIn room k points roots corners volumes ends lengths outline log × Chosen p k (now log) (length (now marks))
-        × TablesIn numbers verts measures sides groups × LinkedIn Straps k corners ends links ⌝ }
+        × MaskIn list × LinkedIn Straps k corners ends links ⌝ }
     ensures { λ r. ⌜ WorksIn (λ R. fold (splitSnapped (bladeFrom b0 b1)) R (chosen p (now (marks .entry)))) room k points roots corners
         volumes ends lengths outline log r ⌝ }
 {
@@ -165,11 +152,7 @@ fn split_each_snapped(
             lengths,
             outline,
             log,
-            numbers,
-            verts,
-            measures,
-            sides,
-            groups,
+            list,
             links,
         );
         let Ran::Done(next) = ran else {
@@ -197,14 +180,10 @@ pub fn split_all_snapped(
     lengths: &mut [f32],
     outline: &mut [usize],
     log: &mut [u32],
-    numbers: &mut [usize],
-    verts: &mut [usize],
-    measures: &mut [f32],
-    sides: &mut [usize],
-    groups: &mut [usize],
+    list: &mut [usize],
 ) -> Ran
     requires { ⌜ ReadyIn room k points roots corners volumes ends lengths outline log × Chosen p k (now log) (length (now marks))
-        × TablesIn numbers verts measures sides groups ⌝ }
+        × MaskIn list ⌝ }
     ensures { λ r. ⌜ WorksIn (λ R. fold (splitSnapped (bladeFrom b0 b1)) R (chosen p (now (marks .entry)))) room k points roots corners
         volumes ends lengths outline log r ⌝ }
 {
@@ -235,11 +214,7 @@ pub fn split_all_snapped(
         lengths,
         outline,
         log,
-        numbers,
-        verts,
-        measures,
-        sides,
-        groups,
+        list,
         &mut links,
     )
 }

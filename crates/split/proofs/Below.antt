@@ -12,12 +12,12 @@ use Rattle.model.specs.Mesh.{Triangle, Edge, Mesh}
 use Rattle.model.specs.Valid.{indicesFit}
 use Rattle.model.specs.Elements.{Kind, Triangles, Straps, Nothing, Element, structural?, strapElement, trianglesFrom, strapsFrom, elementsOf, fanOf, cornersPer}
 use Rattle.model.specs.Trace.{All, Sound}
-use Rattle.model.proofs.Laws.{all-over, all-sift, all-eachOf, all-in, all-map, pick-both}
-use Rattle.model.proofs.Indexed.{Indexed, Pair, numbers-from}
-use Rattle.model.proofs.Accepted.{accepted-indexed}
+use Rattle.model_laws.proofs.Laws.{all-over, all-sift, all-eachOf, all-in, all-map, pick-both}
+use Rattle.model_laws.proofs.Indexed.{Indexed, Pair, numbers-from}
+use Rattle.model_laws.proofs.Accepted.{accepted-indexed}
 use Rattle.elements.specs.Table.{elementsIn, Cornered, Tabled}
 use Rattle.elements.proofs.Filling.{triangles-length, straps-length}
-use Rattle.model.proofs.Inserted.{straps-inside}
+use Rattle.model_laws.proofs.Inserted.{straps-inside}
 
 -- ---- numbers
 

@@ -20,7 +20,7 @@ use Rattle.mesh.specs.Log.{Words, wordsOf, logAt}
 use Rattle.mesh.specs.Workers.{Removed, rowAt}
 use Rattle.mesh.specs.declared.Counts.{Counts}
 use Rattle.mesh.specs.declared.Rooms.{Rooms}
-use Rattle.rewire.specs.Edges.{Straddling, StraddlersMarked}
+use Rattle.straddling.specs.Tests.{Straddling, StraddlersMarked}
 use Rattle.split.specs.Steps.{loggedOf}
 use Rattle.work.specs.Removal.{marked, markedOf, goneWords}
 use Rattle.split.specs.Settling.{copyWords, SplitAsked, SplitNoted, DropAsked, Dropped}

@@ -19,9 +19,10 @@ use Rattle.model.specs.Elements.{Kind, Triangles, Straps, Nothing, Element, fan
 use Rattle.mesh.specs.At.{triangleRow, trianglesAt, edgesAt}
 use Rattle.mesh.proofs.Lists.{edges-length}
 use Rattle.elements.specs.Table.{Tabled, holding, elementsIn}
+use Rattle.link_fans.specs.Fans.{FanPut}
 use Rattle.split_plan.specs.Opened.{Ringed}
 use Rattle.split_plan.proofs.Tables.{Rises, ringed-by, weighted-by, numbered-by, fan-is, rises-holding}
-use Rattle.split.specs.Tables.{FanGrouped, openedBy, Opens, TablesFit, FanRead, SidesLent, GroupsFound}
+use Rattle.split.specs.Tables.{FanGrouped, openedBy, Opens, TablesFit, FanTables, SidesLent, GroupsFound}
 use Rattle.split.proofs.Below.{rowsOf, table-below, fan-corners, fan-number, Few, few-of}
 
 -- an element has three corners at most
@@ -86,21 +87,36 @@ all-few K t e n corners volumes ends lengths N Y Z u w T =
     few-of K (trianglesAt t corners volumes) (edgesAt e ends lengths) n (omega (arith, tab-length t (triangleRow (length corners / 3) (length volumes / 2) corners volumes))) (omega (arith, edges-length e ends lengths)) (omega (arith, T .cornered .count))
 
 -- the elements that hold v are v's fan
-pub fan-read : (K : Kind) (v t e r : ℕ) (corners : List ℕ) (volumes : List Float) (ends : List ℕ) (lengths : List Float) (N Y : List ℕ) (Z : List Float) → t ≤ 1024 → e ≤ 2048
-    → Tabled (cornersPer K) (holding v (elementsIn K (trianglesAt t corners volumes) (edgesAt e ends lengths))) r N Y Z → FanRead K v t e corners volumes ends lengths r N Y Z
+pub fan-told : (K : Kind) (v t e r : ℕ) (corners : List ℕ) (volumes : List Float) (ends : List ℕ) (lengths : List Float) (N Y : List ℕ) (Z : List Float) → t ≤ 1024 → e ≤ 2048
+    → FanPut (cornersPer K) (holding v (elementsIn K (trianglesAt t corners volumes) (edgesAt e ends lengths))) r N Y Z → FanTables K v t e corners volumes ends lengths r N Y Z
 unfolding trianglesAt
-fan-read K v t e r corners volumes ends lengths N Y Z u w T =
+fan-told K v t e r corners volumes ends lengths N Y Z u w T =
     let es : List Element = elementsIn K (trianglesAt t corners volumes) (edgesAt e ends lengths) in
     let W = few-of K (trianglesAt t corners volumes) (edgesAt e ends lengths) r (omega (arith, tab-length t (triangleRow (length corners / 3) (length volumes / 2) corners volumes))) (omega (arith, edges-length e ends lengths))
-    (omega (arith, T .cornered .count, sift-length (λ (x : Element). stands v (x .corners)) es)) in
+    (omega (arith, T .count, sift-length (λ (x : Element). stands v (x .corners)) es)) in
+    let fan-of : (M : Mesh) → M .triangles ≡ trianglesAt t corners volumes → M .edges ≡ edgesAt e ends lengths → holding v es ≡ fanOf K M v = λ M p q.
+    sym (fan-is K M v ∙ ap (λ (ts : List Triangle). holding v (elementsIn K ts (M .edges))) p ∙ ap (λ (l : List Edge). holding v (elementsIn K (trianglesAt t corners volumes) l)) q) in
     record {
-      tabled = λ M p q.
-          subst (λ (l : List Element). Tabled (cornersPer K) l r N Y Z)
-          (sym (fan-is K M v ∙ ap (λ (ts : List Triangle). holding v (elementsIn K ts (M .edges))) p ∙ ap (λ (l : List Edge). holding v (elementsIn K (trianglesAt t corners volumes) l)) q))
-          T;
+      count = λ M p q. T .count ∙ ap (λ (l : List Element). length l) (fan-of M p q);
       few = W .few;
       narrow = W .narrow;
+      read = λ a b c.
+          record {
+            tabled = λ M p q. subst (λ (l : List Element). Tabled (cornersPer K) l r N Y Z) (fan-of M p q) (T .tabled a b c);
+            few = W .few;
+            narrow = W .narrow;
+          };
     }
+
+-- the corners of so few elements are few
+corners-few : (K : Kind) (n : ℕ) → n ≤ 32 → n * cornersPer K ≤ 96
+corners-few Triangles n h = omega arith
+corners-few Straps n h = omega arith
+corners-few Nothing n h = omega arith
+
+pub few-corners : {K : Kind} {v t e n : ℕ} {corners : List ℕ} {volumes : List Float} {ends : List ℕ} {lengths : List Float} {numbers verts : List ℕ} {measures : List Float} → FanTables K v t e corners volumes ends lengths n numbers verts measures
+    → n ≤ 32 → n * cornersPer K ≤ 96
+few-corners {K} {n = n} F h = corners-few K n h
 
 -- the grid of a fan in tables
 pub grid-is : (K : Kind) (M : Mesh) (v n : ℕ) (numbers verts : List ℕ) (measures : List Float) (sides : List ℕ) → Tabled (cornersPer K) (fanOf K M v) n numbers verts measures

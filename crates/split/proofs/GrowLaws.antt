@@ -24,12 +24,12 @@ use Rattle.split_plan.specs.Opened.{partAt, blankPart, RestsIn, OpeningIn}
 use Rattle.split_plan.proofs.Weights.{ringed-grouped}
 use Rattle.rewire.specs.Stages.{PartsBy, TrianglesRewired, StrapsRewired, EdgesGrown}
 use Rattle.work.specs.Rows.{GrownTo}
-use Rattle.rewire.specs.Particles.{PartsRoom}
+use Rattle.rewire.specs.Parts.{PartsRoom}
 use Rattle.mesh.specs.Workers.{rowAt}
 use Rattle.rewire.specs.Edges.{EdgesRoom}
 use Rattle.work.specs.declared.Grown.{Grown}
 use Rattle.work.specs.declared.Grown.the-variants.{Lacking as NoRoom, Rows}
-use Rattle.rewire.proofs.EdgeLaws.{edges-many, edges-get}
+use Rattle.work.proofs.Grows.{edges-many, edges-get}
 use Rattle.split.specs.Tables.{Opens, TablesFit}
 use Rattle.work.specs.Places.{EndsIn}
 use Rattle.split.specs.Steps.{GrowRoom, GrowthTold}

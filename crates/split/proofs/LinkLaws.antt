@@ -20,15 +20,17 @@ use Rattle.mesh.specs.At.{meshAt}
 use Rattle.mesh.specs.Filled.{lent}
 use Rattle.mesh.specs.declared.Counts.{Counts}
 use Rattle.mesh.specs.declared.Rooms.{Rooms}
-use Rattle.links.specs.Links.{LinksOf, cornerAfter}
-use Rattle.links.specs.Rooms.{CornersApart, FanLinked, SplitRoom}
+use Rattle.links.specs.Links.{LinksOf}
+use Rattle.link_splits.specs.Splits.{cornerAfter, SplitRoom}
+use Rattle.links.specs.Rooms.{CornersApart}
+use Rattle.link_fans.specs.Fans.{FanLinked}
 use Rattle.links.specs.Linked.{Linked, EdgesLinked, MeshLinked, MeshLinkable}
 use Rattle.links.proofs.Accepted.{corners-apart, ends-apart, apart-below}
 use Rattle.links.proofs.Parts.{edges-back}
-use Rattle.links.proofs.Fanned.{fan-numbers}
-use Rattle.links.proofs.Same.{links-split}
+use Rattle.link_fans.proofs.Fanned.{fan-numbers}
+use Rattle.link_splits.proofs.Turned.{links-split}
 use Rattle.rewire.specs.Stages.{PartsBy, TrianglesRewired}
-use Rattle.rewire.specs.Particles.{PartsRoom}
+use Rattle.rewire.specs.Parts.{PartsRoom}
 use Rattle.rewire.specs.Edges.{StrapsRoom, TableRoom, LinkedGrown as EdgesGrew}
 use Rattle.rewire.proofs.LinkedLaws.{linked-rows}
 use Rattle.rewire.proofs.FanLaws.{numbers-are, groups-are}
@@ -56,15 +58,14 @@ grown-linked {K} {t} {e} {corners} {ends} {links} X q = subst (LinkedGrown K t c
 -- ---- a fan read from the table
 
 -- what the walk asks
-pub fan-walk : {K : Kind} {v t e : ℕ} {corners links : List ℕ} {lv le ll ln lk lm : ℕ} → FanLent t e (length corners) lv le ll ln lk lm → Linked K t corners links → v < 1024 → K ≡ Triangles
-    → FanLinked v 1024 1024 t corners lv links ln lk lm
+pub fan-walk : {K : Kind} {v t e : ℕ} {corners links : List ℕ} {lv le ll : ℕ} → FanLent t e (length corners) lv le ll → Linked K t corners links → v < 1024 → K ≡ Triangles → FanLinked v 1024 1024 t corners lv links
 fan-walk P L h e =
     let few = P .few .0 in
     record {
       room = record { cells = few; rows = P .corners; columns = omega arith; table = L .long e; small = omega arith };
       here = h;
       linked = L .are e;
-      tables = record { corners = P .corners; volumes = P .volumes; numbers = omega (arith, P .numbers); verts = omega (arith, P .verts); measures = omega (arith, P .measures) };
+      volumes = P .volumes;
     }
 
 -- ---- the table through a split
@@ -208,10 +209,9 @@ module _ (K : Kind) (L : Rooms) (k : Counts) (points : List Float) (roots corner
       }
 
   -- what reading the fan of v asks
-  pub fan-ready : {v : ℕ} {links : List ℕ} (ln lk lm : ℕ) → v < k .particles → MeshLinked K (k .triangles) (k .edges) corners ends links → 2048 ≤ ln → 4096 ≤ lk → 2048 ≤ lm
-      → FanLent (k .triangles) (k .edges) (length corners) (length volumes) (length ends) (length lengths) ln lk lm × Linked K (k .triangles) corners links × (v < 1024)
-  fan-ready ln lk lm h X a b c =
-      (fan-lent K L k points roots corners volumes ends lengths outline log P ln lk lm a b c, X .triangles, omega (arith, h, P .counts .particles, P .rooms .few-particles))
+  pub fan-ready : {v : ℕ} {links : List ℕ} → v < k .particles → MeshLinked K (k .triangles) (k .edges) corners ends links
+      → FanLent (k .triangles) (k .edges) (length corners) (length volumes) (length ends) (length lengths) × MeshLinked K (k .triangles) (k .edges) corners ends links × (v < 1024)
+  fan-ready h X = (fan-lent K L k points roots corners volumes ends lengths outline log P, X, omega (arith, h, P .counts .particles, P .rooms .few-particles))
 
   -- the tables of a fan name the triangles that hold v
   pub fan-named : {v n count : ℕ} {numbers verts : List ℕ} {measures : List Float} {groups : List ℕ} → FanGrouped K M v n count numbers verts measures groups → FanNamed K v (k .particles) (k .triangles) n numbers corners

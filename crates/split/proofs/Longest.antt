@@ -20,9 +20,9 @@ use Rattle.model.specs.Mesh.{Edge, Mesh, blankEdge}
 use Rattle.model.specs.Elements.{Kind, Triangles, Straps, Nothing, Element, besides, farEnd, fanOf}
 use Rattle.model.specs.Split.{Part, Opening, copyOf, groupAt, moved, rewiredStraps, ring, Best, better, scoreOf, scored, toward, edgeGroups, other?, calm, stayed, doubled, otherEdges, atLongest}
 use Rattle.model.specs.Trace.{All}
-use Rattle.model.proofs.Laws.{pick-both, all-each, all-over, all-append, all-mapAt, all-in, all-map, all-eachOf, all-sift, all-upTo, all-rest, all-head, all-else}
-use Rattle.model.proofs.Indexed.{Indexed, Pair}
-use Rattle.model.proofs.Traced.{at-below, parts-all, Any, all-any}
+use Rattle.model_laws.proofs.Laws.{pick-both, all-each, all-over, all-append, all-mapAt, all-in, all-map, all-eachOf, all-sift, all-upTo, all-rest, all-head, all-else}
+use Rattle.model_laws.proofs.Indexed.{Indexed, Pair}
+use Rattle.model_laws.proofs.Traced.{at-below, parts-all, Any, all-any}
 use Rattle.mesh.specs.At.{edgeRow, edgesAt}
 use Rattle.split_plan.specs.Opened.{openingBy}
 use Rattle.work.specs.Places.{EndsIn}

@@ -16,7 +16,7 @@ use Rattle.mesh.specs.At.{meshAt}
 use Rattle.mesh.specs.declared.Counts.{Counts}
 use Rattle.elements.specs.Table.{Tabled}
 use Rattle.links.specs.Links.{holds}
-use Rattle.rewire.proofs.EdgeLaws.{edges-many, edges-get}
+use Rattle.work.proofs.Grows.{edges-many, edges-get}
 use Rattle.split.specs.Growing.{StrapsNamed}
 
 -- each of a list of elements is as P says

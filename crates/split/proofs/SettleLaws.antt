@@ -22,7 +22,7 @@ use Rattle.mesh.specs.declared.Rooms.{Rooms}
 use Rattle.mesh.specs.Widths.{pointColumns}
 use Rattle.split_plan.specs.Opened.{RestsIn}
 use Rattle.work.specs.Rows.{GrownTo}
-use Rattle.rewire.specs.Edges.{Straddling}
+use Rattle.straddling.specs.Tests.{Straddling}
 use Rattle.work.specs.declared.Grown.{Grown}
 use Rattle.work.specs.declared.Grown.the-variants.{Lacking, Rows}
 use Rattle.work.specs.Working.{Within, SettleRoom}

@@ -23,7 +23,7 @@ use Rattle.split.specs.Settling.{SettleAsked, SettledFor}
 use Rattle.split.proofs.Fitted.{opens-by, tables-fit}
 use Rattle.split.proofs.NamedLaws.{straps-named}
 use Rattle.split.proofs.Longest.{longest-ends}
-use Rattle.model.proofs.Accepted.{accepted-indexed}
+use Rattle.model_laws.proofs.Accepted.{accepted-indexed}
 use Rattle.work.proofs.Placed.{particles-count, triangles-count, edges-count, ends-in, sides-in}
 use Rattle.split.proofs.Stepping.{longestWorld, stepped-lacking, stepped-settled}
 use Rattle.work.specs.declared.Ran.{Ran}

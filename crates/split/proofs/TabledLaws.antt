@@ -6,7 +6,7 @@ use mathlib.Core.Bool.{Bool, true, false, _&&_}
 use mathlib.Core.List.{List, [], _∷_}
 use borrow.Author.Tests.{le-leb, lt-leb}
 use lib.ListN.{length, getD, take}
-use lib.Seq.{getD-take}
+use lib.Seq.{take-length}
 use lib.Dec.{leb}
 use lib.Ieee.{Float, nan, ne}
 use Rattle.lists.specs.Lists.{sift, each}
@@ -28,7 +28,7 @@ use Rattle.elements.specs.Table.{Tabled}
 use Rattle.split_plan.specs.Opened.{openingBy}
 use Rattle.split_plan.proofs.Tables.{opening-is}
 use Rattle.work.specs.Working.{Ready, Works}
-use Rattle.split.specs.Tables.{FanGrouped, FanSided, FanLent, FanRead, SidesLent, SidesGiven, GroupsFound, openedBy}
+use Rattle.split.specs.Tables.{FanGrouped, FanSided, FanLent, FanTables, SidesLent, SidesGiven, GroupsFound, openedBy}
 use Rattle.split.specs.Steps.{Stepped}
 use Rattle.split.proofs.Fitted.{grid-is}
 use Rattle.work.proofs.Placed.{particles-count}
@@ -45,12 +45,8 @@ inverse-at k points roots corners volumes ends lengths outline v l = ap (λ (p :
 
 module _ {K : Kind} {M : Mesh} {v n : ℕ} {numbers verts : List ℕ} {measures : List Float} {sides : List ℕ} (F : FanSided K M v n numbers verts measures sides) where
   -- what the grouping asks
-  pub sides-asked : (lg : ℕ) → 2048 ≤ lg → SidesLent n (cornersPer K) (length verts) (length sides) lg sides
-  sides-asked lg h =
-      record { few = F .few; verts = verts-room; long = F .sides-long; groups = omega (arith, F .few); two = F .two }
-    where
-      verts-room : n * cornersPer K ≤ length verts
-      verts-room = F .verts-long
+  pub sides-asked : (lg : ℕ) → n ≤ lg → SidesLent n (cornersPer K) (length verts) (length sides) lg sides
+  sides-asked lg h = record { few = F .few; verts = F .verts-long; long = F .sides-long; groups = h; two = F .two }
 
   -- the groups that were found are those of the definition
   module _ {groups : List ℕ} {count : ℕ} (G : GroupsFound K v n verts sides groups count) where
@@ -71,7 +67,7 @@ module _ {K : Kind} {M : Mesh} {v n : ℕ} {numbers verts : List ℕ} {measures 
           tabled = F .tabled;
           few = F .few;
           numbers-long = F .numbers-long;
-          verts-long = sides-asked 2048 (omega arith) .verts;
+          verts-long = F .verts-long;
           measures-long = F .measures-long;
           groups-long = long;
           below = G .below;
@@ -144,10 +140,9 @@ module _ (K : Kind) (L : Rooms) (k : Counts) (points : List Float) (roots corner
 
 module _ (K : Kind) (L : Rooms) (k : Counts) (points : List Float) (roots corners : List ℕ) (volumes : List Float) (ends : List ℕ) (lengths : List Float) (outline log : List ℕ)
     (P : Ready L k (lent points roots corners volumes ends lengths outline log) (meshAt k points roots corners volumes ends lengths outline)) where
-  -- the fan's tables have room
-  pub fan-lent : (ln lk lm : ℕ) → 2048 ≤ ln → 4096 ≤ lk → 2048 ≤ lm
-      → FanLent (k .triangles) (k .edges) (length corners) (length volumes) (length ends) (length lengths) ln lk lm
-  fan-lent ln lk lm a b c =
+  -- the fan can be read
+  pub fan-lent : FanLent (k .triangles) (k .edges) (length corners) (length volumes) (length ends) (length lengths)
+  fan-lent =
       let R = P .rooms in
       let C = P .counts in
       record {
@@ -156,9 +151,6 @@ module _ (K : Kind) (L : Rooms) (k : Counts) (points : List Float) (roots corner
         volumes = omega (arith, C .triangles, R .volumes);
         ends = omega (arith, C .edges, R .ends);
         lengths = omega (arith, C .edges, R .lengths);
-        numbers = a;
-        verts = b;
-        measures = c;
       }
 
   -- v is there, where sides are given for its fan
@@ -174,55 +166,35 @@ module _ (K : Kind) (L : Rooms) (k : Counts) (points : List Float) (roots corner
       ∙ splits-pinned K (meshAt k points roots corners volumes ends lengths outline) v sides
       (ap (λ (x : Float). ne x zero32) (inverse-at k points roots corners volumes ends lengths outline v (given-in S)) ∙ sym u ∙ e))
 
-  module _ {v n : ℕ} {numbers verts : List ℕ} {measures : List Float} (F : FanRead K v (k .triangles) (k .edges) corners volumes ends lengths n numbers verts measures) where
-    -- the tables hold the fan of the mesh in the blocks
-    pub fan-here : Tabled (cornersPer K) (fanOf K (meshAt k points roots corners volumes ends lengths outline) v) n numbers verts measures
+  module _ {v n : ℕ} {numbers verts : List ℕ} {measures : List Float} (F : FanTables K v (k .triangles) (k .edges) corners volumes ends lengths n numbers verts measures) where
+    -- the tables that have room hold the fan of the mesh in the blocks
+    pub fan-here : n ≤ length numbers → n * cornersPer K ≤ length verts → n ≤ length measures → Tabled (cornersPer K) (fanOf K (meshAt k points roots corners volumes ends lengths outline) v) n numbers verts measures
     unfolding meshAt
-    fan-here = F .tabled (meshAt k points roots corners volumes ends lengths outline) refl refl
+    fan-here a b c = F .read a b c .tabled (meshAt k points roots corners volumes ends lengths outline) refl refl
 
-    -- the fan in the tables with the sides given for it
-    sided-by : {sides : List ℕ} → SidesGiven K (meshAt k points roots corners volumes ends lengths outline) v sides → 2048 ≤ length numbers → 4096 ≤ length verts → 2048 ≤ length measures
-        → FanSided K (meshAt k points roots corners volumes ends lengths outline) v n numbers verts measures sides
-    sided-by {sides} S a b c =
-        let T = fan-here in
-        let count = T .cornered .count in
-        let few = F .few in
-        record {
-          here = S .here;
-          tabled = T;
-          few = few;
-          numbers-long = omega arith;
-          verts-long = let h = F .narrow in omega arith;
-          measures-long = omega arith;
-          sides-long = omega (arith, S .every);
-          two = λ i l. S .two i (omega (arith, S .every));
-        }
+    module _ {sides : List ℕ} (S : SidesGiven K (meshAt k points roots corners volumes ends lengths outline) v sides) where
+      -- there are as many sides as elements
+      sides-count : n ≡ length sides
+      unfolding meshAt
+      sides-count = F .count (meshAt k points roots corners volumes ends lengths outline) refl refl ∙ sym (S .every)
 
-    -- there are as many sides as elements, and they fit a table of the fan
-    pub sides-count : {sides : List ℕ} → SidesGiven K (meshAt k points roots corners volumes ends lengths outline) v sides → length sides ≡ n
-    sides-count S = let count = fan-here .cornered .count in omega (arith, S .every)
+      -- so all of them are taken
+      pub sides-taken : take n sides ≡ sides
+      sides-taken = ap (λ (m : ℕ). take m sides) sides-count ∙ take-length sides
 
-    pub sides-few : {sides : List ℕ} → SidesGiven K (meshAt k points roots corners volumes ends lengths outline) v sides → length sides ≤ 2048
-    sides-few S = omega (arith, sides-count S, F .few)
-
-    -- a copy of the sides begins with them
-    pub sides-copied : {sides : List ℕ} (own : List ℕ) → SidesGiven K (meshAt k points roots corners volumes ends lengths outline) v sides → take (length sides) own ≡ sides → take n own ≡ sides
-    sides-copied own S e = ap (λ (m : ℕ). take m own) (sym (sides-count S)) ∙ e
-
-    pub sided-copied : {sides own : List ℕ} → SidesGiven K (meshAt k points roots corners volumes ends lengths outline) v sides → take (length sides) own ≡ sides → 2048 ≤ length own → 2048 ≤ length numbers → 4096 ≤ length verts → 2048 ≤ length measures
-        → FanSided K (meshAt k points roots corners volumes ends lengths outline) v n numbers verts measures own
-    sided-copied {sides} {own} S e o a b c =
-        let B = sided-by S a b c in
-        record {
-          here = B .here;
-          tabled = B .tabled;
-          few = B .few;
-          numbers-long = B .numbers-long;
-          verts-long = B .verts-long;
-          measures-long = B .measures-long;
-          sides-long = omega (arith, F .few);
-          two = λ i l. subst (λ (x : ℕ). x < 2) (ap (λ (s : List ℕ). getD s i 0) (sym (sides-copied own S e)) ∙ getD-take n own i 0 l) (B .two i l);
-        }
+      -- the fan in the tables with the sides given for it
+      pub given-sided : n ≤ length numbers → n * cornersPer K ≤ length verts → n ≤ length measures → FanSided K (meshAt k points roots corners volumes ends lengths outline) v n numbers verts measures sides
+      given-sided a b c =
+          record {
+            here = S .here;
+            tabled = fan-here a b c;
+            few = F .few;
+            numbers-long = a;
+            verts-long = b;
+            measures-long = c;
+            sides-long = omega (arith, sides-count);
+            two = λ i l. S .two i (omega (arith, sides-count));
+          }
 
 -- the same sides, written otherwise
 pub sides-works : (K : Kind) (v : ℕ) {s t : List ℕ} {L : Rooms} {W : World} {at : Counts → World} {r : Ran} → s ≡ t → Works (splitBySides K v s) L W at r → Works (splitBySides K v t) L W at r

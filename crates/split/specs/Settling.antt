@@ -16,7 +16,7 @@ use Rattle.mesh.specs.declared.Rooms.{Rooms}
 use Rattle.mesh.specs.Widths.{pointColumns}
 use Rattle.split_plan.specs.Opened.{Ringed, Numbered, RingRoom, RestsIn, CornersBelow}
 use Rattle.work.specs.Rows.{GrownTo}
-use Rattle.rewire.specs.Edges.{Straddling, StraddleRoom}
+use Rattle.straddling.specs.Tests.{Straddling, StraddleRoom}
 use Rattle.work.specs.declared.Grown.{Grown}
 use Rattle.work.specs.Places.{EndsIn, SidesIn}
 use Rattle.split.specs.Steps.{loggedOf, SettlingTold}

@@ -62,22 +62,26 @@ pub record FanSided (K : Kind) (M : Mesh) (v n : ℕ) (numbers verts : List ℕ)
   pub sides-long : n ≤ length sides
   pub two : (i : ℕ) → i < n → getD sides i 0 < 2
 
--- what is asked of the blocks that a fan is read from, and of the tables lent for it
-pub record FanLent (t e lc lv le ll ln lk lm : ℕ) : Type 0 where
+-- what is asked of the blocks that a fan is read from
+pub record FanLent (t e lc lv le ll : ℕ) : Type 0 where
   pub few : (t ≤ 1024) × (e ≤ 2048)
   pub corners : t ≤ lc / 3
   pub volumes : t ≤ lv / 2
   pub ends : e ≤ le / 4
   pub lengths : e ≤ ll / 4
-  pub numbers : 2048 ≤ ln
-  pub verts : 4096 ≤ lk
-  pub measures : 2048 ≤ lm
 
 -- the fan of v in any mesh of these triangles and edges stands in the tables
 pub record FanRead (K : Kind) (v t e : ℕ) (corners : List ℕ) (volumes : List Float) (ends : List ℕ) (lengths : List Float) (n : ℕ) (numbers verts : List ℕ) (measures : List Float) : Type 0 where
   pub tabled : (M : Mesh) → M .triangles ≡ trianglesAt t corners volumes → M .edges ≡ edgesAt e ends lengths → Tabled (cornersPer K) (fanOf K M v) n numbers verts measures
   pub few : n ≤ 2048
   pub narrow : n * cornersPer K ≤ 4096
+
+-- n is the number of the fan's elements in any mesh of these triangles and edges, and they stand in tables that have room for them all
+pub record FanTables (K : Kind) (v t e : ℕ) (corners : List ℕ) (volumes : List Float) (ends : List ℕ) (lengths : List Float) (n : ℕ) (numbers verts : List ℕ) (measures : List Float) : Type 0 where
+  pub count : (M : Mesh) → M .triangles ≡ trianglesAt t corners volumes → M .edges ≡ edgesAt e ends lengths → n ≡ length (fanOf K M v)
+  pub few : n ≤ 2048
+  pub narrow : n * cornersPer K ≤ 4096
+  pub read : n ≤ length numbers → n * cornersPer K ≤ length verts → n ≤ length measures → FanRead K v t e corners volumes ends lengths n numbers verts measures
 
 -- what is asked where a fan of n elements is grouped by sides
 pub record SidesLent (n k lk ls lg : ℕ) (sides : List ℕ) : Type 0 where

@@ -1,69 +1,23 @@
 // The fan of a particle in tables, and its groups by sides.
-ghost use mathlib.Core.Path.{_≡_};
-ghost use mathlib.Core.Bool.{_&&_};
-ghost use mathlib.Core.List.{[], _∷_};
 ghost use Prim.Native.Nat.{_<_};
-ghost use lib.Dec.{eqb};
 ghost use lib.ListN.{length};
-ghost use Rattle.lists.specs.Lists.{stands};
-ghost use Rattle.mesh.specs.At.{edgesAt};
-ghost use Rattle.elements.specs.Table.{Tabled, holding, kindIs};
-ghost use Rattle.elements.specs.Workers.{StrapRoom};
-ghost use Rattle.model.specs.Elements.{cornersPer, strapsFrom};
-ghost use Rattle.links.specs.Linked.{Linked};
-ghost use Rattle.split.specs.Tables.{FanLent, FanRead, SidesLent, GroupsFound};
+ghost use Rattle.elements.specs.Table.{kindIs};
+ghost use Rattle.model.specs.Elements.{cornersPer};
+ghost use Rattle.links.specs.Linked.{MeshLinked};
+ghost use Rattle.split.specs.Tables.{FanLent, FanTables, SidesLent, GroupsFound};
 use elements::Kind;
 
-// Is an edge from x to y a strap that holds v?
-fn strap_holds(v: usize, structural: usize, x: usize, y: usize) -> bool
-    ensures { λ r. ⌜ r ≡ (eqb structural 1 && stands v (x ∷ y ∷ [])) ⌝ }
-{
-    if structural != 1 {
-        return false;
-    }
-    if x == v {
-        return true;
-    }
-    y == v
-}
+// The elements of a fan that the small tables of a split hold, and their corners.
+pub const FEW: usize = 32;
 
-// The straps that hold v, in tables, and how many they are.
-fn fan_straps(
-    v: usize,
-    e: usize,
-    ends: &[usize],
-    lengths: &[f32],
-    numbers: &mut [usize],
-    verts: &mut [usize],
-    measures: &mut [f32],
-) -> usize
-    requires { ⌜ StrapRoom e (length (now ends)) (length (now lengths)) (length (now numbers)) (length (now verts))
-        (length (now measures)) ⌝ }
-    ensures { λ r. ⌜ Tabled 2 (holding v (strapsFrom 0 (edgesAt e (now (ends .entry)) (now (lengths .entry))))) r (now (numbers .exit))
-        (now (verts .exit)) (now (measures .exit)) ⌝ }
-{
-    let c = ends.len() / 4;
-    let m = lengths.len() / 4;
-    let mut i: usize = 0;
-    let mut r: usize = 0;
-    let mut o: usize = 0;
-    while i < e {
-        let x = ends[i];
-        let y = ends[c + i];
-        if strap_holds(v, ends[2 * c + i], x, y) {
-            numbers[r] = i;
-            verts[o] = x;
-            verts[o + 1] = y;
-            measures[r] = lengths[m + i];
-            o += 2;
-            r += 1;
-        }
-        i += 1;
-    }
-    r
-}
+pub const FEW_CORNERS: usize = 96;
 
-// The numbers, corners and measures of the elements that hold v, and how many they are: triangles by walking from link to link, straps by looking at every edge.
+// The elements of any fan, and their corners.
+pub const MANY: usize = 2048;
+
+pub const MANY_CORNERS: usize = 4096;
+
+// The numbers, corners and measures of the elements that hold v, as far as the tables go, and how many they are: by walking from link to link.
 pub fn fan_tables(
     kind: Kind,
     v: usize,
@@ -78,13 +32,13 @@ pub fn fan_tables(
     measures: &mut [f32],
     links: &[u16],
 ) -> usize
-    requires { ⌜ FanLent t e (length (now corners)) (length (now volumes)) (length (now ends)) (length (now lengths)) (length (now numbers))
-        (length (now verts)) (length (now measures)) × Linked (kindIs kind) t (now corners) (now links) × (v < 1024) ⌝ }
-    ensures { λ r. ⌜ FanRead (kindIs kind) v t e (now (corners .entry)) (now (volumes .entry)) (now (ends .entry)) (now (lengths .entry)) r
-        (now (numbers .exit)) (now (verts .exit)) (now (measures .exit)) ⌝ }
+    requires { ⌜ FanLent t e (length (now corners)) (length (now volumes)) (length (now ends)) (length (now lengths))
+        × MeshLinked (kindIs kind) t e (now corners) (now ends) (now links) × (v < 1024) ⌝ }
+    ensures { λ r. ⌜ FanTables (kindIs kind) v t e (now (corners .entry)) (now (volumes .entry)) (now (ends .entry))
+        (now (lengths .entry)) r (now (numbers .exit)) (now (verts .exit)) (now (measures .exit)) ⌝ }
 {
     match kind {
-        Kind::Triangles => links::fan_linked(
+        Kind::Triangles => link_fans::fan_linked(
             v,
             t,
             1024,
@@ -96,7 +50,16 @@ pub fn fan_tables(
             verts,
             measures,
         ),
-        Kind::Straps => fan_straps(v, e, ends, lengths, numbers, verts, measures),
+        Kind::Straps => link_fans::straps_linked(
+            v,
+            e,
+            ends,
+            lengths,
+            &links[4096..],
+            numbers,
+            verts,
+            measures,
+        ),
         Kind::Nothing => 0,
     }
 }
@@ -116,5 +79,5 @@ pub fn group_fan(
     let k = elements::corners_per(kind);
     let others = elements::facet_others(kind);
     let end = n * k;
-    fan::groups_of(&verts[..end], k, v, others, &sides[..n], &mut groups[..n])
+    fan_groups::groups_of(&verts[..end], k, v, others, &sides[..n], &mut groups[..n])
 }

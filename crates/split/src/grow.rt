@@ -4,10 +4,10 @@ ghost use lib.ListN.{length, take};
 ghost use Rattle.columns.specs.Block.{cell};
 ghost use Rattle.elements.specs.Table.{kindIs};
 ghost use Rattle.links.specs.Links.{LinksOf};
-ghost use Rattle.links.specs.Rooms.{SplitRoom};
+ghost use Rattle.link_splits.specs.Splits.{SplitRoom};
 ghost use Rattle.links.specs.Linked.{MeshLinked};
 ghost use Rattle.rewire.specs.Stages.{TrianglesRewired};
-ghost use Rattle.rewire.specs.Particles.{PartsRoom};
+ghost use Rattle.rewire.specs.Parts.{PartsRoom};
 ghost use Rattle.split.specs.Growing.{ElementsRewired, ShareRoom, SharedOut};
 ghost use Rattle.split.specs.Blocks.{ElementsIn, GrowIn, GrewIn};
 use crate::Grew;
@@ -34,7 +34,7 @@ fn rewire_linked(
         × LinksOf 1024 3 1024 t (cell 0 (length (now (corners .exit)) / 3) (now (corners .exit))) (now (links .exit)) ⌝ }
 {
     let rows = corners.len() / 3;
-    links::split_links(
+    link_splits::split_links(
         v,
         before,
         t,
@@ -114,7 +114,7 @@ fn share_out(
         (now (roots .entry)) (now (roots .exit)) ⌝ }
 {
     let total = split_plan::total_weight(n, count, groups, measures);
-    rewire::particles::copy_particles(v, before, count, n, total, groups, measures, points, roots);
+    copies::particles::copy_particles(v, before, count, n, total, groups, measures, points, roots);
 }
 
 // Parts 1 to 3 of a split of v by the groups of its fan: after them the edges are at their longest. The list is lent for the edges at v.

@@ -146,7 +146,7 @@ fn note_split(
     work::removal::note_marked(mask, e, s, at + m, ends, log)
 }
 
-// The straddlers go, and the log tells of the split, if it has room for that and for `extra` entries more; `rows` boundary entries are there by now. The mask is lent to mark them in, and the table links the triangles.
+// The straddlers go, and the log tells of the split, if it has room for that and for `extra` entries more; `rows` boundary entries are there by now. The mask is lent to mark them in, and the tables link the triangles and the edges.
 fn drop_straddlers(
     kind: Kind,
     v: usize,
@@ -173,7 +173,7 @@ fn drop_straddlers(
         (now (log .exit)) r × LinkedBehind (kindIs kind) corners ends links r ⌝ }
 {
     let shared = &links[..];
-    let s = rewire::straddling::mark_straddlers(
+    let s = straddling::mark_straddlers(
         kind,
         v,
         before,
@@ -194,7 +194,7 @@ fn drop_straddlers(
         return Ran::Refused(8);
     }
     let entries = note_split(v, before, m, k.log, k.edges, s, mask, ends, log);
-    let left = rewire::linked::drop_marked(mask, k.edges, s, ends, lengths, &mut links[4096..]);
+    let left = edge_drops::drop_marked(mask, k.edges, s, ends, lengths, &mut links[4096..]);
     Ran::Done(Counts {
         particles: k.particles,
         triangles: k.triangles,
@@ -204,7 +204,7 @@ fn drop_straddlers(
     })
 }
 
-// Parts 4 to 6 of a split and its log, on a mesh whose edges are at their longest and whose triangles the table links, with `extra` entries to come.
+// Parts 4 to 6 of a split and its log, on a mesh whose edges are at their longest and which the tables link, with `extra` entries to come.
 pub fn settle(
     kind: Kind,
     v: usize,

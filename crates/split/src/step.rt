@@ -15,6 +15,11 @@ ghost use Rattle.mesh.specs.Blocks.{meshIn};
 ghost use Rattle.work.specs.Blocks.{ReadyIn, WorksIn, OverBlocks};
 ghost use Rattle.split.specs.Blocks.{GroupedIn, SidedIn, MaskIn, LinkedBehind};
 use crate::Grew;
+use crate::fans::FEW;
+use crate::fans::FEW_CORNERS;
+use crate::fans::MANY;
+use crate::fans::MANY_CORNERS;
+use crate::fans::fan_tables;
 use elements::Kind;
 use mesh::Counts;
 use mesh::Rooms;
@@ -118,7 +123,7 @@ pub fn is_free(v: usize, points: &[f32]) -> bool
     points[5 * size + v] != 0.0
 }
 
-// Splits v by the sides of its fan, which stands in the tables, if it splits at all. The groups are found in a lent table, and the table of sides serves as a mask when they are.
+// Splits v by the sides of its fan, which stands in the tables, if it splits at all. The groups are found in a lent table, and the list has a place for each edge.
 pub fn split_tabled(
     kind: Kind,
     v: usize,
@@ -126,7 +131,7 @@ pub fn split_tabled(
     numbers: &[usize],
     verts: &[usize],
     measures: &[f32],
-    sides: &mut [usize],
+    sides: &[usize],
     groups: &mut [usize],
     k: Counts,
     room: Rooms,
@@ -138,11 +143,12 @@ pub fn split_tabled(
     lengths: &mut [f32],
     outline: &mut [usize],
     log: &mut [u32],
+    list: &mut [usize],
     links: &mut [u16],
 ) -> Ran
     requires { ⌜ (let K = kindIs kind in ReadyIn room k points roots corners volumes ends lengths outline log
-        × SidedIn K (meshIn k points roots corners volumes ends lengths outline) v n numbers verts measures sides × MaskIn sides
-        × MaskIn groups × LinkedIn K k corners ends links) ⌝ }
+        × SidedIn K (meshIn k points roots corners volumes ends lengths outline) v n numbers verts measures sides
+        × (n ≤ length (now groups)) × MaskIn list × LinkedIn K k corners ends links) ⌝ }
     ensures { λ r. ⌜ (let K = kindIs kind in WorksIn (splitBySides K v (take n (now (sides .entry)))) room k points roots corners volumes
         ends lengths outline log r × LinkedBehind K corners ends links r) ⌝ }
 {
@@ -171,14 +177,165 @@ pub fn split_tabled(
             lengths,
             outline,
             log,
-            sides,
+            list,
             links,
         );
     }
     Ran::Done(k)
 }
 
-// Splits v by a side for each element of its fan, by tables of its own; where v is pinned none is made.
+// Splits v by a side for each element of its fan, in tables with room for any fan.
+fn split_many(
+    kind: Kind,
+    v: usize,
+    sides: &[usize],
+    k: Counts,
+    room: Rooms,
+    points: &mut [f32],
+    roots: &mut [usize],
+    corners: &mut [usize],
+    volumes: &[f32],
+    ends: &mut [usize],
+    lengths: &mut [f32],
+    outline: &mut [usize],
+    log: &mut [u32],
+    list: &mut [usize],
+    links: &mut [u16],
+) -> Ran
+    requires { ⌜ (let K = kindIs kind in ReadyIn room k points roots corners volumes ends lengths outline log
+        × SidesGiven K (meshIn k points roots corners volumes ends lengths outline) v (now sides) × MaskIn list
+        × LinkedIn K k corners ends links) ⌝ }
+    ensures { λ r. ⌜ WorksIn (splitBySides (kindIs kind) v (now (sides .entry))) room k points roots corners volumes ends lengths outline
+        log r ⌝ }
+{
+    let mut numbers = [0usize; MANY];
+    let mut verts = [0usize; MANY_CORNERS];
+    let mut measures = [0.0f32; MANY];
+    let mut groups = [0usize; MANY];
+    let n = fan_tables(
+        kind,
+        v,
+        k.triangles,
+        k.edges,
+        corners,
+        volumes,
+        ends,
+        lengths,
+        &mut numbers,
+        &mut verts,
+        &mut measures,
+        links,
+    );
+    split_tabled(
+        kind,
+        v,
+        n,
+        &numbers,
+        &verts,
+        &measures,
+        sides,
+        &mut groups,
+        k,
+        room,
+        points,
+        roots,
+        corners,
+        volumes,
+        ends,
+        lengths,
+        outline,
+        log,
+        list,
+        links,
+    )
+}
+
+// The same in small tables, if the fan is small.
+fn split_few(
+    kind: Kind,
+    v: usize,
+    sides: &[usize],
+    k: Counts,
+    room: Rooms,
+    points: &mut [f32],
+    roots: &mut [usize],
+    corners: &mut [usize],
+    volumes: &[f32],
+    ends: &mut [usize],
+    lengths: &mut [f32],
+    outline: &mut [usize],
+    log: &mut [u32],
+    list: &mut [usize],
+    links: &mut [u16],
+) -> Ran
+    requires { ⌜ (let K = kindIs kind in ReadyIn room k points roots corners volumes ends lengths outline log
+        × SidesGiven K (meshIn k points roots corners volumes ends lengths outline) v (now sides) × MaskIn list
+        × LinkedIn K k corners ends links) ⌝ }
+    ensures { λ r. ⌜ WorksIn (splitBySides (kindIs kind) v (now (sides .entry))) room k points roots corners volumes ends lengths outline
+        log r ⌝ }
+{
+    let mut numbers = [0usize; FEW];
+    let mut verts = [0usize; FEW_CORNERS];
+    let mut measures = [0.0f32; FEW];
+    let mut groups = [0usize; FEW];
+    let n = fan_tables(
+        kind,
+        v,
+        k.triangles,
+        k.edges,
+        corners,
+        volumes,
+        ends,
+        lengths,
+        &mut numbers,
+        &mut verts,
+        &mut measures,
+        links,
+    );
+    if n > FEW {
+        return split_many(
+            kind,
+            v,
+            sides,
+            k,
+            room,
+            points,
+            roots,
+            corners,
+            volumes,
+            ends,
+            lengths,
+            outline,
+            log,
+            list,
+            links,
+        );
+    }
+    split_tabled(
+        kind,
+        v,
+        n,
+        &numbers,
+        &verts,
+        &measures,
+        sides,
+        &mut groups,
+        k,
+        room,
+        points,
+        roots,
+        corners,
+        volumes,
+        ends,
+        lengths,
+        outline,
+        log,
+        list,
+        links,
+    )
+}
+
+// Splits v by a side for each element of its fan, over tables of links of its own; where v is pinned none is made.
 fn split_fan(
     kind: Kind,
     v: usize,
@@ -202,37 +359,13 @@ fn split_fan(
     if !is_free(v, points) {
         return Ran::Done(k);
     }
-    let mut numbers = [0usize; 2048];
-    let mut verts = [0usize; 4096];
-    let mut measures = [0.0f32; 2048];
-    let mut own = [0usize; 2048];
-    let mut groups = [0usize; 2048];
+    let mut list = [0usize; 2048];
     let mut links = [0u16; 9216];
     links::link_mesh(kind, k.triangles, k.edges, corners, ends, &mut links);
-    let n = crate::fans::fan_tables(
+    split_few(
         kind,
         v,
-        k.triangles,
-        k.edges,
-        corners,
-        volumes,
-        ends,
-        lengths,
-        &mut numbers,
-        &mut verts,
-        &mut measures,
-        &links,
-    );
-    columns::copy_usize(sides, &mut own);
-    split_tabled(
-        kind,
-        v,
-        n,
-        &numbers,
-        &verts,
-        &measures,
-        &mut own,
-        &mut groups,
+        sides,
         k,
         room,
         points,
@@ -243,6 +376,7 @@ fn split_fan(
         lengths,
         outline,
         log,
+        &mut list,
         &mut links,
     )
 }

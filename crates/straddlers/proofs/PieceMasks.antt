@@ -15,7 +15,7 @@ use Rattle.lists.proofs.Walks.{sift-same}
 use Rattle.model.specs.Mesh.{Edge}
 use Rattle.model.specs.Elements.{Kind, Triangles, Straps, Nothing, element?}
 use Rattle.mesh.specs.At.{edgeRow}
-use Rattle.rewire.specs.Edges.{ElementIs}
+use Rattle.elements.specs.Table.{ElementIs}
 use Rattle.work.specs.Places.{SidesIn}
 use Rattle.straddlers.specs.Straddling.{spansBy, acrossBy, edgeCrosses, sideCrosses, EdgeReads, EdgeTold, EdgesMarked, SidesMarked}
 use Rattle.work.specs.Removal.{marked, markedOf}

@@ -18,8 +18,8 @@ use Rattle.mesh.proofs.Lists.{edges-length}
 use Rattle.lists.proofs.Stores.{tab-length}
 use Rattle.elements.specs.Table.{elementsIn, Cornered, Tabled}
 use Rattle.elements.proofs.Filling.{triangles-length, straps-length}
-use Rattle.pieces.specs.Counted.{Corners, BodyRoots, UsedMarked}
-use Rattle.pieces.proofs.Laws.{spans-by-tables}
+use Rattle.bodies.specs.Bodies.{Corners, BodyRoots, UsedMarked}
+use Rattle.bodies.proofs.Spans.{spans-by-tables}
 use Rattle.work.specs.Places.{CornersIn, EndsIn, SidesIn}
 use Rattle.straddlers.specs.Straddling.{spansBy, PiecesTold}
 

@@ -47,8 +47,8 @@ fn find_pieces(
         &mut measures,
     );
     let k = elements::corners_per(kind);
-    pieces::join_elements(n, k, &verts, parent);
-    pieces::mark_used(n, k, &verts, used);
+    bodies::join_elements(n, k, &verts, parent);
+    bodies::mark_used(n, k, &verts, used);
 }
 
 // Do x and y lie in different pieces? Most have one root: that is asked first.
@@ -80,7 +80,7 @@ fn edge_crosses(kind: Kind, i: usize, parent: &[usize], used: &[usize], ends: &[
     let c = ends.len() / 4;
     let a = ends[i];
     let b = ends[c + i];
-    if rewire::edges::is_element(kind, ends[2 * c + i]) {
+    if elements::is_element(kind, ends[2 * c + i]) {
         return false;
     }
     apart(a, b, parent, used)

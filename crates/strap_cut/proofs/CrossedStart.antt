@@ -9,14 +9,13 @@ use borrow.Author.Tests.{ne-eqb}
 use Rattle.lists.specs.Lists.{fold, padded}
 use Rattle.lists.proofs.Stores.{tab-at, tab-length}
 use Rattle.blade.specs.declared.Point.{Point}
-use Rattle.blade.specs.declared.Hit.the-variants.{Miss, Hit as HitAt}
 use Rattle.columns.proofs.Cells.{col-0, col-1}
 use Rattle.model.specs.Mesh.{Mesh}
 use Rattle.model.specs.Trace.{All}
 use Rattle.model.specs.Run.{Run}
 use Rattle.model.specs.Calls.{firstFault}
 use Rattle.model.specs.Cut.{Crossing, crossings, strapping, crossed}
-use Rattle.model.proofs.Laws.{all-in}
+use Rattle.model_laws.proofs.Laws.{all-in}
 use Rattle.mesh.specs.At.{meshAt}
 use Rattle.mesh.specs.Log.{World, worldOf, worldAt}
 use Rattle.mesh.specs.Given.{Lent, asRooms}
@@ -33,7 +32,7 @@ use Rattle.crossing.specs.Bends.{EndsBelow}
 use Rattle.crossing.specs.Crossings.{crossed-in, CrossingsAre}
 use Rattle.crossing.specs.Crossed.{ranOf, StrapMarks, Crosses, CrossTold, CrossingsIn}
 use Rattle.crossing.proofs.CrossedRuns.{entries-to, words-to, ready-to}
-use Rattle.model.proofs.Inserted.{crossings-inside}
+use Rattle.model_laws.proofs.Inserted.{crossings-inside}
 
 -- ---- nothing is marked
 

@@ -13,9 +13,9 @@ use Rattle.model.specs.Valid.{indicesFit}
 use Rattle.model.specs.Run.{Run, stepTo}
 use Rattle.model.specs.Calls.{firstFault}
 use Rattle.model.specs.Cut.{Blade, Strapping, strapping, unbent, splitSnapped, afterCrossings}
-use Rattle.model.proofs.Steps.{Onward, fault-stays, onward-fold, snapped-onward}
-use Rattle.model.proofs.Accepted.{accepted-indexed, indexed-accepted}
-use Rattle.model.proofs.Inserted.{unbent-indexed}
+use Rattle.model_laws.proofs.Steps.{Onward, fault-stays, onward-fold, snapped-onward}
+use Rattle.model_laws.proofs.Accepted.{accepted-indexed, indexed-accepted}
+use Rattle.model_laws.proofs.Inserted.{unbent-indexed}
 use Rattle.mesh.specs.At.{meshAt}
 use Rattle.mesh.specs.Log.{World, wordsOf, logAt, worldOf, worldAt}
 use Rattle.mesh.specs.Given.{Lent, asRooms}

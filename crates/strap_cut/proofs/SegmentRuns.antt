@@ -11,7 +11,7 @@ use Rattle.model.specs.Mesh.{Mesh}
 use Rattle.model.specs.Run.{Run}
 use Rattle.model.specs.Calls.{firstFault}
 use Rattle.model.specs.Cut.{Blade, crossings, Strapping, strapping, crossed, unbent, splitSnapped, afterCrossings, cutSegments}
-use Rattle.model.proofs.Steps.{Onward, fault-stays, onward-then, onward-fold, unbent-onward, snapped-onward}
+use Rattle.model_laws.proofs.Steps.{Onward, fault-stays, onward-then, onward-fold, unbent-onward, snapped-onward}
 use Rattle.mesh.specs.At.{meshAt}
 use Rattle.mesh.specs.Log.{World, worldOf, worldAt}
 use Rattle.mesh.specs.Given.{Lent, asRooms}

@@ -39,11 +39,7 @@ fn cut_triangles(
     ensures { λ r. ⌜ WorksIn (cutFacets (bladeBy rule b0 b1)) room k points roots corners volumes ends lengths outline log r ⌝ }
 {
     let mut marks = [0usize; 1024];
-    let mut numbers = [0usize; 2048];
-    let mut verts = [0usize; 4096];
-    let mut measures = [0.0f32; 2048];
-    let mut sides = [0usize; 2048];
-    let mut groups = [0usize; 2048];
+    let mut list = [0usize; 2048];
     let mut links = [0u16; 9216];
     links::link_mesh(
         Kind::Triangles,
@@ -68,11 +64,7 @@ fn cut_triangles(
         outline,
         log,
         &mut marks,
-        &mut numbers,
-        &mut verts,
-        &mut measures,
-        &mut sides,
-        &mut groups,
+        &mut list,
         &mut links,
     )
 }
@@ -94,11 +86,7 @@ fn split_triangles(
     ensures { λ r. ⌜ WorksIn (splitPinched Facets) room k points roots corners volumes ends lengths outline log r ⌝ }
 {
     let mut marks = [0usize; 1024];
-    let mut numbers = [0usize; 2048];
-    let mut verts = [0usize; 4096];
-    let mut measures = [0.0f32; 2048];
-    let mut sides = [0usize; 2048];
-    let mut groups = [0usize; 2048];
+    let mut list = [0usize; 2048];
     let mut links = [0u16; 9216];
     links::link_mesh(
         Kind::Triangles,
@@ -120,11 +108,7 @@ fn split_triangles(
         outline,
         log,
         &mut marks,
-        &mut numbers,
-        &mut verts,
-        &mut measures,
-        &mut sides,
-        &mut groups,
+        &mut list,
         &mut links,
     )
 }
@@ -149,11 +133,7 @@ fn cut_straps(
     ensures { λ r. ⌜ WorksIn (cutSegments (bladeFrom b0 b1) f) room k points roots corners volumes ends lengths outline log r ⌝ }
 {
     let mut marks = [0usize; 1024];
-    let mut numbers = [0usize; 2048];
-    let mut verts = [0usize; 4096];
-    let mut measures = [0.0f32; 2048];
-    let mut sides = [0usize; 2048];
-    let mut groups = [0usize; 2048];
+    let mut bends = [0usize; 2048];
     crate::segments::cut_segments(
         b0,
         b1,
@@ -169,11 +149,7 @@ fn cut_straps(
         outline,
         log,
         &mut marks,
-        &mut numbers,
-        &mut verts,
-        &mut measures,
-        &mut sides,
-        &mut groups,
+        &mut bends,
     )
 }
 

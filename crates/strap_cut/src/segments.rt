@@ -4,7 +4,7 @@ ghost use lib.ListN.{length};
 ghost use Rattle.model.specs.Cut.{cutSegments};
 ghost use Rattle.work.specs.Working.{Logged};
 ghost use Rattle.marks.specs.Marking.{bladeFrom};
-ghost use Rattle.cut.specs.Running.{TablesLong, TablesIn};
+ghost use Rattle.split.specs.Blocks.{MaskIn};
 ghost use Rattle.crossing.specs.Crossed.{CrossIn};
 ghost use Rattle.strap_cut.specs.Segments.{MarksLent, AfterTold, BladeCrossedIn};
 ghost use Rattle.mesh.specs.Blocks.{worldBefore, worldBehind};
@@ -14,7 +14,7 @@ use mesh::Counts;
 use mesh::Rooms;
 use work::Ran;
 
-// Finds the crossings of the blade with the straps, and does them in turn, until one lacks room.
+// Finds the crossings of the blade with the straps, and does them in turn, until one lacks room. Their tables are here.
 fn cross_blade(
     b0: Point,
     b1: Point,
@@ -29,21 +29,26 @@ fn cross_blade(
     log: &mut [u32],
     bends: &mut [usize],
     snapped: &mut [usize],
-    numbers: &mut [usize],
-    ts: &mut [f32],
-    first: &mut [usize],
-    second: &mut [usize],
 ) -> Ran
-    requires { ⌜ CrossIn room k points roots ends lengths outline log bends snapped × Logged (k .log) (now log)
-        × (2048 ≤ length (now numbers)) × (2048 ≤ length (now ts)) × (1024 ≤ length (now first)) × (1024 ≤ length (now second)) ⌝ }
+    requires { ⌜ CrossIn room k points roots ends lengths outline log bends snapped × Logged (k .log) (now log) ⌝ }
     ensures { λ r. ⌜ BladeCrossedIn b0 b1 f room k points roots ends lengths outline log bends snapped r ⌝ }
 {
-    let m = crossing::crossings::find_crossings(b0, b1, k.edges, points, ends, numbers, ts);
+    let mut numbers = [0usize; 2048];
+    let mut ts = [0.0f32; 2048];
+    let m = crossing::crossings::find_crossings(
+        b0,
+        b1,
+        k.edges,
+        points,
+        ends,
+        &mut numbers,
+        &mut ts,
+    );
     crossing::crossed::cross_all(
         f,
         m,
-        numbers,
-        ts,
+        &numbers,
+        &ts,
         k,
         room,
         points,
@@ -54,12 +59,10 @@ fn cross_blade(
         log,
         bends,
         snapped,
-        first,
-        second,
     )
 }
 
-// The marked bend edges go, and then the snapped ends are split by the blade; the marks of the bend edges are no longer needed by then, so their table holds sides.
+// The marked bend edges go, and then the snapped ends are split by the blade: the marks of the edges are no longer needed by then, and the splits work in their table.
 pub fn after_crossings(
     b0: Point,
     b1: Point,
@@ -74,20 +77,15 @@ pub fn after_crossings(
     lengths: &mut [f32],
     outline: &mut [usize],
     log: &mut [u32],
-    numbers: &mut [usize],
-    verts: &mut [usize],
-    measures: &mut [f32],
     bends: &mut [usize],
-    groups: &mut [usize],
 ) -> Ran
     requires { ⌜ ReadyIn room k points roots corners volumes ends lengths outline log × Logged (k .log) (now log)
-        × MarksLent (length (now bends)) (length (now snapped)) × TablesLong (length (now numbers)) (length (now verts))
-        (length (now measures)) (length (now bends)) (length (now groups)) ⌝ }
+        × MarksLent (length (now bends)) (length (now snapped)) ⌝ }
     ensures { λ r. ⌜ AfterTold (bladeFrom b0 b1) room (k .edges) (worldBefore k points roots corners volumes ends lengths outline log)
         (λ q. worldBehind q points roots corners volumes ends lengths outline log) (now (bends .entry)) (now (snapped .entry)) r ⌝ }
 {
     let p = k.particles;
-    let ran = crossing::unbent::remove_bends(bends, groups, k, room, ends, lengths, outline, log);
+    let ran = crossing::unbent::remove_bends(bends, k, room, ends, lengths, outline, log);
     match ran {
         Ran::Refused(c) => Ran::Refused(c),
         Ran::Done(left) => snapped::split_all_snapped(
@@ -105,16 +103,12 @@ pub fn after_crossings(
             lengths,
             outline,
             log,
-            numbers,
-            verts,
-            measures,
             bends,
-            groups,
         ),
     }
 }
 
-// Inserts at the crossings or marks their near ends; then removes the bend edges over the insertions and splits the marked ends. At first the table of sides marks bend edges, numbers and measures hold the crossings, and corners and groups the two sides of a strap.
+// Inserts at the crossings or marks their near ends; then removes the bend edges over the insertions and splits the marked ends. The marks are of those ends, the bends of those edges.
 pub fn cut_segments(
     b0: Point,
     b1: Point,
@@ -130,17 +124,13 @@ pub fn cut_segments(
     outline: &mut [usize],
     log: &mut [u32],
     marks: &mut [usize],
-    numbers: &mut [usize],
-    verts: &mut [usize],
-    measures: &mut [f32],
-    sides: &mut [usize],
-    groups: &mut [usize],
+    bends: &mut [usize],
 ) -> Ran
     requires { ⌜ ReadyIn room k points roots corners volumes ends lengths outline log × Logged (k .log) (now log)
-        × (1024 ≤ length (now marks)) × TablesIn numbers verts measures sides groups ⌝ }
+        × (1024 ≤ length (now marks)) × MaskIn bends ⌝ }
     ensures { λ r. ⌜ WorksIn (cutSegments (bladeFrom b0 b1) f) room k points roots corners volumes ends lengths outline log r ⌝ }
 {
-    columns::clear_usize(0, sides);
+    columns::clear_usize(0, bends);
     columns::clear_usize(0, marks);
     let ran = cross_blade(
         b0,
@@ -154,12 +144,8 @@ pub fn cut_segments(
         lengths,
         outline,
         log,
-        sides,
+        bends,
         marks,
-        numbers,
-        measures,
-        verts,
-        groups,
     );
     let Ran::Done(crossed) = ran else {
         return ran;
@@ -178,10 +164,6 @@ pub fn cut_segments(
         lengths,
         outline,
         log,
-        numbers,
-        verts,
-        measures,
-        sides,
-        groups,
+        bends,
     )
 }

@@ -16,9 +16,9 @@ use Rattle.lists.proofs.Stores.{stored, tab-at, tab-length}
 use Rattle.columns.proofs.Cells.{col-0, col-1}
 use Rattle.model.specs.Mesh.{blankTriangle}
 use Rattle.model.specs.Trace.{Sound}
-use Rattle.model.proofs.Laws.{all-in}
-use Rattle.model.proofs.Indexed.{sound-wide}
-use Rattle.model.proofs.Accepted.{accepted-indexed}
+use Rattle.model_laws.proofs.Laws.{all-in}
+use Rattle.model_laws.proofs.Indexed.{sound-wide}
+use Rattle.model_laws.proofs.Accepted.{accepted-indexed}
 use Rattle.mesh.specs.At.{triangleRow, trianglesAt, meshAt}
 use Rattle.mesh.specs.Given.{Lent}
 use Rattle.mesh.specs.declared.Counts.{Counts}

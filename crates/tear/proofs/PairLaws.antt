@@ -16,9 +16,9 @@ use Rattle.model.specs.Elements.{Kind, Element, elementsOf, held, cornersPer}
 use Rattle.model.specs.Run.{Run, splitsOf}
 use Rattle.model.specs.Crack.{family, crossPairs, joins, firstOf, currentOf, currentPair}
 use Rattle.model.specs.Trace.{All}
-use Rattle.model.proofs.Laws.{all-in, Found}
-use Rattle.model.proofs.Indexed.{Pair as Two, Indexed}
-use Rattle.model.proofs.Accepted.{accepted-indexed}
+use Rattle.model_laws.proofs.Laws.{all-in, Found}
+use Rattle.model_laws.proofs.Indexed.{Pair as Two, Indexed}
+use Rattle.model_laws.proofs.Accepted.{accepted-indexed}
 use Rattle.mesh.specs.At.{trianglesAt, edgesAt, meshAt}
 use Rattle.mesh.specs.Log.{World, worldOf, worldAt}
 use Rattle.mesh.specs.declared.Counts.{Counts}

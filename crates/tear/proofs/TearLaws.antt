@@ -22,7 +22,7 @@ use Rattle.model.specs.Cut.{slack}
 use Rattle.model.specs.Crack.{hurt}
 use Rattle.mesh.specs.At.{edgeRow, edgesAt, particleBy, particleRow, particlesAt}
 use Rattle.mesh.specs.Widths.{pointColumns}
-use Rattle.rewire.specs.Edges.{copiesBy}
+use Rattle.straddling.specs.Tests.{copiesBy}
 use Rattle.tear.specs.Tears.{bridgesBy, slackBy, Slackened, madeBy, Damaged}
 use Rattle.lists.proofs.Truths.{mark-or}
 

@@ -16,7 +16,7 @@ use Rattle.model.specs.Split.{Opening, made, copies, atLongest, settled, stradd
 use Rattle.model.specs.Cut.{slack, slackened}
 use Rattle.model.specs.Crack.{hurt, damagedAt, bridges, torn}
 use Rattle.model.specs.Calls.{tooSmall}
-use Rattle.model.proofs.Traced.{copied-length}
+use Rattle.model_laws.proofs.Traced.{copied-length}
 use Rattle.mesh.specs.At.{particlesAt, edgesAt, meshAt}
 use Rattle.mesh.specs.Log.{World, Words, wordsOf, worldOf, worldAt}
 use Rattle.mesh.specs.Given.{asRooms}

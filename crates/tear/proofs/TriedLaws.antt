@@ -15,12 +15,12 @@ use Rattle.mesh.specs.At.{trianglesAt, edgesAt, meshAt}
 use Rattle.mesh.specs.declared.Counts.{Counts}
 use Rattle.elements.specs.Table.{Cornered, Tabled, TableRoom, elementsIn}
 use Rattle.elements.proofs.Found.{elements-in, fan-of}
-use Rattle.links.specs.Linked.{Linked, MeshLinked}
+use Rattle.links.specs.Linked.{MeshLinked}
 use Rattle.reach.specs.Walk.{Lent}
 use Rattle.reach.specs.Opens.{Opens}
 use Rattle.reach.proofs.Opening.{lent-by, opens-is}
 use Rattle.split_plan.specs.Opened.{openingBy, CornersBelow}
-use Rattle.split.specs.Tables.{FanLent, FanRead, openedBy}
+use Rattle.split.specs.Tables.{FanLent, FanTables, FanRead, openedBy}
 use Rattle.work.proofs.Placed.{particles-count, triangles-count, edges-count}
 use Rattle.split.proofs.Fitted.{all-few}
 use Rattle.split.proofs.Below.{Few, rowsOf, table-below, fan-corners, fan-number}
@@ -34,22 +34,21 @@ module _ (K : Kind) (k : Counts) (points : List Float) (roots corners : List ℕ
   M = meshAt k points roots corners volumes ends lengths outline
 
   -- what reading the fan asks
-  pub way-lent : {links : List ℕ} (ln lk lm ls : ℕ) → WayTables ln lk lm ls → MeshLinked K (k .triangles) (k .edges) corners ends links
-      → FanLent (k .triangles) (k .edges) (length corners) (length volumes) (length ends) (length lengths) ln lk lm × Linked K (k .triangles) corners links × (v < 1024)
-  way-lent ln lk lm ls T X = (
-    record {
-      few = (P .few-triangles, P .few-edges);
-      corners = P .corners;
-      volumes = P .volumes;
-      ends = P .ends;
-      lengths = P .lengths;
-      numbers = T .numbers;
-      verts = T .verts;
-      measures = T .measures;
-    },
-    X .triangles,
+  pub way-lent : {links : List ℕ} → MeshLinked K (k .triangles) (k .edges) corners ends links
+      → FanLent (k .triangles) (k .edges) (length corners) (length volumes) (length ends) (length lengths) × MeshLinked K (k .triangles) (k .edges) corners ends links × (v < 1024)
+  way-lent X = (
+    record { few = (P .few-triangles, P .few-edges); corners = P .corners; volumes = P .volumes; ends = P .ends; lengths = P .lengths },
+    X,
     omega (arith, P .v-in, P .few-particles),
   )
+
+  -- the tables have room for what was found
+  pub way-found : {n ls : ℕ} {numbers verts : List ℕ} {measures : List Float} (ln lk lm : ℕ) → FanTables K v (k .triangles) (k .edges) corners volumes ends lengths n numbers verts measures → WayTables ln lk lm ls
+      → length numbers ≡ ln → length verts ≡ lk → length measures ≡ lm → FanRead K v (k .triangles) (k .edges) corners volumes ends lengths n numbers verts measures
+  way-found ln lk lm F T a b c =
+      let few = F .few in
+      let narrow = F .narrow in
+      F .read (omega (arith, T .numbers)) (omega (arith, T .verts)) (omega (arith, T .measures))
 
   module _ (n : ℕ) (numbers verts : List ℕ) (measures : List Float) (F : FanRead K v (k .triangles) (k .edges) corners volumes ends lengths n numbers verts measures) where
     -- the fan of the mesh stands in the tables

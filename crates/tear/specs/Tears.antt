@@ -10,7 +10,7 @@ use Rattle.model.specs.Mesh.{Edge}
 use Rattle.model.specs.Cut.{slack}
 use Rattle.model.specs.Crack.{hurt}
 use Rattle.mesh.specs.At.{particlesAt, edgesAt}
-use Rattle.rewire.specs.Edges.{copiesBy}
+use Rattle.straddling.specs.Tests.{copiesBy}
 
 -- is the edge (a, b) between `other` and v or a copy of it: `bridges` of an opening at v, with so many particles before it, of so many groups
 unfoldable pub bridgesBy : ℕ → ℕ → ℕ → ℕ → ℕ → ℕ → Bool

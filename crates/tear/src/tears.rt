@@ -4,7 +4,7 @@ ghost use Prim.Native.Nat.{_/_, _<_};
 ghost use lib.ListN.{length};
 ghost use Rattle.lists.specs.Lists.{stands};
 ghost use Rattle.mesh.specs.Workers.{EdgeRoom};
-ghost use Rattle.rewire.specs.Edges.{copiesBy};
+ghost use Rattle.straddling.specs.Tests.{copiesBy};
 ghost use Rattle.tear.specs.Tears.{bridgesBy, Slackened, DamageRoom, Damaged};
 
 // Is w v or one of its copies?

@@ -25,8 +25,8 @@ use Rattle.model.specs.Run.{opened, Run}
 use Rattle.model.specs.Split.{Opening, openingOf, splits?, splitMade, splitStep}
 use Rattle.model.specs.Pieces.{opensWithoutConfetti}
 use Rattle.model.specs.Crack.{farSide, meanLoad, Way, twoSided, wayAt, ahead, before?, inOrder, waysOf, firstOf, torn, crackBy, crackPair, crackEdge}
-use Rattle.model.proofs.Laws.{pick-both}
-use Rattle.model.proofs.Splitting.{two-groups}
+use Rattle.model_laws.proofs.Laws.{pick-both}
+use Rattle.model_laws.proofs.Splitting.{two-groups}
 use Rattle.mesh.specs.At.{meshAt}
 use Rattle.mesh.specs.Log.{World, worldOf}
 use Rattle.mesh.specs.Given.{Lent}

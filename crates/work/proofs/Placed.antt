@@ -12,9 +12,9 @@ use Rattle.columns.specs.Block.{cell}
 use Rattle.model.specs.Mesh.{Edge, Side, blankTriangle, blankEdge}
 use Rattle.model.specs.Valid.{indicesFit}
 use Rattle.model.specs.Trace.{All, Sound}
-use Rattle.model.proofs.Laws.{all-in}
-use Rattle.model.proofs.Indexed.{Indexed, Pair}
-use Rattle.model.proofs.Accepted.{accepted-indexed}
+use Rattle.model_laws.proofs.Laws.{all-in}
+use Rattle.model_laws.proofs.Indexed.{Indexed, Pair}
+use Rattle.model_laws.proofs.Accepted.{accepted-indexed}
 use Rattle.mesh.specs.At.{triangleRow, edgeRow, sideRow, trianglesAt, edgesAt, boundaryAt, meshAt}
 use Rattle.mesh.specs.declared.Counts.{Counts}
 use Rattle.mesh.proofs.Lists.{particles-length, edges-length}

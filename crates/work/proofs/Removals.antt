@@ -2,8 +2,9 @@
 use mathlib.Core.Path.{_≡_, refl, sym, _∙_, ap, ap₂, subst}
 use mathlib.Core.Bool.{Bool, true, false, _&&_}
 use mathlib.Core.List.{List, [], _∷_, _++_, map, append-nil, append-assoc, map-append}
-use Prim.Native.Nat.{ℕ, _+_, _/_, _-_, _<_, _≤_, zero-le}
+use Prim.Native.Nat.{ℕ, suc, _+_, _/_, _-_, _<_, _≤_, zero-le}
 use native.Mathlib.Omega.{arith}
+use native.Mathlib.Numerals.{add-one}
 use borrow.Author.Count.{below-more}
 use borrow.Author.Tests.{eq-eqb, ne-eqb}
 use lib.Dec.{eqb}
@@ -40,6 +41,13 @@ mark-eqb false = refl
 pub mark-small : (t : Bool) → pick t 1 0 ≤ 1
 mark-small true = omega arith
 mark-small false = omega arith
+
+-- one number more passes
+pub count-step : (p : ℕ → Bool) (m : ℕ) (t : Bool) → p m ≡ t → length (sift p (upTo (suc m))) ≡ length (sift p (upTo m)) + length (pick t (m ∷ []) [])
+unfolding upTo
+count-step p m t h =
+    ap (λ (z : ℕ). length (sift p (tab z (λ k. k)))) (sym (add-one m)) ∙ ap length (sift-step p (λ k. k) m) ∙ length-append (sift p (tab m (λ k. k))) (pick (p m) (m ∷ []) [])
+    ∙ ap (λ (z : Bool). length (sift p (tab m (λ k. k))) + length (pick z (m ∷ []) [])) h
 
 -- at the head of a loop: the first i places are marked as T tells
 pub record Marking (T : ℕ → Bool) (n : ℕ) (mask₀ mask : List ℕ) (i : ℕ) : Type 0 where

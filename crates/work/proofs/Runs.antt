@@ -12,7 +12,7 @@ use Rattle.model.specs.Mesh.{Mesh}
 use Rattle.model.specs.Run as M
 use Rattle.model.specs.Run.{Entry, Need, Run, stepTo}
 use Rattle.model.specs.Calls.{tooSmall, firstFault}
-use Rattle.model.proofs.Steps.{Onward, fault-front, fault-stays}
+use Rattle.model_laws.proofs.Steps.{Onward, fault-front, fault-stays}
 use Rattle.mesh.specs.Log.{World, worldOf}
 use Rattle.mesh.specs.Given.{asRooms}
 use Rattle.mesh.specs.declared.Counts.{Counts}

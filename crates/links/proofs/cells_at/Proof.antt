@@ -1,6 +1,6 @@
 -- `links::cells_at` meets its contract: the invariant is the cells found (`Walking` of proofs/Walked.antt). Assumes nothing.
 use Prim.Native.Nat.{_-_}
-use Rattle.links.proofs.Walked.{Walking, walking-start, walking-holds, walking-room, walking-within, walking-more, walking-done}
+use Rattle.links.proofs.Walked.{Walking, walking-start, walking-holds, walking-room, walking-within, walking-few, walking-more, walking-done}
 use Rattle.columns.specs.Block.{cell}
 use lib.ListN.{length}
 use native.Mathlib.Omega.{arith}
@@ -44,7 +44,7 @@ same-length : tie.Need-same-length Inv-loop μ-loop
 same-length c = c .before .loop .inv .long
 
 returns : tie.Need-returns Inv-loop μ-loop
-returns c = record { are = walking-done _ _ _ _ _ _ _ _ (c .before .loop .inv) (omega arith); few = omega (arith, c .before .loop .inv .done, c .before .loop .inv .below) }
+returns c = record { are = walking-done _ _ _ _ _ _ _ _ (c .before .loop .inv) (omega arith); few = walking-few _ _ _ _ _ _ _ _ (c .before .loop .inv) }
 
 pub cells-at-spec : {M : Type 1} → statement M
 cells-at-spec =

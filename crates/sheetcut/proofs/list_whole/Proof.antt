@@ -1,7 +1,7 @@
 -- `sheetcut::list_whole` meets its contract: the sheet is read into blocks, whose fronts are cut. Assumes nothing.
 use borrow.Author.Needs.{needs}
 use mathlib.Core.Path.{refl, _∙_}
-use Rattle.sheetcut.proofs.Reading.{seen-told}
+use Rattle.sheet_fronts.proofs.Reading.{seen-told}
 use Rattle.sheetcut.proofs.Cutting.{whole-cuttable, fronts-listed}
 use Rattle.sheetcut.proofs.list_whole.Statement.{statement}
 use Rattle.sheetcut.proofs.list_whole.Tie as tie

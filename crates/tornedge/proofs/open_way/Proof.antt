@@ -13,7 +13,7 @@ slice-aggregate-group-fan : tie.Need-slice-aggregate-group-fan
 slice-aggregate-group-fan c = search needs
 
 group-fan-requires : tie.Need-group-fan-requires
-group-fan-requires c κs = let P = c .before .before .before .before .before .before .before .before .before .before .before .before .before .before .before .pre in let A = c .before .before .before .before .before .before .before .before .before .before .before .before .before .before .before .args in sides-asked (P .1) _ (omega arith)
+group-fan-requires c κs = let P = c .before .before .before .before .before .before .before .before .before .before .before .before .before .before .before .pre in let A = c .before .before .before .before .before .before .before .before .before .before .before .before .before .before .before .args in sides-asked (P .1) _ (omega (arith, P .1 .few))
 
 slice-aggregate-way-opens : tie.Need-slice-aggregate-way-opens
 slice-aggregate-way-opens c = search needs

@@ -1,5 +1,4 @@
 -- `bench_c::cutting::bench_cut` meets its contract: a bad argument, or the job on the blade and the fraction that were read, in the edition that was told. Assumes nothing.
-use native.Mathlib.Omega.{arith}
 use borrow.Author.Needs.{needs}
 use Rattle.reading_c.proofs.Asking.{unread-small}
 use Rattle.bench_c.proofs.Cuttings.{cut-misread, cut-replied}
@@ -21,14 +20,8 @@ same-length-2 c = c .before .before .before .before .refuse .kept .1 .1 .0
 returns : tie.Need-returns
 returns c = let A = c .before .before .before .before .before .before .before .before .before .before .before .before .before .before .args in cut-misread (A .bytes .now) (A .rooms .now) _ _ _ _ _ (A .blade .now) (A .edition) (A .fraction) _ (c .before .before .before .before .before .before .before .before .if1 .taken) (c .before .before .before .before .before .before .before .unread .ensures) (c .before .before .before .before .refuse .ensures)
 
-point-at-requires : tie.Need-point-at-requires
-point-at-requires c κs = omega (arith, c .if1 .left)
-
-point-at-requires-2 : tie.Need-point-at-requires-2
-point-at-requires-2 c κs = omega (arith, c .before .if1 .left)
-
-number-of-requires : tie.Need-number-of-requires
-number-of-requires c κs = search needs
+cut-job-requires : tie.Need-cut-job-requires
+cut-job-requires c κs = c .if1 .left
 
 slice-aggregate-reply-job : tie.Need-slice-aggregate-reply-job
 slice-aggregate-reply-job c = search needs
@@ -43,7 +36,7 @@ same-length-4 : tie.Need-same-length-4
 same-length-4 c = c .before .before .before .before .reply-job .kept .1 .1 .1 .1 .1 .0
 
 returns-2 : tie.Need-returns-2
-returns-2 c = let A = c .before .before .before .before .before .before .before .before .before .before .before .before .before .before .before .before .before .args in cut-replied (A .bytes .now) (A .rooms .now) _ _ _ _ _ (A .blade .now) (A .edition) (A .fraction) _ _ _ _ (c .before .before .before .before .before .before .before .before .before .before .before .if1 .left) (c .before .before .before .before .before .before .before .before .before .before .point-at .ensures) (c .before .before .before .before .before .before .before .before .before .point-at2 .ensures) (c .before .before .before .before .before .before .before .before .number-of .ensures) (c .before .before .before .before .reply-job .ensures)
+returns-2 c = let A = c .before .before .before .before .before .before .before .before .before .before .before .before .before .before .before .args in cut-replied (A .bytes .now) (A .rooms .now) _ _ _ _ _ (A .blade .now) (A .edition) (A .fraction) _ _ (c .before .before .before .before .before .before .before .before .before .if1 .left) (c .before .before .before .before .before .before .before .before .cut-job .ensures) (c .before .before .before .before .reply-job .ensures)
 
 pub bench-cut-spec : {M : Type 1} → statement M
 bench-cut-spec =
@@ -54,9 +47,7 @@ bench-cut-spec =
     same-length
     same-length-2
     returns
-    point-at-requires
-    point-at-requires-2
-    number-of-requires
+    cut-job-requires
     slice-aggregate-reply-job
     reply-job-requires
     same-length-3

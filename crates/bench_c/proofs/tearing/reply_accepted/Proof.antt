@@ -3,7 +3,7 @@ use mathlib.Core.Path.{refl}
 use Rattle.mesh.specs.Given.{meshOf}
 use Rattle.call_frame.proofs.Begun.{begun-lacking, begun-copied}
 use Rattle.image.specs.Image.{imageOf}
-use Rattle.bench_c.proofs.Places.{lacking-as}
+use Rattle.mesh_replies.proofs.Places.{lacking-as}
 use Rattle.bench_c.proofs.Tearings.{accepted-begun, lack-small, lack-replied}
 use borrow.Author.Needs.{needs}
 use Rattle.bench_c.proofs.tearing.reply_accepted.Statement.{statement}

@@ -1,5 +1,5 @@
 -- `bench_c::tearing::reply_sized` meets its contract: the refusal of a check, or the reply to a job that nothing refused. Assumes nothing.
-use Rattle.bench_c.proofs.Places.{local-fits, fits-still}
+use Rattle.mesh_replies.proofs.Places.{local-fits, fits-still}
 use Rattle.bench_c.proofs.Tearings.{limited-lent, lent-still, judged}
 use Rattle.bench_c.proofs.Entries.{job-small, job-accepted, job-replied, job-turned}
 use borrow.Author.Needs.{needs}

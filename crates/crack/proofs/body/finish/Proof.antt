@@ -1,7 +1,7 @@
 -- `crack::body::finish` meets its contract: one part of the end comes behind the other, if the log tells of a split. Assumes nothing.
 use mathlib.Core.Path.{refl, _∙_}
 use Rattle.elements.specs.Table.{kindIs}
-use Rattle.model.proofs.Indexed.{pinched-indexed}
+use Rattle.model_laws.proofs.Indexed.{pinched-indexed}
 use Rattle.mesh.specs.Log.{worldAt}
 use Rattle.mesh.proofs.Agree.{lent-path}
 use Rattle.work.proofs.Runs.{beside, works-stay, works-known}

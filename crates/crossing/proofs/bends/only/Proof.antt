@@ -8,16 +8,8 @@ use Rattle.crossing.proofs.bends.only.Reads as reads
 use Rattle.crossing.proofs.bends.only.Lts as lts
 
 -- src/bends.rt:54:8
-mul-if1 : tie.Need-mul-if1
-mul-if1 c = search needs
-
--- src/bends.rt:54:8
 shared-slice-read-if1 : tie.Need-shared-slice-read-if1
 shared-slice-read-if1 c = search needs
-
--- src/bends.rt:55:16
-mul-result : tie.Need-mul-result
-mul-result c = search needs
 
 -- src/bends.rt:55:16
 shared-slice-read-result : tie.Need-shared-slice-read-result
@@ -34,4 +26,4 @@ returns-2 c = only-no _ (marked (c .before .before .args .second .now) (c .befor
 pub only-spec : {M : Type 1} → statement M
 only-spec =
     tie.close
-    (tie.spec mul-if1 shared-slice-read-if1 mul-result shared-slice-read-result returns returns-2)
+    (tie.spec shared-slice-read-if1 shared-slice-read-result returns returns-2)

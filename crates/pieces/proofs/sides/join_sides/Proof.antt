@@ -6,7 +6,7 @@ use mathlib.Core.List.{List}
 use mathlib.Core.Logic.{⊎-elim}
 use Prim.Native.Nat.{ℕ, _+_, _*_, _≤_, _-_}
 use lib.ListN.{length}
-use Rattle.pieces.specs.Tables.{Tied}
+use Rattle.bodies.specs.Tables.{Tied}
 use Rattle.pieces.specs.Sides.{lowOf, highOf, SameFacet, Sided, SideRoom}
 use Rattle.pieces.proofs.FacetChains.{room-of, room-for, room-own, sided-none, sided-same}
 use Rattle.pieces.proofs.sides.join_sides.Statement.{statement}

@@ -8,14 +8,14 @@ use Rattle.reading_c.proofs.questions.image_asked.Tie as tie
 image-sized-requires : tie.Need-image-sized-requires
 image-sized-requires c κs = search needs
 
-ask-loaded-requires : tie.Need-ask-loaded-requires
-ask-loaded-requires c κs = (sym (c .before .before .image-sized .ensures) ∙ c .before .if1 .taken, c .before .before .before .before .before .before .pre)
+ask-sized-requires : tie.Need-ask-sized-requires
+ask-sized-requires c κs = (sym (c .before .before .image-sized .ensures) ∙ c .before .if1 .taken, c .before .before .before .before .before .before .pre)
 
 same-length : tie.Need-same-length
 same-length c = search needs
 
 returns : tie.Need-returns
-returns c = c .before .before .ask-loaded .ensures
+returns c = c .before .before .ask-sized .ensures
 
 reply-refused-requires : tie.Need-reply-refused-requires
 reply-refused-requires c κs = search needs
@@ -31,7 +31,7 @@ image-asked-spec =
     tie.close
     (tie.spec
     image-sized-requires
-    ask-loaded-requires
+    ask-sized-requires
     same-length
     returns
     reply-refused-requires

@@ -1,8 +1,9 @@
 -- `readings::grouping::groups` meets its contract: the faults of the mesh, or the groups. Assumes nothing.
 use mathlib.Core.Path.{refl, sym, _∙_}
-use Rattle.arguments.proofs.Accepted.{sizes-of}
+use Rattle.mesh_tables.proofs.Accepted.{sizes-of}
 use Rattle.mesh.specs.Given.{given}
-use Rattle.arguments.proofs.Judged.{undecided, accepted}
+use Rattle.arguments.proofs.Judged.{undecided}
+use Rattle.mesh_tables.proofs.Checked.{accepted}
 use Rattle.readings.proofs.Grouped.{groups-refused}
 use borrow.Author.Needs.{needs}
 use Rattle.readings.proofs.grouping.groups.Statement.{statement}

@@ -6,9 +6,9 @@ use lib.Seq.{length-take-le}
 use Rattle.lists.proofs.Sifts.{and-true}
 use Rattle.judge.proofs.Joined.{and-next}
 use Rattle.mesh.specs.Given.{given}
-use Rattle.arguments.proofs.Accepted.{Few}
-use Rattle.arguments.proofs.FanRead.{corners-few, fan-read}
-use Rattle.arguments.proofs.Judged.{accepted}
+use Rattle.mesh_tables.proofs.Accepted.{Few}
+use Rattle.mesh_tables.proofs.FanRead.{corners-few, fan-read}
+use Rattle.mesh_tables.proofs.Checked.{accepted}
 use Rattle.readings.proofs.Grouped.{grid-is, fan-asked, roomy-fan, sides-by, groups-answered, groups-refused, four-of}
 use borrow.Author.Needs.{needs}
 use Rattle.readings.proofs.grouping.groups_by.Statement.{statement}

@@ -4,8 +4,8 @@ use native.Mathlib.Omega.{arith}
 use mathlib.Core.Path.{sym}
 use lib.Seq.{length-take-le}
 use borrow.Author.Needs.{needs}
-use Rattle.arguments.proofs.Judged.{accepted, sides-ok}
-use Rattle.arguments.proofs.FanRead.{found-fan}
+use Rattle.mesh_tables.proofs.Checked.{accepted, sides-ok}
+use Rattle.mesh_tables.proofs.FanRead.{found-fan}
 use Rattle.readings.proofs.Grouped.{found-asked, opens-answered, opens-refused, opens-found, four-of}
 use Rattle.readings.proofs.grouping.mesh_opens.Statement.{statement}
 use Rattle.readings.proofs.grouping.mesh_opens.Tie as tie

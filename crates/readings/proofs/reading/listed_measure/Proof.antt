@@ -1,5 +1,5 @@
 -- `readings::reading::listed_measure` meets its contract: the table, and the measures within the list. Assumes nothing.
-use Rattle.arguments.proofs.Accepted.{mark-room, listed-found}
+use Rattle.mesh_tables.proofs.Accepted.{few-particles, mark-room, listed-found}
 use native.Mathlib.Omega.{arith}
 use borrow.Author.Needs.{needs}
 use Rattle.readings.proofs.reading.listed_measure.Statement.{statement}
@@ -29,7 +29,7 @@ slice-aggregate-measure-within-3 c = search needs
 measure-within-requires : tie.Need-measure-within-requires
 measure-within-requires c κs = let T = c .before .before .before .before .before .before .table in
     let P = c .before .before .before .before .before .before .before .before .before .before .before .before .before .before .before .before .before .before .pre in
-    mark-room _ (P .0) (P .1) (T .ensures) (omega (arith, T .kept .1 .1 .1 .1 .1 .1 .1 .1 .1 .0))
+    mark-room _ _ _ (P .0) (P .1) (T .ensures) (omega (arith, T .ensures .corners .few, T .kept .1 .1 .1 .1 .1 .1 .1 .1 .1 .0)) (few-particles (P .0))
 
 returns : tie.Need-returns
 returns c = listed-found (c .before .before .before .before .before .before .before .before .table .ensures) (c .before .measure-within .ensures)

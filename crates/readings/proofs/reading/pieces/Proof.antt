@@ -1,5 +1,5 @@
 -- `readings::reading::pieces` meets its contract: the faults of the mesh, or its pieces. Assumes nothing.
-use Rattle.arguments.proofs.Judged.{accepted}
+use Rattle.mesh_tables.proofs.Checked.{accepted}
 use Rattle.readings.proofs.Refusing.{pieces-refuses, pieces-answers}
 use mathlib.Core.Path.{sym, _∙_}
 use borrow.Author.Needs.{needs}

@@ -1,5 +1,5 @@
 -- `readings::reading::rest_measure` meets its contract: the faults of the mesh, or its measure. Assumes nothing.
-use Rattle.arguments.proofs.Judged.{accepted}
+use Rattle.mesh_tables.proofs.Checked.{accepted}
 use Rattle.readings.proofs.Refusing.{measure-refuses, measure-answers}
 use mathlib.Core.Path.{sym, _∙_}
 use borrow.Author.Needs.{needs}

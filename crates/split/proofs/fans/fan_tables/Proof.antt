@@ -1,9 +1,10 @@
--- `split::fans::fan_tables` meets its contract: the triangles that hold v by the table of links, or the straps, or none. The laws are in proofs/FanLaws.antt and proofs/LinkLaws.antt. Assumes nothing.
+-- `split::fans::fan_tables` meets its contract: the triangles that hold v by the table of their links, or the straps by that of the edges, or none. The laws are in proofs/FanLaws.antt and proofs/LinkLaws.antt. Assumes nothing.
 use native.Mathlib.Omega.{arith}
 use mathlib.Core.Path.{refl, ap}
 use borrow.Author.Needs.{needs}
 use Rattle.elements.specs.Table.{kindIs}
-use Rattle.split.proofs.Fitted.{fan-read}
+use Rattle.links.proofs.Parts.{edges-lent}
+use Rattle.split.proofs.Fitted.{fan-told}
 use Rattle.split.proofs.FanLaws.{held-triangles, held-straps, held-nothing}
 use Rattle.split.proofs.LinkLaws.{fan-walk}
 use Rattle.split.proofs.fans.fan_tables.Statement.{statement}
@@ -13,13 +14,22 @@ enum-told : tie.Need-enum-told
 enum-told c = search needs
 
 fan-linked-requires : tie.Need-fan-linked-requires
-fan-linked-requires c κs = fan-walk (c .before .before .before .before .before .before .before .before .before .before .before .before .before .pre .0) (c .before .before .before .before .before .before .before .before .before .before .before .before .before .pre .1) (c .before .before .before .before .before .before .before .before .before .before .before .before .before .pre .2) (ap kindIs (c .before .before .before .enum-told .given .1))
+fan-linked-requires c κs = fan-walk (c .before .before .before .before .before .before .before .before .before .before .before .before .before .pre .0) (c .before .before .before .before .before .before .before .before .before .before .before .before .before .pre .1 .triangles) (c .before .before .before .before .before .before .before .before .before .before .before .before .before .pre .2) (ap kindIs (c .before .before .before .enum-told .given .1))
 
 enum-told-2 : tie.Need-enum-told-2
 enum-told-2 c = search needs
 
-fan-straps-requires : tie.Need-fan-straps-requires
-fan-straps-requires c κs = let P = c .before .before .before .before .before .before .before .before .before .before .before .before .before .pre .0 in record { ends = P .ends; lengths = P .lengths; numbers = omega (arith, P .few .1, P .numbers); verts = omega (arith, P .few .1, P .verts); measures = omega (arith, P .few .1, P .measures) }
+sub-straps-linked : tie.Need-sub-straps-linked
+sub-straps-linked c = omega (arith, c .before .before .before .before .before .before .before .before .before .before .pre .1 .long)
+
+part-straps-linked-start : tie.Need-part-straps-linked-start
+part-straps-linked-start c = omega (arith, c .before .before .before .before .before .before .before .before .before .before .pre .1 .long)
+
+part-straps-linked-end : tie.Need-part-straps-linked-end
+part-straps-linked-end c = omega (arith, c .before .before .before .before .before .before .before .before .before .before .pre .1 .long)
+
+straps-linked-requires : tie.Need-straps-linked-requires
+straps-linked-requires c κs = (edges-lent (c .before .before .before .before .before .before .before .before .before .before .before .before .before .before .pre .1), c .before .before .before .before .before .before .before .before .before .before .before .before .before .before .pre .0 .lengths, c .before .before .before .before .before .before .before .before .before .before .before .before .before .before .pre .2)
 
 enum-told-3 : tie.Need-enum-told-3
 enum-told-3 c = search needs
@@ -35,24 +45,24 @@ same-length-3 c = c .before .before .before .before .before .before .fan-linked 
 
 returns : tie.Need-returns
 returns c = let A = c .before .before .before .before .before .before .before .before .before .before .before .before .before .before .before .before .before .before .before .before .args in let P = c .before .before .before .before .before .before .before .before .before .before .before .before .before .before .before .before .before .before .before .before .pre .0 in
-    fan-read (kindIs (A .kind)) _ _ _ _ _ _ _ _ _ _ _ (P .few .0) (P .few .1) (held-triangles (A .kind) _ _ _ _ _ _ _ (c .before .before .before .before .before .before .before .before .before .before .enum-told .given .1) (c .before .before .before .before .before .before .fan-linked .ensures))
+    fan-told (kindIs (A .kind)) _ _ _ _ _ _ _ _ _ _ _ (P .few .0) (P .few .1) (held-triangles (A .kind) _ _ _ _ _ _ _ (c .before .before .before .before .before .before .before .before .before .before .enum-told .given .1) (c .before .before .before .before .before .before .fan-linked .ensures))
 
 same-length-4 : tie.Need-same-length-4
-same-length-4 c = c .before .before .before .before .before .before .fan-straps .kept .1 .1 .1 .1 .0
+same-length-4 c = c .before .before .before .before .before .before .straps-linked .kept .1 .1 .1 .1 .1 .0
 
 same-length-5 : tie.Need-same-length-5
-same-length-5 c = c .before .before .before .before .before .before .fan-straps .kept .1 .1 .1 .1 .1 .0
+same-length-5 c = c .before .before .before .before .before .before .straps-linked .kept .1 .1 .1 .1 .1 .1 .0
 
 same-length-6 : tie.Need-same-length-6
-same-length-6 c = c .before .before .before .before .before .before .fan-straps .kept .1 .1 .1 .1 .1 .1 .0
+same-length-6 c = c .before .before .before .before .before .before .straps-linked .kept .1 .1 .1 .1 .1 .1 .1 .0
 
 returns-2 : tie.Need-returns-2
-returns-2 c = let A = c .before .before .before .before .before .before .before .before .before .before .before .before .before .before .before .before .before .before .before .before .args in let P = c .before .before .before .before .before .before .before .before .before .before .before .before .before .before .before .before .before .before .before .before .pre .0 in
-    fan-read (kindIs (A .kind)) _ _ _ _ _ _ _ _ _ _ _ (P .few .0) (P .few .1) (held-straps (A .kind) _ _ _ _ _ _ _ (c .before .before .before .before .before .before .before .before .before .before .enum-told2 .given .1) (c .before .before .before .before .before .before .fan-straps .ensures))
+returns-2 c = let A = c .before .before .before .before .before .before .before .before .before .before .before .before .before .before .before .before .before .before .before .before .before .args in let P = c .before .before .before .before .before .before .before .before .before .before .before .before .before .before .before .before .before .before .before .before .before .pre .0 in
+    fan-told (kindIs (A .kind)) _ _ _ _ _ _ _ _ _ _ _ (P .few .0) (P .few .1) (held-straps (A .kind) _ _ _ _ _ _ _ (c .before .before .before .before .before .before .before .before .before .before .before .enum-told2 .given .1) (c .before .before .before .before .before .before .straps-linked .ensures))
 
 returns-3 : tie.Need-returns-3
 returns-3 c = let A = c .before .before .before .before .before .before .before .before .before .before .args in let P = c .before .before .before .before .before .before .before .before .before .before .pre .0 in
-    fan-read (kindIs (A .kind)) _ _ _ _ _ _ _ _ _ _ _ (P .few .0) (P .few .1) (held-nothing (A .kind) _ _ _ _ _ _ _ (c .enum-told3 .given .1) refl)
+    fan-told (kindIs (A .kind)) _ _ _ _ _ _ _ _ _ _ _ (P .few .0) (P .few .1) (held-nothing (A .kind) _ _ _ _ _ _ _ (c .enum-told3 .given .1) refl)
 
 pub fan-tables-spec : {M : Type 1} → statement M
 fan-tables-spec =
@@ -61,7 +71,10 @@ fan-tables-spec =
     enum-told
     fan-linked-requires
     enum-told-2
-    fan-straps-requires
+    sub-straps-linked
+    part-straps-linked-start
+    part-straps-linked-end
+    straps-linked-requires
     enum-told-3
     same-length
     same-length-2

@@ -1,4 +1,4 @@
--- `split::grow::rewire_linked` meets its contract: the table by `links::split_links`, the corners by `rewire::fans::rewire_triangles` (proofs/LinkLaws.antt). Assumes nothing.
+-- `split::grow::rewire_linked` meets its contract: the table by `link_splits::split_links`, the corners by `rewire::fans::rewire_triangles` (proofs/LinkLaws.antt). Assumes nothing.
 use lib.Seq.{length-take-le}
 use mathlib.Core.Path.{sym}
 use Rattle.split.proofs.LinkLaws.{links-rewired}

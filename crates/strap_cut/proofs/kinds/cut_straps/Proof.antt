@@ -10,44 +10,32 @@ slice-aggregate-cut-segments c = search needs
 slice-aggregate-cut-segments-2 : tie.Need-slice-aggregate-cut-segments-2
 slice-aggregate-cut-segments-2 c = search needs
 
-slice-aggregate-cut-segments-3 : tie.Need-slice-aggregate-cut-segments-3
-slice-aggregate-cut-segments-3 c = search needs
-
-slice-aggregate-cut-segments-4 : tie.Need-slice-aggregate-cut-segments-4
-slice-aggregate-cut-segments-4 c = search needs
-
-slice-aggregate-cut-segments-5 : tie.Need-slice-aggregate-cut-segments-5
-slice-aggregate-cut-segments-5 c = search needs
-
-slice-aggregate-cut-segments-6 : tie.Need-slice-aggregate-cut-segments-6
-slice-aggregate-cut-segments-6 c = search needs
-
 cut-segments-requires : tie.Need-cut-segments-requires
-cut-segments-requires c κs = let P = c .before .before .before .before .before .before .before .before .before .before .before .before .before .before .before .before .before .before .before .before .before .pre in (P .0, P .1, omega arith, record { numbers = omega arith; verts = omega arith; measures = omega arith; sides = omega arith; groups = omega arith })
+cut-segments-requires c κs = let P = c .before .before .before .before .before .before .before .before .before .before .before .before .before .before .before .before .before .pre in (P .0, P .1, omega arith, omega arith)
 
 same-length : tie.Need-same-length
-same-length c = c .before .before .before .before .before .before .before .before .before .before .before .before .before .before .before .before .before .before .before .before .cut-segments .kept .1 .1 .1 .1 .1 .0
+same-length c = c .before .before .before .before .before .before .before .before .before .before .before .before .before .before .before .before .cut-segments .kept .1 .1 .1 .1 .1 .0
 
 same-length-2 : tie.Need-same-length-2
-same-length-2 c = c .before .before .before .before .before .before .before .before .before .before .before .before .before .before .before .before .before .before .before .before .cut-segments .kept .1 .1 .1 .1 .1 .1 .0
+same-length-2 c = c .before .before .before .before .before .before .before .before .before .before .before .before .before .before .before .before .cut-segments .kept .1 .1 .1 .1 .1 .1 .0
 
 same-length-3 : tie.Need-same-length-3
-same-length-3 c = c .before .before .before .before .before .before .before .before .before .before .before .before .before .before .before .before .before .before .before .before .cut-segments .kept .1 .1 .1 .1 .1 .1 .1 .0
+same-length-3 c = c .before .before .before .before .before .before .before .before .before .before .before .before .before .before .before .before .cut-segments .kept .1 .1 .1 .1 .1 .1 .1 .0
 
 same-length-4 : tie.Need-same-length-4
-same-length-4 c = c .before .before .before .before .before .before .before .before .before .before .before .before .before .before .before .before .before .before .before .before .cut-segments .kept .1 .1 .1 .1 .1 .1 .1 .1 .1 .0
+same-length-4 c = c .before .before .before .before .before .before .before .before .before .before .before .before .before .before .before .before .cut-segments .kept .1 .1 .1 .1 .1 .1 .1 .1 .1 .0
 
 same-length-5 : tie.Need-same-length-5
-same-length-5 c = c .before .before .before .before .before .before .before .before .before .before .before .before .before .before .before .before .before .before .before .before .cut-segments .kept .1 .1 .1 .1 .1 .1 .1 .1 .1 .1 .0
+same-length-5 c = c .before .before .before .before .before .before .before .before .before .before .before .before .before .before .before .before .cut-segments .kept .1 .1 .1 .1 .1 .1 .1 .1 .1 .1 .0
 
 same-length-6 : tie.Need-same-length-6
-same-length-6 c = c .before .before .before .before .before .before .before .before .before .before .before .before .before .before .before .before .before .before .before .before .cut-segments .kept .1 .1 .1 .1 .1 .1 .1 .1 .1 .1 .1 .0
+same-length-6 c = c .before .before .before .before .before .before .before .before .before .before .before .before .before .before .before .before .cut-segments .kept .1 .1 .1 .1 .1 .1 .1 .1 .1 .1 .1 .0
 
 same-length-7 : tie.Need-same-length-7
-same-length-7 c = c .before .before .before .before .before .before .before .before .before .before .before .before .before .before .before .before .before .before .before .before .cut-segments .kept .1 .1 .1 .1 .1 .1 .1 .1 .1 .1 .1 .1 .0
+same-length-7 c = c .before .before .before .before .before .before .before .before .before .before .before .before .before .before .before .before .cut-segments .kept .1 .1 .1 .1 .1 .1 .1 .1 .1 .1 .1 .1 .0
 
 returns : tie.Need-returns
-returns c = c .before .before .before .before .before .before .before .before .before .before .before .before .before .before .before .before .before .before .before .before .cut-segments .ensures
+returns c = c .before .before .before .before .before .before .before .before .before .before .before .before .before .before .before .before .cut-segments .ensures
 
 pub cut-straps-spec : {M : Type 1} → statement M
 cut-straps-spec =
@@ -55,10 +43,6 @@ cut-straps-spec =
     (tie.spec
     slice-aggregate-cut-segments
     slice-aggregate-cut-segments-2
-    slice-aggregate-cut-segments-3
-    slice-aggregate-cut-segments-4
-    slice-aggregate-cut-segments-5
-    slice-aggregate-cut-segments-6
     cut-segments-requires
     same-length
     same-length-2

@@ -22,44 +22,32 @@ slice-aggregate-cut-facets-2 c = search needs
 slice-aggregate-cut-facets-3 : tie.Need-slice-aggregate-cut-facets-3
 slice-aggregate-cut-facets-3 c = search needs
 
-slice-aggregate-cut-facets-4 : tie.Need-slice-aggregate-cut-facets-4
-slice-aggregate-cut-facets-4 c = search needs
-
-slice-aggregate-cut-facets-5 : tie.Need-slice-aggregate-cut-facets-5
-slice-aggregate-cut-facets-5 c = search needs
-
-slice-aggregate-cut-facets-6 : tie.Need-slice-aggregate-cut-facets-6
-slice-aggregate-cut-facets-6 c = search needs
-
-slice-aggregate-cut-facets-7 : tie.Need-slice-aggregate-cut-facets-7
-slice-aggregate-cut-facets-7 c = search needs
-
 cut-facets-requires : tie.Need-cut-facets-requires
-cut-facets-requires c κs = let P = c .before .before .before .before .before .before .before .before .before .before .before .before .before .before .before .before .before .before .before .before .before .before .before .before .before .before .before .pre in (P .0, P .1, omega arith, record { numbers = omega arith; verts = omega arith; measures = omega arith; sides = omega arith; groups = omega arith }, c .before .before .before .before .before .before .before .before .before .before .before .before .before .before .before .link-mesh .ensures)
+cut-facets-requires c κs = let P = c .before .before .before .before .before .before .before .before .before .before .before .before .before .before .before .before .before .before .before .before .before .before .before .pre in (P .0, P .1, omega arith, omega arith, c .before .before .before .before .before .before .before .before .before .before .before .link-mesh .ensures)
 
 same-length : tie.Need-same-length
-same-length c = c .before .before .before .before .before .before .before .before .before .before .before .before .before .before .before .before .before .before .before .before .before .cut-facets .kept .1 .1 .1 .1 .1 .0
+same-length c = c .before .before .before .before .before .before .before .before .before .before .before .before .before .before .before .before .before .cut-facets .kept .1 .1 .1 .1 .1 .0
 
 same-length-2 : tie.Need-same-length-2
-same-length-2 c = c .before .before .before .before .before .before .before .before .before .before .before .before .before .before .before .before .before .before .before .before .before .cut-facets .kept .1 .1 .1 .1 .1 .1 .0
+same-length-2 c = c .before .before .before .before .before .before .before .before .before .before .before .before .before .before .before .before .before .cut-facets .kept .1 .1 .1 .1 .1 .1 .0
 
 same-length-3 : tie.Need-same-length-3
-same-length-3 c = c .before .before .before .before .before .before .before .before .before .before .before .before .before .before .before .before .before .before .before .before .before .cut-facets .kept .1 .1 .1 .1 .1 .1 .1 .0
+same-length-3 c = c .before .before .before .before .before .before .before .before .before .before .before .before .before .before .before .before .before .cut-facets .kept .1 .1 .1 .1 .1 .1 .1 .0
 
 same-length-4 : tie.Need-same-length-4
-same-length-4 c = c .before .before .before .before .before .before .before .before .before .before .before .before .before .before .before .before .before .before .before .before .before .cut-facets .kept .1 .1 .1 .1 .1 .1 .1 .1 .1 .0
+same-length-4 c = c .before .before .before .before .before .before .before .before .before .before .before .before .before .before .before .before .before .cut-facets .kept .1 .1 .1 .1 .1 .1 .1 .1 .1 .0
 
 same-length-5 : tie.Need-same-length-5
-same-length-5 c = c .before .before .before .before .before .before .before .before .before .before .before .before .before .before .before .before .before .before .before .before .before .cut-facets .kept .1 .1 .1 .1 .1 .1 .1 .1 .1 .1 .0
+same-length-5 c = c .before .before .before .before .before .before .before .before .before .before .before .before .before .before .before .before .before .cut-facets .kept .1 .1 .1 .1 .1 .1 .1 .1 .1 .1 .0
 
 same-length-6 : tie.Need-same-length-6
-same-length-6 c = c .before .before .before .before .before .before .before .before .before .before .before .before .before .before .before .before .before .before .before .before .before .cut-facets .kept .1 .1 .1 .1 .1 .1 .1 .1 .1 .1 .1 .0
+same-length-6 c = c .before .before .before .before .before .before .before .before .before .before .before .before .before .before .before .before .before .cut-facets .kept .1 .1 .1 .1 .1 .1 .1 .1 .1 .1 .1 .0
 
 same-length-7 : tie.Need-same-length-7
-same-length-7 c = c .before .before .before .before .before .before .before .before .before .before .before .before .before .before .before .before .before .before .before .before .before .cut-facets .kept .1 .1 .1 .1 .1 .1 .1 .1 .1 .1 .1 .1 .0
+same-length-7 c = c .before .before .before .before .before .before .before .before .before .before .before .before .before .before .before .before .before .cut-facets .kept .1 .1 .1 .1 .1 .1 .1 .1 .1 .1 .1 .1 .0
 
 returns : tie.Need-returns
-returns c = c .before .before .before .before .before .before .before .before .before .before .before .before .before .before .before .before .before .before .before .before .before .cut-facets .ensures .0
+returns c = c .before .before .before .before .before .before .before .before .before .before .before .before .before .before .before .before .before .cut-facets .ensures .0
 
 pub cut-triangles-spec : {M : Type 1} → statement M
 cut-triangles-spec =
@@ -70,10 +58,6 @@ cut-triangles-spec =
     slice-aggregate-cut-facets
     slice-aggregate-cut-facets-2
     slice-aggregate-cut-facets-3
-    slice-aggregate-cut-facets-4
-    slice-aggregate-cut-facets-5
-    slice-aggregate-cut-facets-6
-    slice-aggregate-cut-facets-7
     cut-facets-requires
     same-length
     same-length-2

@@ -22,44 +22,32 @@ slice-aggregate-split-pinched-2 c = search needs
 slice-aggregate-split-pinched-3 : tie.Need-slice-aggregate-split-pinched-3
 slice-aggregate-split-pinched-3 c = search needs
 
-slice-aggregate-split-pinched-4 : tie.Need-slice-aggregate-split-pinched-4
-slice-aggregate-split-pinched-4 c = search needs
-
-slice-aggregate-split-pinched-5 : tie.Need-slice-aggregate-split-pinched-5
-slice-aggregate-split-pinched-5 c = search needs
-
-slice-aggregate-split-pinched-6 : tie.Need-slice-aggregate-split-pinched-6
-slice-aggregate-split-pinched-6 c = search needs
-
-slice-aggregate-split-pinched-7 : tie.Need-slice-aggregate-split-pinched-7
-slice-aggregate-split-pinched-7 c = search needs
-
 split-pinched-requires : tie.Need-split-pinched-requires
-split-pinched-requires c κs = let P = c .before .before .before .before .before .before .before .before .before .before .before .before .before .before .before .before .before .before .before .before .before .before .before .before .before .before .before .pre in (P .0, P .1, omega arith, record { numbers = omega arith; verts = omega arith; measures = omega arith; sides = omega arith; groups = omega arith }, c .before .before .before .before .before .before .before .before .before .before .before .before .before .before .before .link-mesh .ensures)
+split-pinched-requires c κs = let P = c .before .before .before .before .before .before .before .before .before .before .before .before .before .before .before .before .before .before .before .before .before .before .before .pre in (P .0, P .1, omega arith, omega arith, c .before .before .before .before .before .before .before .before .before .before .before .link-mesh .ensures)
 
 same-length : tie.Need-same-length
-same-length c = c .before .before .before .before .before .before .before .before .before .before .before .before .before .before .before .before .before .before .before .before .before .split-pinched .kept .1 .1 .0
+same-length c = c .before .before .before .before .before .before .before .before .before .before .before .before .before .before .before .before .before .split-pinched .kept .1 .1 .0
 
 same-length-2 : tie.Need-same-length-2
-same-length-2 c = c .before .before .before .before .before .before .before .before .before .before .before .before .before .before .before .before .before .before .before .before .before .split-pinched .kept .1 .1 .1 .0
+same-length-2 c = c .before .before .before .before .before .before .before .before .before .before .before .before .before .before .before .before .before .split-pinched .kept .1 .1 .1 .0
 
 same-length-3 : tie.Need-same-length-3
-same-length-3 c = c .before .before .before .before .before .before .before .before .before .before .before .before .before .before .before .before .before .before .before .before .before .split-pinched .kept .1 .1 .1 .1 .0
+same-length-3 c = c .before .before .before .before .before .before .before .before .before .before .before .before .before .before .before .before .before .split-pinched .kept .1 .1 .1 .1 .0
 
 same-length-4 : tie.Need-same-length-4
-same-length-4 c = c .before .before .before .before .before .before .before .before .before .before .before .before .before .before .before .before .before .before .before .before .before .split-pinched .kept .1 .1 .1 .1 .1 .1 .0
+same-length-4 c = c .before .before .before .before .before .before .before .before .before .before .before .before .before .before .before .before .before .split-pinched .kept .1 .1 .1 .1 .1 .1 .0
 
 same-length-5 : tie.Need-same-length-5
-same-length-5 c = c .before .before .before .before .before .before .before .before .before .before .before .before .before .before .before .before .before .before .before .before .before .split-pinched .kept .1 .1 .1 .1 .1 .1 .1 .0
+same-length-5 c = c .before .before .before .before .before .before .before .before .before .before .before .before .before .before .before .before .before .split-pinched .kept .1 .1 .1 .1 .1 .1 .1 .0
 
 same-length-6 : tie.Need-same-length-6
-same-length-6 c = c .before .before .before .before .before .before .before .before .before .before .before .before .before .before .before .before .before .before .before .before .before .split-pinched .kept .1 .1 .1 .1 .1 .1 .1 .1 .0
+same-length-6 c = c .before .before .before .before .before .before .before .before .before .before .before .before .before .before .before .before .before .split-pinched .kept .1 .1 .1 .1 .1 .1 .1 .1 .0
 
 same-length-7 : tie.Need-same-length-7
-same-length-7 c = c .before .before .before .before .before .before .before .before .before .before .before .before .before .before .before .before .before .before .before .before .before .split-pinched .kept .1 .1 .1 .1 .1 .1 .1 .1 .1 .0
+same-length-7 c = c .before .before .before .before .before .before .before .before .before .before .before .before .before .before .before .before .before .split-pinched .kept .1 .1 .1 .1 .1 .1 .1 .1 .1 .0
 
 returns : tie.Need-returns
-returns c = c .before .before .before .before .before .before .before .before .before .before .before .before .before .before .before .before .before .before .before .before .before .split-pinched .ensures .0
+returns c = c .before .before .before .before .before .before .before .before .before .before .before .before .before .before .before .before .before .split-pinched .ensures .0
 
 pub split-triangles-spec : {M : Type 1} → statement M
 split-triangles-spec =
@@ -70,10 +58,6 @@ split-triangles-spec =
     slice-aggregate-split-pinched
     slice-aggregate-split-pinched-2
     slice-aggregate-split-pinched-3
-    slice-aggregate-split-pinched-4
-    slice-aggregate-split-pinched-5
-    slice-aggregate-split-pinched-6
-    slice-aggregate-split-pinched-7
     split-pinched-requires
     same-length
     same-length-2

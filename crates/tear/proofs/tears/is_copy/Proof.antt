@@ -1,5 +1,5 @@
 -- `tear::tears::is_copy` meets its contract: by cases of its tests. Assumes nothing.
-use Rattle.rewire.proofs.StraddlerLaws.{copy-self, copy-low, copy-none, copy-within}
+use Rattle.straddling.proofs.StraddlerLaws.{copy-self, copy-low, copy-none, copy-within}
 use borrow.Author.Needs.{needs}
 use Rattle.tear.proofs.tears.is_copy.Statement.{statement}
 use Rattle.tear.proofs.tears.is_copy.Tie as tie

@@ -1,0 +1,2 @@
+-- The listing of an answer.
+pub mod Listed

@@ -1,0 +1,2 @@
+-- The words beside an image.
+pub mod Rooms

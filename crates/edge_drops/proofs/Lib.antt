@@ -1,0 +1,2 @@
+-- Laws of marked edges that go.
+pub mod DropLaws

@@ -1,0 +1,2 @@
+-- Marked edges that go.
+pub mod Drops

@@ -1,0 +1,2 @@
+-- Laws of the groups where no corner need be shared. Assumes nothing.
+pub mod BySides

@@ -1,0 +1,2 @@
+-- The groups where no corner need be shared.
+pub mod Sides

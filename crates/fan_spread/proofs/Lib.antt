@@ -1,0 +1,1 @@
+-- The functions that spread labels meet their contracts; their laws stand in fan_reach.

@@ -1,0 +1,2 @@
+-- The checks of an image, from its bytes.
+pub mod Runs

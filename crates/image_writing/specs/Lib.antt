@@ -1,0 +1,2 @@
+-- An image stored from blocks.
+pub mod Stores

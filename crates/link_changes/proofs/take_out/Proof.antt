@@ -1,0 +1,60 @@
+-- `link_changes::take_out` meets its contract: two places are written, the one before cell i and its link (proofs/Slots.antt). Assumes nothing.
+use Rattle.link_changes.proofs.Slots.{put-in-link, put-in-slot, take-made}
+use lib.ListN.{length-set}
+use native.Mathlib.Omega.{arith}
+use borrow.Author.Needs.{needs}
+use Rattle.link_changes.proofs.take_out.Statement.{statement}
+use Rattle.link_changes.proofs.take_out.Tie as tie
+
+slot-at-requires : tie.Need-slot-at-requires
+slot-at-requires c κs = c .before .before .before .pre .slot
+
+mul-own : tie.Need-mul-own
+mul-own c = omega (arith, put-in-link _ _ _ _ _ _ _ _ _ (c .before .before .before .before .pre) _ (c .slot-at .ensures))
+
+add-own : tie.Need-add-own
+add-own c = omega (arith, put-in-link _ _ _ _ _ _ _ _ _ (c .before .before .before .before .pre) _ (c .slot-at .ensures))
+
+add-own-2 : tie.Need-add-own-2
+add-own-2 c = omega (arith, put-in-link _ _ _ _ _ _ _ _ _ (c .before .before .before .before .pre) _ (c .slot-at .ensures))
+
+mul-table : tie.Need-mul-table
+mul-table c = omega (arith, put-in-link _ _ _ _ _ _ _ _ _ (c .before .before .before .before .pre) _ (c .slot-at .ensures))
+
+slice-read-table : tie.Need-slice-read-table
+slice-read-table c = put-in-link _ _ _ _ _ _ _ _ _ (c .before .before .before .before .before .pre) _ (c .before .slot-at .ensures)
+
+mul-table-2 : tie.Need-mul-table-2
+mul-table-2 c = omega (arith, put-in-slot _ _ _ _ _ _ _ _ _ (c .before .before .before .before .before .pre) _ (c .before .slot-at .ensures))
+
+slice-write-table : tie.Need-slice-write-table
+slice-write-table c = put-in-slot _ _ _ _ _ _ _ _ _ (c .before .before .before .before .before .pre) _ (c .before .slot-at .ensures)
+
+mul-table-3 : tie.Need-mul-table-3
+mul-table-3 c = omega (arith, put-in-link _ _ _ _ _ _ _ _ _ (c .before .before .before .before .before .pre) _ (c .before .slot-at .ensures))
+
+slice-write-table-2 : tie.Need-slice-write-table-2
+slice-write-table-2 c = simp length-set (put-in-link _ _ _ _ _ _ _ _ _ (c .before .before .before .before .before .pre) _ (c .before .slot-at .ensures))
+
+same-length : tie.Need-same-length
+same-length c = search needs
+
+returns : tie.Need-returns
+returns c = take-made _ _ _ _ _ _ _ _ _ (c .before .before .before .before .before .pre) _ (c .before .slot-at .ensures)
+
+pub take-out-spec : {M : Type 1} → statement M
+take-out-spec =
+    tie.close
+    (tie.spec
+    slot-at-requires
+    mul-own
+    add-own
+    add-own-2
+    mul-table
+    slice-read-table
+    mul-table-2
+    slice-write-table
+    mul-table-3
+    slice-write-table-2
+    same-length
+    returns)

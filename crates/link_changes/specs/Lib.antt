@@ -1,0 +1,2 @@
+-- The table of links where one cell changes.
+pub mod Changes

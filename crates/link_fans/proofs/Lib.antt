@@ -1,0 +1,2 @@
+-- Laws of fans walked by the table of links.
+pub mod Fanned

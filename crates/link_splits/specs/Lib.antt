@@ -1,0 +1,2 @@
+-- The table of links in a split.
+pub mod Splits

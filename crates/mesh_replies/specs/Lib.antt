@@ -1,0 +1,3 @@
+-- The reply of a call that gives a mesh.
+pub mod Both
+pub mod Told

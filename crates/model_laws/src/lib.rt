@@ -1,0 +1,1 @@
+// Theorems on the definitions of crate model: see proofs/. There is no code here.

@@ -1,0 +1,2 @@
+-- A sheet read to the fronts of blocks.
+pub mod Fronts

@@ -1,0 +1,4 @@
+-- Laws of straddlers.
+pub mod HeldLaws
+pub mod StraddlerLaws
+pub mod MarkLaws

@@ -1,0 +1,3 @@
+-- Straddlers: what their tests and marks ask and give.
+pub mod Tests
+pub mod Marks

@@ -1,0 +1,308 @@
+// Straddlers: edges between two neighbours of v with no common group, which no element holds.
+ghost use mathlib.Core.Path.{_≡_};
+ghost use Prim.Native.Nat.{_<_, _≤_};
+ghost use lib.ListN.{length};
+ghost use Rattle.lists.specs.Lists.{stands};
+ghost use Rattle.elements.specs.Table.{kindIs};
+ghost use Rattle.links.specs.Linked.{Linked, EdgesLinked};
+ghost use Rattle.work.specs.Places.{EndsIn};
+ghost use Rattle.straddling.specs.Tests.{copiesBy, StraddleRoom, NearMarked, NearRoom, StraddleTold, StraddlersMarked};
+ghost use Rattle.straddling.specs.Marks.{MarkRoom, EdgeMarked, EdgesMarked};
+use elements::Kind;
+
+pub mod held;
+
+// Is w v or one of its copies?
+fn is_copy(w: usize, v: usize, before: usize, count: usize) -> bool
+    ensures { λ r. ⌜ r ≡ stands w (copiesBy v before count) ⌝ }
+{
+    if w == v {
+        return true;
+    }
+    if w < before {
+        return false;
+    }
+    if count == 0 {
+        return false;
+    }
+    w - before < count - 1
+}
+
+// Does edge i straddle?
+fn straddles(
+    kind: Kind,
+    i: usize,
+    v: usize,
+    before: usize,
+    n: usize,
+    count: usize,
+    t: usize,
+    e: usize,
+    verts: &[usize],
+    groups: &[usize],
+    corners: &[usize],
+    ends: &[usize],
+    links: &[u16],
+    table: &[u16],
+) -> bool
+    requires { ⌜ (let K = kindIs kind in StraddleRoom K n t e (length (now verts)) (length (now groups)) (length (now corners))
+        (length (now ends)) × (i < e) × EndsIn 1024 e (now ends) × Linked K t (now corners) (now links)
+        × EdgesLinked e (now ends) (now table)) ⌝ }
+    ensures { λ r. ⌜ StraddleTold (kindIs kind) i v before n count t e (now (verts .entry)) (now (groups .entry)) (now (corners .entry))
+        (now (ends .entry)) r ⌝ }
+{
+    let c = ends.len() / 4;
+    let a = ends[i];
+    let b = ends[c + i];
+    if elements::is_element(kind, ends[2 * c + i]) {
+        return false;
+    }
+    if is_copy(a, v, before, count) {
+        return false;
+    }
+    if is_copy(b, v, before, count) {
+        return false;
+    }
+    let k = elements::corners_per(kind);
+    if !split_plan::parted(a, b, n, k, verts, groups) {
+        return false;
+    }
+    !crate::held::held(kind, a, b, t, e, corners, ends, links, table)
+}
+
+// Marks the first m corners of a fan in a table of the particles: they are near v.
+fn mark_corners(m: usize, verts: &[usize], near: &mut [u8])
+    requires { ⌜ m ≤ length (now verts) ⌝ }
+    ensures { λ _. ⌜ NearMarked m (now (verts .entry)) (now (near .exit)) ⌝ }
+{
+    let mut i: usize = 0;
+    while i < m {
+        let x = verts[i];
+        if x < near.len() {
+            near[x] = 1;
+        }
+        i += 1;
+    }
+}
+
+// Does edge i straddle, where the corners of the fan are marked as near? Both ends of a straddler are; most edges are not, and nothing but their ends is read of those.
+fn near_straddles(
+    kind: Kind,
+    i: usize,
+    v: usize,
+    before: usize,
+    n: usize,
+    count: usize,
+    t: usize,
+    e: usize,
+    verts: &[usize],
+    groups: &[usize],
+    corners: &[usize],
+    ends: &[usize],
+    links: &[u16],
+    table: &[u16],
+    near: &[u8],
+) -> bool
+    requires { ⌜ (let K = kindIs kind in StraddleRoom K n t e (length (now verts)) (length (now groups)) (length (now corners))
+        (length (now ends)) × (i < e) × NearRoom K n e (now verts) (now ends) (now near) × Linked K t (now corners) (now links)
+        × EdgesLinked e (now ends) (now table)) ⌝ }
+    ensures { λ r. ⌜ StraddleTold (kindIs kind) i v before n count t e (now (verts .entry)) (now (groups .entry)) (now (corners .entry))
+        (now (ends .entry)) r ⌝ }
+{
+    let c = ends.len() / 4;
+    let a = ends[i];
+    let b = ends[c + i];
+    if near[a] != 1 {
+        return false;
+    }
+    if near[b] != 1 {
+        return false;
+    }
+    straddles(
+        kind,
+        i,
+        v,
+        before,
+        n,
+        count,
+        t,
+        e,
+        verts,
+        groups,
+        corners,
+        ends,
+        links,
+        table,
+    )
+}
+
+// Marks edge i of the first e if x is its first end and it straddles; r are marked before, and as many as is returned behind it.
+fn mark_edge(
+    x: usize,
+    i: usize,
+    r: usize,
+    kind: Kind,
+    v: usize,
+    before: usize,
+    n: usize,
+    count: usize,
+    t: usize,
+    e: usize,
+    verts: &[usize],
+    groups: &[usize],
+    corners: &[usize],
+    ends: &[usize],
+    links: &[u16],
+    table: &[u16],
+    near: &[u8],
+    mask: &mut [usize],
+) -> usize
+    requires { ⌜ MarkRoom (kindIs kind) v before n count t e (now verts) (now groups) (now corners) (now ends) (now links) (now near)
+        (now mask) r × (i < e) × EdgesLinked e (now ends) (now table) ⌝ }
+    ensures { λ q. ⌜ EdgeMarked (kindIs kind) v before n count t e (now (verts .entry)) (now (groups .entry)) (now (corners .entry))
+        (now (ends .entry)) x i (now (mask .entry)) (now (mask .exit)) q ⌝ }
+{
+    if ends[i] != x {
+        return r;
+    }
+    if mask[i] == 1 {
+        return r;
+    }
+    if !near_straddles(
+        kind,
+        i,
+        v,
+        before,
+        n,
+        count,
+        t,
+        e,
+        verts,
+        groups,
+        corners,
+        ends,
+        links,
+        table,
+        near,
+    ) {
+        return r;
+    }
+    mask[i] = 1;
+    r + 1
+}
+
+// Marks the straddlers whose first end is x, which the table of the edges has at x. None ends at v, and what is no particle has no edge.
+fn mark_edges_at(
+    x: usize,
+    r: usize,
+    kind: Kind,
+    v: usize,
+    before: usize,
+    n: usize,
+    count: usize,
+    t: usize,
+    e: usize,
+    verts: &[usize],
+    groups: &[usize],
+    corners: &[usize],
+    ends: &[usize],
+    links: &[u16],
+    table: &[u16],
+    near: &[u8],
+    mask: &mut [usize],
+) -> usize
+    requires { ⌜ MarkRoom (kindIs kind) v before n count t e (now verts) (now groups) (now corners) (now ends) (now links) (now near)
+        (now mask) r × EdgesLinked e (now ends) (now table) ⌝ }
+    ensures { λ q. ⌜ EdgesMarked (kindIs kind) v before n count t e (now (verts .entry)) (now (groups .entry)) (now (corners .entry))
+        (now (ends .entry)) x (now (mask .entry)) (now (mask .exit)) q ⌝ }
+{
+    if x == v {
+        return r;
+    }
+    if x >= 1024 {
+        return r;
+    }
+    let rows = ends.len() / 4;
+    let mut marked = r;
+    let mut at = links::first_at(x, table);
+    while at > 0 {
+        let i = at - 1;
+        marked = mark_edge(
+            x,
+            i,
+            marked,
+            kind,
+            v,
+            before,
+            n,
+            count,
+            t,
+            e,
+            verts,
+            groups,
+            corners,
+            ends,
+            links,
+            table,
+            near,
+            mask,
+        );
+        at = links::next_at(x, i, 2, 1024, 2048, rows, ends, table);
+    }
+    marked
+}
+
+// Marks the straddlers among the first e edges with 1, the others with 0; returns how many straddle. The one table links the t triangles, the other the e edges.
+// Both ends of a straddler are corners of the fan, so the edges at these are walked, and no others.
+pub fn mark_straddlers(
+    kind: Kind,
+    v: usize,
+    before: usize,
+    n: usize,
+    count: usize,
+    t: usize,
+    e: usize,
+    verts: &[usize],
+    groups: &[usize],
+    corners: &[usize],
+    ends: &[usize],
+    links: &[u16],
+    table: &[u16],
+    mask: &mut [usize],
+) -> usize
+    requires { ⌜ (let K = kindIs kind in StraddleRoom K n t e (length (now verts)) (length (now groups)) (length (now corners))
+        (length (now ends)) × (e ≤ length (now mask)) × EndsIn 1024 e (now ends) × Linked K t (now corners) (now links)
+        × EdgesLinked e (now ends) (now table)) ⌝ }
+    ensures { λ r. ⌜ StraddlersMarked (kindIs kind) v before n count t e (now (verts .entry)) (now (groups .entry)) (now (corners .entry))
+        (now (ends .entry)) (now (mask .exit)) r ⌝ }
+{
+    let mut near = [0u8; 1024];
+    let m = n * elements::corners_per(kind);
+    mark_corners(m, verts, &mut near);
+    columns::clear_usize(0, &mut mask[0..e]);
+    let mut marked: usize = 0;
+    let mut q: usize = 0;
+    while q < m {
+        marked = mark_edges_at(
+            verts[q],
+            marked,
+            kind,
+            v,
+            before,
+            n,
+            count,
+            t,
+            e,
+            verts,
+            groups,
+            corners,
+            ends,
+            links,
+            table,
+            &near,
+            mask,
+        );
+        q += 1;
+    }
+    marked
+}
