@@ -1,4 +1,4 @@
-//! The fan of a particle read from the table of links, beside the scan, and the tables of triangles and edges through runs of splits beside those that are built anew.
+//! The fan of a particle read from the table of links, beside the scan, and the tables of triangles, edges and boundary entries through runs of splits beside those that are built anew.
 //!   fans COUNT SEED      COUNT random meshes, each split some twelve times; a difference ends with 1
 //!   fans faults SEED     wrong tables are put in the place of the right one; each must be found
 //!   fans time            one fan by the table and by the scan, on grids of 8, 16 and 22 squares a side
@@ -6,7 +6,8 @@ use std::time::Instant;
 
 unsafe extern "C" {
     fn fans_build(
-        t: usize, e: usize, corners: *const usize, corners_len: usize, ends: *const usize, ends_len: usize, links: *mut u16, links_len: usize,
+        t: usize, e: usize, b: usize, corners: *const usize, corners_len: usize, ends: *const usize, ends_len: usize,
+        outline: *const usize, outline_len: usize, links: *mut u16, links_len: usize,
     );
     fn fans_walk(
         v: usize, t: usize, corners: *const usize, corners_len: usize, volumes: *const f32, volumes_len: usize, links: *const u16, links_len: usize,
@@ -36,9 +37,10 @@ impl Rng {
 }
 
 const HEADS: usize = 1024;
-/// The table of the triangles, and where that of the edges starts; and both.
+/// The table of the triangles, and where that of the edges starts; where that of the boundary starts; and all.
 const TRIANGLES: usize = 4096;
-const PLACES: usize = TRIANGLES + 1024 + 2 * 2048;
+const BOUNDARY: usize = TRIANGLES + 1024 + 2 * 2048;
+const PLACES: usize = BOUNDARY + 1024 + 2 * 2048;
 
 /// The blocks of a mesh of triangles with edges that are no elements. The columns of the corners may be longer than 1,024.
 struct Blocks {
@@ -53,9 +55,9 @@ struct Blocks {
     log: Vec<u32>,
 }
 impl Blocks {
-    fn new(particles: usize, rows: &[[usize; 3]], edges: &[[usize; 2]], size: usize) -> Blocks {
+    fn new(particles: usize, rows: &[[usize; 3]], edges: &[[usize; 2]], sides: &[[usize; 2]], size: usize) -> Blocks {
         let mut b = Blocks {
-            counts: [particles, rows.len(), edges.len(), 0, 0],
+            counts: [particles, rows.len(), edges.len(), sides.len(), 0],
             points: vec![0.0; 8 * 1024],
             roots: vec![0; 2 * 1024],
             corners: vec![0; 3 * size],
@@ -89,6 +91,10 @@ impl Blocks {
             b.lengths[i] = 1.0 + (i % 7) as f32;
             b.lengths[2048 + i] = 1.0;
         }
+        for (i, s) in sides.iter().enumerate() {
+            b.outline[i] = s[0];
+            b.outline[2048 + i] = s[1];
+        }
         b
     }
     fn built(&self) -> Vec<u16> {
@@ -96,7 +102,8 @@ impl Blocks {
         // SAFETY: runs apart from each other, each with its own length.
         unsafe {
             fans_build(
-                self.counts[1], self.counts[2], self.corners.as_ptr(), self.corners.len(), self.ends.as_ptr(), self.ends.len(), links.as_mut_ptr(), links.len(),
+                self.counts[1], self.counts[2], self.counts[3], self.corners.as_ptr(), self.corners.len(), self.ends.as_ptr(), self.ends.len(),
+                self.outline.as_ptr(), self.outline.len(), links.as_mut_ptr(), links.len(),
             )
         };
         links
@@ -177,7 +184,11 @@ fn mesh(r: &mut Rng) -> Blocks {
         .map(|_| if rows.is_empty() || r.below(4) == 0 { any(r) } else { near(r) })
         .filter(|e| e[0] != e[1])
         .collect();
-    Blocks::new(particles, &rows, &edges, size)
+    let sides: Vec<[usize; 2]> = (0..r.below(2 * particles))
+        .map(|_| if rows.is_empty() || r.below(4) == 0 { any(r) } else { near(r) })
+        .filter(|e| e[0] != e[1])
+        .collect();
+    Blocks::new(particles, &rows, &edges, &sides, size)
 }
 
 /// How many fans of the blocks are read otherwise from the table than by the scan.
@@ -187,7 +198,7 @@ fn other_fans(b: &Blocks, links: &[u16]) -> usize {
 
 fn compare(count: usize, seed: u64) -> i32 {
     let mut r = Rng(seed * 2 + 1);
-    let (mut splits, mut fans, mut copies, mut wide, mut more, mut gone) = (0, 0, 0, 0, 0, 0);
+    let (mut splits, mut fans, mut copies, mut wide, mut more, mut gone, mut facets) = (0, 0, 0, 0, 0, 0, 0);
     for case in 0..count {
         let mut b = mesh(&mut r);
         let mut links = b.built();
@@ -199,9 +210,10 @@ fn compare(count: usize, seed: u64) -> i32 {
             if other != 0 || links != fresh {
                 let told = |same: bool| if same { "that of a fresh build" } else { "another" };
                 println!(
-                    "case {case}, step {step}: {other} fans are read otherwise, the triangles' table is {}, the edges' {}",
+                    "case {case}, step {step}: {other} fans are read otherwise, the triangles' table is {}, the edges' {}, the boundary's {}",
                     told(links[..TRIANGLES] == fresh[..TRIANGLES]),
-                    told(links[TRIANGLES..] == fresh[TRIANGLES..])
+                    told(links[TRIANGLES..BOUNDARY] == fresh[TRIANGLES..BOUNDARY]),
+                    told(links[BOUNDARY..] == fresh[BOUNDARY..])
                 );
                 return 1;
             }
@@ -214,14 +226,15 @@ fn compare(count: usize, seed: u64) -> i32 {
             splits += usize::from(b.counts[0] > before[0]);
             copies += b.counts[0] - before[0];
             more += b.counts[2].saturating_sub(before[2]);
+            facets += b.counts[3] - before[3];
             // A removed edge is an entry of kind 2.
             gone += (before[4]..b.counts[4]).filter(|i| b.log[6 * i] == 2).count();
         }
     }
     println!(
-        "{count} meshes ({wide} with longer columns), {splits} splits with {copies} copies; edges grew by {more}, {gone} went: {fans} fans as the scan reads them, every table that of a fresh build"
+        "{count} meshes ({wide} with longer columns), {splits} splits with {copies} copies; edges grew by {more}, {gone} went, {facets} crack facets: {fans} fans as the scan reads them, every table that of a fresh build"
     );
-    i32::from(count > 0 && (splits == 0 || copies <= splits || more == 0 || gone == 0))
+    i32::from(count > 0 && (splits == 0 || copies <= splits || more == 0 || gone == 0 || facets == 0))
 }
 
 /// Wrong tables: each must give another fan somewhere, or not be the one of a fresh build.
@@ -236,6 +249,8 @@ fn faults(seed: u64) -> i32 {
         "the edges at v left",
         "the edges' table of the mesh before",
         "the last edge left out",
+        "the boundary entries at v left",
+        "the boundary's table of the mesh before",
     ];
     let mut status = 0;
     for (f, name) in names.iter().enumerate() {
@@ -270,7 +285,9 @@ fn faults(seed: u64) -> i32 {
                 4 => links = before.0,
                 5 => links[TRIANGLES + before.1] = 0,
                 6 => links[TRIANGLES + v] = before.0[TRIANGLES + v],
-                7 => links[TRIANGLES..].copy_from_slice(&before.0[TRIANGLES..]),
+                7 => links[TRIANGLES..BOUNDARY].copy_from_slice(&before.0[TRIANGLES..BOUNDARY]),
+                9 => links[BOUNDARY + v] = before.0[BOUNDARY + v],
+                10 => links[BOUNDARY..].copy_from_slice(&before.0[BOUNDARY..]),
                 _ => {
                     let Some(fewer) = b.counts[2].checked_sub(1) else { return false };
                     b.counts[2] = fewer;
@@ -302,7 +319,7 @@ fn time() -> i32 {
     println!("one fan, ns        by the table   by the scan   table / scan   the table built, us");
     for n in [8, 16, 22] {
         let (particles, rows) = grid(n);
-        let b = Blocks::new(particles, &rows, &[], 1024);
+        let b = Blocks::new(particles, &rows, &[], &[], 1024);
         let links = b.built();
         let (mut numbers, mut verts, mut measures) = (vec![0; 2048], vec![0; 4096], vec![0.0; 2048]);
         let mut held = 0;

@@ -1,11 +1,12 @@
--- What a job came to is what the call of the model did, where their outcomes are the same. Assumes nothing.
+-- The answer to a job is that of the call of the model, where their outcomes are the same. Assumes nothing.
+use Prim.Native.Nat.{ℕ}
 use mathlib.Core.Path.{_≡_, subst}
+use mathlib.Core.List.{List}
+use lib.Ieee.{Float}
 use Rattle.model.specs.Calls.{Outcome}
-use Rattle.mesh.specs.Log.{World}
-use Rattle.mesh.specs.declared.Counts.{Counts}
-use Rattle.mesh.specs.declared.Rooms.{Rooms}
-use Rattle.work.specs.declared.Ran.{Ran}
-use Rattle.call_frame.specs.Framed.{Came}
+use Rattle.mesh.specs.Given.{Lent}
+use Rattle.call_frame.specs.declared.Answer.{Answer}
+use Rattle.call_frame.specs.Answered.{Answered}
 
-pub came-as : {o o′ : Outcome} {R : Rooms} {at : Counts → World} {ran : Ran} → o ≡ o′ → Came o R at ran → Came o′ R at ran
-came-as {R = R} {at} {ran} e h = subst (λ (o : Outcome). Came o R at ran) e h
+pub answered-as : {o o′ : Outcome} {L : Lent} {a : Answer} {p : List Float} {r c : List ℕ} {v : List Float} {e : List ℕ} {l : List Float} {b g : List ℕ} → o ≡ o′ → Answered o L a p r c v e l b g → Answered o′ L a p r c v e l b g
+answered-as {L = L} {a} {p} {r} {c} {v} {e} {l} {b} {g} q h = subst (λ (o : Outcome). Answered o L a p r c v e l b g) q h

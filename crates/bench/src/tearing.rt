@@ -1,6 +1,7 @@
 // The entries that give a mesh: they copy the input to the lent blocks, work there, and leave 0 behind.
 ghost use mathlib.Core.Path.{_≡_};
 ghost use Rattle.model.specs.Calls.{splitCall, straddlersCall, cutCall, crackCall};
+ghost use Rattle.mesh_calls.specs.Jobs.{jobCall};
 ghost use Rattle.mesh.specs.Given.{meshOf, sizesFit, roomsOf, asRooms};
 ghost use Rattle.mesh.specs.Filled.{lent};
 ghost use Rattle.call_frame.specs.Answered.{Answered, frontOf};
@@ -8,6 +9,75 @@ ghost use Rattle.mesh.specs.Blocks.{lentBefore, givenBefore};
 use blade::Point;
 use call_frame::Answer;
 use mesh_calls::Job;
+
+// A job answered: done in the lent blocks, unless it is refused, and 0 left behind what it gives.
+fn answer_job(
+    job: Job,
+    list: &[usize],
+    in_points: &[f32],
+    in_roots: &[usize],
+    in_corners: &[usize],
+    in_volumes: &[f32],
+    in_ends: &[usize],
+    in_lengths: &[f32],
+    in_outline: &[usize],
+    points: &mut [f32],
+    roots: &mut [usize],
+    corners: &mut [usize],
+    volumes: &mut [f32],
+    ends: &mut [usize],
+    lengths: &mut [f32],
+    outline: &mut [usize],
+    log: &mut [u32],
+) -> Answer
+    ensures { λ r. ⌜ (let G = givenBefore «in_points» «in_roots» «in_corners» «in_volumes» «in_ends» «in_lengths» «in_outline» in
+        let L = lentBefore points roots corners volumes ends lengths outline log in
+        Answered (jobCall job (now (list .entry)) (sizesFit G) (meshOf G) (asRooms (roomsOf L))) L r (now (points .exit))
+        (now (roots .exit)) (now (corners .exit)) (now (volumes .exit)) (now (ends .exit)) (now (lengths .exit)) (now (outline .exit))
+        (now (log .exit))) ⌝ }
+{
+    let room = mesh::whole::rooms_for(
+        points.len(),
+        roots.len(),
+        corners.len(),
+        volumes.len(),
+        ends.len(),
+        lengths.len(),
+        outline.len(),
+        log.len(),
+    );
+    let ran = perform::calls::run(
+        job,
+        list,
+        room,
+        in_points,
+        in_roots,
+        in_corners,
+        in_volumes,
+        in_ends,
+        in_lengths,
+        in_outline,
+        points,
+        roots,
+        corners,
+        volumes,
+        ends,
+        lengths,
+        outline,
+        log,
+    );
+    call_frame::frame::finish(
+        ran,
+        points,
+        roots,
+        corners,
+        volumes,
+        ends,
+        lengths,
+        outline,
+        log,
+    )
+}
 
 // The straddlers across pieces removed: the edges that are no elements, and the boundary entries, that join two pieces.
 pub fn straddlers(
@@ -32,21 +102,10 @@ pub fn straddlers(
         Answered (straddlersCall (sizesFit G) (meshOf G) (asRooms (roomsOf L))) L r (now (points .exit)) (now (roots .exit))
         (now (corners .exit)) (now (volumes .exit)) (now (ends .exit)) (now (lengths .exit)) (now (outline .exit)) (now (log .exit))) ⌝ }
 {
-    let room = mesh::whole::rooms_for(
-        points.len(),
-        roots.len(),
-        corners.len(),
-        volumes.len(),
-        ends.len(),
-        lengths.len(),
-        outline.len(),
-        log.len(),
-    );
     let none = [0usize; 0];
-    let ran = perform::calls::run(
+    answer_job(
         Job::Straddlers,
         &none,
-        room,
         in_points,
         in_roots,
         in_corners,
@@ -54,17 +113,6 @@ pub fn straddlers(
         in_ends,
         in_lengths,
         in_outline,
-        points,
-        roots,
-        corners,
-        volumes,
-        ends,
-        lengths,
-        outline,
-        log,
-    );
-    call_frame::frame::finish(
-        ran,
         points,
         roots,
         corners,
@@ -102,20 +150,9 @@ pub fn split(
         (now (roots .exit)) (now (corners .exit)) (now (volumes .exit)) (now (ends .exit)) (now (lengths .exit)) (now (outline .exit))
         (now (log .exit))) ⌝ }
 {
-    let room = mesh::whole::rooms_for(
-        points.len(),
-        roots.len(),
-        corners.len(),
-        volumes.len(),
-        ends.len(),
-        lengths.len(),
-        outline.len(),
-        log.len(),
-    );
-    let ran = perform::calls::run(
+    answer_job(
         Job::Split(v),
         sides,
-        room,
         in_points,
         in_roots,
         in_corners,
@@ -123,17 +160,6 @@ pub fn split(
         in_ends,
         in_lengths,
         in_outline,
-        points,
-        roots,
-        corners,
-        volumes,
-        ends,
-        lengths,
-        outline,
-        log,
-    );
-    call_frame::frame::finish(
-        ran,
         points,
         roots,
         corners,
@@ -174,21 +200,10 @@ pub fn cut(
         (now (roots .exit)) (now (corners .exit)) (now (volumes .exit)) (now (ends .exit)) (now (lengths .exit)) (now (outline .exit))
         (now (log .exit))) ⌝ }
 {
-    let room = mesh::whole::rooms_for(
-        points.len(),
-        roots.len(),
-        corners.len(),
-        volumes.len(),
-        ends.len(),
-        lengths.len(),
-        outline.len(),
-        log.len(),
-    );
     let none = [0usize; 0];
-    let ran = perform::calls::run(
+    answer_job(
         Job::Cut(edition, b0, b1, f),
         &none,
-        room,
         in_points,
         in_roots,
         in_corners,
@@ -204,17 +219,6 @@ pub fn cut(
         lengths,
         outline,
         log,
-    );
-    call_frame::frame::finish(
-        ran,
-        points,
-        roots,
-        corners,
-        volumes,
-        ends,
-        lengths,
-        outline,
-        log,
     )
 }
 
@@ -222,7 +226,7 @@ pub fn cut(
 pub fn minimum_piece() -> usize
     ensures { λ r. ⌜ r ≡ 3 ⌝ }
 {
-    3
+    arguments::minimum_piece()
 }
 
 // The mesh cracked across torn edges, told by their numbers; each part at a crack must reach the minimum piece, of which 0 counts as 1.
@@ -251,20 +255,9 @@ pub fn crack(
         (now (roots .exit)) (now (corners .exit)) (now (volumes .exit)) (now (ends .exit)) (now (lengths .exit)) (now (outline .exit))
         (now (log .exit))) ⌝ }
 {
-    let room = mesh::whole::rooms_for(
-        points.len(),
-        roots.len(),
-        corners.len(),
-        volumes.len(),
-        ends.len(),
-        lengths.len(),
-        outline.len(),
-        log.len(),
-    );
-    let ran = perform::calls::run(
+    answer_job(
         Job::Crack(minimum),
         torn,
-        room,
         in_points,
         in_roots,
         in_corners,
@@ -272,17 +265,6 @@ pub fn crack(
         in_ends,
         in_lengths,
         in_outline,
-        points,
-        roots,
-        corners,
-        volumes,
-        ends,
-        lengths,
-        outline,
-        log,
-    );
-    call_frame::frame::finish(
-        ran,
         points,
         roots,
         corners,

@@ -3,7 +3,7 @@ use mathlib.Core.Path.{_≡_, sym, _∙_}
 use mathlib.Core.List.{List}
 use Prim.Native.Nat.{ℕ}
 use Rattle.model.specs.Reads.{Read}
-use Rattle.reading_c.specs.Replies.{Replied}
+use Rattle.reading_replies.specs.Replies.{Replied}
 use Rattle.mesh_replies.specs.Both.{BothReplied}
 
 -- the functions that read a mesh or numbers: the number that is returned, and every result byte

@@ -17,9 +17,10 @@ use Rattle.mesh_calls.specs.declared.Job.the-variants.{Cut, Crack}
 use Rattle.mesh_calls.proofs.Jobs.{cut-is, crack-is}
 use Rattle.image.specs.Words.{wordsFrom, numberOf}
 use Rattle.image.specs.Image.{imageOf, imageSized}
-use Rattle.reading_c.specs.Replies.{pointAt}
+use Rattle.reading_replies.specs.Replies.{pointAt}
 use Rattle.mesh_replies.specs.Both.{BothReplied}
-use Rattle.bench_c.specs.Torn.{OutcomeReplied, withRooms, roomsIn, ifRead, bladeIn, cutOutcome, wordsFew, crackOutcome}
+use Rattle.job_replies.specs.Outcomes.{OutcomeReplied, withRooms}
+use Rattle.bench_c.specs.Torn.{roomsIn, ifRead, bladeIn, cutOutcome, wordsFew, crackOutcome}
 
 module _ (s rooms : List ℕ) (lent logged x : ℕ) (out log : List ℕ) where
   -- bytes that were read

@@ -1,6 +1,4 @@
 -- The laws of replies (any two agree: Agree) and of jobs.
-pub mod Outcomes
-pub mod Tearings
 pub mod Entries
 pub mod Cuttings
 pub mod Agree

@@ -1,3 +1,2 @@
--- What the C functions answer that give a mesh or a text. (What those that read answer stands in crate reading_c.)
+-- What the C functions are asked that give a mesh. (What those that read answer stands in crate reading_c.)
 pub mod Torn
-pub mod Told

@@ -1,49 +1,25 @@
--- What the C functions that give a mesh answer, as docs/C-FUNCTIONS.md has it: the words of the answer, the words of the log, and the rooms. Definitions only.
+-- What each C function that gives a mesh is asked, as docs/C-FUNCTIONS.md has it. (How its outcome is told stands in crate job_replies.) Definitions only.
 use Prim.Native.Nat.{ℕ, _/_, _%_, min}
 use mathlib.Core.Bool.{Bool, true, false, _&&_}
-use mathlib.Core.List.{List, [], _∷_, map}
+use mathlib.Core.List.{List}
 use lib.ListN.{length}
 use lib.Dec.{eqb, leb}
 use Rattle.lists.specs.Lists.{pick}
 use Rattle.model.specs.Run.{Rooms}
 use Rattle.model.specs.Cut.{Line}
-use Rattle.model.specs.Calls.{Outcome, done, refusal, bladeOk, splitCall, straddlersCall, cutCall, crackCall}
+use Rattle.model.specs.Calls.{Outcome, refusal, bladeOk, splitCall, straddlersCall, cutCall, crackCall}
 use Rattle.model.specs.Calls.{refused as turnedDown}
-use Rattle.model.specs.Reads.{Read, refused, value}
 use Rattle.mesh.specs.Given.{meshOf}
-use Rattle.mesh.specs.Log.{wordsOf, wordsIn}
 use Rattle.image.specs.Words.{wordAt, wordsFrom, numberOf}
-use Rattle.image.specs.Image.{imageOf, imageSized, imageWordsOf}
-use Rattle.reading_c.specs.Replies.{pointAt}
-use Rattle.mesh_replies.specs.Both.{BothReplied}
-
--- ---- the words of an outcome
-
--- 1 or 0 for whether anything was split or inserted, the number of log entries, then the image of the mesh
-abbrev pub meshReply : Outcome → Read (List ℕ)
-meshReply (turnedDown n) = refused n
-meshReply (done M l c) = value (pick c 1 0 ∷ length l ∷ imageWordsOf M)
-
--- the words of the log, six an entry
-abbrev pub logReply : Outcome → List ℕ
-logReply (turnedDown n) = []
-logReply (done M l c) = wordsIn (map wordsOf l)
-
--- ---- the reply
-
--- what a C function with `lent` result bytes and `logged` log bytes returns, and leaves in both, for an outcome
-abbrev pub OutcomeReplied : Outcome → ℕ → ℕ → ℕ → List ℕ → List ℕ → Type 0
-OutcomeReplied o lent logged r out log = BothReplied (meshReply o) (logReply o) lent logged r out log
+use Rattle.image.specs.Image.{imageOf, imageSized}
+use Rattle.reading_replies.specs.Replies.{pointAt}
+use Rattle.job_replies.specs.Outcomes.{withRooms}
 
 -- ---- what each C function is asked
 
 -- four words: the places lent for particles, triangles, edges and boundary entries, each at most the limit; and the entries that the log's bytes have room for
 abbrev pub roomsIn : List ℕ → ℕ → Rooms
 roomsIn s logged = record { particles = min 1024 (wordAt s 0); triangles = min 1024 (wordAt s 1); edges = min 2048 (wordAt s 2); boundary = min 2048 (wordAt s 3); log = min 4096 (logged / 24) }
-
--- the outcome o of a call on an image, beside numbers that are right or not; rooms that are no four words are a bad argument
-unfoldable pub withRooms : List ℕ → List ℕ → Bool → Outcome → Outcome
-withRooms s rooms numbers o = pick (eqb (length rooms) 16) o (turnedDown (refusal (imageSized s) (meshOf (imageOf s)) numbers false))
 
 -- the split of particle v of the mesh that an image is, by sides, a byte for each
 unfoldable pub splitOutcome : List ℕ → ℕ → List ℕ → List ℕ → ℕ → Outcome

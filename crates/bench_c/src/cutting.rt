@@ -1,7 +1,8 @@
 // The C functions that cut and crack: their arguments read from bytes, and the job run.
 ghost use mathlib.Core.Path.{_≡_};
 ghost use lib.ListN.{length};
-ghost use Rattle.bench_c.specs.Torn.{OutcomeReplied, cutOutcome, crackOutcome, wordsFew};
+ghost use Rattle.job_replies.specs.Outcomes.{OutcomeReplied};
+ghost use Rattle.bench_c.specs.Torn.{cutOutcome, crackOutcome, wordsFew};
 use mesh_calls::Job;
 
 // A mesh image cut along a blade of four words, in an edition, 1 or 2, with the insertion fraction of a word. The job looks at no list.

@@ -1,6 +1,6 @@
 // The C functions on the fan of a particle of a mesh image. Their sides are bytes.
 ghost use lib.ListN.{length};
-ghost use Rattle.reading_c.specs.Replies.{Replied, opensReply, groupsReply};
+ghost use Rattle.reading_replies.specs.Replies.{Replied, opensReply, groupsReply};
 ghost use Rattle.fan_c.specs.Fans.{fanReply};
 
 // Whether sides open a particle of a mesh image without confetti.

@@ -1,6 +1,6 @@
 // The C function on a list of particles of a mesh image.
 ghost use lib.ListN.{length};
-ghost use Rattle.reading_c.specs.Replies.{Replied, measureOfReply};
+ghost use Rattle.reading_replies.specs.Replies.{Replied, measureOfReply};
 
 // The measure of a list of particles of a mesh image.
 #[no_mangle]

@@ -1,6 +1,6 @@
 // The C functions on a mesh image.
 ghost use lib.ListN.{length};
-ghost use Rattle.reading_c.specs.Replies.{Replied, piecesReply, measureReply};
+ghost use Rattle.reading_replies.specs.Replies.{Replied, piecesReply, measureReply};
 
 // The number of pieces of a mesh image.
 #[no_mangle]

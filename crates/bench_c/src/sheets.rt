@@ -7,7 +7,7 @@ ghost use Rattle.sheet_c.specs.Fields.{SheetWritten};
 ghost use Rattle.feeding.specs.Feeding.{OpenDone, FeedDone};
 ghost use Rattle.feed_c.specs.Closing.{Closed};
 ghost use Rattle.mend_c.specs.Mends.{MendReplied};
-ghost use Rattle.reading_c.specs.Replies.{Replied};
+ghost use Rattle.reading_replies.specs.Replies.{Replied};
 ghost use Rattle.text_c.specs.Texts.{TextReplied};
 
 // The blade and the mesh image of a sheet.

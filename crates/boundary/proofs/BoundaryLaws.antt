@@ -1,18 +1,19 @@
 -- Laws of the boundary in a split: the first part that holds an entry, the group that it follows, and the loop over the entries. Assumes nothing.
 use Prim.Native.Nat.{ℕ, zero, suc, _+_, _*_, _-_, _/_, _≤_, _<_, zero-le, suc-le-suc}
 use native.Mathlib.Nat.{le-of-suc-le-suc, not-suc-le-zero}
-use native.Mathlib.Decide.{ℕ-discrete}
+use native.Mathlib.Decide.{ℕ-discrete, decLt}
+use native.Mathlib.Numerals.{add-one}
 use native.Mathlib.Omega.{arith}
 use mathlib.Core.Path.{_≡_, refl, sym, ap, ap₂, _∙_, subst}
 use mathlib.Core.Bool.{Bool, true, false, _&&_}
 use mathlib.Core.List.{List, [], _∷_}
+use mathlib.Core.Logic.{_⊎_, inl, inr, ⊎-elim}
 use mathlib.Core.Option.{none, some}
-use lib.ListN.{length, getD, set, take, drop, length-set}
+use lib.ListN.{length, getD, take, drop}
 use lib.Dec.{eqb}
 use lib.Ieee.{Float, nan, lt, neg}
 use borrow.Author.Tests.{eq-eqb, ne-eqb}
 use Rattle.lists.specs.Lists.{pick, stands, all, find, fold, tab}
-use Rattle.lists.specs.Labels.{replaced}
 use Rattle.lists.proofs.Sifts.{pick-by, tab-ext, map-tab}
 use Rattle.lists.proofs.Stores.{tab-length, tab-at}
 use Rattle.float.specs.Numbers.{largest}
@@ -23,10 +24,15 @@ use Rattle.model.specs.Mesh.{Particle, Side, Mesh, blank}
 use Rattle.model.specs.Elements.{restOf, besides, sideEnds}
 use Rattle.model.specs.Split.{Part, Opening, copyFor, Best, better, scoreOf, scored, toward, sideGroup, turned, followed}
 use Rattle.mesh.specs.At.{particlesAt, sideRow, boundaryAt}
-use Rattle.mesh.proofs.Lists.{turned as turned-at, unturned}
 use Rattle.split_plan.specs.Opened.{partAt, blankPart, Ringed, RestsIn, CornersBelow, OpeningIn}
 use Rattle.split_plan.specs.Answers.{TowardIs}
-use Rattle.boundary.specs.Following.{SidesFollowed, rowHolds, FirstHolder, InReach, SideRoom, SideGroupIs, CopiesSmall, SideCopyIs, EntryFollowed, SidesRoom}
+use Rattle.boundary.specs.Following.{SidesFollowed, rowHolds, FirstHolder, InReach, SideRoom, SideGroupIs, CopiesSmall, SideCopyIs, EntryRoom, EntryFollowed, SidesRoom}
+use Rattle.links.specs.Links.{holds}
+use Rattle.links.specs.Rooms.{CellsListed, ListRoom}
+use Rattle.links.specs.Linked.{SidesLinked}
+use Rattle.links.proofs.Lowest.{holds-get, holds-ext}
+use Rattle.links.proofs.Gaps.{Gap, stopOf, stop-first, stop-read, stop-end, stop-here}
+use Rattle.link_changes.specs.Changes.{TurnRoom, RowTurned}
 use Rattle.mesh.specs.Widths.{pointColumns}
 
 -- ---- the first that passes
@@ -183,9 +189,14 @@ unfolding followed
 followed-as O M v before s e f = ap₂ (λ (u b : ℕ). pick (stands u (sideEnds s)) (turned u (copyFor u b (sideGroup M O s)) s) s) e f
 
 module _ {x y v before k n : ℕ} {verts groups : List ℕ} {points : List Float} where
+  -- a copy is among 1,024 particles
+  pub copy-small : {g : ℕ} → CopiesSmall before n groups → SideGroupIs x y v n k verts groups points g → before + g ≤ 1024
+  copy-small {g} C G = let l = C .low in omega (arith, G .small (1024 - before) (λ i h. omega (arith, C .small i h)))
+
   -- the copy of its group, where v is an end of it
-  pub copy-at : {g r : ℕ} → stands v (x ∷ y ∷ []) ≡ true → SideGroupIs x y v n k verts groups points g → r ≡ copyFor v before g → SideCopyIs x y v before k n verts groups points r
-  copy-at {g} {r} t G e =
+  pub copy-at : {g r : ℕ} → CopiesSmall before n groups → stands v (x ∷ y ∷ []) ≡ true → SideGroupIs x y v n k verts groups points g → r ≡ copyFor v before g
+      → SideCopyIs x y v before k n verts groups points r
+  copy-at {g} {r} C t G e =
       record {
         is =
             λ O M count p B I.
@@ -193,69 +204,62 @@ module _ {x y v before k n : ℕ} {verts groups : List ℕ} {points : List Float
             let q : g ≡ sideGroup M O s = G .is O M p (B .ringed) (B .at) (B .rests) I in
             ap (λ (w : ℕ). turned v w s) (e ∙ ap (copyFor v before) q)
             ∙ sym (followed-as O M v before s (B .at) (B .before-is) ∙ ap (λ (b : Bool). pick b (turned v (copyFor v before (sideGroup M O s)) s) s) t);
+        among = by (ℕ-discrete g 0);
       }
-
-  -- a copy is small
-  pub copy-small : {g : ℕ} → CopiesSmall before n groups → SideGroupIs x y v n k verts groups points g → before + g ≤ 65536
-  copy-small {g} C G = let l = C .low in omega (arith, G .small (65536 - before) (λ i h. omega (arith, C .small i h)))
+    where
+      by : Dec (g ≡ 0) → (r ≡ v) ⊎ ((before ≤ r) × (r < 1024))
+      by (yes z) = inl (e ∙ rw (eq-eqb g 0 z))
+      by (no z) =
+          let q : copyFor v before g ≡ before + g - 1 = rw (ne-eqb g 0 z) in
+          inr (omega (arith, z), omega (arith, z, copy-small C G))
 
 -- an entry that v is no end of follows as it is
-pub entry-left :
-    (i v before k n : ℕ) (verts groups : List ℕ) (points : List Float) (s : List ℕ) → stands v (getD s i 0 ∷ getD s (length s / 2 + i) 0 ∷ []) ≡ false
-    → EntryFollowed i v before k n verts groups points s s
-entry-left i v before k n verts groups points s t =
-    let row : Side = sideRow (length s / 2) s i in
-    let off : stands v (sideEnds row) ≡ false = ap₂ (λ (a b : ℕ). stands v (a ∷ b ∷ [])) (col-0 0 (length s / 2) s i) (col-1 0 (length s / 2) s i) ∙ t in
-    record {
-      here =
-          λ O M count p B I.
-          sym (followed-as O M v before row (B .at) (B .before-is) ∙ ap (λ (b : Bool). pick b (turned v (copyFor v before (sideGroup M O row)) row) row) off);
-      others = λ j l n. refl;
-    }
+row-stays : (O : Opening) (M : Mesh) (v before : ℕ) (row : Side) → O .v ≡ v → O .before ≡ before → stands v (sideEnds row) ≡ false → followed M O row ≡ row
+row-stays O M v before row e f off = followed-as O M v before row e f ∙ ap (λ (b : Bool). pick b (turned v (copyFor v before (sideGroup M O row)) row) row) off
 
--- two replacements turn one entry
-module _ (i v w : ℕ) (s s₁ s₂ : List ℕ) (he : i < length s / 2) (q₁ : s₁ ≡ set s i (replaced v w (getD s i 0)))
-    (q₂ : s₂ ≡ set s₁ (length s / 2 + i) (replaced v w (getD s₁ (length s / 2 + i) 0))) where
-  -- the first, by its column
-  p₁ : s₁ ≡ set s (0 * (length s / 2) + i) (replaced v w (getD s (0 * (length s / 2) + i) 0))
-  p₁ = let z : 0 * (length s / 2) + i ≡ i = omega arith in rw z q₁
+-- an entry names v where its cells hold it
+row-holds : (v i S : ℕ) (s : List ℕ) → stands v (sideEnds (sideRow S s i)) ≡ holds 2 (cell 0 S s) v i
+unfolding holds tab
+row-holds v i S s = refl
 
-  -- the second, by its column
-  p₂ : s₂ ≡ set s₁ (1 * (length s / 2) + i) (replaced v w (getD s₁ (1 * (length s / 2) + i) 0))
-  p₂ = let z : 1 * (length s / 2) + i ≡ length s / 2 + i = omega arith in rw z q₂
+-- ---- one entry
 
-  -- at an entry, each end for itself
-  ends-turned : (k : ℕ) → k < length s / 2
-      → sideRow (length s / 2) s₂ k
-      ≡ record { a = pick (eqb k i) (replaced v w (cell 0 (length s / 2) s 0 k)) (cell 0 (length s / 2) s 0 k); b = pick (eqb k i) (replaced v w (cell 0 (length s / 2) s 1 k)) (cell 0 (length s / 2) s 1 k) }
-  ends-turned k hk =
-      let l₁ : length s₁ ≡ length s = ap length q₁ ∙ simp length-set in
-      let i₁ : 0 * (length s / 2) + i < length s = omega arith in
-      let i₂ : 1 * (length s / 2) + i < length s₁ = omega (arith, l₁) in
-      let a : cell 0 (length s / 2) s₂ 0 k ≡ _ = unturned (length s / 2) i v w 1 s₁ s₂ he i₂ p₂ 0 k hk (λ q. omega arith) ∙ turned-at (length s / 2) i v w 0 s s₁ he i₁ p₁ k hk in
-      let b₁ : cell 0 (length s / 2) s₁ 1 k ≡ cell 0 (length s / 2) s 1 k = unturned (length s / 2) i v w 0 s s₁ he i₁ p₁ 1 k hk (λ q. omega arith) in
-      let b : cell 0 (length s / 2) s₂ 1 k ≡ _ = turned-at (length s / 2) i v w 1 s₁ s₂ he i₂ p₂ k hk ∙ ap (λ (x : ℕ). pick (eqb k i) (replaced v w x) x) b₁ in
-      (λ j. record { a = a j; b = b j })
+module _ {i v before k n b : ℕ} {verts groups : List ℕ} {points : List Float} {s table : List ℕ} (P : EntryRoom i v before k n b verts groups points s table) where
+  row-is : sideRow (length s / 2) s i ≡ record { a = getD s i 0; b = getD s (length s / 2 + i) 0 }
+  row-is = λ j. record { a = col-0 0 (length s / 2) s i j; b = col-1 0 (length s / 2) s i j }
 
-  -- entry i follows
-  pub entry-followed :
-      {before k n : ℕ} {verts groups : List ℕ} {points : List Float} → SideCopyIs (getD s i 0) (getD s (length s / 2 + i) 0) v before k n verts groups points w
-      → EntryFollowed i v before k n verts groups points s s₂
-  entry-followed C =
-      let row : sideRow (length s / 2) s i ≡ record { a = getD s i 0; b = getD s (length s / 2 + i) 0 } = λ j. record { a = col-0 0 (length s / 2) s i j; b = col-1 0 (length s / 2) s i j } in
-      record {
-        here =
-            λ O M count p B I.
-            (ends-turned i he
-            ∙ ap (λ (t : Bool). record { a = pick t (replaced v w (cell 0 (length s / 2) s 0 i)) (cell 0 (length s / 2) s 0 i); b = pick t (replaced v w (cell 0 (length s / 2) s 1 i)) (cell 0 (length s / 2) s 1 i) }) (eq-eqb i i refl))
-            ∙ ap (turned v w) row
-            ∙ C .is O M count p B I
-            ∙ ap (followed M O) (sym row);
-        others =
-            λ j hj ne.
-            ends-turned j hj
-            ∙ ap (λ (t : Bool). record { a = pick t (replaced v w (cell 0 (length s / 2) s 0 j)) (cell 0 (length s / 2) s 0 j); b = pick t (replaced v w (cell 0 (length s / 2) s 1 j)) (cell 0 (length s / 2) s 1 j) }) (ne-eqb j i ne);
-      }
+  -- it lies in the block
+  pub entry-in : i < length s / 2
+  entry-in = omega (arith, P .here, P .linked .rows)
+
+  -- v is an end of it
+  pub entry-named : stands v (getD s i 0 ∷ getD s (length s / 2 + i) 0 ∷ []) ≡ true
+  entry-named = ap (λ (r : Side). stands v (sideEnds r)) (sym row-is) ∙ row-holds v i (length s / 2) s ∙ P .holding
+
+  module _ {w : ℕ} (C : SideCopyIs (getD s i 0) (getD s (length s / 2 + i) 0) v before k n verts groups points w) where
+    -- it can be turned
+    pub entry-turn : TurnRoom 2 i v w b s table
+    entry-turn =
+        record {
+          wide = omega arith;
+          linked = P .linked;
+          here = P .here;
+          holding = P .holding;
+          head = ⊎-elim (λ q. subst (λ (z : ℕ). z < 1024) (sym q) low) (λ q. q .1) (C .among);
+          fresh = λ ne c x e. ⊎-elim (λ q. ne q) (λ q. let l = P .below c x in let m = q .0 in omega arith) (C .among);
+        }
+      where
+        low : v < 1024
+        low = let g = holds-get 2 (cell 0 (length s / 2) s) i v (P .holding) in subst (λ (z : ℕ). z < 1024) (g .1 .1) (P .linked .apart .below (g .0) i (g .1 .0) (P .here))
+
+    -- and then it follows
+    pub entry-followed : {s′ : List ℕ} → RowTurned 2 i v w s s′ → EntryFollowed i v before k n verts groups points s s′
+    entry-followed {s′} T =
+        let row : sideRow (length s / 2) s′ i ≡ turned v w (sideRow (length s / 2) s i) = λ j. record { a = T .here 0 (omega arith) j; b = T .here 1 (omega arith) j } in
+        record {
+          here = λ O M count p B I. row ∙ ap (turned v w) row-is ∙ C .is O M count p B I ∙ ap (followed M O) (sym row-is);
+          others = λ j hj ne t. record { a = T .others 0 j hj ne t; b = T .others 1 j hj ne t };
+        }
 
 -- ---- the loop over the entries
 
@@ -273,16 +277,12 @@ module _ {v before k n count p b : ℕ} {verts groups : List ℕ} {points : List
 
   -- the copies are small
   pub copies-small : CopiesSmall before n groups
-  copies-small = let s = R .small in record { some = R .some; low = omega arith; small = λ i h. omega (arith, R .below i h) }
+  copies-small = let s = R .small in record { some = R .some; low = R .most; small = λ i h. omega (arith, R .below i h) }
 
   module _ {s : List ℕ} {i : ℕ} (F : Following v before k n count p b verts groups points s₀ s i) where
     -- as many places
     half : length s / 2 ≡ length s₀ / 2
     half = ap (λ (l : ℕ). l / 2) (F .long)
-
-    -- the next entry lies in the block
-    pub entry-in : i < b → i < length s / 2
-    entry-in h = let e = half in let l = R .entries in omega arith
 
     -- it is in reach, in as many particles as rest in the block
     reach : i < b → (q : ℕ) → p ≤ q → q ≤ length points / pointColumns → InReach q (getD s i 0) (getD s (length s / 2 + i) 0) v n k verts points
@@ -303,8 +303,48 @@ module _ {v before k n count p b : ℕ} {verts groups : List ℕ} {points : List
         }
 
     -- what the turn requires
-    pub side-room : i < b → SideRoom (getD s i 0) (getD s (length s / 2 + i) 0) v n k verts groups points
-    side-room h = record { room = R .room; reach = reach h (length points / pointColumns) (R .rests-in) (omega arith) }
+    pub following-room : {table : List ℕ} → i < b → holds 2 (cell 0 (length s₀ / 2) s₀) v i ≡ true → SidesLinked b s table → EntryRoom i v before k n b verts groups points s table
+    following-room h held L =
+        record {
+          here = h;
+          linked = L;
+          holding = holds-ext 2 (cell 0 (length s / 2) s) (cell 0 (length s₀ / 2) s₀) v i same ∙ held;
+          below = λ c x. subst (λ (z : ℕ). z < before) (sym (same c x)) (low c x);
+          side = record { room = R .room; reach = reach h (length points / pointColumns) (R .rests-in) (omega arith) };
+          copies = copies-small;
+        }
+      where
+        row : sideRow (length s₀ / 2) s i ≡ sideRow (length s₀ / 2) s₀ i
+        row = let l = R .entries in F .rest i (omega arith) (omega arith)
+
+        same : (c : ℕ) → c < 2 → cell 0 (length s / 2) s c i ≡ cell 0 (length s₀ / 2) s₀ c i
+        same zero x = ap (λ (m : ℕ). cell 0 m s 0 i) half ∙ ap (λ (t : Side). t .a) row
+        same (suc zero) x = ap (λ (m : ℕ). cell 0 m s 1 i) half ∙ ap (λ (t : Side). t .b) row
+        same (suc (suc c)) x = absurd (omega arith)
+
+        low : (c : ℕ) → c < 2 → cell 0 (length s₀ / 2) s₀ c i < before
+        low zero x = let q = R .behind in omega (arith, R .a-in i h)
+        low (suc zero) x = let q = R .behind in omega (arith, R .b-in i h)
+        low (suc (suc c)) x = absurd (omega arith)
+
+    -- entries that do not name v are passed over
+    pub following-next : {r : ℕ} → Gap (holds 2 (cell 0 (length s₀ / 2) s₀) v) i b r → Following v before k n count p b verts groups points s₀ s r
+    following-next {r} G =
+        record {
+          below = G .within;
+          long = F .long;
+          done = λ j m O M B. by j m O M B (decLt j i);
+          rest = λ j m l. let o = G .onward in F .rest j (omega arith) l;
+        }
+      where
+        by : (j : ℕ) → j < r → (O : Opening) (M : Mesh) → OpeningIn O M v before k n count p verts groups points → Dec (j < i)
+            → sideRow (length s₀ / 2) s j ≡ followed M O (sideRow (length s₀ / 2) s₀ j)
+        by j m O M B (yes q) = F .done j q O M B
+        by j m O M B (no q) =
+            let w = R .entries in
+            let u = G .within in
+            F .rest j (omega (arith, q)) (omega arith)
+            ∙ sym (row-stays O M v before (sideRow (length s₀ / 2) s₀ j) (B .at) (B .before-is) (row-holds v j (length s₀ / 2) s₀ ∙ G .none j (omega (arith, q)) m))
 
     -- a turn has one entry more follow
     pub following-more : {s′ : List ℕ} → i < b → EntryFollowed i v before k n verts groups points s s′ → length s′ ≡ length s → Following v before k n count p b verts groups points s₀ s′ (i + 1)
@@ -340,6 +380,60 @@ module _ {v before k n count p b : ℕ} {verts groups : List ℕ} {points : List
               ap (λ (r : ℕ). tab b (sideRow r s)) half ∙ tab-ext b _ _ (λ j l. F .done j (omega arith) O M B)
               ∙ sym (map-tab (followed M O) b (sideRow (length s₀ / 2) s₀));
         }
+
+-- ---- the walk over the entries at v
+
+-- where it stands behind q of them
+abbrev pub stopAt : ℕ → ℕ → List ℕ → ℕ → ℕ
+stopAt v b s q = stopOf 2 b (cell 0 (length s / 2) s) v q
+
+-- they can be listed
+pub list-room : {v b : ℕ} {s table : List ℕ} {ll : ℕ} → SidesLinked b s table → v < 1024 → b ≤ ll → ListRoom v 1024 2 2048 (length s / 2) b s table ll
+list-room L h fits =
+    record {
+      room = record { cells = L .few; rows = L .rows; columns = omega arith; table = L .long; small = omega (arith, L .few) };
+      here = h;
+      linked = L .are;
+      fits = fits;
+    }
+
+module _ {v before k n count p b : ℕ} {verts groups : List ℕ} {points : List Float} {s₀ : List ℕ} (R : SidesRoom v before k n count p b verts groups points s₀) where
+  -- v has a head
+  pub walk-head : v < 1024
+  walk-head = omega (arith, R .behind, R .most, R .v-in)
+
+  pub walk-start : Following v before k n count p b verts groups points s₀ s₀ (stopAt v b s₀ 0)
+  walk-start = following-next R (following-start R) (stop-first 2 b (cell 0 (length s₀ / 2) s₀) v)
+
+  module _ {list : List ℕ} {named : ℕ} (C : CellsListed 2 b v (cell 0 (length s₀ / 2) s₀) list named) (fits : b ≤ length list)
+      {s : List ℕ} {q : ℕ} (F : Following v before k n count p b verts groups points s₀ s (stopAt v b s₀ q)) where
+    -- at the end of the list
+    pub walk-done : named ≤ q → q ≤ named → SidesFollowed v before k n count p b verts groups points s₀ s
+    walk-done h l =
+        let z : q ≡ named = omega arith in
+        following-done R (subst (Following v before k n count p b verts groups points s₀ s) (ap (stopAt v b s₀) z ∙ stop-end (cell 0 (length s₀ / 2) s₀) C fits) F) (omega arith)
+
+    module _ (h : q < named) where
+      here : Following v before k n count p b verts groups points s₀ s (getD list q 0)
+      here = subst (Following v before k n count p b verts groups points s₀ s) (stop-read (cell 0 (length s₀ / 2) s₀) C fits q h) F
+
+      inside : getD list q 0 < b
+      inside = subst (λ (j : ℕ). j < b) (stop-read (cell 0 (length s₀ / 2) s₀) C fits q h) (stop-here (cell 0 (length s₀ / 2) s₀) C fits q h .inside)
+
+      -- at an entry of the list
+      pub walk-room : {table : List ℕ} → SidesLinked b s table → EntryRoom (getD list q 0) v before k n b verts groups points s table
+      walk-room L =
+          following-room R here inside
+          (subst (λ (j : ℕ). holds 2 (cell 0 (length s₀ / 2) s₀) v j ≡ true) (stop-read (cell 0 (length s₀ / 2) s₀) C fits q h) (stop-here (cell 0 (length s₀ / 2) s₀) C fits q h .passes)) L
+
+      -- and then comes the next one
+      pub walk-on : {s′ : List ℕ} → EntryFollowed (getD list q 0) v before k n verts groups points s s′ → length s′ ≡ length s → Following v before k n count p b verts groups points s₀ s′ (stopAt v b s₀ (q + 1))
+      walk-on {s′} E l = following-next R (following-more R here inside E l) next
+        where
+          next : Gap (holds 2 (cell 0 (length s₀ / 2) s₀) v) (getD list q 0 + 1) b (stopAt v b s₀ (q + 1))
+          next =
+              subst (λ (a : ℕ). Gap (holds 2 (cell 0 (length s₀ / 2) s₀) v) a b (stopAt v b s₀ (q + 1))) (ap suc (stop-read (cell 0 (length s₀ / 2) s₀) C fits q h) ∙ sym (add-one (getD list q 0)))
+              (subst (λ (a : ℕ). Gap (holds 2 (cell 0 (length s₀ / 2) s₀) v) (suc (stopAt v b s₀ q)) b (stopAt v b s₀ a)) (sym (add-one q)) (stop-here (cell 0 (length s₀ / 2) s₀) C fits q h .next))
 
 -- ---- the rows that were passed
 

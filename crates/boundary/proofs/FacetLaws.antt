@@ -1,15 +1,15 @@
--- Laws of crack facets: a particle on a facet, the first face, an entry of the outline more, the face of a part, and pairs in turn. Assumes nothing.
+-- Laws of crack facets: a particle on a facet, the first face, an entry of the outline more, the face of a part, pairs in turn, and the table of the entries. Assumes nothing.
 use mathlib.Core.Path.{_≡_, refl, sym, _∙_, ap, ap₂, subst}
 use mathlib.Core.Logic.{inr}
 use mathlib.Core.Bool.{Bool, true, false, not, _&&_}
 use mathlib.Core.List.{List, [], _∷_, _++_, map, append-nil, append-assoc}
-use Prim.Native.Nat.{ℕ, _+_, _*_, _/_, _-_, _<_, _≤_, zero-le}
+use Prim.Native.Nat.{ℕ, zero, suc, _+_, _*_, _/_, _-_, _<_, _≤_, zero-le}
 use native.Mathlib.Omega.{arith}
 use native.Mathlib.Numerals.{add-one}
 use borrow.Author.Tests.{eq-eqb, ne-eqb, lt-leb, leb-false}
 use lib.Dec.{eqb, leb}
-use lib.ListN.{length, getD, set, take, drop, length-set, length-append, drop-of-length-le}
-use lib.Seq.{drop-cons}
+use lib.ListN.{length, getD, set, take, drop, length-set, length-append, drop-of-length-le, List·getD-append}
+use lib.Seq.{drop-cons, getD-at}
 use lib.Ieee.{Float}
 use Rattle.lists.specs.Lists.{pick, stands, all, find, each, pairs, tab}
 use Rattle.lists.proofs.Stores.{tab-length, tab-at}
@@ -22,9 +22,13 @@ use Rattle.model.specs.Mesh.{Triangle, Side, Mesh, blankTriangle}
 use Rattle.model.specs.Split.{Part, Opening, copyFor, facesOf, faceOn, opens?, facetsAt, crackFacets}
 use Rattle.mesh.specs.At.{triangleRow, trianglesAt, sideRow, boundaryAt}
 use Rattle.split_plan.specs.Opened.{blankPart, partAt}
-use Rattle.work.specs.Rows.{GrownTo, Between}
+use Rattle.work.specs.Rows.{GrownTo, Between, SideRoom}
 use Rattle.split_plan.specs.Answers.{CopyIs}
-use Rattle.boundary.specs.Faces.{faceIs, onBy, facesBy, foundBy, FacetsIn, FaceFound, SidesGrown, FacetsGrown, pairFacets, rowFacets, allFacets}
+use Rattle.boundary.specs.Faces.{faceIs, onBy, facesBy, foundBy, FacetsIn, FaceFound, SidesGrown, FacetsGrown, pairFacets, rowFacets, allFacets, FacetTable, GrownLinked}
+use Rattle.links.specs.Links.{LinksOf}
+use Rattle.links.specs.Linked.{SidesLinked}
+use Rattle.link_changes.specs.Changes.{AppendRoom}
+use Rattle.link_changes.proofs.Edged.{pairs-append-room, pairs-appended}
 use Rattle.boundary.specs.declared.facets.Face.{Face}
 use Rattle.boundary.specs.declared.facets.Face.the-variants.{No, Ends}
 use Rattle.work.specs.declared.Grown.{Grown}
@@ -374,3 +378,68 @@ module _ (v before n count m room : ℕ) (numbers verts groups corners : List �
                   grown-all r room _ (λ c. boundaryAt c s₂) (sides-many r s₂) (S .between .1) (S .sides .2 ∙ next .coming O M t B F);
               between = (omega (arith, next .least, S .between .0), S .between .1);
             }
+
+-- ---- the table of the entries
+
+-- the table of entries that grew
+pub linked-rows : {r : Grown} {m : ℕ} {s table : List ℕ} → r ≡ Rows m → GrownLinked r s table → SidesLinked m s table
+linked-rows {r} {m} {s} {table} q L = subst (λ (z : Grown). GrownLinked z s table) q L
+
+-- an entry more
+module _ {m room : ℕ} {s table : List ℕ} (T : FacetTable m room s table) (R : SideRoom m room (length s)) (ne : m ≡ room → ⊥) (a b : ℕ) (A : (a < 1024) × (b < 1024) × (a ≡ b → ⊥)) where
+  abbrev s″ : List ℕ
+  s″ = set (set s m a) (length s / 2 + m) b
+
+  fits : m + 1 ≤ length s / 2
+  fits = omega (arith, R .rows, R .columns, ne)
+
+  many : length s″ ≡ length s
+  many = simp length-set
+
+  -- its cells, and those before it
+  pushed : boundaryAt (m + 1) s″ ≡ boundaryAt m s ++ (record { a = a; b = b } ∷ [])
+  pushed = side-pushed m a b s fits
+
+  row-new : sideRow (length s″ / 2) s″ m ≡ record { a = a; b = b }
+  unfolding boundaryAt
+  row-new =
+      sym (tab-at (m + 1) (sideRow (length s″ / 2) s″) m (record { a = 0; b = 0 }) (omega arith)) ∙ ap (λ (l : List Side). getD l m (record { a = 0; b = 0 })) pushed
+      ∙ getD-at (boundaryAt m s) (record { a = a; b = b }) [] (record { a = 0; b = 0 }) m (sides-many m s)
+
+  row-old : (j : ℕ) → j < m → sideRow (length s″ / 2) s″ j ≡ sideRow (length s / 2) s j
+  unfolding boundaryAt
+  row-old j h =
+      let l : j < length (boundaryAt m s) = omega (arith, sides-many m s) in
+      sym (tab-at (m + 1) (sideRow (length s″ / 2) s″) j (record { a = 0; b = 0 }) (omega arith)) ∙ ap (λ (l : List Side). getD l j (record { a = 0; b = 0 })) pushed
+      ∙ List·getD-append (boundaryAt m s) (record { a = a; b = b } ∷ []) (record { a = 0; b = 0 }) j l
+      ∙ tab-at m (sideRow (length s / 2) s) j (record { a = 0; b = 0 }) h
+
+  same : (c j : ℕ) → c < 2 → j < m → cell 0 (length s / 2) s c j ≡ cell 0 (length s″ / 2) s″ c j
+  same zero j x h = sym (ap (λ (r : Side). r .a) (row-old j h))
+  same (suc zero) j x h = sym (ap (λ (r : Side). r .b) (row-old j h))
+  same (suc (suc c)) j x h = absurd (omega arith)
+
+  few : m + 1 ≤ 2048
+  few = omega (arith, T .few, R .rows, ne)
+
+  rows : m + 1 ≤ length s″ / 2
+  rows = omega (arith, many, fits)
+
+  first : cell 0 (length s″ / 2) s″ 0 m < 1024
+  first = subst (λ (z : ℕ). z < 1024) (sym (ap (λ (r : Side). r .a) row-new)) (A .0)
+
+  second : cell 0 (length s″ / 2) s″ 1 m < 1024
+  second = subst (λ (z : ℕ). z < 1024) (sym (ap (λ (r : Side). r .b) row-new)) (A .1)
+
+  differ : cell 0 (length s″ / 2) s″ 0 m ≡ cell 0 (length s″ / 2) s″ 1 m → ⊥
+  differ e = A .2 (sym (ap (λ (r : Side). r .a) row-new) ∙ e ∙ ap (λ (r : Side). r .b) row-new)
+
+  -- it can be put into the table, by the columns as they were
+  pub face-room : AppendRoom 1024 2 2048 (length s / 2) m s″ table
+  face-room = subst (λ (l : ℕ). AppendRoom 1024 2 2048 (l / 2) m s″ table) many (pairs-append-room (omega arith) (T .linked) s″ same few rows first second differ)
+
+  -- and then the table has it
+  pub face-linked : {table′ : List ℕ} → length table′ ≡ length table → LinksOf 1024 2 2048 (m + 1) (cell 0 (length s / 2) s″) table′ → SidesLinked (m + 1) s″ table′
+  face-linked {table′} long L =
+      pairs-appended (omega arith) (T .linked) s″ same few rows first second differ long
+      (subst (λ (l : ℕ). LinksOf 1024 2 2048 (m + 1) (cell 0 (l / 2) s″) table′) (sym many) L)

@@ -1,5 +1,5 @@
 -- The crack facets of a split: what the workers on them ask and give. Only contracts between workers need this file. Definitions only.
-use Prim.Native.Nat.{ℕ, _+_, _/_, _<_, _≤_}
+use Prim.Native.Nat.{ℕ, _+_, _*_, _/_, _<_, _≤_}
 use mathlib.Core.Path.{_≡_}
 use mathlib.Core.Bool.{Bool, not, _&&_, _||_}
 use mathlib.Core.List.{List, [], _∷_, map, _++_}
@@ -16,6 +16,8 @@ use Rattle.work.specs.Rows.{GrownTo, Between}
 use Rattle.boundary.specs.declared.facets.Face.{Face}
 use Rattle.boundary.specs.declared.facets.Face.the-variants.{No, Ends}
 use Rattle.work.specs.declared.Grown.{Grown}
+use Rattle.work.specs.declared.Grown.the-variants.{Lacking, Rows}
+use Rattle.links.specs.Linked.{SidesLinked}
 
 -- the face that was found, as a list
 abbrev pub faceIs : Face → List Side
@@ -33,6 +35,25 @@ facesBy x y z = record { a = x; b = y } ∷ record { a = y; b = z } ∷ record {
 -- the first face with both ends on the facet
 unfoldable pub foundBy : ℕ → ℕ → List ℕ → List ℕ → List Side → List Side
 foundBy v copy p q faces = oneOrNone (find (λ (s : Side). all (onBy v copy p q) (sideEnds s)) faces)
+
+-- a face that was found has two different ends, among 1,024 particles
+abbrev pub FaceApart : Face → Type 0
+FaceApart No = Unit {0}
+FaceApart (Ends a b) = (a < 1024) × (b < 1024) × (a ≡ b → ⊥)
+
+-- the corners x, y and z are different ones of 1,024 particles
+pub record ThreeApart (x y z : ℕ) : Type 0 where
+  pub x-in : x < 1024
+  pub y-in : y < 1024
+  pub z-in : z < 1024
+  pub first : x ≡ y → ⊥
+  pub second : y ≡ z → ⊥
+  pub third : z ≡ x → ⊥
+
+-- so are those of each triangle that the first n numbers name
+abbrev pub FanApart : ℕ → List ℕ → List ℕ → Type 0
+FanApart n numbers corners =
+    (i : ℕ) → i < n → ThreeApart (getD corners (getD numbers i 0) 0) (getD corners (length corners / 3 + getD numbers i 0) 0) (getD corners (2 * (length corners / 3) + getD numbers i 0) 0)
 
 -- an opening of triangles in tables, and a mesh whose triangles have these corners
 pub record FacetsIn (O : Opening) (M : Mesh) (t : ℕ) (volumes : List Float) (v before n count : ℕ) (numbers verts groups corners : List ℕ) : Type 0 where
@@ -78,3 +99,15 @@ rowFacets i O M = each (facetsAt M O) (map (λ q. (partAt O i, q)) (drop (i + 1)
 
 abbrev pub allFacets : Opening → Mesh → List Side
 allFacets O M = crackFacets Triangles M O
+
+-- ---- the table of the entries
+
+-- the table is that of the first m entries, and has places for `room` of them
+pub record FacetTable (m room : ℕ) (outline table : List ℕ) : Type 0 where
+  pub linked : SidesLinked m outline table
+  pub few : room ≤ 2048
+
+-- where entries were appended, the table is that of all of them
+abbrev pub GrownLinked : Grown → List ℕ → List ℕ → Type 0
+GrownLinked Lacking outline table = Unit {0}
+GrownLinked (Rows m) outline table = SidesLinked m outline table

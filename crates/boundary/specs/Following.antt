@@ -2,6 +2,7 @@
 use Prim.Native.Nat.{ℕ, _+_, _*_, _/_, _<_, _≤_}
 use mathlib.Core.Path.{_≡_}
 use mathlib.Core.Bool.{Bool, true, false, _&&_}
+use mathlib.Core.Logic.{_⊎_}
 use mathlib.Core.List.{List, map}
 use lib.ListN.{length, getD, take, drop}
 use lib.Ieee.{Float}
@@ -11,6 +12,8 @@ use Rattle.model.specs.Mesh.{Mesh}
 use Rattle.model.specs.Split.{Opening, sideGroup, turned, followed}
 use Rattle.mesh.specs.At.{sideRow, boundaryAt}
 use Rattle.mesh.specs.Widths.{pointColumns}
+use Rattle.links.specs.Links.{holds}
+use Rattle.links.specs.Linked.{SidesLinked}
 use Rattle.split_plan.specs.Opened.{Ringed, RingRoom, RestsIn, CornersBelow, OpeningIn}
 
 -- the boundary entries at v follow
@@ -47,16 +50,17 @@ pub record SideGroupIs (x y v n k : ℕ) (verts groups : List ℕ) (points : Lis
   pub is : (O : Opening) (M : Mesh) (p : ℕ) → Ringed k O n verts groups → O .v ≡ v → RestsIn M p points → InReach p x y v n k verts points → r ≡ sideGroup M O (record { a = x; b = y })
   pub small : (bound : ℕ) → ((i : ℕ) → i < n → getD groups i 0 ≤ bound) → r ≤ bound
 
--- the copies of all groups are small
+-- the copies of all groups are among 1,024 particles
 pub record CopiesSmall (before n : ℕ) (groups : List ℕ) : Type 0 where
   pub some : 0 < before
-  pub low : before ≤ 65536
-  pub small : (i : ℕ) → i < n → before + getD groups i 0 ≤ 65536
+  pub low : before ≤ 1024
+  pub small : (i : ℕ) → i < n → before + getD groups i 0 ≤ 1024
 
--- r for v makes of the boundary entry (x, y) what it becomes
+-- r for v makes of the boundary entry (x, y) what it becomes; it is v or a copy
 pub record SideCopyIs (x y v before k n : ℕ) (verts groups : List ℕ) (points : List Float) (r : ℕ) : Type 0 where
   pub is : (O : Opening) (M : Mesh) (count p : ℕ) → OpeningIn O M v before k n count p verts groups points → InReach p x y v n k verts points
       → turned v r (record { a = x; b = y }) ≡ followed M O (record { a = x; b = y })
+  pub among : (r ≡ v) ⊎ ((before ≤ r) × (r < 1024))
 
 -- entry i follows, and the others are as they were
 pub record EntryFollowed (i v before k n : ℕ) (verts groups : List ℕ) (points : List Float) (outline outline′ : List ℕ) : Type 0 where
@@ -65,7 +69,16 @@ pub record EntryFollowed (i v before k n : ℕ) (verts groups : List ℕ) (point
       → sideRow (length outline / 2) outline′ i ≡ followed M O (sideRow (length outline / 2) outline i)
   pub others : (j : ℕ) → j < length outline / 2 → (j ≡ i → ⊥) → sideRow (length outline / 2) outline′ j ≡ sideRow (length outline / 2) outline j
 
--- the tables of the parts fit, the ends of b entries are among the first p particles, as are v and all corners, and the copies are small
+-- what entry i of b asks, one at v: the table is that of the b entries, and its ends are particles that were there before
+pub record EntryRoom (i v before k n b : ℕ) (verts groups : List ℕ) (points : List Float) (outline table : List ℕ) : Type 0 where
+  pub here : i < b
+  pub linked : SidesLinked b outline table
+  pub holding : holds 2 (cell 0 (length outline / 2) outline) v i ≡ true
+  pub below : (c : ℕ) → c < 2 → cell 0 (length outline / 2) outline c i < before
+  pub side : SideRoom (getD outline i 0) (getD outline (length outline / 2 + i) 0) v n k verts groups points
+  pub copies : CopiesSmall before n groups
+
+-- the tables of the parts fit, the ends of b entries are among the first p particles, as are v and all corners, and each copy, which comes behind them, has a head
 pub record SidesRoom (v before k n count p b : ℕ) (verts groups : List ℕ) (points : List Float) (outline : List ℕ) : Type 0 where
   pub room : RingRoom n k (length verts) (length groups)
   pub entries : b ≤ length outline / 2
@@ -75,5 +88,7 @@ pub record SidesRoom (v before k n count p b : ℕ) (verts groups : List ℕ) (p
   pub a-in : (j : ℕ) → j < b → cell 0 (length outline / 2) outline 0 j < p
   pub b-in : (j : ℕ) → j < b → cell 0 (length outline / 2) outline 1 j < p
   pub some : 0 < before
-  pub small : before + count ≤ 65536
+  pub behind : p ≤ before
+  pub most : before ≤ 1024
+  pub small : before + count ≤ 1025
   pub below : (i : ℕ) → i < n → getD groups i 0 < count

@@ -2,11 +2,12 @@
 ghost use mathlib.Core.Path.{_≡_};
 ghost use mathlib.Core.Bool.{true};
 ghost use mathlib.Core.List.{[], _∷_};
-ghost use Prim.Native.Nat.{_+_, _*_, _/_, _<_, _≤_};
-ghost use lib.ListN.{length, getD};
+ghost use Prim.Native.Nat.{_+_, _*_, _≤_};
+ghost use lib.ListN.{length};
 ghost use Rattle.lists.specs.Lists.{stands};
 ghost use Rattle.split_plan.specs.Opened.{RingRoom};
-ghost use Rattle.boundary.specs.Following.{SidesFollowed, rowHolds, FirstHolder, SideRoom, SideGroupIs, CopiesSmall, SideCopyIs, EntryFollowed, SidesRoom};
+ghost use Rattle.boundary.specs.Following.{SidesFollowed, rowHolds, FirstHolder, SideRoom, SideGroupIs, CopiesSmall, SideCopyIs, EntryRoom, EntryFollowed, SidesRoom};
+ghost use Rattle.links.specs.Linked.{SidesLinked};
 
 // Does part i hold both x and y?
 fn part_holds(x: usize, y: usize, k: usize, i: usize, verts: &[usize]) -> bool
@@ -78,35 +79,32 @@ fn side_copy(
     mesh::rows::copy_for(v, before, g)
 }
 
-// Boundary entry i follows its group, if it names v; most do not, and stay as they are.
+// Boundary entry i of b, which names v, follows its group, in the block and in the table.
 fn follow_entry(
     i: usize,
     v: usize,
     before: usize,
     k: usize,
     n: usize,
+    b: usize,
     verts: &[usize],
     groups: &[usize],
     points: &[f32],
     outline: &mut [usize],
+    table: &mut [u16],
 )
-    requires { ⌜ (i < length (now outline) / 2) × SideRoom (getD (now outline) i 0) (getD (now outline)
-        (length (now outline) / 2 + i) 0) v n k (now verts) (now groups) (now points) × CopiesSmall before n (now groups) ⌝ }
+    requires { ⌜ EntryRoom i v before k n b (now verts) (now groups) (now points) (now outline) (now table) ⌝ }
     ensures { λ _. ⌜ EntryFollowed i v before k n (now (verts .entry)) (now (groups .entry)) (now (points .entry)) (now (outline .entry))
-        (now (outline .exit)) ⌝ }
+        (now (outline .exit)) × SidesLinked b (now (outline .exit)) (now (table .exit)) ⌝ }
 {
     let j = outline.len() / 2 + i;
     let x = outline[i];
     let y = outline[j];
-    if !split_plan::names(v, x, y) {
-        return;
-    }
     let w = side_copy(x, y, v, before, k, n, verts, groups, points);
-    mesh::rows::replace_at(outline, i, v, w);
-    mesh::rows::replace_at(outline, j, v, w);
+    link_changes::turn_row(i, v, w, b, 2, outline, table);
 }
 
-// Each of the first b boundary entries that names v follows its group.
+// Each of the first b boundary entries that names v follows its group. The table finds them: they are listed first.
 pub fn follow_boundary(
     v: usize,
     before: usize,
@@ -119,14 +117,31 @@ pub fn follow_boundary(
     groups: &[usize],
     points: &[f32],
     outline: &mut [usize],
+    table: &mut [u16],
+    list: &mut [usize],
 )
-    requires { ⌜ SidesRoom v before k n count p b (now verts) (now groups) (now points) (now outline) ⌝ }
+    requires { ⌜ SidesRoom v before k n count p b (now verts) (now groups) (now points) (now outline)
+        × SidesLinked b (now outline) (now table) × (b ≤ length (now list)) ⌝ }
     ensures { λ _. ⌜ SidesFollowed v before k n count p b (now (verts .entry)) (now (groups .entry)) (now (points .entry))
-        (now (outline .entry)) (now (outline .exit)) ⌝ }
+        (now (outline .entry)) (now (outline .exit)) × SidesLinked b (now (outline .exit)) (now (table .exit)) ⌝ }
 {
-    let mut i: usize = 0;
-    while i < b {
-        follow_entry(i, v, before, k, n, verts, groups, points, outline);
-        i += 1;
+    let span = outline.len() / 2;
+    let named = links::cells_at(v, b, 2, 1024, 2048, span, outline, table, list);
+    let mut q: usize = 0;
+    while q < named {
+        follow_entry(
+            list[q],
+            v,
+            before,
+            k,
+            n,
+            b,
+            verts,
+            groups,
+            points,
+            outline,
+            table,
+        );
+        q += 1;
     }
 }

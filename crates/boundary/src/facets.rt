@@ -1,10 +1,10 @@
-// Crack facets: where a split parts two triangles of the fan that shared a side at v, both faces that open there join the boundary.
+// Crack facets: where a split parts two triangles of the fan that shared a side at v, both faces that open there join the boundary and its table.
 ghost use mathlib.Core.Path.{_≡_};
 ghost use mathlib.Core.List.{[], _∷_};
 ghost use Prim.Native.Nat.{_+_, _/_, _<_};
 ghost use lib.ListN.{length};
 ghost use Rattle.lists.specs.Lists.{all};
-ghost use Rattle.boundary.specs.Faces.{onBy, facesBy, foundBy, faceIs, FaceRoom, FaceFound, SidesGrown, FacetsGrown, pairFacets, rowFacets, allFacets};
+ghost use Rattle.boundary.specs.Faces.{onBy, facesBy, foundBy, faceIs, FaceApart, ThreeApart, FanApart, FaceRoom, FaceFound, SidesGrown, FacetsGrown, pairFacets, rowFacets, allFacets, FacetTable, GrownLinked};
 ghost use Rattle.work.specs.Rows.{SideRoom};
 use work::Grown;
 
@@ -42,7 +42,8 @@ fn side_on(x: usize, y: usize, v: usize, copy: usize, p: &[usize], q: &[usize]) 
 
 // The first face of (x, y, z) with both ends on the facet.
 fn first_face(x: usize, y: usize, z: usize, v: usize, copy: usize, p: &[usize], q: &[usize]) -> Face
-    ensures { λ r. ⌜ faceIs r ≡ foundBy v copy (now (p .entry)) (now (q .entry)) (facesBy x y z) ⌝ }
+    requires { ⌜ ThreeApart x y z ⌝ }
+    ensures { λ r. ⌜ (faceIs r ≡ foundBy v copy (now (p .entry)) (now (q .entry)) (facesBy x y z)) × FaceApart r ⌝ }
 {
     if side_on(x, y, v, copy, p, q) {
         return Face::Ends(x, y);
@@ -71,9 +72,9 @@ fn face_of(
     corners: &[usize],
 ) -> Face
     requires { ⌜ FaceRoom before n count (now numbers) (length (now verts)) (length (now groups)) (length (now corners)) × (i < n) × (j < n)
-        × (r < n) ⌝ }
+        × (r < n) × FanApart n (now numbers) (now corners) ⌝ }
     ensures { λ f. ⌜ FaceFound i j r v before n count (now (numbers .entry)) (now (verts .entry)) (now (groups .entry))
-        (now (corners .entry)) f ⌝ }
+        (now (corners .entry)) f × FaceApart f ⌝ }
 {
     let c = corners.len() / 3;
     let t = numbers[r];
@@ -93,10 +94,10 @@ fn face_of(
     )
 }
 
-// Appends a face that was found to the m entries.
-fn append_face(face: Face, m: usize, room: usize, outline: &mut [usize]) -> Grown
-    requires { ⌜ SideRoom m room (length (now outline)) ⌝ }
-    ensures { λ r. ⌜ SidesGrown (faceIs face) m room (now (outline .entry)) (now (outline .exit)) r ⌝ }
+// Appends a face that was found to the m entries, and to their table.
+fn append_face(face: Face, m: usize, room: usize, outline: &mut [usize], table: &mut [u16]) -> Grown
+    requires { ⌜ SideRoom m room (length (now outline)) × FacetTable m room (now outline) (now table) × FaceApart face ⌝ }
+    ensures { λ r. ⌜ SidesGrown (faceIs face) m room (now (outline .entry)) (now (outline .exit)) r × GrownLinked r (now (outline .exit)) (now (table .exit)) ⌝ }
 {
     let Face::Ends(a, b) = face else {
         return Grown::Rows(m);
@@ -107,6 +108,7 @@ fn append_face(face: Face, m: usize, room: usize, outline: &mut [usize]) -> Grow
     let o = outline.len() / 2;
     outline[m] = a;
     outline[o + m] = b;
+    link_changes::append_cell(m, 2, 1024, 2048, o, outline, table);
     Grown::Rows(m + 1)
 }
 
@@ -125,11 +127,13 @@ fn open_pair(
     groups: &[usize],
     corners: &[usize],
     outline: &mut [usize],
+    table: &mut [u16],
 ) -> Grown
     requires { ⌜ FaceRoom before n count (now numbers) (length (now verts)) (length (now groups)) (length (now corners))
-        × SideRoom m room (length (now outline)) × (i < n) × (j < n) ⌝ }
+        × SideRoom m room (length (now outline)) × (i < n) × (j < n) × FanApart n (now numbers) (now corners)
+        × FacetTable m room (now outline) (now table) ⌝ }
     ensures { λ r. ⌜ FacetsGrown (pairFacets i j) v before n count m room (now (numbers .entry)) (now (verts .entry)) (now (groups .entry))
-        (now (corners .entry)) (now (outline .entry)) (now (outline .exit)) r ⌝ }
+        (now (corners .entry)) (now (outline .entry)) (now (outline .exit)) r × GrownLinked r (now (outline .exit)) (now (table .exit)) ⌝ }
 {
     if groups[i] == groups[j] {
         return Grown::Rows(m);
@@ -167,11 +171,11 @@ fn open_pair(
         groups,
         corners,
     );
-    let grown = append_face(first, m, room, outline);
+    let grown = append_face(first, m, room, outline, table);
     let Grown::Rows(rows) = grown else {
         return Grown::Lacking;
     };
-    append_face(second, rows, room, outline)
+    append_face(second, rows, room, outline, table)
 }
 
 // Part i with each later one.
@@ -188,11 +192,13 @@ fn open_row(
     groups: &[usize],
     corners: &[usize],
     outline: &mut [usize],
+    table: &mut [u16],
 ) -> Grown
     requires { ⌜ FaceRoom before n count (now numbers) (length (now verts)) (length (now groups)) (length (now corners))
-        × SideRoom m room (length (now outline)) × (i < n) ⌝ }
+        × SideRoom m room (length (now outline)) × (i < n) × FanApart n (now numbers) (now corners)
+        × FacetTable m room (now outline) (now table) ⌝ }
     ensures { λ r. ⌜ FacetsGrown (rowFacets i) v before n count m room (now (numbers .entry)) (now (verts .entry)) (now (groups .entry))
-        (now (corners .entry)) (now (outline .entry)) (now (outline .exit)) r ⌝ }
+        (now (corners .entry)) (now (outline .entry)) (now (outline .exit)) r × GrownLinked r (now (outline .exit)) (now (table .exit)) ⌝ }
 {
     let mut rows = m;
     let mut j = i + 1;
@@ -211,6 +217,7 @@ fn open_row(
             groups,
             corners,
             outline,
+            table,
         );
         let Grown::Rows(more) = grown else {
             return Grown::Lacking;
@@ -221,7 +228,7 @@ fn open_row(
     Grown::Rows(rows)
 }
 
-// Appends the faces that open between the parts of a fan, pair by pair, to the b entries of the outline.
+// Appends the faces that open between the parts of a fan, pair by pair, to the b entries of the outline and to their table.
 pub fn crack_facets(
     v: usize,
     before: usize,
@@ -234,11 +241,13 @@ pub fn crack_facets(
     groups: &[usize],
     corners: &[usize],
     outline: &mut [usize],
+    table: &mut [u16],
 ) -> Grown
     requires { ⌜ FaceRoom before n count (now numbers) (length (now verts)) (length (now groups)) (length (now corners))
-        × SideRoom b room (length (now outline)) ⌝ }
+        × SideRoom b room (length (now outline)) × FanApart n (now numbers) (now corners)
+        × FacetTable b room (now outline) (now table) ⌝ }
     ensures { λ r. ⌜ FacetsGrown allFacets v before n count b room (now (numbers .entry)) (now (verts .entry)) (now (groups .entry))
-        (now (corners .entry)) (now (outline .entry)) (now (outline .exit)) r ⌝ }
+        (now (corners .entry)) (now (outline .entry)) (now (outline .exit)) r × GrownLinked r (now (outline .exit)) (now (table .exit)) ⌝ }
 {
     let mut rows = b;
     let mut i: usize = 0;
@@ -256,6 +265,7 @@ pub fn crack_facets(
             groups,
             corners,
             outline,
+            table,
         );
         let Grown::Rows(more) = grown else {
             return Grown::Lacking;

@@ -1,8 +1,8 @@
--- The rooms of a call, as four words and the bytes of a log give them. Only the contracts between the functions need this file. Definitions only.
+-- The rooms of a call, as four words and the bytes of a log give them, and the refusals that are about them. Only the contracts between the functions need this file. Definitions only.
 use Prim.Native.Nat.{ℕ, _*_, _/_, _≤_, min}
-use mathlib.Core.Bool.{Bool}
+use mathlib.Core.Bool.{Bool, _&&_}
 use mathlib.Core.List.{List}
-use lib.Dec.{eqb}
+use lib.Dec.{eqb, leb}
 use Rattle.lists.specs.Lists.{pick}
 use Rattle.mesh.specs.declared.Rooms.{Rooms}
 use Rattle.image.specs.Words.{wordAt}
@@ -23,3 +23,7 @@ roomsGiven s logged = record { particles = min 1024 (wordAt s 0); triangles = mi
 -- the refusal of a job, where the rooms are four words or not: if not, 4 in the place of none and of those behind it
 abbrev pub roomsToo : ℕ → Bool → ℕ
 roomsToo code sixteen = pick sixteen code (pick (eqb code 0) 4 (min code 4))
+
+-- a refusal that says that a room lacks: for particles, edges, boundary entries or log entries
+abbrev pub lacksRoom : ℕ → Bool
+lacksRoom n = leb 5 n && leb n 8

@@ -3,8 +3,8 @@ ghost use mathlib.Core.Path.{_≡_};
 ghost use lib.ListN.{length};
 ghost use Rattle.mesh_calls.specs.declared.Job.the-variants.{Cut};
 ghost use Rattle.image.specs.Words.{numberOf};
-ghost use Rattle.reading_c.specs.Replies.{pointAt};
-ghost use Rattle.call_words.specs.Rooms.{Limited, roomsGiven, roomsToo};
+ghost use Rattle.reading_replies.specs.Replies.{pointAt};
+ghost use Rattle.call_words.specs.Rooms.{Limited, roomsGiven, roomsToo, lacksRoom};
 use mesh::Rooms;
 use mesh_calls::Job;
 
@@ -43,13 +43,20 @@ pub fn with_rooms(code: usize, sixteen: bool) -> usize
     mesh::whole::least(code, 4)
 }
 
+// Does a refusal say that a room lacks?
+pub fn lacks_room(code: u32) -> bool
+    ensures { λ r. ⌜ r ≡ lacksRoom code ⌝ }
+{
+    judge::tests::both(5 <= code, code <= 8)
+}
+
 // The cut in an edition along a blade of four words, with the insertion fraction of a word.
 pub fn cut_job(blade: &[u8], edition: u32, fraction: u32) -> Job
     requires { ⌜ length (now blade) ≡ 16 ⌝ }
     ensures { λ r. ⌜ r ≡ Cut edition (pointAt (now (blade .entry)) 0) (pointAt (now (blade .entry)) 2) (numberOf fraction) ⌝ }
 {
-    let b0 = reading_c::leaves::point_at(blade, 0);
-    let b1 = reading_c::leaves::point_at(blade, 2);
+    let b0 = reading_replies::leaves::point_at(blade, 0);
+    let b1 = reading_replies::leaves::point_at(blade, 2);
     let f = image::number_of(fraction as usize);
     Job::Cut(edition as usize, b0, b1, f)
 }

@@ -42,6 +42,10 @@ use Rattle.work.specs.declared.Ran.{Ran}
 use Rattle.work.specs.declared.Ran.the-variants.{Refused, Done}
 use Rattle.work.proofs.Placed.{corners-in, ends-in, sides-in}
 use Rattle.work.proofs.Runs.{works-stay, works-as, works-then, works-refused, works-known}
+use Rattle.elements.specs.Table.{kindIs}
+use Rattle.elements.specs.declared.Kind.{Kind as Elemental}
+use Rattle.elements.specs.declared.Kind.the-variants.{Triangles as Facets, Straps as Segments, Nothing as Neither}
+use Rattle.links.specs.Linked.{MeshLinked}
 use Rattle.tear.specs.Loads.{LoadsRead}
 use Rattle.crack.specs.Bodies.{NarrowRoom, EndsRoom, EndsKept, endsListed, CracksTold, crackTurns, crackEnd}
 use Rattle.lists.proofs.Truths.{of-not, of-not-false}
@@ -228,6 +232,22 @@ module _ (K : Kind) {L : Rooms} {W : World} (t : Bool) (found : (S : Run) → W 
   pub end-done : {at at′ : Counts → World} (r : Ran) (k : Counts) {s : Ran} → r ≡ Done k → t ≡ true → Works (splitPinched K) L W at r → Works (removeStraddlers K) L (at k) at′ s → Works (crackEnd K) L W at′ s
   end-done r k known e F G = end-split e (works-then (works-known r (Done k) known F) G)
 
+-- the pinched are split by the kind of the mesh: there are some of triangles alone
+module _ (kind : Elemental) where
+  pub pinched-linked : kind ≡ Facets → {t e b : ℕ} {corners ends outline links : List ℕ} → MeshLinked (kindIs kind) t e b corners ends outline links → MeshLinked Triangles t e b corners ends outline links
+  pinched-linked q {t} {e} {b} {corners} {ends} {outline} {links} X = subst (λ (z : Elemental). MeshLinked (kindIs z) t e b corners ends outline links) q X
+
+  pub pinched-split : {L : Rooms} {W : World} {at : Counts → World} {r : Ran} → kind ≡ Facets → Works (splitPinched Triangles) L W at r → Works (splitPinched (kindIs kind)) L W at r
+  pinched-split {L} {W} {at} {r} q F = subst (λ (z : Elemental). Works (splitPinched (kindIs z)) L W at r) (sym q) F
+
+  pub pinched-straps : {L : Rooms} (at : Counts → World) (k : Counts) → kind ≡ Segments → Within k L → Works (splitPinched (kindIs kind)) L (at k) at (Done k)
+  unfolding splitPinched
+  pinched-straps {L} at k q w = subst (λ (z : Elemental). Works (splitPinched (kindIs z)) L (at k) at (Done k)) (sym q) (works-stay k w)
+
+  pub pinched-nothing : {L : Rooms} (at : Counts → World) (k : Counts) → kind ≡ Neither → Within k L → Works (splitPinched (kindIs kind)) L (at k) at (Done k)
+  unfolding splitPinched
+  pinched-nothing {L} at k q w = subst (λ (z : Elemental). Works (splitPinched (kindIs z)) L (at k) at (Done k)) (sym q) (works-stay k w)
+
 -- the end goes on from what is before it
 end-onward : (K : Kind) (S : Run) → Onward S (crackEnd K S)
 unfolding crackEnd
@@ -329,3 +349,8 @@ module _ (K : Kind) (min : ℕ) (is : List ℕ) where
 
     pub body-done : {at′ : Counts → World} (k : Counts) {s : Ran} → r ≡ Done k → Works (crackEnd K) L (at k) at′ s → Works (crack K min is) L W at′ s
     body-done k known G = works-as (λ R e. crack-is R) (works-then (works-known r (Done k) known F) G)
+
+  -- no edge is torn, and nothing split: t tells whether anything did
+  pub crack-none : {L : Rooms} (at : Counts → World) (k : Counts) (t : Bool) → ((S : Run) → at k .log ≡ map wordsOf (S .log) → t ≡ not (empty (splitsOf (S .log)))) → length is ≡ 0 → t ≡ false → Within k L
+      → Works (crack K min is) L (at k) at (Done k)
+  crack-none at k t found e f w = works-as (λ R h. crack-is R) (works-then (turns-none K min is {at = at} k e w) (end-unsplit K t found {at = at} f (works-stay {at = at} k w)))

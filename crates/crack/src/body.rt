@@ -4,6 +4,7 @@ ghost use mathlib.Core.List.{[], _∷_};
 ghost use lib.ListN.{length, take};
 ghost use Rattle.elements.specs.Table.{kindIs};
 ghost use Rattle.links.specs.Linked.{LinkedIn};
+ghost use Rattle.model.specs.Cut.{splitPinched};
 ghost use Rattle.model.specs.Crack.{crack};
 ghost use Rattle.work.specs.Working.{Logged};
 ghost use Rattle.crack.specs.Bodies.{NarrowRoom, EndsRoom, EndsKept, endsListed, CracksRoom, CracksTold, crackTurns, crackEnd};
@@ -13,7 +14,6 @@ ghost use Rattle.split.specs.Blocks.{LinkedBehind};
 use elements::Kind;
 use mesh::Counts;
 use mesh::Rooms;
-use strap_cut::kinds::Pass;
 use work::Ran;
 
 // Copies numbers that fit 16 bits to the front of a table of such.
@@ -61,10 +61,10 @@ fn crack_numbered(
     links: &mut [u16],
 ) -> Ran
     requires { ⌜ (let K = kindIs kind in ReadyIn room k points roots corners volumes ends lengths outline log
-        × CracksRoom K e (now from) (now to) k (length (now loads)) (now log) × LinkedIn K k corners ends links) ⌝ }
+        × CracksRoom K e (now from) (now to) k (length (now loads)) (now log) × LinkedIn K k corners ends outline links) ⌝ }
     ensures { λ r. ⌜ (let K = kindIs kind in CracksTold K minimum (k .triangles) (endsListed e (now (from .entry)) (now (to .entry)) (number
         ∷ [])) (now (loads .entry)) room (worldBefore k points roots corners volumes ends lengths outline log)
-        (λ q. worldBehind q points roots corners volumes ends lengths outline log) r × LinkedBehind K corners ends links r) ⌝ }
+        (λ q. worldBehind q points roots corners volumes ends lengths outline log) r × LinkedBehind K corners ends outline links r) ⌝ }
 {
     if number >= e {
         return Ran::Done(k);
@@ -111,10 +111,10 @@ fn crack_listed(
     links: &mut [u16],
 ) -> Ran
     requires { ⌜ (let K = kindIs kind in ReadyIn room k points roots corners volumes ends lengths outline log
-        × CracksRoom K e (now from) (now to) k (length (now loads)) (now log) × LinkedIn K k corners ends links) ⌝ }
-    ensures { λ r. ⌜ CracksTold (kindIs kind) minimum (k .triangles) (endsListed e (now (from .entry)) (now (to .entry))
+        × CracksRoom K e (now from) (now to) k (length (now loads)) (now log) × LinkedIn K k corners ends outline links) ⌝ }
+    ensures { λ r. ⌜ (let K = kindIs kind in CracksTold K minimum (k .triangles) (endsListed e (now (from .entry)) (now (to .entry))
         (now (torn .entry))) (now (loads .entry)) room (worldBefore k points roots corners volumes ends lengths outline log)
-        (λ q. worldBehind q points roots corners volumes ends lengths outline log) r ⌝ }
+        (λ q. worldBehind q points roots corners volumes ends lengths outline log) r × LinkedBehind K corners ends outline links r) ⌝ }
 {
     let mut counts = k;
     let mut i: usize = 0;
@@ -148,7 +148,7 @@ fn crack_listed(
     Ran::Done(counts)
 }
 
-// Cracks the torn edges of a list in turn, by their ends and the loads of the input. The tables of the ends first hold the links that the loads are read by. The table of fans is built once, and every split keeps it.
+// Cracks the torn edges of a list in turn, by their ends and the loads of the input. The tables of the ends first hold the links that the loads are read by.
 fn crack_torn(
     kind: Kind,
     minimum: usize,
@@ -163,14 +163,13 @@ fn crack_torn(
     lengths: &mut [f32],
     outline: &mut [usize],
     log: &mut [u32],
+    links: &mut [u16],
 ) -> Ran
-    requires { ⌜ ReadyIn room k points roots corners volumes ends lengths outline log × Logged (k .log) (now log) ⌝ }
-    ensures { λ r. ⌜ WorksIn (crackTurns (kindIs kind) minimum (now (torn .entry))) room k points roots corners volumes ends lengths outline
-        log r ⌝ }
+    requires { ⌜ ReadyIn room k points roots corners volumes ends lengths outline log × Logged (k .log) (now log)
+        × LinkedIn (kindIs kind) k corners ends outline links ⌝ }
+    ensures { λ r. ⌜ (let K = kindIs kind in WorksIn (crackTurns K minimum (now (torn .entry))) room k points roots corners volumes ends
+        lengths outline log r × LinkedBehind K corners ends outline links r) ⌝ }
 {
-    if torn.len() == 0 {
-        return Ran::Done(k);
-    }
     let none = k.edges as u16;
     let mut from = [none; 2048];
     let mut to = [0u16; 2048];
@@ -187,8 +186,6 @@ fn crack_torn(
         &mut loads,
     );
     keep_ends(k.edges, ends, &mut from, &mut to);
-    let mut links = [0u16; 9216];
-    links::link_mesh(kind, k.triangles, k.edges, corners, ends, &mut links);
     crack_listed(
         kind,
         minimum,
@@ -207,8 +204,52 @@ fn crack_torn(
         lengths,
         outline,
         log,
-        &mut links,
+        links,
     )
+}
+
+// Splits the pinched particles of triangles; there are none of straps. The marks and the list of the splits are here.
+fn split_pinched(
+    kind: Kind,
+    k: Counts,
+    room: Rooms,
+    points: &mut [f32],
+    roots: &mut [usize],
+    corners: &mut [usize],
+    volumes: &[f32],
+    ends: &mut [usize],
+    lengths: &mut [f32],
+    outline: &mut [usize],
+    log: &mut [u32],
+    links: &mut [u16],
+) -> Ran
+    requires { ⌜ ReadyIn room k points roots corners volumes ends lengths outline log × Logged (k .log) (now log)
+        × LinkedIn (kindIs kind) k corners ends outline links ⌝ }
+    ensures { λ r. ⌜ WorksIn (splitPinched (kindIs kind)) room k points roots corners volumes ends lengths outline log r ⌝ }
+{
+    match kind {
+        Kind::Triangles => {
+            let mut marks = [0usize; 1024];
+            let mut list = [0usize; 2048];
+            cut::facets::split_pinched(
+                k,
+                room,
+                points,
+                roots,
+                corners,
+                volumes,
+                ends,
+                lengths,
+                outline,
+                log,
+                &mut marks,
+                &mut list,
+                links,
+            )
+        }
+        Kind::Straps => Ran::Done(k),
+        Kind::Nothing => Ran::Done(k),
+    }
 }
 
 // Behind the torn edges, if anything split: the pinched particles, and then the straddlers across pieces.
@@ -224,44 +265,103 @@ fn finish(
     lengths: &mut [f32],
     outline: &mut [usize],
     log: &mut [u32],
+    links: &mut [u16],
 ) -> Ran
-    requires { ⌜ ReadyIn room k points roots corners volumes ends lengths outline log × Logged (k .log) (now log) ⌝ }
+    requires { ⌜ ReadyIn room k points roots corners volumes ends lengths outline log × Logged (k .log) (now log)
+        × LinkedIn (kindIs kind) k corners ends outline links ⌝ }
     ensures { λ r. ⌜ WorksIn (crackEnd (kindIs kind)) room k points roots corners volumes ends lengths outline log r ⌝ }
 {
-    if marks::particles::any_split(k.log, log) {
-        let ran = strap_cut::kinds::run(
-            Pass::Pinched,
-            kind,
-            k,
-            room,
-            points,
-            roots,
-            corners,
-            volumes,
-            ends,
-            lengths,
-            outline,
-            log,
-        );
-        let Ran::Done(next) = ran else {
-            return ran;
-        };
-        return straddlers::across::remove_straddlers(
-            kind,
-            next,
-            room,
-            corners,
-            volumes,
-            ends,
-            lengths,
-            outline,
-            log,
-        );
+    if !marks::particles::any_split(k.log, log) {
+        return Ran::Done(k);
     }
-    Ran::Done(k)
+    let ran = split_pinched(
+        kind,
+        k,
+        room,
+        points,
+        roots,
+        corners,
+        volumes,
+        ends,
+        lengths,
+        outline,
+        log,
+        links,
+    );
+    let Ran::Done(next) = ran else {
+        return ran;
+    };
+    straddlers::across::remove_straddlers(
+        kind,
+        next,
+        room,
+        corners,
+        volumes,
+        ends,
+        lengths,
+        outline,
+        log,
+    )
 }
 
-// Cracks the body across torn edges of the input, each in turn, and then does what comes behind them.
+// Cracks the torn edges of a list in turn, and then does what comes behind them. All share the lent tables of links.
+fn crack_linked(
+    kind: Kind,
+    minimum: usize,
+    torn: &[usize],
+    k: Counts,
+    room: Rooms,
+    points: &mut [f32],
+    roots: &mut [usize],
+    corners: &mut [usize],
+    volumes: &[f32],
+    ends: &mut [usize],
+    lengths: &mut [f32],
+    outline: &mut [usize],
+    log: &mut [u32],
+    links: &mut [u16],
+) -> Ran
+    requires { ⌜ ReadyIn room k points roots corners volumes ends lengths outline log × Logged (k .log) (now log)
+        × LinkedIn (kindIs kind) k corners ends outline links ⌝ }
+    ensures { λ r. ⌜ WorksIn (crack (kindIs kind) minimum (now (torn .entry))) room k points roots corners volumes ends lengths outline log
+        r ⌝ }
+{
+    let ran = crack_torn(
+        kind,
+        minimum,
+        torn,
+        k,
+        room,
+        points,
+        roots,
+        corners,
+        volumes,
+        ends,
+        lengths,
+        outline,
+        log,
+        links,
+    );
+    let Ran::Done(counts) = ran else {
+        return ran;
+    };
+    finish(
+        kind,
+        counts,
+        room,
+        points,
+        roots,
+        corners,
+        volumes,
+        ends,
+        lengths,
+        outline,
+        log,
+        links,
+    )
+}
+
+// Cracks the body across torn edges of the input, and does what comes behind them. The tables of the triangles and the edges are built once, and every split keeps them; where no edge is torn and nothing split, none is built.
 pub fn crack_body(
     kind: Kind,
     minimum: usize,
@@ -281,7 +381,23 @@ pub fn crack_body(
     ensures { λ r. ⌜ WorksIn (crack (kindIs kind) minimum (now (torn .entry))) room k points roots corners volumes ends lengths outline log
         r ⌝ }
 {
-    let ran = crack_torn(
+    if torn.len() == 0 {
+        if !marks::particles::any_split(k.log, log) {
+            return Ran::Done(k);
+        }
+    }
+    let mut links = [0u16; links::PLACES];
+    links::link_mesh(
+        kind,
+        k.triangles,
+        k.edges,
+        k.boundary,
+        corners,
+        ends,
+        outline,
+        &mut links,
+    );
+    crack_linked(
         kind,
         minimum,
         torn,
@@ -295,21 +411,6 @@ pub fn crack_body(
         lengths,
         outline,
         log,
-    );
-    let Ran::Done(counts) = ran else {
-        return ran;
-    };
-    finish(
-        kind,
-        counts,
-        room,
-        points,
-        roots,
-        corners,
-        volumes,
-        ends,
-        lengths,
-        outline,
-        log,
+        &mut links,
     )
 }

@@ -10,9 +10,9 @@ use Rattle.lists.specs.Lists.{pick, fold, empty, rising}
 use Rattle.blade.specs.declared.Point.{Point}
 use Rattle.columns.specs.Block.{cell}
 use Rattle.model.specs.Mesh.{Mesh}
-use Rattle.model.specs.Elements.{Triangles}
+use Rattle.model.specs.Elements.{Triangles, Straps}
 use Rattle.model.specs.Run.{Run, splitsOf}
-use Rattle.model.specs.Cut.{Blade, splitByBlade, splitFree, pinched, splitPinched, candidates, cutFacets}
+use Rattle.model.specs.Cut.{Blade, splitSnapped, splitByBlade, splitFree, pinched, splitPinched, candidates, cutFacets}
 use Rattle.model_laws.proofs.Steps.{Onward, onward-stay, onward-pick, pinched-onward}
 use Rattle.mesh.specs.At.{meshAt, trianglesAt}
 use Rattle.mesh.specs.Log.{World, worldOf, wordsOf, worldAt}
@@ -26,10 +26,10 @@ use Rattle.work.specs.declared.Ran.{Ran}
 use Rattle.work.specs.declared.Ran.the-variants.{Refused, Done}
 use Rattle.work.proofs.Placed.{particles-count, corners-in}
 use Rattle.work.proofs.Runs.{works-stay, works-then, works-refused, works-known, works-as}
-use Rattle.cut.specs.declared.facets.Parting.the-variants.{Free, Blade as BladeFrom}
+use Rattle.cut.specs.declared.facets.Parting.the-variants.{Free, Blade as BladeFrom, Snapped}
 use Rattle.marks.specs.declared.Rule.{Rule}
-use Rattle.marks.specs.Marking.{bladeBy, candidateEnds, CandidateRoom, CandidatesMarked, NearMarked, pinchedEnds, PinchedRoom, PinchedMarked}
-use Rattle.cut.specs.Running.{sidesIn, splitIn, Chosen}
+use Rattle.marks.specs.Marking.{bladeBy, bladeFrom, candidateEnds, CandidateRoom, CandidatesMarked, NearMarked, pinchedEnds, PinchedRoom, PinchedMarked}
+use Rattle.cut.specs.Running.{sidesIn, splitBy, splitIn, Chosen}
 use Rattle.cut.proofs.RunLaws.{chosen-rising, splitTo}
 use Rattle.marks.proofs.MarkLaws.{places-at}
 use Rattle.lists.proofs.Truths.{of-not, of-not-false}
@@ -46,12 +46,20 @@ corners-wide p q t corners h C =
 
 -- a split with all sides 0, and one by the blade
 free-is : (R : Run) (l : List ℕ) → fold (splitIn Free Triangles) R l ≡ fold (splitFree Triangles) R l
-unfolding splitIn sidesIn splitFree
+unfolding splitIn splitBy sidesIn splitFree
 free-is R l = refl
 
 blade-is : (rule : Rule) (b0 b1 : Point) (R : Run) (l : List ℕ) → fold (splitIn (BladeFrom rule b0 b1) Triangles) R l ≡ fold (splitByBlade Triangles (bladeBy rule b0 b1)) R l
-unfolding splitIn sidesIn splitByBlade
+unfolding splitIn splitBy sidesIn splitByBlade
 blade-is rule b0 b1 R l = refl
+
+-- the split of a snapped end, of straps
+snapped-is : (b0 b1 : Point) (R : Run) (l : List ℕ) → fold (splitIn (Snapped b0 b1) Straps) R l ≡ fold (splitSnapped (bladeFrom b0 b1)) R l
+unfolding splitIn sidesIn splitSnapped
+snapped-is b0 b1 R l = refl
+
+pub snapped-work : {L : Rooms} {W : World} {at : Counts → World} {r : Ran} (b0 b1 : Point) (l : List ℕ) → Works (λ (R : Run). fold (splitIn (Snapped b0 b1) Straps) R l) L W at r → Works (λ (R : Run). fold (splitSnapped (bladeFrom b0 b1)) R l) L W at r
+snapped-work b0 b1 l F = works-as (λ R e. snapped-is b0 b1 R l) F
 
 -- the first part of the cut
 abbrev pub splitCandidates : Blade → Run → Run

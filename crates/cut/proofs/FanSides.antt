@@ -21,8 +21,8 @@ use Rattle.split.specs.Tables.{FanTables, FanSided}
 use Rattle.split.proofs.Below.{table-below, fan-corners}
 use Rattle.work.proofs.Placed.{particles-count}
 use Rattle.cut.specs.declared.facets.Parting.{Parting}
-use Rattle.cut.specs.declared.facets.Parting.the-variants.{Free, Blade as BladeFrom}
-use Rattle.marks.specs.Marking.{bladeBy}
+use Rattle.cut.specs.declared.facets.Parting.the-variants.{Free, Blade as BladeFrom, Snapped}
+use Rattle.marks.specs.Marking.{bladeBy, bladeFrom}
 use Rattle.marks.specs.Sided.{SidesRoom, SidesBy}
 use Rattle.cut.specs.Running.{sidesIn, SidesFor}
 use Rattle.marks.proofs.MarkLaws.{places-at}
@@ -57,6 +57,10 @@ free-sides w K v n verts points ls sides e h s =
 pub blade-parts : (w : Parting) (K : Kind) (v n : ℕ) (verts : List ℕ) (points : List Float) (sides : List ℕ) (rule : _) (b0 b1 : _) → w ≡ BladeFrom rule b0 b1 → SidesBy K (bladeBy rule b0 b1) v n verts points sides → SidesFor w K v n verts points sides
 unfolding sidesIn
 blade-parts w K v n verts points sides rule b0 b1 e S = subst (λ (x : Parting). SidesFor x K v n verts points sides) (sym e) (record { are = S .are; two = S .two })
+
+pub snapped-parts : (w : Parting) (K : Kind) (v n : ℕ) (verts : List ℕ) (points : List Float) (sides : List ℕ) (b0 b1 : _) → w ≡ Snapped b0 b1 → SidesBy K (bladeFrom b0 b1) v n verts points sides → SidesFor w K v n verts points sides
+unfolding sidesIn
+snapped-parts w K v n verts points sides b0 b1 e S = subst (λ (x : Parting). SidesFor x K v n verts points sides) (sym e) (record { are = S .are; two = S .two })
 
 -- ---- a fan of a mesh in blocks
 

@@ -2,3 +2,4 @@
 pub mod RunLaws
 pub mod FanSides
 pub mod CutLaws
+pub mod SnapLaws

@@ -2,7 +2,7 @@
 use mathlib.Core.Path.{_≡_, refl, sym, _∙_, ap, subst}
 use mathlib.Core.Bool.{Bool, true, false}
 use mathlib.Core.List.{List, [], _∷_, _++_, map}
-use Prim.Native.Nat.{ℕ, _+_, _<_, _≤_}
+use Prim.Native.Nat.{ℕ, zero, suc, _+_, _<_, _≤_}
 use native.Mathlib.Omega.{arith}
 use borrow.Author.Tests.{eq-eqb, ne-eqb}
 use lib.ListN.{length, getD, take, drop, take-append-drop}
@@ -13,10 +13,11 @@ use Rattle.model.specs.Elements.{Kind}
 use Rattle.model.specs.Valid.{indicesFit}
 use Rattle.model.specs.Run.{Entry, Run, stepTo}
 use Rattle.model.specs.Split.{Opening, openingOf, splits?, splitMade, splitStep, splitBySides, settled, atLongest}
+use Rattle.model.specs.Cut.{slackened, atCopy}
 use Rattle.model.specs.Calls.{firstFault}
-use Rattle.model_laws.proofs.Steps.{Onward, onward-fold, sides-onward}
-use Rattle.model_laws.proofs.Traced.{copied-length}
-use Rattle.model_laws.proofs.Indexed.{Indexed, sides-indexed, fold-indexed}
+use Rattle.model_laws.proofs.Steps.{Onward, onward-fold, split-onward, sides-onward}
+use Rattle.model_laws.proofs.Traced.{opening-fits, copied-length}
+use Rattle.model_laws.proofs.Indexed.{Indexed, opening-inside, step-indexed, sides-indexed, slack-keeps, fold-indexed}
 use Rattle.model_laws.proofs.Accepted.{accepted-indexed, indexed-accepted}
 use Rattle.mesh.specs.Log.{World, worldOf, wordsOf}
 use Rattle.mesh.specs.Given.{Lent, asRooms}
@@ -28,8 +29,9 @@ use Rattle.work.specs.declared.Ran.the-variants.{Refused, Done}
 use Rattle.work.proofs.Runs.{works-stay, works-then, works-refused, works-as}
 use Rattle.elements.proofs.Measures.{sift-agree}
 use Rattle.cut.specs.declared.facets.Parting.{Parting}
+use Rattle.cut.specs.declared.facets.Parting.the-variants.{Free, Blade as BladeFrom, Snapped}
 use Rattle.marks.specs.Marking.{Marks, marked?}
-use Rattle.cut.specs.Running.{sidesIn, splitIn, chosen}
+use Rattle.cut.specs.Running.{sidesIn, splitBy, splitIn, chosen}
 use Rattle.marks.proofs.MarkLaws.{mark-tells}
 
 -- ---- the particles that are chosen
@@ -61,36 +63,60 @@ chosen-rising marks listed p A h =
 
 -- ---- one split
 
--- it goes on, keeps the indices, and takes no particle away
-module _ (w : Parting) (K : Kind) where
-  pub in-onward : (R : Run) (v : ℕ) → Onward R (splitIn w K R v)
-  unfolding splitIn
-  in-onward R v = sides-onward K v (sidesIn w K (R .mesh) v) R
+-- it goes on
+by-onward : (w : Parting) (K : Kind) (R : Run) (v : ℕ) → Onward R (splitBy w K R v)
+unfolding splitBy
+by-onward w K R v = sides-onward K v (sidesIn w K (R .mesh) v) R
 
-  in-indexed : (R : Run) (v : ℕ) → Indexed (R .mesh) → Indexed (splitIn w K R v .mesh)
-  unfolding splitIn
-  in-indexed R v X = sides-indexed K v (sidesIn w K (R .mesh) v) R X
+pub in-onward : (w : Parting) (K : Kind) (R : Run) (v : ℕ) → Onward R (splitIn w K R v)
+unfolding splitIn
+in-onward Free K R v = by-onward Free K R v
+in-onward (BladeFrom r b0 b1) K R v = by-onward (BladeFrom r b0 b1) K R v
+in-onward (Snapped b0 b1) K R v = split-onward _ _ K _ R
 
-  in-grown : (R : Run) (v : ℕ) → length (R .mesh .particles) ≤ length (splitIn w K R v .mesh .particles)
-  unfolding splitIn splitBySides splitStep splitMade stepTo settled atLongest
-  in-grown R v =
-      let O : Opening = openingOf K (R .mesh) v (sidesIn w K (R .mesh) v) in
-      pick-by (λ (S : Run). length (R .mesh .particles) ≤ length (S .mesh .particles)) (splits? O (R .mesh)) (omega (arith, copied-length O (R .mesh .particles))) (omega arith)
+-- it keeps the indices
+pub by-indexed : (w : Parting) (K : Kind) (R : Run) (v : ℕ) → Indexed (R .mesh) → Indexed (splitBy w K R v .mesh)
+unfolding splitBy
+by-indexed w K R v X = sides-indexed K v (sidesIn w K (R .mesh) v) R X
 
-  fold-grown : (R : Run) (l : List ℕ) → length (R .mesh .particles) ≤ length (fold (splitIn w K) R l .mesh .particles)
-  unfolding fold
-  fold-grown R [] = omega arith
-  fold-grown R (v ∷ l) =
-      let a = in-grown R v in
-      let b = fold-grown (splitIn w K R v) l in
-      omega arith
+in-indexed : (w : Parting) (K : Kind) (R : Run) (v : ℕ) → Indexed (R .mesh) → Indexed (splitIn w K R v .mesh)
+unfolding splitIn
+in-indexed Free K R v X = by-indexed Free K R v X
+in-indexed (BladeFrom r b0 b1) K R v X = by-indexed (BladeFrom r b0 b1) K R v X
+in-indexed (Snapped b0 b1) K R v X =
+    let sides : List ℕ = sidesIn (Snapped b0 b1) K (R .mesh) v in
+    let O : Opening = openingOf K (R .mesh) v sides in
+    step-indexed [] (slackened (atCopy O)) (slack-keeps (atCopy O)) K O R (opening-fits K (R .mesh) v sides) (opening-inside K (R .mesh) v sides) X
+
+-- it takes no particle away
+by-grown : (w : Parting) (K : Kind) (R : Run) (v : ℕ) → length (R .mesh .particles) ≤ length (splitBy w K R v .mesh .particles)
+unfolding splitBy splitBySides splitStep splitMade stepTo settled atLongest
+by-grown w K R v =
+    let O : Opening = openingOf K (R .mesh) v (sidesIn w K (R .mesh) v) in
+    pick-by (λ (S : Run). length (R .mesh .particles) ≤ length (S .mesh .particles)) (splits? O (R .mesh)) (omega (arith, copied-length O (R .mesh .particles))) (omega arith)
+
+in-grown : (w : Parting) (K : Kind) (R : Run) (v : ℕ) → length (R .mesh .particles) ≤ length (splitIn w K R v .mesh .particles)
+unfolding splitIn splitStep splitMade stepTo settled atLongest slackened
+in-grown Free K R v = by-grown Free K R v
+in-grown (BladeFrom r b0 b1) K R v = by-grown (BladeFrom r b0 b1) K R v
+in-grown (Snapped b0 b1) K R v =
+    let O : Opening = openingOf K (R .mesh) v (sidesIn (Snapped b0 b1) K (R .mesh) v) in
+    pick-by (λ (S : Run). length (R .mesh .particles) ≤ length (S .mesh .particles)) (splits? O (R .mesh)) (omega (arith, copied-length O (R .mesh .particles))) (omega arith)
+
+fold-grown : (w : Parting) (K : Kind) (R : Run) (l : List ℕ) → length (R .mesh .particles) ≤ length (fold (splitIn w K) R l .mesh .particles)
+unfolding fold
+fold-grown w K R [] = omega arith
+fold-grown w K R (v ∷ l) =
+    let a = in-grown w K R v in
+    let b = fold-grown w K (splitIn w K R v) l in
+    omega arith
 
 -- ---- workers that do the same
 
 -- a worker that splits v by sides that are those of its fan
 pub one-works : (w : Parting) (K : Kind) (v : ℕ) (sides : List ℕ) (L : Rooms) (W : World) (at : Counts → World) (r : Ran) → sides ≡ sidesIn w K (W .mesh) v → Works (splitBySides K v sides) L W at r
-    → Works (λ (R : Run). splitIn w K R v) L W at r
-unfolding splitIn
+    → Works (λ (R : Run). splitBy w K R v) L W at r
+unfolding splitBy
 one-works w K v sides L W at r s F = works-as (λ R e. ap (λ (l : List ℕ). splitBySides K v l R) (s ∙ ap (λ (x : World). sidesIn w K (x .mesh) v) e)) F
 
 -- ---- the run so far
@@ -139,6 +165,13 @@ module _ (w : Parting) (K : Kind) (L : Rooms) (marks : List ℕ) where
       pub run-end : {at′ : Counts → World} (r : Ran) (c : ℕ) → r ≡ Refused c → (p : ℕ) → v < p → Works (λ (R : Run). splitIn w K R v) L (at k) at′ r → Works (splitTo p) L W at′ r
       run-end {at′} r c e p h G =
           subst (λ (x : Ran). Works (splitTo p) L W at′ x) (sym e) (run-stop p h (subst (λ (x : Ran). Works (λ (R : Run). splitIn w K R v) L (at k) at′ x) e G))
+
+  -- where none of the first p is marked nothing is done
+  pub run-idle : {at : Counts → World} (k : Counts) → Within k L → (p : ℕ) → ((v : ℕ) → v < p → getD marks v 0 ≡ 1 → ⊥) → Works (splitTo p) L (at k) at (Done k)
+  run-idle {at} k b zero h = run-none {at = at} k b
+  run-idle {at} k b (suc p) h =
+      let e : p + 1 ≡ suc p = omega arith in
+      subst (λ (m : ℕ). Works (splitTo m) L (at k) at (Done k)) e (run-skip p (run-idle {at = at} k b p (λ v l. h v (omega arith))) (h p (omega arith)))
 
   pub run-all : {W : World} {at : Counts → World} {r : Ran} (v p : ℕ) → v ≡ p → Works (splitTo v) L W at r → Works (splitTo p) L W at r
   run-all {W} {at} {r} v p e F = subst (λ (m : ℕ). Works (splitTo m) L W at r) e F

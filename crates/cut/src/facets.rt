@@ -1,5 +1,6 @@
 // The cut of triangles: the candidates are split by the blade, and then the pinched.
 ghost use Prim.Native.Nat.{_<_, _≤_};
+ghost use mathlib.Core.Path.{_≡_};
 ghost use lib.ListN.{length};
 ghost use Rattle.lists.specs.Lists.{fold};
 ghost use Rattle.model.specs.Elements.{Triangles, cornersPer};
@@ -10,7 +11,7 @@ ghost use Rattle.work.specs.Working.{Logged};
 ghost use Rattle.marks.specs.Marking.{bladeBy};
 ghost use Rattle.marks.specs.Sided.{SidesRoom};
 ghost use Rattle.links.specs.Linked.{LinkedIn};
-ghost use Rattle.cut.specs.Running.{splitIn, SidesFor, chosen, Chosen};
+ghost use Rattle.cut.specs.Running.{splitBy, splitIn, slackens?, Splittable, SidesFor, chosen, Chosen};
 ghost use Rattle.work.specs.Blocks.{ReadyIn, WorksIn};
 ghost use Rattle.split.specs.Blocks.{MaskIn, LinkedBehind};
 use blade::Point;
@@ -28,10 +29,11 @@ use split::fans::fan_tables;
 use split::step::split_tabled;
 use work::Ran;
 
-// How a fan is parted: no element from another by its side, or by the blade and its rule.
+// How a fan is parted: no element from another by its side; by the blade and its rule; or, at an end that straps were snapped to, by the blade in rounded numbers, and the edges at the copies are slack.
 pub enum Parting {
     Free,
     Blade(Rule, Point, Point),
+    Snapped(Point, Point),
 }
 
 // The side of each of the n elements of v's fan.
@@ -51,6 +53,9 @@ fn part_fan(
         Parting::Free => columns::clear_usize(0, sides),
         Parting::Blade(rule, b0, b1) => {
             blade_sides(rule, kind, b0, b1, v, n, verts, points, sides)
+        }
+        Parting::Snapped(b0, b1) => {
+            blade_sides(Rule::Rounded, kind, b0, b1, v, n, verts, points, sides)
         }
     }
 }
@@ -74,9 +79,9 @@ fn split_many(
     links: &mut [u16],
 ) -> Ran
     requires { ⌜ ReadyIn room k points roots corners volumes ends lengths outline log × (v < k .particles)
-        × MaskIn list × LinkedIn (kindIs kind) k corners ends links ⌝ }
-    ensures { λ r. ⌜ (let K = kindIs kind in WorksIn (λ R. splitIn way K R v) room k points roots corners volumes ends lengths outline log r
-        × LinkedBehind K corners ends links r) ⌝ }
+        × MaskIn list × LinkedIn (kindIs kind) k corners ends outline links ⌝ }
+    ensures { λ r. ⌜ (let K = kindIs kind in WorksIn (λ R. splitBy way K R v) room k points roots corners volumes ends lengths outline log r
+        × LinkedBehind K corners ends outline links r) ⌝ }
 {
     let mut numbers = [0usize; MANY];
     let mut verts = [0usize; MANY_CORNERS];
@@ -123,7 +128,7 @@ fn split_many(
 }
 
 // Splits v by the sides of its fan, in small tables if the fan is small. The list is lent to work in: what stands in it does not matter. The tables of links must be those of the blocks, and are so again after it.
-pub fn split_one(
+fn split_one(
     way: Parting,
     kind: Kind,
     v: usize,
@@ -141,9 +146,9 @@ pub fn split_one(
     links: &mut [u16],
 ) -> Ran
     requires { ⌜ ReadyIn room k points roots corners volumes ends lengths outline log × (v < k .particles)
-        × MaskIn list × LinkedIn (kindIs kind) k corners ends links ⌝ }
-    ensures { λ r. ⌜ (let K = kindIs kind in WorksIn (λ R. splitIn way K R v) room k points roots corners volumes ends lengths outline log r
-        × LinkedBehind K corners ends links r) ⌝ }
+        × MaskIn list × LinkedIn (kindIs kind) k corners ends outline links ⌝ }
+    ensures { λ r. ⌜ (let K = kindIs kind in WorksIn (λ R. splitBy way K R v) room k points roots corners volumes ends lengths outline log r
+        × LinkedBehind K corners ends outline links r) ⌝ }
 {
     let mut numbers = [0usize; FEW];
     let mut verts = [0usize; FEW_CORNERS];
@@ -208,6 +213,67 @@ pub fn split_one(
     )
 }
 
+// Are edges made slack behind a split, with so many particles before it and so many behind?
+fn slackens(way: Parting, before: usize, after: usize) -> bool
+    ensures { λ r. ⌜ r ≡ slackens? way before after ⌝ }
+{
+    match way {
+        Parting::Free => false,
+        Parting::Blade(rule, b0, b1) => false,
+        Parting::Snapped(b0, b1) => before != after,
+    }
+}
+
+// Splits v by the sides of its fan; where it was snapped to, the edges at its copies are slack: the copies are the particles behind those of before.
+fn split_next(
+    way: Parting,
+    kind: Kind,
+    v: usize,
+    k: Counts,
+    room: Rooms,
+    points: &mut [f32],
+    roots: &mut [usize],
+    corners: &mut [usize],
+    volumes: &[f32],
+    ends: &mut [usize],
+    lengths: &mut [f32],
+    outline: &mut [usize],
+    log: &mut [u32],
+    list: &mut [usize],
+    links: &mut [u16],
+) -> Ran
+    requires { ⌜ ReadyIn room k points roots corners volumes ends lengths outline log × Splittable v k (now log)
+        × MaskIn list × LinkedIn (kindIs kind) k corners ends outline links ⌝ }
+    ensures { λ r. ⌜ (let K = kindIs kind in WorksIn (λ R. splitIn way K R v) room k points roots corners volumes ends lengths outline log r
+        × LinkedBehind K corners ends outline links r) ⌝ }
+{
+    let ran = split_one(
+        way,
+        kind,
+        v,
+        k,
+        room,
+        points,
+        roots,
+        corners,
+        volumes,
+        ends,
+        lengths,
+        outline,
+        log,
+        list,
+        links,
+    );
+    let Ran::Done(next) = ran else {
+        return ran;
+    };
+    if !slackens(way, k.particles, next.particles) {
+        return Ran::Done(next);
+    }
+    slack::slacken_from(k.particles, next.edges, ends, lengths);
+    Ran::Done(next)
+}
+
 // Splits each marked particle below p, in rising order, until one lacks room. All share the lent list.
 pub fn split_marked(
     way: Parting,
@@ -228,9 +294,9 @@ pub fn split_marked(
     links: &mut [u16],
 ) -> Ran
     requires { ⌜ ReadyIn room k points roots corners volumes ends lengths outline log × Chosen p k (now log) (length (now marks))
-        × MaskIn list × LinkedIn (kindIs kind) k corners ends links ⌝ }
+        × MaskIn list × LinkedIn (kindIs kind) k corners ends outline links ⌝ }
     ensures { λ r. ⌜ (let K = kindIs kind in WorksIn (λ R. fold (splitIn way K) R (chosen p (now (marks .entry)))) room k points roots
-        corners volumes ends lengths outline log r × LinkedBehind K corners ends links r) ⌝ }
+        corners volumes ends lengths outline log r × LinkedBehind K corners ends outline links r) ⌝ }
 {
     let mut counts = k;
     let mut v: usize = 0;
@@ -239,7 +305,7 @@ pub fn split_marked(
             v += 1;
             continue;
         }
-        let ran = split_one(
+        let ran = split_next(
             way,
             kind,
             v,
@@ -282,9 +348,9 @@ pub fn split_pinched(
     links: &mut [u16],
 ) -> Ran
     requires { ⌜ ReadyIn room k points roots corners volumes ends lengths outline log × Logged (k .log) (now log)
-        × (1024 ≤ length (now marks)) × MaskIn list × LinkedIn Triangles k corners ends links ⌝ }
+        × (1024 ≤ length (now marks)) × MaskIn list × LinkedIn Triangles k corners ends outline links ⌝ }
     ensures { λ r. ⌜ WorksIn (splitPinched Triangles) room k points roots corners volumes ends lengths outline log r
-        × LinkedBehind Triangles corners ends links r ⌝ }
+        × LinkedBehind Triangles corners ends outline links r ⌝ }
 {
     particles::mark_near(k.log, log, list);
     particles::mark_pinched(k.triangles, corners, list, marks);
@@ -328,9 +394,9 @@ pub fn cut_facets(
     links: &mut [u16],
 ) -> Ran
     requires { ⌜ ReadyIn room k points roots corners volumes ends lengths outline log × Logged (k .log) (now log)
-        × (1024 ≤ length (now marks)) × MaskIn list × LinkedIn Triangles k corners ends links ⌝ }
+        × (1024 ≤ length (now marks)) × MaskIn list × LinkedIn Triangles k corners ends outline links ⌝ }
     ensures { λ r. ⌜ WorksIn (cutFacets (bladeBy rule b0 b1)) room k points roots corners volumes ends lengths outline log r
-        × LinkedBehind Triangles corners ends links r ⌝ }
+        × LinkedBehind Triangles corners ends outline links r ⌝ }
 {
     particles::mark_candidates(rule, b0, b1, k.triangles, points, corners, marks);
     let ran = split_marked(

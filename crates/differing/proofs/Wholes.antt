@@ -10,7 +10,7 @@ use Rattle.lists.specs.Lists.{pick, each}
 use Rattle.bits.specs.Bits.{bitsOf}
 use Rattle.bits.specs.Rows.{unpack, readRows}
 use Rattle.bits.proofs.RowLaws.{length-read}
-use Rattle.outline.specs.Rows.{sidesAt}
+use Rattle.outline_tables.specs.Rows.{sidesAt}
 use Rattle.sheet.specs.Sheet.{Sheet, limits, countsAt, countsOf, sheetWith, particleW, triangleW, edgeW, bladeW, atTriangles, atEdges, atBlade}
 use Rattle.sheet.specs.Work.{RowsIn}
 use Rattle.sheet.specs.declared.Counts.{Counts}

@@ -7,7 +7,7 @@ use lib.ListN.{length, drop}
 use Rattle.lists.specs.Lists.{pick}
 use Rattle.bits.specs.Bits.{bitsOf}
 use Rattle.bits.specs.Rows.{unpack}
-use Rattle.outline.specs.Rows.{sidesAt}
+use Rattle.outline_tables.specs.Rows.{sidesAt}
 use Rattle.sheet.specs.Sheet.{Sheet, FitSheet, limits, countsAt, countsOf, bladeW}
 use Rattle.sheet.specs.declared.Counts.{Counts}
 use Rattle.edition.specs.Edition.{bitsIn, seenOf}

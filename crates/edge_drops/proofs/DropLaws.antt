@@ -1,93 +1,29 @@
--- Laws of marked edges that go one by one, the last of them first: what a mask keeps, one row of the blocks gone, and the table without it. Assumes nothing.
+-- Laws of listed edges that go one by one, the last of them first: one row of the blocks gone, and the table without it. Assumes nothing.
 use mathlib.Core.Path.{_≡_, refl, sym, _∙_, ap, ap₂, subst}
-use mathlib.Core.Bool.{Bool, true, false}
-use mathlib.Core.List.{List, [], _∷_, _++_}
-use Prim.Native.Nat.{ℕ, zero, suc, _+_, _/_, _-_, _<_, _≤_}
+use mathlib.Core.Bool.{Bool}
+use mathlib.Core.List.{List, _++_}
+use Prim.Native.Nat.{ℕ, suc, _+_, _/_, _-_, _<_, _≤_}
 use native.Mathlib.Omega.{arith}
-use native.Mathlib.Decide.{ℕ-discrete, decLt}
-use borrow.Author.Tests.{eq-eqb, ne-eqb, lt-ltb, le-ltb}
-use lib.Dec.{eqb, ltb}
+use native.Mathlib.Decide.{decLt}
+use borrow.Author.Tests.{lt-ltb, le-ltb}
+use lib.Dec.{ltb}
 use lib.ListN.{length, getD, take}
 use lib.Ieee.{Float, nan}
-use Rattle.lists.specs.Lists.{pick, keep, keptOf, tab, upTo}
-use Rattle.lists.proofs.Rows.{keep-tab}
-use Rattle.lists.proofs.Stores.{tab-length}
-use Rattle.lists.proofs.Sifts.{tab-ext, tab-take, tab-drop, sift-length, upTo-length}
+use Rattle.lists.specs.Lists.{pick, tab}
+use Rattle.lists.specs.LeftOut.{without, leftOut}
+use Rattle.lists.proofs.Sifts.{tab-ext, tab-take, tab-drop}
 use Rattle.lists.proofs.Walks.{tab-split}
+use Rattle.lists.proofs.Risen.{rising-room, rising-few, take-more, leftOut-last}
 use Rattle.columns.specs.Block.{cell, BlockShifted}
 use Rattle.mesh.specs.At.{edgesAt}
-use Rattle.mesh.specs.Workers.{Removed, rowAt}
-use Rattle.work.specs.Removal.{markedOf, MarkedRoom}
+use Rattle.mesh.specs.Workers.{rowAt}
 use Rattle.links.specs.Links.{LinksOf}
 use Rattle.link_changes.specs.Changes.{cornerDropped, DropRoom}
 use Rattle.links.specs.Rooms.{CornersApart}
 use Rattle.links.specs.Linked.{EdgesLinked}
 use Rattle.links.proofs.Same.{links-ext}
 use Rattle.link_changes.proofs.Chained.{apart-ext}
-use Rattle.edge_drops.specs.Drops.{EndOfMarks, without, DropAsked}
-use Rattle.work.proofs.Grows.{edges-many}
-use Rattle.work.proofs.Removals.{count-step}
-
--- ---- what a mask keeps
-
-module _ {A : Type 0} where
-  -- a mask of nothing keeps all
-  keep-all : (l : List A) → keep [] l ≡ l
-  unfolding keep
-  keep-all [] = refl
-  keep-all (a ∷ l) = ap (λ (t : List A). a ∷ t) (keep-all l)
-
-  -- the marks of the rows that are there
-  keep-front : (n : ℕ) (m : List ℕ) (l : List A) → length l ≤ n → keep (take n m) l ≡ keep m l
-  unfolding keep
-  keep-front n m [] h = refl
-  keep-front zero m (a ∷ l) h = absurd (omega arith)
-  keep-front (suc n) [] (a ∷ l) h = refl
-  keep-front (suc n) (b ∷ m) (a ∷ l) h = ap (λ (t : List A). pick (eqb b 1) t (a ∷ t)) (keep-front n m l (omega arith))
-
-  -- the first marks with one more, of a row that stays
-  keep-stays : (i : ℕ) (m : List ℕ) (l : List A) → (getD m i 0 ≡ 1 → ⊥) → keep (take i m) l ≡ keep (take (suc i) m) l
-  unfolding keep
-  keep-stays i m [] h = refl
-  keep-stays zero [] (a ∷ l) h = refl
-  keep-stays zero (b ∷ m) (a ∷ l) h = rw (ne-eqb b 1 h)
-  keep-stays (suc i) [] (a ∷ l) h = refl
-  keep-stays (suc i) (b ∷ m) (a ∷ l) h = ap (λ (t : List A). pick (eqb b 1) t (a ∷ t)) (keep-stays i m l h)
-
-  -- and of one that goes
-  keep-goes : (i : ℕ) (m : List ℕ) (l : List A) → getD m i 0 ≡ 1 → keep (take i m) (without i l) ≡ keep (take (suc i) m) l
-  unfolding keep without
-  keep-goes i [] l h = absurd (let z : _≡_ {A = ℕ} 0 1 = none i h in omega arith)
-    where
-      none : (i : ℕ) → _≡_ {A = ℕ} (getD [] i 0) 1 → _≡_ {A = ℕ} 0 1
-      none zero h = h
-      none (suc i) h = h
-  keep-goes zero (b ∷ m) [] h = refl
-  keep-goes zero (b ∷ m) (a ∷ l) h = rw (eq-eqb b 1 h)
-  keep-goes (suc i) (b ∷ m) [] h = refl
-  keep-goes (suc i) (b ∷ m) (a ∷ l) h = ap (λ (t : List A). pick (eqb b 1) t (a ∷ t)) (keep-goes i m l h)
-
--- how many are marked below i + 1
-marked-more : (m : List ℕ) (i : ℕ) → getD m i 0 ≡ 1 → length (markedOf m (suc i)) ≡ length (markedOf m i) + 1
-unfolding markedOf
-marked-more m i h = count-step (λ j. eqb (getD m j 0) 1) i true (eq-eqb (getD m i 0) 1 h)
-
-marked-same : (m : List ℕ) (i : ℕ) → (getD m i 0 ≡ 1 → ⊥) → length (markedOf m (suc i)) ≡ length (markedOf m i)
-unfolding markedOf
-marked-same m i h = let q = count-step (λ j. eqb (getD m j 0) 1) i false (ne-eqb (getD m i 0) 1 h) in omega arith
-
-marked-few : (m : List ℕ) (i : ℕ) → length (markedOf m i) ≤ i
-unfolding markedOf
-marked-few m i = omega (arith, sift-length (λ j. eqb (getD m j 0) 1) (upTo i), upTo-length i)
-
--- where none is marked, all stay
-none-goes : {A : Type 0} (i : ℕ) (m : List ℕ) (l : List A) → length (markedOf m i) ≡ 0 → keep (take i m) l ≡ l
-none-goes zero m l z = keep-all l
-none-goes (suc i) m l z =
-    elim (ℕ-discrete (getD m i 0) 1) [
-      | yes h ↦ absurd (omega (arith, marked-more m i h))
-      | no h ↦ sym (keep-stays i m l h) ∙ none-goes i m l (omega (arith, marked-same m i h))
-    ]
+use Rattle.edge_drops.specs.Drops.{DropAsked, ListedRoom}
 
 -- ---- one row gone
 
@@ -193,119 +129,79 @@ module _ {i m : ℕ} {ends : List ℕ} {ll : ℕ} {table : List ℕ} (P : DropAs
       unfolding edgesAt
       gone-row = tab-ext (m - 1) (rowAt ends′ lengths′) (λ k. rowAt ends lengths (past i k)) row-past ∙ tab-past m i (rowAt ends lengths) (P .here)
 
--- ---- the marked rows, one by one
+-- ---- the listed rows, one by one
 
--- what is not 0 is above it
-pub some-first : {s : ℕ} → (s ≡ 0 → ⊥) → 0 < s
-some-first h = omega (arith, h)
-
--- at the head of the loop: the marked rows from i on are gone, `more` of those before it are marked, and `left` rows are left
-pub record Dropping (mask : List ℕ) (n : ℕ) (ends₀ : List ℕ) (lengths₀ : List Float) (table₀ ends : List ℕ) (lengths : List Float) (table : List ℕ) (left more i : ℕ) : Type 0 where
-  pub same : keep (take i mask) (edgesAt left ends lengths) ≡ keep mask (edgesAt n ends₀ lengths₀)
+-- at the head of the loop: the first `more` of the list are still to go, and `left` rows are left
+pub record Dropping (list : List ℕ) (n s : ℕ) (ends₀ : List ℕ) (lengths₀ : List Float) (table₀ ends : List ℕ) (lengths : List Float) (table : List ℕ) (left more : ℕ) : Type 0 where
+  pub same : leftOut (take more list) (edgesAt left ends lengths) ≡ leftOut (take s list) (edgesAt n ends₀ lengths₀)
   pub linked : EdgesLinked left ends table
-  pub counted : more ≡ length (markedOf mask i)
-  pub inside : i ≤ n
-  pub least : i ≤ left
-  pub most : left ≤ n
+  pub count : left + s ≡ n + more
+  pub inside : more ≤ s
   pub ends-long : length ends ≡ length ends₀
   pub lengths-long : length lengths ≡ length lengths₀
   pub table-long : length table ≡ length table₀
 
-module _ (mask : List ℕ) (n s : ℕ) (ends₀ : List ℕ) (lengths₀ : List Float) (table₀ : List ℕ) (R : MarkedRoom mask n s (length ends₀) (length lengths₀)) where
-  pub dropping-start : EdgesLinked n ends₀ table₀ → Dropping mask n ends₀ lengths₀ table₀ ends₀ lengths₀ table₀ n s n
-  dropping-start L =
-      record {
-        same = keep-front n mask (edgesAt n ends₀ lengths₀) (omega (arith, edges-many n ends₀ lengths₀));
-        linked = L;
-        counted = R .counted;
-        inside = omega arith;
-        least = omega arith;
-        most = omega arith;
-        ends-long = refl;
-        lengths-long = refl;
-        table-long = refl;
-      }
+module _ (list : List ℕ) (n s : ℕ) (ends₀ : List ℕ) (lengths₀ : List Float) (table₀ : List ℕ) (R : ListedRoom list n s (length ends₀) (length lengths₀)) where
+  pub dropping-start : EdgesLinked n ends₀ table₀ → Dropping list n s ends₀ lengths₀ table₀ ends₀ lengths₀ table₀ n s
+  dropping-start L = record { same = refl; linked = L; count = refl; inside = omega arith; ends-long = refl; lengths-long = refl; table-long = refl }
 
-  module _ (ends : List ℕ) (lengths : List Float) (table : List ℕ) (left more i : ℕ) (G : Dropping mask n ends₀ lengths₀ table₀ ends lengths table left more i) where
+  module _ (ends : List ℕ) (lengths : List Float) (table : List ℕ) (left more : ℕ) (G : Dropping list n s ends₀ lengths₀ table₀ ends lengths table left more) where
     -- after the last one
-    pub dropping-done : more ≡ 0 → Removed mask n left (edgesAt n ends₀ lengths₀) (edgesAt left ends lengths)
-    unfolding edgesAt
+    pub dropping-done : more ≡ 0 → (left ≡ n - s) × (edgesAt left ends lengths ≡ leftOut (take s list) (edgesAt n ends₀ lengths₀)) × EdgesLinked left ends table
+    unfolding leftOut
     dropping-done z =
-        let all : edgesAt left ends lengths ≡ keep mask (edgesAt n ends₀ lengths₀) = sym (none-goes i mask (edgesAt left ends lengths) (sym (G .counted) ∙ z)) ∙ G .same in
-        record {
-          count =
-              sym (edges-many left ends lengths) ∙ ap length (all ∙ keep-tab mask n (rowAt ends₀ lengths₀)) ∙ tab-length (keptOf mask n) _;
-          edges = all;
-        }
+        (omega (arith, G .count, rising-few (R .rising)), ap (λ (k : ℕ). leftOut (take k list) (edgesAt left ends lengths)) (sym z) ∙ G .same, G .linked)
 
     module _ (some : 0 < more) where
-      pub dropping-on : 0 < i
-      dropping-on = omega (arith, G .counted, marked-few mask i)
+      pub dropping-read : more - 1 < length list
+      dropping-read = omega (arith, G .inside, R .few)
 
-      one-less : suc (i - 1) ≡ i
-      one-less = omega (arith, dropping-on)
-
-      -- an edge that is not marked stays
-      pub dropping-stays : (getD mask (i - 1) 0 ≡ 1 → ⊥) → Dropping mask n ends₀ lengths₀ table₀ ends lengths table left more (i - 1)
-      dropping-stays h =
+      pub dropping-room : DropAsked (getD list (more - 1) 0) left ends (length lengths) table
+      dropping-room =
           record {
-            same = keep-stays (i - 1) mask (edgesAt left ends lengths) h ∙ ap (λ (z : ℕ). keep (take z mask) (edgesAt left ends lengths)) one-less ∙ G .same;
             linked = G .linked;
-            counted = G .counted ∙ ap (λ (z : ℕ). length (markedOf mask z)) (sym one-less) ∙ marked-same mask (i - 1) h;
-            inside = omega (arith, G .inside);
-            least = omega (arith, G .least);
-            most = G .most;
-            ends-long = G .ends-long;
-            lengths-long = G .lengths-long;
-            table-long = G .table-long;
+            here = omega (arith, G .count, G .inside, rising-room (R .rising) (more - 1) (omega (arith, G .inside)));
+            lengths = omega (arith, G .count, G .inside, G .lengths-long, R .rows .lengths);
           }
 
-      pub dropping-room : DropAsked (i - 1) left ends (length lengths) table
-      dropping-room = record { linked = G .linked; here = omega (arith, dropping-on, G .least); lengths = omega (arith, G .most, G .lengths-long, R .rows .lengths) }
-
-      -- one that is marked goes
-      pub dropping-goes : getD mask (i - 1) 0 ≡ 1 → (ends′ : List ℕ) (lengths′ : List Float) (table′ : List ℕ) → edgesAt (left - 1) ends′ lengths′ ≡ without (i - 1) (edgesAt left ends lengths)
+      -- one goes
+      pub dropping-more : (ends′ : List ℕ) (lengths′ : List Float) (table′ : List ℕ) → edgesAt (left - 1) ends′ lengths′ ≡ without (getD list (more - 1) 0) (edgesAt left ends lengths)
           → EdgesLinked (left - 1) ends′ table′ → length ends′ ≡ length ends → length lengths′ ≡ length lengths → length table′ ≡ length table
-          → Dropping mask n ends₀ lengths₀ table₀ ends′ lengths′ table′ (left - 1) (more - 1) (i - 1)
-      dropping-goes h ends′ lengths′ table′ q L le ll lt =
-          let c : more ≡ length (markedOf mask (i - 1)) + 1 = G .counted ∙ ap (λ (z : ℕ). length (markedOf mask z)) (sym one-less) ∙ marked-more mask (i - 1) h in
+          → Dropping list n s ends₀ lengths₀ table₀ ends′ lengths′ table′ (left - 1) (more - 1)
+      dropping-more ends′ lengths′ table′ q L le ll lt =
+          let k : suc (more - 1) ≡ more = omega arith in
           record {
             same =
-                ap (keep (take (i - 1) mask)) q ∙ keep-goes (i - 1) mask (edgesAt left ends lengths) h
-                ∙ ap (λ (z : ℕ). keep (take z mask) (edgesAt left ends lengths)) one-less ∙ G .same;
+                ap (leftOut (take (more - 1) list)) q ∙ sym (leftOut-last (take (more - 1) list) (getD list (more - 1) 0) (edgesAt left ends lengths))
+                ∙ ap (λ (is : List ℕ). leftOut is (edgesAt left ends lengths)) (sym (take-more (more - 1) list 0 dropping-read) ∙ ap (λ (z : ℕ). take z list) k) ∙ G .same;
             linked = L;
-            counted = omega arith;
+            count = omega (arith, G .count, G .inside, dropping-room .here);
             inside = omega (arith, G .inside);
-            least = omega (arith, G .least);
-            most = omega (arith, G .most);
             ends-long = le ∙ G .ends-long;
             lengths-long = ll ∙ G .lengths-long;
             table-long = lt ∙ G .table-long;
           }
 
-  -- edges behind the last marked one stay
-  pub dropping-pass :
-      (ends : List ℕ) (lengths : List Float) (table : List ℕ) (left more r d i : ℕ) → 0 < more → i ≡ r + d → ((k : ℕ) → r ≤ k → k < i → getD mask k 0 ≡ 1 → ⊥)
-      → Dropping mask n ends₀ lengths₀ table₀ ends lengths table left more i → Dropping mask n ends₀ lengths₀ table₀ ends lengths table left more r
-  dropping-pass ends lengths table left more r zero i some e h G =
-      let q : i ≡ r = omega arith in subst (λ (z : ℕ). Dropping mask n ends₀ lengths₀ table₀ ends lengths table left more z) q G
-  dropping-pass ends lengths table left more r (suc d) i some e h G =
-      dropping-pass ends lengths table left more r d (i - 1) some (omega arith) (λ k a b. h k a (omega arith))
-      (dropping-stays ends lengths table left more i G some (h (i - 1) (omega arith) (omega arith)))
+  -- what the others ask, where the last is gone
+  pub rest-room : 0 < s → (le ll : ℕ) → le ≡ length ends₀ → ll ≡ length lengths₀ → ListedRoom list (n - 1) (s - 1) le ll
+  rest-room h le ll p q =
+      record {
+        few = omega (arith, R .few);
+        rising =
+            record {
+              rises = λ i j l m. R .rising .rises i j l (omega arith);
+              below = λ i l. omega (arith, R .rising .rises i (s - 1) l (omega arith), R .rising .below (s - 1) (omega arith));
+            };
+        rows = record { ends = omega (arith, p, R .rows .ends); lengths = omega (arith, q, R .rows .lengths) };
+      }
 
-  -- the last marked one is there, where one is marked
-  module _ (ends : List ℕ) (lengths : List Float) (table : List ℕ) (left more i r : ℕ) (G : Dropping mask n ends₀ lengths₀ table₀ ends lengths table left more i) (some : 0 < more) (E : EndOfMarks mask i r) where
-    pub dropping-last : Dropping mask n ends₀ lengths₀ table₀ ends lengths table left more r
-    dropping-last = dropping-pass ends lengths table left more r (i - r) i some (omega (arith, E .below)) (E .none) G
-
-    -- and it goes
-    pub dropping-again : (ends′ : List ℕ) (lengths′ : List Float) (table′ : List ℕ) → edgesAt (left - 1) ends′ lengths′ ≡ without (r - 1) (edgesAt left ends lengths) → EdgesLinked (left - 1) ends′ table′
-        → length ends′ ≡ length ends → length lengths′ ≡ length lengths → length table′ ≡ length table → Dropping mask n ends₀ lengths₀ table₀ ends′ lengths′ table′ (left - 1) (more - 1) (r - 1)
-    dropping-again ends′ lengths′ table′ q L le ll lt =
-        dropping-goes ends lengths table left more r dropping-last some (E .stop (dropping-on ends lengths table left more r dropping-last some)) ends′ lengths′ table′ q L le ll lt
-
-    pub dropping-there : 0 < r
-    dropping-there = dropping-on ends lengths table left more r dropping-last some
-
-    pub dropping-asked : DropAsked (r - 1) left ends (length lengths) table
-    dropping-asked = dropping-room ends lengths table left more r dropping-last some
+  -- and all are gone behind them
+  pub rest-gone : 0 < s → (ends : List ℕ) (lengths : List Float) → edgesAt (n - 1) ends lengths ≡ without (getD list (s - 1) 0) (edgesAt n ends₀ lengths₀)
+      → (ends′ : List ℕ) (lengths′ : List Float) (r : ℕ) → r ≡ n - 1 - (s - 1) → edgesAt r ends′ lengths′ ≡ leftOut (take (s - 1) list) (edgesAt (n - 1) ends lengths)
+      → (r ≡ n - s) × (edgesAt r ends′ lengths′ ≡ leftOut (take s list) (edgesAt n ends₀ lengths₀))
+  rest-gone h ends lengths q ends′ lengths′ r c d =
+      let k : suc (s - 1) ≡ s = omega arith in (
+        omega (arith, c),
+        d ∙ ap (leftOut (take (s - 1) list)) q ∙ sym (leftOut-last (take (s - 1) list) (getD list (s - 1) 0) (edgesAt n ends₀ lengths₀))
+            ∙ ap (λ (is : List ℕ). leftOut is (edgesAt n ends₀ lengths₀)) (sym (take-more (s - 1) list 0 (omega (arith, R .few))) ∙ ap (λ (z : ℕ). take z list) k),
+      )

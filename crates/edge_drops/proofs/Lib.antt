@@ -1,2 +1,2 @@
--- Laws of marked edges that go.
+-- Laws of listed edges that go.
 pub mod DropLaws

@@ -1,2 +1,2 @@
--- Marked edges that go.
+-- Listed edges that go.
 pub mod Drops

@@ -11,7 +11,7 @@ use Rattle.lists.proofs.Sifts.{and-true}
 use Rattle.bits.specs.Bits.{bitsOf}
 use Rattle.mesh.specs.Given.{Lent}
 use Rattle.mesh.specs.Widths.{pointColumns}
-use Rattle.outline.specs.Rows.{sidesAt}
+use Rattle.outline_tables.specs.Rows.{sidesAt}
 use Rattle.sheet.specs.Sheet.{countsAt}
 use Rattle.sheet.specs.declared.Counts.{Counts}
 use Rattle.sheet.specs.declared.Seen.{Seen as Typed}

@@ -10,8 +10,8 @@ use Rattle.bits.specs.Bits.{bitsOf}
 use Rattle.bits.specs.Rows.{readRows}
 use Rattle.bits.proofs.RowLaws.{length-read}
 use Rattle.outline.specs.Outline.{outlineOf, outlineOfTriangles, outlineOfStraps, sameSides, settled}
-use Rattle.outline.specs.Rows.{sidesAt, Listed, Even, SettledBy}
-use Rattle.outline.specs.declared.Settled.{Settled}
+use Rattle.outline_tables.specs.Rows.{sidesAt, Listed, Even, SettledBy}
+use Rattle.outline_tables.specs.declared.Settled.{Settled}
 use Rattle.sheet.specs.Sheet.{sheetWith, endOf, triangleW, edgeW, boundaryW, atTriangles, atEdges, atBoundary}
 use Rattle.sheet.specs.declared.Counts.{Counts}
 use Rattle.sheet.specs.declared.Seen.the-variants.{Whole as TypedWhole, Refused as TypedRefused}

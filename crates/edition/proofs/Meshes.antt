@@ -12,7 +12,7 @@ use Rattle.float.specs.Numbers.{zero32}
 use Rattle.mesh.specs.At.{particlesAt, trianglesAt, edgesAt, meshAt}
 use Rattle.bits.specs.Bits.{bitsOf, fieldAt}
 use Rattle.bits.specs.Rows.{unpack, readRows}
-use Rattle.outline.specs.Rows.{sidesAt}
+use Rattle.outline_tables.specs.Rows.{sidesAt}
 use Rattle.sheet.specs.Sheet.{countsAt, sheetWith, particleW, triangleW, edgeW, atTriangles, atEdges, atBlade}
 use Rattle.sheet.specs.Work.{okAt}
 use Rattle.sheet_rows.specs.Work.{pointIn, particleBits, triangleBits, edgeBits}

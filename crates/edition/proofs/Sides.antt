@@ -15,7 +15,7 @@ use Rattle.bits.specs.Bits.{fieldAt}
 use Rattle.bits.specs.Rows.{total, unpack, readRows, columnAt}
 use Rattle.bits.proofs.RowLaws.{length-column}
 use Rattle.outline.specs.Outline.{at, facesOf, single, outlineOfTriangles, outlineOfStraps, outlineOf}
-use Rattle.outline.specs.Rows.{rows3, sidesAt}
+use Rattle.outline_tables.specs.Rows.{rows3, sidesAt}
 use Rattle.sheet.specs.Sheet.{boundaryW}
 use Rattle.sheet.specs.Read.{boundaryFrom}
 use Rattle.sheet_rows.specs.Work.{sideBits}

@@ -8,8 +8,8 @@ use Rattle.lists.specs.Lists.{pick}
 use Rattle.bits.specs.Bits.{bitsOf}
 use Rattle.mesh.specs.Given.{Lent}
 use Rattle.mesh.specs.Filled.{Fits}
-use Rattle.outline.specs.Rows.{sidesAt}
-use Rattle.outline.specs.declared.Settled.{Settled}
+use Rattle.outline_tables.specs.Rows.{sidesAt}
+use Rattle.outline_tables.specs.declared.Settled.{Settled}
 use Rattle.sheet.specs.Sheet.{countsAt, sheetWith, endOf, tooMany, namesOK}
 use Rattle.sheet.specs.Read.{countsFor}
 use Rattle.sheet.specs.Work.{Small, RowsIn}

@@ -7,12 +7,12 @@ ghost use lib.Dec.{ltb};
 ghost use Rattle.bits.specs.Bits.{bitsOf};
 ghost use Rattle.bits.specs.Rows.{readRows};
 ghost use Rattle.outline.specs.Outline.{outlineOfTriangles, outlineOfStraps};
-ghost use Rattle.outline.specs.Rows.{Listed};
+ghost use Rattle.outline_tables.specs.Rows.{Listed};
 ghost use Rattle.sheet.specs.Sheet.{triangleW, edgeW};
 ghost use Rattle.edition.specs.Edition.{typedOf, ownOf, overlong};
 ghost use Rattle.edition.specs.Work.{NamesIn, StartIn, FirstIn, BlockIn, OutlineFound, LookedAt};
 use crate::Seen;
-use outline::Settled;
+use outline_tables::Settled;
 use sheet::Counts;
 use sheet::Seen as Typed;
 
@@ -32,7 +32,7 @@ fn triangle_sides(
     bits::read_column(s, at, 30, 10, n, a);
     bits::read_column(s, at + 10, 30, 10, n, b);
     bits::read_column(s, at + 20, 30, 10, n, c);
-    outline::outline_triangles(&a[..n], &b[..n], &c[..n], block)
+    outline_tables::outline_triangles(&a[..n], &b[..n], &c[..n], block)
 }
 
 // Lists the outline of n edges whose rows begin at bit `at`, and returns how many sides it has. Three columns are lent to read them into.
@@ -51,7 +51,7 @@ fn strap_sides(
     bits::read_column(s, at, 21, 10, n, a);
     bits::read_column(s, at + 10, 21, 10, n, b);
     bits::read_column(s, at + 20, 21, 1, n, c);
-    outline::outline_straps(&a[..n], &b[..n], &c[..n], block)
+    outline_tables::outline_straps(&a[..n], &b[..n], &c[..n], block)
 }
 
 // Lists a sheet's own outline, and returns how many sides it has.
@@ -85,7 +85,7 @@ fn settle_typed(s: &[u8], c: Counts, own: &mut [usize], block: &mut [usize]) -> 
     let m = own_sides(s, c, 46, own);
     let at = 46 + c.particles * 23 + c.triangles * 30 + c.edges * 21;
     sheet_rows::read_sides(s, at, c.boundary, block);
-    outline::settle(own, m, c.boundary, block)
+    outline_tables::settle(own, m, c.boundary, block)
 }
 
 // Puts the outline that a sheet is read with to the front of a block.

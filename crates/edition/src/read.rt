@@ -73,7 +73,7 @@ fn read_mesh(
     sheet_rows::read_particles(s, at, p, points, roots);
     sheet_rows::read_triangles(s, at_t, c.triangles, p, points, corners, volumes);
     sheet_rows::read_edges(s, at_e, c.edges, p, points, ends, lengths);
-    outline::copy_sides(found, c.boundary, outline);
+    outline_tables::copy_sides(found, c.boundary, outline);
 }
 
 // Where a sheet's blade begins.

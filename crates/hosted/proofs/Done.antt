@@ -38,7 +38,8 @@ use Rattle.imaged.proofs.Words.{Word, word-of}
 use Rattle.imaged.proofs.Held.{countsFirst, Writable, accepted-writable, image-long, count-first, image-held, image-sized}
 use Rattle.replies.specs.Reply.{codeOf, shownOf}
 use Rattle.mesh_replies.specs.Both.{beside}
-use Rattle.bench_c.specs.Torn.{OutcomeReplied, roomsIn, bladeIn, wordsFew, ifRead, withRooms, cutOutcome, crackOutcome, splitOutcome, straddlersOutcome}
+use Rattle.job_replies.specs.Outcomes.{OutcomeReplied, withRooms}
+use Rattle.bench_c.specs.Torn.{roomsIn, bladeIn, wordsFew, ifRead, cutOutcome, crackOutcome, splitOutcome, straddlersOutcome}
 use Rattle.hosted.specs.Images.{imageIn, entriesIn, Asked, cuts, cracks, splits, straddlers, Replying}
 
 infinity-fits : T (fits binary32 (inf false))

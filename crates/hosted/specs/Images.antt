@@ -9,7 +9,8 @@ use Rattle.mesh.specs.Given.{meshOf}
 use Rattle.image.specs.Words.{wordAt}
 use Rattle.image.specs.Image.{imageWords, imageOf}
 use Rattle.lineage.specs.History.{Begins, Moved}
-use Rattle.bench_c.specs.Torn.{OutcomeReplied, cutOutcome, crackOutcome, splitOutcome, straddlersOutcome}
+use Rattle.job_replies.specs.Outcomes.{OutcomeReplied}
+use Rattle.bench_c.specs.Torn.{cutOutcome, crackOutcome, splitOutcome, straddlersOutcome}
 
 -- the image in the result bytes: it stands behind two words, and is as long as its counts say
 unfoldable pub imageIn : List ℕ → List ℕ

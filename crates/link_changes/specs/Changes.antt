@@ -1,7 +1,7 @@
 -- The corners of cells where one of them changes, and what the functions of this crate ask and promise. Names and letters as in links/specs. Definitions only.
-use Prim.Native.Nat.{ℕ, suc, _+_, _*_, _<_, _≤_, _-_}
+use Prim.Native.Nat.{ℕ, suc, _+_, _*_, _/_, _<_, _≤_, _-_}
 use mathlib.Core.Path.{_≡_}
-use mathlib.Core.Bool.{false, _&&_}
+use mathlib.Core.Bool.{true, false, _&&_}
 use mathlib.Core.Logic.{_⊎_}
 use mathlib.Core.List.{List}
 use lib.ListN.{length, getD}
@@ -10,6 +10,8 @@ use Rattle.columns.specs.Block.{cell}
 use lib.Dec.{eqb, ltb}
 use Rattle.links.specs.Links.{holds, LinksOf}
 use Rattle.links.specs.Rooms.{LinkRoom, CornersApart}
+use Rattle.links.specs.Linked.{PairsLinked}
+use Rattle.lists.specs.Labels.{replaced}
 
 -- the corners where corner c of cell i is w
 unfoldable pub cornerMoved : ℕ → ℕ → ℕ → (ℕ → ℕ → ℕ) → ℕ → ℕ → ℕ
@@ -132,3 +134,20 @@ pub record LinksRaised (i P k R n : ℕ) (t t′ : List ℕ) : Type 0 where
 -- every number above own is less by one
 pub record NumbersLowered (own : ℕ) (t t′ : List ℕ) : Type 0 where
   pub at : (x : ℕ) → x < length t → getD t′ x 0 ≡ lessOne own (getD t x 0)
+
+-- ---- a row of two different particles, as an edge or a boundary entry is, in a block of `width` columns
+
+-- row i of n holds v, and is to have w for it, which it has not already
+pub record TurnRoom (width i v w n : ℕ) (block table : List ℕ) : Type 0 where
+  pub wide : 2 ≤ width
+  pub linked : PairsLinked width n block table
+  pub here : i < n
+  pub holding : holds 2 (cell 0 (length block / width) block) v i ≡ true
+  pub head : w < 1024
+  pub fresh : (w ≡ v → ⊥) → (c : ℕ) → c < 2 → cell 0 (length block / width) block c i ≡ w → ⊥
+
+-- the first two columns of row i have w for v, and no other cell changed
+pub record RowTurned (width i v w : ℕ) (block block′ : List ℕ) : Type 0 where
+  pub here : (c : ℕ) → c < 2 → cell 0 (length block / width) block′ c i ≡ replaced v w (cell 0 (length block / width) block c i)
+  pub beside : (c j : ℕ) → 2 ≤ c → j < length block / width → cell 0 (length block / width) block′ c j ≡ cell 0 (length block / width) block c j
+  pub others : (c j : ℕ) → j < length block / width → (j ≡ i → ⊥) → cell 0 (length block / width) block′ c j ≡ cell 0 (length block / width) block c j

@@ -5,7 +5,8 @@ ghost use lib.ListN.{length};
 ghost use Rattle.columns.specs.Block.{cell};
 ghost use Rattle.columns.specs.View.{Shifted};
 ghost use Rattle.links.specs.Links.{LinksOf};
-ghost use Rattle.link_changes.specs.Changes.{cornerMoved, cornerGone, cornerDropped, lessOne, SlotRoom, SlotOf, ChainRoom, CellPut, CellTaken, AppendRoom, MoveRoom, DropRoom, RaiseRoom, LinksRaised, NumbersLowered};
+ghost use Rattle.link_changes.specs.Changes.{cornerMoved, cornerGone, cornerDropped, lessOne, SlotRoom, SlotOf, ChainRoom, CellPut, CellTaken, AppendRoom, MoveRoom, DropRoom, RaiseRoom, LinksRaised, NumbersLowered, TurnRoom, RowTurned};
+ghost use Rattle.links.specs.Linked.{PairsLinked};
 
 // The place of the table before cell i in the chain of v: its head, or the link of the last cell below i that holds v.
 fn slot_at(
@@ -117,6 +118,29 @@ pub fn move_corner(
     let v = corners[c * rows + i];
     take_out(v, i, c, k, heads, span, rows, corners, table);
     put_in(w, i, c, k, heads, span, rows, corners, table);
+}
+
+// Puts w for v in row i of n, in the table and in the block, of which two columns are linked.
+pub fn turn_row(
+    i: usize,
+    v: usize,
+    w: usize,
+    n: usize,
+    width: usize,
+    block: &mut [usize],
+    table: &mut [u16],
+)
+    requires { ⌜ TurnRoom width i v w n (now block) (now table) ⌝ }
+    ensures { λ _. ⌜ RowTurned width i v w (now (block .entry)) (now (block .exit))
+        × PairsLinked width n (now (block .exit)) (now (table .exit)) ⌝ }
+{
+    if w == v {
+        return;
+    }
+    let rows = block.len() / width;
+    let c = links::corner_at(v, i, 2, rows, block);
+    move_corner(i, c, w, n, 2, 1024, 2048, rows, block, table);
+    block[c * rows + i] = w;
 }
 
 // Takes cell i of n out of the chain of each of its corners.

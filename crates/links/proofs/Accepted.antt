@@ -12,9 +12,9 @@ use Rattle.lists.proofs.Sifts.{all-tab, stands-made}
 use Rattle.lists.proofs.Stores.{tab-length, tab-at}
 use Rattle.columns.specs.Block.{cell}
 use Rattle.model.specs.Elements.{Kind, Triangles, Straps, Nothing}
-use Rattle.model.specs.Valid.{named, cornersOk, endsOk}
+use Rattle.model.specs.Valid.{named, cornersOk, endsOk, sideOk}
 use Rattle.model_laws.proofs.Kept.{named-first}
-use Rattle.mesh.specs.At.{trianglesAt, edgesAt}
+use Rattle.mesh.specs.At.{trianglesAt, edgesAt, boundaryAt}
 use Rattle.links.specs.Links.{LinksOf}
 use Rattle.links.specs.Rooms.{CornersApart, BuildRoom}
 use Rattle.links.specs.Linked.{Linked, Linkable}
@@ -53,6 +53,15 @@ ends-apart n e E W q =
     record {
       below = λ c i hc hi. named-below n 2 (λ j. cell 0 (length E / 4) E j i) (all-tab (endsOk n) e _ q i hi) c hc;
       apart = λ b c i l hc hi. named-apart n 2 (λ j. cell 0 (length E / 4) E j i) (all-tab (endsOk n) e _ q i hi) b c l hc;
+    }
+
+-- and that of its boundary
+pub sides-apart : (n b : ℕ) (B : List ℕ) → all (sideOk n) (boundaryAt b B) ≡ true → CornersApart n 2 b (cell 0 (length B / 2) B)
+unfolding sideOk boundaryAt tab
+sides-apart n b B q =
+    record {
+      below = λ c i hc hi. named-below n 2 (λ j. cell 0 (length B / 2) B j i) (all-tab (sideOk n) b _ q i hi) c hc;
+      apart = λ a c i l hc hi. named-apart n 2 (λ j. cell 0 (length B / 2) B j i) (all-tab (sideOk n) b _ q i hi) a c l hc;
     }
 
 -- more particles do no harm

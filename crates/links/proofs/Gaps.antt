@@ -5,9 +5,12 @@ use native.Mathlib.Omega.{arith}
 use native.Mathlib.Decide.{ℕ-discrete}
 use mathlib.Core.Path.{_≡_, refl, sym, ap, _∙_, subst}
 use mathlib.Core.Bool.{Bool, true, false}
-use mathlib.Core.List.{List, _∷_}
-use lib.ListN.{length, getD}
+use mathlib.Core.List.{List, [], _∷_}
+use lib.ListN.{length, getD, List·getD-eq-default}
+use lib.Seq.{getD-take, length-take-le}
 use Rattle.lists.specs.Lists.{pick, sift, upTo}
+use Rattle.links.specs.Links.{holds, cellsOf}
+use Rattle.links.specs.Rooms.{CellsListed}
 use Rattle.links.proofs.Walked.{from, from-upTo}
 
 -- x is the next number from b on that passes, or the end e: those before it do not
@@ -61,3 +64,36 @@ module _ (p : ℕ → Bool) where
   gap-stop n q h =
       subst (λ (l : List ℕ). Stop p (sift p l) n q) (from-upTo n)
       (stop-from 0 n n q (omega arith) (subst (λ (l : List ℕ). q < length (sift p l)) (sym (from-upTo n)) h))
+
+-- ---- a walk over the cells that hold v
+
+-- where it stands behind q of them: the number of the next one, or n
+abbrev pub stopOf : ℕ → ℕ → (ℕ → ℕ → ℕ) → ℕ → ℕ → ℕ
+stopOf k n corner v q = getD (cellsOf k n corner v) q n
+
+-- whichever number stands for none
+other-default : (l : List ℕ) (q d d′ : ℕ) → q < length l → getD l q d ≡ getD l q d′
+other-default [] q d d′ h = absurd (not-suc-le-zero h)
+other-default (x ∷ l) zero d d′ h = refl
+other-default (x ∷ l) (suc q) d d′ h = other-default l q d d′ (le-of-suc-le-suc h)
+
+-- at the first of them
+pub stop-first : (k n : ℕ) (corner : ℕ → ℕ → ℕ) (v : ℕ) → Gap (holds k corner v) 0 n (stopOf k n corner v 0)
+unfolding cellsOf
+stop-first k n corner v = gap-first (holds k corner v) n
+
+-- they are listed
+module _ {k n v : ℕ} (corner : ℕ → ℕ → ℕ) {list : List ℕ} {named : ℕ} (C : CellsListed k n v corner list named) (fits : n ≤ length list) where
+  many : length (cellsOf k n corner v) ≡ named
+  many = ap length (sym (C .are)) ∙ length-take-le named list (omega (arith, C .few))
+
+  pub stop-read : (q : ℕ) → q < named → stopOf k n corner v q ≡ getD list q 0
+  stop-read q h =
+      other-default (cellsOf k n corner v) q n 0 (omega (arith, many)) ∙ ap (λ (s : List ℕ). getD s q 0) (sym (C .are)) ∙ getD-take named list q 0 h
+
+  pub stop-end : stopOf k n corner v named ≡ n
+  stop-end = List·getD-eq-default (cellsOf k n corner v) n (omega (arith, many))
+
+  pub stop-here : (q : ℕ) → q < named → Stop (holds k corner v) (cellsOf k n corner v) n q
+  unfolding cellsOf
+  stop-here q h = gap-stop (holds k corner v) n q (omega (arith, many))

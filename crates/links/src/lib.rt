@@ -1,14 +1,17 @@
 // The cells that hold each particle, in one table: built and read.
 // The table has a head for each particle and, behind the heads, the links in as many columns of `span` places as a cell has corners.
 // The corners stand in columns of `rows` places.
-ghost use Prim.Native.Nat.{_<_};
+ghost use Prim.Native.Nat.{_<_, _≤_};
 ghost use lib.ListN.{length};
 ghost use Rattle.columns.specs.Block.{cell};
 ghost use Rattle.elements.specs.Table.{kindIs};
 ghost use Rattle.links.specs.Links.{LinksOf};
 ghost use Rattle.links.specs.Rooms.{BuildRoom, RowLent, RowRead, LinkRead, CellLinked, ColumnOf, Cleared, FirstIs, NextIs, ListRoom, CellsListed};
-ghost use Rattle.links.specs.Linked.{Linked, Linkable, EdgesLinked, EdgesLinkable, MeshLinked, MeshLinkable};
+ghost use Rattle.links.specs.Linked.{Linked, Linkable, PairsLinked, PairsLinkable, MeshLinked, MeshLinkable};
 use elements::Kind;
+
+// The places of a call's tables of links.
+pub const PLACES: usize = 14336;
 
 // Puts 0 into every place of a table.
 fn clear(table: &mut [u16])
@@ -84,29 +87,33 @@ fn link_triangles(kind: Kind, t: usize, corners: &[usize], links: &mut [u16])
     }
 }
 
-// Builds the table of the first e edges.
-pub fn link_edges(e: usize, ends: &[usize], table: &mut [u16])
-    requires { ⌜ EdgesLinkable e (now ends) (length (now table)) ⌝ }
-    ensures { λ _. ⌜ EdgesLinked e (now (ends .entry)) (now (table .exit)) ⌝ }
+// Builds the table of the first n rows of a block of w columns, by the first two of them.
+fn link_pairs(w: usize, n: usize, block: &[usize], table: &mut [u16])
+    requires { ⌜ (2 ≤ w) × PairsLinkable w n (now block) (length (now table)) ⌝ }
+    ensures { λ _. ⌜ PairsLinked w n (now (block .entry)) (now (table .exit)) ⌝ }
 {
-    let rows = ends.len() / 4;
-    build_links(e, 2, 1024, 2048, rows, ends, table);
+    let rows = block.len() / w;
+    build_links(n, 2, 1024, 2048, rows, block, table);
 }
 
-// Builds the tables of t triangles and of e edges, one behind the other.
+// Builds the tables of t triangles, of e edges and of b boundary entries, one behind the other.
 pub fn link_mesh(
     kind: Kind,
     t: usize,
     e: usize,
+    b: usize,
     corners: &[usize],
     ends: &[usize],
+    outline: &[usize],
     links: &mut [u16],
 )
-    requires { ⌜ MeshLinkable (kindIs kind) t e (now corners) (now ends) (length (now links)) ⌝ }
-    ensures { λ _. ⌜ MeshLinked (kindIs kind) t e (now (corners .entry)) (now (ends .entry)) (now (links .exit)) ⌝ }
+    requires { ⌜ MeshLinkable (kindIs kind) t e b (now corners) (now ends) (now outline) (length (now links)) ⌝ }
+    ensures { λ _. ⌜ MeshLinked (kindIs kind) t e b (now (corners .entry)) (now (ends .entry)) (now (outline .entry))
+        (now (links .exit)) ⌝ }
 {
     link_triangles(kind, t, corners, &mut links[..4096]);
-    link_edges(e, ends, &mut links[4096..]);
+    link_pairs(4, e, ends, &mut links[4096..9216]);
+    link_pairs(2, b, outline, &mut links[9216..]);
 }
 
 // The column of v among the corners of cell i, which holds it.

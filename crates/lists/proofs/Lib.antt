@@ -7,3 +7,4 @@ pub mod Rows
 pub mod Steps
 pub mod Walks
 pub mod Labelled
+pub mod Risen

@@ -2,3 +2,4 @@
 pub mod Lists
 pub mod Chain
 pub mod Labels
+pub mod LeftOut

@@ -4,7 +4,7 @@ use mathlib.Core.Path.{_≡_}
 use mathlib.Core.List.{List, []}
 use Rattle.model.specs.Reads.{Read, refused, value}
 use Rattle.image.specs.Words.{written}
-use Rattle.reading_c.specs.Replies.{lentEnough, codeOf, shownOf}
+use Rattle.reading_replies.specs.Replies.{lentEnough, codeOf, shownOf}
 
 -- the words that the log's bytes show beside an answer: none beside a refusal
 abbrev pub beside : Read (List ℕ) → List ℕ → List ℕ

@@ -20,7 +20,6 @@ use mesh::Counts;
 use mesh::Rooms;
 use mesh_calls::Job;
 use mesh_calls::checks;
-use strap_cut::kinds::Pass;
 use work::Ran;
 
 // Copies the input of a call, unless a check or a room refuses it. Returns the refusal, or 0.
@@ -158,7 +157,10 @@ fn cut_marked(
         return Ran::Done(counts);
     }
     strap_cut::kinds::run(
-        Pass::Blade(rule, b0, b1, f),
+        rule,
+        b0,
+        b1,
+        f,
         kind,
         counts,
         room,

@@ -16,8 +16,8 @@ use Rattle.image.specs.Words.{wordsFrom}
 use Rattle.image.specs.Image.{imageOf, imageSized}
 use Rattle.image.proofs.Loading.{sized-input}
 use Rattle.replies.proofs.Saying.{replied-as}
-use Rattle.reading_c.specs.Replies.{Replied, numberWords, truthWords, groupsWords, piecesReply, measureReply, opensReply, groupsReply, measureOfReply}
-use Rattle.reading_c.specs.Given.{Capped}
+use Rattle.reading_replies.specs.Replies.{Replied, numberWords, truthWords, groupsWords, piecesReply, measureReply, opensReply, groupsReply, measureOfReply}
+use Rattle.reading_c.specs.Capped.{Capped}
 use Rattle.reading_c.specs.Questions.{questionCall, questionReply}
 use Rattle.reading_c.specs.declared.Question.{Question}
 use Rattle.reading_c.specs.declared.Question.the-variants.{Pieces, Measure, MeasureOf, Opens, Groups, Unread}

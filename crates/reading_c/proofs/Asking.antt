@@ -15,12 +15,12 @@ use Rattle.readings.specs.declared.Count.{Count}
 use Rattle.readings.specs.declared.Truth.{Truth}
 use Rattle.readings.specs.Answers.{numberOf, countOf, truthOf}
 use Rattle.replies.proofs.Saying.{refusal-small, replied-as}
-use Rattle.reading_c.specs.Replies.{Replied}
-use Rattle.reading_c.specs.Given.{numberReply, countReply, truthReply}
+use Rattle.reading_replies.specs.Replies.{Replied}
+use Rattle.reading_replies.specs.Given.{numberReply, countReply, truthReply}
 use Rattle.reading_c.specs.Questions.{questionCall}
 use Rattle.reading_c.specs.declared.Question.{Question}
 use Rattle.reading_c.specs.declared.Question.the-variants.{Pieces, Measure, MeasureOf, Opens, Unread}
-use Rattle.reading_c.proofs.Replying.{number-words, count-words}
+use Rattle.reading_replies.proofs.Replying.{number-words, count-words}
 use Rattle.reading_c.proofs.Siding.{truth-words}
 
 module _ (q : Question) (z : Bool) (M : Mesh) (l : List ℕ) (lent r : ℕ) (out : List ℕ) where

@@ -19,8 +19,9 @@ use Rattle.readings.specs.declared.Count.{Count}
 use Rattle.readings.specs.Answers.{placedIn, groupCount, groupsShown, GroupsAnswered}
 use Rattle.readings.proofs.Grouped.{groups-long, placed-is}
 use Rattle.image.specs.Image.{imageOf, imageSized}
-use Rattle.reading_c.specs.Replies.{Replied, groupsWords}
-use Rattle.reading_c.specs.Given.{groupsTold, SmallCode, Capped}
+use Rattle.reading_replies.specs.Replies.{Replied, groupsWords}
+use Rattle.reading_replies.specs.Given.{groupsTold, SmallCode}
+use Rattle.reading_c.specs.Capped.{Capped}
 use Rattle.replies.proofs.Saying.{refusal-small, replied-as}
 use Rattle.reading_c.proofs.Siding.{capped-sides, refused-either}
 
@@ -37,13 +38,6 @@ few-most n l h = front-few n l (omega arith)
 -- the same of the front of a table that has a place for each
 pub front-placed : (n places : ℕ) (l : List ℕ) → n ≤ places → places ≤ 2049 → length (take n l) ≤ 2049
 front-placed n places l h m = front-few n l (omega arith)
-
--- an answer in one of its cases
-pub told-small : (a b : Count) (ws : List ℕ) → a ≡ b → SmallCode (groupsTold a ws) → SmallCode (groupsTold b ws)
-told-small a b ws e h = subst (λ (o : Count). SmallCode (groupsTold o ws)) e h
-
-pub told-as : (a b : Count) (ws : List ℕ) (lent r : ℕ) (out : List ℕ) → a ≡ b → Replied (groupsTold b ws) lent r out → Replied (groupsTold a ws) lent r out
-told-as a b ws lent r out e h = subst (λ (o : Count). Replied (groupsTold o ws) lent r out) (sym e) h
 
 -- ---- the entry on a capped list
 

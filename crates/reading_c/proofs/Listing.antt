@@ -23,7 +23,8 @@ use Rattle.readings.specs.Answers.{numberOf}
 use Rattle.image.specs.Words.{wordsFrom}
 use Rattle.image.proofs.InBlocks.{words-long}
 use Rattle.image.specs.Image.{imageOf, imageSized}
-use Rattle.reading_c.specs.Given.{numberReply, SmallCode, Capped}
+use Rattle.reading_replies.specs.Given.{numberReply, SmallCode}
+use Rattle.reading_c.specs.Capped.{Capped}
 use Rattle.replies.proofs.Saying.{refusal-small}
 use Rattle.image.proofs.Loading.{sized-input}
 use Rattle.reading_c.proofs.Siding.{capped-within, capped-most, refused-either}

@@ -29,8 +29,9 @@ use Rattle.elements.proofs.Filling.{triangles-length, straps-length}
 use Rattle.readings.specs.declared.Truth.{Truth}
 use Rattle.readings.specs.Answers.{truthOf}
 use Rattle.image.specs.Image.{imageOf, imageSized}
-use Rattle.reading_c.specs.Replies.{truthWords}
-use Rattle.reading_c.specs.Given.{truthReply, SmallCode, Capped}
+use Rattle.reading_replies.specs.Replies.{truthWords}
+use Rattle.reading_replies.specs.Given.{truthReply, SmallCode}
+use Rattle.reading_c.specs.Capped.{Capped}
 use Rattle.replies.proofs.Saying.{refusal-small}
 use Rattle.image.proofs.Loading.{sized-input}
 

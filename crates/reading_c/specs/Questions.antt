@@ -7,7 +7,7 @@ use Rattle.model.specs.Calls.{refusal}
 use Rattle.model.specs.Reads.{Read, refused, piecesCall, restMeasureCall, restMeasureOfCall, opensCall, groupsCall}
 use Rattle.mesh.specs.Given.{meshOf}
 use Rattle.image.specs.Image.{imageOf, imageSized}
-use Rattle.reading_c.specs.Replies.{countWords, numberWords, truthWords, groupsWords}
+use Rattle.reading_replies.specs.Replies.{countWords, numberWords, truthWords, groupsWords}
 use Rattle.reading_c.specs.declared.Question.{Question}
 use Rattle.reading_c.specs.declared.Question.the-variants.{Pieces, Measure, MeasureOf, Opens, Groups, Unread}
 use Rattle.reading_c.specs.declared.Asked.{Asked}

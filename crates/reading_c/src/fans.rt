@@ -2,8 +2,8 @@
 ghost use mathlib.Core.Path.{_≡_};
 ghost use Prim.Native.Nat.{_≤_, _<_};
 ghost use lib.ListN.{length, take};
-ghost use Rattle.reading_c.specs.Replies.{Replied, opensReply, groupsReply};
-ghost use Rattle.reading_c.specs.Given.{Capped};
+ghost use Rattle.reading_replies.specs.Replies.{Replied, opensReply, groupsReply};
+ghost use Rattle.reading_c.specs.Capped.{Capped};
 use crate::Question;
 
 // The most sides that are read into a small table.

@@ -1,10 +1,8 @@
 // The C functions that read: what they ask of a mesh image, said once for all, and their replies.
 pub mod fans;
-pub mod leaves;
 pub mod listed;
 pub mod meshes;
 pub mod questions;
-pub mod reply;
 pub mod tabled;
 pub mod tiny;
 pub mod unread;

@@ -1,6 +1,6 @@
 // What the C function on a list of particles of a mesh image answers.
 ghost use lib.ListN.{length};
-ghost use Rattle.reading_c.specs.Replies.{Replied, measureOfReply};
+ghost use Rattle.reading_replies.specs.Replies.{Replied, measureOfReply};
 use crate::Question;
 
 // The measure of a list of particles of a mesh image. No list of more than 1,024 rises, so 1,025 words tell.

@@ -1,6 +1,6 @@
 // What the C functions on a mesh image answer. They look at no list.
 ghost use lib.ListN.{length};
-ghost use Rattle.reading_c.specs.Replies.{Replied, piecesReply, measureReply};
+ghost use Rattle.reading_replies.specs.Replies.{Replied, piecesReply, measureReply};
 use crate::Question;
 
 // The number of pieces of a mesh image.

@@ -7,17 +7,17 @@ ghost use lib.ListN.{length};
 ghost use Rattle.mesh.specs.Given.{meshOf, sizesFit};
 ghost use Rattle.image.specs.Image.{imageSized};
 ghost use Rattle.image.specs.Loads.{Loadable};
-ghost use Rattle.reading_c.specs.Replies.{Replied};
+ghost use Rattle.reading_replies.specs.Replies.{Replied};
 ghost use Rattle.reading_c.specs.Questions.{questionOf, questionCall, questionReply};
 ghost use Rattle.image.specs.Small.{smallImage, middlingImage};
 ghost use Rattle.reading_c.specs.declared.Question.the-variants.{Groups, Unread};
 ghost use Rattle.mesh.specs.Blocks.{givenBefore};
 use crate::Asked;
 use crate::Question;
-use crate::reply;
 use crate::tabled;
 use image::small;
 use judge::checks;
+use reading_replies::reply;
 use readings::grouping;
 
 // The groups that sides make at a particle, by a lent table that has a place for each side.

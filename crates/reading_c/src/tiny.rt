@@ -5,7 +5,7 @@ ghost use Prim.Native.Nat.{_≤_};
 ghost use lib.ListN.{length};
 ghost use Rattle.image.specs.Image.{imageSized};
 ghost use Rattle.image.specs.Loads.{Loadable};
-ghost use Rattle.reading_c.specs.Replies.{Replied};
+ghost use Rattle.reading_replies.specs.Replies.{Replied};
 ghost use Rattle.reading_c.specs.Questions.{questionReply};
 ghost use Rattle.reading_c.specs.Tiny.{tinyImage};
 ghost use Rattle.reading_c.specs.declared.Question.the-variants.{Groups};

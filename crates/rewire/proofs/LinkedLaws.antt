@@ -4,13 +4,12 @@ use mathlib.Core.Logic.{_⊎_, ⊎-elim}
 use mathlib.Core.Bool.{true, not, _&&_}
 use mathlib.Core.List.{List, [], _∷_, _++_}
 use Prim.Native.Nat.{ℕ, zero, suc, _+_, _/_, _-_, _<_, _≤_}
-use native.Mathlib.Nat.{not-suc-le-zero, le-of-suc-le-suc}
 use native.Mathlib.Omega.{arith}
 use native.Mathlib.Numerals.{add-one}
 use native.Mathlib.Decide.{ℕ-discrete}
 use borrow.Author.Tests.{eq-eqb, ne-eqb}
-use lib.ListN.{length, getD, take, List·getD-eq-default}
-use lib.Seq.{getD-at, getD-take, length-take-le}
+use lib.ListN.{length, getD, take}
+use lib.Seq.{getD-at}
 use lib.Ieee.{Float}
 use Rattle.lists.specs.Lists.{stands, tab}
 use Rattle.lists.specs.Labels.{replaced}
@@ -25,13 +24,13 @@ use Rattle.model.specs.Split.{moved, calm, onlyAt, copyFor}
 use Rattle.mesh.specs.At.{edgesAt}
 use Rattle.mesh.specs.Workers.{rowAt, groupOf}
 use Rattle.mesh.proofs.Fan.{replaced-self}
-use Rattle.links.specs.Links.{holds, cellsOf, LinksOf}
+use Rattle.links.specs.Links.{holds, LinksOf}
 use Rattle.link_changes.specs.Changes.{cornerMoved, MoveRoom, AppendRoom}
 use Rattle.links.specs.Rooms.{CellsListed, ListRoom, RowRead, ColumnOf}
 use Rattle.links.specs.Linked.{EdgesLinked}
 use Rattle.link_changes.proofs.Chained.{moved-here, moved-row, moved-column}
-use Rattle.link_changes.proofs.Edged.{edges-append-room, edges-appended, edges-move-room, edges-moved}
-use Rattle.links.proofs.Gaps.{Gap, Stop, gap-first, gap-stop}
+use Rattle.link_changes.proofs.Edged.{pairs-append-room, pairs-appended, pairs-move-room, pairs-moved}
+use Rattle.links.proofs.Gaps.{Gap, stopOf, stop-first, stop-read, stop-end, stop-here}
 use Rattle.split_plan.specs.Answers.{CopyIs}
 use Rattle.work.specs.declared.Grown.{Grown}
 use Rattle.work.proofs.Grows.{edges-many, edges-get}
@@ -75,7 +74,7 @@ module _ {i v w m : ℕ} {ends table : List ℕ} (P : EndRoom i v w m ends table
 
   module _ (ne : w ≡ v → ⊥) {c : ℕ} (C : ColumnOf 2 v i (cell 0 (length ends / 4) ends) c) where
     pub end-room : MoveRoom i c w 1024 2 2048 (length ends / 4) m ends table
-    end-room = edges-move-room (P .linked) (P .here) (C .among) (P .head) (P .fresh ne)
+    end-room = pairs-move-room (omega arith) (P .linked) (P .here) (C .among) (P .head) (P .fresh ne)
 
     -- the other end is not v
     single : (d : ℕ) → d < 2 → (d ≡ c → ⊥) → f d i ≡ v → ⊥
@@ -87,7 +86,7 @@ module _ {i v w m : ℕ} {ends table : List ℕ} (P : EndRoom i v w m ends table
     pub end-done : (ends′ table′ : List ℕ) → length ends′ ≡ length ends → length table′ ≡ length table → EndsMoved i v w ends ends′
         → LinksOf 1024 2 2048 m (cornerMoved i c w (cell 0 (length ends / 4) ends)) table′ → EdgesLinked m ends′ table′
     end-done ends′ table′ le lt M L =
-        edges-moved (P .linked) (P .here) (C .among) (P .head) (P .fresh ne) le lt (λ d j x y. cells d j x y (ℕ-discrete j i) (ℕ-discrete d c)) L
+        pairs-moved (omega arith) (P .linked) (P .here) (C .among) (P .head) (P .fresh ne) le lt (λ d j x y. cells d j x y (ℕ-discrete j i) (ℕ-discrete d c)) L
       where
         turned : (d : ℕ) → d < 2 → cell 0 (length ends′ / 4) ends′ d i ≡ replaced v w (f d i)
         turned zero x = ap (λ (z : Edge). z .a) (M .here [])
@@ -182,10 +181,10 @@ module _ {n : ℕ} {e : Edge} {ends : List ℕ} {ll : ℕ} {table : List ℕ} (P
   rows = omega (arith, le, P .columns .ends)
 
   pub push-room : AppendRoom 1024 2 2048 (length ends′ / 4) n ends′ table
-  push-room = edges-append-room (P .linked) ends′ same (P .few) rows (below .first) (below .second) (below .differ)
+  push-room = pairs-append-room (omega arith) (P .linked) ends′ same (P .few) rows (below .first) (below .second) (below .differ)
 
   pub push-done : {table′ : List ℕ} → length table′ ≡ length table → LinksOf 1024 2 2048 (n + 1) (cell 0 (length ends′ / 4) ends′) table′ → EdgesLinked (n + 1) ends′ table′
-  push-done long L = edges-appended (P .linked) ends′ same (P .few) rows (below .first) (below .second) (below .differ) long L
+  push-done long L = pairs-appended (omega arith) (P .linked) ends′ same (P .few) rows (below .first) (below .second) (below .differ) long L
 
 -- ---- copies of an edge
 
@@ -248,13 +247,7 @@ linked-rows {r} {m} {ends} {table} q L = subst (λ (z : Grown). LinkedGrown z en
 
 -- where the walk stands behind q of the edges at v: the number of the next one, or e
 abbrev pub stopAt : ℕ → ℕ → List ℕ → ℕ → ℕ
-stopAt v e ends q = getD (cellsOf 2 e (cell 0 (length ends / 4) ends) v) q e
-
--- whichever number stands for none
-other-default : (l : List ℕ) (q d d′ : ℕ) → q < length l → getD l q d ≡ getD l q d′
-other-default [] q d d′ h = absurd (not-suc-le-zero h)
-other-default (x ∷ l) zero d d′ h = refl
-other-default (x ∷ l) (suc q) d d′ h = other-default l q d d′ (le-of-suc-le-suc h)
+stopAt v e ends q = stopOf 2 e (cell 0 (length ends / 4) ends) v q
 
 -- the next number that is held is the next edge that names v
 gap-named : (v b e x : ℕ) (ends : List ℕ) → Gap (holds 2 (cell 0 (length ends / 4) ends) v) b e x → NextNamed v b e ends x
@@ -266,24 +259,8 @@ gap-named v b e x ends G =
       unnamed = λ j a c. sym (ap₂ (λ (s t : ℕ). stands v (s ∷ t ∷ [])) (col-0 0 (length ends / 4) ends j) (col-1 0 (length ends / 4) ends j)) ∙ G .none j a c;
     }
 
-module _ {v e : ℕ} (ends : List ℕ) {list : List ℕ} {named : ℕ} (C : CellsListed 2 e v (cell 0 (length ends / 4) ends) list named) (fits : e ≤ length list) where
-  many : length (cellsOf 2 e (cell 0 (length ends / 4) ends) v) ≡ named
-  many = ap length (sym (C .are)) ∙ length-take-le named list (omega (arith, C .few))
-
-  walk-read : (q : ℕ) → q < named → stopAt v e ends q ≡ getD list q 0
-  walk-read q h =
-      other-default (cellsOf 2 e (cell 0 (length ends / 4) ends) v) q e 0 (omega (arith, many)) ∙ ap (λ (s : List ℕ). getD s q 0) (sym (C .are)) ∙ getD-take named list q 0 h
-
-  walk-end : stopAt v e ends named ≡ e
-  walk-end = List·getD-eq-default (cellsOf 2 e (cell 0 (length ends / 4) ends) v) e (omega (arith, many))
-
-  walk-stop : (q : ℕ) → q < named → Stop (holds 2 (cell 0 (length ends / 4) ends) v) (cellsOf 2 e (cell 0 (length ends / 4) ends) v) e q
-  unfolding cellsOf
-  walk-stop q h = gap-stop (holds 2 (cell 0 (length ends / 4) ends) v) e q (omega (arith, many))
-
 walk-first : (v e : ℕ) (ends : List ℕ) → NextNamed v 0 e ends (stopAt v e ends 0)
-unfolding cellsOf
-walk-first v e ends = gap-named v 0 e (stopAt v e ends 0) ends (gap-first (holds 2 (cell 0 (length ends / 4) ends) v) e)
+walk-first v e ends = gap-named v 0 e (stopAt v e ends 0) ends (stop-first 2 e (cell 0 (length ends / 4) ends) v)
 
 -- the edges at v can be listed
 pub list-room : {K : Kind} {v before k n count p e room : ℕ} {verts groups : List ℕ} {lp : ℕ} {ends : List ℕ} {lengths : List Float} {table : List ℕ} {ll : ℕ}
@@ -324,15 +301,15 @@ module _ {K : Kind} {v before k n count p e room : ℕ} {verts groups : List ℕ
       pub walk-done : named ≤ q → q ≤ named → Passing K v before k n count p e room verts groups points ends₀ ends lengths₀ lengths rows e
       walk-done h l =
           let z : q ≡ named = omega arith in
-          subst (λ (j : ℕ). Passing K v before k n count p e room verts groups points ends₀ ends lengths₀ lengths rows j) (ap (stopAt v e ends₀) z ∙ walk-end ends₀ C fits) P
+          subst (λ (j : ℕ). Passing K v before k n count p e room verts groups points ends₀ ends lengths₀ lengths rows j) (ap (stopAt v e ends₀) z ∙ stop-end (cell 0 (length ends₀ / 4) ends₀) C fits) P
 
       module _ (h : q < named) where
         -- at an edge of the list
         pub walk-here : Passing K v before k n count p e room verts groups points ends₀ ends lengths₀ lengths rows (getD list q 0)
-        walk-here = subst (λ (j : ℕ). Passing K v before k n count p e room verts groups points ends₀ ends lengths₀ lengths rows j) (walk-read ends₀ C fits q h) P
+        walk-here = subst (λ (j : ℕ). Passing K v before k n count p e room verts groups points ends₀ ends lengths₀ lengths rows j) (stop-read (cell 0 (length ends₀ / 4) ends₀) C fits q h) P
 
         pub walk-inside : getD list q 0 < e
-        walk-inside = subst (λ (j : ℕ). j < e) (walk-read ends₀ C fits q h) (walk-stop ends₀ C fits q h .inside)
+        walk-inside = subst (λ (j : ℕ). j < e) (stop-read (cell 0 (length ends₀ / 4) ends₀) C fits q h) (stop-here (cell 0 (length ends₀ / 4) ends₀) C fits q h .inside)
 
         -- it can be settled
         pub walk-room : SettleRoom K (getD list q 0) v before k n count p rows room verts groups (length points) ends lengths
@@ -359,7 +336,7 @@ module _ {K : Kind} {v before k n count p e room : ℕ} {verts groups : List ℕ
         walk-on {r} {ends′} {lengths′} S m z le ll =
             let Q = passing-step K v before k n count p e room verts groups points ends₀ lengths₀ ends lengths rows (getD list q 0) walk-here walk-inside r ends′ lengths′ S m z le ll in
             let N : NextNamed v (getD list q 0 + 1) e ends₀ (stopAt v e ends₀ (q + 1)) =
-            ap-next (sym (ap suc (walk-read ends₀ C fits q h) ∙ sym (add-one (getD list q 0)))) (add-one q) (gap-named v (suc (stopAt v e ends₀ q)) e (stopAt v e ends₀ (suc q)) ends₀ (walk-stop ends₀ C fits q h .next)) in
+            ap-next (sym (ap suc (stop-read (cell 0 (length ends₀ / 4) ends₀) C fits q h) ∙ sym (add-one (getD list q 0)))) (add-one q) (gap-named v (suc (stopAt v e ends₀ q)) e (stopAt v e ends₀ (suc q)) ends₀ (stop-here (cell 0 (length ends₀ / 4) ends₀) C fits q h .next)) in
             passing-next (E .copy .columns .ends) Q (named-ahead Q N)
           where
             ap-next : {a b s t : ℕ} → a ≡ b → s ≡ t → NextNamed v b e ends₀ (stopAt v e ends₀ t) → NextNamed v a e ends₀ (stopAt v e ends₀ s)

@@ -21,7 +21,7 @@ use Rattle.bits.specs.Bits.{bitsOf, fieldAt}
 use Rattle.bits.proofs.Laws.{length-bitsOf}
 use Rattle.bits.specs.Rows.{total, unpack, readRows, columnAt}
 use Rattle.bits.proofs.RowLaws.{AllBits, bits-bitsOf, field-lt, length-column}
-use Rattle.outline.specs.Rows.{sideAt, sidesAt}
+use Rattle.outline_tables.specs.Rows.{sideAt, sidesAt}
 use Rattle.listing.proofs.Appending.{appends-none}
 use Rattle.differences.specs.Differences.{Difference, place, sameRow, rowsDiffer}
 use Rattle.differences.specs.Work.{readAt, sameReading, placeDiffers, rowBy, asRow, Coords, CoordsRead, Lists}

@@ -5,7 +5,7 @@ ghost use Prim.Native.Nat.{ℕ, _≤_};
 ghost use lib.ListN.{length, drop};
 ghost use Rattle.bits.specs.Bits.{bitsOf};
 ghost use Rattle.bits.specs.Rows.{readRows};
-ghost use Rattle.outline.specs.Rows.{sidesAt};
+ghost use Rattle.outline_tables.specs.Rows.{sidesAt};
 ghost use Rattle.differences.specs.Differences.{rowsDiffer};
 ghost use Rattle.differences.specs.Work.{Lists};
 ghost use Rattle.row_differences.specs.Work.{Longer, readingAt, rowsIn, Level, RowsAsked, ThreeIn, ThreeRead, ListAsked, SidesAsked};

@@ -14,7 +14,7 @@ use Rattle.mesh.specs.At.{particleBy, particlesAt, trianglesAt, boundaryAt}
 use Rattle.mesh.specs.Widths.{pointColumns}
 use Rattle.mesh.proofs.Columns.{by-columns}
 use Rattle.blade.specs.declared.Point.{Point}
-use Rattle.outline.proofs.Adding.{first-place, second-place}
+use Rattle.outline_tables.proofs.Adding.{first-place, second-place}
 use Rattle.sheet.specs.Read.{floatOf, inverseOf, areaOf, particleFrom, triangleFrom}
 
 -- values put at place n of columns c, c + 1, ..

@@ -14,7 +14,7 @@ use Rattle.bits.specs.Bits.{bits}
 use Rattle.bits.specs.Rows.{total, pack, writeRows, rowsOf}
 use Rattle.bits.proofs.RowLaws.{sets-then, length-pack, length-writeRows}
 use Rattle.outline.specs.Outline.{outlineOf}
-use Rattle.outline.specs.Rows.{rows3, row3}
+use Rattle.outline_tables.specs.Rows.{rows3, row3}
 use Rattle.sheet.specs.Sheet.{Sheet, Columns, sheetFrom, countsIn, particleW, triangleW, edgeW, bladeW, endOf, bytesOf, evenOf, tooMany, fitOf, namesOK}
 use Rattle.sheet.specs.Sheet as S
 use Rattle.sheet.specs.Work.{Even, Small}

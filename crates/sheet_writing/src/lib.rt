@@ -6,7 +6,7 @@ ghost use lib.Dec.{ltb};
 ghost use Rattle.lists.specs.Lists.{padded};
 ghost use Rattle.bits.specs.Bits.{bitsOf};
 ghost use Rattle.outline.specs.Outline.{outlineOf};
-ghost use Rattle.outline.specs.Rows.{rows3, Even};
+ghost use Rattle.outline_tables.specs.Rows.{rows3, Even};
 ghost use Rattle.sheet.specs.Sheet.{sheetFrom};
 ghost use Rattle.edition.specs.Edition.{sheet2Bits};
 ghost use Rattle.sheet_writing.specs.Writing.{columnsFrom, answerOf, WriteDone, handedIn, handedBefore};
@@ -28,7 +28,7 @@ fn long_own(
         (now (e1 .entry)) (now (structural .entry))))) ⌝ }
 {
     let mut none = [0usize; 1];
-    2048 < outline::list_outline(t0, t1, t2, e0, e1, structural, &mut none)
+    2048 < outline_tables::list_outline(t0, t1, t2, e0, e1, structural, &mut none)
 }
 
 // What a writer answers with m bytes lent.

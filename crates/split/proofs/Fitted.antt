@@ -109,13 +109,13 @@ fan-told K v t e r corners volumes ends lengths N Y Z u w T =
     }
 
 -- the corners of so few elements are few
-corners-few : (K : Kind) (n : ℕ) → n ≤ 32 → n * cornersPer K ≤ 96
+corners-few : (K : Kind) (n : ℕ) → n ≤ 16 → n * cornersPer K ≤ 48
 corners-few Triangles n h = omega arith
 corners-few Straps n h = omega arith
 corners-few Nothing n h = omega arith
 
 pub few-corners : {K : Kind} {v t e n : ℕ} {corners : List ℕ} {volumes : List Float} {ends : List ℕ} {lengths : List Float} {numbers verts : List ℕ} {measures : List Float} → FanTables K v t e corners volumes ends lengths n numbers verts measures
-    → n ≤ 32 → n * cornersPer K ≤ 96
+    → n ≤ 16 → n * cornersPer K ≤ 48
 few-corners {K} {n = n} F h = corners-few K n h
 
 -- the grid of a fan in tables

@@ -5,7 +5,7 @@ use native.Mathlib.Omega.{arith}
 use mathlib.Core.Path.{_≡_, refl, sym, ap, _∙_, subst}
 use mathlib.Core.Bool.{_&&_}
 use mathlib.Core.List.{List, [], map}
-use lib.ListN.{length, getD, take}
+use lib.ListN.{length, getD, take, drop}
 use lib.Seq.{length-take-le, getD-take}
 use borrow.Rule.Slice.PartMut.{midOf, putMid}
 use lib.Ieee.{Float}
@@ -24,9 +24,11 @@ use Rattle.links.specs.Links.{LinksOf}
 use Rattle.link_splits.specs.Splits.{cornerAfter, SplitRoom}
 use Rattle.links.specs.Rooms.{CornersApart}
 use Rattle.link_fans.specs.Fans.{FanLinked}
-use Rattle.links.specs.Linked.{Linked, EdgesLinked, MeshLinked, MeshLinkable}
-use Rattle.links.proofs.Accepted.{corners-apart, ends-apart, apart-below}
-use Rattle.links.proofs.Parts.{edges-back}
+use Rattle.links.specs.Linked.{Linked, EdgesLinked, SidesLinked, FrontLinked, MeshLinked, MeshLinkable}
+use Rattle.links.proofs.Accepted.{corners-apart, ends-apart, sides-apart, apart-below}
+use Rattle.links.proofs.Parts.{front-of, with-sides, edges-back, sides-lent, sides-back}
+use Rattle.boundary.specs.Faces.{GrownLinked}
+use Rattle.boundary.proofs.FacetLaws.{linked-rows as sides-grown}
 use Rattle.link_fans.proofs.Fanned.{fan-numbers}
 use Rattle.link_splits.proofs.Turned.{links-split}
 use Rattle.rewire.specs.Stages.{PartsBy, TrianglesRewired}
@@ -44,7 +46,7 @@ use Rattle.work.specs.Places.{EndsIn}
 use Rattle.work.specs.declared.Grown.{Grown}
 use Rattle.work.specs.declared.Grown.the-variants.{Rows}
 use Rattle.split.specs.Growing.{StrapsNamed, ElementsRoom}
-use Rattle.split.specs.Linking.{LinkedAfter, LinkedGrown, FanNamed, HeadsRoom}
+use Rattle.split.specs.Linking.{LinkedAfter, FrontKept, LinkedGrown, LinkedDropped, FanSound, FacetsLinked, FanNamed, HeadsRoom}
 use Rattle.split.specs.declared.Grew.{Grew}
 use Rattle.split.specs.declared.Grew.the-variants.{Longest}
 use Rattle.split.proofs.GrowLaws.{tableOpening, table-parts, straps-room}
@@ -52,8 +54,9 @@ use Rattle.split.proofs.TabledLaws.{fan-lent}
 use Rattle.lists.proofs.Sifts.{and-true}
 
 -- behind parts 1 to 3, where they had room
-pub grown-linked : {K : Kind} {t e : ℕ} {corners ends links : List ℕ} {g : Grew} → LinkedGrown K t corners ends links g → g ≡ Longest e → MeshLinked K t e corners ends links
-grown-linked {K} {t} {e} {corners} {ends} {links} X q = subst (LinkedGrown K t corners ends links) q X
+pub grown-linked : {K : Kind} {t e b : ℕ} {corners ends outline : List ℕ} (links₀ links : List ℕ) {g : Grew} → LinkedGrown K t corners ends links₀ links g → g ≡ Longest e → SidesLinked b outline (drop 9216 links₀)
+    → MeshLinked K t e b corners ends outline links
+grown-linked {K} {t} {e} {b} {corners} {ends} {outline} links₀ links X q S = let F = subst (LinkedGrown K t corners ends links₀ links) q X in with-sides links₀ (F .0) (F .1) S
 
 -- ---- a fan read from the table
 
@@ -149,14 +152,36 @@ table-room R F fits X =
     let two = F .two in
     record { linked = X; few = R .few-edges; most = omega arith; heads = omega arith; behind = omega arith }
 
--- the tables behind parts 1 to 3: the triangles' is as it was, the edges' has grown
-pub grown-back : {K : Kind} {t e m : ℕ} {C E E′ l : List ℕ} {r : Grown} (x : List ℕ) → MeshLinked K t e C E l → length x ≡ length (midOf 4096 (length l - 4096) l) → r ≡ Rows m → EdgesGrew r E′ x
-    → MeshLinked K t m C E′ (putMid 4096 (length l - 4096) l x)
-grown-back x M n q X = edges-back M n (linked-rows q X)
+-- the tables behind parts 1 to 3: the edges' has grown, the others are as they were
+pub grown-back : {K : Kind} {t e m : ℕ} {C E E′ l : List ℕ} {r : Grown} (l₀ x : List ℕ) → FrontKept K t e C E l₀ l → length x ≡ length (midOf 4096 5120 l) → r ≡ Rows m → EdgesGrew r E′ x
+    → FrontKept K t m C E′ l₀ (putMid 4096 5120 l x)
+grown-back l₀ x M n q X = let B = edges-back (M .0) n (linked-rows q X) in (B .0, B .1 ∙ M .1)
 
 -- behind a worker that is done the next one finds what it asks
-pub linked-done : {K : Kind} {corners ends links : List ℕ} (r : Ran) (q : Counts) → r ≡ Done q → LinkedAfter K corners ends links r → MeshLinked K (q .triangles) (q .edges) corners ends links
-linked-done {K} {corners} {ends} {links} r q e X = subst (λ (z : Ran). LinkedAfter K corners ends links z) e X
+pub linked-done : {K : Kind} {corners ends outline links : List ℕ} (r : Ran) (q : Counts) → r ≡ Done q → LinkedAfter K corners ends outline links r
+    → MeshLinked K (q .triangles) (q .edges) (q .boundary) corners ends outline links
+linked-done {K} {corners} {ends} {outline} {links} r q e X = subst (λ (z : Ran). LinkedAfter K corners ends outline links z) e X
+
+-- ---- the boundary's table in parts 4 to 6
+
+-- it is lent with the faces that may join it
+pub facets-lent : {K : Kind} {t e b n room : ℕ} {C E B l numbers : List ℕ} → MeshLinked K t e b C E B l → room ≤ 2048 → FanSound K n numbers C → FacetsLinked K n b room numbers C B (midOf 9216 (length l - 9216) l)
+facets-lent M few S = record { table-is = record { linked = sides-lent M; few = few }; sound = S }
+
+-- behind the entries that followed
+pub facets-next : {K : Kind} {n b room : ℕ} {numbers C B B′ x x′ : List ℕ} → FacetsLinked K n b room numbers C B x → SidesLinked b B′ x′ → FacetsLinked K n b room numbers C B′ x′
+facets-next F S = record { table-is = record { linked = S; few = F .table-is .few }; sound = F .sound }
+
+-- it is given back with so many entries
+pub facets-back : {K : Kind} {t e b m : ℕ} {C E B B′ l : List ℕ} {r : Grown} (x : List ℕ) → MeshLinked K t e b C E B l → length x ≡ length (midOf 9216 (length l - 9216) l) → r ≡ Rows m → GrownLinked r B′ x
+    → MeshLinked K t e m C E B′ (putMid 9216 (length l - 9216) l x)
+facets-back x M n q X = sides-back M n (sides-grown q X)
+
+-- behind the straddlers that went the boundary's part is as it was
+pub dropped-linked : {K : Kind} {t e rows : ℕ} {C E B l : List ℕ} (E′ l′ : List ℕ) (r : Ran) → MeshLinked K t e rows C E B l → LinkedDropped K rows C E′ l l′ r → LinkedAfter K C E′ B l′ r
+dropped-linked E′ l′ (Refused c) M D = tt
+dropped-linked {K} {C = C} {B = B} {l = l} E′ l′ (Done q) M D =
+    subst (λ (b : ℕ). MeshLinked K (q .triangles) (q .edges) b C E′ B l′) (sym (D .1)) (with-sides l (D .0 .0) (D .0 .1) (M .sides))
 
 -- ---- beside a mesh in blocks
 
@@ -186,8 +211,17 @@ module _ (K : Kind) (L : Rooms) (k : Counts) (points : List Float) (roots corner
       subst (λ (m : ℕ). CornersApart m 2 (k .edges) (cell 0 (length ends / 4) ends)) (particles-count k points roots corners volumes ends lengths outline)
       (ends-apart n (k .edges) ends lengths (q .1))
 
+  -- nor has a boundary entry
+  sides-ready : CornersApart (k .particles) 2 (k .boundary) (cell 0 (length outline / 2) outline)
+  unfolding indicesFit meshAt
+  sides-ready =
+      let n = length (M .particles) in
+      let p = and-true (all (rootOk n) (M .particles) && all (cornersOk n) (M .triangles) && all (endsOk n) (M .edges)) (all (sideOk n) (M .boundary)) (P .indices) in
+      subst (λ (m : ℕ). CornersApart m 2 (k .boundary) (cell 0 (length outline / 2) outline)) (particles-count k points roots corners volumes ends lengths outline)
+      (sides-apart n (k .boundary) outline (p .1))
+
   -- the tables can be built in lt places
-  pub linkable-ready : (lt : ℕ) → 9216 ≤ lt → MeshLinkable K (k .triangles) (k .edges) corners ends lt
+  pub linkable-ready : (lt : ℕ) → 14336 ≤ lt → MeshLinkable K (k .triangles) (k .edges) (k .boundary) corners ends outline lt
   linkable-ready lt long =
       let R = P .rooms in
       let C = P .counts in
@@ -206,12 +240,18 @@ module _ (K : Kind) (L : Rooms) (k : Counts) (points : List Float) (roots corner
           rows = omega (arith, C .edges, R .ends);
           apart = apart-below (k .particles) 1024 2 (k .edges) (cell 0 (length ends / 4) ends) most ends-ready;
         };
+        sides = record {
+          long = omega arith;
+          few = omega (arith, C .boundary, R .few-boundary);
+          rows = omega (arith, C .boundary, R .outline);
+          apart = apart-below (k .particles) 1024 2 (k .boundary) (cell 0 (length outline / 2) outline) most sides-ready;
+        };
       }
 
   -- what reading the fan of v asks
-  pub fan-ready : {v : ℕ} {links : List ℕ} → v < k .particles → MeshLinked K (k .triangles) (k .edges) corners ends links
-      → FanLent (k .triangles) (k .edges) (length corners) (length volumes) (length ends) (length lengths) × MeshLinked K (k .triangles) (k .edges) corners ends links × (v < 1024)
-  fan-ready h X = (fan-lent K L k points roots corners volumes ends lengths outline log P, X, omega (arith, h, P .counts .particles, P .rooms .few-particles))
+  pub fan-ready : {v : ℕ} {links : List ℕ} → v < k .particles → MeshLinked K (k .triangles) (k .edges) (k .boundary) corners ends outline links
+      → FanLent (k .triangles) (k .edges) (length corners) (length volumes) (length ends) (length lengths) × FrontLinked K (k .triangles) (k .edges) corners ends links × (v < 1024)
+  fan-ready h X = (fan-lent K L k points roots corners volumes ends lengths outline log P, front-of X, omega (arith, h, P .counts .particles, P .rooms .few-particles))
 
   -- the tables of a fan name the triangles that hold v
   pub fan-named : {v n count : ℕ} {numbers verts : List ℕ} {measures : List Float} {groups : List ℕ} → FanGrouped K M v n count numbers verts measures groups → FanNamed K v (k .particles) (k .triangles) n numbers corners

@@ -1,5 +1,5 @@
--- The ends of the edges of a split at their longest are particles that are there. Assumes nothing.
-use Prim.Native.Nat.{ℕ, suc, _+_, _-_, _/_, _<_, _≤_, max}
+-- The ends of the edges of a split at their longest, and the corners of its triangles, are particles that are there. Assumes nothing.
+use Prim.Native.Nat.{ℕ, suc, _+_, _*_, _-_, _/_, _<_, _≤_, max}
 use native.Mathlib.Omega.{arith}
 use native.Mathlib.Decide.{ℕ-discrete}
 use mathlib.Core.Path.{_≡_, refl, sym, _∙_, ap, subst}
@@ -16,14 +16,16 @@ use Rattle.lists.proofs.Stores.{replaced-case, tab-at, tab-length}
 use Rattle.float.specs.Numbers.{largest}
 use Rattle.blade.specs.declared.Point.{Point}
 use Rattle.columns.specs.Block.{cell}
-use Rattle.model.specs.Mesh.{Edge, Mesh, blankEdge}
+use Rattle.model.specs.Mesh.{Triangle, Edge, Mesh, blankTriangle, blankEdge}
 use Rattle.model.specs.Elements.{Kind, Triangles, Straps, Nothing, Element, besides, farEnd, fanOf}
-use Rattle.model.specs.Split.{Part, Opening, copyOf, groupAt, moved, rewiredStraps, ring, Best, better, scoreOf, scored, toward, edgeGroups, other?, calm, stayed, doubled, otherEdges, atLongest}
-use Rattle.model.specs.Trace.{All}
+use Rattle.model.specs.Split.{Part, Opening, copyOf, groupAt, retargeted, moved, rewiredTriangles, rewiredStraps, ring, Best, better, scoreOf, scored, toward, edgeGroups, other?, calm, stayed, doubled, otherEdges, atLongest}
+use Rattle.model.specs.Trace.{All, Sound}
 use Rattle.model_laws.proofs.Laws.{pick-both, all-each, all-over, all-append, all-mapAt, all-in, all-map, all-eachOf, all-sift, all-upTo, all-rest, all-head, all-else}
 use Rattle.model_laws.proofs.Indexed.{Indexed, Pair}
-use Rattle.model_laws.proofs.Traced.{at-below, parts-all, Any, all-any}
-use Rattle.mesh.specs.At.{edgeRow, edgesAt}
+use Rattle.model_laws.proofs.Traced.{at-below, sound-step, parts-all, Any, all-any}
+use Rattle.mesh.specs.At.{triangleRow, trianglesAt, edgeRow, edgesAt}
+use Rattle.columns.proofs.Cells.{col-0, col-1}
+use Rattle.boundary.specs.Faces.{ThreeApart}
 use Rattle.split_plan.specs.Opened.{openingBy}
 use Rattle.work.specs.Places.{EndsIn}
 
@@ -113,12 +115,58 @@ in-rows p e ends lengths h =
     let r : (j : ℕ) → j < e → In p (f j) = λ j l. subst (In p) (tab-at e f j blankEdge l) (all-in (In p) (tab e f) j blankEdge (omega (arith, tab-length e f)) h) in
     record { first = λ j l. r j l .0; second = λ j l. r j l .1 }
 
+-- the groups of a fan in tables lie below the count
+few-groups : (K : Kind) (M : Mesh) (v count n : ℕ) (groups : List ℕ) → n ≤ length groups → ((i : ℕ) → i < n → getD groups i 0 < count)
+    → All (λ (p : Part). p .group < count) (openingBy v (length (M .particles)) (fanOf K M v) (take n groups) count .fan)
+few-groups K M v count n groups long small =
+    parts-all Any (λ g. g < count) (λ (p : Part). p .group < count) (λ x g a u. u) (fanOf K M v) (take n groups) (all-any (fanOf K M v))
+    (all-each (λ g. g < count) (take n groups) (λ i l. let u : i < n = omega (arith, length-take-le n groups long) in subst (λ (g : ℕ). g < count) (sym (getD-take n groups i 0 u)) (small i u)))
+
 -- the edges of a mesh in blocks, at their longest in others, have ends that are there
 pub longest-ends : (K : Kind) (M : Mesh) (v count n : ℕ) (groups : List ℕ) → 2 ≤ count → v < length (M .particles) → n ≤ length groups → ((i : ℕ) → i < n → getD groups i 0 < count)
     → Indexed M → (e : ℕ) (ends′ : List ℕ) (lengths′ : List Float)
     → edgesAt e ends′ lengths′ ≡ atLongest K (openingBy v (length (M .particles)) (fanOf K M v) (take n groups) count) M .edges → EndsIn (length (M .particles) + (count - 1)) e ends′
 longest-ends K M v count n groups two low long small X e ends′ lengths′ q =
     let O : Opening = openingBy v (length (M .particles)) (fanOf K M v) (take n groups) count in
-    let few : All (λ (p : Part). p .group < count) (O .fan) = parts-all Any (λ g. g < count) (λ (p : Part). p .group < count) (λ x g a u. u) (fanOf K M v) (take n groups) (all-any (fanOf K M v))
-    (all-each (λ g. g < count) (take n groups) (λ i l. let u : i < n = omega (arith, length-take-le n groups long) in subst (λ (g : ℕ). g < count) (sym (getD-take n groups i 0 u)) (small i u))) in
+    let few : All (λ (p : Part). p .group < count) (O .fan) = few-groups K M v count n groups long small in
     in-rows (length (M .particles) + (count - 1)) e ends′ lengths′ (subst (All (In (length (M .particles) + (count - 1)))) (sym q) (longest-in O two low few K M (all-over (λ (x : Edge). Pair (length (M .particles)) (x .a) (x .b)) (In (length (M .particles))) (λ x P. (P .first, P .second)) (M .edges) (X .edges))))
+
+-- ---- triangles
+
+module _ (O : Opening) (two : 2 ≤ O .count) (low : O .v < O .before) (below : All (λ (p : Part). p .group < O .count) (O .fan)) where
+  triangles-in : (k : Kind) (ts : List Triangle) → All (Sound (O .before)) ts → k ≡ Triangles → All (Sound (O .before + (O .count - 1))) (rewiredTriangles k O ts)
+  unfolding rewiredTriangles
+  triangles-in k ts h q =
+      subst (λ (z : Kind). All (Sound (O .before + (O .count - 1))) (rewiredTriangles z O ts)) (sym q)
+      (all-mapAt (Sound (O .before)) (Sound (O .before + (O .count - 1))) (λ i. retargeted (O .v) (copyOf O (groupAt (O .fan) i)))
+      (λ i t U. sound-step (O .before) (O .v) (O .count - 1) (groupAt (O .fan) i) low (let g = group-below O two low below i in omega arith) t U) ts h)
+
+-- the corners of a sound triangle in a block
+sound-row : (p t : ℕ) (corners : List ℕ) (volumes : List Float) → p ≤ 1024 → All (Sound p) (trianglesAt t corners volumes) → (j : ℕ) → j < t
+    → ThreeApart (getD corners j 0) (getD corners (length corners / 3 + j) 0) (getD corners (2 * (length corners / 3) + j) 0)
+unfolding trianglesAt cell
+sound-row p t corners volumes h S j l =
+    let C = length corners / 3 in
+    let f = triangleRow C (length volumes / 2) corners volumes in
+    let r : Sound p (f j) = subst (Sound p) (tab-at t f j blankTriangle l) (all-in (Sound p) (tab t f) j blankTriangle (omega (arith, tab-length t f)) S) in
+    let a : getD corners j 0 ≡ f j .a = sym (col-0 0 C corners j) in
+    let b : getD corners (C + j) 0 ≡ f j .b = sym (col-1 0 C corners j) in
+    record {
+      x-in = omega (arith, a, r .a);
+      y-in = omega (arith, b, r .b);
+      z-in = let z = r .c in omega arith;
+      first = λ e. r .ab (sym a ∙ e ∙ b);
+      second = λ e. r .bc (sym b ∙ e);
+      third = λ e. r .ca (e ∙ a);
+    }
+
+-- the triangles of a mesh in blocks, where the edges are at their longest in others, have three different corners that are there
+pub longest-corners : (K : Kind) (M : Mesh) (v count n : ℕ) (groups : List ℕ) → 2 ≤ count → v < length (M .particles) → n ≤ length groups → ((i : ℕ) → i < n → getD groups i 0 < count)
+    → Indexed M → (t : ℕ) (corners′ : List ℕ) (volumes : List Float)
+    → trianglesAt t corners′ volumes ≡ atLongest K (openingBy v (length (M .particles)) (fanOf K M v) (take n groups) count) M .triangles → length (M .particles) + (count - 1) ≤ 1024 → K ≡ Triangles → (j : ℕ) → j < t
+    → ThreeApart (getD corners′ j 0) (getD corners′ (length corners′ / 3 + j) 0) (getD corners′ (2 * (length corners′ / 3) + j) 0)
+unfolding atLongest
+longest-corners K M v count n groups two low long small X t corners′ volumes q fits z =
+    let p = length (M .particles) + (count - 1) in
+    sound-row p t corners′ volumes fits
+    (subst (All (Sound p)) (sym q) (triangles-in (openingBy v (length (M .particles)) (fanOf K M v) (take n groups) count) two low (few-groups K M v count n groups long small) K (M .triangles) (X .triangles) z))

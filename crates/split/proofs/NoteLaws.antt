@@ -6,11 +6,11 @@ use Prim.Native.Nat.{ℕ, _+_, _-_, _<_, _≤_}
 use native.Mathlib.Omega.{arith}
 use borrow.Author.Tests.{leb-true, leb-false, le-leb, lt-leb}
 use lib.Dec.{leb}
-use lib.ListN.{length}
+use lib.ListN.{length, take}
 use Rattle.lists.specs.Lists.{tab, upTo}
 use Rattle.lists.proofs.Steps.{tab-step}
 use Rattle.mesh.specs.Log.{Words, logAt}
-use Rattle.work.specs.Removal.{markedOf, goneWords, EdgesNoted}
+use Rattle.work.specs.Removal.{goneWords, ListNoted}
 use Rattle.split.specs.Settling.{copyWords, CopiesNoted, SplitNoted}
 
 -- ---- copies
@@ -51,14 +51,14 @@ module _ (v before m at : ℕ) (log₀ : List ℕ) where
       record { noted = subst (λ (z : ℕ). logAt (at + z) log ≡ logAt at log₀ ++ map (copyWords v before) (upTo z)) e (G .noted) }
 
 -- both, one behind the other
-pub split-noted : (v before m at e : ℕ) (mask ends log log₁ log₂ : List ℕ) (r : ℕ) → CopiesNoted v before m at log log₁ → EdgesNoted mask e (at + m) ends log₁ log₂ r
-    → SplitNoted v before m at e mask ends log log₂ r
-split-noted v before m at e mask ends log log₁ log₂ r A B =
+pub split-noted : (v before m at s : ℕ) (list ends log log₁ log₂ : List ℕ) (r : ℕ) → CopiesNoted v before m at log log₁ → ListNoted list s (at + m) ends log₁ log₂ r
+    → SplitNoted v before m at s list ends log log₂ r
+split-noted v before m at s list ends log log₁ log₂ r A B =
     record {
       count = B .count;
       entries =
-          B .entries ∙ ap (λ (w : List Words). w ++ map (goneWords ends) (markedOf mask e)) (A .noted)
-          ∙ append-assoc (logAt at log) (map (copyWords v before) (upTo m)) (map (goneWords ends) (markedOf mask e));
+          B .entries ∙ ap (λ (w : List Words). w ++ map (goneWords ends) (take s list)) (A .noted)
+          ∙ append-assoc (logAt at log) (map (copyWords v before) (upTo m)) (map (goneWords ends) (take s list));
     }
 
 -- ---- room

@@ -33,7 +33,11 @@ pub facet-room : (kind : KindCase) (before n count b room : ℕ) (numbers : List
     → FaceRoom before n count numbers lv lg lc × SideRoom b room lo
 facet-room kind before n count b room numbers lv lg lc lo q A =
     let B = subst (λ (z : KindCase). FacetsAsked (kindIs z) before n count b room numbers lv lg lc lo) q A in
-    (record { ring = B .ring; small = B .small; numbers-long = B .numbers-long; numbers-in = B .in-corners refl }, record { rows = B .rows; columns = B .columns })
+    (record { ring = B .ring; small = omega (arith, B .small); numbers-long = B .numbers-long; numbers-in = B .in-corners refl }, record { rows = B .rows; columns = B .columns })
+
+-- in an outline of as many places
+pub facets-on : {K : Kind} {before n count b room : ℕ} {numbers : List ℕ} {lv lg lc lo lo′ : ℕ} → lo′ ≡ lo → FacetsAsked K before n count b room numbers lv lg lc lo → FacetsAsked K before n count b room numbers lv lg lc lo′
+facets-on {K} {before} {n} {count} {b} {room} {numbers} {lv} {lg} {lc} q A = subst (λ (l : ℕ). FacetsAsked K before n count b room numbers lv lg lc l) (sym q) A
 
 module _ (kind : KindCase) (v before n count b room : ℕ) (numbers verts groups corners : List ℕ) where
   -- those of triangles
@@ -86,6 +90,8 @@ module _ (K : Kind) (v before n count b room : ℕ) (numbers verts groups : List
         a-in = A .sides .first;
         b-in = A .sides .second;
         some = omega arith;
+        behind = omega arith;
+        most = A .most;
         small = F .small;
         below = A .below;
       })

@@ -85,6 +85,7 @@ module _ (K : Kind) (L : Rooms) (k : Counts) (v before n count extra : ℕ) (num
               columns = R .outline;
             };
         here = A .here;
+        most = omega (arith, A .copied-all, A .two, C .particles, R .few-particles);
         rests-in = omega (arith, A .copied-all, A .two, A .points);
         below = A .below;
         corners-in = A .corners-in;

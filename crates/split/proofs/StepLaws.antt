@@ -3,7 +3,7 @@ use Prim.Native.Nat.{ℕ, _+_, _-_, _≤_}
 use native.Mathlib.Omega.{arith}
 use mathlib.Core.Path.{_≡_, refl, sym, _∙_, ap, subst}
 use mathlib.Core.List.{List}
-use lib.ListN.{length}
+use lib.ListN.{length, getD}
 use lib.Ieee.{Float}
 use Rattle.lists.proofs.Stores.{tab-length}
 use Rattle.model.specs.Mesh.{Mesh}
@@ -20,9 +20,10 @@ use Rattle.work.specs.Places.{EndsIn}
 use Rattle.split.specs.Steps.{GrowRoom, grownCounts, GrewTo, GrowthTold, SettledTo, Stepped}
 use Rattle.split.specs.Growing.{StrapsNamed}
 use Rattle.split.specs.Settling.{SettleAsked, SettledFor}
+use Rattle.split.specs.Linking.{FanSound}
 use Rattle.split.proofs.Fitted.{opens-by, tables-fit}
 use Rattle.split.proofs.NamedLaws.{straps-named}
-use Rattle.split.proofs.Longest.{longest-ends}
+use Rattle.split.proofs.Longest.{longest-ends, longest-corners}
 use Rattle.model_laws.proofs.Accepted.{accepted-indexed}
 use Rattle.work.proofs.Placed.{particles-count, triangles-count, edges-count, ends-in, sides-in}
 use Rattle.split.proofs.Stepping.{longestWorld, stepped-lacking, stepped-settled}
@@ -158,6 +159,15 @@ module _ (K : Kind) (L : Rooms) (k : Counts) (points : List Float) (roots corner
         let G = grew (Longest e) T in
         subst (λ (p : ℕ). EndsIn (p + (count - 1)) e ends′) many
         (longest-ends K M v count n groups (F .two) (F .here) (F .groups-long) (F .below) (accepted-indexed M (P .indices)) e ends′ lengths′ (ap (λ (X : Mesh). X .edges) (G .2)))
+
+    -- and so are the corners of the triangles of the fan
+    pub corners-made : (g : Grew) (e : ℕ) → Told g → g ≡ Longest e → FanSound K n numbers corners′
+    unfolding meshAt
+    corners-made g e T′ q z i h =
+        let T : Told (Longest e) = subst Told q T′ in
+        let G = grew (Longest e) T in
+        longest-corners K M v count n groups (F .two) (F .here) (F .groups-long) (F .below) (accepted-indexed M (P .indices)) (k .triangles) corners′ volumes (ap (λ (X : Mesh). X .triangles) (G .2))
+        (omega (arith, many, G .0, P .rooms .few-particles, F .two)) z (getD numbers i 0) (tables-in .in-triangles z i h)
 
     pub all-lacking : (g : Grew) (c extra : ℕ) → Told g → g ≡ Lacking c → Stepped K O L extra (worldAt k points roots corners volumes ends lengths outline log) (λ q. worldAt q points roots corners volumes ends lengths outline log) (Refused c)
     all-lacking g c extra T′ q =

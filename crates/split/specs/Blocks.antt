@@ -9,15 +9,17 @@ use Rattle.mesh.specs.Log.{worldAt}
 use Rattle.mesh.specs.Blocks.{NumbersIn, IndicesIn, Numbers, Indices}
 use Rattle.mesh.specs.declared.Counts.{Counts}
 use Rattle.mesh.specs.declared.Rooms.{Rooms}
-use Rattle.links.specs.Linked.{MeshLinked, LinkedIn}
+use Rattle.links.specs.Linked.{FrontLinked, LinkedIn}
 use Rattle.work.specs.Places.{EndsIn}
 use Rattle.work.specs.declared.Ran.{Ran}
+use Rattle.work.specs.declared.Grown.{Grown}
+use Rattle.boundary.specs.Faces.{GrownLinked}
 use Rattle.split.specs.declared.Grew.{Grew}
 use Rattle.split.specs.Tables.{FanGrouped, FanSided, TablesFit}
 use Rattle.split.specs.Steps.{GrowRoom, GrowthTold}
 use Rattle.split.specs.Growing.{StrapsNamed, ElementsRoom}
-use Rattle.split.specs.Linking.{FanNamed, HeadsRoom, LinkedAfter, LinkedGrown}
-use Rattle.split.specs.Settling.{SettleAsked, SettledFor}
+use Rattle.split.specs.Linking.{FanNamed, HeadsRoom, LinkedAfter, FrontKept, LinkedGrown, LinkedDropped, FanSound, FacetsLinked}
+use Rattle.split.specs.Settling.{BoundaryAsked, BoundaryTold, SettleAsked, SettledFor}
 
 -- ---- the tables of a fan
 
@@ -33,8 +35,15 @@ abbrev pub MaskIn : IndicesIn → Type 0
 MaskIn mask = 2048 ≤ length (now mask)
 
 -- behind a worker that came to r: where it is done, the tables of links are those of the blocks again
-abbrev pub LinkedBehind : Kind → Indices → Indices → Indices → Ran → Type 0
-LinkedBehind K corners ends links r = LinkedAfter K (now (corners .exit)) (now (ends .exit)) (now (links .exit)) r
+abbrev pub LinkedBehind : Kind → Indices → Indices → Indices → Indices → Ran → Type 0
+LinkedBehind K corners ends outline links r = LinkedAfter K (now (corners .exit)) (now (ends .exit)) (now (outline .exit)) (now (links .exit)) r
+
+-- the front of the tables of links is that of the blocks; and behind a worker it is that again, and the boundary's part is as it was
+abbrev pub FrontIn : Kind → Counts → IndicesIn → IndicesIn → IndicesIn → Type 0
+FrontIn K k corners ends links = FrontLinked K (k .triangles) (k .edges) (now corners) (now ends) (now links)
+
+abbrev pub FrontBehind : Kind → ℕ → ℕ → Indices → Indices → Indices → Type 0
+FrontBehind K t e corners ends links = FrontKept K t e (now (corners .exit)) (now (ends .exit)) (now (links .entry)) (now (links .exit))
 
 -- ---- parts 1 to 3
 
@@ -42,7 +51,7 @@ LinkedBehind K corners ends links r = LinkedAfter K (now (corners .exit)) (now (
 abbrev pub ElementsIn : Kind → ℕ → ℕ → ℕ → ℕ → ℕ → IndicesIn → IndicesIn → IndicesIn → IndicesIn → IndicesIn → Type 0
 ElementsIn K v before t e n numbers groups corners ends links =
     ElementsRoom K before n (length (now corners)) e (now numbers) (now groups)
-    × MeshLinked K t e (now corners) (now ends) (now links)
+    × FrontLinked K t e (now corners) (now ends) (now links)
     × FanNamed K v before t n (now numbers) (now corners)
     × HeadsRoom v before t n (length (now corners)) (now groups)
     × EndsIn before e (now ends)
@@ -55,7 +64,7 @@ GrowIn K L k v n count numbers verts measures groups points roots corners ends l
     × TablesFit K (k .particles) (k .triangles) (k .edges) v n count (now numbers) (now verts) (now measures) (now groups)
     × EndsIn (k .particles) (k .edges) (now ends)
     × StrapsNamed K v n (now numbers) (now ends)
-    × LinkedIn K k corners ends links
+    × FrontIn K k corners ends links
     × FanNamed K v (k .particles) (k .triangles) n (now numbers) (now corners)
     × MaskIn list
 
@@ -65,16 +74,33 @@ GrewIn K L k v n count numbers verts measures groups points roots corners ends l
     GrowthTold K L k v n count (now (numbers .entry)) (now (verts .entry)) (now (measures .entry)) (now (groups .entry))
     (λ q volumes outline. meshAt q (now (points .entry)) (now (roots .entry)) (now (corners .entry)) volumes (now (ends .entry)) (now (lengths .entry)) outline)
     (λ q volumes outline. meshAt q (now (points .exit)) (now (roots .exit)) (now (corners .exit)) volumes (now (ends .exit)) (now (lengths .exit)) outline) r
-    × LinkedGrown K (k .triangles) (now (corners .exit)) (now (ends .exit)) (now (links .exit)) r
+    × LinkedGrown K (k .triangles) (now (corners .exit)) (now (ends .exit)) (now (links .entry)) (now (links .exit)) r
 
 -- ---- parts 4 to 6
+
+-- what the boundary asks, with its table, and a list for its entries at v; and what becomes of it
+abbrev pub OpenIn : Kind → ℕ → ℕ → ℕ → ℕ → ℕ → ℕ → IndicesIn → IndicesIn → IndicesIn → NumbersIn → IndicesIn → IndicesIn → IndicesIn → IndicesIn → Type 0
+OpenIn K v before n count b room numbers verts groups points corners outline table list =
+    BoundaryAsked K v before n count b room (now numbers) (now verts) (now groups) (length (now points)) (length (now corners)) (now outline)
+    × FacetsLinked K n b room (now numbers) (now corners) (now outline) (now table)
+    × MaskIn list
+
+abbrev pub OpenedIn : Kind → ℕ → ℕ → ℕ → ℕ → ℕ → ℕ → Indices → Indices → Indices → Numbers → Indices → Indices → Indices → Grown → Type 0
+OpenedIn K v before n count b room numbers verts groups points corners outline table r =
+    BoundaryTold K v before n count b room (now (numbers .entry)) (now (verts .entry)) (now (groups .entry)) (now (points .entry)) (now (corners .entry)) (now (outline .entry)) (now (outline .exit)) r
+    × GrownLinked r (now (outline .exit)) (now (table .exit))
+
+-- behind the removal of straddlers, with so many boundary entries
+abbrev pub DroppedBehind : Kind → ℕ → Indices → Indices → Indices → Ran → Type 0
+DroppedBehind K rows corners ends links r = LinkedDropped K rows (now (corners .exit)) (now (ends .exit)) (now (links .entry)) (now (links .exit)) r
 
 -- the blocks have room, the tables hold a split of v, of which parts 1 to 3 are done, and the links are those of the block
 abbrev pub SettleIn : Kind → Rooms → Counts → ℕ → ℕ → ℕ → ℕ → ℕ → IndicesIn → IndicesIn → IndicesIn → NumbersIn → IndicesIn → NumbersIn → IndicesIn → NumbersIn → IndicesIn → IndicesIn → IndicesIn → IndicesIn → Type 0
 SettleIn K L k v before n count extra numbers verts groups points corners volumes ends lengths outline log mask links =
     SettleAsked K L k v before n count extra (now numbers) (now verts) (now groups) (length (now points)) (length (now corners)) (length (now volumes)) (now ends) (length (now lengths)) (now outline) (length (now log))
     × MaskIn mask
-    × LinkedIn K k corners ends links
+    × LinkedIn K k corners ends outline links
+    × FanSound K n (now numbers) (now corners)
 
 -- what they came to, whatever stands in the block of roots
 abbrev pub SettledIn : Kind → Rooms → ℕ → ℕ → ℕ → ℕ → ℕ → Counts → Indices → Indices → Indices → Numbers → Indices → Numbers → Indices → Numbers → Indices → Indices → Indices → Ran → Type 0
@@ -82,4 +108,4 @@ SettledIn K L extra v before n count k numbers verts groups points corners volum
     SettledFor K L extra v before n count (now (numbers .entry)) (now (verts .entry)) (now (groups .entry))
     (λ roots. worldAt k (now (points .entry)) roots (now (corners .entry)) (now (volumes .entry)) (now (ends .entry)) (now (lengths .entry)) (now (outline .entry)) (now (log .entry)))
     (λ roots q. worldAt q (now (points .exit)) roots (now (corners .exit)) (now (volumes .exit)) (now (ends .exit)) (now (lengths .exit)) (now (outline .exit)) (now (log .exit))) r
-    × LinkedBehind K corners ends links r
+    × LinkedBehind K corners ends outline links r

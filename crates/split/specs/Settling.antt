@@ -3,7 +3,7 @@ use Prim.Native.Nat.{ℕ, _+_, _-_, _/_, _<_, _≤_}
 use mathlib.Core.Path.{_≡_}
 use mathlib.Core.Bool.{not}
 use mathlib.Core.List.{List, map, _++_}
-use lib.ListN.{length, getD}
+use lib.ListN.{length, getD, take}
 use lib.Ieee.{Float}
 use Rattle.lists.specs.Lists.{sift, upTo}
 use Rattle.model.specs.Mesh.{Edge, Mesh}
@@ -21,7 +21,7 @@ use Rattle.work.specs.declared.Grown.{Grown}
 use Rattle.work.specs.Places.{EndsIn, SidesIn}
 use Rattle.split.specs.Steps.{loggedOf, SettlingTold}
 use Rattle.work.specs.Working.{SettleRoom}
-use Rattle.work.specs.Removal.{markedOf, goneWords, NoteRoom}
+use Rattle.work.specs.Removal.{goneWords, ListNoteRoom}
 use Rattle.work.specs.declared.Ran.{Ran}
 use Rattle.work.specs.declared.Ran.the-variants.{Refused, Done}
 
@@ -41,7 +41,7 @@ pub record BoundaryIn (K : Kind) (O : Opening) (M : Mesh) (t : ℕ) (volumes : L
 -- what the facets ask: tables that fit, triangles that the corners hold, and b entries within the room
 pub record FacetsAsked (K : Kind) (before n count b room : ℕ) (numbers : List ℕ) (lv lg lc lo : ℕ) : Type 0 where
   pub ring : RingRoom n (cornersPer K) lv lg
-  pub small : before + count ≤ 65536
+  pub small : before + count ≤ 1025
   pub numbers-long : n ≤ length numbers
   pub in-corners : K ≡ Triangles → (i : ℕ) → i < n → getD numbers i 0 < lc / 3
   pub rows : b ≤ room
@@ -57,6 +57,7 @@ pub record FacetsTold (K : Kind) (v before n count b room : ℕ) (numbers verts 
 pub record BoundaryAsked (K : Kind) (v before n count b room : ℕ) (numbers verts groups : List ℕ) (lp lc : ℕ) (outline : List ℕ) : Type 0 where
   pub facets : FacetsAsked K before n count b room numbers (length verts) (length groups) lc (length outline)
   pub here : v < before
+  pub most : before ≤ 1024
   pub rests-in : before ≤ lp / pointColumns
   pub below : (i : ℕ) → i < n → getD groups i 0 < count
   pub corners-in : CornersBelow before n (cornersPer K) verts
@@ -78,16 +79,16 @@ copyWords v before g = record { kind = 1; a = before + g; b = v; p = 0; q = 0; t
 pub record CopiesNoted (v before m at : ℕ) (log log′ : List ℕ) : Type 0 where
   pub noted : logAt (at + m) log′ ≡ logAt at log ++ map (copyWords v before) (upTo m)
 
--- what noting m copies and then the marked among e edges asks
-pub record SplitAsked (v before m at e : ℕ) (mask ends : List ℕ) (lg : ℕ) : Type 0 where
+-- what noting m copies and then s listed edges asks
+pub record SplitAsked (v before m at s : ℕ) (list ends : List ℕ) (lg : ℕ) : Type 0 where
   pub here : v < before
   pub small : before + m ≤ 65536
-  pub marked : NoteRoom mask e (at + m) ends lg
+  pub listed : ListNoteRoom list s (at + m) ends lg
 
--- the copies and then the marked edges are noted, and the log has r entries
-pub record SplitNoted (v before m at e : ℕ) (mask ends log log′ : List ℕ) (r : ℕ) : Type 0 where
-  pub count : r ≡ at + m + length (markedOf mask e)
-  pub entries : logAt r log′ ≡ logAt at log ++ (map (copyWords v before) (upTo m) ++ map (goneWords ends) (markedOf mask e))
+-- the copies and then the listed edges are noted, and the log has r entries
+pub record SplitNoted (v before m at s : ℕ) (list ends log log′ : List ℕ) (r : ℕ) : Type 0 where
+  pub count : r ≡ at + m + s
+  pub entries : logAt r log′ ≡ logAt at log ++ (map (copyWords v before) (upTo m) ++ map (goneWords ends) (take s list))
 
 -- ---- 4: straddlers, with the log of the split
 

@@ -3,14 +3,14 @@ ghost use Prim.Native.Nat.{_<_};
 ghost use lib.ListN.{length};
 ghost use Rattle.elements.specs.Table.{kindIs};
 ghost use Rattle.model.specs.Elements.{cornersPer};
-ghost use Rattle.links.specs.Linked.{MeshLinked};
+ghost use Rattle.links.specs.Linked.{FrontLinked};
 ghost use Rattle.split.specs.Tables.{FanLent, FanTables, SidesLent, GroupsFound};
 use elements::Kind;
 
 // The elements of a fan that the small tables of a split hold, and their corners.
-pub const FEW: usize = 32;
+pub const FEW: usize = 16;
 
-pub const FEW_CORNERS: usize = 96;
+pub const FEW_CORNERS: usize = 48;
 
 // The elements of any fan, and their corners.
 pub const MANY: usize = 2048;
@@ -33,7 +33,7 @@ pub fn fan_tables(
     links: &[u16],
 ) -> usize
     requires { ⌜ FanLent t e (length (now corners)) (length (now volumes)) (length (now ends)) (length (now lengths))
-        × MeshLinked (kindIs kind) t e (now corners) (now ends) (now links) × (v < 1024) ⌝ }
+        × FrontLinked (kindIs kind) t e (now corners) (now ends) (now links) × (v < 1024) ⌝ }
     ensures { λ r. ⌜ FanTables (kindIs kind) v t e (now (corners .entry)) (now (volumes .entry)) (now (ends .entry))
         (now (lengths .entry)) r (now (numbers .exit)) (now (verts .exit)) (now (measures .exit)) ⌝ }
 {

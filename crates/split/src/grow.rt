@@ -5,11 +5,10 @@ ghost use Rattle.columns.specs.Block.{cell};
 ghost use Rattle.elements.specs.Table.{kindIs};
 ghost use Rattle.links.specs.Links.{LinksOf};
 ghost use Rattle.link_splits.specs.Splits.{SplitRoom};
-ghost use Rattle.links.specs.Linked.{MeshLinked};
 ghost use Rattle.rewire.specs.Stages.{TrianglesRewired};
 ghost use Rattle.rewire.specs.Parts.{PartsRoom};
 ghost use Rattle.split.specs.Growing.{ElementsRewired, ShareRoom, SharedOut};
-ghost use Rattle.split.specs.Blocks.{ElementsIn, GrowIn, GrewIn};
+ghost use Rattle.split.specs.Blocks.{ElementsIn, FrontBehind, GrowIn, GrewIn};
 use crate::Grew;
 use elements::Kind;
 use mesh::Counts;
@@ -66,8 +65,7 @@ fn rewire_elements(
 )
     requires { ⌜ ElementsIn (kindIs kind) v before t e n numbers groups corners ends links ⌝ }
     ensures { λ _. ⌜ ElementsRewired (kindIs kind) v before n (now (numbers .entry)) (now (groups .entry)) (now (corners .entry))
-        (now (corners .exit)) (now (ends .entry)) (now (ends .exit)) × MeshLinked (kindIs kind) t e (now (corners .exit)) (now (ends .exit))
-        (now (links .exit)) ⌝ }
+        (now (corners .exit)) (now (ends .entry)) (now (ends .exit)) × FrontBehind (kindIs kind) t e corners ends links ⌝ }
 {
     match kind {
         Kind::Triangles => {
@@ -91,7 +89,7 @@ fn rewire_elements(
                 numbers,
                 groups,
                 ends,
-                &mut links[4096..],
+                &mut links[4096..9216],
             );
         }
         Kind::Nothing => {}
@@ -175,7 +173,7 @@ pub fn grow(
         points,
         ends,
         lengths,
-        &mut links[4096..],
+        &mut links[4096..9216],
         list,
     );
     let Grown::Rows(m) = grown else {

@@ -4,17 +4,17 @@ ghost use Prim.Native.Nat.{_+_, _/_, _<_, _≤_};
 ghost use lib.ListN.{length};
 ghost use lib.Dec.{leb};
 ghost use Rattle.elements.specs.Table.{kindIs};
-ghost use Rattle.links.specs.Linked.{LinkedIn};
-ghost use Rattle.work.specs.Removal.{markedOf};
-ghost use Rattle.split.specs.Settling.{FacetsAsked, FacetsTold, BoundaryAsked, BoundaryTold, CopiesNoted, SplitAsked, SplitNoted, DropAsked, Dropped};
-ghost use Rattle.split.specs.Blocks.{MaskIn, SettleIn, SettledIn, LinkedBehind};
+ghost use Rattle.boundary.specs.Faces.{GrownLinked};
+ghost use Rattle.split.specs.Settling.{FacetsAsked, FacetsTold, CopiesNoted, SplitAsked, SplitNoted, DropAsked, Dropped};
+ghost use Rattle.split.specs.Linking.{FacetsLinked};
+ghost use Rattle.split.specs.Blocks.{MaskIn, FrontIn, OpenIn, OpenedIn, DroppedBehind, SettleIn, SettledIn};
 use elements::Kind;
 use mesh::Counts;
 use mesh::Rooms;
 use work::Grown;
 use work::Ran;
 
-// Where the elements are triangles, appends the crack facets to the b entries of the outline.
+// Where the elements are triangles, appends the crack facets to the b entries of the outline, and to their table.
 fn open_facets(
     kind: Kind,
     v: usize,
@@ -28,11 +28,12 @@ fn open_facets(
     groups: &[usize],
     corners: &[usize],
     outline: &mut [usize],
+    table: &mut [u16],
 ) -> Grown
-    requires { ⌜ FacetsAsked (kindIs kind) before n count b room (now numbers) (length (now verts)) (length (now groups))
-        (length (now corners)) (length (now outline)) ⌝ }
+    requires { ⌜ (let K = kindIs kind in FacetsAsked K before n count b room (now numbers) (length (now verts)) (length (now groups))
+        (length (now corners)) (length (now outline)) × FacetsLinked K n b room (now numbers) (now corners) (now outline) (now table)) ⌝ }
     ensures { λ r. ⌜ FacetsTold (kindIs kind) v before n count b room (now (numbers .entry)) (now (verts .entry)) (now (groups .entry))
-        (now (corners .entry)) (now (outline .entry)) (now (outline .exit)) r ⌝ }
+        (now (corners .entry)) (now (outline .entry)) (now (outline .exit)) r × GrownLinked r (now (outline .exit)) (now (table .exit)) ⌝ }
 {
     match kind {
         Kind::Triangles => boundary::facets::crack_facets(
@@ -47,13 +48,14 @@ fn open_facets(
             groups,
             corners,
             outline,
+            table,
         ),
         Kind::Straps => Grown::Rows(b),
         Kind::Nothing => Grown::Rows(b),
     }
 }
 
-// The b entries of the outline follow their groups, and the crack facets are appended.
+// The b entries of the outline follow their groups, and the crack facets are appended; the table is kept true. The list is lent for the entries at v.
 fn open_boundary(
     kind: Kind,
     v: usize,
@@ -68,11 +70,11 @@ fn open_boundary(
     points: &[f32],
     corners: &[usize],
     outline: &mut [usize],
+    table: &mut [u16],
+    list: &mut [usize],
 ) -> Grown
-    requires { ⌜ BoundaryAsked (kindIs kind) v before n count b room (now numbers) (now verts) (now groups) (length (now points))
-        (length (now corners)) (now outline) ⌝ }
-    ensures { λ r. ⌜ BoundaryTold (kindIs kind) v before n count b room (now (numbers .entry)) (now (verts .entry)) (now (groups .entry))
-        (now (points .entry)) (now (corners .entry)) (now (outline .entry)) (now (outline .exit)) r ⌝ }
+    requires { ⌜ OpenIn (kindIs kind) v before n count b room numbers verts groups points corners outline table list ⌝ }
+    ensures { λ r. ⌜ OpenedIn (kindIs kind) v before n count b room numbers verts groups points corners outline table r ⌝ }
 {
     let k = elements::corners_per(kind);
     boundary::entries::follow_boundary(
@@ -87,6 +89,8 @@ fn open_boundary(
         groups,
         points,
         outline,
+        table,
+        list,
     );
     open_facets(
         kind,
@@ -101,6 +105,7 @@ fn open_boundary(
         groups,
         corners,
         outline,
+        table,
     )
 }
 
@@ -127,26 +132,25 @@ fn note_copies(v: usize, before: usize, m: usize, at: usize, log: &mut [u32])
     }
 }
 
-// Notes m copies of v and then the s marked edges; returns how many entries there are.
+// Notes m copies of v and then the s listed edges; returns how many entries there are.
 fn note_split(
     v: usize,
     before: usize,
     m: usize,
     at: usize,
-    e: usize,
     s: usize,
-    mask: &[usize],
+    list: &[usize],
     ends: &[usize],
     log: &mut [u32],
 ) -> usize
-    requires { ⌜ SplitAsked v before m at e (now mask) (now ends) (length (now log)) × (s ≡ length (markedOf (now mask) e)) ⌝ }
-    ensures { λ r. ⌜ SplitNoted v before m at e (now (mask .entry)) (now (ends .entry)) (now (log .entry)) (now (log .exit)) r ⌝ }
+    requires { ⌜ SplitAsked v before m at s (now list) (now ends) (length (now log)) ⌝ }
+    ensures { λ r. ⌜ SplitNoted v before m at s (now (list .entry)) (now (ends .entry)) (now (log .entry)) (now (log .exit)) r ⌝ }
 {
     note_copies(v, before, m, at, log);
-    work::removal::note_marked(mask, e, s, at + m, ends, log)
+    work::removal::note_listed(list, s, at + m, ends, log)
 }
 
-// The straddlers go, and the log tells of the split, if it has room for that and for `extra` entries more; `rows` boundary entries are there by now. The mask is lent to mark them in, and the tables link the triangles and the edges.
+// The straddlers go, and the log tells of the split, if it has room for that and for `extra` entries more; `rows` boundary entries are there by now. They are listed in the list that is lent, and the tables link the triangles and the edges.
 fn drop_straddlers(
     kind: Kind,
     v: usize,
@@ -163,17 +167,17 @@ fn drop_straddlers(
     ends: &mut [usize],
     lengths: &mut [f32],
     log: &mut [u32],
-    mask: &mut [usize],
+    list: &mut [usize],
     links: &mut [u16],
 ) -> Ran
     requires { ⌜ DropAsked (kindIs kind) room k v before n count extra (length (now verts)) (length (now groups)) (length (now corners))
-        (now ends) (length (now lengths)) (length (now log)) × MaskIn mask × LinkedIn (kindIs kind) k corners ends links ⌝ }
+        (now ends) (length (now lengths)) (length (now log)) × MaskIn list × FrontIn (kindIs kind) k corners ends links ⌝ }
     ensures { λ r. ⌜ Dropped (kindIs kind) room k v before n count extra rows (now (verts .entry)) (now (groups .entry))
         (now (corners .entry)) (now (ends .entry)) (now (ends .exit)) (now (lengths .entry)) (now (lengths .exit)) (now (log .entry))
-        (now (log .exit)) r × LinkedBehind (kindIs kind) corners ends links r ⌝ }
+        (now (log .exit)) r × DroppedBehind (kindIs kind) rows corners ends links r ⌝ }
 {
     let shared = &links[..];
-    let s = straddling::mark_straddlers(
+    let s = straddling::list_straddlers(
         kind,
         v,
         before,
@@ -187,14 +191,14 @@ fn drop_straddlers(
         ends,
         shared,
         &shared[4096..],
-        mask,
+        list,
     );
     let m = count - 1;
     if !log_fits(room.log - k.log, m, s, extra) {
         return Ran::Refused(8);
     }
-    let entries = note_split(v, before, m, k.log, k.edges, s, mask, ends, log);
-    let left = edge_drops::drop_marked(mask, k.edges, s, ends, lengths, &mut links[4096..]);
+    let entries = note_split(v, before, m, k.log, s, list, ends, log);
+    let left = edge_drops::drop_listed(list, k.edges, s, ends, lengths, &mut links[4096..9216]);
     Ran::Done(Counts {
         particles: k.particles,
         triangles: k.triangles,
@@ -246,6 +250,8 @@ pub fn settle(
         points,
         corners,
         outline,
+        &mut links[9216..],
+        mask,
     );
     let Grown::Rows(rows) = grown else {
         return Ran::Refused(7);

@@ -51,9 +51,9 @@ pub fn split_opened(
 ) -> Ran
     requires { ⌜ (let K = kindIs kind in ReadyIn room k points roots corners volumes ends lengths outline log
         × GroupedIn K (meshIn k points roots corners volumes ends lengths outline) v n count numbers verts measures groups × (extra ≤ 1)
-        × MaskIn mask × LinkedIn K k corners ends links) ⌝ }
+        × MaskIn mask × LinkedIn K k corners ends outline links) ⌝ }
     ensures { λ r. ⌜ (let K = kindIs kind in OverBlocks (λ M W at. Stepped K (openedBy K M v n count (now (groups .entry))) room extra
-        W at r) k points roots corners volumes ends lengths outline log × LinkedBehind K corners ends links r) ⌝ }
+        W at r) k points roots corners volumes ends lengths outline log × LinkedBehind K corners ends outline links r) ⌝ }
 {
     let before = k.particles;
     let t = k.triangles;
@@ -148,9 +148,9 @@ pub fn split_tabled(
 ) -> Ran
     requires { ⌜ (let K = kindIs kind in ReadyIn room k points roots corners volumes ends lengths outline log
         × SidedIn K (meshIn k points roots corners volumes ends lengths outline) v n numbers verts measures sides
-        × (n ≤ length (now groups)) × MaskIn list × LinkedIn K k corners ends links) ⌝ }
+        × (n ≤ length (now groups)) × MaskIn list × LinkedIn K k corners ends outline links) ⌝ }
     ensures { λ r. ⌜ (let K = kindIs kind in WorksIn (splitBySides K v (take n (now (sides .entry)))) room k points roots corners volumes
-        ends lengths outline log r × LinkedBehind K corners ends links r) ⌝ }
+        ends lengths outline log r × LinkedBehind K corners ends outline links r) ⌝ }
 {
     let count = crate::fans::group_fan(kind, v, n, verts, sides, groups);
     if count < 2 {
@@ -204,7 +204,7 @@ fn split_many(
 ) -> Ran
     requires { ⌜ (let K = kindIs kind in ReadyIn room k points roots corners volumes ends lengths outline log
         × SidesGiven K (meshIn k points roots corners volumes ends lengths outline) v (now sides) × MaskIn list
-        × LinkedIn K k corners ends links) ⌝ }
+        × LinkedIn K k corners ends outline links) ⌝ }
     ensures { λ r. ⌜ WorksIn (splitBySides (kindIs kind) v (now (sides .entry))) room k points roots corners volumes ends lengths outline
         log r ⌝ }
 {
@@ -270,7 +270,7 @@ fn split_few(
 ) -> Ran
     requires { ⌜ (let K = kindIs kind in ReadyIn room k points roots corners volumes ends lengths outline log
         × SidesGiven K (meshIn k points roots corners volumes ends lengths outline) v (now sides) × MaskIn list
-        × LinkedIn K k corners ends links) ⌝ }
+        × LinkedIn K k corners ends outline links) ⌝ }
     ensures { λ r. ⌜ WorksIn (splitBySides (kindIs kind) v (now (sides .entry))) room k points roots corners volumes ends lengths outline
         log r ⌝ }
 {
@@ -360,8 +360,17 @@ fn split_fan(
         return Ran::Done(k);
     }
     let mut list = [0usize; 2048];
-    let mut links = [0u16; 9216];
-    links::link_mesh(kind, k.triangles, k.edges, corners, ends, &mut links);
+    let mut links = [0u16; links::PLACES];
+    links::link_mesh(
+        kind,
+        k.triangles,
+        k.edges,
+        k.boundary,
+        corners,
+        ends,
+        outline,
+        &mut links,
+    );
     split_few(
         kind,
         v,

@@ -105,7 +105,7 @@ module _ (K : Kind) (k : Counts) (points : List Float) (roots corners : List ℕ
   unfolding goneOf meshAt
   gone-is =
       ap (λ (l : List Element). map wordsOf (goneEntries (across? K l (bodyLabels l)) (M₀ .edges))) same-elements
-      ∙ gone-words (across? K es (bodyLabels es)) edge-mask ends lengths (k .edges) edge-mark
+      ∙ gone-words (across? K es (bodyLabels es)) ends lengths edge-mask (k .edges) edge-mark
 
   module _ (L : Rooms) (W : Within k L) (R : Run) (X : worldAt k points roots corners volumes ends lengths outline log ≡ worldOf (R .mesh) (R .log)) where
     -- the run that the blocks hold

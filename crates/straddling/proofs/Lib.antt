@@ -1,4 +1,5 @@
 -- Laws of straddlers.
 pub mod HeldLaws
 pub mod StraddlerLaws
-pub mod MarkLaws
+pub mod PutLaws
+pub mod ListLaws

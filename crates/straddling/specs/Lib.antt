@@ -1,3 +1,4 @@
--- Straddlers: what their tests and marks ask and give.
+-- Straddlers: what their tests and their list ask and give.
 pub mod Tests
-pub mod Marks
+pub mod Putting
+pub mod Listing

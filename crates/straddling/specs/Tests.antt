@@ -1,14 +1,15 @@
 -- What the tests of straddlers ask and give: helper records that only proofs and contracts between workers need. Definitions only.
 use Prim.Native.Nat.{ℕ, _+_, _*_, _-_, _/_, _<_, _≤_}
 use mathlib.Core.Path.{_≡_}
-use mathlib.Core.Bool.{Bool, not, _&&_}
+use mathlib.Core.Bool.{Bool, _&&_}
 use mathlib.Core.List.{List, [], _∷_, map}
-use lib.ListN.{length, getD}
+use lib.ListN.{length, getD, take}
 use lib.Ieee.{Float}
 use lib.Dec.{eqb}
-use Rattle.lists.specs.Lists.{pick, stands, upTo, sift, keep}
+use Rattle.lists.specs.Lists.{stands, upTo, sift}
+use Rattle.lists.specs.LeftOut.{Rising}
 use Rattle.columns.specs.Block.{cell}
-use Rattle.model.specs.Mesh.{Edge, Mesh}
+use Rattle.model.specs.Mesh.{Mesh}
 use Rattle.model.specs.Elements.{Kind, held, cornersPer}
 use Rattle.model.specs.Split.{Opening, straddles}
 use Rattle.mesh.specs.At.{edgesAt, trianglesAt}
@@ -91,12 +92,10 @@ pub record StraddleTold (K : Kind) (i v before n count t e : ℕ) (verts groups 
       (O : Opening) (M : Mesh) (volumes lengths : List Float) → Straddling K O M v before n count t e verts groups corners volumes ends lengths
       → r ≡ straddles K M O (rowAt ends lengths i)
 
--- the mask marks the straddlers among the first e edges, and r of them are marked
-pub record StraddlersMarked (K : Kind) (v before n count t e : ℕ) (verts groups corners ends mask′ : List ℕ) (r : ℕ) : Type 0 where
-  pub marks :
+-- the first r places of the list are the straddlers among the first e edges, in their order; whatever opening there is, the list rises and names edges
+pub record StraddlersListed (K : Kind) (v before n count t e : ℕ) (verts groups corners ends list′ : List ℕ) (r : ℕ) : Type 0 where
+  pub few : r ≤ e
+  pub rising : Rising list′ r e
+  pub listed :
       (O : Opening) (M : Mesh) (volumes lengths : List Float) → Straddling K O M v before n count t e verts groups corners volumes ends lengths
-      → (i : ℕ) → i < e → getD mask′ i 0 ≡ pick (straddles K M O (rowAt ends lengths i)) 1 0
-  pub kept :
-      (O : Opening) (M : Mesh) (volumes lengths : List Float) → Straddling K O M v before n count t e verts groups corners volumes ends lengths
-      → keep mask′ (edgesAt e ends lengths) ≡ sift (λ (a : Edge). not (straddles K M O a)) (edgesAt e ends lengths)
-  pub counted : r ≡ length (sift (λ i. eqb (getD mask′ i 0) 1) (upTo e))
+      → take r list′ ≡ sift (λ i. straddles K M O (rowAt ends lengths i)) (upTo e)

@@ -1,4 +1,4 @@
-// Straddlers: edges between two neighbours of v with no common group, which no element holds.
+// Straddlers: edges between two neighbours of v with no common group, which no element holds. They are listed, rising.
 ghost use mathlib.Core.Path.{_≡_};
 ghost use Prim.Native.Nat.{_<_, _≤_};
 ghost use lib.ListN.{length};
@@ -6,11 +6,21 @@ ghost use Rattle.lists.specs.Lists.{stands};
 ghost use Rattle.elements.specs.Table.{kindIs};
 ghost use Rattle.links.specs.Linked.{Linked, EdgesLinked};
 ghost use Rattle.work.specs.Places.{EndsIn};
-ghost use Rattle.straddling.specs.Tests.{copiesBy, StraddleRoom, NearMarked, NearRoom, StraddleTold, StraddlersMarked};
-ghost use Rattle.straddling.specs.Marks.{MarkRoom, EdgeMarked, EdgesMarked};
+ghost use Rattle.straddling.specs.Tests.{copiesBy, StraddleRoom, NearMarked, NearRoom, StraddleTold, StraddlersListed};
+ghost use Rattle.straddling.specs.Listing.{ListRoom, EdgeListed, EdgesListed};
 use elements::Kind;
 
 pub mod held;
+pub mod rising;
+
+// The split whose straddlers are looked for: of particle v among elements of a kind, whose fan has n parts in `count` groups; there were `before` particles before its copies.
+pub struct Split {
+    kind: Kind,
+    v: usize,
+    before: usize,
+    n: usize,
+    count: usize,
+}
 
 // Is w v or one of its copies?
 fn is_copy(w: usize, v: usize, before: usize, count: usize) -> bool
@@ -136,16 +146,12 @@ fn near_straddles(
     )
 }
 
-// Marks edge i of the first e if x is its first end and it straddles; r are marked before, and as many as is returned behind it.
-fn mark_edge(
+// Puts edge i of the first e into the list of r straddlers if x is its first end and it straddles; returns how many are listed.
+fn list_edge(
     x: usize,
     i: usize,
     r: usize,
-    kind: Kind,
-    v: usize,
-    before: usize,
-    n: usize,
-    count: usize,
+    of: Split,
     t: usize,
     e: usize,
     verts: &[usize],
@@ -155,26 +161,24 @@ fn mark_edge(
     links: &[u16],
     table: &[u16],
     near: &[u8],
-    mask: &mut [usize],
+    list: &mut [usize],
 ) -> usize
-    requires { ⌜ MarkRoom (kindIs kind) v before n count t e (now verts) (now groups) (now corners) (now ends) (now links) (now near)
-        (now mask) r × (i < e) × EdgesLinked e (now ends) (now table) ⌝ }
-    ensures { λ q. ⌜ EdgeMarked (kindIs kind) v before n count t e (now (verts .entry)) (now (groups .entry)) (now (corners .entry))
-        (now (ends .entry)) x i (now (mask .entry)) (now (mask .exit)) q ⌝ }
+    requires { ⌜ ListRoom (kindIs (of .kind)) (of .v) (of .before) (of .n) (of .count) t e (now verts) (now groups) (now corners) (now ends)
+        (now links) (now near) (now list) r × (i < e) × EdgesLinked e (now ends) (now table) ⌝ }
+    ensures { λ q. ⌜ EdgeListed (kindIs (of .kind)) (of .v) (of .before) (of .n) (of .count) t e (now (verts .entry)) (now (groups .entry))
+        (now (corners .entry)) (now (ends .entry)) x i (now (list .entry)) r (now (list .exit)) q ⌝ }
 {
     if ends[i] != x {
         return r;
     }
-    if mask[i] == 1 {
-        return r;
-    }
+    let kind = of.kind;
     if !near_straddles(
         kind,
         i,
-        v,
-        before,
-        n,
-        count,
+        of.v,
+        of.before,
+        of.n,
+        of.count,
         t,
         e,
         verts,
@@ -187,19 +191,14 @@ fn mark_edge(
     ) {
         return r;
     }
-    mask[i] = 1;
-    r + 1
+    crate::rising::put_rising(i, r, list)
 }
 
-// Marks the straddlers whose first end is x, which the table of the edges has at x. None ends at v, and what is no particle has no edge.
-fn mark_edges_at(
+// Lists the straddlers whose first end is x, which the table of the edges has at x, beside the r that are there. None ends at v, and what is no particle has no edge.
+fn list_edges_at(
     x: usize,
     r: usize,
-    kind: Kind,
-    v: usize,
-    before: usize,
-    n: usize,
-    count: usize,
+    of: Split,
     t: usize,
     e: usize,
     verts: &[usize],
@@ -209,33 +208,29 @@ fn mark_edges_at(
     links: &[u16],
     table: &[u16],
     near: &[u8],
-    mask: &mut [usize],
+    list: &mut [usize],
 ) -> usize
-    requires { ⌜ MarkRoom (kindIs kind) v before n count t e (now verts) (now groups) (now corners) (now ends) (now links) (now near)
-        (now mask) r × EdgesLinked e (now ends) (now table) ⌝ }
-    ensures { λ q. ⌜ EdgesMarked (kindIs kind) v before n count t e (now (verts .entry)) (now (groups .entry)) (now (corners .entry))
-        (now (ends .entry)) x (now (mask .entry)) (now (mask .exit)) q ⌝ }
+    requires { ⌜ ListRoom (kindIs (of .kind)) (of .v) (of .before) (of .n) (of .count) t e (now verts) (now groups) (now corners) (now ends)
+        (now links) (now near) (now list) r × EdgesLinked e (now ends) (now table) ⌝ }
+    ensures { λ q. ⌜ EdgesListed (kindIs (of .kind)) (of .v) (of .before) (of .n) (of .count) t e (now (verts .entry)) (now (groups .entry))
+        (now (corners .entry)) (now (ends .entry)) x (now (list .entry)) r (now (list .exit)) q ⌝ }
 {
-    if x == v {
+    if x == of.v {
         return r;
     }
     if x >= 1024 {
         return r;
     }
     let rows = ends.len() / 4;
-    let mut marked = r;
+    let mut listed = r;
     let mut at = links::first_at(x, table);
     while at > 0 {
         let i = at - 1;
-        marked = mark_edge(
+        listed = list_edge(
             x,
             i,
-            marked,
-            kind,
-            v,
-            before,
-            n,
-            count,
+            listed,
+            of,
             t,
             e,
             verts,
@@ -245,16 +240,16 @@ fn mark_edges_at(
             links,
             table,
             near,
-            mask,
+            list,
         );
         at = links::next_at(x, i, 2, 1024, 2048, rows, ends, table);
     }
-    marked
+    listed
 }
 
-// Marks the straddlers among the first e edges with 1, the others with 0; returns how many straddle. The one table links the t triangles, the other the e edges.
-// Both ends of a straddler are corners of the fan, so the edges at these are walked, and no others.
-pub fn mark_straddlers(
+// Lists the straddlers among the first e edges, rising, in the front of the list; returns how many there are. The one table links the t triangles, the other the e edges.
+// Both ends of a straddler are corners of the fan, so the edges at these are walked, and no others; a particle is a corner of several parts, so an edge may be met again.
+pub fn list_straddlers(
     kind: Kind,
     v: usize,
     before: usize,
@@ -268,29 +263,31 @@ pub fn mark_straddlers(
     ends: &[usize],
     links: &[u16],
     table: &[u16],
-    mask: &mut [usize],
+    list: &mut [usize],
 ) -> usize
     requires { ⌜ (let K = kindIs kind in StraddleRoom K n t e (length (now verts)) (length (now groups)) (length (now corners))
-        (length (now ends)) × (e ≤ length (now mask)) × EndsIn 1024 e (now ends) × Linked K t (now corners) (now links)
+        (length (now ends)) × (e ≤ length (now list)) × EndsIn 1024 e (now ends) × Linked K t (now corners) (now links)
         × EdgesLinked e (now ends) (now table)) ⌝ }
-    ensures { λ r. ⌜ StraddlersMarked (kindIs kind) v before n count t e (now (verts .entry)) (now (groups .entry)) (now (corners .entry))
-        (now (ends .entry)) (now (mask .exit)) r ⌝ }
+    ensures { λ r. ⌜ StraddlersListed (kindIs kind) v before n count t e (now (verts .entry)) (now (groups .entry)) (now (corners .entry))
+        (now (ends .entry)) (now (list .exit)) r ⌝ }
 {
     let mut near = [0u8; 1024];
     let m = n * elements::corners_per(kind);
     mark_corners(m, verts, &mut near);
-    columns::clear_usize(0, &mut mask[0..e]);
-    let mut marked: usize = 0;
+    let of = Split {
+        kind,
+        v,
+        before,
+        n,
+        count,
+    };
+    let mut listed: usize = 0;
     let mut q: usize = 0;
     while q < m {
-        marked = mark_edges_at(
+        listed = list_edges_at(
             verts[q],
-            marked,
-            kind,
-            v,
-            before,
-            n,
-            count,
+            listed,
+            of,
             t,
             e,
             verts,
@@ -300,9 +297,9 @@ pub fn mark_straddlers(
             links,
             table,
             &near,
-            mask,
+            list,
         );
         q += 1;
     }
-    marked
+    listed
 }

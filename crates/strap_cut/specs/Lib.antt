@@ -1,3 +1,2 @@
 -- The cut of straps, over the lent blocks.
 pub mod Segments
-pub mod Passes

@@ -1,10 +1,8 @@
-// A pass over the particles of a mesh, by its kind: the cut along a blade, or the split of the pinched.
+// The cut along a blade, by the kind of a mesh.
 ghost use Rattle.elements.specs.Table.{kindIs};
-ghost use Rattle.model.specs.Elements.{Triangles as Facets, Straps as Segments};
-ghost use Rattle.model.specs.Cut.{cutFacets, cutSegments, splitPinched};
+ghost use Rattle.model.specs.Cut.{cutFacets, cutSegments, cutAlong};
 ghost use Rattle.marks.specs.Marking.{bladeBy, bladeFrom};
 ghost use Rattle.work.specs.Working.{Logged};
-ghost use Rattle.strap_cut.specs.Passes.{passed};
 ghost use Rattle.work.specs.Blocks.{ReadyIn, WorksIn};
 use blade::Point;
 use elements::Kind;
@@ -13,13 +11,7 @@ use mesh::Counts;
 use mesh::Rooms;
 use work::Ran;
 
-// What is done: the cut by a rule along the blade from one point to another (straps are cut by rounded numbers alone), with the least fraction of an insertion; or the split of the pinched.
-pub enum Pass {
-    Blade(Rule, Point, Point, f32),
-    Pinched,
-}
-
-// Cuts triangles along the blade. The tables of the pass are here, and stand no longer than it takes; that of the links is built anew for each pass.
+// Cuts triangles along the blade. The tables of the cut are here, and stand no longer than it takes.
 fn cut_triangles(
     rule: Rule,
     b0: Point,
@@ -40,63 +32,21 @@ fn cut_triangles(
 {
     let mut marks = [0usize; 1024];
     let mut list = [0usize; 2048];
-    let mut links = [0u16; 9216];
+    let mut links = [0u16; links::PLACES];
     links::link_mesh(
         Kind::Triangles,
         k.triangles,
         k.edges,
+        k.boundary,
         corners,
         ends,
+        outline,
         &mut links,
     );
     cut::facets::cut_facets(
         rule,
         b0,
         b1,
-        k,
-        room,
-        points,
-        roots,
-        corners,
-        volumes,
-        ends,
-        lengths,
-        outline,
-        log,
-        &mut marks,
-        &mut list,
-        &mut links,
-    )
-}
-
-// Splits the pinched, in tables of the same kind.
-fn split_triangles(
-    k: Counts,
-    room: Rooms,
-    points: &mut [f32],
-    roots: &mut [usize],
-    corners: &mut [usize],
-    volumes: &[f32],
-    ends: &mut [usize],
-    lengths: &mut [f32],
-    outline: &mut [usize],
-    log: &mut [u32],
-) -> Ran
-    requires { ⌜ ReadyIn room k points roots corners volumes ends lengths outline log × Logged (k .log) (now log) ⌝ }
-    ensures { λ r. ⌜ WorksIn (splitPinched Facets) room k points roots corners volumes ends lengths outline log r ⌝ }
-{
-    let mut marks = [0usize; 1024];
-    let mut list = [0usize; 2048];
-    let mut links = [0u16; 9216];
-    links::link_mesh(
-        Kind::Triangles,
-        k.triangles,
-        k.edges,
-        corners,
-        ends,
-        &mut links,
-    );
-    cut::facets::split_pinched(
         k,
         room,
         points,
@@ -153,9 +103,13 @@ fn cut_straps(
     )
 }
 
-// A pass over triangles: they are split along the blade, or where they are pinched.
-fn pass_triangles(
-    pass: Pass,
+// Cuts a mesh along the blade from one point to another: triangles by a rule; straps by rounded numbers alone, with the least fraction of an insertion. A mesh of neither kind stays as it is.
+pub fn run(
+    rule: Rule,
+    b0: Point,
+    b1: Point,
+    f: f32,
+    kind: Kind,
     k: Counts,
     room: Rooms,
     points: &mut [f32],
@@ -168,10 +122,10 @@ fn pass_triangles(
     log: &mut [u32],
 ) -> Ran
     requires { ⌜ ReadyIn room k points roots corners volumes ends lengths outline log × Logged (k .log) (now log) ⌝ }
-    ensures { λ r. ⌜ WorksIn (passed pass Facets) room k points roots corners volumes ends lengths outline log r ⌝ }
+    ensures { λ r. ⌜ WorksIn (cutAlong (kindIs kind) (bladeBy rule b0 b1) f) room k points roots corners volumes ends lengths outline log r ⌝ }
 {
-    match pass {
-        Pass::Blade(rule, b0, b1, f) => cut_triangles(
+    match kind {
+        Kind::Triangles => cut_triangles(
             rule,
             b0,
             b1,
@@ -186,92 +140,10 @@ fn pass_triangles(
             outline,
             log,
         ),
-        Pass::Pinched => split_triangles(
-            k,
-            room,
-            points,
-            roots,
-            corners,
-            volumes,
-            ends,
-            lengths,
-            outline,
-            log,
-        ),
-    }
-}
-
-// A pass over straps: they are cut across the blade; none is pinched.
-fn pass_straps(
-    pass: Pass,
-    k: Counts,
-    room: Rooms,
-    points: &mut [f32],
-    roots: &mut [usize],
-    corners: &mut [usize],
-    volumes: &[f32],
-    ends: &mut [usize],
-    lengths: &mut [f32],
-    outline: &mut [usize],
-    log: &mut [u32],
-) -> Ran
-    requires { ⌜ ReadyIn room k points roots corners volumes ends lengths outline log × Logged (k .log) (now log) ⌝ }
-    ensures { λ r. ⌜ WorksIn (passed pass Segments) room k points roots corners volumes ends lengths outline log r ⌝ }
-{
-    match pass {
-        Pass::Blade(rule, b0, b1, f) => cut_straps(
+        Kind::Straps => cut_straps(
             b0,
             b1,
             f,
-            k,
-            room,
-            points,
-            roots,
-            corners,
-            volumes,
-            ends,
-            lengths,
-            outline,
-            log,
-        ),
-        Pass::Pinched => Ran::Done(k),
-    }
-}
-
-// A pass by the kind of the mesh; one of neither kind stays as it is.
-pub fn run(
-    pass: Pass,
-    kind: Kind,
-    k: Counts,
-    room: Rooms,
-    points: &mut [f32],
-    roots: &mut [usize],
-    corners: &mut [usize],
-    volumes: &[f32],
-    ends: &mut [usize],
-    lengths: &mut [f32],
-    outline: &mut [usize],
-    log: &mut [u32],
-) -> Ran
-    requires { ⌜ ReadyIn room k points roots corners volumes ends lengths outline log × Logged (k .log) (now log) ⌝ }
-    ensures { λ r. ⌜ WorksIn (passed pass (kindIs kind)) room k points roots corners volumes ends lengths outline log r ⌝ }
-{
-    match kind {
-        Kind::Triangles => pass_triangles(
-            pass,
-            k,
-            room,
-            points,
-            roots,
-            corners,
-            volumes,
-            ends,
-            lengths,
-            outline,
-            log,
-        ),
-        Kind::Straps => pass_straps(
-            pass,
             k,
             room,
             points,

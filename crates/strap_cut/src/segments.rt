@@ -1,15 +1,19 @@
 // The cut of straps along a blade: insertions at the crossings, bend edges removed, snapped ends split.
 ghost use Prim.Native.Nat.{_≤_};
 ghost use lib.ListN.{length};
-ghost use Rattle.model.specs.Cut.{cutSegments};
+ghost use Rattle.lists.specs.Lists.{fold};
+ghost use Rattle.model.specs.Cut.{splitSnapped, cutSegments};
 ghost use Rattle.work.specs.Working.{Logged};
 ghost use Rattle.marks.specs.Marking.{bladeFrom};
 ghost use Rattle.split.specs.Blocks.{MaskIn};
+ghost use Rattle.cut.specs.Running.{chosen, Chosen};
 ghost use Rattle.crossing.specs.Crossed.{CrossIn};
 ghost use Rattle.strap_cut.specs.Segments.{MarksLent, AfterTold, BladeCrossedIn};
 ghost use Rattle.mesh.specs.Blocks.{worldBefore, worldBehind};
 ghost use Rattle.work.specs.Blocks.{ReadyIn, WorksIn};
 use blade::Point;
+use cut::facets::Parting;
+use elements::Kind;
 use mesh::Counts;
 use mesh::Rooms;
 use work::Ran;
@@ -62,6 +66,63 @@ fn cross_blade(
     )
 }
 
+// Splits each marked particle below p by the blade, with slack edges at its copies; where none is marked nothing is done. The tables of triangles and edges are built once, and every split keeps them.
+fn split_snapped(
+    b0: Point,
+    b1: Point,
+    p: usize,
+    marks: &[usize],
+    k: Counts,
+    room: Rooms,
+    points: &mut [f32],
+    roots: &mut [usize],
+    corners: &mut [usize],
+    volumes: &[f32],
+    ends: &mut [usize],
+    lengths: &mut [f32],
+    outline: &mut [usize],
+    log: &mut [u32],
+    list: &mut [usize],
+) -> Ran
+    requires { ⌜ ReadyIn room k points roots corners volumes ends lengths outline log × Chosen p k (now log) (length (now marks))
+        × MaskIn list ⌝ }
+    ensures { λ r. ⌜ WorksIn (λ R. fold (splitSnapped (bladeFrom b0 b1)) R (chosen p (now (marks .entry)))) room k points roots corners
+        volumes ends lengths outline log r ⌝ }
+{
+    if columns::next_marked(marks, 0, p) == p {
+        return Ran::Done(k);
+    }
+    let mut links = [0u16; links::PLACES];
+    links::link_mesh(
+        Kind::Straps,
+        k.triangles,
+        k.edges,
+        k.boundary,
+        corners,
+        ends,
+        outline,
+        &mut links,
+    );
+    cut::facets::split_marked(
+        Parting::Snapped(b0, b1),
+        Kind::Straps,
+        p,
+        marks,
+        k,
+        room,
+        points,
+        roots,
+        corners,
+        volumes,
+        ends,
+        lengths,
+        outline,
+        log,
+        list,
+        &mut links,
+    )
+}
+
 // The marked bend edges go, and then the snapped ends are split by the blade: the marks of the edges are no longer needed by then, and the splits work in their table.
 pub fn after_crossings(
     b0: Point,
@@ -88,7 +149,7 @@ pub fn after_crossings(
     let ran = crossing::unbent::remove_bends(bends, k, room, ends, lengths, outline, log);
     match ran {
         Ran::Refused(c) => Ran::Refused(c),
-        Ran::Done(left) => snapped::split_all_snapped(
+        Ran::Done(left) => split_snapped(
             b0,
             b1,
             p,

@@ -128,9 +128,9 @@ module _ (K : Kind) (O : Opening) (a b : ℕ) (xy : ℕ × ℕ) (L : Rooms) (W :
   split-count q S = ap (λ (X : World). length (X .mesh .particles)) (S .3) ∙ copied-length O (W .mesh .particles)
 
 -- what is done behind the split keeps the numbers of triangles and of edges, so the tables stay as the split left them
-pub linked-told : (K : Kind) (corners ends links : List ℕ) (r s : Ran) (q : Counts) → r ≡ Done q → s ≡ Done (record { particles = q .particles; triangles = q .triangles; edges = q .edges; boundary = q .boundary; log = q .log + 1 })
-    → LinkedAfter K corners ends links r → LinkedAfter K corners ends links s
-linked-told K corners ends links r s q e f X = subst (LinkedAfter K corners ends links) (sym f) (subst (LinkedAfter K corners ends links) e X)
+pub linked-told : (K : Kind) (corners ends outline links : List ℕ) (r s : Ran) (q : Counts) → r ≡ Done q → s ≡ Done (record { particles = q .particles; triangles = q .triangles; edges = q .edges; boundary = q .boundary; log = q .log + 1 })
+    → LinkedAfter K corners ends outline links r → LinkedAfter K corners ends outline links s
+linked-told K corners ends outline links r s q e f X = subst (LinkedAfter K corners ends outline links) (sym f) (subst (LinkedAfter K corners ends outline links) e X)
 
 -- ---- over the blocks
 

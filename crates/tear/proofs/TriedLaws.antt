@@ -15,7 +15,8 @@ use Rattle.mesh.specs.At.{trianglesAt, edgesAt, meshAt}
 use Rattle.mesh.specs.declared.Counts.{Counts}
 use Rattle.elements.specs.Table.{Cornered, Tabled, TableRoom, elementsIn}
 use Rattle.elements.proofs.Found.{elements-in, fan-of}
-use Rattle.links.specs.Linked.{MeshLinked}
+use Rattle.links.specs.Linked.{FrontLinked, MeshLinked}
+use Rattle.links.proofs.Parts.{front-of}
 use Rattle.reach.specs.Walk.{Lent}
 use Rattle.reach.specs.Opens.{Opens}
 use Rattle.reach.proofs.Opening.{lent-by, opens-is}
@@ -34,11 +35,11 @@ module _ (K : Kind) (k : Counts) (points : List Float) (roots corners : List ℕ
   M = meshAt k points roots corners volumes ends lengths outline
 
   -- what reading the fan asks
-  pub way-lent : {links : List ℕ} → MeshLinked K (k .triangles) (k .edges) corners ends links
-      → FanLent (k .triangles) (k .edges) (length corners) (length volumes) (length ends) (length lengths) × MeshLinked K (k .triangles) (k .edges) corners ends links × (v < 1024)
+  pub way-lent : {links : List ℕ} → MeshLinked K (k .triangles) (k .edges) (k .boundary) corners ends outline links
+      → FanLent (k .triangles) (k .edges) (length corners) (length volumes) (length ends) (length lengths) × FrontLinked K (k .triangles) (k .edges) corners ends links × (v < 1024)
   way-lent X = (
     record { few = (P .few-triangles, P .few-edges); corners = P .corners; volumes = P .volumes; ends = P .ends; lengths = P .lengths },
-    X,
+    front-of X,
     omega (arith, P .v-in, P .few-particles),
   )
 

@@ -121,7 +121,7 @@ pub fn turned(
 ) -> bool
     requires { ⌜ (let K = kindIs kind in WayReady x y k (length (now points)) (length (now corners)) (length (now volumes))
         (length (now ends)) (length (now lengths)) (meshIn k points roots corners volumes ends lengths outline)
-        × LoadsLong K k (length (now loads)) × LinkedIn K k corners ends links) ⌝ }
+        × LoadsLong K k (length (now loads)) × LinkedIn K k corners ends outline links) ⌝ }
     ensures { λ r. ⌜ Turned (kindIs kind) x y (k .triangles) (now (loads .entry)) (meshBefore k points roots corners volumes ends lengths
         outline) r ⌝ }
 {

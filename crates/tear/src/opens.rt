@@ -80,9 +80,9 @@ pub fn tear_open(
 ) -> Ran
     requires { ⌜ (let K = kindIs kind in ReadyIn room k points roots corners volumes ends lengths outline log
         × GroupedIn K (meshIn k points roots corners volumes ends lengths outline) v n count numbers verts measures groups
-        × TearAsked v w x y a b (k .particles) × MaskIn mask × LinkedIn K k corners ends links) ⌝ }
+        × TearAsked v w x y a b (k .particles) × MaskIn mask × LinkedIn K k corners ends outline links) ⌝ }
     ensures { λ r. ⌜ (let K = kindIs kind in OverBlocks (λ M W at. Works (splitAcross a b x y K (openedBy K M v n count (now (groups
-        .entry)))) room W at r) k points roots corners volumes ends lengths outline log × LinkedBehind K corners ends links r) ⌝ }
+        .entry)))) room W at r) k points roots corners volumes ends lengths outline log × LinkedBehind K corners ends outline links r) ⌝ }
 {
     let was = k.particles;
     let ran = split::step::split_opened(

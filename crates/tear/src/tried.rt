@@ -33,7 +33,7 @@ pub fn way_tables(
 ) -> usize
     requires { ⌜ WayReady v w k (length (now points)) (length (now corners)) (length (now volumes)) (length (now ends))
         (length (now lengths)) (meshIn k points roots corners volumes ends lengths outline) × WayTables (length (now numbers))
-        (length (now verts)) (length (now measures)) (length (now sides)) × LinkedIn (kindIs kind) k corners ends links ⌝ }
+        (length (now verts)) (length (now measures)) (length (now sides)) × LinkedIn (kindIs kind) k corners ends outline links ⌝ }
     ensures { λ r. ⌜ WayRead (kindIs kind) v w (meshBefore k points roots corners volumes ends lengths outline) r (now (numbers .exit))
         (now (verts .exit)) (now (measures .exit)) (now (sides .exit)) ⌝ }
 {
@@ -74,7 +74,7 @@ pub fn way_load(
 ) -> f32
     requires { ⌜ (let K = kindIs kind in WayReady v w k (length (now points)) (length (now corners)) (length (now volumes))
         (length (now ends)) (length (now lengths)) (meshIn k points roots corners volumes ends lengths outline)
-        × LoadsLong K k (length (now loads)) × LinkedIn K k corners ends links) ⌝ }
+        × LoadsLong K k (length (now loads)) × LinkedIn K k corners ends outline links) ⌝ }
     ensures { λ r. ⌜ WayLoad (kindIs kind) v w k (now (loads .entry)) (meshBefore k points roots corners volumes ends lengths outline) r ⌝ }
 {
     let mut numbers = [0usize; 2048];

@@ -3,7 +3,7 @@ use Prim.Native.Nat.{ℕ, _*_, _/_, _<_, _≤_}
 use native.Mathlib.Omega.{arith}
 use mathlib.Core.Path.{_≡_, refl, sym, _∙_, ap, ap₂, subst}
 use mathlib.Core.Bool.{Bool, true, false, _&&_, and-assoc}
-use mathlib.Core.List.{List, [], _∷_, map}
+use mathlib.Core.List.{List, [], _∷_}
 use mathlib.Core.Option.{Option, none, some}
 use borrow.Author.Tests.{eq-eqb, ne-eqb}
 use native.Mathlib.Decide.{ℕ-discrete}
@@ -24,7 +24,7 @@ use Rattle.model.specs.Elements.{Kind, Triangles, cornersPer, facetOthers, fanO
 use Rattle.model.specs.Run.{opened, Run}
 use Rattle.model.specs.Split.{Opening, openingOf, splits?, splitMade, splitStep}
 use Rattle.model.specs.Pieces.{opensWithoutConfetti}
-use Rattle.model.specs.Crack.{farSide, meanLoad, Way, twoSided, wayAt, ahead, before?, inOrder, waysOf, firstOf, torn, crackBy, crackPair, crackEdge}
+use Rattle.model.specs.Crack.{meanLoad, Way, twoSided, wayAt, ahead, before?, inOrder, waysOf, firstOf, torn, crackBy, crackPair, crackEdge}
 use Rattle.model_laws.proofs.Laws.{pick-both}
 use Rattle.model_laws.proofs.Splitting.{two-groups}
 use Rattle.mesh.specs.At.{meshAt}
@@ -47,10 +47,12 @@ use Rattle.work.proofs.Placed.{particles-count}
 use Rattle.tear.specs.Ways.{twoBy}
 use Rattle.tear.specs.Tried.{WayReady, WayRead, OpensRoom}
 use Rattle.tear.specs.Pairs.{PairReady, PairBelow, PairNow, Turned}
-use Rattle.tornedge.specs.Cracks.{openWay, WayAsked, OpenedTo, TriedTo, LinkedTried, EndsTold, PairTold, CrackTold}
+use Rattle.tornedge.specs.Cracks.{openWay, sidesAcross, opensAt, Parted, openedAcross, WayAsked, TriedTo, LinkedTried, EndsTold, PairTold, CrackTold}
 use Rattle.tear.specs.Families.{pairIs}
 use Rattle.tear.specs.declared.families.Pair.{Pair}
 use Rattle.tear.specs.declared.families.Pair.the-variants.{None, Ends}
+use Rattle.tornedge.specs.declared.Parts.{Parts}
+use Rattle.tornedge.specs.declared.Parts.the-variants.{Whole, Grouped}
 use Rattle.tornedge.specs.declared.Tried.{Tried}
 use Rattle.tornedge.specs.declared.Tried.the-variants.{Not, Tore}
 
@@ -97,64 +99,82 @@ module _ {K : Kind} {M : Mesh} {v n : ℕ} {numbers verts : List ℕ} {measures 
     pub way-grouped : 2048 ≤ length groups → FanGrouped K M v n count numbers verts measures groups
     way-grouped h = fan-grouped F G enough (let f = F .few in omega arith)
 
-    module _ (L : Rooms) (W : World) (at : Counts → World) (k : Counts) (ab xy : ℕ × ℕ) (min : ℕ) (same : W .mesh ≡ M) where
-      -- some group is too small
-      pub way-shut : (t : Bool) → t ≡ opensWithoutConfetti K M min (openedBy K M v n count groups) → t ≡ false → at k ≡ W → OpenedTo K min (openingOf K M v (take n sides)) ab xy L k W at Not
-      way-shut t q e u = (ap₂ (λ (X : Mesh) (O : Opening). opensWithoutConfetti K X min O) same (sym (opening-found F G)) ∙ sym q ∙ e, u)
+    -- v splits
+    pub way-torn : {L : Rooms} {W : World} {at : Counts → World} (w : ℕ) (ab xy : ℕ × ℕ) → W .mesh ≡ M → take n sides ≡ sidesAcross K M v w → (r : Ran)
+        → Works (splitMade (opened (ab .0) (ab .1) ∷ []) (torn (openedBy K M v n count groups) xy) K (openedBy K M v n count groups)) L W at r → Works (openedAcross K M v w ab xy) L W at r
+    unfolding splitStep
+    way-torn {L} {W} {at} w ab xy same s r S =
+        let O : Opening = openedBy K M v n count groups in
+        let yes-splits : splits? O M ≡ true = splits-so F G enough (parts .0) in
+        subst (λ (Y : Opening). Works (splitStep (opened (ab .0) (ab .1) ∷ []) (torn Y xy) K Y) L W at r) (opening-found F G ∙ ap (openingOf K M v) s)
+        (works-as
+        (λ R w.
+        let m : M ≡ R .mesh = sym same ∙ ap (λ (X : World). X .mesh) w in
+        sym (ap (λ (b : Bool). pick b (splitMade (opened (ab .0) (ab .1) ∷ []) (torn O xy) K O R) R) (ap (splits? O) (sym m) ∙ yes-splits)))
+        S)
 
-      -- v splits
-      pub way-torn : (t : Bool) → t ≡ opensWithoutConfetti K M min (openedBy K M v n count groups) → t ≡ true → (r : Ran)
-          → Works (splitMade (opened (ab .0) (ab .1) ∷ []) (torn (openedBy K M v n count groups) xy) K (openedBy K M v n count groups)) L W at r
-          → OpenedTo K min (openingOf K M v (take n sides)) ab xy L k W at (Tore r)
-      unfolding splitStep
-      way-torn t q e r S =
-          let O : Opening = openedBy K M v n count groups in
-          let yes-splits : splits? O M ≡ true = splits-so F G enough (parts .0) in (
-            ap₂ (λ (X : Mesh) (Y : Opening). opensWithoutConfetti K X min Y) same (sym (opening-found F G)) ∙ sym q ∙ e,
-            subst (λ (Y : Opening). Works (splitStep (opened (ab .0) (ab .1) ∷ []) (torn Y xy) K Y) L W at r) (opening-found F G)
-                (works-as
-                (λ R w.
-                let m : M ≡ R .mesh = sym same ∙ ap (λ (X : World). X .mesh) w in
-                sym (ap (λ (b : Bool). pick b (splitMade (opened (ab .0) (ab .1) ∷ []) (torn O xy) K O R) R) (ap (splits? O) (sym m) ∙ yes-splits)))
-                S),
-          )
+-- the groups of a fan that has both sides, in a table
+pub way-parted : {K : Kind} {M : Mesh} {v n : ℕ} {numbers verts : List ℕ} {measures : List Float} {sides : List ℕ} → FanSided K M v n numbers verts measures sides → (w : ℕ) → take n sides ≡ sidesAcross K M v w → twoSided M v (take n sides) ≡ true
+    → {groups : List ℕ} {count : ℕ} → GroupsFound K v n verts sides groups count → 2048 ≤ length groups → Parted K v w M groups (Grouped n count)
+way-parted {K} {M} {v} F w s two {groups} G h = (ap (twoSided M v) (sym s) ∙ two, opens-room F two (length groups) h, opening-found F G ∙ ap (openingOf K M v) s)
+
+pub way-whole : (K : Kind) (M : Mesh) (v w : ℕ) (groups : List ℕ) {sides : List ℕ} → sides ≡ sidesAcross K M v w → twoSided M v sides ≡ false → Parted K v w M groups Whole
+way-whole K M v w groups s one = ap (twoSided M v) (sym s) ∙ one
+
+-- whether v opens, by what was told of its fan
+module _ (K : Kind) (min v w : ℕ) (M : Mesh) (groups : List ℕ) (p : Parts) (T : Parted K v w M groups p) where
+  pub whole-shut : p ≡ Whole → opensAt K min M v w ≡ false
+  whole-shut e = ap (λ (b : Bool). b && opensWithoutConfetti K M min (openingOf K M v (sidesAcross K M v w))) (subst (Parted K v w M groups) e T)
+
+  module _ (n count : ℕ) (e : p ≡ Grouped n count) where
+    grouped : Parted K v w M groups (Grouped n count)
+    grouped = subst (Parted K v w M groups) e T
+
+    pub grouped-room : OpensRoom n (length (fanOf K M v)) (length groups)
+    grouped-room = grouped .1
+
+    pub grouped-opens : opensWithoutConfetti K M min (openedBy K M v n count groups) ≡ opensAt K min M v w
+    grouped-opens =
+        ap (opensWithoutConfetti K M min) (grouped .2)
+        ∙ sym (ap (λ (b : Bool). b && opensWithoutConfetti K M min (openingOf K M v (sidesAcross K M v w))) (grouped .0))
 
 -- ---- one way
 
 -- the way at v with both sides
 abbrev wayOf : Kind → List Float → Mesh → ℕ → ℕ → Way
-wayOf K ls M v w = record { load = meanLoad K ls M v w; opening = openingOf K M v (map (farSide M v w) (fanOf K M v)) }
+wayOf K ls M v w = record { load = meanLoad K ls M v w; opening = openingOf K M v (sidesAcross K M v w) }
 
 -- it is there exactly if its fan has both sides and v is free
-way-is : (K : Kind) (ls : List Float) (M : Mesh) (v w : ℕ) (sides : List ℕ) (t : Bool) → sides ≡ map (farSide M v w) (fanOf K M v) → twoSided M v sides ≡ t → wayAt K ls M v w ≡ pick t (wayOf K ls M v w ∷ []) []
+way-is : (K : Kind) (ls : List Float) (M : Mesh) (v w : ℕ) → wayAt K ls M v w ≡ pick (twoSided M v (sidesAcross K M v w)) (wayOf K ls M v w ∷ []) []
 unfolding wayAt
-way-is K ls M v w sides t s e = ap (λ (b : Bool). pick b (wayOf K ls M v w ∷ []) []) (ap (twoSided M v) (sym s) ∙ e)
+way-is K ls M v w = refl
 
--- a way that is not there
-pub way-absent : (K : Kind) (min v w : ℕ) (ab xy : ℕ × ℕ) (L : Rooms) (k : Counts) (W : World) (at : Counts → World) (sides : List ℕ) → sides ≡ map (farSide (W .mesh) v w) (fanOf K (W .mesh) v) → twoSided (W .mesh) v sides ≡ false → at k ≡ W
-    → TriedTo K min v w ab xy L k W at Not
-unfolding openWay find
-way-absent K min v w ab xy L k W at sides s e u = (λ ls. ap (find (λ (p : Way). opensWithoutConfetti K (W .mesh) min (p .opening))) (way-is K ls (W .mesh) v w sides false s e), u)
+found-if : (P : Way → Bool) (p : Way) (t : Bool) → find P (pick t (p ∷ []) []) ≡ pick (t && P p) (some p) none
+unfolding find
+found-if P p true = refl
+found-if P p false = refl
 
--- one that is there, as its split was tried
-pub way-tried : (K : Kind) (min v w : ℕ) (ab xy : ℕ × ℕ) (L : Rooms) (k : Counts) (W : World) (at : Counts → World) (sides : List ℕ) → sides ≡ map (farSide (W .mesh) v w) (fanOf K (W .mesh) v) → twoSided (W .mesh) v sides ≡ true
-    → (t : Tried) → OpenedTo K min (openingOf K (W .mesh) v sides) ab xy L k W at t → TriedTo K min v w ab xy L k W at t
-unfolding openWay find crackBy
-way-tried K min v w ab xy L k W at sides s e Not S = (
-  λ ls.
-      ap (find (λ (p : Way). opensWithoutConfetti K (W .mesh) min (p .opening))) (way-is K ls (W .mesh) v w sides true s e)
-      ∙ ap (λ (b : Bool). pick b (some (wayOf K ls (W .mesh) v w)) none) (ap (λ (l : List ℕ). opensWithoutConfetti K (W .mesh) min (openingOf K (W .mesh) v l)) (sym s) ∙ S .0),
-  S .1,
-)
-way-tried K min v w ab xy L k W at sides s e (Tore r) S =
-    λ ls. (
-      wayOf K ls (W .mesh) v w,
-      (
-        ap (find (λ (p : Way). opensWithoutConfetti K (W .mesh) min (p .opening))) (way-is K ls (W .mesh) v w sides true s e)
-            ∙ ap (λ (b : Bool). pick b (some (wayOf K ls (W .mesh) v w)) none) (ap (λ (l : List ℕ). opensWithoutConfetti K (W .mesh) min (openingOf K (W .mesh) v l)) (sym s) ∙ S .0),
-        subst (λ (l : List ℕ). Works (splitStep (opened (ab .0) (ab .1) ∷ []) (torn (openingOf K (W .mesh) v l) xy) K (openingOf K (W .mesh) v l)) L W at r) s (S .1),
-      ),
-    )
+-- and it is taken exactly if it opens
+taken-if : (K : Kind) (ls : List Float) (min : ℕ) (M : Mesh) (v w : ℕ) (t : Bool) → opensAt K min M v w ≡ t → openWay K ls min M v w ≡ pick t (some (wayOf K ls M v w)) none
+unfolding openWay
+taken-if K ls min M v w t e =
+    ap (find (λ (p : Way). opensWithoutConfetti K M min (p .opening))) (way-is K ls M v w)
+    ∙ found-if (λ (p : Way). opensWithoutConfetti K M min (p .opening)) (wayOf K ls M v w) (twoSided M v (sidesAcross K M v w))
+    ∙ ap (λ (b : Bool). pick b (some (wayOf K ls M v w)) none) e
+
+module _ (K : Kind) (min v w : ℕ) (ab xy : ℕ × ℕ) (L : Rooms) (k : Counts) (W : World) (at : Counts → World) where
+  -- a way that does not open
+  pub way-shut : opensAt K min (W .mesh) v w ≡ false → at k ≡ W → TriedTo K min v w ab xy L k W at Not
+  way-shut e u = (λ ls. taken-if K ls min (W .mesh) v w false e, u)
+
+  -- one that does, and was split
+  pub way-tried : (r : Ran) → opensAt K min (W .mesh) v w ≡ true → Works (openedAcross K (W .mesh) v w ab xy) L W at r → TriedTo K min v w ab xy L k W at (Tore r)
+  unfolding crackBy
+  way-tried r e S = λ ls. (wayOf K ls (W .mesh) v w, (taken-if K ls min (W .mesh) v w true e, S))
+
+-- of one that opens both sides are there
+pub opens-two : (K : Kind) (min v w : ℕ) (M : Mesh) → opensAt K min M v w ≡ true → twoSided M v (sidesAcross K M v w) ≡ true
+opens-two K min v w M e = and-true (twoSided M v (sidesAcross K M v w)) (opensWithoutConfetti K M min (openingOf K M v (sidesAcross K M v w))) e .0
 
 -- ---- both ends in turn
 
@@ -205,11 +225,11 @@ module _ (K : Kind) (min v w : ℕ) (ab xy : ℕ × ℕ) (L : Rooms) (W : World)
         (λ ls. subst (λ (X : World). Works (λ R. R) L X at′ (Done k)) (S .1) (works-stay {at = at′} k b))
 
 -- the tables behind a way that opened, and behind one that did not
-pub linked-torn : (K : Kind) (t e : ℕ) (corners ends links : List ℕ) (s : Tried) (r : Ran) → s ≡ Tore r → LinkedTried K t e corners ends links s → LinkedAfter K corners ends links r
-linked-torn K t e corners ends links s r q X = subst (LinkedTried K t e corners ends links) q X
+pub linked-torn : (K : Kind) (t e b : ℕ) (corners ends outline links : List ℕ) (s : Tried) (r : Ran) → s ≡ Tore r → LinkedTried K t e b corners ends outline links s → LinkedAfter K corners ends outline links r
+linked-torn K t e b corners ends outline links s r q X = subst (LinkedTried K t e b corners ends outline links) q X
 
-pub linked-shut : (K : Kind) (t e : ℕ) (corners ends links : List ℕ) (s : Tried) → s ≡ Not → LinkedTried K t e corners ends links s → MeshLinked K t e corners ends links
-linked-shut K t e corners ends links s q X = subst (LinkedTried K t e corners ends links) q X
+pub linked-shut : (K : Kind) (t e b : ℕ) (corners ends outline links : List ℕ) (s : Tried) → s ≡ Not → LinkedTried K t e b corners ends outline links s → MeshLinked K t e b corners ends outline links
+linked-shut K t e b corners ends outline links s q X = subst (LinkedTried K t e b corners ends outline links) q X
 
 -- ---- their order
 
@@ -251,7 +271,7 @@ order-taken : (K : Kind) (ls : List Float) (min : ℕ) (M : Mesh) (x y : ℕ) (t
 unfolding waysOf wayAt openWay openingOf
 order-taken K ls min M x y t e =
     let F : Way → Bool = λ (z : Way). opensWithoutConfetti K M min (z .opening) in
-    order-first F (wayOf K ls M x y) (wayOf K ls M y x) (twoSided M x (map (farSide M x y) (fanOf K M x))) (twoSided M y (map (farSide M y x) (fanOf K M y)))
+    order-first F (wayOf K ls M x y) (wayOf K ls M y x) (twoSided M x (sidesAcross K M x y)) (twoSided M y (sidesAcross K M y x))
     ∙ ap (λ (b : Bool). pick b (firstOf (find F (wayAt K ls M y x)) (find F (wayAt K ls M x y))) (firstOf (find F (wayAt K ls M x y)) (find F (wayAt K ls M y x)))) (sym e)
 
 module _ (K : Kind) (min x y : ℕ) (ab : ℕ × ℕ) (loads : List Float) (k : Counts) (L : Rooms) (W : World) (t : Bool) (N : Turned K x y (k .triangles) loads (W .mesh) t) (at : Counts → World) (r : Ran) where
@@ -324,6 +344,10 @@ asked-turned t x y a b p v w e f i j h g =
     subst (λ (z : ℕ). WayAsked v z x y a b p × WayAsked z v x y a b p) (sym f)
     (subst (λ (z : ℕ). WayAsked z (pick t x y) x y a b p × WayAsked (pick t x y) z x y a b p) (sym e) (asked-both t x y a b p i j h g))
 
+-- a table of 2,048 elements has room for those of a mesh
+few-room : (t e lc lv le ll : ℕ) → t ≤ 1024 → e ≤ 2048 → t ≤ lc / 3 → t ≤ lv / 2 → e ≤ le / 4 → e ≤ ll / 4 → TableRoom t e lc lv le ll 2048 4096 2048
+few-room t e lc lv le ll a b c d f g = record { few = (a, b); corners = c; volumes = d; ends = f; lengths = g; numbers = (omega arith, b); verts = (omega arith, omega arith); measures = (omega arith, b) }
+
 module _ (L : Rooms) (k : Counts) (points : List Float) (roots corners : List ℕ) (volumes : List Float) (ends : List ℕ) (lengths : List Float) (outline log : List ℕ)
     (P : Ready L k (lent points roots corners volumes ends lengths outline log) (meshAt k points roots corners volumes ends lengths outline)) where
   abbrev Here : Mesh
@@ -334,18 +358,8 @@ module _ (L : Rooms) (k : Counts) (points : List Float) (roots corners : List �
   table-room =
       let R = P .rooms in
       let C = P .counts in
-      let t : k .triangles ≤ 1024 = omega (arith, C .triangles, R .few-triangles) in
-      let e : k .edges ≤ 2048 = omega (arith, C .edges, R .few-edges) in
-      record {
-        few = (t, e);
-        corners = omega (arith, C .triangles, R .corners);
-        volumes = omega (arith, C .triangles, R .volumes);
-        ends = omega (arith, C .edges, R .ends);
-        lengths = omega (arith, C .edges, R .lengths);
-        numbers = (omega arith, e);
-        verts = (omega arith, omega arith);
-        measures = (omega arith, e);
-      }
+      few-room (k .triangles) (k .edges) (length corners) (length volumes) (length ends) (length lengths) (omega (arith, C .triangles, R .few-triangles)) (omega (arith, C .edges, R .few-edges)) (omega (arith, C .triangles, R .corners)) (omega (arith, C .triangles, R .volumes))
+      (omega (arith, C .edges, R .ends)) (omega (arith, C .edges, R .lengths))
 
   pub pair-ready : PairReady k (length corners) (length volumes) (length ends) (length lengths) (length log) Here
   pair-ready =
@@ -373,36 +387,45 @@ module _ (L : Rooms) (k : Counts) (points : List Float) (roots corners : List �
         indices = P .indices;
       }
 
-  module _ {v w x y a b : ℕ} (A : WayAsked v w x y a b (k .particles)) where
-    other-in : w < k .particles
-    other-in = subst (λ (z : ℕ). z < k .particles) (sym (A .ends .other)) (pick-both (λ (z : ℕ). z < k .particles) (eqb v x) y x (A .ends .y-in) (A .ends .x-in))
+  -- what a way that is asked for asks
+  pub asked-ready : {v w x y a b : ℕ} → WayAsked v w x y a b (k .particles) → WayReady v w k (length points) (length corners) (length volumes) (length ends) (length lengths) Here
+  asked-ready {v} {w} {x} {y} A =
+      way-ready v w (A .here) (subst (λ (z : ℕ). z < k .particles) (sym (A .ends .other)) (pick-both (λ (z : ℕ). z < k .particles) (eqb v x) y x (A .ends .y-in) (A .ends .x-in)))
 
-    pub asked-ready : WayReady v w k (length points) (length corners) (length volumes) (length ends) (length lengths) Here
-    asked-ready = way-ready v w (A .here) other-in
+-- ---- where a way is ready
 
-    pub place-in : v < length points / pointColumns
-    place-in = let R = P .rooms in let C = P .counts in let h = A .here in omega (arith, C .particles, R .points)
+module _ (k : Counts) (points : List Float) (roots corners : List ℕ) (volumes : List Float) (ends : List ℕ) (lengths : List Float) (outline : List ℕ) {v w : ℕ}
+    (A : WayReady v w k (length points) (length corners) (length volumes) (length ends) (length lengths) (meshAt k points roots corners volumes ends lengths outline)) where
+  abbrev There : Mesh
+  There = meshAt k points roots corners volumes ends lengths outline
 
-    -- whether both sides are there and v is free
-    pub two-told : (sides : List ℕ) → twoSided Here v sides ≡ twoBy v sides points
-    unfolding twoSided twoBy cell
-    two-told sides =
-        and-assoc (ne (particle Here v .inv) zero32) (stands 0 sides) (stands 1 sides)
-        ∙ ap (λ (z : Float). ne z zero32 && (stands 0 sides && stands 1 sides)) (inverse-at k points roots corners volumes ends lengths outline v (A .here))
+  pub place-in : v < length points / pointColumns
+  place-in = omega (arith, A .v-in, A .points)
 
-    -- the fan with its sides
-    pub way-sided : {K : Kind} {n : ℕ} {numbers verts : List ℕ} {measures : List Float} {sides : List ℕ} → WayRead K v w Here n numbers verts measures sides
-        → 2048 ≤ length numbers → 4096 ≤ length verts → 2048 ≤ length measures → 2048 ≤ length sides → FanSided K Here v n numbers verts measures sides
-    way-sided F a b c d =
-        let few = F .few in
-        let narrow = F .narrow in
-        record {
-          here = subst (λ (z : ℕ). v < z) (sym (particles-count k points roots corners volumes ends lengths outline)) (A .here);
-          tabled = F .tabled;
-          few = few;
-          numbers-long = omega arith;
-          verts-long = omega arith;
-          measures-long = omega arith;
-          sides-long = omega arith;
-          two = F .two;
-        }
+  -- a table of all elements has room
+  pub elements-room : TableRoom (k .triangles) (k .edges) (length corners) (length volumes) (length ends) (length lengths) 2048 4096 2048
+  elements-room = few-room (k .triangles) (k .edges) (length corners) (length volumes) (length ends) (length lengths) (A .few-triangles) (A .few-edges) (A .corners) (A .volumes) (A .ends) (A .lengths)
+
+  -- whether both sides are there and v is free
+  pub two-told : (sides : List ℕ) → twoSided There v sides ≡ twoBy v sides points
+  unfolding twoSided twoBy cell
+  two-told sides =
+      and-assoc (ne (particle There v .inv) zero32) (stands 0 sides) (stands 1 sides)
+      ∙ ap (λ (z : Float). ne z zero32 && (stands 0 sides && stands 1 sides)) (inverse-at k points roots corners volumes ends lengths outline v (A .v-in))
+
+  -- the fan with its sides
+  pub way-sided : {K : Kind} {n : ℕ} {numbers verts : List ℕ} {measures : List Float} {sides : List ℕ} → WayRead K v w There n numbers verts measures sides
+      → 2048 ≤ length numbers → 4096 ≤ length verts → 2048 ≤ length measures → 2048 ≤ length sides → FanSided K There v n numbers verts measures sides
+  way-sided F a b c d =
+      let few = F .few in
+      let narrow = F .narrow in
+      record {
+        here = subst (λ (z : ℕ). v < z) (sym (particles-count k points roots corners volumes ends lengths outline)) (A .v-in);
+        tabled = F .tabled;
+        few = few;
+        numbers-long = omega arith;
+        verts-long = omega arith;
+        measures-long = omega arith;
+        sides-long = omega arith;
+        two = F .two;
+      }

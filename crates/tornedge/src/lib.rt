@@ -2,23 +2,27 @@
 ghost use mathlib.Core.Path.{_≡_};
 ghost use Prim.Native.Nat.{_<_, _≤_};
 ghost use mathlib.Core.Bool.{true};
-ghost use lib.ListN.{length, take};
+ghost use lib.ListN.{length};
 ghost use Rattle.elements.specs.Table.{kindIs};
 ghost use Rattle.links.specs.Linked.{LinkedIn};
-ghost use Rattle.model.specs.Split.{openingOf};
 ghost use Rattle.model.specs.Crack.{twoSided};
-ghost use Rattle.work.specs.Working.{Logged};
-ghost use Rattle.tear.specs.Tried.{LoadsLong};
-ghost use Rattle.tear.specs.Torn.{TearAsked};
-ghost use Rattle.tornedge.specs.Cracks.{WayAsked, OpenedTo, TriedTo, EndsTold, PairTold, CrackTold, TriedBehind};
-ghost use Rattle.mesh.specs.Blocks.{meshIn, worldBefore, worldBehind};
+ghost use Rattle.work.specs.Working.{Logged, Works};
+ghost use Rattle.tear.specs.Tried.{WayReady, LoadsLong};
+ghost use Rattle.tornedge.specs.Cracks.{sidesAcross, opensAt, Parted, openedAcross, WayAsked, TriedTo, EndsTold, PairTold, CrackTold, TriedBehind};
+ghost use Rattle.mesh.specs.Blocks.{meshIn, meshBefore, worldBefore, worldBehind};
 ghost use Rattle.work.specs.Blocks.{ReadyIn, OverBlocks};
-ghost use Rattle.split.specs.Blocks.{SidedIn, MaskIn, LinkedBehind};
+ghost use Rattle.split.specs.Blocks.{LinkedBehind};
 use elements::Kind;
 use mesh::Counts;
 use mesh::Rooms;
 use tear::families::Pair;
 use work::Ran;
+
+// How an edge parts the fan of one of its ends: not into two sides; or so many elements into so many groups.
+pub enum Parts {
+    Whole,
+    Grouped(usize, usize),
+}
 
 // What trying a way came to: it doesn't open, or what its split came to.
 pub enum Tried {
@@ -26,21 +30,126 @@ pub enum Tried {
     Tore(Ran),
 }
 
-// Splits v by the sides of its fan across the edge (x, y), if each group then reaches the minimum piece.
-fn open_way(
+// The groups of v's fan across the edge to w, if both sides are there and v is free. The tables of the fan are here, and stand no longer than it takes.
+fn way_groups(
+    kind: Kind,
+    v: usize,
+    w: usize,
+    k: Counts,
+    points: &[f32],
+    roots: &[usize],
+    corners: &[usize],
+    volumes: &[f32],
+    ends: &[usize],
+    lengths: &[f32],
+    outline: &[usize],
+    sides: &mut [usize],
+    groups: &mut [usize],
+    links: &[u16],
+) -> Parts
+    requires { ⌜ WayReady v w k (length (now points)) (length (now corners)) (length (now volumes)) (length (now ends))
+        (length (now lengths)) (meshIn k points roots corners volumes ends lengths outline) × (2048 ≤ length (now sides))
+        × (2048 ≤ length (now groups)) × LinkedIn (kindIs kind) k corners ends outline links ⌝ }
+    ensures { λ r. ⌜ Parted (kindIs kind) v w (meshBefore k points roots corners volumes ends lengths outline) (now (groups .exit)) r ⌝ }
+{
+    let mut numbers = [0usize; 2048];
+    let mut verts = [0usize; 4096];
+    let mut measures = [0.0f32; 2048];
+    let n = tear::tried::way_tables(
+        kind,
+        v,
+        w,
+        k,
+        points,
+        roots,
+        corners,
+        volumes,
+        ends,
+        lengths,
+        outline,
+        &mut numbers,
+        &mut verts,
+        &mut measures,
+        sides,
+        links,
+    );
+    if tear::ways::two_sided(v, n, sides, points) {
+        let count = split::fans::group_fan(kind, v, n, &verts, sides, groups);
+        return Parts::Grouped(n, count);
+    }
+    Parts::Whole
+}
+
+// Does the way at v open: are both sides there, and does each group reach the minimum piece?
+fn way_open(
     kind: Kind,
     minimum: usize,
+    v: usize,
+    w: usize,
+    k: Counts,
+    points: &[f32],
+    roots: &[usize],
+    corners: &[usize],
+    volumes: &[f32],
+    ends: &[usize],
+    lengths: &[f32],
+    outline: &[usize],
+    links: &[u16],
+) -> bool
+    requires { ⌜ WayReady v w k (length (now points)) (length (now corners)) (length (now volumes)) (length (now ends))
+        (length (now lengths)) (meshIn k points roots corners volumes ends lengths outline)
+        × LinkedIn (kindIs kind) k corners ends outline links ⌝ }
+    ensures { λ r. ⌜ r ≡ opensAt (kindIs kind) minimum (meshBefore k points roots corners volumes ends lengths outline) v w ⌝ }
+{
+    let mut sides = [0usize; 2048];
+    let mut groups = [0usize; 2048];
+    let parts = way_groups(
+        kind,
+        v,
+        w,
+        k,
+        points,
+        roots,
+        corners,
+        volumes,
+        ends,
+        lengths,
+        outline,
+        &mut sides,
+        &mut groups,
+        links,
+    );
+    match parts {
+        Parts::Grouped(n, count) => tear::tried::way_opens(
+            kind,
+            v,
+            n,
+            count,
+            minimum,
+            k,
+            points,
+            roots,
+            corners,
+            volumes,
+            ends,
+            lengths,
+            outline,
+            &groups,
+            &mut sides,
+        ),
+        Parts::Whole => false,
+    }
+}
+
+// Splits v by the sides of its fan across the edge (x, y), whose other end is w.
+fn open_way(
+    kind: Kind,
     v: usize,
     w: usize,
     x: usize,
     y: usize,
     a: usize,
     b: usize,
-    n: usize,
-    numbers: &[usize],
-    verts: &[usize],
-    measures: &[f32],
-    sides: &mut [usize],
     k: Counts,
     room: Rooms,
     points: &mut [f32],
@@ -52,21 +161,22 @@ fn open_way(
     outline: &mut [usize],
     log: &mut [u32],
     links: &mut [u16],
-) -> Tried
+) -> Ran
     requires { ⌜ (let K = kindIs kind in let M = meshIn k points roots corners volumes ends lengths outline in ReadyIn room k points roots
-        corners volumes ends lengths outline log × SidedIn K M v n numbers verts measures sides × (twoSided M v (take n (now sides)) ≡ true)
-        × TearAsked v w x y a b (k .particles) × MaskIn sides × LinkedIn K k corners ends links) ⌝ }
-    ensures { λ r. ⌜ (let K = kindIs kind in OverBlocks (λ M W at. OpenedTo K minimum (openingOf K M v (take n (now (sides .entry))))
-        (a, b) (x, y) room k W at r) k points roots corners volumes ends lengths outline log × TriedBehind K k corners ends links r) ⌝ }
+        corners volumes ends lengths outline log × WayAsked v w x y a b (k .particles) × (twoSided M v (sidesAcross K M v w) ≡ true)
+        × LinkedIn K k corners ends outline links) ⌝ }
+    ensures { λ r. ⌜ (let K = kindIs kind in OverBlocks (λ M W at. Works (openedAcross K M v w (a, b) (x, y)) room W at r) k points roots
+        corners volumes ends lengths outline log × LinkedBehind K corners ends outline links r) ⌝ }
 {
+    let mut numbers = [0usize; 2048];
+    let mut verts = [0usize; 4096];
+    let mut measures = [0.0f32; 2048];
+    let mut sides = [0usize; 2048];
     let mut groups = [0usize; 2048];
-    let count = split::fans::group_fan(kind, v, n, verts, sides, &mut groups);
-    if tear::tried::way_opens(
+    let n = tear::tried::way_tables(
         kind,
         v,
-        n,
-        count,
-        minimum,
+        w,
         k,
         points,
         roots,
@@ -75,41 +185,43 @@ fn open_way(
         ends,
         lengths,
         outline,
+        &mut numbers,
+        &mut verts,
+        &mut measures,
+        &mut sides,
+        links,
+    );
+    let count = split::fans::group_fan(kind, v, n, &verts, &sides, &mut groups);
+    tear::opens::tear_open(
+        kind,
+        v,
+        w,
+        x,
+        y,
+        a,
+        b,
+        n,
+        count,
+        &numbers,
+        &verts,
+        &measures,
         &groups,
-        sides,
-    ) {
-        return Tried::Tore(tear::opens::tear_open(
-            kind,
-            v,
-            w,
-            x,
-            y,
-            a,
-            b,
-            n,
-            count,
-            numbers,
-            verts,
-            measures,
-            &groups,
-            k,
-            room,
-            points,
-            roots,
-            corners,
-            volumes,
-            ends,
-            lengths,
-            outline,
-            log,
-            sides,
-            links,
-        ));
-    }
-    Tried::Not
+        k,
+        room,
+        points,
+        roots,
+        corners,
+        volumes,
+        ends,
+        lengths,
+        outline,
+        log,
+        &mut sides,
+        links,
+    )
 }
 
-// Tries the way at v, an end of (x, y) whose other is w: both sides must be there, and each group reach the minimum piece.
+// Tries the way at v, an end of (x, y) whose other is w: it opens, and v is split, or nothing is done.
 fn try_way(
     kind: Kind,
     minimum: usize,
@@ -132,17 +244,14 @@ fn try_way(
     links: &mut [u16],
 ) -> Tried
     requires { ⌜ ReadyIn room k points roots corners volumes ends lengths outline log × WayAsked v w x y a b (k .particles)
-        × LinkedIn (kindIs kind) k corners ends links ⌝ }
+        × LinkedIn (kindIs kind) k corners ends outline links ⌝ }
     ensures { λ r. ⌜ (let K = kindIs kind in TriedTo K minimum v w (a, b) (x, y) room k
         (worldBefore k points roots corners volumes ends lengths outline log) (λ q. worldBehind q points roots corners volumes ends lengths
-        outline log) r × TriedBehind K k corners ends links r) ⌝ }
+        outline log) r × TriedBehind K k corners ends outline links r) ⌝ }
 {
-    let mut numbers = [0usize; 2048];
-    let mut verts = [0usize; 4096];
-    let mut measures = [0.0f32; 2048];
-    let mut sides = [0usize; 2048];
-    let n = tear::tried::way_tables(
+    if way_open(
         kind,
+        minimum,
         v,
         w,
         k,
@@ -153,27 +262,16 @@ fn try_way(
         ends,
         lengths,
         outline,
-        &mut numbers,
-        &mut verts,
-        &mut measures,
-        &mut sides,
         links,
-    );
-    if tear::ways::two_sided(v, n, &sides, points) {
-        return open_way(
+    ) {
+        return Tried::Tore(open_way(
             kind,
-            minimum,
             v,
             w,
             x,
             y,
             a,
             b,
-            n,
-            &numbers,
-            &verts,
-            &measures,
-            &mut sides,
             k,
             room,
             points,
@@ -185,7 +283,7 @@ fn try_way(
             outline,
             log,
             links,
-        );
+        ));
     }
     Tried::Not
 }
@@ -213,10 +311,10 @@ fn crack_ends(
     links: &mut [u16],
 ) -> Ran
     requires { ⌜ ReadyIn room k points roots corners volumes ends lengths outline log × WayAsked v w x y a b (k .particles)
-        × WayAsked w v x y a b (k .particles) × LinkedIn (kindIs kind) k corners ends links ⌝ }
+        × WayAsked w v x y a b (k .particles) × LinkedIn (kindIs kind) k corners ends outline links ⌝ }
     ensures { λ r. ⌜ (let K = kindIs kind in EndsTold K minimum v w (a, b) (x, y) room
         (worldBefore k points roots corners volumes ends lengths outline log) (λ q. worldBehind q points roots corners volumes ends lengths
-        outline log) r × LinkedBehind K corners ends links r) ⌝ }
+        outline log) r × LinkedBehind K corners ends outline links r) ⌝ }
 {
     let first = try_way(
         kind,
@@ -290,10 +388,10 @@ fn crack_pair(
     log: &mut [u32],
     links: &mut [u16],
 ) -> Ran
-    requires { ⌜ (let K = kindIs kind in ReadyIn room k points roots corners volumes ends lengths outline log × LoadsLong K k
-        (length (now loads)) × (x < k .particles) × (y < k .particles) × (a < 1024) × (b < 1024) × LinkedIn K k corners ends links) ⌝ }
+    requires { ⌜ ReadyIn room k points roots corners volumes ends lengths outline log × LoadsLong (kindIs kind) k (length (now loads))
+        × (x < k .particles) × (y < k .particles) × (a < 1024) × (b < 1024) × LinkedIn (kindIs kind) k corners ends outline links ⌝ }
     ensures { λ r. ⌜ (let K = kindIs kind in OverBlocks (λ M W at. PairTold K minimum (k .triangles) (a, b) (x, y) (now (loads .entry)) room W
-        at r) k points roots corners volumes ends lengths outline log × LinkedBehind K corners ends links r) ⌝ }
+        at r) k points roots corners volumes ends lengths outline log × LinkedBehind K corners ends outline links r) ⌝ }
 {
     let other = tear::edge::turned(
         kind,
@@ -355,10 +453,10 @@ pub fn crack_edge(
     links: &mut [u16],
 ) -> Ran
     requires { ⌜ (let K = kindIs kind in ReadyIn room k points roots corners volumes ends lengths outline log × Logged (k .log) (now log)
-        × LoadsLong K k (length (now loads)) × (a < 1024) × (b < 1024) × LinkedIn K k corners ends links) ⌝ }
+        × LoadsLong K k (length (now loads)) × (a < 1024) × (b < 1024) × LinkedIn K k corners ends outline links) ⌝ }
     ensures { λ r. ⌜ (let K = kindIs kind in CrackTold K minimum a b (k .triangles) (now (loads .entry)) room
         (worldBefore k points roots corners volumes ends lengths outline log) (λ q. worldBehind q points roots corners volumes ends lengths
-        outline log) r × LinkedBehind K corners ends links r) ⌝ }
+        outline log) r × LinkedBehind K corners ends outline links r) ⌝ }
 {
     let pair = tear::edge::pair_now(
         kind,

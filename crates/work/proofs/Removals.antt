@@ -1,19 +1,20 @@
--- Laws of masks: marks made one after another, marked edges noted, marked rows gone, and that they are those of the model. Assumes nothing.
+-- Laws of masks and of lists of edges: marks made one after another, edges noted, marked rows gone, and that they are those of the model. Assumes nothing.
 use mathlib.Core.Path.{_≡_, refl, sym, _∙_, ap, ap₂, subst}
 use mathlib.Core.Bool.{Bool, true, false, _&&_}
 use mathlib.Core.List.{List, [], _∷_, _++_, map, append-nil, append-assoc, map-append}
-use Prim.Native.Nat.{ℕ, suc, _+_, _/_, _-_, _<_, _≤_, zero-le}
+use Prim.Native.Nat.{ℕ, _+_, _/_, _-_, _<_, _≤_, zero-le}
 use native.Mathlib.Omega.{arith}
 use native.Mathlib.Numerals.{add-one}
 use borrow.Author.Count.{below-more}
 use borrow.Author.Tests.{eq-eqb, ne-eqb}
 use lib.Dec.{eqb}
 use lib.Ieee.{Float}
-use lib.ListN.{length, getD, set, length-set, length-append, length-map}
+use lib.ListN.{length, getD, set, take, length-set, length-append, length-map}
 use lib.Seq.{getD-set-same, getD-set-other}
-use Rattle.lists.specs.Lists.{stands, pick, sift, keep, keptOf, upTo, tab}
+use Rattle.lists.specs.Lists.{stands, pick, sift, keep, upTo, tab}
 use Rattle.lists.proofs.Sifts.{sift-length, sift-append, sift-stands, upTo-length, upTo-stands, map-tab}
 use Rattle.lists.proofs.Steps.{sift-step}
+use Rattle.lists.proofs.Risen.{take-more, sift-map}
 use Rattle.columns.specs.Block.{BlockKept}
 use Rattle.columns.proofs.Cells.{col-0, col-1}
 use Rattle.columns.specs.View.{NextMarked}
@@ -26,28 +27,21 @@ use Rattle.mesh.specs.Log.{Words, logAt, wordsOf}
 use Rattle.mesh.specs.Workers.{Removed, rowAt}
 use Rattle.mesh.specs.declared.Counts.{Counts}
 use Rattle.mesh.specs.declared.Rooms.{Rooms}
-use Rattle.work.specs.Removal.{marked, markedOf, goneWords, NoteRoom, EdgesNoted, GoneRoom, BlocksGone}
+use Rattle.work.specs.Removal.{marked, markedOf, goneWords, NoteRoom, EdgesNoted, ListNoted, GoneRoom, BlocksGone}
 use Rattle.model.specs.Run.{edge}
 use Rattle.model.specs.Split.{goneEntries}
 use Rattle.lists.proofs.Truths.{untrue}
-use Rattle.columns.proofs.Blocks.{kept-few}
+use Rattle.columns.proofs.Blocks.{kept-le}
 
 -- ---- marks
 
-pub mark-eqb : (t : Bool) → eqb (pick t 1 0) 1 ≡ t
+mark-eqb : (t : Bool) → eqb (pick t 1 0) 1 ≡ t
 mark-eqb true = refl
 mark-eqb false = refl
 
 pub mark-small : (t : Bool) → pick t 1 0 ≤ 1
 mark-small true = omega arith
 mark-small false = omega arith
-
--- one number more passes
-pub count-step : (p : ℕ → Bool) (m : ℕ) (t : Bool) → p m ≡ t → length (sift p (upTo (suc m))) ≡ length (sift p (upTo m)) + length (pick t (m ∷ []) [])
-unfolding upTo
-count-step p m t h =
-    ap (λ (z : ℕ). length (sift p (tab z (λ k. k)))) (sym (add-one m)) ∙ ap length (sift-step p (λ k. k) m) ∙ length-append (sift p (tab m (λ k. k))) (pick (p m) (m ∷ []) [])
-    ∙ ap (λ (z : Bool). length (sift p (tab m (λ k. k))) + length (pick z (m ∷ []) [])) h
 
 -- at the head of a loop: the first i places are marked as T tells
 pub record Marking (T : ℕ → Bool) (n : ℕ) (mask₀ mask : List ℕ) (i : ℕ) : Type 0 where
@@ -117,6 +111,10 @@ module _ (mask : List ℕ) where
       ap (sift (marked mask)) (tab-split a n (λ k. k) h) ∙ sift-append (marked mask) (tab a (λ k. k)) (tab (n - a) (λ k. a + k)) in
       omega (arith, ap length e, length-append (sift (marked mask) (tab a (λ k. k))) (sift (marked mask) (tab (n - a) (λ k. a + k))))
 
+-- the words as they are read of the ends of edge i
+words-read : (ends : List ℕ) (i : ℕ) → _≡_ {A = Words} (record { kind = 2; a = getD ends i 0; b = getD ends (length ends / 4 + i) 0; p = 0; q = 0; t = 0 }) (goneWords ends i)
+words-read ends i = λ z. record { kind = 2; a = sym (col-0 0 (length ends / 4) ends i) z; b = sym (col-1 0 (length ends / 4) ends i) z; p = 0; q = 0; t = 0 }
+
 -- at the head of the loop: the marked among the first i edges are noted
 pub record Noting (mask : List ℕ) (n at : ℕ) (ends log₀ log : List ℕ) (w i : ℕ) : Type 0 where
   pub count : w ≡ at + length (markedOf mask i)
@@ -152,12 +150,10 @@ module _ (mask : List ℕ) (n at : ℕ) (ends log₀ : List ℕ) where
           → logAt (w + 1) log′ ≡ logAt w log ++ (record { kind = 2; a = getD ends i 0; b = getD ends (length ends / 4 + i) 0; p = 0; q = 0; t = 0 } ∷ [])
           → length log′ ≡ length log → Noting mask n at ends log₀ log′ (w + 1) (i + 1)
       noting-take log′ e l =
-          let words : _≡_ {A = Words} (record { kind = 2; a = getD ends i 0; b = getD ends (length ends / 4 + i) 0; p = 0; q = 0; t = 0 }) (goneWords ends i) =
-          λ z. record { kind = 2; a = sym (col-0 0 (length ends / 4) ends i) z; b = sym (col-1 0 (length ends / 4) ends i) z; p = 0; q = 0; t = 0 } in
           record {
             count = omega (arith, G .count, one-more);
             entries =
-                e ∙ ap₂ (λ (a : List Words) (b : Words). a ++ (b ∷ [])) (G .entries) words
+                e ∙ ap₂ (λ (a : List Words) (b : Words). a ++ (b ∷ [])) (G .entries) (words-read ends i)
                 ∙ append-assoc (logAt at log₀) (map (goneWords ends) (markedOf mask i)) (goneWords ends i ∷ [])
                 ∙ ap (λ (l : List Words). logAt at log₀ ++ l) (sym (map-append (goneWords ends) (markedOf mask i) (i ∷ [])))
                 ∙ ap (λ (l : List ℕ). logAt at log₀ ++ map (goneWords ends) l) (sym (marked-take mask i m));
@@ -185,15 +181,43 @@ module _ (mask : List ℕ) (n at : ℕ) (ends log₀ : List ℕ) where
         entries = G .entries ∙ ap (λ (z : ℕ). logAt at log₀ ++ map (goneWords ends) (markedOf mask z)) all;
       }
 
--- ---- marked rows gone
+-- ---- listed edges noted
 
-pick-most : {A : Type 0} (t : Bool) (a b : List A) (n : ℕ) → length a ≤ n → length b ≤ n → length (pick t a b) ≤ n
-pick-most true a b n p q = p
-pick-most false a b n p q = q
+-- at the head of the loop: the first i of the list are noted
+pub record ListNoting (list : List ℕ) (s at : ℕ) (ends log₀ log : List ℕ) (i : ℕ) : Type 0 where
+  pub entries : logAt (at + i) log ≡ logAt at log₀ ++ map (goneWords ends) (take i list)
+  pub inside : i ≤ s
+  pub long : length log ≡ length log₀
 
-kept-most : (m : List ℕ) (n : ℕ) → keptOf m n ≤ n
-unfolding keptOf
-kept-most m n = omega (arith, kept-few m (upTo n), upTo-length n)
+module _ (list : List ℕ) (s at : ℕ) (ends log₀ : List ℕ) where
+  pub listing-start : ListNoting list s at ends log₀ log₀ 0
+  listing-start =
+      let z : at + 0 ≡ at = omega arith in
+      record { entries = ap (λ (n : ℕ). logAt n log₀) z ∙ sym (append-nil (logAt at log₀)); inside = zero-le; long = refl }
+
+  module _ (log : List ℕ) (i : ℕ) (G : ListNoting list s at ends log₀ log i) where
+    pub listing-more : i < s → s ≤ length list → (log′ : List ℕ)
+        → logAt (at + i + 1) log′ ≡ logAt (at + i) log
+        ++ (record { kind = 2; a = getD ends (getD list i 0) 0; b = getD ends (length ends / 4 + getD list i 0) 0; p = 0; q = 0; t = 0 } ∷ [])
+        → length log′ ≡ length log → ListNoting list s at ends log₀ log′ (i + 1)
+    listing-more h few log′ e l =
+        let z : at + (i + 1) ≡ at + i + 1 = omega arith in
+        record {
+          entries =
+              ap (λ (n : ℕ). logAt n log′) z ∙ e ∙ ap₂ (λ (a : List Words) (b : Words). a ++ (b ∷ [])) (G .entries) (words-read ends (getD list i 0))
+              ∙ append-assoc (logAt at log₀) (map (goneWords ends) (take i list)) (goneWords ends (getD list i 0) ∷ [])
+              ∙ ap (λ (l : List Words). logAt at log₀ ++ l) (sym (map-append (goneWords ends) (take i list) (getD list i 0 ∷ [])))
+              ∙ ap (λ (l : List ℕ). logAt at log₀ ++ map (goneWords ends) l) (sym (take-more i list 0 (omega arith)) ∙ ap (λ (n : ℕ). take n list) (sym (add-one i)));
+          inside = omega arith;
+          long = l ∙ G .long;
+        }
+
+    -- all are noted
+    pub listing-done : s ≤ i → ListNoted list s at ends log₀ log (at + s)
+    listing-done h =
+        let inside = G .inside in
+        let all : i ≡ s = omega arith in
+        record { count = refl; entries = subst (λ (z : ℕ). logAt (at + z) log ≡ logAt at log₀ ++ map (goneWords ends) (take z list)) all (G .entries) }
 
 -- ---- where none is marked
 
@@ -261,44 +285,38 @@ blocks-gone L k s em sm ends ends′ lengths lengths′ outline outline′ log l
     record {
       particles = refl;
       triangles = refl;
-      few-edges = omega (arith, E .count, kept-most em (k .edges));
-      few-boundary = omega (arith, B .count, kept-most sm (k .boundary));
+      few-edges = omega (arith, E .count, kept-le em (k .edges));
+      few-boundary = omega (arith, B .count, kept-le sm (k .boundary));
       few-log = omega (arith, N .count, R .marked-are, R .log-in);
       edges = E .edges;
       boundary = sides-kept sm (k .boundary) outline outline′ b B l;
       entries = N .entries;
     }
 
--- ---- marked edges as the model's
-
-module _ {A B : Type 0} (p : B → Bool) (f : A → B) where
-  pick-map : (t : Bool) (a : A) (l : List A) → pick t (f a ∷ map f l) (map f l) ≡ map f (pick t (a ∷ l) l)
-  pick-map true a l = refl
-  pick-map false a l = refl
-
-  -- a sift of what f makes
-  sift-map : (l : List A) → sift p (map f l) ≡ map f (sift (λ a. p (f a)) l)
-  unfolding sift
-  sift-map [] = refl
-  sift-map (a ∷ l) = rw (sift-map l) (pick-map (p (f a)) a (sift (λ a. p (f a)) l))
+-- ---- edges that went as the model's
 
 -- the rows that pass, by their numbers
-sift-rows : {A : Type 0} (p : A → Bool) (mask : List ℕ) (n : ℕ) (row : ℕ → A) → ((j : ℕ) → j < n → marked mask j ≡ p (row j)) → sift p (tab n row) ≡ map row (markedOf mask n)
-unfolding markedOf upTo
-sift-rows p mask n row h =
-    ap (sift p) (sym (map-tab row n (λ k. k))) ∙ sift-map p row (tab n (λ k. k))
-    ∙ ap (map row) (sift-same (λ k. p (row k)) (marked mask) n (λ k. k) (λ j l. sym (h j l)))
+sift-rows : {A : Type 0} (p : A → Bool) (n : ℕ) (row : ℕ → A) → sift p (tab n row) ≡ map row (sift (λ j. p (row j)) (upTo n))
+unfolding upTo
+sift-rows p n row = ap (sift p) (sym (map-tab row n (λ k. k))) ∙ sift-map p row (tab n (λ k. k))
 
-module _ (p : Edge → Bool) (mask ends : List ℕ) (lengths : List Float) where
+module _ (p : Edge → Bool) (ends : List ℕ) (lengths : List Float) where
   words-of : (l : List ℕ) → map wordsOf (map (λ (e : Edge). edge (e .a) (e .b)) (map (rowAt ends lengths) l)) ≡ map (goneWords ends) l
   words-of [] = refl
   words-of (j ∷ l) = ap (λ (t : List Words). goneWords ends j ∷ t) (words-of l)
 
-  -- the marked edges are those that p tells of
-  pub gone-words : (n : ℕ) → ((j : ℕ) → j < n → marked mask j ≡ p (rowAt ends lengths j)) → map wordsOf (goneEntries p (edgesAt n ends lengths)) ≡ map (goneWords ends) (markedOf mask n)
+  -- the edges that p tells of, by their numbers
+  pub gone-listed : (n : ℕ) → map wordsOf (goneEntries p (edgesAt n ends lengths)) ≡ map (goneWords ends) (sift (λ j. p (rowAt ends lengths j)) (upTo n))
   unfolding goneEntries edgesAt
-  gone-words n h = ap (λ (l : List Edge). map wordsOf (map (λ (e : Edge). edge (e .a) (e .b)) l)) (sift-rows p mask n (rowAt ends lengths) h) ∙ words-of (markedOf mask n)
+  gone-listed n =
+      ap (λ (l : List Edge). map wordsOf (map (λ (e : Edge). edge (e .a) (e .b)) l)) (sift-rows p n (rowAt ends lengths)) ∙ words-of (sift (λ j. p (rowAt ends lengths j)) (upTo n))
 
   -- as many
-  pub gone-count : (n : ℕ) → ((j : ℕ) → j < n → marked mask j ≡ p (rowAt ends lengths j)) → length (goneEntries p (edgesAt n ends lengths)) ≡ length (markedOf mask n)
-  gone-count n h = sym (length-map (goneEntries p (edgesAt n ends lengths)) wordsOf) ∙ ap length (gone-words n h) ∙ length-map (markedOf mask n) (goneWords ends)
+  pub gone-many : (n : ℕ) → length (goneEntries p (edgesAt n ends lengths)) ≡ length (sift (λ j. p (rowAt ends lengths j)) (upTo n))
+  gone-many n =
+      sym (length-map (goneEntries p (edgesAt n ends lengths)) wordsOf) ∙ ap length (gone-listed n) ∙ length-map (sift (λ j. p (rowAt ends lengths j)) (upTo n)) (goneWords ends)
+
+  -- the marked edges, where they are those that p tells of
+  pub gone-words : (mask : List ℕ) (n : ℕ) → ((j : ℕ) → j < n → marked mask j ≡ p (rowAt ends lengths j)) → map wordsOf (goneEntries p (edgesAt n ends lengths)) ≡ map (goneWords ends) (markedOf mask n)
+  unfolding markedOf upTo
+  gone-words mask n h = gone-listed n ∙ ap (map (goneWords ends)) (sift-same (λ j. p (rowAt ends lengths j)) (marked mask) n (λ k. k) (λ j l. sym (h j l)))

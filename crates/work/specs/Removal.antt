@@ -1,9 +1,9 @@
--- Marked edges and boundary entries go from the blocks, the edges noted in the log. Only contracts between workers need this file. Definitions only.
+-- Marked edges and boundary entries go from the blocks, and edges that go are noted in the log, the marked or the listed. Only contracts between workers need this file. Definitions only.
 use Prim.Native.Nat.{ℕ, _+_, _/_, _<_, _≤_}
 use mathlib.Core.Path.{_≡_}
 use mathlib.Core.Bool.{Bool}
 use mathlib.Core.List.{List, _++_, map}
-use lib.ListN.{length, getD}
+use lib.ListN.{length, getD, take}
 use lib.Dec.{eqb}
 use lib.Ieee.{Float}
 use Rattle.lists.specs.Lists.{sift, keep, upTo}
@@ -44,6 +44,20 @@ pub record NoteRoom (mask : List ℕ) (n at : ℕ) (ends : List ℕ) (lg : ℕ) 
 pub record EdgesNoted (mask : List ℕ) (n at : ℕ) (ends log log′ : List ℕ) (r : ℕ) : Type 0 where
   pub count : r ≡ at + length (markedOf mask n)
   pub entries : logAt r log′ ≡ logAt at log ++ map (goneWords ends) (markedOf mask n)
+
+-- what the notes of s listed edges ask, behind `at` entries: they are among the first `rows` edges, whose ends are numbers of particles
+pub record ListNoteRoom (list : List ℕ) (s at : ℕ) (ends : List ℕ) (lg : ℕ) : Type 0 where
+  pub rows : ℕ
+  pub few : s ≤ length list
+  pub below : (i : ℕ) → i < s → getD list i 0 < rows
+  pub ends-long : rows ≤ length ends / 4
+  pub ends-in : EndsIn 1024 rows ends
+  pub log-long : at + s ≤ lg / 6
+
+-- the s listed edges stand in the log behind the `at` entries, in the order of the list, and it has r entries
+pub record ListNoted (list : List ℕ) (s at : ℕ) (ends log log′ : List ℕ) (r : ℕ) : Type 0 where
+  pub count : r ≡ at + s
+  pub entries : logAt r log′ ≡ logAt at log ++ map (goneWords ends) (take s list)
 
 -- what the removal of marked edges asks: s of the first n edges are marked
 pub record MarkedRoom (mask : List ℕ) (n s le ll : ℕ) : Type 0 where

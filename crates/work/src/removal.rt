@@ -1,9 +1,9 @@
-// Marked edges and boundary entries go from the lent blocks, and each such edge is noted by its ends.
+// Marked edges and boundary entries go from the lent blocks; each edge that goes is noted by its ends, the marked ones or those of a list.
 ghost use mathlib.Core.Path.{_≡_};
 ghost use lib.ListN.{length};
 ghost use Rattle.mesh.specs.At.{edgesAt};
 ghost use Rattle.mesh.specs.Workers.{Removed};
-ghost use Rattle.work.specs.Removal.{markedOf, NoteRoom, EdgesNoted, MarkedRoom, GoneRoom, GoneTo};
+ghost use Rattle.work.specs.Removal.{markedOf, NoteRoom, EdgesNoted, ListNoteRoom, ListNoted, MarkedRoom, GoneRoom, GoneTo};
 use crate::Ran;
 use mesh::Counts;
 use mesh::Rooms;
@@ -42,6 +42,21 @@ pub fn note_marked(
         return at;
     }
     note_edges(mask, n, at, ends, log)
+}
+
+// Notes the s edges of a list, by their ends, behind the `at` entries of the log; returns how many entries there are.
+pub fn note_listed(list: &[usize], s: usize, at: usize, ends: &[usize], log: &mut [u32]) -> usize
+    requires { ⌜ ListNoteRoom (now list) s at (now ends) (length (now log)) ⌝ }
+    ensures { λ r. ⌜ ListNoted (now (list .entry)) s at (now (ends .entry)) (now (log .entry)) (now (log .exit)) r ⌝ }
+{
+    let c = ends.len() / 4;
+    let mut i: usize = 0;
+    while i < s {
+        let e = list[i];
+        crate::notes::note(at + i, 2, ends[e] as u32, ends[c + e] as u32, 0, 0, 0, log);
+        i += 1;
+    }
+    at + s
 }
 
 // Removes the s marked edges from the first n, and returns how many are left; where none is marked there is nothing to move.

@@ -425,7 +425,7 @@ pub fn run(words: &[String]) -> i32 {
         if rows.peek().is_some() {
             let mut still = torn_row(&t, idle, None);
             still.copied = Some(copied(&t, &idle.call));
-            all.extend(kept.then_some(still));
+            if kept { all.push(still) } else { grown.push(still) }
         }
         let into = if kept { &mut all } else { &mut grown };
         rows.for_each(|r| into.push(torn_row(&t, r, Some(&idle.call))));
@@ -502,7 +502,7 @@ fn wanted(all: &[Measured], grown: &[Measured]) {
     }
     // A root and a blade test have no image.
     let imaged: Vec<(f64, &Measured)> =
-        all.iter().filter(|r| r.mesh != "-").filter_map(|r| Some((r.ours? / r.whole, r))).collect();
+        all.iter().chain(grown).filter(|r| r.mesh != "-").filter_map(|r| Some((r.ours? / r.whole, r))).collect();
     if let Some((got, r)) = imaged.iter().max_by(|a, b| a.0.total_cmp(&b.0)) {
         let rows = imaged.iter().filter(|(got, _)| *got <= FROM_IMAGE).count();
         let what = format!("all rows: ours / Rust from the image; the largest is `{}`, {}", r.function, r.mesh);

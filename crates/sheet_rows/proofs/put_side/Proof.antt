@@ -3,7 +3,7 @@ use Prim.Native.Nat.{_/_}
 use lib.ListN.{length}
 use lib.ListN.{length-set}
 use native.Mathlib.Omega.{arith}
-use Rattle.outline.proofs.Adding.{first-place, second-place}
+use Rattle.outline_tables.proofs.Adding.{first-place, second-place}
 use Rattle.sheet_rows.proofs.RowPuts.{putCols, side-pushed}
 use borrow.Author.Needs.{needs}
 use Rattle.sheet_rows.proofs.put_side.Statement.{statement}

@@ -1,46 +1,38 @@
--- `boundary::entries::follow_entry` meets its contract: nothing where v is no end, else two replacements, one in each column. Assumes nothing.
-use Rattle.boundary.proofs.BoundaryLaws.{entry-left, entry-followed}
-use borrow.Author.Tests.{not-true, not-false}
-use mathlib.Core.Path.{sym, _∙_}
-use borrow.Author.Needs.{needs}
+-- `boundary::entries::follow_entry` meets its contract: the copy that stands for v, and the row turned to it (proofs/BoundaryLaws.antt). Assumes nothing.
+use Rattle.boundary.proofs.BoundaryLaws.{entry-in, entry-named, entry-turn, entry-followed}
+use native.Mathlib.Omega.{arith}
 use Rattle.boundary.proofs.entries.follow_entry.Statement.{statement}
 use Rattle.boundary.proofs.entries.follow_entry.Tie as tie
 
 add-j : tie.Need-add-j
-add-j c = search needs
+add-j c = let h = entry-in (c .before .before .before .before .before .pre) in omega (arith, h)
 
 mul-x : tie.Need-mul-x
-mul-x c = search needs
+mul-x c = let h = entry-in (c .before .before .before .before .before .pre) in omega (arith, h)
 
 slice-read-x : tie.Need-slice-read-x
-slice-read-x c = search needs
+slice-read-x c = let h = entry-in (c .before .before .before .before .before .before .pre) in omega (arith, h)
 
 mul-y : tie.Need-mul-y
-mul-y c = search needs
+mul-y c = let h = entry-in (c .before .before .before .before .before .before .pre) in omega (arith, h)
 
 slice-read-y : tie.Need-slice-read-y
-slice-read-y c = search needs
-
-names-requires : tie.Need-names-requires
-names-requires c κs = search needs
-
-returns : tie.Need-returns
-returns c = entry-left _ _ _ _ _ _ _ _ _ (sym (c .before .names .ensures) ∙ not-true _ (c .if1 .taken))
+slice-read-y c = let h = entry-in (c .before .before .before .before .before .before .before .pre) in omega (arith, h)
 
 side-copy-requires : tie.Need-side-copy-requires
-side-copy-requires c κs = (c .before .before .before .before .before .before .before .before .pre .1, c .before .before .before .before .before .before .before .before .pre .2, sym (c .before .names .ensures) ∙ not-false _ (c .if1 .left))
+side-copy-requires c κs = (c .before .before .before .before .before .before .before .pre .side, c .before .before .before .before .before .before .before .pre .copies, entry-named (c .before .before .before .before .before .before .before .pre))
 
-replace-at-requires : tie.Need-replace-at-requires
-replace-at-requires c κs = search needs
-
-replace-at-requires-2 : tie.Need-replace-at-requires-2
-replace-at-requires-2 c κs = search needs
+turn-row-requires : tie.Need-turn-row-requires
+turn-row-requires c κs = entry-turn (c .before .before .before .before .before .before .before .before .before .before .pre) (c .before .before .side-copy .ensures)
 
 same-length : tie.Need-same-length
-same-length c = search needs
+same-length c = c .before .before .before .before .turn-row .kept .1 .1 .1 .1 .1 .0
 
-returns-2 : tie.Need-returns-2
-returns-2 c = entry-followed _ _ _ _ _ _ (c .before .before .before .before .before .before .before .before .before .before .before .before .before .before .before .before .before .pre .0) (c .before .before .before .before .before .before .replace-at .ensures) (c .before .before .replace-at2 .ensures) (c .before .before .before .before .before .before .before .before .side-copy .ensures)
+same-length-2 : tie.Need-same-length-2
+same-length-2 c = c .before .before .before .before .turn-row .kept .1 .1 .1 .1 .1 .1 .0
+
+returns : tie.Need-returns
+returns c = (entry-followed (c .before .before .before .before .before .before .before .before .before .before .before .before .before .before .before .pre) (c .before .before .before .before .before .before .before .side-copy .ensures) (c .before .before .before .before .turn-row .ensures .0), c .before .before .before .before .turn-row .ensures .1)
 
 pub follow-entry-spec : {M : Type 1} → statement M
 follow-entry-spec =
@@ -51,10 +43,8 @@ follow-entry-spec =
     slice-read-x
     mul-y
     slice-read-y
-    names-requires
-    returns
     side-copy-requires
-    replace-at-requires
-    replace-at-requires-2
+    turn-row-requires
     same-length
-    returns-2)
+    same-length-2
+    returns)

@@ -84,10 +84,10 @@ part-first-face-end-2 : tie.Need-part-first-face-end-2
 part-first-face-end-2 c = search needs
 
 first-face-requires : tie.Need-first-face-requires
-first-face-requires c κs = search needs
+first-face-requires c κs = c .before .before .before .before .before .before .before .before .before .before .before .before .pre .4 _ (c .before .before .before .before .before .before .before .before .before .before .before .before .pre .3)
 
 returns : tie.Need-returns
-returns c = let A = c .before .before .before .before .before .before .before .before .before .before .before .before .before .args in face-found (A .v) (A .before) (A .n) (A .count) (A .numbers .now) (A .verts .now) (A .groups .now) (A .corners .now) (A .i) (A .j) (A .r) (c .before .before .before .before .before .before .copy-number .result) (c .first-face .result) (c .before .before .before .before .before .before .before .before .before .before .before .before .before .pre .1) (c .before .before .before .before .before .before .before .before .before .before .before .before .before .pre .2) (c .before .before .before .before .before .before .before .before .before .before .before .before .before .pre .3) (c .before .before .before .before .before .before .copy-number .ensures) (c .first-face .ensures)
+returns c = let A = c .before .before .before .before .before .before .before .before .before .before .before .before .before .args in (face-found (A .v) (A .before) (A .n) (A .count) (A .numbers .now) (A .verts .now) (A .groups .now) (A .corners .now) (A .i) (A .j) (A .r) (c .before .before .before .before .before .before .copy-number .result) (c .first-face .result) (c .before .before .before .before .before .before .before .before .before .before .before .before .before .pre .1) (c .before .before .before .before .before .before .before .before .before .before .before .before .before .pre .2) (c .before .before .before .before .before .before .before .before .before .before .before .before .before .pre .3) (c .before .before .before .before .before .before .copy-number .ensures) (c .first-face .ensures .0), c .first-face .ensures .1)
 
 pub face-of-spec : {M : Type 1} → statement M
 face-of-spec =

@@ -1,103 +1,78 @@
--- `crack::body::crack_body` meets its contract: the end comes behind the torn edges. Assumes nothing.
-use mathlib.Core.Path.{refl, _∙_}
-use Rattle.work.proofs.Runs.{works-known}
+-- `crack::body::crack_body` meets its contract: there is nothing to do; or the tables of links are built, and the crack is done on them. Assumes nothing.
+use native.Mathlib.Omega.{arith}
+use mathlib.Core.Path.{refl, sym}
+use Rattle.lists.proofs.Truths.{of-not}
 use Rattle.elements.specs.Table.{kindIs}
 use Rattle.mesh.specs.Log.{worldAt}
-use Rattle.mesh.proofs.Agree.{lent-path}
-use Rattle.crack.proofs.BodyLaws.{left-ready, left-entries, left-words, turns-indexed, body-refused, body-done}
+use Rattle.split.proofs.LinkLaws.{linkable-ready}
+use Rattle.cut.proofs.CutLaws.{near-room}
+use Rattle.crack.proofs.BodyLaws.{crack-none}
 use borrow.Author.Needs.{needs}
 use Rattle.crack.proofs.body.crack_body.Statement.{statement}
 use Rattle.crack.proofs.body.crack_body.Tie as tie
 
-crack-torn-requires : tie.Need-crack-torn-requires
-crack-torn-requires c κs = c .before .before .before .before .before .before .before .before .before .before .before .before .before .before .before .before .pre
-
-enum-known-ran : tie.Need-enum-known-ran
-enum-known-ran c = search needs
-
-enum-told : tie.Need-enum-told
-enum-told c = search needs
+any-split-requires : tie.Need-any-split-requires
+any-split-requires c κs = let A = c .before .before .before .before .before .before .before .before .before .before .before .args in let P = c .before .before .before .before .before .before .before .before .before .before .before .pre in near-room (A .k) (A .points .now) (A .roots .now) (A .corners .now) (A .volumes .now) (A .ends .now) (A .lengths .now) (A .outline .now) (A .log .now) (A .room) _ (P .0) refl refl refl
 
 same-length : tie.Need-same-length
-same-length c = c .before .before .before .before .before .before .before .before .before .before .before .before .before .before .before .before .crack-torn .kept .1 .1 .1 .1 .1 .0
-
-same-length-2 : tie.Need-same-length-2
-same-length-2 c = c .before .before .before .before .before .before .before .before .before .before .before .before .before .before .before .before .crack-torn .kept .1 .1 .1 .1 .1 .1 .0
-
-same-length-3 : tie.Need-same-length-3
-same-length-3 c = c .before .before .before .before .before .before .before .before .before .before .before .before .before .before .before .before .crack-torn .kept .1 .1 .1 .1 .1 .1 .1 .0
-
-same-length-4 : tie.Need-same-length-4
-same-length-4 c = c .before .before .before .before .before .before .before .before .before .before .before .before .before .before .before .before .crack-torn .kept .1 .1 .1 .1 .1 .1 .1 .1 .1 .0
-
-same-length-5 : tie.Need-same-length-5
-same-length-5 c = c .before .before .before .before .before .before .before .before .before .before .before .before .before .before .before .before .crack-torn .kept .1 .1 .1 .1 .1 .1 .1 .1 .1 .1 .0
-
-same-length-6 : tie.Need-same-length-6
-same-length-6 c = c .before .before .before .before .before .before .before .before .before .before .before .before .before .before .before .before .crack-torn .kept .1 .1 .1 .1 .1 .1 .1 .1 .1 .1 .1 .0
-
-same-length-7 : tie.Need-same-length-7
-same-length-7 c = c .before .before .before .before .before .before .before .before .before .before .before .before .before .before .before .before .crack-torn .kept .1 .1 .1 .1 .1 .1 .1 .1 .1 .1 .1 .1 .0
+same-length c = search needs
 
 returns : tie.Need-returns
-returns c = let A = c .before .before .before .before .before .before .before .before .before .before .before .before .before .before .before .before .before .before .before .before .before .before .before .before .before .before .before .before .before .before .before .before .before .args in
-    body-refused (kindIs (A .kind)) (A .minimum) (A .torn .now) _ (c .before .before .before .before .before .before .before .before .before .before .before .before .before .before .before .before .crack-torn .ensures) _ (c .enum-told .given .1)
-
-finish-requires : tie.Need-finish-requires
 unfolding worldAt
-finish-requires c κs = let A = c .before .before .before .before .before .before .before .before .before .before .before .before .before .before .before .before .before .before .before .before .before .before .before .before .before .before .before .before .before .before .before .before .before .before .before .before .before .before .before .before .before .args in
-    let P = c .before .before .before .before .before .before .before .before .before .before .before .before .before .before .before .before .before .before .before .before .before .before .before .before .before .before .before .before .before .before .before .before .before .before .before .before .before .before .before .before .before .pre in
-    let S = c .before .before .before .before .before .before .before .before .before .before .before .before .before .before .before .before .before .before .before .before .before .before .before .before .crack-torn in (
-      left-ready (works-known _ _ (c .before .before .before .before .before .before .before .before .ran .given .1) (S .ensures)) (P .1 .entries) (P .1 .words) (turns-indexed (kindIs (A .kind)) (A .minimum) (A .torn .now)) (A .k) _ _ (P .0) (lent-path _ _ (S .kept .1 .1 .1 .1 .1 .0) (S .kept .1 .1 .1 .1 .1 .1 .0) (S .kept .1 .1 .1 .1 .1 .1 .1 .0) refl (S .kept .1 .1 .1 .1 .1 .1 .1 .1 .1 .0) (S .kept .1 .1 .1 .1 .1 .1 .1 .1 .1 .1 .0) (S .kept .1 .1 .1 .1 .1 .1 .1 .1 .1 .1 .1 .0) (S .kept .1 .1 .1 .1 .1 .1 .1 .1 .1 .1 .1 .1 .0)),
-      record { entries = left-entries (works-known _ _ (c .before .before .before .before .before .before .before .before .ran .given .1) (S .ensures)) (P .1 .entries) (P .1 .words); words = left-words (works-known _ _ (c .before .before .before .before .before .before .before .before .ran .given .1) (S .ensures)) (P .1 .entries) (P .1 .words) },
-    )
+returns c = let A = c .before .before .before .before .before .before .before .before .before .before .before .before .before .args in let P = c .before .before .before .before .before .before .before .before .before .before .before .before .before .pre in crack-none (kindIs (A .kind)) (A .minimum) (A .torn .now) (λ q. worldAt q (A .points .now) (A .roots .now) (A .corners .now) (A .volumes .now) (A .ends .now) (A .lengths .now) (A .outline .now) (A .log .now)) (A .k) (c .before .any-split .result) (c .before .any-split .ensures .is) (c .before .before .before .if1 .taken) (of-not _ (sym (c .if2 .taken))) (P .0 .counts)
+
+slice-aggregate-link-mesh : tie.Need-slice-aggregate-link-mesh
+slice-aggregate-link-mesh c = search needs
+
+link-mesh-requires : tie.Need-link-mesh-requires
+link-mesh-requires c κs = let A = c .before .before .before .before .before .before .before .before .before .before .before .before .before .before .args in let P = c .before .before .before .before .before .before .before .before .before .before .before .before .before .before .pre in linkable-ready (kindIs (A .kind)) (A .room) (A .k) (A .points .now) (A .roots .now) (A .corners .now) (A .volumes .now) (A .ends .now) (A .lengths .now) (A .outline .now) (A .log .now) (P .0) _ (omega arith)
+
+slice-aggregate-crack-linked : tie.Need-slice-aggregate-crack-linked
+slice-aggregate-crack-linked c = search needs
+
+crack-linked-requires : tie.Need-crack-linked-requires
+crack-linked-requires c κs = let P = c .before .before .before .before .before .before .before .before .before .before .before .before .before .before .before .before .before .before .before .before .before .before .before .before .pre in (P .0, P .1, c .before .before .before .before .before .before .before .before .before .link-mesh .ensures)
+
+same-length-2 : tie.Need-same-length-2
+same-length-2 c = c .before .before .before .before .before .before .before .before .before .before .before .before .before .before .before .crack-linked .kept .1 .1 .1 .1 .1 .0
+
+same-length-3 : tie.Need-same-length-3
+same-length-3 c = c .before .before .before .before .before .before .before .before .before .before .before .before .before .before .before .crack-linked .kept .1 .1 .1 .1 .1 .1 .0
+
+same-length-4 : tie.Need-same-length-4
+same-length-4 c = c .before .before .before .before .before .before .before .before .before .before .before .before .before .before .before .crack-linked .kept .1 .1 .1 .1 .1 .1 .1 .0
+
+same-length-5 : tie.Need-same-length-5
+same-length-5 c = c .before .before .before .before .before .before .before .before .before .before .before .before .before .before .before .crack-linked .kept .1 .1 .1 .1 .1 .1 .1 .1 .1 .0
+
+same-length-6 : tie.Need-same-length-6
+same-length-6 c = c .before .before .before .before .before .before .before .before .before .before .before .before .before .before .before .crack-linked .kept .1 .1 .1 .1 .1 .1 .1 .1 .1 .1 .0
+
+same-length-7 : tie.Need-same-length-7
+same-length-7 c = c .before .before .before .before .before .before .before .before .before .before .before .before .before .before .before .crack-linked .kept .1 .1 .1 .1 .1 .1 .1 .1 .1 .1 .1 .0
 
 same-length-8 : tie.Need-same-length-8
-same-length-8 c = c .before .before .before .before .before .before .before .before .before .before .before .before .before .before .finish .kept .1 .1 .1 .0 ∙ c .before .before .before .before .before .before .before .before .before .before .before .before .before .before .before .before .before .before .before .before .before .before .before .before .before .before .before .before .before .before .before .before .before .before .before .before .before .before .before .crack-torn .kept .1 .1 .1 .1 .1 .0
-
-same-length-9 : tie.Need-same-length-9
-same-length-9 c = c .before .before .before .before .before .before .before .before .before .before .before .before .before .before .finish .kept .1 .1 .1 .1 .0 ∙ c .before .before .before .before .before .before .before .before .before .before .before .before .before .before .before .before .before .before .before .before .before .before .before .before .before .before .before .before .before .before .before .before .before .before .before .before .before .before .before .crack-torn .kept .1 .1 .1 .1 .1 .1 .0
-
-same-length-10 : tie.Need-same-length-10
-same-length-10 c = c .before .before .before .before .before .before .before .before .before .before .before .before .before .before .finish .kept .1 .1 .1 .1 .1 .0 ∙ c .before .before .before .before .before .before .before .before .before .before .before .before .before .before .before .before .before .before .before .before .before .before .before .before .before .before .before .before .before .before .before .before .before .before .before .before .before .before .before .crack-torn .kept .1 .1 .1 .1 .1 .1 .1 .0
-
-same-length-11 : tie.Need-same-length-11
-same-length-11 c = c .before .before .before .before .before .before .before .before .before .before .before .before .before .before .finish .kept .1 .1 .1 .1 .1 .1 .1 .0 ∙ c .before .before .before .before .before .before .before .before .before .before .before .before .before .before .before .before .before .before .before .before .before .before .before .before .before .before .before .before .before .before .before .before .before .before .before .before .before .before .before .crack-torn .kept .1 .1 .1 .1 .1 .1 .1 .1 .1 .0
-
-same-length-12 : tie.Need-same-length-12
-same-length-12 c = c .before .before .before .before .before .before .before .before .before .before .before .before .before .before .finish .kept .1 .1 .1 .1 .1 .1 .1 .1 .0 ∙ c .before .before .before .before .before .before .before .before .before .before .before .before .before .before .before .before .before .before .before .before .before .before .before .before .before .before .before .before .before .before .before .before .before .before .before .before .before .before .before .crack-torn .kept .1 .1 .1 .1 .1 .1 .1 .1 .1 .1 .0
-
-same-length-13 : tie.Need-same-length-13
-same-length-13 c = c .before .before .before .before .before .before .before .before .before .before .before .before .before .before .finish .kept .1 .1 .1 .1 .1 .1 .1 .1 .1 .0 ∙ c .before .before .before .before .before .before .before .before .before .before .before .before .before .before .before .before .before .before .before .before .before .before .before .before .before .before .before .before .before .before .before .before .before .before .before .before .before .before .before .crack-torn .kept .1 .1 .1 .1 .1 .1 .1 .1 .1 .1 .1 .0
-
-same-length-14 : tie.Need-same-length-14
-same-length-14 c = c .before .before .before .before .before .before .before .before .before .before .before .before .before .before .finish .kept .1 .1 .1 .1 .1 .1 .1 .1 .1 .1 .0 ∙ c .before .before .before .before .before .before .before .before .before .before .before .before .before .before .before .before .before .before .before .before .before .before .before .before .before .before .before .before .before .before .before .before .before .before .before .before .before .before .before .crack-torn .kept .1 .1 .1 .1 .1 .1 .1 .1 .1 .1 .1 .1 .0
+same-length-8 c = c .before .before .before .before .before .before .before .before .before .before .before .before .before .before .before .crack-linked .kept .1 .1 .1 .1 .1 .1 .1 .1 .1 .1 .1 .1 .0
 
 returns-2 : tie.Need-returns-2
-returns-2 c = let A = c .before .before .before .before .before .before .before .before .before .before .before .before .before .before .before .before .before .before .before .before .before .before .before .before .before .before .before .before .before .before .before .before .before .before .before .before .before .before .before .before .before .before .before .before .before .before .before .before .before .before .before .before .before .before .before .before .args in
-    body-done (kindIs (A .kind)) (A .minimum) (A .torn .now) _ (c .before .before .before .before .before .before .before .before .before .before .before .before .before .before .before .before .before .before .before .before .before .before .before .before .before .before .before .before .before .before .before .before .before .before .before .before .before .before .before .crack-torn .ensures) _ (c .before .before .before .before .before .before .before .before .before .before .before .before .before .before .before .before .before .before .before .before .before .before .before .ran .given .1) (c .before .before .before .before .before .before .before .before .before .before .before .before .before .before .finish .ensures)
+returns-2 c = c .before .before .before .before .before .before .before .before .before .before .before .before .before .before .before .crack-linked .ensures
 
 pub crack-body-spec : {M : Type 1} → statement M
 crack-body-spec =
     tie.close
     (tie.spec
-    crack-torn-requires
-    enum-known-ran
-    enum-told
+    any-split-requires
     same-length
+    returns
+    slice-aggregate-link-mesh
+    link-mesh-requires
+    slice-aggregate-crack-linked
+    crack-linked-requires
     same-length-2
     same-length-3
     same-length-4
     same-length-5
     same-length-6
     same-length-7
-    returns
-    finish-requires
     same-length-8
-    same-length-9
-    same-length-10
-    same-length-11
-    same-length-12
-    same-length-13
-    same-length-14
     returns-2)

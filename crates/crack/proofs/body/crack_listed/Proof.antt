@@ -14,7 +14,7 @@ use Rattle.crack.proofs.body.crack_listed.Statement.{statement}
 use Rattle.crack.proofs.body.crack_listed.Tie as tie
 
 abbrev Inv-loop : tie.InvT-loop
-Inv-loop kind minimum torn e from to loads room points₀ roots₀ corners₀ volumes ends₀ lengths₀ outline₀ log₀ links₀ counts₀ i₀ points roots corners ends lengths outline log links counts i = ListedTo (kindIs kind) minimum torn e from to loads room counts₀ points₀ roots₀ corners₀ volumes ends₀ lengths₀ outline₀ log₀ points roots corners ends lengths outline log counts i × MeshLinked (kindIs kind) (counts .triangles) (counts .edges) corners ends links × (length links ≡ length links₀)
+Inv-loop kind minimum torn e from to loads room points₀ roots₀ corners₀ volumes ends₀ lengths₀ outline₀ log₀ links₀ counts₀ i₀ points roots corners ends lengths outline log links counts i = ListedTo (kindIs kind) minimum torn e from to loads room counts₀ points₀ roots₀ corners₀ volumes ends₀ lengths₀ outline₀ log₀ points roots corners ends lengths outline log counts i × MeshLinked (kindIs kind) (counts .triangles) (counts .edges) (counts .boundary) corners ends outline links × (length links ≡ length links₀)
 
 abbrev μ-loop : tie.MeasureT-loop
 μ-loop kind minimum torn e from to loads room points₀ roots₀ corners₀ volumes ends₀ lengths₀ outline₀ log₀ links₀ counts₀ i₀ points roots corners ends lengths outline log links counts i = length torn - i
@@ -70,7 +70,7 @@ returns : tie.Need-returns Inv-loop μ-loop
 returns c = let A = c .before .before .before .before .before .before .before .before .before .before .before .before .before .before .before .before .before .before .before .before .before .before .before .before .before .before .before .before .before .before .before .before .before .before .before .before .before .before .before .before .before .before .before .args in
     let P = c .before .before .before .before .before .before .before .before .before .before .before .before .before .before .before .before .before .before .before .before .before .before .before .before .before .before .before .before .before .before .before .before .before .before .before .before .before .before .before .before .before .before .before .pre in
     let L = c .before .before .before .before .before .before .before .before .before .before .before .before .before .before .before .before .before .before .before .before .before .before .before .before .before .before .before .before .before .loop in
-    to-stop (kindIs (A .kind)) (A .minimum) (A .torn .now) (A .e) (A .from .now) (A .to .now) (A .loads .now) (A .room) (A .k) (A .points .now) (A .roots .now) (A .corners .now) (A .volumes .now) (A .ends .now) (A .lengths .now) (A .outline .now) (A .log .now) (P .0) (P .1) (L .points) (L .roots) (L .corners) (L .ends) (L .lengths) (L .outline) (L .log) (L .counts) (L .i) (L .inv .0) _ _ _ _ _ _ _ _ (c .before .before .before .before .before .before .before .before .before .before .before .before .before .before .before .before .before .before .crack-numbered .ensures .0) (c .before .before .before .before .before .before .before .before .before .before .before .before .before .before .before .before .before .before .before .before .before .before .before .before .before .before .before .before .loop-test .taken) _ (c .enum-told .given .1)
+    (to-stop (kindIs (A .kind)) (A .minimum) (A .torn .now) (A .e) (A .from .now) (A .to .now) (A .loads .now) (A .room) (A .k) (A .points .now) (A .roots .now) (A .corners .now) (A .volumes .now) (A .ends .now) (A .lengths .now) (A .outline .now) (A .log .now) (P .0) (P .1) (L .points) (L .roots) (L .corners) (L .ends) (L .lengths) (L .outline) (L .log) (L .counts) (L .i) (L .inv .0) _ _ _ _ _ _ _ _ (c .before .before .before .before .before .before .before .before .before .before .before .before .before .before .before .before .before .before .crack-numbered .ensures .0) (c .before .before .before .before .before .before .before .before .before .before .before .before .before .before .before .before .before .before .before .before .before .before .before .before .before .before .before .before .loop-test .taken) _ (c .enum-told .given .1), c .before .before .before .before .before .before .before .before .before .before .before .before .before .before .before .before .before .before .crack-numbered .ensures .1)
 
 add-i : tie.Need-add-i Inv-loop μ-loop
 add-i c = omega (arith, c .before .before .before .before .before .before .before .before .before .before .before .before .before .before .before .before .before .before .before .before .before .before .before .before .before .before .before .before .before .loop-test .taken, c .before .before .before .before .before .before .before .before .before .before .before .before .before .before .before .before .before .before .before .before .before .before .before .before .before .before .before .before .before .before .before .before .before .before .before .before .before .before .before .before .before .before .before .before .good .1 .1 .0)
@@ -116,7 +116,7 @@ returns-2 : tie.Need-returns-2 Inv-loop μ-loop
 returns-2 c = let A = c .before .before .before .before .before .before .before .before .before .before .before .before .before .before .before .args in
     let P = c .before .before .before .before .before .before .before .before .before .before .before .before .before .before .before .pre in
     let L = c .before .loop in
-    to-done (kindIs (A .kind)) (A .minimum) (A .torn .now) (A .e) (A .from .now) (A .to .now) (A .loads .now) (A .room) (A .k) (A .points .now) (A .roots .now) (A .corners .now) (A .volumes .now) (A .ends .now) (A .lengths .now) (A .outline .now) (A .log .now) (P .0) (P .1) (L .points) (L .roots) (L .corners) (L .ends) (L .lengths) (L .outline) (L .log) (L .counts) (L .i) (L .inv .0) (omega (arith, c .loop-test .left))
+    (to-done (kindIs (A .kind)) (A .minimum) (A .torn .now) (A .e) (A .from .now) (A .to .now) (A .loads .now) (A .room) (A .k) (A .points .now) (A .roots .now) (A .corners .now) (A .volumes .now) (A .ends .now) (A .lengths .now) (A .outline .now) (A .log .now) (P .0) (P .1) (L .points) (L .roots) (L .corners) (L .ends) (L .lengths) (L .outline) (L .log) (L .counts) (L .i) (L .inv .0) (omega (arith, c .loop-test .left)), L .inv .1)
 
 pub crack-listed-spec : {M : Type 1} → statement M
 crack-listed-spec =

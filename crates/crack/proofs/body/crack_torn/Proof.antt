@@ -1,17 +1,12 @@
--- `crack::body::crack_torn` meets its contract: there is nothing to do; or the tables hold the ends and the loads of the input, and the fans. Assumes nothing.
+-- `crack::body::crack_torn` meets its contract: the tables hold the ends and the loads of the input, and the edges are cracked by them. Assumes nothing.
 use native.Mathlib.Omega.{arith}
 use lib.ListN.{getD-replicate}
 use Rattle.elements.specs.Table.{kindIs}
-use Rattle.mesh.specs.Log.{worldAt}
-use Rattle.split.proofs.LinkLaws.{linkable-ready}
 use Rattle.tear.proofs.LinkLaws.{numbered}
-use Rattle.crack.proofs.BodyLaws.{turns-none, turns-work}
+use Rattle.crack.proofs.BodyLaws.{turns-work}
 use borrow.Author.Needs.{needs}
 use Rattle.crack.proofs.body.crack_torn.Statement.{statement}
 use Rattle.crack.proofs.body.crack_torn.Tie as tie
-
-returns : tie.Need-returns
-returns c = let A = c .before .before .before .before .before .before .before .before .before .before .args in turns-none (kindIs (A .kind)) (A .minimum) (A .torn .now) {at = λ q. worldAt q (A .points .now) (A .roots .now) (A .corners .now) (A .volumes .now) (A .ends .now) (A .lengths .now) (A .outline .now) (A .log .now)} (A .k) (c .if1 .taken) (c .before .before .before .before .before .before .before .before .before .before .pre .0 .counts)
 
 cast-none : tie.Need-cast-none
 cast-none c = let P = c .before .before .before .before .before .before .before .before .before .before .before .pre .0 in omega (arith, P .counts .edges, P .rooms .few-edges)
@@ -51,19 +46,13 @@ slice-aggregate-keep-ends-2 : tie.Need-slice-aggregate-keep-ends-2
 slice-aggregate-keep-ends-2 c = search needs
 
 keep-ends-requires : tie.Need-keep-ends-requires
-keep-ends-requires c κs = let P = c .before .before .before .before .before .before .before .before .before .before .before .before .before .before .before .before .before .before .before .before .before .before .before .before .pre .0 in let A = c .before .before .before .before .before .before .before .before .before .before .before .before .before .before .before .before .before .before .before .before .before .before .before .before .args in let R = c .before .before .before .before .before .before .read-loads .kept in
+keep-ends-requires c κs = let P = c .before .before .before .before .before .before .before .before .before .before .before .before .before .before .before .before .before .before .before .before .before .before .before .before .pre .0 in let A = c .before .before .before .before .before .before .before .before .before .before .before .before .before .before .before .before .before .before .before .before .before .before .before .before .args in
     record {
       inside = omega (arith, P .counts .edges, P .rooms .ends);
       below = numbered (A .room) (A .k) (A .points .now) (A .roots .now) (A .corners .now) (A .volumes .now) (A .ends .now) (A .lengths .now) (A .outline .now) _ P .ends-in;
-      first = omega (arith, P .counts .edges, P .rooms .few-edges, R .1 .1 .1 .1 .1 .1 .0);
-      second = omega (arith, P .counts .edges, P .rooms .few-edges, R .1 .1 .1 .1 .1 .1 .1 .0);
+      first = omega (arith, P .counts .edges, P .rooms .few-edges, c .before .before .before .before .before .before .read-loads .kept .1 .1 .1 .1 .1 .1 .0);
+      second = omega (arith, P .counts .edges, P .rooms .few-edges, c .before .before .before .before .before .before .read-loads .kept .1 .1 .1 .1 .1 .1 .1 .0);
     }
-
-slice-aggregate-link-mesh : tie.Need-slice-aggregate-link-mesh
-slice-aggregate-link-mesh c = search needs
-
-link-mesh-requires : tie.Need-link-mesh-requires
-link-mesh-requires c κs = let P = c .before .before .before .before .before .before .before .before .before .before .before .before .before .before .before .before .before .before .before .before .before .before .before .before .before .before .before .before .before .before .pre in let A = c .before .before .before .before .before .before .before .before .before .before .before .before .before .before .before .before .before .before .before .before .before .before .before .before .before .before .before .before .before .before .args in linkable-ready (kindIs (A .kind)) (A .room) (A .k) (A .points .now) (A .roots .now) (A .corners .now) (A .volumes .now) (A .ends .now) (A .lengths .now) (A .outline .now) (A .log .now) (P .0) _ (omega arith)
 
 slice-aggregate-crack-listed : tie.Need-slice-aggregate-crack-listed
 slice-aggregate-crack-listed c = search needs
@@ -74,54 +63,53 @@ slice-aggregate-crack-listed-2 c = search needs
 slice-aggregate-crack-listed-3 : tie.Need-slice-aggregate-crack-listed-3
 slice-aggregate-crack-listed-3 c = search needs
 
-slice-aggregate-crack-listed-4 : tie.Need-slice-aggregate-crack-listed-4
-slice-aggregate-crack-listed-4 c = search needs
-
 crack-listed-requires : tie.Need-crack-listed-requires
-crack-listed-requires c κs = let P = c .before .before .before .before .before .before .before .before .before .before .before .before .before .before .before .before .before .before .before .before .before .before .before .before .before .before .before .before .before .before .before .before .before .before .before .before .before .before .before .before .before .before .before .pre in let A = c .before .before .before .before .before .before .before .before .before .before .before .before .before .before .before .before .before .before .before .before .before .before .before .before .before .before .before .before .before .before .before .before .before .before .before .before .before .before .before .before .before .before .before .args in let R = c .before .before .before .before .before .before .before .before .before .before .before .before .before .before .before .before .before .before .before .before .before .before .before .before .before .read-loads .kept in let K = c .before .before .before .before .before .before .before .before .before .before .before .before .before .before .before .before .before .before .keep-ends in
+crack-listed-requires c κs = let P = c .before .before .before .before .before .before .before .before .before .before .before .before .before .before .before .before .before .before .before .before .before .before .before .before .before .before .before .before .before .before .before .before .before .before .before .before .before .before .pre in let A = c .before .before .before .before .before .before .before .before .before .before .before .before .before .before .before .before .before .before .before .before .before .before .before .before .before .before .before .before .before .before .before .before .before .before .before .before .before .before .args in let K = c .before .before .before .before .before .before .before .before .before .before .before .before .before .keep-ends in
     let N = numbered (A .room) (A .k) (A .points .now) (A .roots .now) (A .corners .now) (A .volumes .now) (A .ends .now) (A .lengths .now) (A .outline .now) _ (P .0) in (
       P .0,
       record {
-        first = omega (arith, P .0 .counts .edges, P .0 .rooms .few-edges, K .kept .1 .1 .0, R .1 .1 .1 .1 .1 .1 .0);
-        second = omega (arith, P .0 .counts .edges, P .0 .rooms .few-edges, K .kept .1 .1 .1 .0, R .1 .1 .1 .1 .1 .1 .1 .0);
+        first = omega (arith, P .0 .counts .edges, P .0 .rooms .few-edges, c .before .before .before .before .before .before .before .before .before .before .before .before .before .keep-ends .kept .1 .1 .0, c .before .before .before .before .before .before .before .before .before .before .before .before .before .before .before .before .before .before .before .before .read-loads .kept .1 .1 .1 .1 .1 .1 .0);
+        second = omega (arith, P .0 .counts .edges, P .0 .rooms .few-edges, c .before .before .before .before .before .before .before .before .before .before .before .before .before .keep-ends .kept .1 .1 .1 .0, c .before .before .before .before .before .before .before .before .before .before .before .before .before .before .before .before .before .before .before .before .read-loads .kept .1 .1 .1 .1 .1 .1 .1 .0);
         first-few = λ i l. omega (arith, K .ensures .first i l, N .ends-in .first i l);
         second-few = λ i l. omega (arith, K .ensures .second i l, N .ends-in .second i l);
-        loads = record { long = λ q. omega (arith, P .0 .counts .triangles, P .0 .rooms .few-triangles, R .1 .1 .1 .1 .1 .1 .1 .1 .0) };
+        loads = record { long = λ q. omega (arith, P .0 .counts .triangles, P .0 .rooms .few-triangles, c .before .before .before .before .before .before .before .before .before .before .before .before .before .before .before .before .before .before .before .before .read-loads .kept .1 .1 .1 .1 .1 .1 .1 .1 .0) };
         logged = P .1;
       },
-      c .before .before .before .before .before .before .before .before .before .before .before .before .link-mesh .ensures,
+      P .2,
     )
 
 same-length : tie.Need-same-length
-same-length c = c .before .before .before .before .before .before .before .before .before .before .before .before .before .before .before .crack-listed .kept .1 .1 .1 .1 .1 .1 .1 .1 .1 .0
+same-length c = c .before .before .before .before .before .before .before .before .before .before .before .before .before .before .before .before .crack-listed .kept .1 .1 .1 .1 .1 .1 .1 .1 .1 .0
 
 same-length-2 : tie.Need-same-length-2
-same-length-2 c = c .before .before .before .before .before .before .before .before .before .before .before .before .before .before .before .crack-listed .kept .1 .1 .1 .1 .1 .1 .1 .1 .1 .1 .0
+same-length-2 c = c .before .before .before .before .before .before .before .before .before .before .before .before .before .before .before .before .crack-listed .kept .1 .1 .1 .1 .1 .1 .1 .1 .1 .1 .0
 
 same-length-3 : tie.Need-same-length-3
-same-length-3 c = c .before .before .before .before .before .before .before .before .before .before .before .before .before .before .before .crack-listed .kept .1 .1 .1 .1 .1 .1 .1 .1 .1 .1 .1 .0
+same-length-3 c = c .before .before .before .before .before .before .before .before .before .before .before .before .before .before .before .before .crack-listed .kept .1 .1 .1 .1 .1 .1 .1 .1 .1 .1 .1 .0
 
 same-length-4 : tie.Need-same-length-4
-same-length-4 c = c .before .before .before .before .before .before .before .before .before .before .before .before .before .before .before .crack-listed .kept .1 .1 .1 .1 .1 .1 .1 .1 .1 .1 .1 .1 .1 .0
+same-length-4 c = c .before .before .before .before .before .before .before .before .before .before .before .before .before .before .before .before .crack-listed .kept .1 .1 .1 .1 .1 .1 .1 .1 .1 .1 .1 .1 .1 .0
 
 same-length-5 : tie.Need-same-length-5
-same-length-5 c = c .before .before .before .before .before .before .before .before .before .before .before .before .before .before .before .crack-listed .kept .1 .1 .1 .1 .1 .1 .1 .1 .1 .1 .1 .1 .1 .1 .0
+same-length-5 c = c .before .before .before .before .before .before .before .before .before .before .before .before .before .before .before .before .crack-listed .kept .1 .1 .1 .1 .1 .1 .1 .1 .1 .1 .1 .1 .1 .1 .0
 
 same-length-6 : tie.Need-same-length-6
-same-length-6 c = c .before .before .before .before .before .before .before .before .before .before .before .before .before .before .before .crack-listed .kept .1 .1 .1 .1 .1 .1 .1 .1 .1 .1 .1 .1 .1 .1 .1 .0
+same-length-6 c = c .before .before .before .before .before .before .before .before .before .before .before .before .before .before .before .before .crack-listed .kept .1 .1 .1 .1 .1 .1 .1 .1 .1 .1 .1 .1 .1 .1 .1 .0
 
 same-length-7 : tie.Need-same-length-7
-same-length-7 c = c .before .before .before .before .before .before .before .before .before .before .before .before .before .before .before .crack-listed .kept .1 .1 .1 .1 .1 .1 .1 .1 .1 .1 .1 .1 .1 .1 .1 .1 .0
+same-length-7 c = c .before .before .before .before .before .before .before .before .before .before .before .before .before .before .before .before .crack-listed .kept .1 .1 .1 .1 .1 .1 .1 .1 .1 .1 .1 .1 .1 .1 .1 .1 .0
 
-returns-2 : tie.Need-returns-2
-returns-2 c = let A = c .before .before .before .before .before .before .before .before .before .before .before .before .before .before .before .before .before .before .before .before .before .before .before .before .before .before .before .before .before .before .before .before .before .before .before .before .before .before .before .before .before .before .before .before .before .before .before .before .before .before .before .before .before .before .before .before .before .before .before .args in
-    turns-work (kindIs (A .kind)) (A .minimum) (A .torn .now) (A .k) (A .points .now) (A .roots .now) (A .corners .now) (A .volumes .now) (A .ends .now) (A .lengths .now) (A .outline .now) (A .log .now) _ _ _ (c .before .before .before .before .before .before .before .before .before .before .before .before .before .before .before .before .before .before .before .before .before .before .before .before .before .before .before .before .before .before .before .before .before .before .keep-ends .ensures) (c .before .before .before .before .before .before .before .before .before .before .before .before .before .before .before .before .before .before .before .before .before .before .before .before .before .before .before .before .before .before .before .before .before .before .before .before .before .before .before .before .before .read-loads .ensures) (c .before .before .before .before .before .before .before .before .before .before .before .before .before .before .before .crack-listed .ensures)
+same-length-8 : tie.Need-same-length-8
+same-length-8 c = c .before .before .before .before .before .before .before .before .before .before .before .before .before .before .before .before .crack-listed .kept .1 .1 .1 .1 .1 .1 .1 .1 .1 .1 .1 .1 .1 .1 .1 .1 .1 .0
+
+returns : tie.Need-returns
+returns c = let A = c .before .before .before .before .before .before .before .before .before .before .before .before .before .before .before .before .before .before .before .before .before .before .before .before .before .before .before .before .before .before .before .before .before .before .before .before .before .before .before .before .before .before .before .before .before .before .before .before .before .before .before .before .before .before .before .args in
+    (turns-work (kindIs (A .kind)) (A .minimum) (A .torn .now) (A .k) (A .points .now) (A .roots .now) (A .corners .now) (A .volumes .now) (A .ends .now) (A .lengths .now) (A .outline .now) (A .log .now) _ _ _ (c .before .before .before .before .before .before .before .before .before .before .before .before .before .before .before .before .before .before .before .before .before .before .before .before .before .before .before .before .before .before .keep-ends .ensures) (c .before .before .before .before .before .before .before .before .before .before .before .before .before .before .before .before .before .before .before .before .before .before .before .before .before .before .before .before .before .before .before .before .before .before .before .before .before .read-loads .ensures) (c .before .before .before .before .before .before .before .before .before .before .before .before .before .before .before .before .crack-listed .ensures .0), c .before .before .before .before .before .before .before .before .before .before .before .before .before .before .before .before .crack-listed .ensures .1)
 
 pub crack-torn-spec : {M : Type 1} → statement M
 crack-torn-spec =
     tie.close
     (tie.spec
-    returns
     cast-none
     slice-aggregate-read-loads
     slice-aggregate-read-loads-2
@@ -130,12 +118,9 @@ crack-torn-spec =
     slice-aggregate-keep-ends
     slice-aggregate-keep-ends-2
     keep-ends-requires
-    slice-aggregate-link-mesh
-    link-mesh-requires
     slice-aggregate-crack-listed
     slice-aggregate-crack-listed-2
     slice-aggregate-crack-listed-3
-    slice-aggregate-crack-listed-4
     crack-listed-requires
     same-length
     same-length-2
@@ -144,4 +129,5 @@ crack-torn-spec =
     same-length-5
     same-length-6
     same-length-7
-    returns-2)
+    same-length-8
+    returns)

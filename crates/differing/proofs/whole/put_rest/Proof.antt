@@ -6,7 +6,7 @@ use Rattle.differences.specs.declared.Part.the-variants.{Boundary}
 use Rattle.differences.specs.Differences.{Difference, rowsDiffer, sameRow, blades}
 use Rattle.edition.proofs.Meshes.{blade-in}
 use Rattle.edition.proofs.Sides.{sides-long}
-use Rattle.outline.specs.Rows.{sidesAt}
+use Rattle.outline_tables.specs.Rows.{sidesAt}
 use Rattle.lists.specs.Lists.{pick}
 use mathlib.Core.List.{List, [], _∷_}
 use mathlib.Core.Path.{_∙_, ap₂}

@@ -1,6 +1,6 @@
 -- `reading_c::questions::ask_sized` meets its contract: the elements answer, or the blocks. Assumes nothing.
 use mathlib.Core.Path.{refl}
-use Rattle.reading_c.proofs.Replying.{pieces-small, measure-small}
+use Rattle.reading_replies.proofs.Replying.{pieces-small, measure-small}
 use Rattle.reading_c.proofs.Listing.{measure-of-small}
 use Rattle.reading_c.proofs.Asking.{pieces-asked, measure-asked, measure-of-asked}
 use Rattle.reading_c.proofs.Answering.{asked-on, asked-as}

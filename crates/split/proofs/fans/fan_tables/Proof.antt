@@ -3,7 +3,7 @@ use native.Mathlib.Omega.{arith}
 use mathlib.Core.Path.{refl, ap}
 use borrow.Author.Needs.{needs}
 use Rattle.elements.specs.Table.{kindIs}
-use Rattle.links.proofs.Parts.{edges-lent}
+use Rattle.links.proofs.Parts.{edges-read}
 use Rattle.split.proofs.Fitted.{fan-told}
 use Rattle.split.proofs.FanLaws.{held-triangles, held-straps, held-nothing}
 use Rattle.split.proofs.LinkLaws.{fan-walk}
@@ -29,7 +29,7 @@ part-straps-linked-end : tie.Need-part-straps-linked-end
 part-straps-linked-end c = omega (arith, c .before .before .before .before .before .before .before .before .before .before .pre .1 .long)
 
 straps-linked-requires : tie.Need-straps-linked-requires
-straps-linked-requires c κs = (edges-lent (c .before .before .before .before .before .before .before .before .before .before .before .before .before .before .pre .1), c .before .before .before .before .before .before .before .before .before .before .before .before .before .before .pre .0 .lengths, c .before .before .before .before .before .before .before .before .before .before .before .before .before .before .pre .2)
+straps-linked-requires c κs = (edges-read (c .before .before .before .before .before .before .before .before .before .before .before .before .before .before .pre .1), c .before .before .before .before .before .before .before .before .before .before .before .before .before .before .pre .0 .lengths, c .before .before .before .before .before .before .before .before .before .before .before .before .before .before .pre .2)
 
 enum-told-3 : tie.Need-enum-told-3
 enum-told-3 c = search needs

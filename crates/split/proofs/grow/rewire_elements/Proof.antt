@@ -4,7 +4,7 @@ use Rattle.split.proofs.GrowLaws.{triangles-room, rewired-triangles, re
 use Rattle.links.proofs.Parts.{edges-lent, triangles-lent, edges-back, triangles-back}
 use Rattle.elements.specs.Table.{kindIs}
 use lib.Seq.{length-take-le}
-use mathlib.Core.Path.{sym, ap, _∙_}
+use mathlib.Core.Path.{refl, sym, ap, _∙_}
 use native.Mathlib.Omega.{arith}
 use Prim.Native.Nat.{ℕ}
 use borrow.Author.Needs.{needs}
@@ -60,7 +60,7 @@ returns-2 : tie.Need-returns-2
 returns-2 c = let P = c .before .before .before .before .before .before .before .before .before .before .before .before .before .before .pre in let R = c .before .before .before .before .rewire-straps in (rewired-straps (ap kindIs (c .before .before .before .before .before .before .before .enum-told2 .given .1)) (R .ensures .0), edges-back (P .1) (R .kept .1 .1 .1 .1 .1 .1 .1 .0) (R .ensures .1))
 
 returns-3 : tie.Need-returns-3
-returns-3 c = (rewired-none (ap kindIs (c .enum-told3 .given .1)), c .before .before .before .before .before .before .before .pre .1)
+returns-3 c = (rewired-none (ap kindIs (c .enum-told3 .given .1)), (c .before .before .before .before .before .before .before .pre .1, refl))
 
 pub rewire-elements-spec : {M : Type 1} → statement M
 rewire-elements-spec =

@@ -2,15 +2,16 @@
 use native.Mathlib.Omega.{arith}
 use mathlib.Core.Path.{_∙_}
 use Rattle.elements.specs.Table.{kindIs}
-use Rattle.split.proofs.StepLaws.{grow-room, tables-in, ends-here, named-here, settle-asked, room-made, ends-made, all-lacking, all-settled}
+use Rattle.split.proofs.StepLaws.{grow-room, tables-in, ends-here, named-here, settle-asked, room-made, ends-made, corners-made, all-lacking, all-settled}
 use Rattle.split.proofs.LinkLaws.{fan-named, grown-linked}
+use Rattle.links.proofs.Parts.{front-of}
 use borrow.Author.Needs.{needs}
 use Rattle.split.proofs.step.split_opened.Statement.{statement}
 use Rattle.split.proofs.step.split_opened.Tie as tie
 
 grow-requires : tie.Need-grow-requires
 grow-requires c κs = let P = c .before .before .before .before .before .before .before .before .before .before .before .before .before .before .before .before .before .before .before .before .before .pre in let A = c .before .before .before .before .before .before .before .before .before .before .before .before .before .before .before .before .before .before .before .before .before .args in
-    (grow-room (kindIs (A .kind)) (A .room) (A .k) (A .points .now) (A .roots .now) (A .corners .now) (A .volumes .now) (A .ends .now) (A .lengths .now) (A .outline .now) (A .log .now) (P .0) (P .1), tables-in (kindIs (A .kind)) (A .room) (A .k) (A .points .now) (A .roots .now) (A .corners .now) (A .volumes .now) (A .ends .now) (A .lengths .now) (A .outline .now) (A .log .now) (P .0) (P .1), ends-here (kindIs (A .kind)) (A .room) (A .k) (A .points .now) (A .roots .now) (A .corners .now) (A .volumes .now) (A .ends .now) (A .lengths .now) (A .outline .now) (A .log .now) (P .0) (P .1), named-here (kindIs (A .kind)) (A .room) (A .k) (A .points .now) (A .roots .now) (A .corners .now) (A .volumes .now) (A .ends .now) (A .lengths .now) (A .outline .now) (A .log .now) (P .0) (P .1), P .4, fan-named (kindIs (A .kind)) (A .room) (A .k) (A .points .now) (A .roots .now) (A .corners .now) (A .volumes .now) (A .ends .now) (A .lengths .now) (A .outline .now) (A .log .now) (P .0) (P .1), P .3)
+    (grow-room (kindIs (A .kind)) (A .room) (A .k) (A .points .now) (A .roots .now) (A .corners .now) (A .volumes .now) (A .ends .now) (A .lengths .now) (A .outline .now) (A .log .now) (P .0) (P .1), tables-in (kindIs (A .kind)) (A .room) (A .k) (A .points .now) (A .roots .now) (A .corners .now) (A .volumes .now) (A .ends .now) (A .lengths .now) (A .outline .now) (A .log .now) (P .0) (P .1), ends-here (kindIs (A .kind)) (A .room) (A .k) (A .points .now) (A .roots .now) (A .corners .now) (A .volumes .now) (A .ends .now) (A .lengths .now) (A .outline .now) (A .log .now) (P .0) (P .1), named-here (kindIs (A .kind)) (A .room) (A .k) (A .points .now) (A .roots .now) (A .corners .now) (A .volumes .now) (A .ends .now) (A .lengths .now) (A .outline .now) (A .log .now) (P .0) (P .1), front-of (P .4), fan-named (kindIs (A .kind)) (A .room) (A .k) (A .points .now) (A .roots .now) (A .corners .now) (A .volumes .now) (A .ends .now) (A .lengths .now) (A .outline .now) (A .log .now) (P .0) (P .1), P .3)
 
 enum-known-grew : tie.Need-enum-known-grew
 enum-known-grew c = search needs
@@ -27,7 +28,7 @@ sub-t46 c = omega (arith, c .before .before .before .before .before .before .bef
 
 settle-requires : tie.Need-settle-requires
 settle-requires c κs = let P = c .before .before .before .before .before .before .before .before .before .before .before .before .before .before .before .before .before .before .before .before .before .before .before .before .before .before .before .before .before .before .before .before .before .before .before .before .before .before .before .before .before .before .before .before .before .before .before .pre in let A = c .before .before .before .before .before .before .before .before .before .before .before .before .before .before .before .before .before .before .before .before .before .before .before .before .before .before .before .before .before .before .before .before .before .before .before .before .before .before .before .before .before .before .before .before .before .before .before .args in let G = c .before .before .before .before .before .before .before .before .before .before .before .before .before .before .before .before .before .before .before .before .before .before .before .before .before .grow in let q = c .before .before .before .before .before .before .before .before .before .grew2 .given .1 in let R = room-made (kindIs (A .kind)) (A .room) (A .k) (A .points .now) (A .roots .now) (A .corners .now) (A .volumes .now) (A .ends .now) (A .lengths .now) (A .outline .now) (A .log .now) (P .0) (P .1) _ _ _ _ _ _ _ (G .ensures .0) q in
-    (settle-asked (kindIs (A .kind)) (A .room) (A .k) (A .points .now) (A .roots .now) (A .corners .now) (A .volumes .now) (A .ends .now) (A .lengths .now) (A .outline .now) (A .log .now) (P .0) (P .1) _ _ _ _ _ _ (P .2) (R .0) (R .1) (G .kept .1 .1 .1 .1 .1 .1 .1 .1 .1 .1 .0) (G .kept .1 .1 .1 .1 .1 .1 .1 .1 .1 .1 .1 .1 .0) (G .kept .1 .1 .1 .1 .1 .1 .1 .1 .1 .1 .1 .1 .1 .0) (G .kept .1 .1 .1 .1 .1 .1 .1 .1 .1 .1 .1 .1 .1 .1 .0) (ends-made (kindIs (A .kind)) (A .room) (A .k) (A .points .now) (A .roots .now) (A .corners .now) (A .volumes .now) (A .ends .now) (A .lengths .now) (A .outline .now) (A .log .now) (P .0) (P .1) _ _ _ _ _ _ _ (G .ensures .0) q), omega (arith, P .3, G .kept .1 .1 .1 .1 .1 .1 .1 .1 .1 .1 .1 .1 .1 .1 .1 .0), grown-linked (G .ensures .1) q)
+    (settle-asked (kindIs (A .kind)) (A .room) (A .k) (A .points .now) (A .roots .now) (A .corners .now) (A .volumes .now) (A .ends .now) (A .lengths .now) (A .outline .now) (A .log .now) (P .0) (P .1) _ _ _ _ _ _ (P .2) (R .0) (R .1) (G .kept .1 .1 .1 .1 .1 .1 .1 .1 .1 .1 .0) (G .kept .1 .1 .1 .1 .1 .1 .1 .1 .1 .1 .1 .1 .0) (G .kept .1 .1 .1 .1 .1 .1 .1 .1 .1 .1 .1 .1 .1 .0) (G .kept .1 .1 .1 .1 .1 .1 .1 .1 .1 .1 .1 .1 .1 .1 .0) (ends-made (kindIs (A .kind)) (A .room) (A .k) (A .points .now) (A .roots .now) (A .corners .now) (A .volumes .now) (A .ends .now) (A .lengths .now) (A .outline .now) (A .log .now) (P .0) (P .1) _ _ _ _ _ _ _ (G .ensures .0) q), omega (arith, P .3, G .kept .1 .1 .1 .1 .1 .1 .1 .1 .1 .1 .1 .1 .1 .1 .1 .0), grown-linked (A .links .now) (G .last .1 .1 .1 .1 .1 .1 .1 .1 .1 .1 .1 .1 .1 .1 .1 .1 .0) (G .ensures .1) q (P .4 .sides), corners-made (kindIs (A .kind)) (A .room) (A .k) (A .points .now) (A .roots .now) (A .corners .now) (A .volumes .now) (A .ends .now) (A .lengths .now) (A .outline .now) (A .log .now) (P .0) (P .1) _ _ _ _ _ _ _ (G .ensures .0) q)
 
 same-length : tie.Need-same-length
 same-length c = c .before .before .before .before .before .before .before .before .before .before .before .before .before .before .before .before .before .grow .kept .1 .1 .1 .1 .1 .1 .1 .1 .1 .1 .0

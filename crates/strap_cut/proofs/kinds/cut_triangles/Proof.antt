@@ -10,7 +10,7 @@ slice-aggregate-link-mesh : tie.Need-slice-aggregate-link-mesh
 slice-aggregate-link-mesh c = search needs
 
 link-mesh-requires : tie.Need-link-mesh-requires
-link-mesh-requires c κs = let P = c .before .before .before .before .before .before .before .before .before .before .before .pre in let A = c .before .before .before .before .before .before .before .before .before .before .before .args in
+link-mesh-requires c κs = let P = c .before .before .before .before .before .before .before .before .before .before .before .before .pre in let A = c .before .before .before .before .before .before .before .before .before .before .before .before .args in
     linkable-ready Triangles (A .room) (A .k) (A .points .now) (A .roots .now) (A .corners .now) (A .volumes .now) (A .ends .now) (A .lengths .now) (A .outline .now) (A .log .now) (P .0) _ (omega arith)
 
 slice-aggregate-cut-facets : tie.Need-slice-aggregate-cut-facets
@@ -23,7 +23,7 @@ slice-aggregate-cut-facets-3 : tie.Need-slice-aggregate-cut-facets-3
 slice-aggregate-cut-facets-3 c = search needs
 
 cut-facets-requires : tie.Need-cut-facets-requires
-cut-facets-requires c κs = let P = c .before .before .before .before .before .before .before .before .before .before .before .before .before .before .before .before .before .before .before .before .before .before .before .pre in (P .0, P .1, omega arith, omega arith, c .before .before .before .before .before .before .before .before .before .before .before .link-mesh .ensures)
+cut-facets-requires c κs = let P = c .before .before .before .before .before .before .before .before .before .before .before .before .before .before .before .before .before .before .before .before .before .before .before .before .pre in (P .0, P .1, omega arith, omega arith, c .before .before .before .before .before .before .before .before .before .before .before .link-mesh .ensures)
 
 same-length : tie.Need-same-length
 same-length c = c .before .before .before .before .before .before .before .before .before .before .before .before .before .before .before .before .before .cut-facets .kept .1 .1 .1 .1 .1 .0

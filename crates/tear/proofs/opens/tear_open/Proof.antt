@@ -80,7 +80,7 @@ same-length-18 c = c .before .before .before .before .before .before .before .be
 
 returns-2 : tie.Need-returns-2
 returns-2 c = let P = c .before .before .before .before .before .before .before .before .before .before .before .before .before .before .before .before .before .before .before .before .before .before .before .before .before .before .before .before .before .before .before .before .before .before .before .before .before .before .before .before .before .before .before .before .before .before .before .before .before .before .before .before .before .before .before .before .pre in let A = c .before .before .before .before .before .before .before .before .before .before .before .before .before .before .before .before .before .before .before .before .before .before .before .before .before .before .before .before .before .before .before .before .before .before .before .before .before .before .before .before .before .before .before .before .before .before .before .before .before .before .before .before .before .before .before .before .args in let S = c .before .before .before .before .before .before .before .before .before .before .before .before .before .before .before .before .before .before .before .before .before .before .before .before .before .before .before .before .before .before .before .before .split-opened in
-    (tear-told (kindIs (A .kind)) (A .room) (A .k) (A .points .now) (A .roots .now) (A .corners .now) (A .volumes .now) (A .ends .now) (A .lengths .now) (A .outline .now) (A .log .now) (P .0) (P .1) (A .w) (A .x) (A .y) (A .a) (A .b) (P .2) _ _ _ _ _ _ _ _ _ (S .ensures .0) (c .before .before .before .before .before .before .before .before .before .before .before .before .ran .given .1) _ _ _ _ (c .before .before .before .before .before .before .finish-tear .ensures) (S .kept .1 .1 .1 .1 .1 .1 .1 .1 .1 .1 .1 .1 .0), linked-told (kindIs (A .kind)) _ _ _ _ _ _ (c .before .before .before .before .before .before .before .before .before .before .before .before .ran .given .1) (c .before .before .before .before .before .before .finish-tear .ensures .counts) (S .ensures .1))
+    (tear-told (kindIs (A .kind)) (A .room) (A .k) (A .points .now) (A .roots .now) (A .corners .now) (A .volumes .now) (A .ends .now) (A .lengths .now) (A .outline .now) (A .log .now) (P .0) (P .1) (A .w) (A .x) (A .y) (A .a) (A .b) (P .2) _ _ _ _ _ _ _ _ _ (S .ensures .0) (c .before .before .before .before .before .before .before .before .before .before .before .before .ran .given .1) _ _ _ _ (c .before .before .before .before .before .before .finish-tear .ensures) (S .kept .1 .1 .1 .1 .1 .1 .1 .1 .1 .1 .1 .1 .0), linked-told (kindIs (A .kind)) _ _ _ _ _ _ _ (c .before .before .before .before .before .before .before .before .before .before .before .before .ran .given .1) (c .before .before .before .before .before .before .finish-tear .ensures .counts) (S .ensures .1))
 
 pub tear-open-spec : {M : Type 1} → statement M
 tear-open-spec =

@@ -1,0 +1,3 @@
+-- The reply to a job on an image.
+pub mod Outcomes
+pub mod Told

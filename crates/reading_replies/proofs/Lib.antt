@@ -1,0 +1,2 @@
+-- The laws of replies.
+pub mod Replying

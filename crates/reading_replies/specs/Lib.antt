@@ -1,0 +1,3 @@
+-- What the C functions that read answer, and what contracts between functions need: the reply to an answer.
+pub mod Replies
+pub mod Given

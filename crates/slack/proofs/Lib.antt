@@ -1,0 +1,2 @@
+-- Laws of slack edges.
+pub mod SlackLaws

@@ -1,0 +1,2 @@
+-- Slack edges, over the lent blocks.
+pub mod Slack
