@@ -98,7 +98,7 @@ impl Blocks {
         b
     }
     fn built(&self) -> Vec<u16> {
-        let mut links = vec![65_535; PLACES];
+        let mut links = vec![0; PLACES];
         // SAFETY: runs apart from each other, each with its own length.
         unsafe {
             fans_build(

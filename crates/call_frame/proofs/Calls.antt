@@ -47,38 +47,56 @@ words-tell (met a b p t ∷ l) = words-tell l
 pub came-refused : (o : Outcome) (R : Rooms) (at : Counts → World) (ran : Ran) (n : ℕ) → ran ≡ Stopped n → o ≡ refused n → Came o R at ran
 came-refused o R at ran n e q = rw (e, q) (record { said = refl; shows = refl; within = tt })
 
-module _ (p : List Float) (r c : List ℕ) (v : List Float) (e : List ℕ) (l : List Float) (o g : List ℕ) where
+-- the counts are those of a world
+pub record Counted (k : Counts) (W : World) : Type 0 where
+  pub particles : length (W .mesh .particles) ≡ k .particles
+  pub triangles : length (W .mesh .triangles) ≡ k .triangles
+  pub edges : length (W .mesh .edges) ≡ k .edges
+  pub boundary : length (W .mesh .boundary) ≡ k .boundary
+  pub log : length (W .log) ≡ k .log
+
+-- as they are of what the fronts of blocks hold
+pub blocks-counted : (p : List Float) (r c : List ℕ) (v : List Float) (e : List ℕ) (l : List Float) (o g : List ℕ) (k : Counts) → Counted k (worldAt k p r c v e l o g)
+unfolding worldAt meshAt trianglesAt boundaryAt
+blocks-counted p r c v e l o g k =
+    record {
+      particles = particles-length (k .particles) p r;
+      triangles = tab-length (k .triangles) _;
+      edges = edges-length (k .edges) e l;
+      boundary = tab-length (k .boundary) _;
+      log = log-length (k .log) g;
+    }
+
+module _ (at : Counts → World) where
   -- the counts of what the blocks hold
-  counts-are : (k : Counts) (M : Mesh) (log : List Entry) → worldAt k p r c v e l o g ≡ worldOf M log → k ≡ countsOf M log
-  unfolding worldAt meshAt trianglesAt boundaryAt
-  counts-are k M log q =
+  counts-are : (k : Counts) (M : Mesh) (log : List Entry) → Counted k (at k) → at k ≡ worldOf M log → k ≡ countsOf M log
+  counts-are k M log C q =
       λ i.
       record {
-        particles = (sym (particles-length (k .particles) p r) ∙ ap (λ (W : World). length (W .mesh .particles)) q) i;
-        triangles = (sym (tab-length (k .triangles) _) ∙ ap (λ (W : World). length (W .mesh .triangles)) q) i;
-        edges = (sym (edges-length (k .edges) e l) ∙ ap (λ (W : World). length (W .mesh .edges)) q) i;
-        boundary = (sym (tab-length (k .boundary) _) ∙ ap (λ (W : World). length (W .mesh .boundary)) q) i;
-        log = (sym (log-length (k .log) g) ∙ ap (λ (W : World). length (W .log)) q ∙ length-map log wordsOf) i;
+        particles = (sym (C .particles) ∙ ap (λ (W : World). length (W .mesh .particles)) q) i;
+        triangles = (sym (C .triangles) ∙ ap (λ (W : World). length (W .mesh .triangles)) q) i;
+        edges = (sym (C .edges) ∙ ap (λ (W : World). length (W .mesh .edges)) q) i;
+        boundary = (sym (C .boundary) ∙ ap (λ (W : World). length (W .mesh .boundary)) q) i;
+        log = (sym (C .log) ∙ ap (λ (W : World). length (W .log)) q ∙ length-map log wordsOf) i;
       }
 
   -- a run that had room
-  came-done : (R : Rooms) (S : Run) (k : Counts) → Within k R → worldAt k p r c v e l o g ≡ worldOf (S .mesh) (S .log) → Came (done (S .mesh) (S .log) (changed S)) R (λ q. worldAt q p r c v e l o g) (Ended k)
+  came-done : (R : Rooms) (S : Run) (k : Counts) → Within k R → Counted k (at k) → at k ≡ worldOf (S .mesh) (S .log) → Came (done (S .mesh) (S .log) (changed S)) R at (Ended k)
   unfolding changed
-  came-done R S k w q =
+  came-done R S k w C q =
       record {
         said =
-            ap (λ (W : World). Done k (wordsChange (W .log))) q ∙ ap (Done k) (words-tell (S .log)) ∙ ap (λ (n : Counts). Done n (any changes (S .log))) (counts-are k (S .mesh) (S .log) q);
+            ap (λ (W : World). Done k (wordsChange (W .log))) q ∙ ap (Done k) (words-tell (S .log)) ∙ ap (λ (n : Counts). Done n (any changes (S .log))) (counts-are k (S .mesh) (S .log) C q);
         shows = q;
         within = w;
       }
 
   -- a run
-  came-run : (R : Rooms) (S : Run) (ran : Ran) → Went R S (λ q. worldAt q p r c v e l o g) ran → Came (outcome (asRooms R) S) R (λ q. worldAt q p r c v e l o g) ran
+  came-run : (R : Rooms) (S : Run) (ran : Ran) → ((k : Counts) → ran ≡ Ended k → Counted k (at k)) → Went R S at ran → Came (outcome (asRooms R) S) R at ran
   unfolding outcome
-  came-run R S (Stopped zero) w = absurd (omega (arith, w .1))
-  came-run R S (Stopped (suc n)) w = came-refused _ R _ _ (suc n) refl (ap (λ (m : ℕ). fitted m S) (w .0))
-  came-run R S (Ended k) w =
-      subst (λ (m : ℕ). Came (fitted m S) R (λ q. worldAt q p r c v e l o g) (Ended k)) (sym (w .0)) (came-done R S k (w .1) (w .2))
+  came-run R S (Stopped zero) C w = absurd (omega (arith, w .1))
+  came-run R S (Stopped (suc n)) C w = came-refused _ R _ _ (suc n) refl (ap (λ (m : ℕ). fitted m S) (w .0))
+  came-run R S (Ended k) C w = subst (λ (m : ℕ). Came (fitted m S) R at (Ended k)) (sym (w .0)) (came-done R S k (w .1) (C k refl) (w .2))
 
 -- ---- a call
 
@@ -114,13 +132,13 @@ module _ (f : Run → Run) (onward : (S : Run) → Onward S (f S)) (G : Given) {
       by (suc n) m q b = came-refused _ R at _ (suc n) (ap Stopped (refused-first n q)) refl
 
   -- the copy, and what the worker made of it
-  pub came-worked : (p r c v e l o g : _) (W : World) (ran : Ran) → W ≡ worldOf held [] → begun ≡ 0 → Works f R W (λ k. worldAt k p r c v e l o g) ran
-      → Came (unless code (outcome (asRooms R) (f (start (meshOf G))))) R (λ k. worldAt k p r c v e l o g) ran
+  pub came-worked : (at : Counts → World) (W : World) (ran : Ran) → ((k : Counts) → ran ≡ Ended k → Counted k (at k)) → W ≡ worldOf held [] → begun ≡ 0 → Works f R W at ran
+      → Came (unless code (outcome (asRooms R) (f (start (meshOf G))))) R at ran
   unfolding start
-  came-worked p r c v e l o g W ran fresh z works =
+  came-worked at W ran C fresh z works =
       let same : W ≡ worldOf (start (meshOf G) .mesh) (start (meshOf G) .log) = fresh ∙ ap (λ (M : Mesh). worldOf M []) (B .copied z) in
-      subst (λ (n : ℕ). Came (unless n (outcome (asRooms R) (f (start (meshOf G))))) R (λ k. worldAt k p r c v e l o g) ran) (sym (nothing-before z))
-      (came-run p r c v e l o g R (f (start (meshOf G))) ran (works .went (start (meshOf G)) same (sym (room-next (nothing-before z)) ∙ z)))
+      subst (λ (n : ℕ). Came (unless n (outcome (asRooms R) (f (start (meshOf G))))) R at ran) (sym (nothing-before z))
+      (came-run at R (f (start (meshOf G))) ran C (works .went (start (meshOf G)) same (sym (room-next (nothing-before z)) ∙ z)))
 
 -- ---- the end
 

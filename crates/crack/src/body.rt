@@ -230,7 +230,7 @@ fn split_pinched(
     match kind {
         Kind::Triangles => {
             let mut marks = [0usize; 1024];
-            let mut list = [0usize; 2048];
+            let mut list = [0usize; edge_drops::LIST];
             cut::facets::split_pinched(
                 k,
                 room,
@@ -361,7 +361,7 @@ fn crack_linked(
     )
 }
 
-// Cracks the body across torn edges of the input, and does what comes behind them. The tables of the triangles and the edges are built once, and every split keeps them; where no edge is torn and nothing split, none is built.
+// Cracks the body across torn edges of the input, and does what comes behind them. The tables of links are built once, and every split keeps them; where no edge is torn and nothing split, none is built.
 pub fn crack_body(
     kind: Kind,
     minimum: usize,

@@ -14,7 +14,13 @@ use Rattle.model.specs.Run.{Run}
 use Rattle.model.specs.Calls.{firstFault}
 use Rattle.model.specs.Cut.{Crossing, Insertion, insertionOf, insertable, nearEnd, bendsOver, insertStep, Strapping, strapping, insertedAt, snappedAt, crossed}
 use Rattle.model_laws.proofs.Steps.{runOf, fault-stays, crossings-onward}
-use Rattle.mesh.specs.At.{meshAt}
+use Rattle.model.specs.Mesh.{Edge, Mesh}
+use Rattle.mesh.specs.At.{particlesAt, edgesAt, meshAt}
+use Rattle.mesh.specs.Workers.{edgeOf, rowAt}
+use Rattle.columns.specs.Block.{cell}
+use Rattle.links.specs.Linked.{EdgesLinked}
+use Rattle.insert.specs.Tables.{StrapLinked}
+use Rattle.work.proofs.Grows.{edges-get}
 use Rattle.mesh.specs.Log.{World, worldOf, worldAt}
 use Rattle.mesh.specs.Given.{asRooms}
 use Rattle.mesh.specs.declared.Counts.{Counts}
@@ -59,7 +65,7 @@ module _ (L : Rooms) (k : Counts) (points : List Float) (roots ends : List ℕ) 
   crossings-room ln lt hn ht =
       let a = X .ready .counts .edges in
       let b = X .ready .rooms .few-edges in
-      record { ends-in = below (length points / pointColumns) points-long; numbers-long = omega arith; ts-long = omega arith }
+      record { ends-in = below (length points / pointColumns) points-long; numbers-long = omega arith; ts-long = omega arith; few = omega arith }
 
   pub plan-room : (number : ℕ) → number < k .edges → PlanRoom number (k .particles) (k .edges) (length points) ends (length lengths)
   plan-room number h =
@@ -113,6 +119,20 @@ module _ (L : Rooms) (k : Counts) (points : List Float) (roots ends : List ℕ) 
 
     pub near-room : (t : Float) (x : ℕ) → x ≡ pick (lt t half) (plan .row .a) (plan .row .b) → x < ls
     near-room t x e = let h = near-few t x e in let s = X .snapped-long in omega arith
+
+-- the row of a plan is that of its edge, so the table tells its ends
+pub plan-linked : (f : Float) (number : ℕ) (t : Float) (n e : ℕ) (points : List Float) (ends : List ℕ) (lengths : List Float) (table : List ℕ) (plan : Plan) → number < e
+    → PlanIs f number t n e points ends lengths plan → EdgesLinked e ends table → StrapLinked plan e ends table
+unfolding insertionOf
+plan-linked f number t n e points ends lengths table plan h P L =
+    let M : Mesh = record { particles = particlesAt n points []; triangles = []; edges = edgesAt e ends lengths; boundary = [] } in
+    let row : edgeOf (plan .row) ≡ rowAt ends lengths number = ap (λ (I : Insertion). I .edge) (P .is M [] (record { particles-are = refl; edges-are = refl })) ∙ edges-get e ends lengths number h in
+    let own = P .number-is in
+    record {
+      linked = L;
+      a-is = ap (cell 0 (length ends / 4) ends 0) own ∙ sym (ap (λ (x : Edge). x .a) row);
+      b-is = ap (cell 0 (length ends / 4) ends 1) own ∙ sym (ap (λ (x : Edge). x .b) row);
+    }
 
 -- ---- one crossing
 

@@ -1,7 +1,8 @@
 -- The bend edges over a strap, by marks in tables. Only contracts between workers need this file. Definitions only.
 use Prim.Native.Nat.{ℕ, _+_, _/_, _<_, _≤_}
 use mathlib.Core.Path.{_≡_}
-use mathlib.Core.Bool.{Bool, not, _&&_, _||_}
+use mathlib.Core.Bool.{Bool, true, not, _&&_, _||_}
+use mathlib.Core.Logic.{_⊎_}
 use mathlib.Core.List.{List, [], _∷_, map}
 use lib.ListN.{length, getD}
 use lib.Ieee.{Float}
@@ -13,6 +14,9 @@ use Rattle.mesh.specs.At.{edgesAt}
 use Rattle.elements.specs.Workers.{marked}
 use Rattle.mesh.specs.Workers.{rowAt}
 use Rattle.insert.specs.Shares.{strapAt}
+use Rattle.columns.specs.Block.{cell}
+use Rattle.links.specs.Links.{holds}
+use Rattle.links.specs.Linked.{EdgesLinked}
 
 -- the end of edge i that isn't v
 pub record FarIs (v i : ℕ) (ends : List ℕ) (r : ℕ) : Type 0 where
@@ -34,10 +38,11 @@ pub record EndsBelow (n e : ℕ) (ends : List ℕ) : Type 0 where
   pub first : (j : ℕ) → j < e → getD ends j 0 < n
   pub second : (j : ℕ) → j < e → getD ends (length ends / 4 + j) 0 < n
 
--- v and all ends have places in a table, and nothing is marked in it
-pub record SideRoom (v e : ℕ) (ends side : List ℕ) : Type 0 where
-  pub here : v < length side
-  pub ends-in : EndsBelow (length side) e ends
+-- the table is that of the e edges; all particles have places in the list of a side, and nothing is marked in it
+pub record SideRoom (v e : ℕ) (ends side table : List ℕ) : Type 0 where
+  pub linked : EdgesLinked e ends table
+  pub here : v < 1024
+  pub long : 1024 ≤ length side
   pub blank : (x : ℕ) → x < length side → getD side x 0 ≡ 0
 
 -- exactly v's side of (v, w) is marked
@@ -65,11 +70,26 @@ pub record BendRoom (i : ℕ) (ends : List ℕ) (lf ls : ℕ) : Type 0 where
 pub record BendTold (i : ℕ) (ends first second : List ℕ) (r : Bool) : Type 0 where
   pub is : (lengths : List Float) → r ≡ bendBy first second (rowAt ends lengths i)
 
--- the first e edges have their ends in both tables, and a mark each
-pub record BetweenRoom (e : ℕ) (ends : List ℕ) (lf ls lm : ℕ) : Type 0 where
-  pub in-first : EndsBelow lf e ends
-  pub in-second : EndsBelow ls e ends
+-- the table is that of the e edges; all particles have places in the lists of both sides, and each edge has a mark
+pub record MarkRoom (x e : ℕ) (ends : List ℕ) (lf ls lm : ℕ) (table : List ℕ) : Type 0 where
+  pub linked : EdgesLinked e ends table
+  pub here : x < 1024
+  pub first-long : 1024 ≤ lf
+  pub second-long : 1024 ≤ ls
   pub marks-long : e ≤ lm
+
+-- edge j is a bend edge, whatever stands in the block of the lengths
+abbrev pub bendAt : List ℕ → List ℕ → List ℕ → ℕ → Bool
+bendAt ends first second j = bendBy first second (rowAt ends [] j)
+
+-- the bend edges among those of the first e that are seen are marked too, and no edge but a bend edge is marked anew
+pub record BendsSeen (seen : ℕ → Type 0) (e : ℕ) (ends first second marks marks′ : List ℕ) : Type 0 where
+  pub all : (j : ℕ) → j < e → seen j → marked marks′ j ≡ marked marks j || bendAt ends first second j
+  pub some : (j : ℕ) → (marked marks′ j ≡ marked marks j) ⊎ ((j < e) × (marked marks′ j ≡ marked marks j || bendAt ends first second j))
+
+-- those with an end at x are seen
+abbrev pub BendsAt : ℕ → ℕ → List ℕ → List ℕ → List ℕ → List ℕ → List ℕ → Type 0
+BendsAt x e ends first second marks marks′ = BendsSeen (λ j. holds 2 (cell 0 (length ends / 4) ends) x j ≡ true) e ends first second marks marks′
 
 -- the bend edges among the first e are marked too, and nothing else changed
 pub record BetweenMarked (e : ℕ) (ends first second marks marks′ : List ℕ) : Type 0 where

@@ -38,11 +38,12 @@ pub record HitNoted (hit : Hit) (i m : ℕ) (numbers numbers′ : List ℕ) (ts 
   pub least : m ≤ r
   pub most : r ≤ m + 1
 
--- the first e edges have their ends among the points, and a place in each table
+-- the first e edges have their ends among the points, and a place in each table; their numbers are below 65,536
 pub record CrossingsRoom (e lp : ℕ) (ends : List ℕ) (ln lt : ℕ) : Type 0 where
   pub ends-in : EndsBelow (lp / pointColumns) e ends
   pub numbers-long : e ≤ ln
   pub ts-long : e ≤ lt
+  pub few : e ≤ 2048
 
 -- the crossings of the blade with every mesh that stands there
 pub record CrossingsAre (b0 b1 : Point) (e : ℕ) (points : List Float) (ends numbers′ : List ℕ) (ts′ : List Float) (r : ℕ) : Type 0 where

@@ -3,7 +3,8 @@ ghost use mathlib.Core.Path.{_≡_};
 ghost use mathlib.Core.Bool.{not, _&&_};
 ghost use Prim.Native.Nat.{_<_, _≤_, _/_};
 ghost use lib.ListN.{length, getD};
-ghost use Rattle.crossing.specs.Bends.{FarIs, NeighbourIs, SideRoom, SideMarked, onlyBy, BendRoom, BendTold, BetweenRoom, BetweenMarked, BendsRoom, BendsMarked};
+ghost use Rattle.crossing.specs.Bends.{FarIs, NeighbourIs, SideRoom, SideMarked, onlyBy, BendRoom, BendTold, MarkRoom, BendsAt, BetweenMarked, BendsRoom, BendsMarked};
+ghost use Rattle.links.specs.Linked.{EdgesLinked};
 use insert::shares;
 
 // The end of edge i that isn't v.
@@ -32,21 +33,19 @@ fn neighbour(v: usize, w: usize, i: usize, ends: &[usize]) -> usize
     v
 }
 
-// Marks v and its neighbours along the first e edges' straps, but w, in the one table; w and its neighbours, but v, in the other. Nothing is marked in them before.
-fn mark_sides(v: usize, w: usize, e: usize, ends: &[usize], first: &mut [u8], second: &mut [u8])
-    requires { ⌜ SideRoom v e (now ends) (now first) × SideRoom w e (now ends) (now second) ⌝ }
-    ensures { λ _. ⌜ SideMarked v w e (now (ends .entry)) (now (first .exit))
-        × SideMarked w v e (now (ends .entry)) (now (second .exit)) ⌝ }
+// Marks v and its neighbours along the first e edges' straps, but w. They are met along the table of the edges. Nothing is marked before.
+fn mark_side(v: usize, w: usize, e: usize, ends: &[usize], side: &mut [u8], table: &[u16])
+    requires { ⌜ SideRoom v e (now ends) (now side) (now table) ⌝ }
+    ensures { λ _. ⌜ SideMarked v w e (now (ends .entry)) (now (side .exit)) ⌝ }
 {
-    first[v] = 1;
-    second[w] = 1;
-    let mut i: usize = 0;
-    while i < e {
+    let rows = ends.len() / 4;
+    side[v] = 1;
+    let mut at = links::first_at(v, table);
+    while at > 0 {
+        let i = at - 1;
         let x = neighbour(v, w, i, ends);
-        first[x] = 1;
-        let y = neighbour(w, v, i, ends);
-        second[y] = 1;
-        i += 1;
+        side[x] = 1;
+        at = links::next_at(v, i, 2, 1024, 2048, rows, ends, table);
     }
 }
 
@@ -81,28 +80,70 @@ fn bend(i: usize, ends: &[usize], first: &[u8], second: &[u8]) -> bool
     false
 }
 
-// Marks the bend edges between the two sides among the first e.
-fn mark_between(e: usize, ends: &[usize], first: &[u8], second: &[u8], marks: &mut [usize])
-    requires { ⌜ BetweenRoom e (now ends) (length (now first)) (length (now second)) (length (now marks)) ⌝ }
-    ensures { λ _. ⌜ BetweenMarked e (now (ends .entry)) (now (first .entry)) (now (second .entry)) (now (marks .entry))
+// Marks the bend edges between the two sides among the first e that have an end at x.
+fn mark_at(
+    x: usize,
+    e: usize,
+    ends: &[usize],
+    first: &[u8],
+    second: &[u8],
+    marks: &mut [usize],
+    table: &[u16],
+)
+    requires { ⌜ MarkRoom x e (now ends) (length (now first)) (length (now second)) (length (now marks)) (now table) ⌝ }
+    ensures { λ _. ⌜ BendsAt x e (now (ends .entry)) (now (first .entry)) (now (second .entry)) (now (marks .entry))
         (now (marks .exit)) ⌝ }
 {
-    let mut i: usize = 0;
-    while i < e {
+    let rows = ends.len() / 4;
+    let mut at = links::first_at(x, table);
+    while at > 0 {
+        let i = at - 1;
         if bend(i, ends, first, second) {
             marks[i] = 1;
         }
-        i += 1;
+        at = links::next_at(x, i, 2, 1024, 2048, rows, ends, table);
+    }
+}
+
+// Marks the bend edges between the two sides among the first e. Each has an end in the first side, so it is met at v or at a neighbour of v. Several straps may lead to one neighbour, and its edges are walked once.
+fn mark_between(
+    v: usize,
+    w: usize,
+    e: usize,
+    ends: &[usize],
+    first: &[u8],
+    second: &[u8],
+    marks: &mut [usize],
+    table: &[u16],
+)
+    requires { ⌜ MarkRoom v e (now ends) (length (now first)) (length (now second)) (length (now marks)) (now table)
+        × SideMarked v w e (now ends) (now first) ⌝ }
+    ensures { λ _. ⌜ BetweenMarked e (now (ends .entry)) (now (first .entry)) (now (second .entry)) (now (marks .entry))
+        (now (marks .exit)) ⌝ }
+{
+    let rows = ends.len() / 4;
+    let mut walked = [0u8; 1024];
+    walked[v] = 1;
+    mark_at(v, e, ends, first, second, marks, table);
+    let mut at = links::first_at(v, table);
+    while at > 0 {
+        let i = at - 1;
+        let x = neighbour(v, w, i, ends);
+        if !straddling::is_walked(x, &mut walked) {
+            mark_at(x, e, ends, first, second, marks, table);
+        }
+        at = links::next_at(v, i, 2, 1024, 2048, rows, ends, table);
     }
 }
 
 // Marks the bend edges over the strap (a, b) among the first e edges. Its sides are marked in two tables of the particles.
-pub fn mark_bends(a: usize, b: usize, e: usize, ends: &[usize], marks: &mut [usize])
-    requires { ⌜ BendsRoom a b e (now ends) (length (now marks)) ⌝ }
+pub fn mark_bends(a: usize, b: usize, e: usize, ends: &[usize], marks: &mut [usize], table: &[u16])
+    requires { ⌜ BendsRoom a b e (now ends) (length (now marks)) × EdgesLinked e (now ends) (now table) ⌝ }
     ensures { λ _. ⌜ BendsMarked a b e (now (ends .entry)) (now (marks .entry)) (now (marks .exit)) ⌝ }
 {
     let mut first = [0u8; 1024];
     let mut second = [0u8; 1024];
-    mark_sides(a, b, e, ends, &mut first, &mut second);
-    mark_between(e, ends, &first, &second, marks);
+    mark_side(a, b, e, ends, &mut first, table);
+    mark_side(b, a, e, ends, &mut second, table);
+    mark_between(a, b, e, ends, &first, &second, marks, table);
 }

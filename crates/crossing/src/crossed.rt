@@ -5,6 +5,8 @@ ghost use Prim.Native.Nat.{_<_, _≤_};
 ghost use lib.ListN.{length};
 ghost use Rattle.crossing.specs.Crossings.{crossed-in};
 ghost use Rattle.crossing.specs.Crossed.{CrossingsIn, CrossIn, CrossedIn};
+ghost use Rattle.links.specs.Linked.{EdgesLinked};
+ghost use Rattle.insert.specs.Tables.{EdgesAfter};
 use insert::plan;
 use mesh::Counts;
 use mesh::Rooms;
@@ -25,26 +27,50 @@ fn cross(
     log: &mut [u32],
     bends: &mut [usize],
     snapped: &mut [usize],
+    table: &mut [u16],
 ) -> Ran
-    requires { ⌜ CrossIn room k points roots ends lengths outline log bends snapped × (number < k .edges) ⌝ }
-    ensures { λ r. ⌜ CrossedIn f (record { number = number; t = t } ∷ []) room k points roots ends lengths outline log bends snapped r ⌝ }
+    requires { ⌜ CrossIn room k points roots ends lengths outline log bends snapped × (number < k .edges)
+        × EdgesLinked (k .edges) (now ends) (now table) ⌝ }
+    ensures { λ r. ⌜ CrossedIn f (record { number = number; t = t } ∷ []) room k points roots ends lengths outline log bends snapped r
+        × EdgesAfter (now (ends .exit)) (now (table .exit)) r ⌝ }
 {
-    let plan = plan::plan_at(f, number, t, k.particles, k.edges, points, ends, lengths);
+    let plan = plan::plan_at(
+        f,
+        number,
+        t,
+        k.particles,
+        k.edges,
+        points,
+        ends,
+        lengths,
+        table,
+    );
     let row = plan.row;
     if plan::insertable(f, t, plan, points) {
-        crate::bends::mark_bends(row.a, row.b, k.edges, ends, bends);
-        return insert::step::insert(plan, k, room, points, roots, ends, lengths, outline, log);
+        crate::bends::mark_bends(row.a, row.b, k.edges, ends, bends, table);
+        return insert::step::insert(
+            plan,
+            k,
+            room,
+            points,
+            roots,
+            ends,
+            lengths,
+            outline,
+            log,
+            table,
+        );
     }
     let near = plan::near_end(row.a, row.b, t);
     snapped[near] = 1;
     Ran::Done(k)
 }
 
-// All crossings in turn, until one lacks room.
+// All crossings in turn, until one lacks room. The table of the edges is kept true.
 pub fn cross_all(
     f: f32,
     m: usize,
-    numbers: &[usize],
+    numbers: &[u16],
     ts: &[f32],
     k: Counts,
     room: Rooms,
@@ -56,18 +82,19 @@ pub fn cross_all(
     log: &mut [u32],
     bends: &mut [usize],
     snapped: &mut [usize],
+    table: &mut [u16],
 ) -> Ran
     requires { ⌜ CrossIn room k points roots ends lengths outline log bends snapped
-        × CrossingsIn m (now numbers) (length (now ts)) k (now log) ⌝ }
+        × CrossingsIn m (now numbers) (length (now ts)) k (now log) × EdgesLinked (k .edges) (now ends) (now table) ⌝ }
     ensures { λ r. ⌜ CrossedIn f (crossed-in m (now (numbers .entry)) (now (ts .entry))) room k points roots ends lengths outline log bends
-        snapped r ⌝ }
+        snapped r × EdgesAfter (now (ends .exit)) (now (table .exit)) r ⌝ }
 {
     let mut counts = k;
     let mut i: usize = 0;
     while i < m {
         let ran = cross(
             f,
-            numbers[i],
+            numbers[i] as usize,
             ts[i],
             counts,
             room,
@@ -79,6 +106,7 @@ pub fn cross_all(
             log,
             bends,
             snapped,
+            table,
         );
         let Ran::Done(next) = ran else {
             return ran;

@@ -21,14 +21,14 @@ fn hit_of(b0: Point, b1: Point, i: usize, points: &[f32], ends: &[usize]) -> Hit
 }
 
 // Puts a hit on edge i behind the m crossings; returns how many there are.
-fn note_hit(hit: Hit, i: usize, m: usize, numbers: &mut [usize], ts: &mut [f32]) -> usize
-    requires { ⌜ (m < length (now numbers)) × (m < length (now ts)) ⌝ }
+fn note_hit(hit: Hit, i: usize, m: usize, numbers: &mut [u16], ts: &mut [f32]) -> usize
+    requires { ⌜ (m < length (now numbers)) × (m < length (now ts)) × (i < 65536) ⌝ }
     ensures { λ r. ⌜ HitNoted hit i m (now (numbers .entry)) (now (numbers .exit)) (now (ts .entry)) (now (ts .exit)) r ⌝ }
 {
     let Hit::Hit(t, _) = hit else {
         return m;
     };
-    numbers[m] = i;
+    numbers[m] = i as u16;
     ts[m] = t;
     m + 1
 }
@@ -40,7 +40,7 @@ pub fn find_crossings(
     e: usize,
     points: &[f32],
     ends: &[usize],
-    numbers: &mut [usize],
+    numbers: &mut [u16],
     ts: &mut [f32],
 ) -> usize
     requires { ⌜ CrossingsRoom e (length (now points)) (now ends) (length (now numbers)) (length (now ts)) ⌝ }

@@ -13,7 +13,8 @@ ghost use Rattle.marks.specs.Sided.{SidesRoom};
 ghost use Rattle.links.specs.Linked.{LinkedIn};
 ghost use Rattle.cut.specs.Running.{splitBy, splitIn, slackens?, Splittable, SidesFor, chosen, Chosen};
 ghost use Rattle.work.specs.Blocks.{ReadyIn, WorksIn};
-ghost use Rattle.split.specs.Blocks.{MaskIn, LinkedBehind};
+ghost use Rattle.split.specs.Blocks.{ListIn, LinkedBehind, LinkedParted};
+ghost use Rattle.edge_drops.specs.Parted.{PartsIn};
 use blade::Point;
 use elements::Kind;
 use marks::Rule;
@@ -60,7 +61,7 @@ fn part_fan(
     }
 }
 
-// Splits v by the sides of its fan, in tables with room for any fan.
+// Splits v by the sides of its fan, in tables with room for any fan. The straddlers are listed.
 fn split_many(
     way: Parting,
     kind: Kind,
@@ -79,9 +80,9 @@ fn split_many(
     links: &mut [u16],
 ) -> Ran
     requires { ⌜ ReadyIn room k points roots corners volumes ends lengths outline log × (v < k .particles)
-        × MaskIn list × LinkedIn (kindIs kind) k corners ends outline links ⌝ }
-    ensures { λ r. ⌜ (let K = kindIs kind in WorksIn (λ R. splitBy way K R v) room k points roots corners volumes ends lengths outline log r
-        × LinkedBehind K corners ends outline links r) ⌝ }
+        × ListIn list × LinkedIn (kindIs kind) k corners ends outline links ⌝ }
+    ensures { λ r. ⌜ (let K = kindIs kind in PartsIn (λ R. splitBy way K R v) room k points roots corners volumes ends lengths outline log
+        list r × LinkedParted K corners ends outline links list r) ⌝ }
 {
     let mut numbers = [0usize; MANY];
     let mut verts = [0usize; MANY_CORNERS];
@@ -127,7 +128,7 @@ fn split_many(
     )
 }
 
-// Splits v by the sides of its fan, in small tables if the fan is small. The list is lent to work in: what stands in it does not matter. The tables of links must be those of the blocks, and are so again after it.
+// Splits v by the sides of its fan, in small tables if the fan is small. The straddlers are listed: what stands in the lent list before does not matter. The tables of links must be those of the blocks, and are so again after it, with the straddlers.
 fn split_one(
     way: Parting,
     kind: Kind,
@@ -146,9 +147,9 @@ fn split_one(
     links: &mut [u16],
 ) -> Ran
     requires { ⌜ ReadyIn room k points roots corners volumes ends lengths outline log × (v < k .particles)
-        × MaskIn list × LinkedIn (kindIs kind) k corners ends outline links ⌝ }
-    ensures { λ r. ⌜ (let K = kindIs kind in WorksIn (λ R. splitBy way K R v) room k points roots corners volumes ends lengths outline log r
-        × LinkedBehind K corners ends outline links r) ⌝ }
+        × ListIn list × LinkedIn (kindIs kind) k corners ends outline links ⌝ }
+    ensures { λ r. ⌜ (let K = kindIs kind in PartsIn (λ R. splitBy way K R v) room k points roots corners volumes ends lengths outline log
+        list r × LinkedParted K corners ends outline links list r) ⌝ }
 {
     let mut numbers = [0usize; FEW];
     let mut verts = [0usize; FEW_CORNERS];
@@ -224,7 +225,7 @@ fn slackens(way: Parting, before: usize, after: usize) -> bool
     }
 }
 
-// Splits v by the sides of its fan; where it was snapped to, the edges at its copies are slack: the copies are the particles behind those of before.
+// Splits v by the sides of its fan, and the straddlers go; where it was snapped to, the edges at its copies are slack: the copies are the particles behind those of before.
 fn split_next(
     way: Parting,
     kind: Kind,
@@ -243,7 +244,7 @@ fn split_next(
     links: &mut [u16],
 ) -> Ran
     requires { ⌜ ReadyIn room k points roots corners volumes ends lengths outline log × Splittable v k (now log)
-        × MaskIn list × LinkedIn (kindIs kind) k corners ends outline links ⌝ }
+        × ListIn list × LinkedIn (kindIs kind) k corners ends outline links ⌝ }
     ensures { λ r. ⌜ (let K = kindIs kind in WorksIn (λ R. splitIn way K R v) room k points roots corners volumes ends lengths outline log r
         × LinkedBehind K corners ends outline links r) ⌝ }
 {
@@ -267,6 +268,7 @@ fn split_next(
     let Ran::Done(next) = ran else {
         return ran;
     };
+    edge_drops::close(next.edges, list, ends, lengths, &mut links[4096..9216]);
     if !slackens(way, k.particles, next.particles) {
         return Ran::Done(next);
     }
@@ -294,7 +296,7 @@ pub fn split_marked(
     links: &mut [u16],
 ) -> Ran
     requires { ⌜ ReadyIn room k points roots corners volumes ends lengths outline log × Chosen p k (now log) (length (now marks))
-        × MaskIn list × LinkedIn (kindIs kind) k corners ends outline links ⌝ }
+        × ListIn list × LinkedIn (kindIs kind) k corners ends outline links ⌝ }
     ensures { λ r. ⌜ (let K = kindIs kind in WorksIn (λ R. fold (splitIn way K) R (chosen p (now (marks .entry)))) room k points roots
         corners volumes ends lengths outline log r × LinkedBehind K corners ends outline links r) ⌝ }
 {
@@ -348,7 +350,7 @@ pub fn split_pinched(
     links: &mut [u16],
 ) -> Ran
     requires { ⌜ ReadyIn room k points roots corners volumes ends lengths outline log × Logged (k .log) (now log)
-        × (1024 ≤ length (now marks)) × MaskIn list × LinkedIn Triangles k corners ends outline links ⌝ }
+        × (1024 ≤ length (now marks)) × ListIn list × LinkedIn Triangles k corners ends outline links ⌝ }
     ensures { λ r. ⌜ WorksIn (splitPinched Triangles) room k points roots corners volumes ends lengths outline log r
         × LinkedBehind Triangles corners ends outline links r ⌝ }
 {
@@ -394,7 +396,7 @@ pub fn cut_facets(
     links: &mut [u16],
 ) -> Ran
     requires { ⌜ ReadyIn room k points roots corners volumes ends lengths outline log × Logged (k .log) (now log)
-        × (1024 ≤ length (now marks)) × MaskIn list × LinkedIn Triangles k corners ends outline links ⌝ }
+        × (1024 ≤ length (now marks)) × ListIn list × LinkedIn Triangles k corners ends outline links ⌝ }
     ensures { λ r. ⌜ WorksIn (cutFacets (bladeBy rule b0 b1)) room k points roots corners volumes ends lengths outline log r
         × LinkedBehind Triangles corners ends outline links r ⌝ }
 {

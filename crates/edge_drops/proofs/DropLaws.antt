@@ -23,7 +23,7 @@ use Rattle.links.specs.Rooms.{CornersApart}
 use Rattle.links.specs.Linked.{EdgesLinked}
 use Rattle.links.proofs.Same.{links-ext}
 use Rattle.link_changes.proofs.Chained.{apart-ext}
-use Rattle.edge_drops.specs.Drops.{DropAsked, ListedRoom}
+use Rattle.edge_drops.specs.Drops.{RowAsked, RowGone, DropAsked, ListedRoom}
 
 -- ---- one row gone
 
@@ -73,7 +73,39 @@ apart-past P k m i f A =
       apart = λ b c j x y z. A .apart b c (past i j) x y (past-below i m j z);
     }
 
+module _ {i m : ℕ} {ends : List ℕ} {ll : ℕ} (P : RowAsked i m (length ends) ll) (ends′ : List ℕ) (le : length ends′ ≡ length ends) (E : BlockShifted 0 i (i + 1) (m - 1 - i) 4 (length ends / 4) ends ends′) where
+  end-past : (c k : ℕ) → c < 4 → k < m - 1 → cell 0 (length ends′ / 4) ends′ c k ≡ cell 0 (length ends / 4) ends c (past i k)
+  end-past c k x l = ap (λ (z : ℕ). cell 0 (z / 4) ends′ c k) le ∙ shifted-at 0 i m (length ends / 4) ends ends′ (P .here) (P .rows .ends) E c k x l
+
+  module _ (lengths lengths′ : List Float) (fits : length lengths ≡ ll) (ll′ : length lengths′ ≡ length lengths) (F : BlockShifted nan i (i + 1) (m - 1 - i) 4 (length lengths / 4) lengths lengths′) where
+    length-past : (c k : ℕ) → c < 4 → k < m - 1 → cell nan (length lengths′ / 4) lengths′ c k ≡ cell nan (length lengths / 4) lengths c (past i k)
+    length-past c k x l =
+        ap (λ (z : ℕ). cell nan (z / 4) lengths′ c k) ll′ ∙ shifted-at nan i m (length lengths / 4) lengths lengths′ (P .here) (omega (arith, P .rows .lengths)) F c k x l
+
+    row-past : (k : ℕ) → k < m - 1 → rowAt ends′ lengths′ k ≡ rowAt ends lengths (past i k)
+    row-past k l =
+        λ z.
+        record {
+          a = end-past 0 k (omega arith) l z;
+          b = end-past 1 k (omega arith) l z;
+          structural = end-past 2 k (omega arith) l z;
+          torn = end-past 3 k (omega arith) l z;
+          rest = length-past 0 k (omega arith) l z;
+          initial = length-past 1 k (omega arith) l z;
+          impulse = length-past 2 k (omega arith) l z;
+          stress = length-past 3 k (omega arith) l z;
+        }
+
+    -- the rows that are left
+    pub gone-row : RowGone i m ends ends′ lengths lengths′
+    unfolding edgesAt
+    gone-row = record { edges = tab-ext (m - 1) (rowAt ends′ lengths′) (λ k. rowAt ends lengths (past i k)) row-past ∙ tab-past m i (rowAt ends lengths) (P .here); moved = E }
+
 module _ {i m : ℕ} {ends : List ℕ} {ll : ℕ} {table : List ℕ} (P : DropAsked i m ends ll table) where
+  -- the blocks have room for it
+  pub row-room : RowAsked i m (length ends) ll
+  row-room = record { here = P .here; rows = record { ends = P .linked .rows; lengths = P .lengths } }
+
   -- it can be taken out of the table
   pub gone-room : DropRoom i 1024 2 2048 (length ends / 4) m ends table
   gone-room =
@@ -86,12 +118,9 @@ module _ {i m : ℕ} {ends : List ℕ} {ll : ℕ} {table : List ℕ} (P : DropAs
       }
 
   module _ (ends′ : List ℕ) (le : length ends′ ≡ length ends) (E : BlockShifted 0 i (i + 1) (m - 1 - i) 4 (length ends / 4) ends ends′) where
-    end-past : (c k : ℕ) → c < 4 → k < m - 1 → cell 0 (length ends′ / 4) ends′ c k ≡ cell 0 (length ends / 4) ends c (past i k)
-    end-past c k x l = ap (λ (z : ℕ). cell 0 (z / 4) ends′ c k) le ∙ shifted-at 0 i m (length ends / 4) ends ends′ (P .here) (P .linked .rows) E c k x l
-
     dropped : (c j : ℕ) → c < 4 → j < m - 1 → cornerDropped i (cell 0 (length ends / 4) ends) c j ≡ cell 0 (length ends′ / 4) ends′ c j
     unfolding cornerDropped
-    dropped c j x y = sym (end-past c j x y)
+    dropped c j x y = sym (end-past row-room ends′ le E c j x y)
 
     -- and then the table is that of the rows that are left
     pub gone-linked : (table′ : List ℕ) → length table′ ≡ length table → LinksOf 1024 2 2048 (m - 1) (cornerDropped i (cell 0 (length ends / 4) ends)) table′ → EdgesLinked (m - 1) ends′ table′
@@ -106,81 +135,86 @@ module _ {i m : ℕ} {ends : List ℕ} {ll : ℕ} {table : List ℕ} (P : DropAs
           apart = apart-ext 1024 2 (m - 1) _ (cell 0 (length ends′ / 4) ends′) same (apart-past 1024 2 m i (cell 0 (length ends / 4) ends) (L .apart));
         }
 
-    module _ (lengths lengths′ : List Float) (fits : length lengths ≡ ll) (ll′ : length lengths′ ≡ length lengths) (F : BlockShifted nan i (i + 1) (m - 1 - i) 4 (length lengths / 4) lengths lengths′) where
-      length-past : (c k : ℕ) → c < 4 → k < m - 1 → cell nan (length lengths′ / 4) lengths′ c k ≡ cell nan (length lengths / 4) lengths c (past i k)
-      length-past c k x l =
-          ap (λ (z : ℕ). cell nan (z / 4) lengths′ c k) ll′ ∙ shifted-at nan i m (length lengths / 4) lengths lengths′ (P .here) (omega (arith, P .lengths)) F c k x l
-
-      row-past : (k : ℕ) → k < m - 1 → rowAt ends′ lengths′ k ≡ rowAt ends lengths (past i k)
-      row-past k l =
-          λ z.
-          record {
-            a = end-past 0 k (omega arith) l z;
-            b = end-past 1 k (omega arith) l z;
-            structural = end-past 2 k (omega arith) l z;
-            torn = end-past 3 k (omega arith) l z;
-            rest = length-past 0 k (omega arith) l z;
-            initial = length-past 1 k (omega arith) l z;
-            impulse = length-past 2 k (omega arith) l z;
-            stress = length-past 3 k (omega arith) l z;
-          }
-
-      pub gone-row : edgesAt (m - 1) ends′ lengths′ ≡ without i (edgesAt m ends lengths)
-      unfolding edgesAt
-      gone-row = tab-ext (m - 1) (rowAt ends′ lengths′) (λ k. rowAt ends lengths (past i k)) row-past ∙ tab-past m i (rowAt ends lengths) (P .here)
-
 -- ---- the listed rows, one by one
 
 -- at the head of the loop: the first `more` of the list are still to go, and `left` rows are left
-pub record Dropping (list : List ℕ) (n s : ℕ) (ends₀ : List ℕ) (lengths₀ : List Float) (table₀ ends : List ℕ) (lengths : List Float) (table : List ℕ) (left more : ℕ) : Type 0 where
+pub record Closing (list : List ℕ) (n s : ℕ) (ends₀ : List ℕ) (lengths₀ : List Float) (ends : List ℕ) (lengths : List Float) (left more : ℕ) : Type 0 where
   pub same : leftOut (take more list) (edgesAt left ends lengths) ≡ leftOut (take s list) (edgesAt n ends₀ lengths₀)
-  pub linked : EdgesLinked left ends table
   pub count : left + s ≡ n + more
   pub inside : more ≤ s
   pub ends-long : length ends ≡ length ends₀
   pub lengths-long : length lengths ≡ length lengths₀
+
+-- and the table is that of those that are left
+pub record Dropping (list : List ℕ) (n s : ℕ) (ends₀ : List ℕ) (lengths₀ : List Float) (table₀ ends : List ℕ) (lengths : List Float) (table : List ℕ) (left more : ℕ) : Type 0 where
+  pub rows : Closing list n s ends₀ lengths₀ ends lengths left more
+  pub linked : EdgesLinked left ends table
   pub table-long : length table ≡ length table₀
+
+module _ (list : List ℕ) (n s : ℕ) (ends₀ : List ℕ) (lengths₀ : List Float) (R : ListedRoom list n s (length ends₀) (length lengths₀)) where
+  pub closing-start : Closing list n s ends₀ lengths₀ ends₀ lengths₀ n s
+  closing-start = record { same = refl; count = refl; inside = omega arith; ends-long = refl; lengths-long = refl }
+
+  module _ (ends : List ℕ) (lengths : List Float) (left more : ℕ) (G : Closing list n s ends₀ lengths₀ ends lengths left more) where
+    -- after the last one
+    pub closing-done : more ≡ 0 → (left ≡ n - s) × (edgesAt left ends lengths ≡ leftOut (take s list) (edgesAt n ends₀ lengths₀))
+    unfolding leftOut
+    closing-done z = (omega (arith, G .count, rising-few (R .rising)), ap (λ (k : ℕ). leftOut (take k list) (edgesAt left ends lengths)) (sym z) ∙ G .same)
+
+    module _ (some : 0 < more) where
+      pub closing-read : more - 1 < length list
+      closing-read = omega (arith, G .inside, R .few)
+
+      pub closing-room : RowAsked (getD list (more - 1) 0) left (length ends) (length lengths)
+      closing-room =
+          record {
+            here = omega (arith, G .count, G .inside, rising-room (R .rising) (more - 1) (omega (arith, G .inside)));
+            rows =
+                record {
+                  ends = omega (arith, G .count, G .inside, G .ends-long, R .rows .ends);
+                  lengths = omega (arith, G .count, G .inside, G .lengths-long, R .rows .lengths);
+                };
+          }
+
+      -- one goes
+      pub closing-more : (ends′ : List ℕ) (lengths′ : List Float) → edgesAt (left - 1) ends′ lengths′ ≡ without (getD list (more - 1) 0) (edgesAt left ends lengths)
+          → length ends′ ≡ length ends → length lengths′ ≡ length lengths → Closing list n s ends₀ lengths₀ ends′ lengths′ (left - 1) (more - 1)
+      closing-more ends′ lengths′ q le ll =
+          let k : suc (more - 1) ≡ more = omega arith in
+          record {
+            same =
+                ap (leftOut (take (more - 1) list)) q ∙ sym (leftOut-last (take (more - 1) list) (getD list (more - 1) 0) (edgesAt left ends lengths))
+                ∙ ap (λ (is : List ℕ). leftOut is (edgesAt left ends lengths)) (sym (take-more (more - 1) list 0 closing-read) ∙ ap (λ (z : ℕ). take z list) k) ∙ G .same;
+            count = omega (arith, G .count, G .inside, closing-room .here);
+            inside = omega (arith, G .inside);
+            ends-long = le ∙ G .ends-long;
+            lengths-long = ll ∙ G .lengths-long;
+          }
 
 module _ (list : List ℕ) (n s : ℕ) (ends₀ : List ℕ) (lengths₀ : List Float) (table₀ : List ℕ) (R : ListedRoom list n s (length ends₀) (length lengths₀)) where
   pub dropping-start : EdgesLinked n ends₀ table₀ → Dropping list n s ends₀ lengths₀ table₀ ends₀ lengths₀ table₀ n s
-  dropping-start L = record { same = refl; linked = L; count = refl; inside = omega arith; ends-long = refl; lengths-long = refl; table-long = refl }
+  dropping-start L = record { rows = closing-start list n s ends₀ lengths₀ R; linked = L; table-long = refl }
 
   module _ (ends : List ℕ) (lengths : List Float) (table : List ℕ) (left more : ℕ) (G : Dropping list n s ends₀ lengths₀ table₀ ends lengths table left more) where
     -- after the last one
     pub dropping-done : more ≡ 0 → (left ≡ n - s) × (edgesAt left ends lengths ≡ leftOut (take s list) (edgesAt n ends₀ lengths₀)) × EdgesLinked left ends table
-    unfolding leftOut
-    dropping-done z =
-        (omega (arith, G .count, rising-few (R .rising)), ap (λ (k : ℕ). leftOut (take k list) (edgesAt left ends lengths)) (sym z) ∙ G .same, G .linked)
+    dropping-done z = let d = closing-done list n s ends₀ lengths₀ R ends lengths left more (G .rows) z in (d .0, d .1, G .linked)
 
     module _ (some : 0 < more) where
       pub dropping-read : more - 1 < length list
-      dropping-read = omega (arith, G .inside, R .few)
+      dropping-read = closing-read list n s ends₀ lengths₀ R ends lengths left more (G .rows) some
 
       pub dropping-room : DropAsked (getD list (more - 1) 0) left ends (length lengths) table
       dropping-room =
-          record {
-            linked = G .linked;
-            here = omega (arith, G .count, G .inside, rising-room (R .rising) (more - 1) (omega (arith, G .inside)));
-            lengths = omega (arith, G .count, G .inside, G .lengths-long, R .rows .lengths);
-          }
+          let P = closing-room list n s ends₀ lengths₀ R ends lengths left more (G .rows) some in
+          record { linked = G .linked; here = P .here; lengths = P .rows .lengths }
 
       -- one goes
       pub dropping-more : (ends′ : List ℕ) (lengths′ : List Float) (table′ : List ℕ) → edgesAt (left - 1) ends′ lengths′ ≡ without (getD list (more - 1) 0) (edgesAt left ends lengths)
           → EdgesLinked (left - 1) ends′ table′ → length ends′ ≡ length ends → length lengths′ ≡ length lengths → length table′ ≡ length table
           → Dropping list n s ends₀ lengths₀ table₀ ends′ lengths′ table′ (left - 1) (more - 1)
       dropping-more ends′ lengths′ table′ q L le ll lt =
-          let k : suc (more - 1) ≡ more = omega arith in
-          record {
-            same =
-                ap (leftOut (take (more - 1) list)) q ∙ sym (leftOut-last (take (more - 1) list) (getD list (more - 1) 0) (edgesAt left ends lengths))
-                ∙ ap (λ (is : List ℕ). leftOut is (edgesAt left ends lengths)) (sym (take-more (more - 1) list 0 dropping-read) ∙ ap (λ (z : ℕ). take z list) k) ∙ G .same;
-            linked = L;
-            count = omega (arith, G .count, G .inside, dropping-room .here);
-            inside = omega (arith, G .inside);
-            ends-long = le ∙ G .ends-long;
-            lengths-long = ll ∙ G .lengths-long;
-            table-long = lt ∙ G .table-long;
-          }
+          record { rows = closing-more list n s ends₀ lengths₀ R ends lengths left more (G .rows) some ends′ lengths′ q le ll; linked = L; table-long = lt ∙ G .table-long }
 
   -- what the others ask, where the last is gone
   pub rest-room : 0 < s → (le ll : ℕ) → le ≡ length ends₀ → ll ≡ length lengths₀ → ListedRoom list (n - 1) (s - 1) le ll

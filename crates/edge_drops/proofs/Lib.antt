@@ -1,2 +1,3 @@
 -- Laws of listed edges that go.
 pub mod DropLaws
+pub mod PartedLaws

@@ -1,2 +1,3 @@
 -- Listed edges that go.
 pub mod Drops
+pub mod Parted

@@ -1,20 +1,24 @@
 -- Laws of words put into bytes: nothing put, words behind words, columns one behind the other. Assumes nothing.
-use Prim.Native.Nat.{ℕ, zero, suc, _+_, _-_, _*_, _≤_, _<_, zero-le}
+use Prim.Native.Nat.{ℕ, zero, suc, _+_, _-_, _*_, _/_, _≤_, _<_, zero-le}
 use native.Mathlib.Numerals.{add-one}
 use native.Mathlib.Omega.{arith}
-use native.Mathlib.Nat.{zero-mul}
-use mathlib.Core.Path.{_≡_, refl, sym, ap, ap₂, _∙_}
+use native.Mathlib.Nat.{zero-mul, mul-div-le}
+use mathlib.Core.Path.{_≡_, refl, sym, ap, ap₂, subst, _∙_}
 use mathlib.Core.List.{List, [], _∷_, _++_, append-assoc}
 use lib.ListN.{length, getD, take, drop, length-append, length-drop, take-append-drop, length-map}
 use lib.Seq.{take-at, drop-at, drop-drop, take-suc, take-length, length-take-le}
 use lib.Ieee.{Float, binary32, toBits}
 use borrow.Rule.Slice.PartMut.{midOf}
+use native.Mathlib.Decide.{decLt}
 use Rattle.lists.specs.Lists.{each, padded}
+use Rattle.lists.specs.LeftOut.{Rising, leftOut}
+use Rattle.lists.proofs.Risen.{rising-room, rising-few}
 use Rattle.lists.proofs.Sifts.{each-append}
 use Rattle.columns.specs.Block.{stack}
 use Rattle.columns.proofs.Cells.{next-col, col-fits}
 use Rattle.image.specs.Words.{bytesOf, written, putWord, putWords, bitsIn}
-use Rattle.image_writing.specs.Stores.{frontsOf, Placed}
+use Rattle.image_writing.specs.Stores.{leftFronts, ColumnPlaced, Placed}
+use Rattle.image_writing.proofs.Left.{rising-front, rising-all, left-more, left-rest, left-before, left-fronts-length}
 use Rattle.image.proofs.Words.{bytes-length, bytes-more}
 
 -- ---- bytes in the place of bytes
@@ -82,25 +86,12 @@ bits-append (a ∷ x) y = ap (λ (l : List ℕ). toBits binary32 a ∷ l) (bits-
 pub bits-length : (x : List Float) → length (bitsIn x) ≡ length x
 bits-length x = length-map x (toBits binary32)
 
--- the fronts of w columns are w times n places
-pub fronts-length : {A : Type 0} (w n R : ℕ) (s : List A) → n ≤ R → w * R ≤ length s → length (frontsOf w n R s) ≡ w * n
-unfolding frontsOf stack
-fronts-length zero n R s few room = sym (zero-mul n)
-fronts-length (suc w) n R s few room =
-    let a = next-col w R in
-    let b = next-col w n in
-    let z : suc w ≡ w + 1 = omega arith in
-    let k : w * R + R ≤ length s = omega (arith, ap (λ (x : ℕ). x * R) z) in
-    let t : length (take n (drop (w * R) s)) ≡ n = length-take-le n (drop (w * R) s) (rw length-drop (omega arith)) in
-    let i = fronts-length w n R s few (omega arith) in
-    length-append (frontsOf w n R s) (take n (drop (w * R) s)) ∙ ap₂ (λ (x y : ℕ). x + y) i t ∙ sym b ∙ sym (ap (λ (x : ℕ). x * n) z)
-
 -- one column more
-fronts-next : {A : Type 0} (c n R o : ℕ) (s : List A) → o ≡ c * R → frontsOf c n R s ++ midOf o (o + n - o) s ≡ frontsOf (c + 1) n R s
-unfolding frontsOf stack
-fronts-next {A} c n R o s e =
+left-fronts-next : {A : Type 0} (c n R o : ℕ) (is : List ℕ) (s : List A) → o ≡ c * R → leftFronts c n R is s ++ leftOut is (midOf o (o + n - o) s) ≡ leftFronts (c + 1) n R is s
+unfolding leftFronts stack
+left-fronts-next {A} c n R o is s e =
     let k : o + n - o ≡ n = omega arith in
-    rw (add-one c) (ap (λ (x : List A). stack c (λ j. take n (drop (j * R) s)) ++ x) (ap₂ (λ (i j : ℕ). take i (drop j s)) k e))
+    rw (add-one c) (ap (λ (x : List A). stack c (λ j. leftOut is (take n (drop (j * R) s))) ++ leftOut is x) (ap₂ (λ (i j : ℕ). take i (drop j s)) k e))
 
 -- four words, one behind the other
 pub four-put : (s s₁ s₂ s₃ s₄ : List ℕ) (at a b c d : ℕ) → 4 * (at + 4) ≤ length s → s₁ ≡ putWord s at a → s₂ ≡ putWord s₁ (at + 1) b → s₃ ≡ putWord s₂ (at + 2) c → s₄ ≡ putWord s₃ (at + 3) d
@@ -117,13 +108,23 @@ pub record Putting {A : Type 0} (f : List A → List ℕ) (at : ℕ) (col : List
   pub long : length s ≡ length s₀
   pub below : i ≤ length col
 
+-- at the head of the loop: the words of the places before `from` are put, without the first j listed
+pub record PuttingLeft {A : Type 0} (f : List A → List ℕ) (k : ℕ) (gone : List ℕ) (at : ℕ) (col : List A) (s₀ s : List ℕ) (from to j : ℕ) : Type 0 where
+  pub below : j ≤ k
+  pub within : from ≤ length col
+  pub place : to + j ≡ at + from
+  pub behind : (i : ℕ) → i < j → getD gone i 0 < from
+  pub ahead : (i : ℕ) → j ≤ i → i < k → from ≤ getD gone i 0
+  pub long : length s ≡ length s₀
+  pub words : s ≡ putWords s₀ at (f (leftOut (take j gone) (take from col)))
+
 -- at the head of the loop: the words of the columns before c are put
-pub record PuttingBlock {A : Type 0} (f : List A → List ℕ) (w R n at : ℕ) (block : List A) (s₀ s : List ℕ) (c o to : ℕ) : Type 0 where
-  pub from : o ≡ c * R
-  pub place : to ≡ at + c * n
+pub record PuttingBlock {A : Type 0} (f : List A → List ℕ) (w n k : ℕ) (gone : List ℕ) (at : ℕ) (block : List A) (s₀ s : List ℕ) (c o to : ℕ) : Type 0 where
+  pub from : o ≡ c * (length block / w)
+  pub place : to ≡ at + c * (n - k)
   pub below : c ≤ w
   pub long : length s ≡ length s₀
-  pub words : s ≡ putWords s₀ at (f (frontsOf c n R block))
+  pub words : s ≡ putWords s₀ at (f (leftFronts c n (length block / w) (take k gone) block))
 
 -- f makes a word of each element
 module _ {A : Type 0} (f : List A → List ℕ) (g : A → ℕ) (nil : f [] ≡ []) (one : (a : A) → f (a ∷ []) ≡ g a ∷ []) (cat : (x y : List A) → f (x ++ y) ≡ f x ++ f y) (len : (x : List A) → length (f x) ≡ length x) where
@@ -151,39 +152,141 @@ module _ {A : Type 0} (f : List A → List ℕ) (g : A → ℕ) (nil : f [] ≡ 
       let e : i ≡ length col = omega (arith, v .below) in
       v .words ∙ ap (λ (x : List A). putWords s₀ at (f x)) (ap (λ (k : ℕ). take k col) e ∙ take-length col)
 
-  module _ (w R n at : ℕ) (block : List A) where
-    pub block-start : (s : List ℕ) → PuttingBlock f w R n at block s s 0 0 at
-    unfolding frontsOf stack
+  -- ---- a column without the listed places
+
+  module _ (k : ℕ) (gone : List ℕ) (at : ℕ) (col : List A) where
+    pub left-start : (s : List ℕ) → PuttingLeft f k gone at col s s 0 at 0
+    unfolding leftOut
+    left-start s =
+        record {
+          below = zero-le;
+          within = zero-le;
+          place = refl;
+          behind = λ i h. absurd (omega arith);
+          ahead = λ i h m. zero-le;
+          long = refl;
+          words = sym (ap (putWords s at) nil ∙ put-none s at);
+        }
+
+    module _ (s₀ s : List ℕ) (from to j : ℕ) (v : PuttingLeft f k gone at col s₀ s from to j) (p : ColumnPlaced (length col) k gone at (length s₀)) where
+      listed : Rising (take j gone) (length (take j gone)) from
+      listed = rising-front gone k (length col) j from (p .rising) (v .below) (p .listed) (v .behind)
+
+      -- the words that are put stand before `to`
+      before : to ≡ at + length (f (leftOut (take j gone) (take from col)))
+      before =
+          let a = left-before gone col j from (v .within) listed in
+          let b = length-take-le j gone (omega (arith, v .below, p .listed)) in
+          omega (arith, a, b, len (leftOut (take j gone) (take from col)), v .place)
+
+      -- one run
+      run-put : (x : List A) (s′ : List ℕ) → s′ ≡ putWords s to (f x) → 4 * to ≤ length s₀ → s′ ≡ putWords s₀ at (f (leftOut (take j gone) (take from col) ++ x))
+      run-put x s′ e h =
+          let L : List A = leftOut (take j gone) (take from col) in
+          puts-then s₀ s s′ at to (f L) (f x) (v .words) e before h ∙ ap (putWords s₀ at) (sym (cat L x))
+
+      -- before the next listed place
+      module _ (h : j < k) (end : ℕ) (q : end ≡ getD gone j 0) where
+        pub end-in : end < length col
+        end-in = omega (arith, q, p .rising .below j h)
+
+        pub end-from : from ≤ end
+        end-from = omega (arith, q, v .ahead j (omega arith) h)
+
+        pub run-room : 4 * (to + (end - from)) ≤ length s
+        run-room =
+            let a = rising-room (p .rising) j h in
+            let b = p .room in
+            let g = v .place in
+            let d = rising-few (p .rising) in
+            omega (arith, q, v .long, v .below, v .within, end-in, end-from)
+
+        pub left-next : (s′ : List ℕ) → s′ ≡ putWords s to (f (midOf from (end - from) col)) → length s′ ≡ length s → PuttingLeft f k gone at col s₀ s′ (end + 1) (to + (end - from)) (j + 1)
+        left-next s′ e l =
+            let g = v .place in
+            record {
+              below = omega arith;
+              within = omega (arith, end-in);
+              place = omega (arith, end-from);
+              behind =
+                  λ i m.
+                  elim (decLt i j) [
+                    | yes y ↦ omega (arith, v .behind i y, end-from)
+                    | no y ↦ let z : i ≡ j = omega (arith, y) in let w : getD gone i 0 ≡ end = ap (λ (t : ℕ). getD gone t 0) z ∙ sym q in omega (arith, w)
+                  ];
+              ahead = λ i m n. let a = p .rising .rises j i (omega arith) n in omega (arith, q, a);
+              long = l ∙ v .long;
+              words =
+                  run-put (midOf from (end - from) col) s′ e (omega (arith, run-room, v .long))
+                  ∙ ap (λ (x : List A). putWords s₀ at (f x)) (left-more gone col j from (v .within) listed end (omega (arith, p .listed)) q end-from end-in);
+            }
+
+      -- behind the last
+      module _ (h : k ≤ j) where
+        pub rest-room : 4 * (to + (length col - from)) ≤ length s
+        rest-room = let b = p .room in let g = v .place in let d = rising-few (p .rising) in omega (arith, v .long, v .below, v .within)
+
+        pub left-done : (s′ : List ℕ) → s′ ≡ putWords s to (f (midOf from (length col - from) col)) → s′ ≡ putWords s₀ at (f (leftOut (take k gone) col))
+        left-done s′ e =
+            let z : j ≡ k = omega (arith, v .below) in
+            let r : midOf from (length col - from) col ≡ drop from col = ap (λ (m : ℕ). take m (drop from col)) (sym (length-drop from col)) ∙ take-length (drop from col) in
+            run-put (midOf from (length col - from) col) s′ e (omega (arith, rest-room, v .long))
+            ∙ ap (λ (x : List A). putWords s₀ at (f x)) (ap (λ (x : List A). leftOut (take j gone) (take from col) ++ x) r ∙ left-rest gone col j from (v .within) listed ∙ ap (λ (m : ℕ). leftOut (take m gone) col) z)
+
+  -- ---- the columns of a block
+
+  module _ (w n k : ℕ) (gone : List ℕ) (at : ℕ) (block : List A) where
+    -- the places of a column
+    abbrev R : ℕ
+    R = length block / w
+
+    pub block-start : (s : List ℕ) → PuttingBlock f w n k gone at block s s 0 0 at
+    unfolding leftFronts stack
     block-start s =
-        let z : at + 0 * n ≡ at = ap (λ (x : ℕ). at + x) (zero-mul n) ∙ omega arith in
+        let z : at + 0 * (n - k) ≡ at = ap (λ (x : ℕ). at + x) (zero-mul (n - k)) ∙ omega arith in
         record { from = sym (zero-mul R); place = sym z; below = zero-le; long = refl; words = sym (ap (putWords s at) nil ∙ put-none s at) }
 
-    module _ (s₀ s : List ℕ) (c o to : ℕ) (v : PuttingBlock f w R n at block s₀ s c o to) (h : c < w) (p : Placed w R n at (length block) (length s₀)) where
+    module _ (s₀ s : List ℕ) (c o to : ℕ) (v : PuttingBlock f w n k gone at block s₀ s c o to) (h : c < w) (p : Placed w n k gone at (length block) (length s₀)) where
+      columns : w * R ≤ length block
+      columns = mul-div-le (length block) w
+
       -- the turn's column stands in the block, and its words have room
       pub column-in : o + R ≤ length block
-      column-in = omega (arith, v .from, col-fits c w R h, p .columns)
+      column-in = omega (arith, v .from, col-fits c w R h, columns)
 
       pub front-in : o + n ≤ length block
       front-in = omega (arith, column-in, p .few)
 
-      pub front-room : 4 * (to + n) ≤ length s
-      front-room = omega (arith, v .place, v .long, col-fits c w n h, p .room)
+      pub listed-few : k ≤ n
+      listed-few = rising-few (p .rising)
 
-      pub block-more : (s′ : List ℕ) → s′ ≡ putWords s to (f (midOf o (o + n - o) block)) → length s′ ≡ length s → PuttingBlock f w R n at block s₀ s′ (c + 1) (o + R) (to + n)
+      pub front-room : 4 * (to + (n - k)) ≤ length s
+      front-room = omega (arith, v .place, v .long, col-fits c w (n - k) h, p .room)
+
+      pub column-placed : (m : ℕ) → o + n - o ≡ m → ColumnPlaced m k gone to (length s)
+      column-placed m e =
+          let z : n ≡ m = omega (arith, e) in
+          record { listed = p .listed; rising = subst (λ (x : ℕ). Rising gone k x) z (p .rising); room = omega (arith, front-room, z) }
+
+      pub block-more : (s′ : List ℕ) → s′ ≡ putWords s to (f (leftOut (take k gone) (midOf o (o + n - o) block))) → length s′ ≡ length s → PuttingBlock f w n k gone at block s₀ s′ (c + 1) (o + R) (to + (n - k))
       block-more s′ e l =
-          let fl = fronts-length c n R block (p .few) (omega (arith, col-fits c w R h, p .columns)) in
-          let z : to ≡ at + length (f (frontsOf c n R block)) = omega (arith, v .place, len (frontsOf c n R block), fl) in
+          let is : List ℕ = take k gone in
+          let L : List A = leftFronts c n R is block in
+          let x : List A = leftOut is (midOf o (o + n - o) block) in
+          let fl = left-fronts-length c n R is block (p .few) (omega (arith, col-fits c w R h, columns)) (rising-all gone k n (p .rising) (p .listed)) in
+          let fk : c * (n - length is) ≡ c * (n - k) = ap (λ (m : ℕ). c * (n - m)) (length-take-le k gone (p .listed)) in
+          let z : to ≡ at + length (f L) = omega (arith, v .place, len L, fl, fk) in
           record {
             from = ap (λ (x : ℕ). x + R) (v .from) ∙ sym (next-col c R);
-            place = let q = next-col c n in omega (arith, v .place);
+            place = let q = next-col c (n - k) in omega (arith, v .place);
             below = omega arith;
             long = l ∙ v .long;
             words =
-                puts-then s₀ s s′ at to (f (frontsOf c n R block)) (f (midOf o (o + n - o) block)) (v .words) e z (omega (arith, front-room, v .long))
-                ∙ ap (putWords s₀ at) (sym (cat (frontsOf c n R block) (midOf o (o + n - o) block)) ∙ ap f (fronts-next c n R o block (v .from)));
+                puts-then s₀ s s′ at to (f L) (f x) (v .words) e z (omega (arith, front-room, v .long))
+                ∙ ap (putWords s₀ at) (sym (cat L x) ∙ ap f (left-fronts-next c n R o is block (v .from)));
           }
 
-    pub block-done : (s₀ s : List ℕ) (c o to : ℕ) → PuttingBlock f w R n at block s₀ s c o to → w ≤ c → s ≡ putWords s₀ at (f (frontsOf w n R block))
+    pub block-done : (s₀ s : List ℕ) (c o to : ℕ) → PuttingBlock f w n k gone at block s₀ s c o to → w ≤ c → s ≡ putWords s₀ at (f (leftFronts w n R (take k gone) block))
     block-done s₀ s c o to v h =
         let e : c ≡ w = omega (arith, v .below) in
-        v .words ∙ ap (λ (k : ℕ). putWords s₀ at (f (frontsOf k n R block))) e
+        v .words ∙ ap (λ (m : ℕ). putWords s₀ at (f (leftFronts m n R (take k gone) block))) e

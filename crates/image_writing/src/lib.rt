@@ -1,12 +1,13 @@
 // The words of an answer written to bytes, and the image of a mesh from its blocks.
 ghost use mathlib.Core.Path.{_≡_};
-ghost use Prim.Native.Nat.{_+_, _*_, _%_, _≤_, _<_};
+ghost use Prim.Native.Nat.{_+_, _*_, _/_, _%_, _≤_, _<_};
 ghost use mathlib.Core.List.{[], _∷_};
 ghost use lib.ListN.{length, take};
 ghost use lib.Ieee.{binary32, toBits};
 ghost use Rattle.lists.specs.Lists.{padded};
+ghost use Rattle.lists.specs.LeftOut.{leftOut};
 ghost use Rattle.image.specs.Words.{written, putWord, putWords, bitsIn};
-ghost use Rattle.image_writing.specs.Stores.{frontsOf, Placed, blockWords, Storable};
+ghost use Rattle.image_writing.specs.Stores.{leftFronts, ColumnPlaced, Placed, blockWords, leftWords, Storable, StorableWithout};
 use mesh::Counts;
 
 // Puts 0 into every byte.
@@ -116,50 +117,95 @@ pub fn store_numbers(numbers: &[f32], at: usize, out: &mut [u8])
     }
 }
 
-// Writes the first n places of each column of a block of words, from word `at` on.
-pub fn store_words_block(
+// Writes a column of words from word `at` on, without the first s listed places: a run between each two of them.
+fn store_words_left(column: &[usize], s: usize, gone: &[usize], at: usize, out: &mut [u8])
+    requires { ⌜ ColumnPlaced (length (now column)) s (now gone) at (length (now out)) ⌝ }
+    ensures { λ _. ⌜ now (out .exit) ≡ putWords (now (out .entry)) at (leftOut (take s (now (gone .entry))) (now (column .entry))) ⌝ }
+{
+    let mut from: usize = 0;
+    let mut to: usize = at;
+    let mut j: usize = 0;
+    while j < s {
+        let end = gone[j];
+        store_words(&column[from..end], to, out);
+        to += end - from;
+        from = end + 1;
+        j += 1;
+    }
+    let end = column.len();
+    store_words(&column[from..end], to, out);
+}
+
+// Writes the first n places of each column of a block of words, without the first s listed places, from word `at` on.
+fn store_words_block(
     block: &[usize],
     width: usize,
-    stride: usize,
     n: usize,
+    s: usize,
+    gone: &[usize],
     at: usize,
     out: &mut [u8],
 )
-    requires { ⌜ Placed width stride n at (length (now block)) (length (now out)) ⌝ }
-    ensures { λ _. ⌜ now (out .exit) ≡ putWords (now (out .entry)) at (frontsOf width n stride (now (block .entry))) ⌝ }
+    requires { ⌜ Placed width n s (now gone) at (length (now block)) (length (now out)) ⌝ }
+    ensures { λ _. ⌜ now (out .exit) ≡ putWords (now (out .entry)) at
+        (leftFronts width n (length (now (block .entry)) / width) (take s (now (gone .entry))) (now (block .entry))) ⌝ }
 {
+    let stride = block.len() / width;
     let mut c: usize = 0;
     let mut o: usize = 0;
     let mut to: usize = at;
     while c < width {
         let end = o + n;
-        store_words(&block[o..end], to, out);
+        store_words_left(&block[o..end], s, gone, to, out);
         o += stride;
-        to += n;
+        to += n - s;
         c += 1;
     }
 }
 
-// Writes the first n places of each column of a block of numbers, from word `at` on.
-pub fn store_numbers_block(
+// Writes a column of numbers from word `at` on, without the first s listed places: a run between each two of them.
+fn store_numbers_left(column: &[f32], s: usize, gone: &[usize], at: usize, out: &mut [u8])
+    requires { ⌜ ColumnPlaced (length (now column)) s (now gone) at (length (now out)) ⌝ }
+    ensures { λ _. ⌜ now (out .exit) ≡ putWords (now (out .entry)) at
+        (bitsIn (leftOut (take s (now (gone .entry))) (now (column .entry)))) ⌝ }
+{
+    let mut from: usize = 0;
+    let mut to: usize = at;
+    let mut j: usize = 0;
+    while j < s {
+        let end = gone[j];
+        store_numbers(&column[from..end], to, out);
+        to += end - from;
+        from = end + 1;
+        j += 1;
+    }
+    let end = column.len();
+    store_numbers(&column[from..end], to, out);
+}
+
+// Writes the first n places of each column of a block of numbers, without the first s listed places, from word `at` on.
+fn store_numbers_block(
     block: &[f32],
     width: usize,
-    stride: usize,
     n: usize,
+    s: usize,
+    gone: &[usize],
     at: usize,
     out: &mut [u8],
 )
-    requires { ⌜ Placed width stride n at (length (now block)) (length (now out)) ⌝ }
-    ensures { λ _. ⌜ now (out .exit) ≡ putWords (now (out .entry)) at (bitsIn (frontsOf width n stride (now (block .entry)))) ⌝ }
+    requires { ⌜ Placed width n s (now gone) at (length (now block)) (length (now out)) ⌝ }
+    ensures { λ _. ⌜ now (out .exit) ≡ putWords (now (out .entry)) at
+        (bitsIn (leftFronts width n (length (now (block .entry)) / width) (take s (now (gone .entry))) (now (block .entry)))) ⌝ }
 {
+    let stride = block.len() / width;
     let mut c: usize = 0;
     let mut o: usize = 0;
     let mut to: usize = at;
     while c < width {
         let end = o + n;
-        store_numbers(&block[o..end], to, out);
+        store_numbers_left(&block[o..end], s, gone, to, out);
         o += stride;
-        to += n;
+        to += n - s;
         c += 1;
     }
 }
@@ -173,6 +219,46 @@ pub fn store_four(at: usize, a: usize, b: usize, c: usize, d: usize, out: &mut [
     put_word(out, at + 1, b);
     put_word(out, at + 2, c);
     put_word(out, at + 3, d);
+}
+
+// Writes the image of the first rows of seven blocks without the first s listed edges, from word `at` on. Only edges are listed.
+pub fn store_without(
+    k: Counts,
+    s: usize,
+    gone: &[usize],
+    points: &[f32],
+    roots: &[usize],
+    corners: &[usize],
+    volumes: &[f32],
+    ends: &[usize],
+    lengths: &[f32],
+    outline: &[usize],
+    at: usize,
+    out: &mut [u8],
+)
+    requires { ⌜ StorableWithout k s (now gone) (length (now points)) (length (now roots)) (length (now corners)) (length (now volumes))
+        (length (now ends)) (length (now lengths)) (length (now outline)) at (length (now out)) ⌝ }
+    ensures { λ _. ⌜ now (out .exit) ≡ putWords (now (out .entry)) at (leftWords k (take s (now (gone .entry))) (now (points .entry))
+        (now (roots .entry)) (now (corners .entry)) (now (volumes .entry)) (now (ends .entry)) (now (lengths .entry))
+        (now (outline .entry))) ⌝ }
+{
+    let p = k.particles;
+    let t = k.triangles;
+    let e = k.edges;
+    let b = k.boundary;
+    let rows = e + s;
+    let particles = at + 4;
+    let behind_points = particles + mesh::POINT_COLUMNS * p;
+    let triangles = particles + mesh::PARTICLE_WORDS * p;
+    let edges = triangles + 5 * t;
+    store_four(at, p, t, e, b, out);
+    store_numbers_block(points, mesh::POINT_COLUMNS, p, 0, gone, particles, out);
+    store_words_block(roots, 2, p, 0, gone, behind_points, out);
+    store_words_block(corners, 3, t, 0, gone, triangles, out);
+    store_numbers_block(volumes, 2, t, 0, gone, triangles + 3 * t, out);
+    store_words_block(ends, 4, rows, s, gone, edges, out);
+    store_numbers_block(lengths, 4, rows, s, gone, edges + 4 * e, out);
+    store_words_block(outline, 2, b, 0, gone, edges + 8 * e, out);
 }
 
 // Writes the image of the first rows of seven blocks, from word `at` on.
@@ -193,33 +279,19 @@ pub fn store(
     ensures { λ _. ⌜ now (out .exit) ≡ putWords (now (out .entry)) at (blockWords k (now (points .entry)) (now (roots .entry))
         (now (corners .entry)) (now (volumes .entry)) (now (ends .entry)) (now (lengths .entry)) (now (outline .entry))) ⌝ }
 {
-    let p = k.particles;
-    let t = k.triangles;
-    let e = k.edges;
-    let b = k.boundary;
-    let particles = at + 4;
-    let triangles = particles + mesh::PARTICLE_WORDS * p;
-    let edges = triangles + 5 * t;
-    store_four(at, p, t, e, b, out);
-    store_numbers_block(
+    let none: [usize; 1] = [0];
+    store_without(
+        k,
+        0,
+        &none,
         points,
-        mesh::POINT_COLUMNS,
-        points.len() / mesh::POINT_COLUMNS,
-        p,
-        particles,
-        out,
-    );
-    store_words_block(
         roots,
-        2,
-        roots.len() / 2,
-        p,
-        particles + mesh::POINT_COLUMNS * p,
+        corners,
+        volumes,
+        ends,
+        lengths,
+        outline,
+        at,
         out,
     );
-    store_words_block(corners, 3, corners.len() / 3, t, triangles, out);
-    store_numbers_block(volumes, 2, volumes.len() / 2, t, triangles + 3 * t, out);
-    store_words_block(ends, 4, ends.len() / 4, e, edges, out);
-    store_numbers_block(lengths, 4, lengths.len() / 4, e, edges + 4 * e, out);
-    store_words_block(outline, 2, outline.len() / 2, b, edges + 8 * e, out);
 }

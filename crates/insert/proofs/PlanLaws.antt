@@ -1,5 +1,6 @@
 -- Laws of plans: the tests of a crossing, and the insertion that is read off the blocks. Assumes nothing.
 use Prim.Native.Nat.{ℕ, _+_, _*_, _/_, _<_}
+use native.Mathlib.Omega.{arith}
 use mathlib.Core.Path.{_≡_, refl, sym, ap, ap₂, _∙_, subst}
 use mathlib.Core.Bool.{Bool, true, false, not, _&&_, _||_, false≢true}
 use mathlib.Core.List.{List}
@@ -22,7 +23,9 @@ use Rattle.mesh.specs.Widths.{pointColumns}
 use Rattle.work.proofs.Grows.{edges-get}
 use Rattle.insert.specs.Shares.{Stands, ShareIs}
 use Rattle.insert.specs.Plans.{planned, PlanRoom, PlanIs, InsertableIs}
+use Rattle.insert.specs.Tables.{TotalRoom}
 use Rattle.insert.specs.declared.plan.Plan.{Plan}
+use Rattle.links.specs.Linked.{EdgesLinked}
 
 -- ---- tests
 
@@ -112,6 +115,13 @@ module _ (f : Float) (number : ℕ) (t : Float) (n e : ℕ) (points : List Float
 
   pub row-b : row .b < n
   row-b = subst (λ (z : ℕ). z < n) (sym (ap (λ (x : Edge). x .b) read ∙ col-1 0 (length ends / 4) ends number)) (R .b-in)
+
+  -- both ends have heads in the table of the edges, which also has what their totals ask
+  pub totals-room : {table : List ℕ} → EdgesLinked e ends table → TotalRoom (row .a) e ends (length lengths) table × TotalRoom (row .b) e ends (length lengths) table
+  totals-room L =
+      let a : row .a < 1024 = subst (λ (z : ℕ). z < 1024) (sym (ap (λ (x : Edge). x .a) read)) (L .apart .below 0 number (omega arith) (R .here)) in
+      let b : row .b < 1024 = subst (λ (z : ℕ). z < 1024) (sym (ap (λ (x : Edge). x .b) read)) (L .apart .below 1 number (omega arith) (R .here)) in
+      (record { linked = L; lengths = R .room .lengths; here = a }, record { linked = L; lengths = R .room .lengths; here = b })
 
   pub plan-is : (at first second : Float) → at ≡ clampTo f (minus one f) t → ShareIs (row .a) (row .initial) e points ends lengths first → ShareIs (row .b) (row .initial) e points ends lengths second
       → PlanIs f number t n e points ends lengths (record { number = number; row = row; at = at; first = first; second = second; before = n })

@@ -1,6 +1,7 @@
 -- Laws of shares: the test of one strap, and the lengths of straps added one by one. Assumes nothing.
-use Prim.Native.Nat.{ℕ, _+_, _*_, _/_}
-use mathlib.Core.Path.{_≡_, sym, ap, ap₂, _∙_}
+use Prim.Native.Nat.{ℕ, suc, _+_, _*_, _/_}
+use native.Mathlib.Numerals.{add-one}
+use mathlib.Core.Path.{_≡_, refl, sym, ap, ap₂, _∙_}
 use mathlib.Core.Bool.{Bool, true, false, _&&_}
 use mathlib.Core.List.{List, [], _∷_, _++_, map, map-append, append-nil}
 use lib.ListN.{length, getD}
@@ -22,6 +23,7 @@ use Rattle.elements.proofs.Measures.{sum-push, sum-none}
 use Rattle.insert.specs.Shares.{strapAt, StrapTold, totalAt, shareBy, ShareIs}
 use Rattle.lists.proofs.Truths.{pick-self}
 use Rattle.copies.proofs.ParticleLaws.{mass-read}
+use Rattle.insert.proofs.Walks.{atEdge, at-edge-read}
 
 -- ---- one edge
 
@@ -54,6 +56,10 @@ module _ (v i : ℕ) (ends : List ℕ) where
               ∙ ap (λ (t : Bool). pick t true (stands v (getD ends (length ends / 4 + i) 0 ∷ []))) (sym (ne-eqb _ v q)) ∙ a-strap ∙ sym (strap-is B);
         }
 
+  -- whether it has an end at v tells the rest
+  pub strap-held : (B : List Float) (t : Bool) → atEdge ends v i ≡ t → strapAt v (rowAt ends B i) ≡ eqb (getD ends (2 * (length ends / 4) + i) 0) 1 && t
+  strap-held B t h = strap-is B ∙ ap (λ (b : Bool). eqb (getD ends (2 * (length ends / 4) + i) 0) 1 && b) (sym (at-edge-read ends v i) ∙ h)
+
 -- ---- the sum
 
 module _ (v : ℕ) (ends : List ℕ) (lengths : List Float) where
@@ -78,13 +84,27 @@ module _ (v : ℕ) (ends : List ℕ) (lengths : List Float) where
   pub initial-read : (i : ℕ) → getD lengths (length lengths / 4 + i) nan ≡ rowAt ends lengths i .initial
   initial-read i = sym (col-1 nan (length lengths / 4) lengths i)
 
-  -- a strap's length is added, and no other edge's
-  pub total-taken : (i : ℕ) (s : Float) (t : Bool) → s ≡ totalAt v (edgesAt i ends lengths) → StrapTold v i ends t → t ≡ true
-      → plus s (getD lengths (length lengths / 4 + i) nan) ≡ totalAt v (edgesAt (i + 1) ends lengths)
-  total-taken i s t q T e = ap₂ plus q (initial-read i) ∙ sym (total-step i true (sym e ∙ T .is lengths))
+  -- an edge that does not hold v adds nothing
+  pub total-skip : (i : ℕ) (s : Float) → atEdge ends v i ≡ false → s ≡ totalAt v (edgesAt i ends lengths) → s ≡ totalAt v (edgesAt (suc i) ends lengths)
+  total-skip i s h q =
+      let b : eqb (getD ends (2 * (length ends / 4) + i) 0) 1 && false ≡ false = and-false (eqb (getD ends (2 * (length ends / 4) + i) 0) 1) in
+      q ∙ sym (total-step i false (sym (strap-held v i ends lengths false h ∙ b))) ∙ ap (λ (j : ℕ). totalAt v (edgesAt j ends lengths)) (add-one i)
+    where
+      and-false : (t : Bool) → t && false ≡ false
+      and-false true = refl
+      and-false false = refl
 
-  pub total-left : (i : ℕ) (s : Float) (t : Bool) → s ≡ totalAt v (edgesAt i ends lengths) → StrapTold v i ends t → t ≡ false → s ≡ totalAt v (edgesAt (i + 1) ends lengths)
-  total-left i s t q T e = q ∙ sym (total-step i false (sym e ∙ T .is lengths))
+  module _ (i : ℕ) (s : Float) (h : atEdge ends v i ≡ true) (q : s ≡ totalAt v (edgesAt i ends lengths)) where
+    kind-tells : (t : Bool) → eqb (getD ends (2 * (length ends / 4) + i) 0) 1 ≡ t → t ≡ strapAt v (rowAt ends lengths i)
+    kind-tells true e = sym (strap-held v i ends lengths true h ∙ ap (λ (b : Bool). b && true) e)
+    kind-tells false e = sym (strap-held v i ends lengths true h ∙ ap (λ (b : Bool). b && true) e)
+
+    -- one that holds it adds its length if it is a strap
+    pub total-taken : getD ends (2 * (length ends / 4) + i) 0 ≡ 1 → plus s (getD lengths (length lengths / 4 + i) nan) ≡ totalAt v (edgesAt (suc i) ends lengths)
+    total-taken e = ap₂ plus q (initial-read i) ∙ sym (total-step i true (kind-tells true (eq-eqb _ 1 e))) ∙ ap (λ (j : ℕ). totalAt v (edgesAt j ends lengths)) (add-one i)
+
+    pub total-left : (getD ends (2 * (length ends / 4) + i) 0 ≡ 1 → ⊥) → s ≡ totalAt v (edgesAt (suc i) ends lengths)
+    total-left e = q ∙ sym (total-step i false (kind-tells false (ne-eqb _ 1 e))) ∙ ap (λ (j : ℕ). totalAt v (edgesAt j ends lengths)) (add-one i)
 
 -- ---- the share
 

@@ -27,7 +27,6 @@ pub record EdgeStored (i : ℕ) (x : Edge) (ends ends′ : List ℕ) (lengths le
 pub record EdgesRoom (plan : Plan) (e le ll : ℕ) : Type 0 where
   pub here : plan .number < e
   pub room : EdgeRoom (e + 1) le ll
-  pub few : plan .before ≤ 1024
 
 -- the edges behind the insertion
 pub record EdgesInserted (plan : Plan) (e : ℕ) (ends ends′ : List ℕ) (lengths lengths′ : List Float) : Type 0 where

@@ -4,3 +4,4 @@ pub mod Plans
 pub mod Sides
 pub mod Inserts
 pub mod Steps
+pub mod Tables

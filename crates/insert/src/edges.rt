@@ -4,6 +4,8 @@ ghost use Prim.Native.Nat.{_<_, _≤_, _/_, _+_};
 ghost use lib.ListN.{length};
 ghost use Rattle.model.specs.Cut.{halfOf};
 ghost use Rattle.mesh.specs.Workers.{EdgeRoom, edgeOf};
+ghost use Rattle.links.specs.Linked.{EdgesLinked};
+ghost use Rattle.insert.specs.Tables.{StrapLinked, NewEnds};
 ghost use Rattle.insert.specs.Inserts.{EdgeStored, EdgesRoom, EdgesInserted};
 use crate::plan::Plan;
 use mesh::EdgeRow;
@@ -41,16 +43,27 @@ fn store_edge(i: usize, row: EdgeRow, ends: &mut [usize], lengths: &mut [f32])
     lengths[3 * l + i] = row.stress;
 }
 
-// The edge (a, b) becomes (a, p), and (q, b) is appended to the e edges.
-pub fn insert_edges(plan: Plan, e: usize, ends: &mut [usize], lengths: &mut [f32])
-    requires { ⌜ EdgesRoom plan e (length (now ends)) (length (now lengths)) ⌝ }
-    ensures { λ _. ⌜ EdgesInserted plan e (now (ends .entry)) (now (ends .exit)) (now (lengths .entry)) (now (lengths .exit)) ⌝ }
+// The edge (a, b) becomes (a, p), and (q, b) is appended to the e edges, in the blocks and in the table.
+pub fn insert_edges(
+    plan: Plan,
+    e: usize,
+    ends: &mut [usize],
+    lengths: &mut [f32],
+    table: &mut [u16],
+)
+    requires { ⌜ EdgesRoom plan e (length (now ends)) (length (now lengths)) × StrapLinked plan e (now ends) (now table)
+        × NewEnds plan e ⌝ }
+    ensures { λ _. ⌜ EdgesInserted plan e (now (ends .entry)) (now (ends .exit)) (now (lengths .entry)) (now (lengths .exit))
+        × EdgesLinked (e + 1) (now (ends .exit)) (now (table .exit)) ⌝ }
 {
     let row = plan.row;
     let number = plan.number;
     let p = plan.before;
     let first = half_of(row, row.a, p, plan.at);
     let second = half_of(row, p + 1, row.b, 1.0 - plan.at);
+    let rows = ends.len() / 4;
+    link_changes::move_corner(number, 1, p, e, 2, 1024, 2048, rows, ends, table);
     store_edge(number, first, ends, lengths);
     mesh::rows::append_edge(e, second, ends, lengths);
+    link_changes::append_cell(e, 2, 1024, 2048, rows, ends, table);
 }

@@ -7,6 +7,7 @@ ghost use lib.Ieee.{lt, le, eq};
 ghost use Rattle.lists.specs.Lists.{pick};
 ghost use Rattle.float.specs.Numbers.{minus, one, half, zero32};
 ghost use Rattle.model.specs.Cut.{clampTo};
+ghost use Rattle.links.specs.Linked.{EdgesLinked};
 ghost use Rattle.insert.specs.Plans.{PlanRoom, PlanIs, InsertableRoom, InsertableIs};
 use crate::shares;
 use mesh::EdgeRow;
@@ -62,12 +63,13 @@ pub fn plan_at(
     points: &[f32],
     ends: &[usize],
     lengths: &[f32],
+    table: &[u16],
 ) -> Plan
-    requires { ⌜ PlanRoom number n e (length (now points)) (now ends) (length (now lengths)) ⌝ }
+    requires { ⌜ PlanRoom number n e (length (now points)) (now ends) (length (now lengths)) × EdgesLinked e (now ends) (now table) ⌝ }
     ensures { λ r. ⌜ PlanIs f number t n e (now (points .entry)) (now (ends .entry)) (now (lengths .entry)) r ⌝ }
 {
     let row = copies::edges::edge_at(number, ends, lengths);
-    let totals = shares::strap_totals(row.a, row.b, e, ends, lengths);
+    let totals = shares::strap_totals(row.a, row.b, e, ends, lengths, table);
     let first = shares::share_of(row.a, row.initial, totals.first, points);
     let second = shares::share_of(row.b, row.initial, totals.second, points);
     Plan {

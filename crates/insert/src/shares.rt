@@ -3,9 +3,9 @@ ghost use mathlib.Core.Path.{_≡_};
 ghost use Prim.Native.Nat.{_<_, _/_};
 ghost use lib.ListN.{length};
 ghost use Rattle.mesh.specs.At.{edgesAt};
-ghost use Rattle.mesh.specs.Workers.{EdgeRoom};
 ghost use Rattle.mesh.specs.Widths.{pointColumns};
 ghost use Rattle.insert.specs.Shares.{StrapTold, totalAt, shareBy};
+ghost use Rattle.insert.specs.Tables.{TotalRoom};
 
 // Is edge i structural, with an end at v?
 pub fn strap_at(v: usize, i: usize, ends: &[usize]) -> bool
@@ -28,28 +28,42 @@ pub struct Totals {
     pub second: f32,
 }
 
-// The initial lengths of the structural edges at v and of those at w among the first e, both added in edge order. One pass serves for both ends of a strap.
-pub fn strap_totals(v: usize, w: usize, e: usize, ends: &[usize], lengths: &[f32]) -> Totals
-    requires { ⌜ EdgeRoom e (length (now ends)) (length (now lengths)) ⌝ }
+// The initial lengths of the structural edges at v among the first e, added in edge order: those edges are met along their table.
+fn total_at(v: usize, e: usize, ends: &[usize], lengths: &[f32], table: &[u16]) -> f32
+    requires { ⌜ TotalRoom v e (now ends) (length (now lengths)) (now table) ⌝ }
+    ensures { λ r. ⌜ r ≡ totalAt v (edgesAt e (now (ends .entry)) (now (lengths .entry))) ⌝ }
+{
+    let rows = ends.len() / 4;
+    let l = lengths.len() / 4;
+    let mut s: f32 = 0.0;
+    let mut at = links::first_at(v, table);
+    while at > 0 {
+        let i = at - 1;
+        if ends[2 * rows + i] == 1 {
+            s = s + lengths[l + i];
+        }
+        at = links::next_at(v, i, 2, 1024, 2048, rows, ends, table);
+    }
+    s
+}
+
+// The same for both ends of a strap.
+pub fn strap_totals(
+    v: usize,
+    w: usize,
+    e: usize,
+    ends: &[usize],
+    lengths: &[f32],
+    table: &[u16],
+) -> Totals
+    requires { ⌜ TotalRoom v e (now ends) (length (now lengths)) (now table)
+        × TotalRoom w e (now ends) (length (now lengths)) (now table) ⌝ }
     ensures { λ r. ⌜ (r .first ≡ totalAt v (edgesAt e (now (ends .entry)) (now (lengths .entry))))
         × (r .second ≡ totalAt w (edgesAt e (now (ends .entry)) (now (lengths .entry)))) ⌝ }
 {
-    let l = lengths.len() / 4;
-    let mut s: f32 = 0.0;
-    let mut t: f32 = 0.0;
-    let mut i: usize = 0;
-    while i < e {
-        if strap_at(v, i, ends) {
-            s = s + lengths[l + i];
-        }
-        if strap_at(w, i, ends) {
-            t = t + lengths[l + i];
-        }
-        i += 1;
-    }
     Totals {
-        first: s,
-        second: t,
+        first: total_at(v, e, ends, lengths, table),
+        second: total_at(w, e, ends, lengths, table),
     }
 }
 

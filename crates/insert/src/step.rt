@@ -1,13 +1,14 @@
 // An insertion as one step: the rooms are tested in their order, then every list is written, and the log.
 ghost use lib.ListN.{length};
 ghost use Rattle.insert.specs.Steps.{StepRoom, InsertTold};
+ghost use Rattle.insert.specs.Tables.{StrapLinked, EdgesAfter};
 use crate::plan::Plan;
 use mesh::Counts;
 use mesh::Rooms;
 use work::Grown;
 use work::Ran;
 
-// The insertion that is planned, in the mesh whose counts are k.
+// The insertion that is planned, in the mesh whose counts are k. Where it is done, the table of the edges is kept true.
 pub fn insert(
     plan: Plan,
     k: Counts,
@@ -18,12 +19,13 @@ pub fn insert(
     lengths: &mut [f32],
     outline: &mut [usize],
     log: &mut [u32],
+    table: &mut [u16],
 ) -> Ran
     requires { ⌜ StepRoom plan k room (length (now points)) (length (now roots)) (length (now ends)) (length (now lengths))
-        (length (now outline)) (length (now log)) ⌝ }
+        (length (now outline)) (length (now log)) × StrapLinked plan (k .edges) (now ends) (now table) ⌝ }
     ensures { λ r. ⌜ InsertTold plan room k (now (points .entry)) (now (roots .entry)) (now (ends .entry)) (now (lengths .entry))
         (now (outline .entry)) (now (log .entry)) (now (points .exit)) (now (roots .exit)) (now (ends .exit)) (now (lengths .exit))
-        (now (outline .exit)) (now (log .exit)) r ⌝ }
+        (now (outline .exit)) (now (log .exit)) r × EdgesAfter (now (ends .exit)) (now (table .exit)) r ⌝ }
 {
     let row = plan.row;
     let a = row.a;
@@ -45,7 +47,7 @@ pub fn insert(
         return Ran::Refused(8);
     }
     crate::particles::insert_particles(plan, points, roots);
-    crate::edges::insert_edges(plan, e, ends, lengths);
+    crate::edges::insert_edges(plan, e, ends, lengths, table);
     work::notes::note(
         g,
         3,

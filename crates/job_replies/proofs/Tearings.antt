@@ -14,7 +14,9 @@ use Rattle.model.specs.Cut.{Line}
 use Rattle.model.specs.Calls.{Outcome, refusal, wholeMesh, wholeLine, exactRefusal, firstOf, unless, outcome}
 use Rattle.model.specs.Reads.{refused}
 use Rattle.mesh.specs.At.{meshAt}
-use Rattle.mesh.specs.Log.{worldAt}
+use Rattle.mesh.specs.Log.{World, worldAt}
+use Rattle.edge_drops.specs.Parted.{worldParted, ListingAfter}
+use Rattle.edge_drops.proofs.PartedLaws.{listing-done}
 use Rattle.mesh.specs.Given.{sizesFit, meshOf, sizes, asRooms}
 use Rattle.mesh.specs.Filled.{lent}
 use Rattle.mesh.specs.declared.Counts.{Counts}
@@ -28,7 +30,7 @@ use Rattle.mesh_calls.specs.Jobs.{jobNumbers, jobArguments, jobEdition, jobRefu
 use Rattle.perform.specs.Asks.{JobAsked}
 use Rattle.mesh_calls.specs.declared.Job.{Job}
 use Rattle.mesh_calls.specs.declared.Job.the-variants.{Straddlers, Split, Cut, Crack}
-use Rattle.perform.proofs.Performed.{job-refused, job-asked, job-came}
+use Rattle.perform.proofs.Performed.{job-refused, job-asked, job-worked}
 use Rattle.image.specs.Image.{imageOf, imageSized}
 use Rattle.reading_replies.specs.Given.{SmallCode}
 use Rattle.mesh_replies.specs.Both.{BothReplied}
@@ -37,7 +39,7 @@ use Rattle.call_words.specs.Rooms.{Limited}
 use Rattle.job_replies.specs.Outcomes.{meshReply, OutcomeReplied}
 use Rattle.replies.proofs.Saying.{refusal-small, pick-small}
 use Rattle.image.proofs.Loading.{sized-input}
-use Rattle.job_replies.proofs.Outcomes.{fault-small, unless-small, came-telling, came-replied}
+use Rattle.job_replies.proofs.Outcomes.{fault-small, unless-small, parted-counted, came-telling, came-replied}
 
 -- ---- what refuses a job is small
 
@@ -114,8 +116,8 @@ module _ (j : Job) (ls s : List ℕ) (R : Rooms) where
 
     pub lack-replied : (held : Mesh) (code lent′ logged x : ℕ) (out log : List ℕ) → checked ≡ 0 → Begun 0 R (meshOf (imageOf s)) held code → (code ≡ 0 → ⊥) → BothReplied (refused code) [] lent′ logged x out log → OutcomeReplied called lent′ logged x out log
     lack-replied held code lent′ logged x out log e B h b =
-        came-replied R [] [] [] [] [] [] [] [] logged called (Stopped code) lent′ x out log
-        (to-sized (λ k. worldAt k [] [] [] [] [] [] [] []) (Stopped code) (job-refused j ls (imageOf s) (begun-by B (sym e ∙ by-sizes)) h (λ k. worldAt k [] [] [] [] [] [] [] []))) (lack-small held code B) b
+        came-replied R [] [] [] [] [] [] [] [] [] logged called (Stopped code) lent′ x out log
+        (to-sized (λ k. worldParted k [] [] [] [] [] [] [] [] []) (Stopped code) (job-refused j ls (imageOf s) (begun-by B (sym e ∙ by-sizes)) h (λ k. worldParted k [] [] [] [] [] [] [] [] []))) (lack-small held code B) b
 
     -- ---- the work
 
@@ -130,18 +132,22 @@ module _ (j : Job) (ls s : List ℕ) (R : Rooms) where
           subst (λ (n : Counts). Ready R n (lent p₁ r₁ c₁ v₁ e₁ l₁ o₁ g₁) (meshAt n p₁ r₁ c₁ v₁ e₁ l₁ o₁) × Logged (n .log) g₁ × JobAsked j ls (meshAt n p₁ r₁ c₁ v₁ e₁ l₁ o₁)) (sym q)
           (job-asked j ls (imageOf s) p₁ r₁ c₁ v₁ e₁ l₁ o₁ g₁ begun-sized refl A)
 
-      module _ (p : List Float) (r c : List ℕ) (v : List Float) (e : List ℕ) (l : List Float) (o g : List ℕ) (ran : Ran)
-          (W : Works (jobRun j ls (kindOf (meshAt k p₁ r₁ c₁ v₁ e₁ l₁ o₁))) R (worldAt k p₁ r₁ c₁ v₁ e₁ l₁ o₁ g₁) (λ n. worldAt n p r c v e l o g) ran) where
-        came : Came called R (λ n. worldAt n p r c v e l o g) ran
+      module _ (p : List Float) (r c : List ℕ) (v : List Float) (e : List ℕ) (l : List Float) (o g gone : List ℕ) (ran : Ran)
+          (W : Works (jobRun j ls (kindOf (meshAt k p₁ r₁ c₁ v₁ e₁ l₁ o₁))) R (worldAt k p₁ r₁ c₁ v₁ e₁ l₁ o₁ g₁) (λ n. worldParted n p r c v e l o g gone) ran × ListingAfter (length e) (length l) gone ran) where
+        -- what the blocks hold without the listed edges
+        abbrev at : Counts → World
+        at n = worldParted n p r c v e l o g gone
+
+        came : Came called R at ran
         came =
-            to-sized (λ n. worldAt n p r c v e l o g) ran
-            (job-came j ls (imageOf s) p₁ r₁ c₁ v₁ e₁ l₁ o₁ g₁ p r c v e l o g ran begun-sized refl
-            (subst (λ (n : Counts). Works (jobRun j ls (kindOf (meshAt n p₁ r₁ c₁ v₁ e₁ l₁ o₁))) R (worldAt n p₁ r₁ c₁ v₁ e₁ l₁ o₁ g₁) (λ m. worldAt m p r c v e l o g) ran) q W))
+            to-sized at ran
+            (job-worked j ls (imageOf s) p₁ r₁ c₁ v₁ e₁ l₁ o₁ g₁ at ran (λ n f. parted-counted p r c v e l o g gone n (listing-done (length e) (length l) gone ran n f (W .1))) begun-sized refl
+            (subst (λ (n : Counts). Works (jobRun j ls (kindOf (meshAt n p₁ r₁ c₁ v₁ e₁ l₁ o₁))) R (worldAt n p₁ r₁ c₁ v₁ e₁ l₁ o₁ g₁) at ran) q (W .0)))
 
         -- what it came to can be told
-        pub work-telling : (logged : ℕ) → Roomed R (lent p r c v e l o g) → Limited R logged → Telling ran (length p) (length r) (length c) (length v) (length e) (length l) (length o) (length g) logged
-        work-telling logged A z = came-telling R (λ n. worldAt n p r c v e l o g) called ran (length p) (length r) (length c) (length v) (length e) (length l) (length o) (length g) logged came A z called-small
+        pub work-telling : (logged : ℕ) → Roomed R (lent p r c v e l o g) → Limited R logged → Telling ran gone (length p) (length r) (length c) (length v) (length e) (length l) (length o) (length g) logged
+        work-telling logged A z = came-telling R at gone called ran (length p) (length r) (length c) (length v) (length e) (length l) (length o) (length g) logged came (W .1) A z called-small
 
         -- and told, it is the reply
-        pub work-replied : (lent′ logged x : ℕ) (out log : List ℕ) → Roomed R (lent p r c v e l o g) → Limited R logged → BothReplied (meshTold ran p r c v e l o g) (logTold ran g) lent′ logged x out log → OutcomeReplied called lent′ logged x out log
-        work-replied lent′ logged x out log A z b = came-replied R p r c v e l o g logged called ran lent′ x out log came (work-telling logged A z) b
+        pub work-replied : (lent′ logged x : ℕ) (out log : List ℕ) → Roomed R (lent p r c v e l o g) → Limited R logged → BothReplied (meshTold ran gone p r c v e l o g) (logTold ran g) lent′ logged x out log → OutcomeReplied called lent′ logged x out log
+        work-replied lent′ logged x out log A z b = came-replied R p r c v e l o g gone logged called ran lent′ x out log came (work-telling logged A z) b

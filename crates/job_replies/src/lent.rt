@@ -37,6 +37,7 @@ fn reply_work(
     ensures { λ r. ⌜ JobReplied job list bytes room out log r ⌝ }
 {
     let k = mesh_replies::placing::image_counts(bytes);
+    let mut gone = [0usize; edge_drops::LIST];
     let ran = perform::calls::work(
         job,
         list,
@@ -50,9 +51,11 @@ fn reply_work(
         lengths,
         outline,
         words,
+        &mut gone,
     );
     mesh_replies::outcome::reply_ran(
         ran,
+        &gone,
         points,
         roots,
         corners,

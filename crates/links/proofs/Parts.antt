@@ -4,13 +4,14 @@ use native.Mathlib.Nat.{div-add-mod', mul-le-mul-right}
 use native.Mathlib.Omega.{arith}
 use mathlib.Core.Path.{_≡_, sym, ap, _∙_, subst}
 use mathlib.Core.List.{List, _++_}
-use lib.ListN.{length, getD, take, drop, length-drop, length-append, List·getD-append}
+use lib.ListN.{length, getD, take, drop, replicate, length-take, length-drop, length-append, length-replicate, getD-replicate, List·getD-append, List·getD-eq-default}
+use native.Mathlib.Decide.{decLt}
 use lib.Seq.{length-take-le, getD-take, getD-drop, getD-append-add, drop-at, drop-drop}
 use borrow.Rule.Slice.PartMut.{midOf, postOf, putMid, same-len-mid, drop-put}
 use Rattle.columns.specs.Block.{cell}
 use Rattle.model.specs.Elements.{Kind}
 use Rattle.links.specs.Links.{LinksOf}
-use Rattle.links.specs.Rooms.{BuildRoom}
+use Rattle.links.specs.Rooms.{BuildRoom, Cleared}
 use Rattle.links.specs.Linked.{Linked, PairsLinked, PairsLinkable, EdgesLinked, SidesLinked, FrontLinked, MeshLinked}
 
 -- ---- a list of which a part was lent
@@ -18,6 +19,24 @@ use Rattle.links.specs.Linked.{Linked, PairsLinked, PairsLinkable, Edges
 -- behind a list of a places
 getD-behind : (p q : List ℕ) (a i : ℕ) → length p ≡ a → getD (p ++ q) (a + i) 0 ≡ getD q i 0
 getD-behind p q a i e = ap (λ (n : ℕ). getD (p ++ q) (n + i) 0) (sym e) ∙ getD-append-add p q i 0
+
+-- what is cleared has 0 wherever it is read, and so have its parts
+cleared-at : {l : List ℕ} → Cleared l → (i : ℕ) → getD l i 0 ≡ 0
+cleared-at {l} C i =
+    elim (decLt i (length l)) [
+      | yes h ↦ C .zero-at i h
+      | no h ↦ List·getD-eq-default l 0 (omega (arith, h))
+    ]
+
+pub cleared-take : {l : List ℕ} (a : ℕ) → Cleared l → Cleared (take a l)
+cleared-take {l} a C = record { zero-at = λ i h. getD-take a l i 0 (let n = length-take a l in omega arith) ∙ cleared-at C i }
+
+cleared-drop : {l : List ℕ} (a : ℕ) → Cleared l → Cleared (drop a l)
+cleared-drop {l} a C = record { zero-at = λ i h. getD-drop a l i 0 ∙ cleared-at C (a + i) }
+
+-- a fresh table is cleared
+pub cleared-fresh : (n : ℕ) → Cleared (replicate n 0)
+cleared-fresh n = record { zero-at = λ i h. getD-replicate n i 0 0 (let e = length-replicate {A = ℕ} n 0 in omega arith) }
 
 -- the first a places were lent, and came back as x
 module _ (a : ℕ) (l x : List ℕ) (e : length x ≡ a) where
@@ -202,6 +221,10 @@ module _ (l x : List ℕ) (long : 14336 ≤ length l) (n : length x ≡ 4096) wh
   edge-room : 4096 + 5120 ≤ length l₁
   edge-room = omega (arith, first-long)
 
+  -- the second is as cleared as it was
+  pub cleared-second : Cleared l → Cleared (midOf 4096 5120 l₁)
+  cleared-second C = subst (λ (s : List ℕ). Cleared (take 5120 s)) (sym (drop-at x (drop 4096 l) 4096 n)) (cleared-take 5120 (cleared-drop 4096 C))
+
   -- the second has room
   pub room-second : {e : ℕ} {E : List ℕ} → PairsLinkable 4 e E 5120 → PairsLinkable 4 e E (length (midOf 4096 5120 l₁))
   room-second P = pairs-within P (omega (arith, mid-long 4096 5120 l₁ edge-room))
@@ -220,6 +243,11 @@ module _ (l x : List ℕ) (long : 14336 ≤ length l) (n : length x ≡ 4096) wh
     side-room = omega (arith, second-long)
 
     -- and so has the third
+    pub cleared-third : Cleared l → Cleared (midOf 9216 (length l₂ - 9216) l₂)
+    cleared-third C =
+        cleared-take (length l₂ - 9216)
+        (subst Cleared (sym (drop-put 4096 9216 l₁ y (omega arith) (omega (arith, first-long)) wide ∙ sym (drop-drop 5120 4096 l₁) ∙ ap (drop 5120) (drop-at x (drop 4096 l) 4096 n))) (cleared-drop 5120 (cleared-drop 4096 C)))
+
     pub room-third : {b : ℕ} {B : List ℕ} → PairsLinkable 2 b B 5120 → PairsLinkable 2 b B (length (midOf 9216 (length l₂ - 9216) l₂))
     room-third P = pairs-within P (omega (arith, mid-long 9216 (length l₂ - 9216) l₂ side-room, second-long))
 

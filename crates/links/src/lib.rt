@@ -13,17 +13,6 @@ use elements::Kind;
 // The places of a call's tables of links.
 pub const PLACES: usize = 14336;
 
-// Puts 0 into every place of a table.
-fn clear(table: &mut [u16])
-    ensures { λ _. ⌜ Cleared (now (table .exit)) ⌝ }
-{
-    let mut i: usize = 0;
-    while i < table.len() {
-        table[i] = 0;
-        i += 1;
-    }
-}
-
 // Puts cell i first at each of its k corners, and links it to what stood first there.
 fn link_cell(
     i: usize,
@@ -51,7 +40,7 @@ fn link_cell(
     }
 }
 
-// Builds the table of n cells of k corners, from the last cell to the first.
+// Builds the table of n cells of k corners, from the last cell to the first, where every place is 0.
 pub fn build_links(
     n: usize,
     k: usize,
@@ -61,10 +50,9 @@ pub fn build_links(
     corners: &[usize],
     table: &mut [u16],
 )
-    requires { ⌜ BuildRoom heads k span rows n (now corners) (length (now table)) ⌝ }
+    requires { ⌜ BuildRoom heads k span rows n (now corners) (length (now table)) × Cleared (now table) ⌝ }
     ensures { λ _. ⌜ LinksOf heads k span n (cell 0 rows (now (corners .entry))) (now (table .exit)) ⌝ }
 {
-    clear(table);
     let mut i = n;
     while i > 0 {
         i -= 1;
@@ -74,7 +62,7 @@ pub fn build_links(
 
 // Builds the table of t triangles, where the elements are triangles.
 fn link_triangles(kind: Kind, t: usize, corners: &[usize], links: &mut [u16])
-    requires { ⌜ Linkable (kindIs kind) t (now corners) (length (now links)) ⌝ }
+    requires { ⌜ Linkable (kindIs kind) t (now corners) (length (now links)) × Cleared (now links) ⌝ }
     ensures { λ _. ⌜ Linked (kindIs kind) t (now (corners .entry)) (now (links .exit)) ⌝ }
 {
     match kind {
@@ -89,14 +77,14 @@ fn link_triangles(kind: Kind, t: usize, corners: &[usize], links: &mut [u16])
 
 // Builds the table of the first n rows of a block of w columns, by the first two of them.
 fn link_pairs(w: usize, n: usize, block: &[usize], table: &mut [u16])
-    requires { ⌜ (2 ≤ w) × PairsLinkable w n (now block) (length (now table)) ⌝ }
+    requires { ⌜ (2 ≤ w) × PairsLinkable w n (now block) (length (now table)) × Cleared (now table) ⌝ }
     ensures { λ _. ⌜ PairsLinked w n (now (block .entry)) (now (table .exit)) ⌝ }
 {
     let rows = block.len() / w;
     build_links(n, 2, 1024, 2048, rows, block, table);
 }
 
-// Builds the tables of t triangles, of e edges and of b boundary entries, one behind the other.
+// Builds the tables of t triangles, of e edges and of b boundary entries, one behind the other, where every place is 0.
 pub fn link_mesh(
     kind: Kind,
     t: usize,
@@ -107,7 +95,7 @@ pub fn link_mesh(
     outline: &[usize],
     links: &mut [u16],
 )
-    requires { ⌜ MeshLinkable (kindIs kind) t e b (now corners) (now ends) (now outline) (length (now links)) ⌝ }
+    requires { ⌜ MeshLinkable (kindIs kind) t e b (now corners) (now ends) (now outline) (length (now links)) × Cleared (now links) ⌝ }
     ensures { λ _. ⌜ MeshLinked (kindIs kind) t e b (now (corners .entry)) (now (ends .entry)) (now (outline .entry))
         (now (links .exit)) ⌝ }
 {

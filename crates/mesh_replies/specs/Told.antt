@@ -1,10 +1,11 @@
 -- The reply to a call that gives a mesh, by what it came to and left in its blocks. Only the contracts between the functions need this file. Definitions only.
-use Prim.Native.Nat.{ℕ, _*_, _/_, _≤_, _<_}
+use Prim.Native.Nat.{ℕ, _+_, _*_, _/_, _≤_, _<_}
 use mathlib.Core.Bool.{Bool}
 use mathlib.Core.List.{List, [], _∷_}
-use lib.ListN.{take}
+use lib.ListN.{length, getD, take}
 use lib.Ieee.{Float}
 use Rattle.lists.specs.Lists.{pick}
+use Rattle.lists.specs.LeftOut.{Rising}
 use Rattle.model.specs.Reads.{Read, refused, value}
 use Rattle.mesh.specs.Log.{logAt}
 use Rattle.mesh.specs.declared.Counts.{Counts}
@@ -12,39 +13,49 @@ use Rattle.mesh.specs.Widths.{pointColumns}
 use Rattle.work.specs.declared.Ran.{Ran}
 use Rattle.work.specs.declared.Ran.the-variants.{Refused, Done}
 use Rattle.call_frame.specs.Framed.{wordsChange}
-use Rattle.image_writing.specs.Stores.{blockWords}
+use Rattle.image_writing.specs.Stores.{leftWords}
 
--- the words of an answer whose rows are the first of seven blocks
-abbrev pub doneWords : Counts → Bool → List Float → List ℕ → List ℕ → List Float → List ℕ → List Float → List ℕ → List ℕ
-doneWords k b p r c v e l o = pick b 1 0 ∷ k .log ∷ blockWords k p r c v e l o
+-- how many edges are listed: place 2,048 of the list holds it
+abbrev pub listedCount : List ℕ → ℕ
+listedCount gone = getD gone 2048 0
+
+-- the numbers of the listed edges
+abbrev pub listedEdges : List ℕ → List ℕ
+listedEdges gone = take (listedCount gone) gone
+
+-- the words of an answer whose rows are the first of seven blocks without the edges at the listed places
+abbrev pub doneWords : Counts → Bool → List ℕ → List Float → List ℕ → List ℕ → List Float → List ℕ → List Float → List ℕ → List ℕ
+doneWords k b is p r c v e l o = pick b 1 0 ∷ k .log ∷ leftWords k is p r c v e l o
 
 -- what is told of what a call came to, whose log is the first words of g
-abbrev pub meshTold : Ran → List Float → List ℕ → List ℕ → List Float → List ℕ → List Float → List ℕ → List ℕ → Read (List ℕ)
-meshTold (Refused n) p r c v e l o g = refused n
-meshTold (Done k) p r c v e l o g = value (doneWords k (wordsChange (logAt (k .log) g)) p r c v e l o)
+abbrev pub meshTold : Ran → List ℕ → List Float → List ℕ → List ℕ → List Float → List ℕ → List Float → List ℕ → List ℕ → Read (List ℕ)
+meshTold (Refused n) gone p r c v e l o g = refused n
+meshTold (Done k) gone p r c v e l o g = value (doneWords k (wordsChange (logAt (k .log) g)) (listedEdges gone) p r c v e l o)
 
 -- the words of its log
 abbrev pub logTold : Ran → List ℕ → List ℕ
 logTold (Refused n) g = []
 logTold (Done k) g = take (6 * k .log) g
 
--- the rows stand in blocks that are no longer than those of a mesh, and the log in its words and in its bytes
-pub record Tellable (k : Counts) (lp lr lc lv le ll lo lg logged : ℕ) : Type 0 where
+-- the rows and the listed edges stand in blocks that are no longer than those of a mesh, the listed edges rise, and the log stands in its words and in its bytes
+pub record Tellable (k : Counts) (gone : List ℕ) (lp lr lc lv le ll lo lg logged : ℕ) : Type 0 where
   pub points : k .particles ≤ lp / pointColumns
   pub roots : k .particles ≤ lr / 2
   pub corners : k .triangles ≤ lc / 3
   pub volumes : k .triangles ≤ lv / 2
-  pub ends : k .edges ≤ le / 4
-  pub lengths : k .edges ≤ ll / 4
+  pub ends : k .edges + listedCount gone ≤ le / 4
+  pub lengths : k .edges + listedCount gone ≤ ll / 4
   pub outline : k .boundary ≤ lo / 2
+  pub list : 2049 ≤ length gone
+  pub rising : Rising gone (listedCount gone) (k .edges + listedCount gone)
   pub few-particles : k .particles ≤ 1024
   pub few-triangles : k .triangles ≤ 1024
-  pub few-edges : k .edges ≤ 2048
+  pub few-edges : k .edges + listedCount gone ≤ 2048
   pub few-boundary : k .boundary ≤ 2048
   pub words : 6 * k .log ≤ lg
   pub entries : 24 * k .log ≤ logged
 
 -- the same of what a call came to; or the number of a refusal is small
-abbrev pub Telling : Ran → ℕ → ℕ → ℕ → ℕ → ℕ → ℕ → ℕ → ℕ → ℕ → Type 0
-Telling (Refused n) lp lr lc lv le ll lo lg logged = n < 256
-Telling (Done k) lp lr lc lv le ll lo lg logged = Tellable k lp lr lc lv le ll lo lg logged
+abbrev pub Telling : Ran → List ℕ → ℕ → ℕ → ℕ → ℕ → ℕ → ℕ → ℕ → ℕ → ℕ → Type 0
+Telling (Refused n) gone lp lr lc lv le ll lo lg logged = n < 256
+Telling (Done k) gone lp lr lc lv le ll lo lg logged = Tellable k gone lp lr lc lv le ll lo lg logged

@@ -7,7 +7,7 @@ ghost use Rattle.lists.specs.Lists.{pick};
 ghost use Rattle.model.specs.Reads.{refused, value};
 ghost use Rattle.image.specs.Words.{putWords, written};
 ghost use Rattle.mesh_replies.specs.Both.{BothReplied};
-ghost use Rattle.mesh_replies.specs.Told.{doneWords, meshTold, logTold, Tellable, Telling};
+ghost use Rattle.mesh_replies.specs.Told.{listedEdges, doneWords, meshTold, logTold, Tellable, Telling};
 use mesh::Counts;
 use work::Ran;
 
@@ -54,10 +54,12 @@ fn log_out(words: &[u32], n: usize, log: &mut [u8])
     store_log(&words[..end], 0, log);
 }
 
-// The reply to a mesh in seven blocks and a log; 4 where the answer's words have no room. Only the bytes behind the answer are cleared.
+// The reply to a mesh in seven blocks, without its listed edges, and a log; 4 where the answer's words have no room.
+// Only the bytes behind the answer are cleared.
 fn reply_done(
     k: Counts,
     any: bool,
+    gone: &[usize],
     points: &[f32],
     roots: &[usize],
     corners: &[usize],
@@ -69,25 +71,28 @@ fn reply_done(
     out: &mut [u8],
     log: &mut [u8],
 ) -> u32
-    requires { ⌜ Tellable k (length (now points)) (length (now roots)) (length (now corners)) (length (now volumes)) (length (now ends))
-        (length (now lengths)) (length (now outline)) (length (now words)) (length (now log)) ⌝ }
-    ensures { λ r. ⌜ BothReplied (value (doneWords k any (now (points .entry)) (now (roots .entry)) (now (corners .entry))
-        (now (volumes .entry)) (now (ends .entry)) (now (lengths .entry)) (now (outline .entry)))) (take (6 * k .log) (now (words .entry)))
-        (length (now (out .entry))) (length (now (log .entry))) r (now (out .exit)) (now (log .exit)) ⌝ }
+    requires { ⌜ Tellable k (now gone) (length (now points)) (length (now roots)) (length (now corners)) (length (now volumes))
+        (length (now ends)) (length (now lengths)) (length (now outline)) (length (now words)) (length (now log)) ⌝ }
+    ensures { λ r. ⌜ BothReplied (value (doneWords k any (listedEdges (now (gone .entry))) (now (points .entry)) (now (roots .entry))
+        (now (corners .entry)) (now (volumes .entry)) (now (ends .entry)) (now (lengths .entry)) (now (outline .entry)))) (take
+        (6 * k .log) (now (words .entry))) (length (now (out .entry))) (length (now (log .entry))) r (now (out .exit)) (now (log .exit)) ⌝ }
 {
     let p = k.particles;
     let t = k.triangles;
     let e = k.edges;
     let b = k.boundary;
     let n = k.log;
+    let s = gone[2048];
     let end = 4 * (6 + mesh::PARTICLE_WORDS * p + 5 * t + 8 * e + 2 * b);
     if out.len() < end {
         return refuse(4, out, log);
     }
     image_writing::put_word(out, 0, one_if(any));
     image_writing::put_word(out, 1, n);
-    image_writing::store(
+    image_writing::store_without(
         k,
+        s,
+        gone,
         points,
         roots,
         corners,
@@ -103,9 +108,10 @@ fn reply_done(
     0
 }
 
-// The reply to what a call that gives a mesh came to.
+// The reply to what a call that gives a mesh came to. The blocks still hold the listed edges, which the answer leaves out.
 pub fn reply_ran(
     ran: Ran,
+    gone: &[usize],
     points: &[f32],
     roots: &[usize],
     corners: &[usize],
@@ -117,11 +123,11 @@ pub fn reply_ran(
     out: &mut [u8],
     log: &mut [u8],
 ) -> u32
-    requires { ⌜ Telling ran (length (now points)) (length (now roots)) (length (now corners)) (length (now volumes)) (length (now ends))
-        (length (now lengths)) (length (now outline)) (length (now words)) (length (now log)) ⌝ }
-    ensures { λ r. ⌜ BothReplied (meshTold ran (now (points .entry)) (now (roots .entry)) (now (corners .entry)) (now (volumes .entry))
-        (now (ends .entry)) (now (lengths .entry)) (now (outline .entry)) (now (words .entry))) (logTold ran (now (words .entry))) (length
-        (now (out .entry))) (length (now (log .entry))) r (now (out .exit)) (now (log .exit)) ⌝ }
+    requires { ⌜ Telling ran (now gone) (length (now points)) (length (now roots)) (length (now corners)) (length (now volumes))
+        (length (now ends)) (length (now lengths)) (length (now outline)) (length (now words)) (length (now log)) ⌝ }
+    ensures { λ r. ⌜ BothReplied (meshTold ran (now (gone .entry)) (now (points .entry)) (now (roots .entry)) (now (corners .entry))
+        (now (volumes .entry)) (now (ends .entry)) (now (lengths .entry)) (now (outline .entry)) (now (words .entry)))
+        (logTold ran (now (words .entry))) (length (now (out .entry))) (length (now (log .entry))) r (now (out .exit)) (now (log .exit)) ⌝ }
 {
     match ran {
         Ran::Refused(code) => {
@@ -132,6 +138,7 @@ pub fn reply_ran(
             return reply_done(
                 k,
                 any,
+                gone,
                 points,
                 roots,
                 corners,

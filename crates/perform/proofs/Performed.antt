@@ -22,10 +22,10 @@ use Rattle.mesh.specs.declared.Rooms.{Rooms}
 use Rattle.work.specs.Working.{Roomed, Ready, Works, Logged}
 use Rattle.split.specs.Tables.{SidesGiven}
 use Rattle.work.specs.declared.Ran.{Ran}
-use Rattle.work.specs.declared.Ran.the-variants.{Refused as Stopped}
+use Rattle.work.specs.declared.Ran.the-variants.{Refused as Stopped, Done as Ended}
 use Rattle.call_frame.specs.Framed.{RoomsLent, BeginAsked, Begun, Came}
 use Rattle.call_frame.proofs.Begun.{begin-asked, begun-by, began-passed, began-ready}
-use Rattle.call_frame.proofs.Calls.{nothing-before, came-begun, came-worked, unlogged}
+use Rattle.call_frame.proofs.Calls.{Counted, blocks-counted, nothing-before, came-begun, came-worked, unlogged}
 use Rattle.mesh_calls.specs.Jobs.{jobNumbers, jobArguments, jobRefusal, jobRun, jobCall}
 use Rattle.perform.specs.Asks.{JobAsked}
 use Rattle.mesh_calls.specs.declared.Job.{Job}
@@ -88,12 +88,18 @@ module _ (j : Job) (ls : List ℕ) (G : Given) {R : Rooms} {begun : ℕ} where
         subst (JobAsked j ls) (sym (B .copied z)) (job-given j ls (asRooms R) (meshOf G) ok),
       )
 
-  -- and what the work came to is the outcome
+  -- and what the work came to is the outcome, in whatever way the blocks hold it
+  pub job-worked : (p₁ : List Float) (r₁ c₁ : List ℕ) (v₁ : List Float) (e₁ : List ℕ) (l₁ : List Float) (o₁ g₁ : List ℕ) (at : Counts → World) (ran : Ran) → ((k : Counts) → ran ≡ Ended k → Counted k (at k))
+      → Begun (jobRefusal j ls (sizesFit G) (meshOf G) (asRooms R)) R (meshOf G) (meshAt (sizes G) p₁ r₁ c₁ v₁ e₁ l₁ o₁) begun → begun ≡ 0
+      → Works (jobRun j ls (kindOf (meshAt (sizes G) p₁ r₁ c₁ v₁ e₁ l₁ o₁))) R (worldAt (sizes G) p₁ r₁ c₁ v₁ e₁ l₁ o₁ g₁) at ran → Came (jobCall j ls (sizesFit G) (meshOf G) (asRooms R)) R at ran
+  unfolding jobCall
+  job-worked p₁ r₁ c₁ v₁ e₁ l₁ o₁ g₁ at ran C B z W =
+      came-worked (jobRun j ls (kindOf (meshOf G))) (job-onward j ls (kindOf (meshOf G))) G B at _ ran C (unlogged (sizes G) p₁ r₁ c₁ v₁ e₁ l₁ o₁ g₁ refl) z
+      (subst (λ (K : Kind). Works (jobRun j ls K) R (worldAt (sizes G) p₁ r₁ c₁ v₁ e₁ l₁ o₁ g₁) at ran) (ap kindOf (B .copied z)) W)
+
+  -- as of the fronts of lent blocks
   pub job-came : (p₁ : List Float) (r₁ c₁ : List ℕ) (v₁ : List Float) (e₁ : List ℕ) (l₁ : List Float) (o₁ g₁ : List ℕ) (p : List Float) (r c : List ℕ) (v : List Float) (e : List ℕ) (l : List Float) (o g : List ℕ) (ran : Ran)
       → Begun (jobRefusal j ls (sizesFit G) (meshOf G) (asRooms R)) R (meshOf G) (meshAt (sizes G) p₁ r₁ c₁ v₁ e₁ l₁ o₁) begun → begun ≡ 0
       → Works (jobRun j ls (kindOf (meshAt (sizes G) p₁ r₁ c₁ v₁ e₁ l₁ o₁))) R (worldAt (sizes G) p₁ r₁ c₁ v₁ e₁ l₁ o₁ g₁) (λ k. worldAt k p r c v e l o g) ran
       → Came (jobCall j ls (sizesFit G) (meshOf G) (asRooms R)) R (λ k. worldAt k p r c v e l o g) ran
-  unfolding jobCall
-  job-came p₁ r₁ c₁ v₁ e₁ l₁ o₁ g₁ p r c v e l o g ran B z W =
-      came-worked (jobRun j ls (kindOf (meshOf G))) (job-onward j ls (kindOf (meshOf G))) G B p r c v e l o g _ ran (unlogged (sizes G) p₁ r₁ c₁ v₁ e₁ l₁ o₁ g₁ refl) z
-      (subst (λ (K : Kind). Works (jobRun j ls K) R (worldAt (sizes G) p₁ r₁ c₁ v₁ e₁ l₁ o₁ g₁) (λ k. worldAt k p r c v e l o g) ran) (ap kindOf (B .copied z)) W)
+  job-came p₁ r₁ c₁ v₁ e₁ l₁ o₁ g₁ p r c v e l o g ran = job-worked p₁ r₁ c₁ v₁ e₁ l₁ o₁ g₁ (λ k. worldAt k p r c v e l o g) ran (λ k q. blocks-counted p r c v e l o g k)

@@ -1,23 +1,28 @@
 -- What each worker asks and gives, from what a call asks and promises of its work; and the cut behind its marks. Assumes nothing.
-use Prim.Native.Nat.{ℕ}
-use mathlib.Core.Path.{_≡_, sym, _∙_, subst}
-use mathlib.Core.List.{List}
-use lib.ListN.{length}
+use Prim.Native.Nat.{ℕ, _≤_}
+use native.Mathlib.Omega.{arith}
+use mathlib.Core.Path.{_≡_, refl, sym, _∙_, subst}
+use mathlib.Core.List.{List, [], map}
+use lib.ListN.{length, set, length-set}
 use lib.Ieee.{Float}
 use Rattle.model.specs.Elements.{Kind, kindOf}
-use Rattle.model.specs.Run.{Run}
+use Rattle.model.specs.Run.{Entry, Run}
+use Rattle.model.specs.Calls.{firstFault}
 use Rattle.model.specs.Cut.{Blade, markedBy, cutAlong, cut}
 use Rattle.model_laws.proofs.Steps.{along-onward}
 use Rattle.model_laws.proofs.Indexed.{Indexed}
 use Rattle.model_laws.proofs.Marks.{marked-mesh}
 use Rattle.mesh.specs.At.{meshAt}
-use Rattle.mesh.specs.Log.{World}
+use Rattle.mesh.specs.Log.{World, wordsOf, worldAt}
+use Rattle.mesh.specs.Workers.{EdgeRoom}
 use Rattle.mesh.specs.Filled.{lent}
 use Rattle.mesh.specs.declared.Counts.{Counts}
 use Rattle.mesh.specs.declared.Rooms.{Rooms}
 use Rattle.elements.specs.declared.Kind.{Kind as KindCase}
 use Rattle.elements.specs.Table.{kindIs, KindFound}
-use Rattle.work.specs.Working.{Ready, Works, SettleRoom}
+use Rattle.work.specs.Working.{Ready, Works, SettleRoom, Logged}
+use Rattle.edge_drops.specs.Parted.{listed, worldParted, ListingAfter}
+use Rattle.edge_drops.proofs.PartedLaws.{cleared, none-listed, works-unlisted}
 use Rattle.split.specs.Tables.{SidesGiven}
 use Rattle.work.specs.Places.{CornersIn, EndsIn, SidesIn}
 use Rattle.work.specs.declared.Ran.{Ran}
@@ -74,6 +79,39 @@ module _ (k : Counts) (R : Rooms) (p : List Float) (r c : List ℕ) (v : List Fl
     split-given at q S =
         subst (λ (K : Kind). SidesGiven K (meshAt k p r c v e l o) at ls) (sym (kind-found kind F))
         (subst (λ (x : Job). JobAsked x ls (meshAt k p r c v e l o)) (arm ∙ q) S)
+
+-- ---- nothing is listed
+
+-- where it is done, the counts are within the rooms, so no edge is listed of those that have room
+unlisted : {f : Run → Run} {L : Rooms} {W : World} {at : Counts → World} (le ll : ℕ) (list : List ℕ) (ran : Ran) → 2049 ≤ length list → listed list ≡ 0 → L .edges ≤ 2048 → EdgeRoom (L .edges) le ll
+    → (entries : List Entry) → W .log ≡ map wordsOf entries → Works f L W at ran → ListingAfter le ll list ran
+unfolding firstFault
+unlisted le ll list (Refused c) long none few room entries q F = tt
+unlisted {W = W} le ll list (Done k) long none few room entries q F =
+    let R : Run = record { mesh = W .mesh; log = entries; needs = [] } in
+    let H = F .went R (λ i. record { mesh = W .mesh; log = q i }) refl .1 .edges in
+    none-listed [] [] list none (k .edges) le ll long (omega arith) (record { ends = omega (arith, room .ends); lengths = omega (arith, room .lengths) })
+
+module _ (k : Counts) (R : Rooms) (p : List Float) (r c : List ℕ) (v : List Float) (e : List ℕ) (l : List Float) (o g : List ℕ)
+    (A : Ready R k (lent p r c v e l o g) (meshAt k p r c v e l o)) (G : Logged (k .log) g) where
+  -- the list was told so before a worker that leaves it alone
+  pub parts-unlisted : {f : Run → Run} (p′ : List Float) (r′ c′ e′ : List ℕ) (l′ : List Float) (o′ g′ list : List ℕ) (ran : Ran) → 2049 ≤ length list → length e′ ≡ length e → length l′ ≡ length l
+      → Works f R (worldAt k p r c v e l o g) (λ q. worldAt q p′ r′ c′ v e′ l′ o′ g′) ran
+      → Works f R (worldAt k p r c v e l o g) (λ q. worldParted q p′ r′ c′ v e′ l′ o′ g′ (set list 2048 0)) ran × ListingAfter (length e′) (length l′) (set list 2048 0) ran
+  unfolding worldAt
+  parts-unlisted p′ r′ c′ e′ l′ o′ g′ list ran long le ll F =
+      let Q = A .rooms in
+      let none = cleared list long in (
+        works-unlisted p′ r′ c′ v e′ l′ o′ g′ (set list 2048 0) ran none F,
+        unlisted (length e′) (length l′) (set list 2048 0) ran (omega (arith, length-set list 2048 0)) none (Q .few-edges)
+            (record { ends = omega (arith, Q .ends); lengths = omega (arith, Q .lengths) }) (G .entries) (G .words) F,
+      )
+
+-- where a room lacks the blocks may be read as any world
+pub works-any : {f : Run → Run} {L : Rooms} {W : World} {at at′ : Counts → World} (ran : Ran) (c : ℕ) → ran ≡ Refused c → Works f L W at ran → Works f L W at′ ran
+works-any {f} {L} {W} {at} {at′} ran c known F =
+    let G : Works f L W at (Refused c) = works-known ran (Refused c) known F in
+    works-known (Refused c) ran (sym known) (record { went = λ R e z. G .went R e z })
 
 -- ---- the cut behind its marks
 

@@ -1,5 +1,7 @@
 // A call that gives a mesh: its input copied to the lent blocks, and worked on there.
 ghost use mathlib.Core.List.{[]};
+ghost use Prim.Native.Nat.{_≤_};
+ghost use lib.ListN.{length};
 ghost use Rattle.model.specs.Elements.{kindOf};
 ghost use Rattle.model.specs.Cut.{cut};
 ghost use Rattle.elements.specs.Table.{kindIs};
@@ -13,6 +15,8 @@ ghost use Rattle.mesh_calls.specs.Jobs.{jobRefusal, ruleIn, jobRun, jobCall};
 ghost use Rattle.perform.specs.Asks.{JobAsked, marksTell, passedBy};
 ghost use Rattle.mesh.specs.Blocks.{meshIn, meshBefore, meshBehind, worldBehind, lentIn, givenBefore, blocksIn};
 ghost use Rattle.work.specs.Blocks.{ReadyIn, WorksIn};
+ghost use Rattle.edge_drops.specs.Parted.{PartsIn};
+ghost use Rattle.split.specs.Blocks.{ListIn};
 use blade::Point;
 use elements::Kind;
 use marks::Rule;
@@ -130,8 +134,9 @@ fn cut_marked(
     lengths: &mut [f32],
     outline: &mut [usize],
     log: &mut [u32],
+    list: &mut [usize],
 ) -> Ran
-    requires { ⌜ ReadyIn room k points roots corners volumes ends lengths outline log × Logged (k .log) (now log) ⌝ }
+    requires { ⌜ ReadyIn room k points roots corners volumes ends lengths outline log × Logged (k .log) (now log) × ListIn list ⌝ }
     ensures { λ r. ⌜ WorksIn (cut (kindIs kind) (bladeBy rule b0 b1) f) room k points roots corners volumes ends lengths outline log r ⌝ }
 {
     let ran = crossmarks::note_crossings(
@@ -172,10 +177,11 @@ fn cut_marked(
         lengths,
         outline,
         log,
+        list,
     )
 }
 
-// Does to the mesh in the lent blocks what is to be done.
+// Does to the mesh in the lent blocks what is to be done. The straddlers of a split stay in the blocks, and are listed; no other job lists any.
 pub fn work(
     job: Job,
     list: &[usize],
@@ -189,12 +195,14 @@ pub fn work(
     lengths: &mut [f32],
     outline: &mut [usize],
     log: &mut [u32],
+    gone: &mut [usize],
 ) -> Ran
     requires { ⌜ ReadyIn room k points roots corners volumes ends lengths outline log × Logged (k .log) (now log)
-        × JobAsked job (now list) (meshIn k points roots corners volumes ends lengths outline) ⌝ }
-    ensures { λ r. ⌜ WorksIn (jobRun job (now (list .entry)) (kindOf (meshBefore k points roots corners volumes ends lengths outline))) room
-        k points roots corners volumes ends lengths outline log r ⌝ }
+        × JobAsked job (now list) (meshIn k points roots corners volumes ends lengths outline) × (2049 ≤ length (now gone)) ⌝ }
+    ensures { λ r. ⌜ PartsIn (jobRun job (now (list .entry)) (kindOf (meshBefore k points roots corners volumes ends lengths outline))) room
+        k points roots corners volumes ends lengths outline log gone r ⌝ }
 {
+    gone[edge_drops::LISTED] = 0;
     let kind = elements::kind_of(k.triangles, k.edges, ends);
     match job {
         Job::Straddlers => straddlers::across::remove_straddlers(
@@ -222,24 +230,31 @@ pub fn work(
             lengths,
             outline,
             log,
+            gone,
         ),
-        Job::Cut(edition, b0, b1, f) => cut_marked(
-            rule_in(edition),
-            b0,
-            b1,
-            f,
-            kind,
-            k,
-            room,
-            points,
-            roots,
-            corners,
-            volumes,
-            ends,
-            lengths,
-            outline,
-            log,
-        ),
+        Job::Cut(edition, b0, b1, f) => {
+            // The cut works in the list, and leaves none listed.
+            let ran = cut_marked(
+                rule_in(edition),
+                b0,
+                b1,
+                f,
+                kind,
+                k,
+                room,
+                points,
+                roots,
+                corners,
+                volumes,
+                ends,
+                lengths,
+                outline,
+                log,
+                gone,
+            );
+            gone[edge_drops::LISTED] = 0;
+            ran
+        }
         Job::Crack(minimum) => crack::body::crack_body(
             kind,
             minimum,
@@ -258,7 +273,7 @@ pub fn work(
     }
 }
 
-// A call whole: the refusal, or what the work came to in a copy of the input.
+// A call whole: the refusal, or what the work came to in a copy of the input, where the listed edges are gone.
 pub fn run(
     job: Job,
     list: &[usize],
@@ -313,7 +328,8 @@ pub fn run(
         boundary: in_outline.len() / 2,
         log: 0,
     };
-    work(
+    let mut gone = [0usize; edge_drops::LIST];
+    let ran = work(
         job,
         list,
         k,
@@ -326,5 +342,11 @@ pub fn run(
         lengths,
         outline,
         log,
-    )
+        &mut gone,
+    );
+    let Ran::Done(q) = ran else {
+        return ran;
+    };
+    edge_drops::close_rows(q.edges, &gone, ends, lengths);
+    Ran::Done(q)
 }

@@ -12,4 +12,4 @@ pub mod LinkLaws
 pub mod NoteLaws
 pub mod OutlineLaws
 pub mod SettleLaws
-pub mod DropLaws
+pub mod PartLaws

@@ -26,7 +26,7 @@ use Rattle.links.specs.Rooms.{CornersApart}
 use Rattle.link_fans.specs.Fans.{FanLinked}
 use Rattle.links.specs.Linked.{Linked, EdgesLinked, SidesLinked, FrontLinked, MeshLinked, MeshLinkable}
 use Rattle.links.proofs.Accepted.{corners-apart, ends-apart, sides-apart, apart-below}
-use Rattle.links.proofs.Parts.{front-of, with-sides, edges-back, sides-lent, sides-back}
+use Rattle.links.proofs.Parts.{front-of, with-sides, edges-lent, edges-back, sides-lent, sides-back}
 use Rattle.boundary.specs.Faces.{GrownLinked}
 use Rattle.boundary.proofs.FacetLaws.{linked-rows as sides-grown}
 use Rattle.link_fans.proofs.Fanned.{fan-numbers}
@@ -46,7 +46,9 @@ use Rattle.work.specs.Places.{EndsIn}
 use Rattle.work.specs.declared.Grown.{Grown}
 use Rattle.work.specs.declared.Grown.the-variants.{Rows}
 use Rattle.split.specs.Growing.{StrapsNamed, ElementsRoom}
-use Rattle.split.specs.Linking.{LinkedAfter, FrontKept, LinkedGrown, LinkedDropped, FanSound, FacetsLinked, FanNamed, HeadsRoom}
+use Rattle.split.specs.Linking.{LinkedAfter, LinkedListed, FrontKept, LinkedGrown, FanSound, FacetsLinked, FanNamed, HeadsRoom}
+use Rattle.split.specs.Settling.{RowsAfter}
+use Rattle.edge_drops.specs.Parted.{listed}
 use Rattle.split.specs.declared.Grew.{Grew}
 use Rattle.split.specs.declared.Grew.the-variants.{Longest}
 use Rattle.split.proofs.GrowLaws.{tableOpening, table-parts, straps-room}
@@ -162,6 +164,25 @@ pub linked-done : {K : Kind} {corners ends outline links : List ℕ} (r : Ran) (
     → MeshLinked K (q .triangles) (q .edges) (q .boundary) corners ends outline links
 linked-done {K} {corners} {ends} {outline} {links} r q e X = subst (λ (z : Ran). LinkedAfter K corners ends outline links z) e X
 
+-- where one lacks room nothing is asked of the tables
+pub linked-refused : (K : Kind) (corners ends outline links : List ℕ) (r : Ran) (c : ℕ) → r ≡ Refused c → LinkedAfter K corners ends outline links r
+linked-refused K corners ends outline links r c e = subst (LinkedAfter K corners ends outline links) (sym e) tt
+
+-- ---- listed edges that are to go
+
+-- the tables behind a worker that is done
+pub parted-done : {K : Kind} {corners ends outline links : List ℕ} (list : List ℕ) (r : Ran) (q : Counts) → r ≡ Done q → LinkedListed K corners ends outline links list r
+    → MeshLinked K (q .triangles) (q .edges + listed list) (q .boundary) corners ends outline links
+parted-done {K} {corners} {ends} {outline} {links} list r q e X = subst (λ (z : Ran). LinkedListed K corners ends outline links list z) e X
+
+-- the edges' table is lent for them to go
+pub close-lent : {K : Kind} {t e b : ℕ} {C E B l : List ℕ} → MeshLinked K t e b C E B l → EdgesLinked e E (midOf 4096 5120 l)
+close-lent M = edges-lent (front-of M)
+
+-- and given back without them
+pub close-back : {K : Kind} {t e e′ b : ℕ} {C E E′ B l : List ℕ} (x : List ℕ) → MeshLinked K t e b C E B l → length x ≡ length (midOf 4096 5120 l) → EdgesLinked e′ E′ x → MeshLinked K t e′ b C E′ B (putMid 4096 5120 l x)
+close-back {l = l} x M n X = let F = edges-back (front-of M) n X in with-sides l (F .0) (F .1) (M .sides)
+
 -- ---- the boundary's table in parts 4 to 6
 
 -- it is lent with the faces that may join it
@@ -177,11 +198,19 @@ pub facets-back : {K : Kind} {t e b m : ℕ} {C E B B′ l : List ℕ} {r : Grow
     → MeshLinked K t e m C E B′ (putMid 9216 (length l - 9216) l x)
 facets-back x M n q X = sides-back M n (sides-grown q X)
 
--- behind the straddlers that went the boundary's part is as it was
-pub dropped-linked : {K : Kind} {t e rows : ℕ} {C E B l : List ℕ} (E′ l′ : List ℕ) (r : Ran) → MeshLinked K t e rows C E B l → LinkedDropped K rows C E′ l l′ r → LinkedAfter K C E′ B l′ r
-dropped-linked E′ l′ (Refused c) M D = tt
-dropped-linked {K} {C = C} {B = B} {l = l} E′ l′ (Done q) M D =
-    subst (λ (b : ℕ). MeshLinked K (q .triangles) (q .edges) b C E′ B l′) (sym (D .1)) (with-sides l (D .0 .0) (D .0 .1) (M .sides))
+-- the same tables by other counts
+linked-as : {K : Kind} {t t′ e e′ b b′ : ℕ} {C E B l : List ℕ} → t′ ≡ t → e′ ≡ e → b′ ≡ b → MeshLinked K t e b C E B l → MeshLinked K t′ e′ b′ C E B l
+linked-as {K} {t} {t′} {e} {e′} {b} {b′} {C} {E} {B} {l} p q r M =
+    subst (λ (z : ℕ). MeshLinked K z e′ b′ C E B l) (sym p) (subst (λ (z : ℕ). MeshLinked K t z b′ C E B l) (sym q) (subst (λ (z : ℕ). MeshLinked K t e z C E B l) (sym r) M))
+
+-- the straddlers are listed, and all edges are in the blocks still
+pub parted-linked : {K : Kind} {C E B l : List ℕ} (k : Counts) (rows le : ℕ) (list : List ℕ) (r : Ran) → MeshLinked K (k .triangles) (k .edges) rows C E B l → RowsAfter k rows le list r → LinkedListed K C E B l list r
+parted-linked k rows le list (Refused c) M D = tt
+parted-linked k rows le list (Done q) M D = linked-as (D .triangles) (D .whole) (D .boundary) M
+
+-- none is listed
+pub none-linked : {K : Kind} {t b : ℕ} {C E B l : List ℕ} (e : ℕ) (list : List ℕ) → listed list ≡ 0 → MeshLinked K t e b C E B l → MeshLinked K t (e + listed list) b C E B l
+none-linked e list z M = let s : e + listed list ≡ e = omega (arith, z) in linked-as refl s refl M
 
 -- ---- beside a mesh in blocks
 

@@ -26,10 +26,11 @@ use Rattle.straddling.specs.Tests.{Straddling}
 use Rattle.work.specs.declared.Grown.{Grown}
 use Rattle.work.specs.declared.Grown.the-variants.{Lacking, Rows}
 use Rattle.work.specs.Working.{Within, SettleRoom}
+use Rattle.edge_drops.specs.Parted.{meshParted, worldParted, ListingAfter}
 use Rattle.split.specs.Tables.{Opens, TablesFit}
 use Rattle.work.specs.Places.{EndsIn, SidesIn}
 use Rattle.split.specs.Steps.{loggedOf, settledWorld}
-use Rattle.split.specs.Settling.{BoundaryIn, BoundaryAsked, BoundaryTold, DropAsked, EdgesDropped, Dropped, SettleAsked, SettledFor}
+use Rattle.split.specs.Settling.{BoundaryIn, BoundaryAsked, BoundaryTold, PartAsked, EdgesListed, PartedFor, RowsAfter, SettleAsked, SettledFor}
 use Rattle.work.specs.declared.Ran.{Ran}
 use Rattle.work.specs.declared.Ran.the-variants.{Refused, Done}
 
@@ -137,9 +138,9 @@ module _ (K : Kind) (L : Rooms) (k : Counts) (v before n count extra : ℕ) (num
             };
       }
 
-  -- what the removal of straddlers asks
-  pub drop-asked : DropAsked K L k v before n count extra (length verts) (length groups) (length corners) ends (length lengths) (length log)
-  drop-asked =
+  -- what listing the straddlers asks
+  pub part-asked : PartAsked K L k v before n count extra (length verts) (length groups) (length corners) ends (length log)
+  part-asked =
       let C = A .room .counts in
       let R = A .room in
       record {
@@ -147,7 +148,6 @@ module _ (K : Kind) (L : Rooms) (k : Counts) (v before n count extra : ℕ) (num
         ends-in = A .ends-in;
         straddle = record { ring = A .ring; few = omega (arith, C .triangles, R .few-triangles); corners = omega (arith, C .triangles, R .corners); ends = omega (arith, C .edges, R .ends) };
         few-edges = omega (arith, C .edges, R .few-edges);
-        lengths = omega (arith, C .edges, R .lengths);
         some = omega (arith, A .two);
         small = omega (arith, A .copied-all, A .two, C .particles, R .few-particles);
         one-extra = A .one-extra;
@@ -155,7 +155,7 @@ module _ (K : Kind) (L : Rooms) (k : Counts) (v before n count extra : ℕ) (num
         log-long = R .log;
       }
 
-  module _ (outline′ : List ℕ) (r : Grown) (rows : ℕ) (B : BoundaryTold K v before n count (k .boundary) (L .boundary) numbers verts groups points corners outline outline′ r) (q : r ≡ Rows rows) (ends′ : List ℕ) (lengths′ : List Float) (log′ : List ℕ) where
+  module _ (outline′ : List ℕ) (r : Grown) (rows : ℕ) (B : BoundaryTold K v before n count (k .boundary) (L .boundary) numbers verts groups points corners outline outline′ r) (q : r ≡ Rows rows) (list′ log′ : List ℕ) where
     module _ (measures : List Float) (O : Opening) (roots : List ℕ) (S : Opens K O v before n count numbers verts measures groups) where
       grown : GrownTo (Rows rows) (L .boundary) (settled K O (W roots .mesh) .boundary) (λ j. boundaryAt j outline′)
       grown = subst (λ (z : Grown). GrownTo z (L .boundary) (settled K O (W roots .mesh) .boundary) (λ j. boundaryAt j outline′)) q (sides-grown measures O roots S outline′ r B)
@@ -164,10 +164,10 @@ module _ (K : Kind) (L : Rooms) (k : Counts) (v before n count extra : ℕ) (num
       sides-fit : length (settled K O (W roots .mesh) .boundary) ≤ L .boundary
       sides-fit = leb-true _ _ (grown .0)
 
-      module _ (z : Counts) (D : EdgesDropped K O (W roots .mesh) L k z extra rows ends ends′ lengths lengths′ log log′) where
+      module _ (z : Counts) (D : EdgesListed K O (W roots .mesh) L k z extra rows ends lengths list′ log log′) where
         -- the world behind it
-        world-is : worldAt z points roots corners volumes ends′ lengths′ outline′ log′ ≡ settledWorld K O (W roots)
-        unfolding worldAt meshAt settledWorld settled
+        world-is : worldParted z points roots corners volumes ends lengths outline′ log′ list′ ≡ settledWorld K O (W roots)
+        unfolding worldParted meshParted worldAt meshAt settledWorld settled
         world-is =
             world-path
             (mesh-path (ap (λ (i : ℕ). particlesAt i points roots) (D .particles)) (ap (λ (i : ℕ). trianglesAt i corners volumes) (D .triangles)) (D .edges)
@@ -186,8 +186,8 @@ module _ (K : Kind) (L : Rooms) (k : Counts) (v before n count extra : ℕ) (num
             }
 
     -- the boundary has room: what was told of the straddlers is told of the whole
-    pub settled-told : (ran : Ran) → Dropped K L k v before n count extra rows verts groups corners ends ends′ lengths lengths′ log log′ ran
-        → SettledFor K L extra v before n count numbers verts groups W (λ roots z. worldAt z points roots corners volumes ends′ lengths′ outline′ log′) ran
+    pub settled-told : (ran : Ran) → PartedFor K L k v before n count extra rows verts groups corners ends list′ log log′ ran
+        → SettledFor K L extra v before n count numbers verts groups W (λ roots z. worldParted z points roots corners volumes ends lengths outline′ log′ list′) ran
     settled-told (Refused c) D =
         record {
           settling =
@@ -195,7 +195,7 @@ module _ (K : Kind) (L : Rooms) (k : Counts) (v before n count extra : ℕ) (num
               record {
                 told =
                     λ O roots S.
-                    let d = D .told O (W roots .mesh) volumes (split-of measures O roots S) in
+                    let d = D .told O (W roots .mesh) volumes lengths (split-of measures O roots S) in
                     let w = log-was measures O roots S in
                     let lacks : L .log < length (W roots .log) + (length (loggedOf K O (W roots .mesh)) + extra) = omega (arith, d .1) in
                     ((λ p t hp ht. lacks-8 (asRooms L) _ hp ht (sides-fit measures O roots S) lacks ∙ sym (d .0)), omega (arith, d .0));
@@ -208,8 +208,13 @@ module _ (K : Kind) (L : Rooms) (k : Counts) (v before n count extra : ℕ) (num
               record {
                 told =
                     λ O roots S.
-                    let d = D .told O (W roots .mesh) volumes (split-of measures O roots S) in
+                    let d = D .told O (W roots .mesh) volumes lengths (split-of measures O roots S) in
                     let w = log-was measures O roots S in
                     (sides-fit measures O roots S, omega (arith, d .fits), within measures O roots S z d, world-is measures O roots S z d);
               };
         }
+
+  -- the list behind it is one of the edges in the blocks
+  pub settled-listed : (rows : ℕ) (list′ : List ℕ) (ran : Ran) → RowsAfter k rows (length ends) list′ ran → ListingAfter (length ends) (length lengths) list′ ran
+  settled-listed rows list′ (Refused c) D = tt
+  settled-listed rows list′ (Done z) D = D .listing (length lengths) (omega (arith, A .room .counts .edges, A .room .lengths))

@@ -15,6 +15,7 @@ use Rattle.mesh.specs.Filled.{lent}
 use Rattle.mesh.specs.declared.Counts.{Counts}
 use Rattle.mesh.specs.declared.Rooms.{Rooms}
 use Rattle.work.specs.Working.{Ready}
+use Rattle.edge_drops.specs.Parted.{worldParted}
 use Rattle.split.specs.Tables.{FanGrouped, openedBy, Opens, TablesFit}
 use Rattle.work.specs.Places.{EndsIn}
 use Rattle.split.specs.Steps.{GrowRoom, grownCounts, GrewTo, GrowthTold, SettledTo, Stepped}
@@ -33,10 +34,10 @@ use Rattle.split.specs.declared.Grew.{Grew}
 use Rattle.split.specs.declared.Grew.the-variants.{Lacking, Longest}
 
 -- as many entries as the counts say
-pub log-count : (k : Counts) (points : List Float) (roots corners : List ℕ) (volumes : List Float) (ends : List ℕ) (lengths : List Float) (outline log : List ℕ)
-    → length (worldAt k points roots corners volumes ends lengths outline log .log) ≡ k .log
-unfolding worldAt logAt
-log-count k points roots corners volumes ends lengths outline log = tab-length (k .log) _
+log-count : (k : Counts) (points : List Float) (roots corners : List ℕ) (volumes : List Float) (ends : List ℕ) (lengths : List Float) (outline log list : List ℕ)
+    → length (worldParted k points roots corners volumes ends lengths outline log list .log) ≡ k .log
+unfolding worldParted logAt
+log-count k points roots corners volumes ends lengths outline log list = tab-length (k .log) _
 
 -- two halves of a world
 world-of : (k q : Counts) (points points′ : List Float) (roots roots′ corners corners′ : List ℕ) (volumes : List Float) (ends ends′ : List ℕ) (lengths lengths′ : List Float) (outline log : List ℕ) (A : Mesh)
@@ -175,11 +176,11 @@ module _ (K : Kind) (L : Rooms) (k : Counts) (points : List Float) (roots corner
         stepped-lacking K O L extra k (worldAt k points roots corners volumes ends lengths outline log) (λ q. meshAt q points′ roots′ corners′ volumes ends′ lengths′ outline) (λ q. worldAt q points roots corners volumes ends lengths outline log) c
         (subst (λ (X : Mesh). GrewTo K O L k X (λ q. meshAt q points′ roots′ corners′ volumes ends′ lengths′ outline) (Lacking c)) (sym (world-mesh k points roots corners volumes ends lengths outline log)) (grew (Lacking c) T))
 
-    pub all-settled : (g : Grew) (e extra : ℕ) (ends″ : List ℕ) (lengths″ : List Float) (outline″ log″ : List ℕ) (r : Ran) → Told g → g ≡ Longest e
+    pub all-settled : (g : Grew) (e extra : ℕ) (outline″ log″ list″ : List ℕ) (r : Ran) → Told g → g ≡ Longest e
         → SettledFor K L extra v (k .particles) n count numbers verts groups (λ s. worldAt (grownCounts k (k .particles + count - 1) e) points′ s corners′ volumes ends′ lengths′ outline log)
-        (λ s q. worldAt q points′ s corners′ volumes ends″ lengths″ outline″ log″) r
-        → Stepped K O L extra (worldAt k points roots corners volumes ends lengths outline log) (λ q. worldAt q points′ roots′ corners′ volumes ends″ lengths″ outline″ log″) r
-    all-settled g e extra ends″ lengths″ outline″ log″ r T′ z S =
+        (λ s q. worldParted q points′ s corners′ volumes ends′ lengths′ outline″ log″ list″) r
+        → Stepped K O L extra (worldAt k points roots corners volumes ends lengths outline log) (λ q. worldParted q points′ roots′ corners′ volumes ends′ lengths′ outline″ log″ list″) r
+    all-settled g e extra outline″ log″ list″ r T′ z S =
         let T : Told (Longest e) = subst Told z T′ in
         let G = grew (Longest e) T in
         let q : Counts = grownCounts k (k .particles + count - 1) e in
@@ -189,6 +190,6 @@ module _ (K : Kind) (L : Rooms) (k : Counts) (points : List Float) (roots corner
         = world-of k q points points′ roots roots′ corners corners′ volumes ends ends′ lengths lengths′ outline log (atLongest K O (W .mesh)) refl (G .2 ∙ ap (atLongest K O) (sym m)) in
         let lp : length (atLongest K O (W .mesh) .particles) ≤ L .particles = omega (arith, G .0, ap (λ (X : Mesh). length (X .particles)) (G .2 ∙ ap (atLongest K O) (sym m)), particles-count q points′ roots′ corners′ volumes ends′ lengths′ outline) in
         let le : length (atLongest K O (W .mesh) .edges) ≤ L .edges = omega (arith, G .1, ap (λ (X : Mesh). length (X .edges)) (G .2 ∙ ap (atLongest K O) (sym m)), edges-count q points′ roots′ corners′ volumes ends′ lengths′ outline) in
-        stepped-settled K O L extra W (λ j. worldAt j points′ roots′ corners′ volumes ends″ lengths″ outline″ log″) r lp le
-        (λ j. log-count j points′ roots′ corners′ volumes ends″ lengths″ outline″ log″)
-        (subst (λ (X : World). SettledTo K O L extra X (λ j. worldAt j points′ roots′ corners′ volumes ends″ lengths″ outline″ log″) r) w (S .settling measures .told O roots′ opens))
+        stepped-settled K O L extra W (λ j. worldParted j points′ roots′ corners′ volumes ends′ lengths′ outline″ log″ list″) r lp le
+        (λ j. log-count j points′ roots′ corners′ volumes ends′ lengths′ outline″ log″ list″)
+        (subst (λ (X : World). SettledTo K O L extra X (λ j. worldParted j points′ roots′ corners′ volumes ends′ lengths′ outline″ log″ list″) r) w (S .settling measures .told O roots′ opens))

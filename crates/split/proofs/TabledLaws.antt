@@ -5,7 +5,7 @@ use mathlib.Core.Path.{_≡_, refl, sym, _∙_, ap, subst}
 use mathlib.Core.Bool.{Bool, true, false, _&&_}
 use mathlib.Core.List.{List, [], _∷_}
 use borrow.Author.Tests.{le-leb, lt-leb}
-use lib.ListN.{length, getD, take}
+use lib.ListN.{length, getD, set, take, length-set}
 use lib.Seq.{take-length}
 use lib.Dec.{leb}
 use lib.Ieee.{Float, nan, ne}
@@ -27,7 +27,10 @@ use Rattle.mesh.specs.Widths.{pointColumns}
 use Rattle.elements.specs.Table.{Tabled}
 use Rattle.split_plan.specs.Opened.{openingBy}
 use Rattle.split_plan.proofs.Tables.{opening-is}
+use Rattle.model.specs.Run.{Run}
 use Rattle.work.specs.Working.{Ready, Works}
+use Rattle.edge_drops.specs.Parted.{worldParted, Listing}
+use Rattle.edge_drops.proofs.PartedLaws.{cleared, none-listed, works-unlisted}
 use Rattle.split.specs.Tables.{FanGrouped, FanSided, FanLent, FanTables, SidesLent, SidesGiven, GroupsFound, openedBy}
 use Rattle.split.specs.Steps.{Stepped}
 use Rattle.split.proofs.Fitted.{grid-is}
@@ -135,6 +138,22 @@ module _ (K : Kind) (L : Rooms) (k : Counts) (points : List Float) (roots corner
         works-split K v (take n sides) (openedBy K M v n count groups) L (at k) at′ r
         (opening-found F G ∙ ap (λ (X : Mesh). openingOf K X v (take n sides)) (sym (mesh-is k)))
         (ap (splits? (openedBy K M v n count groups)) (mesh-is k) ∙ splits-so F G h (ap (λ (x : Float). ne x zero32) inverse-is ∙ sym u ∙ e)) S
+
+-- ---- nothing is done, and none is listed
+
+module _ (L : Rooms) (k : Counts) (points : List Float) (roots corners : List ℕ) (volumes : List Float) (ends : List ℕ) (lengths : List Float) (outline log : List ℕ)
+    (P : Ready L k (lent points roots corners volumes ends lengths outline log) (meshAt k points roots corners volumes ends lengths outline)) where
+  pub parts-none : (f : Run → Run) (list : List ℕ) → 2049 ≤ length list → Works f L (worldAt k points roots corners volumes ends lengths outline log) (λ q. worldAt q points roots corners volumes ends lengths outline log) (Done k)
+      → Works f L (worldAt k points roots corners volumes ends lengths outline log) (λ q. worldParted q points roots corners volumes ends lengths outline log (set list 2048 0)) (Done k)
+      × Listing (k .edges) (length ends) (length lengths) (set list 2048 0)
+  parts-none f list long w =
+      let R = P .rooms in
+      let C = P .counts in
+      let none = cleared list long in (
+        works-unlisted points roots corners volumes ends lengths outline log (set list 2048 0) (Done k) none w,
+        none-listed ends lengths (set list 2048 0) none (k .edges) (length ends) (length lengths) (omega (arith, length-set list 2048 0)) (omega (arith, C .edges, R .few-edges))
+            (record { ends = omega (arith, C .edges, R .ends); lengths = omega (arith, C .edges, R .lengths) }),
+      )
 
 -- ---- sides given for the fan of a mesh in blocks
 

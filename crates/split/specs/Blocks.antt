@@ -5,20 +5,21 @@ use denote.Ref.{now}
 use Rattle.model.specs.Mesh.{Mesh}
 use Rattle.model.specs.Elements.{Kind}
 use Rattle.mesh.specs.At.{meshAt}
-use Rattle.mesh.specs.Log.{worldAt}
-use Rattle.mesh.specs.Blocks.{NumbersIn, IndicesIn, Numbers, Indices}
+use Rattle.mesh.specs.Log.{World, worldAt}
+use Rattle.mesh.specs.Blocks.{NumbersIn, IndicesIn, Numbers, Indices, meshBefore, worldBefore}
 use Rattle.mesh.specs.declared.Counts.{Counts}
 use Rattle.mesh.specs.declared.Rooms.{Rooms}
 use Rattle.links.specs.Linked.{FrontLinked, LinkedIn}
 use Rattle.work.specs.Places.{EndsIn}
 use Rattle.work.specs.declared.Ran.{Ran}
 use Rattle.work.specs.declared.Grown.{Grown}
+use Rattle.edge_drops.specs.Parted.{worldParted, partedBehind, ListedBehind}
 use Rattle.boundary.specs.Faces.{GrownLinked}
 use Rattle.split.specs.declared.Grew.{Grew}
 use Rattle.split.specs.Tables.{FanGrouped, FanSided, TablesFit}
 use Rattle.split.specs.Steps.{GrowRoom, GrowthTold}
 use Rattle.split.specs.Growing.{StrapsNamed, ElementsRoom}
-use Rattle.split.specs.Linking.{FanNamed, HeadsRoom, LinkedAfter, FrontKept, LinkedGrown, LinkedDropped, FanSound, FacetsLinked}
+use Rattle.split.specs.Linking.{FanNamed, HeadsRoom, LinkedAfter, LinkedListed, FrontKept, LinkedGrown, FanSound, FacetsLinked}
 use Rattle.split.specs.Settling.{BoundaryAsked, BoundaryTold, SettleAsked, SettledFor}
 
 -- ---- the tables of a fan
@@ -30,13 +31,26 @@ GroupedIn K M v n count numbers verts measures groups = FanGrouped K M v n count
 abbrev pub SidedIn : Kind → Mesh → ℕ → ℕ → IndicesIn → IndicesIn → NumbersIn → IndicesIn → Type 0
 SidedIn K M v n numbers verts measures sides = FanSided K M v n (now numbers) (now verts) (now measures) (now sides)
 
--- a table has a place for each edge, to mark or to list it in
-abbrev pub MaskIn : IndicesIn → Type 0
-MaskIn mask = 2048 ≤ length (now mask)
+-- a list has a place for each edge, and one that says how many are listed
+abbrev pub ListIn : IndicesIn → Type 0
+ListIn list = 2049 ≤ length (now list)
 
 -- behind a worker that came to r: where it is done, the tables of links are those of the blocks again
 abbrev pub LinkedBehind : Kind → Indices → Indices → Indices → Indices → Ran → Type 0
 LinkedBehind K corners ends outline links r = LinkedAfter K (now (corners .exit)) (now (ends .exit)) (now (outline .exit)) (now (links .exit)) r
+
+-- the same where edges are listed that are to go: the tables are those of the blocks with the listed edges
+abbrev pub LinkedParted : Kind → Indices → Indices → Indices → Indices → Indices → Ran → Type 0
+LinkedParted K corners ends outline links list r = LinkedListed K (now (corners .exit)) (now (ends .exit)) (now (outline .exit)) (now (links .exit)) (now (list .exit)) r
+
+-- behind a worker that came to r: where it is done, the list is one of the edges in the blocks, and the tables are those of the blocks with them
+abbrev pub EdgesBehind : Kind → Indices → Indices → Numbers → Indices → Indices → Indices → Ran → Type 0
+EdgesBehind K corners ends lengths outline links list r = ListedBehind ends lengths list r × LinkedParted K corners ends outline links list r
+
+-- what P says of the mesh and of the world before a call, and of the worlds that the blocks may be read as behind it, without the listed edges
+abbrev pub OverParted : (Mesh → World → (Counts → World) → Type 0) → Counts → Numbers → Indices → Indices → Numbers → Indices → Numbers → Indices → Indices → Indices → Type 0
+OverParted P k points roots corners volumes ends lengths outline log list =
+    P (meshBefore k points roots corners volumes ends lengths outline) (worldBefore k points roots corners volumes ends lengths outline log) (λ q. partedBehind q points roots corners volumes ends lengths outline log list)
 
 -- the front of the tables of links is that of the blocks; and behind a worker it is that again, and the boundary's part is as it was
 abbrev pub FrontIn : Kind → Counts → IndicesIn → IndicesIn → IndicesIn → Type 0
@@ -66,7 +80,7 @@ GrowIn K L k v n count numbers verts measures groups points roots corners ends l
     × StrapsNamed K v n (now numbers) (now ends)
     × FrontIn K k corners ends links
     × FanNamed K v (k .particles) (k .triangles) n (now numbers) (now corners)
-    × MaskIn list
+    × ListIn list
 
 -- what they came to, whatever stands in the blocks of volumes and of the outline
 abbrev pub GrewIn : Kind → Rooms → Counts → ℕ → ℕ → ℕ → Indices → Indices → Numbers → Indices → Numbers → Indices → Indices → Indices → Numbers → Indices → Grew → Type 0
@@ -83,29 +97,26 @@ abbrev pub OpenIn : Kind → ℕ → ℕ → ℕ → ℕ → ℕ → ℕ → Ind
 OpenIn K v before n count b room numbers verts groups points corners outline table list =
     BoundaryAsked K v before n count b room (now numbers) (now verts) (now groups) (length (now points)) (length (now corners)) (now outline)
     × FacetsLinked K n b room (now numbers) (now corners) (now outline) (now table)
-    × MaskIn list
+    × ListIn list
 
 abbrev pub OpenedIn : Kind → ℕ → ℕ → ℕ → ℕ → ℕ → ℕ → Indices → Indices → Indices → Numbers → Indices → Indices → Indices → Grown → Type 0
 OpenedIn K v before n count b room numbers verts groups points corners outline table r =
     BoundaryTold K v before n count b room (now (numbers .entry)) (now (verts .entry)) (now (groups .entry)) (now (points .entry)) (now (corners .entry)) (now (outline .entry)) (now (outline .exit)) r
     × GrownLinked r (now (outline .exit)) (now (table .exit))
 
--- behind the removal of straddlers, with so many boundary entries
-abbrev pub DroppedBehind : Kind → ℕ → Indices → Indices → Indices → Ran → Type 0
-DroppedBehind K rows corners ends links r = LinkedDropped K rows (now (corners .exit)) (now (ends .exit)) (now (links .entry)) (now (links .exit)) r
-
 -- the blocks have room, the tables hold a split of v, of which parts 1 to 3 are done, and the links are those of the block
 abbrev pub SettleIn : Kind → Rooms → Counts → ℕ → ℕ → ℕ → ℕ → ℕ → IndicesIn → IndicesIn → IndicesIn → NumbersIn → IndicesIn → NumbersIn → IndicesIn → NumbersIn → IndicesIn → IndicesIn → IndicesIn → IndicesIn → Type 0
-SettleIn K L k v before n count extra numbers verts groups points corners volumes ends lengths outline log mask links =
+SettleIn K L k v before n count extra numbers verts groups points corners volumes ends lengths outline log list links =
     SettleAsked K L k v before n count extra (now numbers) (now verts) (now groups) (length (now points)) (length (now corners)) (length (now volumes)) (now ends) (length (now lengths)) (now outline) (length (now log))
-    × MaskIn mask
+    × ListIn list
     × LinkedIn K k corners ends outline links
     × FanSound K n (now numbers) (now corners)
 
 -- what they came to, whatever stands in the block of roots
-abbrev pub SettledIn : Kind → Rooms → ℕ → ℕ → ℕ → ℕ → ℕ → Counts → Indices → Indices → Indices → Numbers → Indices → Numbers → Indices → Numbers → Indices → Indices → Indices → Ran → Type 0
-SettledIn K L extra v before n count k numbers verts groups points corners volumes ends lengths outline log links r =
+abbrev pub SettledIn : Kind → Rooms → ℕ → ℕ → ℕ → ℕ → ℕ → Counts → Indices → Indices → Indices → Numbers → Indices → Numbers → Indices → Numbers → Indices → Indices → Indices → Indices → Ran → Type 0
+SettledIn K L extra v before n count k numbers verts groups points corners volumes ends lengths outline log list links r =
     SettledFor K L extra v before n count (now (numbers .entry)) (now (verts .entry)) (now (groups .entry))
     (λ roots. worldAt k (now (points .entry)) roots (now (corners .entry)) (now (volumes .entry)) (now (ends .entry)) (now (lengths .entry)) (now (outline .entry)) (now (log .entry)))
-    (λ roots q. worldAt q (now (points .exit)) roots (now (corners .exit)) (now (volumes .exit)) (now (ends .exit)) (now (lengths .exit)) (now (outline .exit)) (now (log .exit))) r
-    × LinkedBehind K corners ends outline links r
+    (λ roots q. worldParted q (now (points .exit)) roots (now (corners .exit)) (now (volumes .exit)) (now (ends .exit)) (now (lengths .exit)) (now (outline .exit)) (now (log .exit)) (now (list .exit))) r
+    × ListedBehind ends lengths list r
+    × LinkedParted K corners ends outline links list r

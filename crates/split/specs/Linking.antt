@@ -1,5 +1,5 @@
 -- The tables of triangles, edges and boundary entries through a split: what the workers ask of them, and what they leave. Definitions only.
-use Prim.Native.Nat.{ℕ, _/_, _<_, _≤_}
+use Prim.Native.Nat.{ℕ, _+_, _/_, _<_, _≤_}
 use mathlib.Core.Path.{_≡_}
 use mathlib.Core.List.{List}
 use lib.ListN.{length, getD, take, drop}
@@ -9,6 +9,7 @@ use Rattle.model.specs.Split.{copyFor}
 use Rattle.links.specs.Links.{cellsOf}
 use Rattle.links.specs.Rooms.{CornersApart}
 use Rattle.links.specs.Linked.{FrontLinked, MeshLinked}
+use Rattle.edge_drops.specs.Parted.{listed}
 use Rattle.boundary.specs.Faces.{FanApart, FacetTable}
 use Rattle.work.specs.declared.Ran.{Ran}
 use Rattle.work.specs.declared.Ran.the-variants.{Refused, Done}
@@ -20,6 +21,11 @@ abbrev pub LinkedAfter : Kind → List ℕ → List ℕ → List ℕ → List �
 LinkedAfter K corners ends outline links (Refused c) = Unit {0}
 LinkedAfter K corners ends outline links (Done q) = MeshLinked K (q .triangles) (q .edges) (q .boundary) corners ends outline links
 
+-- the same where edges are listed that are to go: the tables are those of the blocks with the listed edges
+abbrev pub LinkedListed : Kind → List ℕ → List ℕ → List ℕ → List ℕ → List ℕ → Ran → Type 0
+LinkedListed K corners ends outline links list (Refused c) = Unit {0}
+LinkedListed K corners ends outline links list (Done q) = MeshLinked K (q .triangles) (q .edges + listed list) (q .boundary) corners ends outline links
+
 -- ---- only contracts between workers need what follows
 
 -- the front of the tables is that of the blocks, and the boundary's part is as it was in links₀
@@ -30,11 +36,6 @@ FrontKept K t e corners ends links₀ links = FrontLinked K t e corners ends lin
 abbrev pub LinkedGrown : Kind → ℕ → List ℕ → List ℕ → List ℕ → List ℕ → Grew → Type 0
 LinkedGrown K t corners ends links₀ links (Lacking c) = Unit {0}
 LinkedGrown K t corners ends links₀ links (Longest e) = FrontKept K t e corners ends links₀ links
-
--- behind the removal of straddlers: where it is done, the front of the tables is that of the blocks again, and there are so many boundary entries
-abbrev pub LinkedDropped : Kind → ℕ → List ℕ → List ℕ → List ℕ → List ℕ → Ran → Type 0
-LinkedDropped K rows corners ends links₀ links (Refused c) = Unit {0}
-LinkedDropped K rows corners ends links₀ links (Done q) = FrontKept K (q .triangles) (q .edges) corners ends links₀ links × (q .boundary ≡ rows)
 
 -- where the elements are triangles, the corners of each that the first n numbers name are different ones of 1,024 particles
 abbrev pub FanSound : Kind → ℕ → List ℕ → List ℕ → Type 0

@@ -19,6 +19,7 @@ use Rattle.work.specs.Rows.{GrownTo}
 use Rattle.straddling.specs.Tests.{Straddling, StraddleRoom}
 use Rattle.work.specs.declared.Grown.{Grown}
 use Rattle.work.specs.Places.{EndsIn, SidesIn}
+use Rattle.edge_drops.specs.Parted.{listed, edgesParted, Listing}
 use Rattle.split.specs.Steps.{loggedOf, SettlingTold}
 use Rattle.work.specs.Working.{SettleRoom}
 use Rattle.work.specs.Removal.{goneWords, ListNoteRoom}
@@ -92,40 +93,51 @@ pub record SplitNoted (v before m at s : ℕ) (list ends log log′ : List ℕ) 
 
 -- ---- 4: straddlers, with the log of the split
 
--- what the removal of straddlers asks: tables that fit, few edges, and a log within its room
-pub record DropAsked (K : Kind) (L : Rooms) (k : Counts) (v before n count extra lv lg lc : ℕ) (ends : List ℕ) (ll llog : ℕ) : Type 0 where
+-- what listing the straddlers asks: tables that fit, few edges, and a log within its room
+pub record PartAsked (K : Kind) (L : Rooms) (k : Counts) (v before n count extra lv lg lc : ℕ) (ends : List ℕ) (llog : ℕ) : Type 0 where
   pub here : v < before
   pub straddle : StraddleRoom K n (k .triangles) (k .edges) lv lg lc (length ends)
   pub ends-in : EndsIn 1024 (k .edges) ends
   pub few-edges : k .edges ≤ 2048
-  pub lengths : k .edges ≤ ll / 4
   pub some : 1 ≤ count
   pub small : before + count ≤ 65536
   pub one-extra : extra ≤ 1
   pub log-in : k .log ≤ L .log
   pub log-long : L .log ≤ llog / 6
 
--- the straddlers of a split of M are gone from the edges, and the split is logged, with room for `extra` entries
-pub record EdgesDropped (K : Kind) (O : Opening) (M : Mesh) (L : Rooms) (k q : Counts) (extra rows : ℕ) (ends ends′ : List ℕ) (lengths lengths′ : List Float) (log log′ : List ℕ) : Type 0 where
+-- the straddlers of a split of M are listed, and the split is logged, with room for `extra` entries
+pub record EdgesListed (K : Kind) (O : Opening) (M : Mesh) (L : Rooms) (k q : Counts) (extra rows : ℕ) (ends : List ℕ) (lengths : List Float) (list′ log log′ : List ℕ) : Type 0 where
   pub particles : q .particles ≡ k .particles
   pub triangles : q .triangles ≡ k .triangles
   pub boundary : q .boundary ≡ rows
   pub few-edges : q .edges ≤ k .edges
   pub count : q .log ≡ k .log + length (loggedOf K O M)
   pub fits : k .log + (length (loggedOf K O M) + extra) ≤ L .log
-  pub edges : edgesAt (q .edges) ends′ lengths′ ≡ sift (λ (a : Edge). not (straddles K M O a)) (edgesAt (k .edges) ends lengths)
+  pub edges : edgesParted (q .edges) ends lengths list′ ≡ sift (λ (a : Edge). not (straddles K M O a)) (edgesAt (k .edges) ends lengths)
   pub entries : logAt (q .log) log′ ≡ logAt (k .log) log ++ map wordsOf (loggedOf K O M)
 
--- what was told of the removal: the log lacks room; or the new counts
-abbrev pub DroppedTo : Kind → Opening → Mesh → Rooms → Counts → ℕ → ℕ → List ℕ → List ℕ → List Float → List Float → List ℕ → List ℕ → Ran → Type 0
-DroppedTo K O M L k extra rows ends ends′ lengths lengths′ log log′ (Refused c) = (c ≡ 8) × (L .log < k .log + (length (loggedOf K O M) + extra))
-DroppedTo K O M L k extra rows ends ends′ lengths lengths′ log log′ (Done q) = EdgesDropped K O M L k q extra rows ends ends′ lengths lengths′ log log′
+-- what was told of the straddlers: the log lacks room; or the new counts
+abbrev pub PartedTo : Kind → Opening → Mesh → Rooms → Counts → ℕ → ℕ → List ℕ → List Float → List ℕ → List ℕ → List ℕ → Ran → Type 0
+PartedTo K O M L k extra rows ends lengths list′ log log′ (Refused c) = (c ≡ 8) × (L .log < k .log + (length (loggedOf K O M) + extra))
+PartedTo K O M L k extra rows ends lengths list′ log log′ (Done q) = EdgesListed K O M L k q extra rows ends lengths list′ log log′
 
 -- for every split that the tables hold
-pub record Dropped (K : Kind) (L : Rooms) (k : Counts) (v before n count extra rows : ℕ) (verts groups corners ends ends′ : List ℕ) (lengths lengths′ : List Float) (log log′ : List ℕ) (r : Ran) : Type 0 where
+pub record PartedFor (K : Kind) (L : Rooms) (k : Counts) (v before n count extra rows : ℕ) (verts groups corners ends list′ log log′ : List ℕ) (r : Ran) : Type 0 where
   pub told :
-      (O : Opening) (M : Mesh) (volumes : List Float) → Straddling K O M v before n count (k .triangles) (k .edges) verts groups corners volumes ends lengths
-      → DroppedTo K O M L k extra rows ends ends′ lengths lengths′ log log′ r
+      (O : Opening) (M : Mesh) (volumes lengths : List Float) → Straddling K O M v before n count (k .triangles) (k .edges) verts groups corners volumes ends lengths
+      → PartedTo K O M L k extra rows ends lengths list′ log log′ r
+
+-- the list is one of the edges of k, which are all in the block of le places still, whatever room the other block has for them
+pub record RowsListed (k q : Counts) (rows le : ℕ) (list : List ℕ) : Type 0 where
+  pub listing : (ll : ℕ) → k .edges ≤ ll / 4 → Listing (q .edges) le ll list
+  pub whole : q .edges + listed list ≡ k .edges
+  pub triangles : q .triangles ≡ k .triangles
+  pub boundary : q .boundary ≡ rows
+
+-- behind a worker that came to r, where it is done
+abbrev pub RowsAfter : Counts → ℕ → ℕ → List ℕ → Ran → Type 0
+RowsAfter k rows le list (Refused c) = Unit {0}
+RowsAfter k rows le list (Done q) = RowsListed k q rows le list
 
 -- ---- the whole
 

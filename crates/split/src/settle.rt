@@ -1,13 +1,13 @@
-// The second half of a split: straddlers go, the boundary follows, crack facets join it, and the log tells of it.
+// The second half of a split: straddlers are listed, the boundary follows, crack facets join it, and the log tells of it.
 ghost use mathlib.Core.Path.{_≡_};
 ghost use Prim.Native.Nat.{_+_, _/_, _<_, _≤_};
 ghost use lib.ListN.{length};
 ghost use lib.Dec.{leb};
 ghost use Rattle.elements.specs.Table.{kindIs};
 ghost use Rattle.boundary.specs.Faces.{GrownLinked};
-ghost use Rattle.split.specs.Settling.{FacetsAsked, FacetsTold, CopiesNoted, SplitAsked, SplitNoted, DropAsked, Dropped};
+ghost use Rattle.split.specs.Settling.{FacetsAsked, FacetsTold, CopiesNoted, SplitAsked, SplitNoted, PartAsked, PartedFor, RowsAfter};
 ghost use Rattle.split.specs.Linking.{FacetsLinked};
-ghost use Rattle.split.specs.Blocks.{MaskIn, FrontIn, OpenIn, OpenedIn, DroppedBehind, SettleIn, SettledIn};
+ghost use Rattle.split.specs.Blocks.{ListIn, FrontIn, OpenIn, OpenedIn, SettleIn, SettledIn};
 use elements::Kind;
 use mesh::Counts;
 use mesh::Rooms;
@@ -150,8 +150,8 @@ fn note_split(
     work::removal::note_listed(list, s, at + m, ends, log)
 }
 
-// The straddlers go, and the log tells of the split, if it has room for that and for `extra` entries more; `rows` boundary entries are there by now. They are listed in the list that is lent, and the tables link the triangles and the edges.
-fn drop_straddlers(
+// The straddlers are listed, and the log tells of the split, if it has room for that and for `extra` entries more; `rows` boundary entries are there by now. They stay in the block, and the counts are those without them.
+fn part_straddlers(
     kind: Kind,
     v: usize,
     before: usize,
@@ -164,19 +164,17 @@ fn drop_straddlers(
     verts: &[usize],
     groups: &[usize],
     corners: &[usize],
-    ends: &mut [usize],
-    lengths: &mut [f32],
+    ends: &[usize],
     log: &mut [u32],
     list: &mut [usize],
-    links: &mut [u16],
+    links: &[u16],
 ) -> Ran
-    requires { ⌜ DropAsked (kindIs kind) room k v before n count extra (length (now verts)) (length (now groups)) (length (now corners))
-        (now ends) (length (now lengths)) (length (now log)) × MaskIn list × FrontIn (kindIs kind) k corners ends links ⌝ }
-    ensures { λ r. ⌜ Dropped (kindIs kind) room k v before n count extra rows (now (verts .entry)) (now (groups .entry))
-        (now (corners .entry)) (now (ends .entry)) (now (ends .exit)) (now (lengths .entry)) (now (lengths .exit)) (now (log .entry))
-        (now (log .exit)) r × DroppedBehind (kindIs kind) rows corners ends links r ⌝ }
+    requires { ⌜ PartAsked (kindIs kind) room k v before n count extra (length (now verts)) (length (now groups)) (length (now corners))
+        (now ends) (length (now log)) × ListIn list × FrontIn (kindIs kind) k corners ends links ⌝ }
+    ensures { λ r. ⌜ PartedFor (kindIs kind) room k v before n count extra rows (now (verts .entry)) (now (groups .entry))
+        (now (corners .entry)) (now (ends .entry)) (now (list .exit)) (now (log .entry)) (now (log .exit)) r
+        × RowsAfter k rows (length (now (ends .entry))) (now (list .exit)) r ⌝ }
 {
-    let shared = &links[..];
     let s = straddling::list_straddlers(
         kind,
         v,
@@ -189,8 +187,8 @@ fn drop_straddlers(
         groups,
         corners,
         ends,
-        shared,
-        &shared[4096..],
+        links,
+        &links[4096..],
         list,
     );
     let m = count - 1;
@@ -198,11 +196,11 @@ fn drop_straddlers(
         return Ran::Refused(8);
     }
     let entries = note_split(v, before, m, k.log, s, list, ends, log);
-    let left = edge_drops::drop_listed(list, k.edges, s, ends, lengths, &mut links[4096..9216]);
+    list[edge_drops::LISTED] = s;
     Ran::Done(Counts {
         particles: k.particles,
         triangles: k.triangles,
-        edges: left,
+        edges: k.edges - s,
         boundary: rows,
         log: entries,
     })
@@ -224,17 +222,17 @@ pub fn settle(
     points: &[f32],
     corners: &[usize],
     volumes: &[f32],
-    ends: &mut [usize],
-    lengths: &mut [f32],
+    ends: &[usize],
+    lengths: &[f32],
     outline: &mut [usize],
     log: &mut [u32],
-    mask: &mut [usize],
+    list: &mut [usize],
     links: &mut [u16],
 ) -> Ran
     requires { ⌜ SettleIn (kindIs kind) room k v before n count extra numbers verts groups points corners volumes ends lengths outline log
-        mask links ⌝ }
+        list links ⌝ }
     ensures { λ r. ⌜ SettledIn (kindIs kind) room extra v before n count k numbers verts groups points corners volumes ends lengths outline
-        log links r ⌝ }
+        log list links r ⌝ }
 {
     let grown = open_boundary(
         kind,
@@ -251,12 +249,12 @@ pub fn settle(
         corners,
         outline,
         &mut links[9216..],
-        mask,
+        list,
     );
     let Grown::Rows(rows) = grown else {
         return Ran::Refused(7);
     };
-    drop_straddlers(
+    part_straddlers(
         kind,
         v,
         before,
@@ -270,9 +268,8 @@ pub fn settle(
         groups,
         corners,
         ends,
-        lengths,
         log,
-        mask,
+        list,
         links,
     )
 }

@@ -12,8 +12,9 @@ ghost use Rattle.split.specs.Tables.{openedBy, SidesGiven};
 ghost use Rattle.links.specs.Linked.{LinkedIn};
 ghost use Rattle.split.specs.Steps.{Stepped};
 ghost use Rattle.mesh.specs.Blocks.{meshIn};
-ghost use Rattle.work.specs.Blocks.{ReadyIn, WorksIn, OverBlocks};
-ghost use Rattle.split.specs.Blocks.{GroupedIn, SidedIn, MaskIn, LinkedBehind};
+ghost use Rattle.work.specs.Blocks.{ReadyIn};
+ghost use Rattle.edge_drops.specs.Parted.{PartsIn};
+ghost use Rattle.split.specs.Blocks.{GroupedIn, SidedIn, ListIn, OverParted, LinkedParted, EdgesBehind};
 use crate::Grew;
 use crate::fans::FEW;
 use crate::fans::FEW_CORNERS;
@@ -25,7 +26,7 @@ use mesh::Counts;
 use mesh::Rooms;
 use work::Ran;
 
-// Splits v by the groups of its fan. `extra` entries more must have room in the log: the caller writes them.
+// Splits v by the groups of its fan. `extra` entries more must have room in the log: the caller writes them. The straddlers stay in the blocks and in the tables, and are listed.
 pub fn split_opened(
     kind: Kind,
     v: usize,
@@ -46,14 +47,14 @@ pub fn split_opened(
     lengths: &mut [f32],
     outline: &mut [usize],
     log: &mut [u32],
-    mask: &mut [usize],
+    list: &mut [usize],
     links: &mut [u16],
 ) -> Ran
     requires { ⌜ (let K = kindIs kind in ReadyIn room k points roots corners volumes ends lengths outline log
         × GroupedIn K (meshIn k points roots corners volumes ends lengths outline) v n count numbers verts measures groups × (extra ≤ 1)
-        × MaskIn mask × LinkedIn K k corners ends outline links) ⌝ }
-    ensures { λ r. ⌜ (let K = kindIs kind in OverBlocks (λ M W at. Stepped K (openedBy K M v n count (now (groups .entry))) room extra
-        W at r) k points roots corners volumes ends lengths outline log × LinkedBehind K corners ends outline links r) ⌝ }
+        × ListIn list × LinkedIn K k corners ends outline links) ⌝ }
+    ensures { λ r. ⌜ (let K = kindIs kind in OverParted (λ M W at. Stepped K (openedBy K M v n count (now (groups .entry))) room extra
+        W at r) k points roots corners volumes ends lengths outline log list × EdgesBehind K corners ends lengths outline links list r) ⌝ }
 {
     let before = k.particles;
     let t = k.triangles;
@@ -75,7 +76,7 @@ pub fn split_opened(
         corners,
         ends,
         lengths,
-        mask,
+        list,
         links,
     );
     match grew {
@@ -107,7 +108,7 @@ pub fn split_opened(
                 lengths,
                 outline,
                 log,
-                mask,
+                list,
                 links,
             )
         }
@@ -123,7 +124,7 @@ pub fn is_free(v: usize, points: &[f32]) -> bool
     points[5 * size + v] != 0.0
 }
 
-// Splits v by the sides of its fan, which stands in the tables, if it splits at all. The groups are found in a lent table, and the list has a place for each edge.
+// Splits v by the sides of its fan, which stands in the tables, if it splits at all. The groups are found in a lent table, and the straddlers are listed.
 pub fn split_tabled(
     kind: Kind,
     v: usize,
@@ -148,10 +149,11 @@ pub fn split_tabled(
 ) -> Ran
     requires { ⌜ (let K = kindIs kind in ReadyIn room k points roots corners volumes ends lengths outline log
         × SidedIn K (meshIn k points roots corners volumes ends lengths outline) v n numbers verts measures sides
-        × (n ≤ length (now groups)) × MaskIn list × LinkedIn K k corners ends outline links) ⌝ }
-    ensures { λ r. ⌜ (let K = kindIs kind in WorksIn (splitBySides K v (take n (now (sides .entry)))) room k points roots corners volumes
-        ends lengths outline log r × LinkedBehind K corners ends outline links r) ⌝ }
+        × (n ≤ length (now groups)) × ListIn list × LinkedIn K k corners ends outline links) ⌝ }
+    ensures { λ r. ⌜ (let K = kindIs kind in PartsIn (splitBySides K v (take n (now (sides .entry)))) room k points roots corners volumes
+        ends lengths outline log list r × LinkedParted K corners ends outline links list r) ⌝ }
 {
+    list[edge_drops::LISTED] = 0;
     let count = crate::fans::group_fan(kind, v, n, verts, sides, groups);
     if count < 2 {
         return Ran::Done(k);
@@ -203,10 +205,10 @@ fn split_many(
     links: &mut [u16],
 ) -> Ran
     requires { ⌜ (let K = kindIs kind in ReadyIn room k points roots corners volumes ends lengths outline log
-        × SidesGiven K (meshIn k points roots corners volumes ends lengths outline) v (now sides) × MaskIn list
+        × SidesGiven K (meshIn k points roots corners volumes ends lengths outline) v (now sides) × ListIn list
         × LinkedIn K k corners ends outline links) ⌝ }
-    ensures { λ r. ⌜ WorksIn (splitBySides (kindIs kind) v (now (sides .entry))) room k points roots corners volumes ends lengths outline
-        log r ⌝ }
+    ensures { λ r. ⌜ PartsIn (splitBySides (kindIs kind) v (now (sides .entry))) room k points roots corners volumes ends lengths outline
+        log list r ⌝ }
 {
     let mut numbers = [0usize; MANY];
     let mut verts = [0usize; MANY_CORNERS];
@@ -269,10 +271,10 @@ fn split_few(
     links: &mut [u16],
 ) -> Ran
     requires { ⌜ (let K = kindIs kind in ReadyIn room k points roots corners volumes ends lengths outline log
-        × SidesGiven K (meshIn k points roots corners volumes ends lengths outline) v (now sides) × MaskIn list
+        × SidesGiven K (meshIn k points roots corners volumes ends lengths outline) v (now sides) × ListIn list
         × LinkedIn K k corners ends outline links) ⌝ }
-    ensures { λ r. ⌜ WorksIn (splitBySides (kindIs kind) v (now (sides .entry))) room k points roots corners volumes ends lengths outline
-        log r ⌝ }
+    ensures { λ r. ⌜ PartsIn (splitBySides (kindIs kind) v (now (sides .entry))) room k points roots corners volumes ends lengths outline
+        log list r ⌝ }
 {
     let mut numbers = [0usize; FEW];
     let mut verts = [0usize; FEW_CORNERS];
@@ -335,7 +337,7 @@ fn split_few(
     )
 }
 
-// Splits v by a side for each element of its fan, over tables of links of its own; where v is pinned none is made.
+// Splits v by a side for each element of its fan, over tables of links of its own; where v is pinned none is made. The straddlers are listed.
 fn split_fan(
     kind: Kind,
     v: usize,
@@ -350,16 +352,17 @@ fn split_fan(
     lengths: &mut [f32],
     outline: &mut [usize],
     log: &mut [u32],
+    list: &mut [usize],
 ) -> Ran
     requires { ⌜ ReadyIn room k points roots corners volumes ends lengths outline log
-        × SidesGiven (kindIs kind) (meshIn k points roots corners volumes ends lengths outline) v (now sides) ⌝ }
-    ensures { λ r. ⌜ WorksIn (splitBySides (kindIs kind) v (now (sides .entry))) room k points roots corners volumes ends lengths outline
-        log r ⌝ }
+        × SidesGiven (kindIs kind) (meshIn k points roots corners volumes ends lengths outline) v (now sides) × ListIn list ⌝ }
+    ensures { λ r. ⌜ PartsIn (splitBySides (kindIs kind) v (now (sides .entry))) room k points roots corners volumes ends lengths outline
+        log list r ⌝ }
 {
+    list[edge_drops::LISTED] = 0;
     if !is_free(v, points) {
         return Ran::Done(k);
     }
-    let mut list = [0usize; 2048];
     let mut links = [0u16; links::PLACES];
     links::link_mesh(
         kind,
@@ -385,12 +388,12 @@ fn split_fan(
         lengths,
         outline,
         log,
-        &mut list,
+        list,
         &mut links,
     )
 }
 
-// Splits v by a side for each element of its fan, by their kind.
+// Splits v by a side for each element of its fan, by their kind. The straddlers are listed.
 pub fn split_by_sides(
     kind: Kind,
     v: usize,
@@ -405,11 +408,12 @@ pub fn split_by_sides(
     lengths: &mut [f32],
     outline: &mut [usize],
     log: &mut [u32],
+    list: &mut [usize],
 ) -> Ran
     requires { ⌜ ReadyIn room k points roots corners volumes ends lengths outline log
-        × SidesGiven (kindIs kind) (meshIn k points roots corners volumes ends lengths outline) v (now sides) ⌝ }
-    ensures { λ r. ⌜ WorksIn (splitBySides (kindIs kind) v (now (sides .entry))) room k points roots corners volumes ends lengths outline
-        log r ⌝ }
+        × SidesGiven (kindIs kind) (meshIn k points roots corners volumes ends lengths outline) v (now sides) × ListIn list ⌝ }
+    ensures { λ r. ⌜ PartsIn (splitBySides (kindIs kind) v (now (sides .entry))) room k points roots corners volumes ends lengths outline
+        log list r ⌝ }
 {
     match kind {
         Kind::Triangles => split_fan(
@@ -426,6 +430,7 @@ pub fn split_by_sides(
             lengths,
             outline,
             log,
+            list,
         ),
         Kind::Straps => split_fan(
             Kind::Straps,
@@ -441,7 +446,11 @@ pub fn split_by_sides(
             lengths,
             outline,
             log,
+            list,
         ),
-        Kind::Nothing => Ran::Done(k),
+        Kind::Nothing => {
+            list[edge_drops::LISTED] = 0;
+            Ran::Done(k)
+        }
     }
 }

@@ -8,7 +8,7 @@ use native.Mathlib.Nat.{not-suc-le-zero}
 use native.Mathlib.Omega.{arith}
 use native.Mathlib.Decide.{ℕ-discrete, decLt}
 use borrow.Author.Count.{below-more}
-use lib.ListN.{length, getD, take, length-take}
+use lib.ListN.{length, getD, take, length-take, replicate, getD-replicate, length-replicate, List·getD-eq-default}
 use lib.Seq.{getD-take}
 use Rattle.lists.specs.Lists.{stands}
 use Rattle.lists.specs.LeftOut.{Listed}
@@ -29,9 +29,17 @@ use Rattle.links.proofs.Walked.{NextIs, next-is, stillLeft, further-on}
 use Rattle.split_plan.specs.Opened.{RingRoom}
 use Rattle.straddling.specs.Tests.{StraddleRoom, NearRoom, StraddleTold, StraddlersListed}
 use Rattle.straddling.specs.Putting.{PutRoom, RisingPut}
-use Rattle.straddling.specs.Listing.{LookedAt, ListedYet, ListRoom, EdgeListed, EdgesListed}
+use Rattle.straddling.specs.Listing.{LookedAt, ListedYet, ListRoom, EdgeListed, EdgesListed, WalkTold}
 use Rattle.straddling.proofs.HeldLaws.{edge-link}
 use Rattle.straddling.proofs.StraddlerLaws.{told-at, told-none}
+
+-- in a fresh table nothing is marked as walked
+pub none-walked : (x : ℕ) → getD {A = ℕ} (replicate 1024 0) x 0 ≡ 1 → ⊥
+none-walked x h =
+    elim (decLt x 1024) [
+      | yes b ↦ let z = getD-replicate {A = ℕ} 1024 x 0 0 b in omega (arith, h)
+      | no b ↦ let z = List·getD-eq-default {A = ℕ} (replicate 1024 0) 0 {n = x} (omega (arith, b, length-replicate {A = ℕ} 1024 0)) in omega (arith, h)
+    ]
 
 module _ (K : Kind) (v before n count t e : ℕ) (verts groups corners ends : List ℕ) where
   -- edge j was looked at; the list has straddlers alone, rising; the test of edge j told b
@@ -178,14 +186,20 @@ module _ (K : Kind) (v before n count t e : ℕ) (verts groups corners ends : Li
 
   -- ---- all corners
 
-  -- at the head of the loop: the edges whose first end is one of the first q corners were looked at
-  pub record Rounding (list₀ list : List ℕ) (r q : ℕ) : Type 0 where
-    pub yet : Yet list r
-    pub here : (i : ℕ) → i < q → (j : ℕ) → j < e → getD ends j 0 ≡ getD verts i 0 → Looked list r j
-    pub long : length list ≡ length list₀
+  -- the edges whose first end is x were looked at
+  abbrev AtLooked : List ℕ → ℕ → ℕ → Type 0
+  AtLooked list r x = (j : ℕ) → j < e → getD ends j 0 ≡ x → Looked list r j
 
-  pub rounding-start : (list₀ : List ℕ) → Rounding list₀ list₀ 0 0
-  rounding-start list₀ =
+  -- at the head of the loop: the edges whose first end is one of the first q corners were looked at, and so were those at each particle that is marked as walked
+  pub record Rounding (list₀ list : List ℕ) (r q : ℕ) (walked : List ℕ) : Type 0 where
+    pub yet : Yet list r
+    pub here : (i : ℕ) → i < q → AtLooked list r (getD verts i 0)
+    pub seen : (x : ℕ) → getD walked x 0 ≡ 1 → AtLooked list r x
+    pub long : length list ≡ length list₀
+    pub wide : length walked ≡ 1024
+
+  pub rounding-start : (list₀ walked : List ℕ) → ((x : ℕ) → getD walked x 0 ≡ 1 → ⊥) → length walked ≡ 1024 → Rounding list₀ list₀ 0 0 walked
+  rounding-start list₀ walked none wide =
       record {
         yet =
             record {
@@ -193,22 +207,51 @@ module _ (K : Kind) (v before n count t e : ℕ) (verts groups corners ends : Li
               only = λ i l. absurd (not-suc-le-zero l);
             };
         here = λ i l. absurd (not-suc-le-zero l);
+        seen = λ x h. absurd (none x h);
         long = refl;
+        wide = wide;
       }
 
-  module _ (list₀ list : List ℕ) (r q : ℕ) (G : Rounding list₀ list r q) where
+  module _ (list₀ list : List ℕ) (r q : ℕ) (walked : List ℕ) (G : Rounding list₀ list r q walked) where
     pub rounding-room : {links near : List ℕ} → StraddleRoom K n t e (length verts) (length groups) (length corners) (length ends) → NearRoom K n e verts ends near → Linked K t corners links → e ≤ length list₀
         → ListRoom K v before n count t e verts groups corners ends links near list r
     rounding-room S N L h = record { room = S; by-near = N; linked = L; long = omega (arith, G .long); yet = G .yet }
 
-    pub rounding-more : (list′ : List ℕ) (r′ : ℕ) → EdgesListed K v before n count t e verts groups corners ends (getD verts q 0) list r list′ r′ → length list′ ≡ length list → Rounding list₀ list′ r′ (q + 1)
-    rounding-more list′ r′ E long =
+    -- a corner whose edges were walked before; one that is no particle has none
+    pub rounding-passed : EndsIn 1024 e ends → (walked′ : List ℕ) → WalkTold (getD verts q 0) walked walked′ true → Rounding list₀ list r (q + 1) walked′
+    rounding-passed E walked′ w =
+        subst (Rounding list₀ list r (q + 1)) (sym (w .1))
+        (record {
+          yet = G .yet;
+          here = below-more (λ (i : ℕ). AtLooked list r (getD verts i 0)) q (G .here) at-last;
+          seen = G .seen;
+          long = G .long;
+          wide = G .wide;
+        })
+      where
+        at-last : AtLooked list r (getD verts q 0)
+        at-last j l z =
+            elim (decLt (getD verts q 0) (length walked)) [
+              | yes b ↦ G .seen (getD verts q 0) (w .0 b) j l z
+              | no b ↦ absurd (omega (arith, b, G .wide, first-below j l, z))
+            ]
+          where
+            first-below : (i : ℕ) → i < e → getD ends i 0 < 1024
+            first-below i h = subst (λ (a : ℕ). a < 1024) (col-0 0 (length ends / 4) ends i) (E .first i h)
+
+    pub rounding-more : (walked′ : List ℕ) → WalkTold (getD verts q 0) walked walked′ false → length walked′ ≡ length walked
+        → (list′ : List ℕ) (r′ : ℕ) → EdgesListed K v before n count t e verts groups corners ends (getD verts q 0) list r list′ r′ → length list′ ≡ length list → Rounding list₀ list′ r′ (q + 1) walked′
+    rounding-more walked′ w wide list′ r′ E long =
         record {
           yet = E .yet;
-          here =
-              below-more (λ (i : ℕ). (j : ℕ) → j < e → getD ends j 0 ≡ getD verts i 0 → Looked list′ r′ j) q (λ i h j l z. looked-still list r list′ r′ (E .still) j (G .here i h j l z)) (E .here);
+          here = below-more (λ (i : ℕ). AtLooked list′ r′ (getD verts i 0)) q (λ i h. still (G .here i h)) (E .here);
+          seen = λ x h. ⊎-elim (λ s. subst (AtLooked list′ r′) (sym s) (E .here)) (λ s. still (G .seen x s)) (w x h);
           long = long ∙ G .long;
+          wide = wide ∙ G .wide;
         }
+      where
+        still : {x : ℕ} → AtLooked list r x → AtLooked list′ r′ x
+        still A j l z = looked-still list r list′ r′ (E .still) j (A j l z)
 
     -- after the last corner each edge was looked at: one whose first end is no corner does not straddle
     pub rounding-done : {k lg : ℕ} → RingRoom n (cornersPer K) (length verts) lg → k ≡ cornersPer K → n * k ≤ q → e ≤ length list₀ → StraddlersListed K v before n count t e verts groups corners ends list r

@@ -1,7 +1,7 @@
 -- What the walk over the edges at the corners of a fan asks and gives, where straddlers are listed: helper records that only contracts between workers need. Definitions only.
 use Prim.Native.Nat.{ℕ, _<_, _≤_}
 use mathlib.Core.Path.{_≡_}
-use mathlib.Core.Bool.{true, false}
+use mathlib.Core.Bool.{Bool, true, false}
 use mathlib.Core.Logic.{_⊎_}
 use mathlib.Core.List.{List}
 use lib.ListN.{length, getD}
@@ -38,3 +38,8 @@ pub record EdgesListed (K : Kind) (v before n count t e : ℕ) (verts groups cor
   pub yet : ListedYet K v before n count t e verts groups corners ends list′ q
   pub here : (j : ℕ) → j < e → getD ends j 0 ≡ x → LookedAt K v before n count t e verts groups corners ends list′ q j
   pub still : (j : ℕ) → Listed list r j → Listed list′ q j
+
+-- whether the edges at x were walked before: where they were, the table is as it was; else x is marked in it too, and nothing else is new
+abbrev pub WalkTold : ℕ → List ℕ → List ℕ → Bool → Type 0
+WalkTold x walked walked′ true = (x < length walked → getD walked x 0 ≡ 1) × (walked′ ≡ walked)
+WalkTold x walked walked′ false = (y : ℕ) → getD walked′ y 0 ≡ 1 → (y ≡ x) ⊎ (getD walked y 0 ≡ 1)

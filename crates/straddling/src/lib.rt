@@ -7,7 +7,7 @@ ghost use Rattle.elements.specs.Table.{kindIs};
 ghost use Rattle.links.specs.Linked.{Linked, EdgesLinked};
 ghost use Rattle.work.specs.Places.{EndsIn};
 ghost use Rattle.straddling.specs.Tests.{copiesBy, StraddleRoom, NearMarked, NearRoom, StraddleTold, StraddlersListed};
-ghost use Rattle.straddling.specs.Listing.{ListRoom, EdgeListed, EdgesListed};
+ghost use Rattle.straddling.specs.Listing.{ListRoom, EdgeListed, EdgesListed, WalkTold};
 use elements::Kind;
 
 pub mod held;
@@ -247,6 +247,20 @@ fn list_edges_at(
     listed
 }
 
+// Were the edges at x walked before? If not, they are to be walked now, and it is marked so. What has no place in the table counts as walked.
+pub fn is_walked(x: usize, walked: &mut [u8]) -> bool
+    ensures { λ r. ⌜ WalkTold x (now (walked .entry)) (now (walked .exit)) r ⌝ }
+{
+    if x >= walked.len() {
+        return true;
+    }
+    if walked[x] == 1 {
+        return true;
+    }
+    walked[x] = 1;
+    false
+}
+
 // Lists the straddlers among the first e edges, rising, in the front of the list; returns how many there are. The one table links the t triangles, the other the e edges.
 // Both ends of a straddler are corners of the fan, so the edges at these are walked, and no others; a particle is a corner of several parts, so an edge may be met again.
 pub fn list_straddlers(
@@ -281,9 +295,14 @@ pub fn list_straddlers(
         n,
         count,
     };
+    let mut walked = [0u8; 1024];
     let mut listed: usize = 0;
     let mut q: usize = 0;
     while q < m {
+        if is_walked(verts[q], &mut walked) {
+            q += 1;
+            continue;
+        }
         listed = list_edges_at(
             verts[q],
             listed,

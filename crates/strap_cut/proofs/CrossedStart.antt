@@ -11,6 +11,9 @@ use Rattle.lists.proofs.Stores.{tab-at, tab-length}
 use Rattle.blade.specs.declared.Point.{Point}
 use Rattle.columns.proofs.Cells.{col-0, col-1}
 use Rattle.model.specs.Mesh.{Mesh}
+use Rattle.model.specs.Elements.{Straps}
+use Rattle.links.specs.Linked.{PairsLinkable}
+use Rattle.split.proofs.LinkLaws.{linkable-ready}
 use Rattle.model.specs.Trace.{All}
 use Rattle.model.specs.Run.{Run}
 use Rattle.model.specs.Calls.{firstFault}
@@ -30,7 +33,7 @@ use Rattle.marks.specs.Marking.{bladeFrom}
 use Rattle.insert.specs.Shares.{Stands}
 use Rattle.crossing.specs.Bends.{EndsBelow}
 use Rattle.crossing.specs.Crossings.{crossed-in, CrossingsAre}
-use Rattle.crossing.specs.Crossed.{ranOf, StrapMarks, Crosses, CrossTold, CrossingsIn}
+use Rattle.crossing.specs.Crossed.{ranOf, StrapMarks, Crosses, CrossTold, CrossRoom, CrossingsIn}
 use Rattle.crossing.proofs.CrossedRuns.{entries-to, words-to, ready-to}
 use Rattle.model_laws.proofs.Inserted.{crossings-inside}
 
@@ -54,6 +57,15 @@ marks-none R bends snapped zb zs =
       bends-are = λ j. ne-eqb (getD bends j 0) 1 (λ q. let z = zb j in omega arith);
       snapped-are = record { mark = λ j l. zs j };
     }
+
+-- ---- the table of the edges
+
+-- the table of the edges of an input can be built
+pub table-room : (L : Rooms) (k : Counts) (points : List Float) (roots ends : List ℕ) (lengths : List Float) (outline log : List ℕ) (lb ls : ℕ) → CrossRoom L k points roots ends lengths outline log lb ls
+    → (lt : ℕ) → 5120 ≤ lt → PairsLinkable 4 (k .edges) ends lt
+table-room L k points roots ends lengths outline log lb ls X lt long =
+    let E = linkable-ready Straps L k points roots (X .corners) (X .volumes) ends lengths outline log (X .ready) 14336 (omega arith) .edges in
+    record { long = long; few = E .few; rows = E .rows; apart = E .apart }
 
 -- ---- the crossings of a mesh name its edges
 

@@ -19,9 +19,9 @@ use Rattle.crossing.specs.Crossed.{ranOf, bendsOf, StrapMarks, CrossTold}
 use denote.Ref.{now}
 use Rattle.mesh.specs.Blocks.{Numbers, Indices}
 
--- each edge and each particle has a mark
+-- each edge and each particle has a mark, and the marks of the edges can be a list of them
 pub record MarksLent (bends snapped : ℕ) : Type 0 where
-  pub bends-long : 2048 ≤ bends
+  pub bends-long : 2049 ≤ bends
   pub snapped-long : 1024 ≤ snapped
 
 -- what is left of a strap cut is done to whatever cut the blocks hold, where the marks are its bend edges, all of them there, and its ends

@@ -4,6 +4,7 @@ ghost use Rattle.model.specs.Cut.{cutFacets, cutSegments, cutAlong};
 ghost use Rattle.marks.specs.Marking.{bladeBy, bladeFrom};
 ghost use Rattle.work.specs.Working.{Logged};
 ghost use Rattle.work.specs.Blocks.{ReadyIn, WorksIn};
+ghost use Rattle.split.specs.Blocks.{ListIn};
 use blade::Point;
 use elements::Kind;
 use marks::Rule;
@@ -31,7 +32,7 @@ fn cut_triangles(
     ensures { λ r. ⌜ WorksIn (cutFacets (bladeBy rule b0 b1)) room k points roots corners volumes ends lengths outline log r ⌝ }
 {
     let mut marks = [0usize; 1024];
-    let mut list = [0usize; 2048];
+    let mut list = [0usize; edge_drops::LIST];
     let mut links = [0u16; links::PLACES];
     links::link_mesh(
         Kind::Triangles,
@@ -63,7 +64,7 @@ fn cut_triangles(
     )
 }
 
-// Cuts straps across the blade, in tables of its own.
+// Cuts straps across the blade. The marks are here; the list that is lent has the marks of bend edges first, and then the edges that the splits list.
 fn cut_straps(
     b0: Point,
     b1: Point,
@@ -78,12 +79,12 @@ fn cut_straps(
     lengths: &mut [f32],
     outline: &mut [usize],
     log: &mut [u32],
+    list: &mut [usize],
 ) -> Ran
-    requires { ⌜ ReadyIn room k points roots corners volumes ends lengths outline log × Logged (k .log) (now log) ⌝ }
+    requires { ⌜ ReadyIn room k points roots corners volumes ends lengths outline log × Logged (k .log) (now log) × ListIn list ⌝ }
     ensures { λ r. ⌜ WorksIn (cutSegments (bladeFrom b0 b1) f) room k points roots corners volumes ends lengths outline log r ⌝ }
 {
     let mut marks = [0usize; 1024];
-    let mut bends = [0usize; 2048];
     crate::segments::cut_segments(
         b0,
         b1,
@@ -99,11 +100,11 @@ fn cut_straps(
         outline,
         log,
         &mut marks,
-        &mut bends,
+        list,
     )
 }
 
-// Cuts a mesh along the blade from one point to another: triangles by a rule; straps by rounded numbers alone, with the least fraction of an insertion. A mesh of neither kind stays as it is.
+// Cuts a mesh along the blade from one point to another: triangles by a rule; straps by rounded numbers alone, with the least fraction of an insertion. A mesh of neither kind stays as it is. What stands in the lent list before does not matter.
 pub fn run(
     rule: Rule,
     b0: Point,
@@ -120,8 +121,9 @@ pub fn run(
     lengths: &mut [f32],
     outline: &mut [usize],
     log: &mut [u32],
+    list: &mut [usize],
 ) -> Ran
-    requires { ⌜ ReadyIn room k points roots corners volumes ends lengths outline log × Logged (k .log) (now log) ⌝ }
+    requires { ⌜ ReadyIn room k points roots corners volumes ends lengths outline log × Logged (k .log) (now log) × ListIn list ⌝ }
     ensures { λ r. ⌜ WorksIn (cutAlong (kindIs kind) (bladeBy rule b0 b1) f) room k points roots corners volumes ends lengths outline log r ⌝ }
 {
     match kind {
@@ -154,6 +156,7 @@ pub fn run(
             lengths,
             outline,
             log,
+            list,
         ),
         Kind::Nothing => Ran::Done(k),
     }

@@ -5,7 +5,7 @@ ghost use Rattle.lists.specs.Lists.{fold};
 ghost use Rattle.model.specs.Cut.{splitSnapped, cutSegments};
 ghost use Rattle.work.specs.Working.{Logged};
 ghost use Rattle.marks.specs.Marking.{bladeFrom};
-ghost use Rattle.split.specs.Blocks.{MaskIn};
+ghost use Rattle.split.specs.Blocks.{ListIn};
 ghost use Rattle.cut.specs.Running.{chosen, Chosen};
 ghost use Rattle.crossing.specs.Crossed.{CrossIn};
 ghost use Rattle.strap_cut.specs.Segments.{MarksLent, AfterTold, BladeCrossedIn};
@@ -18,7 +18,7 @@ use mesh::Counts;
 use mesh::Rooms;
 use work::Ran;
 
-// Finds the crossings of the blade with the straps, and does them in turn, until one lacks room. Their tables are here.
+// Finds the crossings of the blade with the straps, and does them in turn, until one lacks room. Their tables are here, and so is that of the edges at each particle.
 fn cross_blade(
     b0: Point,
     b1: Point,
@@ -37,8 +37,10 @@ fn cross_blade(
     requires { ⌜ CrossIn room k points roots ends lengths outline log bends snapped × Logged (k .log) (now log) ⌝ }
     ensures { λ r. ⌜ BladeCrossedIn b0 b1 f room k points roots ends lengths outline log bends snapped r ⌝ }
 {
-    let mut numbers = [0usize; 2048];
+    let mut numbers = [0u16; 2048];
     let mut ts = [0.0f32; 2048];
+    let mut table = [0u16; 5120];
+    links::build_links(k.edges, 2, 1024, 2048, ends.len() / 4, ends, &mut table);
     let m = crossing::crossings::find_crossings(
         b0,
         b1,
@@ -63,10 +65,11 @@ fn cross_blade(
         log,
         bends,
         snapped,
+        &mut table,
     )
 }
 
-// Splits each marked particle below p by the blade, with slack edges at its copies; where none is marked nothing is done. The tables of triangles and edges are built once, and every split keeps them.
+// Splits each marked particle below p by the blade, with slack edges at its copies; where none is marked nothing is done. The tables of links are built once, and every split keeps them.
 fn split_snapped(
     b0: Point,
     b1: Point,
@@ -85,7 +88,7 @@ fn split_snapped(
     list: &mut [usize],
 ) -> Ran
     requires { ⌜ ReadyIn room k points roots corners volumes ends lengths outline log × Chosen p k (now log) (length (now marks))
-        × MaskIn list ⌝ }
+        × ListIn list ⌝ }
     ensures { λ r. ⌜ WorksIn (λ R. fold (splitSnapped (bladeFrom b0 b1)) R (chosen p (now (marks .entry)))) room k points roots corners
         volumes ends lengths outline log r ⌝ }
 {
@@ -188,7 +191,7 @@ pub fn cut_segments(
     bends: &mut [usize],
 ) -> Ran
     requires { ⌜ ReadyIn room k points roots corners volumes ends lengths outline log × Logged (k .log) (now log)
-        × (1024 ≤ length (now marks)) × MaskIn bends ⌝ }
+        × (1024 ≤ length (now marks)) × ListIn bends ⌝ }
     ensures { λ r. ⌜ WorksIn (cutSegments (bladeFrom b0 b1) f) room k points roots corners volumes ends lengths outline log r ⌝ }
 {
     columns::clear_usize(0, bends);

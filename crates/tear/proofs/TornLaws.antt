@@ -26,6 +26,9 @@ use Rattle.mesh.proofs.Lists.{mesh-path, world-path}
 use Rattle.mesh.specs.Filled.{lent}
 use Rattle.work.specs.Working.{Within, Ready, Works}
 use Rattle.split.specs.Tables.{FanGrouped, openedBy}
+use Rattle.links.specs.Linked.{MeshLinked}
+use Rattle.edge_drops.specs.Parted.{edgesParted, worldParted}
+use Rattle.edge_drops.proofs.PartedLaws.{world-closed}
 use Rattle.split.specs.Linking.{LinkedAfter}
 use Rattle.work.proofs.Placed.{particles-count}
 use Rattle.tear.specs.Torn.{TearRoom, TearDone, TearTold, TearAsked}
@@ -127,10 +130,10 @@ module _ (K : Kind) (O : Opening) (a b : ℕ) (xy : ℕ × ℕ) (L : Rooms) (W :
   unfolding splitWorld settledWorld settled atLongest
   split-count q S = ap (λ (X : World). length (X .mesh .particles)) (S .3) ∙ copied-length O (W .mesh .particles)
 
--- what is done behind the split keeps the numbers of triangles and of edges, so the tables stay as the split left them
-pub linked-told : (K : Kind) (corners ends outline links : List ℕ) (r s : Ran) (q : Counts) → r ≡ Done q → s ≡ Done (record { particles = q .particles; triangles = q .triangles; edges = q .edges; boundary = q .boundary; log = q .log + 1 })
-    → LinkedAfter K corners ends outline links r → LinkedAfter K corners ends outline links s
-linked-told K corners ends outline links r s q e f X = subst (LinkedAfter K corners ends outline links) (sym f) (subst (LinkedAfter K corners ends outline links) e X)
+-- what is done behind it keeps the numbers of triangles and of edges, so the tables stay as they were left
+pub linked-told : (K : Kind) (corners ends outline links : List ℕ) (s : Ran) (q : Counts) → s ≡ Done (record { particles = q .particles; triangles = q .triangles; edges = q .edges; boundary = q .boundary; log = q .log + 1 })
+    → MeshLinked K (q .triangles) (q .edges) (q .boundary) corners ends outline links → LinkedAfter K corners ends outline links s
+linked-told K corners ends outline links s q f X = subst (LinkedAfter K corners ends outline links) (sym f) X
 
 -- ---- over the blocks
 
@@ -149,21 +152,24 @@ module _ (K : Kind) (L : Rooms) (k : Counts) (points : List Float) (roots corner
   abbrev behind : Counts → World
   behind q = worldAt q points′ roots′ corners′ volumes ends′ lengths′ outline′ log′
 
-  module _ (r : Ran) (q : Counts) (R : Stepped K theOpening L 1 entering behind r) (e : r ≡ Done q) where
-    stepped : Stepped K theOpening L 1 entering behind (Done q)
-    stepped = subst (Stepped K theOpening L 1 entering behind) e R
+  -- the step that listed edges, where the blocks were closed up behind it
+  pub closed-step : (ends₁ : List ℕ) (lengths₁ : List Float) (list₁ : List ℕ) (r : Ran) (q : Counts) → r ≡ Done q → edgesAt (q .edges) ends′ lengths′ ≡ edgesParted (q .edges) ends₁ lengths₁ list₁
+      → Stepped K theOpening L 1 entering (λ p. worldParted p points′ roots′ corners′ volumes ends₁ lengths₁ outline′ log′ list₁) r → Stepped K theOpening L 1 entering behind (Done q)
+  closed-step ends₁ lengths₁ list₁ r q e c S =
+      let T = subst (Stepped K theOpening L 1 entering (λ p. worldParted p points′ roots′ corners′ volumes ends₁ lengths₁ outline′ log′ list₁)) e S in
+      (T .0, T .1, T .2, world-closed q points′ roots′ corners′ volumes ends₁ lengths₁ ends′ lengths′ outline′ log′ list₁ c ∙ T .3)
 
+  module _ (q : Counts) (S : Stepped K theOpening L 1 entering behind (Done q)) where
     -- the copies stand behind the particles
     copies-count : q .particles ≡ k .particles + (count - 1)
     unfolding worldAt
     copies-count =
-        sym (particles-count q points′ roots′ corners′ volumes ends′ lengths′ outline′) ∙ split-count K theOpening a b (x, y) L entering behind behind q stepped
+        sym (particles-count q points′ roots′ corners′ volumes ends′ lengths′ outline′) ∙ split-count K theOpening a b (x, y) L entering behind behind q S
         ∙ ap (λ (m : ℕ). m + (count - 1)) (particles-count k points roots corners volumes ends lengths outline)
 
     pub tear-room : length roots′ ≡ length roots → length ends′ ≡ length ends → length lengths′ ≡ length lengths → length log′ ≡ length log
         → TearRoom (q .edges) (q .log) x y a b (k .particles) count (length roots′) (length ends′) (length lengths′) (length log′)
     tear-room er ee el eg =
-        let S = stepped in
         let C = P .rooms in
         let H = S .1 in
         let i = P .counts .particles in
@@ -187,7 +193,6 @@ module _ (K : Kind) (L : Rooms) (k : Counts) (points : List Float) (roots corner
         (Done (record { particles = q .particles; triangles = q .triangles; edges = q .edges; boundary = q .boundary; log = q .log + 1 }))
     unfolding worldAt meshAt
     tear-works roots″ lengths″ log″ D er =
-        let S = stepped in
         let H = S .1 in
         let C = P .rooms in
         torn-done K theOpening a b (x, y) L entering behind (λ p. worldAt p points′ roots″ corners′ volumes ends′ lengths″ outline′ log″) q
@@ -201,5 +206,5 @@ module _ (K : Kind) (L : Rooms) (k : Counts) (points : List Float) (roots corner
         → Works (splitMade (opened a b ∷ []) (torn theOpening (x, y)) K theOpening) L entering (λ p. worldAt p points′ roots″ corners′ volumes ends′ lengths″ outline′ log″) s
     tear-told roots″ lengths″ log″ s D er = works-known _ s (sym (D .counts)) (tear-works roots″ lengths″ log″ (D .done) er)
 
-  pub tear-refused : (r : Ran) (c : ℕ) → Stepped K theOpening L 1 entering behind r → r ≡ Refused c → Works (splitMade (opened a b ∷ []) (torn theOpening (x, y)) K theOpening) L entering behind r
-  tear-refused r c R e = works-known (Refused c) r (sym e) (torn-refused K theOpening a b (x, y) L entering behind behind c (subst (Stepped K theOpening L 1 entering behind) e R))
+  pub tear-refused : (at : Counts → World) (r : Ran) (c : ℕ) → Stepped K theOpening L 1 entering at r → r ≡ Refused c → Works (splitMade (opened a b ∷ []) (torn theOpening (x, y)) K theOpening) L entering behind r
+  tear-refused at r c R e = works-known (Refused c) r (sym e) (torn-refused K theOpening a b (x, y) L entering at behind c (subst (Stepped K theOpening L 1 entering at) e R))

@@ -9,7 +9,7 @@ ghost use Rattle.tear.specs.Torn.{TearRoom, TearTold, TearAsked, splitAc
 ghost use Rattle.mesh.specs.Blocks.{meshIn};
 ghost use Rattle.work.specs.Working.{Works};
 ghost use Rattle.work.specs.Blocks.{ReadyIn, OverBlocks};
-ghost use Rattle.split.specs.Blocks.{GroupedIn, MaskIn, LinkedBehind};
+ghost use Rattle.split.specs.Blocks.{GroupedIn, ListIn, LinkedBehind};
 use elements::Kind;
 use mesh::Counts;
 use mesh::Rooms;
@@ -50,7 +50,7 @@ fn finish_tear(
     })
 }
 
-// Splits v, an end of (x, y), by the groups of its fan, across the torn edge that was (a, b) in the input; w is the other end.
+// Splits v, an end of (x, y), by the groups of its fan, across the torn edge that was (a, b) in the input; w is the other end. The straddlers go before its bridges are made slack.
 pub fn tear_open(
     kind: Kind,
     v: usize,
@@ -75,12 +75,12 @@ pub fn tear_open(
     lengths: &mut [f32],
     outline: &mut [usize],
     log: &mut [u32],
-    mask: &mut [usize],
+    list: &mut [usize],
     links: &mut [u16],
 ) -> Ran
     requires { ⌜ (let K = kindIs kind in ReadyIn room k points roots corners volumes ends lengths outline log
         × GroupedIn K (meshIn k points roots corners volumes ends lengths outline) v n count numbers verts measures groups
-        × TearAsked v w x y a b (k .particles) × MaskIn mask × LinkedIn K k corners ends outline links) ⌝ }
+        × TearAsked v w x y a b (k .particles) × ListIn list × LinkedIn K k corners ends outline links) ⌝ }
     ensures { λ r. ⌜ (let K = kindIs kind in OverBlocks (λ M W at. Works (splitAcross a b x y K (openedBy K M v n count (now (groups
         .entry)))) room W at r) k points roots corners volumes ends lengths outline log × LinkedBehind K corners ends outline links r) ⌝ }
 {
@@ -105,11 +105,12 @@ pub fn tear_open(
         lengths,
         outline,
         log,
-        mask,
+        list,
         links,
     );
     let Ran::Done(q) = ran else {
         return ran;
     };
+    edge_drops::close(q.edges, list, ends, lengths, &mut links[4096..9216]);
     finish_tear(v, was, count, w, x, y, a, b, q, roots, ends, lengths, log)
 }

@@ -141,7 +141,7 @@ fn way_open(
     }
 }
 
-// Splits v by the sides of its fan across the edge (x, y), whose other end is w.
+// Splits v by the sides of its fan across the edge (x, y), whose other end is w. The sides are no longer needed where the straddlers are listed, and these stand in their table.
 fn open_way(
     kind: Kind,
     v: usize,
@@ -171,7 +171,7 @@ fn open_way(
     let mut numbers = [0usize; 2048];
     let mut verts = [0usize; 4096];
     let mut measures = [0.0f32; 2048];
-    let mut sides = [0usize; 2048];
+    let mut sides = [0usize; edge_drops::LIST];
     let mut groups = [0usize; 2048];
     let n = tear::tried::way_tables(
         kind,

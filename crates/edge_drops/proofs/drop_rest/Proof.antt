@@ -38,10 +38,10 @@ loop-again : tie.Need-loop-again Inv-loop μ-loop
 loop-again c = let A = c .before .before .before .before .before .before .before .before .before .before .before .before .before .before .before .before .before .args in let P = c .before .before .before .before .before .before .before .before .before .before .before .before .before .before .before .before .before .pre in let G = c .before .before .before .before .before .before .before .before .before .before .before .before .loop .inv in let D = c .before .before .before .before .before .before .drop-row in dropping-more (A .list .now) (A .n) (A .s) (A .ends .now) (A .lengths .now) (A .table .now) (P .0) _ _ _ _ _ G (c .before .before .before .before .before .before .before .before .before .before .before .loop-test .taken) _ _ _ (D .ensures .0) (D .ensures .1) (D .kept .1 .1 .0) (D .kept .1 .1 .1 .0) (D .kept .1 .1 .1 .1 .0)
 
 same-length : tie.Need-same-length Inv-loop μ-loop
-same-length c = c .before .loop .inv .ends-long
+same-length c = c .before .loop .inv .rows .ends-long
 
 same-length-2 : tie.Need-same-length-2 Inv-loop μ-loop
-same-length-2 c = c .before .loop .inv .lengths-long
+same-length-2 c = c .before .loop .inv .rows .lengths-long
 
 same-length-3 : tie.Need-same-length-3 Inv-loop μ-loop
 same-length-3 c = c .before .loop .inv .table-long

@@ -1,8 +1,7 @@
 -- `links::build_links` meets its contract: the invariant is the table of the cells passed (`Building` of proofs/Built.antt). Assumes nothing.
 use Rattle.links.proofs.Built.{Building, building-start, building-row, building-more, building-done}
-use Rattle.links.specs.Rooms.{BuildRoom}
 use Rattle.columns.specs.Block.{cell}
-use mathlib.Core.Path.{refl, sym, _∙_, subst}
+use mathlib.Core.Path.{refl}
 use lib.ListN.{length}
 use native.Mathlib.Omega.{arith}
 use Rattle.links.proofs.build_links.Statement.{statement}
@@ -14,41 +13,26 @@ Inv-loop n k heads span rows corners table₀ i₀ table i = Building heads k sp
 abbrev μ-loop : tie.MeasureT-loop
 μ-loop n k heads span rows corners table₀ i₀ table i = i
 
-clear-requires : tie.Need-clear-requires Inv-loop μ-loop
-clear-requires c κs = tt
-
 loop-holds : tie.Need-loop-holds Inv-loop μ-loop
-loop-holds c = building-start _ _ _ _ _ _ _ (subst (BuildRoom _ _ _ _ _ _) (sym (c .before .before .clear .kept .0)) (c .before .before .before .before .before .before .pre)) _ (c .before .before .clear .ensures) refl
+loop-holds c = building-start _ _ _ _ _ _ _ (c .before .before .pre .0) _ (c .before .before .pre .1) refl
 
 sub-i : tie.Need-sub-i Inv-loop μ-loop
 sub-i c = c .loop-test .taken
 
 link-cell-requires : tie.Need-link-cell-requires Inv-loop μ-loop
-link-cell-requires c κs = building-row _ _ _ _ _ _ _ (subst (BuildRoom _ _ _ _ _ _) (sym (c .before .before .before .before .before .clear .kept .0)) (c .before .before .before .before .before .before .before .before .before .pre)) _ _ (c .before .before .loop .inv) (c .before .loop-test .taken)
+link-cell-requires c κs = building-row _ _ _ _ _ _ _ (c .before .before .before .before .before .pre .0) _ _ (c .before .before .loop .inv) (c .before .loop-test .taken)
 
 loop-less : tie.Need-loop-less Inv-loop μ-loop
 loop-less c = omega arith
 
 loop-again : tie.Need-loop-again Inv-loop μ-loop
-loop-again c = building-more _ _ _ _ _ _ _ (subst (BuildRoom _ _ _ _ _ _) (sym (c .before .before .before .before .before .before .before .before .clear .kept .0)) (c .before .before .before .before .before .before .before .before .before .before .before .before .pre)) _ _ _ (c .before .before .before .before .before .loop .inv) (c .before .before .before .before .loop-test .taken) (c .before .before .link-cell .ensures) (c .before .before .link-cell .kept .1 .1 .1 .1 .1 .1 .0)
+loop-again c = building-more _ _ _ _ _ _ _ (c .before .before .before .before .before .before .before .before .pre .0) _ _ _ (c .before .before .before .before .before .loop .inv) (c .before .before .before .before .loop-test .taken) (c .before .before .link-cell .ensures) (c .before .before .link-cell .kept .1 .1 .1 .1 .1 .1 .0)
 
 same-length : tie.Need-same-length Inv-loop μ-loop
-same-length c = c .before .loop .inv .long ∙ c .before .before .before .before .clear .kept .0
+same-length c = c .before .loop .inv .long
 
 returns : tie.Need-returns Inv-loop μ-loop
-returns c = building-done _ _ _ _ _ _ _ (subst (BuildRoom _ _ _ _ _ _) (sym (c .before .before .before .before .clear .kept .0)) (c .before .before .before .before .before .before .before .before .pre)) _ _ (c .before .loop .inv) (omega arith)
+returns c = building-done _ _ _ _ _ _ _ (c .before .before .before .before .pre .0) _ _ (c .before .loop .inv) (omega arith)
 
 pub build-links-spec : {M : Type 1} → statement M
-build-links-spec =
-    tie.close
-    (tie.spec
-    Inv-loop
-    μ-loop
-    clear-requires
-    loop-holds
-    sub-i
-    link-cell-requires
-    loop-less
-    loop-again
-    same-length
-    returns)
+build-links-spec = tie.close (tie.spec Inv-loop μ-loop loop-holds sub-i link-cell-requires loop-less loop-again same-length returns)

@@ -9,7 +9,7 @@ div-rows : tie.Need-div-rows
 div-rows c = omega (arith, c .before .before .pre .0)
 
 build-links-requires : tie.Need-build-links-requires
-build-links-requires c κs = pairs-room (c .before .before .before .pre .0) (c .before .before .before .pre .1)
+build-links-requires c κs = (pairs-room (c .before .before .before .pre .0) (c .before .before .before .pre .1), c .before .before .before .pre .2)
 
 same-length : tie.Need-same-length
 same-length c = search needs

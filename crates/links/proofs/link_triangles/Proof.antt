@@ -10,7 +10,7 @@ enum-told : tie.Need-enum-told
 enum-told c = search needs
 
 build-links-requires : tie.Need-build-links-requires
-build-links-requires c κs = build-room (c .before .before .before .before .before .pre) (ap kindIs (c .before .enum-told .given .1))
+build-links-requires c κs = (build-room (c .before .before .before .before .before .pre .0) (ap kindIs (c .before .enum-told .given .1)), c .before .before .before .before .before .pre .1)
 
 enum-told-2 : tie.Need-enum-told-2
 enum-told-2 c = search needs
@@ -22,7 +22,7 @@ same-length : tie.Need-same-length
 same-length c = search needs
 
 returns : tie.Need-returns
-returns c = linked-built (c .before .before .before .before .before .before .before .before .pre) (c .before .before .build-links .kept .1 .1 .1 .1 .1 .1 .0) (c .before .before .build-links .ensures)
+returns c = linked-built (c .before .before .before .before .before .before .before .before .pre .0) (c .before .before .build-links .kept .1 .1 .1 .1 .1 .1 .0) (c .before .before .build-links .ensures)
 
 returns-2 : tie.Need-returns-2
 returns-2 c = linked-straps (ap kindIs (c .enum-told2 .given .1))

@@ -1,6 +1,7 @@
 -- `crack::body::crack_body` meets its contract: there is nothing to do; or the tables of links are built, and the crack is done on them. Assumes nothing.
 use native.Mathlib.Omega.{arith}
 use mathlib.Core.Path.{refl, sym}
+use Rattle.links.proofs.Parts.{cleared-fresh}
 use Rattle.lists.proofs.Truths.{of-not}
 use Rattle.elements.specs.Table.{kindIs}
 use Rattle.mesh.specs.Log.{worldAt}
@@ -25,7 +26,7 @@ slice-aggregate-link-mesh : tie.Need-slice-aggregate-link-mesh
 slice-aggregate-link-mesh c = search needs
 
 link-mesh-requires : tie.Need-link-mesh-requires
-link-mesh-requires c κs = let A = c .before .before .before .before .before .before .before .before .before .before .before .before .before .before .args in let P = c .before .before .before .before .before .before .before .before .before .before .before .before .before .before .pre in linkable-ready (kindIs (A .kind)) (A .room) (A .k) (A .points .now) (A .roots .now) (A .corners .now) (A .volumes .now) (A .ends .now) (A .lengths .now) (A .outline .now) (A .log .now) (P .0) _ (omega arith)
+link-mesh-requires c κs = let A = c .before .before .before .before .before .before .before .before .before .before .before .before .before .before .args in let P = c .before .before .before .before .before .before .before .before .before .before .before .before .before .before .pre in (linkable-ready (kindIs (A .kind)) (A .room) (A .k) (A .points .now) (A .roots .now) (A .corners .now) (A .volumes .now) (A .ends .now) (A .lengths .now) (A .outline .now) (A .log .now) (P .0) _ (omega arith), cleared-fresh 14336)
 
 slice-aggregate-crack-linked : tie.Need-slice-aggregate-crack-linked
 slice-aggregate-crack-linked c = search needs

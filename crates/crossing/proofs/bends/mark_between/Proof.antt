@@ -1,61 +1,71 @@
-use Prim.Native.Nat.{ℕ, _-_, _+_}
+-- `crossing::bends::mark_between` meets its contract: the bend edges at v are marked, then those at its neighbours along the first edges, at each edge that the walk comes to, if they were not walked before. Assumes nothing.
 use native.Mathlib.Omega.{arith}
+use borrow.Author.Needs.{needs}
+use mathlib.Core.Path.{_∙_}
 use mathlib.Core.Logic.{⊎-elim}
-use mathlib.Core.List.{List}
-use mathlib.Core.Path.{_∙_, sym, subst}
-use Rattle.crossing.proofs.BendLaws.{BendMarking, bending-start, bending-take, bending-leave, bending-done}
+use Rattle.links.proofs.Walked.{stillLeft}
+use Rattle.insert.proofs.Walks.{Walk, walk-head, walk-start, walk-within, walk-row, walk-link, walk-here, walk-more, walk-less, walk-done}
+use Rattle.crossing.proofs.BendLaws.{linked-below, SideSeen, side-start, side-skip, side-passed, side-more, side-done}
 use Rattle.crossing.proofs.bends.mark_between.Statement.{statement}
 use Rattle.crossing.proofs.bends.mark_between.Tie as tie
-use Rattle.crossing.proofs.bends.mark_between.Reads as reads
-use Rattle.crossing.proofs.bends.mark_between.Lts as lts
-use Rattle.crossing.proofs.bends.bend.Reads as bend-reads
 
 abbrev Inv-loop : tie.InvT-loop
-Inv-loop e ends first second marks₀ i₀ marks i = BendMarking e ends first second marks₀ marks i
+Inv-loop v w e ends first second marks₀ table rows walked₀ at₀ marks walked at = Walk e ends v (SideSeen v w e ends first second marks₀ marks walked) at
 
 abbrev μ-loop : tie.MeasureT-loop
-μ-loop e ends first second marks₀ i₀ marks i = e - i
+μ-loop v w e ends first second marks₀ table rows walked₀ at₀ marks walked at = stillLeft e at
 
--- src/bends.rt:92:5
+array-write-walked : tie.Need-array-write-walked Inv-loop μ-loop
+array-write-walked c = c .before .before .before .before .before .pre .0 .here
+
+mark-at-requires : tie.Need-mark-at-requires Inv-loop μ-loop
+mark-at-requires c κs = c .before .before .before .before .before .before .pre .0
+
+first-at-requires : tie.Need-first-at-requires Inv-loop μ-loop
+first-at-requires c κs = walk-head (c .before .before .before .before .before .before .before .before .before .pre .0 .linked) (c .before .before .before .before .before .before .before .before .before .pre .0 .here)
+
 loop-holds : tie.Need-loop-holds Inv-loop μ-loop
-loop-holds c = bending-start _ _ _ _ _
+loop-holds c = walk-start (c .before .before .before .before .before .before .before .before .before .before .pre .0 .linked) (c .first-at .ensures) (c .before .before .before .before .before .before .before .before .before .before .pre .0 .here) (side-start _ _ _ _ _ _ _ (c .before .before .before .before .before .before .before .before .before .before .pre .0 .here))
 
--- src/bends.rt:93:12
-bend-requires : tie.Need-bend-requires Inv-loop μ-loop
-bend-requires c κs = let P = c .before .before .before .before .before .before .pre in
-    let t = c .loop-test .taken in
-    record { here = omega (arith, P .in-first .rows); a-first = P .in-first .first _ t; a-second = P .in-second .first _ t; b-first = P .in-first .second _ t; b-second = P .in-second .second _ t }
+sub-i : tie.Need-sub-i Inv-loop μ-loop
+sub-i c = c .loop-test .taken
 
--- src/bends.rt:94:13
-mul-marks : tie.Need-mul-marks Inv-loop μ-loop
-mul-marks c = omega (arith, c .before .before .loop-test .taken, c .before .before .before .before .before .before .before .before .pre .in-first .rows)
+neighbour-requires : tie.Need-neighbour-requires Inv-loop μ-loop
+neighbour-requires c κs = walk-row (c .before .before .before .before .before .before .before .before .before .before .before .before .pre .0 .linked) (c .before .loop .inv) (c .loop-test .taken)
 
--- src/bends.rt:94:13
-slice-write-marks : tie.Need-slice-write-marks Inv-loop μ-loop
-slice-write-marks c = omega (arith, c .before .before .loop-test .taken, c .before .before .before .before .before .before .before .before .pre .marks-long, c .before .before .before .loop .inv .long)
+slice-aggregate-is-walked : tie.Need-slice-aggregate-is-walked Inv-loop μ-loop
+slice-aggregate-is-walked c = search needs
 
--- src/bends.rt:96:9
-add-i : tie.Need-add-i Inv-loop μ-loop
-add-i c = omega (arith, c .before .before .loop-test .taken)
+is-walked-requires : tie.Need-is-walked-requires Inv-loop μ-loop
+is-walked-requires c κs = search needs
 
--- src/bends.rt:92:5
+mark-at-requires-2 : tie.Need-mark-at-requires-2 Inv-loop μ-loop
+mark-at-requires-2 c κs = let P = c .before .before .before .before .before .before .before .before .before .before .before .before .before .before .before .before .before .before .pre .0 in let h = walk-within (P .linked) (c .before .before .before .before .before .before .before .loop .inv) (c .before .before .before .before .before .before .loop-test .taken) in let E = linked-below (P .linked) in
+    record { linked = P .linked; here = c .before .before .before .before .before .neighbour .ensures .below _ (P .here) (E .first _ h) (E .second _ h); first-long = P .first-long; second-long = P .second-long; marks-long = omega (arith, P .marks-long, c .before .before .before .before .before .before .before .loop .inv .so-far .long, c .before .before .before .before .before .before .before .before .before .before .before .mark-at .kept .1 .1 .1 .1 .1 .0) }
+
+next-at-requires : tie.Need-next-at-requires Inv-loop μ-loop
+next-at-requires c κs = walk-link (c .before .before .before .before .before .before .before .before .before .before .before .before .before .before .before .before .before .pre .0 .linked) (c .before .before .before .before .before .before .loop .inv) (c .before .before .before .before .before .loop-test .taken)
+
 loop-less : tie.Need-loop-less Inv-loop μ-loop
-loop-less c = omega (arith, c .before .before .loop-test .taken)
+loop-less c = walk-less (c .before .before .before .before .before .before .before .before .before .before .before .before .before .before .before .before .before .before .pre .0 .linked) (c .before .before .before .before .before .before .before .loop .inv) (c .before .before .before .before .before .before .loop-test .taken) (c .next-at .ensures)
 
--- src/bends.rt:92:5
 loop-again : tie.Need-loop-again Inv-loop μ-loop
-loop-again c = let A = c .before .before .before .before .before .before .before .before .args in
-    let L = c .before .before .before .loop in
-    let t = c .before .before .loop-test .taken in
-    ⊎-elim (λ w. subst (λ (l : List ℕ). BendMarking (A .e) (A .ends .now) (A .first .now) (A .second .now) (A .marks .now) l (L .i + 1)) (sym (w .1)) (bending-take _ _ _ _ _ _ _ (L .inv) _ t (omega (arith, c .before .before .before .before .before .before .before .before .pre .marks-long, L .inv .long)) (c .before .bend .ensures) (w .0 .taken))) (λ w. subst (λ (l : List ℕ). BendMarking (A .e) (A .ends .now) (A .first .now) (A .second .now) (A .marks .now) l (L .i + 1)) (sym (w .1)) (bending-leave _ _ _ _ _ _ _ (L .inv) _ t (c .before .bend .ensures) (w .0 .left))) (c .if1 .came)
+loop-again c = let P = c .before .before .before .before .before .before .before .before .before .before .before .before .before .before .before .before .before .before .pre .0 in
+    let T = c .before .before .before .is-walked in
+    let N = c .before .before .before .before .before .neighbour .ensures in
+    let E = linked-below (P .linked) in
+    let h = walk-within (P .linked) (c .before .before .before .before .before .before .before .loop .inv) (c .before .before .before .before .before .before .loop-test .taken) in
+    let S = walk-here (P .linked) (c .before .before .before .before .before .before .before .loop .inv) (c .before .before .before .before .before .before .loop-test .taken) (λ j l n s. side-skip _ _ _ _ _ _ _ _ _ j s n) in
+    walk-more (P .linked) (c .before .before .before .before .before .before .before .loop .inv) (c .before .before .before .before .before .before .loop-test .taken) (c .next-at .ensures)
+    (⊎-elim (λ w. side-more _ _ _ _ _ _ _ _ _ _ S _ N _ (T .result) (T .ensures) _ (w .0 .taken) (T .kept .1 .0) _ (w .2 .kept .1 .1 .1 .1 .1 .0) (w .2 .ensures) (w .5))
+    (λ w. side-passed _ _ _ _ _ _ _ _ _ _ S _ N _ (T .result) (T .ensures) _ (N .below _ (P .here) (E .first _ h) (E .second _ h)) (w .0 .left) (w .1)) (c .before .if1 .came))
 
--- src/bends.rt:81:1
 same-length : tie.Need-same-length Inv-loop μ-loop
-same-length c = c .before .loop .inv .long
+same-length c = c .before .loop .inv .so-far .long ∙ c .before .before .before .before .before .mark-at .kept .1 .1 .1 .1 .1 .0
 
--- src/bends.rt:81:1
 returns : tie.Need-returns Inv-loop μ-loop
-returns c = bending-done _ _ _ _ _ _ _ (c .before .loop .inv) (c .loop-test .left)
+returns c = let P = c .before .before .before .before .before .before .before .before .before .before .before .before .pre .0 in
+    side-done _ _ _ _ _ _ _ _ _ _ (linked-below (P .linked)) (P .first-long) (c .before .before .before .before .before .before .before .before .before .before .before .before .pre .1) (c .before .before .before .before .before .mark-at .ensures) (walk-done (P .linked) (c .before .loop .inv) (λ j l n s. side-skip _ _ _ _ _ _ _ _ _ j s n) (omega arith))
 
 pub mark-between-spec : {M : Type 1} → statement M
 mark-between-spec =
@@ -63,11 +73,16 @@ mark-between-spec =
     (tie.spec
     Inv-loop
     μ-loop
+    array-write-walked
+    mark-at-requires
+    first-at-requires
     loop-holds
-    bend-requires
-    mul-marks
-    slice-write-marks
-    add-i
+    sub-i
+    neighbour-requires
+    slice-aggregate-is-walked
+    is-walked-requires
+    mark-at-requires-2
+    next-at-requires
     loop-less
     loop-again
     same-length

@@ -28,7 +28,7 @@ hit-of-requires c κs = let P = c .before .before .before .before .before .befor
 note-hit-requires : tie.Need-note-hit-requires Inv-loop μ-loop
 note-hit-requires c κs = let P = c .before .before .before .before .before .before .before .before .before .pre in
     let L = c .before .before .before .before .loop .inv in
-    (omega (arith, P .numbers-long, L .numbers-long, L .few, c .before .before .before .loop-test .taken), omega (arith, P .ts-long, L .ts-long, L .few, c .before .before .before .loop-test .taken))
+    (omega (arith, P .numbers-long, L .numbers-long, L .few, c .before .before .before .loop-test .taken), omega (arith, P .ts-long, L .ts-long, L .few, c .before .before .before .loop-test .taken), omega (arith, P .few, c .before .before .before .loop-test .taken))
 
 -- src/crossings.rt:54:9
 add-i : tie.Need-add-i Inv-loop μ-loop

@@ -17,6 +17,10 @@ enum-told c = search needs
 returns : tie.Need-returns
 returns c = noted-miss _ _ _ _ _ (c .enum-told .given .1)
 
+-- src/crossings.rt:31:18
+cast-numbers : tie.Need-cast-numbers
+cast-numbers c = search needs
+
 -- src/crossings.rt:31:5
 mul-numbers : tie.Need-mul-numbers
 mul-numbers c = search needs
@@ -56,6 +60,7 @@ note-hit-spec =
     enum-known-hit
     enum-told
     returns
+    cast-numbers
     mul-numbers
     slice-write-numbers
     mul-ts

@@ -5,8 +5,8 @@ use mathlib.Core.Path.{_∙_}
 use native.Mathlib.Omega.{arith}
 use borrow.Rule.Slice.PartMut.{same-len-mid}
 use Rattle.links.proofs.Parts.{front-of}
-use Rattle.split.proofs.LinkLaws.{facets-lent, facets-back, dropped-linked}
-use Rattle.split.proofs.SettleLaws.{boundary-asked, refused-boundary, drop-asked, settled-told}
+use Rattle.split.proofs.LinkLaws.{facets-lent, facets-back, parted-linked}
+use Rattle.split.proofs.SettleLaws.{boundary-asked, refused-boundary, part-asked, settled-told, settled-listed}
 use Rattle.elements.specs.Table.{kindIs}
 use borrow.Author.Needs.{needs}
 use Rattle.split.proofs.settle.settle.Statement.{statement}
@@ -40,31 +40,25 @@ same-length-3 : tie.Need-same-length-3
 same-length-3 c = same-len-mid 9216 (length (c .before .before .before .before .before .before .before .before .before .before .before .before .before .before .before .before .before .before .before .before .before .before .before .before .args .links .now) - 9216) (c .before .before .before .before .before .before .before .before .before .before .before .before .before .before .before .before .before .before .before .before .before .before .before .before .args .links .now) (c .before .before .before .before .before .before .before .before .open-boundary .last .1 .1 .1 .1 .1 .1 .1 .1 .1 .1 .1 .1 .1 .0) (c .before .before .before .before .before .before .before .before .open-boundary .kept .1 .1 .1 .1 .1 .1 .1 .1 .1 .1 .1 .1 .1 .0)
 
 returns : tie.Need-returns
-returns c = let A = c .before .before .before .before .before .before .before .before .before .before .before .before .before .before .before .before .before .before .before .before .before .before .before .before .args in let P = c .before .before .before .before .before .before .before .before .before .before .before .before .before .before .before .before .before .before .before .before .before .before .before .before .pre in (refused-boundary (kindIs (A .kind)) (A .room) (A .k) (A .v) (A .before) (A .n) (A .count) (A .extra) (A .numbers .now) (A .verts .now) (A .groups .now) (A .points .now) (A .corners .now) (A .volumes .now) (A .ends .now) (A .lengths .now) (A .outline .now) (A .log .now) (P .0) _ _ (c .before .before .before .before .before .before .before .before .open-boundary .ensures .0) (c .enum-told .given .1) _, tt)
+returns c = let A = c .before .before .before .before .before .before .before .before .before .before .before .before .before .before .before .before .before .before .before .before .before .before .before .before .args in let P = c .before .before .before .before .before .before .before .before .before .before .before .before .before .before .before .before .before .before .before .before .before .before .before .before .pre in (refused-boundary (kindIs (A .kind)) (A .room) (A .k) (A .v) (A .before) (A .n) (A .count) (A .extra) (A .numbers .now) (A .verts .now) (A .groups .now) (A .points .now) (A .corners .now) (A .volumes .now) (A .ends .now) (A .lengths .now) (A .outline .now) (A .log .now) (P .0) _ _ (c .before .before .before .before .before .before .before .before .open-boundary .ensures .0) (c .enum-told .given .1) _, tt, tt)
 
-drop-straddlers-requires : tie.Need-drop-straddlers-requires
-drop-straddlers-requires c κs = let A = c .before .before .before .before .before .before .before .before .before .before .before .before .before .before .before .before .before .before .before .before .before .before .before .before .before .before .before .before .before .before .args in let P = c .before .before .before .before .before .before .before .before .before .before .before .before .before .before .before .before .before .before .before .before .before .before .before .before .before .before .before .before .before .before .pre in let B = c .before .before .before .before .before .before .before .before .before .before .before .before .before .before .open-boundary in (drop-asked (kindIs (A .kind)) (A .room) (A .k) (A .v) (A .before) (A .n) (A .count) (A .extra) (A .numbers .now) (A .verts .now) (A .groups .now) (A .points .now) (A .corners .now) (A .volumes .now) (A .ends .now) (A .lengths .now) (A .outline .now) (A .log .now) (P .0), omega (arith, P .1, B .kept .1 .1 .1 .1 .1 .1 .1 .1 .1 .1 .1 .1 .1 .1 .0), front-of (facets-back (B .last .1 .1 .1 .1 .1 .1 .1 .1 .1 .1 .1 .1 .1 .0) (P .2) (B .kept .1 .1 .1 .1 .1 .1 .1 .1 .1 .1 .1 .1 .1 .0) (c .before .before .before .before .before .before .grown .given .1) (B .ensures .1)))
+part-straddlers-requires : tie.Need-part-straddlers-requires
+part-straddlers-requires c κs = let A = c .before .before .before .before .before .before .before .before .before .before .before .before .before .before .before .before .before .before .before .before .before .before .before .before .before .before .before .before .args in let P = c .before .before .before .before .before .before .before .before .before .before .before .before .before .before .before .before .before .before .before .before .before .before .before .before .before .before .before .before .pre in let B = c .before .before .before .before .before .before .before .before .before .before .before .before .open-boundary in (part-asked (kindIs (A .kind)) (A .room) (A .k) (A .v) (A .before) (A .n) (A .count) (A .extra) (A .numbers .now) (A .verts .now) (A .groups .now) (A .points .now) (A .corners .now) (A .volumes .now) (A .ends .now) (A .lengths .now) (A .outline .now) (A .log .now) (P .0), omega (arith, P .1, B .kept .1 .1 .1 .1 .1 .1 .1 .1 .1 .1 .1 .1 .1 .1 .0), front-of (facets-back (B .last .1 .1 .1 .1 .1 .1 .1 .1 .1 .1 .1 .1 .1 .0) (P .2) (B .kept .1 .1 .1 .1 .1 .1 .1 .1 .1 .1 .1 .1 .1 .0) (c .before .before .before .before .grown .given .1) (B .ensures .1)))
 
 same-length-4 : tie.Need-same-length-4
-same-length-4 c = c .before .before .before .before .before .before .before .before .before .before .drop-straddlers .kept .1 .1 .1 .1 .1 .1 .1 .1 .1 .1 .1 .1 .0
+same-length-4 c = c .before .before .before .before .before .before .before .before .before .before .before .before .before .before .before .before .before .open-boundary .kept .1 .1 .1 .1 .1 .1 .1 .1 .1 .1 .1 .1 .0
 
 same-length-5 : tie.Need-same-length-5
-same-length-5 c = c .before .before .before .before .before .before .before .before .before .before .drop-straddlers .kept .1 .1 .1 .1 .1 .1 .1 .1 .1 .1 .1 .1 .1 .0
+same-length-5 c = c .before .before .before .before .part-straddlers .kept .1 .1 .1 .1 .1 .1 .1 .1 .1 .1 .1 .1 .1 .0
 
 same-length-6 : tie.Need-same-length-6
-same-length-6 c = c .before .before .before .before .before .before .before .before .before .before .before .before .before .before .before .before .before .before .before .before .before .before .before .before .before .open-boundary .kept .1 .1 .1 .1 .1 .1 .1 .1 .1 .1 .1 .1 .0
+same-length-6 c = c .before .before .before .before .part-straddlers .kept .1 .1 .1 .1 .1 .1 .1 .1 .1 .1 .1 .1 .1 .1 .0 ∙ c .before .before .before .before .before .before .before .before .before .before .before .before .before .before .before .before .before .open-boundary .kept .1 .1 .1 .1 .1 .1 .1 .1 .1 .1 .1 .1 .1 .1 .0
 
 same-length-7 : tie.Need-same-length-7
-same-length-7 c = c .before .before .before .before .before .before .before .before .before .before .drop-straddlers .kept .1 .1 .1 .1 .1 .1 .1 .1 .1 .1 .1 .1 .1 .1 .0
-
-same-length-8 : tie.Need-same-length-8
-same-length-8 c = c .before .before .before .before .before .before .before .before .before .before .drop-straddlers .kept .1 .1 .1 .1 .1 .1 .1 .1 .1 .1 .1 .1 .1 .1 .1 .0 ∙ c .before .before .before .before .before .before .before .before .before .before .before .before .before .before .before .before .before .before .before .before .before .before .before .before .before .open-boundary .kept .1 .1 .1 .1 .1 .1 .1 .1 .1 .1 .1 .1 .1 .1 .0
-
-same-length-9 : tie.Need-same-length-9
-same-length-9 c = c .before .before .before .before .before .before .before .before .before .before .drop-straddlers .kept .1 .1 .1 .1 .1 .1 .1 .1 .1 .1 .1 .1 .1 .1 .1 .1 .0 ∙ same-len-mid 9216 (length (c .before .before .before .before .before .before .before .before .before .before .before .before .before .before .before .before .before .before .before .before .before .before .before .before .before .before .before .before .before .before .before .before .before .before .before .before .before .before .before .before .before .args .links .now) - 9216) (c .before .before .before .before .before .before .before .before .before .before .before .before .before .before .before .before .before .before .before .before .before .before .before .before .before .before .before .before .before .before .before .before .before .before .before .before .before .before .before .before .before .args .links .now) (c .before .before .before .before .before .before .before .before .before .before .before .before .before .before .before .before .before .before .before .before .before .before .before .before .before .open-boundary .last .1 .1 .1 .1 .1 .1 .1 .1 .1 .1 .1 .1 .1 .0) (c .before .before .before .before .before .before .before .before .before .before .before .before .before .before .before .before .before .before .before .before .before .before .before .before .before .open-boundary .kept .1 .1 .1 .1 .1 .1 .1 .1 .1 .1 .1 .1 .1 .0)
+same-length-7 c = same-len-mid 9216 (length (c .before .before .before .before .before .before .before .before .before .before .before .before .before .before .before .before .before .before .before .before .before .before .before .before .before .before .before .before .before .before .before .before .before .args .links .now) - 9216) (c .before .before .before .before .before .before .before .before .before .before .before .before .before .before .before .before .before .before .before .before .before .before .before .before .before .before .before .before .before .before .before .before .before .args .links .now) (c .before .before .before .before .before .before .before .before .before .before .before .before .before .before .before .before .before .open-boundary .last .1 .1 .1 .1 .1 .1 .1 .1 .1 .1 .1 .1 .1 .0) (c .before .before .before .before .before .before .before .before .before .before .before .before .before .before .before .before .before .open-boundary .kept .1 .1 .1 .1 .1 .1 .1 .1 .1 .1 .1 .1 .1 .0)
 
 returns-2 : tie.Need-returns-2
-returns-2 c = let A = c .before .before .before .before .before .before .before .before .before .before .before .before .before .before .before .before .before .before .before .before .before .before .before .before .before .before .before .before .before .before .before .before .before .before .before .before .before .before .before .before .before .args in let P = c .before .before .before .before .before .before .before .before .before .before .before .before .before .before .before .before .before .before .before .before .before .before .before .before .before .before .before .before .before .before .before .before .before .before .before .before .before .before .before .before .before .pre in let B = c .before .before .before .before .before .before .before .before .before .before .before .before .before .before .before .before .before .before .before .before .before .before .before .before .before .open-boundary in let D = c .before .before .before .before .before .before .before .before .before .before .drop-straddlers in (settled-told (kindIs (A .kind)) (A .room) (A .k) (A .v) (A .before) (A .n) (A .count) (A .extra) (A .numbers .now) (A .verts .now) (A .groups .now) (A .points .now) (A .corners .now) (A .volumes .now) (A .ends .now) (A .lengths .now) (A .outline .now) (A .log .now) (P .0) _ _ _ (B .ensures .0) (c .before .before .before .before .before .before .before .before .before .before .before .before .before .before .before .before .before .grown .given .1) _ _ _ _ (D .ensures .0), dropped-linked (D .last .1 .1 .1 .1 .1 .1 .1 .1 .1 .1 .1 .1 .0) (D .last .1 .1 .1 .1 .1 .1 .1 .1 .1 .1 .1 .1 .1 .1 .1 .1 .0) (D .result) (facets-back (B .last .1 .1 .1 .1 .1 .1 .1 .1 .1 .1 .1 .1 .1 .0) (P .2) (B .kept .1 .1 .1 .1 .1 .1 .1 .1 .1 .1 .1 .1 .1 .0) (c .before .before .before .before .before .before .before .before .before .before .before .before .before .before .before .before .before .grown .given .1) (B .ensures .1)) (D .ensures .1))
+returns-2 c = let A = c .before .before .before .before .before .before .before .before .before .before .before .before .before .before .before .before .before .before .before .before .before .before .before .before .before .before .before .before .before .before .before .before .before .args in let P = c .before .before .before .before .before .before .before .before .before .before .before .before .before .before .before .before .before .before .before .before .before .before .before .before .before .before .before .before .before .before .before .before .before .pre in let B = c .before .before .before .before .before .before .before .before .before .before .before .before .before .before .before .before .before .open-boundary in let D = c .before .before .before .before .part-straddlers in (settled-told (kindIs (A .kind)) (A .room) (A .k) (A .v) (A .before) (A .n) (A .count) (A .extra) (A .numbers .now) (A .verts .now) (A .groups .now) (A .points .now) (A .corners .now) (A .volumes .now) (A .ends .now) (A .lengths .now) (A .outline .now) (A .log .now) (P .0) _ _ _ (B .ensures .0) (c .before .before .before .before .before .before .before .before .before .grown .given .1) _ _ _ (D .ensures .0), settled-listed (kindIs (A .kind)) (A .room) (A .k) (A .v) (A .before) (A .n) (A .count) (A .extra) (A .numbers .now) (A .verts .now) (A .groups .now) (A .points .now) (A .corners .now) (A .volumes .now) (A .ends .now) (A .lengths .now) (A .outline .now) (A .log .now) (P .0) _ _ (D .result) (D .ensures .1), parted-linked (A .k) _ _ _ (D .result) (facets-back (B .last .1 .1 .1 .1 .1 .1 .1 .1 .1 .1 .1 .1 .1 .0) (P .2) (B .kept .1 .1 .1 .1 .1 .1 .1 .1 .1 .1 .1 .1 .1 .0) (c .before .before .before .before .before .before .before .before .before .grown .given .1) (B .ensures .1)) (D .ensures .1))
 
 pub settle-spec : {M : Type 1} → statement M
 settle-spec =
@@ -80,11 +74,9 @@ settle-spec =
     same-length-2
     same-length-3
     returns
-    drop-straddlers-requires
+    part-straddlers-requires
     same-length-4
     same-length-5
     same-length-6
     same-length-7
-    same-length-8
-    same-length-9
     returns-2)

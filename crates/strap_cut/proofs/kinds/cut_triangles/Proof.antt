@@ -1,4 +1,5 @@
 -- `strap_cut::kinds::cut_triangles` meets its contract: the cut is done in the tables that are here, that of the links built. Assumes nothing.
+use Rattle.links.proofs.Parts.{cleared-fresh}
 use Rattle.split.proofs.LinkLaws.{linkable-ready}
 use Rattle.model.specs.Elements.{Triangles}
 use native.Mathlib.Omega.{arith}
@@ -10,8 +11,11 @@ slice-aggregate-link-mesh : tie.Need-slice-aggregate-link-mesh
 slice-aggregate-link-mesh c = search needs
 
 link-mesh-requires : tie.Need-link-mesh-requires
-link-mesh-requires c κs = let P = c .before .before .before .before .before .before .before .before .before .before .before .before .pre in let A = c .before .before .before .before .before .before .before .before .before .before .before .before .args in
-    linkable-ready Triangles (A .room) (A .k) (A .points .now) (A .roots .now) (A .corners .now) (A .volumes .now) (A .ends .now) (A .lengths .now) (A .outline .now) (A .log .now) (P .0) _ (omega arith)
+link-mesh-requires c κs = let P = c .before .before .before .before .before .before .before .before .before .before .before .before .pre in (
+  let A = c .before .before .before .before .before .before .before .before .before .before .before .before .args in
+      linkable-ready Triangles (A .room) (A .k) (A .points .now) (A .roots .now) (A .corners .now) (A .volumes .now) (A .ends .now) (A .lengths .now) (A .outline .now) (A .log .now) (P .0) _ (omega arith),
+  cleared-fresh 14336,
+)
 
 slice-aggregate-cut-facets : tie.Need-slice-aggregate-cut-facets
 slice-aggregate-cut-facets c = search needs

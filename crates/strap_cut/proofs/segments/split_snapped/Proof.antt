@@ -1,5 +1,6 @@
 -- `strap_cut::segments::split_snapped` meets its contract: where none is marked nothing is done, and else each in turn over tables built for all of them. Assumes nothing.
 use native.Mathlib.Omega.{arith}
+use Rattle.links.proofs.Parts.{cleared-fresh}
 use Rattle.model.specs.Elements.{Straps}
 use Rattle.mesh.specs.Log.{worldAt}
 use Rattle.split.proofs.LinkLaws.{linkable-ready}
@@ -21,7 +22,7 @@ slice-aggregate-link-mesh : tie.Need-slice-aggregate-link-mesh
 slice-aggregate-link-mesh c = search needs
 
 link-mesh-requires : tie.Need-link-mesh-requires
-link-mesh-requires c κs = let A = c .before .before .before .before .before .before .before .before .before .before .before .before .before .before .before .before .args in let P = c .before .before .before .before .before .before .before .before .before .before .before .before .before .before .before .before .pre in linkable-ready Straps (A .room) (A .k) (A .points .now) (A .roots .now) (A .corners .now) (A .volumes .now) (A .ends .now) (A .lengths .now) (A .outline .now) (A .log .now) (P .0) _ (omega arith)
+link-mesh-requires c κs = let A = c .before .before .before .before .before .before .before .before .before .before .before .before .before .before .before .before .args in let P = c .before .before .before .before .before .before .before .before .before .before .before .before .before .before .before .before .pre in (linkable-ready Straps (A .room) (A .k) (A .points .now) (A .roots .now) (A .corners .now) (A .volumes .now) (A .ends .now) (A .lengths .now) (A .outline .now) (A .log .now) (P .0) _ (omega arith), cleared-fresh 14336)
 
 slice-aggregate-split-marked : tie.Need-slice-aggregate-split-marked
 slice-aggregate-split-marked c = search needs

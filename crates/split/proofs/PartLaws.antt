@@ -1,12 +1,13 @@
--- Laws of the straddlers of a split and of its log: those of the list are the definition's, and so are the log and the edges behind them. Assumes nothing.
+-- Laws of the straddlers of a split and of its log: those of the list are the definition's, and so are the log and the edges without them. Assumes nothing.
 use mathlib.Core.Path.{_≡_, refl, sym, _∙_, ap, ap₂}
 use mathlib.Core.Bool.{true, false, not}
 use mathlib.Core.List.{List, [], _∷_, _++_, map, map-append}
-use Prim.Native.Nat.{ℕ, _+_, _-_, _<_, _≤_}
+use Prim.Native.Nat.{ℕ, _+_, _-_, _/_, _<_, _≤_}
 use native.Mathlib.Omega.{arith}
 use borrow.Author.Tests.{leb-true, leb-false}
 use lib.Dec.{leb}
-use lib.ListN.{length, getD, take, length-append, length-map, length-take}
+use lib.ListN.{length, getD, set, take, length-append, length-map, length-take, length-set}
+use lib.Seq.{getD-set-same, getD-set-other, take-set-le}
 use lib.Ieee.{Float}
 use Rattle.lists.specs.Lists.{sift, upTo}
 use Rattle.lists.specs.LeftOut.{leftOut}
@@ -23,10 +24,10 @@ use Rattle.mesh.specs.Workers.{rowAt}
 use Rattle.mesh.specs.declared.Counts.{Counts}
 use Rattle.mesh.specs.declared.Rooms.{Rooms}
 use Rattle.straddling.specs.Tests.{Straddling, StraddlersListed}
-use Rattle.edge_drops.specs.Drops.{ListedRoom}
+use Rattle.edge_drops.specs.Parted.{listed, edgesParted, Listing}
 use Rattle.split.specs.Steps.{loggedOf}
 use Rattle.work.specs.Removal.{goneWords}
-use Rattle.split.specs.Settling.{copyWords, SplitAsked, SplitNoted, DropAsked, Dropped}
+use Rattle.split.specs.Settling.{copyWords, SplitAsked, SplitNoted, PartAsked, PartedFor, RowsListed}
 use Rattle.work.specs.declared.Ran.the-variants.{Refused, Done}
 use Rattle.work.proofs.Grows.{edges-many, edges-get}
 use Rattle.work.proofs.Removals.{gone-listed, gone-many}
@@ -49,17 +50,51 @@ split-count O count r =
 
 -- ---- the list
 
-module _ (K : Kind) (L : Rooms) (k : Counts) (v before n count extra rows : ℕ) (verts groups corners ends : List ℕ) (lengths : List Float) (log : List ℕ)
-    (A : DropAsked K L k v before n count extra (length verts) (length groups) (length corners) ends (length lengths) (length log))
-    (list : List ℕ) (s : ℕ) (long : 2048 ≤ length list) (D : StraddlersListed K v before n count (k .triangles) (k .edges) verts groups corners ends list s) where
+module _ (K : Kind) (L : Rooms) (k : Counts) (v before n count extra rows : ℕ) (verts groups corners ends log : List ℕ)
+    (A : PartAsked K L k v before n count extra (length verts) (length groups) (length corners) ends (length log))
+    (list : List ℕ) (s : ℕ) (long : 2049 ≤ length list) (D : StraddlersListed K v before n count (k .triangles) (k .edges) verts groups corners ends list s) where
   pub list-fits : s ≤ length list
   list-fits = omega (arith, D .few, A .few-edges)
 
-  -- what the removal of the listed edges asks
-  pub drop-room : ListedRoom list (k .edges) s (length ends) (length lengths)
-  drop-room = record { few = list-fits; rising = D .rising; rows = record { ends = A .straddle .ends; lengths = A .lengths } }
+  -- the list with how many are listed
+  abbrev marked : List ℕ
+  marked = set list 2048 s
 
-  module _ (O : Opening) (M : Mesh) (volumes : List Float) (S : Straddling K O M v before n count (k .triangles) (k .edges) verts groups corners volumes ends lengths) where
+  marked-says : listed marked ≡ s
+  marked-says = getD-set-same list 2048 s 0 (omega arith)
+
+  marked-front : take s marked ≡ take s list
+  marked-front = take-set-le s list 2048 s (omega (arith, D .few, A .few-edges))
+
+  marked-whole : k .edges - s + listed marked ≡ k .edges
+  marked-whole = omega (arith, marked-says, D .few)
+
+  marked-at : (i : ℕ) → i < s → getD marked i 0 ≡ getD list i 0
+  marked-at i h = getD-set-other list 2048 i s 0 (λ e. omega (arith, e, D .few, A .few-edges))
+
+  -- it is one of the edges in the blocks
+  marked-listing : (ll : ℕ) → k .edges ≤ ll / 4 → Listing (k .edges - s) (length ends) ll marked
+  marked-listing ll h =
+      record {
+        long = omega (arith, length-set list 2048 s);
+        rising =
+            record {
+              rises = λ i j l m. omega (arith, marked-at i (omega (arith, marked-says)), marked-at j (omega (arith, marked-says)), D .rising .rises i j l (omega (arith, marked-says)));
+              below = λ i l. omega (arith, marked-whole, marked-at i (omega (arith, marked-says)), D .rising .below i (omega (arith, marked-says)));
+            };
+        few = omega (arith, marked-whole, A .few-edges);
+        rows = record { ends = omega (arith, marked-whole, A .straddle .ends); lengths = omega (arith, marked-whole) };
+      }
+
+  -- and the edges without those that it lists are left
+  marked-left : (lengths : List Float) → edgesParted (k .edges - s) ends lengths marked ≡ leftOut (take s list) (edgesAt (k .edges) ends lengths)
+  unfolding edgesParted
+  marked-left lengths =
+      ap (λ (m : ℕ). leftOut (take (listed marked) marked) (edgesAt m ends lengths)) marked-whole
+      ∙ ap (λ (m : ℕ). leftOut (take m marked) (edgesAt (k .edges) ends lengths)) marked-says
+      ∙ ap (λ (is : List ℕ). leftOut is (edgesAt (k .edges) ends lengths)) marked-front
+
+  module _ (O : Opening) (M : Mesh) (volumes lengths : List Float) (S : Straddling K O M v before n count (k .triangles) (k .edges) verts groups corners volumes ends lengths) where
     gone-are : map wordsOf (goneEntries (straddles K M O) (M .edges)) ≡ map (goneWords ends) (take s list)
     gone-are =
         ap (λ (l : List Edge). map wordsOf (goneEntries (straddles K M O) l)) (S .edges-are) ∙ gone-listed (straddles K M O) ends lengths (k .edges)
@@ -94,11 +129,10 @@ module _ (K : Kind) (L : Rooms) (k : Counts) (v before n count extra rows : ℕ)
         ∙ leftOut-sift (straddles K M O) es blankEdge
 
   -- the log lacks room
-  pub drop-refused : leb ((count - 1) + s + extra) (L .log - k .log) ≡ false → (ends′ : List ℕ) (lengths′ : List Float) (log′ : List ℕ)
-      → Dropped K L k v before n count extra rows verts groups corners ends ends′ lengths lengths′ log log′ (Refused 8)
-  drop-refused f ends′ lengths′ log′ =
+  pub part-refused : leb ((count - 1) + s + extra) (L .log - k .log) ≡ false → (list′ log′ : List ℕ) → PartedFor K L k v before n count extra rows verts groups corners ends list′ log log′ (Refused 8)
+  part-refused f list′ log′ =
       let b : L .log - k .log < (count - 1) + s + extra = leb-false _ _ f in
-      record { told = λ O M volumes S. (refl, omega (arith, logged-count O M volumes S, A .log-in)) }
+      record { told = λ O M volumes lengths S. (refl, omega (arith, logged-count O M volumes lengths S, A .log-in)) }
 
   module _ (f : leb ((count - 1) + s + extra) (L .log - k .log) ≡ true) where
     -- what noting the split asks
@@ -120,23 +154,25 @@ module _ (K : Kind) (L : Rooms) (k : Counts) (v before n count extra rows : ℕ)
         }
 
     -- all has room
-    pub drop-done : (log′ : List ℕ) (g : ℕ) → SplitNoted v before (count - 1) (k .log) s list ends log log′ g → (left : ℕ) (ends′ : List ℕ) (lengths′ : List Float)
-        → left ≡ k .edges - s → edgesAt left ends′ lengths′ ≡ leftOut (take s list) (edgesAt (k .edges) ends lengths)
-        → Dropped K L k v before n count extra rows verts groups corners ends ends′ lengths lengths′ log log′
-        (Done (record { particles = k .particles; triangles = k .triangles; edges = left; boundary = rows; log = g }))
-    drop-done log′ g N left ends′ lengths′ c E =
-        let b : (count - 1) + s + extra ≤ L .log - k .log = leb-true _ _ f in
-        record {
-          told =
-              λ O M volumes S.
-              record {
-                particles = refl;
-                triangles = refl;
-                boundary = refl;
-                few-edges = omega (arith, c);
-                count = omega (arith, N .count, logged-count O M volumes S);
-                fits = omega (arith, logged-count O M volumes S, A .log-in);
-                edges = E ∙ left-are O M volumes S;
-                entries = N .entries ∙ ap (λ (w : List Words). logAt (k .log) log ++ w) (logged-words O M volumes S);
-              };
-        }
+    pub part-done : (log′ : List ℕ) (g : ℕ) → SplitNoted v before (count - 1) (k .log) s list ends log log′ g
+        → PartedFor K L k v before n count extra rows verts groups corners ends marked log log′
+        (Done (record { particles = k .particles; triangles = k .triangles; edges = k .edges - s; boundary = rows; log = g }))
+        × RowsListed k (record { particles = k .particles; triangles = k .triangles; edges = k .edges - s; boundary = rows; log = g }) rows (length ends) marked
+    part-done log′ g N =
+        let b : (count - 1) + s + extra ≤ L .log - k .log = leb-true _ _ f in (
+          record {
+            told =
+                λ O M volumes lengths S.
+                record {
+                  particles = refl;
+                  triangles = refl;
+                  boundary = refl;
+                  few-edges = omega arith;
+                  count = omega (arith, N .count, logged-count O M volumes lengths S);
+                  fits = omega (arith, logged-count O M volumes lengths S, A .log-in);
+                  edges = marked-left lengths ∙ left-are O M volumes lengths S;
+                  entries = N .entries ∙ ap (λ (w : List Words). logAt (k .log) log ++ w) (logged-words O M volumes lengths S);
+                };
+          },
+          record { listing = marked-listing; whole = marked-whole; triangles = refl; boundary = refl },
+        )
