@@ -10,6 +10,7 @@ use Rattle.model.specs.Cut.{Line}
 use Rattle.model.specs.Calls.{Outcome, refusal, bladeOk, splitCall, straddlersCall, cutCall, crackCall}
 use Rattle.model.specs.Calls.{refused as turnedDown}
 use Rattle.mesh.specs.Given.{meshOf}
+use Rattle.mesh.specs.Limits.{particleLimit, triangleLimit, edgeLimit, boundaryLimit, entryLimit}
 use Rattle.image.specs.Words.{wordAt, wordsFrom, numberOf}
 use Rattle.image.specs.Image.{imageOf, imageSized}
 use Rattle.reading_replies.specs.Replies.{pointAt}
@@ -19,7 +20,7 @@ use Rattle.job_replies.specs.Outcomes.{withRooms}
 
 -- four words: the places lent for particles, triangles, edges and boundary entries, each at most the limit; and the entries that the log's bytes have room for
 abbrev pub roomsIn : List ℕ → ℕ → Rooms
-roomsIn s logged = record { particles = min 1024 (wordAt s 0); triangles = min 1024 (wordAt s 1); edges = min 2048 (wordAt s 2); boundary = min 2048 (wordAt s 3); log = min 4096 (logged / 24) }
+roomsIn s logged = record { particles = min particleLimit (wordAt s 0); triangles = min triangleLimit (wordAt s 1); edges = min edgeLimit (wordAt s 2); boundary = min boundaryLimit (wordAt s 3); log = min entryLimit (logged / 24) }
 
 -- the split of particle v of the mesh that an image is, by sides, a byte for each
 unfoldable pub splitOutcome : List ℕ → ℕ → List ℕ → List ℕ → ℕ → Outcome

@@ -25,7 +25,7 @@ pub fn reply_job(
         let room = call_words::rooms_in(rooms, log.len());
         return job_replies::sizes::reply_sized(job, list, room, bytes, rooms, out, log);
     }
-    mesh_replies::outcome::refuse(1, out, log)
+    mesh_replies::outcome::refuse(mesh::refusals::SIZE, out, log)
 }
 
 // The straddlers across the pieces of a mesh image removed. The job looks at no list.

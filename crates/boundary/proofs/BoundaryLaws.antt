@@ -13,12 +13,12 @@ use lib.ListN.{length, getD, take, drop}
 use lib.Dec.{eqb}
 use lib.Ieee.{Float, nan, lt, neg}
 use borrow.Author.Tests.{eq-eqb, ne-eqb}
-use Rattle.lists.specs.Lists.{pick, stands, all, find, fold, tab}
+use Rattle.lists.specs.Lists.{sift, headOr, pick, stands, all, find, fold, tab}
 use Rattle.lists.proofs.Sifts.{pick-by, tab-ext, map-tab}
 use Rattle.lists.proofs.Stores.{tab-length, tab-at}
 use Rattle.float.specs.Numbers.{largest}
 use Rattle.blade.specs.declared.Point.{Point}
-use Rattle.columns.specs.Block.{cell}
+use Rattle.columns.specs.Block.{cell, RowTurned}
 use Rattle.columns.proofs.Cells.{col-0, col-1}
 use Rattle.model.specs.Mesh.{Particle, Side, Mesh, blank}
 use Rattle.model.specs.Elements.{restOf, besides, sideEnds}
@@ -32,7 +32,7 @@ use Rattle.links.specs.Rooms.{CellsListed, ListRoom}
 use Rattle.links.specs.Linked.{SidesLinked}
 use Rattle.links.proofs.Lowest.{holds-get, holds-ext}
 use Rattle.links.proofs.Gaps.{Gap, stopOf, stop-first, stop-read, stop-end, stop-here}
-use Rattle.link_changes.specs.Changes.{TurnRoom, RowTurned}
+use Rattle.link_changes.specs.Changes.{TurnRoom}
 use Rattle.mesh.specs.Widths.{pointColumns}
 
 -- ---- the first that passes
@@ -61,6 +61,16 @@ and-last true true = refl
 and-last true false = refl
 and-last false t = refl
 
+-- of two corners, the one that isn't v
+far-end : (v x y : ℕ) → headOr v (besides v (x ∷ y ∷ [])) ≡ pick (eqb x v) y x
+unfolding besides sift
+far-end v x y = by (ℕ-discrete x v) (ℕ-discrete y v)
+  where
+    by : Dec (x ≡ v) → Dec (y ≡ v) → headOr v (besides v (x ∷ y ∷ [])) ≡ pick (eqb x v) y x
+    by (yes p) (yes q) = rw (eq-eqb x v p, eq-eqb y v q) (sym q)
+    by (yes p) (no q) = rw (eq-eqb x v p, ne-eqb y v q)
+    by (no p) _ = rw (ne-eqb x v p)
+
 module _ {k n : ℕ} {verts groups : List ℕ} (O : Opening) (R : Ringed k O n verts groups) (x y : ℕ) where
   -- by its row
   holding-row : (i : ℕ) → i < n → holding x y (partAt O i) ≡ rowHolds x y k verts i
@@ -83,14 +93,14 @@ module _ {k n : ℕ} {verts groups : List ℕ} (O : Opening) (R : Ringed k O n v
       find-nothing (holding x y) blankPart (O .fan) (λ j l. holding-row j (omega arith) ∙ F .earlier j (omega arith))
 
   -- its group
-  pub side-held : (M : Mesh) (i : ℕ) → FirstHolder x y n k verts i → i < n → getD groups i 0 ≡ sideGroup M O (record { a = x; b = y })
+  pub side-held : (M : Mesh) (i : ℕ) → FirstHolder x y n k verts i → i < n → getD groups i 0 ≡ sideGroup M O (record { corners = x ∷ y ∷ [] })
   unfolding sideGroup
   side-held M i F h = rw (follows-first i F h) (sym (R .group-is i h))
 
   -- the group that points to the other end
-  pub side-far : (M : Mesh) (i z r : ℕ) → FirstHolder x y n k verts i → n ≤ i → pick (eqb x (O .v)) y x ≡ z → r ≡ toward M O z → r ≡ sideGroup M O (record { a = x; b = y })
+  pub side-far : (M : Mesh) (i z r : ℕ) → FirstHolder x y n k verts i → n ≤ i → pick (eqb x (O .v)) y x ≡ z → r ≡ toward M O z → r ≡ sideGroup M O (record { corners = x ∷ y ∷ [] })
   unfolding sideGroup
-  side-far M i z r F h e q = rw (follows-none i F h, e) q
+  side-far M i z r F h e q = rw (follows-none i F h, far-end (O .v) x y, e) q
 
 -- ---- no group that is pointed to is larger than the groups
 
@@ -200,7 +210,7 @@ module _ {x y v before k n : ℕ} {verts groups : List ℕ} {points : List Float
       record {
         is =
             λ O M count p B I.
-            let s : Side = record { a = x; b = y } in
+            let s : Side = record { corners = x ∷ y ∷ [] } in
             let q : g ≡ sideGroup M O s = G .is O M p (B .ringed) (B .at) (B .rests) I in
             ap (λ (w : ℕ). turned v w s) (e ∙ ap (copyFor v before) q)
             ∙ sym (followed-as O M v before s (B .at) (B .before-is) ∙ ap (λ (b : Bool). pick b (turned v (copyFor v before (sideGroup M O s)) s) s) t);
@@ -225,8 +235,8 @@ row-holds v i S s = refl
 -- ---- one entry
 
 module _ {i v before k n b : ℕ} {verts groups : List ℕ} {points : List Float} {s table : List ℕ} (P : EntryRoom i v before k n b verts groups points s table) where
-  row-is : sideRow (length s / 2) s i ≡ record { a = getD s i 0; b = getD s (length s / 2 + i) 0 }
-  row-is = λ j. record { a = col-0 0 (length s / 2) s i j; b = col-1 0 (length s / 2) s i j }
+  row-is : sideRow (length s / 2) s i ≡ record { corners = getD s i 0 ∷ (getD s (length s / 2 + i) 0) ∷ [] }
+  row-is = λ j. record { corners = col-0 0 (length s / 2) s i j ∷ col-1 0 (length s / 2) s i j ∷ [] }
 
   -- it lies in the block
   pub entry-in : i < length s / 2
@@ -253,12 +263,12 @@ module _ {i v before k n b : ℕ} {verts groups : List ℕ} {points : List Float
         low = let g = holds-get 2 (cell 0 (length s / 2) s) i v (P .holding) in subst (λ (z : ℕ). z < 1024) (g .1 .1) (P .linked .apart .below (g .0) i (g .1 .0) (P .here))
 
     -- and then it follows
-    pub entry-followed : {s′ : List ℕ} → RowTurned 2 i v w s s′ → EntryFollowed i v before k n verts groups points s s′
+    pub entry-followed : {s′ : List ℕ} → RowTurned 2 (length s / 2) i v w s s′ → EntryFollowed i v before k n verts groups points s s′
     entry-followed {s′} T =
-        let row : sideRow (length s / 2) s′ i ≡ turned v w (sideRow (length s / 2) s i) = λ j. record { a = T .here 0 (omega arith) j; b = T .here 1 (omega arith) j } in
+        let row : sideRow (length s / 2) s′ i ≡ turned v w (sideRow (length s / 2) s i) = λ j. record { corners = T .here 0 (omega arith) j ∷ T .here 1 (omega arith) j ∷ [] } in
         record {
           here = λ O M count p B I. row ∙ ap (turned v w) row-is ∙ C .is O M count p B I ∙ ap (followed M O) (sym row-is);
-          others = λ j hj ne t. record { a = T .others 0 j hj ne t; b = T .others 1 j hj ne t };
+          others = λ j hj ne t. record { corners = T .others 0 j hj ne t ∷ T .others 1 j hj ne t ∷ [] };
         }
 
 -- ---- the loop over the entries
@@ -290,9 +300,9 @@ module _ {v before k n count p b : ℕ} {verts groups : List ℕ} {points : List
         let e = half in
         let l = R .entries in
         let row = F .rest i (omega arith) (omega arith) in
-        let a : getD s i 0 ≡ cell 0 (length s₀ / 2) s₀ 0 i = sym (col-0 0 (length s₀ / 2) s i) ∙ ap (λ (t : Side). t .a) row in
+        let a : getD s i 0 ≡ cell 0 (length s₀ / 2) s₀ 0 i = sym (col-0 0 (length s₀ / 2) s i) ∙ ap (λ (t : Side). getD (t .corners) 0 0) row in
         let c : getD s (length s / 2 + i) 0 ≡ cell 0 (length s₀ / 2) s₀ 1 i =
-        ap (λ (m : ℕ). getD s (m + i) 0) e ∙ sym (col-1 0 (length s₀ / 2) s i) ∙ ap (λ (t : Side). t .b) row in
+        ap (λ (m : ℕ). getD s (m + i) 0) e ∙ sym (col-1 0 (length s₀ / 2) s i) ∙ ap (λ (t : Side). getD (t .corners) 1 0) row in
         let v-in = R .v-in in
         record {
           rests-in = high;
@@ -318,8 +328,8 @@ module _ {v before k n count p b : ℕ} {verts groups : List ℕ} {points : List
         row = let l = R .entries in F .rest i (omega arith) (omega arith)
 
         same : (c : ℕ) → c < 2 → cell 0 (length s / 2) s c i ≡ cell 0 (length s₀ / 2) s₀ c i
-        same zero x = ap (λ (m : ℕ). cell 0 m s 0 i) half ∙ ap (λ (t : Side). t .a) row
-        same (suc zero) x = ap (λ (m : ℕ). cell 0 m s 1 i) half ∙ ap (λ (t : Side). t .b) row
+        same zero x = ap (λ (m : ℕ). cell 0 m s 0 i) half ∙ ap (λ (t : Side). getD (t .corners) 0 0) row
+        same (suc zero) x = ap (λ (m : ℕ). cell 0 m s 1 i) half ∙ ap (λ (t : Side). getD (t .corners) 1 0) row
         same (suc (suc c)) x = absurd (omega arith)
 
         low : (c : ℕ) → c < 2 → cell 0 (length s₀ / 2) s₀ c i < before

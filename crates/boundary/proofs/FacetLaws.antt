@@ -123,19 +123,19 @@ module _ (m a b : ℕ) (s : List ℕ) (h : m + 1 ≤ length s / 2) where
   unfolding s₁ s₂
   at-1 = store-same 0 (length s / 2) s₁ 1 m b (simp length-set (omega arith))
 
-  pushed-cols : boundaryAt (m + 1) s₂ ≡ boundaryAt m s ++ (record { a = a; b = b } ∷ [])
+  pushed-cols : boundaryAt (m + 1) s₂ ≡ boundaryAt m s ++ (record { corners = a ∷ b ∷ [] } ∷ [])
   unfolding boundaryAt
   pushed-cols =
       ap (λ (z : ℕ). tab (m + 1) (sideRow (z / 2) s₂)) long
-      ∙ rows-push m (sideRow (length s / 2) s) (sideRow (length s / 2) s₂) (record { a = a; b = b }) (λ j l i. record { a = old 0 j l i; b = old 1 j l i }) (λ i. record { a = at-0 i; b = at-1 i })
+      ∙ rows-push m (sideRow (length s / 2) s) (sideRow (length s / 2) s₂) (record { corners = a ∷ b ∷ [] }) (λ j l i. record { corners = old 0 j l i ∷ old 1 j l i ∷ [] }) (λ i. record { corners = at-0 i ∷ at-1 i ∷ [] })
 
-  pub side-pushed : boundaryAt (m + 1) (set (set s m a) (length s / 2 + m) b) ≡ boundaryAt m s ++ (record { a = a; b = b } ∷ [])
+  pub side-pushed : boundaryAt (m + 1) (set (set s m a) (length s / 2 + m) b) ≡ boundaryAt m s ++ (record { corners = a ∷ b ∷ [] } ∷ [])
   unfolding s₁ s₂
   side-pushed =
       let e₀ : 0 * (length s / 2) + m ≡ m = omega arith in
       let e₁ : 1 * (length s / 2) + m ≡ length s / 2 + m = omega arith in
-      subst (λ (j : ℕ). boundaryAt (m + 1) (set (set s m a) j b) ≡ boundaryAt m s ++ (record { a = a; b = b } ∷ [])) e₁
-      (subst (λ (j : ℕ). boundaryAt (m + 1) (set (set s j a) (1 * (length s / 2) + m) b) ≡ boundaryAt m s ++ (record { a = a; b = b } ∷ [])) e₀ pushed-cols)
+      subst (λ (j : ℕ). boundaryAt (m + 1) (set (set s m a) j b) ≡ boundaryAt m s ++ (record { corners = a ∷ b ∷ [] } ∷ [])) e₁
+      (subst (λ (j : ℕ). boundaryAt (m + 1) (set (set s j a) (1 * (length s / 2) + m) b) ≡ boundaryAt m s ++ (record { corners = a ∷ b ∷ [] } ∷ [])) e₀ pushed-cols)
 
 module _ (face : Face) (m room : ℕ) (s : List ℕ) (few : m ≤ room) where
   pub append-none : face ≡ No → SidesGrown (faceIs face) m room s s (Rows m)
@@ -397,26 +397,26 @@ module _ {m room : ℕ} {s table : List ℕ} (T : FacetTable m room s table) (R 
   many = simp length-set
 
   -- its cells, and those before it
-  pushed : boundaryAt (m + 1) s″ ≡ boundaryAt m s ++ (record { a = a; b = b } ∷ [])
+  pushed : boundaryAt (m + 1) s″ ≡ boundaryAt m s ++ (record { corners = a ∷ b ∷ [] } ∷ [])
   pushed = side-pushed m a b s fits
 
-  row-new : sideRow (length s″ / 2) s″ m ≡ record { a = a; b = b }
+  row-new : sideRow (length s″ / 2) s″ m ≡ record { corners = a ∷ b ∷ [] }
   unfolding boundaryAt
   row-new =
-      sym (tab-at (m + 1) (sideRow (length s″ / 2) s″) m (record { a = 0; b = 0 }) (omega arith)) ∙ ap (λ (l : List Side). getD l m (record { a = 0; b = 0 })) pushed
-      ∙ getD-at (boundaryAt m s) (record { a = a; b = b }) [] (record { a = 0; b = 0 }) m (sides-many m s)
+      sym (tab-at (m + 1) (sideRow (length s″ / 2) s″) m (record { corners = 0 ∷ 0 ∷ [] }) (omega arith)) ∙ ap (λ (l : List Side). getD l m (record { corners = 0 ∷ 0 ∷ [] })) pushed
+      ∙ getD-at (boundaryAt m s) (record { corners = a ∷ b ∷ [] }) [] (record { corners = 0 ∷ 0 ∷ [] }) m (sides-many m s)
 
   row-old : (j : ℕ) → j < m → sideRow (length s″ / 2) s″ j ≡ sideRow (length s / 2) s j
   unfolding boundaryAt
   row-old j h =
       let l : j < length (boundaryAt m s) = omega (arith, sides-many m s) in
-      sym (tab-at (m + 1) (sideRow (length s″ / 2) s″) j (record { a = 0; b = 0 }) (omega arith)) ∙ ap (λ (l : List Side). getD l j (record { a = 0; b = 0 })) pushed
-      ∙ List·getD-append (boundaryAt m s) (record { a = a; b = b } ∷ []) (record { a = 0; b = 0 }) j l
-      ∙ tab-at m (sideRow (length s / 2) s) j (record { a = 0; b = 0 }) h
+      sym (tab-at (m + 1) (sideRow (length s″ / 2) s″) j (record { corners = 0 ∷ 0 ∷ [] }) (omega arith)) ∙ ap (λ (l : List Side). getD l j (record { corners = 0 ∷ 0 ∷ [] })) pushed
+      ∙ List·getD-append (boundaryAt m s) (record { corners = a ∷ b ∷ [] } ∷ []) (record { corners = 0 ∷ 0 ∷ [] }) j l
+      ∙ tab-at m (sideRow (length s / 2) s) j (record { corners = 0 ∷ 0 ∷ [] }) h
 
   same : (c j : ℕ) → c < 2 → j < m → cell 0 (length s / 2) s c j ≡ cell 0 (length s″ / 2) s″ c j
-  same zero j x h = sym (ap (λ (r : Side). r .a) (row-old j h))
-  same (suc zero) j x h = sym (ap (λ (r : Side). r .b) (row-old j h))
+  same zero j x h = sym (ap (λ (r : Side). getD (r .corners) 0 0) (row-old j h))
+  same (suc zero) j x h = sym (ap (λ (r : Side). getD (r .corners) 1 0) (row-old j h))
   same (suc (suc c)) j x h = absurd (omega arith)
 
   few : m + 1 ≤ 2048
@@ -426,13 +426,13 @@ module _ {m room : ℕ} {s table : List ℕ} (T : FacetTable m room s table) (R 
   rows = omega (arith, many, fits)
 
   first : cell 0 (length s″ / 2) s″ 0 m < 1024
-  first = subst (λ (z : ℕ). z < 1024) (sym (ap (λ (r : Side). r .a) row-new)) (A .0)
+  first = subst (λ (z : ℕ). z < 1024) (sym (ap (λ (r : Side). getD (r .corners) 0 0) row-new)) (A .0)
 
   second : cell 0 (length s″ / 2) s″ 1 m < 1024
-  second = subst (λ (z : ℕ). z < 1024) (sym (ap (λ (r : Side). r .b) row-new)) (A .1)
+  second = subst (λ (z : ℕ). z < 1024) (sym (ap (λ (r : Side). getD (r .corners) 1 0) row-new)) (A .1)
 
   differ : cell 0 (length s″ / 2) s″ 0 m ≡ cell 0 (length s″ / 2) s″ 1 m → ⊥
-  differ e = A .2 (sym (ap (λ (r : Side). r .a) row-new) ∙ e ∙ ap (λ (r : Side). r .b) row-new)
+  differ e = A .2 (sym (ap (λ (r : Side). getD (r .corners) 0 0) row-new) ∙ e ∙ ap (λ (r : Side). getD (r .corners) 1 0) row-new)
 
   -- it can be put into the table, by the columns as they were
   pub face-room : AppendRoom 1024 2 2048 (length s / 2) m s″ table

@@ -11,6 +11,8 @@ use Rattle.lists.specs.Lists.{stands, all, find, each}
 use Rattle.model.specs.Elements.{Triangles, sideEnds}
 use Rattle.model.specs.Split.{Opening, oneOrNone, faceOn, facetsAt, crackFacets}
 use Rattle.mesh.specs.At.{trianglesAt, boundaryAt}
+use Rattle.mesh.specs.Widths.{cornerColumns}
+use Rattle.mesh.specs.Limits.{particleLimit}
 use Rattle.split_plan.specs.Opened.{partAt, Numbered, Ringed, RingRoom}
 use Rattle.work.specs.Rows.{GrownTo, Between}
 use Rattle.boundary.specs.declared.facets.Face.{Face}
@@ -22,7 +24,7 @@ use Rattle.links.specs.Linked.{SidesLinked}
 -- the face that was found, as a list
 abbrev pub faceIs : Face → List Side
 faceIs No = []
-faceIs (Ends a b) = record { a = a; b = b } ∷ []
+faceIs (Ends a b) = record { corners = a ∷ b ∷ [] } ∷ []
 
 -- is w the copy, or a particle besides v of both lists: `onFacet` of two parts with these corners
 abbrev pub onBy : ℕ → ℕ → List ℕ → List ℕ → ℕ → Bool
@@ -30,7 +32,7 @@ onBy v copy p q w = eqb w copy || (not (eqb w v) && stands w p && stands w q)
 
 -- the faces of the triangle (x, y, z)
 abbrev pub facesBy : ℕ → ℕ → ℕ → List Side
-facesBy x y z = record { a = x; b = y } ∷ record { a = y; b = z } ∷ record { a = z; b = x } ∷ []
+facesBy x y z = record { corners = x ∷ y ∷ [] } ∷ record { corners = y ∷ z ∷ [] } ∷ record { corners = z ∷ x ∷ [] } ∷ []
 
 -- the first face with both ends on the facet
 unfoldable pub foundBy : ℕ → ℕ → List ℕ → List ℕ → List Side → List Side
@@ -39,13 +41,13 @@ foundBy v copy p q faces = oneOrNone (find (λ (s : Side). all (onBy v copy p q)
 -- a face that was found has two different ends, among 1,024 particles
 abbrev pub FaceApart : Face → Type 0
 FaceApart No = Unit {0}
-FaceApart (Ends a b) = (a < 1024) × (b < 1024) × (a ≡ b → ⊥)
+FaceApart (Ends a b) = (a < particleLimit) × (b < particleLimit) × (a ≡ b → ⊥)
 
 -- the corners x, y and z are different ones of 1,024 particles
 pub record ThreeApart (x y z : ℕ) : Type 0 where
-  pub x-in : x < 1024
-  pub y-in : y < 1024
-  pub z-in : z < 1024
+  pub x-in : x < particleLimit
+  pub y-in : y < particleLimit
+  pub z-in : z < particleLimit
   pub first : x ≡ y → ⊥
   pub second : y ≡ z → ⊥
   pub third : z ≡ x → ⊥
@@ -53,7 +55,7 @@ pub record ThreeApart (x y z : ℕ) : Type 0 where
 -- so are those of each triangle that the first n numbers name
 abbrev pub FanApart : ℕ → List ℕ → List ℕ → Type 0
 FanApart n numbers corners =
-    (i : ℕ) → i < n → ThreeApart (getD corners (getD numbers i 0) 0) (getD corners (length corners / 3 + getD numbers i 0) 0) (getD corners (2 * (length corners / 3) + getD numbers i 0) 0)
+    (i : ℕ) → i < n → ThreeApart (getD corners (getD numbers i 0) 0) (getD corners (length corners / cornerColumns + getD numbers i 0) 0) (getD corners (2 * (length corners / cornerColumns) + getD numbers i 0) 0)
 
 -- an opening of triangles in tables, and a mesh whose triangles have these corners
 pub record FacetsIn (O : Opening) (M : Mesh) (t : ℕ) (volumes : List Float) (v before n count : ℕ) (numbers verts groups corners : List ℕ) : Type 0 where
@@ -70,7 +72,7 @@ pub record FaceRoom (before n count : ℕ) (numbers : List ℕ) (lv lg lc : ℕ)
   pub ring : RingRoom n 3 lv lg
   pub small : before + count ≤ 65536
   pub numbers-long : n ≤ length numbers
-  pub numbers-in : (i : ℕ) → i < n → getD numbers i 0 < lc / 3
+  pub numbers-in : (i : ℕ) → i < n → getD numbers i 0 < lc / cornerColumns
 
 -- the face of part r on the facet between parts i and j
 pub record FaceFound (i j r v before n count : ℕ) (numbers verts groups corners : List ℕ) (face : Face) : Type 0 where

@@ -97,7 +97,7 @@ fn follow_entry(
     ensures { λ _. ⌜ EntryFollowed i v before k n (now (verts .entry)) (now (groups .entry)) (now (points .entry)) (now (outline .entry))
         (now (outline .exit)) × SidesLinked b (now (outline .exit)) (now (table .exit)) ⌝ }
 {
-    let j = outline.len() / 2 + i;
+    let j = outline.len() / mesh::SIDE_COLUMNS + i;
     let x = outline[i];
     let y = outline[j];
     let w = side_copy(x, y, v, before, k, n, verts, groups, points);
@@ -125,8 +125,18 @@ pub fn follow_boundary(
     ensures { λ _. ⌜ SidesFollowed v before k n count p b (now (verts .entry)) (now (groups .entry)) (now (points .entry))
         (now (outline .entry)) (now (outline .exit)) × SidesLinked b (now (outline .exit)) (now (table .exit)) ⌝ }
 {
-    let span = outline.len() / 2;
-    let named = links::cells_at(v, b, 2, 1024, 2048, span, outline, table, list);
+    let span = outline.len() / mesh::SIDE_COLUMNS;
+    let named = links::cells_at(
+        v,
+        b,
+        mesh::SIDE_COLUMNS,
+        mesh::PARTICLES,
+        mesh::BOUNDARY,
+        span,
+        outline,
+        table,
+        list,
+    );
     let mut q: usize = 0;
     while q < named {
         follow_entry(

@@ -76,7 +76,7 @@ fn face_of(
     ensures { λ f. ⌜ FaceFound i j r v before n count (now (numbers .entry)) (now (verts .entry)) (now (groups .entry))
         (now (corners .entry)) f × FaceApart f ⌝ }
 {
-    let c = corners.len() / 3;
+    let c = corners.len() / mesh::CORNER_COLUMNS;
     let t = numbers[r];
     let copy = split_plan::copy_number(v, before, count, groups[r]);
     let a = i * 3;
@@ -97,7 +97,8 @@ fn face_of(
 // Appends a face that was found to the m entries, and to their table.
 fn append_face(face: Face, m: usize, room: usize, outline: &mut [usize], table: &mut [u16]) -> Grown
     requires { ⌜ SideRoom m room (length (now outline)) × FacetTable m room (now outline) (now table) × FaceApart face ⌝ }
-    ensures { λ r. ⌜ SidesGrown (faceIs face) m room (now (outline .entry)) (now (outline .exit)) r × GrownLinked r (now (outline .exit)) (now (table .exit)) ⌝ }
+    ensures { λ r. ⌜ SidesGrown (faceIs face) m room (now (outline .entry)) (now (outline .exit)) r × GrownLinked r (now (outline .exit))
+        (now (table .exit)) ⌝ }
 {
     let Face::Ends(a, b) = face else {
         return Grown::Rows(m);
@@ -105,10 +106,18 @@ fn append_face(face: Face, m: usize, room: usize, outline: &mut [usize], table: 
     if m == room {
         return Grown::Lacking;
     }
-    let o = outline.len() / 2;
+    let o = outline.len() / mesh::SIDE_COLUMNS;
     outline[m] = a;
     outline[o + m] = b;
-    link_changes::append_cell(m, 2, 1024, 2048, o, outline, table);
+    link_changes::append_cell(
+        m,
+        mesh::SIDE_COLUMNS,
+        mesh::PARTICLES,
+        mesh::BOUNDARY,
+        o,
+        outline,
+        table,
+    );
     Grown::Rows(m + 1)
 }
 

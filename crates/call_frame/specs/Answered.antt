@@ -11,6 +11,7 @@ use Rattle.mesh.specs.Log.{World, worldOf}
 use Rattle.mesh.specs.Given.{Lent}
 use Rattle.mesh.specs.Filled.{Filled}
 use Rattle.mesh.specs.declared.Counts.{Counts}
+use Rattle.mesh.specs.Widths.{entryWords}
 use Rattle.call_frame.specs.declared.Answer.{Answer}
 use Rattle.call_frame.specs.declared.Answer.the-variants.{Refused, Done}
 
@@ -39,4 +40,4 @@ pub record Answered (o : Outcome) (L : Lent) (a : Answer) (p : List Float) (r c 
 
 -- the log handed back: the words of its first n entries, or of as many as it has
 abbrev pub frontOf : ℕ → List ℕ → List ℕ
-frontOf n log = take (6 * min n (length log / 6)) log
+frontOf n log = take (6 * min n (length log / entryWords)) log

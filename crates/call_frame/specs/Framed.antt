@@ -15,7 +15,7 @@ use Rattle.mesh.specs.Given.{Given, Lent, sizes, sizesFit, asRooms}
 use Rattle.mesh.specs.Filled.{Filled, Fits}
 use Rattle.mesh.specs.declared.Counts.{Counts}
 use Rattle.mesh.specs.declared.Rooms.{Rooms}
-use Rattle.mesh.specs.Widths.{pointColumns}
+use Rattle.mesh.specs.Widths.{pointColumns, cornerColumns, endColumns, lengthColumns, rootColumns, volumeColumns, sideColumns}
 use Rattle.work.specs.Working.{Within}
 use Rattle.work.specs.declared.Ran.{Ran}
 use Rattle.work.specs.declared.Ran.the-variants.{Refused as Stopped, Done as Ended}
@@ -46,12 +46,12 @@ begunWith code L N = pick (eqb code 0) (firstFault L (start N .needs)) code
 -- the rooms are within the columns of the seven blocks
 pub record RoomsLent (R : Rooms) (I : Lent) : Type 0 where
   pub points : R .particles ≤ I .points / pointColumns
-  pub roots : R .particles ≤ I .roots / 2
-  pub corners : R .triangles ≤ I .corners / 3
-  pub volumes : R .triangles ≤ I .volumes / 2
-  pub ends : R .edges ≤ I .ends / 4
-  pub lengths : R .edges ≤ I .lengths / 4
-  pub outline : R .boundary ≤ I .outline / 2
+  pub roots : R .particles ≤ I .roots / rootColumns
+  pub corners : R .triangles ≤ I .corners / cornerColumns
+  pub volumes : R .triangles ≤ I .volumes / volumeColumns
+  pub ends : R .edges ≤ I .ends / endColumns
+  pub lengths : R .edges ≤ I .lengths / lengthColumns
+  pub outline : R .boundary ≤ I .outline / sideColumns
 
 -- what is asked before an input is copied: where nothing has refused it, its sizes fit, and its triangles have room
 pub record BeginAsked (code : ℕ) (R : Rooms) (G : Given) (I : Lent) : Type 0 where

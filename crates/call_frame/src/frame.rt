@@ -16,13 +16,13 @@ pub fn lacking(k: Counts, room: Rooms) -> usize
     ensures { λ r. ⌜ r ≡ tooSmall (asRooms room) (copyNeed k) ⌝ }
 {
     if room.particles < k.particles {
-        return 5;
+        return mesh::refusals::PARTICLES;
     }
     if room.edges < k.edges {
-        return 6;
+        return mesh::refusals::EDGES;
     }
     if room.boundary < k.boundary {
-        return 7;
+        return mesh::refusals::BOUNDARY;
     }
     0
 }
@@ -56,9 +56,9 @@ pub fn begin(
     }
     let k = Counts {
         particles: in_points.len() / mesh::POINT_COLUMNS,
-        triangles: in_corners.len() / 3,
-        edges: in_ends.len() / 4,
-        boundary: in_outline.len() / 2,
+        triangles: in_corners.len() / mesh::CORNER_COLUMNS,
+        edges: in_ends.len() / mesh::END_COLUMNS,
+        boundary: in_outline.len() / mesh::SIDE_COLUMNS,
         log: 0,
     };
     let lack = lacking(k, room);

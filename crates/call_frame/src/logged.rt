@@ -3,6 +3,7 @@ ghost use mathlib.Core.Path.{_≡_};
 ghost use Prim.Native.Nat.{_/_, _≤_};
 ghost use lib.ListN.{length};
 ghost use Rattle.mesh.specs.Log.{logAt};
+ghost use Rattle.mesh.specs.Widths.{entryWords};
 ghost use Rattle.call_frame.specs.Framed.{kindChanges, wordsChange};
 ghost use Rattle.call_frame.specs.Answered.{frontOf};
 
@@ -15,7 +16,7 @@ fn kind_changes(kind: u32) -> bool
 
 // Was anything split or inserted, by the first n entries of a log?
 pub fn changed(n: usize, log: &[u32]) -> bool
-    requires { ⌜ n ≤ length (now log) / 6 ⌝ }
+    requires { ⌜ n ≤ length (now log) / entryWords ⌝ }
     ensures { λ r. ⌜ r ≡ wordsChange (logAt n (now (log .entry))) ⌝ }
 {
     let mut i: usize = 0;
@@ -32,7 +33,7 @@ pub fn changed(n: usize, log: &[u32]) -> bool
 pub fn log_front(n: usize, log: &[u32]) -> &[u32]
     ensures { λ r. ⌜ now r ≡ frontOf n (now (log .entry)) ⌝ }
 {
-    let most = log.len() / 6;
+    let most = log.len() / mesh::ENTRY_WORDS;
     let end = 6 * mesh::whole::least(n, most);
     &log[..end]
 }

@@ -5,20 +5,21 @@ use mathlib.Core.List.{List}
 use lib.Dec.{eqb, leb}
 use Rattle.lists.specs.Lists.{pick}
 use Rattle.mesh.specs.declared.Rooms.{Rooms}
+use Rattle.mesh.specs.Limits.{particleLimit, triangleLimit, edgeLimit, boundaryLimit, entryLimit}
 use Rattle.image.specs.Words.{wordAt}
 
 -- rooms that are within the limits, and a log that its bytes have room for
 pub record Limited (R : Rooms) (logged : ℕ) : Type 0 where
-  pub particles : R .particles ≤ 1024
-  pub triangles : R .triangles ≤ 1024
-  pub edges : R .edges ≤ 2048
-  pub boundary : R .boundary ≤ 2048
-  pub log : R .log ≤ 4096
+  pub particles : R .particles ≤ particleLimit
+  pub triangles : R .triangles ≤ triangleLimit
+  pub edges : R .edges ≤ edgeLimit
+  pub boundary : R .boundary ≤ boundaryLimit
+  pub log : R .log ≤ entryLimit
   pub entries : 24 * R .log ≤ logged
 
 -- the rooms of four words and of so many log bytes, as the program has them
 unfoldable pub roomsGiven : List ℕ → ℕ → Rooms
-roomsGiven s logged = record { particles = min 1024 (wordAt s 0); triangles = min 1024 (wordAt s 1); edges = min 2048 (wordAt s 2); boundary = min 2048 (wordAt s 3); log = min 4096 (logged / 24) }
+roomsGiven s logged = record { particles = min particleLimit (wordAt s 0); triangles = min triangleLimit (wordAt s 1); edges = min edgeLimit (wordAt s 2); boundary = min boundaryLimit (wordAt s 3); log = min entryLimit (logged / 24) }
 
 -- the refusal of a job, where the rooms are four words or not: if not, 4 in the place of none and of those behind it
 abbrev pub roomsToo : ℕ → Bool → ℕ

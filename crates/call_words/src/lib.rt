@@ -22,11 +22,11 @@ pub fn rooms_in(rooms: &[u8], logged: usize) -> Rooms
         };
     }
     Rooms {
-        particles: mesh::whole::least(1024, image::word_at(rooms, 0)),
-        triangles: mesh::whole::least(1024, image::word_at(rooms, 1)),
-        edges: mesh::whole::least(2048, image::word_at(rooms, 2)),
-        boundary: mesh::whole::least(2048, image::word_at(rooms, 3)),
-        log: mesh::whole::least(4096, logged / 24),
+        particles: mesh::whole::least(mesh::PARTICLES, image::word_at(rooms, 0)),
+        triangles: mesh::whole::least(mesh::TRIANGLES, image::word_at(rooms, 1)),
+        edges: mesh::whole::least(mesh::EDGES, image::word_at(rooms, 2)),
+        boundary: mesh::whole::least(mesh::BOUNDARY, image::word_at(rooms, 3)),
+        log: mesh::whole::least(mesh::ENTRIES, logged / 24),
     }
 }
 
@@ -38,9 +38,9 @@ pub fn with_rooms(code: usize, sixteen: bool) -> usize
         return code;
     }
     if code == 0 {
-        return 4;
+        return mesh::refusals::ARGUMENT;
     }
-    mesh::whole::least(code, 4)
+    mesh::whole::least(code, mesh::refusals::ARGUMENT)
 }
 
 // Does a refusal say that a room lacks?

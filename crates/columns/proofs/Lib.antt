@@ -4,3 +4,4 @@ pub mod Keep
 pub mod Sweep
 pub mod Cells
 pub mod Blocks
+pub mod RowLaws

@@ -1,13 +1,22 @@
 -- A block: columns of R places each, one behind the other. Definitions only; their laws are in proofs/Cells.antt.
 use Prim.Native.Nat.{ℕ, zero, suc, _+_, _*_, _<_, _≤_}
 use mathlib.Core.Path.{_≡_}
-use mathlib.Core.List.{List, [], _++_}
+use mathlib.Core.List.{List, [], _∷_, _++_}
 use lib.ListN.{getD}
 use Rattle.lists.specs.Lists.{keptOf, nth, padded}
+use Rattle.lists.specs.Labels.{replaced}
 
 -- what column c of the block s has at place k, or d past the block's end
 unfoldable pub cell : {A : Type 0} → A → ℕ → List A → ℕ → ℕ → A
 cell d R s c k = getD s (c * R + k) d
+
+-- row k: what the w columns from column c on have at place k; and all w columns
+abbrev pub rowFrom : ℕ → ℕ → ℕ → List ℕ → ℕ → List ℕ
+rowFrom zero c R s k = []
+rowFrom (suc w) c R s k = cell 0 R s c k ∷ rowFrom w (suc c) R s k
+
+abbrev pub rowAt : ℕ → ℕ → List ℕ → ℕ → List ℕ
+rowAt w R s k = rowFrom w 0 R s k
 
 -- column 0, column 1, .., column w - 1, one behind the other
 unfoldable pub stack : {A : Type 0} → ℕ → (ℕ → List A) → List A
@@ -38,3 +47,14 @@ pub record BlockCopied {A : Type 0} (d : A) (n w R : ℕ) (src s′ : List A) : 
 pub record RowCopied {A : Type 0} (d : A) (v i w R : ℕ) (s s′ : List A) : Type 0 where
   pub new : (c : ℕ) → c < w → cell d R s′ c i ≡ cell d R s c v
   pub old : (c k : ℕ) → k < R → (k ≡ i → ⊥) → cell d R s′ c k ≡ cell d R s c k
+
+-- row i is within columns of R places, and the first k columns are within the len places of the block
+pub record RowIn (k R i len : ℕ) : Type 0 where
+  pub here : i < R
+  pub columns : k * R ≤ len
+
+-- row i has w for v in the first k columns, and no other cell changed
+pub record RowTurned (k R i v w : ℕ) (s s′ : List ℕ) : Type 0 where
+  pub here : (c : ℕ) → c < k → cell 0 R s′ c i ≡ replaced v w (cell 0 R s c i)
+  pub beside : (c j : ℕ) → k ≤ c → j < R → cell 0 R s′ c j ≡ cell 0 R s c j
+  pub others : (c j : ℕ) → j < R → (j ≡ i → ⊥) → cell 0 R s′ c j ≡ cell 0 R s c j

@@ -3,10 +3,10 @@ ghost use mathlib.Core.Path.{_≡_};
 ghost use Prim.Native.Nat.{ℕ, _+_, _≤_, _<_, _*_};
 ghost use lib.ListN.{length, take, drop};
 ghost use lib.Ieee.{nan};
-ghost use Rattle.lists.specs.Lists.{padded};
+ghost use Rattle.lists.specs.Lists.{padded, stands};
 ghost use Rattle.float.specs.Numbers.{zero32};
 ghost use Rattle.columns.specs.View.{NextMarked, Shifted};
-ghost use Rattle.columns.specs.Block.{BlockKept, BlockShifted, BlockCopied, RowCopied, blockOf};
+ghost use Rattle.columns.specs.Block.{BlockKept, BlockShifted, BlockCopied, RowCopied, RowIn, RowTurned, blockOf, rowAt};
 
 // The first place from `from` on and below n that the mask marks with 1; or n, if it marks none.
 pub fn next_marked(mask: &[usize], from: usize, n: usize) -> usize
@@ -148,6 +148,39 @@ pub fn copy_row_usize(v: usize, i: usize, width: usize, stride: usize, s: &mut [
     while c < width {
         s[o + i] = s[o + v];
         o += stride;
+        c += 1;
+    }
+}
+
+// Does row i hold v, in the first k of columns of `size` places each?
+pub fn row_holds(v: usize, i: usize, k: usize, size: usize, s: &[usize]) -> bool
+    requires { ⌜ RowIn k size i (length (now s)) ⌝ }
+    ensures { λ r. ⌜ r ≡ stands v (rowAt k size (now (s .entry)) i) ⌝ }
+{
+    let mut c: usize = 0;
+    let mut o: usize = 0;
+    while c < k {
+        if s[o + i] == v {
+            return true;
+        }
+        o += size;
+        c += 1;
+    }
+    false
+}
+
+// Puts w for v in row i of the first k columns.
+pub fn turn_row(i: usize, v: usize, w: usize, k: usize, size: usize, s: &mut [usize])
+    requires { ⌜ RowIn k size i (length (now s)) ⌝ }
+    ensures { λ _. ⌜ RowTurned k size i v w (now (s .entry)) (now (s .exit)) ⌝ }
+{
+    let mut c: usize = 0;
+    let mut o: usize = 0;
+    while c < k {
+        if s[o + i] == v {
+            s[o + i] = w;
+        }
+        o += size;
         c += 1;
     }
 }

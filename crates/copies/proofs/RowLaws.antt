@@ -1,18 +1,17 @@
 -- Laws of one edge: its tests, its row as a program reads it, and an end moved. Assumes nothing.
-use mathlib.Core.Path.{_≡_, sym, _∙_, ap, subst}
+use mathlib.Core.Path.{_≡_, sym, _∙_, ap}
 use mathlib.Core.Bool.{Bool, true, false, not, _&&_}
 use mathlib.Core.List.{List, [], _∷_}
 use Prim.Native.Nat.{ℕ, _+_, _*_, _/_, _<_, _≤_}
 use native.Mathlib.Omega.{arith}
 use borrow.Author.Tests.{eq-eqb, ne-eqb}
 use lib.Dec.{eqb}
-use lib.ListN.{length, getD, set, length-set}
+use lib.ListN.{length, getD}
 use lib.Ieee.{Float, nan}
 use Rattle.lists.specs.Lists.{stands}
-use Rattle.lists.specs.Labels.{replaced}
 use Rattle.lists.proofs.Truths.{pick-self}
-use Rattle.columns.specs.Block.{cell}
-use Rattle.columns.proofs.Cells.{store-same, store-row, store-col, col-0, col-1}
+use Rattle.columns.specs.Block.{cell, RowTurned}
+use Rattle.columns.proofs.Cells.{col-0, col-1}
 use Rattle.model.specs.Mesh.{Edge}
 use Rattle.mesh.specs.At.{edgeRow}
 use Rattle.mesh.specs.Workers.{rowAt}
@@ -62,74 +61,36 @@ row-read A B i =
       stress = getD B (3 * (length B / 4) + i) nan;
     }
 
--- two stores put w for v in the ends of edge i
-module _ (i v w : ℕ) (s : List ℕ) (a b : ℕ) (h : i < length s / 4) (ea : a ≡ replaced v w (getD s i 0)) (eb : b ≡ replaced v w (getD s (length s / 4 + i) 0)) where
-  s₁ : List ℕ
-  s₁ = set s (0 * (length s / 4) + i) a
-
-  s₂ : List ℕ
-  unfolding s₁
-  s₂ = set s₁ (1 * (length s / 4) + i) b
-
-  long : length s₂ ≡ length s
-  unfolding s₁ s₂
-  long = simp length-set
-
-  at-0 : cell 0 (length s / 4) s₂ 0 i ≡ replaced v w (cell 0 (length s / 4) s 0 i)
-  unfolding s₁ s₂
-  at-0 =
-      store-col 0 (length s / 4) s₁ 1 i b 0 i h h (λ q. omega arith) ∙ store-same 0 (length s / 4) s 0 i a (omega arith) ∙ ea
-      ∙ ap (replaced v w) (sym (col-0 0 (length s / 4) s i))
-
-  at-1 : cell 0 (length s / 4) s₂ 1 i ≡ replaced v w (cell 0 (length s / 4) s 1 i)
-  unfolding s₁ s₂
-  at-1 = store-same 0 (length s / 4) s₁ 1 i b (simp length-set (omega arith)) ∙ eb ∙ ap (replaced v w) (sym (col-1 0 (length s / 4) s i))
-
-  beside : (c : ℕ) → 2 ≤ c → cell 0 (length s / 4) s₂ c i ≡ cell 0 (length s / 4) s c i
-  unfolding s₁ s₂
-  beside c l = store-col 0 (length s / 4) s₁ 1 i b c i h h (λ q. omega arith) ∙ store-col 0 (length s / 4) s 0 i a c i h h (λ q. omega arith)
-
-  other-row : (c j : ℕ) → j < length s / 4 → (j ≡ i → ⊥) → cell 0 (length s / 4) s₂ c j ≡ cell 0 (length s / 4) s c j
-  unfolding s₁ s₂
-  other-row c j l n = store-row 0 (length s / 4) s₁ 1 i b c j l h n ∙ store-row 0 (length s / 4) s 0 i a c j l h n
-
-  moved-cols : EndsMoved i v w s s₂
-  moved-cols =
-      record {
-        here =
-            λ B.
-            ap (λ (m : ℕ). edgeRow (m / 4) (length B / 4) s₂ B i) long
-            ∙ (λ z.
-            record {
-              a = at-0 z;
-              b = at-1 z;
-              structural = beside 2 (omega arith) z;
-              torn = beside 3 (omega arith) z;
-              rest = cell nan (length B / 4) B 0 i;
-              initial = cell nan (length B / 4) B 1 i;
-              impulse = cell nan (length B / 4) B 2 i;
-              stress = cell nan (length B / 4) B 3 i;
-            });
-        others =
-            λ B j l n.
-            ap (λ (m : ℕ). edgeRow (m / 4) (length B / 4) s₂ B j) long
-            ∙ (λ z.
-            record {
-              a = other-row 0 j l n z;
-              b = other-row 1 j l n z;
-              structural = other-row 2 j l n z;
-              torn = other-row 3 j l n z;
-              rest = cell nan (length B / 4) B 0 j;
-              initial = cell nan (length B / 4) B 1 j;
-              impulse = cell nan (length B / 4) B 2 j;
-              stress = cell nan (length B / 4) B 3 j;
-            });
-      }
-
-  -- as the program writes the places
-  pub ends-moved : EndsMoved i v w s (set (set s i a) (length s / 4 + i) b)
-  unfolding s₁ s₂
-  ends-moved =
-      let e₀ : 0 * (length s / 4) + i ≡ i = omega arith in
-      let e₁ : 1 * (length s / 4) + i ≡ length s / 4 + i = omega arith in
-      subst (λ (j : ℕ). EndsMoved i v w s (set (set s i a) j b)) e₁ (subst (λ (j : ℕ). EndsMoved i v w s (set (set s j a) (1 * (length s / 4) + i) b)) e₀ moved-cols)
+-- a row turned in its first two columns is an edge with its ends moved
+pub ends-moved : (i v w : ℕ) (s s′ : List ℕ) → i < length s / 4 → length s′ ≡ length s → RowTurned 2 (length s / 4) i v w s s′ → EndsMoved i v w s s′
+ends-moved i v w s s′ h long T =
+    record {
+      here =
+          λ B.
+          ap (λ (m : ℕ). edgeRow (m / 4) (length B / 4) s′ B i) long
+          ∙ (λ z.
+          record {
+            a = T .here 0 (omega arith) z;
+            b = T .here 1 (omega arith) z;
+            structural = T .beside 2 i (omega arith) h z;
+            torn = T .beside 3 i (omega arith) h z;
+            rest = cell nan (length B / 4) B 0 i;
+            initial = cell nan (length B / 4) B 1 i;
+            impulse = cell nan (length B / 4) B 2 i;
+            stress = cell nan (length B / 4) B 3 i;
+          });
+      others =
+          λ B j l n.
+          ap (λ (m : ℕ). edgeRow (m / 4) (length B / 4) s′ B j) long
+          ∙ (λ z.
+          record {
+            a = T .others 0 j l n z;
+            b = T .others 1 j l n z;
+            structural = T .others 2 j l n z;
+            torn = T .others 3 j l n z;
+            rest = cell nan (length B / 4) B 0 j;
+            initial = cell nan (length B / 4) B 1 j;
+            impulse = cell nan (length B / 4) B 2 j;
+            stress = cell nan (length B / 4) B 3 j;
+          });
+    }

@@ -7,7 +7,7 @@ use lib.Ieee.{Float}
 use Rattle.lists.specs.Lists.{mapAt}
 use Rattle.model.specs.Split.{Opening, totalOf, copied, weighed, onlyAt}
 use Rattle.mesh.specs.At.{particlesAt}
-use Rattle.mesh.specs.Widths.{pointColumns}
+use Rattle.mesh.specs.Widths.{pointColumns, rootColumns}
 use Rattle.split_plan.specs.Opened.{Weighted}
 use Rattle.split_plan.specs.Answers.{Grouped}
 
@@ -31,7 +31,7 @@ pub record CopyRoom (v n count parts lg lm lp lr : ℕ) : Type 0 where
   pub groups-long : parts ≤ lg
   pub measures-long : parts ≤ lm
   pub points : n + count - 1 ≤ lp / pointColumns
-  pub roots : n + count - 1 ≤ lr / 2
+  pub roots : n + count - 1 ≤ lr / rootColumns
 
 -- v has mass m and inverse mass w, for any number of particles and whatever stands in the other block
 pub record Weighed (v : ℕ) (m w : Float) (points points′ : List Float) : Type 0 where

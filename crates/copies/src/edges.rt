@@ -9,6 +9,7 @@ ghost use Rattle.model.specs.Elements.{element?, endsOf, farEnd};
 ghost use Rattle.model.specs.Split.{moved as movedOf, calm as calmOf};
 ghost use Rattle.elements.specs.Table.{kindIs};
 ghost use Rattle.mesh.specs.Workers.{EdgeRoom, edgeOf, rowAt};
+ghost use Rattle.mesh.specs.Widths.{endColumns};
 ghost use Rattle.copies.specs.Ends.{EndsMoved};
 use elements::Kind;
 use mesh::EdgeRow;
@@ -28,8 +29,8 @@ pub fn edge_at(i: usize, ends: &[usize], lengths: &[f32]) -> EdgeRow
     requires { ⌜ EdgeRoom (i + 1) (length (now ends)) (length (now lengths)) ⌝ }
     ensures { λ r. ⌜ edgeOf r ≡ rowAt (now (ends .entry)) (now (lengths .entry)) i ⌝ }
 {
-    let e = ends.len() / 4;
-    let l = lengths.len() / 4;
+    let e = ends.len() / mesh::END_COLUMNS;
+    let l = lengths.len() / mesh::LENGTH_COLUMNS;
     EdgeRow {
         a: ends[i],
         b: ends[e + i],
@@ -83,13 +84,9 @@ pub fn copied(row: EdgeRow, v: usize, w: usize) -> EdgeRow
 
 // Puts w for v in the ends of edge i.
 pub fn move_ends(i: usize, v: usize, w: usize, ends: &mut [usize])
-    requires { ⌜ i < length (now ends) / 4 ⌝ }
+    requires { ⌜ i < length (now ends) / endColumns ⌝ }
     ensures { λ _. ⌜ EndsMoved i v w (now (ends .entry)) (now (ends .exit)) ⌝ }
 {
-    let e = ends.len() / 4;
-    let j = e + i;
-    let a = swapped(ends[i], v, w);
-    let b = swapped(ends[j], v, w);
-    ends[i] = a;
-    ends[j] = b;
+    let e = ends.len() / mesh::END_COLUMNS;
+    columns::turn_row(i, v, w, 2, e, ends);
 }

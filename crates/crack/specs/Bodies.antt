@@ -15,6 +15,8 @@ use Rattle.model.specs.Crack.{loadsOf, crackEdge, tornEnds}
 use Rattle.mesh.specs.Log.{World}
 use Rattle.mesh.specs.declared.Counts.{Counts}
 use Rattle.mesh.specs.declared.Rooms.{Rooms}
+use Rattle.mesh.specs.Widths.{endColumns}
+use Rattle.mesh.specs.Limits.{particleLimit}
 use Rattle.work.specs.Working.{Works, Logged}
 use Rattle.work.specs.Places.{EndsIn}
 use Rattle.work.specs.declared.Ran.{Ran}
@@ -29,15 +31,15 @@ pub record NarrowRoom (src : List ℕ) (ld : ℕ) : Type 0 where
 
 -- e edges stand in their block, their ends are below 1,024, and they have room in two tables
 pub record EndsRoom (e : ℕ) (ends : List ℕ) (lf lt : ℕ) : Type 0 where
-  pub inside : e ≤ length ends / 4
-  pub below : EndsIn 1024 e ends
+  pub inside : e ≤ length ends / endColumns
+  pub below : EndsIn particleLimit e ends
   pub first : e ≤ lf
   pub second : e ≤ lt
 
 -- the ends of the first e edges stand in two tables
 pub record EndsKept (e : ℕ) (ends from to : List ℕ) : Type 0 where
-  pub first : (i : ℕ) → i < e → getD from i 0 ≡ cell 0 (length ends / 4) ends 0 i
-  pub second : (i : ℕ) → i < e → getD to i 0 ≡ cell 0 (length ends / 4) ends 1 i
+  pub first : (i : ℕ) → i < e → getD from i 0 ≡ cell 0 (length ends / endColumns) ends 0 i
+  pub second : (i : ℕ) → i < e → getD to i 0 ≡ cell 0 (length ends / endColumns) ends 1 i
 
 -- the ends by those tables of the numbers in a list that are below e
 unfoldable pub endsListed : ℕ → List ℕ → List ℕ → List ℕ → List (ℕ × ℕ)
@@ -49,8 +51,8 @@ endsListed e from to is = map (λ i. (getD from i 0, getD to i 0)) (sift (λ i. 
 pub record CracksRoom (K : Kind) (e : ℕ) (from to : List ℕ) (k : Counts) (lo : ℕ) (log : List ℕ) : Type 0 where
   pub first : e ≤ length from
   pub second : e ≤ length to
-  pub first-few : (i : ℕ) → i < e → getD from i 0 < 1024
-  pub second-few : (i : ℕ) → i < e → getD to i 0 < 1024
+  pub first-few : (i : ℕ) → i < e → getD from i 0 < particleLimit
+  pub second-few : (i : ℕ) → i < e → getD to i 0 < particleLimit
   pub loads : LoadsLong K k lo
   pub logged : Logged (k .log) log
 

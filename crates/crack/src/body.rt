@@ -33,7 +33,7 @@ fn keep_ends(e: usize, ends: &[usize], from: &mut [u16], to: &mut [u16])
     requires { ⌜ EndsRoom e (now ends) (length (now from)) (length (now to)) ⌝ }
     ensures { λ _. ⌜ EndsKept e (now (ends .entry)) (now (from .exit)) (now (to .exit)) ⌝ }
 {
-    let size = ends.len() / 4;
+    let size = ends.len() / mesh::END_COLUMNS;
     let last = size + e;
     narrow(&ends[..e], from);
     narrow(&ends[size..last], to);
@@ -171,9 +171,9 @@ fn crack_torn(
         lengths outline log r × LinkedBehind K corners ends outline links r) ⌝ }
 {
     let none = k.edges as u16;
-    let mut from = [none; 2048];
-    let mut to = [0u16; 2048];
-    let mut loads = [0.0f32; 1024];
+    let mut from = [none; mesh::EDGES];
+    let mut to = [0u16; mesh::EDGES];
+    let mut loads = [0.0f32; mesh::TRIANGLES];
     tear::loads::read_loads(
         k.triangles,
         k.edges,
@@ -229,7 +229,7 @@ fn split_pinched(
 {
     match kind {
         Kind::Triangles => {
-            let mut marks = [0usize; 1024];
+            let mut marks = [0usize; mesh::PARTICLES];
             let mut list = [0usize; edge_drops::LIST];
             cut::facets::split_pinched(
                 k,

@@ -16,7 +16,8 @@ use Rattle.model.specs.Run.{Entry, Run, stepTo}
 use Rattle.model.specs.Calls.{firstFault}
 use Rattle.model.specs.Cut.{Crossing, insertionOf, insertable, insertedMesh, insertStep, Strapping, strapping, insertedAt, snappedAt, crossed}
 use Rattle.model_laws.proofs.Laws.{all-in}
-use Rattle.model_laws.proofs.Indexed.{Indexed, Pair}
+use Rattle.model_laws.proofs.Indexed.{Indexed}
+use Rattle.model_laws.proofs.Rows.{Pair}
 use Rattle.model_laws.proofs.Inserted.{inserted-indexed, more-edges}
 use Rattle.model_laws.proofs.Accepted.{accepted-indexed, indexed-accepted}
 use Rattle.mesh.specs.At.{meshAt}

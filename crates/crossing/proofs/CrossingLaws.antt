@@ -29,7 +29,7 @@ use Rattle.work.proofs.Grows.{edges-get}
 use Rattle.insert.specs.Shares.{Stands}
 use Rattle.marks.specs.Marking.{bladeFrom}
 use Rattle.crossing.specs.Bends.{EndsBelow}
-use Rattle.insert.specs.Inserts.{placeIn}
+use Rattle.split_plan.specs.Opened.{placeIn}
 use Rattle.crossing.specs.Crossings.{HitTold, crossed-in, HitNoted, CrossingsAre}
 use Rattle.insert.proofs.InsertLaws.{place-is}
 

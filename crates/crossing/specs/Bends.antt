@@ -13,6 +13,8 @@ use Rattle.model.specs.Cut.{sideAlong, bendsOver}
 use Rattle.mesh.specs.At.{edgesAt}
 use Rattle.elements.specs.Workers.{marked}
 use Rattle.mesh.specs.Workers.{rowAt}
+use Rattle.mesh.specs.Widths.{endColumns}
+use Rattle.mesh.specs.Limits.{particleLimit}
 use Rattle.insert.specs.Shares.{strapAt}
 use Rattle.columns.specs.Block.{cell}
 use Rattle.links.specs.Links.{holds}
@@ -21,7 +23,7 @@ use Rattle.links.specs.Linked.{EdgesLinked}
 -- the end of edge i that isn't v
 pub record FarIs (v i : ℕ) (ends : List ℕ) (r : ℕ) : Type 0 where
   pub is : (lengths : List Float) → r ≡ farEnd v (rowAt ends lengths i)
-  pub below : (n : ℕ) → getD ends i 0 < n → getD ends (length ends / 4 + i) 0 < n → r < n
+  pub below : (n : ℕ) → getD ends i 0 < n → getD ends (length ends / endColumns + i) 0 < n → r < n
 
 -- the neighbour of v along an edge, besides w: one or none
 abbrev pub nearBy : ℕ → ℕ → Edge → List ℕ
@@ -30,18 +32,18 @@ nearBy v w e = besides w (map (farEnd v) (pick (strapAt v e) (e ∷ []) []))
 -- r is the neighbour of v along edge i besides w, or v where there is none
 pub record NeighbourIs (v w i : ℕ) (ends : List ℕ) (r : ℕ) : Type 0 where
   pub is : (lengths : List Float) → r ≡ headOr v (nearBy v w (rowAt ends lengths i))
-  pub below : (n : ℕ) → v < n → getD ends i 0 < n → getD ends (length ends / 4 + i) 0 < n → r < n
+  pub below : (n : ℕ) → v < n → getD ends i 0 < n → getD ends (length ends / endColumns + i) 0 < n → r < n
 
 -- the ends of the first e edges are below n
 pub record EndsBelow (n e : ℕ) (ends : List ℕ) : Type 0 where
-  pub rows : e ≤ length ends / 4
+  pub rows : e ≤ length ends / endColumns
   pub first : (j : ℕ) → j < e → getD ends j 0 < n
-  pub second : (j : ℕ) → j < e → getD ends (length ends / 4 + j) 0 < n
+  pub second : (j : ℕ) → j < e → getD ends (length ends / endColumns + j) 0 < n
 
 -- the table is that of the e edges; all particles have places in the list of a side, and nothing is marked in it
 pub record SideRoom (v e : ℕ) (ends side table : List ℕ) : Type 0 where
   pub linked : EdgesLinked e ends table
-  pub here : v < 1024
+  pub here : v < particleLimit
   pub long : 1024 ≤ length side
   pub blank : (x : ℕ) → x < length side → getD side x 0 ≡ 0
 
@@ -60,11 +62,11 @@ bendBy first second e =
 
 -- edge i has its ends in both tables
 pub record BendRoom (i : ℕ) (ends : List ℕ) (lf ls : ℕ) : Type 0 where
-  pub here : i < length ends / 4
+  pub here : i < length ends / endColumns
   pub a-first : getD ends i 0 < lf
   pub a-second : getD ends i 0 < ls
-  pub b-first : getD ends (length ends / 4 + i) 0 < lf
-  pub b-second : getD ends (length ends / 4 + i) 0 < ls
+  pub b-first : getD ends (length ends / endColumns + i) 0 < lf
+  pub b-second : getD ends (length ends / endColumns + i) 0 < ls
 
 -- r tells whether edge i is a bend edge, whatever stands in the other block
 pub record BendTold (i : ℕ) (ends first second : List ℕ) (r : Bool) : Type 0 where
@@ -73,7 +75,7 @@ pub record BendTold (i : ℕ) (ends first second : List ℕ) (r : Bool) : Type 0
 -- the table is that of the e edges; all particles have places in the lists of both sides, and each edge has a mark
 pub record MarkRoom (x e : ℕ) (ends : List ℕ) (lf ls lm : ℕ) (table : List ℕ) : Type 0 where
   pub linked : EdgesLinked e ends table
-  pub here : x < 1024
+  pub here : x < particleLimit
   pub first-long : 1024 ≤ lf
   pub second-long : 1024 ≤ ls
   pub marks-long : e ≤ lm
@@ -89,7 +91,7 @@ pub record BendsSeen (seen : ℕ → Type 0) (e : ℕ) (ends first second marks 
 
 -- those with an end at x are seen
 abbrev pub BendsAt : ℕ → ℕ → List ℕ → List ℕ → List ℕ → List ℕ → List ℕ → Type 0
-BendsAt x e ends first second marks marks′ = BendsSeen (λ j. holds 2 (cell 0 (length ends / 4) ends) x j ≡ true) e ends first second marks marks′
+BendsAt x e ends first second marks marks′ = BendsSeen (λ j. holds 2 (cell 0 (length ends / endColumns) ends) x j ≡ true) e ends first second marks marks′
 
 -- the bend edges among the first e are marked too, and nothing else changed
 pub record BetweenMarked (e : ℕ) (ends first second marks marks′ : List ℕ) : Type 0 where
@@ -98,9 +100,9 @@ pub record BetweenMarked (e : ℕ) (ends first second marks marks′ : List ℕ)
 
 -- a, b and all ends are among 1,024 particles, and each edge has a mark
 pub record BendsRoom (a b e : ℕ) (ends : List ℕ) (lm : ℕ) : Type 0 where
-  pub a-in : a < 1024
-  pub b-in : b < 1024
-  pub ends-in : EndsBelow 1024 e ends
+  pub a-in : a < particleLimit
+  pub b-in : b < particleLimit
+  pub ends-in : EndsBelow particleLimit e ends
   pub marks-long : e ≤ lm
 
 -- the bend edges over (a, b) are marked too, in every mesh whose edges stand there, and nothing else changed

@@ -11,21 +11,22 @@ use Rattle.model.specs.Mesh.{Mesh}
 use Rattle.model.specs.Elements.{structural?}
 use Rattle.model.specs.Cut.{Crossing, crossingAt, meets, crossings}
 use Rattle.mesh.specs.Workers.{rowAt}
-use Rattle.mesh.specs.Widths.{pointColumns}
+use Rattle.mesh.specs.Widths.{pointColumns, endColumns}
+use Rattle.mesh.specs.Limits.{edgeLimit}
 use Rattle.insert.specs.Shares.{Stands}
 use Rattle.marks.specs.Marking.{bladeFrom}
 use Rattle.crossing.specs.Bends.{EndsBelow}
 
 -- edge i and both its ends have places
 pub record HitRoom (i lp : ℕ) (ends : List ℕ) : Type 0 where
-  pub here : i < length ends / 4
+  pub here : i < length ends / endColumns
   pub a-in : getD ends i 0 < lp / pointColumns
-  pub b-in : getD ends (length ends / 4 + i) 0 < lp / pointColumns
+  pub b-in : getD ends (length ends / endColumns + i) 0 < lp / pointColumns
 
 -- the hit on edge i, if it is a strap, in every mesh that stands there
 pub record HitTold (b0 b1 : Point) (i : ℕ) (points : List Float) (ends : List ℕ) (r : Hit) : Type 0 where
   pub is :
-      (M : Mesh) (n e : ℕ) (roots : List ℕ) (lengths : List Float) → Stands M n e points roots ends lengths → getD ends i 0 < n → getD ends (length ends / 4 + i) 0 < n
+      (M : Mesh) (n e : ℕ) (roots : List ℕ) (lengths : List Float) → Stands M n e points roots ends lengths → getD ends i 0 < n → getD ends (length ends / endColumns + i) 0 < n
       → crossingAt i r ≡ pick (structural? (rowAt ends lengths i)) (crossingAt i (meets (bladeFrom b0 b1) M (rowAt ends lengths i .a) (rowAt ends lengths i .b))) []
 
 -- the crossings in the first m places of two tables
@@ -43,7 +44,7 @@ pub record CrossingsRoom (e lp : ℕ) (ends : List ℕ) (ln lt : ℕ) : Type 0 w
   pub ends-in : EndsBelow (lp / pointColumns) e ends
   pub numbers-long : e ≤ ln
   pub ts-long : e ≤ lt
-  pub few : e ≤ 2048
+  pub few : e ≤ edgeLimit
 
 -- the crossings of the blade with every mesh that stands there
 pub record CrossingsAre (b0 b1 : Point) (e : ℕ) (points : List Float) (ends numbers′ : List ℕ) (ts′ : List Float) (r : ℕ) : Type 0 where

@@ -9,6 +9,8 @@ use Rattle.model.specs.Cut.{unbent}
 use Rattle.mesh.specs.Log.{worldAt}
 use Rattle.mesh.specs.declared.Counts.{Counts}
 use Rattle.mesh.specs.declared.Rooms.{Rooms}
+use Rattle.mesh.specs.Widths.{endColumns, lengthColumns, sideColumns, entryWords}
+use Rattle.mesh.specs.Limits.{particleLimit, edgeLimit, boundaryLimit}
 use lib.ListN.{length}
 use Rattle.work.specs.Places.{EndsIn}
 use Rattle.work.specs.Working.{Within, Works}
@@ -18,14 +20,14 @@ use Rattle.work.specs.declared.Ran.{Ran}
 -- the counts are within the rooms, and the blocks have them; each edge has a mark
 pub record UnbentRoom (L : Rooms) (k : Counts) (bends : ℕ) (ends₀ : List ℕ) (ll lo lg : ℕ) : Type 0 where
   pub counts : Within k L
-  pub few-edges : L .edges ≤ 2048
-  pub few-boundary : L .boundary ≤ 2048
+  pub few-edges : L .edges ≤ edgeLimit
+  pub few-boundary : L .boundary ≤ boundaryLimit
   pub marks : k .edges ≤ bends
-  pub ends : L .edges ≤ length ends₀ / 4
-  pub ends-in : EndsIn 1024 (k .edges) ends₀
-  pub lengths : L .edges ≤ ll / 4
-  pub outline : L .boundary ≤ lo / 2
-  pub log : L .log ≤ lg / 6
+  pub ends : L .edges ≤ length ends₀ / endColumns
+  pub ends-in : EndsIn particleLimit (k .edges) ends₀
+  pub lengths : L .edges ≤ ll / lengthColumns
+  pub outline : L .boundary ≤ lo / sideColumns
+  pub log : L .log ≤ lg / entryWords
 
 -- the marks are those of a list of numbers of edges
 pub record MarksOf (ms bends : List ℕ) (e : ℕ) : Type 0 where

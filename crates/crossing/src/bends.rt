@@ -5,14 +5,15 @@ ghost use Prim.Native.Nat.{_<_, _≤_, _/_};
 ghost use lib.ListN.{length, getD};
 ghost use Rattle.crossing.specs.Bends.{FarIs, NeighbourIs, SideRoom, SideMarked, onlyBy, BendRoom, BendTold, MarkRoom, BendsAt, BetweenMarked, BendsRoom, BendsMarked};
 ghost use Rattle.links.specs.Linked.{EdgesLinked};
+ghost use Rattle.mesh.specs.Widths.{endColumns};
 use insert::shares;
 
 // The end of edge i that isn't v.
 fn far_end(v: usize, i: usize, ends: &[usize]) -> usize
-    requires { ⌜ i < length (now ends) / 4 ⌝ }
+    requires { ⌜ i < length (now ends) / endColumns ⌝ }
     ensures { λ r. ⌜ FarIs v i (now (ends .entry)) r ⌝ }
 {
-    let c = ends.len() / 4;
+    let c = ends.len() / mesh::END_COLUMNS;
     if ends[i] == v {
         return ends[c + i];
     }
@@ -21,7 +22,7 @@ fn far_end(v: usize, i: usize, ends: &[usize]) -> usize
 
 // The end of strap i at v that isn't v, unless it is w; else v.
 fn neighbour(v: usize, w: usize, i: usize, ends: &[usize]) -> usize
-    requires { ⌜ i < length (now ends) / 4 ⌝ }
+    requires { ⌜ i < length (now ends) / endColumns ⌝ }
     ensures { λ r. ⌜ NeighbourIs v w i (now (ends .entry)) r ⌝ }
 {
     if shares::strap_at(v, i, ends) {
@@ -38,14 +39,14 @@ fn mark_side(v: usize, w: usize, e: usize, ends: &[usize], side: &mut [u8], tabl
     requires { ⌜ SideRoom v e (now ends) (now side) (now table) ⌝ }
     ensures { λ _. ⌜ SideMarked v w e (now (ends .entry)) (now (side .exit)) ⌝ }
 {
-    let rows = ends.len() / 4;
+    let rows = ends.len() / mesh::END_COLUMNS;
     side[v] = 1;
     let mut at = links::first_at(v, table);
     while at > 0 {
         let i = at - 1;
         let x = neighbour(v, w, i, ends);
         side[x] = 1;
-        at = links::next_at(v, i, 2, 1024, 2048, rows, ends, table);
+        at = links::next_at(v, i, 2, mesh::PARTICLES, mesh::EDGES, rows, ends, table);
     }
 }
 
@@ -65,7 +66,7 @@ fn bend(i: usize, ends: &[usize], first: &[u8], second: &[u8]) -> bool
     requires { ⌜ BendRoom i (now ends) (length (now first)) (length (now second)) ⌝ }
     ensures { λ r. ⌜ BendTold i (now (ends .entry)) (now (first .entry)) (now (second .entry)) r ⌝ }
 {
-    let c = ends.len() / 4;
+    let c = ends.len() / mesh::END_COLUMNS;
     if ends[2 * c + i] == 1 {
         return false;
     }
@@ -94,14 +95,14 @@ fn mark_at(
     ensures { λ _. ⌜ BendsAt x e (now (ends .entry)) (now (first .entry)) (now (second .entry)) (now (marks .entry))
         (now (marks .exit)) ⌝ }
 {
-    let rows = ends.len() / 4;
+    let rows = ends.len() / mesh::END_COLUMNS;
     let mut at = links::first_at(x, table);
     while at > 0 {
         let i = at - 1;
         if bend(i, ends, first, second) {
             marks[i] = 1;
         }
-        at = links::next_at(x, i, 2, 1024, 2048, rows, ends, table);
+        at = links::next_at(x, i, 2, mesh::PARTICLES, mesh::EDGES, rows, ends, table);
     }
 }
 
@@ -121,8 +122,8 @@ fn mark_between(
     ensures { λ _. ⌜ BetweenMarked e (now (ends .entry)) (now (first .entry)) (now (second .entry)) (now (marks .entry))
         (now (marks .exit)) ⌝ }
 {
-    let rows = ends.len() / 4;
-    let mut walked = [0u8; 1024];
+    let rows = ends.len() / mesh::END_COLUMNS;
+    let mut walked = [0u8; mesh::PARTICLES];
     walked[v] = 1;
     mark_at(v, e, ends, first, second, marks, table);
     let mut at = links::first_at(v, table);
@@ -132,7 +133,7 @@ fn mark_between(
         if !straddling::is_walked(x, &mut walked) {
             mark_at(x, e, ends, first, second, marks, table);
         }
-        at = links::next_at(v, i, 2, 1024, 2048, rows, ends, table);
+        at = links::next_at(v, i, 2, mesh::PARTICLES, mesh::EDGES, rows, ends, table);
     }
 }
 
@@ -141,8 +142,8 @@ pub fn mark_bends(a: usize, b: usize, e: usize, ends: &[usize], marks: &mut [usi
     requires { ⌜ BendsRoom a b e (now ends) (length (now marks)) × EdgesLinked e (now ends) (now table) ⌝ }
     ensures { λ _. ⌜ BendsMarked a b e (now (ends .entry)) (now (marks .entry)) (now (marks .exit)) ⌝ }
 {
-    let mut first = [0u8; 1024];
-    let mut second = [0u8; 1024];
+    let mut first = [0u8; mesh::PARTICLES];
+    let mut second = [0u8; mesh::PARTICLES];
     mark_side(a, b, e, ends, &mut first, table);
     mark_side(b, a, e, ends, &mut second, table);
     mark_between(a, b, e, ends, &first, &second, marks, table);

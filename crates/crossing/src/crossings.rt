@@ -11,12 +11,12 @@ fn hit_of(b0: Point, b1: Point, i: usize, points: &[f32], ends: &[usize]) -> Hit
     requires { ⌜ HitRoom i (length (now points)) (now ends) ⌝ }
     ensures { λ r. ⌜ HitTold b0 b1 i (now (points .entry)) (now (ends .entry)) r ⌝ }
 {
-    let c = ends.len() / 4;
+    let c = ends.len() / mesh::END_COLUMNS;
     if ends[2 * c + i] != 1 {
         return Hit::Miss;
     }
-    let a = insert::particles::place(ends[i], points);
-    let b = insert::particles::place(ends[c + i], points);
+    let a = split_plan::place(ends[i], points);
+    let b = split_plan::place(ends[c + i], points);
     blade::blade_hit(b0, b1, a, b)
 }
 

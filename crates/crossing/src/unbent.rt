@@ -42,6 +42,6 @@ pub fn remove_bends(
     if s == 0 {
         return Ran::Done(k);
     }
-    let none = [0usize; 2048];
+    let none = [0usize; mesh::BOUNDARY];
     work::removal::remove_marked(k, room, s, bends, &none, ends, lengths, outline, log)
 }

@@ -39,7 +39,8 @@ use Rattle.work.specs.Working.{Ready, Works}
 use Rattle.work.specs.declared.Ran.the-variants.{Refused, Done}
 use Rattle.work.proofs.Placed.{particles-count, edges-count, boundary-count, corners-in, ends-in}
 use Rattle.work.proofs.Runs.{room-enough, log-lacks, needBehind, went-step}
-use Rattle.marks.specs.Marking.{placeIn, PlacesIn, ruleIs, bladeBy}
+use Rattle.split_plan.specs.Opened.{placeIn}
+use Rattle.marks.specs.Marking.{PlacesIn, ruleIs, bladeBy}
 use Rattle.marks.specs.declared.Rule.{Rule}
 use Rattle.marks.specs.declared.Rule.the-variants.{Rounded, Signs}
 use Rattle.marks.proofs.MarkLaws.{each-tab, cornersAt, row-below, rows-are, places-at}

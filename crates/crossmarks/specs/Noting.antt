@@ -12,9 +12,11 @@ use Rattle.blade.specs.Blade.{offsetOf}
 use Rattle.lists.specs.Lists.{pick, each, pairs, tab, upTo}
 use Rattle.model.specs.Cut.{Blade, markAt}
 use Rattle.mesh.specs.Log.{Words, wordsOf, logAt}
-use Rattle.mesh.specs.Widths.{pointColumns}
+use Rattle.mesh.specs.Widths.{pointColumns, cornerColumns, endColumns, entryWords}
+use Rattle.mesh.specs.Limits.{particleLimit, triangleLimit, edgeLimit}
 use Rattle.work.specs.Places.{EndsIn, CornersIn}
-use Rattle.marks.specs.Marking.{placeIn, hitIn}
+use Rattle.split_plan.specs.Opened.{placeIn}
+use Rattle.marks.specs.Marking.{hitIn}
 use Rattle.marks.specs.declared.Rule.{Rule}
 use Rattle.marks.specs.declared.Rule.the-variants.{Rounded, Signs}
 
@@ -29,11 +31,11 @@ rowMarks B points row = each (pairMarks B points) (pairs row)
 -- those of the first t triangles of a block
 unfoldable pub triangleMarks : Blade → List Float → ℕ → List ℕ → List Words
 triangleMarks B points t corners =
-    each (rowMarks B points) (tab t (λ i. getD corners i 0 ∷ getD corners (length corners / 3 + i) 0 ∷ getD corners (2 * (length corners / 3) + i) 0 ∷ []))
+    each (rowMarks B points) (tab t (λ i. getD corners i 0 ∷ getD corners (length corners / cornerColumns + i) 0 ∷ getD corners (2 * (length corners / cornerColumns) + i) 0 ∷ []))
 
 -- those of edge i of a block, if it is a strap
 unfoldable pub strapMark : Blade → List Float → List ℕ → ℕ → List Words
-strapMark B points ends i = pick (eqb (getD ends (2 * (length ends / 4) + i) 0) 1) (pairMarks B points (getD ends i 0, getD ends (length ends / 4 + i) 0)) []
+strapMark B points ends i = pick (eqb (getD ends (2 * (length ends / endColumns) + i) 0) 1) (pairMarks B points (getD ends i 0, getD ends (length ends / endColumns + i) 0)) []
 
 -- those of the first e edges
 unfoldable pub strapMarks : Blade → List Float → ℕ → List ℕ → List Words
@@ -42,7 +44,7 @@ strapMarks B points e ends = each (strapMark B points ends) (upTo e)
 -- behind the n entries of a log come these: r in all, and if the log has room for r they stand there
 pub record Noted (more : List Words) (n : ℕ) (log log′ : List ℕ) (r : ℕ) : Type 0 where
   pub count : r ≡ n + length more
-  pub entries : r ≤ length log / 6 → logAt r log′ ≡ logAt n log ++ more
+  pub entries : r ≤ length log / entryWords → logAt r log′ ≡ logAt n log ++ more
 
 -- ---- offsets
 
@@ -71,18 +73,18 @@ pub record PairRoom (x y n lp : ℕ) : Type 0 where
 
 -- the corners of t triangles are among particles that have places and offsets, and all numbers are small
 pub record TriangleRoom (b0 b1 : Point) (t n : ℕ) (points : List Float) (corners : List ℕ) (offsets : List Float) : Type 0 where
-  pub columns : t ≤ length corners / 3
+  pub columns : t ≤ length corners / cornerColumns
   pub particles : ℕ
   pub corners-in : CornersIn particles t corners
-  pub places : (particles ≤ 1024) × (particles ≤ length points / pointColumns)
+  pub places : (particles ≤ particleLimit) × (particles ≤ length points / pointColumns)
   pub offsets-are : OffsetsAre b0 b1 points offsets particles
-  pub few : (t ≤ 1024) × (n ≤ 4096)
+  pub few : (t ≤ triangleLimit) × (n ≤ 4096)
 
 -- the ends of e edges are among particles that have places and offsets, and all numbers are small
 pub record StrapRoom (b0 b1 : Point) (e n : ℕ) (points : List Float) (ends : List ℕ) (offsets : List Float) : Type 0 where
-  pub columns : e ≤ length ends / 4
+  pub columns : e ≤ length ends / endColumns
   pub particles : ℕ
   pub ends-in : EndsIn particles e ends
-  pub places : (particles ≤ 1024) × (particles ≤ length points / pointColumns)
+  pub places : (particles ≤ particleLimit) × (particles ≤ length points / pointColumns)
   pub offsets-are : OffsetsAre b0 b1 points offsets particles
-  pub few : (e ≤ 2048) × (n ≤ 4096)
+  pub few : (e ≤ edgeLimit) × (n ≤ 4096)

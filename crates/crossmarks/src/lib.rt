@@ -13,10 +13,10 @@ use blade::Hit;
 use blade::Point;
 use elements::Kind;
 use marks::Rule;
-use marks::particles::place;
 use marks::particles::tested;
 use mesh::Counts;
 use mesh::Rooms;
+use split_plan::place;
 use work::Ran;
 use work::notes::bits_of;
 
@@ -61,7 +61,7 @@ fn note_pair(
     let Hit::Hit(t, p) = hit else {
         return n;
     };
-    if n < log.len() / 6 {
+    if n < log.len() / mesh::ENTRY_WORDS {
         let at_x = bits_of(p.x);
         let at_y = bits_of(p.y);
         work::notes::note(n, 5, x as u32, y as u32, at_x, at_y, bits_of(t), log);
@@ -130,7 +130,7 @@ fn note_triangles(
     ensures { λ r. ⌜ Noted (triangleMarks (bladeBy rule b0 b1) (now (points .entry)) t (now (corners .entry))) n (now (log .entry))
         (now (log .exit)) r ⌝ }
 {
-    let size = corners.len() / 3;
+    let size = corners.len() / mesh::CORNER_COLUMNS;
     let mut m = n;
     let mut i: usize = 0;
     while i < t {
@@ -169,7 +169,7 @@ fn note_straps(
     ensures { λ r. ⌜ Noted (strapMarks (bladeBy rule b0 b1) (now (points .entry)) e (now (ends .entry))) n (now (log .entry))
         (now (log .exit)) r ⌝ }
 {
-    let size = ends.len() / 4;
+    let size = ends.len() / mesh::END_COLUMNS;
     let mut m = n;
     let mut i: usize = 0;
     while i < e {
@@ -230,7 +230,7 @@ fn note_elements(
         Kind::Nothing => before,
     };
     if room.log < n {
-        return Ran::Refused(8);
+        return Ran::Refused(mesh::refusals::ENTRIES);
     }
     Ran::Done(Counts {
         particles: k.particles,
@@ -261,7 +261,7 @@ pub fn note_crossings(
     requires { ⌜ ReadyIn room k points roots corners volumes ends lengths outline log ⌝ }
     ensures { λ r. ⌜ WorksIn (markedBy (kindIs kind) (bladeBy rule b0 b1)) room k points roots corners volumes ends lengths outline log r ⌝ }
 {
-    let mut offsets = [0.0f32; 1024];
+    let mut offsets = [0.0f32; mesh::PARTICLES];
     read_offsets(b0, b1, k.particles, points, &mut offsets);
     note_elements(
         rule,

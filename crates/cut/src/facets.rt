@@ -268,7 +268,13 @@ fn split_next(
     let Ran::Done(next) = ran else {
         return ran;
     };
-    edge_drops::close(next.edges, list, ends, lengths, &mut links[4096..9216]);
+    edge_drops::close(
+        next.edges,
+        list,
+        ends,
+        lengths,
+        &mut links[links::EDGES_FROM..links::SIDES_FROM],
+    );
     if !slackens(way, k.particles, next.particles) {
         return Ran::Done(next);
     }

@@ -95,7 +95,7 @@ particles-tell a b f g e =
 triangles-tell : (p q : ℕ → Point) (a b : List (List ℕ)) → FitAll triangleW a → FitAll triangleW b → trianglesFrom p a ≡ trianglesFrom q b → a ≡ b
 unfolding trianglesFrom triangleFrom
 triangles-tell p q a b f g e =
-    rows-of triangleW _ _ (λ r s u v h. three-is 10 10 10 r s u v (ap (λ (t : Triangle). t .a) h) (ap (λ (t : Triangle). t .b) h) (ap (λ (t : Triangle). t .c) h)) a b f g e
+    rows-of triangleW _ _ (λ r s u v h. three-is 10 10 10 r s u v (ap (λ (t : Triangle). getD (t .corners) 0 0) h) (ap (λ (t : Triangle). getD (t .corners) 1 0) h) (ap (λ (t : Triangle). getD (t .corners) 2 0) h)) a b f g e
 
 edges-tell : (p q : ℕ → Point) (a b : List (List ℕ)) → FitAll edgeW a → FitAll edgeW b → edgesFrom p a ≡ edgesFrom q b → a ≡ b
 unfolding edgesFrom edgeFrom
@@ -104,7 +104,7 @@ edges-tell p q a b f g e =
 
 boundary-tells : (a b : List (List ℕ)) → FitAll boundaryW a → FitAll boundaryW b → boundaryFrom a ≡ boundaryFrom b → a ≡ b
 unfolding boundaryFrom
-boundary-tells a b f g e = rows-of boundaryW _ _ (λ r s u v h. two-is 10 10 r s u v (ap (λ (t : Side). t .a) h) (ap (λ (t : Side). t .b) h)) a b f g e
+boundary-tells a b f g e = rows-of boundaryW _ _ (λ r s u v h. two-is 10 10 r s u v (ap (λ (t : Side). getD (t .corners) 0 0) h) (ap (λ (t : Side). getD (t .corners) 1 0) h)) a b f g e
 
 blade-tells : (a b : List ℕ) → allBelow 2048 a ≡ true → allBelow 2048 b ≡ true → map floatOf a ≡ map floatOf b → a ≡ b
 unfolding allBelow

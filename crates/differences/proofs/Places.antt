@@ -11,11 +11,11 @@ use native.Mathlib.Numerals.{add-one}
 use borrow.Author.Tests.{eq-eqb, ne-eqb, eqb-true}
 use lib.Dec.{eqb}
 use lib.ListN.{length}
-use Rattle.lists.specs.Lists.{pick, sift, each, tab, rest}
+use Rattle.lists.specs.Lists.{pick, sift, each, tab, rest, sameRow}
 use Rattle.lists.proofs.Sifts.{sift-append, and-true, each-ext}
 use Rattle.lists.proofs.Steps.{each-step}
 use Rattle.sheet.specs.Sheet.{Sheet}
-use Rattle.differences.specs.Differences.{Difference, counts, place, blades, listOf, sameRow, countDiffers, rowsDiffer, parts, differences}
+use Rattle.differences.specs.Differences.{Difference, counts, place, blades, listOf, countDiffers, rowsDiffer, parts, differences}
 use Rattle.differences.specs.Work.{readAt, sameReading, placeDiffers, samePart, ofPlace, ofCount, ofBlade, turn}
 use Rattle.differences.specs.declared.Part.{Part}
 use Rattle.differences.specs.declared.Part.the-variants.{Particles, Triangles, Edges, Boundary}

@@ -9,14 +9,14 @@ use lib.Dec.{eqb}
 use lib.IntN.{ℤ}
 use lib.ListN.{length-append}
 use borrow.Author.Tests.{eq-eqb, ne-eqb}
-use Rattle.lists.specs.Lists.{pick, each}
+use Rattle.lists.specs.Lists.{pick, each, sameRow}
 use Rattle.lists.proofs.Sifts.{each-append}
 use Rattle.listing.specs.Listing.{decimal}
 use Rattle.listing.specs.Work.{Appends}
 use Rattle.listing.specs.declared.Written.{Written}
 use Rattle.listing.proofs.Appending.{appends-none, appends-then, appends-as}
 use Rattle.sheet.proofs.CoordLaws.{coord-low, coord-high}
-use Rattle.differences.specs.Differences.{Difference, counts, place, blades, sameRow, signed, coordText, textsOf, readingOf, apart, bothReadings, countWord, bladeWord, wordOf, pluralOf, lineOf}
+use Rattle.differences.specs.Differences.{Difference, counts, place, blades, signed, coordText, textsOf, readingOf, apart, bothReadings, countWord, bladeWord, wordOf, pluralOf, lineOf}
 use Rattle.differences.specs.Work.{sameReading, rowBy, asRow, Coords, CoordsRead, Lists}
 use Rattle.differences.specs.declared.Part.{Part}
 use Rattle.differences.specs.declared.Part.the-variants.{Particles, Triangles, Edges, Boundary}

@@ -6,7 +6,7 @@ use mathlib.Core.Option.{Option, none, some}
 use lib.ListN.{length, getD}
 use lib.Dec.{eqb}
 use lib.IntN.{ℤ, pos, negsuc}
-use Rattle.lists.specs.Lists.{pick, each}
+use Rattle.lists.specs.Lists.{pick, each, sameRow}
 use Rattle.listing.specs.Listing.{decimal}
 use Rattle.sheet.specs.Sheet.{Sheet, coord}
 use Rattle.differences.specs.declared.Part.{Part}
@@ -24,13 +24,6 @@ listOf Particles s = s .particles
 listOf Triangles s = s .triangles
 listOf Edges s = s .edges
 listOf Boundary s = s .boundary
-
--- the same numbers in the same order
-unfoldable pub sameRow : List ℕ → List ℕ → Bool
-sameRow [] [] = true
-sameRow [] (y ∷ s) = false
-sameRow (x ∷ r) [] = false
-sameRow (x ∷ r) (y ∷ s) = eqb x y && sameRow r s
 
 -- the counts of a list
 unfoldable pub countDiffers : Part → Sheet → Sheet → List Difference

@@ -6,9 +6,9 @@ use lib.Dec.{eqb}
 use mathlib.Core.List.{List, [], _∷_}
 use mathlib.Core.Option.{Option, none, some}
 use lib.ListN.{length}
-use Rattle.lists.specs.Lists.{pick, each}
+use Rattle.lists.specs.Lists.{pick, each, sameRow}
 use Rattle.listing.specs.Work.{Appends}
-use Rattle.differences.specs.Differences.{Difference, counts, place, blades, sameRow, lineOf}
+use Rattle.differences.specs.Differences.{Difference, counts, place, blades, lineOf}
 use Rattle.differences.specs.declared.Part.{Part}
 use Rattle.differences.specs.declared.Part.the-variants.{Particles, Triangles, Edges, Boundary}
 use Rattle.differences.specs.declared.Reading.{Reading}

@@ -9,14 +9,14 @@ use mathlib.Core.Option.{Option, none, some}
 use lib.Dec.{eqb}
 use lib.IntN.{ℤ}
 use lib.ListN.{length, getD, length-append}
-use Rattle.lists.specs.Lists.{pick, each, rest}
+use Rattle.lists.specs.Lists.{pick, each, rest, sameRow}
 use Rattle.lists.proofs.Sifts.{each-append}
 use Rattle.bits.specs.Rows.{Fit, FitAll}
 use Rattle.listing.specs.Listing.{decimal}
 use Rattle.listing.proofs.Lengths.{four-digits}
 use Rattle.sheet.specs.Sheet.{Sheet, particleW, triangleW, edgeW, boundaryW, bladeW}
 use Rattle.sheet.proofs.CoordLaws.{coord-low, coord-high}
-use Rattle.differences.specs.Differences.{Difference, counts, place, blades, listOf, sameRow, countDiffers, rowsDiffer, parts, differences, coordText, signed, textsOf, readingOf, apart, countWord, bladeWord, wordOf, pluralOf, lineOf, differenceText}
+use Rattle.differences.specs.Differences.{Difference, counts, place, blades, listOf, countDiffers, rowsDiffer, parts, differences, coordText, signed, textsOf, readingOf, apart, countWord, bladeWord, wordOf, pluralOf, lineOf, differenceText}
 use Rattle.differences.specs.Work.{readAt, sameReading, placeDiffers}
 use Rattle.differing.specs.Work.{Within}
 use Rattle.differences.specs.declared.Part.{Part}

@@ -6,7 +6,7 @@ use mathlib.Core.Bool.{Bool}
 use mathlib.Core.List.{List, [], _∷_, _++_, append-assoc, append-nil}
 use lib.Dec.{eqb}
 use lib.ListN.{length, drop, length-append}
-use Rattle.lists.specs.Lists.{pick, each}
+use Rattle.lists.specs.Lists.{pick, each, sameRow}
 use Rattle.bits.specs.Bits.{bitsOf}
 use Rattle.bits.specs.Rows.{unpack, readRows}
 use Rattle.bits.proofs.RowLaws.{length-read}
@@ -26,7 +26,7 @@ use Rattle.listing.specs.Work.{Appends, Finishes}
 use Rattle.listing.specs.declared.Written.{Written}
 use Rattle.listing.proofs.Appending.{appends-then, appends-as, wrote}
 use Rattle.listing.proofs.Lengths.{refused-few}
-use Rattle.differences.specs.Differences.{Difference, counts, blades, sameRow, countDiffers, rowsDiffer, differences, lineOf, differenceText}
+use Rattle.differences.specs.Differences.{Difference, counts, blades, countDiffers, rowsDiffer, differences, lineOf, differenceText}
 use Rattle.differing.specs.Differed.{readSheet, differedSeen, differed}
 use Rattle.differences.specs.Work.{Lists, fourOf}
 use Rattle.row_differences.specs.Work.{ListAsked, SidesAsked}

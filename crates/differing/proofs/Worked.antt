@@ -2,7 +2,7 @@
 use Prim.Native.Nat.{ℕ}
 use mathlib.Core.Path.{_≡_, refl}
 use mathlib.Core.List.{List, [], _∷_}
-use Rattle.lists.specs.Lists.{any, all, sift, each}
+use Rattle.lists.specs.Lists.{any, all, sift, each, sameRow}
 use Rattle.bits.specs.Bits.{bits, bitsOf, num}
 use Rattle.bits.specs.Rows.{total, unpack, readRows}
 use Rattle.outline.specs.Outline.{single, outlineOf, outlineOfTriangles, within, sameSides, settled}
@@ -11,7 +11,7 @@ use Rattle.sheet.proofs.Cases.{worked}
 use Rattle.edition.specs.Edition.{asFirst, bitsIn, outlineIn, replacedIn, typedOf, sheetOf, typedWith, typedSeen, seenIn}
 use Rattle.edition.proofs.Cases.{worked2}
 use Rattle.listing.specs.Listing.{decimalBy, decimal, line, refusedBytes}
-use Rattle.differences.specs.Differences.{sameRow, countDiffers, rowsDiffer, differences, lineOf, differenceText}
+use Rattle.differences.specs.Differences.{countDiffers, rowsDiffer, differences, lineOf, differenceText}
 use Rattle.differing.specs.Differed.{differedSeen, differed}
 
 -- the worked sheet with particle 1 at (5,0) and pinned, a third edge (0,3), structural, and a blade that ends at (5,6), in the second edition

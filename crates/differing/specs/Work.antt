@@ -4,7 +4,7 @@ use mathlib.Core.Path.{_≡_}
 use lib.Dec.{eqb}
 use mathlib.Core.List.{List, [], _∷_, _++_}
 use lib.ListN.{length, drop}
-use Rattle.lists.specs.Lists.{pick}
+use Rattle.lists.specs.Lists.{pick, sameRow}
 use Rattle.bits.specs.Bits.{bitsOf}
 use Rattle.bits.specs.Rows.{unpack}
 use Rattle.outline_tables.specs.Rows.{sidesAt}
@@ -16,7 +16,7 @@ use Rattle.edition.specs.declared.Seen.{Seen}
 use Rattle.edition.specs.declared.Seen.the-variants.{Whole, Refused}
 use Rattle.listing.specs.Listing.{refusedBytes}
 use Rattle.listing.specs.declared.Written.the-variants.{Bytes}
-use Rattle.differences.specs.Differences.{Difference, counts, blades, sameRow, rowsDiffer, differences, differenceText}
+use Rattle.differences.specs.Differences.{Difference, counts, blades, rowsDiffer, differences, differenceText}
 use Rattle.differing.specs.Differed.{readSheet}
 use Rattle.differences.specs.declared.Part.{Part}
 use Rattle.differences.specs.declared.Part.the-variants.{Particles, Triangles, Edges, Boundary}

@@ -13,13 +13,14 @@ use Rattle.mesh.specs.Workers.{EdgeRoom}
 use Rattle.mesh.specs.Blocks.{Numbers, Indices, worldBefore}
 use Rattle.mesh.specs.declared.Counts.{Counts}
 use Rattle.mesh.specs.declared.Rooms.{Rooms}
+use Rattle.mesh.specs.Limits.{edgeLimit}
 use Rattle.work.specs.Working.{Works}
 use Rattle.work.specs.declared.Ran.{Ran}
 use Rattle.work.specs.declared.Ran.the-variants.{Refused, Done}
 
 -- how many edges are listed
 abbrev pub listed : List ℕ → ℕ
-listed list = getD list 2048 0
+listed list = getD list edgeLimit 0
 
 -- the edges of blocks that hold e edges besides the listed ones
 unfoldable pub edgesParted : ℕ → List ℕ → List Float → List ℕ → List Edge
@@ -44,7 +45,7 @@ worldParted k points roots corners volumes ends lengths outline log list =
 pub record Listing (e le ll : ℕ) (list : List ℕ) : Type 0 where
   pub long : 2049 ≤ length list
   pub rising : Rising list (listed list) (e + listed list)
-  pub few : e + listed list ≤ 2048
+  pub few : e + listed list ≤ edgeLimit
   pub rows : EdgeRoom (e + listed list) le ll
 
 -- behind a worker: where it is done, the list is one of the edges in the blocks

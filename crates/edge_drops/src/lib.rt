@@ -9,18 +9,18 @@ ghost use Rattle.edge_drops.specs.Drops.{RowAsked, RowGone, DropAsked, L
 ghost use Rattle.edge_drops.specs.Parted.{Listing, listed, edgesParted};
 
 // The place of a list of edges that says how many are listed.
-pub const LISTED: usize = 2048;
+pub const LISTED: usize = mesh::EDGES;
 
 // The places of such a list.
-pub const LIST: usize = 2049;
+pub const LIST: usize = mesh::EDGES + 1;
 
 // Removes edge i of the first m from the blocks: the rows behind it move up by one.
 fn close_row(i: usize, m: usize, ends: &mut [usize], lengths: &mut [f32])
     requires { ⌜ RowAsked i m (length (now ends)) (length (now lengths)) ⌝ }
     ensures { λ _. ⌜ RowGone i m (now (ends .entry)) (now (ends .exit)) (now (lengths .entry)) (now (lengths .exit)) ⌝ }
 {
-    let span = ends.len() / 4;
-    let places = lengths.len() / 4;
+    let span = ends.len() / mesh::END_COLUMNS;
+    let places = lengths.len() / mesh::LENGTH_COLUMNS;
     let behind = m - 1 - i;
     columns::shift_block_usize(i, i + 1, behind, 4, span, ends);
     columns::shift_block_f32(i, i + 1, behind, 4, places, lengths);
@@ -33,8 +33,8 @@ fn drop_row(i: usize, m: usize, ends: &mut [usize], lengths: &mut [f32], table: 
         ≡ without i (edgesAt m (now (ends .entry)) (now (lengths .entry))))
         × EdgesLinked (m - 1) (now (ends .exit)) (now (table .exit)) ⌝ }
 {
-    let span = ends.len() / 4;
-    link_changes::drop_cell(i, m, 2, 1024, 2048, span, ends, table);
+    let span = ends.len() / mesh::END_COLUMNS;
+    link_changes::drop_cell(i, m, 2, mesh::PARTICLES, mesh::EDGES, span, ends, table);
     close_row(i, m, ends, lengths);
 }
 

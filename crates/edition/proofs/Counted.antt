@@ -14,6 +14,7 @@ use Rattle.filled.specs.Counts.{countsIn}
 use Rattle.filled.proofs.Held.{mesh-held}
 use Rattle.bits.specs.Bits.{bitsOf}
 use Rattle.sheet.specs.Sheet.{countsAt, countsOf}
+use Rattle.sheet.proofs.Rowed.{sheet-rowed}
 use Rattle.sheet.specs.Read.{particlesFrom, trianglesFrom, edgesFrom, boundaryFrom, meshOfSheet, countsFor}
 use Rattle.sheet.specs.declared.Counts.{Counts}
 use Rattle.edition.specs.Edition.{bitsIn, typedOf, sheetOf, seenOf}
@@ -43,4 +44,4 @@ pub mesh-read :
 unfolding worldOf
 mesh-read limits s L c f p q k v e l o g b b′ R same =
     subst (λ (x : M.Counts). meshAt x p q k v e l o ≡ meshOfSheet (sheetOf (bitsOf s) .sheet)) (mesh-counts limits s c f (lent-whole (seenOf limits s) L (length b) c f (sym (R .answer))))
-    (mesh-held (worldOf (Whole c f) (bitsOf s)) L p q k v e l o g (R .blocks) same)
+    (mesh-held (worldOf (Whole c f) (bitsOf s)) L p q k v e l o g (R .blocks) (sheet-rowed (sheetOf (bitsOf s) .sheet)) same)

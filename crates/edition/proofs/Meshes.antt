@@ -15,7 +15,8 @@ use Rattle.bits.specs.Rows.{unpack, readRows}
 use Rattle.outline_tables.specs.Rows.{sidesAt}
 use Rattle.sheet.specs.Sheet.{countsAt, sheetWith, particleW, triangleW, edgeW, atTriangles, atEdges, atBlade}
 use Rattle.sheet.specs.Work.{okAt}
-use Rattle.sheet_rows.specs.Work.{pointIn, particleBits, triangleBits, edgeBits}
+use Rattle.split_plan.specs.Opened.{placeIn as pointIn}
+use Rattle.sheet_rows.specs.Work.{particleBits, triangleBits, edgeBits}
 use Rattle.sheet.specs.Read.{particlesFrom, trianglesFrom, edgesFrom, boundaryFrom, placeIn, meshOfSheet, bladeOfSheet, floatOf, countsFor}
 use Rattle.sheet.specs.declared.Counts.{Counts}
 use Rattle.sheet.specs.Work.{CountsRead, RowsIn, Small}

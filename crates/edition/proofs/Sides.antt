@@ -71,7 +71,7 @@ unfolding boundaryAt boundaryFrom sidesAt
 sides-boundary n o = sym (map-tab _ n _)
 
 abbrev ends : Side → List ℕ
-ends s = s .a ∷ s .b ∷ []
+ends s = s .corners
 
 pub typed-sides : (n : ℕ) (o l : List ℕ) (from : ℕ) → boundaryAt n o ≡ tab n (sideBits l from) → sidesAt n o ≡ readRows boundaryW n (drop from l)
 unfolding boundaryAt sidesAt total unpack

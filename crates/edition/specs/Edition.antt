@@ -14,6 +14,7 @@ use Rattle.sheet.specs.declared.Seen.{Seen as Typed}
 use Rattle.sheet.specs.declared.Seen.the-variants.{Whole as TypedWhole, Refused as TypedRefused}
 use Rattle.edition.specs.declared.Seen.{Seen}
 use Rattle.edition.specs.declared.Seen.the-variants.{Whole, Refused}
+use Rattle.model.specs.Refusals.{sizeRefusal}
 
 -- the widths of a second-edition header: eleven ones; particles, triangles, edges
 abbrev pub header2W : List ℕ
@@ -98,7 +99,7 @@ typedSeen limits s = cond (ltb (length s) 6) (TypedRefused 9) (typedWith limits 
 unfoldable pub seenIn : Counts → List ℕ → Typed → Seen
 seenIn limits s (TypedRefused n) = Refused n
 seenIn limits s (TypedWhole c) =
-    cond (overlong limits (length (sheetOf (bitsOf s) .sheet .boundary))) (Refused 1)
+    cond (overlong limits (length (sheetOf (bitsOf s) .sheet .boundary))) (Refused sizeRefusal)
     (Whole (record { particles = c .particles; triangles = c .triangles; edges = c .edges; boundary = length (sheetOf (bitsOf s) .sheet .boundary) }) (sheetOf (bitsOf s) .replaced))
 
 -- what the bytes of a sheet of either edition are answered, where the caller's limits hold besides those of every mesh

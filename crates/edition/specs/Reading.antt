@@ -11,24 +11,25 @@ use Rattle.float.specs.Numbers.{zero32}
 use Rattle.mesh.specs.Log.{World}
 use Rattle.mesh.specs.Given as G
 use Rattle.mesh.specs.Filled as F
-use Rattle.mesh.specs.Widths.{pointColumns}
+use Rattle.mesh.specs.Widths.{pointColumns, cornerColumns, endColumns, lengthColumns, rootColumns, volumeColumns, sideColumns}
 use Rattle.bits.specs.Bits.{bitsOf}
 use Rattle.sheet.specs.Read.{meshOfSheet, bladeOfSheet}
 use Rattle.sheet.specs.declared.Counts.{Counts}
 use Rattle.edition.specs.Edition.{sheetOf, seenOf}
 use Rattle.edition.specs.declared.Seen.{Seen}
 use Rattle.edition.specs.declared.Seen.the-variants.{Whole, Refused}
+use Rattle.model.specs.Refusals.{argumentRefusal, particleRefusal, edgeRefusal, boundaryRefusal}
 
 -- what a reader answers that was lent these places: triangle (or blade) places too few 4; then particles 5, edges 6, boundary 7
 unfoldable pub roomFor : Counts → Bool → G.Lent → ℕ → Seen
 roomFor c replaced L blade =
-    cond ((leb (c .triangles) (L .corners / 3) && leb (c .triangles) (L .volumes / 2)) && leb 4 blade)
-    (cond (leb (c .particles) (L .points / pointColumns) && leb (c .particles) (L .roots / 2))
-    (cond (leb (c .edges) (L .ends / 4) && leb (c .edges) (L .lengths / 4))
-    (cond (leb (c .boundary) (L .outline / 2)) (Whole c replaced) (Refused 7))
-    (Refused 6))
-    (Refused 5))
-    (Refused 4)
+    cond ((leb (c .triangles) (L .corners / cornerColumns) && leb (c .triangles) (L .volumes / volumeColumns)) && leb 4 blade)
+    (cond (leb (c .particles) (L .points / pointColumns) && leb (c .particles) (L .roots / rootColumns))
+    (cond (leb (c .edges) (L .ends / endColumns) && leb (c .edges) (L .lengths / lengthColumns))
+    (cond (leb (c .boundary) (L .outline / sideColumns)) (Whole c replaced) (Refused boundaryRefusal))
+    (Refused edgeRefusal))
+    (Refused particleRefusal))
+    (Refused argumentRefusal)
 
 -- the same where the sheet itself is not refused
 unfoldable pub lentOf : Seen → G.Lent → ℕ → Seen

@@ -8,6 +8,7 @@ use Rattle.lists.specs.Lists.{pick}
 use Rattle.bits.specs.Bits.{bitsOf}
 use Rattle.mesh.specs.Given.{Lent}
 use Rattle.mesh.specs.Filled.{Fits}
+use Rattle.mesh.specs.Limits.{boundaryLimit}
 use Rattle.outline_tables.specs.Rows.{sidesAt}
 use Rattle.outline_tables.specs.declared.Settled.{Settled}
 use Rattle.sheet.specs.Sheet.{countsAt, sheetWith, endOf, tooMany, namesOK}
@@ -83,7 +84,7 @@ pub record MeshIn (s : List ℕ) (c : Counts) (o : List ℕ) (L : Lent) : Type 0
   pub particles : c .particles ≡ countsAt (bitsIn (bitsOf s)) .particles
   pub triangles : c .triangles ≡ countsAt (bitsIn (bitsOf s)) .triangles
   pub edges : c .edges ≡ countsAt (bitsIn (bitsOf s)) .edges
-  pub few : c .boundary ≤ 2048
+  pub few : c .boundary ≤ boundaryLimit
   pub sides : sidesAt (c .boundary) o ≡ sheetOf (bitsOf s) .sheet .boundary
   pub block : c .boundary ≤ length o / 2
   pub room : Fits (countsFor c) L

@@ -123,7 +123,7 @@ pub fn look_into(s: &[u8], limits: Counts, block: &mut [usize]) -> Seen
         Typed::Whole(c) => {
             let found = find_outline(s, c, block);
             if too_long(limits, found.count) {
-                return Seen::Refused(1);
+                return Seen::Refused(mesh::refusals::SIZE);
             }
             let d = Counts {
                 particles: c.particles,

@@ -38,15 +38,15 @@ fn room(
                     if c.boundary <= lo / 2 {
                         return Seen::Whole(c, replaced);
                     }
-                    return Seen::Refused(7);
+                    return Seen::Refused(mesh::refusals::BOUNDARY);
                 }
-                return Seen::Refused(6);
+                return Seen::Refused(mesh::refusals::EDGES);
             }
-            return Seen::Refused(5);
+            return Seen::Refused(mesh::refusals::PARTICLES);
         }
-        return Seen::Refused(4);
+        return Seen::Refused(mesh::refusals::ARGUMENT);
     }
-    Seen::Refused(4)
+    Seen::Refused(mesh::refusals::ARGUMENT)
 }
 
 // Reads the lists of a whole sheet to the fronts of the blocks, and copies its outline from where it was found.

@@ -73,20 +73,20 @@ fn look_second(s: &[u8], limits: Counts) -> Seen
 {
     let c = counted_second(s);
     if sheet::refused_counts(limits, c) {
-        return Seen::Refused(1);
+        return Seen::Refused(mesh::refusals::SIZE);
     }
     let end = sheet::end_bit(c) - 1;
     let bytes = (end + 7) / 8;
     if s.len() != bytes {
-        return Seen::Refused(9);
+        return Seen::Refused(mesh::refusals::SHEET);
     }
     if bits::field(s, end, 8 * bytes - end) != 0 {
-        return Seen::Refused(9);
+        return Seen::Refused(mesh::refusals::SHEET);
     }
     if names_second(s, c) {
         Seen::Whole(c)
     } else {
-        Seen::Refused(3)
+        Seen::Refused(mesh::refusals::NAME)
     }
 }
 
@@ -95,7 +95,7 @@ pub fn look_typed(s: &[u8], limits: Counts) -> Seen
     ensures { λ r. ⌜ r ≡ typedSeen limits (now (s .entry)) ⌝ }
 {
     if s.len() < 6 {
-        return Seen::Refused(9);
+        return Seen::Refused(mesh::refusals::SHEET);
     }
     if is_second(s) {
         return look_second(s, limits);

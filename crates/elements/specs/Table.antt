@@ -9,6 +9,8 @@ use Rattle.lists.specs.Lists.{stands, any, all, sift, each}
 use Rattle.model.specs.Mesh.{Triangle, Edge}
 use Rattle.model.specs.Elements.{Kind, Triangles, Straps, Nothing, Element, element?, structural?, kindBy, trianglesFrom, strapsFrom, sum}
 use Rattle.mesh.specs.At.{trianglesAt, edgesAt}
+use Rattle.mesh.specs.Widths.{cornerColumns, endColumns, lengthColumns, volumeColumns}
+use Rattle.mesh.specs.Limits.{triangleLimit, edgeLimit}
 use Rattle.elements.specs.declared.Kind.{Kind as KindCase}
 use Rattle.elements.specs.declared.Kind.the-variants.{Triangles as TrianglesCase, Straps as StrapsCase, Nothing as NothingCase}
 
@@ -50,11 +52,11 @@ pub record ElementIs (K : Kind) (structural : ℕ) (r : Bool) : Type 0 where
 
 -- what is asked of a table's room and of the blocks that it is made of
 pub record TableRoom (t e lc lv le ll ln lk lm : ℕ) : Type 0 where
-  pub few : (t ≤ 1024) × (e ≤ 2048)
-  pub corners : t ≤ lc / 3
-  pub volumes : t ≤ lv / 2
-  pub ends : e ≤ le / 4
-  pub lengths : e ≤ ll / 4
+  pub few : (t ≤ triangleLimit) × (e ≤ edgeLimit)
+  pub corners : t ≤ lc / cornerColumns
+  pub volumes : t ≤ lv / volumeColumns
+  pub ends : e ≤ le / endColumns
+  pub lengths : e ≤ ll / lengthColumns
   pub numbers : (t ≤ ln) × (e ≤ ln)
   pub verts : (t * 3 ≤ lk) × (e * 2 ≤ lk)
   pub measures : (t ≤ lm) × (e ≤ lm)

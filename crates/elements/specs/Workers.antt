@@ -9,19 +9,20 @@ use lib.Ieee.{Float}
 use Rattle.lists.specs.Lists.{stands, all, sift}
 use Rattle.model.specs.Elements.{Element, sum}
 use Rattle.elements.specs.Table.{Cornered}
+use Rattle.mesh.specs.Widths.{cornerColumns, endColumns, lengthColumns, volumeColumns}
 
 -- what the table of t triangles asks
 pub record TriangleRoom (t lc lv ln lk lm : ℕ) : Type 0 where
-  pub corners : t ≤ lc / 3
-  pub volumes : t ≤ lv / 2
+  pub corners : t ≤ lc / cornerColumns
+  pub volumes : t ≤ lv / volumeColumns
   pub numbers : t ≤ ln
   pub verts : t * 3 ≤ lk
   pub measures : t ≤ lm
 
 -- what the table of the straps among e edges asks
 pub record StrapRoom (e le ll ln lk lm : ℕ) : Type 0 where
-  pub ends : e ≤ le / 4
-  pub lengths : e ≤ ll / 4
+  pub ends : e ≤ le / endColumns
+  pub lengths : e ≤ ll / lengthColumns
   pub numbers : e ≤ ln
   pub verts : e * 2 ≤ lk
   pub measures : e ≤ lm

@@ -6,6 +6,7 @@ ghost use lib.ListN.{length, getD, take, drop};
 ghost use Rattle.lists.specs.Lists.{stands, all};
 ghost use Rattle.model.specs.Elements.{cornersPer, facetOthers, trianglesFrom, strapsFrom, sum};
 ghost use Rattle.mesh.specs.At.{trianglesAt, edgesAt};
+ghost use Rattle.mesh.specs.Widths.{endColumns};
 ghost use Rattle.elements.specs.Table.{kindIs, elementsIn, KindFound, ElementIs, Tabled, TableRoom, FanTabled, FanRoom, MeasuredWithin, MarkRoom, HeldBoth};
 ghost use Rattle.elements.specs.Workers.{TriangleRoom, StrapRoom, marked, Marked, MeasuredMarked, PassRoom};
 
@@ -18,13 +19,13 @@ pub enum Kind {
 
 // The kind of a mesh with t triangles and the first e edges of a block.
 pub fn kind_of(t: usize, e: usize, ends: &[usize]) -> Kind
-    requires { ⌜ e ≤ length (now ends) / 4 ⌝ }
+    requires { ⌜ e ≤ length (now ends) / endColumns ⌝ }
     ensures { λ r. ⌜ KindFound t e (now (ends .entry)) r ⌝ }
 {
     if t != 0 {
         return Kind::Triangles;
     }
-    let c = ends.len() / 4;
+    let c = ends.len() / mesh::END_COLUMNS;
     let mut i: usize = 0;
     while i < e {
         if ends[2 * c + i] == 1 {
@@ -82,7 +83,7 @@ fn triangle_table(
     ensures { λ _. ⌜ Tabled 3 (trianglesFrom 0 (trianglesAt t (now (corners .entry)) (now (volumes .entry)))) t (now (numbers .exit))
         (now (verts .exit)) (now (measures .exit)) ⌝ }
 {
-    let c = corners.len() / 3;
+    let c = corners.len() / mesh::CORNER_COLUMNS;
     let mut i: usize = 0;
     let mut o: usize = 0;
     while i < t {
@@ -110,8 +111,8 @@ fn strap_table(
     ensures { λ r. ⌜ Tabled 2 (strapsFrom 0 (edgesAt e (now (ends .entry)) (now (lengths .entry)))) r (now (numbers .exit))
         (now (verts .exit)) (now (measures .exit)) ⌝ }
 {
-    let c = ends.len() / 4;
-    let m = lengths.len() / 4;
+    let c = ends.len() / mesh::END_COLUMNS;
+    let m = lengths.len() / mesh::LENGTH_COLUMNS;
     let mut i: usize = 0;
     let mut n: usize = 0;
     let mut o: usize = 0;

@@ -96,7 +96,7 @@ fn image_fan(bytes: &[u8], v: usize, numbers: &mut [usize]) -> Found
         let n = fan_numbers(bytes, v, numbers);
         return Found::Elements(n);
     }
-    Found::Refused(4)
+    Found::Refused(mesh::refusals::ARGUMENT)
 }
 
 // The reply to a case whose numbers are the first of a table.
@@ -119,7 +119,7 @@ pub fn fan(bytes: &[u8], v: usize, out: &mut [u8]) -> u32
     ensures { λ r. ⌜ Replied (fanReply (now (bytes .entry)) v) (length (now (out .entry))) r (now (out .exit)) ⌝ }
 {
     if image::image_sized(bytes) {
-        let mut numbers = [0usize; 2048];
+        let mut numbers = [0usize; mesh::ELEMENTS];
         let found = image_fan(bytes, v, &mut numbers);
         return reply_found(found, &numbers, out);
     }

@@ -5,6 +5,7 @@ use mathlib.Core.Bool.{cond}
 use mathlib.Core.List.{List}
 use lib.Dec.{eqb}
 use Rattle.model.specs.Reads.{Read, refused}
+use Rattle.model.specs.Refusals.{closedRefusal}
 use Rattle.replies.specs.Reply.{Replied}
 use Rattle.sheet_c.specs.Sheets.{sheetReply}
 use Rattle.feeding.specs.Parts.{Closing, gives, late}
@@ -22,4 +23,4 @@ pub record Closed (b b′ : List ℕ) (lent r : ℕ) (out : List ℕ) : Type 0 w
 -- what a close is answered, by the definition of a reader
 abbrev pub replyOf : Closing (Read (List ℕ)) → Read (List ℕ)
 replyOf (gives x) = x
-replyOf late = refused 10
+replyOf late = refused closedRefusal

@@ -1,6 +1,6 @@
 -- Filled blocks, read back with the counts of what they were filled with, hold that mesh and that log.
 use Prim.Native.Nat.{ℕ, zero, suc, _+_, _-_, _*_, _/_, _<_, _≤_}
-use mathlib.Core.Path.{_≡_, refl, ap, _∙_}
+use mathlib.Core.Path.{_≡_, refl, sym, ap, _∙_}
 use mathlib.Core.List.{List, [], _∷_, map}
 use native.Mathlib.Omega.{arith}
 use lib.ListN.{length, getD, replicate, length-map, length-append}
@@ -10,7 +10,10 @@ use Rattle.lists.proofs.Stores.{map-at}
 use Rattle.float.specs.Numbers.{zero32}
 use Rattle.columns.specs.Block.{cell, blockOf}
 use Rattle.columns.proofs.Rows.{tab-ext, tab-of}
-use Rattle.model.specs.Mesh.{Side, blank, blankTriangle, blankEdge}
+use Rattle.model.specs.Mesh.{Triangle, Side, blank, blankTriangle, blankEdge}
+use Rattle.model.specs.Trace.{Threes, Twos, Rowed}
+use Rattle.model_laws.proofs.Laws.{all-in}
+use Rattle.model_laws.proofs.Rows.{two-are, three-are}
 use Rattle.mesh.specs.At.{particleRow, triangleRow, edgeRow, sideRow, particlesAt, trianglesAt, edgesAt, boundaryAt, meshAt}
 use Rattle.mesh.specs.Log.{World, Words, wordList, wordsIn, logAt}
 use Rattle.mesh.specs.Given.{Lent}
@@ -22,7 +25,7 @@ use Rattle.filled.proofs.Cells.{padded-at, block-long, block-cell, bloc
 
 -- a boundary entry for places that none has
 abbrev blankSide : Side
-blankSide = record { a = 0; b = 0 }
+blankSide = record { corners = 0 ∷ 0 ∷ [] }
 
 -- a block whose columns are the fields f 0, f 1, .. of the rows l
 module _ {A B : Type 0} (z : B) (len w : ℕ) (f : ℕ → A → B) (l : List A) (s : List B) (is : s ≡ blockOf len w (len / w) z (λ k. map (f k) l)) (fits : length l ≤ len / w) (room : w * (len / w) ≤ len) where
@@ -107,6 +110,13 @@ log-held lg l G eg =
 
 -- ---- the mesh
 
+-- a row of three, and one of two, whose corners are these
+corners-held : {x y z : ℕ} (t : Triangle) → length (t .corners) ≡ 3 → x ≡ cornerOf 0 t → y ≡ cornerOf 1 t → z ≡ cornerOf 2 t → x ∷ y ∷ z ∷ [] ≡ t .corners
+corners-held t e p q r = (λ i. p i ∷ q i ∷ r i ∷ []) ∙ sym (three-are (t .corners) e)
+
+side-held : {x y : ℕ} (s : Side) → length (s .corners) ≡ 2 → x ≡ sideOf 0 s → y ≡ sideOf 1 s → x ∷ y ∷ [] ≡ s .corners
+side-held s e p q = (λ i. p i ∷ q i ∷ []) ∙ sym (two-are (s .corners) e)
+
 module _ (W : World) (L : Lent) (p : List Float) (r c : List ℕ) (v : List Float) (e : List ℕ) (l : List Float) (o g : List ℕ) (F : Filled W L p r c v e l o g) where
   -- lent blocks keep their lengths, so what they were filled with has room in them
   pub filled-fits : lent p r c v e l o g ≡ L → Fits (countsIn W) L
@@ -137,16 +147,21 @@ module _ (W : World) (L : Lent) (p : List Float) (r c : List ℕ) (v : List Floa
         (λ k q. by-columns _ (λ j. pointOf j (getD rows k blank)) _ _ _ _ (λ j h. x j k h q) (y 0 k (omega arith) q) (y 1 k (omega arith) q))
         ∙ tab-of rows blank
 
-    pub triangles-held : trianglesAt (length (W .mesh .triangles)) c v ≡ W .mesh .triangles
+    pub triangles-held : Threes (W .mesh .triangles) → trianglesAt (length (W .mesh .triangles)) c v ≡ W .mesh .triangles
     unfolding trianglesAt
-    triangles-held =
+    triangles-held three =
         let rows = W .mesh .triangles in
         let x : (j k : ℕ) → j < 3 → k < length rows → cell 0 (length c / 3) c j k ≡ cornerOf j (getD rows k blankTriangle) =
         λ j k h q. field-cell 0 (L .corners) 3 cornerOf rows c (F .corners) (room .corners) (omega arith) 0 blankTriangle j k h q in
         let y : (j k : ℕ) → j < 2 → k < length rows → cell nan (length v / 2) v j k ≡ volumeOf j (getD rows k blankTriangle) =
         λ j k h q. field-cell zero32 (L .volumes) 2 volumeOf rows v (F .volumes) (room .volumes) (omega arith) nan blankTriangle j k h q in
         tab-ext (length rows) (triangleRow (length c / 3) (length v / 2) c v) (λ k. getD rows k blankTriangle)
-        (λ k q. rw (x 0 k (omega arith) q, x 1 k (omega arith) q, x 2 k (omega arith) q, y 0 k (omega arith) q, y 1 k (omega arith) q) refl)
+        (λ k q i.
+        record {
+          corners = corners-held (getD rows k blankTriangle) (all-in (λ (t : Triangle). length (t .corners) ≡ 3) rows k blankTriangle q three) (x 0 k (omega arith) q) (x 1 k (omega arith) q) (x 2 k (omega arith) q) i;
+          volume = y 0 k (omega arith) q i;
+          stress = y 1 k (omega arith) q i;
+        })
         ∙ tab-of rows blankTriangle
 
     pub edges-held : edgesAt (length (W .mesh .edges)) e l ≡ W .mesh .edges
@@ -161,21 +176,21 @@ module _ (W : World) (L : Lent) (p : List Float) (r c : List ℕ) (v : List Floa
         (λ k q. rw (x 0 k (omega arith) q, x 1 k (omega arith) q, x 2 k (omega arith) q, x 3 k (omega arith) q, y 0 k (omega arith) q, y 1 k (omega arith) q, y 2 k (omega arith) q, y 3 k (omega arith) q) refl)
         ∙ tab-of rows blankEdge
 
-    boundary-held : boundaryAt (length (W .mesh .boundary)) o ≡ W .mesh .boundary
+    boundary-held : Twos (W .mesh .boundary) → boundaryAt (length (W .mesh .boundary)) o ≡ W .mesh .boundary
     unfolding boundaryAt
-    boundary-held =
+    boundary-held two =
         let rows = W .mesh .boundary in
         let x : (j k : ℕ) → j < 2 → k < length rows → cell 0 (length o / 2) o j k ≡ sideOf j (getD rows k blankSide) =
         λ j k h q. field-cell 0 (L .outline) 2 sideOf rows o (F .outline) (room .outline) (omega arith) 0 blankSide j k h q in
         tab-ext (length rows) (sideRow (length o / 2) o) (λ k. getD rows k blankSide)
-        (λ k q. rw (x 0 k (omega arith) q, x 1 k (omega arith) q) refl)
+        (λ k q i. record { corners = side-held (getD rows k blankSide) (all-in (λ (s : Side). length (s .corners) ≡ 2) rows k blankSide q two) (x 0 k (omega arith) q) (x 1 k (omega arith) q) i })
         ∙ tab-of rows blankSide
 
     -- read back they are that mesh
-    pub mesh-filled : meshAt (countsIn W) p r c v e l o ≡ W .mesh
+    pub mesh-filled : Rowed (W .mesh) → meshAt (countsIn W) p r c v e l o ≡ W .mesh
     unfolding meshAt
-    mesh-filled = rw (particles-held, triangles-held, edges-held, boundary-held) refl
+    mesh-filled S = rw (particles-held, triangles-held (S .triangles), edges-held, boundary-held (S .boundary)) refl
 
   -- and so they are where the lent blocks kept their lengths
-  pub mesh-held : lent p r c v e l o g ≡ L → meshAt (countsIn W) p r c v e l o ≡ W .mesh
-  mesh-held kept = mesh-filled (filled-fits kept)
+  pub mesh-held : Rowed (W .mesh) → lent p r c v e l o g ≡ L → meshAt (countsIn W) p r c v e l o ≡ W .mesh
+  mesh-held S kept = mesh-filled (filled-fits kept) S

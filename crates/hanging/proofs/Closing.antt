@@ -29,7 +29,7 @@ use Rattle.model_laws.proofs.Accepted.{accepted-indexed}
 use Rattle.model_laws.proofs.Kept.{outcome-done, unless-done, no-refusal, cut-no-refusal}
 use Rattle.model_laws.proofs.Laws.{false-true, all-append, all-tab, all-in, length-mapAt, getD-mapAt, each-append, stands-head, stands-tail, stands-case}
 use Rattle.hanging.specs.Hanging.{HeldBy, Joined, Pinned, Firm, Touching, copiesBehind, SpokenOf, cutBegins, crackBegins}
-use Rattle.hanging.proofs.Opened.{held-low, joined-few, joined-old, joined-new}
+use Rattle.hanging.proofs.Opened.{held-low, three-corners, joined-few, joined-old, joined-new}
 
 -- ---- lists
 
@@ -99,7 +99,7 @@ module _ (S : Run) (seen : List ℕ) (R : Run) (U : Under S seen R) (v : ℕ) wh
   here : splits? O (R .mesh) ≡ false → Firm (R .mesh) v
   unfolding splits? openingOf ne fanOf elementsOf
   here e =
-      ⊎-elim (λ a. inr (joined-few (R .mesh .triangles) v (leb-false 2 (O .count) a)))
+      ⊎-elim (λ a. inr (joined-few (R .mesh .triangles) v (three-corners (length (R .mesh .particles)) (R .mesh .triangles) (U .indexed .triangles)) (leb-false 2 (O .count) a)))
       (λ a. inl (not-false (eq (particle (R .mesh) v .inv) zero32) a))
       (not-both (leb 2 (O .count)) (ne (particle (R .mesh) v .inv) zero32) e)
 

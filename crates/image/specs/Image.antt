@@ -9,6 +9,7 @@ use Rattle.model.specs.Mesh.{Mesh}
 use Rattle.mesh.specs.Given.{Given, given, sizesFit}
 use Rattle.mesh.specs.Filled.{pointOf, rootOf, cornerOf, volumeOf, endOf, lengthOf, sideOf}
 use Rattle.mesh.specs.Widths.{pointColumns, particleWords}
+use Rattle.mesh.specs.Limits.{particleLimit, triangleLimit, edgeLimit, boundaryLimit}
 use Rattle.image.specs.Words.{wordAt, wordsFrom, numbersFrom, bitsIn}
 
 -- how many words an image of so many particles, triangles, edges and boundary entries has
@@ -31,7 +32,7 @@ imageOf s = blocksIn s (wordAt s 0) (wordAt s 1) (wordAt s 2) (wordAt s 3)
 
 -- at most 1,024 particles, 1,024 triangles, 2,048 edges and 2,048 boundary entries, by the counts of an image
 unfoldable pub countsWithin : List ℕ → Bool
-countsWithin s = leb (wordAt s 0) 1024 && leb (wordAt s 1) 1024 && leb (wordAt s 2) 2048 && leb (wordAt s 3) 2048
+countsWithin s = leb (wordAt s 0) particleLimit && leb (wordAt s 1) triangleLimit && leb (wordAt s 2) edgeLimit && leb (wordAt s 3) boundaryLimit
 
 -- the image has as many bytes as its counts say, and the input that it is has the sizes of a mesh
 unfoldable pub imageSized : List ℕ → Bool

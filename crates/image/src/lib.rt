@@ -96,9 +96,9 @@ pub fn counts_within(image: &[u8]) -> bool
     let t = word_at(image, 1);
     let e = word_at(image, 2);
     let b = word_at(image, 3);
-    let z = judge::tests::both(p <= 1024, t <= 1024);
-    let z = judge::tests::both(z, e <= 2048);
-    judge::tests::both(z, b <= 2048)
+    let z = judge::tests::both(p <= mesh::PARTICLES, t <= mesh::TRIANGLES);
+    let z = judge::tests::both(z, e <= mesh::EDGES);
+    judge::tests::both(z, b <= mesh::BOUNDARY)
 }
 
 // The image has the sizes of a mesh.

@@ -6,7 +6,7 @@ use lib.Ieee.{Float}
 use Rattle.lists.specs.LeftOut.{Rising, leftOut}
 use Rattle.columns.specs.Block.{stack}
 use Rattle.mesh.specs.declared.Counts.{Counts}
-use Rattle.mesh.specs.Widths.{pointColumns}
+use Rattle.mesh.specs.Widths.{pointColumns, cornerColumns, endColumns, lengthColumns, rootColumns, volumeColumns, sideColumns}
 use Rattle.image.specs.Words.{bitsIn}
 use Rattle.image.specs.Image.{imageWords}
 
@@ -55,32 +55,32 @@ leftWords k is p r c v e l o =
 -- the rows stand in seven blocks of these lengths
 pub record Standing (k : Counts) (lp lr lc lv le ll lo : ℕ) : Type 0 where
   pub points : k .particles ≤ lp / pointColumns
-  pub roots : k .particles ≤ lr / 2
-  pub corners : k .triangles ≤ lc / 3
-  pub volumes : k .triangles ≤ lv / 2
-  pub ends : k .edges ≤ le / 4
-  pub lengths : k .edges ≤ ll / 4
-  pub outline : k .boundary ≤ lo / 2
+  pub roots : k .particles ≤ lr / rootColumns
+  pub corners : k .triangles ≤ lc / cornerColumns
+  pub volumes : k .triangles ≤ lv / volumeColumns
+  pub ends : k .edges ≤ le / endColumns
+  pub lengths : k .edges ≤ ll / lengthColumns
+  pub outline : k .boundary ≤ lo / sideColumns
 
 -- the same where s edges more than those of the image stand in the blocks
 pub record StandingWith (k : Counts) (s lp lr lc lv le ll lo : ℕ) : Type 0 where
   pub points : k .particles ≤ lp / pointColumns
-  pub roots : k .particles ≤ lr / 2
-  pub corners : k .triangles ≤ lc / 3
-  pub volumes : k .triangles ≤ lv / 2
-  pub ends : k .edges + s ≤ le / 4
-  pub lengths : k .edges + s ≤ ll / 4
-  pub outline : k .boundary ≤ lo / 2
+  pub roots : k .particles ≤ lr / rootColumns
+  pub corners : k .triangles ≤ lc / cornerColumns
+  pub volumes : k .triangles ≤ lv / volumeColumns
+  pub ends : k .edges + s ≤ le / endColumns
+  pub lengths : k .edges + s ≤ ll / lengthColumns
+  pub outline : k .boundary ≤ lo / sideColumns
 
 -- the rows stand in seven blocks, and the bytes have room for an image from word `at` on
 pub record Storable (k : Counts) (lp lr lc lv le ll lo at bytes : ℕ) : Type 0 where
   pub points : k .particles ≤ lp / pointColumns
-  pub roots : k .particles ≤ lr / 2
-  pub corners : k .triangles ≤ lc / 3
-  pub volumes : k .triangles ≤ lv / 2
-  pub ends : k .edges ≤ le / 4
-  pub lengths : k .edges ≤ ll / 4
-  pub outline : k .boundary ≤ lo / 2
+  pub roots : k .particles ≤ lr / rootColumns
+  pub corners : k .triangles ≤ lc / cornerColumns
+  pub volumes : k .triangles ≤ lv / volumeColumns
+  pub ends : k .edges ≤ le / endColumns
+  pub lengths : k .edges ≤ ll / lengthColumns
+  pub outline : k .boundary ≤ lo / sideColumns
   pub room : 4 * (at + imageWords (k .particles) (k .triangles) (k .edges) (k .boundary)) ≤ bytes
 
 -- the same where s edges more stand in the blocks, whose numbers are the first of the list and rise

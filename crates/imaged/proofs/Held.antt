@@ -12,10 +12,11 @@ use Rattle.float.specs.Numbers.{absOf}
 use Rattle.float.specs.Ranges.{finite?, number?, volume?, notBelow0?}
 use Rattle.model.specs.Mesh.{Particle, Triangle, Edge, Side, Mesh}
 use Rattle.model.specs.Valid.{flag?, particleOk, triangleOk, edgeOk, numbersFit}
-use Rattle.model.specs.Trace.{All, Sound}
+use Rattle.model.specs.Trace.{All, Different, Sound, Rowed}
 use Rattle.model_laws.proofs.Laws.{all-over, all-map, all-from}
-use Rattle.model_laws.proofs.Indexed.{Pair, Indexed}
-use Rattle.model_laws.proofs.Accepted.{accepted-indexed}
+use Rattle.model_laws.proofs.Indexed.{Indexed}
+use Rattle.model_laws.proofs.Rows.{Pair, named-at}
+use Rattle.model_laws.proofs.Accepted.{accepted-indexed, indexed-rowed}
 use Rattle.mesh.specs.Given.{given, meshOf}
 use Rattle.mesh.specs.Filled.{pointOf, rootOf, cornerOf, volumeOf, endOf, lengthOf, sideOf}
 use Rattle.mesh.specs.Widths.{pointColumns, particleWords}
@@ -98,9 +99,7 @@ triangle-writable n few t ok h S = (numbers (and-true (volume? (t .volume)) (num
     numbers q (suc c) = (h .stress, number-no-nan (t .stress) (q .1))
 
     words : (c : ℕ) → Word (cornerOf c t)
-    words zero = omega (arith, S .a)
-    words (suc zero) = omega (arith, S .b)
-    words (suc (suc c)) = omega (arith, S .c)
+    words c = omega (arith, named-at n (t .corners) (S .apart) c)
 
 edge-writable : (n : ℕ) → n ≤ 1024 → (e : Edge) → edgeOk e ≡ true → Edge32 e → Pair n (e .a) (e .b) → EdgeWritable e
 unfolding edgeOk
@@ -126,9 +125,8 @@ edge-writable n few e ok h P =
     words s t (suc (suc zero)) = flag-word (e .structural) s
     words s t (suc (suc (suc c))) = flag-word (e .torn) t
 
-side-writable : (n : ℕ) → n ≤ 1024 → (s : Side) → Pair n (s .a) (s .b) → SideWritable s
-side-writable n few s P zero = omega (arith, P .first)
-side-writable n few s P (suc c) = omega (arith, P .second)
+side-writable : (n : ℕ) → n ≤ 1024 → (s : Side) → Different 2 n (s .corners) → SideWritable s
+side-writable n few s D c = omega (arith, named-at n (s .corners) (D .apart) c)
 
 -- two facts, and three, on each row
 all-two : {A : Type 0} {P Q R : A → Type 0} → ((a : A) → P a → Q a → R a) → (l : List A) → All P l → All Q l → All R l
@@ -145,6 +143,7 @@ pub record Writable (M : Mesh) : Type 0 where
   pub triangles : All TriangleWritable (M .triangles)
   pub edges : All EdgeWritable (M .edges)
   pub boundary : All SideWritable (M .boundary)
+  pub rowed : Rowed M
 
 pub accepted-writable : (M : Mesh) → Accepted M → Few M → Writable M
 unfolding numbersFit
@@ -159,6 +158,7 @@ accepted-writable M A F =
       triangles = all-three (triangle-writable n few) (M .triangles) (all-from triangleOk (λ (x : Triangle). triangleOk x ≡ true) (λ x u. u) (M .triangles) (q .1)) (A .stored .triangles) (I .triangles);
       edges = all-three (edge-writable n few) (M .edges) (all-from edgeOk (λ (x : Edge). edgeOk x ≡ true) (λ x u. u) (M .edges) (p .1)) (A .stored .edges) (I .edges);
       boundary = all-over _ SideWritable (side-writable n few) (M .boundary) (I .boundary);
+      rowed = indexed-rowed M I;
     }
 
 -- ---- where each block stands among the words
@@ -316,7 +316,7 @@ module _ (M : Mesh) (W : Writable M) (F : Few M) where
 
   -- read back, the image is the mesh
   pub image-held : meshOf (imageOf (imageBytes M)) ≡ M
-  image-held = ap meshOf image-given ∙ packed-held M
+  image-held = ap meshOf image-given ∙ packed-held M (W .rowed)
 
   bytes-long : length (imageBytes M) ≡ 4 * imageWords (length (M .particles)) (length (M .triangles)) (length (M .edges)) (length (M .boundary))
   bytes-long = bytes-length (imageWordsOf M) ∙ ap (λ (n : ℕ). 4 * n) (image-long M)

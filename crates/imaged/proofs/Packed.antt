@@ -16,6 +16,7 @@ use Rattle.mesh.specs.declared.Counts.{Counts}
 use Rattle.mesh.specs.Widths.{pointColumns}
 use Rattle.filled.specs.Counts.{countsIn}
 use Rattle.filled.proofs.Cells.{stack-long}
+use Rattle.model.specs.Trace.{Rowed}
 use Rattle.filled.proofs.Held.{mesh-held}
 
 -- the seven blocks of a mesh, each as long as its columns
@@ -92,9 +93,9 @@ module _ (M : Mesh) where
       rw (p, t, e, b)
 
   -- they hold the mesh
-  pub packed-held : meshOf (packedOf M) ≡ M
+  pub packed-held : Rowed M → meshOf (packedOf M) ≡ M
   unfolding meshOf
-  packed-held =
+  packed-held S =
       let G = packedOf M in
       ap (λ (k : Counts). meshAt k (G .points) (G .roots) (G .corners) (G .volumes) (G .ends) (G .lengths) (G .outline)) sizes-packed
-      ∙ mesh-held (worldOf M []) lengthsOf (G .points) (G .roots) (G .corners) (G .volumes) (G .ends) (G .lengths) (G .outline) [] packed-filled refl
+      ∙ mesh-held (worldOf M []) lengthsOf (G .points) (G .roots) (G .corners) (G .volumes) (G .ends) (G .lengths) (G .outline) [] packed-filled S refl

@@ -20,11 +20,11 @@ use Rattle.mesh.specs.Workers.{edgeOf}
 use Rattle.mesh.specs.declared.EdgeRow.{EdgeRow}
 use Rattle.mesh.proofs.Lists.{particles-length}
 use Rattle.mesh.specs.Widths.{pointColumns}
-use Rattle.split_plan.specs.Opened.{restIn}
+use Rattle.split_plan.specs.Opened.{placeIn, restIn}
 use Rattle.copies.proofs.ParticleLaws.{weighed-by, mass-read, only-same}
 use Rattle.work.proofs.Grows.{edges-many}
 use Rattle.insert.specs.Plans.{planned}
-use Rattle.insert.specs.Inserts.{EdgeStored, EdgesRoom, EdgesInserted, placeIn, velocityIn, Lightened, particleOf, BetweenIs, ParticlesRoom, ParticlesInserted}
+use Rattle.insert.specs.Inserts.{EdgeStored, EdgesRoom, EdgesInserted, velocityIn, Lightened, particleOf, BetweenIs, ParticlesRoom, ParticlesInserted}
 use Rattle.insert.specs.declared.plan.Plan.{Plan}
 use Rattle.insert.specs.declared.particles.ParticleRow.{ParticleRow}
 use Rattle.insert.proofs.PlanLaws.{inverse-read}

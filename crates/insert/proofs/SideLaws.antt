@@ -2,13 +2,14 @@
 use Prim.Native.Nat.{ℕ, _+_, _*_, _/_, _<_, _≤_, zero-le}
 use native.Mathlib.Omega.{arith}
 use mathlib.Core.Path.{_≡_, refl, sym, ap, ap₂, _∙_, subst}
-use mathlib.Core.Bool.{false, _&&_}
+use mathlib.Core.Bool.{Bool, false, _&&_}
 use mathlib.Core.List.{List, [], _∷_, _++_, map, append-nil}
 use lib.ListN.{length, getD, set, length-set, length-append}
 use lib.Seq.{set-getD}
 use lib.Dec.{eqb}
 use borrow.Author.Tests.{eq-eqb, ne-eqb, lt-leb, leb-false}
-use Rattle.lists.specs.Lists.{tab, each}
+use Rattle.lists.specs.Lists.{sameRow, tab, each}
+use Rattle.lists.proofs.Truths.{and-end}
 use Rattle.lists.proofs.Stores.{tab-length, tab-at}
 use Rattle.lists.proofs.Rows.{rows-store, rows-push}
 use Rattle.columns.specs.Block.{cell}
@@ -30,7 +31,7 @@ entryAt s j = sideRow (length s / 2) s j
 
 -- the entry that is read past the end
 abbrev blankSide : Side
-blankSide = record { a = 0; b = 0 }
+blankSide = record { corners = 0 ∷ 0 ∷ [] }
 
 pub sides-many : (n : ℕ) (s : List ℕ) → length (boundaryAt n s) ≡ n
 unfolding boundaryAt
@@ -41,8 +42,8 @@ unfolding boundaryAt
 sides-get n s j l = tab-at n (entryAt s) j blankSide l
 
 -- an entry as the program reads it
-entry-read : (s : List ℕ) (i : ℕ) → _≡_ {A = Side} (record { a = getD s i 0; b = getD s (length s / 2 + i) 0 }) (entryAt s i)
-entry-read s i = λ z. record { a = sym (col-0 0 (length s / 2) s i) z; b = sym (col-1 0 (length s / 2) s i) z }
+entry-read : (s : List ℕ) (i : ℕ) → _≡_ {A = Side} (record { corners = getD s i 0 ∷ (getD s (length s / 2 + i) 0) ∷ [] }) (entryAt s i)
+entry-read s i = λ z. record { corners = sym (col-0 0 (length s / 2) s i) z ∷ sym (col-1 0 (length s / 2) s i) z ∷ [] }
 
 -- ---- three stores
 
@@ -74,24 +75,22 @@ module _ (i end from to m : ℕ) (s : List ℕ) (inside : i < m) (wide : m < len
   unfolding s₁
   other c k h n = store-row 0 R s 1 i end c k h (omega arith) n
 
-  grown-list : tab (m + 1) (sideRow R s₃) ≡ set (tab m (sideRow R s)) i (record { a = getD s i 0; b = end }) ++ (record { a = from; b = to } ∷ [])
+  grown-list : tab (m + 1) (sideRow R s₃) ≡ set (tab m (sideRow R s)) i (record { corners = getD s i 0 ∷ end ∷ [] }) ++ (record { corners = from ∷ to ∷ [] } ∷ [])
   unfolding s₁ s₂ s₃
   grown-list =
-      rows-push m (sideRow R s₁) (sideRow R s₃) (record { a = from; b = to }) (λ k h z. record { a = lower 0 k h z; b = lower 1 k h z })
+      rows-push m (sideRow R s₁) (sideRow R s₃) (record { corners = from ∷ to ∷ [] }) (λ k h z. record { corners = lower 0 k h z ∷ lower 1 k h z ∷ [] })
       (λ z.
       record {
-        a = (store-col 0 R s₂ 1 m to 0 m wide wide (λ q. omega arith) ∙ store-same 0 R s₁ 0 m from (simp length-set (omega arith))) z;
-        b = store-same 0 R s₂ 1 m to (simp length-set (omega arith)) z;
+        corners = (store-col 0 R s₂ 1 m to 0 m wide wide (λ q. omega arith) ∙ store-same 0 R s₁ 0 m from (simp length-set (omega arith))) z ∷ store-same 0 R s₂ 1 m to (simp length-set (omega arith)) z ∷ [];
       })
-      ∙ ap (λ (l : List Side). l ++ (record { a = from; b = to } ∷ []))
-      (rows-store m (sideRow R s) (sideRow R s₁) i (record { a = getD s i 0; b = end }) (λ k h n z. record { a = other 0 k (omega arith) n z; b = other 1 k (omega arith) n z })
+      ∙ ap (λ (l : List Side). l ++ (record { corners = from ∷ to ∷ [] } ∷ []))
+      (rows-store m (sideRow R s) (sideRow R s₁) i (record { corners = getD s i 0 ∷ end ∷ [] }) (λ k h n z. record { corners = other 0 k (omega arith) n z ∷ other 1 k (omega arith) n z ∷ [] })
       (λ z.
       record {
-        a = (store-col 0 R s 1 i end 0 i (omega arith) (omega arith) (λ q. omega arith) ∙ col-0 0 R s i) z;
-        b = store-same 0 R s 1 i end (omega arith) z;
+        corners = (store-col 0 R s 1 i end 0 i (omega arith) (omega arith) (λ q. omega arith) ∙ col-0 0 R s i) z ∷ store-same 0 R s 1 i end (omega arith) z ∷ [];
       }))
 
-  grew-cols : (room : ℕ) → m < room → EntryGrown (record { a = getD s i 0; b = end }) (record { a = from; b = to } ∷ []) i m room s s₃ (Rows (m + 1))
+  grew-cols : (room : ℕ) → m < room → EntryGrown (record { corners = getD s i 0 ∷ end ∷ [] }) (record { corners = from ∷ to ∷ [] } ∷ []) i m room s s₃ (Rows (m + 1))
   unfolding boundaryAt
   grew-cols room h =
       record {
@@ -99,19 +98,19 @@ module _ (i end from to m : ℕ) (s : List ℕ) (inside : i < m) (wide : m < len
         others =
             λ j l n.
             ap (λ (z : ℕ). sideRow (z / 2) s₃ j) long₃
-            ∙ (λ z. record { a = (lower 0 j l ∙ other 0 j (omega arith) n) z; b = (lower 1 j l ∙ other 1 j (omega arith) n) z });
+            ∙ (λ z. record { corners = ((lower 0 j l ∙ other 0 j (omega arith) n) z) ∷ ((lower 1 j l ∙ other 1 j (omega arith) n) z) ∷ [] });
         between = (omega arith, omega arith);
       }
 
   -- as the program writes the places
   pub grew-one : (room : ℕ) → m < room
-      → EntryGrown (record { a = getD s i 0; b = end }) (record { a = from; b = to } ∷ []) i m room s (set (set (set s (length s / 2 + i) end) m from) (length s / 2 + m) to) (Rows (m + 1))
+      → EntryGrown (record { corners = getD s i 0 ∷ end ∷ [] }) (record { corners = from ∷ to ∷ [] } ∷ []) i m room s (set (set (set s (length s / 2 + i) end) m from) (length s / 2 + m) to) (Rows (m + 1))
   unfolding s₁ s₂ s₃
   grew-one room h =
       let e₀ : 0 * (length s / 2) + m ≡ m = omega arith in
       let e₁ : 1 * (length s / 2) + i ≡ length s / 2 + i = omega arith in
       let e₂ : 1 * (length s / 2) + m ≡ length s / 2 + m = omega arith in
-      subst (λ (z : List ℕ). EntryGrown (record { a = getD s i 0; b = end }) (record { a = from; b = to } ∷ []) i m room s z (Rows (m + 1)))
+      subst (λ (z : List ℕ). EntryGrown (record { corners = getD s i 0 ∷ end ∷ [] }) (record { corners = from ∷ to ∷ [] } ∷ []) i m room s z (Rows (m + 1)))
       (ap₂ (λ (x y : ℕ). set (set (set s x end) y from) (1 * (length s / 2) + m) to) e₁ e₀ ∙ ap (λ (x : ℕ). set (set (set s (length s / 2 + i) end) m from) x to) e₂) (grew-cols room h)
 
 -- no room for one more
@@ -136,31 +135,36 @@ module _ (x y a b : ℕ) where
   pub both-not-second : x ≡ a → (y ≡ b → ⊥) → eqb x a && eqb y b ≡ false
   both-not-second e n = rw (eq-eqb x a e, ne-eqb y b n)
 
-module _ (x y a b p q : ℕ) where
-  short-first : x ≡ a → y ≡ b → _≡_ {A = Side} (record { a = x; b = p }) (shortened a b p q (record { a = x; b = y }))
-  unfolding shortened
-  short-first e d = rw (eq-eqb x a e, eq-eqb y b d) (λ z. record { a = e z; b = p })
+-- an entry of two corners is (a, b) where both are
+same-two : (x y a b : ℕ) → sameRow (x ∷ y ∷ []) (a ∷ b ∷ []) ≡ eqb x a && eqb y b
+unfolding sameRow
+same-two x y a b = ap (λ (t : Bool). eqb x a && t) (and-end (eqb y b))
 
-  app-first : x ≡ a → y ≡ b → _≡_ {A = List Side} (record { a = q; b = b } ∷ []) (appended a b p q (record { a = x; b = y }))
+module _ (x y a b p q : ℕ) where
+  short-first : x ≡ a → y ≡ b → _≡_ {A = Side} (record { corners = x ∷ p ∷ [] }) (shortened a b p q (record { corners = x ∷ y ∷ [] }))
+  unfolding shortened
+  short-first e d = rw (same-two x y a b, eq-eqb x a e, eq-eqb y b d) (λ z. record { corners = e z ∷ p ∷ [] })
+
+  app-first : x ≡ a → y ≡ b → _≡_ {A = List Side} (record { corners = q ∷ b ∷ [] } ∷ []) (appended a b p q (record { corners = x ∷ y ∷ [] }))
   unfolding appended
-  app-first e d = rw (eq-eqb x a e, eq-eqb y b d)
+  app-first e d = rw (same-two x y a b, eq-eqb x a e, eq-eqb y b d)
 
   module _ (n : eqb x a && eqb y b ≡ false) where
-    short-second : x ≡ b → y ≡ a → _≡_ {A = Side} (record { a = x; b = q }) (shortened a b p q (record { a = x; b = y }))
+    short-second : x ≡ b → y ≡ a → _≡_ {A = Side} (record { corners = x ∷ q ∷ [] }) (shortened a b p q (record { corners = x ∷ y ∷ [] }))
     unfolding shortened
-    short-second e d = rw (n, eq-eqb x b e, eq-eqb y a d) (λ z. record { a = e z; b = q })
+    short-second e d = rw (same-two x y a b, n, same-two x y b a, eq-eqb x b e, eq-eqb y a d) (λ z. record { corners = e z ∷ q ∷ [] })
 
-    app-second : x ≡ b → y ≡ a → _≡_ {A = List Side} (record { a = p; b = a } ∷ []) (appended a b p q (record { a = x; b = y }))
+    app-second : x ≡ b → y ≡ a → _≡_ {A = List Side} (record { corners = p ∷ a ∷ [] } ∷ []) (appended a b p q (record { corners = x ∷ y ∷ [] }))
     unfolding appended
-    app-second e d = rw (n, eq-eqb x b e, eq-eqb y a d)
+    app-second e d = rw (same-two x y a b, n, same-two x y b a, eq-eqb x b e, eq-eqb y a d)
 
-    short-none : eqb x b && eqb y a ≡ false → _≡_ {A = Side} (record { a = x; b = y }) (shortened a b p q (record { a = x; b = y }))
+    short-none : eqb x b && eqb y a ≡ false → _≡_ {A = Side} (record { corners = x ∷ y ∷ [] }) (shortened a b p q (record { corners = x ∷ y ∷ [] }))
     unfolding shortened
-    short-none k = rw (n, k)
+    short-none k = rw (same-two x y a b, n, same-two x y b a, k)
 
-    app-none : eqb x b && eqb y a ≡ false → _≡_ {A = List Side} [] (appended a b p q (record { a = x; b = y }))
+    app-none : eqb x b && eqb y a ≡ false → _≡_ {A = List Side} [] (appended a b p q (record { corners = x ∷ y ∷ [] }))
     unfolding appended
-    app-none k = rw (n, k)
+    app-none k = rw (same-two x y a b, n, same-two x y b a, k)
 
 module _ (i a b p q m room : ℕ) (s s′ : List ℕ) (r : Grown) where
   abbrev first : ℕ
@@ -170,13 +174,13 @@ module _ (i a b p q m room : ℕ) (s s′ : List ℕ) (r : Grown) where
   second = getD s (length s / 2 + i) 0
 
   -- (a, b)
-  pub entry-along : first ≡ a → second ≡ b → EntryGrown (record { a = getD s i 0; b = p }) (record { a = q; b = b } ∷ []) i m room s s′ r
+  pub entry-along : first ≡ a → second ≡ b → EntryGrown (record { corners = getD s i 0 ∷ p ∷ [] }) (record { corners = q ∷ b ∷ [] } ∷ []) i m room s s′ r
       → EntryGrown (shortened a b p q (entryAt s i)) (appended a b p q (entryAt s i)) i m room s s′ r
   entry-along e d G =
       entry-as i m room s s′ r (short-first first second a b p q e d ∙ ap (shortened a b p q) (entry-read s i)) (app-first first second a b p q e d ∙ ap (appended a b p q) (entry-read s i)) G
 
   -- (b, a)
-  pub entry-against : eqb first a && eqb second b ≡ false → first ≡ b → second ≡ a → EntryGrown (record { a = getD s i 0; b = q }) (record { a = p; b = a } ∷ []) i m room s s′ r
+  pub entry-against : eqb first a && eqb second b ≡ false → first ≡ b → second ≡ a → EntryGrown (record { corners = getD s i 0 ∷ q ∷ [] }) (record { corners = p ∷ a ∷ [] } ∷ []) i m room s s′ r
       → EntryGrown (shortened a b p q (entryAt s i)) (appended a b p q (entryAt s i)) i m room s s′ r
   entry-against n e d G =
       entry-as i m room s s′ r (short-second first second a b p q n e d ∙ ap (shortened a b p q) (entry-read s i)) (app-second first second a b p q n e d ∙ ap (appended a b p q) (entry-read s i)) G

@@ -12,7 +12,8 @@ use Rattle.model.specs.Split.{onlyAt}
 use Rattle.model.specs.Cut.{lightened, between, insertedParticles, insertedEdges}
 use Rattle.mesh.specs.At.{particlesAt, edgesAt}
 use Rattle.mesh.specs.Workers.{EdgeRoom, ParticleRoom}
-use Rattle.mesh.specs.Widths.{pointColumns}
+use Rattle.mesh.specs.Widths.{pointColumns, endColumns, lengthColumns}
+use Rattle.mesh.specs.Limits.{particleLimit}
 use Rattle.insert.specs.Plans.{planned}
 use Rattle.insert.specs.declared.plan.Plan.{Plan}
 use Rattle.insert.specs.declared.particles.ParticleRow.{ParticleRow}
@@ -21,7 +22,7 @@ use Rattle.insert.specs.declared.particles.ParticleRow.{ParticleRow}
 
 -- edge i is x, and the others are as they were, for any number of edges
 pub record EdgeStored (i : ℕ) (x : Edge) (ends ends′ : List ℕ) (lengths lengths′ : List Float) : Type 0 where
-  pub edges : (n : ℕ) → n ≤ length ends / 4 → n ≤ length lengths / 4 → edgesAt n ends′ lengths′ ≡ set (edgesAt n ends lengths) i x
+  pub edges : (n : ℕ) → n ≤ length ends / endColumns → n ≤ length lengths / lengthColumns → edgesAt n ends′ lengths′ ≡ set (edgesAt n ends lengths) i x
 
 -- the edge is one of e, and one more has room
 pub record EdgesRoom (plan : Plan) (e le ll : ℕ) : Type 0 where
@@ -34,11 +35,7 @@ pub record EdgesInserted (plan : Plan) (e : ℕ) (ends ends′ : List ℕ) (leng
 
 -- ---- particles
 
--- where particle w is, by the block of points
-abbrev pub placeIn : List Float → ℕ → Point
-placeIn points w = record { x = cell nan (length points / pointColumns) points 0 w; y = cell nan (length points / pointColumns) points 1 w }
-
--- how fast it goes
+-- how fast particle w goes, by the block of points
 abbrev pub velocityIn : List Float → ℕ → Point
 velocityIn points w = record { x = cell nan (length points / pointColumns) points 6 w; y = cell nan (length points / pointColumns) points 7 w }
 
@@ -72,7 +69,7 @@ pub record BetweenIs (plan : Plan) (m : Float) (n damaged : ℕ) (points : List 
 pub record ParticlesRoom (plan : Plan) (lp lr : ℕ) : Type 0 where
   pub a-in : plan .row .a < plan .before
   pub b-in : plan .row .b < plan .before
-  pub few : plan .before ≤ 1024
+  pub few : plan .before ≤ particleLimit
   pub room : ParticleRoom (plan .before + 2) lp lr
 
 -- the particles behind the insertion

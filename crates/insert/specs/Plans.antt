@@ -8,7 +8,7 @@ use lib.Ieee.{Float}
 use Rattle.model.specs.Mesh.{Mesh}
 use Rattle.model.specs.Cut.{Insertion, insertionOf, insertable}
 use Rattle.mesh.specs.Workers.{EdgeRoom, edgeOf}
-use Rattle.mesh.specs.Widths.{pointColumns}
+use Rattle.mesh.specs.Widths.{pointColumns, endColumns}
 use Rattle.insert.specs.Shares.{Stands}
 use Rattle.insert.specs.declared.plan.Plan.{Plan}
 
@@ -22,7 +22,7 @@ pub record PlanRoom (number n e lp : ℕ) (ends : List ℕ) (ll : ℕ) : Type 0 
   pub room : EdgeRoom e (length ends) ll
   pub points : n ≤ lp / pointColumns
   pub a-in : getD ends number 0 < n
-  pub b-in : getD ends (length ends / 4 + number) 0 < n
+  pub b-in : getD ends (length ends / endColumns + number) 0 < n
 
 -- r is the insertion into edge `number` at t, in every mesh that stands there
 pub record PlanIs (f : Float) (number : ℕ) (t : Float) (n e : ℕ) (points : List Float) (ends : List ℕ) (lengths : List Float) (r : Plan) : Type 0 where

@@ -7,7 +7,8 @@ use Rattle.model.specs.Cut.{insertStep}
 use Rattle.mesh.specs.Log.{worldAt}
 use Rattle.mesh.specs.declared.Counts.{Counts}
 use Rattle.mesh.specs.declared.Rooms.{Rooms}
-use Rattle.mesh.specs.Widths.{pointColumns}
+use Rattle.mesh.specs.Widths.{pointColumns, endColumns, lengthColumns, rootColumns, sideColumns, entryWords}
+use Rattle.mesh.specs.Limits.{particleLimit, edgeLimit, entryLimit}
 use Rattle.work.specs.Working.{Within, Works}
 use Rattle.work.specs.declared.Ran.{Ran}
 use Rattle.insert.specs.Plans.{planned}
@@ -20,15 +21,15 @@ pub record StepRoom (plan : Plan) (k : Counts) (L : Rooms) (lp lr le ll lo lg : 
   pub a-in : plan .row .a < k .particles
   pub b-in : plan .row .b < k .particles
   pub counts : Within k L
-  pub few-particles : L .particles ≤ 1024
-  pub few-edges : L .edges ≤ 2048
-  pub few-log : L .log ≤ 4096
+  pub few-particles : L .particles ≤ particleLimit
+  pub few-edges : L .edges ≤ edgeLimit
+  pub few-log : L .log ≤ entryLimit
   pub points : L .particles ≤ lp / pointColumns
-  pub roots : L .particles ≤ lr / 2
-  pub ends : L .edges ≤ le / 4
-  pub lengths : L .edges ≤ ll / 4
-  pub outline : L .boundary ≤ lo / 2
-  pub log : L .log ≤ lg / 6
+  pub roots : L .particles ≤ lr / rootColumns
+  pub ends : L .edges ≤ le / endColumns
+  pub lengths : L .edges ≤ ll / lengthColumns
+  pub outline : L .boundary ≤ lo / sideColumns
+  pub log : L .log ≤ lg / entryWords
 
 -- the step was done to whatever run the blocks hold, whatever stands in the blocks of the triangles
 pub record InsertTold (plan : Plan) (L : Rooms) (k : Counts) (points : List Float) (roots ends : List ℕ) (lengths : List Float) (outline log : List ℕ) (points′ : List Float) (roots′ ends′ : List ℕ) (lengths′ : List Float) (outline′ log′ : List ℕ) (r : Ran) : Type 0 where

@@ -31,8 +31,8 @@ fn store_edge(i: usize, row: EdgeRow, ends: &mut [usize], lengths: &mut [f32])
     requires { ⌜ EdgeRoom (i + 1) (length (now ends)) (length (now lengths)) ⌝ }
     ensures { λ _. ⌜ EdgeStored i (edgeOf row) (now (ends .entry)) (now (ends .exit)) (now (lengths .entry)) (now (lengths .exit)) ⌝ }
 {
-    let e = ends.len() / 4;
-    let l = lengths.len() / 4;
+    let e = ends.len() / mesh::END_COLUMNS;
+    let l = lengths.len() / mesh::LENGTH_COLUMNS;
     ends[i] = row.a;
     ends[e + i] = row.b;
     ends[2 * e + i] = row.structural;
@@ -61,9 +61,20 @@ pub fn insert_edges(
     let p = plan.before;
     let first = half_of(row, row.a, p, plan.at);
     let second = half_of(row, p + 1, row.b, 1.0 - plan.at);
-    let rows = ends.len() / 4;
-    link_changes::move_corner(number, 1, p, e, 2, 1024, 2048, rows, ends, table);
+    let rows = ends.len() / mesh::END_COLUMNS;
+    link_changes::move_corner(
+        number,
+        1,
+        p,
+        e,
+        2,
+        mesh::PARTICLES,
+        mesh::EDGES,
+        rows,
+        ends,
+        table,
+    );
     store_edge(number, first, ends, lengths);
     mesh::rows::append_edge(e, second, ends, lengths);
-    link_changes::append_cell(e, 2, 1024, 2048, rows, ends, table);
+    link_changes::append_cell(e, 2, mesh::PARTICLES, mesh::EDGES, rows, ends, table);
 }

@@ -11,7 +11,7 @@ ghost use Rattle.mesh.specs.At.{particlesAt};
 ghost use Rattle.mesh.specs.Workers.{ParticleRoom};
 ghost use Rattle.mesh.specs.Widths.{pointColumns};
 ghost use Rattle.insert.specs.Plans.{planned, InsertableRoom};
-ghost use Rattle.insert.specs.Inserts.{placeIn, velocityIn, Lightened, particleOf, BetweenIs, ParticlesRoom, ParticlesInserted};
+ghost use Rattle.insert.specs.Inserts.{velocityIn, Lightened, particleOf, BetweenIs, ParticlesRoom, ParticlesInserted};
 use crate::plan::Plan;
 use blade::Point;
 
@@ -24,18 +24,6 @@ pub struct ParticleRow {
     pub velocity: Point,
     pub root: usize,
     pub damaged: usize,
-}
-
-// Where particle w is.
-pub fn place(w: usize, points: &[f32]) -> Point
-    requires { ⌜ w < length (now points) / pointColumns ⌝ }
-    ensures { λ r. ⌜ r ≡ placeIn (now (points .entry)) w ⌝ }
-{
-    let p = points.len() / mesh::POINT_COLUMNS;
-    Point {
-        x: points[w],
-        y: points[p + w],
-    }
 }
 
 // How fast particle w goes.
@@ -94,7 +82,11 @@ fn between(plan: Plan, m: f32, n: usize, damaged: usize, points: &[f32]) -> Part
     let row = plan.row;
     let a = row.a;
     let b = row.b;
-    let at = blade::lerp(place(a, points), place(b, points), plan.at);
+    let at = blade::lerp(
+        split_plan::place(a, points),
+        split_plan::place(b, points),
+        plan.at,
+    );
     let rest = blade::lerp(
         split_plan::rest_point(a, points),
         split_plan::rest_point(b, points),
@@ -119,7 +111,7 @@ fn append_particle(n: usize, row: ParticleRow, points: &mut [f32], roots: &mut [
         ≡ particlesAt n (now (points .entry)) (now (roots .entry)) ++ (particleOf row ∷ []) ⌝ }
 {
     let p = points.len() / mesh::POINT_COLUMNS;
-    let r = roots.len() / 2;
+    let r = roots.len() / mesh::ROOT_COLUMNS;
     let at = row.at;
     let rest = row.rest;
     let velocity = row.velocity;
@@ -143,7 +135,7 @@ pub fn insert_particles(plan: Plan, points: &mut [f32], roots: &mut [usize])
     let a = row.a;
     let b = row.b;
     let n = plan.before;
-    let r = roots.len() / 2;
+    let r = roots.len() / mesh::ROOT_COLUMNS;
     let first = first_half(plan);
     let second = second_half(plan);
     let p = between(plan, first, n, roots[r + a], points);

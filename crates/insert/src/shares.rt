@@ -3,16 +3,16 @@ ghost use mathlib.Core.Path.{_≡_};
 ghost use Prim.Native.Nat.{_<_, _/_};
 ghost use lib.ListN.{length};
 ghost use Rattle.mesh.specs.At.{edgesAt};
-ghost use Rattle.mesh.specs.Widths.{pointColumns};
+ghost use Rattle.mesh.specs.Widths.{pointColumns, endColumns};
 ghost use Rattle.insert.specs.Shares.{StrapTold, totalAt, shareBy};
 ghost use Rattle.insert.specs.Tables.{TotalRoom};
 
 // Is edge i structural, with an end at v?
 pub fn strap_at(v: usize, i: usize, ends: &[usize]) -> bool
-    requires { ⌜ i < length (now ends) / 4 ⌝ }
+    requires { ⌜ i < length (now ends) / endColumns ⌝ }
     ensures { λ r. ⌜ StrapTold v i (now (ends .entry)) r ⌝ }
 {
-    let c = ends.len() / 4;
+    let c = ends.len() / mesh::END_COLUMNS;
     if ends[2 * c + i] != 1 {
         return false;
     }
@@ -33,8 +33,8 @@ fn total_at(v: usize, e: usize, ends: &[usize], lengths: &[f32], table: &[u16]) 
     requires { ⌜ TotalRoom v e (now ends) (length (now lengths)) (now table) ⌝ }
     ensures { λ r. ⌜ r ≡ totalAt v (edgesAt e (now (ends .entry)) (now (lengths .entry))) ⌝ }
 {
-    let rows = ends.len() / 4;
-    let l = lengths.len() / 4;
+    let rows = ends.len() / mesh::END_COLUMNS;
+    let l = lengths.len() / mesh::LENGTH_COLUMNS;
     let mut s: f32 = 0.0;
     let mut at = links::first_at(v, table);
     while at > 0 {
@@ -42,7 +42,7 @@ fn total_at(v: usize, e: usize, ends: &[usize], lengths: &[f32], table: &[u16]) 
         if ends[2 * rows + i] == 1 {
             s = s + lengths[l + i];
         }
-        at = links::next_at(v, i, 2, 1024, 2048, rows, ends, table);
+        at = links::next_at(v, i, 2, mesh::PARTICLES, mesh::EDGES, rows, ends, table);
     }
     s
 }

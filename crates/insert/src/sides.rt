@@ -5,6 +5,7 @@ ghost use Prim.Native.Nat.{_<_, _≤_, _/_};
 ghost use lib.ListN.{length, getD};
 ghost use Rattle.model.specs.Cut.{shortened, appended};
 ghost use Rattle.mesh.specs.At.{sideRow};
+ghost use Rattle.mesh.specs.Widths.{sideColumns};
 ghost use Rattle.work.specs.Rows.{SideRoom};
 ghost use Rattle.insert.specs.Sides.{EntryGrown, SidesInserted};
 use work::Grown;
@@ -20,13 +21,13 @@ fn grow_entry(
     outline: &mut [usize],
 ) -> Grown
     requires { ⌜ SideRoom m room (length (now outline)) × (i < m) ⌝ }
-    ensures { λ r. ⌜ EntryGrown (record { a = getD (now (outline .entry)) i 0; b = end }) (record { a = from; b = to } ∷ []) i m room
-        (now (outline .entry)) (now (outline .exit)) r ⌝ }
+    ensures { λ r. ⌜ EntryGrown (record { corners = getD (now (outline .entry)) i 0 ∷ end ∷ [] }) (record { corners = from ∷ to ∷ [] } ∷ [])
+        i m room (now (outline .entry)) (now (outline .exit)) r ⌝ }
 {
     if m == room {
         return Grown::Lacking;
     }
-    let o = outline.len() / 2;
+    let o = outline.len() / mesh::SIDE_COLUMNS;
     outline[o + i] = end;
     outline[m] = from;
     outline[o + m] = to;
@@ -45,10 +46,11 @@ fn insert_side(
     outline: &mut [usize],
 ) -> Grown
     requires { ⌜ SideRoom m room (length (now outline)) × (i < m) ⌝ }
-    ensures { λ r. ⌜ EntryGrown (shortened a b p q (sideRow (length (now (outline .entry)) / 2) (now (outline .entry)) i)) (appended a b p q
-        (sideRow (length (now (outline .entry)) / 2) (now (outline .entry)) i)) i m room (now (outline .entry)) (now (outline .exit)) r ⌝ }
+    ensures { λ r. ⌜ EntryGrown (shortened a b p q (sideRow (length (now (outline .entry)) / sideColumns) (now (outline .entry)) i))
+        (appended a b p q (sideRow (length (now (outline .entry)) / sideColumns) (now (outline .entry)) i)) i m room (now (outline .entry))
+        (now (outline .exit)) r ⌝ }
 {
-    let o = outline.len() / 2;
+    let o = outline.len() / mesh::SIDE_COLUMNS;
     let x = outline[i];
     let y = outline[o + i];
     if x == a {

@@ -34,17 +34,17 @@ pub fn insert(
     let e = k.edges;
     let g = k.log;
     if room.particles < n + 2 {
-        return Ran::Refused(5);
+        return Ran::Refused(mesh::refusals::PARTICLES);
     }
     if room.edges < e + 1 {
-        return Ran::Refused(6);
+        return Ran::Refused(mesh::refusals::EDGES);
     }
     let grown = crate::sides::insert_sides(a, b, n, n + 1, k.boundary, room.boundary, outline);
     let Grown::Rows(sides) = grown else {
-        return Ran::Refused(7);
+        return Ran::Refused(mesh::refusals::BOUNDARY);
     };
     if room.log < g + 1 {
-        return Ran::Refused(8);
+        return Ran::Refused(mesh::refusals::ENTRIES);
     }
     crate::particles::insert_particles(plan, points, roots);
     crate::edges::insert_edges(plan, e, ends, lengths, table);

@@ -10,21 +10,6 @@ use image::small;
 use mesh::Rooms;
 use mesh_calls::Job;
 
-// The most particles of a mesh.
-const PARTICLES: usize = 1024;
-
-// The most triangles of a mesh.
-const TRIANGLES: usize = 1024;
-
-// The most edges of a mesh.
-const EDGES: usize = 2048;
-
-// The most boundary entries of a mesh.
-const BOUNDARY: usize = 2048;
-
-// The most entries of a log.
-const ENTRIES: usize = 4096;
-
 // The most entries of a log beside middling blocks.
 const MIDDLING_ENTRIES: usize = 512;
 
@@ -55,13 +40,13 @@ fn reply_middling(
     ensures { λ r. ⌜ CallReplied job list bytes rooms room out log r ⌝ }
 {
     let mut points = [0.0f32; small::MIDDLING_PARTICLES * mesh::POINT_COLUMNS];
-    let mut roots = [0usize; 2 * small::MIDDLING_PARTICLES];
-    let mut corners = [0usize; 3 * small::MIDDLING_TRIANGLES];
-    let mut volumes = [0.0f32; 2 * small::MIDDLING_TRIANGLES];
-    let mut ends = [0usize; 4 * small::MIDDLING_EDGES];
-    let mut lengths = [0.0f32; 4 * small::MIDDLING_EDGES];
-    let mut outline = [0usize; 2 * small::MIDDLING_BOUNDARY];
-    let mut words = [0u32; 6 * MIDDLING_ENTRIES];
+    let mut roots = [0usize; mesh::ROOT_COLUMNS * small::MIDDLING_PARTICLES];
+    let mut corners = [0usize; mesh::CORNER_COLUMNS * small::MIDDLING_TRIANGLES];
+    let mut volumes = [0.0f32; mesh::VOLUME_COLUMNS * small::MIDDLING_TRIANGLES];
+    let mut ends = [0usize; mesh::END_COLUMNS * small::MIDDLING_EDGES];
+    let mut lengths = [0.0f32; mesh::LENGTH_COLUMNS * small::MIDDLING_EDGES];
+    let mut outline = [0usize; mesh::SIDE_COLUMNS * small::MIDDLING_BOUNDARY];
+    let mut words = [0u32; mesh::ENTRY_WORDS * MIDDLING_ENTRIES];
     crate::lent::reply_lent(
         job,
         list,
@@ -94,14 +79,14 @@ fn reply_large(
     requires { ⌜ (imageSized (now bytes) ≡ true) × Limited room (length (now log)) ⌝ }
     ensures { λ r. ⌜ CallReplied job list bytes rooms room out log r ⌝ }
 {
-    let mut points = [0.0f32; PARTICLES * mesh::POINT_COLUMNS];
-    let mut roots = [0usize; 2 * PARTICLES];
-    let mut corners = [0usize; 3 * TRIANGLES];
-    let mut volumes = [0.0f32; 2 * TRIANGLES];
-    let mut ends = [0usize; 4 * EDGES];
-    let mut lengths = [0.0f32; 4 * EDGES];
-    let mut outline = [0usize; 2 * BOUNDARY];
-    let mut words = [0u32; 6 * ENTRIES];
+    let mut points = [0.0f32; mesh::PARTICLES * mesh::POINT_COLUMNS];
+    let mut roots = [0usize; mesh::ROOT_COLUMNS * mesh::PARTICLES];
+    let mut corners = [0usize; mesh::CORNER_COLUMNS * mesh::TRIANGLES];
+    let mut volumes = [0.0f32; mesh::VOLUME_COLUMNS * mesh::TRIANGLES];
+    let mut ends = [0usize; mesh::END_COLUMNS * mesh::EDGES];
+    let mut lengths = [0.0f32; mesh::LENGTH_COLUMNS * mesh::EDGES];
+    let mut outline = [0usize; mesh::SIDE_COLUMNS * mesh::BOUNDARY];
+    let mut words = [0u32; mesh::ENTRY_WORDS * mesh::ENTRIES];
     crate::lent::reply_lent(
         job,
         list,

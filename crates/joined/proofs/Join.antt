@@ -17,6 +17,8 @@ use Rattle.call_frame.specs.Answered.{answerOf, countsOf, shown, frontOf}
 use Rattle.call_frame.proofs.Front.{front-told}
 use Rattle.filled.specs.Counts.{countsIn}
 use Rattle.filled.proofs.Held.{mesh-held}
+use Rattle.model_laws.proofs.Accepted.{accepted-rowed}
+use Rattle.lineage.proofs.Again.{called-checked}
 use Rattle.lineage.specs.History.{Called, cutting, cracking, splitting, removing}
 use Rattle.joined.specs.Entries.{Asked, cuts, cracks, splits, straddlers, Blocks, held, rooms, Answering}
 
@@ -63,11 +65,13 @@ joined G k b D A =
     let more = R .more in
     let F : Filled (worldOf M′ more) (A .lengths) (D .points) (D .roots) (D .corners) (D .volumes) (D .ends) (D .lengths) (D .outline) (D .log) =
     subst (λ (x : Outcome). Filled (shown x) (A .lengths) (D .points) (D .roots) (D .corners) (D .volumes) (D .ends) (D .lengths) (D .outline) (D .log)) (R .is) (A .answered .blocks) in
+    let C = asked-called G (A .lengths) o (A .asked) M′ more b (R .is) in
+    let rows = accepted-rowed M′ (called-checked (rooms (A .lengths)) (meshOf G) C .after) in
     let n : length (map wordsOf more) ≡ length more = length-map more wordsOf in
     let c : countsIn (worldOf M′ more) ≡ k = rw n (sym (R .counts)) in
-    let m : held k D ≡ M′ = subst (λ (x : Counts). held x D ≡ M′) c (mesh-held (worldOf M′ more) (A .lengths) (D .points) (D .roots) (D .corners) (D .volumes) (D .ends) (D .lengths) (D .outline) (D .log) F (A .kept)) in
+    let m : held k D ≡ M′ = subst (λ (x : Counts). held x D ≡ M′) c (mesh-held (worldOf M′ more) (A .lengths) (D .points) (D .roots) (D .corners) (D .volumes) (D .ends) (D .lengths) (D .outline) (D .log) F rows (A .kept)) in
     record {
       more = more;
-      called = subst (λ (x : Mesh). Called (rooms (A .lengths)) (meshOf G) x more) (sym m) (asked-called G (A .lengths) o (A .asked) M′ more b (R .is));
+      called = subst (λ (x : Mesh). Called (rooms (A .lengths)) (meshOf G) x more) (sym m) C;
       front = front-told o (A .lengths) k b (D .points) (D .roots) (D .corners) (D .volumes) (D .ends) (D .lengths) (D .outline) (D .log) (A .answered) (ap (λ (x : Lent). x .log) (A .kept)) ∙ ap (λ (x : Outcome). wordsIn (shown x .log)) (R .is);
     }

@@ -12,6 +12,7 @@ ghost use Rattle.judge.specs.Checks.{faultIn, faultOf};
 ghost use Rattle.mesh.specs.Workers.{ParticleRoom, EdgeRoom};
 ghost use Rattle.judge.specs.Told.{RootsTold, CornersTold, VolumesTold, pairOk};
 ghost use Rattle.mesh.specs.Blocks.{meshBefore, givenBefore, blocksIn};
+ghost use Rattle.mesh.specs.Widths.{cornerColumns, rootColumns, volumeColumns};
 use crate::faults;
 use crate::ranges;
 use crate::tests;
@@ -23,7 +24,7 @@ fn particles_fit(n: usize, points: &[f32], roots: &[usize]) -> bool
     ensures { λ r. ⌜ r ≡ all particleOk (particlesAt n (now (points .entry)) (now (roots .entry))) ⌝ }
 {
     let p = points.len() / mesh::POINT_COLUMNS;
-    let q = roots.len() / 2;
+    let q = roots.len() / mesh::ROOT_COLUMNS;
     let z = ranges::in_range(points, 0, n);
     let z = tests::both(z, ranges::in_range(points, p, n));
     let z = tests::both(z, ranges::in_range(points, 2 * p, n));
@@ -37,10 +38,10 @@ fn particles_fit(n: usize, points: &[f32], roots: &[usize]) -> bool
 
 // The numbers of the first n triangles, whatever their corners.
 fn triangles_fit(n: usize, volumes: &[f32]) -> bool
-    requires { ⌜ n ≤ length (now volumes) / 2 ⌝ }
+    requires { ⌜ n ≤ length (now volumes) / volumeColumns ⌝ }
     ensures { λ r. ⌜ VolumesTold n (now (volumes .entry)) r ⌝ }
 {
-    let w = volumes.len() / 2;
+    let w = volumes.len() / mesh::VOLUME_COLUMNS;
     let z = ranges::volumes(volumes, 0, n);
     tests::both(z, ranges::in_range(volumes, w, n))
 }
@@ -50,8 +51,8 @@ fn edges_fit(n: usize, ends: &[usize], lengths: &[f32]) -> bool
     requires { ⌜ EdgeRoom n (length (now ends)) (length (now lengths)) ⌝ }
     ensures { λ r. ⌜ r ≡ all edgeOk (edgesAt n (now (ends .entry)) (now (lengths .entry))) ⌝ }
 {
-    let e = ends.len() / 4;
-    let l = lengths.len() / 4;
+    let e = ends.len() / mesh::END_COLUMNS;
+    let l = lengths.len() / mesh::LENGTH_COLUMNS;
     let z = ranges::flags(ends, 2 * e, n);
     let z = tests::both(z, ranges::flags(ends, 3 * e, n));
     let z = tests::both(z, ranges::lengths(lengths, 0, n));
@@ -62,7 +63,7 @@ fn edges_fit(n: usize, ends: &[usize], lengths: &[f32]) -> bool
 
 // The roots of n particles.
 fn roots_fit(n: usize, roots: &[usize]) -> bool
-    requires { ⌜ n ≤ length (now roots) / 2 ⌝ }
+    requires { ⌜ n ≤ length (now roots) / rootColumns ⌝ }
     ensures { λ r. ⌜ RootsTold n (now (roots .entry)) r ⌝ }
 {
     ranges::below(roots, n, n)
@@ -70,10 +71,10 @@ fn roots_fit(n: usize, roots: &[usize]) -> bool
 
 // The corners of the first t triangles, among n particles.
 fn corners_fit(n: usize, t: usize, corners: &[usize]) -> bool
-    requires { ⌜ (t ≤ length (now corners) / 3) × (n ≤ 9223372036854775808) ⌝ }
+    requires { ⌜ (t ≤ length (now corners) / cornerColumns) × (n ≤ 9223372036854775808) ⌝ }
     ensures { λ r. ⌜ CornersTold n t (now (corners .entry)) r ⌝ }
 {
-    let c = corners.len() / 3;
+    let c = corners.len() / mesh::CORNER_COLUMNS;
     let room = faults::LIMIT - n;
     let mut fault: usize = 0;
     let mut i: usize = 0;
@@ -135,8 +136,14 @@ pub fn indices_fit(
     let n = k.particles;
     let z = roots_fit(n, roots);
     let z = tests::both(z, corners_fit(n, k.triangles, corners));
-    let z = tests::both(z, pairs_fit(n, k.edges, ends.len() / 4, ends));
-    tests::both(z, pairs_fit(n, k.boundary, outline.len() / 2, outline))
+    let z = tests::both(
+        z,
+        pairs_fit(n, k.edges, ends.len() / mesh::END_COLUMNS, ends),
+    );
+    tests::both(
+        z,
+        pairs_fit(n, k.boundary, outline.len() / mesh::SIDE_COLUMNS, outline),
+    )
 }
 
 // The refusals 2 and 3 of the first k rows of seven blocks, 0 for none. The columns may be longer than the mesh.
@@ -188,9 +195,9 @@ pub fn judge(
     }
     let k = Counts {
         particles: points.len() / mesh::POINT_COLUMNS,
-        triangles: corners.len() / 3,
-        edges: ends.len() / 4,
-        boundary: outline.len() / 2,
+        triangles: corners.len() / mesh::CORNER_COLUMNS,
+        edges: ends.len() / mesh::END_COLUMNS,
+        boundary: outline.len() / mesh::SIDE_COLUMNS,
         log: 0,
     };
     judge_sized(k, points, roots, corners, volumes, ends, lengths, outline)

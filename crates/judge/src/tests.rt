@@ -48,15 +48,42 @@ pub fn sizes_fit(
     ensures { λ r. ⌜ r ≡ lengthsFit lp lr lc lv le ll lo ⌝ }
 {
     let z = list_fits(
-        1024,
+        mesh::PARTICLES,
         lp % mesh::POINT_COLUMNS,
         lp / mesh::POINT_COLUMNS,
-        lr % 2,
-        lr / 2,
+        lr % mesh::ROOT_COLUMNS,
+        lr / mesh::ROOT_COLUMNS,
     );
-    let z = both(z, list_fits(1024, lc % 3, lc / 3, lv % 2, lv / 2));
-    let z = both(z, list_fits(2048, le % 4, le / 4, ll % 4, ll / 4));
-    both(z, list_fits(2048, lo % 2, lo / 2, 0, lo / 2))
+    let z = both(
+        z,
+        list_fits(
+            mesh::TRIANGLES,
+            lc % mesh::CORNER_COLUMNS,
+            lc / mesh::CORNER_COLUMNS,
+            lv % mesh::VOLUME_COLUMNS,
+            lv / mesh::VOLUME_COLUMNS,
+        ),
+    );
+    let z = both(
+        z,
+        list_fits(
+            mesh::EDGES,
+            le % mesh::END_COLUMNS,
+            le / mesh::END_COLUMNS,
+            ll % mesh::LENGTH_COLUMNS,
+            ll / mesh::LENGTH_COLUMNS,
+        ),
+    );
+    both(
+        z,
+        list_fits(
+            mesh::BOUNDARY,
+            lo % mesh::SIDE_COLUMNS,
+            lo / mesh::SIDE_COLUMNS,
+            0,
+            lo / mesh::SIDE_COLUMNS,
+        ),
+    )
 }
 
 // A rest length: in range, and not below zero.

@@ -22,7 +22,7 @@ use Rattle.model.specs.Valid.{flag?, particleOk, triangleOk, edgeOk, numbersFit
 use Rattle.model.specs.Elements.{Triangles, kindOf, elementsOf, farEnd, endsOf, fanOf}
 use Rattle.model.specs.Run.{Entry, Need, Rooms, Run, start, stepTo}
 use Rattle.model.specs.Split.{Opening, openingOf, splits?, made, weighed, massOf, portion, onlyAt, copied, groupAt, copyOf, retargeted, moved, rewiredTriangles, rewiredStraps, edgeGroups, other?, calm, stayed, doubled, otherEdges, straddles, atLongest, settled, splitMade, splitBySides}
-use Rattle.model.specs.Pieces.{across?, spans, bodyLabels, withoutStraddlers, straddlersGone, removeStraddlers}
+use Rattle.model.specs.Pieces.{across?, spread, bodyLabels, withoutStraddlers, straddlersGone, removeStraddlers}
 use Rattle.model.specs.Cut.{slack, slackened, markedBy, cut}
 use Rattle.model.specs.Crack.{hurt, damagedAt, bridges, torn, crack}
 use Rattle.model.specs.Calls.{bladeOk, fractionOk, sidesOk, trianglesLent, known, bladeOf, cutRefusal, tooSmall, firstFault, outcome, cutCall, crackCall, splitCall, straddlersCall}
@@ -31,7 +31,8 @@ use Rattle.model_laws.proofs.Traced.{splits-here}
 use Rattle.model_laws.proofs.Steps.{fault-front}
 use Rattle.model_laws.proofs.Kept.{accepted-sound, unless-done, no-refusal, cut-no-refusal, Passed}
 use Rattle.model_laws.proofs.Accepted.{accepted-indexed, indexed-accepted, cut-accepted, crack-accepted, split-accepted, straddlers-accepted}
-use Rattle.model_laws.proofs.Indexed.{Pair, Indexed, Ends, Sides}
+use Rattle.model_laws.proofs.Indexed.{Indexed, Ends, Sides}
+use Rattle.model_laws.proofs.Rows.{Pair}
 use Rattle.model_laws.proofs.Laws.{both, pick-both, all-in, all-over, all-append, all-map, all-mapAt, all-eachOf, all-sift, all-below, all-from, all-to, all-yes, length-mapAt}
 use Rattle.lineage.specs.History.{Particle32, Triangle32, Edge32, Stored, Called, cutting, cracking, splitting, removing, Moved, History, first, calling, moving, HostStores, Accepted, Again}
 use Rattle.lineage.proofs.Induction.{Sided, Behind, nothing-more, tearing, Kept}
@@ -364,7 +365,7 @@ covered-kept =
       straddlers = λ R C.
           let es = elementsOf Triangles (R .mesh) in
           let ls = bodyLabels es in
-          covered-step R _ _ _ _ (sift-length (λ (e : Edge). not (across? Triangles es ls e)) (R .mesh .edges)) (sift-length (λ (s : Side). not (spans es ls (s .a) (s .b))) (R .mesh .boundary));
+          covered-step R _ _ _ _ (sift-length (λ (e : Edge). not (across? Triangles es ls e)) (R .mesh .edges)) (sift-length (λ (s : Side). not (spread es ls (s .corners))) (R .mesh .boundary));
     }
 
 -- ---- the calls

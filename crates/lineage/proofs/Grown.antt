@@ -23,6 +23,7 @@ use Rattle.model.specs.Pieces.{withoutStraddlers, straddlersGone, removeStraddl
 use Rattle.model.specs.Cut.{slackened, markedBy}
 use Rattle.model.specs.Crack.{hurt, damagedAt, torn}
 use Rattle.model.specs.Trace.{All, Sound, Hold, Held}
+use Rattle.model_laws.proofs.Rows.{named-below}
 use Rattle.model_laws.proofs.Traced.{Fitting, opening-fits, copiesFrom, step-splits, splits-here, copied-length, at-below, sound-step, Still, still-torn, all-any, Any}
 use Rattle.model_laws.proofs.Holding.{opening-full, split-held}
 use Rattle.model_laws.proofs.Laws.{all-mapAt, all-over, all-append, tab-all, map-mapAt, length-mapAt, pick-both}
@@ -67,7 +68,7 @@ abbrev pub rootsBy : List ℕ → Triangle → List ℕ
 rootsBy col t = map (λ x. getD col x 0) (cornersOf t)
 
 pub roots-by : (M : Mesh) (t : Triangle) → rootsOf M t ≡ rootsBy (column M) t
-roots-by M t = rw (root-at (M .particles) (t .a), root-at (M .particles) (t .b), root-at (M .particles) (t .c))
+roots-by M t = map-ext (λ x. particle M x .root) (λ x. getD (column M) x 0) (root-at (M .particles)) (cornersOf t)
 
 portion-root : (O : Opening) (g : ℕ) (p : Particle) → portion O g p .root ≡ p .root
 unfolding portion
@@ -114,7 +115,11 @@ module _ (col : List ℕ) (n v k r : ℕ) (long : length col ≡ n) (is : getD c
       ⊎-elim (λ a. ap (λ x. getD wide x 0) (a .1) ∙ root-copy g l ∙ sym is ∙ ap (λ x. getD col x 0) (sym (a .0))) (λ a. ap (λ x. getD wide x 0) (a .1) ∙ root-low c u) (replaced-case v (copyFor v n g) c)
 
   pub roots-kept : (g : ℕ) → g < suc k → (t : Triangle) → Sound n t → rootsBy wide (retargeted v (copyFor v n g) t) ≡ rootsBy col t
-  roots-kept g l t S = rw (root-kept g l (t .a) (S .a), root-kept g l (t .b) (S .b), root-kept g l (t .c) (S .c))
+  roots-kept g l t S = by (t .corners) (named-below n (t .corners) (S .apart))
+    where
+      by : (r : List ℕ) → All (λ x. x < n) r → map (λ x. getD wide x 0) (map (replaced v (copyFor v n g)) r) ≡ map (λ x. getD col x 0) r
+      by [] h = refl
+      by (x ∷ r) h = ap₂ (λ (y : ℕ) (s : List ℕ). y ∷ s) (root-kept g l x (h .0)) (by r (h .1))
 
 -- ---- what is done behind a split
 

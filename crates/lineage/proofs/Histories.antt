@@ -1,5 +1,5 @@
 -- The theorems on histories of triangle meshes: `traced-always`, `held-always`, `copies-held`, `particles-bounded`, `afternoon`, `runs-bounded`, `room-suffices`. Assumes nothing.
-use mathlib.Core.Path.{_≡_, refl, sym, _∙_, ap, subst}
+use mathlib.Core.Path.{_≡_, refl, sym, _∙_, ap, subst, ap₂}
 use mathlib.Core.Bool.{Bool, true, false, not, _&&_}
 use mathlib.Core.Logic.{_⊎_, ⊎-elim}
 use mathlib.Core.List.{List, [], _∷_, _++_, map, map-map}
@@ -7,7 +7,7 @@ use Prim.Native.Nat.{ℕ, zero, suc, _+_, _*_, _<_, _≤_}
 use native.Mathlib.Omega.{arith}
 use borrow.Author.Tests.{le-ltb}
 use lib.Dec.{eqb, ltb}
-use lib.ListN.{length, getD}
+use lib.ListN.{length, getD, length-append}
 use lib.Ieee.{Float}
 use Rattle.lists.specs.Lists.{pick, stands, each, upTo}
 use Rattle.lists.proofs.Sifts.{stands-append, upTo-at, or-true, and-true, map-ext}
@@ -21,8 +21,9 @@ use Rattle.model.specs.Pieces.{removeStraddlers}
 use Rattle.model.specs.Cut.{Line as BladeLine, cut}
 use Rattle.model.specs.Crack.{crack}
 use Rattle.model.specs.Calls.{bladeOk, fractionOk, sidesOk, trianglesLent, refusal, known, wholeMesh, wholeLine, editionRefusal, bladeOf, firstOf, cutRefusal, tooSmall, firstFault, Outcome, refused, done, fitted, outcome, unless, cutCall, crackCall, splitCall, straddlersCall}
-use Rattle.model.specs.Trace.{All, originOf, Sound, tracedBack, Hold, Kept}
-use Rattle.model_laws.proofs.Traced.{origin-append}
+use Rattle.model.specs.Trace.{All, originOf, Sound, Threes, tracedBack, Hold, Kept}
+use Rattle.model_laws.proofs.Rows.{named-below}
+use Rattle.model_laws.proofs.Traced.{origin-append, start-traced}
 use Rattle.model_laws.proofs.Kept.{accepted-sound, outcome-done, unless-done, no-refusal, cut-keeps, crack-keeps, split-keeps, straddlers-keep}
 use Rattle.model_laws.proofs.Splitting.{Sided, sides-accepted}
 use Rattle.model_laws.proofs.Laws.{false-true, all-over, all-append, each-append}
@@ -117,7 +118,7 @@ module _ {M₀ M : Mesh} {log : List Entry} (I : Line M₀ M log) where
   started = growing-start M (I .grown .sound)
 
   traced-then : (S S′ : List (ℕ × ℕ)) (t : Triangle) → tracedBack (S ++ S′) t ≡ map (originOf S) (tracedBack S′ t)
-  traced-then S S′ t = rw (origin-append S S′ (t .a), origin-append S S′ (t .b), origin-append S S′ (t .c))
+  traced-then S S′ t = map-ext (originOf (S ++ S′)) (λ x. originOf S (originOf S′ x)) (origin-append S S′) (cornersOf t) ∙ sym (map-map (originOf S) (originOf S′) (cornersOf t))
 
   splits-then : (more : List Entry) → splitsOf (log ++ more) ≡ splitsOf log ++ splitsOf more
   unfolding splitsOf
@@ -155,8 +156,8 @@ module _ {M₀ M : Mesh} {log : List Entry} (I : Line M₀ M log) where
       }
 
 line-first : (M : Mesh) → Begins M → Line M M []
-unfolding splitsOf each originOf
-line-first M b = record { begins = b; grown = grown-same M (accepted-sound M (b .indices)); back = refl; copies = tt }
+unfolding start splitsOf each originOf
+line-first M b = let S = accepted-sound M (b .indices) in record { begins = b; grown = grown-same M S; back = start-traced M S .back; copies = tt }
 
 pub line-of : {M₀ M : Mesh} {log : List Entry} → History M₀ M log → Line M₀ M log
 line-of (first b) = line-first _ b
@@ -168,7 +169,11 @@ line-of (moving h W) = line-moved (line-of h) _ W
 root-own : (col : List ℕ) (n : ℕ) → col ≡ upTo n → (t : Triangle) → Sound n t → rootsBy col t ≡ cornersOf t
 root-own col n e t S =
     let r : (x : ℕ) → x < n → getD col x 0 ≡ x = λ x u. ap (λ (l : List ℕ). getD l x 0) e ∙ upTo-at n x u in
-    rw (r (t .a) (S .a), r (t .b) (S .b), r (t .c) (S .c))
+    by r (t .corners) (named-below n (t .corners) (S .apart))
+  where
+    by : ((x : ℕ) → x < n → getD col x 0 ≡ x) → (l : List ℕ) → All (λ x. x < n) l → map (λ x. getD col x 0) l ≡ l
+    by r [] h = refl
+    by r (x ∷ l) h = ap₂ (λ (y : ℕ) (s : List ℕ). y ∷ s) (r x (h .0)) (by r l (h .1))
 
 -- After any history every triangle has three different particles, stands in its place, and is the triangle that it was: traced back through the logs, and by the roots.
 pub traced-always : {M₀ M : Mesh} {log : List Entry} → History M₀ M log → Lasting M₀ M log
@@ -207,10 +212,13 @@ stands-hold x (t ∷ ts) e =
     ⊎-elim (λ d. (0, (omega arith, d))) (λ d. let h = stands-hold x ts d in (suc (h .0), (let u = h .1 .0 in omega arith, h .1 .1)))
     (or-cases (stands x (cornersOf t)) (stands x (each cornersOf ts)) (sym (stands-append x (cornersOf t) (each cornersOf ts)) ∙ e))
 
-three-each : (ts : List Triangle) → length (each cornersOf ts) ≡ 3 * length ts
+three-each : (ts : List Triangle) → Threes ts → length (each cornersOf ts) ≡ 3 * length ts
 unfolding each
-three-each [] = refl
-three-each (t ∷ ts) = let h = three-each ts in omega arith
+three-each [] w = refl
+three-each (t ∷ ts) w = let h = three-each ts (w .1) in let l = length-append (cornersOf t) (each cornersOf ts) in omega (arith, w .0)
+
+threes-of : (n : ℕ) (ts : List Triangle) → All (Sound n) ts → Threes ts
+threes-of n ts S = all-over (Sound n) (λ (t : Triangle). length (t .corners) ≡ 3) (λ t D. D .many) ts S
 
 -- a mesh that has grown from M₀ has room for its particles in its triangles
 pub grown-bounded : (M₀ M : Mesh) → Grown M₀ M → length (M .particles) + inUse M₀ ≤ length (M₀ .particles) + 3 * length (M₀ .triangles)
@@ -222,7 +230,7 @@ grown-bounded M₀ M G =
     = among-room n (length (M .particles)) (each cornersOf (M₀ .triangles)) l (G .more)
     (λ x u e. let k = G .kept x (stands-hold x (M₀ .triangles) e) in hold-stands x (M .triangles) (k .0) (k .1 .0) (k .1 .1))
     (λ x u w. let k = G .fresh x u w in hold-stands x (M .triangles) (k .0) (k .1 .0) (k .1 .1)) in
-    let e : length l ≡ 3 * length (M₀ .triangles) = three-each (M .triangles) ∙ ap (λ m. 3 * m) (G .count) in
+    let e : length l ≡ 3 * length (M₀ .triangles) = three-each (M .triangles) (threes-of (length (M .particles)) (M .triangles) (G .sound)) ∙ ap (λ m. 3 * m) (G .count) in
     omega arith
 
 pub grown-most : (M₀ M : Mesh) → Grown M₀ M → length (M .particles) ≤ mostParticles M₀
@@ -234,9 +242,9 @@ pub particles-bounded : {M₀ M : Mesh} {log : List Entry} → History M₀ M lo
 particles-bounded {M₀} {M} h = grown-most M₀ M (line-of h .grown)
 
 -- (The difference is one of numbers not below 0: no more particles are in use than three per triangle.)
-pub in-use-most : (M : Mesh) → inUse M ≤ 3 * length (M .triangles)
+pub in-use-most : (M : Mesh) → Threes (M .triangles) → inUse M ≤ 3 * length (M .triangles)
 unfolding inUse
-in-use-most M = let h = among-most (length (M .particles)) (each cornersOf (M .triangles)) in let e = three-each (M .triangles) in omega arith
+in-use-most M w = let h = among-most (length (M .particles)) (each cornersOf (M .triangles)) in let e = three-each (M .triangles) w in omega arith
 
 -- After any history: all of demand 3.
 pub afternoon : {M₀ M : Mesh} {log : List Entry} → History M₀ M log → Afternoon M₀ M log

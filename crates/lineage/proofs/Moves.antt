@@ -5,10 +5,9 @@ use Prim.Native.Nat.{ℕ, zero, suc}
 use native.Mathlib.Omega.{arith}
 use lib.ListN.{length, getD, length-map}
 use Rattle.lists.specs.Lists.{stands}
-use Rattle.float.specs.Numbers.{zero32}
 use Rattle.model.specs.Mesh.{Particle, Triangle, Mesh, blankTriangle}
 use Rattle.model.specs.Elements.{cornersOf}
-use Rattle.model.specs.Trace.{All, Sound, Hold}
+use Rattle.model.specs.Trace.{All, Different, Sound, Hold}
 use Rattle.model_laws.proofs.Laws.{all-map, all-over}
 use Rattle.lineage.specs.History.{Moved, rootsOf}
 use Rattle.lineage.proofs.Grown.{Grown, column, rootsBy, roots-by}
@@ -42,23 +41,9 @@ hold-moved ts ts′ e x h = (
   ),
 )
 
--- a triangle of three corners
-abbrev triangleOn : List ℕ → Triangle
-triangleOn l = record { a = getD l 0 0; b = getD l 1 0; c = getD l 2 0; volume = zero32; stress = zero32 }
-
--- it is sound
-abbrev SoundOn : ℕ → List ℕ → Type 0
-SoundOn n l = Sound n (triangleOn l)
-
-sound-on : (n : ℕ) (t : Triangle) → Sound n t → SoundOn n (cornersOf t)
-sound-on n t S = record { a = S .a; b = S .b; c = S .c; ab = S .ab; bc = S .bc; ca = S .ca }
-
-on-sound : (n : ℕ) (t : Triangle) → SoundOn n (cornersOf t) → Sound n t
-on-sound n t S = record { a = S .a; b = S .b; c = S .c; ab = S .ab; bc = S .bc; ca = S .ca }
-
 pub sound-moved : (n : ℕ) (ts ts′ : List Triangle) → map cornersOf ts′ ≡ map cornersOf ts → All (Sound n) ts → All (Sound n) ts′
 sound-moved n ts ts′ e S =
-    all-over (λ t. SoundOn n (cornersOf t)) (Sound n) (on-sound n) ts′ (all-column cornersOf (SoundOn n) ts ts′ e (all-over (Sound n) (λ t. SoundOn n (cornersOf t)) (sound-on n) ts S))
+    all-column cornersOf (Different 3 n) ts ts′ e S
 
 -- what is read off the corners alone is the same
 pub by-corners : {A : Type 0} (g : List ℕ → A) (ts ts′ : List Triangle) → map cornersOf ts′ ≡ map cornersOf ts → map (λ t. g (cornersOf t)) ts′ ≡ map (λ t. g (cornersOf t)) ts

@@ -18,6 +18,7 @@ use Rattle.model.specs.Cut.{Line, Blade, cut}
 use Rattle.model.specs.Crack.{crack}
 use Rattle.model.specs.Calls.{sidesOk, firstFault, refused, done, cutCall, crackCall, splitCall, straddlersCall}
 use Rattle.model.specs.Trace.{All, Sound, tracedBack, Hold}
+use Rattle.model.specs.Refusals.{particleRefusal}
 
 -- the first mesh: it has a triangle, it is accepted, and each particle is its own root
 pub record Begins (M : Mesh) : Type 0 where
@@ -89,15 +90,15 @@ pub record Within (n : ℕ) (R : Run) : Type 0 where
 
 -- a run is not refused for the room for particles
 abbrev pub Unrefused : Rooms → Run → Type 0
-Unrefused L R = firstFault L (R .needs) ≡ 5 → ⊥
+Unrefused L R = firstFault L (R .needs) ≡ particleRefusal → ⊥
 
 -- no call on M with the rooms L is refused for the room for particles
 pub record Roomy (L : Rooms) (M : Mesh) : Type 0 where
   pub runs : EveryRun (Unrefused L) M
-  pub cuts : (sized : Bool) (n : ℕ) (B : Line) (f : Float) → cutCall sized M n B f L ≡ refused 5 → ⊥
-  pub cracks : (sized : Bool) (is : List ℕ) (min : ℕ) → crackCall sized M is min L ≡ refused 5 → ⊥
-  pub splits : (sized : Bool) (v : ℕ) (sides : List ℕ) → splitCall sized M v sides L ≡ refused 5 → ⊥
-  pub straddlers : (sized : Bool) → straddlersCall sized M L ≡ refused 5 → ⊥
+  pub cuts : (sized : Bool) (n : ℕ) (B : Line) (f : Float) → cutCall sized M n B f L ≡ refused particleRefusal → ⊥
+  pub cracks : (sized : Bool) (is : List ℕ) (min : ℕ) → crackCall sized M is min L ≡ refused particleRefusal → ⊥
+  pub splits : (sized : Bool) (v : ℕ) (sides : List ℕ) → splitCall sized M v sides L ≡ refused particleRefusal → ⊥
+  pub straddlers : (sized : Bool) → straddlersCall sized M L ≡ refused particleRefusal → ⊥
 
 -- every number of a particle, a triangle, an edge is one that f32 holds, as the columns of a mesh can have no other
 pub record Particle32 (p : Particle) : Type 0 where

@@ -10,9 +10,9 @@ use borrow.Author.Tests.{eq-eqb, ne-eqb}
 use Rattle.lists.specs.Labels.{replaced}
 use Rattle.lists.proofs.Stores.{replaced-case}
 use Rattle.columns.proofs.Cells.{col-fits, store-same, store-row, store-col}
-use Rattle.columns.specs.Block.{cell}
+use Rattle.columns.specs.Block.{cell, RowTurned}
 use Rattle.links.specs.Links.{LinksOf}
-use Rattle.link_changes.specs.Changes.{cornerMoved, AppendRoom, MoveRoom, TurnRoom, RowTurned}
+use Rattle.link_changes.specs.Changes.{cornerMoved, AppendRoom, MoveRoom, TurnRoom}
 use Rattle.links.specs.Rooms.{CornersApart, RowRead, ColumnOf}
 use Rattle.links.specs.Linked.{PairsLinked}
 use Rattle.links.proofs.Same.{links-ext}
@@ -150,7 +150,7 @@ module _ {w i v z n : ℕ} {block table : List ℕ} (P : TurnRoom w i v z n bloc
   turn-row = record { here = turn-here; columns = two-columns block (P .wide); holding = P .holding }
 
   -- v stays
-  pub turn-kept : z ≡ v → RowTurned w i v z block block × PairsLinked w n block table
+  pub turn-kept : z ≡ v → RowTurned 2 (length block / w) i v z block block × PairsLinked w n block table
   turn-kept e = (record { here = λ c h. sym (ap (λ (u : ℕ). replaced v u (f c i)) e ∙ itself (f c i)); beside = λ c j h l. refl; others = λ c j l h. refl }, P .linked)
     where
       itself : (x : ℕ) → replaced v v x ≡ x
@@ -190,7 +190,7 @@ module _ {w i v z n : ℕ} {block table : List ℕ} (P : TurnRoom w i v z n bloc
         miss y e = rw (ne-eqb y v e)
 
     pub turn-done : {table′ : List ℕ} → length table′ ≡ length table → LinksOf 1024 2 2048 n (cornerMoved i c z (cell 0 (length block / w) block)) table′
-        → RowTurned w i v z block (set block (c * (length block / w) + i) z) × PairsLinked w n (set block (c * (length block / w) + i) z) table′
+        → RowTurned 2 (length block / w) i v z block (set block (c * (length block / w) + i) z) × PairsLinked w n (set block (c * (length block / w) + i) z) table′
     turn-done lt L =
         let le : length s′ ≡ length block = length-set block (c * R + i) z in (
           record {

@@ -11,7 +11,6 @@ use lib.Dec.{eqb, ltb}
 use Rattle.links.specs.Links.{holds, LinksOf}
 use Rattle.links.specs.Rooms.{LinkRoom, CornersApart}
 use Rattle.links.specs.Linked.{PairsLinked}
-use Rattle.lists.specs.Labels.{replaced}
 
 -- the corners where corner c of cell i is w
 unfoldable pub cornerMoved : ℕ → ℕ → ℕ → (ℕ → ℕ → ℕ) → ℕ → ℕ → ℕ
@@ -145,9 +144,3 @@ pub record TurnRoom (width i v w n : ℕ) (block table : List ℕ) : Type 0 wher
   pub holding : holds 2 (cell 0 (length block / width) block) v i ≡ true
   pub head : w < 1024
   pub fresh : (w ≡ v → ⊥) → (c : ℕ) → c < 2 → cell 0 (length block / width) block c i ≡ w → ⊥
-
--- the first two columns of row i have w for v, and no other cell changed
-pub record RowTurned (width i v w : ℕ) (block block′ : List ℕ) : Type 0 where
-  pub here : (c : ℕ) → c < 2 → cell 0 (length block / width) block′ c i ≡ replaced v w (cell 0 (length block / width) block c i)
-  pub beside : (c j : ℕ) → 2 ≤ c → j < length block / width → cell 0 (length block / width) block′ c j ≡ cell 0 (length block / width) block c j
-  pub others : (c j : ℕ) → j < length block / width → (j ≡ i → ⊥) → cell 0 (length block / width) block′ c j ≡ cell 0 (length block / width) block c j

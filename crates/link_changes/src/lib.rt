@@ -1,11 +1,11 @@
 // The table of links kept true where one cell changes: it is new, a corner of it moves, or it goes.
 ghost use mathlib.Core.Path.{_≡_};
-ghost use Prim.Native.Nat.{_+_, _-_, _≤_};
+ghost use Prim.Native.Nat.{_+_, _-_, _/_, _≤_};
 ghost use lib.ListN.{length};
-ghost use Rattle.columns.specs.Block.{cell};
+ghost use Rattle.columns.specs.Block.{cell, RowTurned};
 ghost use Rattle.columns.specs.View.{Shifted};
 ghost use Rattle.links.specs.Links.{LinksOf};
-ghost use Rattle.link_changes.specs.Changes.{cornerMoved, cornerGone, cornerDropped, lessOne, SlotRoom, SlotOf, ChainRoom, CellPut, CellTaken, AppendRoom, MoveRoom, DropRoom, RaiseRoom, LinksRaised, NumbersLowered, TurnRoom, RowTurned};
+ghost use Rattle.link_changes.specs.Changes.{cornerMoved, cornerGone, cornerDropped, lessOne, SlotRoom, SlotOf, ChainRoom, CellPut, CellTaken, AppendRoom, MoveRoom, DropRoom, RaiseRoom, LinksRaised, NumbersLowered, TurnRoom};
 ghost use Rattle.links.specs.Linked.{PairsLinked};
 
 // The place of the table before cell i in the chain of v: its head, or the link of the last cell below i that holds v.
@@ -131,7 +131,7 @@ pub fn turn_row(
     table: &mut [u16],
 )
     requires { ⌜ TurnRoom width i v w n (now block) (now table) ⌝ }
-    ensures { λ _. ⌜ RowTurned width i v w (now (block .entry)) (now (block .exit))
+    ensures { λ _. ⌜ RowTurned 2 (length (now (block .entry)) / width) i v w (now (block .entry)) (now (block .exit))
         × PairsLinked width n (now (block .exit)) (now (table .exit)) ⌝ }
 {
     if w == v {

@@ -9,6 +9,7 @@ use Rattle.model.specs.Elements.{Element}
 use Rattle.elements.specs.Table.{Tabled}
 use Rattle.links.specs.Links.{LinksOf}
 use Rattle.links.specs.Rooms.{LinkRoom}
+use Rattle.mesh.specs.Widths.{cornerColumns, volumeColumns}
 
 -- r is the number of elements, and they stand in tables that have room for them all
 pub record FanPut (k : ℕ) (es : List Element) (r : ℕ) (numbers verts : List ℕ) (measures : List Float) : Type 0 where
@@ -17,7 +18,7 @@ pub record FanPut (k : ℕ) (es : List Element) (r : ℕ) (numbers verts : List 
 
 -- the table is that of t triangles, which have volumes, and v has a head in it
 pub record FanLinked (v P R t : ℕ) (corners : List ℕ) (lv : ℕ) (table : List ℕ) : Type 0 where
-  pub room : LinkRoom P 3 R (length corners / 3) t (length corners) (length table)
+  pub room : LinkRoom P 3 R (length corners / cornerColumns) t (length corners) (length table)
   pub here : v < P
-  pub linked : LinksOf P 3 R t (cell 0 (length corners / 3) corners) table
-  pub volumes : t ≤ lv / 2
+  pub linked : LinksOf P 3 R t (cell 0 (length corners / cornerColumns) corners) table
+  pub volumes : t ≤ lv / volumeColumns

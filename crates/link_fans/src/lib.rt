@@ -3,6 +3,8 @@ ghost use Prim.Native.Nat.{_/_, _<_, _≤_};
 ghost use lib.ListN.{length};
 ghost use Rattle.model.specs.Elements.{trianglesFrom, strapsFrom};
 ghost use Rattle.mesh.specs.At.{trianglesAt, edgesAt};
+ghost use Rattle.mesh.specs.Widths.{lengthColumns};
+ghost use Rattle.mesh.specs.Limits.{particleLimit};
 ghost use Rattle.elements.specs.Table.{holding};
 ghost use Rattle.link_fans.specs.Fans.{FanPut, FanLinked};
 ghost use Rattle.links.specs.Linked.{EdgesLinked};
@@ -25,7 +27,7 @@ pub fn fan_linked(
     ensures { λ r. ⌜ FanPut 3 (holding v (trianglesFrom 0 (trianglesAt t (now (corners .entry)) (now (volumes .entry))))) r
         (now (numbers .exit)) (now (verts .exit)) (now (measures .exit)) ⌝ }
 {
-    let c = corners.len() / 3;
+    let c = corners.len() / mesh::CORNER_COLUMNS;
     let rows = least(least(numbers.len(), measures.len()), verts.len() / 3);
     let mut r: usize = 0;
     let mut at = links::first_at(v, table);
@@ -55,12 +57,12 @@ pub fn straps_linked(
     verts: &mut [usize],
     measures: &mut [f32],
 ) -> usize
-    requires { ⌜ EdgesLinked e (now ends) (now table) × (e ≤ length (now lengths) / 4) × (v < 1024) ⌝ }
+    requires { ⌜ EdgesLinked e (now ends) (now table) × (e ≤ length (now lengths) / lengthColumns) × (v < particleLimit) ⌝ }
     ensures { λ r. ⌜ FanPut 2 (holding v (strapsFrom 0 (edgesAt e (now (ends .entry)) (now (lengths .entry))))) r (now (numbers .exit))
         (now (verts .exit)) (now (measures .exit)) ⌝ }
 {
-    let c = ends.len() / 4;
-    let m = lengths.len() / 4;
+    let c = ends.len() / mesh::END_COLUMNS;
+    let m = lengths.len() / mesh::LENGTH_COLUMNS;
     let rows = least(least(numbers.len(), measures.len()), verts.len() / 2);
     let mut r: usize = 0;
     let mut at = links::first_at(v, table);
@@ -75,7 +77,7 @@ pub fn straps_linked(
             }
             r += 1;
         }
-        at = links::next_at(v, i, 2, 1024, 2048, c, ends, table);
+        at = links::next_at(v, i, 2, mesh::PARTICLES, mesh::EDGES, c, ends, table);
     }
     r
 }

@@ -40,9 +40,9 @@ corners-turned v t w s s′ volumes long e c i hc hi = by c hc
     same b = ap (λ (l : ℕ). cell 0 (l / 3) s′ b i) (sym long)
 
     by : (b : ℕ) → b < 3 → cell 0 (length s / 3) s′ b i ≡ replaced v (w i) (cell 0 (length s / 3) s b i)
-    by zero l = same 0 ∙ ap (λ (x : Triangle). x .a) row
-    by (suc zero) l = same 1 ∙ ap (λ (x : Triangle). x .b) row
-    by (suc (suc zero)) l = same 2 ∙ ap (λ (x : Triangle). x .c) row
+    by zero l = same 0 ∙ ap (λ (x : Triangle). getD (x .corners) 0 0) row
+    by (suc zero) l = same 1 ∙ ap (λ (x : Triangle). getD (x .corners) 1 0) row
+    by (suc (suc zero)) l = same 2 ∙ ap (λ (x : Triangle). getD (x .corners) 2 0) row
     by (suc (suc (suc b))) l = absurd (omega arith)
 
 -- the group of an element, by the numbers and the groups of the fan's parts

@@ -13,7 +13,7 @@ use Rattle.lists.proofs.Stores.{tab-length, tab-at}
 use Rattle.columns.specs.Block.{cell}
 use Rattle.model.specs.Elements.{Kind, Triangles, Straps, Nothing}
 use Rattle.model.specs.Valid.{named, cornersOk, endsOk, sideOk}
-use Rattle.model_laws.proofs.Kept.{named-first}
+use Rattle.model_laws.proofs.Rows.{named-first}
 use Rattle.mesh.specs.At.{trianglesAt, edgesAt, boundaryAt}
 use Rattle.links.specs.Links.{LinksOf}
 use Rattle.links.specs.Rooms.{CornersApart, BuildRoom}

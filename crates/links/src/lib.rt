@@ -10,8 +10,14 @@ ghost use Rattle.links.specs.Rooms.{BuildRoom, RowLent, RowRead, LinkRea
 ghost use Rattle.links.specs.Linked.{Linked, Linkable, PairsLinked, PairsLinkable, MeshLinked, MeshLinkable};
 use elements::Kind;
 
+// Where the table of the edges begins: behind that of the triangles.
+pub const EDGES_FROM: usize = mesh::PARTICLES + mesh::CORNER_COLUMNS * mesh::TRIANGLES;
+
+// Where the table of the boundary begins: behind that of the edges.
+pub const SIDES_FROM: usize = EDGES_FROM + mesh::PARTICLES + 2 * mesh::EDGES;
+
 // The places of a call's tables of links.
-pub const PLACES: usize = 14336;
+pub const PLACES: usize = SIDES_FROM + mesh::PARTICLES + mesh::SIDE_COLUMNS * mesh::BOUNDARY;
 
 // Puts cell i first at each of its k corners, and links it to what stood first there.
 fn link_cell(
@@ -67,8 +73,16 @@ fn link_triangles(kind: Kind, t: usize, corners: &[usize], links: &mut [u16])
 {
     match kind {
         Kind::Triangles => {
-            let rows = corners.len() / 3;
-            build_links(t, 3, 1024, 1024, rows, corners, links);
+            let rows = corners.len() / mesh::CORNER_COLUMNS;
+            build_links(
+                t,
+                mesh::CORNER_COLUMNS,
+                mesh::PARTICLES,
+                mesh::TRIANGLES,
+                rows,
+                corners,
+                links,
+            );
         }
         Kind::Straps => {}
         Kind::Nothing => {}
@@ -81,7 +95,7 @@ fn link_pairs(w: usize, n: usize, block: &[usize], table: &mut [u16])
     ensures { λ _. ⌜ PairsLinked w n (now (block .entry)) (now (table .exit)) ⌝ }
 {
     let rows = block.len() / w;
-    build_links(n, 2, 1024, 2048, rows, block, table);
+    build_links(n, 2, mesh::PARTICLES, mesh::EDGES, rows, block, table);
 }
 
 // Builds the tables of t triangles, of e edges and of b boundary entries, one behind the other, where every place is 0.
@@ -99,9 +113,9 @@ pub fn link_mesh(
     ensures { λ _. ⌜ MeshLinked (kindIs kind) t e b (now (corners .entry)) (now (ends .entry)) (now (outline .entry))
         (now (links .exit)) ⌝ }
 {
-    link_triangles(kind, t, corners, &mut links[..4096]);
-    link_pairs(4, e, ends, &mut links[4096..9216]);
-    link_pairs(2, b, outline, &mut links[9216..]);
+    link_triangles(kind, t, corners, &mut links[..EDGES_FROM]);
+    link_pairs(4, e, ends, &mut links[EDGES_FROM..SIDES_FROM]);
+    link_pairs(2, b, outline, &mut links[SIDES_FROM..]);
 }
 
 // The column of v among the corners of cell i, which holds it.

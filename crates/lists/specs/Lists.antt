@@ -16,6 +16,13 @@ abbrev pub stands : ℕ → List ℕ → Bool
 stands x [] = false
 stands x (y ∷ b) = pick (eqb y x) true (stands x b)
 
+-- the same numbers in the same order
+unfoldable pub sameRow : List ℕ → List ℕ → Bool
+sameRow [] [] = true
+sameRow [] (y ∷ s) = false
+sameRow (x ∷ r) [] = false
+sameRow (x ∷ r) (y ∷ s) = eqb x y && sameRow r s
+
 -- some element passes; every element passes
 unfoldable pub any : {A : Type 0} → (A → Bool) → List A → Bool
 any p [] = false

@@ -8,7 +8,7 @@ use native.Mathlib.Omega.{arith}
 use borrow.Author.Tests.{eq-eqb, ne-eqb}
 use lib.Dec.{eqb}
 use lib.ListN.{length, getD, set, length-replicate, getD-replicate}
-use lib.Ieee.{Float, nan, lt}
+use lib.Ieee.{Float, lt}
 use Rattle.float.specs.Numbers.{times, zero32}
 use Rattle.float.proofs.Picks.{yes, or-yes-1}
 use Rattle.lists.specs.Lists.{pick, stands, any, each, pairs, tab, empty, padded}
@@ -30,9 +30,10 @@ use Rattle.mesh.specs.declared.Counts.{Counts}
 use Rattle.mesh.specs.Log.{wordsOf, entryRow, logAt}
 use Rattle.mesh.specs.Widths.{pointColumns}
 use Rattle.work.specs.Places.{CornersIn}
+use Rattle.split_plan.specs.Opened.{placeIn}
 use Rattle.marks.specs.declared.Rule.{Rule}
 use Rattle.marks.specs.declared.Rule.the-variants.{Rounded}
-use Rattle.marks.specs.Marking.{Marks, MarkedBy, alikeBy, BesideTold, bladeBy, placeIn, PlacesIn, metIn, metOf, candidateEnds, CandidatesMarked, splitWords, endsIn, NearMarked, SplitFound, marked?, nearRow, pinchedEnds, PinchedMarked}
+use Rattle.marks.specs.Marking.{Marks, MarkedBy, alikeBy, BesideTold, bladeBy, PlacesIn, metIn, metOf, candidateEnds, CandidatesMarked, splitWords, endsIn, NearMarked, SplitFound, marked?, nearRow, pinchedEnds, PinchedMarked}
 use Rattle.lists.proofs.Truths.{or-end, mark-or}
 
 -- ---- one more mark
@@ -151,10 +152,6 @@ rows-are f g M t corners volumes e h =
     ∙ sym (triangles-each g 0 (M .triangles))
 
 -- ---- candidates
-
--- the two cells of a particle's place, as a program reads them
-pub place-read : (points : List Float) (w : ℕ) → _≡_ {A = Point} (record { x = getD points w nan; y = getD points (length points / pointColumns + w) nan }) (placeIn points w)
-place-read points w = ap₂ (λ (x y : Float). record { x = x; y = y }) (sym (col-0 nan (length points / pointColumns) points w)) (sym (col-1 nan (length points / pointColumns) points w))
 
 -- the places of a mesh in blocks
 pub places-at : (k : Counts) (points : List Float) (roots corners : List ℕ) (volumes : List Float) (ends : List ℕ) (lengths : List Float) (outline : List ℕ)

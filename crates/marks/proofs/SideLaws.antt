@@ -22,9 +22,9 @@ use Rattle.model.specs.Elements.{Kind, Triangles, Straps, Nothing, Element, cor
 use Rattle.model.specs.Cut.{Blade, offset, leftOf, keptSide, bladeSides}
 use Rattle.elements.specs.Table.{Cornered}
 use Rattle.elements.proofs.Tables.{noElement, row-is}
-use Rattle.split_plan.specs.Opened.{CornersBelow}
+use Rattle.split_plan.specs.Opened.{placeIn, CornersBelow}
 use Rattle.split_plan.proofs.Towards.{row-below}
-use Rattle.marks.specs.Marking.{placeIn, PlacesIn, bladeBy, bladeFrom}
+use Rattle.marks.specs.Marking.{PlacesIn, bladeBy, bladeFrom}
 use Rattle.marks.specs.declared.Rule.{Rule}
 use Rattle.marks.specs.declared.Rule.the-variants.{Rounded, Signs}
 use Rattle.marks.specs.Sided.{RowIn, leftIn, rowOf, leftsIn, keptIn, sideBy, SidesBy}

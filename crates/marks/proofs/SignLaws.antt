@@ -24,10 +24,10 @@ use Rattle.model.specs.Elements.{Triangles, Element, placeOf, fanOf}
 use Rattle.model.specs.Cut.{Blade, offset, roundedSign, roundedMiddle, sidesOfSigns, bladeSides}
 use Rattle.elements.specs.Table.{Cornered}
 use Rattle.elements.proofs.Tables.{noElement, row-is}
-use Rattle.split_plan.specs.Opened.{CornersBelow}
+use Rattle.split_plan.specs.Opened.{placeIn, CornersBelow}
 use Rattle.split_plan.proofs.Towards.{row-below}
 use Rattle.mesh.specs.Widths.{pointColumns}
-use Rattle.marks.specs.Marking.{placeIn, PlacesIn, bladeBy}
+use Rattle.marks.specs.Marking.{PlacesIn, bladeBy}
 use Rattle.marks.specs.declared.Rule.the-variants.{Signs}
 use Rattle.marks.specs.Sided.{rowOf, SidesBy}
 use Rattle.marks.specs.Signed.{TriangleIn, on?, signAt, signsIn, keptSignIn, sideOfSign}

@@ -5,13 +5,12 @@ use mathlib.Core.Bool.{Bool, true, not, _&&_}
 use mathlib.Core.List.{List, [], _∷_, map}
 use lib.ListN.{length, getD}
 use lib.Dec.{eqb}
-use lib.Ieee.{Float, nan, lt}
+use lib.Ieee.{Float, lt}
 use Rattle.float.specs.Numbers.{times, zero32}
 use Rattle.lists.specs.Lists.{pick, stands, any, each, pairs, empty}
 use Rattle.blade.specs.declared.Point.{Point}
 use Rattle.blade.specs.declared.Hit.{Hit}
 use Rattle.blade.specs.declared.Hit.the-variants.{Miss}
-use Rattle.columns.specs.Block.{cell}
 use Rattle.model.specs.Mesh.{Mesh}
 use Rattle.model.specs.Elements.{Triangles, Element, placeOf, elementsOf}
 use Rattle.model.specs.Run.{Run, splitsOf}
@@ -19,8 +18,9 @@ use Rattle.model.specs.Cut as M
 use Rattle.model.specs.Cut.{rounded, signs, Blade, hitBy, hit?, ifMet, splitEnds, nearCorners}
 use Rattle.mesh.specs.At.{trianglesAt}
 use Rattle.mesh.specs.Log.{Words, wordsOf, logAt}
-use Rattle.mesh.specs.Widths.{pointColumns}
+use Rattle.mesh.specs.Widths.{pointColumns, cornerColumns}
 use Rattle.work.specs.Places.{CornersIn}
+use Rattle.split_plan.specs.Opened.{placeIn}
 use Rattle.marks.specs.declared.Rule.{Rule}
 use Rattle.marks.specs.declared.Rule.the-variants.{Rounded, Signs}
 
@@ -35,10 +35,6 @@ pub record MarkedBy (listed marks marks′ : List ℕ) : Type 0 where
   pub mark : (k : ℕ) → k < length marks → getD marks′ k 0 ≡ pick (stands k listed) 1 (getD marks k 0)
 
 -- ---- places
-
--- where particle w is, by the block of points
-abbrev pub placeIn : List Float → ℕ → Point
-placeIn points w = record { x = cell nan (length points / pointColumns) points 0 w; y = cell nan (length points / pointColumns) points 1 w }
 
 -- the first p particles of M are where the block says
 abbrev pub PlacesIn : Mesh → ℕ → List Float → Type 0
@@ -86,7 +82,7 @@ candidateEnds B M = each (λ (e : Element). each (ifMet B M) (pairs (e .corners)
 
 -- the corners of t triangles stand in the block, and name particles of the block of points
 pub record CandidateRoom (t : ℕ) (corners : List ℕ) (lp : ℕ) : Type 0 where
-  pub long : t ≤ length corners / 3
+  pub long : t ≤ length corners / cornerColumns
   pub corners-in : CornersIn (lp / pointColumns) t corners
 
 -- the candidates of every mesh of these triangles and places are marked
@@ -127,7 +123,7 @@ pinchedEnds R = each (nearCorners (splitEnds R)) (elementsOf Triangles (R .mesh)
 
 -- the corners of t triangles stand in the block, and name particles that may be near
 pub record PinchedRoom (t : ℕ) (corners : List ℕ) (ln : ℕ) : Type 0 where
-  pub long : t ≤ length corners / 3
+  pub long : t ≤ length corners / cornerColumns
   pub corners-in : CornersIn ln t corners
 
 -- the pinched of every run of these triangles are marked, where the near are

@@ -13,8 +13,8 @@ use Rattle.model.specs.Mesh.{Mesh}
 use Rattle.model.specs.Elements.{Kind, cornersPer, fanOf}
 use Rattle.model.specs.Cut.{Blade, offset, bladeSides}
 use Rattle.elements.specs.Table.{Cornered}
-use Rattle.split_plan.specs.Opened.{CornersBelow}
-use Rattle.marks.specs.Marking.{placeIn, PlacesIn}
+use Rattle.split_plan.specs.Opened.{placeIn, CornersBelow}
+use Rattle.marks.specs.Marking.{PlacesIn}
 use Rattle.mesh.specs.Widths.{pointColumns}
 
 -- two or three corners, in the block of points

@@ -12,7 +12,7 @@ use Rattle.exact.specs.Exact.{keptBy, opposite}
 use Rattle.exact.specs.Signs.{signIn, signOfSum}
 use Rattle.model.specs.Cut.{Blade, offset}
 use Rattle.mesh.specs.Widths.{pointColumns}
-use Rattle.marks.specs.Marking.{placeIn}
+use Rattle.split_plan.specs.Opened.{placeIn}
 use Rattle.marks.specs.Sided.{rowOf}
 
 -- three corners, in the block of points

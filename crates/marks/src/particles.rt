@@ -5,24 +5,12 @@ ghost use Prim.Native.Nat.{_/_, _<_, _≤_};
 ghost use lib.ListN.{length};
 ghost use Rattle.lists.specs.Lists.{any};
 ghost use Rattle.model.specs.Cut.{hitBy};
-ghost use Rattle.marks.specs.Marking.{MarkedBy, alikeBy, BesideTold, placeIn, ruleIs, bladeBy, metIn, metOf, CandidateRoom, CandidatesMarked, NearMarked, SplitFound, marked?, nearRow, PinchedRoom, PinchedMarked};
-ghost use Rattle.mesh.specs.Widths.{pointColumns};
+ghost use Rattle.marks.specs.Marking.{MarkedBy, alikeBy, BesideTold, ruleIs, bladeBy, metIn, metOf, CandidateRoom, CandidatesMarked, NearMarked, SplitFound, marked?, nearRow, PinchedRoom, PinchedMarked};
+ghost use Rattle.mesh.specs.Widths.{pointColumns, entryWords};
 use crate::Rule;
 use blade::Hit;
 use blade::Point;
-
-// Where particle w is.
-pub fn place(w: usize, points: &[f32]) -> Point
-    requires { ⌜ w < length (now points) / pointColumns ⌝ }
-    ensures { λ r. ⌜ r ≡ placeIn (now (points .entry)) w ⌝ }
-{
-    let size = points.len() / mesh::POINT_COLUMNS;
-    let next = size + w;
-    Point {
-        x: points[w],
-        y: points[next],
-    }
-}
+use split_plan::place;
 
 // Marks w with 1, if it has a place.
 fn mark(w: usize, marks: &mut [usize])
@@ -140,7 +128,7 @@ pub fn mark_candidates(
     ensures { λ _. ⌜ CandidatesMarked (bladeBy rule b0 b1) t (now (points .entry)) (now (corners .entry)) (now (marks .exit)) ⌝ }
 {
     columns::clear_usize(0, marks);
-    let size = corners.len() / 3;
+    let size = corners.len() / mesh::CORNER_COLUMNS;
     let mut i: usize = 0;
     while i < t {
         let second = size + i;
@@ -161,7 +149,7 @@ pub fn mark_candidates(
 
 // Marks the copy and the source of each split of the first l entries of the log, and no other.
 pub fn mark_near(l: usize, log: &[u32], near: &mut [usize])
-    requires { ⌜ l ≤ length (now log) / 6 ⌝ }
+    requires { ⌜ l ≤ length (now log) / entryWords ⌝ }
     ensures { λ _. ⌜ NearMarked l (now (log .entry)) (now (near .exit)) ⌝ }
 {
     columns::clear_usize(0, near);
@@ -178,7 +166,7 @@ pub fn mark_near(l: usize, log: &[u32], near: &mut [usize])
 
 // Do the first l entries of the log tell of a split?
 pub fn any_split(l: usize, log: &[u32]) -> bool
-    requires { ⌜ l ≤ length (now log) / 6 ⌝ }
+    requires { ⌜ l ≤ length (now log) / entryWords ⌝ }
     ensures { λ r. ⌜ SplitFound l (now (log .entry)) r ⌝ }
 {
     let mut i: usize = 0;
@@ -224,7 +212,7 @@ pub fn mark_pinched(t: usize, corners: &[usize], near: &[usize], marks: &mut [us
     ensures { λ _. ⌜ PinchedMarked t (now (corners .entry)) (now (near .entry)) (now (marks .exit)) ⌝ }
 {
     columns::clear_usize(0, marks);
-    let size = corners.len() / 3;
+    let size = corners.len() / mesh::CORNER_COLUMNS;
     let mut i: usize = 0;
     while i < t {
         let second = size + i;

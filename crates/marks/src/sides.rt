@@ -9,10 +9,10 @@ ghost use Rattle.marks.specs.declared.Rule.the-variants.{Signs};
 ghost use Rattle.marks.specs.Sided.{RowIn, leftIn, keptIn, sideBy, RowsIn, SidesRoom, SidesBy};
 ghost use Rattle.marks.specs.Signed.{TriangleIn, signAt, on?, keptSignIn, sideOfSign};
 use crate::Rule;
-use crate::particles::place;
 use blade::Point;
 use elements::Kind;
 use exact::Sign;
+use split_plan::place;
 
 // Is the middle of two or three corners to the left of the blade?
 fn left_of(b0: Point, b1: Point, row: &[usize], points: &[f32]) -> bool

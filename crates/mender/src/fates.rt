@@ -30,14 +30,14 @@ pub fn refusal(s: &[u8]) -> usize
     ensures { λ r. ⌜ Judged (now (s .entry)) r ⌝ }
 {
     if s.len() < 6 {
-        return 9;
+        return mesh::refusals::SHEET;
     }
     let c = edition::typed::counts_in(s);
     let most = Counts {
-        particles: 1024,
-        triangles: 1024,
-        edges: 2048,
-        boundary: 2048,
+        particles: mesh::PARTICLES,
+        triangles: mesh::TRIANGLES,
+        edges: mesh::EDGES,
+        boundary: mesh::BOUNDARY,
     };
     if sheet::refused_counts(most, c) {
         return 1;

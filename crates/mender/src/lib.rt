@@ -81,9 +81,9 @@ fn mend_held(s: &[u8], mended: &mut [u8], text: &mut [u8]) -> Mended
     let t = c.triangles;
     let e = c.edges;
     let b = c.boundary;
-    let mut triangles = [0usize; 1024];
-    let mut edges = [0usize; 2048];
-    let mut boundary = [0usize; 2048];
+    let mut triangles = [0usize; mesh::TRIANGLES];
+    let mut edges = [0usize; mesh::EDGES];
+    let mut boundary = [0usize; mesh::BOUNDARY];
     mend_lists(
         s,
         &mut triangles[..t],

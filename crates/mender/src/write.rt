@@ -121,7 +121,7 @@ pub fn put_sheet(s: &[u8], triangles: &[usize], edges: &[usize], boundary: &[usi
         boundary: mending::staying(boundary),
     };
     put_header(out, edition::typed::is_second(s), kept);
-    let none = [0usize; 1024];
+    let none = [0usize; mesh::PARTICLES];
     let to_t = put_kept(s, start, 11, 11, 1, &none[..p], out, start);
     let to_e = put_kept(s, at_t, 10, 10, 10, triangles, out, to_t);
     let to_b = put_kept(s, at_e, 10, 10, 1, edges, out, to_e);

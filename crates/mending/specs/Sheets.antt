@@ -11,6 +11,7 @@ use Rattle.sheet.specs.declared.Counts.{Counts}
 use Rattle.edition.specs.Edition.{second, bitsIn, sheet2Bits, bytesIn, typedOf}
 use Rattle.listing.specs.Listing.{spaced, edgeWord}
 use Rattle.mending.specs.Mending.{Why, absent, twice, double, Drop, mendedRows, mendedBoundary, dropsOf, doublesOf}
+use Rattle.model.specs.Refusals.{sizeRefusal, sheetRefusal}
 
 -- the mended sheet: the kept rows in their order, the same particles and blade
 unfoldable pub mendedSheet : Sheet → Sheet
@@ -72,8 +73,8 @@ pub data Mending : Type 0 where
 
 -- of n bytes of an edition with counts c, whose fields are those of a sheet: counts 1, length 9; spare bits are not looked at, and the edition is kept
 unfoldable pub mendWith : Bool → Counts → ℕ → Sheet → Mending
-mendWith t c n b = cond (tooMany c) (refused 1) (cond (eqb n (bytesIn t c)) (mended (sheetBytes t (mendedSheet b)) (saidOf b)) (refused 9))
+mendWith t c n b = cond (tooMany c) (refused sizeRefusal) (cond (eqb n (bytesIn t c)) (mended (sheetBytes t (mendedSheet b)) (saidOf b)) (refused sheetRefusal))
 
 -- of any bytes: a short header 9; then as above
 unfoldable pub mendOf : List ℕ → Mending
-mendOf s = cond (ltb (length s) 6) (refused 9) (mendWith (second (bitsOf s)) (countsAt (bitsIn (bitsOf s))) (length s) (typedOf (bitsOf s)))
+mendOf s = cond (ltb (length s) 6) (refused sheetRefusal) (mendWith (second (bitsOf s)) (countsAt (bitsIn (bitsOf s))) (length s) (typedOf (bitsOf s)))

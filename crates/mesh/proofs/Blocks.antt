@@ -156,9 +156,7 @@ module _ (n : ℕ) where
       (tab-ext n _ _
       (λ k h i.
       record {
-        a = c .cells 0 k (omega arith) (omega arith) i;
-        b = c .cells 1 k (omega arith) (omega arith) i;
-        c = c .cells 2 k (omega arith) (omega arith) i;
+        corners = c .cells 0 k (omega arith) (omega arith) i ∷ c .cells 1 k (omega arith) (omega arith) i ∷ c .cells 2 k (omega arith) (omega arith) i ∷ [];
         volume = f .cells 0 k (omega arith) (omega arith) i;
         stress = f .cells 1 k (omega arith) (omega arith) i;
       }))
@@ -188,4 +186,4 @@ module _ (n : ℕ) where
       (O O′ : List ℕ) (lo : ℕ) → n ≤ length O / 2 → BlockCopied 0 (length O / 2) 2 (lo / 2) O O′ → length O′ ≡ lo → boundaryAt n O′ ≡ boundaryAt n O
   unfolding boundaryAt
   copied-boundary O O′ lo ho o eo =
-      rw eo (tab-ext n _ _ (λ k h i. record { a = o .cells 0 k (omega arith) (omega arith) i; b = o .cells 1 k (omega arith) (omega arith) i }))
+      rw eo (tab-ext n _ _ (λ k h i. record { corners = o .cells 0 k (omega arith) (omega arith) i ∷ o .cells 1 k (omega arith) (omega arith) i ∷ [] }))

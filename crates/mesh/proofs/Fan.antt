@@ -50,9 +50,14 @@ replaced-self v p = by (ℕ-discrete p v)
     by (yes q) = rw (eq-eqb p v q) (sym q)
     by (no q) = rw (ne-eqb p v q)
 
+-- nor in a row
+row-self : (v : ℕ) (l : List ℕ) → map (replaced v v) l ≡ l
+row-self v [] = refl
+row-self v (x ∷ l) = ap₂ (λ (y : ℕ) (r : List ℕ). y ∷ r) (replaced-self v x) (row-self v l)
+
 -- nor in a triangle
 retargeted-self : (v : ℕ) (t : Triangle) → retargeted v v t ≡ t
-retargeted-self v t = λ i. record { a = replaced-self v (t .a) i; b = replaced-self v (t .b) i; c = replaced-self v (t .c) i; volume = t .volume; stress = t .stress }
+retargeted-self v t = λ i. record { corners = row-self v (t .corners) i; volume = t .volume; stress = t .stress }
 
 -- what the fan's first elements do to triangle k
 abbrev turn : ℕ → ℕ → List ℕ → List ℕ → ℕ → Triangle → Triangle

@@ -2,16 +2,13 @@
 use Prim.Native.Nat.{ℕ, _+_, _-_, _*_, _/_, _≤_, _<_}
 use native.Mathlib.Omega.{arith}
 use native.Mathlib.Decide.{ℕ-discrete}
-use mathlib.Core.Path.{_≡_, refl, sym, ap, _∙_}
-use mathlib.Core.Bool.{Bool, true, false}
+use mathlib.Core.Path.{_≡_, refl, sym, _∙_}
 use mathlib.Core.List.{List, [], _∷_, _++_}
 use lib.ListN.{length, getD, set, length-set}
 use lib.Seq.{getD-set-same, getD-set-other}
 use lib.Ieee.{Float, nan}
-use lib.Dec.{eqb}
 use borrow.Author.Tests.{eq-eqb, ne-eqb}
-use Rattle.lists.specs.Lists.{tab, pick}
-use Rattle.lists.specs.Labels.{replaced}
+use Rattle.lists.specs.Lists.{tab}
 use Rattle.model.specs.Mesh.{Particle, Triangle, Edge, Side, Mesh, blank}
 use Rattle.mesh.specs.Log.{Words, World, logAt}
 use Rattle.model.specs.Split.{retargeted, onlyAt}
@@ -23,10 +20,11 @@ use Rattle.mesh.proofs.Columns.{by-columns, by-columns-but}
 use Rattle.columns.specs.Block.{cell}
 use Rattle.columns.specs.Block.{BlockShifted}
 use Rattle.columns.specs.View.{NextMarked}
-use Rattle.columns.specs.Block.{RowCopied}
+use Rattle.columns.specs.Block.{RowCopied, RowTurned}
 use Rattle.columns.proofs.Rows.{tab-length, tab-at, tab-ext, rows-push, rows-map}
 use Rattle.columns.proofs.Keep.{RowsMoved, Compacting, compact-start, compact-more, compact-done}
 use Rattle.columns.proofs.Cells.{store-same, store-row, store-col}
+use Rattle.columns.proofs.RowLaws.{row-turned, row-unturned}
 
 -- ---- an append of a copy
 module _ (v n P R : ℕ) (m w : Float) (S S₁ : List Float) (T T₁ : List ℕ) (here : v < n) (hp : n < P) (hr : n < R) (room : pointColumns * P ≤ length S₁)
@@ -216,71 +214,22 @@ edge-pushed n r A B ha hb =
     simp length-set
     (edge-rows n (length A / 4) (length B / 4) r A _ B _ (put 0 (length A / 4) n A _ _ _ _ (omega arith) (omega arith)) (put nan (length B / 4) n B _ _ _ _ (omega arith) (omega arith)))
 
--- ---- one corner of a triangle, after a replacement at e in column c
-module _ (R e v w c : ℕ) (s s′ : List ℕ) (he : e < R) (inside : c * R + e < length s) (q : s′ ≡ set s (c * R + e) (replaced v w (getD s (c * R + e) 0))) where
-  -- at e the corner is replaced
-  pub turned : (k : ℕ) → k < R → cell 0 R s′ c k ≡ pick (eqb k e) (replaced v w (cell 0 R s c k)) (cell 0 R s c k)
-  unfolding cell
-  turned k hk = by (ℕ-discrete k e)
-    where
-      by : Dec (k ≡ e) → getD s′ (c * R + k) 0 ≡ pick (eqb k e) (replaced v w (getD s (c * R + k) 0)) (getD s (c * R + k) 0)
-      by (yes f) = rw (eq-eqb k e f, f, q) (getD-set-same s (c * R + e) _ 0 inside)
-      by (no f) = rw (ne-eqb k e f, q) (getD-set-other s (c * R + e) (c * R + k) _ 0 (λ z. f (omega arith)))
-
-  -- other columns are as they were
-  pub unturned : (b k : ℕ) → k < R → (b ≡ c → ⊥) → cell 0 R s′ b k ≡ cell 0 R s b k
-  unturned b k hk ne = rw q (store-col 0 R s c e _ b k hk he ne)
-
--- three replacements retarget one triangle
-pub retargeting :
-    (e v w : ℕ) (s s₁ s₂ s₃ : List ℕ) → e < length s / 3 → s₁ ≡ set s e (replaced v w (getD s e 0))
-    → s₂ ≡ set s₁ (length s / 3 + e) (replaced v w (getD s₁ (length s / 3 + e) 0))
-    → s₃ ≡ set s₂ (2 * (length s / 3) + e) (replaced v w (getD s₂ (2 * (length s / 3) + e) 0)) → Mapped (onlyAt e (retargeted v w)) s s₃
+-- ---- w for v in the corners of a triangle
+-- a row turned is one triangle retargeted
+pub retargeting : (e v w : ℕ) (s s′ : List ℕ) → length s′ ≡ length s → RowTurned 3 (length s / 3) e v w s s′ → Mapped (onlyAt e (retargeted v w)) s s′
 unfolding trianglesAt
-retargeting e v w s s₁ s₂ s₃ he q₁ q₂ q₃ =
+retargeting e v w s s′ l T =
     record {
       triangles =
           λ n volumes hn.
-          rw l₃
-          (tab-ext n _ _ (λ k h. at k (length volumes / 2) volumes (omega arith)) ∙ sym (rows-map (onlyAt e (retargeted v w)) n _));
+          rw l
+          (tab-ext n _ _ (λ k h. at k (length volumes / 2) volumes (omega arith) (ℕ-discrete k e)) ∙ sym (rows-map (onlyAt e (retargeted v w)) n _));
     }
   where
-    R : ℕ
-    R = length s / 3
-
-    l₁ : length s₁ ≡ length s
-    l₁ = ap length q₁ ∙ simp length-set
-
-    l₂ : length s₂ ≡ length s
-    l₂ = ap length q₂ ∙ simp length-set l₁
-
-    l₃ : length s₃ ≡ length s
-    l₃ = ap length q₃ ∙ simp length-set l₂
-
-    p₁ : s₁ ≡ set s (0 * (length s / 3) + e) (replaced v w (getD s (0 * (length s / 3) + e) 0))
-    p₁ = let z : 0 * (length s / 3) + e ≡ e = omega arith in rw z q₁
-
-    p₂ : s₂ ≡ set s₁ (1 * (length s / 3) + e) (replaced v w (getD s₁ (1 * (length s / 3) + e) 0))
-    p₂ = let z : 1 * (length s / 3) + e ≡ length s / 3 + e = omega arith in rw z q₂
-
-    both : (t : Bool) (x y z x′ y′ z′ : ℕ) (f g : Float) → _≡_ {A = Triangle} (record { a = pick t x′ x; b = pick t y′ y; c = pick t z′ z; volume = f; stress = g }) (pick t (record { a = x′; b = y′; c = z′; volume = f; stress = g }) (record { a = x; b = y; c = z; volume = f; stress = g }))
-    both true x y z x′ y′ z′ f g = refl
-    both false x y z x′ y′ z′ f g = refl
-
-    at : (k W : ℕ) (volumes : List Float) → k < length s / 3 → triangleRow (length s / 3) W s₃ volumes k ≡ onlyAt e (retargeted v w) k (triangleRow (length s / 3) W s volumes k)
-    at k W volumes hk =
-        let i₁ : 0 * (length s / 3) + e < length s = omega arith in
-        let i₂ : 1 * (length s / 3) + e < length s₁ = omega (arith, l₁) in
-        let i₃ : 2 * (length s / 3) + e < length s₂ = omega (arith, l₂) in
-        let un₃ = unturned (length s / 3) e v w 2 s₂ s₃ he i₃ q₃ in
-        let un₂ = unturned (length s / 3) e v w 1 s₁ s₂ he i₂ p₂ in
-        let un₁ = unturned (length s / 3) e v w 0 s s₁ he i₁ p₁ in
-        let a : cell 0 (length s / 3) s₃ 0 k ≡ _ = un₃ 0 k hk (λ q. omega arith) ∙ un₂ 0 k hk (λ q. omega arith) ∙ turned (length s / 3) e v w 0 s s₁ he i₁ p₁ k hk in
-        let b₁ : cell 0 (length s / 3) s₁ 1 k ≡ cell 0 (length s / 3) s 1 k = un₁ 1 k hk (λ q. omega arith) in
-        let b : cell 0 (length s / 3) s₃ 1 k ≡ _ = un₃ 1 k hk (λ q. omega arith) ∙ turned (length s / 3) e v w 1 s₁ s₂ he i₂ p₂ k hk ∙ ap (λ (x : ℕ). pick (eqb k e) (replaced v w x) x) b₁ in
-        let c₁ : cell 0 (length s / 3) s₂ 2 k ≡ cell 0 (length s / 3) s 2 k = un₂ 2 k hk (λ q. omega arith) ∙ un₁ 2 k hk (λ q. omega arith) in
-        let c : cell 0 (length s / 3) s₃ 2 k ≡ _ = turned (length s / 3) e v w 2 s₂ s₃ he i₃ q₃ k hk ∙ ap (λ (x : ℕ). pick (eqb k e) (replaced v w x) x) c₁ in
-        (λ i. record { a = a i; b = b i; c = c i; volume = cell nan W volumes 0 k; stress = cell nan W volumes 1 k }) ∙ both (eqb k e) _ _ _ _ _ _ _ _
+    at : (k W : ℕ) (volumes : List Float) → k < length s / 3 → Dec (k ≡ e)
+        → triangleRow (length s / 3) W s′ volumes k ≡ onlyAt e (retargeted v w) k (triangleRow (length s / 3) W s volumes k)
+    at k W volumes hk (yes q) = rw (eq-eqb k e q, q) (λ i. record { corners = row-turned T i; volume = cell nan W volumes 0 e; stress = cell nan W volumes 1 e })
+    at k W volumes hk (no q) = rw (ne-eqb k e q) (λ i. record { corners = row-unturned T k hk q i; volume = cell nan W volumes 0 k; stress = cell nan W volumes 1 k })
 
 -- ---- an entry of six wordsIn
 module _ (n : ℕ) (s : List ℕ) (x₀ x₁ x₂ x₃ x₄ x₅ : ℕ) (room : n < length s / 6) where

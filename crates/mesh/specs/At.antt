@@ -4,10 +4,10 @@ use mathlib.Core.List.{List}
 use lib.ListN.{length}
 use lib.Ieee.{Float, nan}
 use Rattle.lists.specs.Lists.{tab}
-use Rattle.columns.specs.Block.{cell}
+use Rattle.columns.specs.Block.{cell, rowAt}
 use Rattle.model.specs.Mesh.{Particle, Triangle, Edge, Side, Mesh}
 use Rattle.mesh.specs.declared.Counts.{Counts}
-use Rattle.mesh.specs.Widths.{pointColumns}
+use Rattle.mesh.specs.Widths.{pointColumns, cornerColumns, sideColumns, endColumns, lengthColumns, rootColumns, volumeColumns}
 
 -- ---- one row
 
@@ -23,7 +23,7 @@ particleRow P R points roots k = particleBy (λ c. cell nan P points c k) (cell 
 -- triangle k, of columns of C and of W places
 abbrev pub triangleRow : ℕ → ℕ → List ℕ → List Float → ℕ → Triangle
 triangleRow C W corners volumes k =
-    record { a = cell 0 C corners 0 k; b = cell 0 C corners 1 k; c = cell 0 C corners 2 k; volume = cell nan W volumes 0 k; stress = cell nan W volumes 1 k }
+    record { corners = rowAt cornerColumns C corners k; volume = cell nan W volumes 0 k; stress = cell nan W volumes 1 k }
 
 -- edge k, of columns of E and of L places
 abbrev pub edgeRow : ℕ → ℕ → List ℕ → List Float → ℕ → Edge
@@ -41,25 +41,25 @@ edgeRow E L ends lengths k =
 
 -- boundary entry k, of columns of O places
 abbrev pub sideRow : ℕ → List ℕ → ℕ → Side
-sideRow O outline k = record { a = cell 0 O outline 0 k; b = cell 0 O outline 1 k }
+sideRow O outline k = record { corners = rowAt sideColumns O outline k }
 
 -- ---- the first n rows
 
 -- the first n particles
 unfoldable pub particlesAt : ℕ → List Float → List ℕ → List Particle
-particlesAt n points roots = tab n (particleRow (length points / pointColumns) (length roots / 2) points roots)
+particlesAt n points roots = tab n (particleRow (length points / pointColumns) (length roots / rootColumns) points roots)
 
 -- the first n triangles
 unfoldable pub trianglesAt : ℕ → List ℕ → List Float → List Triangle
-trianglesAt n corners volumes = tab n (triangleRow (length corners / 3) (length volumes / 2) corners volumes)
+trianglesAt n corners volumes = tab n (triangleRow (length corners / cornerColumns) (length volumes / volumeColumns) corners volumes)
 
 -- the first n edges
 unfoldable pub edgesAt : ℕ → List ℕ → List Float → List Edge
-edgesAt n ends lengths = tab n (edgeRow (length ends / 4) (length lengths / 4) ends lengths)
+edgesAt n ends lengths = tab n (edgeRow (length ends / endColumns) (length lengths / lengthColumns) ends lengths)
 
 -- the first n boundary entries
 unfoldable pub boundaryAt : ℕ → List ℕ → List Side
-boundaryAt n outline = tab n (sideRow (length outline / 2) outline)
+boundaryAt n outline = tab n (sideRow (length outline / sideColumns) outline)
 
 -- the mesh that the fronts of seven blocks hold
 unfoldable pub meshAt : Counts → List Float → List ℕ → List ℕ → List Float → List ℕ → List Float → List ℕ → Mesh

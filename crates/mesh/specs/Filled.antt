@@ -2,7 +2,7 @@
 use Prim.Native.Nat.{ℕ, zero, suc, _/_, _≤_}
 use mathlib.Core.Path.{_≡_}
 use mathlib.Core.List.{List, map}
-use lib.ListN.{length}
+use lib.ListN.{length, getD}
 use lib.Ieee.{Float}
 use Rattle.lists.specs.Lists.{padded}
 use Rattle.float.specs.Numbers.{zero32}
@@ -11,7 +11,7 @@ use Rattle.model.specs.Mesh.{Particle, Triangle, Edge, Side}
 use Rattle.mesh.specs.Log.{World, wordsIn}
 use Rattle.mesh.specs.Given.{Lent}
 use Rattle.mesh.specs.declared.Counts.{Counts}
-use Rattle.mesh.specs.Widths.{pointColumns}
+use Rattle.mesh.specs.Widths.{pointColumns, cornerColumns, endColumns, lengthColumns, rootColumns, volumeColumns, sideColumns, entryWords}
 
 -- ---- the columns of each block, by their numbers
 
@@ -33,9 +33,7 @@ rootOf (suc c) p = p .damaged
 
 -- of corners
 abbrev pub cornerOf : ℕ → Triangle → ℕ
-cornerOf zero t = t .a
-cornerOf (suc zero) t = t .b
-cornerOf (suc (suc c)) t = t .c
+cornerOf c t = getD (t .corners) c 0
 
 -- of volumes
 abbrev pub volumeOf : ℕ → Triangle → Float
@@ -58,42 +56,41 @@ lengthOf (suc (suc (suc c))) e = e .stress
 
 -- of the outline
 abbrev pub sideOf : ℕ → Side → ℕ
-sideOf zero s = s .a
-sideOf (suc c) s = s .b
+sideOf c s = getD (s .corners) c 0
 
 -- ---- lent blocks
 
 -- every place of the lent blocks: the columns of the mesh and the words of the log at the fronts, and 0 in every place behind them
 pub record Filled (W : World) (L : Lent) (p : List Float) (r c : List ℕ) (v : List Float) (e : List ℕ) (l : List Float) (o g : List ℕ) : Type 0 where
   pub points : p ≡ blockOf (L .points) pointColumns (L .points / pointColumns) zero32 (λ k. map (pointOf k) (W .mesh .particles))
-  pub roots : r ≡ blockOf (L .roots) 2 (L .roots / 2) 0 (λ k. map (rootOf k) (W .mesh .particles))
-  pub corners : c ≡ blockOf (L .corners) 3 (L .corners / 3) 0 (λ k. map (cornerOf k) (W .mesh .triangles))
-  pub volumes : v ≡ blockOf (L .volumes) 2 (L .volumes / 2) zero32 (λ k. map (volumeOf k) (W .mesh .triangles))
-  pub ends : e ≡ blockOf (L .ends) 4 (L .ends / 4) 0 (λ k. map (endOf k) (W .mesh .edges))
-  pub lengths : l ≡ blockOf (L .lengths) 4 (L .lengths / 4) zero32 (λ k. map (lengthOf k) (W .mesh .edges))
-  pub outline : o ≡ blockOf (L .outline) 2 (L .outline / 2) 0 (λ k. map (sideOf k) (W .mesh .boundary))
+  pub roots : r ≡ blockOf (L .roots) rootColumns (L .roots / rootColumns) 0 (λ k. map (rootOf k) (W .mesh .particles))
+  pub corners : c ≡ blockOf (L .corners) cornerColumns (L .corners / cornerColumns) 0 (λ k. map (cornerOf k) (W .mesh .triangles))
+  pub volumes : v ≡ blockOf (L .volumes) volumeColumns (L .volumes / volumeColumns) zero32 (λ k. map (volumeOf k) (W .mesh .triangles))
+  pub ends : e ≡ blockOf (L .ends) endColumns (L .ends / endColumns) 0 (λ k. map (endOf k) (W .mesh .edges))
+  pub lengths : l ≡ blockOf (L .lengths) lengthColumns (L .lengths / lengthColumns) zero32 (λ k. map (lengthOf k) (W .mesh .edges))
+  pub outline : o ≡ blockOf (L .outline) sideColumns (L .outline / sideColumns) 0 (λ k. map (sideOf k) (W .mesh .boundary))
   pub log : g ≡ padded (L .log) 0 (wordsIn (W .log))
 
 -- the counts fit the lent columns
 pub record Fits (k : Counts) (L : Lent) : Type 0 where
   pub points : k .particles ≤ L .points / pointColumns
-  pub roots : k .particles ≤ L .roots / 2
-  pub corners : k .triangles ≤ L .corners / 3
-  pub volumes : k .triangles ≤ L .volumes / 2
-  pub ends : k .edges ≤ L .ends / 4
-  pub lengths : k .edges ≤ L .lengths / 4
-  pub outline : k .boundary ≤ L .outline / 2
-  pub log : k .log ≤ L .log / 6
+  pub roots : k .particles ≤ L .roots / rootColumns
+  pub corners : k .triangles ≤ L .corners / cornerColumns
+  pub volumes : k .triangles ≤ L .volumes / volumeColumns
+  pub ends : k .edges ≤ L .ends / endColumns
+  pub lengths : k .edges ≤ L .lengths / lengthColumns
+  pub outline : k .boundary ≤ L .outline / sideColumns
+  pub log : k .log ≤ L .log / entryWords
 
 -- each block of the input has no longer columns than the one lent for it
 pub record Holds (I L : Lent) : Type 0 where
   pub points : I .points / pointColumns ≤ L .points / pointColumns
-  pub roots : I .roots / 2 ≤ L .roots / 2
-  pub corners : I .corners / 3 ≤ L .corners / 3
-  pub volumes : I .volumes / 2 ≤ L .volumes / 2
-  pub ends : I .ends / 4 ≤ L .ends / 4
-  pub lengths : I .lengths / 4 ≤ L .lengths / 4
-  pub outline : I .outline / 2 ≤ L .outline / 2
+  pub roots : I .roots / rootColumns ≤ L .roots / rootColumns
+  pub corners : I .corners / cornerColumns ≤ L .corners / cornerColumns
+  pub volumes : I .volumes / volumeColumns ≤ L .volumes / volumeColumns
+  pub ends : I .ends / endColumns ≤ L .ends / endColumns
+  pub lengths : I .lengths / lengthColumns ≤ L .lengths / lengthColumns
+  pub outline : I .outline / sideColumns ≤ L .outline / sideColumns
 
 -- the lengths of eight lent blocks
 abbrev pub lent : List Float → List ℕ → List ℕ → List Float → List ℕ → List Float → List ℕ → List ℕ → Lent

@@ -10,7 +10,8 @@ use Rattle.model.specs.Run as M
 use Rattle.mesh.specs.At.{meshAt}
 use Rattle.mesh.specs.declared.Counts.{Counts}
 use Rattle.mesh.specs.declared.Rooms.{Rooms}
-use Rattle.mesh.specs.Widths.{pointColumns}
+use Rattle.mesh.specs.Widths.{pointColumns, cornerColumns, endColumns, lengthColumns, rootColumns, volumeColumns, sideColumns, entryWords}
+use Rattle.mesh.specs.Limits.{particleLimit, triangleLimit, edgeLimit, boundaryLimit, entryLimit}
 
 -- the blocks of an input
 pub record Given : Type 0 where
@@ -28,7 +29,7 @@ given p r c v e l o = record { points = p; roots = r; corners = c; volumes = v; 
 
 -- how many rows each list has, by the length of its first block
 abbrev pub sizes : Given → Counts
-sizes G = record { particles = length (G .points) / pointColumns; triangles = length (G .corners) / 3; edges = length (G .ends) / 4; boundary = length (G .outline) / 2; log = 0 }
+sizes G = record { particles = length (G .points) / pointColumns; triangles = length (G .corners) / cornerColumns; edges = length (G .ends) / endColumns; boundary = length (G .outline) / sideColumns; log = 0 }
 
 -- the mesh that an input is
 unfoldable pub meshOf : Given → Mesh
@@ -43,8 +44,8 @@ listFits limit overA a overB b = eqb overA 0 && eqb overB 0 && eqb a b && leb a 
 -- at most 1,024 particles, 1,024 triangles, 2,048 edges and 2,048 boundary entries, and each list's columns equally long
 unfoldable pub lengthsFit : ℕ → ℕ → ℕ → ℕ → ℕ → ℕ → ℕ → Bool
 lengthsFit lp lr lc lv le ll lo =
-    listFits 1024 (lp % pointColumns) (lp / pointColumns) (lr % 2) (lr / 2) && listFits 1024 (lc % 3) (lc / 3) (lv % 2) (lv / 2) && listFits 2048 (le % 4) (le / 4) (ll % 4) (ll / 4)
-    && listFits 2048 (lo % 2) (lo / 2) 0 (lo / 2)
+    listFits particleLimit (lp % pointColumns) (lp / pointColumns) (lr % rootColumns) (lr / rootColumns) && listFits triangleLimit (lc % cornerColumns) (lc / cornerColumns) (lv % volumeColumns) (lv / volumeColumns) && listFits edgeLimit (le % endColumns) (le / endColumns) (ll % lengthColumns) (ll / lengthColumns)
+    && listFits boundaryLimit (lo % sideColumns) (lo / sideColumns) 0 (lo / sideColumns)
 
 -- the same of an input's blocks
 abbrev pub sizesFit : Given → Bool
@@ -67,11 +68,11 @@ pub record Lent : Type 0 where
 abbrev pub roomsOf : Lent → Rooms
 roomsOf L =
     record {
-      particles = min 1024 (min (L .points / pointColumns) (L .roots / 2));
-      triangles = min 1024 (min (L .corners / 3) (L .volumes / 2));
-      edges = min 2048 (min (L .ends / 4) (L .lengths / 4));
-      boundary = min 2048 (L .outline / 2);
-      log = min 4096 (L .log / 6);
+      particles = min particleLimit (min (L .points / pointColumns) (L .roots / rootColumns));
+      triangles = min triangleLimit (min (L .corners / cornerColumns) (L .volumes / volumeColumns));
+      edges = min edgeLimit (min (L .ends / endColumns) (L .lengths / lengthColumns));
+      boundary = min boundaryLimit (L .outline / sideColumns);
+      log = min entryLimit (L .log / entryWords);
     }
 
 -- the rooms of the program as the definitions name them

@@ -10,7 +10,7 @@ use Rattle.model.specs.Mesh.{Particle, Triangle, Edge, blank}
 use Rattle.model.specs.Split.{weighed}
 use Rattle.mesh.specs.At.{edgeRow, trianglesAt}
 use Rattle.mesh.specs.declared.EdgeRow.{EdgeRow}
-use Rattle.mesh.specs.Widths.{pointColumns}
+use Rattle.mesh.specs.Widths.{pointColumns, cornerColumns, endColumns, lengthColumns, rootColumns}
 
 -- the particles with a copy of v behind them, of mass m and inverse mass w
 unfoldable pub withCopy : ℕ → Float → Float → List Particle → List Particle
@@ -28,17 +28,17 @@ edgeOf r = record { a = r .a; b = r .b; structural = r .structural; torn = r .to
 
 -- edge j of the blocks of edges
 abbrev pub rowAt : List ℕ → List Float → ℕ → Edge
-rowAt ends lengths j = edgeRow (length ends / 4) (length lengths / 4) ends lengths j
+rowAt ends lengths j = edgeRow (length ends / endColumns) (length lengths / lengthColumns) ends lengths j
 
 -- n particles have room in blocks of lp and lr places
 pub record ParticleRoom (n lp lr : ℕ) : Type 0 where
   pub points : n ≤ lp / pointColumns
-  pub roots : n ≤ lr / 2
+  pub roots : n ≤ lr / rootColumns
 
 -- n edges have room in blocks of le and ll places
 pub record EdgeRoom (n le ll : ℕ) : Type 0 where
-  pub ends : n ≤ le / 4
-  pub lengths : n ≤ ll / 4
+  pub ends : n ≤ le / endColumns
+  pub lengths : n ≤ ll / lengthColumns
 
 -- the marked edges are gone, and r are left
 pub record Removed (mask : List ℕ) (n r : ℕ) (before after : List Edge) : Type 0 where
@@ -47,12 +47,12 @@ pub record Removed (mask : List ℕ) (n r : ℕ) (before after : List Edge) : Ty
 
 -- the corners changed as g changes each triangle by its number, for any number of triangles and whatever stands in the other block
 pub record Mapped (g : ℕ → Triangle → Triangle) (corners corners′ : List ℕ) : Type 0 where
-  pub triangles : (n : ℕ) (volumes : List Float) → n ≤ length corners / 3 → trianglesAt n corners′ volumes ≡ mapAt g (trianglesAt n corners volumes)
+  pub triangles : (n : ℕ) (volumes : List Float) → n ≤ length corners / cornerColumns → trianglesAt n corners′ volumes ≡ mapAt g (trianglesAt n corners volumes)
 
 -- a fan that the corners hold: its elements are triangles, no two the same, with a group for each
 pub record FanOk (n : ℕ) (elements groups : List ℕ) (lc : ℕ) : Type 0 where
   pub some : 0 < n
   pub paired : length elements ≡ length groups
   pub distinct : (i j : ℕ) → i < j → j < length elements → getD elements i 0 ≡ getD elements j 0 → ⊥
-  pub within : (i : ℕ) → i < length elements → getD elements i 0 < lc / 3
+  pub within : (i : ℕ) → i < length elements → getD elements i 0 < lc / cornerColumns
   pub small : (i : ℕ) → i < length elements → n + getD groups i 0 ≤ 65536

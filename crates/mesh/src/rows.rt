@@ -2,12 +2,12 @@
 ghost use mathlib.Core.Path.{_≡_};
 ghost use Prim.Native.Nat.{ℕ, _+_, _-_, _*_, _/_, _<_, _≤_};
 ghost use mathlib.Core.List.{List, [], _∷_, _++_};
-ghost use lib.ListN.{length, getD, set};
+ghost use lib.ListN.{length};
 ghost use lib.Ieee.{Float};
-ghost use Rattle.lists.specs.Labels.{replaced};
 ghost use Rattle.mesh.specs.At.{particlesAt, edgesAt};
 ghost use Rattle.model.specs.Split.{retargeted, onlyAt, copyFor};
 ghost use Rattle.mesh.specs.Workers.{withCopy, groupOf, edgeOf, ParticleRoom, EdgeRoom, Removed, Mapped, FanOk};
+ghost use Rattle.mesh.specs.Widths.{cornerColumns};
 use crate::EdgeRow;
 use crate::POINT_COLUMNS;
 
@@ -18,7 +18,7 @@ pub fn append_copy(v: usize, n: usize, m: f32, w: f32, points: &mut [f32], roots
         ≡ withCopy v m w (particlesAt n (now (points .entry)) (now (roots .entry))) ⌝ }
 {
     let p = points.len() / POINT_COLUMNS;
-    let r = roots.len() / 2;
+    let r = roots.len() / crate::ROOT_COLUMNS;
     columns::copy_row_f32(v, n, POINT_COLUMNS, p, points);
     points[4 * p + n] = m;
     points[5 * p + n] = w;
@@ -31,8 +31,8 @@ pub fn remove_edges(mask: &[usize], n: usize, ends: &mut [usize], lengths: &mut 
     ensures { λ r. ⌜ Removed (now (mask .entry)) n r (edgesAt n (now (ends .entry)) (now (lengths .entry))) (edgesAt r (now (ends .exit))
         (now (lengths .exit))) ⌝ }
 {
-    let e = ends.len() / 4;
-    let l = lengths.len() / 4;
+    let e = ends.len() / crate::END_COLUMNS;
+    let l = lengths.len() / crate::LENGTH_COLUMNS;
     let mut r: usize = columns::next_marked(mask, 0, n);
     let mut w: usize = r;
     while r < n {
@@ -53,8 +53,8 @@ pub fn append_edge(n: usize, row: EdgeRow, ends: &mut [usize], lengths: &mut [f3
     ensures { λ _. ⌜ edgesAt (n + 1) (now (ends .exit)) (now (lengths .exit))
         ≡ edgesAt n (now (ends .entry)) (now (lengths .entry)) ++ (edgeOf row ∷ []) ⌝ }
 {
-    let e = ends.len() / 4;
-    let l = lengths.len() / 4;
+    let e = ends.len() / crate::END_COLUMNS;
+    let l = lengths.len() / crate::LENGTH_COLUMNS;
     ends[n] = row.a;
     ends[e + n] = row.b;
     ends[2 * e + n] = row.structural;
@@ -73,27 +73,13 @@ pub fn copy_for(v: usize, n: usize, g: usize) -> usize
     if g == 0 { v } else { n + g - 1 }
 }
 
-// Puts w for v at place e of a list.
-pub fn replace_at(s: &mut [usize], e: usize, v: usize, w: usize)
-    requires { ⌜ e < length (now s) ⌝ }
-    ensures { λ _. ⌜ now (s .exit) ≡ set (now (s .entry)) e (replaced v w (getD (now (s .entry)) e 0)) ⌝ }
-{
-    if s[e] == v {
-        s[e] = w;
-    }
-}
-
 // Puts w for v in the corners of triangle e.
 fn retarget(e: usize, v: usize, w: usize, corners: &mut [usize])
-    requires { ⌜ e < length (now corners) / 3 ⌝ }
+    requires { ⌜ e < length (now corners) / cornerColumns ⌝ }
     ensures { λ _. ⌜ Mapped (onlyAt e (retargeted v w)) (now (corners .entry)) (now (corners .exit)) ⌝ }
 {
-    let c = corners.len() / 3;
-    let f = c + e;
-    let g = 2 * c + e;
-    replace_at(corners, e, v, w);
-    replace_at(corners, f, v, w);
-    replace_at(corners, g, v, w);
+    let c = corners.len() / crate::CORNER_COLUMNS;
+    columns::turn_row(e, v, w, crate::CORNER_COLUMNS, c, corners);
 }
 
 // Puts the copies of the fan's groups for v in the corners of its triangles.

@@ -30,11 +30,20 @@ pub fn rooms_for(
     ensures { λ r. ⌜ r ≡ roomsOf
         (record { points = lp; roots = lr; corners = lc; volumes = lv; ends = le; lengths = ll; outline = lo; log = lg }) ⌝ }
 {
-    let p = least(1024, least(lp / POINT_COLUMNS, lr / 2));
-    let t = least(1024, least(lc / 3, lv / 2));
-    let e = least(2048, least(le / 4, ll / 4));
-    let b = least(2048, lo / 2);
-    let g = least(4096, lg / 6);
+    let p = least(
+        crate::PARTICLES,
+        least(lp / POINT_COLUMNS, lr / crate::ROOT_COLUMNS),
+    );
+    let t = least(
+        crate::TRIANGLES,
+        least(lc / crate::CORNER_COLUMNS, lv / crate::VOLUME_COLUMNS),
+    );
+    let e = least(
+        crate::EDGES,
+        least(le / crate::END_COLUMNS, ll / crate::LENGTH_COLUMNS),
+    );
+    let b = least(crate::BOUNDARY, lo / crate::SIDE_COLUMNS);
+    let g = least(crate::ENTRIES, lg / crate::ENTRY_WORDS);
     Rooms {
         particles: p,
         triangles: t,

@@ -21,7 +21,7 @@ use Rattle.mesh.specs.declared.Counts.{Counts}
 use Rattle.mesh.specs.Widths.{pointColumns}
 use Rattle.elements.specs.declared.Kind.{Kind as KindCase}
 use Rattle.elements.specs.Table.{kindIs, KindFound}
-use Rattle.marks.specs.Marking.{placeIn}
+use Rattle.split_plan.specs.Opened.{placeIn}
 use Rattle.mesh_calls.specs.Jobs.{jobEdition, jobRefusal, wholePlaces}
 use Rattle.mesh_calls.specs.declared.Job.{Job}
 use Rattle.mesh_calls.specs.declared.Job.the-variants.{Cut}

@@ -13,6 +13,8 @@ use Rattle.model.specs.Elements.{Kind, kindOf}
 use Rattle.model.specs.Run.{Run, Rooms as RoomsOf, start}
 use Rattle.model.specs.Cut.{Line, rounded, exact, cut}
 use Rattle.model.specs.Calls.{sidesOk, fractionOk, trianglesLent, refusal, known, exactRefusal, firstOf, cutRefusal, Outcome, outcome, unless, splitCall, straddlersCall, cutCall, crackCall}
+use Rattle.model.specs.Trace.{Threes}
+use Rattle.model_laws.proofs.Accepted.{accepted-rowed}
 use Rattle.model_laws.proofs.Exactly.{signs-exact}
 use Rattle.model_laws.proofs.Kept.{cut-no-refusal}
 use Rattle.model_laws.proofs.Whole.{exactable}
@@ -49,17 +51,17 @@ unless-same zero o q h = h refl
 unless-same (suc n) o q h = refl
 
 -- the rule of signs in edition 2 cuts as the exact one, where nothing of that edition refuses; edition 1 has one rule
-rule-same : (M : Mesh) (B : Line) (f : Float) (second : Bool) → pick second (exactRefusal M B) 0 ≡ 0
+rule-same : (M : Mesh) (B : Line) (f : Float) (second : Bool) → Threes (M .triangles) → pick second (exactRefusal M B) 0 ≡ 0
     → cut (kindOf M) (record { line = B; rule = ruleIs (pick second Signs Rounded) }) f (start M) ≡ cut (kindOf M) (record { line = B; rule = pick second exact rounded }) f (start M)
-rule-same M B f true e = let X = exactable M B e in signs-exact M B f (X .mesh) (X .line) (X .kind)
-rule-same M B f false e = refl
+rule-same M B f true three e = let X = exactable M B e in signs-exact M B f three (X .mesh) (X .line) (X .kind)
+rule-same M B f false three e = refl
 
 -- The cut of an edition: the program's, by the signs of rounded offsets in edition 2, is the model's, which is exact.
 pub cut-is : (n : ℕ) (b0 b1 : Point) (f : Float) (ls : List ℕ) (sized : Bool) (M : Mesh) (L : RoomsOf) → jobCall (Cut n b0 b1 f) ls sized M L ≡ cutCall sized M n (record { from = b0; to = b1 }) f L
 unfolding jobCall cutCall
 cut-is n b0 b1 f ls sized M L =
     let B : Line = record { from = b0; to = b1 } in
-    unless-same (cutRefusal sized M n B f L) _ _ (λ z. ap (outcome L) (rule-same M B f (eqb n 2) (cut-no-refusal sized M n B f L z .1)))
+    unless-same (cutRefusal sized M n B f L) _ _ (λ z. ap (outcome L) (rule-same M B f (eqb n 2) (accepted-rowed M (cut-no-refusal sized M n B f L z .0 .indices) .triangles) (cut-no-refusal sized M n B f L z .1)))
 
 pub crack-is : (min : ℕ) (ls : List ℕ) (sized : Bool) (M : Mesh) (L : RoomsOf) → jobCall (Crack min) ls sized M L ≡ crackCall sized M ls min L
 unfolding jobCall crackCall

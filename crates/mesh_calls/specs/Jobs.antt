@@ -14,7 +14,8 @@ use Rattle.model.specs.Pieces.{removeStraddlers}
 use Rattle.model.specs.Cut.{cut}
 use Rattle.model.specs.Crack.{crack}
 use Rattle.model.specs.Calls.{sidesOk, bladeOk, fractionOk, trianglesLent, refusal, known, editionRefusal, firstOf, Outcome, outcome, unless}
-use Rattle.marks.specs.Marking.{placeIn, bladeBy}
+use Rattle.split_plan.specs.Opened.{placeIn}
+use Rattle.marks.specs.Marking.{bladeBy}
 use Rattle.marks.specs.declared.Rule.{Rule}
 use Rattle.marks.specs.declared.Rule.the-variants.{Rounded, Signs}
 use Rattle.mesh_calls.specs.declared.Job.{Job}

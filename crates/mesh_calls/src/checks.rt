@@ -13,9 +13,9 @@ ghost use Rattle.mesh.specs.Blocks.{meshBefore, givenBefore, blocksIn};
 use crate::Job;
 use crate::fans;
 use elements::Kind;
-use marks::particles::place;
 use mesh::Counts;
 use mesh::Rooms;
+use split_plan::place;
 
 // Are the numbers beside the mesh right?
 fn numbers_fit(job: Job) -> bool
@@ -188,12 +188,12 @@ fn edition_refusal(
         return 0;
     }
     if !whole_places(k.particles, in_points) || !exact::whole_point(b0) || !exact::whole_point(b1) {
-        return 11;
+        return mesh::refusals::WHOLE;
     }
     let kind = elements::kind_of(k.triangles, k.edges, in_ends);
     match kind {
         Kind::Triangles => 0,
-        Kind::Straps => 12,
+        Kind::Straps => mesh::refusals::STRAPS,
         Kind::Nothing => 0,
     }
 }
@@ -275,9 +275,9 @@ pub fn judge(
     }
     let k = Counts {
         particles: in_points.len() / mesh::POINT_COLUMNS,
-        triangles: in_corners.len() / 3,
-        edges: in_ends.len() / 4,
-        boundary: in_outline.len() / 2,
+        triangles: in_corners.len() / mesh::CORNER_COLUMNS,
+        edges: in_ends.len() / mesh::END_COLUMNS,
+        boundary: in_outline.len() / mesh::SIDE_COLUMNS,
         log: 0,
     };
     judge_sized(

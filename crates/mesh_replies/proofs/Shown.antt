@@ -16,17 +16,18 @@ use Rattle.image.specs.Image.{imageWords, imageWordsOf}
 use Rattle.image_writing.specs.Stores.{leftWords, StandingWith}
 use Rattle.image_writing.proofs.Left.{rising-all}
 use Rattle.image_writing.proofs.Rows.{left-words-long, left-image}
-use Rattle.mesh_replies.specs.Told.{listedCount, listedEdges, Tellable}
+use Rattle.edge_drops.specs.Parted.{listed}
+use Rattle.mesh_replies.specs.Told.{listedEdges, Tellable}
 
 -- ---- rows that can be told
 
 module _ (k : Counts) (gone : List ℕ) (lp lr lc lv le ll lo lg logged : ℕ) (h : Tellable k gone lp lr lc lv le ll lo lg logged) where
   -- the list has room for the listed edges, so that they are as many as it says
-  pub listed-few : listedCount gone ≤ length gone
+  pub listed-few : listed gone ≤ length gone
   listed-few = omega (arith, h .few-edges, h .list)
 
-  pub listed-count : length (listedEdges gone) ≡ listedCount gone
-  listed-count = length-take-le (listedCount gone) gone listed-few
+  pub listed-count : length (listedEdges gone) ≡ listed gone
+  listed-count = length-take-le (listed gone) gone listed-few
 
   -- they stand in their blocks
   pub standing : StandingWith k (length (listedEdges gone)) lp lr lc lv le ll lo
@@ -36,7 +37,7 @@ module _ (k : Counts) (gone : List ℕ) (lp lr lc lv le ll lo lg logged : ℕ) (
   -- the listed edges rise
   pub listed-rising : Rising (listedEdges gone) (length (listedEdges gone)) (k .edges + length (listedEdges gone))
   listed-rising =
-      subst (λ (n : ℕ). Rising (listedEdges gone) (length (listedEdges gone)) (k .edges + n)) (sym listed-count) (rising-all gone (listedCount gone) (k .edges + listedCount gone) (h .rising) listed-few)
+      subst (λ (n : ℕ). Rising (listedEdges gone) (length (listedEdges gone)) (k .edges + n)) (sym listed-count) (rising-all gone (listed gone) (k .edges + listed gone) (h .rising) listed-few)
 
 -- ---- the words
 
@@ -48,7 +49,7 @@ module _ (k : Counts) (gone : List ℕ) (p : List Float) (r c : List ℕ) (v : L
 
   -- those of the mesh that the blocks hold without the listed edges
   pub told-image : (M : Mesh) → M .particles ≡ particlesAt (k .particles) p r → M .triangles ≡ trianglesAt (k .triangles) c v
-      → M .edges ≡ leftOut (listedEdges gone) (edgesAt (k .edges + listedCount gone) e l) → M .boundary ≡ boundaryAt (k .boundary) o → leftWords k (listedEdges gone) p r c v e l o ≡ imageWordsOf M
+      → M .edges ≡ leftOut (listedEdges gone) (edgesAt (k .edges + listed gone) e l) → M .boundary ≡ boundaryAt (k .boundary) o → leftWords k (listedEdges gone) p r c v e l o ≡ imageWordsOf M
   told-image M ep et ee eb =
       left-image k (listedEdges gone) p r c v e l o (standing k gone _ _ _ _ _ _ _ lg logged h) (listed-rising k gone _ _ _ _ _ _ _ lg logged h) M ep et
       (ee ∙ ap (λ (n : ℕ). leftOut (listedEdges gone) (edgesAt (k .edges + n) e l)) (sym (listed-count k gone _ _ _ _ _ _ _ lg logged h))) eb

@@ -20,14 +20,15 @@ use Rattle.image.specs.Words.{written, putWord, putWords}
 use Rattle.image_writing.specs.Stores.{leftWords, StorableWithout}
 use Rattle.image_writing.proofs.Puts.{put-written, put-one, puts-then, put-cleared}
 use Rattle.mesh_replies.specs.Both.{BothReplied}
-use Rattle.mesh_replies.specs.Told.{listedCount, listedEdges, doneWords, meshTold, logTold, Tellable, Telling}
+use Rattle.edge_drops.specs.Parted.{listed}
+use Rattle.mesh_replies.specs.Told.{listedEdges, doneWords, meshTold, logTold, Tellable, Telling}
 use Rattle.mesh_replies.proofs.Shown.{listed-few, told-long}
 
 module _ (k : Counts) (gone : List ℕ) (p : List Float) (r c : List ℕ) (v : List Float) (e : List ℕ) (l : List Float) (o : List ℕ) (lg logged : ℕ)
     (h : Tellable k gone (length p) (length r) (length c) (length v) (length e) (length l) (length o) lg logged) where
   -- the rows can be stored where the answer has room
   pub done-storable : (bytes lent : ℕ) → bytes ≡ lent → 4 * (6 + particleWords * k .particles + 5 * k .triangles + 8 * k .edges + 2 * k .boundary) ≤ lent
-      → StorableWithout k (listedCount gone) gone (length p) (length r) (length c) (length v) (length e) (length l) (length o) 2 bytes
+      → StorableWithout k (listed gone) gone (length p) (length r) (length c) (length v) (length e) (length l) (length o) 2 bytes
   done-storable bytes lent q room =
       record {
         stands =

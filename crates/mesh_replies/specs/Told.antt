@@ -2,26 +2,24 @@
 use Prim.Native.Nat.{ℕ, _+_, _*_, _/_, _≤_, _<_}
 use mathlib.Core.Bool.{Bool}
 use mathlib.Core.List.{List, [], _∷_}
-use lib.ListN.{length, getD, take}
+use lib.ListN.{length, take}
 use lib.Ieee.{Float}
 use Rattle.lists.specs.Lists.{pick}
 use Rattle.lists.specs.LeftOut.{Rising}
 use Rattle.model.specs.Reads.{Read, refused, value}
 use Rattle.mesh.specs.Log.{logAt}
 use Rattle.mesh.specs.declared.Counts.{Counts}
-use Rattle.mesh.specs.Widths.{pointColumns}
+use Rattle.mesh.specs.Widths.{pointColumns, cornerColumns, endColumns, lengthColumns, rootColumns, volumeColumns, sideColumns}
+use Rattle.mesh.specs.Limits.{particleLimit, triangleLimit, edgeLimit, boundaryLimit}
 use Rattle.work.specs.declared.Ran.{Ran}
 use Rattle.work.specs.declared.Ran.the-variants.{Refused, Done}
 use Rattle.call_frame.specs.Framed.{wordsChange}
+use Rattle.edge_drops.specs.Parted.{listed}
 use Rattle.image_writing.specs.Stores.{leftWords}
-
--- how many edges are listed: place 2,048 of the list holds it
-abbrev pub listedCount : List ℕ → ℕ
-listedCount gone = getD gone 2048 0
 
 -- the numbers of the listed edges
 abbrev pub listedEdges : List ℕ → List ℕ
-listedEdges gone = take (listedCount gone) gone
+listedEdges gone = take (listed gone) gone
 
 -- the words of an answer whose rows are the first of seven blocks without the edges at the listed places
 abbrev pub doneWords : Counts → Bool → List ℕ → List Float → List ℕ → List ℕ → List Float → List ℕ → List Float → List ℕ → List ℕ
@@ -40,18 +38,18 @@ logTold (Done k) g = take (6 * k .log) g
 -- the rows and the listed edges stand in blocks that are no longer than those of a mesh, the listed edges rise, and the log stands in its words and in its bytes
 pub record Tellable (k : Counts) (gone : List ℕ) (lp lr lc lv le ll lo lg logged : ℕ) : Type 0 where
   pub points : k .particles ≤ lp / pointColumns
-  pub roots : k .particles ≤ lr / 2
-  pub corners : k .triangles ≤ lc / 3
-  pub volumes : k .triangles ≤ lv / 2
-  pub ends : k .edges + listedCount gone ≤ le / 4
-  pub lengths : k .edges + listedCount gone ≤ ll / 4
-  pub outline : k .boundary ≤ lo / 2
+  pub roots : k .particles ≤ lr / rootColumns
+  pub corners : k .triangles ≤ lc / cornerColumns
+  pub volumes : k .triangles ≤ lv / volumeColumns
+  pub ends : k .edges + listed gone ≤ le / endColumns
+  pub lengths : k .edges + listed gone ≤ ll / lengthColumns
+  pub outline : k .boundary ≤ lo / sideColumns
   pub list : 2049 ≤ length gone
-  pub rising : Rising gone (listedCount gone) (k .edges + listedCount gone)
-  pub few-particles : k .particles ≤ 1024
-  pub few-triangles : k .triangles ≤ 1024
-  pub few-edges : k .edges + listedCount gone ≤ 2048
-  pub few-boundary : k .boundary ≤ 2048
+  pub rising : Rising gone (listed gone) (k .edges + listed gone)
+  pub few-particles : k .particles ≤ particleLimit
+  pub few-triangles : k .triangles ≤ triangleLimit
+  pub few-edges : k .edges + listed gone ≤ edgeLimit
+  pub few-boundary : k .boundary ≤ boundaryLimit
   pub words : 6 * k .log ≤ lg
   pub entries : 24 * k .log ≤ logged
 

@@ -82,10 +82,10 @@ fn reply_done(
     let e = k.edges;
     let b = k.boundary;
     let n = k.log;
-    let s = gone[2048];
+    let s = gone[edge_drops::LISTED];
     let end = 4 * (6 + mesh::PARTICLE_WORDS * p + 5 * t + 8 * e + 2 * b);
     if out.len() < end {
-        return refuse(4, out, log);
+        return refuse(mesh::refusals::ARGUMENT, out, log);
     }
     image_writing::put_word(out, 0, one_if(any));
     image_writing::put_word(out, 1, n);

@@ -5,7 +5,7 @@ use native.Mathlib.Nat.{mul-le-mul-right, zero-mul, suc-mul}
 use mathlib.Core.Path.{_≡_, refl, sym, _∙_, ap, subst}
 use mathlib.Core.Bool.{Bool, true, false, not, _&&_}
 use mathlib.Core.List.{List, [], _∷_}
-use lib.Dec.{ltb}
+use lib.Dec.{ltb, eqb}
 use lib.Ieee.{Float}
 use lib.ListN.{length, getD, take, length-take, length-append}
 use lib.Seq.{getD-take}
@@ -87,7 +87,7 @@ unfolding trianglesFrom all cornersOk each
 triangles-below n i [] e = refl
 triangles-below n i (t ∷ ts) e =
     let a = and-true (cornersOk n t) (all (cornersOk n) ts) e in
-    all-append (λ x. ltb x n) (cornersOf t) (allCorners (trianglesFrom (suc i) ts)) ∙ true-and (named-below n (cornersOf t) (a .0)) (triangles-below n (suc i) ts (a .1))
+    all-append (λ x. ltb x n) (cornersOf t) (allCorners (trianglesFrom (suc i) ts)) ∙ true-and (named-below n (cornersOf t) (and-true (eqb (length (t .corners)) 3) (named n (t .corners)) (a .0) .1)) (triangles-below n (suc i) ts (a .1))
 
 straps-by : (n i : ℕ) (a : Edge) (es : List Element) (t : Bool) → all (λ x. ltb x n) (endsOf a) ≡ true → all (λ x. ltb x n) (allCorners es) ≡ true
     → all (λ x. ltb x n) (allCorners (pick t (strapElement i a ∷ es) es)) ≡ true

@@ -6,6 +6,7 @@ use lib.Ieee.{Float}
 use Rattle.model.specs.Elements.{Kind, kindOf, elementsOf, cornersPer, trianglesFrom, strapsFrom}
 use Rattle.mesh.specs.At.{trianglesAt, edgesAt}
 use Rattle.mesh.specs.Given.{Given, meshOf}
+use Rattle.mesh.specs.Widths.{cornerColumns, endColumns}
 use Rattle.elements.specs.Table.{elementsIn, Cornered}
 use Rattle.bodies.specs.Bodies.{Corners}
 
@@ -23,8 +24,8 @@ pub record KindCorners (K : Kind) (t e : ℕ) (corners ends : List ℕ) (n : ℕ
 
 -- what is asked of the blocks and of the table
 pub record CornerRoom (t e lc le lk : ℕ) : Type 0 where
-  pub corners : t ≤ lc / 3
-  pub ends : e ≤ le / 4
+  pub corners : t ≤ lc / cornerColumns
+  pub ends : e ≤ le / endColumns
   pub verts : (t * 3 ≤ lk) × (e * 2 ≤ lk)
 
 -- n elements of the mesh have their corners in the table, k to each, which name particles

@@ -5,6 +5,7 @@ ghost use Rattle.elements.specs.Table.{kindIs};
 ghost use Rattle.mesh.specs.Blocks.{givenIn, givenBefore};
 ghost use Rattle.mesh_tables.specs.Accepted.{Accepted};
 ghost use Rattle.mesh_tables.specs.Cornering.{CornerRoom, TriangleCorners, StrapCorners, KindCorners, MeshCornered};
+ghost use Rattle.mesh.specs.Widths.{cornerColumns, endColumns};
 use elements::Kind;
 
 // How many elements there are, and how many corners each has.
@@ -15,10 +16,10 @@ pub struct Rows {
 
 // The corners of the first t triangles.
 fn triangle_corners(t: usize, corners: &[usize], verts: &mut [usize])
-    requires { ⌜ (t ≤ length (now corners) / 3) × (t * 3 ≤ length (now verts)) ⌝ }
+    requires { ⌜ (t ≤ length (now corners) / cornerColumns) × (t * 3 ≤ length (now verts)) ⌝ }
     ensures { λ _. ⌜ TriangleCorners t (now (corners .entry)) (now (verts .exit)) ⌝ }
 {
-    let c = corners.len() / 3;
+    let c = corners.len() / mesh::CORNER_COLUMNS;
     let mut i: usize = 0;
     let mut o: usize = 0;
     while i < t {
@@ -32,10 +33,10 @@ fn triangle_corners(t: usize, corners: &[usize], verts: &mut [usize])
 
 // The corners of the structural edges among the first e, and how many these are.
 fn strap_corners(e: usize, ends: &[usize], verts: &mut [usize]) -> usize
-    requires { ⌜ (e ≤ length (now ends) / 4) × (e * 2 ≤ length (now verts)) ⌝ }
+    requires { ⌜ (e ≤ length (now ends) / endColumns) × (e * 2 ≤ length (now verts)) ⌝ }
     ensures { λ r. ⌜ StrapCorners e (now (ends .entry)) r (now (verts .exit)) ⌝ }
 {
-    let c = ends.len() / 4;
+    let c = ends.len() / mesh::END_COLUMNS;
     let mut i: usize = 0;
     let mut n: usize = 0;
     let mut o: usize = 0;
@@ -87,8 +88,8 @@ pub fn corners_of(
     requires { ⌜ Accepted (givenIn points roots corners volumes ends lengths outline) × (4096 ≤ length (now verts)) ⌝ }
     ensures { λ r. ⌜ MeshCornered (givenBefore points roots corners volumes ends lengths outline) (r .n) (r .k) (now (verts .exit)) ⌝ }
 {
-    let t = corners.len() / 3;
-    let e = ends.len() / 4;
+    let t = corners.len() / mesh::CORNER_COLUMNS;
+    let e = ends.len() / mesh::END_COLUMNS;
     let kind = elements::kind_of(t, e, ends);
     let n = kind_corners(kind, t, e, corners, ends, verts);
     let k = elements::corners_per(kind);

@@ -9,6 +9,7 @@ ghost use lib.ListN.{length};
 ghost use Rattle.lists.specs.Lists.{stands};
 ghost use Rattle.elements.specs.Table.{kindIs};
 ghost use Rattle.mesh_tables.specs.Fans.{RowPut, CornersRead, trianglesWith, strapsWith, FanCorners};
+ghost use Rattle.mesh.specs.Widths.{cornerColumns, endColumns};
 use elements::Kind;
 
 // Is v one of three corners?
@@ -62,18 +63,15 @@ fn put_two(r: usize, a: usize, b: usize, verts: &mut [usize])
 
 // The corners of the triangles that hold v, as far as a table goes, and how many triangles they are.
 fn triangle_corners(v: usize, t: usize, corners: &[usize], verts: &mut [usize]) -> usize
-    requires { ⌜ t ≤ length (now corners) / 3 ⌝ }
+    requires { ⌜ t ≤ length (now corners) / cornerColumns ⌝ }
     ensures { λ r. ⌜ ((volumes : List Float) → CornersRead 3 (trianglesWith v t (now (corners .entry)) volumes) r (now (verts .exit))) ⌝ }
 {
-    let c = corners.len() / 3;
+    let c = corners.len() / mesh::CORNER_COLUMNS;
     let mut r: usize = 0;
     let mut i: usize = 0;
     while i < t {
-        let x = corners[i];
-        let y = corners[c + i];
-        let z = corners[2 * c + i];
-        if triangle_holds(v, x, y, z) {
-            put_three(r, x, y, z, verts);
+        if columns::row_holds(v, i, 3, c, corners) {
+            put_three(r, corners[i], corners[c + i], corners[2 * c + i], verts);
             r += 1;
         }
         i += 1;
@@ -83,17 +81,15 @@ fn triangle_corners(v: usize, t: usize, corners: &[usize], verts: &mut [usize]) 
 
 // The ends of the straps that hold v, as far as a table goes, and how many straps they are.
 fn strap_corners(v: usize, e: usize, ends: &[usize], verts: &mut [usize]) -> usize
-    requires { ⌜ e ≤ length (now ends) / 4 ⌝ }
+    requires { ⌜ e ≤ length (now ends) / endColumns ⌝ }
     ensures { λ r. ⌜ ((lengths : List Float) → CornersRead 2 (strapsWith v e (now (ends .entry)) lengths) r (now (verts .exit))) ⌝ }
 {
-    let c = ends.len() / 4;
+    let c = ends.len() / mesh::END_COLUMNS;
     let mut r: usize = 0;
     let mut i: usize = 0;
     while i < e {
-        let x = ends[i];
-        let y = ends[c + i];
-        if strap_holds(v, ends[2 * c + i], x, y) {
-            put_two(r, x, y, verts);
+        if ends[2 * c + i] == 1 && columns::row_holds(v, i, 2, c, ends) {
+            put_two(r, ends[i], ends[c + i], verts);
             r += 1;
         }
         i += 1;
@@ -111,7 +107,7 @@ pub fn fan_corners(
     ends: &[usize],
     verts: &mut [usize],
 ) -> usize
-    requires { ⌜ (t ≤ length (now corners) / 3) × (e ≤ length (now ends) / 4) ⌝ }
+    requires { ⌜ (t ≤ length (now corners) / cornerColumns) × (e ≤ length (now ends) / endColumns) ⌝ }
     ensures { λ r. ⌜ FanCorners (kindIs kind) v t e (now (corners .entry)) (now (ends .entry)) r (now (verts .exit)) ⌝ }
 {
     match kind {

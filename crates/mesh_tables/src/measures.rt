@@ -9,6 +9,7 @@ ghost use Rattle.mesh.specs.Given.{meshOf};
 ghost use Rattle.mesh.specs.Blocks.{givenIn, givenBefore};
 ghost use Rattle.elements.specs.Table.{kindIs, elementsIn};
 ghost use Rattle.mesh_tables.specs.Accepted.{Accepted};
+ghost use Rattle.mesh.specs.Widths.{endColumns, lengthColumns};
 use elements::Kind;
 
 // The sum of the first t triangles.
@@ -28,11 +29,11 @@ fn triangle_sum(t: usize, corners: &[usize], volumes: &[f32]) -> f32
 
 // The sum of the structural edges among the first e.
 fn strap_sum(e: usize, ends: &[usize], lengths: &[f32]) -> f32
-    requires { ⌜ (e ≤ length (now ends) / 4) × (e ≤ length (now lengths) / 4) ⌝ }
+    requires { ⌜ (e ≤ length (now ends) / endColumns) × (e ≤ length (now lengths) / lengthColumns) ⌝ }
     ensures { λ r. ⌜ r ≡ sum (map (λ (x : Element). x .measure) (strapsFrom 0 (edgesAt e (now (ends .entry)) (now (lengths .entry))))) ⌝ }
 {
-    let c = ends.len() / 4;
-    let m = lengths.len() / 4;
+    let c = ends.len() / mesh::END_COLUMNS;
+    let m = lengths.len() / mesh::LENGTH_COLUMNS;
     let mut s: f32 = 0.0;
     let mut i: usize = 0;
     while i < e {
@@ -54,7 +55,7 @@ fn kind_sum(
     ends: &[usize],
     lengths: &[f32],
 ) -> f32
-    requires { ⌜ (t ≤ length (now volumes)) × (e ≤ length (now ends) / 4) × (e ≤ length (now lengths) / 4) ⌝ }
+    requires { ⌜ (t ≤ length (now volumes)) × (e ≤ length (now ends) / endColumns) × (e ≤ length (now lengths) / lengthColumns) ⌝ }
     ensures { λ r. ⌜ r ≡ sum (map (λ (x : Element). x .measure) (elementsIn (kindIs kind) (trianglesAt t (now (corners .entry))
         (now (volumes .entry))) (edgesAt e (now (ends .entry)) (now (lengths .entry))))) ⌝ }
 {
@@ -78,8 +79,8 @@ pub fn whole_measure(
     requires { ⌜ Accepted (givenIn points roots corners volumes ends lengths outline) ⌝ }
     ensures { λ r. ⌜ r ≡ restMeasure (meshOf (givenBefore points roots corners volumes ends lengths outline)) ⌝ }
 {
-    let t = corners.len() / 3;
-    let e = ends.len() / 4;
+    let t = corners.len() / mesh::CORNER_COLUMNS;
+    let e = ends.len() / mesh::END_COLUMNS;
     let kind = elements::kind_of(t, e, ends);
     kind_sum(kind, t, e, corners, volumes, ends, lengths)
 }

@@ -36,8 +36,8 @@ pub fn table(
     ensures { λ r. ⌜ MeshTabled (givenBefore points roots corners volumes ends lengths outline) (r .n) (r .k) (r .others)
         (now (numbers .exit)) (now (verts .exit)) (now (measures .exit)) ⌝ }
 {
-    let t = corners.len() / 3;
-    let e = ends.len() / 4;
+    let t = corners.len() / mesh::CORNER_COLUMNS;
+    let e = ends.len() / mesh::END_COLUMNS;
     let kind = elements::kind_of(t, e, ends);
     let n = elements::element_table(
         kind,
@@ -74,10 +74,10 @@ pub fn fan_of(
     ensures { λ r. ⌜ FanFound (givenBefore points roots corners volumes ends lengths outline) v (r .n) (r .k) (r .others) (r .fan)
         (now (verts .exit)) (now («fan_verts» .exit)) ⌝ }
 {
-    let mut numbers = [0usize; 2048];
-    let mut measures = [0.0f32; 2048];
-    let mut fan_numbers = [0usize; 2048];
-    let mut fan_measures = [0.0f32; 2048];
+    let mut numbers = [0usize; mesh::ELEMENTS];
+    let mut measures = [0.0f32; mesh::ELEMENTS];
+    let mut fan_numbers = [0usize; mesh::ELEMENTS];
+    let mut fan_measures = [0.0f32; mesh::ELEMENTS];
     let s = table(
         points,
         roots,

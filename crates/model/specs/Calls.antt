@@ -18,6 +18,7 @@ use Rattle.model.specs.Split.{splitBySides}
 use Rattle.model.specs.Pieces.{removeStraddlers}
 use Rattle.model.specs.Cut.{Line, Rule, rounded, exact, Blade, cut}
 use Rattle.model.specs.Crack.{crack}
+use Rattle.model.specs.Refusals.{sizeRefusal, numberRefusal, nameRefusal, argumentRefusal, particleRefusal, edgeRefusal, boundaryRefusal, entryRefusal, wholeRefusal, strapRefusal}
 
 -- ---- 1 to 4
 
@@ -56,7 +57,7 @@ trianglesLent L M = leb (length (M .triangles)) (L .triangles)
 
 -- the first of the checks 1 to 4 that fails, or 0: counts and column lengths; the numbers of the mesh and those beside it; indices; arguments
 unfoldable pub refusal : Bool → Mesh → Bool → Bool → ℕ
-refusal sized M numbers arguments = pick (not sized) 1 (pick (not (numbersFit M && numbers)) 2 (pick (not (indicesFit M)) 3 (pick (not arguments) 4 0)))
+refusal sized M numbers arguments = pick (not sized) sizeRefusal (pick (not (numbersFit M && numbers)) numberRefusal (pick (not (indicesFit M)) nameRefusal (pick (not arguments) argumentRefusal 0)))
 
 -- ---- 11 and 12, of edition 2
 
@@ -77,7 +78,7 @@ swapped B = record { from = B .to; to = B .from }
 
 -- 11 for a position or an end that is not whole, then 12 for straps
 abbrev pub exactRefusal : Mesh → Line → ℕ
-exactRefusal M B = pick (not (wholeMesh M && wholeLine B)) 11 (pick (straps? (kindOf M)) 12 0)
+exactRefusal M B = pick (not (wholeMesh M && wholeLine B)) wholeRefusal (pick (straps? (kindOf M)) strapRefusal 0)
 
 -- an edition's own refusal: edition 1 has none
 abbrev pub editionRefusal : ℕ → Mesh → Line → ℕ
@@ -101,10 +102,10 @@ firstOf (suc n) m = suc n
 -- the number of the first list for which a step needs more room than there is, or 0: 5 before 6, 7, 8
 unfoldable pub tooSmall : Rooms → Need → ℕ
 tooSmall L N =
-    pick (ltb (L .particles) (N .particles)) 5
-    (pick (ltb (L .edges) (N .edges)) 6
-    (pick (ltb (L .boundary) (N .boundary)) 7
-    (pick (ltb (L .log) (N .log)) 8 0)))
+    pick (ltb (L .particles) (N .particles)) particleRefusal
+    (pick (ltb (L .edges) (N .edges)) edgeRefusal
+    (pick (ltb (L .boundary) (N .boundary)) boundaryRefusal
+    (pick (ltb (L .log) (N .log)) entryRefusal 0)))
 
 -- the first step that doesn't fit refuses
 unfoldable pub firstFault : Rooms → List Need → ℕ

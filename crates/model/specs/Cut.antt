@@ -5,7 +5,7 @@ use mathlib.Core.List.{List, [], _∷_, _++_, map}
 use lib.ListN.{length, getD}
 use lib.Dec.{eqb}
 use lib.Ieee.{Float, lt, le, eq, ne}
-use Rattle.lists.specs.Lists.{pick, stands, any, sift, siftAt, fold, each, pairs, mapAt, empty, headOr, rest, rising}
+use Rattle.lists.specs.Lists.{pick, stands, sameRow, any, sift, siftAt, fold, each, pairs, mapAt, empty, headOr, rest, rising}
 use Rattle.float.specs.Numbers.{plus, minus, times, zero32, one, half, invOf, shareOf}
 use Rattle.blade.specs.declared.Point.{Point}
 use Rattle.blade.specs.declared.Hit.{Hit}
@@ -308,15 +308,15 @@ insertedEdges I es =
 
 -- is the boundary entry (a, b)
 abbrev pub same : Side → ℕ → ℕ → Bool
-same s a b = eqb (s .a) a && eqb (s .b) b
+same s a b = sameRow (s .corners) (a ∷ b ∷ [])
 
 -- a boundary entry (a, b) becomes (a, p), and (b, a) becomes (b, q)
 unfoldable pub shortened : ℕ → ℕ → ℕ → ℕ → Side → Side
-shortened a b p q s = pick (same s a b) (record { a = a; b = p }) (pick (same s b a) (record { a = b; b = q }) s)
+shortened a b p q s = pick (same s a b) (record { corners = a ∷ p ∷ [] }) (pick (same s b a) (record { corners = b ∷ q ∷ [] }) s)
 
 -- and the other half of it is appended: (q, b), or (p, a)
 unfoldable pub appended : ℕ → ℕ → ℕ → ℕ → Side → List Side
-appended a b p q s = pick (same s a b) (record { a = q; b = b } ∷ []) (pick (same s b a) (record { a = p; b = a } ∷ []) [])
+appended a b p q s = pick (same s a b) (record { corners = q ∷ b ∷ [] } ∷ []) (pick (same s b a) (record { corners = p ∷ a ∷ [] } ∷ []) [])
 
 -- the whole boundary
 unfoldable pub insertedSides : Insertion → List Side → List Side

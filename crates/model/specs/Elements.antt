@@ -42,13 +42,13 @@ velocityOf M v = velocityAt (particle M v)
 
 -- the particles that a triangle, an edge, a boundary entry names
 abbrev pub cornersOf : Triangle → List ℕ
-cornersOf t = t .a ∷ t .b ∷ t .c ∷ []
+cornersOf t = t .corners
 
 abbrev pub endsOf : Edge → List ℕ
 endsOf e = e .a ∷ e .b ∷ []
 
 abbrev pub sideEnds : Side → List ℕ
-sideEnds s = s .a ∷ s .b ∷ []
+sideEnds s = s .corners
 
 -- the end that isn't v
 abbrev pub farEnd : ℕ → Edge → ℕ

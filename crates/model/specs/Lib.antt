@@ -16,6 +16,8 @@ pub mod Cut
 pub mod Crack
 -- a call at work: steps, the log, and the room that each step needs
 pub mod Run
+-- the numbers of refusals
+pub mod Refusals
 -- the calls that give a mesh: refusals 1 to 8, then the mesh and the log
 pub mod Calls
 -- a cut's line drawn the other way

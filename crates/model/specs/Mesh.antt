@@ -1,6 +1,6 @@
 -- A mesh (docs/RULES.md, R2). Nothing here speaks of columns. Definitions only.
 use Prim.Native.Nat.{ℕ}
-use mathlib.Core.List.{List}
+use mathlib.Core.List.{List, [], _∷_}
 use lib.Ieee.{Float}
 use Rattle.float.specs.Numbers.{zero32}
 
@@ -17,11 +17,9 @@ pub record Particle : Type 0 where
   pub root : ℕ
   pub damaged : ℕ
 
--- three particles, rest volume, stress
+-- the particles at its corners (three of them: Valid), rest volume, stress
 pub record Triangle : Type 0 where
-  pub a : ℕ
-  pub b : ℕ
-  pub c : ℕ
+  pub corners : List ℕ
   pub volume : Float
   pub stress : Float
 
@@ -36,10 +34,9 @@ pub record Edge : Type 0 where
   pub impulse : Float
   pub stress : Float
 
--- an entry of the boundary: two particles
+-- an entry of the boundary: the particles at its corners (two of them: Valid)
 pub record Side : Type 0 where
-  pub a : ℕ
-  pub b : ℕ
+  pub corners : List ℕ
 
 -- the four lists of a mesh
 pub record Mesh : Type 0 where
@@ -81,7 +78,7 @@ blank =
     }
 
 abbrev pub blankTriangle : Triangle
-blankTriangle = record { a = 0; b = 0; c = 0; volume = zero32; stress = zero32 }
+blankTriangle = record { corners = 0 ∷ 0 ∷ 0 ∷ []; volume = zero32; stress = zero32 }
 
 abbrev pub blankEdge : Edge
 blankEdge = record { a = 0; b = 0; structural = 0; torn = 0; rest = zero32; initial = zero32; impulse = zero32; stress = zero32 }

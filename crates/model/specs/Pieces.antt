@@ -5,7 +5,7 @@ use mathlib.Core.List.{List, [], _∷_, map}
 use mathlib.Core.Option.{Option, none, some}
 use lib.ListN.{length, getD}
 use lib.Dec.{eqb, leb}
-use Rattle.lists.specs.Lists.{pick, stands, any, all, sift, upTo, distinct}
+use Rattle.lists.specs.Lists.{pick, stands, any, all, sift, pairs, upTo, distinct}
 use Rattle.lists.specs.Labels.{labelled}
 use Rattle.fan.specs.Fan.{sharedOthers}
 use Rattle.model.specs.Mesh.{Edge, Side, Mesh}
@@ -74,6 +74,10 @@ spans es ls x y = apart (bodyOf es ls x) (bodyOf es ls y)
 unfoldable pub across? : Kind → List Element → List ℕ → Edge → Bool
 across? k es ls e = not (element? k e) && spans es ls (e .a) (e .b)
 
+-- two of these particles lie in different bodies
+abbrev pub spread : List Element → List ℕ → List ℕ → Bool
+spread es ls l = any (λ (xy : ℕ × ℕ). spans es ls (xy .0) (xy .1)) (pairs l)
+
 -- such edges go, and boundary entries that join two bodies; what touches a particle of no element stays
 unfoldable pub withoutStraddlers : Kind → List Element → List ℕ → Mesh → Mesh
 withoutStraddlers k es ls M =
@@ -81,7 +85,7 @@ withoutStraddlers k es ls M =
       particles = M .particles;
       triangles = M .triangles;
       edges = sift (λ (e : Edge). not (across? k es ls e)) (M .edges);
-      boundary = sift (λ (s : Side). not (spans es ls (s .a) (s .b))) (M .boundary);
+      boundary = sift (λ (s : Side). not (spread es ls (s .corners))) (M .boundary);
     }
 
 -- the removal as one step, in which the edges are logged and the boundary entries are not

@@ -21,6 +21,7 @@ use Rattle.model.specs.Split.{openingOf}
 use Rattle.model.specs.Pieces.{pieces, opensWithoutConfetti}
 use Rattle.model.specs.Cut.{Line}
 use Rattle.model.specs.Calls.{pointOk, bladeOk, sidesOk, particlesOk, refusal}
+use Rattle.model.specs.Refusals.{numberRefusal, argumentRefusal}
 
 -- a refusal's number, or a value
 pub data Read (A : Type 0) : Type 0 where
@@ -48,7 +49,7 @@ rootCall x = rooted (rootOf x)
 
 -- the blade test on the edge from p to q; a number of blade or point out of range: 2
 unfoldable pub bladeCall : Line → Point → Point → Read Hit
-bladeCall B p q = orRefused (pick (bladeOk B && pointOk p && pointOk q) 0 2) (bladeHit (B .from) (B .to) p q)
+bladeCall B p q = orRefused (pick (bladeOk B && pointOk p && pointOk q) 0 numberRefusal) (bladeHit (B .from) (B .to) p q)
 
 -- the groups of a fan, and how many they are
 abbrev pub grouped : Fan → List ℕ × ℕ
@@ -76,4 +77,4 @@ piecesCall sized M = orRefused (refusal sized M true true) (pieces M)
 
 -- the entry on a run of records: is particle v pinned, and is it damaged; particle absent: 4
 unfoldable pub stateCall : List Particle → ℕ → Read (Bool × Bool)
-stateCall ps v = orRefused (pick (ltb v (length ps)) 0 4) (eq (getD ps v blank .inv) zero32, eqb (getD ps v blank .damaged) 1)
+stateCall ps v = orRefused (pick (ltb v (length ps)) 0 argumentRefusal) (eq (getD ps v blank .inv) zero32, eqb (getD ps v blank .damaged) 1)

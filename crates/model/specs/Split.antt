@@ -100,7 +100,7 @@ groupAt (p ∷ ps) i = pick (eqb (p .number) i) (p .group) (groupAt ps i)
 
 -- a triangle, and an edge, with w for v
 abbrev pub retargeted : ℕ → ℕ → Triangle → Triangle
-retargeted v w t = record { a = replaced v w (t .a); b = replaced v w (t .b); c = replaced v w (t .c); volume = t .volume; stress = t .stress }
+retargeted v w t = record { corners = map (replaced v w) (t .corners); volume = t .volume; stress = t .stress }
 
 abbrev pub moved : ℕ → ℕ → Edge → Edge
 moved v w e =
@@ -202,11 +202,11 @@ partGroup (some p) g = p .group
 unfoldable pub sideGroup : Mesh → Opening → Side → ℕ
 sideGroup M O s =
     partGroup (find (λ (p : Part). all (λ x. stands x (p .corners)) (sideEnds s)) (O .fan))
-    (toward M O (pick (eqb (s .a) (O .v)) (s .b) (s .a)))
+    (toward M O (headOr (O .v) (besides (O .v) (s .corners))))
 
 -- s with w for v
 abbrev pub turned : ℕ → ℕ → Side → Side
-turned v w s = record { a = replaced v w (s .a); b = replaced v w (s .b) }
+turned v w s = record { corners = map (replaced v w) (s .corners) }
 
 -- an entry at v follows its group
 unfoldable pub followed : Mesh → Opening → Side → Side
@@ -214,9 +214,19 @@ followed M O s = pick (stands (O .v) (sideEnds s)) (turned (O .v) (copyOf O (sid
 
 -- ---- 6: crack facets
 
--- the faces of (a, b, c): (a, b), (b, c), (c, a)
+-- the sides of a row of corners from y on, each with the one behind it, and the last with x
+abbrev pub sidesBack : ℕ → ℕ → List ℕ → List Side
+sidesBack x y [] = record { corners = y ∷ x ∷ [] } ∷ []
+sidesBack x y (z ∷ l) = record { corners = y ∷ z ∷ [] } ∷ sidesBack x z l
+
+-- all of them, round about: those of a, b, c are (a, b), (b, c), (c, a)
+abbrev pub sidesRound : List ℕ → List Side
+sidesRound [] = []
+sidesRound (x ∷ l) = sidesBack x x l
+
+-- the faces of a triangle
 abbrev pub facesOf : Triangle → List Side
-facesOf t = record { a = t .a; b = t .b } ∷ record { a = t .b; b = t .c } ∷ record { a = t .c; b = t .a } ∷ []
+facesOf t = sidesRound (t .corners)
 
 -- what is found, as a list
 abbrev pub oneOrNone : {A : Type 0} → Option A → List A

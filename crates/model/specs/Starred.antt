@@ -46,14 +46,14 @@ abbrev pub free : ℕ → Point → Particle
 free n p = record { x = p .x; y = p .y; rest-x = p .x; rest-y = p .y; mass = one; inv = one; velocity-x = zero32; velocity-y = zero32; root = n; damaged = 0 }
 
 abbrev pub triangle : ℕ → ℕ → ℕ → Float → Triangle
-triangle a b c v = record { a = a; b = b; c = c; volume = v; stress = zero32 }
+triangle a b c v = record { corners = a ∷ b ∷ c ∷ []; volume = v; stress = zero32 }
 
 abbrev pub edge : ℕ → ℕ → ℕ → Float → Edge
 edge a b s l = record { a = a; b = b; structural = s; torn = 0; rest = l; initial = l; impulse = zero32; stress = zero32 }
 
 -- a boundary entry
 abbrev pub side : ℕ → ℕ → Side
-side a b = record { a = a; b = b }
+side a b = record { corners = a ∷ b ∷ [] }
 
 -- the limits as rooms
 abbrev pub limits : Rooms

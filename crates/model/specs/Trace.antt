@@ -6,8 +6,9 @@ use mathlib.Core.List.{List, [], _∷_, map}
 use lib.ListN.{length, getD}
 use lib.Dec.{eqb}
 use Rattle.lists.specs.Lists.{pick, stands}
-use Rattle.model.specs.Mesh.{Triangle, Mesh, blankTriangle}
+use Rattle.model.specs.Mesh.{Triangle, Side, Mesh, blankTriangle}
 use Rattle.model.specs.Elements.{cornersOf}
+use Rattle.model.specs.Valid.{named}
 use Rattle.model.specs.Run.{Entry, Run, splitsOf}
 
 -- P holds of every element
@@ -15,19 +16,31 @@ abbrev pub All : {A : Type 0} → (A → Type 0) → List A → Type 0
 All P [] = Unit {0}
 All P (a ∷ l) = P a × All P l
 
+-- each triangle has three corners, each boundary entry two
+abbrev pub Threes : List Triangle → Type 0
+Threes ts = All (λ (t : Triangle). length (t .corners) ≡ 3) ts
+
+abbrev pub Twos : List Side → Type 0
+Twos ss = All (λ (s : Side). length (s .corners) ≡ 2) ss
+
+-- a mesh whose rows are so: every accepted one, and every one that is read from columns
+pub record Rowed (M : Mesh) : Type 0 where
+  pub triangles : Threes (M .triangles)
+  pub boundary : Twos (M .boundary)
+
 -- the particle that x was before these splits, the last of them undone first: a copy was its source
 unfoldable pub originOf : List (ℕ × ℕ) → ℕ → ℕ
 originOf [] x = x
 originOf (cs ∷ l) x = pick (eqb (originOf l x) (cs .0)) (cs .1) (originOf l x)
 
--- three different particles of n
-pub record Sound (n : ℕ) (t : Triangle) : Type 0 where
-  pub a : t .a < n
-  pub b : t .b < n
-  pub c : t .c < n
-  pub ab : t .a ≡ t .b → ⊥
-  pub bc : t .b ≡ t .c → ⊥
-  pub ca : t .c ≡ t .a → ⊥
+-- w different particles of n
+pub record Different (w n : ℕ) (l : List ℕ) : Type 0 where
+  pub many : length l ≡ w
+  pub apart : named n l ≡ true
+
+-- a triangle has three of them
+abbrev pub Sound : ℕ → Triangle → Type 0
+Sound n t = Different 3 n (t .corners)
 
 -- the corners of a triangle, traced back through these splits
 abbrev pub tracedBack : List (ℕ × ℕ) → Triangle → List ℕ

@@ -3,7 +3,7 @@ use Prim.Native.Nat.{ℕ}
 use mathlib.Core.Bool.{Bool, true, not, _&&_}
 use mathlib.Core.List.{List, [], _∷_}
 use lib.ListN.{length}
-use lib.Dec.{ltb}
+use lib.Dec.{ltb, eqb}
 use Rattle.lists.specs.Lists.{stands, all}
 use Rattle.float.specs.Ranges.{finite?, number?, volume?, notBelow0?}
 use Rattle.model.specs.Mesh.{Particle, Triangle, Edge, Side, Mesh}
@@ -41,18 +41,18 @@ unfoldable pub named : ℕ → List ℕ → Bool
 named n [] = true
 named n (x ∷ l) = ltb x n && not (stands x l) && named n l
 
--- a root names one of n particles; a triangle, an edge, a boundary entry names different ones
+-- a root names one of n particles; a triangle names three different ones, an edge and a boundary entry two
 unfoldable pub rootOk : ℕ → Particle → Bool
 rootOk n p = ltb (p .root) n
 
 unfoldable pub cornersOk : ℕ → Triangle → Bool
-cornersOk n t = named n (t .a ∷ t .b ∷ t .c ∷ [])
+cornersOk n t = eqb (length (t .corners)) 3 && named n (t .corners)
 
 unfoldable pub endsOk : ℕ → Edge → Bool
 endsOk n e = named n (e .a ∷ e .b ∷ [])
 
 unfoldable pub sideOk : ℕ → Side → Bool
-sideOk n s = named n (s .a ∷ s .b ∷ [])
+sideOk n s = eqb (length (s .corners)) 2 && named n (s .corners)
 
 -- every index and root of a mesh
 unfoldable pub indicesFit : Mesh → Bool

@@ -3,8 +3,8 @@ use mathlib.Core.Path.{_≡_, refl, sym, ap, subst}
 use mathlib.Core.Bool.{Bool, true, false, not, _&&_}
 use mathlib.Core.List.{List, [], _∷_}
 use Prim.Native.Nat.{ℕ, _<_}
-use borrow.Author.Tests.{ltb-true, lt-ltb, ne-eqb}
-use lib.Dec.{ltb}
+use borrow.Author.Tests.{ltb-true, lt-ltb, eq-eqb, eqb-true}
+use lib.Dec.{eqb}
 use lib.ListN.{length}
 use lib.Ieee.{Float}
 use Rattle.lists.specs.Lists.{stands, all}
@@ -17,41 +17,26 @@ use Rattle.model.specs.Pieces.{removeStraddlers}
 use Rattle.model.specs.Cut.{cut, Line}
 use Rattle.model.specs.Crack.{crack}
 use Rattle.model.specs.Calls.{sidesOk, trianglesLent, refusal, done, outcome, cutCall, crackCall, splitCall, straddlersCall, bladeOf, cutRefusal}
-use Rattle.model.specs.Trace.{Sound}
-use Rattle.model_laws.proofs.Kept.{corners-sound, named-first, no-refusal, unless-done, outcome-done, cut-no-refusal}
-use Rattle.model_laws.proofs.Indexed.{Pair, Indexed, sides-indexed, straddlers-indexed, crack-indexed}
+use Rattle.model.specs.Trace.{Different, Sound, Rowed}
+use Rattle.model_laws.proofs.Rows.{Pair, pair-from, pair-to}
+use Rattle.model_laws.proofs.Kept.{corners-sound, no-refusal, unless-done, outcome-done, cut-no-refusal}
+use Rattle.model_laws.proofs.Indexed.{Indexed, sides-indexed, straddlers-indexed, crack-indexed}
 use Rattle.model_laws.proofs.Inserted.{cut-indexed}
-use Rattle.model_laws.proofs.Laws.{both, all-from, all-to, stands-not}
+use Rattle.model_laws.proofs.Laws.{both, all-over, all-from, all-to}
 use Rattle.lists.proofs.Sifts.{and-true}
 
 -- ---- the test and what it says
 
-pair-from : (n a b : ℕ) → named n (a ∷ b ∷ []) ≡ true → Pair n a b
-pair-from n a b e =
-    let p = named-first n a (b ∷ []) e in
-    let q = named-first n b [] (p .2) in
-    let u = stands-not a b [] (p .1) in
-    record { first = p .0; second = q .0; differ = λ d. u .0 (sym d) }
+-- a row of w corners
+row-from : (w n : ℕ) (l : List ℕ) → (eqb (length l) w && named n l) ≡ true → Different w n l
+row-from w n l e = let p = and-true _ _ e in record { many = eqb-true _ _ (p .0); apart = p .1 }
 
-named-one : (n x : ℕ) (l : List ℕ) → x < n → stands x l ≡ false → named n l ≡ true → named n (x ∷ l) ≡ true
-unfolding named
-named-one n x l u s e = both (ltb x n && not (stands x l)) (named n l) (both (ltb x n) (not (stands x l)) (lt-ltb x n u) (ap not s)) e
-
-not-there : (x y : ℕ) (l : List ℕ) → (y ≡ x → ⊥) → stands x l ≡ false → stands x (y ∷ l) ≡ false
-not-there x y l n s = rw (ne-eqb y x n) s
-
-none-named : (n : ℕ) → named n [] ≡ true
-unfolding named
-none-named n = refl
-
-pair-to : (n a b : ℕ) → Pair n a b → named n (a ∷ b ∷ []) ≡ true
-pair-to n a b P = named-one n a (b ∷ []) (P .first) (not-there a b [] (λ d. P .differ (sym d)) refl) (named-one n b [] (P .second) refl (none-named n))
+row-to : (w n : ℕ) (l : List ℕ) → Different w n l → (eqb (length l) w && named n l) ≡ true
+row-to w n l D = both (eqb (length l) w) (named n l) (eq-eqb (length l) w (D .many)) (D .apart)
 
 sound-to : (n : ℕ) (t : Triangle) → Sound n t → cornersOk n t ≡ true
 unfolding cornersOk
-sound-to n t S =
-    named-one n (t .a) (t .b ∷ t .c ∷ []) (S .a) (not-there (t .a) (t .b) (t .c ∷ []) (λ d. S .ab (sym d)) (not-there (t .a) (t .c) [] (S .ca) refl))
-    (pair-to n (t .b) (t .c) (record { first = S .b; second = S .c; differ = S .bc }))
+sound-to n t S = row-to 3 n (t .corners) S
 
 -- the mesh passes the test exactly if it is indexed
 pub accepted-indexed : (M : Mesh) → indicesFit M ≡ true → Indexed M
@@ -69,7 +54,7 @@ accepted-indexed M e =
       roots = all-from (rootOk n) (λ (x : Particle). x .root < n) (λ x u. ltb-true (x .root) n u) (M .particles) (r .0);
       triangles = all-from (cornersOk n) (Sound n) (corners-sound n) (M .triangles) (r .1);
       edges = all-from (endsOk n) (λ (x : Edge). Pair n (x .a) (x .b)) (λ x u. pair-from n (x .a) (x .b) u) (M .edges) (q .1);
-      boundary = all-from (sideOk n) (λ (x : Side). Pair n (x .a) (x .b)) (λ x u. pair-from n (x .a) (x .b) u) (M .boundary) (p .1);
+      boundary = all-from (sideOk n) (λ (x : Side). Different 2 n (x .corners)) (λ x u. row-from 2 n (x .corners) u) (M .boundary) (p .1);
     }
 
 pub indexed-accepted : (M : Mesh) → Indexed M → indicesFit M ≡ true
@@ -84,7 +69,19 @@ indexed-accepted M X =
     (both (a && b) c
     (both a b (all-to (rootOk n) (λ (x : Particle). x .root < n) (λ x u. lt-ltb (x .root) n u) (M .particles) (X .roots)) (all-to (cornersOk n) (Sound n) (sound-to n) (M .triangles) (X .triangles)))
     (all-to (endsOk n) (λ (x : Edge). Pair n (x .a) (x .b)) (λ x u. pair-to n (x .a) (x .b) u) (M .edges) (X .edges)))
-    (all-to (sideOk n) (λ (x : Side). Pair n (x .a) (x .b)) (λ x u. pair-to n (x .a) (x .b) u) (M .boundary) (X .boundary))
+    (all-to (sideOk n) (λ (x : Side). Different 2 n (x .corners)) (λ x u. row-to 2 n (x .corners) u) (M .boundary) (X .boundary))
+
+-- its rows are as wide as those of a plane mesh
+pub indexed-rowed : (M : Mesh) → Indexed M → Rowed M
+indexed-rowed M X =
+    let n = length (M .particles) in
+    record {
+      triangles = all-over (Sound n) (λ (t : Triangle). length (t .corners) ≡ 3) (λ t S. S .many) (M .triangles) (X .triangles);
+      boundary = all-over (λ (s : Side). Different 2 n (s .corners)) (λ (s : Side). length (s .corners) ≡ 2) (λ s D. D .many) (M .boundary) (X .boundary);
+    }
+
+pub accepted-rowed : (M : Mesh) → indicesFit M ≡ true → Rowed M
+accepted-rowed M e = indexed-rowed M (accepted-indexed M e)
 
 -- ---- the calls
 

@@ -20,29 +20,24 @@ use Rattle.fan.specs.Groups.{groupsOf}
 use Rattle.model.specs.Mesh.{Particle, Triangle, Edge, Side, Mesh, blank, blankTriangle}
 use Rattle.model.specs.Elements.{Kind, Triangles, Straps, Nothing, Element, endsOf, sideEnds, farEnd, besides, trianglesFrom, element?, elementsOf, fanOf, gridOf}
 use Rattle.model.specs.Run.{Entry, Run, stepTo, splitsOf}
-use Rattle.model.specs.Split.{Part, Opening, openingOf, splits?, copyOf, portion, onlyAt, copied, groupAt, retargeted, moved, rewiredTriangles, rewiredStraps, ring, Best, better, scoreOf, scored, toward, edgeGroups, other?, calm, stayed, doubled, otherEdges, straddles, partGroup, sideGroup, turned, followed, facesOf, oneOrNone, onFacet, faceOn, opens?, facetsAt, crackFacets, atLongest, settled, splitMade, splitStep, splitBySides}
+use Rattle.model.specs.Split.{Part, Opening, openingOf, splits?, copyOf, portion, onlyAt, copied, groupAt, retargeted, moved, rewiredTriangles, rewiredStraps, ring, Best, better, scoreOf, scored, toward, edgeGroups, other?, calm, stayed, doubled, otherEdges, straddles, partGroup, sideGroup, turned, followed, sidesRound, facesOf, oneOrNone, onFacet, faceOn, opens?, facetsAt, crackFacets, atLongest, settled, splitMade, splitStep, splitBySides}
 use Rattle.model.specs.Pieces.{straddlersGone, withoutStraddlers, removeStraddlers}
 use Rattle.model.specs.Cut.{Blade, bladeSides, splitByBlade, splitFree, pinched, splitPinched, candidates, cutFacets, slack, slackened, atCopy, splitSnapped}
 use Rattle.model.specs.Crack.{Way, farSide, twoSided, meanLoad, wayAt, waysOf, hurt, damagedAt, torn, crackBy, crackPair, crackEdge, currentPair, loadsOf, tornEnds, crack}
-use Rattle.model.specs.Trace.{All, Sound}
-use Rattle.model_laws.proofs.Traced.{Fitting, opening-fits, order-fits, splits-here, copied-length, at-below, apart, inside, sound-step}
+use Rattle.model.specs.Trace.{All, Different, Sound}
+use Rattle.model_laws.proofs.Rows.{Pair, pair-to, three-from, different-wide}
+use Rattle.model_laws.proofs.Traced.{Fitting, opening-fits, order-fits, splits-here, copied-length, at-below, apart, inside, row-step, sound-step}
 use Rattle.model_laws.proofs.Laws.{false-true, pick-both, all-at, all-over, all-append, all-mapAt, pick-one, all-in, all-yes, all-map, all-eachOf, all-sift, all-upTo, all-pairs, all-rest, all-head, all-else, length-mapAt, Found, find-fits, stands-case}
 use Rattle.model_laws.proofs.Traced.{parts-all, Any, all-any}
 use Rattle.lists.proofs.Sifts.{and-true}
 
 -- ---- what refusal 3 checks
 
--- two different particles of n
-pub record Pair (n a b : ℕ) : Type 0 where
-  pub first : a < n
-  pub second : b < n
-  pub differ : a ≡ b → ⊥
-
 pub record Indexed (M : Mesh) : Type 0 where
   pub roots : All (λ (p : Particle). p .root < length (M .particles)) (M .particles)
   pub triangles : All (Sound (length (M .particles))) (M .triangles)
   pub edges : All (λ (e : Edge). Pair (length (M .particles)) (e .a) (e .b)) (M .edges)
-  pub boundary : All (λ (s : Side). Pair (length (M .particles)) (s .a) (s .b)) (M .boundary)
+  pub boundary : All (λ (s : Side). Different 2 (length (M .particles)) (s .corners)) (M .boundary)
 
 -- ---- lists
 
@@ -79,7 +74,7 @@ module _ (O : Opening) (two : 2 ≤ O .count) (below : All (λ (p : Part). p .gr
   unfolding sideGroup
   side-below M s = by (find (λ (p : Part). all (λ x. stands x (p .corners)) (sideEnds s)) (O .fan)) (find-fits (λ (p : Part). p .group < O .count) _ (O .fan) below)
     where
-      by : (o : Option Part) → Found (λ (p : Part). p .group < O .count) o → partGroup o (toward M O (pick (eqb (s .a) (O .v)) (s .b) (s .a))) < O .count
+      by : (o : Option Part) → Found (λ (p : Part). p .group < O .count) o → partGroup o (toward M O (headOr (O .v) (besides (O .v) (s .corners)))) < O .count
       by nothing h = toward-below M _
       by (some p) h = h
 
@@ -95,13 +90,13 @@ abbrev pub Ends : ℕ → Edge → Type 0
 Ends n e = Pair n (e .a) (e .b)
 
 abbrev pub Sides : ℕ → Side → Type 0
-Sides n s = Pair n (s .a) (s .b)
+Sides n s = Different 2 n (s .corners)
 
 pub wide : (n k a b : ℕ) → Pair n a b → Pair (n + k) a b
 wide n k a b P = record { first = let h = P .first in omega arith; second = let h = P .second in omega arith; differ = P .differ }
 
 pub sound-wide : (n k : ℕ) (t : Triangle) → Sound n t → Sound (n + k) t
-sound-wide n k t S = let a = S .a in let b = S .b in let c = S .c in record { a = omega arith; b = omega arith; c = omega arith; ab = S .ab; bc = S .bc; ca = S .ca }
+sound-wide n k t S = different-wide 3 n k (t .corners) S
 
 -- ---- one split
 
@@ -189,13 +184,20 @@ module _ (O : Opening) (two : 2 ≤ O .count) (low : O .v < O .before) (below : 
   followed-sides : (M : Mesh) (s : Side) → Sides (O .before) s → Sides after (followed M O s)
   unfolding followed after
   followed-sides M s P =
-      pick-both (Sides after) (stands (O .v) (sideEnds s)) (turned (O .v) (copyOf O (sideGroup M O s)) s) s (pair-step (sideGroup M O s) (s .a) (s .b) (side-below O two below M s) P) (wide _ _ (s .a) (s .b) P)
+      pick-both (Sides after) (stands (O .v) (sideEnds s)) (turned (O .v) (copyOf O (sideGroup M O s)) s) s (row-step (O .before) (O .v) (O .count - 1) (sideGroup M O s) low (let u = side-below O two below M s in omega arith) 2 (s .corners) P) (different-wide 2 (O .before) (O .count - 1) (s .corners) P)
 
   faces-sides : (n : ℕ) (t : Triangle) → Sound n t → All (Sides n) (facesOf t)
-  faces-sides n t S = (
-    record { first = S .a; second = S .b; differ = S .ab },
-    (record { first = S .b; second = S .c; differ = S .bc }, (record { first = S .c; second = S .a; differ = S .ca }, tt)),
-  )
+  faces-sides n t S = by (t .corners) S
+    where
+      side : (a b : ℕ) → a < n → b < n → (a ≡ b → ⊥) → Different 2 n (a ∷ b ∷ [])
+      side a b p q d = record { many = refl; apart = pair-to n a b (record { first = p; second = q; differ = d }) }
+
+      by : (l : List ℕ) → Different 3 n l → All (Sides n) (sidesRound l)
+      by [] D = tt
+      by (a ∷ []) D = absurd (omega (arith, D .many))
+      by (a ∷ b ∷ []) D = absurd (omega (arith, D .many))
+      by (a ∷ b ∷ c ∷ []) D = let T = three-from n a b c (D .apart) in (side a b (T .a) (T .b) (T .ab), (side b c (T .b) (T .c) (T .bc), (side c a (T .c) (T .a) (T .ca), tt)))
+      by (a ∷ b ∷ c ∷ d ∷ l) D = absurd (omega (arith, D .many))
 
   one-all : {A : Type 0} (P : A → Type 0) (o : Option A) → Found P o → All P (oneOrNone o)
   one-all P nothing h = tt

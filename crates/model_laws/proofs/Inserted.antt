@@ -15,8 +15,9 @@ use Rattle.model.specs.Elements.{Kind, Triangles, Straps, Nothing, Element, edg
 use Rattle.model.specs.Run.{Run, stepTo}
 use Rattle.model.specs.Split.{onlyAt}
 use Rattle.model.specs.Cut.{Blade, roundly, meets, Crossing, crossingAt, crossings, Insertion, insertionOf, half-a, half-b, left-over, insertable, lightened, between, insertedParticles, halfOf, insertedEdges, same, shortened, appended, insertedSides, insertedMesh, insertStep, Strapping, strapping, insertedAt, snappedAt, crossed, unbent, splitSnapped, afterCrossings, cutSegments, markedBy, cutAlong, cut}
-use Rattle.model.specs.Trace.{All, Sound}
-use Rattle.model_laws.proofs.Indexed.{Pair, Indexed, Ends, Sides, wide, sound-wide, fold-indexed, facets-indexed, snapped-indexed}
+use Rattle.model.specs.Trace.{All, Different, Sound}
+use Rattle.model_laws.proofs.Rows.{Pair, pair-to, different-wide}
+use Rattle.model_laws.proofs.Indexed.{Indexed, Ends, Sides, wide, sound-wide, fold-indexed, facets-indexed, snapped-indexed}
 use Rattle.model_laws.proofs.Steps.{runOf}
 use Rattle.model_laws.proofs.Marks.{marked-mesh}
 use Rattle.model_laws.proofs.Laws.{pick-both, all-over, all-append, all-mapAt, all-in, all-map, all-eachOf, all-siftAt, length-mapAt}
@@ -68,17 +69,20 @@ module _ (M : Mesh) (X : Indexed M) (I : Insertion) (before : I .before ≡ leng
       (λ i e Q. pick-both (Ends (I .before + 2)) (eqb i (I .number)) (halfOf (I .edge) (I .edge .a) (I .before) (I .t)) e (half-first (I .t)) Q) (M .edges) old)
       (half-second (left-over I), tt)
 
-  first-old : Sides (I .before + 2) (record { a = I .edge .a; b = I .before })
-  first-old = let h = P .first in record { first = omega arith; second = omega arith; differ = λ d. omega arith }
+  two : (a b : ℕ) → Pair (I .before + 2) a b → Different 2 (I .before + 2) (a ∷ b ∷ [])
+  two a b Q = record { many = refl; apart = pair-to (I .before + 2) a b Q }
 
-  second-old : Sides (I .before + 2) (record { a = I .edge .b; b = I .before + 1 })
-  second-old = let h = P .second in record { first = omega arith; second = omega arith; differ = λ d. omega arith }
+  first-old : Sides (I .before + 2) (record { corners = I .edge .a ∷ I .before ∷ [] })
+  first-old = let h = P .first in two _ _ (record { first = omega arith; second = omega arith; differ = λ d. omega arith })
 
-  new-second : Sides (I .before + 2) (record { a = I .before + 1; b = I .edge .b })
-  new-second = let h = P .second in record { first = omega arith; second = omega arith; differ = λ d. omega arith }
+  second-old : Sides (I .before + 2) (record { corners = I .edge .b ∷ (I .before + 1) ∷ [] })
+  second-old = let h = P .second in two _ _ (record { first = omega arith; second = omega arith; differ = λ d. omega arith })
 
-  new-first : Sides (I .before + 2) (record { a = I .before; b = I .edge .a })
-  new-first = let h = P .first in record { first = omega arith; second = omega arith; differ = λ d. omega arith }
+  new-second : Sides (I .before + 2) (record { corners = (I .before + 1) ∷ I .edge .b ∷ [] })
+  new-second = let h = P .second in two _ _ (record { first = omega arith; second = omega arith; differ = λ d. omega arith })
+
+  new-first : Sides (I .before + 2) (record { corners = I .before ∷ I .edge .a ∷ [] })
+  new-first = let h = P .first in two _ _ (record { first = omega arith; second = omega arith; differ = λ d. omega arith })
 
   abbrev Good : Side → Type 0
   Good = Sides (I .before + 2)
@@ -86,19 +90,19 @@ module _ (M : Mesh) (X : Indexed M) (I : Insertion) (before : I .before ≡ leng
   short-good : (s : Side) → Good s → Good (shortened (I .edge .a) (I .edge .b) (I .before) (I .before + 1) s)
   unfolding shortened
   short-good s Q =
-      pick-both Good (same s (I .edge .a) (I .edge .b)) (record { a = I .edge .a; b = I .before }) (pick (same s (I .edge .b) (I .edge .a)) (record { a = I .edge .b; b = I .before + 1 }) s) first-old
-      (pick-both Good (same s (I .edge .b) (I .edge .a)) (record { a = I .edge .b; b = I .before + 1 }) s second-old Q)
+      pick-both Good (same s (I .edge .a) (I .edge .b)) (record { corners = I .edge .a ∷ I .before ∷ [] }) (pick (same s (I .edge .b) (I .edge .a)) (record { corners = I .edge .b ∷ (I .before + 1) ∷ [] }) s) first-old
+      (pick-both Good (same s (I .edge .b) (I .edge .a)) (record { corners = I .edge .b ∷ (I .before + 1) ∷ [] }) s second-old Q)
 
   app-good : (s : Side) → All Good (appended (I .edge .a) (I .edge .b) (I .before) (I .before + 1) s)
   unfolding appended
   app-good s =
-      pick-both (All Good) (same s (I .edge .a) (I .edge .b)) (record { a = I .before + 1; b = I .edge .b } ∷ []) (pick (same s (I .edge .b) (I .edge .a)) (record { a = I .before; b = I .edge .a } ∷ []) []) (new-second, tt)
-      (pick-both (All Good) (same s (I .edge .b) (I .edge .a)) (record { a = I .before; b = I .edge .a } ∷ []) [] (new-first, tt) tt)
+      pick-both (All Good) (same s (I .edge .a) (I .edge .b)) (record { corners = (I .before + 1) ∷ I .edge .b ∷ [] } ∷ []) (pick (same s (I .edge .b) (I .edge .a)) (record { corners = I .before ∷ I .edge .a ∷ [] } ∷ []) []) (new-second, tt)
+      (pick-both (All Good) (same s (I .edge .b) (I .edge .a)) (record { corners = I .before ∷ I .edge .a ∷ [] } ∷ []) [] (new-first, tt) tt)
 
   sides : All Good (insertedSides I (M .boundary))
   unfolding insertedSides
   sides =
-      let old = all-over (Sides (length (M .particles))) Good (λ s Q. wide (I .before) 2 (s .a) (s .b) (subst (λ (n : ℕ). Sides n s) (sym before) Q)) (M .boundary) (X .boundary) in
+      let old = all-over (Sides (length (M .particles))) Good (λ s Q. different-wide 2 (I .before) 2 (s .corners) (subst (λ (n : ℕ). Sides n s) (sym before) Q)) (M .boundary) (X .boundary) in
       all-append Good (map (shortened (I .edge .a) (I .edge .b) (I .before) (I .before + 1)) (M .boundary)) (each (appended (I .edge .a) (I .edge .b) (I .before) (I .before + 1)) (M .boundary))
       (all-map Good Good (shortened (I .edge .a) (I .edge .b) (I .before) (I .before + 1)) short-good (M .boundary) old)
       (all-eachOf Good Good (appended (I .edge .a) (I .edge .b) (I .before) (I .before + 1)) (λ s Q. app-good s) (M .boundary) old)

@@ -5,7 +5,7 @@ use mathlib.Core.Bool.{Bool, true, false, not, _&&_}
 use mathlib.Core.List.{List, [], _∷_}
 use Prim.Native.Nat.{ℕ, zero, suc, _<_}
 use native.Mathlib.Omega.{arith}
-use borrow.Author.Tests.{ltb-true, not-true}
+use borrow.Author.Tests.{eqb-true}
 use lib.ListN.{length}
 use lib.Ieee.{Float}
 use Rattle.lists.specs.Lists.{pick, stands, all}
@@ -22,29 +22,15 @@ use Rattle.model.specs.Trace.{All, Sound, Traced, Held, Kept}
 use Rattle.model_laws.proofs.Traced.{start-traced, sides-traced, cut-traced, crack-traced, straddlers-traced}
 use Rattle.model_laws.proofs.Holding.{start-held, sides-held, cut-held, crack-held, straddlers-held}
 use Rattle.model_laws.proofs.Splitting.{Sided, sides-accepted}
-use Rattle.model_laws.proofs.Laws.{false-true, stands-not}
+use Rattle.model_laws.proofs.Laws.{false-true}
 use Rattle.model_laws.proofs.Marks.{marked-splits}
 use Rattle.lists.proofs.Sifts.{and-true}
 
 -- ---- an accepted mesh
 
-pub named-first : (n x : ℕ) (l : List ℕ) → named n (x ∷ l) ≡ true → (x < n) × (stands x l ≡ false) × (named n l ≡ true)
-unfolding named
-named-first n x l e =
-    let p = and-true _ _ e in
-    let q = and-true _ _ (p .0) in
-    (ltb-true x n (q .0), not-true _ (q .1), p .1)
-
 pub corners-sound : (n : ℕ) (t : Triangle) → cornersOk n t ≡ true → Sound n t
 unfolding cornersOk
-corners-sound n t e =
-    let p = named-first n (t .a) (t .b ∷ t .c ∷ []) e in
-    let q = named-first n (t .b) (t .c ∷ []) (p .2) in
-    let r = named-first n (t .c) [] (q .2) in
-    let u = stands-not (t .a) (t .b) (t .c ∷ []) (p .1) in
-    let w = stands-not (t .a) (t .c) [] (u .1) in
-    let z = stands-not (t .b) (t .c) [] (q .1) in
-    record { a = p .0; b = q .0; c = r .0; ab = λ d. u .0 (sym d); bc = λ d. z .0 (sym d); ca = w .0 }
+corners-sound n t e = let p = and-true _ _ e in record { many = eqb-true _ _ (p .0); apart = p .1 }
 
 all-sound : (n : ℕ) (ts : List Triangle) → all (cornersOk n) ts ≡ true → All (Sound n) ts
 unfolding all

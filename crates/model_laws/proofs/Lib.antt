@@ -2,6 +2,8 @@
 
 -- laws of lists
 pub mod Laws
+-- rows of different particles
+pub mod Rows
 -- nothing reads the marks of a cut's crossings
 pub mod Marks
 -- what every rule of a blade gives

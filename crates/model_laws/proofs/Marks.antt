@@ -18,6 +18,7 @@ use Rattle.model.specs.Run.{Entry, Need, Rooms, Run, start, stepTo, splitOf, sp
 use Rattle.model.specs.Split.{Opening, openingOf, splits?, splitMade, splitStep, splitBySides}
 use Rattle.model.specs.Cut.{Blade, roundly, splitByBlade, splitFree, splitEnds, nearCorners, pinched, splitPinched, candidates, cutFacets, Crossing, crossings, insertionOf, insertable, bendsOver, insertStep, Strapping, strapping, insertedAt, snappedAt, crossed, unbent, splitSnapped, afterCrossings, cutSegments, meets, markAt, markOf, marksOf, markedBy, cutAlong, cut}
 use Rattle.model.specs.Calls.{tooSmall, firstFault, Outcome, refused, done, fitted, outcome}
+use Rattle.model.specs.Trace.{Threes}
 use Rattle.model_laws.proofs.Laws.{each-append}
 
 -- ---- a mark tells of no split and of no change
@@ -74,15 +75,26 @@ each-few n f k (a ∷ l) =
 pair-few : (B : Blade) (M : Mesh) (l : List (ℕ × ℕ)) → length (each (markOf B M) l) ≤ length l
 pair-few B M l = let h = each-few 1 (markOf B M) (λ xy. hit-few xy (meets B M (xy .0) (xy .1))) l in omega arith
 
-triangle-few : (B : Blade) (M : Mesh) (i : ℕ) (ts : List Triangle) → length (each (λ (e : Element). each (markOf B M) (pairs (e .corners))) (trianglesFrom i ts)) ≤ 3 * length ts
+-- three corners have three pairs
+pairs-few : (l : List ℕ) → length l ≡ 3 → length (pairs l) ≤ 3
+unfolding pairs
+pairs-few [] e = absurd (omega (arith, e))
+pairs-few (a ∷ []) e = absurd (omega (arith, e))
+pairs-few (a ∷ b ∷ []) e = absurd (omega (arith, e))
+pairs-few (a ∷ b ∷ c ∷ []) e = omega arith
+pairs-few (a ∷ b ∷ c ∷ d ∷ l) e = absurd (omega (arith, e))
+
+triangle-few : (B : Blade) (M : Mesh) (i : ℕ) (ts : List Triangle) → Threes ts → length (each (λ (e : Element). each (markOf B M) (pairs (e .corners))) (trianglesFrom i ts)) ≤ 3 * length ts
 unfolding trianglesFrom each pairs
-triangle-few B M i [] = omega arith
-triangle-few B M i (t ∷ ts) =
+triangle-few B M i [] w = omega arith
+triangle-few B M i (t ∷ ts) w =
     let mine = each (markOf B M) (pairs (cornersOf t)) in
     let rest = each (λ (e : Element). each (markOf B M) (pairs (e .corners))) (trianglesFrom (suc i) ts) in
     let e = length-append mine rest in
-    let h : length mine ≤ 3 = pair-few B M (pairs (cornersOf t)) in
-    let r : length rest ≤ 3 * length ts = triangle-few B M (suc i) ts in
+    let p = pairs-few (cornersOf t) (w .0) in
+    let q = pair-few B M (pairs (cornersOf t)) in
+    let h : length mine ≤ 3 = omega arith in
+    let r : length rest ≤ 3 * length ts = triangle-few B M (suc i) ts (w .1) in
     omega (arith, e, h, r)
 
 strap-few : (B : Blade) (M : Mesh) (i : ℕ) (es : List Edge) → length (each (λ (e : Element). each (markOf B M) (pairs (e .corners))) (strapsFrom i es)) ≤ length es
@@ -100,11 +112,11 @@ strap-few B M i (x ∷ es) = by (structural? x) (strap-few B M (suc i) es)
     by false r = omega (arith, r)
 
 -- the marks of a mesh of at most t triangles and e edges
-pub marks-few : (k : Kind) (B : Blade) (M : Mesh) (t e : ℕ) → length (M .triangles) ≤ t → length (M .edges) ≤ e → e ≤ 3 * t → length (marksOf k B M) ≤ 3 * t
+pub marks-few : (k : Kind) (B : Blade) (M : Mesh) (t e : ℕ) → Threes (M .triangles) → length (M .triangles) ≤ t → length (M .edges) ≤ e → e ≤ 3 * t → length (marksOf k B M) ≤ 3 * t
 unfolding marksOf elementsOf each
-marks-few Triangles B M t e ht he hte = let r = triangle-few B M 0 (M .triangles) in omega (arith, r)
-marks-few Straps B M t e ht he hte = let r = strap-few B M 0 (M .edges) in omega (arith, r)
-marks-few Nothing B M t e ht he hte = omega arith
+marks-few Triangles B M t e w ht he hte = let r = triangle-few B M 0 (M .triangles) w in omega (arith, r)
+marks-few Straps B M t e w ht he hte = let r = strap-few B M 0 (M .edges) in omega (arith, r)
+marks-few Nothing B M t e w ht he hte = omega arith
 
 -- ---- the marked run
 

@@ -25,9 +25,10 @@ use Rattle.model.specs.Pieces.{bodyLabels, across?, withoutStraddlers, straddle
 use Rattle.model.specs.Cut.{Blade, splitByBlade, splitFree, splitPinched, pinched, candidates, cutFacets, slackened}
 use Rattle.model.specs.Crack.{Way, farSide, twoSided, meanLoad, damagedAt, torn, crackBy, crackPair, crackEdge, currentPair, waysOf, wayAt, inOrder, before?, loadsOf, tornEnds, crack}
 use mathlib.Core.Option.{Option, none as nothing, some}
-use Rattle.model.specs.Trace.{All, originOf, Sound, tracedBack, Traced}
+use Rattle.model.specs.Trace.{All, originOf, Different, Sound, tracedBack, Traced}
+use Rattle.model_laws.proofs.Rows.{named-below, different-mapped}
 use Rattle.model_laws.proofs.Laws.{false-true, all-at, all-set, all-replicate, all-over, all-mapAt, all-tab, tab-all, pick-one, all-yes, length-mapAt, map-mapAt, each-append, Found, find-fits}
-use Rattle.lists.proofs.Sifts.{and-true}
+use Rattle.lists.proofs.Sifts.{and-true, map-ext}
 
 -- ---- lists
 
@@ -108,25 +109,21 @@ module _ (n v k g : ℕ) (o : v < n) (l : g < suc k) where
       (λ a. ap (originOf (copiesFrom n v k)) (a .1) ∙ origin-low n v (copiesFrom n v k) (copies-are n v k) c p)
       (replaced-case v (copyFor v n g) c)
 
-  pub sound-step : (t : Triangle) → Sound n t → Sound (n + k) (retargeted v (copyFor v n g) t)
-  sound-step t S =
-      record {
-        a = inside (t .a) (S .a);
-        b = inside (t .b) (S .b);
-        c = inside (t .c) (S .c);
-        ab = apart (t .a) (t .b) (S .a) (S .b) (S .ab);
-        bc = apart (t .b) (t .c) (S .b) (S .c) (S .bc);
-        ca = apart (t .c) (t .a) (S .c) (S .a) (S .ca);
-      }
+  -- a row of different particles stays one
+  pub row-step : (w : ℕ) (l : List ℕ) → Different w n l → Different w (n + k) (map (replaced v (copyFor v n g)) l)
+  row-step w l D = different-mapped n (n + k) (replaced v (copyFor v n g)) inside apart w l D
 
-  back-step : (t : Triangle) → Sound n t → map (originOf (copiesFrom n v k)) (cornersOf (retargeted v (copyFor v n g) t)) ≡ cornersOf t
-  back-step t S = rw (undone (t .a) (S .a), undone (t .b) (S .b), undone (t .c) (S .c))
+  pub sound-step : (t : Triangle) → Sound n t → Sound (n + k) (retargeted v (copyFor v n g) t)
+  sound-step t S = row-step 3 (t .corners) S
+
+  -- of each corner of a row
+  row-back : (S : List (ℕ × ℕ)) (l : List ℕ) → All (λ x. x < n) l → map (originOf (S ++ copiesFrom n v k)) (map (replaced v (copyFor v n g)) l) ≡ map (originOf S) l
+  row-back S [] h = refl
+  row-back S (c ∷ l) h =
+      ap₂ (λ (x : ℕ) (r : List ℕ). x ∷ r) (origin-append S (copiesFrom n v k) (replaced v (copyFor v n g) c) ∙ ap (originOf S) (undone c (h .0))) (row-back S l (h .1))
 
   back-over : (S : List (ℕ × ℕ)) (t : Triangle) → Sound n t → map (originOf (S ++ copiesFrom n v k)) (cornersOf (retargeted v (copyFor v n g) t)) ≡ map (originOf S) (cornersOf t)
-  back-over S t U =
-      let e : (c : ℕ) → c < n → originOf (S ++ copiesFrom n v k) (replaced v (copyFor v n g) c) ≡ originOf S c
-      = λ c p. origin-append S (copiesFrom n v k) (replaced v (copyFor v n g) c) ∙ ap (originOf S) (undone c p) in
-      rw (e (t .a) (U .a), e (t .b) (U .b), e (t .c) (U .c))
+  back-over S t U = row-back S (t .corners) (named-below n (t .corners) (U .apart))
 
 -- ---- groups lie below their count
 
@@ -300,9 +297,13 @@ unfolding fold
 fold-traced M₀ g k R [] T = T
 fold-traced M₀ g k R (a ∷ l) T = fold-traced M₀ g k (g R a) l (k R a T)
 
+map-self : (l : List ℕ) → map (λ x. x) l ≡ l
+map-self [] = refl
+map-self (x ∷ l) = ap (λ (r : List ℕ). x ∷ r) (map-self l)
+
 pub start-traced : (M : Mesh) → All (Sound (length (M .particles))) (M .triangles) → Traced M (start M)
 unfolding start originOf splitsOf each
-start-traced M S = record { sound = S; back = refl }
+start-traced M S = record { sound = S; back = map-ext (λ (t : Triangle). map (λ x. x) (cornersOf t)) cornersOf (λ t. map-self (cornersOf t)) (M .triangles) }
 
 -- ---- the cut
 

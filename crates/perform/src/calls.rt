@@ -323,9 +323,9 @@ pub fn run(
     }
     let k = Counts {
         particles: in_points.len() / mesh::POINT_COLUMNS,
-        triangles: in_corners.len() / 3,
-        edges: in_ends.len() / 4,
-        boundary: in_outline.len() / 2,
+        triangles: in_corners.len() / mesh::CORNER_COLUMNS,
+        edges: in_ends.len() / mesh::END_COLUMNS,
+        boundary: in_outline.len() / mesh::SIDE_COLUMNS,
         log: 0,
     };
     let mut gone = [0usize; edge_drops::LIST];

@@ -16,6 +16,8 @@ use Rattle.lists.proofs.Chains.{chain-map, chain-to}
 use Rattle.lists.proofs.Labelled.{labelled-joined, labelled-ext}
 use Rattle.lists.proofs.Sifts.{and-true, true-and, sift-stands}
 use Rattle.fan.specs.Fan.{Distinct}
+use Rattle.model.specs.Trace.{Threes}
+use Rattle.model_laws.proofs.Accepted.{accepted-rowed}
 use Rattle.model.specs.Mesh.{Triangle, Edge, Mesh}
 use Rattle.model.specs.Elements.{Kind, Triangles, Straps, Nothing, Element, kindOf, elementsOf, cornersPer, structural?, strapElement, trianglesFrom, strapsFrom}
 use Rattle.model.specs.Valid.{indicesFit}
@@ -261,11 +263,11 @@ count-any-order k es fs p q v w same =
     omega arith
 
 -- the elements of a mesh have as many corners as its kind says
-triangles-whole : (i : ℕ) (ts : List Triangle) → Whole 3 (trianglesFrom i ts)
+triangles-whole : (i : ℕ) (ts : List Triangle) → Threes ts → Whole 3 (trianglesFrom i ts)
 unfolding trianglesFrom
-triangles-whole i [] j l = absurd (not-suc-le-zero l)
-triangles-whole i (t ∷ ts) zero l = refl
-triangles-whole i (t ∷ ts) (suc j) l = triangles-whole (suc i) ts j (le-of-suc-le-suc l)
+triangles-whole i [] h j l = absurd (not-suc-le-zero l)
+triangles-whole i (t ∷ ts) h zero l = h .0
+triangles-whole i (t ∷ ts) h (suc j) l = triangles-whole (suc i) ts (h .1) j (le-of-suc-le-suc l)
 
 straps-whole : (i : ℕ) (es : List Edge) → Whole 2 (strapsFrom i es)
 unfolding strapsFrom
@@ -277,11 +279,11 @@ straps-whole i (a ∷ es) j l = by (structural? a) (straps-whole (suc i) es) j l
     by true h (suc j) l = h j (le-of-suc-le-suc l)
     by false h j l = h j l
 
-pub whole-elements : (K : Kind) (M : Mesh) → Whole (cornersPer K) (elementsOf K M)
+pub whole-elements : (K : Kind) (M : Mesh) → indicesFit M ≡ true → Whole (cornersPer K) (elementsOf K M)
 unfolding elementsOf
-whole-elements Triangles M i l = triangles-whole 0 (M .triangles) i l
-whole-elements Straps M i l = straps-whole 0 (M .edges) i l
-whole-elements Nothing M i l = absurd (not-suc-le-zero l)
+whole-elements Triangles M e i l = triangles-whole 0 (M .triangles) (accepted-rowed M e .triangles) i l
+whole-elements Straps M e i l = straps-whole 0 (M .edges) i l
+whole-elements Nothing M e i l = absurd (not-suc-le-zero l)
 
 -- The count does not depend on the order of the elements, nor on that of their corners.
 pub any-order : (M N : Mesh) → indicesFit M ≡ true → indicesFit N ≡ true → kindOf M ≡ kindOf N → SameElements (elementsOf (kindOf M) M) (elementsOf (kindOf N) N) → pieces M ≡ pieces N
@@ -290,6 +292,6 @@ any-order M N m n e same = by (kindOf M) (kindOf N) e same
   where
     by : (J K : Kind) → J ≡ K → SameElements (elementsOf J M) (elementsOf K N) → pieceCount (cornersPer J) (elementsOf J M) ≡ pieceCount (cornersPer K) (elementsOf K N)
     by J K d s =
-        count-any-order (cornersPer J) (elementsOf J M) (elementsOf K N) (plain-elements J M m) (plain-elements K N n) (whole-elements J M)
-        (rw d (whole-elements K N)) s
+        count-any-order (cornersPer J) (elementsOf J M) (elementsOf K N) (plain-elements J M m) (plain-elements K N n) (whole-elements J M m)
+        (rw d (whole-elements K N n)) s
         ∙ ap (λ (H : Kind). pieceCount (cornersPer H) (elementsOf K N)) d

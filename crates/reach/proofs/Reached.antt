@@ -125,7 +125,7 @@ named-distinct n (x ∷ l) e =
 triangles-plain : (n i : ℕ) (ts : List Triangle) → all (cornersOk n) ts ≡ true → (j : ℕ) → j < length (trianglesFrom i ts) → Distinct (cornersAt (trianglesFrom i ts) j)
 unfolding trianglesFrom all cornersOk
 triangles-plain n i [] e j l = absurd (not-suc-le-zero l)
-triangles-plain n i (t ∷ ts) e zero l = named-distinct n (cornersOf t) (and-true _ _ e .0)
+triangles-plain n i (t ∷ ts) e zero l = named-distinct n (cornersOf t) (and-true (eqb (length (t .corners)) 3) (named n (t .corners)) (and-true (cornersOk n t) (all (cornersOk n) ts) e .0) .1)
 triangles-plain n i (t ∷ ts) e (suc j) l = triangles-plain n (suc i) ts (and-true (cornersOk n t) (all (cornersOk n) ts) e .1) j (le-of-suc-le-suc l)
 
 straps-by : (i : ℕ) (a : Edge) (es : List Edge) (t : Bool) → Distinct (endsOf a) → ((j : ℕ) → j < length (strapsFrom (suc i) es) → Distinct (cornersAt (strapsFrom (suc i) es) j))

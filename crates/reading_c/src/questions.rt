@@ -179,8 +179,8 @@ fn ask(
     out: &mut [u8],
 ) -> u32
     requires { ⌜ length (now list) ≤ 2049 ⌝ }
-    ensures { λ r. ⌜ (let G = givenBefore points roots corners volumes ends lengths outline in
-        Replied (questionCall (questionOf q) (sizesFit G) (meshOf G) (now (list .entry))) (length (now (out .entry))) r (now (out .exit))) ⌝ }
+    ensures { λ r. ⌜ (let G = givenBefore points roots corners volumes ends lengths outline in Replied (questionCall (questionOf q)
+        (sizesFit G) (meshOf G) (now (list .entry))) (length (now (out .entry))) r (now (out .exit))) ⌝ }
 {
     match q {
         Asked::Opens(v, minimum) => {
@@ -335,13 +335,13 @@ fn ask_large(q: Asked, list: &[usize], bytes: &[u8], out: &mut [u8]) -> u32
     ensures { λ r. ⌜ Replied (questionReply (questionOf q) (now (bytes .entry)) (now (list .entry))) (length (now (out .entry))) r
         (now (out .exit)) ⌝ }
 {
-    let mut points = [0.0f32; 1024 * mesh::POINT_COLUMNS];
-    let mut roots = [0usize; 2048];
-    let mut corners = [0usize; 3072];
-    let mut volumes = [0.0f32; 2048];
-    let mut ends = [0usize; 8192];
-    let mut lengths = [0.0f32; 8192];
-    let mut outline = [0usize; 4096];
+    let mut points = [0.0f32; mesh::PARTICLES * mesh::POINT_COLUMNS];
+    let mut roots = [0usize; mesh::ROOT_COLUMNS * mesh::PARTICLES];
+    let mut corners = [0usize; mesh::CORNER_COLUMNS * mesh::TRIANGLES];
+    let mut volumes = [0.0f32; mesh::VOLUME_COLUMNS * mesh::TRIANGLES];
+    let mut ends = [0usize; mesh::END_COLUMNS * mesh::EDGES];
+    let mut lengths = [0.0f32; mesh::LENGTH_COLUMNS * mesh::EDGES];
+    let mut outline = [0usize; mesh::SIDE_COLUMNS * mesh::BOUNDARY];
     ask_within(
         q,
         list,

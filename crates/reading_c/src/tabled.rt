@@ -19,7 +19,7 @@ use readings::Count;
 use readings::Number;
 
 // The most elements of a mesh.
-const MOST: usize = 2048;
+const MOST: usize = mesh::ELEMENTS;
 
 // The measure of an image, by three lent tables.
 fn sum_by(bytes: &[u8], numbers: &mut [usize], verts: &mut [usize], measures: &mut [f32]) -> f32
@@ -80,7 +80,7 @@ fn pieces_by(
         × (length (now verts) ≤ length (now links)) × (length (now verts) ≤ length (now lows)) ⌝ }
     ensures { λ r. ⌜ r ≡ piecesOf (meshOf (imageOf (now (bytes .entry)))) ⌝ }
 {
-    let mut heads = [0u16; 4096];
+    let mut heads = [0u16; mesh::ELEMENT_CORNERS];
     let s = image_elements::image_table(bytes, numbers, verts, measures);
     let n = s.n;
     pieces::sides::count_sides(n, s.k, verts, &mut heads, links, lows, &mut numbers[..n])

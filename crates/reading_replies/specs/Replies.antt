@@ -11,6 +11,7 @@ use Rattle.blade.specs.declared.Hit.{Hit}
 use Rattle.blade.specs.declared.Hit.the-variants.{Miss, Hit as HitAt}
 use Rattle.model.specs.Calls.{refusal}
 use Rattle.model.specs.Reads.{Read, refused, value, rootCall, bladeCall, restMeasureCall, piecesCall, opensCall, groupsCall, restMeasureOfCall}
+use Rattle.model.specs.Refusals.{argumentRefusal}
 use Rattle.mesh.specs.Given.{meshOf}
 use Rattle.image.specs.Words.{wordAt, wordsFrom, numberOf}
 use Rattle.image.specs.Image.{imageOf, imageSized}
@@ -59,7 +60,7 @@ pointAt s i = record { x = numberOf (wordAt s i); y = numberOf (wordAt s (i + 1)
 
 -- the blade test on eight words
 unfoldable pub bladeReply : List ℕ → Read (List ℕ)
-bladeReply s = pick (eqb (length s) 32) (testedWords (bladeCall (record { from = pointAt s 0; to = pointAt s 2 }) (pointAt s 4) (pointAt s 6))) (refused 4)
+bladeReply s = pick (eqb (length s) 32) (testedWords (bladeCall (record { from = pointAt s 0; to = pointAt s 2 }) (pointAt s 4) (pointAt s 6))) (refused argumentRefusal)
 
 -- the pieces, and the measure, of the mesh that an image is
 unfoldable pub piecesReply : List ℕ → Read (List ℕ)

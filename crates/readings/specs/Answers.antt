@@ -9,6 +9,7 @@ use lib.Ieee.{Float}
 use Rattle.lists.specs.Lists.{pick, padded}
 use Rattle.blade.specs.declared.Hit.{Hit}
 use Rattle.model.specs.Reads.{Read, refused, value}
+use Rattle.model.specs.Refusals.{argumentRefusal}
 use Rattle.readings.specs.declared.Number.{Number}
 use Rattle.readings.specs.declared.Number.the-variants.{Refused as NumberRefused, Value}
 use Rattle.readings.specs.declared.Count.{Count}
@@ -43,7 +44,7 @@ testedOf (value x) = TestedAs x
 -- a table with fewer places than there are groups to show, one for each element of the fan, is a bad argument
 abbrev pub placedIn : ℕ → Read (List ℕ × ℕ) → Read (List ℕ × ℕ)
 placedIn lent (refused n) = refused n
-placedIn lent (value gs) = pick (leb (length (gs .0)) lent) (value gs) (refused 4)
+placedIn lent (value gs) = pick (leb (length (gs .0)) lent) (value gs) (refused argumentRefusal)
 
 -- the answer is the number of groups
 abbrev pub groupCount : Read (List ℕ × ℕ) → Count

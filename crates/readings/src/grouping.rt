@@ -11,6 +11,7 @@ ghost use Rattle.judge.specs.Checks.{faultOf};
 ghost use Rattle.readings.specs.Fans.{FanAsked, GroupsFilled, WalkAsked, WalksIn, Roomy, GroupsBy};
 ghost use Rattle.readings.specs.Answers.{GroupsAnswered, truthOf};
 ghost use Rattle.mesh.specs.Blocks.{givenIn, givenBefore};
+ghost use Rattle.mesh.specs.Widths.{cornerColumns, endColumns};
 use crate::Count;
 use crate::Truth;
 use arguments::tests;
@@ -52,12 +53,13 @@ fn groups_by(
     verts: &mut [usize],
     groups: &mut [usize],
 ) -> Count
-    requires { ⌜ (length (now corners) / 3 ≤ 1024) × (length (now ends) / 4 ≤ 2048) × Roomy (length (now sides)) (length (now verts)) ⌝ }
+    requires { ⌜ (length (now corners) / cornerColumns ≤ 1024) × (length (now ends) / endColumns ≤ 2048) × Roomy (length (now sides))
+        (length (now verts)) ⌝ }
     ensures { λ r. ⌜ GroupsBy p v (now (corners .entry)) (now (ends .entry)) (now (sides .entry)) (length (now (groups .entry))) r
         (now (groups .exit)) ⌝ }
 {
-    let t = corners.len() / 3;
-    let e = ends.len() / 4;
+    let t = corners.len() / mesh::CORNER_COLUMNS;
+    let e = ends.len() / mesh::END_COLUMNS;
     let kind = elements::kind_of(t, e, ends);
     let n = fans::fan_corners(kind, v, t, e, corners, ends, verts);
     let fit = tests::sides_fit(v, p, sides, n);
@@ -69,7 +71,7 @@ fn groups_by(
         return Count::Counted(fill_groups(&verts[..end], k, v, others, sides, groups));
     }
     columns::clear_usize(0, groups);
-    Count::Refused(4)
+    Count::Refused(mesh::refusals::ARGUMENT)
 }
 
 // The groups that few sides make, by a small table.
@@ -81,7 +83,7 @@ fn few_groups(
     sides: &[usize],
     groups: &mut [usize],
 ) -> Count
-    requires { ⌜ (length (now corners) / 3 ≤ 1024) × (length (now ends) / 4 ≤ 2048) × (length (now sides) ≤ 16) ⌝ }
+    requires { ⌜ (length (now corners) / cornerColumns ≤ 1024) × (length (now ends) / endColumns ≤ 2048) × (length (now sides) ≤ 16) ⌝ }
     ensures { λ r. ⌜ GroupsBy p v (now (corners .entry)) (now (ends .entry)) (now (sides .entry)) (length (now (groups .entry))) r
         (now (groups .exit)) ⌝ }
 {
@@ -98,11 +100,11 @@ fn many_groups(
     sides: &[usize],
     groups: &mut [usize],
 ) -> Count
-    requires { ⌜ (length (now corners) / 3 ≤ 1024) × (length (now ends) / 4 ≤ 2048) ⌝ }
+    requires { ⌜ (length (now corners) / cornerColumns ≤ 1024) × (length (now ends) / endColumns ≤ 2048) ⌝ }
     ensures { λ r. ⌜ GroupsBy p v (now (corners .entry)) (now (ends .entry)) (now (sides .entry)) (length (now (groups .entry))) r
         (now (groups .exit)) ⌝ }
 {
-    let mut verts = [0usize; 4096];
+    let mut verts = [0usize; mesh::ELEMENT_CORNERS];
     groups_by(p, v, corners, ends, sides, &mut verts, groups)
 }
 
@@ -170,7 +172,8 @@ fn few_opens(
     sides: &[usize],
     minimum: usize,
 ) -> bool
-    requires { ⌜ FanAsked (now «fan_verts») k (now sides) × (length (now sides) ≤ 128) × WalkAsked n k v (now verts) (length (now sides)) 128 128 ⌝ }
+    requires { ⌜ FanAsked (now «fan_verts») k (now sides) × (length (now sides) ≤ 128) × WalkAsked n k v (now verts) (length (now sides))
+        128 128 ⌝ }
     ensures { λ r. ⌜ Opens n k v (now (verts .entry)) (groupsOf (fan (now («fan_verts» .entry)) k v others (now (sides .entry)))) (countOf
         (fan (now («fan_verts» .entry)) k v others (now (sides .entry)))) minimum r ⌝ }
 {
@@ -203,13 +206,14 @@ fn many_opens(
     sides: &[usize],
     minimum: usize,
 ) -> bool
-    requires { ⌜ FanAsked (now «fan_verts») k (now sides) × (length (now sides) ≤ 2048) × WalkAsked n k v (now verts) (length (now sides)) 2048 2048 ⌝ }
+    requires { ⌜ FanAsked (now «fan_verts») k (now sides) × (length (now sides) ≤ 2048) × WalkAsked n k v (now verts) (length (now sides))
+        2048 2048 ⌝ }
     ensures { λ r. ⌜ Opens n k v (now (verts .entry)) (groupsOf (fan (now («fan_verts» .entry)) k v others (now (sides .entry)))) (countOf
         (fan (now («fan_verts» .entry)) k v others (now (sides .entry)))) minimum r ⌝ }
 {
-    let mut groups = [0usize; 2048];
-    let mut seen = [0usize; 2048];
-    let mut queue = [0usize; 2048];
+    let mut groups = [0usize; mesh::ELEMENTS];
+    let mut seen = [0usize; mesh::ELEMENTS];
+    let mut queue = [0usize; mesh::ELEMENTS];
     fan_opens(
         n,
         k,
@@ -263,8 +267,8 @@ fn mesh_opens(
     ensures { λ r. ⌜ (let G = givenBefore points roots corners volumes ends lengths outline in r
         ≡ truthOf (opensCall (sizesFit G) (meshOf G) v (now (sides .entry)) minimum)) ⌝ }
 {
-    let mut verts = [0usize; 4096];
-    let mut fan_verts = [0usize; 4096];
+    let mut verts = [0usize; mesh::ELEMENT_CORNERS];
+    let mut fan_verts = [0usize; mesh::ELEMENT_CORNERS];
     let f = tables::fan_of(
         points,
         roots,
@@ -292,7 +296,7 @@ fn mesh_opens(
             minimum,
         ));
     }
-    Truth::Refused(4)
+    Truth::Refused(mesh::refusals::ARGUMENT)
 }
 
 // Does each group that these sides make at v reach the minimum piece? 4 for an absent particle or bad sides.

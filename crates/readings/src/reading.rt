@@ -25,7 +25,7 @@ pub fn root(x: f32) -> Number
     let r = float::root::root(x);
     match r {
         Rooted::Value(y) => Number::Value(y),
-        Rooted::Refused => Number::Refused(4),
+        Rooted::Refused => Number::Refused(mesh::refusals::ARGUMENT),
     }
 }
 
@@ -39,7 +39,7 @@ pub fn blade_hit(b0: Point, b1: Point, p: Point, q: Point) -> Tested
     if z {
         return Tested::Tested(blade::blade_hit(b0, b1, p, q));
     }
-    Tested::Refused(2)
+    Tested::Refused(mesh::refusals::NUMBER)
 }
 
 // How many pieces an accepted mesh has.
@@ -55,11 +55,11 @@ fn count_pieces(
     requires { ⌜ Accepted (givenIn points roots corners volumes ends lengths outline) ⌝ }
     ensures { λ r. ⌜ r ≡ piecesOf (meshOf (givenBefore points roots corners volumes ends lengths outline)) ⌝ }
 {
-    let mut verts = [0usize; 4096];
-    let mut heads = [0u16; 4096];
-    let mut links = [0u16; 4096];
-    let mut lows = [0u16; 4096];
-    let mut parent = [0usize; 2048];
+    let mut verts = [0usize; mesh::ELEMENT_CORNERS];
+    let mut heads = [0u16; mesh::ELEMENT_CORNERS];
+    let mut links = [0u16; mesh::ELEMENT_CORNERS];
+    let mut lows = [0u16; mesh::ELEMENT_CORNERS];
+    let mut parent = [0usize; mesh::ELEMENTS];
     let s = mesh_tables::corners::corners_of(
         points,
         roots,
@@ -146,10 +146,10 @@ fn listed_measure(
         × (particlesOk (meshOf (givenIn points roots corners volumes ends lengths outline)) (now list) ≡ true) ⌝ }
     ensures { λ r. ⌜ r ≡ restMeasureOf (meshOf (givenBefore points roots corners volumes ends lengths outline)) (now (list .entry)) ⌝ }
 {
-    let mut numbers = [0usize; 2048];
-    let mut verts = [0usize; 4096];
-    let mut measures = [0.0f32; 2048];
-    let mut marks = [0usize; 1024];
+    let mut numbers = [0usize; mesh::ELEMENTS];
+    let mut verts = [0usize; mesh::ELEMENT_CORNERS];
+    let mut measures = [0.0f32; mesh::ELEMENTS];
+    let mut marks = [0usize; mesh::PARTICLES];
     let s = mesh_tables::tables::table(
         points,
         roots,

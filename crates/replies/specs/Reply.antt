@@ -6,12 +6,13 @@ use lib.ListN.{length}
 use lib.Dec.{leb}
 use Rattle.lists.specs.Lists.{pick}
 use Rattle.model.specs.Reads.{Read, refused, value}
+use Rattle.model.specs.Refusals.{argumentRefusal}
 use Rattle.image.specs.Words.{written}
 
 -- result bytes too few for the words: 4
 abbrev pub lentEnough : ℕ → Read (List ℕ) → Read (List ℕ)
 lentEnough lent (refused n) = refused n
-lentEnough lent (value ws) = pick (leb (4 * length ws) lent) (value ws) (refused 4)
+lentEnough lent (value ws) = pick (leb (4 * length ws) lent) (value ws) (refused argumentRefusal)
 
 -- the number of the refusal, or 0; and the words that the lent bytes show
 abbrev pub codeOf : Read (List ℕ) → ℕ

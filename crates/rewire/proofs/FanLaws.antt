@@ -1,28 +1,24 @@
 -- Laws of the elements of a fan: the tables as the parts of an opening have them, ends replaced, and the loop over the straps. Assumes nothing.
-use Prim.Native.Nat.{ℕ, zero, suc, _+_, _*_, _/_, _≤_, _<_, zero-le, suc-le-suc}
+use Prim.Native.Nat.{ℕ, zero, suc, _+_, _/_, _≤_, _<_, zero-le, suc-le-suc}
 use native.Mathlib.Nat.{le-of-suc-le-suc, not-suc-le-zero}
 use native.Mathlib.Numerals.{add-one}
 use native.Mathlib.Decide.{ℕ-discrete}
 use native.Mathlib.Omega.{arith}
 use mathlib.Core.Path.{_≡_, refl, sym, ap, ap₂, _∙_, subst}
-use mathlib.Core.Bool.{Bool, true, false}
+use mathlib.Core.Bool.{Bool}
 use mathlib.Core.List.{List, [], _∷_, map}
-use lib.ListN.{length, getD, set, take, length-set}
+use lib.ListN.{length, getD, take}
 use lib.Seq.{length-take-le, getD-take, ext-getD}
 use lib.Dec.{eqb}
-use lib.Ieee.{Float, nan}
 use borrow.Author.Tests.{eq-eqb, ne-eqb}
 use Rattle.lists.specs.Lists.{pick, mapAt}
 use Rattle.lists.specs.Labels.{replaced}
-use Rattle.lists.proofs.Sifts.{tab-ext}
 use Rattle.lists.proofs.Stores.{map-at}
-use Rattle.lists.proofs.Rows.{rows-map, mapAt-mapAt, mapAt-ext, mapAt-same}
-use Rattle.columns.specs.Block.{cell}
+use Rattle.lists.proofs.Rows.{mapAt-mapAt, mapAt-ext, mapAt-same}
 use Rattle.model.specs.Mesh.{Triangle, Edge}
 use Rattle.model.specs.Split.{Part, Opening, groupAt, rewiredStraps, retargeted, moved, onlyAt, copyFor}
-use Rattle.mesh.specs.At.{edgeRow, edgesAt}
+use Rattle.mesh.specs.At.{edgesAt}
 use Rattle.mesh.specs.Workers.{groupOf, Mapped, FanOk}
-use Rattle.mesh.proofs.Lists.{turned, unturned}
 use Rattle.mesh.proofs.Fan.{rewired-as, replaced-self, group-at}
 use Rattle.split_plan.specs.Opened.{blankPart}
 use Rattle.rewire.specs.Stages.{PartsBy, TrianglesRewired, StrapsRewired}
@@ -135,60 +131,6 @@ moved-self v e =
       impulse = e .impulse;
       stress = e .stress;
     }
-
--- two replacements move the ends of one edge
-pub moving :
-    (e v w : ℕ) (s s₁ s₂ : List ℕ) → e < length s / 4 → s₁ ≡ set s e (replaced v w (getD s e 0))
-    → s₂ ≡ set s₁ (length s / 4 + e) (replaced v w (getD s₁ (length s / 4 + e) 0)) → EndsMapped (onlyAt e (moved v w)) s s₂
-unfolding edgesAt
-moving e v w s s₁ s₂ he q₁ q₂ =
-    record {
-      edges =
-          λ n lengths hn.
-          rw l₂ (tab-ext n _ _ (λ k h. at k (length lengths / 4) lengths (omega arith)) ∙ sym (rows-map (onlyAt e (moved v w)) n _));
-    }
-  where
-    l₁ : length s₁ ≡ length s
-    l₁ = ap length q₁ ∙ simp length-set
-
-    l₂ : length s₂ ≡ length s
-    l₂ = ap length q₂ ∙ simp length-set l₁
-
-    p₁ : s₁ ≡ set s (0 * (length s / 4) + e) (replaced v w (getD s (0 * (length s / 4) + e) 0))
-    p₁ = let z : 0 * (length s / 4) + e ≡ e = omega arith in rw z q₁
-
-    p₂ : s₂ ≡ set s₁ (1 * (length s / 4) + e) (replaced v w (getD s₁ (1 * (length s / 4) + e) 0))
-    p₂ = let z : 1 * (length s / 4) + e ≡ length s / 4 + e = omega arith in rw z q₂
-
-    both : (t : Bool) (x y x′ y′ m n : ℕ) (f g h j : Float)
-        → _≡_ {A = Edge} (record { a = pick t x′ x; b = pick t y′ y; structural = m; torn = n; rest = f; initial = g; impulse = h; stress = j })
-        (pick t (record { a = x′; b = y′; structural = m; torn = n; rest = f; initial = g; impulse = h; stress = j }) (record { a = x; b = y; structural = m; torn = n; rest = f; initial = g; impulse = h; stress = j }))
-    both true x y x′ y′ m n f g h j = refl
-    both false x y x′ y′ m n f g h j = refl
-
-    at : (k L : ℕ) (lengths : List Float) → k < length s / 4 → edgeRow (length s / 4) L s₂ lengths k ≡ onlyAt e (moved v w) k (edgeRow (length s / 4) L s lengths k)
-    at k L lengths hk =
-        let i₁ : 0 * (length s / 4) + e < length s = omega arith in
-        let i₂ : 1 * (length s / 4) + e < length s₁ = omega (arith, l₁) in
-        let un₂ = unturned (length s / 4) e v w 1 s₁ s₂ he i₂ p₂ in
-        let un₁ = unturned (length s / 4) e v w 0 s s₁ he i₁ p₁ in
-        let a : cell 0 (length s / 4) s₂ 0 k ≡ _ = un₂ 0 k hk (λ q. omega arith) ∙ turned (length s / 4) e v w 0 s s₁ he i₁ p₁ k hk in
-        let b₁ : cell 0 (length s / 4) s₁ 1 k ≡ cell 0 (length s / 4) s 1 k = un₁ 1 k hk (λ q. omega arith) in
-        let b : cell 0 (length s / 4) s₂ 1 k ≡ _ = turned (length s / 4) e v w 1 s₁ s₂ he i₂ p₂ k hk ∙ ap (λ (x : ℕ). pick (eqb k e) (replaced v w x) x) b₁ in
-        let c : cell 0 (length s / 4) s₂ 2 k ≡ cell 0 (length s / 4) s 2 k = un₂ 2 k hk (λ q. omega arith) ∙ un₁ 2 k hk (λ q. omega arith) in
-        let d : cell 0 (length s / 4) s₂ 3 k ≡ cell 0 (length s / 4) s 3 k = un₂ 3 k hk (λ q. omega arith) ∙ un₁ 3 k hk (λ q. omega arith) in
-        (λ i.
-        record {
-          a = a i;
-          b = b i;
-          structural = c i;
-          torn = d i;
-          rest = cell nan L lengths 0 k;
-          initial = cell nan L lengths 1 k;
-          impulse = cell nan L lengths 2 k;
-          stress = cell nan L lengths 3 k;
-        })
-        ∙ both (eqb k e) _ _ _ _ _ _ _ _ _ _
 
 -- at the head of the loop: the straps of the first i parts are moved
 pub record Moving (v before n : ℕ) (es gs s₀ s : List ℕ) (i : ℕ) : Type 0 where

@@ -12,7 +12,8 @@ use Rattle.model.specs.Elements.{Kind, element?}
 use Rattle.model.specs.Split.{Opening, copyFor, moved, calm, stayed, doubled}
 use Rattle.mesh.specs.At.{edgesAt}
 use Rattle.mesh.specs.Workers.{EdgeRoom, rowAt}
-use Rattle.mesh.specs.Widths.{pointColumns}
+use Rattle.mesh.specs.Widths.{pointColumns, endColumns}
+use Rattle.mesh.specs.Limits.{particleLimit}
 use Rattle.split_plan.specs.Opened.{Ringed, RingRoom, CornersBelow, ringFrom, OpeningIn}
 use Rattle.work.specs.Rows.{GrownTo, Between}
 use Rattle.work.specs.Places.{EndsIn}
@@ -72,7 +73,7 @@ pub record EdgesRoom (K : Kind) (v before k n count p e room : ℕ) (verts group
 pub record NextNamed (v from e : ℕ) (ends : List ℕ) (r : ℕ) : Type 0 where
   pub onward : from ≤ r
   pub within : r ≤ e
-  pub unnamed : (j : ℕ) → from ≤ j → j < r → stands v (getD ends j 0 ∷ getD ends (length ends / 4 + j) 0 ∷ []) ≡ false
+  pub unnamed : (j : ℕ) → from ≤ j → j < r → stands v (getD ends j 0 ∷ getD ends (length ends / endColumns + j) 0 ∷ []) ≡ false
 
 -- ---- other edges, by the table of the edges
 
@@ -80,7 +81,7 @@ pub record NextNamed (v from e : ℕ) (ends : List ℕ) (r : ℕ) : Type 0 where
 pub record TableRoom (before count p m room : ℕ) (ends table : List ℕ) : Type 0 where
   pub linked : EdgesLinked m ends table
   pub few : room ≤ 2048
-  pub most : before ≤ 1024
+  pub most : before ≤ particleLimit
   pub heads : before + count ≤ 1025
   pub behind : p ≤ before
 
@@ -93,17 +94,17 @@ LinkedGrown (Rows m) ends table = EdgesLinked m ends table
 pub record EndRoom (i v w m : ℕ) (ends table : List ℕ) : Type 0 where
   pub linked : EdgesLinked m ends table
   pub here : i < m
-  pub holding : holds 2 (cell 0 (length ends / 4) ends) v i ≡ true
-  pub head : w < 1024
-  pub fresh : (w ≡ v → ⊥) → (c : ℕ) → c < 2 → cell 0 (length ends / 4) ends c i ≡ w → ⊥
+  pub holding : holds 2 (cell 0 (length ends / endColumns) ends) v i ≡ true
+  pub head : w < particleLimit
+  pub fresh : (w ≡ v → ⊥) → (c : ℕ) → c < 2 → cell 0 (length ends / endColumns) ends c i ≡ w → ⊥
 
 -- the first n numbers rise and name edges at v, of the first e, whose table this is and whose ends are particles that were there before; each group's copy has a head
 pub record StrapsRoom (v before n e : ℕ) (numbers groups ends table : List ℕ) : Type 0 where
   pub parts : PartsRoom before n e numbers groups
   pub linked : EdgesLinked e ends table
   pub ends-in : EndsIn before e ends
-  pub holding : (i : ℕ) → i < n → holds 2 (cell 0 (length ends / 4) ends) v (getD numbers i 0) ≡ true
-  pub copies : (i : ℕ) → i < n → copyFor v before (getD groups i 0) < 1024
+  pub holding : (i : ℕ) → i < n → holds 2 (cell 0 (length ends / endColumns) ends) v (getD numbers i 0) ≡ true
+  pub copies : (i : ℕ) → i < n → copyFor v before (getD groups i 0) < particleLimit
 
 -- two different ends below p
 pub record EndsBelow (p : ℕ) (e : Edge) : Type 0 where
@@ -116,4 +117,4 @@ pub record PushRoom (n : ℕ) (e : Edge) (ends : List ℕ) (ll : ℕ) (table : L
   pub linked : EdgesLinked n ends table
   pub few : n + 1 ≤ 2048
   pub columns : EdgeRoom (n + 1) (length ends) ll
-  pub row : EndsBelow 1024 e
+  pub row : EndsBelow particleLimit e

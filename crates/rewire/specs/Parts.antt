@@ -7,6 +7,7 @@ use lib.Ieee.{Float}
 use Rattle.lists.specs.Lists.{mapAt}
 use Rattle.model.specs.Mesh.{Edge}
 use Rattle.mesh.specs.At.{edgesAt}
+use Rattle.mesh.specs.Widths.{endColumns}
 
 -- the first n numbers rise and name some of so many rows, and the copies of their groups are small
 pub record PartsRoom (before n rows : ℕ) (numbers groups : List ℕ) : Type 0 where
@@ -19,4 +20,4 @@ pub record PartsRoom (before n rows : ℕ) (numbers groups : List ℕ) : Type 0 
 
 -- the ends changed as g changes each edge by its number, for any number of edges and whatever stands in the other block
 pub record EndsMapped (g : ℕ → Edge → Edge) (ends ends′ : List ℕ) : Type 0 where
-  pub edges : (n : ℕ) (lengths : List Float) → n ≤ length ends / 4 → edgesAt n ends′ lengths ≡ mapAt g (edgesAt n ends lengths)
+  pub edges : (n : ℕ) (lengths : List Float) → n ≤ length ends / endColumns → edgesAt n ends′ lengths ≡ mapAt g (edgesAt n ends lengths)

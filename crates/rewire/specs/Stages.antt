@@ -8,6 +8,7 @@ use Rattle.model.specs.Mesh.{Mesh}
 use Rattle.model.specs.Elements.{Kind, Triangles, Straps}
 use Rattle.model.specs.Split.{Opening, rewiredTriangles, rewiredStraps, otherEdges}
 use Rattle.mesh.specs.At.{trianglesAt, edgesAt}
+use Rattle.mesh.specs.Widths.{cornerColumns, endColumns}
 use Rattle.split_plan.specs.Opened.{Numbered, OpeningIn}
 use Rattle.work.specs.declared.Grown.{Grown}
 use Rattle.work.specs.Rows.{GrownTo}
@@ -25,13 +26,13 @@ pub record PartsBy (O : Opening) (v before n : ℕ) (numbers groups : List ℕ) 
 -- the triangles of the fan have their groups' copies for v
 pub record TrianglesRewired (v before n : ℕ) (numbers groups corners corners′ : List ℕ) : Type 0 where
   pub triangles :
-      (O : Opening) (t : ℕ) (volumes : List Float) → PartsBy O v before n numbers groups → t ≤ length corners / 3
+      (O : Opening) (t : ℕ) (volumes : List Float) → PartsBy O v before n numbers groups → t ≤ length corners / cornerColumns
       → trianglesAt t corners′ volumes ≡ rewiredTriangles Triangles O (trianglesAt t corners volumes)
 
 -- the straps of the fan have their groups' copies for v
 pub record StrapsRewired (v before n : ℕ) (numbers groups ends ends′ : List ℕ) : Type 0 where
   pub straps :
-      (O : Opening) (e : ℕ) (lengths : List Float) → PartsBy O v before n numbers groups → e ≤ length ends / 4
+      (O : Opening) (e : ℕ) (lengths : List Float) → PartsBy O v before n numbers groups → e ≤ length ends / endColumns
       → edgesAt e ends′ lengths ≡ rewiredStraps Straps O (edgesAt e ends lengths)
 
 -- ---- other edges

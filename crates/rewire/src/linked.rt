@@ -22,9 +22,20 @@ fn move_end(i: usize, v: usize, w: usize, m: usize, ends: &mut [usize], table: &
     if w == v {
         return;
     }
-    let span = ends.len() / 4;
+    let span = ends.len() / mesh::END_COLUMNS;
     let c = links::corner_at(v, i, 2, span, ends);
-    link_changes::move_corner(i, c, w, m, 2, 1024, 2048, span, ends, table);
+    link_changes::move_corner(
+        i,
+        c,
+        w,
+        m,
+        2,
+        mesh::PARTICLES,
+        mesh::EDGES,
+        span,
+        ends,
+        table,
+    );
     copies::edges::move_ends(i, v, w, ends);
 }
 
@@ -60,8 +71,8 @@ fn push_edge(n: usize, row: EdgeRow, ends: &mut [usize], lengths: &mut [f32], ta
         × EdgesLinked (n + 1) (now (ends .exit)) (now (table .exit)) ⌝ }
 {
     mesh::rows::append_edge(n, row, ends, lengths);
-    let span = ends.len() / 4;
-    link_changes::append_cell(n, 2, 1024, 2048, span, ends, table);
+    let span = ends.len() / mesh::END_COLUMNS;
+    link_changes::append_cell(n, 2, mesh::PARTICLES, mesh::EDGES, span, ends, table);
 }
 
 // Appends a copy of an edge for each group from `from` on that holds x.
@@ -187,8 +198,18 @@ pub fn other_edges(
         (now (points .entry)) (now (ends .entry)) (now (ends .exit)) (now (lengths .entry)) (now (lengths .exit)) r
         × LinkedGrown r (now (ends .exit)) (now (table .exit)) ⌝ }
 {
-    let span = ends.len() / 4;
-    let named = links::cells_at(v, e, 2, 1024, 2048, span, ends, table, list);
+    let span = ends.len() / mesh::END_COLUMNS;
+    let named = links::cells_at(
+        v,
+        e,
+        2,
+        mesh::PARTICLES,
+        mesh::EDGES,
+        span,
+        ends,
+        table,
+        list,
+    );
     let mut rows = e;
     let mut q: usize = 0;
     while q < named {

@@ -12,7 +12,7 @@ use lib.Pow.{pow-pos}
 use lib.ListN.{length, getD, take, drop, length-drop}
 use lib.Seq.{take-at, drop-drop, getD-take, getD-drop, length-take-le}
 use borrow.Author.Tests.{lt-ltb, le-ltb}
-use Rattle.lists.specs.Lists.{pick, each, tab}
+use Rattle.lists.specs.Lists.{pick, each, tab, sameRow}
 use Rattle.lists.proofs.Sifts.{tab-ext}
 use Rattle.lists.proofs.Stores.{tab-length}
 use Rattle.lists.proofs.Steps.{each-step}
@@ -23,7 +23,7 @@ use Rattle.bits.specs.Rows.{total, unpack, readRows, columnAt}
 use Rattle.bits.proofs.RowLaws.{AllBits, bits-bitsOf, field-lt, length-column}
 use Rattle.outline_tables.specs.Rows.{sideAt, sidesAt}
 use Rattle.listing.proofs.Appending.{appends-none}
-use Rattle.differences.specs.Differences.{Difference, place, sameRow, rowsDiffer}
+use Rattle.differences.specs.Differences.{Difference, place, rowsDiffer}
 use Rattle.differences.specs.Work.{readAt, sameReading, placeDiffers, rowBy, asRow, Coords, CoordsRead, Lists}
 use Rattle.row_differences.specs.Work.{CoordsIn, readingAt, rowsIn, RowsAsked, ThreeRead, ofThree, ListAsked, SidesAsked}
 use Rattle.differences.specs.declared.Part.{Part}

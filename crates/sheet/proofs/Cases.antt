@@ -69,10 +69,10 @@ free k x y = record { x = x; y = y; rest-x = x; rest-y = y; mass = one; inv = on
 -- the worked sheet's mesh: rest volumes 8, rest lengths the rounded root of 32
 pub worked-mesh : meshOfSheet (sheetWith workedCounts (bitsOf worked)) ≡ record {
   particles = free 0 zero32 zero32 ∷ free 1 four zero32 ∷ free 2 four four ∷ free 3 zero32 four ∷ [];
-  triangles = record { a = 0; b = 1; c = 2; volume = eight; stress = zero32 } ∷ record { a = 0; b = 2; c = 3; volume = eight; stress = zero32 } ∷ [];
+  triangles = record { corners = 0 ∷ 1 ∷ 2 ∷ []; volume = eight; stress = zero32 } ∷ record { corners = 0 ∷ 2 ∷ 3 ∷ []; volume = eight; stress = zero32 } ∷ [];
   edges = record { a = 0; b = 2; structural = 1; torn = 0; rest = root32; initial = root32; impulse = zero32; stress = zero32 }
       ∷ record { a = 1; b = 3; structural = 0; torn = 0; rest = root32; initial = root32; impulse = zero32; stress = zero32 } ∷ [];
-  boundary = record { a = 0; b = 1 } ∷ record { a = 1; b = 2 } ∷ record { a = 2; b = 3 } ∷ record { a = 3; b = 0 } ∷ [];
+  boundary = record { corners = 0 ∷ 1 ∷ [] } ∷ record { corners = 1 ∷ 2 ∷ [] } ∷ record { corners = 2 ∷ 3 ∷ [] } ∷ record { corners = 3 ∷ 0 ∷ [] } ∷ [];
 }
 unfolding worked workedCounts bitsOf bits num sheetWith readRows unpack total coord floatOf inverseOf particleFrom areaOf triangleFrom edgeFrom particlesFrom trianglesFrom edgesFrom boundaryFrom meshOfSheet mapAt absOf floorRoot rootUnits lengthOf isNan neg add sub mul div lt le eq ofInt ofBits
 worked-mesh = refl

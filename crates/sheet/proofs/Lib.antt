@@ -4,5 +4,6 @@ pub mod PutLaws
 pub mod There
 pub mod Back
 pub mod MeshReads
+pub mod Rowed
 pub mod Cases
 pub mod CoordLaws

@@ -1,6 +1,6 @@
 -- What reading a sheet gives (docs/RULES.md, R13.4). The mesh that a sheet is, and its blade. Definitions only.
 use Prim.Native.Nat.{ℕ}
-use mathlib.Core.List.{List, map}
+use mathlib.Core.List.{List, [], _∷_, map}
 use lib.ListN.{getD}
 use lib.Dec.{eqb}
 use lib.Ieee.{Float, binary32, ofInt}
@@ -44,7 +44,7 @@ areaOf a b c = times (absOf (minus (times (minus (b .x) (a .x)) (minus (c .y) (a
 
 -- a triangle of three particles, from where particles stand
 unfoldable pub triangleFrom : (ℕ → Point) → ℕ → ℕ → ℕ → Triangle
-triangleFrom place a b c = record { a = a; b = b; c = c; volume = areaOf (place a) (place b) (place c); stress = zero32 }
+triangleFrom place a b c = record { corners = a ∷ b ∷ c ∷ []; volume = areaOf (place a) (place b) (place c); stress = zero32 }
 
 -- an edge between two particles: both rest lengths are the rounded root
 unfoldable pub edgeFrom : (ℕ → Point) → ℕ → ℕ → ℕ → Edge
@@ -62,7 +62,7 @@ edgeFrom place a b structural =
 
 -- a boundary entry
 abbrev pub sideFrom : ℕ → ℕ → Side
-sideFrom a b = record { a = a; b = b }
+sideFrom a b = record { corners = a ∷ b ∷ [] }
 
 -- the particles of rows
 unfoldable pub particlesFrom : List (List ℕ) → List Particle

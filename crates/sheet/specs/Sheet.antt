@@ -12,6 +12,7 @@ use Rattle.sheet.specs.declared.Seen.{Seen}
 use Rattle.sheet.specs.declared.Seen.the-variants.{Whole, Refused}
 use denote.Ref.{RefT, now}
 use denote.Triple.Both.{Both}
+use Rattle.model.specs.Refusals.{sizeRefusal, nameRefusal, sheetRefusal}
 
 -- the widths: counts; particle x, y, pinned; triangle; edge and structural; boundary; blade x0, y0, x1, y1
 abbrev pub headerW : List ℕ
@@ -146,16 +147,16 @@ namesOK s = allOK true (length (s .particles)) (s .triangles) && (allOK false (l
 -- what the bytes of a sheet with counts c are answered: counts 1; length and spare bits 9; names 3
 unfoldable pub seenWith : Counts → Counts → List ℕ → Seen
 seenWith limits c s =
-    cond (tooMany c || above limits c) (Refused 1)
+    cond (tooMany c || above limits c) (Refused sizeRefusal)
     (cond (eqb (length s) (bytesOf c))
     (cond (eqb (spareOf c (bitsOf s)) 0)
-    (cond (namesOK (sheetWith c (bitsOf s))) (Whole c) (Refused 3))
-    (Refused 9))
-    (Refused 9))
+    (cond (namesOK (sheetWith c (bitsOf s))) (Whole c) (Refused nameRefusal))
+    (Refused sheetRefusal))
+    (Refused sheetRefusal))
 
 -- what the bytes of a sheet are answered, where the caller's limits hold besides those of every mesh: a short header 9; then as above
 unfoldable pub seenOf : Counts → List ℕ → Seen
-seenOf limits s = cond (ltb (length s) 6) (Refused 9) (seenWith limits (countsAt (bitsOf s)) s)
+seenOf limits s = cond (ltb (length s) 6) (Refused sheetRefusal) (seenWith limits (countsAt (bitsOf s)) s)
 
 -- every number of a column is below a bound
 unfoldable pub allBelow : ℕ → List ℕ → Bool

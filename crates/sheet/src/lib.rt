@@ -56,10 +56,10 @@ pub fn too_many(c: Counts) -> bool
 {
     exceeds(
         Counts {
-            particles: 1024,
-            triangles: 1024,
-            edges: 2048,
-            boundary: 2048,
+            particles: mesh::PARTICLES,
+            triangles: mesh::TRIANGLES,
+            edges: mesh::EDGES,
+            boundary: mesh::BOUNDARY,
         },
         c,
     )
@@ -167,23 +167,23 @@ pub fn look(s: &[u8], limits: Counts) -> Seen
     ensures { λ r. ⌜ r ≡ seenOf limits (now (s .entry)) ⌝ }
 {
     if s.len() < 6 {
-        return Seen::Refused(9);
+        return Seen::Refused(mesh::refusals::SHEET);
     }
     let c = counted(s);
     if refused_counts(limits, c) {
-        return Seen::Refused(1);
+        return Seen::Refused(mesh::refusals::SIZE);
     }
     let end = end_bit(c);
     let bytes = byte_len(c);
     if s.len() != bytes {
-        return Seen::Refused(9);
+        return Seen::Refused(mesh::refusals::SHEET);
     }
     if bits::field(s, end, 8 * bytes - end) != 0 {
-        return Seen::Refused(9);
+        return Seen::Refused(mesh::refusals::SHEET);
     }
     if names_ok(s, c) {
         Seen::Whole(c)
     } else {
-        Seen::Refused(3)
+        Seen::Refused(mesh::refusals::NAME)
     }
 }

@@ -11,13 +11,14 @@ use Rattle.image_writing.specs.Stores.{blockWords, Standing}
 use Rattle.sheet.specs.Read.{countsFor}
 use Rattle.sheet.specs.declared.Counts.{Counts}
 use Rattle.sheet_c.specs.Fields.{fieldWords}
+use Rattle.mesh.specs.Limits.{particleLimit, triangleLimit, edgeLimit, boundaryLimit}
 
 -- counts within the limits of a mesh
 pub record Few (c : Counts) : Type 0 where
-  pub particles : c .particles ≤ 1024
-  pub triangles : c .triangles ≤ 1024
-  pub edges : c .edges ≤ 2048
-  pub boundary : c .boundary ≤ 2048
+  pub particles : c .particles ≤ particleLimit
+  pub triangles : c .triangles ≤ triangleLimit
+  pub edges : c .edges ≤ edgeLimit
+  pub boundary : c .boundary ≤ boundaryLimit
 
 -- rows that stand in blocks, and the four numbers of a blade
 pub record Storing (c : Counts) (lp lr lc lv le ll lo blade : ℕ) : Type 0 where
@@ -31,11 +32,11 @@ blocksTold first c p r k v e l o blade = (first ∷ bitsIn blade) ++ blockWords 
 
 -- at most 1,024 particles, 1,024 triangles and 2,048 edges, by the counts of fields
 unfoldable pub fieldsFew : List ℕ → Bool
-fieldsFew s = leb (wordAt s 0) 1024 && leb (wordAt s 1) 1024 && leb (wordAt s 2) 2048
+fieldsFew s = leb (wordAt s 0) particleLimit && leb (wordAt s 1) triangleLimit && leb (wordAt s 2) edgeLimit
 
 -- the bytes are as many as the counts say, and the counts are within the limits
 pub record FieldsRoom (s : List ℕ) : Type 0 where
   pub long : length s ≡ 4 * fieldWords (wordAt s 0) (wordAt s 1) (wordAt s 2)
-  pub particles : wordAt s 0 ≤ 1024
-  pub triangles : wordAt s 1 ≤ 1024
-  pub edges : wordAt s 2 ≤ 2048
+  pub particles : wordAt s 0 ≤ particleLimit
+  pub triangles : wordAt s 1 ≤ triangleLimit
+  pub edges : wordAt s 2 ≤ edgeLimit

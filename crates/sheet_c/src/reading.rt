@@ -11,10 +11,10 @@ use sheet::Counts;
 
 // The limits of a mesh.
 const LIMITS: Counts = Counts {
-    particles: 1024,
-    triangles: 1024,
-    edges: 2048,
-    boundary: 2048,
+    particles: mesh::PARTICLES,
+    triangles: mesh::TRIANGLES,
+    edges: mesh::EDGES,
+    boundary: mesh::BOUNDARY,
 };
 
 // The word of a truth.
@@ -82,13 +82,13 @@ fn reply_blocks(
 pub fn read_sheet(bytes: &[u8], out: &mut [u8]) -> u32
     ensures { λ r. ⌜ Replied (sheetReply (now (bytes .entry))) (length (now (out .entry))) r (now (out .exit)) ⌝ }
 {
-    let mut points = [0.0f32; 1024 * mesh::POINT_COLUMNS];
-    let mut roots = [0usize; 2048];
-    let mut corners = [0usize; 3072];
-    let mut volumes = [0.0f32; 2048];
-    let mut ends = [0usize; 8192];
-    let mut lengths = [0.0f32; 8192];
-    let mut outline = [0usize; 4096];
+    let mut points = [0.0f32; mesh::PARTICLES * mesh::POINT_COLUMNS];
+    let mut roots = [0usize; mesh::ROOT_COLUMNS * mesh::PARTICLES];
+    let mut corners = [0usize; mesh::CORNER_COLUMNS * mesh::TRIANGLES];
+    let mut volumes = [0.0f32; mesh::VOLUME_COLUMNS * mesh::TRIANGLES];
+    let mut ends = [0usize; mesh::END_COLUMNS * mesh::EDGES];
+    let mut lengths = [0.0f32; mesh::LENGTH_COLUMNS * mesh::EDGES];
+    let mut outline = [0usize; mesh::SIDE_COLUMNS * mesh::BOUNDARY];
     let mut log = [0usize; 6];
     let mut blade = [0.0f32; 4];
     let seen = edition::read::read(

@@ -52,13 +52,13 @@ fn fields_few(fields: &[u8]) -> bool
     let p = image::word_at(fields, 0);
     let t = image::word_at(fields, 1);
     let e = image::word_at(fields, 2);
-    if 1024 < p {
+    if mesh::PARTICLES < p {
         return false;
     }
-    if 1024 < t {
+    if mesh::TRIANGLES < t {
         return false;
     }
-    e <= 2048
+    e <= mesh::EDGES
 }
 
 // Both.
@@ -85,12 +85,12 @@ fn write_elements(
         (wordAt (now (fields .entry)) 2) (now (x .entry)) (now (y .entry)) (now (pinned .entry)) (now (blade .entry))) (now (out .entry))
         (now (out .exit)) r ⌝ }
 {
-    let mut t0 = [0usize; 1024];
-    let mut t1 = [0usize; 1024];
-    let mut t2 = [0usize; 1024];
-    let mut e0 = [0usize; 2048];
-    let mut e1 = [0usize; 2048];
-    let mut structural = [0usize; 2048];
+    let mut t0 = [0usize; mesh::TRIANGLES];
+    let mut t1 = [0usize; mesh::TRIANGLES];
+    let mut t2 = [0usize; mesh::TRIANGLES];
+    let mut e0 = [0usize; mesh::EDGES];
+    let mut e1 = [0usize; mesh::EDGES];
+    let mut structural = [0usize; mesh::EDGES];
     let t = image::word_at(fields, 1);
     let e = image::word_at(fields, 2);
     let at_t = 3 + 3 * image::word_at(fields, 0);
@@ -121,9 +121,9 @@ fn write_fields(fields: &[u8], out: &mut [u8]) -> usize
     requires { ⌜ FieldsRoom (now fields) ⌝ }
     ensures { λ r. ⌜ SheetWritten (now (fields .entry)) (now (out .entry)) (now (out .exit)) r × (r < 256) ⌝ }
 {
-    let mut x = [0i64; 1024];
-    let mut y = [0i64; 1024];
-    let mut pinned = [0usize; 1024];
+    let mut x = [0i64; mesh::PARTICLES];
+    let mut y = [0i64; mesh::PARTICLES];
+    let mut pinned = [0usize; mesh::PARTICLES];
     let mut blade = [0i64; 4];
     let p = image::word_at(fields, 0);
     let at_blade = fields.len() / 4 - 4;

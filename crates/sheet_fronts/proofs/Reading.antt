@@ -21,6 +21,7 @@ use Rattle.filled.specs.Counts.{countsIn}
 use Rattle.filled.proofs.Held.{field-long, mesh-filled}
 use Rattle.bits.specs.Bits.{bitsOf, fieldAt}
 use Rattle.sheet.specs.Sheet.{limits, countsAt, atBlade}
+use Rattle.sheet.proofs.Rowed.{sheet-rowed}
 use Rattle.sheet.specs.Read.{floatOf, meshOfSheet, bladeOfSheet, countsFor}
 use Rattle.sheet.specs.declared.Counts.{Counts}
 use Rattle.sheet.proofs.MeshReads.{blade-read}
@@ -193,7 +194,7 @@ module _ (s : List ℕ) (c : Counts) (L : Lent) (r : Seen) (P : List Float) (R C
   -- the mesh is the sheet's
   pub read-mesh : meshOf (given P R C U E N O) ≡ meshOfSheet (sheetOf (bitsOf s) .sheet)
   unfolding meshOf
-  read-mesh = ap (λ (k : M.Counts). meshAt k P R C U E N O) read-sizes ∙ mesh-filled (world-read (bitsOf s)) L P R C U E N O G read-filled read-fits
+  read-mesh = ap (λ (k : M.Counts). meshAt k P R C U E N O) read-sizes ∙ mesh-filled (world-read (bitsOf s)) L P R C U E N O G read-filled read-fits (sheet-rowed (sheetOf (bitsOf s) .sheet))
 
   -- the blade is the sheet's
   read-blade : b′ ≡ bladeOfSheet (sheetOf (bitsOf s) .sheet)

@@ -21,7 +21,8 @@ use Rattle.bits.specs.Bits.{num, fieldAt}
 use Rattle.bits.specs.Rows.{total, unpack, readRows}
 use Rattle.sheet.specs.Sheet.{particleW, triangleW, edgeW}
 use Rattle.sheet.specs.Work.{rowAt, okAt}
-use Rattle.sheet_rows.specs.Work.{pointIn, particleBits, triangleBits, edgeBits}
+use Rattle.split_plan.specs.Opened.{placeIn as pointIn}
+use Rattle.sheet_rows.specs.Work.{particleBits, triangleBits, edgeBits}
 use Rattle.sheet.specs.Read.{areaOf, particleFrom, triangleFrom, edgeFrom, particlesFrom, trianglesFrom, edgesFrom, placeIn}
 use Rattle.sheet.specs.declared.Counts.{Counts}
 use Rattle.mesh.specs.Log.{World, worldAt, logAt}
@@ -85,7 +86,7 @@ module _ (n : ℕ) (f g : ℕ → Point) (same : (k : ℕ) → k < n → f k ≡
       let b = fieldAt l (p + k * 30 + 10) 10 in
       let c = fieldAt l (p + k * 30 + 20) 10 in
       let w = three-named n a b c (ok-at true n l p 30 t e k h) in
-      λ i. record { a = a; b = b; c = c; volume = areaOf (same a (w .0) i) (same b (w .1) i) (same c (w .2) i); stress = zero32 })
+      λ i. record { corners = a ∷ b ∷ c ∷ []; volume = areaOf (same a (w .0) i) (same b (w .1) i) (same c (w .2) i); stress = zero32 })
 
   -- edges from places that agree
   pub edges-same : (l : List ℕ) (p t : ℕ) → okAt false n l p 21 t ≡ true → tab t (edgeBits f l p) ≡ tab t (edgeBits g l p)

@@ -84,7 +84,7 @@ particle-pushed n vs S T e hs ht =
 pub triangle-pushed :
     (n a b c : ℕ) (v : Float) (S : List ℕ) (T : List Float) → n + 1 ≤ length S / 3 → n + 1 ≤ length T / 2
     → trianglesAt (n + 1) (putCols (length S / 3) n S 0 (a ∷ b ∷ c ∷ [])) (putCols (length T / 2) n T 0 (v ∷ zero32 ∷ []))
-    ≡ trianglesAt n S T ++ (record { a = a; b = b; c = c; volume = v; stress = zero32 } ∷ [])
+    ≡ trianglesAt n S T ++ (record { corners = a ∷ b ∷ c ∷ []; volume = v; stress = zero32 } ∷ [])
 unfolding trianglesAt
 triangle-pushed n a b c v S T hs ht =
     let us : List ℕ = a ∷ b ∷ c ∷ [] in
@@ -99,13 +99,13 @@ triangle-pushed n a b c v S T hs ht =
     let old′ = put-old nan R n r T 0 vs in
     rw (put-long 0 P n p S 0 us, put-long nan R n r T 0 vs)
     (rows-push n _ _ _
-    (λ k h i. record { a = old 0 k h i; b = old 1 k h i; c = old 2 k h i; volume = old′ 0 k h i; stress = old′ 1 k h i })
-    (λ i. record { a = new 0 (omega arith) i; b = new 1 (omega arith) i; c = new 2 (omega arith) i; volume = new′ 0 (omega arith) i; stress = new′ 1 (omega arith) i }))
+    (λ k h i. record { corners = old 0 k h i ∷ old 1 k h i ∷ old 2 k h i ∷ []; volume = old′ 0 k h i; stress = old′ 1 k h i })
+    (λ i. record { corners = new 0 (omega arith) i ∷ new 1 (omega arith) i ∷ new 2 (omega arith) i ∷ []; volume = new′ 0 (omega arith) i; stress = new′ 1 (omega arith) i }))
 
 -- the boundary with one entry more behind it
 pub side-pushed :
     (n a b : ℕ) (S : List ℕ) → n + 1 ≤ length S / 2
-    → boundaryAt (n + 1) (putCols (length S / 2) n S 0 (a ∷ b ∷ [])) ≡ boundaryAt n S ++ (record { a = a; b = b } ∷ [])
+    → boundaryAt (n + 1) (putCols (length S / 2) n S 0 (a ∷ b ∷ [])) ≡ boundaryAt n S ++ (record { corners = a ∷ b ∷ [] } ∷ [])
 unfolding boundaryAt
 side-pushed n a b S hs =
     let us : List ℕ = a ∷ b ∷ [] in
@@ -114,7 +114,7 @@ side-pushed n a b S hs =
     let new = put-at 0 P n p S us (omega arith) in
     let old = put-old 0 P n p S 0 us in
     rw (put-long 0 P n p S 0 us)
-    (rows-push n _ _ _ (λ k h i. record { a = old 0 k h i; b = old 1 k h i }) (λ i. record { a = new 0 (omega arith) i; b = new 1 (omega arith) i }))
+    (rows-push n _ _ _ (λ k h i. record { corners = old 0 k h i ∷ old 1 k h i ∷ [] }) (λ i. record { corners = new 0 (omega arith) i ∷ new 1 (omega arith) i ∷ [] }))
 
 -- ---- as the program writes the places of the first two columns
 

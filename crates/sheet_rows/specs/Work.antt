@@ -4,19 +4,13 @@ use mathlib.Core.Path.{_≡_}
 use mathlib.Core.Bool.{true, false}
 use mathlib.Core.List.{List}
 use lib.ListN.{length}
-use lib.Ieee.{Float, nan}
 use Rattle.blade.specs.declared.Point.{Point}
 use Rattle.model.specs.Mesh.{Particle, Triangle, Edge, Side}
-use Rattle.columns.specs.Block.{cell}
 use Rattle.mesh.specs.Workers.{ParticleRoom, EdgeRoom}
-use Rattle.mesh.specs.Widths.{pointColumns}
+use Rattle.mesh.specs.Widths.{pointColumns, cornerColumns, volumeColumns, sideColumns}
 use Rattle.bits.specs.Bits.{bitsOf, fieldAt}
 use Rattle.sheet.specs.Read.{particleFrom, triangleFrom, edgeFrom, sideFrom}
 use Rattle.sheet.specs.Work.{okAt, RowsIn}
-
--- where the particle in row k of the points stands
-abbrev pub pointIn : List Float → ℕ → Point
-pointIn points k = record { x = cell nan (length points / pointColumns) points 0 k; y = cell nan (length points / pointColumns) points 1 k }
 
 -- particle k, by the places of its fields
 abbrev pub particleBits : List ℕ → ℕ → ℕ → Particle
@@ -50,16 +44,16 @@ pub record TriangleIn (a b c lp n lc lv : ℕ) : Type 0 where
   pub first : a < lp / pointColumns
   pub second : b < lp / pointColumns
   pub third : c < lp / pointColumns
-  pub corners : n + 1 ≤ lc / 3
-  pub volumes : n + 1 ≤ lv / 2
+  pub corners : n + 1 ≤ lc / cornerColumns
+  pub volumes : n + 1 ≤ lv / volumeColumns
 
 -- n triangles' rows lie inside the bytes, name particles of the points, and have room in the blocks
 pub record TrianglesIn (s : List ℕ) (at n p lp lc lv : ℕ) : Type 0 where
   pub rows : RowsIn s at 30 n
   pub names : okAt true p (bitsOf s) at 30 n ≡ true
   pub points : p ≤ lp / pointColumns
-  pub corners : n ≤ lc / 3
-  pub volumes : n ≤ lv / 2
+  pub corners : n ≤ lc / cornerColumns
+  pub volumes : n ≤ lv / volumeColumns
 
 -- n edges' rows lie inside the bytes, name particles of the points, and have room in the blocks
 pub record EdgesIn (s : List ℕ) (at n p lp le ll : ℕ) : Type 0 where
@@ -71,7 +65,7 @@ pub record EdgesIn (s : List ℕ) (at n p lp le ll : ℕ) : Type 0 where
 -- n boundary entries' rows lie inside the bytes, and have room in the block
 pub record SidesIn (s : List ℕ) (at n lo : ℕ) : Type 0 where
   pub rows : RowsIn s at 20 n
-  pub outline : n ≤ lo / 2
+  pub outline : n ≤ lo / sideColumns
 
 -- the blade's fields lie inside the bytes, and have places
 pub record BladeIn (s : List ℕ) (at places : ℕ) : Type 0 where

@@ -9,15 +9,17 @@ ghost use Rattle.lists.specs.Lists.{tab, padded};
 ghost use Rattle.float.specs.Numbers.{zero32};
 ghost use Rattle.mesh.specs.At.{particlesAt, trianglesAt, edgesAt, boundaryAt};
 ghost use Rattle.mesh.specs.Filled.{Filled};
-ghost use Rattle.mesh.specs.Widths.{pointColumns};
+ghost use Rattle.mesh.specs.Widths.{pointColumns, sideColumns};
 ghost use Rattle.blade.specs.Points.{minusOf, lengthOf};
 ghost use Rattle.bits.specs.Bits.{bitsOf, fieldAt};
 ghost use Rattle.sheet.specs.Sheet.{coord};
 ghost use Rattle.sheet.specs.Read.{floatOf, inverseOf, areaOf, particleFrom, triangleFrom, sideFrom};
-ghost use Rattle.sheet_rows.specs.Work.{pointIn, particleBits, triangleBits, edgeBits, sideBits, ParticleIn, ParticlesIn, TriangleIn, TrianglesIn, EdgesIn, SidesIn, BladeIn};
+ghost use Rattle.split_plan.specs.Opened.{placeIn};
+ghost use Rattle.sheet_rows.specs.Work.{particleBits, triangleBits, edgeBits, sideBits, ParticleIn, ParticlesIn, TriangleIn, TrianglesIn, EdgesIn, SidesIn, BladeIn};
 ghost use Rattle.mesh.specs.Blocks.{lentBefore};
 use blade::Point;
 use mesh::EdgeRow;
+use split_plan::place;
 
 // The whole number that an 11-bit two's complement field stands for.
 fn coordinate(raw: usize) -> i64
@@ -59,7 +61,7 @@ fn put_particle(
         ≡ particlesAt n (now (points .entry)) (now (roots .entry)) ++ (particleFrom n x y pinned ∷ []) ⌝ }
 {
     let p = points.len() / mesh::POINT_COLUMNS;
-    let r = roots.len() / 2;
+    let r = roots.len() / mesh::ROOT_COLUMNS;
     let fx = float_of(x);
     let fy = float_of(y);
     points[n] = fx;
@@ -91,17 +93,6 @@ pub fn read_particles(s: &[u8], at: usize, n: usize, points: &mut [f32], roots: 
     }
 }
 
-// Where a particle of the points stands.
-fn place(points: &[f32], k: usize) -> Point
-    requires { ⌜ k < length (now points) / pointColumns ⌝ }
-    ensures { λ r. ⌜ r ≡ pointIn (now (points .entry)) k ⌝ }
-{
-    Point {
-        x: points[k],
-        y: points[points.len() / mesh::POINT_COLUMNS + k],
-    }
-}
-
 // Half the absolute cross product.
 fn area(a: Point, b: Point, c: Point) -> f32
     ensures { λ r. ⌜ r ≡ areaOf a b c ⌝ }
@@ -121,14 +112,14 @@ fn put_triangle(
 )
     requires { ⌜ TriangleIn a b c (length (now points)) n (length (now corners)) (length (now volumes)) ⌝ }
     ensures { λ _. ⌜ trianglesAt (n + 1) (now (corners .exit)) (now (volumes .exit))
-        ≡ trianglesAt n (now (corners .entry)) (now (volumes .entry)) ++ (triangleFrom (pointIn (now (points .entry))) a b c ∷ []) ⌝ }
+        ≡ trianglesAt n (now (corners .entry)) (now (volumes .entry)) ++ (triangleFrom (placeIn (now (points .entry))) a b c ∷ []) ⌝ }
 {
-    let t = corners.len() / 3;
-    let v = volumes.len() / 2;
+    let t = corners.len() / mesh::CORNER_COLUMNS;
+    let v = volumes.len() / mesh::VOLUME_COLUMNS;
     corners[n] = a;
     corners[t + n] = b;
     corners[2 * t + n] = c;
-    volumes[n] = area(place(points, a), place(points, b), place(points, c));
+    volumes[n] = area(place(a, points), place(b, points), place(c, points));
     volumes[v + n] = 0.0;
 }
 
@@ -144,7 +135,7 @@ pub fn read_triangles(
 )
     requires { ⌜ TrianglesIn (now s) at n p (length (now points)) (length (now corners)) (length (now volumes)) ⌝ }
     ensures { λ _. ⌜ trianglesAt n (now (corners .exit)) (now (volumes .exit))
-        ≡ tab n (triangleBits (pointIn (now (points .entry))) (bitsOf (now (s .entry))) at) ⌝ }
+        ≡ tab n (triangleBits (placeIn (now (points .entry))) (bitsOf (now (s .entry))) at) ⌝ }
 {
     let mut i = 0;
     let mut pos = at;
@@ -161,9 +152,9 @@ pub fn read_triangles(
 // The rest length between two particles of the points.
 fn span(points: &[f32], a: usize, b: usize) -> f32
     requires { ⌜ (a < length (now points) / pointColumns) × (b < length (now points) / pointColumns) ⌝ }
-    ensures { λ r. ⌜ r ≡ lengthOf (minusOf (pointIn (now (points .entry)) b) (pointIn (now (points .entry)) a)) ⌝ }
+    ensures { λ r. ⌜ r ≡ lengthOf (minusOf (placeIn (now (points .entry)) b) (placeIn (now (points .entry)) a)) ⌝ }
 {
-    blade::length(blade::minus(place(points, b), place(points, a)))
+    blade::length(blade::minus(place(b, points), place(a, points)))
 }
 
 // Reads n edges of p particles from bit `at` on.
@@ -178,7 +169,7 @@ pub fn read_edges(
 )
     requires { ⌜ EdgesIn (now s) at n p (length (now points)) (length (now ends)) (length (now lengths)) ⌝ }
     ensures { λ _. ⌜ edgesAt n (now (ends .exit)) (now (lengths .exit))
-        ≡ tab n (edgeBits (pointIn (now (points .entry))) (bitsOf (now (s .entry))) at) ⌝ }
+        ≡ tab n (edgeBits (placeIn (now (points .entry))) (bitsOf (now (s .entry))) at) ⌝ }
 {
     let mut i = 0;
     let mut pos = at;
@@ -204,10 +195,10 @@ pub fn read_edges(
 
 // Puts a boundary entry behind the n that are there.
 fn put_side(n: usize, a: usize, b: usize, outline: &mut [usize])
-    requires { ⌜ n + 1 ≤ length (now outline) / 2 ⌝ }
+    requires { ⌜ n + 1 ≤ length (now outline) / sideColumns ⌝ }
     ensures { λ _. ⌜ boundaryAt (n + 1) (now (outline .exit)) ≡ boundaryAt n (now (outline .entry)) ++ (sideFrom a b ∷ []) ⌝ }
 {
-    let o = outline.len() / 2;
+    let o = outline.len() / mesh::SIDE_COLUMNS;
     outline[n] = a;
     outline[o + n] = b;
 }

@@ -16,6 +16,7 @@ use Rattle.columns.proofs.Rows.{tab-ext, tab-of}
 use Rattle.float.specs.Numbers.{zero32}
 use Rattle.blade.specs.declared.Point.{Point}
 use Rattle.model.specs.Mesh.{Particle, Triangle, Edge}
+use Rattle.mesh.specs.Filled.{cornerOf}
 use Rattle.mesh.specs.At.{meshAt}
 use Rattle.mesh.specs.Given.{Lent}
 use Rattle.mesh.specs.Filled.{lent}
@@ -114,9 +115,9 @@ handed-read s q d =
       whole-x s q,
       whole-y s q,
       whole-pinned s q,
-      triangle-col place (λ t. t .a) (s .triangles),
-      triangle-col place (λ t. t .b) (s .triangles),
-      triangle-col place (λ t. t .c) (s .triangles),
+      triangle-col place (cornerOf 0) (s .triangles),
+      triangle-col place (cornerOf 1) (s .triangles),
+      triangle-col place (cornerOf 2) (s .triangles),
       edge-col place (λ e. e .a) (s .edges),
       edge-col place (λ e. e .b) (s .edges),
       edge-col place (λ e. e .structural) (s .edges),

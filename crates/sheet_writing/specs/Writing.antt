@@ -9,7 +9,8 @@ use lib.IntN.{ℤ}
 use lib.Ieee.{Float, toSigned, ne}
 use Rattle.lists.specs.Lists.{pick, padded}
 use Rattle.float.specs.Numbers.{zero32}
-use Rattle.model.specs.Mesh.{Particle, Triangle, Edge, Mesh}
+use Rattle.model.specs.Mesh.{Particle, Edge, Mesh}
+use Rattle.mesh.specs.Filled.{cornerOf}
 use Rattle.bits.specs.Bits.{bitsOf}
 use Rattle.sheet.specs.Sheet.{Sheet, Columns, Wholes, fieldsOf, sheetFrom, countsIn, evenOf, tooMany, fitOf, namesOK}
 use Rattle.edition.specs.Edition.{sheet2Bits, ownOf, bytesIn}
@@ -94,9 +95,9 @@ handedOf m blade = record {
   x = map (λ (p : Particle). wholeOf (p .x)) (m .particles);
   y = map (λ (p : Particle). wholeOf (p .y)) (m .particles);
   pinned = map (λ (p : Particle). pinnedOf (p .inv)) (m .particles);
-  t0 = map (λ (t : Triangle). t .a) (m .triangles);
-  t1 = map (λ (t : Triangle). t .b) (m .triangles);
-  t2 = map (λ (t : Triangle). t .c) (m .triangles);
+  t0 = map (cornerOf 0) (m .triangles);
+  t1 = map (cornerOf 1) (m .triangles);
+  t2 = map (cornerOf 2) (m .triangles);
   e0 = map (λ (e : Edge). e .a) (m .edges);
   e1 = map (λ (e : Edge). e .b) (m .edges);
   structural = map (λ (e : Edge). e .structural) (m .edges);

@@ -13,7 +13,7 @@ use Rattle.model.specs.Valid.{rootOk, cornersOk, endsOk, sideOk, indicesFit}
 use Rattle.model.specs.Run.{Entry}
 use Rattle.model.specs.Cut.{Line}
 use Rattle.model.specs.Calls.{Outcome, refused, done, cutCall}
-use Rattle.model_laws.proofs.Accepted.{cut-accepted}
+use Rattle.model_laws.proofs.Accepted.{accepted-rowed, cut-accepted}
 use Rattle.model.specs.Pieces.{pieces}
 use Rattle.mesh.specs.Widths.{pointColumns}
 use Rattle.mesh.specs.At.{trianglesAt, edgesAt}
@@ -54,8 +54,8 @@ module _ (L : Lent) (p : List Float) (r c : List ℕ) (v : List Float) (e : List
     fits = filled-fits (worldOf M log) L p r c v e l b g F same
 
     -- the blocks have the mesh's triangles, its edges and the words of the log
-    triangles-are : trianglesAt (length (M .triangles)) c v ≡ M .triangles
-    triangles-are = triangles-held (worldOf M log) L p r c v e l b g F fits
+    triangles-are : indicesFit M ≡ true → trianglesAt (length (M .triangles)) c v ≡ M .triangles
+    triangles-are ok = triangles-held (worldOf M log) L p r c v e l b g F fits (accepted-rowed M ok .triangles)
 
     edges-are : edgesAt (length (M .edges)) e l ≡ M .edges
     edges-are = edges-held (worldOf M log) L p r c v e l b g F fits
@@ -82,16 +82,16 @@ module _ (L : Lent) (p : List Float) (r c : List ℕ) (v : List Float) (e : List
             volumes = omega (arith, H .volumes, lv);
             ends = omega (arith, H .ends, le);
             lengths = omega (arith, H .lengths, ll);
-            triangle-names = ap (all (cornersOk n)) triangles-are ∙ w .0;
+            triangle-names = ap (all (cornersOk n)) (triangles-are ok) ∙ w .0;
             edge-names = ap (all (endsOk n)) edges-are ∙ w .1;
           },
           omega (arith, H .log, lg, length-map log wordsOf),
           omega (arith, H .log, few .log, length-map log wordsOf),
         )
 
-    done-printed : (f : Bool) → listingBytes f (logAt (length log) g) (length (M .particles)) (piecesIn (trianglesAt (length (M .triangles)) c v) (edgesAt (length (M .edges)) e l))
+    done-printed : indicesFit M ≡ true → (f : Bool) → listingBytes f (logAt (length log) g) (length (M .particles)) (piecesIn (trianglesAt (length (M .triangles)) c v) (edgesAt (length (M .edges)) e l))
         ≡ listingBytes f (map wordsOf log) (length (M .particles)) (pieces M)
-    done-printed f = λ i. listingBytes f (log-is i) (length (M .particles)) ((ap₂ piecesIn triangles-are edges-are ∙ pieces-in M) i)
+    done-printed ok f = λ i. listingBytes f (log-is i) (length (M .particles)) ((ap₂ piecesIn (triangles-are ok) edges-are ∙ pieces-in M) i)
 
   -- an answer whose mesh has indices that fit can be listed
   pub answered-listable : (o : Outcome) (a : Answer) → Answered o L a p r c v e l b g → Modest L → ((M : Mesh) (log : List Entry) (changed : Bool) → o ≡ done M log changed → indicesFit M ≡ true) → Listable a c v e l (length g)
@@ -99,9 +99,9 @@ module _ (L : Lent) (p : List Float) (r c : List ℕ) (v : List Float) (e : List
   answered-listable (done M log changed) a A few ok = subst (λ (x : Answer). Listable x c v e l (length g)) (sym (A .answer)) (done-countable M log (A .blocks) few (ok M log changed refl))
 
   -- and its text is what is printed for the outcome
-  pub answered-text : (f : Bool) (o : Outcome) (a : Answer) → Answered o L a p r c v e l b g → textOf f a c v e l g ≡ printed f o
-  answered-text f (refused n) a A = ap (λ (x : Answer). textOf f x c v e l g) (A .answer)
-  answered-text f (done M log changed) a A = ap (λ (x : Answer). textOf f x c v e l g) (A .answer) ∙ done-printed M log (A .blocks) f
+  pub answered-text : (f : Bool) (o : Outcome) (a : Answer) → Answered o L a p r c v e l b g → ((M : Mesh) (log : List Entry) (changed : Bool) → o ≡ done M log changed → indicesFit M ≡ true) → textOf f a c v e l g ≡ printed f o
+  answered-text f (refused n) a A ok = ap (λ (x : Answer). textOf f x c v e l g) (A .answer)
+  answered-text f (done M log changed) a A ok = ap (λ (x : Answer). textOf f x c v e l g) (A .answer) ∙ done-printed M log (A .blocks) (ok M log changed refl) f
 
 -- ---- with the places that the program lends
 
@@ -125,4 +125,4 @@ module _ (sized : Bool) (M : Mesh) (B : Line) (f : Float) (a : Answer) (p : List
   -- and the text is what is printed for the cut
   pub cut-text : (t : Bool) → f ≡ fraction → textOf t a c v e l g ≡ printed t (cutCall sized M 1 B fraction rooms)
   cut-text t q =
-      answered-text places p r c v e l b g same t (cutCall sized M 1 B f (asRooms (roomsOf places))) a A ∙ ap (λ (x : Float). printed t (cutCall sized M 1 B x (asRooms (roomsOf places)))) q
+      answered-text places p r c v e l b g same t (cutCall sized M 1 B f (asRooms (roomsOf places))) a A (λ N log changed q. cut-accepted sized M 1 B f (asRooms (roomsOf places)) N log changed q) ∙ ap (λ (x : Float). printed t (cutCall sized M 1 B x (asRooms (roomsOf places)))) q

@@ -16,6 +16,7 @@ use Rattle.model_laws.proofs.Marks.{marks-few, roomier, marks-fit, as-unmarked}
 use Rattle.mesh.specs.declared.Counts as M
 use Rattle.bits.specs.Bits.{bitsOf}
 use Rattle.sheet.specs.Sheet.{Sheet, limits}
+use Rattle.sheet.proofs.Rowed.{sheet-rowed}
 use Rattle.sheet.specs.Read.{meshOfSheet, bladeOfSheet}
 use Rattle.sheet.specs.declared.Counts.{Counts}
 use Rattle.edition.specs.Edition.{sheetOf, seenOf}
@@ -51,7 +52,7 @@ sheet-marks s c f seen =
     let k = mesh-counts s c f seen in
     let t = ap (λ (x : M.Counts). x .triangles) k in
     let e = ap (λ (x : M.Counts). x .edges) k in
-    marks-few (kindOf (meshOfSheet S)) (bladeIn S) (meshOfSheet S) 128 256 (omega (arith, t, F .triangles)) (omega (arith, e, F .edges)) (omega arith)
+    marks-few (kindOf (meshOfSheet S)) (bladeIn S) (meshOfSheet S) 128 256 (sheet-rowed S .triangles) (omega (arith, t, F .triangles)) (omega (arith, e, F .edges)) (omega arith)
 
 -- No sheet within the limits gets a refusal 8 that it did not get without marks: where its cut without them is not refused by 8, its cut with them is refused by the same number, or by none as well.
 pub no-new-refusal : (s : List ℕ) (c : Counts) (f : Bool) → seenOf limits s ≡ Whole c f → let S = sheetOf (bitsOf s) .sheet in (firstFault unmarkedRooms (unmarkedRun S .needs) ≡ 8 → ⊥)

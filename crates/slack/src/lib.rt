@@ -20,8 +20,8 @@ fn slacken(from: usize, j: usize, ends: &[usize], lengths: &mut [f32])
     requires { ⌜ EdgeHere j (length (now ends)) (length (now lengths)) ⌝ }
     ensures { λ _. ⌜ SlackAt from j (now (ends .entry)) (now (lengths .entry)) (now (lengths .exit)) ⌝ }
 {
-    let size = lengths.len() / 4;
-    let second = ends.len() / 4 + j;
+    let size = lengths.len() / mesh::LENGTH_COLUMNS;
+    let second = ends.len() / mesh::END_COLUMNS + j;
     if one_beyond(from, ends[j], ends[second]) {
         lengths[2 * size + j] = 0.0;
         lengths[3 * size + j] = 0.0;

@@ -13,7 +13,8 @@ use Rattle.model.specs.Valid.{indicesFit}
 use Rattle.model.specs.Elements.{Kind, Triangles, Straps, Nothing, Element, structural?, strapElement, trianglesFrom, strapsFrom, elementsOf, fanOf, cornersPer}
 use Rattle.model.specs.Trace.{All, Sound}
 use Rattle.model_laws.proofs.Laws.{all-over, all-sift, all-eachOf, all-in, all-map, pick-both}
-use Rattle.model_laws.proofs.Indexed.{Indexed, Pair, numbers-from}
+use Rattle.model_laws.proofs.Indexed.{Indexed, numbers-from}
+use Rattle.model_laws.proofs.Rows.{Pair, named-below}
 use Rattle.model_laws.proofs.Accepted.{accepted-indexed}
 use Rattle.elements.specs.Table.{elementsIn, Cornered, Tabled}
 use Rattle.elements.proofs.Filling.{triangles-length, straps-length}
@@ -43,7 +44,7 @@ Cornering p e = All (λ x. x < p) (e .corners)
 triangle-corners : (p i : ℕ) (ts : List Triangle) → All (Sound p) ts → All (Cornering p) (trianglesFrom i ts)
 unfolding trianglesFrom
 triangle-corners p i [] h = tt
-triangle-corners p i (t ∷ ts) h = ((h .0 .a, (h .0 .b, (h .0 .c, tt))), triangle-corners p (suc i) ts (h .1))
+triangle-corners p i (t ∷ ts) h = (named-below p (t .corners) (h .0 .apart), triangle-corners p (suc i) ts (h .1))
 
 strap-corners : (p i : ℕ) (es : List Edge) → All (λ (e : Edge). Pair p (e .a) (e .b)) es → All (Cornering p) (strapsFrom i es)
 unfolding strapsFrom

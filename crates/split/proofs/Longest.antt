@@ -21,7 +21,8 @@ use Rattle.model.specs.Elements.{Kind, Triangles, Straps, Nothing, Element, bes
 use Rattle.model.specs.Split.{Part, Opening, copyOf, groupAt, retargeted, moved, rewiredTriangles, rewiredStraps, ring, Best, better, scoreOf, scored, toward, edgeGroups, other?, calm, stayed, doubled, otherEdges, atLongest}
 use Rattle.model.specs.Trace.{All, Sound}
 use Rattle.model_laws.proofs.Laws.{pick-both, all-each, all-over, all-append, all-mapAt, all-in, all-map, all-eachOf, all-sift, all-upTo, all-rest, all-head, all-else}
-use Rattle.model_laws.proofs.Indexed.{Indexed, Pair}
+use Rattle.model_laws.proofs.Indexed.{Indexed}
+use Rattle.model_laws.proofs.Rows.{Pair, three-from}
 use Rattle.model_laws.proofs.Traced.{at-below, sound-step, parts-all, Any, all-any}
 use Rattle.mesh.specs.At.{triangleRow, trianglesAt, edgeRow, edgesAt}
 use Rattle.columns.proofs.Cells.{col-0, col-1}
@@ -148,9 +149,10 @@ unfolding trianglesAt cell
 sound-row p t corners volumes h S j l =
     let C = length corners / 3 in
     let f = triangleRow C (length volumes / 2) corners volumes in
-    let r : Sound p (f j) = subst (Sound p) (tab-at t f j blankTriangle l) (all-in (Sound p) (tab t f) j blankTriangle (omega (arith, tab-length t f)) S) in
-    let a : getD corners j 0 ≡ f j .a = sym (col-0 0 C corners j) in
-    let b : getD corners (C + j) 0 ≡ f j .b = sym (col-1 0 C corners j) in
+    let S′ : Sound p (f j) = subst (Sound p) (tab-at t f j blankTriangle l) (all-in (Sound p) (tab t f) j blankTriangle (omega (arith, tab-length t f)) S) in
+    let r = three-from p _ _ _ (S′ .apart) in
+    let a : getD corners j 0 ≡ cell 0 C corners 0 j = sym (col-0 0 C corners j) in
+    let b : getD corners (C + j) 0 ≡ cell 0 C corners 1 j = sym (col-1 0 C corners j) in
     record {
       x-in = omega (arith, a, r .a);
       y-in = omega (arith, b, r .b);

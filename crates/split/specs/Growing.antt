@@ -9,7 +9,7 @@ use Rattle.columns.specs.Block.{cell}
 use Rattle.model.specs.Elements.{Kind, Triangles, Straps}
 use Rattle.model.specs.Split.{Opening, copied, rewiredTriangles, rewiredStraps}
 use Rattle.mesh.specs.At.{particlesAt, trianglesAt, edgesAt}
-use Rattle.mesh.specs.Widths.{pointColumns}
+use Rattle.mesh.specs.Widths.{pointColumns, cornerColumns, endColumns, rootColumns}
 use Rattle.split_plan.specs.Opened.{Weighted}
 use Rattle.split_plan.specs.Answers.{Grouped}
 use Rattle.links.specs.Links.{holds}
@@ -17,8 +17,8 @@ use Rattle.rewire.specs.Stages.{PartsBy}
 
 -- the straps that the tables name are structural edges at v
 pub record StrapsNamed (K : Kind) (v n : ℕ) (numbers ends : List ℕ) : Type 0 where
-  pub structural : K ≡ Straps → (i : ℕ) → i < n → cell 0 (length ends / 4) ends 2 (getD numbers i 0) ≡ 1
-  pub holding : K ≡ Straps → (i : ℕ) → i < n → holds 2 (cell 0 (length ends / 4) ends) v (getD numbers i 0) ≡ true
+  pub structural : K ≡ Straps → (i : ℕ) → i < n → cell 0 (length ends / endColumns) ends 2 (getD numbers i 0) ≡ 1
+  pub holding : K ≡ Straps → (i : ℕ) → i < n → holds 2 (cell 0 (length ends / endColumns) ends) v (getD numbers i 0) ≡ true
 
 -- the first n numbers rise and name triangles of a block of lc places, or straps among e edges, and the copies of their groups are small
 pub record ElementsRoom (K : Kind) (before n lc e : ℕ) (numbers groups : List ℕ) : Type 0 where
@@ -26,17 +26,17 @@ pub record ElementsRoom (K : Kind) (before n lc e : ℕ) (numbers groups : List 
   pub numbers-long : n ≤ length numbers
   pub groups-long : n ≤ length groups
   pub rising : (i j : ℕ) → i < j → j < n → getD numbers i 0 < getD numbers j 0
-  pub in-triangles : K ≡ Triangles → (i : ℕ) → i < n → getD numbers i 0 < lc / 3
+  pub in-triangles : K ≡ Triangles → (i : ℕ) → i < n → getD numbers i 0 < lc / cornerColumns
   pub in-edges : K ≡ Straps → (i : ℕ) → i < n → getD numbers i 0 < e
   pub small : (i : ℕ) → i < n → before + getD groups i 0 ≤ 65536
 
 -- the elements of the fan have their groups' copies for v, in the list of their kind
 pub record ElementsRewired (K : Kind) (v before n : ℕ) (numbers groups corners corners′ ends ends′ : List ℕ) : Type 0 where
   pub triangles :
-      (O : Opening) (t : ℕ) (volumes : List Float) → PartsBy O v before n numbers groups → t ≤ length corners / 3
+      (O : Opening) (t : ℕ) (volumes : List Float) → PartsBy O v before n numbers groups → t ≤ length corners / cornerColumns
       → trianglesAt t corners′ volumes ≡ rewiredTriangles K O (trianglesAt t corners volumes)
   pub edges :
-      (O : Opening) (e : ℕ) (lengths : List Float) → PartsBy O v before n numbers groups → e ≤ length ends / 4
+      (O : Opening) (e : ℕ) (lengths : List Float) → PartsBy O v before n numbers groups → e ≤ length ends / endColumns
       → edgesAt e ends′ lengths ≡ rewiredStraps K O (edgesAt e ends lengths)
 
 -- a copy of v for each group but the first has room behind so many particles, in blocks of lp and lr places, and each of n elements has a group and a measure
@@ -47,7 +47,7 @@ pub record ShareRoom (v before n count lg lm lp lr : ℕ) : Type 0 where
   pub groups-long : n ≤ lg
   pub measures-long : n ≤ lm
   pub points : before + count - 1 ≤ lp / pointColumns
-  pub roots : before + count - 1 ≤ lr / 2
+  pub roots : before + count - 1 ≤ lr / rootColumns
 
 -- v has the mass of group 0, and the copies stand behind the particles
 pub record SharedOut (v before n count : ℕ) (groups : List ℕ) (measures points points′ : List Float) (roots roots′ : List ℕ) : Type 0 where

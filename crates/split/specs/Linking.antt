@@ -15,6 +15,8 @@ use Rattle.work.specs.declared.Ran.{Ran}
 use Rattle.work.specs.declared.Ran.the-variants.{Refused, Done}
 use Rattle.split.specs.declared.Grew.{Grew}
 use Rattle.split.specs.declared.Grew.the-variants.{Lacking, Longest}
+use Rattle.mesh.specs.Widths.{cornerColumns}
+use Rattle.mesh.specs.Limits.{particleLimit, triangleLimit}
 
 -- behind a worker: where it is done, the tables are those of the blocks again
 abbrev pub LinkedAfter : Kind → List ℕ → List ℕ → List ℕ → List ℕ → Ran → Type 0
@@ -48,13 +50,13 @@ pub record FacetsLinked (K : Kind) (n b room : ℕ) (numbers corners outline tab
 
 -- where the elements are triangles: the corners of t triangles are among so many particles, none has one twice, and the first n numbers are of those that hold v
 pub record FanNamed (K : Kind) (v before t n : ℕ) (numbers corners : List ℕ) : Type 0 where
-  pub apart : K ≡ Triangles → CornersApart before 3 t (cell 0 (length corners / 3) corners)
-  pub fan : K ≡ Triangles → take n numbers ≡ cellsOf 3 t (cell 0 (length corners / 3) corners) v
+  pub apart : K ≡ Triangles → CornersApart before 3 t (cell 0 (length corners / cornerColumns) corners)
+  pub fan : K ≡ Triangles → take n numbers ≡ cellsOf 3 t (cell 0 (length corners / cornerColumns) corners) v
 
 -- the table has room for t triangles in a block of lc places, and a head for v and each copy of a group
 pub record HeadsRoom (v before t n lc : ℕ) (groups : List ℕ) : Type 0 where
-  pub few : t ≤ 1024
-  pub rows : t ≤ lc / 3
+  pub few : t ≤ triangleLimit
+  pub rows : t ≤ lc / cornerColumns
   pub here : v < before
-  pub most : before ≤ 1024
-  pub copies : (i : ℕ) → i < n → copyFor v before (getD groups i 0) < 1024
+  pub most : before ≤ particleLimit
+  pub copies : (i : ℕ) → i < n → copyFor v before (getD groups i 0) < particleLimit

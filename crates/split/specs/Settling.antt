@@ -9,11 +9,13 @@ use Rattle.lists.specs.Lists.{sift, upTo}
 use Rattle.model.specs.Mesh.{Edge, Mesh}
 use Rattle.model.specs.Elements.{Kind, Triangles, cornersPer}
 use Rattle.model.specs.Split.{Opening, straddles, followed, crackFacets}
+use Rattle.model.specs.Refusals.{entryRefusal}
 use Rattle.mesh.specs.At.{trianglesAt, edgesAt, boundaryAt}
 use Rattle.mesh.specs.Log.{World, Words, wordsOf, logAt}
 use Rattle.mesh.specs.declared.Counts.{Counts}
 use Rattle.mesh.specs.declared.Rooms.{Rooms}
-use Rattle.mesh.specs.Widths.{pointColumns}
+use Rattle.mesh.specs.Widths.{pointColumns, cornerColumns, lengthColumns, sideColumns, entryWords}
+use Rattle.mesh.specs.Limits.{particleLimit, edgeLimit}
 use Rattle.split_plan.specs.Opened.{Ringed, Numbered, RingRoom, RestsIn, CornersBelow}
 use Rattle.work.specs.Rows.{GrownTo}
 use Rattle.straddling.specs.Tests.{Straddling, StraddleRoom}
@@ -44,9 +46,9 @@ pub record FacetsAsked (K : Kind) (before n count b room : ℕ) (numbers : List 
   pub ring : RingRoom n (cornersPer K) lv lg
   pub small : before + count ≤ 1025
   pub numbers-long : n ≤ length numbers
-  pub in-corners : K ≡ Triangles → (i : ℕ) → i < n → getD numbers i 0 < lc / 3
+  pub in-corners : K ≡ Triangles → (i : ℕ) → i < n → getD numbers i 0 < lc / cornerColumns
   pub rows : b ≤ room
-  pub columns : room ≤ lo / 2
+  pub columns : room ≤ lo / sideColumns
 
 -- the crack facets of a split stand behind the b entries
 pub record FacetsTold (K : Kind) (v before n count b room : ℕ) (numbers verts groups : List ℕ) (corners outline outline′ : List ℕ) (r : Grown) : Type 0 where
@@ -58,7 +60,7 @@ pub record FacetsTold (K : Kind) (v before n count b room : ℕ) (numbers verts 
 pub record BoundaryAsked (K : Kind) (v before n count b room : ℕ) (numbers verts groups : List ℕ) (lp lc : ℕ) (outline : List ℕ) : Type 0 where
   pub facets : FacetsAsked K before n count b room numbers (length verts) (length groups) lc (length outline)
   pub here : v < before
-  pub most : before ≤ 1024
+  pub most : before ≤ particleLimit
   pub rests-in : before ≤ lp / pointColumns
   pub below : (i : ℕ) → i < n → getD groups i 0 < count
   pub corners-in : CornersBelow before n (cornersPer K) verts
@@ -97,13 +99,13 @@ pub record SplitNoted (v before m at s : ℕ) (list ends log log′ : List ℕ) 
 pub record PartAsked (K : Kind) (L : Rooms) (k : Counts) (v before n count extra lv lg lc : ℕ) (ends : List ℕ) (llog : ℕ) : Type 0 where
   pub here : v < before
   pub straddle : StraddleRoom K n (k .triangles) (k .edges) lv lg lc (length ends)
-  pub ends-in : EndsIn 1024 (k .edges) ends
-  pub few-edges : k .edges ≤ 2048
+  pub ends-in : EndsIn particleLimit (k .edges) ends
+  pub few-edges : k .edges ≤ edgeLimit
   pub some : 1 ≤ count
   pub small : before + count ≤ 65536
   pub one-extra : extra ≤ 1
   pub log-in : k .log ≤ L .log
-  pub log-long : L .log ≤ llog / 6
+  pub log-long : L .log ≤ llog / entryWords
 
 -- the straddlers of a split of M are listed, and the split is logged, with room for `extra` entries
 pub record EdgesListed (K : Kind) (O : Opening) (M : Mesh) (L : Rooms) (k q : Counts) (extra rows : ℕ) (ends : List ℕ) (lengths : List Float) (list′ log log′ : List ℕ) : Type 0 where
@@ -118,7 +120,7 @@ pub record EdgesListed (K : Kind) (O : Opening) (M : Mesh) (L : Rooms) (k q : Co
 
 -- what was told of the straddlers: the log lacks room; or the new counts
 abbrev pub PartedTo : Kind → Opening → Mesh → Rooms → Counts → ℕ → ℕ → List ℕ → List Float → List ℕ → List ℕ → List ℕ → Ran → Type 0
-PartedTo K O M L k extra rows ends lengths list′ log log′ (Refused c) = (c ≡ 8) × (L .log < k .log + (length (loggedOf K O M) + extra))
+PartedTo K O M L k extra rows ends lengths list′ log log′ (Refused c) = (c ≡ entryRefusal) × (L .log < k .log + (length (loggedOf K O M) + extra))
 PartedTo K O M L k extra rows ends lengths list′ log log′ (Done q) = EdgesListed K O M L k q extra rows ends lengths list′ log log′
 
 -- for every split that the tables hold
@@ -129,7 +131,7 @@ pub record PartedFor (K : Kind) (L : Rooms) (k : Counts) (v before n count extra
 
 -- the list is one of the edges of k, which are all in the block of le places still, whatever room the other block has for them
 pub record RowsListed (k q : Counts) (rows le : ℕ) (list : List ℕ) : Type 0 where
-  pub listing : (ll : ℕ) → k .edges ≤ ll / 4 → Listing (q .edges) le ll list
+  pub listing : (ll : ℕ) → k .edges ≤ ll / lengthColumns → Listing (q .edges) le ll list
   pub whole : q .edges + listed list ≡ k .edges
   pub triangles : q .triangles ≡ k .triangles
   pub boundary : q .boundary ≡ rows
@@ -153,7 +155,7 @@ pub record SettleAsked (K : Kind) (L : Rooms) (k : Counts) (v before n count ext
   pub in-triangles : K ≡ Triangles → (i : ℕ) → i < n → getD numbers i 0 < k .triangles
   pub below : (i : ℕ) → i < n → getD groups i 0 < count
   pub corners-in : CornersBelow before n (cornersPer K) verts
-  pub ends-in : EndsIn 1024 (k .edges) ends
+  pub ends-in : EndsIn particleLimit (k .edges) ends
   pub sides : SidesIn before (k .boundary) outline
   pub one-extra : extra ≤ 1
 

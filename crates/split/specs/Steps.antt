@@ -13,7 +13,8 @@ use Rattle.mesh.specs.Log.{World, wordsOf}
 use Rattle.mesh.specs.Given.{asRooms}
 use Rattle.mesh.specs.declared.Counts.{Counts}
 use Rattle.mesh.specs.declared.Rooms.{Rooms}
-use Rattle.mesh.specs.Widths.{pointColumns}
+use Rattle.mesh.specs.Widths.{pointColumns, cornerColumns, endColumns, lengthColumns, rootColumns}
+use Rattle.mesh.specs.Limits.{particleLimit, triangleLimit, edgeLimit}
 use Rattle.work.specs.Working.{Within}
 use Rattle.split.specs.Tables.{Opens}
 use Rattle.work.specs.declared.Ran.{Ran}
@@ -26,15 +27,15 @@ use Rattle.split.specs.declared.Grew.the-variants.{Lacking, Longest}
 -- what is asked of the counts, the rooms and the lengths of the blocks that parts 1 to 3 change
 pub record GrowRoom (L : Rooms) (k : Counts) (lp lr lc le ll : ℕ) : Type 0 where
   pub particles : k .particles ≤ L .particles
-  pub few-particles : L .particles ≤ 1024
+  pub few-particles : L .particles ≤ particleLimit
   pub points : L .particles ≤ lp / pointColumns
-  pub roots : L .particles ≤ lr / 2
-  pub few-triangles : k .triangles ≤ 1024
-  pub corners : k .triangles ≤ lc / 3
+  pub roots : L .particles ≤ lr / rootColumns
+  pub few-triangles : k .triangles ≤ triangleLimit
+  pub corners : k .triangles ≤ lc / cornerColumns
   pub edges : k .edges ≤ L .edges
-  pub few-edges : L .edges ≤ 2048
-  pub ends : L .edges ≤ le / 4
-  pub lengths : L .edges ≤ ll / 4
+  pub few-edges : L .edges ≤ edgeLimit
+  pub ends : L .edges ≤ le / endColumns
+  pub lengths : L .edges ≤ ll / lengthColumns
 
 -- the counts with other numbers of particles and edges
 abbrev pub grownCounts : Counts → ℕ → ℕ → Counts

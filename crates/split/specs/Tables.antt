@@ -10,6 +10,8 @@ use Rattle.fan.specs.Groups.{groupsOf, countOf}
 use Rattle.model.specs.Elements.{Kind, Triangles, Straps, cornersPer, facetOthers, fanOf}
 use Rattle.model.specs.Split.{Opening}
 use Rattle.mesh.specs.At.{trianglesAt, edgesAt}
+use Rattle.mesh.specs.Widths.{cornerColumns, endColumns, lengthColumns, volumeColumns}
+use Rattle.mesh.specs.Limits.{triangleLimit, edgeLimit}
 use Rattle.elements.specs.Table.{Tabled}
 use Rattle.split_plan.specs.Opened.{openingBy, Ringed, Weighted, Numbered, RingRoom, CornersBelow}
 
@@ -64,11 +66,11 @@ pub record FanSided (K : Kind) (M : Mesh) (v n : ℕ) (numbers verts : List ℕ)
 
 -- what is asked of the blocks that a fan is read from
 pub record FanLent (t e lc lv le ll : ℕ) : Type 0 where
-  pub few : (t ≤ 1024) × (e ≤ 2048)
-  pub corners : t ≤ lc / 3
-  pub volumes : t ≤ lv / 2
-  pub ends : e ≤ le / 4
-  pub lengths : e ≤ ll / 4
+  pub few : (t ≤ triangleLimit) × (e ≤ edgeLimit)
+  pub corners : t ≤ lc / cornerColumns
+  pub volumes : t ≤ lv / volumeColumns
+  pub ends : e ≤ le / endColumns
+  pub lengths : e ≤ ll / lengthColumns
 
 -- the fan of v in any mesh of these triangles and edges stands in the tables
 pub record FanRead (K : Kind) (v t e : ℕ) (corners : List ℕ) (volumes : List Float) (ends : List ℕ) (lengths : List Float) (n : ℕ) (numbers verts : List ℕ) (measures : List Float) : Type 0 where

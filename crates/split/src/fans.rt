@@ -5,6 +5,7 @@ ghost use Rattle.elements.specs.Table.{kindIs};
 ghost use Rattle.model.specs.Elements.{cornersPer};
 ghost use Rattle.links.specs.Linked.{FrontLinked};
 ghost use Rattle.split.specs.Tables.{FanLent, FanTables, SidesLent, GroupsFound};
+ghost use Rattle.mesh.specs.Limits.{particleLimit};
 use elements::Kind;
 
 // The elements of a fan that the small tables of a split hold, and their corners.
@@ -13,9 +14,9 @@ pub const FEW: usize = 16;
 pub const FEW_CORNERS: usize = 48;
 
 // The elements of any fan, and their corners.
-pub const MANY: usize = 2048;
+pub const MANY: usize = mesh::ELEMENTS;
 
-pub const MANY_CORNERS: usize = 4096;
+pub const MANY_CORNERS: usize = mesh::ELEMENT_CORNERS;
 
 // The numbers, corners and measures of the elements that hold v, as far as the tables go, and how many they are: by walking from link to link.
 pub fn fan_tables(
@@ -33,7 +34,7 @@ pub fn fan_tables(
     links: &[u16],
 ) -> usize
     requires { ⌜ FanLent t e (length (now corners)) (length (now volumes)) (length (now ends)) (length (now lengths))
-        × FrontLinked (kindIs kind) t e (now corners) (now ends) (now links) × (v < 1024) ⌝ }
+        × FrontLinked (kindIs kind) t e (now corners) (now ends) (now links) × (v < particleLimit) ⌝ }
     ensures { λ r. ⌜ FanTables (kindIs kind) v t e (now (corners .entry)) (now (volumes .entry)) (now (ends .entry))
         (now (lengths .entry)) r (now (numbers .exit)) (now (verts .exit)) (now (measures .exit)) ⌝ }
 {
@@ -41,8 +42,8 @@ pub fn fan_tables(
         Kind::Triangles => link_fans::fan_linked(
             v,
             t,
-            1024,
-            1024,
+            mesh::PARTICLES,
+            mesh::TRIANGLES,
             corners,
             volumes,
             links,
@@ -55,7 +56,7 @@ pub fn fan_tables(
             e,
             ends,
             lengths,
-            &links[4096..],
+            &links[links::EDGES_FROM..],
             numbers,
             verts,
             measures,

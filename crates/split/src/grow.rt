@@ -1,14 +1,15 @@
 // The first half of a split: the elements and the other edges of v go to the copies of their groups, and the copies share v's mass.
 ghost use Prim.Native.Nat.{_/_};
 ghost use lib.ListN.{length, take};
-ghost use Rattle.columns.specs.Block.{cell};
 ghost use Rattle.elements.specs.Table.{kindIs};
-ghost use Rattle.links.specs.Links.{LinksOf};
+ghost use Rattle.links.specs.Linked.{TrianglesLinked};
 ghost use Rattle.link_splits.specs.Splits.{SplitRoom};
 ghost use Rattle.rewire.specs.Stages.{TrianglesRewired};
 ghost use Rattle.rewire.specs.Parts.{PartsRoom};
 ghost use Rattle.split.specs.Growing.{ElementsRewired, ShareRoom, SharedOut};
 ghost use Rattle.split.specs.Blocks.{ElementsIn, FrontBehind, GrowIn, GrewIn};
+ghost use Rattle.mesh.specs.Widths.{cornerColumns};
+ghost use Rattle.mesh.specs.Limits.{particleLimit, triangleLimit};
 use crate::Grew;
 use elements::Kind;
 use mesh::Counts;
@@ -26,20 +27,20 @@ fn rewire_linked(
     corners: &mut [usize],
     links: &mut [u16],
 )
-    requires { ⌜ PartsRoom before n (length (now corners) / 3) (now numbers) (now groups)
-        × SplitRoom v before 1024 3 1024 (length (now corners) / 3) t (take n (now numbers)) (take n (now groups)) (now corners)
-        (now links) ⌝ }
+    requires { ⌜ PartsRoom before n (length (now corners) / cornerColumns) (now numbers) (now groups) × SplitRoom v before particleLimit
+        cornerColumns triangleLimit (length (now corners) / cornerColumns) t (take n (now numbers)) (take n (now groups)) (now corners) (now
+        links) ⌝ }
     ensures { λ _. ⌜ TrianglesRewired v before n (now (numbers .entry)) (now (groups .entry)) (now (corners .entry)) (now (corners .exit))
-        × LinksOf 1024 3 1024 t (cell 0 (length (now (corners .exit)) / 3) (now (corners .exit))) (now (links .exit)) ⌝ }
+        × TrianglesLinked t (now (corners .exit)) (now (links .exit)) ⌝ }
 {
-    let rows = corners.len() / 3;
+    let rows = corners.len() / mesh::CORNER_COLUMNS;
     link_splits::split_links(
         v,
         before,
         t,
         3,
-        1024,
-        1024,
+        mesh::PARTICLES,
+        mesh::TRIANGLES,
         rows,
         &numbers[..n],
         &groups[..n],
@@ -77,7 +78,7 @@ fn rewire_elements(
                 numbers,
                 groups,
                 corners,
-                &mut links[..4096],
+                &mut links[..links::EDGES_FROM],
             );
         }
         Kind::Straps => {
@@ -89,7 +90,7 @@ fn rewire_elements(
                 numbers,
                 groups,
                 ends,
-                &mut links[4096..9216],
+                &mut links[links::EDGES_FROM..links::SIDES_FROM],
             );
         }
         Kind::Nothing => {}
@@ -173,7 +174,7 @@ pub fn grow(
         points,
         ends,
         lengths,
-        &mut links[4096..9216],
+        &mut links[links::EDGES_FROM..links::SIDES_FROM],
         list,
     );
     let Grown::Rows(m) = grown else {

@@ -8,6 +8,7 @@ ghost use Rattle.boundary.specs.Faces.{GrownLinked};
 ghost use Rattle.split.specs.Settling.{FacetsAsked, FacetsTold, CopiesNoted, SplitAsked, SplitNoted, PartAsked, PartedFor, RowsAfter};
 ghost use Rattle.split.specs.Linking.{FacetsLinked};
 ghost use Rattle.split.specs.Blocks.{ListIn, FrontIn, OpenIn, OpenedIn, SettleIn, SettledIn};
+ghost use Rattle.mesh.specs.Widths.{entryWords};
 use elements::Kind;
 use mesh::Counts;
 use mesh::Rooms;
@@ -122,7 +123,7 @@ fn log_fits(free: usize, m: usize, s: usize, extra: usize) -> bool
 
 // Notes m copies of v, which were appended to `before` particles, behind the entries.
 fn note_copies(v: usize, before: usize, m: usize, at: usize, log: &mut [u32])
-    requires { ⌜ (before + m ≤ 65536) × (at + m ≤ length (now log) / 6) × (v < before) ⌝ }
+    requires { ⌜ (before + m ≤ 65536) × (at + m ≤ length (now log) / entryWords) × (v < before) ⌝ }
     ensures { λ _. ⌜ CopiesNoted v before m at (now (log .entry)) (now (log .exit)) ⌝ }
 {
     let mut i: usize = 0;
@@ -188,12 +189,12 @@ fn part_straddlers(
         corners,
         ends,
         links,
-        &links[4096..],
+        &links[links::EDGES_FROM..],
         list,
     );
     let m = count - 1;
     if !log_fits(room.log - k.log, m, s, extra) {
-        return Ran::Refused(8);
+        return Ran::Refused(mesh::refusals::ENTRIES);
     }
     let entries = note_split(v, before, m, k.log, s, list, ends, log);
     list[edge_drops::LISTED] = s;
@@ -248,11 +249,11 @@ pub fn settle(
         points,
         corners,
         outline,
-        &mut links[9216..],
+        &mut links[links::SIDES_FROM..],
         list,
     );
     let Grown::Rows(rows) = grown else {
-        return Ran::Refused(7);
+        return Ran::Refused(mesh::refusals::BOUNDARY);
     };
     part_straddlers(
         kind,

@@ -3,4 +3,3 @@ pub mod Rings
 pub mod Weights
 pub mod Towards
 pub mod Tables
-pub mod NameLaws

@@ -57,7 +57,11 @@ ringFrom O from x = sift (λ g. leb from g) (ring O x)
 unfoldable pub massBy : Float → Float → Float → ℕ → Float
 massBy m w total count = pick (lt zero32 total) (shareOf m w total) (over m (count32 count))
 
--- where particle w rests, by the block of points
+-- where particle w is, by the block of points
+abbrev pub placeIn : List Float → ℕ → Point
+placeIn points w = record { x = cell nan (length points / pointColumns) points 0 w; y = cell nan (length points / pointColumns) points 1 w }
+
+-- where it rests
 abbrev pub restIn : List Float → ℕ → Point
 restIn points w = record { x = cell nan (length points / pointColumns) points 2 w; y = cell nan (length points / pointColumns) points 3 w }
 

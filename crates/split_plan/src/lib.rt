@@ -1,10 +1,9 @@
 // A split to be made, read off the tables of a fan and its groups: weights, rings, directions.
 ghost use mathlib.Core.Path.{_≡_};
 ghost use Prim.Native.Nat.{_+_, _*_, _/_, _<_, _≤_};
-ghost use mathlib.Core.List.{[], _∷_};
 ghost use lib.ListN.{length, take, drop};
 ghost use Rattle.lists.specs.Lists.{stands};
-ghost use Rattle.split_plan.specs.Opened.{RingRoom, massBy, restIn};
+ghost use Rattle.split_plan.specs.Opened.{RingRoom, massBy, placeIn, restIn};
 ghost use Rattle.model.specs.Split.{better as betterOf};
 ghost use Rattle.split_plan.specs.Answers.{RingHas, NextGroup, InRing, Meets, Parted, WeightIs, TotalIs, scoreBy, bestIs, RowRoom, BestIn, FanRoom, FanBest, TowardRoom, TowardIs, CopyIs};
 ghost use Rattle.mesh.specs.Widths.{pointColumns};
@@ -161,7 +160,20 @@ pub fn mass_of(m: f32, w: f32, total: f32, count: usize) -> f32
     m / (count as f32)
 }
 
-// Where particle w rests.
+// Where particle w is.
+pub fn place(w: usize, points: &[f32]) -> Point
+    requires { ⌜ w < length (now points) / pointColumns ⌝ }
+    ensures { λ r. ⌜ r ≡ placeIn (now (points .entry)) w ⌝ }
+{
+    let size = points.len() / mesh::POINT_COLUMNS;
+    let next = size + w;
+    Point {
+        x: points[w],
+        y: points[next],
+    }
+}
+
+// Where it rests.
 pub fn rest_point(w: usize, points: &[f32]) -> Point
     requires { ⌜ w < length (now points) / pointColumns ⌝ }
     ensures { λ r. ⌜ r ≡ restIn (now (points .entry)) w ⌝ }
@@ -281,14 +293,4 @@ pub fn copy_number(v: usize, before: usize, count: usize, g: usize) -> usize
         return before + g - 1;
     }
     v
-}
-
-// Is v one of the ends x and y?
-pub fn names(v: usize, x: usize, y: usize) -> bool
-    ensures { λ r. ⌜ r ≡ stands v (x ∷ y ∷ []) ⌝ }
-{
-    if x == v {
-        return true;
-    }
-    y == v
 }

@@ -1,19 +1,20 @@
 -- The removal of straddlers across pieces, by its steps over the blocks: the masks mark what the definition takes away, and so the blocks hold the run behind it. Assumes nothing.
 use mathlib.Core.Path.{_≡_, refl, sym, _∙_, ap, ap₂, subst}
 use mathlib.Core.Bool.{Bool, true, false, not, _&&_}
-use mathlib.Core.List.{List, _++_, map, map-append}
+use mathlib.Core.List.{List, [], _∷_, _++_, map, map-append}
 use Prim.Native.Nat.{ℕ, _+_, _/_, _<_, _≤_}
 use native.Mathlib.Omega.{arith}
 use lib.Ieee.{Float}
 use lib.ListN.{length, length-append, length-map}
-use Rattle.lists.specs.Lists.{sift, keep, tab}
+use Rattle.lists.specs.Lists.{any, sift, keep, pairs, tab}
+use Rattle.lists.proofs.Truths.{or-end}
 use Rattle.lists.proofs.Stores.{tab-length, tab-at}
 use Rattle.columns.proofs.Rows.{keep-sift}
 use Rattle.model.specs.Mesh.{Edge, Side, Mesh, blankEdge}
 use Rattle.model.specs.Elements.{Kind, Triangles, Straps, Nothing, Element, element?, elementsOf}
 use Rattle.model.specs.Run.{Entry, Run, stepTo}
 use Rattle.model.specs.Split.{goneEntries}
-use Rattle.model.specs.Pieces.{bodyLabels, spans, across?, withoutStraddlers, straddlersGone, removeStraddlers}
+use Rattle.model.specs.Pieces.{bodyLabels, spans, spread, across?, withoutStraddlers, straddlersGone, removeStraddlers}
 use Rattle.elements.specs.Table.{elementsIn}
 use Rattle.elements.proofs.Found.{elements-in}
 use Rattle.mesh.specs.At.{particlesAt, trianglesAt, edgesAt, boundaryAt, edgeRow, sideRow, meshAt}
@@ -62,6 +63,11 @@ left-particles : (K : Kind) (M : Mesh) → leftOf K M .particles ≡ M .particle
 unfolding leftOf withoutStraddlers
 left-particles K M = refl
 
+-- of two corners
+spread-two : (es : List Element) (ls : List ℕ) (x y : ℕ) → spread es ls (x ∷ y ∷ []) ≡ spans es ls x y
+unfolding any pairs
+spread-two es ls x y = or-end (spans es ls x y)
+
 module _ (K : Kind) (k : Counts) (points : List Float) (roots corners : List ℕ) (volumes : List Float) (ends : List ℕ) (lengths : List Float) (outline log parent used edge-mask side-mask : List ℕ) (s : ℕ)
     (long : k .particles ≤ length parent) (EI : EndsIn (k .particles) (k .edges) ends) (SI : SidesIn (k .particles) (k .boundary) outline)
     (P : PiecesTold (elementsIn K (trianglesAt (k .triangles) corners volumes) (edgesAt (k .edges) ends lengths)) parent used)
@@ -86,8 +92,8 @@ module _ (K : Kind) (k : Counts) (points : List Float) (roots corners : List ℕ
       E .marks lengths j h
       ∙ ap (λ (t : Bool). not (element? K (row j)) && t) (sym (P .spans-are (row j .a) (row j .b) (omega (arith, EI .first j h)) (omega (arith, EI .second j h))))
 
-  side-mark : (j : ℕ) → j < k .boundary → marked side-mask j ≡ spans es (bodyLabels es) (sideRow (length outline / 2) outline j .a) (sideRow (length outline / 2) outline j .b)
-  side-mark j h = S .marks j h ∙ sym (P .spans-are _ _ (omega (arith, SI .first j h)) (omega (arith, SI .second j h)))
+  side-mark : (j : ℕ) → j < k .boundary → marked side-mask j ≡ spread es (bodyLabels es) (sideRow (length outline / 2) outline j .corners)
+  side-mark j h = S .marks j h ∙ sym (P .spans-are _ _ (omega (arith, SI .first j h)) (omega (arith, SI .second j h))) ∙ sym (spread-two es (bodyLabels es) _ _)
 
   -- what they leave is what the definition leaves
   left-is : _≡_ {A = Mesh}
@@ -97,7 +103,7 @@ module _ (K : Kind) (k : Counts) (points : List Float) (roots corners : List ℕ
   left-is =
       mesh-path refl refl
       (mask-sift (across? K es (bodyLabels es)) blankEdge edge-mask (k .edges) row edge-mark)
-      (mask-sift (λ (s : Side). spans es (bodyLabels es) (s .a) (s .b)) (record { a = 0; b = 0 }) side-mask (k .boundary) (sideRow (length outline / 2) outline) side-mark)
+      (mask-sift (λ (s : Side). spread es (bodyLabels es) (s .corners)) (record { corners = 0 ∷ 0 ∷ [] }) side-mask (k .boundary) (sideRow (length outline / 2) outline) side-mark)
       ∙ sym (ap (λ (l : List Element). withoutStraddlers K l (bodyLabels l) M₀) same-elements)
 
   -- and the marked edges are what it logs

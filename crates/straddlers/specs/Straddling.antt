@@ -12,6 +12,8 @@ use Rattle.model.specs.Mesh.{Edge}
 use Rattle.model.specs.Elements.{Kind, Element, element?}
 use Rattle.model.specs.Pieces.{bodyLabels, spans}
 use Rattle.mesh.specs.At.{edgeRow}
+use Rattle.mesh.specs.Widths.{cornerColumns, endColumns, lengthColumns, volumeColumns, sideColumns}
+use Rattle.mesh.specs.Limits.{triangleLimit, edgeLimit}
 use Rattle.work.specs.Places.{CornersIn, EndsIn, SidesIn}
 use Rattle.work.specs.Removal.{marked, markedOf}
 
@@ -27,12 +29,12 @@ acrossBy K parent used e = not (element? K e) && spansBy parent used (e .a) (e .
 
 -- what the tables of the pieces of t triangles or e edges ask: the tables have a place for each particle that is named
 pub record PiecesRoom (t e : ℕ) (corners : List ℕ) (lv : ℕ) (ends : List ℕ) (ll parent used : ℕ) : Type 0 where
-  pub few-triangles : t ≤ 1024
-  pub few-edges : e ≤ 2048
-  pub corners-long : t ≤ length corners / 3
-  pub volumes-long : t ≤ lv / 2
-  pub ends-long : e ≤ length ends / 4
-  pub lengths-long : e ≤ ll / 4
+  pub few-triangles : t ≤ triangleLimit
+  pub few-edges : e ≤ edgeLimit
+  pub corners-long : t ≤ length corners / cornerColumns
+  pub volumes-long : t ≤ lv / volumeColumns
+  pub ends-long : e ≤ length ends / endColumns
+  pub lengths-long : e ≤ ll / lengthColumns
   pub corners-in : CornersIn parent t corners
   pub ends-in : EndsIn parent e ends
   pub used-long : parent ≤ used
@@ -45,18 +47,18 @@ pub record PiecesTold (es : List Element) (parent used : List ℕ) : Type 0 wher
 
 -- does edge j join two pieces: no length of it is asked
 abbrev pub edgeCrosses : Kind → List ℕ → List ℕ → List ℕ → List Float → ℕ → Bool
-edgeCrosses K parent used ends lengths j = acrossBy K parent used (edgeRow (length ends / 4) (length lengths / 4) ends lengths j)
+edgeCrosses K parent used ends lengths j = acrossBy K parent used (edgeRow (length ends / endColumns) (length lengths / lengthColumns) ends lengths j)
 
 -- does boundary entry j
 abbrev pub sideCrosses : List ℕ → List ℕ → List ℕ → ℕ → Bool
-sideCrosses parent used outline j = spansBy parent used (cell 0 (length outline / 2) outline 0 j) (cell 0 (length outline / 2) outline 1 j)
+sideCrosses parent used outline j = spansBy parent used (cell 0 (length outline / sideColumns) outline 0 j) (cell 0 (length outline / sideColumns) outline 1 j)
 
 -- what the test of edge j asks
 pub record EdgeReads (j parent used : ℕ) (ends : List ℕ) : Type 0 where
-  pub here : j < length ends / 4
+  pub here : j < length ends / endColumns
   pub used-long : parent ≤ used
-  pub first : cell 0 (length ends / 4) ends 0 j < parent
-  pub second : cell 0 (length ends / 4) ends 1 j < parent
+  pub first : cell 0 (length ends / endColumns) ends 0 j < parent
+  pub second : cell 0 (length ends / endColumns) ends 1 j < parent
 
 -- r tells whether edge j joins two pieces
 pub record EdgeTold (K : Kind) (j : ℕ) (parent used ends : List ℕ) (r : Bool) : Type 0 where
@@ -65,7 +67,7 @@ pub record EdgeTold (K : Kind) (j : ℕ) (parent used ends : List ℕ) (r : Bool
 -- what a mask of n edges asks
 pub record EdgeMaskRoom (n parent used : ℕ) (ends : List ℕ) (lm : ℕ) : Type 0 where
   pub few : n ≤ 2048
-  pub ends-long : n ≤ length ends / 4
+  pub ends-long : n ≤ length ends / endColumns
   pub mask-long : n ≤ lm
   pub used-long : parent ≤ used
   pub ends-in : EndsIn parent n ends
@@ -78,7 +80,7 @@ pub record EdgesMarked (K : Kind) (n : ℕ) (parent used ends mask : List ℕ) (
 -- what a mask of n boundary entries asks
 pub record SideMaskRoom (n parent used : ℕ) (outline : List ℕ) (lm : ℕ) : Type 0 where
   pub few : n ≤ 2048
-  pub outline-long : n ≤ length outline / 2
+  pub outline-long : n ≤ length outline / sideColumns
   pub mask-long : n ≤ lm
   pub used-long : parent ≤ used
   pub sides-in : SidesIn parent n outline

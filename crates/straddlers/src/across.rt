@@ -31,9 +31,9 @@ fn find_pieces(
     ensures { λ _. ⌜ PiecesTold (elementsIn (kindIs kind) (trianglesAt t (now (corners .entry)) (now (volumes .entry)))
         (edgesAt e (now (ends .entry)) (now (lengths .entry)))) (now (parent .exit)) (now (used .exit)) ⌝ }
 {
-    let mut numbers = [0usize; 2048];
-    let mut verts = [0usize; 4096];
-    let mut measures = [0.0f32; 2048];
+    let mut numbers = [0usize; mesh::ELEMENTS];
+    let mut verts = [0usize; mesh::ELEMENT_CORNERS];
+    let mut measures = [0.0f32; mesh::ELEMENTS];
     let n = elements::element_table(
         kind,
         t,
@@ -77,7 +77,7 @@ fn edge_crosses(kind: Kind, i: usize, parent: &[usize], used: &[usize], ends: &[
     requires { ⌜ EdgeReads i (length (now parent)) (length (now used)) (now ends) ⌝ }
     ensures { λ r. ⌜ EdgeTold (kindIs kind) i (now (parent .entry)) (now (used .entry)) (now (ends .entry)) r ⌝ }
 {
-    let c = ends.len() / 4;
+    let c = ends.len() / mesh::END_COLUMNS;
     let a = ends[i];
     let b = ends[c + i];
     if elements::is_element(kind, ends[2 * c + i]) {
@@ -114,7 +114,7 @@ fn mark_sides(n: usize, parent: &[usize], used: &[usize], outline: &[usize], mas
     requires { ⌜ SideMaskRoom n (length (now parent)) (length (now used)) (now outline) (length (now mask)) ⌝ }
     ensures { λ _. ⌜ SidesMarked n (now (parent .entry)) (now (used .entry)) (now (outline .entry)) (now (mask .exit)) ⌝ }
 {
-    let c = outline.len() / 2;
+    let c = outline.len() / mesh::SIDE_COLUMNS;
     let mut i: usize = 0;
     while i < n {
         mask[i] = mark(apart(outline[i], outline[c + i], parent, used));
@@ -141,8 +141,8 @@ pub fn remove_straddlers(
     if let Kind::Nothing = kind {
         return Ran::Done(k);
     }
-    let mut parent = [0usize; 1024];
-    let mut used = [0usize; 1024];
+    let mut parent = [0usize; mesh::PARTICLES];
+    let mut used = [0usize; mesh::PARTICLES];
     find_pieces(
         kind,
         k.triangles,
@@ -154,8 +154,8 @@ pub fn remove_straddlers(
         &mut parent,
         &mut used,
     );
-    let mut edge_mask = [0usize; 2048];
-    let mut side_mask = [0usize; 2048];
+    let mut edge_mask = [0usize; mesh::EDGES];
+    let mut side_mask = [0usize; mesh::BOUNDARY];
     let s = mark_edges(kind, k.edges, &parent, &used, ends, &mut edge_mask);
     mark_sides(k.boundary, &parent, &used, outline, &mut side_mask);
     work::removal::remove_marked(

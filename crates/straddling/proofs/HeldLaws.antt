@@ -1,6 +1,6 @@
 -- Laws of two particles that an element holds: one row of the columns, and the rows as the model's elements. Assumes nothing.
 use Rattle.lists.proofs.Truths.{not-true}
-use mathlib.Core.Path.{_≡_, refl, sym, _∙_, ap, ap₂}
+use mathlib.Core.Path.{_≡_, refl, sym, _∙_, ap}
 use mathlib.Core.Bool.{Bool, true, false, _&&_, _||_}
 use mathlib.Core.Logic.{_⊎_, inl, inr, ⊎-elim}
 use mathlib.Core.List.{List, [], _∷_}
@@ -12,8 +12,7 @@ use lib.ListN.{length, getD}
 use lib.Dec.{eqb}
 use Rattle.lists.specs.Lists.{pick, stands, any, tab, upTo}
 use Rattle.lists.proofs.Sifts.{none-any, upTo-length, upTo-at}
-use Rattle.columns.specs.Block.{cell}
-use Rattle.columns.proofs.Cells.{col-0, col-1}
+use Rattle.columns.specs.Block.{cell, rowAt}
 use Rattle.columns.proofs.Rows.{any-stops, and-false}
 use Rattle.elements.proofs.Held.{holdsBoth, both-true, both-false}
 use Rattle.model.specs.Mesh.{Triangle, Edge}
@@ -28,28 +27,7 @@ use Rattle.straddling.specs.Tests.{bothIn, triangleHolds, strapHolds, Wa
 
 -- ---- one row
 
-module _ (w a b c : ℕ) where
-  -- w is the first corner, or one of the others
-  pub among-first : a ≡ w → true ≡ stands w (a ∷ b ∷ c ∷ [])
-  among-first e = rw (eq-eqb a w e)
-
-  pub among-others : (t : Bool) → (a ≡ w → ⊥) → t ≡ stands w (b ∷ c ∷ []) → t ≡ stands w (a ∷ b ∷ c ∷ [])
-  among-others t n e = rw (ne-eqb a w n) e
-
--- the corners of triangle i, the ends of edge i and its flag, as the program reads them
-abbrev threeAt : List ℕ → ℕ → List ℕ
-threeAt C i = getD C i 0 ∷ getD C (length C / 3 + i) 0 ∷ getD C (2 * (length C / 3) + i) 0 ∷ []
-
-abbrev twoAt : List ℕ → ℕ → List ℕ
-twoAt E i = getD E i 0 ∷ getD E (length E / 4 + i) 0 ∷ []
-
-corners-read : (C : List ℕ) (i : ℕ) → threeAt C i ≡ cell 0 (length C / 3) C 0 i ∷ cell 0 (length C / 3) C 1 i ∷ cell 0 (length C / 3) C 2 i ∷ []
-unfolding cell
-corners-read C i = ap₂ (λ (a b : ℕ). a ∷ b ∷ getD C (2 * (length C / 3) + i) 0 ∷ []) (sym (col-0 0 (length C / 3) C i)) (sym (col-1 0 (length C / 3) C i))
-
-ends-read : (E : List ℕ) (i : ℕ) → twoAt E i ≡ cell 0 (length E / 4) E 0 i ∷ cell 0 (length E / 4) E 1 i ∷ []
-ends-read E i = ap₂ (λ (a b : ℕ). a ∷ b ∷ []) (sym (col-0 0 (length E / 4) E i)) (sym (col-1 0 (length E / 4) E i))
-
+-- the flag of edge i, as the program reads it
 flag-read : (E : List ℕ) (i : ℕ) → cell 0 (length E / 4) E 2 i ≡ getD E (2 * (length E / 4) + i) 0
 unfolding cell
 flag-read E i = refl
@@ -58,10 +36,6 @@ flag-read E i = refl
 abbrev cornerIn : List ℕ → ℕ → ℕ → ℕ
 cornerIn C = cell 0 (length C / 3) C
 
-pub triangle-told : (y : ℕ) (C : List ℕ) (i : ℕ) (r : Bool) → r ≡ stands y (threeAt C i) → r ≡ holds 3 (cornerIn C) y i
-unfolding holds tab
-triangle-told y C i r e = e ∙ ap (stands y) (corners-read C i)
-
 -- one test behind the other
 module _ (x y : ℕ) (C : List ℕ) (i : ℕ) where
   triangle-both : triangleHolds x y C i ≡ holds 3 (cornerIn C) x i && holds 3 (cornerIn C) y i
@@ -69,8 +43,9 @@ module _ (x y : ℕ) (C : List ℕ) (i : ℕ) where
   triangle-both = refl
 
   -- where x stands, the test of y tells
-  pub triangle-rest : holds 3 (cornerIn C) x i ≡ true → (r : Bool) → r ≡ holds 3 (cornerIn C) y i → triangleHolds x y C i ≡ r
-  triangle-rest p r q = triangle-both ∙ sym (both-true p q)
+  pub triangle-rest : holds 3 (cornerIn C) x i ≡ true → (r : Bool) → r ≡ stands y (rowAt 3 (length C / 3) C i) → triangleHolds x y C i ≡ r
+  unfolding holds tab
+  triangle-rest p r q = sym (both-true p q)
 
   -- it holds both only if it holds x
   pub triangle-only : holds 3 (cornerIn C) x i ≡ false → triangleHolds x y C i ≡ false
@@ -85,15 +60,15 @@ module _ (x y : ℕ) (E : List ℕ) (i : ℕ) where
   pub strap-loose : (getD E (2 * (length E / 4) + i) 0 ≡ 1 → ⊥) → false ≡ strapHolds x y E i
   strap-loose n = both-false (bothIn x y (cell 0 (length E / 4) E 0 i ∷ cell 0 (length E / 4) E 1 i ∷ [])) (ne-eqb (cell 0 (length E / 4) E 2 i) 1 (λ q. n (sym (flag-read E i) ∙ q)))
 
-  module _ (e : getD E (2 * (length E / 4) + i) 0 ≡ 1) (s : Bool) (p : s ≡ stands x (twoAt E i)) where
-    strap-told : (t : Bool) → t ≡ bothIn x y (twoAt E i) → t ≡ strapHolds x y E i
-    strap-told t q = both-true (eq-eqb (cell 0 (length E / 4) E 2 i) 1 (flag-read E i ∙ e)) (q ∙ ap (bothIn x y) (ends-read E i))
+  module _ (e : getD E (2 * (length E / 4) + i) 0 ≡ 1) (s : Bool) (p : s ≡ stands x (rowAt 2 (length E / 4) E i)) where
+    strap-told : (t : Bool) → t ≡ bothIn x y (rowAt 2 (length E / 4) E i) → t ≡ strapHolds x y E i
+    strap-told t q = both-true (eq-eqb (cell 0 (length E / 4) E 2 i) 1 (flag-read E i ∙ e)) q
 
-    pub strap-both : s ≡ true → (t : Bool) → t ≡ stands y (twoAt E i) → t ≡ strapHolds x y E i
+    pub strap-both : s ≡ true → (t : Bool) → t ≡ stands y (rowAt 2 (length E / 4) E i) → t ≡ strapHolds x y E i
     strap-both q t r = strap-told t (both-true (sym p ∙ q) r)
 
     pub strap-not : s ≡ false → false ≡ strapHolds x y E i
-    strap-not q = strap-told false (both-false (stands y (twoAt E i)) (sym p ∙ q))
+    strap-not q = strap-told false (both-false (stands y (rowAt 2 (length E / 4) E i)) (sym p ∙ q))
 
   -- it holds both only if it holds x
   pub strap-only : holds 2 (endIn E) x i ≡ false → strapHolds x y E i ≡ false

@@ -14,10 +14,11 @@ use Rattle.model.specs.Elements.{Kind, held, cornersPer}
 use Rattle.model.specs.Split.{Opening, straddles}
 use Rattle.mesh.specs.At.{edgesAt, trianglesAt}
 use Rattle.mesh.specs.Workers.{rowAt}
+use Rattle.mesh.specs.Widths.{cornerColumns, endColumns}
+use Rattle.mesh.specs.Limits.{particleLimit, triangleLimit}
 use Rattle.split_plan.specs.Opened.{Ringed, RingRoom}
 use Rattle.work.specs.Places.{EndsIn}
-use Rattle.links.specs.Links.{LinksOf}
-use Rattle.links.specs.Linked.{Linked, EdgesLinked}
+use Rattle.links.specs.Linked.{TrianglesLinked, Linked, EdgesLinked}
 
 -- v and its copies: `copies` of an opening at v, with so many particles before it, of so many groups
 abbrev pub copiesBy : ℕ → ℕ → ℕ → List ℕ
@@ -29,30 +30,30 @@ bothIn x y l = stands x l && stands y l
 
 -- triangle i of a block holds both x and y
 abbrev pub triangleHolds : ℕ → ℕ → List ℕ → ℕ → Bool
-triangleHolds x y corners i = bothIn x y (cell 0 (length corners / 3) corners 0 i ∷ cell 0 (length corners / 3) corners 1 i ∷ cell 0 (length corners / 3) corners 2 i ∷ [])
+triangleHolds x y corners i = bothIn x y (cell 0 (length corners / cornerColumns) corners 0 i ∷ cell 0 (length corners / cornerColumns) corners 1 i ∷ cell 0 (length corners / cornerColumns) corners 2 i ∷ [])
 
 -- edge i of a block is structural and holds both
 abbrev pub strapHolds : ℕ → ℕ → List ℕ → ℕ → Bool
-strapHolds x y ends i = eqb (cell 0 (length ends / 4) ends 2 i) 1 && bothIn x y (cell 0 (length ends / 4) ends 0 i ∷ cell 0 (length ends / 4) ends 1 i ∷ [])
+strapHolds x y ends i = eqb (cell 0 (length ends / endColumns) ends 2 i) 1 && bothIn x y (cell 0 (length ends / endColumns) ends 0 i ∷ cell 0 (length ends / endColumns) ends 1 i ∷ [])
 
 -- the table of links is that of the first t triangles of the block, and x has a head in it
 pub record WalkRoom (x t : ℕ) (corners links : List ℕ) : Type 0 where
-  pub here : x < 1024
-  pub few : t ≤ 1024
-  pub rows : t ≤ length corners / 3
+  pub here : x < particleLimit
+  pub few : t ≤ triangleLimit
+  pub rows : t ≤ length corners / cornerColumns
   pub long : 4096 ≤ length links
-  pub linked : LinksOf 1024 3 1024 t (cell 0 (length corners / 3) corners) links
+  pub linked : TrianglesLinked t corners links
 
 -- the table is that of the first e edges of the block, and x has a head in it
 pub record EdgeWalkRoom (x e : ℕ) (ends table : List ℕ) : Type 0 where
-  pub here : x < 1024
+  pub here : x < particleLimit
   pub linked : EdgesLinked e ends table
 
 -- what a test of two particles asks: rows within the blocks, the table of links of at most 1,024 triangles, that of the edges, and a head in both for the first
 pub record HeldRoom (K : Kind) (x t e : ℕ) (corners ends links table : List ℕ) : Type 0 where
-  pub here : x < 1024
-  pub few : t ≤ 1024
-  pub rows : t ≤ length corners / 3
+  pub here : x < particleLimit
+  pub few : t ≤ triangleLimit
+  pub rows : t ≤ length corners / cornerColumns
   pub linked : Linked K t corners links
   pub edges : EdgesLinked e ends table
 
@@ -72,9 +73,9 @@ pub record Straddling (K : Kind) (O : Opening) (M : Mesh) (v before n count t e 
 -- what a straddler test asks: tables that fit, at most 1,024 triangles, and rows within the blocks
 pub record StraddleRoom (K : Kind) (n t e lv lg lc le : ℕ) : Type 0 where
   pub ring : RingRoom n (cornersPer K) lv lg
-  pub few : t ≤ 1024
-  pub corners : t ≤ lc / 3
-  pub ends : e ≤ le / 4
+  pub few : t ≤ triangleLimit
+  pub corners : t ≤ lc / cornerColumns
+  pub ends : e ≤ le / endColumns
 
 -- each of the first m corners of a fan that has a place in the table is marked there
 pub record NearMarked (m : ℕ) (verts near : List ℕ) : Type 0 where
@@ -83,7 +84,7 @@ pub record NearMarked (m : ℕ) (verts near : List ℕ) : Type 0 where
 -- what the test of an edge by a table of the near asks besides: the corners of the fan are marked, and the ends of the edges have places
 pub record NearRoom (K : Kind) (n e : ℕ) (verts ends near : List ℕ) : Type 0 where
   pub corners-near : NearMarked (n * cornersPer K) verts near
-  pub ends-in : EndsIn 1024 e ends
+  pub ends-in : EndsIn particleLimit e ends
   pub places : 1024 ≤ length near
 
 -- r tells whether edge i straddles

@@ -8,6 +8,7 @@ ghost use Rattle.links.specs.Linked.{Linked, EdgesLinked};
 ghost use Rattle.work.specs.Places.{EndsIn};
 ghost use Rattle.straddling.specs.Tests.{copiesBy, StraddleRoom, NearMarked, NearRoom, StraddleTold, StraddlersListed};
 ghost use Rattle.straddling.specs.Listing.{ListRoom, EdgeListed, EdgesListed, WalkTold};
+ghost use Rattle.mesh.specs.Limits.{particleLimit};
 use elements::Kind;
 
 pub mod held;
@@ -23,7 +24,7 @@ pub struct Split {
 }
 
 // Is w v or one of its copies?
-fn is_copy(w: usize, v: usize, before: usize, count: usize) -> bool
+pub fn is_copy(w: usize, v: usize, before: usize, count: usize) -> bool
     ensures { λ r. ⌜ r ≡ stands w (copiesBy v before count) ⌝ }
 {
     if w == v {
@@ -56,12 +57,12 @@ fn straddles(
     table: &[u16],
 ) -> bool
     requires { ⌜ (let K = kindIs kind in StraddleRoom K n t e (length (now verts)) (length (now groups)) (length (now corners))
-        (length (now ends)) × (i < e) × EndsIn 1024 e (now ends) × Linked K t (now corners) (now links)
+        (length (now ends)) × (i < e) × EndsIn particleLimit e (now ends) × Linked K t (now corners) (now links)
         × EdgesLinked e (now ends) (now table)) ⌝ }
     ensures { λ r. ⌜ StraddleTold (kindIs kind) i v before n count t e (now (verts .entry)) (now (groups .entry)) (now (corners .entry))
         (now (ends .entry)) r ⌝ }
 {
-    let c = ends.len() / 4;
+    let c = ends.len() / mesh::END_COLUMNS;
     let a = ends[i];
     let b = ends[c + i];
     if elements::is_element(kind, ends[2 * c + i]) {
@@ -119,7 +120,7 @@ fn near_straddles(
     ensures { λ r. ⌜ StraddleTold (kindIs kind) i v before n count t e (now (verts .entry)) (now (groups .entry)) (now (corners .entry))
         (now (ends .entry)) r ⌝ }
 {
-    let c = ends.len() / 4;
+    let c = ends.len() / mesh::END_COLUMNS;
     let a = ends[i];
     let b = ends[c + i];
     if near[a] != 1 {
@@ -218,10 +219,10 @@ fn list_edges_at(
     if x == of.v {
         return r;
     }
-    if x >= 1024 {
+    if x >= mesh::PARTICLES {
         return r;
     }
-    let rows = ends.len() / 4;
+    let rows = ends.len() / mesh::END_COLUMNS;
     let mut listed = r;
     let mut at = links::first_at(x, table);
     while at > 0 {
@@ -242,7 +243,7 @@ fn list_edges_at(
             near,
             list,
         );
-        at = links::next_at(x, i, 2, 1024, 2048, rows, ends, table);
+        at = links::next_at(x, i, 2, mesh::PARTICLES, mesh::EDGES, rows, ends, table);
     }
     listed
 }
@@ -280,12 +281,12 @@ pub fn list_straddlers(
     list: &mut [usize],
 ) -> usize
     requires { ⌜ (let K = kindIs kind in StraddleRoom K n t e (length (now verts)) (length (now groups)) (length (now corners))
-        (length (now ends)) × (e ≤ length (now list)) × EndsIn 1024 e (now ends) × Linked K t (now corners) (now links)
+        (length (now ends)) × (e ≤ length (now list)) × EndsIn particleLimit e (now ends) × Linked K t (now corners) (now links)
         × EdgesLinked e (now ends) (now table)) ⌝ }
     ensures { λ r. ⌜ StraddlersListed (kindIs kind) v before n count t e (now (verts .entry)) (now (groups .entry)) (now (corners .entry))
         (now (ends .entry)) (now (list .exit)) r ⌝ }
 {
-    let mut near = [0u8; 1024];
+    let mut near = [0u8; mesh::PARTICLES];
     let m = n * elements::corners_per(kind);
     mark_corners(m, verts, &mut near);
     let of = Split {
@@ -295,7 +296,7 @@ pub fn list_straddlers(
         n,
         count,
     };
-    let mut walked = [0u8; 1024];
+    let mut walked = [0u8; mesh::PARTICLES];
     let mut listed: usize = 0;
     let mut q: usize = 0;
     while q < m {

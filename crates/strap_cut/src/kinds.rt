@@ -31,7 +31,7 @@ fn cut_triangles(
     requires { ⌜ ReadyIn room k points roots corners volumes ends lengths outline log × Logged (k .log) (now log) ⌝ }
     ensures { λ r. ⌜ WorksIn (cutFacets (bladeBy rule b0 b1)) room k points roots corners volumes ends lengths outline log r ⌝ }
 {
-    let mut marks = [0usize; 1024];
+    let mut marks = [0usize; mesh::PARTICLES];
     let mut list = [0usize; edge_drops::LIST];
     let mut links = [0u16; links::PLACES];
     links::link_mesh(
@@ -84,7 +84,7 @@ fn cut_straps(
     requires { ⌜ ReadyIn room k points roots corners volumes ends lengths outline log × Logged (k .log) (now log) × ListIn list ⌝ }
     ensures { λ r. ⌜ WorksIn (cutSegments (bladeFrom b0 b1) f) room k points roots corners volumes ends lengths outline log r ⌝ }
 {
-    let mut marks = [0usize; 1024];
+    let mut marks = [0usize; mesh::PARTICLES];
     crate::segments::cut_segments(
         b0,
         b1,
@@ -124,7 +124,8 @@ pub fn run(
     list: &mut [usize],
 ) -> Ran
     requires { ⌜ ReadyIn room k points roots corners volumes ends lengths outline log × Logged (k .log) (now log) × ListIn list ⌝ }
-    ensures { λ r. ⌜ WorksIn (cutAlong (kindIs kind) (bladeBy rule b0 b1) f) room k points roots corners volumes ends lengths outline log r ⌝ }
+    ensures { λ r. ⌜ WorksIn (cutAlong (kindIs kind) (bladeBy rule b0 b1) f) room k points roots corners volumes ends lengths outline log r
+        ⌝ }
 {
     match kind {
         Kind::Triangles => cut_triangles(

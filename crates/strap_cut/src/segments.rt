@@ -37,10 +37,18 @@ fn cross_blade(
     requires { ⌜ CrossIn room k points roots ends lengths outline log bends snapped × Logged (k .log) (now log) ⌝ }
     ensures { λ r. ⌜ BladeCrossedIn b0 b1 f room k points roots ends lengths outline log bends snapped r ⌝ }
 {
-    let mut numbers = [0u16; 2048];
-    let mut ts = [0.0f32; 2048];
+    let mut numbers = [0u16; mesh::EDGES];
+    let mut ts = [0.0f32; mesh::EDGES];
     let mut table = [0u16; 5120];
-    links::build_links(k.edges, 2, 1024, 2048, ends.len() / 4, ends, &mut table);
+    links::build_links(
+        k.edges,
+        2,
+        mesh::PARTICLES,
+        mesh::EDGES,
+        ends.len() / mesh::END_COLUMNS,
+        ends,
+        &mut table,
+    );
     let m = crossing::crossings::find_crossings(
         b0,
         b1,

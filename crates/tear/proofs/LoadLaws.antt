@@ -17,6 +17,7 @@ use Rattle.columns.proofs.Cells.{col-0, col-1}
 use Rattle.columns.proofs.Sweep.{front-grows}
 use Rattle.model.specs.Mesh.{Triangle, Edge, Mesh}
 use Rattle.model.specs.Trace.{Sound}
+use Rattle.model_laws.proofs.Rows.{Three, three-from}
 use Rattle.model.specs.Elements.{endsOf}
 use Rattle.model.specs.Crack.{largestStress, stressBetween, triangleLoad, loadsOf}
 use Rattle.mesh.specs.At.{triangleRow, edgeRow, trianglesAt, edgesAt}
@@ -166,17 +167,20 @@ corner-two corners i = refl
 
 -- two corners of a triangle are apart
 module _ (corners : List ℕ) (volumes : List Float) (i : ℕ) (S : Sound 1024 (triangleRow (length corners / 3) (length volumes / 2) corners volumes i)) where
+  three : Three 1024 (cell 0 (length corners / 3) corners 0 i) (cell 0 (length corners / 3) corners 1 i) (cell 0 (length corners / 3) corners 2 i)
+  three = three-from 1024 _ _ _ (S .apart)
+
   apart-by : {a b x y : ℕ} → a ≡ x → b ≡ y → a < 1024 → b < 1024 → (a ≡ b → ⊥) → Apart x y
   apart-by p q h k n = record { first = omega arith; second = omega arith; differ = λ e. n (p ∙ e ∙ sym q) }
 
   pub apart-ab : Apart (getD corners i 0) (getD corners (length corners / 3 + i) 0)
-  apart-ab = apart-by (col-0 0 (length corners / 3) corners i) (col-1 0 (length corners / 3) corners i) (S .a) (S .b) (S .ab)
+  apart-ab = apart-by (col-0 0 (length corners / 3) corners i) (col-1 0 (length corners / 3) corners i) (three .a) (three .b) (three .ab)
 
   pub apart-ac : Apart (getD corners i 0) (getD corners (2 * (length corners / 3) + i) 0)
-  apart-ac = apart-by (col-0 0 (length corners / 3) corners i) (sym (corner-two corners i)) (S .a) (S .c) (λ e. S .ca (sym e))
+  apart-ac = apart-by (col-0 0 (length corners / 3) corners i) (sym (corner-two corners i)) (three .a) (three .c) (λ e. three .ca (sym e))
 
   pub apart-bc : Apart (getD corners (length corners / 3 + i) 0) (getD corners (2 * (length corners / 3) + i) 0)
-  apart-bc = apart-by (col-1 0 (length corners / 3) corners i) (sym (corner-two corners i)) (S .b) (S .c) (S .bc)
+  apart-bc = apart-by (col-1 0 (length corners / 3) corners i) (sym (corner-two corners i)) (three .b) (three .c) (three .bc)
 
 -- three lists, one behind the other
 fold-three : (b : Float) (l m n : List Float) → fold maxOf (fold maxOf (fold maxOf b l) m) n ≡ fold maxOf b (l ++ (m ++ (n ++ [])))
@@ -185,13 +189,13 @@ fold-three b l m n =
     (fold-append maxOf b l (m ++ (n ++ [])) ∙ fold-append maxOf (fold maxOf b l) m (n ++ []) ∙ ap (fold maxOf (fold maxOf (fold maxOf b l) m)) (append-nil n))
 
 -- three pairs of corners, one behind the other
-load-three : (M : Mesh) (t : Triangle) (own : Float) (x y z : ℕ) (first second r : Float) → own ≡ t .stress → x ≡ t .a → y ≡ t .b → z ≡ t .c
+load-three : (M : Mesh) (a b c : ℕ) (v : Float) (own stress : Float) (x y z : ℕ) (first second r : Float) → own ≡ stress → x ≡ a → y ≡ b → z ≡ c
     → first ≡ fold maxOf own (stressBetween M (x, y)) → second ≡ fold maxOf first (stressBetween M (x, z)) → r ≡ fold maxOf second (stressBetween M (y, z))
-    → r ≡ triangleLoad M t
+    → r ≡ triangleLoad M (record { corners = a ∷ b ∷ c ∷ []; volume = v; stress = stress })
 unfolding triangleLoad each pairs
-load-three M t own x y z first second r eo ex ey ez p q s =
-    let chain : r ≡ fold maxOf (fold maxOf (fold maxOf (t .stress) (stressBetween M (t .a, t .b))) (stressBetween M (t .a, t .c))) (stressBetween M (t .b, t .c)) = cc in
-    chain ∙ fold-three (t .stress) (stressBetween M (t .a, t .b)) (stressBetween M (t .a, t .c)) (stressBetween M (t .b, t .c))
+load-three M a b c v own stress x y z first second r eo ex ey ez p q s =
+    let chain : r ≡ fold maxOf (fold maxOf (fold maxOf stress (stressBetween M (a, b))) (stressBetween M (a, c))) (stressBetween M (b, c)) = cc in
+    chain ∙ fold-three stress (stressBetween M (a, b)) (stressBetween M (a, c)) (stressBetween M (b, c))
 
 pub triangle-loaded : (i e : ℕ) (corners : List ℕ) (volumes : List Float) (ends : List ℕ) (lengths : List Float) (first second r : Float)
     → PairLoad (getD volumes (length volumes / 2 + i) nan) (getD corners i 0) (getD corners (length corners / 3 + i) 0) e ends lengths first
@@ -202,7 +206,7 @@ triangle-loaded i e corners volumes ends lengths first second r P Q S =
     let C = length corners / 3 in
     record {
       is = λ M q.
-          load-three M (triangleRow C (length volumes / 2) corners volumes i) (getD volumes (length volumes / 2 + i) nan) (getD corners i 0) (getD corners (C + i) 0) (getD corners (2 * C + i) 0) first second r
+          load-three M (cell 0 C corners 0 i) (cell 0 C corners 1 i) (cell 0 C corners 2 i) (cell nan (length volumes / 2) volumes 0 i) (getD volumes (length volumes / 2 + i) nan) (cell nan (length volumes / 2) volumes 1 i) (getD corners i 0) (getD corners (C + i) 0) (getD corners (2 * C + i) 0) first second r
           (sym (col-1 nan (length volumes / 2) volumes i)) (sym (col-0 0 C corners i)) (sym (col-1 0 C corners i)) (corner-two corners i) (P .is M q) (Q .is M q) (S .is M q);
     }
 

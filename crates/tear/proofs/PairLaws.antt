@@ -17,7 +17,8 @@ use Rattle.model.specs.Run.{Run, splitsOf}
 use Rattle.model.specs.Crack.{family, crossPairs, joins, firstOf, currentOf, currentPair}
 use Rattle.model.specs.Trace.{All}
 use Rattle.model_laws.proofs.Laws.{all-in, Found}
-use Rattle.model_laws.proofs.Indexed.{Pair as Two, Indexed}
+use Rattle.model_laws.proofs.Indexed.{Indexed}
+use Rattle.model_laws.proofs.Rows.{Pair as Two}
 use Rattle.model_laws.proofs.Accepted.{accepted-indexed}
 use Rattle.mesh.specs.At.{trianglesAt, edgesAt, meshAt}
 use Rattle.mesh.specs.Log.{World, worldOf, worldAt}

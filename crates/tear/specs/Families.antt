@@ -14,6 +14,7 @@ use Rattle.model.specs.Run.{Run, splitsOf}
 use Rattle.model.specs.Crack.{family, joins, crossPairs}
 use Rattle.mesh.specs.At.{edgesAt}
 use Rattle.mesh.specs.Log.{Words, wordsOf, logAt}
+use Rattle.mesh.specs.Widths.{endColumns, entryWords}
 use Rattle.elements.specs.Table.{Cornered}
 use Rattle.tear.specs.declared.families.Pair.{Pair}
 use Rattle.tear.specs.declared.families.Pair.the-variants.{None, Ends}
@@ -33,7 +34,7 @@ sourceIn w l = eqb (w .kind) 1 && stands (w .b) l
 
 -- the log has l entries, and there is room for each and one more
 pub record FamilyRoom (l lg lf : ℕ) : Type 0 where
-  pub log : l ≤ lg / 6
+  pub log : l ≤ lg / entryWords
   pub room : l + 1 ≤ lf
 
 -- the first r of the table are the family of a
@@ -59,7 +60,7 @@ meet false K M xy = any (joins xy) (M .edges)
 -- the table has n elements of k corners, and the block e edges
 pub record MeetRoom (k n lk e le : ℕ) : Type 0 where
   pub table : n * k ≤ lk
-  pub edges : e ≤ le / 4
+  pub edges : e ≤ le / endColumns
 
 -- a mesh whose elements stand in the table, and whose edges have these ends
 pub record MeshIn (K : Kind) (M : Mesh) (k n : ℕ) (verts : List ℕ) (e : ℕ) (ends : List ℕ) (lengths : List Float) : Type 0 where
@@ -87,7 +88,7 @@ pub record PairMet (in-element : Bool) (xs ys : List ℕ) (k n : ℕ) (verts : L
 
 -- what the current pair asks
 pub record CurrentRoom (l lg k n lk e le : ℕ) : Type 0 where
-  pub log : l ≤ lg / 6
+  pub log : l ≤ lg / entryWords
   pub few : l ≤ 4096
   pub meet : MeetRoom k n lk e le
 

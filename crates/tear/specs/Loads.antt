@@ -12,11 +12,13 @@ use Rattle.model.specs.Trace.{Sound}
 use Rattle.model.specs.Crack.{stressBetween, triangleLoad, loadsOf}
 use Rattle.mesh.specs.At.{triangleRow, trianglesAt, edgesAt}
 use Rattle.mesh.specs.Workers.{EdgeRoom}
+use Rattle.mesh.specs.Widths.{cornerColumns, endColumns, volumeColumns}
+use Rattle.mesh.specs.Limits.{particleLimit, edgeLimit}
 use Rattle.work.specs.Places.{EndsIn}
 
 -- the sum of the ends of edge i: the number of its bucket
 abbrev pub endSum : List ℕ → ℕ → ℕ
-endSum ends i = getD ends i 0 + getD ends (length ends / 4 + i) 0
+endSum ends i = getD ends i 0 + getD ends (length ends / endColumns + i) 0
 
 -- k is the first edge from j on whose ends have sum s, or e where there is none
 pub record FirstFrom (j s e : ℕ) (ends : List ℕ) (k : ℕ) : Type 0 where
@@ -32,8 +34,8 @@ pub record Linked (j e : ℕ) (ends heads nexts : List ℕ) : Type 0 where
 
 -- what is asked where edges are linked: their ends are below 1,024, the buckets are empty, and a link has its place
 pub record LinkRoom (e : ℕ) (ends heads : List ℕ) (ln : ℕ) : Type 0 where
-  pub inside : e ≤ length ends / 4
-  pub below : EndsIn 1024 e ends
+  pub inside : e ≤ length ends / endColumns
+  pub below : EndsIn particleLimit e ends
   pub long : 2048 ≤ length heads
   pub empty : (s : ℕ) → s < 2048 → getD heads s 0 ≡ e
   pub nexts : e ≤ ln
@@ -46,8 +48,8 @@ pub record Links (e : ℕ) (ends heads nexts : List ℕ) : Type 0 where
 
 -- what is asked of two corners: they are below 1,024, and they differ
 pub record Apart (x y : ℕ) : Type 0 where
-  pub first : x < 1024
-  pub second : y < 1024
+  pub first : x < particleLimit
+  pub second : y < particleLimit
   pub differ : x ≡ y → ⊥
 
 -- the larger of a load and the stresses between x and y, in any mesh of these edges
@@ -62,13 +64,13 @@ pub record LoadRoom (in-corners in-volumes : Type 0) (e le ll : ℕ) : Type 0 wh
 
 -- what is asked of the numbers in the blocks: few edges, whose ends are below 1,024, and so are the corners of each triangle, which differ
 pub record Numbered (t e : ℕ) (corners : List ℕ) (volumes : List Float) (ends : List ℕ) : Type 0 where
-  pub few : e ≤ 2048
-  pub ends-in : EndsIn 1024 e ends
-  pub corners-in : (j : ℕ) → j < t → Sound 1024 (triangleRow (length corners / 3) (length volumes / 2) corners volumes j)
+  pub few : e ≤ edgeLimit
+  pub ends-in : EndsIn particleLimit e ends
+  pub corners-in : (j : ℕ) → j < t → Sound particleLimit (triangleRow (length corners / cornerColumns) (length volumes / volumeColumns) corners volumes j)
 
 -- the load of triangle i, in any mesh of these edges
 pub record TriangleLoad (i e : ℕ) (corners : List ℕ) (volumes : List Float) (ends : List ℕ) (lengths : List Float) (r : Float) : Type 0 where
-  pub is : (M : Mesh) → M .edges ≡ edgesAt e ends lengths → r ≡ triangleLoad M (triangleRow (length corners / 3) (length volumes / 2) corners volumes i)
+  pub is : (M : Mesh) → M .edges ≡ edgesAt e ends lengths → r ≡ triangleLoad M (triangleRow (length corners / cornerColumns) (length volumes / volumeColumns) corners volumes i)
 
 -- the first t loads are those of any mesh of these triangles and edges
 pub record LoadsRead (t e : ℕ) (corners : List ℕ) (volumes : List Float) (ends : List ℕ) (lengths loads : List Float) : Type 0 where

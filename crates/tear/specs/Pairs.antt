@@ -15,6 +15,8 @@ use Rattle.lists.specs.Lists.{find}
 use Rattle.model.specs.Crack.{family, crossPairs, currentPair, meanLoad, ahead}
 use Rattle.mesh.specs.Log.{World, worldOf}
 use Rattle.mesh.specs.declared.Counts.{Counts}
+use Rattle.mesh.specs.Widths.{entryWords}
+use Rattle.mesh.specs.Limits.{entryLimit}
 use Rattle.elements.specs.Table.{TableRoom}
 use Rattle.tear.specs.Families.{pairIs, meet}
 use Rattle.tear.specs.declared.families.Pair.{Pair}
@@ -23,8 +25,8 @@ use Rattle.tear.specs.declared.families.Pair.the-variants.{None, Ends}
 -- the elements, the edges and the log stand in their blocks, and the indices of the mesh fit
 pub record PairReady (k : Counts) (lc lv le ll lg : ℕ) (M : Mesh) : Type 0 where
   pub table : TableRoom (k .triangles) (k .edges) lc lv le ll 2048 4096 2048
-  pub log : k .log ≤ lg / 6
-  pub few-log : k .log ≤ 4096
+  pub log : k .log ≤ lg / entryWords
+  pub few-log : k .log ≤ entryLimit
   pub indices : indicesFit M ≡ true
 
 -- the particles of a pair, if it has any, are below p

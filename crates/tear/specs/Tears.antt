@@ -10,6 +10,7 @@ use Rattle.model.specs.Mesh.{Edge}
 use Rattle.model.specs.Cut.{slack}
 use Rattle.model.specs.Crack.{hurt}
 use Rattle.mesh.specs.At.{particlesAt, edgesAt}
+use Rattle.mesh.specs.Widths.{rootColumns}
 use Rattle.straddling.specs.Tests.{copiesBy}
 
 -- is the edge (a, b) between `other` and v or a copy of it: `bridges` of an opening at v, with so many particles before it, of so many groups
@@ -26,10 +27,10 @@ pub record Slackened (v before count other e : ℕ) (ends : List ℕ) (lengths l
 
 -- x, y and the copies stand in the block
 pub record DamageRoom (x y before count lr : ℕ) : Type 0 where
-  pub x-in : x < lr / 2
-  pub y-in : y < lr / 2
+  pub x-in : x < lr / rootColumns
+  pub y-in : y < lr / rootColumns
   pub some : 1 ≤ count
-  pub copies-in : before + count - 1 ≤ lr / 2
+  pub copies-in : before + count - 1 ≤ lr / rootColumns
 
 -- the copies of a split, of so many groups behind so many particles: `made` of its opening
 abbrev pub madeBy : ℕ → ℕ → List ℕ
@@ -38,5 +39,5 @@ madeBy before count = map (λ g. before + g) (upTo (count - 1))
 -- x, y and the copies are damaged, for any number of particles and whatever stands in the other block
 pub record Damaged (x y before count : ℕ) (roots roots′ : List ℕ) : Type 0 where
   pub particles :
-      (n : ℕ) (points : List Float) → n ≤ length roots / 2
+      (n : ℕ) (points : List Float) → n ≤ length roots / rootColumns
       → particlesAt n points roots′ ≡ mapAt (λ i p. pick (stands i (x ∷ y ∷ madeBy before count)) (hurt p) p) (particlesAt n points roots)

@@ -12,15 +12,17 @@ use Rattle.model.specs.Crack.{torn}
 use Rattle.mesh.specs.Log.{logAt, wordsOf}
 use Rattle.mesh.specs.Workers.{EdgeRoom}
 use Rattle.mesh.specs.declared.Counts.{Counts}
+use Rattle.mesh.specs.Widths.{entryWords}
+use Rattle.mesh.specs.Limits.{particleLimit}
 use Rattle.work.specs.declared.Ran.{Ran}
 use Rattle.work.specs.declared.Ran.the-variants.{Done}
 use Rattle.tear.specs.Tears.{Slackened, DamageRoom, Damaged}
 
 -- an entry has room behind l for the numbers a and b, e edges stand in their blocks, and x, y and the copies in theirs
 pub record TearRoom (e l x y a b before count lr le ll lg : ℕ) : Type 0 where
-  pub log : l < lg / 6
-  pub a-few : a < 1024
-  pub b-few : b < 1024
+  pub log : l < lg / entryWords
+  pub a-few : a < particleLimit
+  pub b-few : b < particleLimit
   pub edges : EdgeRoom e le ll
   pub marks : DamageRoom x y before count lr
 
@@ -37,8 +39,8 @@ pub record TearTold (v before count w x y a b : ℕ) (q : Counts) (roots roots�
 
 -- x and y are there, and w is the one that is not v; a and b are numbers of particles of the input
 pub record TearAsked (v w x y a b p : ℕ) : Type 0 where
-  pub a-few : a < 1024
-  pub b-few : b < 1024
+  pub a-few : a < particleLimit
+  pub b-few : b < particleLimit
   pub x-in : x < p
   pub y-in : y < p
   pub other : w ≡ pick (eqb v x) y x

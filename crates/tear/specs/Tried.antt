@@ -10,21 +10,22 @@ use Rattle.model.specs.Valid.{indicesFit}
 use Rattle.model.specs.Elements.{Kind, Triangles, cornersPer, fanOf}
 use Rattle.model.specs.Crack.{farSide, meanLoad}
 use Rattle.mesh.specs.declared.Counts.{Counts}
-use Rattle.mesh.specs.Widths.{pointColumns}
+use Rattle.mesh.specs.Widths.{pointColumns, cornerColumns, endColumns, lengthColumns, volumeColumns}
+use Rattle.mesh.specs.Limits.{particleLimit, triangleLimit, edgeLimit}
 use Rattle.elements.specs.Table.{Tabled}
 
 -- the mesh stands in its blocks with indices that fit, and v and w are there
 pub record WayReady (v w : ℕ) (k : Counts) (lp lc lv le ll : ℕ) (M : Mesh) : Type 0 where
   pub v-in : v < k .particles
   pub w-in : w < k .particles
-  pub few-particles : k .particles ≤ 1024
-  pub few-triangles : k .triangles ≤ 1024
-  pub few-edges : k .edges ≤ 2048
+  pub few-particles : k .particles ≤ particleLimit
+  pub few-triangles : k .triangles ≤ triangleLimit
+  pub few-edges : k .edges ≤ edgeLimit
   pub points : k .particles ≤ lp / pointColumns
-  pub corners : k .triangles ≤ lc / 3
-  pub volumes : k .triangles ≤ lv / 2
-  pub ends : k .edges ≤ le / 4
-  pub lengths : k .edges ≤ ll / 4
+  pub corners : k .triangles ≤ lc / cornerColumns
+  pub volumes : k .triangles ≤ lv / volumeColumns
+  pub ends : k .edges ≤ le / endColumns
+  pub lengths : k .edges ≤ ll / lengthColumns
   pub indices : indicesFit M ≡ true
 
 -- the tables have room for a fan and its sides

@@ -14,7 +14,7 @@ use Rattle.model.specs.Mesh.{Mesh}
 use Rattle.model.specs.Elements.{Kind, Triangles, Straps, Element, sum}
 use Rattle.model.specs.Crack.{loadAt, beyond, farSide}
 use Rattle.mesh.specs.At.{edgesAt}
-use Rattle.mesh.specs.Widths.{pointColumns}
+use Rattle.mesh.specs.Widths.{pointColumns, lengthColumns}
 use Rattle.elements.specs.Table.{Cornered}
 use Rattle.split_plan.specs.Opened.{restIn, RestsIn, CornersBelow}
 
@@ -50,7 +50,7 @@ pub record FarSides (v w n k : ℕ) (verts : List ℕ) (points : List Float) (si
 -- element number i has a load in the block of its kind
 pub record LoadHas (K : Kind) (i lo ll : ℕ) : Type 0 where
   pub triangle : K ≡ Triangles → i < lo
-  pub strap : K ≡ Straps → i < ll / 4
+  pub strap : K ≡ Straps → i < ll / lengthColumns
 
 -- the loads of the triangles as they were read, and the edges of a mesh
 pub record LoadsIn (K : Kind) (ls : List Float) (M : Mesh) (t e : ℕ) (loads : List Float) (ends : List ℕ) (lengths : List Float) : Type 0 where

@@ -30,9 +30,9 @@ fn pair_met(
         (meshIn k points roots corners volumes ends lengths outline) × Logged (k .log) (now log) ⌝ }
     ensures { λ r. ⌜ PairMetNow «in_element» (kindIs kind) a b (worldBefore k points roots corners volumes ends lengths outline log) r ⌝ }
 {
-    let mut numbers = [0usize; 2048];
-    let mut verts = [0usize; 4096];
-    let mut measures = [0.0f32; 2048];
+    let mut numbers = [0usize; mesh::ELEMENTS];
+    let mut verts = [0usize; mesh::ELEMENT_CORNERS];
+    let mut measures = [0.0f32; mesh::ELEMENTS];
     let n = elements::element_table(
         kind,
         k.triangles,

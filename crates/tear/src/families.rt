@@ -5,6 +5,7 @@ ghost use mathlib.Core.Bool.{_&&_};
 ghost use lib.Dec.{eqb};
 ghost use lib.ListN.{length};
 ghost use Rattle.mesh.specs.Log.{entryRow};
+ghost use Rattle.mesh.specs.Widths.{endColumns, entryWords};
 ghost use Rattle.tear.specs.Families.{joinsBy, sourceIn, FamilyRoom, FamilyFound, JoinTold, MeetRoom, MeetTold, FirstMet, PairMet, CurrentRoom, FamiliesMet};
 
 // Two particles, or none.
@@ -15,7 +16,7 @@ pub enum Pair {
 
 // Is entry i a copy whose source stands in a list?
 fn has_source(i: usize, log: &[u32], list: &[usize]) -> bool
-    requires { ⌜ i < length (now log) / 6 ⌝ }
+    requires { ⌜ i < length (now log) / entryWords ⌝ }
     ensures { λ r. ⌜ r ≡ sourceIn (entryRow (now (log .entry)) i) (now (list .entry)) ⌝ }
 {
     let o = 6 * i;
@@ -65,10 +66,10 @@ fn joins(x: usize, y: usize, a: usize, b: usize) -> bool
 
 // Is one of the first e edges between x and y?
 fn joined(x: usize, y: usize, e: usize, ends: &[usize]) -> bool
-    requires { ⌜ e ≤ length (now ends) / 4 ⌝ }
+    requires { ⌜ e ≤ length (now ends) / endColumns ⌝ }
     ensures { λ r. ⌜ JoinTold x y e (now (ends .entry)) r ⌝ }
 {
-    let c = ends.len() / 4;
+    let c = ends.len() / mesh::END_COLUMNS;
     let mut i: usize = 0;
     while i < e {
         if joins(x, y, ends[i], ends[c + i]) {

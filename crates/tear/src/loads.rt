@@ -8,6 +8,8 @@ ghost use Rattle.lists.specs.Lists.{stands};
 ghost use Rattle.model.specs.Trace.{Sound};
 ghost use Rattle.mesh.specs.At.{triangleRow};
 ghost use Rattle.mesh.specs.Workers.{EdgeRoom};
+ghost use Rattle.mesh.specs.Widths.{cornerColumns, volumeColumns};
+ghost use Rattle.mesh.specs.Limits.{particleLimit};
 ghost use Rattle.tear.specs.Loads.{LinkRoom, Linked, Links, Apart, Numbered, PairLoad, TriangleLoad, LoadRoom, LoadsRead};
 
 // Is x one of the two ends?
@@ -35,7 +37,7 @@ fn link_sums(e: usize, ends: &[usize], heads: &mut [u16], nexts: &mut [u16])
     requires { ⌜ LinkRoom e (now ends) (now heads) (length (now nexts)) ⌝ }
     ensures { λ _. ⌜ Linked 0 e (now (ends .entry)) (now (heads .exit)) (now (nexts .exit)) ⌝ }
 {
-    let c = ends.len() / 4;
+    let c = ends.len() / mesh::END_COLUMNS;
     let mut i = e;
     while i > 0 {
         i -= 1;
@@ -59,8 +61,8 @@ fn pair_load(
     requires { ⌜ EdgeRoom e (length (now ends)) (length (now lengths)) × Links e (now ends) (now heads) (now nexts) × Apart x y ⌝ }
     ensures { λ r. ⌜ PairLoad load x y e (now (ends .entry)) (now (lengths .entry)) r ⌝ }
 {
-    let c = ends.len() / 4;
-    let m = lengths.len() / 4;
+    let c = ends.len() / mesh::END_COLUMNS;
+    let m = lengths.len() / mesh::LENGTH_COLUMNS;
     let mut most: f32 = 0.0;
     let mut found = false;
     let mut i = heads[x + y] as usize;
@@ -88,13 +90,13 @@ fn triangle_load(
     heads: &[u16],
     nexts: &[u16],
 ) -> f32
-    requires { ⌜ LoadRoom (i < length (now corners) / 3) (i < length (now volumes) / 2) e (length (now ends)) (length (now lengths))
-        × Links e (now ends) (now heads) (now nexts) × Sound 1024 (triangleRow (length (now corners) / 3) (length (now volumes) / 2)
-        (now corners) (now volumes) i) ⌝ }
+    requires { ⌜ LoadRoom (i < length (now corners) / cornerColumns) (i < length (now volumes) / volumeColumns) e (length (now ends))
+        (length (now lengths)) × Links e (now ends) (now heads) (now nexts) × Sound particleLimit (triangleRow (length (now corners) /
+        cornerColumns) (length (now volumes) / volumeColumns) (now corners) (now volumes) i) ⌝ }
     ensures { λ r. ⌜ TriangleLoad i e (now (corners .entry)) (now (volumes .entry)) (now (ends .entry)) (now (lengths .entry)) r ⌝ }
 {
-    let c = corners.len() / 3;
-    let w = volumes.len() / 2;
+    let c = corners.len() / mesh::CORNER_COLUMNS;
+    let w = volumes.len() / mesh::VOLUME_COLUMNS;
     let x = corners[i];
     let y = corners[c + i];
     let z = corners[2 * c + i];
@@ -116,8 +118,9 @@ fn linked_loads(
     nexts: &[u16],
     loads: &mut [f32],
 )
-    requires { ⌜ LoadRoom (t ≤ length (now corners) / 3) (t ≤ length (now volumes) / 2) e (length (now ends)) (length (now lengths))
-        × (t ≤ length (now loads)) × Links e (now ends) (now heads) (now nexts) × Numbered t e (now corners) (now volumes) (now ends) ⌝ }
+    requires { ⌜ LoadRoom (t ≤ length (now corners) / cornerColumns) (t ≤ length (now volumes) / volumeColumns) e (length (now ends))
+        (length (now lengths)) × (t ≤ length (now loads)) × Links e (now ends) (now heads) (now nexts) × Numbered t e (now corners) (now
+        volumes) (now ends) ⌝ }
     ensures { λ _. ⌜ LoadsRead t e (now (corners .entry)) (now (volumes .entry)) (now (ends .entry)) (now (lengths .entry))
         (now (loads .exit)) ⌝ }
 {
@@ -140,9 +143,9 @@ pub fn read_loads(
     nexts: &mut [u16],
     loads: &mut [f32],
 )
-    requires { ⌜ LoadRoom (t ≤ length (now corners) / 3) (t ≤ length (now volumes) / 2) e (length (now ends)) (length (now lengths))
-        × (t ≤ length (now loads)) × Numbered t e (now corners) (now volumes) (now ends)
-        × LinkRoom e (now ends) (now heads) (length (now nexts)) ⌝ }
+    requires { ⌜ LoadRoom (t ≤ length (now corners) / cornerColumns) (t ≤ length (now volumes) / volumeColumns) e (length (now ends))
+        (length (now lengths)) × (t ≤ length (now loads)) × Numbered t e (now corners) (now volumes) (now ends) × LinkRoom e (now ends) (now
+        heads) (length (now nexts)) ⌝ }
     ensures { λ _. ⌜ LoadsRead t e (now (corners .entry)) (now (volumes .entry)) (now (ends .entry)) (now (lengths .entry))
         (now (loads .exit)) ⌝ }
 {

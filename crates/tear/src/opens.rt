@@ -111,6 +111,12 @@ pub fn tear_open(
     let Ran::Done(q) = ran else {
         return ran;
     };
-    edge_drops::close(q.edges, list, ends, lengths, &mut links[4096..9216]);
+    edge_drops::close(
+        q.edges,
+        list,
+        ends,
+        lengths,
+        &mut links[links::EDGES_FROM..links::SIDES_FROM],
+    );
     finish_tear(v, was, count, w, x, y, a, b, q, roots, ends, lengths, log)
 }

@@ -2,36 +2,18 @@
 ghost use mathlib.Core.Path.{_≡_};
 ghost use Prim.Native.Nat.{_/_, _<_};
 ghost use lib.ListN.{length};
-ghost use Rattle.lists.specs.Lists.{stands};
 ghost use Rattle.mesh.specs.Workers.{EdgeRoom};
-ghost use Rattle.straddling.specs.Tests.{copiesBy};
 ghost use Rattle.tear.specs.Tears.{bridgesBy, Slackened, DamageRoom, Damaged};
-
-// Is w v or one of its copies?
-fn is_copy(w: usize, v: usize, before: usize, count: usize) -> bool
-    ensures { λ r. ⌜ r ≡ stands w (copiesBy v before count) ⌝ }
-{
-    if w == v {
-        return true;
-    }
-    if w < before {
-        return false;
-    }
-    if count == 0 {
-        return false;
-    }
-    w - before < count - 1
-}
 
 // Is the edge (a, b) between `other` and v or one of its copies?
 fn bridges(v: usize, before: usize, count: usize, other: usize, a: usize, b: usize) -> bool
     ensures { λ r. ⌜ r ≡ bridgesBy v before count other a b ⌝ }
 {
     if crate::loads::is_end(other, a, b) {
-        if is_copy(a, v, before, count) {
+        if straddling::is_copy(a, v, before, count) {
             return true;
         }
-        return is_copy(b, v, before, count);
+        return straddling::is_copy(b, v, before, count);
     }
     false
 }
@@ -49,8 +31,8 @@ pub fn slacken_bridges(
     requires { ⌜ EdgeRoom e (length (now ends)) (length (now lengths)) ⌝ }
     ensures { λ _. ⌜ Slackened v before count other e (now (ends .entry)) (now (lengths .entry)) (now (lengths .exit)) ⌝ }
 {
-    let c = ends.len() / 4;
-    let m = lengths.len() / 4;
+    let c = ends.len() / mesh::END_COLUMNS;
+    let m = lengths.len() / mesh::LENGTH_COLUMNS;
     let mut i: usize = 0;
     while i < e {
         if bridges(v, before, count, other, ends[i], ends[c + i]) {
@@ -66,7 +48,7 @@ pub fn damage(x: usize, y: usize, before: usize, count: usize, roots: &mut [usiz
     requires { ⌜ DamageRoom x y before count (length (now roots)) ⌝ }
     ensures { λ _. ⌜ Damaged x y before count (now (roots .entry)) (now (roots .exit)) ⌝ }
 {
-    let size = roots.len() / 2;
+    let size = roots.len() / mesh::ROOT_COLUMNS;
     roots[size + x] = 1;
     roots[size + y] = 1;
     let copies = count - 1;

@@ -77,10 +77,10 @@ pub fn way_load(
         × LoadsLong K k (length (now loads)) × LinkedIn K k corners ends outline links) ⌝ }
     ensures { λ r. ⌜ WayLoad (kindIs kind) v w k (now (loads .entry)) (meshBefore k points roots corners volumes ends lengths outline) r ⌝ }
 {
-    let mut numbers = [0usize; 2048];
-    let mut verts = [0usize; 4096];
-    let mut measures = [0.0f32; 2048];
-    let mut sides = [0usize; 2048];
+    let mut numbers = [0usize; mesh::ELEMENTS];
+    let mut verts = [0usize; mesh::ELEMENT_CORNERS];
+    let mut measures = [0.0f32; mesh::ELEMENTS];
+    let mut sides = [0usize; mesh::ELEMENTS];
     let n = way_tables(
         kind,
         v,
@@ -126,10 +126,10 @@ pub fn way_opens(
     ensures { λ r. ⌜ (let K = kindIs kind in let M = meshBefore k points roots corners volumes ends lengths outline in r
         ≡ opensWithoutConfetti K M minimum (openedBy K M v n count (now (groups .entry)))) ⌝ }
 {
-    let mut numbers = [0usize; 2048];
-    let mut verts = [0usize; 4096];
-    let mut measures = [0.0f32; 2048];
-    let mut seen = [0usize; 2048];
+    let mut numbers = [0usize; mesh::ELEMENTS];
+    let mut verts = [0usize; mesh::ELEMENT_CORNERS];
+    let mut measures = [0.0f32; mesh::ELEMENTS];
+    let mut seen = [0usize; mesh::ELEMENTS];
     let m = elements::element_table(
         kind,
         k.triangles,

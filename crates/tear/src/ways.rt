@@ -73,7 +73,7 @@ fn load_of(kind: Kind, i: usize, loads: &[f32], lengths: &[f32]) -> f32
     match kind {
         Kind::Triangles => loads[i],
         Kind::Straps => {
-            let m = lengths.len() / 4;
+            let m = lengths.len() / mesh::LENGTH_COLUMNS;
             lengths[3 * m + i]
         }
         Kind::Nothing => 0.0,

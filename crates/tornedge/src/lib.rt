@@ -10,6 +10,7 @@ ghost use Rattle.work.specs.Working.{Logged, Works};
 ghost use Rattle.tear.specs.Tried.{WayReady, LoadsLong};
 ghost use Rattle.tornedge.specs.Cracks.{sidesAcross, opensAt, Parted, openedAcross, WayAsked, TriedTo, EndsTold, PairTold, CrackTold, TriedBehind};
 ghost use Rattle.mesh.specs.Blocks.{meshIn, meshBefore, worldBefore, worldBehind};
+ghost use Rattle.mesh.specs.Limits.{particleLimit};
 ghost use Rattle.work.specs.Blocks.{ReadyIn, OverBlocks};
 ghost use Rattle.split.specs.Blocks.{LinkedBehind};
 use elements::Kind;
@@ -52,9 +53,9 @@ fn way_groups(
         × (2048 ≤ length (now groups)) × LinkedIn (kindIs kind) k corners ends outline links ⌝ }
     ensures { λ r. ⌜ Parted (kindIs kind) v w (meshBefore k points roots corners volumes ends lengths outline) (now (groups .exit)) r ⌝ }
 {
-    let mut numbers = [0usize; 2048];
-    let mut verts = [0usize; 4096];
-    let mut measures = [0.0f32; 2048];
+    let mut numbers = [0usize; mesh::ELEMENTS];
+    let mut verts = [0usize; mesh::ELEMENT_CORNERS];
+    let mut measures = [0.0f32; mesh::ELEMENTS];
     let n = tear::tried::way_tables(
         kind,
         v,
@@ -101,8 +102,8 @@ fn way_open(
         × LinkedIn (kindIs kind) k corners ends outline links ⌝ }
     ensures { λ r. ⌜ r ≡ opensAt (kindIs kind) minimum (meshBefore k points roots corners volumes ends lengths outline) v w ⌝ }
 {
-    let mut sides = [0usize; 2048];
-    let mut groups = [0usize; 2048];
+    let mut sides = [0usize; mesh::ELEMENTS];
+    let mut groups = [0usize; mesh::ELEMENTS];
     let parts = way_groups(
         kind,
         v,
@@ -168,11 +169,11 @@ fn open_way(
     ensures { λ r. ⌜ (let K = kindIs kind in OverBlocks (λ M W at. Works (openedAcross K M v w (a, b) (x, y)) room W at r) k points roots
         corners volumes ends lengths outline log × LinkedBehind K corners ends outline links r) ⌝ }
 {
-    let mut numbers = [0usize; 2048];
-    let mut verts = [0usize; 4096];
-    let mut measures = [0.0f32; 2048];
+    let mut numbers = [0usize; mesh::ELEMENTS];
+    let mut verts = [0usize; mesh::ELEMENT_CORNERS];
+    let mut measures = [0.0f32; mesh::ELEMENTS];
     let mut sides = [0usize; edge_drops::LIST];
-    let mut groups = [0usize; 2048];
+    let mut groups = [0usize; mesh::ELEMENTS];
     let n = tear::tried::way_tables(
         kind,
         v,
@@ -388,10 +389,11 @@ fn crack_pair(
     log: &mut [u32],
     links: &mut [u16],
 ) -> Ran
-    requires { ⌜ ReadyIn room k points roots corners volumes ends lengths outline log × LoadsLong (kindIs kind) k (length (now loads))
-        × (x < k .particles) × (y < k .particles) × (a < 1024) × (b < 1024) × LinkedIn (kindIs kind) k corners ends outline links ⌝ }
-    ensures { λ r. ⌜ (let K = kindIs kind in OverBlocks (λ M W at. PairTold K minimum (k .triangles) (a, b) (x, y) (now (loads .entry)) room W
-        at r) k points roots corners volumes ends lengths outline log × LinkedBehind K corners ends outline links r) ⌝ }
+    requires { ⌜ ReadyIn room k points roots corners volumes ends lengths outline log × LoadsLong (kindIs kind) k (length (now loads)) × (x
+        < k .particles) × (y < k .particles) × (a < particleLimit) × (b < particleLimit) × LinkedIn (kindIs kind) k corners ends outline
+        links ⌝ }
+    ensures { λ r. ⌜ (let K = kindIs kind in OverBlocks (λ M W at. PairTold K minimum (k .triangles) (a, b) (x, y) (now (loads .entry)) room
+        W at r) k points roots corners volumes ends lengths outline log × LinkedBehind K corners ends outline links r) ⌝ }
 {
     let other = tear::edge::turned(
         kind,
@@ -453,7 +455,7 @@ pub fn crack_edge(
     links: &mut [u16],
 ) -> Ran
     requires { ⌜ (let K = kindIs kind in ReadyIn room k points roots corners volumes ends lengths outline log × Logged (k .log) (now log)
-        × LoadsLong K k (length (now loads)) × (a < 1024) × (b < 1024) × LinkedIn K k corners ends outline links) ⌝ }
+        × LoadsLong K k (length (now loads)) × (a < particleLimit) × (b < particleLimit) × LinkedIn K k corners ends outline links) ⌝ }
     ensures { λ r. ⌜ (let K = kindIs kind in CrackTold K minimum a b (k .triangles) (now (loads .entry)) room
         (worldBefore k points roots corners volumes ends lengths outline log) (λ q. worldBehind q points roots corners volumes ends lengths
         outline log) r × LinkedBehind K corners ends outline links r) ⌝ }

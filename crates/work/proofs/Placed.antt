@@ -3,7 +3,7 @@ use Prim.Native.Nat.{ℕ, _/_, _<_}
 use native.Mathlib.Omega.{arith}
 use mathlib.Core.Path.{_≡_, subst}
 use mathlib.Core.Bool.{true}
-use mathlib.Core.List.{List}
+use mathlib.Core.List.{List, [], _∷_}
 use lib.ListN.{length}
 use lib.Ieee.{Float}
 use Rattle.lists.specs.Lists.{tab}
@@ -11,9 +11,10 @@ use Rattle.lists.proofs.Stores.{tab-at, tab-length}
 use Rattle.columns.specs.Block.{cell}
 use Rattle.model.specs.Mesh.{Edge, Side, blankTriangle, blankEdge}
 use Rattle.model.specs.Valid.{indicesFit}
-use Rattle.model.specs.Trace.{All, Sound}
+use Rattle.model.specs.Trace.{All, Different, Sound}
 use Rattle.model_laws.proofs.Laws.{all-in}
-use Rattle.model_laws.proofs.Indexed.{Indexed, Pair}
+use Rattle.model_laws.proofs.Indexed.{Indexed}
+use Rattle.model_laws.proofs.Rows.{Pair, Three, pair-from, three-from}
 use Rattle.model_laws.proofs.Accepted.{accepted-indexed}
 use Rattle.mesh.specs.At.{triangleRow, edgeRow, sideRow, trianglesAt, edgesAt, boundaryAt, meshAt}
 use Rattle.mesh.specs.declared.Counts.{Counts}
@@ -54,9 +55,9 @@ module _ (k : Counts) (points : List Float) (roots corners : List ℕ) (volumes 
   count = particles-count k points roots corners volumes ends lengths outline
 
   -- the corners of a triangle, the ends of an edge and of a boundary entry
-  corner-at : (j : ℕ) → j < k .triangles → Sound (k .particles) (triangleRow (length corners / 3) (length volumes / 2) corners volumes j)
+  corner-at : (j : ℕ) → j < k .triangles → Three (k .particles) (cell 0 (length corners / 3) corners 0 j) (cell 0 (length corners / 3) corners 1 j) (cell 0 (length corners / 3) corners 2 j)
   unfolding meshAt trianglesAt
-  corner-at j l = subst (λ (p : ℕ). Sound p (triangleRow (length corners / 3) (length volumes / 2) corners volumes j)) count (row-all (Sound (length (meshAt k points roots corners volumes ends lengths outline .particles))) (k .triangles) (triangleRow (length corners / 3) (length volumes / 2) corners volumes) blankTriangle (indexed .triangles) j l)
+  corner-at j l = three-from (k .particles) _ _ _ (subst (λ (p : ℕ). Sound p (triangleRow (length corners / 3) (length volumes / 2) corners volumes j)) count (row-all (Sound (length (meshAt k points roots corners volumes ends lengths outline .particles))) (k .triangles) (triangleRow (length corners / 3) (length volumes / 2) corners volumes) blankTriangle (indexed .triangles) j l) .apart)
 
   end-at : (j : ℕ) → j < k .edges → Pair (k .particles) (cell 0 (length ends / 4) ends 0 j) (cell 0 (length ends / 4) ends 1 j)
   unfolding meshAt edgesAt
@@ -64,7 +65,7 @@ module _ (k : Counts) (points : List Float) (roots corners : List ℕ) (volumes 
 
   side-at : (j : ℕ) → j < k .boundary → Pair (k .particles) (cell 0 (length outline / 2) outline 0 j) (cell 0 (length outline / 2) outline 1 j)
   unfolding meshAt boundaryAt
-  side-at j l = subst (λ (p : ℕ). Pair p (cell 0 (length outline / 2) outline 0 j) (cell 0 (length outline / 2) outline 1 j)) count (row-all (λ (s : Side). Pair (length (meshAt k points roots corners volumes ends lengths outline .particles)) (s .a) (s .b)) (k .boundary) (sideRow (length outline / 2) outline) (record { a = 0; b = 0 }) (indexed .boundary) j l)
+  side-at j l = pair-from (k .particles) _ _ (subst (λ (p : ℕ). Different 2 p (sideRow (length outline / 2) outline j .corners)) count (row-all (λ (s : Side). Different 2 (length (meshAt k points roots corners volumes ends lengths outline .particles)) (s .corners)) (k .boundary) (sideRow (length outline / 2) outline) (record { corners = 0 ∷ 0 ∷ [] }) (indexed .boundary) j l) .apart)
 
   pub corners-in : CornersIn (k .particles) (k .triangles) corners
   corners-in = record { first = λ j l. corner-at j l .a; second = λ j l. corner-at j l .b; third = λ j l. corner-at j l .c }

@@ -273,7 +273,7 @@ sides-kept : (mask : List ℕ) (n : ℕ) (A A′ : List ℕ) (r : ℕ) → Block
 unfolding boundaryAt
 sides-kept mask n A A′ r B l =
     rw (B .count, l)
-    (rows-keep mask n _ _ (λ k h i. record { a = B .cells 0 k (omega arith) h i; b = B .cells 1 k (omega arith) h i }))
+    (rows-keep mask n _ _ (λ k h i. record { corners = B .cells 0 k (omega arith) h i ∷ B .cells 1 k (omega arith) h i ∷ [] }))
 
 -- the blocks without the marked
 pub blocks-gone : (L : Rooms) (k : Counts) (s : ℕ) (edge-mask side-mask ends ends′ : List ℕ) (lengths lengths′ : List Float) (outline outline′ log log′ : List ℕ) (e b g : ℕ)

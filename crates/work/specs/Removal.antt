@@ -13,9 +13,12 @@ use Rattle.mesh.specs.Log.{Words, logAt}
 use Rattle.mesh.specs.Workers.{EdgeRoom}
 use Rattle.mesh.specs.declared.Counts.{Counts}
 use Rattle.mesh.specs.declared.Rooms.{Rooms}
+use Rattle.mesh.specs.Widths.{endColumns, lengthColumns, sideColumns, entryWords}
+use Rattle.mesh.specs.Limits.{particleLimit}
 use Rattle.work.specs.Places.{EndsIn}
 use Rattle.work.specs.declared.Ran.{Ran}
 use Rattle.work.specs.declared.Ran.the-variants.{Refused, Done}
+use Rattle.model.specs.Refusals.{entryRefusal}
 
 -- ---- masks
 
@@ -31,14 +34,14 @@ markedOf mask n = sift (marked mask) (upTo n)
 
 -- the words that tell that edge j went
 abbrev pub goneWords : List ℕ → ℕ → Words
-goneWords ends j = record { kind = 2; a = cell 0 (length ends / 4) ends 0 j; b = cell 0 (length ends / 4) ends 1 j; p = 0; q = 0; t = 0 }
+goneWords ends j = record { kind = 2; a = cell 0 (length ends / endColumns) ends 0 j; b = cell 0 (length ends / endColumns) ends 1 j; p = 0; q = 0; t = 0 }
 
 -- what the notes of the marked edges among the first n ask, behind `at` entries: ends are numbers of particles, which a word holds
 pub record NoteRoom (mask : List ℕ) (n at : ℕ) (ends : List ℕ) (lg : ℕ) : Type 0 where
   pub mask-long : n ≤ length mask
-  pub ends-long : n ≤ length ends / 4
-  pub ends-in : EndsIn 1024 n ends
-  pub log-long : at + length (markedOf mask n) ≤ lg / 6
+  pub ends-long : n ≤ length ends / endColumns
+  pub ends-in : EndsIn particleLimit n ends
+  pub log-long : at + length (markedOf mask n) ≤ lg / entryWords
 
 -- the marked edges stand in the log behind the `at` entries, and it has r entries
 pub record EdgesNoted (mask : List ℕ) (n at : ℕ) (ends log log′ : List ℕ) (r : ℕ) : Type 0 where
@@ -50,9 +53,9 @@ pub record ListNoteRoom (list : List ℕ) (s at : ℕ) (ends : List ℕ) (lg : �
   pub rows : ℕ
   pub few : s ≤ length list
   pub below : (i : ℕ) → i < s → getD list i 0 < rows
-  pub ends-long : rows ≤ length ends / 4
-  pub ends-in : EndsIn 1024 rows ends
-  pub log-long : at + s ≤ lg / 6
+  pub ends-long : rows ≤ length ends / endColumns
+  pub ends-in : EndsIn particleLimit rows ends
+  pub log-long : at + s ≤ lg / entryWords
 
 -- the s listed edges stand in the log behind the `at` entries, in the order of the list, and it has r entries
 pub record ListNoted (list : List ℕ) (s at : ℕ) (ends log log′ : List ℕ) (r : ℕ) : Type 0 where
@@ -70,12 +73,12 @@ pub record GoneRoom (L : Rooms) (k : Counts) (s : ℕ) (edge-mask : List ℕ) (s
   pub marked-are : s ≡ length (markedOf edge-mask (k .edges))
   pub edge-mask-long : k .edges ≤ length edge-mask
   pub side-mask-long : k .boundary ≤ side-mask
-  pub ends-long : k .edges ≤ length ends / 4
-  pub ends-in : EndsIn 1024 (k .edges) ends
-  pub lengths-long : k .edges ≤ ll / 4
-  pub outline-long : k .boundary ≤ lo / 2
+  pub ends-long : k .edges ≤ length ends / endColumns
+  pub ends-in : EndsIn particleLimit (k .edges) ends
+  pub lengths-long : k .edges ≤ ll / lengthColumns
+  pub outline-long : k .boundary ≤ lo / sideColumns
   pub log-in : k .log ≤ L .log
-  pub log-long : L .log ≤ lg / 6
+  pub log-long : L .log ≤ lg / entryWords
 
 -- the marked are gone from the blocks, and the edges among them are noted
 pub record BlocksGone (L : Rooms) (k q : Counts) (edge-mask side-mask ends ends′ : List ℕ) (lengths lengths′ : List Float) (outline outline′ log log′ : List ℕ) : Type 0 where
@@ -90,5 +93,5 @@ pub record BlocksGone (L : Rooms) (k q : Counts) (edge-mask side-mask ends ends�
 
 -- what was told of the removal: the log lacks room; or the new counts
 abbrev pub GoneTo : Rooms → Counts → List ℕ → List ℕ → List ℕ → List ℕ → List Float → List Float → List ℕ → List ℕ → List ℕ → List ℕ → Ran → Type 0
-GoneTo L k edge-mask side-mask ends ends′ lengths lengths′ outline outline′ log log′ (Refused c) = (c ≡ 8) × (L .log < k .log + length (markedOf edge-mask (k .edges)))
+GoneTo L k edge-mask side-mask ends ends′ lengths lengths′ outline outline′ log log′ (Refused c) = (c ≡ entryRefusal) × (L .log < k .log + length (markedOf edge-mask (k .edges)))
 GoneTo L k edge-mask side-mask ends ends′ lengths lengths′ outline outline′ log log′ (Done q) = BlocksGone L k q edge-mask side-mask ends ends′ lengths lengths′ outline outline′ log log′

@@ -7,6 +7,7 @@ use lib.ListN.{length}
 use lib.Dec.{leb}
 use Rattle.work.specs.declared.Grown.{Grown}
 use Rattle.work.specs.declared.Grown.the-variants.{Lacking, Rows}
+use Rattle.mesh.specs.Widths.{sideColumns}
 
 -- rows that grew from e to what the list l is, where `room` is enough for it
 abbrev pub GrownTo : {A : Type 0} → Grown → ℕ → List A → (ℕ → List A) → Type 0
@@ -21,4 +22,4 @@ Between m room (Rows r) = (m ≤ r) × (r ≤ room)
 -- what rows of an outline ask
 pub record SideRoom (m room lo : ℕ) : Type 0 where
   pub rows : m ≤ room
-  pub columns : room ≤ lo / 2
+  pub columns : room ≤ lo / sideColumns

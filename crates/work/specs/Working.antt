@@ -12,7 +12,8 @@ use Rattle.mesh.specs.Log.{World, worldOf, wordsOf, logAt}
 use Rattle.mesh.specs.Given.{Lent, asRooms}
 use Rattle.mesh.specs.declared.Counts.{Counts}
 use Rattle.mesh.specs.declared.Rooms.{Rooms}
-use Rattle.mesh.specs.Widths.{pointColumns}
+use Rattle.mesh.specs.Widths.{pointColumns, cornerColumns, endColumns, lengthColumns, rootColumns, volumeColumns, sideColumns, entryWords}
+use Rattle.mesh.specs.Limits.{particleLimit, triangleLimit, edgeLimit, boundaryLimit, entryLimit}
 use Rattle.work.specs.declared.Ran.{Ran}
 use Rattle.work.specs.declared.Ran.the-variants.{Refused, Done}
 
@@ -26,19 +27,19 @@ pub record Within (k : Counts) (L : Rooms) : Type 0 where
 
 -- the rooms are within the limits, and within the lent columns
 pub record Roomed (L : Rooms) (I : Lent) : Type 0 where
-  pub few-particles : L .particles ≤ 1024
-  pub few-triangles : L .triangles ≤ 1024
-  pub few-edges : L .edges ≤ 2048
-  pub few-boundary : L .boundary ≤ 2048
-  pub few-log : L .log ≤ 4096
+  pub few-particles : L .particles ≤ particleLimit
+  pub few-triangles : L .triangles ≤ triangleLimit
+  pub few-edges : L .edges ≤ edgeLimit
+  pub few-boundary : L .boundary ≤ boundaryLimit
+  pub few-log : L .log ≤ entryLimit
   pub points : L .particles ≤ I .points / pointColumns
-  pub roots : L .particles ≤ I .roots / 2
-  pub corners : L .triangles ≤ I .corners / 3
-  pub volumes : L .triangles ≤ I .volumes / 2
-  pub ends : L .edges ≤ I .ends / 4
-  pub lengths : L .edges ≤ I .lengths / 4
-  pub outline : L .boundary ≤ I .outline / 2
-  pub log : L .log ≤ I .log / 6
+  pub roots : L .particles ≤ I .roots / rootColumns
+  pub corners : L .triangles ≤ I .corners / cornerColumns
+  pub volumes : L .triangles ≤ I .volumes / volumeColumns
+  pub ends : L .edges ≤ I .ends / endColumns
+  pub lengths : L .edges ≤ I .lengths / lengthColumns
+  pub outline : L .boundary ≤ I .outline / sideColumns
+  pub log : L .log ≤ I .log / entryWords
 
 -- the lent blocks hold a mesh whose indices fit, within the rooms
 pub record Ready (L : Rooms) (k : Counts) (I : Lent) (M : Mesh) : Type 0 where
@@ -49,17 +50,17 @@ pub record Ready (L : Rooms) (k : Counts) (I : Lent) (M : Mesh) : Type 0 where
 -- what parts 4 to 6 and the removal of straddlers ask of the counts, the rooms and the lengths of the blocks
 pub record SettleRoom (L : Rooms) (k : Counts) (lc lv le ll lo lg : ℕ) : Type 0 where
   pub counts : Within k L
-  pub few-particles : L .particles ≤ 1024
-  pub few-triangles : L .triangles ≤ 1024
-  pub few-edges : L .edges ≤ 2048
-  pub few-boundary : L .boundary ≤ 2048
-  pub few-log : L .log ≤ 4096
-  pub corners : L .triangles ≤ lc / 3
-  pub volumes : L .triangles ≤ lv / 2
-  pub ends : L .edges ≤ le / 4
-  pub lengths : L .edges ≤ ll / 4
-  pub outline : L .boundary ≤ lo / 2
-  pub log : L .log ≤ lg / 6
+  pub few-particles : L .particles ≤ particleLimit
+  pub few-triangles : L .triangles ≤ triangleLimit
+  pub few-edges : L .edges ≤ edgeLimit
+  pub few-boundary : L .boundary ≤ boundaryLimit
+  pub few-log : L .log ≤ entryLimit
+  pub corners : L .triangles ≤ lc / cornerColumns
+  pub volumes : L .triangles ≤ lv / volumeColumns
+  pub ends : L .edges ≤ le / endColumns
+  pub lengths : L .edges ≤ ll / lengthColumns
+  pub outline : L .boundary ≤ lo / sideColumns
+  pub log : L .log ≤ lg / entryWords
 
 -- the words of the first l entries are those of a log
 pub record Logged (l : ℕ) (log : List ℕ) : Type 0 where

@@ -5,6 +5,7 @@ ghost use mathlib.Core.List.{[], _∷_, _++_};
 ghost use lib.ListN.{length};
 ghost use lib.Ieee.{binary32, toBits};
 ghost use Rattle.mesh.specs.Log.{logAt};
+ghost use Rattle.mesh.specs.Widths.{entryWords};
 
 // The bits of a number.
 pub fn bits_of(x: f32) -> u32
@@ -18,7 +19,7 @@ pub fn bits_of(x: f32) -> u32
 
 // Writes the six words of an entry behind the n that are there.
 pub fn note(n: usize, kind: u32, a: u32, b: u32, p: u32, q: u32, t: u32, log: &mut [u32])
-    requires { ⌜ n < length (now log) / 6 ⌝ }
+    requires { ⌜ n < length (now log) / entryWords ⌝ }
     ensures { λ _. ⌜ logAt (n + 1) (now (log .exit)) ≡ logAt n (now (log .entry)) ++
         (record { kind = kind; a = a; b = b; p = p; q = q; t = t } ∷ []) ⌝ }
 {

@@ -13,7 +13,7 @@ pub fn note_edges(mask: &[usize], n: usize, at: usize, ends: &[usize], log: &mut
     requires { ⌜ NoteRoom (now mask) n at (now ends) (length (now log)) ⌝ }
     ensures { λ r. ⌜ EdgesNoted (now (mask .entry)) n at (now (ends .entry)) (now (log .entry)) (now (log .exit)) r ⌝ }
 {
-    let c = ends.len() / 4;
+    let c = ends.len() / mesh::END_COLUMNS;
     let mut w = at;
     let mut i: usize = 0;
     while i < n {
@@ -49,7 +49,7 @@ pub fn note_listed(list: &[usize], s: usize, at: usize, ends: &[usize], log: &mu
     requires { ⌜ ListNoteRoom (now list) s at (now ends) (length (now log)) ⌝ }
     ensures { λ r. ⌜ ListNoted (now (list .entry)) s at (now (ends .entry)) (now (log .entry)) (now (log .exit)) r ⌝ }
 {
-    let c = ends.len() / 4;
+    let c = ends.len() / mesh::END_COLUMNS;
     let mut i: usize = 0;
     while i < s {
         let e = list[i];
@@ -95,11 +95,17 @@ pub fn remove_marked(
         (now (lengths .entry)) (now (lengths .exit)) (now (outline .entry)) (now (outline .exit)) (now (log .entry)) (now (log .exit)) r ⌝ }
 {
     if room.log - k.log < s {
-        return Ran::Refused(8);
+        return Ran::Refused(mesh::refusals::ENTRIES);
     }
     let g = note_marked(edge_mask, k.edges, s, k.log, ends, log);
     let e = drop_marked(edge_mask, k.edges, s, ends, lengths);
-    let b = columns::keep_block_usize(side_mask, k.boundary, 2, outline.len() / 2, outline);
+    let b = columns::keep_block_usize(
+        side_mask,
+        k.boundary,
+        2,
+        outline.len() / mesh::SIDE_COLUMNS,
+        outline,
+    );
     Ran::Done(Counts {
         particles: k.particles,
         triangles: k.triangles,

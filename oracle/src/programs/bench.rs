@@ -56,6 +56,16 @@ fn middle(mut once: impl FnMut() -> f64) -> f64 {
     all.sort_by(f64::total_cmp);
     all[REPETITIONS / 2]
 }
+/// The medians of two times and of their quotient, the two taken in turn: a machine that is slower for a while is so for both.
+fn in_turn(mut ours: impl FnMut() -> f64, mut other: impl FnMut() -> f64) -> [f64; 3] {
+    let pairs: Vec<[f64; 2]> = (0..REPETITIONS).map(|_| [ours(), other()]).collect();
+    let of = |pick: fn(&[f64; 2]) -> f64| {
+        let mut all: Vec<f64> = pairs.iter().map(pick).collect();
+        all.sort_by(f64::total_cmp);
+        all[REPETITIONS / 2]
+    };
+    [of(|p| p[0]), of(|p| p[1]), of(|p| p[0] / p[1])]
+}
 /// Median nanoseconds of one call.
 fn median(before: impl FnMut(u32), call: impl FnMut()) -> f64 {
     let mut t = Timed::new(before, call, MOST);
@@ -337,10 +347,12 @@ fn timed<'a>(t: &'a Table, c: &'a Raw, lent: &'a Lent) -> Option<Timed<impl FnMu
 fn lent(c: &Raw) -> Lent {
     RefCell::new((vec![FILL; c.out], vec![FILL; c.log]))
 }
-fn ours(t: &Table, c: &Raw) -> Option<f64> {
+/// The C function, the Rust from the image, and their quotient.
+fn beside(t: &Table, c: &Raw, whole: impl Fn(&Raw)) -> Option<[f64; 3]> {
     let lent = lent(c);
     let mut ours = timed(t, c, &lent)?;
-    Some(middle(|| ours.once()))
+    let mut whole = Timed::new(|_| {}, || whole(black_box(c)), MOST);
+    Some(in_turn(|| ours.once(), || whole.once()))
 }
 /// What the C function takes beyond an idle call: the median of differences, the two timed in turn. Both are lent the same bytes, as two sets of them would not stay in the same
 /// caches, which is more than a split takes.
@@ -350,24 +362,23 @@ fn ours_apart(t: &Table, c: &Raw, idle: &Raw) -> Option<f64> {
     Some(middle(|| ours.once() - idle.once()))
 }
 
-/// A plain copy of the image and of the answer's words: those of the mesh that it gives, and of its log.
-fn copied(t: &Table, c: &Raw) -> f64 {
+/// How many plain copies a call takes: of the image, and of the answer's words, those of the mesh that it gives and of its log.
+fn copies(t: &Table, c: &Raw) -> Option<f64> {
     let lent = lent(c);
-    let (out, log) = &mut *lent.borrow_mut();
-    invoke(t, c, out, log);
-    let head = words_of(&out[..24]);
+    let mut ours = timed(t, c, &lent)?;
+    let head = words_of(&lent.borrow().0[..24]);
     let image = 4 * (4 + 10 * head[2] + 5 * head[3] + 8 * head[4] + 2 * head[5]) as usize;
     let (answer, entries) = (vec![FILL; 8 + image], vec![FILL; 24 * head[1] as usize]);
     let mut room = vec![FILL; c.first.len()];
-    median(
-        |_| {},
-        || {
-            room.copy_from_slice(black_box(&c.first));
-            out[..answer.len()].copy_from_slice(black_box(&answer));
-            log[..entries.len()].copy_from_slice(black_box(&entries));
-            black_box((&room, &out, &log));
-        },
-    )
+    let (mut out, mut log) = (vec![FILL; c.out], vec![FILL; c.log]);
+    let copy = || {
+        room.copy_from_slice(black_box(&c.first));
+        out[..answer.len()].copy_from_slice(black_box(&answer));
+        log[..entries.len()].copy_from_slice(black_box(&entries));
+        black_box((&room, &out, &log));
+    };
+    let mut plain = Timed::new(|_| {}, copy, MOST);
+    Some(in_turn(|| ours.once(), || plain.once())[2])
 }
 
 fn time(ns: f64) -> String {
@@ -382,6 +393,8 @@ pub fn run(words: &[String]) -> i32 {
     let emulated = std::env::var("ORACLE_EMULATED").is_ok_and(|v| v == "1");
     println!("Medians of {REPETITIONS} repetitions, batches of at least {} us.", BATCH_NS / 1000.0);
     println!("Ours: {}.", if own { "the second writing behind the C functions" } else { "the archive's C functions" });
+    println!("Ours and the Rust from the image are timed in turn, and so are ours and a plain copy; a quotient is the median of theirs.");
+    println!("The Rust's allocator keeps what it has taken, which is its fastest (docs/DECISIONS.md, 168).");
     println!("Result bytes were not cleared before a call (filled with {FILL:02x} before each batch, not timed).");
     match emulated {
         true => println!("It ran on an emulator: only the ratios say something."),
@@ -425,7 +438,7 @@ pub fn run(words: &[String]) -> i32 {
         let mut rows = rows.iter().filter(|r| asked(r.call.entry)).peekable();
         if rows.peek().is_some() {
             let mut still = torn_row(&t, idle, None);
-            still.copied = Some(copied(&t, &idle.call));
+            still.copies = copies(&t, &idle.call);
             if kept { all.push(still) } else { grown.push(still) }
         }
         let into = if kept { &mut all } else { &mut grown };
@@ -439,10 +452,11 @@ struct Measured {
     function: &'static str,
     mesh: String,
     alone: f64,
-    whole: f64,
     ours: Option<f64>,
+    /// Ours beside the Rust from the image, and beside a plain copy.
+    imaged: Option<f64>,
     apart: Option<f64>,
-    copied: Option<f64>,
+    copies: Option<f64>,
 }
 impl Measured {
     fn is(&self, function: &str, mesh: &str) -> bool {
@@ -494,7 +508,7 @@ fn wanted(all: &[Measured], grown: &[Measured]) {
             let (got, of) = match of {
                 Of::Alone => (r.ours.map(|n| n / r.alone), "Rust alone"),
                 Of::Apart => (r.apart.map(|n| n / r.alone), "Rust alone, the work apart"),
-                Of::Copy => (r.ours.zip(r.copied).map(|(n, c)| n / c), "a plain copy"),
+                Of::Copy => (r.copies, "a plain copy"),
             };
             if let Some(got) = got {
                 verdict(&format!("`{function}`, {mesh}: ours / {of}"), got, most);
@@ -503,7 +517,7 @@ fn wanted(all: &[Measured], grown: &[Measured]) {
     }
     // A root and a blade test have no image.
     let imaged: Vec<(f64, &Measured)> =
-        all.iter().chain(grown).filter(|r| r.mesh != "-").filter_map(|r| Some((r.ours? / r.whole, r))).collect();
+        all.iter().chain(grown).filter(|r| r.mesh != "-").filter_map(|r| Some((r.imaged?, r))).collect();
     if let Some((got, r)) = imaged.iter().max_by(|a, b| a.0.total_cmp(&b.0)) {
         let rows = imaged.iter().filter(|(got, _)| *got <= FROM_IMAGE).count();
         let what = format!("all rows: ours / Rust from the image; the largest is `{}`, {}", r.function, r.mesh);
@@ -556,17 +570,17 @@ fn torn_row(t: &Table, r: &Row, idle: Option<&Raw>) -> Measured {
 }
 fn row(t: &Table, name: &str, m: &Mesh, c: &Raw, whole: impl Fn(&Raw), idle: Option<&Raw>) -> Measured {
     let alone = rust_alone(c, m);
-    let whole = median(|_| {}, || whole(black_box(c)));
-    print!("| `{}` | {name} | {} | {} |", c.entry.name(), time(alone), time(whole));
-    let ours = ours(t, c);
-    match ours {
-        Some(ns) => print!(" {} | {:.2} | {:.2} |", time(ns), ns / alone, ns / whole),
-        None => print!(" not there yet | - | - |"),
+    let beside = beside(t, c, &whole);
+    print!("| `{}` | {name} | {} |", c.entry.name(), time(alone));
+    match beside {
+        Some([ns, whole, imaged]) => print!(" {} | {} | {:.2} | {imaged:.2} |", time(whole), time(ns), ns / alone),
+        None => print!(" {} | not there yet | - | - |", time(median(|_| {}, || whole(black_box(c))))),
     }
+    let (ours, imaged) = (beside.map(|b| b[0]), beside.map(|b| b[2]));
     let apart = idle.and_then(|idle| ours_apart(t, c, idle));
     match apart {
         Some(ns) => println!(" {} | {:.2} |", time(ns), ns / alone),
         None => println!(" - | - |"),
     }
-    Measured { function: c.entry.name(), mesh: name.to_string(), alone, whole, ours, apart, copied: None }
+    Measured { function: c.entry.name(), mesh: name.to_string(), alone, ours, imaged, apart, copies: None }
 }

@@ -11,7 +11,7 @@ use Rattle.crossmarks.proofs.note_pair.Tie as tie
 use Rattle.crossmarks.proofs.note_pair.Reads as reads
 use Rattle.crossmarks.proofs.note_pair.Lts as lts
 use Rattle.marks.proofs.particles.tested.Reads as tested-reads
-use Rattle.marks.proofs.particles.place.Reads as place-reads
+use Rattle.split_plan.proofs.place.Reads as place-reads
 use Rattle.work.proofs.notes.bits_of.Reads as bits-of-reads
 use Rattle.work.proofs.notes.note.Reads as note-reads
 

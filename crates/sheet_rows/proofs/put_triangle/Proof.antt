@@ -1,6 +1,6 @@
 -- `sheet_rows::put_triangle` meets its contract. Assumes nothing.
 use Rattle.sheet_rows.proofs.RowPuts.{triangle-put}
-use Rattle.sheet_rows.specs.Work.{pointIn}
+use Rattle.split_plan.specs.Opened.{placeIn}
 use Rattle.sheet.specs.Read.{areaOf}
 use native.Mathlib.Omega.{arith}
 use mathlib.Core.Path.{_∙_}
@@ -72,7 +72,7 @@ same-length-2 c = search needs
 
 returns : tie.Need-returns
 unfolding ofBits
-returns c = triangle-put (pointIn (c .before .before .before .before .before .before .before .args .points .now)) _ _ _ _ _ _ _ (c .area .ensures ∙ (λ i. areaOf (c .before .before .before .place .ensures i) (c .before .before .place2 .ensures i) (c .before .place3 .ensures i))) (c .before .before .before .before .before .before .before .pre .corners) (c .before .before .before .before .before .before .before .pre .volumes)
+returns c = triangle-put (placeIn (c .before .before .before .before .before .before .before .args .points .now)) _ _ _ _ _ _ _ (c .area .ensures ∙ (λ i. areaOf (c .before .before .before .place .ensures i) (c .before .before .place2 .ensures i) (c .before .place3 .ensures i))) (c .before .before .before .before .before .before .before .pre .corners) (c .before .before .before .before .before .before .before .pre .volumes)
 
 pub put-triangle-spec : {M : Type 1} → statement M
 put-triangle-spec =

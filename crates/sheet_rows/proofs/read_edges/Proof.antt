@@ -1,7 +1,8 @@
 -- `sheet_rows::read_edges` meets its contract. Assumes nothing.
 use Rattle.sheet_rows.proofs.RowReads.{no-edges, tab-more, triangle-same, edge-made, first-right, two-named, three-named}
 use Rattle.sheet.specs.Work.{okAt}
-use Rattle.sheet_rows.specs.Work.{pointIn, edgeBits}
+use Rattle.split_plan.specs.Opened.{placeIn}
+use Rattle.sheet_rows.specs.Work.{edgeBits}
 use Rattle.bits.specs.Bits.{num, bitsOf, fieldAt}
 use Rattle.mesh.specs.At.{edgesAt}
 use Rattle.lists.specs.Lists.{tab}
@@ -15,7 +16,7 @@ use Rattle.sheet_rows.proofs.read_edges.Statement.{statement}
 use Rattle.sheet_rows.proofs.read_edges.Tie as tie
 
 abbrev Inv-loop : tie.InvT-loop
-Inv-loop s at n p points ends₀ lengths₀ i₀ pos₀ ends lengths i pos = (i ≤ n) × (length ends ≡ length ends₀) × (length lengths ≡ length lengths₀) × (pos ≡ at + i * 21) × (okAt false p (bitsOf s) pos 21 (n - i) ≡ true) × (edgesAt i ends lengths ≡ tab i (edgeBits (pointIn points) (bitsOf s) at))
+Inv-loop s at n p points ends₀ lengths₀ i₀ pos₀ ends lengths i pos = (i ≤ n) × (length ends ≡ length ends₀) × (length lengths ≡ length lengths₀) × (pos ≡ at + i * 21) × (okAt false p (bitsOf s) pos 21 (n - i) ≡ true) × (edgesAt i ends lengths ≡ tab i (edgeBits (placeIn points) (bitsOf s) at))
 
 abbrev μ-loop : tie.MeasureT-loop
 μ-loop s at n p points ends₀ lengths₀ i₀ pos₀ ends lengths i pos = n - i
@@ -58,7 +59,7 @@ loop-less c = omega arith
 loop-again : tie.Need-loop-again Inv-loop μ-loop
 unfolding ofBits
 loop-again c = let a = c .before .before .before .before .before .before .before .before .before .before .before .before .before .before .before .before .before .args in let l = c .before .before .before .before .before .before .before .before .before .before .before .before .loop in let w = first-right false (a .p) (bitsOf (a .s .now)) (l .pos) 21 (a .n) (l .i) (omega arith) (l .inv .4) in
-    (omega arith, c .before .before .before .before .append-edge .kept .1 .1 .0 ∙ l .inv .1, c .before .before .before .before .append-edge .kept .1 .1 .1 .0 ∙ l .inv .2, omega (arith, l .inv .3), w .1, tab-more (edgeBits (pointIn (a .points .now)) (bitsOf (a .s .now)) (a .at)) (l .i) _ _ _ (c .before .before .before .before .append-edge .ensures) (l .inv .5) (edge-made (pointIn (a .points .now)) _ _ _ _ _ _ _ _ (l .inv .3) (c .before .before .before .before .before .before .before .before .before .before .field .ensures .0) (c .before .before .before .before .before .before .before .before .before .field2 .ensures .0) (c .before .before .before .before .before .before .before .field3 .ensures .0) (c .before .before .before .before .before .before .before .before .span .ensures)))
+    (omega arith, c .before .before .before .before .append-edge .kept .1 .1 .0 ∙ l .inv .1, c .before .before .before .before .append-edge .kept .1 .1 .1 .0 ∙ l .inv .2, omega (arith, l .inv .3), w .1, tab-more (edgeBits (placeIn (a .points .now)) (bitsOf (a .s .now)) (a .at)) (l .i) _ _ _ (c .before .before .before .before .append-edge .ensures) (l .inv .5) (edge-made (placeIn (a .points .now)) _ _ _ _ _ _ _ _ (l .inv .3) (c .before .before .before .before .before .before .before .before .before .before .field .ensures .0) (c .before .before .before .before .before .before .before .before .before .field2 .ensures .0) (c .before .before .before .before .before .before .before .field3 .ensures .0) (c .before .before .before .before .before .before .before .before .span .ensures)))
 
 same-length : tie.Need-same-length Inv-loop μ-loop
 same-length c = c .before .loop .inv .1
@@ -68,7 +69,7 @@ same-length-2 c = c .before .loop .inv .2
 
 returns : tie.Need-returns Inv-loop μ-loop
 returns c = let a = c .before .before .before .before .before .before .args in let l = c .before .loop in let e : l .i ≡ a .n = omega arith in
-    subst (λ (m : ℕ). edgesAt m (l .ends) (l .lengths) ≡ tab m (edgeBits (pointIn (a .points .now)) (bitsOf (a .s .now)) (a .at))) e (l .inv .5)
+    subst (λ (m : ℕ). edgesAt m (l .ends) (l .lengths) ≡ tab m (edgeBits (placeIn (a .points .now)) (bitsOf (a .s .now)) (a .at))) e (l .inv .5)
 
 pub read-edges-spec : {M : Type 1} → statement M
 read-edges-spec =

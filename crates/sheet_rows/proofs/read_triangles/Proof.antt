@@ -1,7 +1,8 @@
 -- `sheet_rows::read_triangles` meets its contract. Assumes nothing.
 use Rattle.sheet_rows.proofs.RowReads.{no-triangles, tab-more, triangle-same, edge-made, first-right, two-named, three-named}
 use Rattle.sheet.specs.Work.{okAt}
-use Rattle.sheet_rows.specs.Work.{pointIn, triangleBits}
+use Rattle.split_plan.specs.Opened.{placeIn}
+use Rattle.sheet_rows.specs.Work.{triangleBits}
 use Rattle.bits.specs.Bits.{num, bitsOf, fieldAt}
 use Rattle.mesh.specs.At.{trianglesAt}
 use Rattle.lists.specs.Lists.{tab}
@@ -15,7 +16,7 @@ use Rattle.sheet_rows.proofs.read_triangles.Statement.{statement}
 use Rattle.sheet_rows.proofs.read_triangles.Tie as tie
 
 abbrev Inv-loop : tie.InvT-loop
-Inv-loop s at n p points corners₀ volumes₀ i₀ pos₀ corners volumes i pos = (i ≤ n) × (length corners ≡ length corners₀) × (length volumes ≡ length volumes₀) × (pos ≡ at + i * 30) × (okAt true p (bitsOf s) pos 30 (n - i) ≡ true) × (trianglesAt i corners volumes ≡ tab i (triangleBits (pointIn points) (bitsOf s) at))
+Inv-loop s at n p points corners₀ volumes₀ i₀ pos₀ corners volumes i pos = (i ≤ n) × (length corners ≡ length corners₀) × (length volumes ≡ length volumes₀) × (pos ≡ at + i * 30) × (okAt true p (bitsOf s) pos 30 (n - i) ≡ true) × (trianglesAt i corners volumes ≡ tab i (triangleBits (placeIn points) (bitsOf s) at))
 
 abbrev μ-loop : tie.MeasureT-loop
 μ-loop s at n p points corners₀ volumes₀ i₀ pos₀ corners volumes i pos = n - i
@@ -55,7 +56,7 @@ loop-less c = omega arith
 
 loop-again : tie.Need-loop-again Inv-loop μ-loop
 loop-again c = let a = c .before .before .before .before .before .before .before .before .before .before .before .before .before .before .before .before .args in let l = c .before .before .before .before .before .before .before .before .before .before .before .loop in let w = first-right true (a .p) (bitsOf (a .s .now)) (l .pos) 30 (a .n) (l .i) (omega arith) (l .inv .4) in
-    (omega arith, c .before .before .before .before .put-triangle .kept .1 .1 .1 .1 .1 .0 ∙ l .inv .1, c .before .before .before .before .put-triangle .kept .1 .1 .1 .1 .1 .1 .0 ∙ l .inv .2, omega (arith, l .inv .3), w .1, tab-more (triangleBits (pointIn (a .points .now)) (bitsOf (a .s .now)) (a .at)) (l .i) _ _ _ (c .before .before .before .before .put-triangle .ensures) (l .inv .5) (triangle-same _ _ _ _ _ _ _ _ (l .inv .3) (c .before .before .before .before .before .before .before .before .before .field .ensures .0) (c .before .before .before .before .before .before .before .before .field2 .ensures .0) (c .before .before .before .before .before .before .before .field3 .ensures .0)))
+    (omega arith, c .before .before .before .before .put-triangle .kept .1 .1 .1 .1 .1 .0 ∙ l .inv .1, c .before .before .before .before .put-triangle .kept .1 .1 .1 .1 .1 .1 .0 ∙ l .inv .2, omega (arith, l .inv .3), w .1, tab-more (triangleBits (placeIn (a .points .now)) (bitsOf (a .s .now)) (a .at)) (l .i) _ _ _ (c .before .before .before .before .put-triangle .ensures) (l .inv .5) (triangle-same _ _ _ _ _ _ _ _ (l .inv .3) (c .before .before .before .before .before .before .before .before .before .field .ensures .0) (c .before .before .before .before .before .before .before .before .field2 .ensures .0) (c .before .before .before .before .before .before .before .field3 .ensures .0)))
 
 same-length : tie.Need-same-length Inv-loop μ-loop
 same-length c = c .before .loop .inv .1
@@ -65,7 +66,7 @@ same-length-2 c = c .before .loop .inv .2
 
 returns : tie.Need-returns Inv-loop μ-loop
 returns c = let a = c .before .before .before .before .before .before .args in let l = c .before .loop in let e : l .i ≡ a .n = omega arith in
-    subst (λ (m : ℕ). trianglesAt m (l .corners) (l .volumes) ≡ tab m (triangleBits (pointIn (a .points .now)) (bitsOf (a .s .now)) (a .at))) e (l .inv .5)
+    subst (λ (m : ℕ). trianglesAt m (l .corners) (l .volumes) ≡ tab m (triangleBits (placeIn (a .points .now)) (bitsOf (a .s .now)) (a .at))) e (l .inv .5)
 
 pub read-triangles-spec : {M : Type 1} → statement M
 read-triangles-spec =

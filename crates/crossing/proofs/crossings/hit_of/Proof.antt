@@ -5,7 +5,7 @@ use Rattle.crossing.proofs.crossings.hit_of.Tie as tie
 use Rattle.crossing.proofs.crossings.hit_of.Reads as reads
 use Rattle.crossing.proofs.crossings.hit_of.Lts as lts
 use Rattle.blade.proofs.blade_hit.Reads as blade-hit-reads
-use Rattle.insert.proofs.particles.place.Reads as place-reads
+use Rattle.split_plan.proofs.place.Reads as place-reads
 
 -- src/crossings.rt:15:13
 mul-if1 : tie.Need-mul-if1

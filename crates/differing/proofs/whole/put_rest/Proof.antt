@@ -3,11 +3,11 @@ use Rattle.differing.proofs.Wholes.{counts-small, ask-sides, blade-is}
 use Rattle.row_differences.proofs.Walking.{rows-few}
 use Rattle.differences.proofs.Writing.{lists-then, lists-as}
 use Rattle.differences.specs.declared.Part.the-variants.{Boundary}
-use Rattle.differences.specs.Differences.{Difference, rowsDiffer, sameRow, blades}
+use Rattle.differences.specs.Differences.{Difference, rowsDiffer, blades}
 use Rattle.edition.proofs.Meshes.{blade-in}
 use Rattle.edition.proofs.Sides.{sides-long}
 use Rattle.outline_tables.specs.Rows.{sidesAt}
-use Rattle.lists.specs.Lists.{pick}
+use Rattle.lists.specs.Lists.{pick, sameRow}
 use mathlib.Core.List.{List, [], _∷_}
 use mathlib.Core.Path.{_∙_, ap₂}
 use Prim.Native.Nat.{ℕ}

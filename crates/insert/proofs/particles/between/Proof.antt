@@ -10,7 +10,7 @@ use Rattle.insert.proofs.particles.between.Lts as lts
 use Rattle.blade.proofs.lerp.Reads as lerp-reads
 use Rattle.float.proofs.inverse.inv.Reads as inv-reads
 use Rattle.split_plan.proofs.rest_point.Reads as rest-point-reads
-use Rattle.insert.proofs.particles.place.Reads as place-reads
+use Rattle.split_plan.proofs.place.Reads as place-reads
 
 -- src/particles.rt:83:26
 place-requires : tie.Need-place-requires

@@ -6,6 +6,8 @@ use Rattle.mesh.specs.Filled.{pointOf, rootOf, cornerOf, volumeOf, endOf
 use Rattle.mesh.specs.Log.{worldAt, logAt}
 use Rattle.mesh.specs.At.{meshAt, particlesAt, trianglesAt, edgesAt, boundaryAt}
 use lib.Ieee.{nan}
+use lib.ListN.{length}
+use Prim.Native.Nat.{_/_}
 use mathlib.Core.Path.{ap, _∙_}
 use native.Mathlib.Omega.{arith}
 use borrow.Author.Needs.{needs}
@@ -79,7 +81,7 @@ returns c =
     record {
       points = block-filled pointOf _ _ _ zero32 nan _ _ _ (pre .points) (omega arith) (point-at _ _ (start .args .points .now) (start .args .roots .now)) (at-points .clear-block-f32 .ensures);
       roots = block-filled rootOf 2 _ _ 0 0 _ _ _ (pre .roots) (omega arith) (root-at _ _ (start .args .points .now) (start .args .roots .now)) (at-roots .clear-block-usize .ensures);
-      corners = block-filled cornerOf 3 _ _ 0 0 _ _ _ (pre .corners) (omega arith) (corner-at _ _ (start .args .corners .now) (start .args .volumes .now)) (at-corners .clear-block-usize2 .ensures);
+      corners = block-filled cornerOf 3 _ _ 0 0 _ _ _ (pre .corners) (omega arith) (corner-at _ (length (start .args .volumes .now) / 2) (start .args .corners .now) (start .args .volumes .now)) (at-corners .clear-block-usize2 .ensures);
       volumes = block-filled volumeOf 2 _ _ zero32 nan _ _ _ (pre .volumes) (omega arith) (volume-at _ _ (start .args .corners .now) (start .args .volumes .now)) (at-volumes .clear-block-f322 .ensures);
       ends = block-filled endOf 4 _ _ 0 0 _ _ _ (pre .ends) (omega arith) (end-at _ _ (start .args .ends .now) (start .args .lengths .now)) (at-ends .clear-block-usize3 .ensures);
       lengths = block-filled lengthOf 4 _ _ zero32 nan _ _ _ (pre .lengths) (omega arith) (length-at _ _ (start .args .ends .now) (start .args .lengths .now)) (at-lengths .clear-block-f323 .ensures);

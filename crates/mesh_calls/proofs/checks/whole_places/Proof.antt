@@ -5,7 +5,7 @@ use mathlib.Core.Path.{_≡_}
 use mathlib.Core.Bool.{true}
 use borrow.Author.Count.{below-more}
 use Rattle.exact.specs.Exact.{wholePoint}
-use Rattle.marks.specs.Marking.{placeIn}
+use Rattle.split_plan.specs.Opened.{placeIn}
 use Rattle.mesh_calls.proofs.Editions.{whole-stops, whole-goes, whole-ends}
 use borrow.Author.Needs.{needs}
 use Rattle.mesh_calls.proofs.checks.whole_places.Statement.{statement}

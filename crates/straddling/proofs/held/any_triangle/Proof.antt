@@ -25,11 +25,11 @@ loop-holds c = seeking-start _ _ _ _ _ _ (c .first-at .ensures .is _ _ _ _ _ (c 
 sub-i : tie.Need-sub-i Inv-loop μ-loop
 sub-i c = c .loop-test .taken
 
-triangle-holds-requires : tie.Need-triangle-holds-requires Inv-loop μ-loop
-triangle-holds-requires c κs = let w = seeking-within _ _ _ _ _ _ (c .before .loop .inv) (c .loop-test .taken) in omega (arith, w, c .before .before .before .before .before .pre .rows)
+row-holds-requires : tie.Need-row-holds-requires Inv-loop μ-loop
+row-holds-requires c κs = let w = seeking-within _ _ _ _ _ _ (c .before .loop .inv) (c .loop-test .taken) in record { here = omega (arith, w, c .before .before .before .before .before .pre .rows); columns = omega arith }
 
 returns : tie.Need-returns Inv-loop μ-loop
-returns c = let A = c .before .before .before .before .before .before .before .args in seeking-found _ _ _ _ _ _ (c .before .before .before .loop .inv) (c .before .before .loop-test .taken) (triangle-rest (A .x) (A .y) (A .corners .now) _ (seeking-holds _ _ _ _ _ _ (c .before .before .before .loop .inv) (c .before .before .loop-test .taken)) _ (c .before .triangle-holds .ensures) ∙ c .if1 .taken)
+returns c = let A = c .before .before .before .before .before .before .before .args in seeking-found _ _ _ _ _ _ (c .before .before .before .loop .inv) (c .before .before .loop-test .taken) (triangle-rest (A .x) (A .y) (A .corners .now) _ (seeking-holds _ _ _ _ _ _ (c .before .before .before .loop .inv) (c .before .before .loop-test .taken)) _ (c .before .row-holds .ensures) ∙ c .if1 .taken)
 
 next-at-requires : tie.Need-next-at-requires Inv-loop μ-loop
 next-at-requires c κs = triangle-link (c .before .before .before .before .before .before .before .pre) _ (seeking-within _ _ _ _ _ _ (c .before .before .before .loop .inv) (c .before .before .loop-test .taken)) (seeking-holds _ _ _ _ _ _ (c .before .before .before .loop .inv) (c .before .before .loop-test .taken))
@@ -38,7 +38,7 @@ loop-less : tie.Need-loop-less Inv-loop μ-loop
 loop-less c = seeking-less _ _ _ _ _ _ (c .before .before .before .before .loop .inv) (c .before .before .before .loop-test .taken) _ (c .next-at .ensures .is _ (c .before .before .before .before .before .before .before .before .pre .linked))
 
 loop-again : tie.Need-loop-again Inv-loop μ-loop
-loop-again c = let A = c .before .before .before .before .before .before .before .before .args in seeking-more _ _ _ _ _ _ (c .before .before .before .before .loop .inv) (triangle-only (A .x) (A .y) (A .corners .now)) (c .before .before .before .loop-test .taken) _ (c .next-at .ensures .is _ (c .before .before .before .before .before .before .before .before .pre .linked)) (triangle-rest (A .x) (A .y) (A .corners .now) _ (seeking-holds _ _ _ _ _ _ (c .before .before .before .before .loop .inv) (c .before .before .before .loop-test .taken)) _ (c .before .before .triangle-holds .ensures) ∙ c .before .if1 .left)
+loop-again c = let A = c .before .before .before .before .before .before .before .before .args in seeking-more _ _ _ _ _ _ (c .before .before .before .before .loop .inv) (triangle-only (A .x) (A .y) (A .corners .now)) (c .before .before .before .loop-test .taken) _ (c .next-at .ensures .is _ (c .before .before .before .before .before .before .before .before .pre .linked)) (triangle-rest (A .x) (A .y) (A .corners .now) _ (seeking-holds _ _ _ _ _ _ (c .before .before .before .before .loop .inv) (c .before .before .before .loop-test .taken)) _ (c .before .before .row-holds .ensures) ∙ c .before .if1 .left)
 
 returns-2 : tie.Need-returns-2 Inv-loop μ-loop
 returns-2 c = let A = c .before .before .before .before .before .args in seeking-done _ _ _ _ _ _ (c .before .loop .inv) (triangle-only (A .x) (A .y) (A .corners .now)) (omega arith)
@@ -52,7 +52,7 @@ any-triangle-spec =
     first-at-requires
     loop-holds
     sub-i
-    triangle-holds-requires
+    row-holds-requires
     returns
     next-at-requires
     loop-less
