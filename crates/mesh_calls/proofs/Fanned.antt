@@ -11,20 +11,35 @@ use lib.Ieee.{Float}
 use Rattle.lists.specs.Lists.{pick, stands, all, sift, tab}
 use Rattle.lists.proofs.Sifts.{sift-append}
 use Rattle.lists.proofs.Steps.{tab-step}
-use Rattle.columns.specs.Block.{cell, rowAt}
-use Rattle.columns.proofs.RowLaws.{row-three}
+use Rattle.columns.specs.Block.{cell}
 use Rattle.model.specs.Mesh.{Mesh, Edge}
-use Rattle.model.specs.Elements.{Kind, Element, kindOf, fanOf, trianglesFrom, strapsFrom, structural?, strapElement}
+use Rattle.model.specs.Elements.{Kind, Element, kindOf, fanOf, trianglesFrom, strapsFrom, structural?, strapElement, endsOf}
 use Rattle.model.specs.Calls.{sidesOk}
 use Rattle.mesh.specs.At.{edgeRow, trianglesAt, edgesAt, meshAt}
 use Rattle.mesh.specs.declared.Counts.{Counts}
 use Rattle.mesh.proofs.Lists.{particles-length}
 use Rattle.elements.specs.declared.Kind.{Kind as KindCase}
 use Rattle.elements.specs.Table.{holding, kindIs, elementsIn, KindFound}
-use Rattle.elements.proofs.Held.{both-true, both-false}
 use Rattle.elements.proofs.Found.{elements-in}
 use Rattle.elements.proofs.Filling.{triangles-more, triangleAt, straps-push}
 use Rattle.mesh_calls.specs.Fans.{FanCounted}
+
+-- ---- one row
+
+-- v stands first
+pub first-held : (v a : ℕ) (l : List ℕ) → a ≡ v → _≡_ {A = ℕ} 1 (pick (stands v (a ∷ l)) 1 0)
+first-held v a l e = sym (ap (λ (t : Bool). pick (pick t true (stands v l)) 1 0) (eq-eqb a v e))
+
+-- or it does not
+pub next-held : (v a : ℕ) (l : List ℕ) (r : ℕ) → (a ≡ v → ⊥) → r ≡ pick (stands v l) 1 0 → r ≡ pick (stands v (a ∷ l)) 1 0
+next-held v a l r h q = q ∙ sym (ap (λ (t : Bool). pick (pick t true (stands v l)) 1 0) (ne-eqb a v h))
+
+-- an edge that is no strap, and one that is
+pub no-strap : (s : ℕ) (t : Bool) → (s ≡ 1 → ⊥) → _≡_ {A = ℕ} 0 (pick (eqb s 1 && t) 1 0)
+no-strap s t h = sym (ap (λ (b : Bool). pick (b && t) 1 0) (ne-eqb s 1 h))
+
+pub strap-held : (s : ℕ) (t : Bool) (r : ℕ) → s ≡ 1 → r ≡ pick t 1 0 → r ≡ pick (eqb s 1 && t) 1 0
+strap-held s t r e q = q ∙ sym (ap (λ (b : Bool). pick (b && t) 1 0) (eq-eqb s 1 e))
 
 -- ---- the rows
 
@@ -44,41 +59,34 @@ held-pick : (v : ℕ) (es : List Element) (e : Element) (t : Bool) (n : ℕ) →
 held-pick v es e true n q = held-push v es e n q
 held-pick v es e false n q = let z : n + 0 ≡ n = omega arith in z ∙ q ∙ ap (λ (l : List Element). length (holding v l)) (sym (append-nil es))
 
-module _ (v i n : ℕ) where
-  -- one triangle more: it counts where it holds v
-  pub triangle-more : (C : List ℕ) (W : List Float) (t : Bool) → n ≡ length (holding v (trianglesFrom 0 (trianglesAt i C W))) → t ≡ stands v (rowAt 3 (length C / 3) C i)
-      → n + pick t 1 0 ≡ length (holding v (trianglesFrom 0 (trianglesAt (i + 1) C W)))
-  triangle-more C W t q e =
-      ap (λ (b : Bool). n + pick b 1 0) (e ∙ ap (stands v) (sym (row-three (length C / 3) C i)))
-      ∙ held-push v (trianglesFrom 0 (trianglesAt i C W)) (triangleAt C W i) n q
+-- an edge as the program reads it
+strap-told : (v i : ℕ) (E : List ℕ) (L : List Float)
+    → (eqb (getD E (2 * (length E / 4) + i) 0) 1 && stands v (getD E i 0 ∷ getD E (length E / 4 + i) 0 ∷ []))
+    ≡ (structural? (edgeRow (length E / 4) (length L / 4) E L i) && stands v (endsOf (edgeRow (length E / 4) (length L / 4) E L i)))
+unfolding cell
+strap-told v i E L =
+    let a : 0 * (length E / 4) + i ≡ i = omega arith in
+    let b : 1 * (length E / 4) + i ≡ length E / 4 + i = omega arith in
+    rw (a, b) refl
+
+module _ (v i n r : ℕ) where
+  -- one triangle more
+  pub triangle-counts : (C : List ℕ) (W : List Float) → n ≡ length (holding v (trianglesFrom 0 (trianglesAt i C W)))
+      → r ≡ pick (stands v (getD C i 0 ∷ getD C (length C / 3 + i) 0 ∷ getD C (2 * (length C / 3) + i) 0 ∷ [])) 1 0 → n + r ≡ length (holding v (trianglesFrom 0 (trianglesAt (i + 1) C W)))
+  triangle-counts C W q e =
+      ap (λ (m : ℕ). n + m) e ∙ held-push v (trianglesFrom 0 (trianglesAt i C W)) (triangleAt C W i) n q
       ∙ ap (λ (es : List Element). length (holding v es)) (sym (triangles-more C W i))
 
-  -- one edge more: it counts where it is a strap that holds v
-  strap-more : (E : List ℕ) (L : List Float) (t : Bool) → n ≡ length (holding v (strapsFrom 0 (edgesAt i E L))) → t ≡ eqb (getD E (2 * (length E / 4) + i) 0) 1 && stands v (rowAt 2 (length E / 4) E i)
-      → n + pick t 1 0 ≡ length (holding v (strapsFrom 0 (edgesAt (i + 1) E L)))
-  unfolding edgesAt cell
-  strap-more E L t q e =
+  -- one edge more
+  pub strap-counts : (E : List ℕ) (L : List Float) → n ≡ length (holding v (strapsFrom 0 (edgesAt i E L)))
+      → r ≡ pick (eqb (getD E (2 * (length E / 4) + i) 0) 1 && stands v (getD E i 0 ∷ getD E (length E / 4 + i) 0 ∷ [])) 1 0 → n + r ≡ length (holding v (strapsFrom 0 (edgesAt (i + 1) E L)))
+  unfolding edgesAt
+  strap-counts E L q e =
       let row : ℕ → Edge = edgeRow (length E / 4) (length L / 4) E L in
       let el : Element = strapElement (0 + length (tab i row)) (row i) in
-      ap (λ (b : Bool). n + pick b 1 0) e
+      ap (λ (m : ℕ). n + m) (e ∙ ap (λ (t : Bool). pick t 1 0) (strap-told v i E L))
       ∙ held-pick v (strapsFrom 0 (tab i row)) el (structural? (row i)) n q
       ∙ ap (λ (es : List Element). length (holding v es)) (sym (ap (strapsFrom 0) (tab-step row i) ∙ straps-push 0 (tab i row) (row i)))
-
-  -- as the two tests of an edge tell: the flag first, and only then the row
-  pub strap-asked : (E : List ℕ) (L : List Float) (t : Bool) → n ≡ length (holding v (strapsFrom 0 (edgesAt i E L))) → getD E (2 * (length E / 4) + i) 0 ≡ 1 → t ≡ stands v (rowAt 2 (length E / 4) E i)
-      → n + pick t 1 0 ≡ length (holding v (strapsFrom 0 (edgesAt (i + 1) E L)))
-  strap-asked E L t q h e = strap-more E L t q (both-true (eq-eqb (getD E (2 * (length E / 4) + i) 0) 1 h) e)
-
-  pub strap-passed : (E : List ℕ) (L : List Float) → n ≡ length (holding v (strapsFrom 0 (edgesAt i E L))) → (getD E (2 * (length E / 4) + i) 0 ≡ 1 → ⊥)
-      → n ≡ length (holding v (strapsFrom 0 (edgesAt (i + 1) E L)))
-  strap-passed E L q h = let z : n ≡ n + 0 = omega arith in z ∙ strap-more E L false q (both-false (stands v (rowAt 2 (length E / 4) E i)) (ne-eqb (getD E (2 * (length E / 4) + i) 0) 1 h))
-
--- a count with one more, or without
-pub counted-in : (n m : ℕ) (t : Bool) → n + pick t 1 0 ≡ m → t ≡ true → n + 1 ≡ m
-counted-in n m t e h = ap (λ (b : Bool). n + pick b 1 0) (sym h) ∙ e
-
-pub counted-out : (n m : ℕ) (t : Bool) → n + pick t 1 0 ≡ m → t ≡ false → n ≡ m
-counted-out n m t e h = let z : n ≡ n + 0 = omega arith in z ∙ ap (λ (b : Bool). n + pick b 1 0) (sym h) ∙ e
 
 -- before the first row, and behind the last
 pub no-triangles : (v : ℕ) (C : List ℕ) (W : List Float) → 0 ≡ length (holding v (trianglesFrom 0 (trianglesAt 0 C W)))

@@ -1,10 +1,47 @@
 // How many elements a fan has, counted where they stand, without a table of them.
+ghost use mathlib.Core.Path.{_≡_};
+ghost use mathlib.Core.Bool.{_&&_};
+ghost use mathlib.Core.List.{[], _∷_};
 ghost use Prim.Native.Nat.{_/_, _≤_};
+ghost use lib.Dec.{eqb};
 ghost use lib.ListN.{length};
+ghost use Rattle.lists.specs.Lists.{pick, stands};
 ghost use Rattle.mesh_calls.specs.Fans.{TrianglesWith, StrapsWith, FanCounted};
 ghost use Rattle.mesh.specs.Widths.{cornerColumns, endColumns};
 use elements::Kind;
 use mesh::Counts;
+
+// 1 where v is one of three corners, else 0.
+fn triangle_holds(v: usize, a: usize, b: usize, c: usize) -> usize
+    ensures { λ r. ⌜ (r ≡ pick (stands v (a ∷ b ∷ c ∷ [])) 1 0) × (r ≤ 1) ⌝ }
+{
+    if a == v {
+        return 1;
+    }
+    if b == v {
+        return 1;
+    }
+    if c == v {
+        return 1;
+    }
+    0
+}
+
+// 1 where an edge is an element of straps and v one of its ends, else 0.
+fn strap_holds(v: usize, structural: usize, a: usize, b: usize) -> usize
+    ensures { λ r. ⌜ (r ≡ pick (eqb structural 1 && stands v (a ∷ b ∷ [])) 1 0) × (r ≤ 1) ⌝ }
+{
+    if structural != 1 {
+        return 0;
+    }
+    if a == v {
+        return 1;
+    }
+    if b == v {
+        return 1;
+    }
+    0
+}
 
 // How many of the first t triangles hold v.
 fn triangles_with(v: usize, t: usize, corners: &[usize]) -> usize
@@ -15,9 +52,8 @@ fn triangles_with(v: usize, t: usize, corners: &[usize]) -> usize
     let mut n: usize = 0;
     let mut i: usize = 0;
     while i < t {
-        if columns::row_holds(v, i, 3, c, corners) {
-            n += 1;
-        }
+        let held = triangle_holds(v, corners[i], corners[c + i], corners[2 * c + i]);
+        n += held;
         i += 1;
     }
     n
@@ -32,9 +68,8 @@ fn straps_with(v: usize, e: usize, ends: &[usize]) -> usize
     let mut n: usize = 0;
     let mut i: usize = 0;
     while i < e {
-        if ends[2 * c + i] == 1 && columns::row_holds(v, i, 2, c, ends) {
-            n += 1;
-        }
+        let held = strap_holds(v, ends[2 * c + i], ends[i], ends[c + i]);
+        n += held;
         i += 1;
     }
     n

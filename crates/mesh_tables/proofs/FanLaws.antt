@@ -13,9 +13,8 @@ use lib.Ieee.{Float, nan}
 use Rattle.lists.specs.Lists.{pick, stands, sift, each, tab}
 use Rattle.lists.proofs.Stores.{tab-length}
 use Rattle.lists.proofs.Sifts.{sift-append, tab-suc, each-append}
-use Rattle.columns.specs.Block.{cell, rowAt}
+use Rattle.columns.specs.Block.{cell}
 use Rattle.columns.proofs.Cells.{next-col}
-use Rattle.columns.proofs.RowLaws.{row-two, row-three}
 use Rattle.columns.proofs.Sweep.{front-grows}
 use Rattle.model.specs.Mesh.{Triangle, Edge}
 use Rattle.model.specs.Elements.{Kind, Element, structural?, strapElement, trianglesFrom, strapsFrom, cornersPer}
@@ -23,7 +22,6 @@ use Rattle.mesh.specs.At.{edgeRow, trianglesAt, edgesAt}
 use Rattle.elements.specs.Table.{Cornered, holding, kindIs, elementsIn}
 use Rattle.elements.specs.declared.Kind.{Kind as KindCase}
 use Rattle.elements.specs.declared.Kind.the-variants.{Triangles as TrianglesCase, Straps as StrapsCase, Nothing as NothingCase}
-use Rattle.elements.proofs.Held.{both-true, both-false}
 use Rattle.elements.proofs.Tables.{whole-push}
 use Rattle.elements.proofs.Filling.{front-two, front-three, triangleAt, triangles-more, strapAt, straps-push}
 use Rattle.mesh_tables.specs.Fans.{RowPut, CornersRead, NumbersRead, trianglesWith, strapsWith, heldIn}
@@ -149,17 +147,6 @@ triangles-held v C W i = ap (holding v) (triangles-more C W i) ∙ holding-more 
 -- is edge i of a block a strap that holds v
 abbrev pub strapHolds : ℕ → List ℕ → ℕ → Bool
 strapHolds v E i = eqb (getD E (2 * (length E / 4) + i) 0) 1 && stands v (getD E i 0 ∷ getD E (length E / 4 + i) 0 ∷ [])
-
--- as the tests of the rows tell: of an edge the flag first, and only then its ends
-module _ (v : ℕ) (s : List ℕ) (i : ℕ) where
-  pub triangle-told : {t : Bool} → t ≡ stands v (rowAt 3 (length s / 3) s i) → triangleHolds v s i ≡ t
-  triangle-told e = ap (stands v) (row-three (length s / 3) s i) ∙ sym e
-
-  pub strap-told : {t : Bool} → getD s (2 * (length s / 4) + i) 0 ≡ 1 → t ≡ stands v (rowAt 2 (length s / 4) s i) → strapHolds v s i ≡ t
-  strap-told h e = sym (both-true (eq-eqb (getD s (2 * (length s / 4) + i) 0) 1 h) (e ∙ sym (ap (stands v) (row-two (length s / 4) s i))))
-
-  pub strap-passed : (getD s (2 * (length s / 4) + i) 0 ≡ 1 → ⊥) → strapHolds v s i ≡ false
-  strap-passed h = sym (both-false (stands v (getD s i 0 ∷ getD s (length s / 4 + i) 0 ∷ [])) (ne-eqb (getD s (2 * (length s / 4) + i) 0) 1 h))
 
 -- edge i of a block, as an element
 strap-read : (E : List ℕ) (L : List Float) (i : ℕ) → strapElement i (edgeRow (length E / 4) (length L / 4) E L i) ≡ strapAt E L i

@@ -70,8 +70,11 @@ fn triangle_corners(v: usize, t: usize, corners: &[usize], verts: &mut [usize]) 
     let mut r: usize = 0;
     let mut i: usize = 0;
     while i < t {
-        if columns::row_holds(v, i, 3, c, corners) {
-            put_three(r, corners[i], corners[c + i], corners[2 * c + i], verts);
+        let x = corners[i];
+        let y = corners[c + i];
+        let z = corners[2 * c + i];
+        if triangle_holds(v, x, y, z) {
+            put_three(r, x, y, z, verts);
             r += 1;
         }
         i += 1;
@@ -88,8 +91,10 @@ fn strap_corners(v: usize, e: usize, ends: &[usize], verts: &mut [usize]) -> usi
     let mut r: usize = 0;
     let mut i: usize = 0;
     while i < e {
-        if ends[2 * c + i] == 1 && columns::row_holds(v, i, 2, c, ends) {
-            put_two(r, ends[i], ends[c + i], verts);
+        let x = ends[i];
+        let y = ends[c + i];
+        if strap_holds(v, ends[2 * c + i], x, y) {
+            put_two(r, x, y, verts);
             r += 1;
         }
         i += 1;

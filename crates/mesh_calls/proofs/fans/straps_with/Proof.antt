@@ -2,14 +2,14 @@
 use Prim.Native.Nat.{ℕ, _≤_, _-_}
 use native.Mathlib.Omega.{arith}
 use mathlib.Core.Path.{_≡_}
-use mathlib.Core.Logic.{⊎-elim}
 use mathlib.Core.List.{List}
 use lib.ListN.{length}
 use lib.Ieee.{Float}
 use Rattle.model.specs.Elements.{strapsFrom}
 use Rattle.mesh.specs.At.{edgesAt}
 use Rattle.elements.specs.Table.{holding}
-use Rattle.mesh_calls.proofs.Fanned.{no-edges, strap-asked, strap-passed, counted-in, counted-out, count-ends}
+use Rattle.mesh_calls.proofs.Fanned.{no-edges, strap-counts, count-ends}
+use borrow.Author.Needs.{needs}
 use Rattle.mesh_calls.proofs.fans.straps_with.Statement.{statement}
 use Rattle.mesh_calls.proofs.fans.straps_with.Tie as tie
 
@@ -22,23 +22,38 @@ abbrev μ-loop : tie.MeasureT-loop
 loop-holds : tie.Need-loop-holds Inv-loop μ-loop
 loop-holds c = (λ lengths. no-edges _ _ lengths, omega arith, omega arith)
 
-mul-if1 : tie.Need-mul-if1 Inv-loop μ-loop
-mul-if1 c = omega arith
+mul-strap-holds : tie.Need-mul-strap-holds Inv-loop μ-loop
+mul-strap-holds c = omega arith
 
-add-if1 : tie.Need-add-if1 Inv-loop μ-loop
-add-if1 c = omega arith
+add-strap-holds : tie.Need-add-strap-holds Inv-loop μ-loop
+add-strap-holds c = omega arith
 
-mul-if1-2 : tie.Need-mul-if1-2 Inv-loop μ-loop
-mul-if1-2 c = omega arith
+mul-strap-holds-2 : tie.Need-mul-strap-holds-2 Inv-loop μ-loop
+mul-strap-holds-2 c = omega arith
 
-shared-slice-read-if1 : tie.Need-shared-slice-read-if1 Inv-loop μ-loop
-shared-slice-read-if1 c = omega arith
+shared-slice-read-strap-holds : tie.Need-shared-slice-read-strap-holds Inv-loop μ-loop
+shared-slice-read-strap-holds c = omega arith
 
-row-holds-requires : tie.Need-row-holds-requires Inv-loop μ-loop
-row-holds-requires c κs = record { here = omega arith; columns = omega arith }
+mul-strap-holds-3 : tie.Need-mul-strap-holds-3 Inv-loop μ-loop
+mul-strap-holds-3 c = omega arith
+
+shared-slice-read-strap-holds-2 : tie.Need-shared-slice-read-strap-holds-2 Inv-loop μ-loop
+shared-slice-read-strap-holds-2 c = omega arith
+
+add-strap-holds-2 : tie.Need-add-strap-holds-2 Inv-loop μ-loop
+add-strap-holds-2 c = omega arith
+
+mul-strap-holds-4 : tie.Need-mul-strap-holds-4 Inv-loop μ-loop
+mul-strap-holds-4 c = omega arith
+
+shared-slice-read-strap-holds-3 : tie.Need-shared-slice-read-strap-holds-3 Inv-loop μ-loop
+shared-slice-read-strap-holds-3 c = omega arith
+
+strap-holds-requires : tie.Need-strap-holds-requires Inv-loop μ-loop
+strap-holds-requires c κs = search needs
 
 add-n : tie.Need-add-n Inv-loop μ-loop
-add-n c = omega arith
+add-n c = omega (arith, c .strap-holds .ensures .1)
 
 add-i : tie.Need-add-i Inv-loop μ-loop
 add-i c = omega arith
@@ -47,18 +62,7 @@ loop-less : tie.Need-loop-less Inv-loop μ-loop
 loop-less c = omega arith
 
 loop-again : tie.Need-loop-again Inv-loop μ-loop
-loop-again c =
-    let A = c .before .before .before .before .before .args in
-    let L = c .before .before .before .loop in
-    ⊎-elim
-    (λ w. rw (w .3) ((λ lengths. counted-in _ _ _ (strap-asked (A .v) (L .i) (L .n) (A .ends .now) lengths _ (L .inv .0 lengths) (w .0 .taken) (w .1 .ensures)) (w .2 .taken)), omega arith, omega arith))
-    (λ w.
-    rw (w .1)
-    (⊎-elim
-    (λ u. ((λ lengths. counted-out _ _ _ (strap-asked (A .v) (L .i) (L .n) (A .ends .now) lengths _ (L .inv .0 lengths) (u .0 .taken) (u .1 .ensures)) (u .2 .left)), omega arith, omega arith))
-    (λ u. ((λ lengths. strap-passed (A .v) (L .i) (L .n) (A .ends .now) lengths (L .inv .0 lengths) (u .left)), omega arith, omega arith))
-    (w .0 .came)))
-    (c .if1 .came)
+loop-again c = (λ lengths. strap-counts _ _ _ _ _ lengths (c .before .before .before .before .before .loop .inv .0 lengths) (c .strap-holds .ensures .0), omega (arith, c .strap-holds .ensures .1), omega arith)
 
 returns : tie.Need-returns Inv-loop μ-loop
 returns c = λ lengths. count-ends (λ (j : ℕ). length (holding (c .before .before .before .args .v) (strapsFrom 0 (edgesAt j (c .before .before .before .args .ends .now) lengths)))) _ _ _ (c .before .loop .inv .0 lengths) (c .before .loop .inv .2) (c .loop-test .left)
@@ -70,11 +74,16 @@ straps-with-spec =
     Inv-loop
     μ-loop
     loop-holds
-    mul-if1
-    add-if1
-    mul-if1-2
-    shared-slice-read-if1
-    row-holds-requires
+    mul-strap-holds
+    add-strap-holds
+    mul-strap-holds-2
+    shared-slice-read-strap-holds
+    mul-strap-holds-3
+    shared-slice-read-strap-holds-2
+    add-strap-holds-2
+    mul-strap-holds-4
+    shared-slice-read-strap-holds-3
+    strap-holds-requires
     add-n
     add-i
     loop-less

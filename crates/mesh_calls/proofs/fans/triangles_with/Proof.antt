@@ -2,14 +2,14 @@
 use Prim.Native.Nat.{ℕ, _≤_, _-_}
 use native.Mathlib.Omega.{arith}
 use mathlib.Core.Path.{_≡_}
-use mathlib.Core.Logic.{⊎-elim}
 use mathlib.Core.List.{List}
 use lib.ListN.{length}
 use lib.Ieee.{Float}
 use Rattle.model.specs.Elements.{trianglesFrom}
 use Rattle.mesh.specs.At.{trianglesAt}
 use Rattle.elements.specs.Table.{holding}
-use Rattle.mesh_calls.proofs.Fanned.{no-triangles, triangle-more, counted-in, counted-out, count-ends}
+use Rattle.mesh_calls.proofs.Fanned.{no-triangles, triangle-counts, count-ends}
+use borrow.Author.Needs.{needs}
 use Rattle.mesh_calls.proofs.fans.triangles_with.Statement.{statement}
 use Rattle.mesh_calls.proofs.fans.triangles_with.Tie as tie
 
@@ -22,11 +22,38 @@ abbrev μ-loop : tie.MeasureT-loop
 loop-holds : tie.Need-loop-holds Inv-loop μ-loop
 loop-holds c = (λ volumes. no-triangles _ _ volumes, omega arith, omega arith)
 
-row-holds-requires : tie.Need-row-holds-requires Inv-loop μ-loop
-row-holds-requires c κs = record { here = omega arith; columns = omega arith }
+mul-triangle-holds : tie.Need-mul-triangle-holds Inv-loop μ-loop
+mul-triangle-holds c = omega arith
+
+shared-slice-read-triangle-holds : tie.Need-shared-slice-read-triangle-holds Inv-loop μ-loop
+shared-slice-read-triangle-holds c = omega arith
+
+add-triangle-holds : tie.Need-add-triangle-holds Inv-loop μ-loop
+add-triangle-holds c = omega arith
+
+mul-triangle-holds-2 : tie.Need-mul-triangle-holds-2 Inv-loop μ-loop
+mul-triangle-holds-2 c = omega arith
+
+shared-slice-read-triangle-holds-2 : tie.Need-shared-slice-read-triangle-holds-2 Inv-loop μ-loop
+shared-slice-read-triangle-holds-2 c = omega arith
+
+mul-triangle-holds-3 : tie.Need-mul-triangle-holds-3 Inv-loop μ-loop
+mul-triangle-holds-3 c = omega arith
+
+add-triangle-holds-2 : tie.Need-add-triangle-holds-2 Inv-loop μ-loop
+add-triangle-holds-2 c = omega arith
+
+mul-triangle-holds-4 : tie.Need-mul-triangle-holds-4 Inv-loop μ-loop
+mul-triangle-holds-4 c = omega arith
+
+shared-slice-read-triangle-holds-3 : tie.Need-shared-slice-read-triangle-holds-3 Inv-loop μ-loop
+shared-slice-read-triangle-holds-3 c = omega arith
+
+triangle-holds-requires : tie.Need-triangle-holds-requires Inv-loop μ-loop
+triangle-holds-requires c κs = search needs
 
 add-n : tie.Need-add-n Inv-loop μ-loop
-add-n c = omega arith
+add-n c = omega (arith, c .triangle-holds .ensures .1)
 
 add-i : tie.Need-add-i Inv-loop μ-loop
 add-i c = omega arith
@@ -35,13 +62,7 @@ loop-less : tie.Need-loop-less Inv-loop μ-loop
 loop-less c = omega arith
 
 loop-again : tie.Need-loop-again Inv-loop μ-loop
-loop-again c =
-    let A = c .before .before .before .before .before .args in
-    let L = c .before .before .before .loop in
-    ⊎-elim
-    (λ w. rw (w .1) ((λ volumes. counted-in _ _ _ (triangle-more (A .v) (L .i) (L .n) (A .corners .now) volumes _ (L .inv .0 volumes) (c .before .row-holds .ensures)) (w .0 .taken)), omega arith, omega arith))
-    (λ w. rw (w .1) ((λ volumes. counted-out _ _ _ (triangle-more (A .v) (L .i) (L .n) (A .corners .now) volumes _ (L .inv .0 volumes) (c .before .row-holds .ensures)) (w .0 .left)), omega arith, omega arith))
-    (c .if1 .came)
+loop-again c = (λ volumes. triangle-counts _ _ _ _ _ volumes (c .before .before .before .before .before .loop .inv .0 volumes) (c .triangle-holds .ensures .0), omega (arith, c .triangle-holds .ensures .1), omega arith)
 
 returns : tie.Need-returns Inv-loop μ-loop
 returns c = λ volumes. count-ends (λ (j : ℕ). length (holding (c .before .before .before .args .v) (trianglesFrom 0 (trianglesAt j (c .before .before .before .args .corners .now) volumes)))) _ _ _ (c .before .loop .inv .0 volumes) (c .before .loop .inv .2) (c .loop-test .left)
@@ -53,7 +74,16 @@ triangles-with-spec =
     Inv-loop
     μ-loop
     loop-holds
-    row-holds-requires
+    mul-triangle-holds
+    shared-slice-read-triangle-holds
+    add-triangle-holds
+    mul-triangle-holds-2
+    shared-slice-read-triangle-holds-2
+    mul-triangle-holds-3
+    add-triangle-holds-2
+    mul-triangle-holds-4
+    shared-slice-read-triangle-holds-3
+    triangle-holds-requires
     add-n
     add-i
     loop-less

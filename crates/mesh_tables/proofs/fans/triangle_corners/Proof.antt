@@ -2,13 +2,13 @@
 use mathlib.Core.Path.{subst}
 use Prim.Native.Nat.{ℕ, _≤_, _-_}
 use native.Mathlib.Omega.{arith}
-use mathlib.Core.Path.{_≡_, refl, _∙_}
+use mathlib.Core.Path.{_≡_, refl, sym, ap, _∙_}
 use mathlib.Core.List.{List}
 use mathlib.Core.Logic.{⊎-elim}
 use lib.Ieee.{Float}
 use lib.ListN.{length}
 use Rattle.mesh_tables.specs.Fans.{CornersRead, trianglesWith}
-use Rattle.mesh_tables.proofs.FanLaws.{corners-none, corners-skip, corners-take, triangles-held, triangle-told, no-triangles}
+use Rattle.mesh_tables.proofs.FanLaws.{corners-none, corners-skip, corners-take, triangles-held, no-triangles}
 use Rattle.mesh_tables.proofs.fans.triangle_corners.Statement.{statement}
 use Rattle.mesh_tables.proofs.fans.triangle_corners.Tie as tie
 
@@ -21,35 +21,35 @@ abbrev μ-loop : tie.MeasureT-loop
 loop-holds : tie.Need-loop-holds Inv-loop μ-loop
 loop-holds c = let A = c .before .before .args in (λ M. rw (no-triangles (A .v) (A .corners .now) M) (corners-none 3 _), refl, omega arith, omega arith)
 
-row-holds-requires : tie.Need-row-holds-requires Inv-loop μ-loop
-row-holds-requires c κs = record { here = omega arith; columns = omega arith }
+mul-x : tie.Need-mul-x Inv-loop μ-loop
+mul-x c = omega arith
 
-mul-put-three : tie.Need-mul-put-three Inv-loop μ-loop
-mul-put-three c = omega arith
+shared-slice-read-x : tie.Need-shared-slice-read-x Inv-loop μ-loop
+shared-slice-read-x c = omega arith
 
-shared-slice-read-put-three : tie.Need-shared-slice-read-put-three Inv-loop μ-loop
-shared-slice-read-put-three c = omega arith
+add-y : tie.Need-add-y Inv-loop μ-loop
+add-y c = omega arith
 
-add-put-three : tie.Need-add-put-three Inv-loop μ-loop
-add-put-three c = omega arith
+mul-y : tie.Need-mul-y Inv-loop μ-loop
+mul-y c = omega arith
 
-mul-put-three-2 : tie.Need-mul-put-three-2 Inv-loop μ-loop
-mul-put-three-2 c = omega arith
+shared-slice-read-y : tie.Need-shared-slice-read-y Inv-loop μ-loop
+shared-slice-read-y c = omega arith
 
-shared-slice-read-put-three-2 : tie.Need-shared-slice-read-put-three-2 Inv-loop μ-loop
-shared-slice-read-put-three-2 c = omega arith
+mul-z : tie.Need-mul-z Inv-loop μ-loop
+mul-z c = omega arith
 
-mul-put-three-3 : tie.Need-mul-put-three-3 Inv-loop μ-loop
-mul-put-three-3 c = omega arith
+add-z : tie.Need-add-z Inv-loop μ-loop
+add-z c = omega arith
 
-add-put-three-2 : tie.Need-add-put-three-2 Inv-loop μ-loop
-add-put-three-2 c = omega arith
+mul-z-2 : tie.Need-mul-z-2 Inv-loop μ-loop
+mul-z-2 c = omega arith
 
-mul-put-three-4 : tie.Need-mul-put-three-4 Inv-loop μ-loop
-mul-put-three-4 c = omega arith
+shared-slice-read-z : tie.Need-shared-slice-read-z Inv-loop μ-loop
+shared-slice-read-z c = omega arith
 
-shared-slice-read-put-three-3 : tie.Need-shared-slice-read-put-three-3 Inv-loop μ-loop
-shared-slice-read-put-three-3 c = omega arith
+triangle-holds-requires : tie.Need-triangle-holds-requires Inv-loop μ-loop
+triangle-holds-requires c κs = omega arith
 
 put-three-requires : tie.Need-put-three-requires Inv-loop μ-loop
 put-three-requires c κs = omega arith
@@ -64,12 +64,11 @@ loop-less : tie.Need-loop-less Inv-loop μ-loop
 loop-less c = omega arith
 
 loop-again : tie.Need-loop-again Inv-loop μ-loop
-loop-again c = let A = c .before .before .before .before .before .before .args in
-    let L = c .before .before .before .loop in
-    let inv = L .inv in
-    let said = triangle-told (A .v) (A .corners .now) (L .i) (c .before .row-holds .ensures) in
+loop-again c = let A = c .before .before .before .before .before .before .before .before .before .args in
+    let inv = c .before .before .before .before .before .before .loop .inv in
+    let said = sym (c .before .triangle-holds .ensures) in
     ⊎-elim
-    (λ w. rw (w .8, w .9) ((λ M. corners-take _ _ _ _ (triangles-held (A .v) (A .corners .now) M _) 3 _ _ _ (inv .0 M) (said ∙ w .0 .taken) refl (w .5 .ensures)), w .5 .ensures .long ∙ inv .1, omega arith, omega arith))
+    (λ w. rw (w .5, w .6) ((λ M. corners-take _ _ _ _ (triangles-held (A .v) (A .corners .now) M _) 3 _ _ _ (inv .0 M) (said ∙ w .0 .taken) refl (w .2 .ensures)), w .2 .ensures .long ∙ inv .1, omega arith, omega arith))
     (λ w. rw (w .1, w .2) ((λ M. corners-skip _ _ _ _ (triangles-held (A .v) (A .corners .now) M _) 3 _ _ (inv .0 M) (said ∙ w .0 .left)), inv .1, omega arith, omega arith))
     (c .if1 .came)
 
@@ -89,16 +88,16 @@ triangle-corners-spec =
     Inv-loop
     μ-loop
     loop-holds
-    row-holds-requires
-    mul-put-three
-    shared-slice-read-put-three
-    add-put-three
-    mul-put-three-2
-    shared-slice-read-put-three-2
-    mul-put-three-3
-    add-put-three-2
-    mul-put-three-4
-    shared-slice-read-put-three-3
+    mul-x
+    shared-slice-read-x
+    add-y
+    mul-y
+    shared-slice-read-y
+    mul-z
+    add-z
+    mul-z-2
+    shared-slice-read-z
+    triangle-holds-requires
     put-three-requires
     add-r
     add-i
