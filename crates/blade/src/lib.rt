@@ -1,18 +1,20 @@
 // Points, and the blade test: where an edge from p to q meets the blade from b0 to b1.
+#![tactic(auto)]
+
 ghost use Rattle.std.specs.Prelude.{◌≡◌, [], ◌∷◌};
 ghost use Rattle.blade.specs.Points.{plusOf, minusOf, timesOf, overOf, dotOf, centroidOf, lerpOf, length_of};
 ghost use Rattle.blade.specs.Blade.{offset_of, clampHigh, clampLow, hitAt, crossAt, bladeHit};
 
 use float::root::Rooted;
 
-#[derive(Drop)]
+#[derive(Clone, Copy)]
 pub struct Point {
     pub x: f32,
     pub y: f32,
 }
 
 // A miss, or a hit with the fraction of the edge at which it lies and the point that was tested.
-#[derive(Drop)]
+#[derive(Clone, Copy)]
 pub enum Hit {
     Miss,
     Hit(f32, Point),

@@ -1,4 +1,6 @@
 // The marks of a blade's crossings: each pair of an element's corners that the blade meets is noted in the log, with the hit point and the fraction.
+#![tactic(auto)]
+
 ghost use Rattle.std.specs.Prelude.{◌+◌, ◌/◌, ◌<◌, ◌≤◌, ◌≡◌, [], ◌∷◌, length};
 ghost use Rattle.elements.specs.Table.{kindIs};
 ghost use Rattle.model.specs.Cut.{markedBy};

@@ -1,4 +1,6 @@
 // The elements of a mesh in tables: kinds, all elements, the fan of a particle, measures.
+#![tactic(auto)]
+
 ghost use Rattle.std.specs.Prelude.{◌≡◌, ◌&&◌, ℕ, ◌+◌, ◌*◌, ◌/◌, ◌<◌, ◌≤◌, length, get_or, take, drop};
 ghost use Rattle.lists.specs.Lists.{stands, all};
 ghost use Rattle.model.specs.Elements.{cornersPer, facetOthers, trianglesFrom, strapsFrom, sum};
@@ -8,7 +10,7 @@ ghost use Rattle.elements.specs.Table.{kindIs, elementsIn, KindFound, ElementIs,
 ghost use Rattle.elements.specs.Workers.{TriangleRoom, StrapRoom, marked, Marked, MeasuredMarked, PassRoom};
 
 // A mesh is triangles, or straps, or nothing.
-#[derive(Drop)]
+#[derive(Clone, Copy)]
 pub enum Kind {
     Triangles,
     Straps,

@@ -2,7 +2,7 @@
 ghost use Rattle.std.specs.Prelude.{◌≡◌, ℕ, ◌+◌, ◌-◌, ◌*◌, ◌^◌, ◌≤◌, ◌<◌};
 ghost use Rattle.float.specs.Root.{RootBits, RootOf, rootOf};
 
-#[derive(Drop)]
+#[derive(Clone, Copy)]
 pub enum Rooted {
     Value(f32),
     Refused,

@@ -1,4 +1,6 @@
 // The program of docs/RULES.md, R14, from bytes to bytes: a sheet is read, cut and listed.
+#![tactic(auto)]
+
 ghost use Rattle.std.specs.Prelude.{◌≡◌, length};
 ghost use Rattle.model.specs.Calls.{cutCall};
 ghost use Rattle.mesh.specs.Given.{meshOf, sizesFit};

@@ -5,7 +5,7 @@ ghost use Rattle.mesh.specs.Widths.{endColumns, entryWords};
 ghost use Rattle.tear.specs.Families.{joinsBy, sourceIn, FamilyRoom, FamilyFound, JoinTold, MeetRoom, MeetTold, FirstMet, PairMet, CurrentRoom, FamiliesMet};
 
 // Two particles, or none.
-#[derive(Drop)]
+#[derive(Clone, Copy)]
 pub enum Pair {
     None,
     Ends(usize, usize),

@@ -1,4 +1,6 @@
 // One torn edge cracked: the pair that stands for it now, the ways at both ends in their order, and the first that opens without confetti.
+#![tactic(auto)]
+
 ghost use Rattle.std.specs.Prelude.{◌≡◌, ◌<◌, ◌≤◌, true, length};
 ghost use Rattle.elements.specs.Table.{kindIs};
 ghost use Rattle.links.specs.Linked.{LinkedIn};
@@ -17,14 +19,14 @@ use tear::families::Pair;
 use work::Ran;
 
 // How an edge parts the fan of one of its ends: not into two sides; or so many elements into so many groups.
-#[derive(Drop)]
+#[derive(Clone, Copy)]
 pub enum Parts {
     Whole,
     Grouped(usize, usize),
 }
 
 // What trying a way came to: it doesn't open, or what its split came to.
-#[derive(Drop)]
+#[derive(Clone, Copy)]
 pub enum Tried {
     Not,
     Tore(Ran),
