@@ -1,4 +1,6 @@
 // The listing of an answer that goes with blocks: the pieces that they make are counted, and the text is written.
+#![tactic(auto)]
+
 ghost use Rattle.std.specs.Prelude.{◌≡◌, length};
 ghost use Rattle.mesh.specs.At.{triangles_at, edges_at};
 ghost use Rattle.listing.specs.Answers.{Told};

@@ -1,4 +1,6 @@
 // What the entries ask beside the checks of a mesh: tests of their arguments, and the minimum piece that is offered for one of them.
+#![tactic(auto)]
+
 ghost use Rattle.std.specs.Prelude.{◌≡◌};
 
 pub mod tests;

@@ -1,4 +1,6 @@
 // Bit fields in bytes, most significant bit first: read, written, and rows and columns of them.
+#![tactic(auto)]
+
 ghost use Rattle.std.specs.Prelude.{◌≡◌, [], ◌∷◌, ◌++◌, ℕ, ◌*◌, ◌^◌, ◌<◌, length, get_or, set, replicate, drop};
 ghost use Rattle.std.proofs.lemmas.List.Edits.{sets};
 ghost use Rattle.bits.specs.Bits.{bits, bits_of, field_at};

@@ -1,18 +1,20 @@
 // Points, and the blade test: where an edge from p to q meets the blade from b0 to b1.
+#![tactic(auto)]
+
 ghost use Rattle.std.specs.Prelude.{◌≡◌, [], ◌∷◌};
 ghost use Rattle.blade.specs.Points.{plus_of, minus_of, times_of, over_of, dot_of, centroid_of, lerp_of, length_of};
 ghost use Rattle.blade.specs.Blade.{offset_of, clamp_high, clamp_low, hit_at_of, cross_at_of, blade_hit_of};
 
 use float::root::Rooted;
 
-#[derive(Drop)]
+#[derive(Clone, Copy)]
 pub struct Point {
     pub x: f32,
     pub y: f32,
 }
 
 // A miss, or a hit with the fraction of the edge at which it lies and the point that was tested.
-#[derive(Drop)]
+#[derive(Clone, Copy)]
 pub enum Hit {
     Miss,
     Hit(f32, Point),

@@ -1,4 +1,6 @@
 // Bodies, which one shared particle holds together: the lowest particle of each particle's body, and which particles the elements of a table hold.
+#![tactic(auto)]
+
 pub mod forest;
 
 ghost use Rattle.std.specs.Prelude.{◌≡◌, ℕ, ◌+◌, ◌*◌, ◌<◌, ◌≤◌, length, get_or};

@@ -7,7 +7,7 @@ ghost use Rattle.work.specs.Rows.{SideRoom};
 use work::Grown;
 
 // A face that was found, by its ends, or none.
-#[derive(Drop)]
+#[derive(Clone, Copy)]
 pub enum Face {
     No,
     Ends(usize, usize),

@@ -2,7 +2,8 @@
 ghost use Rattle.std.specs.Prelude.{◌≡◌, ◌≤◌, length, take};
 ghost use Rattle.lists.specs.Lists.{padded};
 ghost use Rattle.mesh.specs.Filled.{Filled, Fits, lent};
-ghost use Rattle.mesh.specs.Blocks.{world_before, lent_in, lent_before};
+ghost use Rattle.mesh.specs.Blocks.{lent_in, lent_before};
+ghost use Rattle.mesh.specs.Log.{world_at};
 
 use mesh::Counts;
 
@@ -31,7 +32,7 @@ pub fn finish_all(
     log: &mut [u32],
 )
     requires { Fits k (lent_in points roots corners volumes ends lengths outline log) }
-    ensures { Filled (world_before k points roots corners volumes ends lengths outline log)
+    ensures { Filled (world_at k points.old roots.old corners.old volumes.old ends.old lengths.old outline.old log.old)
         (lent_before points roots corners volumes ends lengths outline log) points.new roots.new corners.new
         volumes.new ends.new lengths.new outline.new log.new }
 {

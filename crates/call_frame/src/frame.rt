@@ -4,7 +4,8 @@ ghost use Rattle.model.specs.Calls.{too_small};
 ghost use Rattle.mesh.specs.Given.{mesh_of, sizes, as_rooms};
 ghost use Rattle.mesh.specs.Filled.{lent};
 ghost use Rattle.call_frame.specs.Framed.{copy_need, BeginAsked, Begun, RanFits, Finished};
-ghost use Rattle.mesh.specs.Blocks.{mesh_behind, world_before, lent_in, lent_before, given_in, given_before, blocks_in};
+ghost use Rattle.mesh.specs.Blocks.{mesh_behind, lent_in, lent_before, given_in, given_before, blocks_in};
+ghost use Rattle.mesh.specs.Log.{world_at};
 
 use crate::Answer;
 use mesh::{Counts, Rooms};
@@ -84,7 +85,7 @@ pub fn finish(
     log: &mut [u32],
 ) -> Answer
     requires { RanFits ran (lent_in points roots corners volumes ends lengths outline log) }
-    ensures { Finished ran (λ k. world_before k points roots corners volumes ends lengths outline log)
+    ensures { Finished ran (λ k. world_at k points.old roots.old corners.old volumes.old ends.old lengths.old outline.old log.old)
         (lent_before points roots corners volumes ends lengths outline log) result points.new roots.new corners.new
         volumes.new ends.new lengths.new outline.new log.new }
 {

@@ -1,4 +1,6 @@
 // The words beside an image that a C function is handed: the rooms of a call, and what a cut is asked.
+#![tactic(auto)]
+
 ghost use Rattle.std.specs.Prelude.{◌≡◌, length};
 ghost use Rattle.mesh_calls.specs.declared.Job.TheVariants.{Cut};
 ghost use Rattle.image.specs.Words.{number_of};

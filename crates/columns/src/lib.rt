@@ -1,4 +1,6 @@
 // Functions on one column and on a block of columns, at f32 and usize. Their proofs share the laws of proofs/.
+#![tactic(auto)]
+
 ghost use Rattle.std.specs.Prelude.{◌≡◌, ℕ, ◌+◌, ◌≤◌, ◌<◌, ◌*◌, length, take, drop};
 ghost use Rattle.std.specs.Float.{nan};
 ghost use Rattle.lists.specs.Lists.{padded, stands};

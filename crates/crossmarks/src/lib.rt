@@ -1,11 +1,16 @@
 // The marks of a blade's crossings: each pair of an element's corners that the blade meets is noted in the log, with the hit point and the fraction.
+#![tactic(auto)]
+
 ghost use Rattle.std.specs.Prelude.{◌+◌, ◌/◌, ◌<◌, ◌≤◌, ◌≡◌, [], ◌∷◌, length};
 ghost use Rattle.elements.specs.Table.{kind_is};
 ghost use Rattle.model.specs.Cut.{marked_by};
 ghost use Rattle.marks.specs.Marking.{blade_by};
 ghost use Rattle.mesh.specs.Widths.{point_columns};
 ghost use Rattle.crossmarks.specs.Noting.{Noted, pair_marks, row_marks, triangle_marks, strap_marks, beside_by, OffsetAt, OffsetsAre, PairRoom, TriangleRoom, StrapRoom};
-ghost use Rattle.work.specs.Blocks.{ReadyIn, WorksIn};
+ghost use Rattle.mesh.specs.Filled.{lent};
+ghost use Rattle.work.specs.Working.{Works, Ready};
+ghost use Rattle.mesh.specs.Log.{world_at};
+ghost use Rattle.mesh.specs.At.{mesh_at};
 
 use blade::{Hit, Point};
 use elements::Kind;
@@ -205,9 +210,9 @@ fn note_elements(
     offsets: &[f32],
     log: &mut [u32],
 ) -> Ran
-    requires { ReadyIn room k points roots corners volumes ends lengths outline log
+    requires { Ready room k (lent points.now roots.now corners.now volumes.now ends.now lengths.now outline.now log.old) (mesh_at k points.now roots.now corners.now volumes.now ends.now lengths.now outline.now)
         × OffsetsAre b0 b1 points.now offsets.now k.particles }
-    ensures { WorksIn (marked_by (kind_is kind) (blade_by rule b0 b1)) room k points roots corners volumes ends lengths outline log result }
+    ensures { Works (marked_by (kind_is kind) (blade_by rule b0 b1)) room (world_at k points.now roots.now corners.now volumes.now ends.now lengths.now outline.now log.old) (λ q. world_at q points.now roots.now corners.now volumes.now ends.now lengths.now outline.now log.new) result }
 {
     let before = k.log;
     let n = match kind {
@@ -254,8 +259,8 @@ pub fn note_crossings(
     outline: &[usize],
     log: &mut [u32],
 ) -> Ran
-    requires { ReadyIn room k points roots corners volumes ends lengths outline log }
-    ensures { WorksIn (marked_by (kind_is kind) (blade_by rule b0 b1)) room k points roots corners volumes ends lengths outline log result }
+    requires { Ready room k (lent points.now roots.now corners.now volumes.now ends.now lengths.now outline.now log.old) (mesh_at k points.now roots.now corners.now volumes.now ends.now lengths.now outline.now) }
+    ensures { Works (marked_by (kind_is kind) (blade_by rule b0 b1)) room (world_at k points.now roots.now corners.now volumes.now ends.now lengths.now outline.now log.old) (λ q. world_at q points.now roots.now corners.now volumes.now ends.now lengths.now outline.now log.new) result }
 {
     let mut offsets = [0.0f32; mesh::PARTICLES];
     read_offsets(b0, b1, k.particles, points, &mut offsets);

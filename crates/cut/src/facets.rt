@@ -24,7 +24,7 @@ use split::step::split_tabled;
 use work::Ran;
 
 // How a fan is parted: no element from another by its side; by the blade and its rule; or, at an end that straps were snapped to, by the blade in rounded numbers, and the edges at the copies are slack.
-#[derive(Drop)]
+#[derive(Clone, Copy)]
 pub enum Parting {
     Free,
     Blade(Rule, Point, Point),

@@ -1,2 +1,4 @@
 // The cut of triangles along a blade, over the lent blocks.
+#![tactic(auto)]
+
 pub mod facets;

@@ -1,4 +1,6 @@
 // The program of docs/RULES.md, R14: reads a sheet on standard input, and prints the listing of its cut, or the line of its refusal.
+#![tactic(auto)]
+
 ghost use Rattle.std.specs.Prelude.{◌≡◌, ◌≤◌, length, take};
 ghost use Rattle.io.specs.Counts.{IsPrefixLen};
 ghost use Rattle.sheetcut.specs.SheetCut.{listed};

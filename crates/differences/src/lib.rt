@@ -1,8 +1,10 @@
 // What differs of two sheets: the lines of a place, a count and the blades.
+#![tactic(auto)]
+
 pub mod lines;
 
 // The lists of a sheet.
-#[derive(Drop)]
+#[derive(Clone, Copy)]
 pub enum Part {
     Particles,
     Triangles,
@@ -11,7 +13,7 @@ pub enum Part {
 }
 
 // The reading of a place: the fields of its row, of which a boundary entry has the first two; or the sheet has no such place.
-#[derive(Drop)]
+#[derive(Clone, Copy)]
 pub enum Reading {
     Missing,
     Row(usize, usize, usize),

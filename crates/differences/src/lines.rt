@@ -10,14 +10,14 @@ use crate::{Part, Reading};
 use listing::Written;
 
 // How far the lines of differences are written: the text, and how many lines it has.
-#[derive(Drop)]
+#[derive(Clone, Copy)]
 pub struct Lines {
     pub at: Written,
     pub count: usize,
 }
 
 // The four fields of a blade.
-#[derive(Drop)]
+#[derive(Clone, Copy)]
 pub struct Four {
     pub x0: usize,
     pub y0: usize,

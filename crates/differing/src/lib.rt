@@ -1,4 +1,6 @@
 // The differences of two sheets, place by place, as text.
+#![tactic(auto)]
+
 ghost use Rattle.std.specs.Prelude.{length};
 ghost use Rattle.edition.specs.declared.Seen.TheVariants.{Whole};
 ghost use Rattle.listing.specs.Answers.{Wrote, Told};

@@ -1,4 +1,6 @@
 // Listed edges go, from the blocks and from the table of the edges at each particle, which is kept true.
+#![tactic(auto)]
+
 ghost use Rattle.std.specs.Prelude.{◌≡◌, ◌+◌, ◌-◌, length, take};
 ghost use Rattle.lists.specs.LeftOut.{without, left_out};
 ghost use Rattle.mesh.specs.At.{edges_at};

@@ -1,4 +1,6 @@
 // Sheets of either edition, looked at and read into blocks.
+#![tactic(auto)]
+
 ghost use Rattle.std.specs.Prelude.{◌≡◌};
 ghost use Rattle.edition.specs.Edition.{seen_of};
 
@@ -9,7 +11,7 @@ pub mod read;
 pub mod typed;
 
 // What a look at a sheet finds: its counts, the boundary's those of the outline that it is read with, and whether its typed outline was replaced.
-#[derive(Drop)]
+#[derive(Clone, Copy)]
 pub enum Seen {
     Whole(Counts, bool),
     Refused(usize),

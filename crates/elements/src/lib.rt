@@ -1,4 +1,6 @@
 // The elements of a mesh in tables: kinds, all elements, the fan of a particle, measures.
+#![tactic(auto)]
+
 ghost use Rattle.std.specs.Prelude.{◌≡◌, ◌&&◌, ℕ, ◌+◌, ◌*◌, ◌/◌, ◌<◌, ◌≤◌, length, get_or, take, drop};
 ghost use Rattle.lists.specs.Lists.{stands, all};
 ghost use Rattle.model.specs.Elements.{corners_per_of, facet_others_of, triangles_from, straps_from, sum};
@@ -8,7 +10,7 @@ ghost use Rattle.elements.specs.Table.{kind_is, elements_in, KindFound, ElementI
 ghost use Rattle.elements.specs.Workers.{TriangleRoom, StrapRoom, marked, Marked, MeasuredMarked, PassRoom};
 
 // A mesh is triangles, or straps, or nothing.
-#[derive(Drop)]
+#[derive(Clone, Copy)]
 pub enum Kind {
     Triangles,
     Straps,

@@ -1,4 +1,6 @@
 // Edition 2 of the blade test and of sides, by the signs of offsets. On whole coordinates an offset is exact, and so are the answers.
+#![tactic(auto)]
+
 ghost use Rattle.std.specs.Prelude.{◌≡◌};
 ghost use Rattle.exact.specs.Exact.{whole?, whole_point_of, opposite};
 ghost use Rattle.exact.specs.Signs.{crosses_by_signs, hit_by_signs_of, sign_in, sign_of_sum_of, across_in};
@@ -6,7 +8,7 @@ ghost use Rattle.exact.specs.Signs.{crosses_by_signs, hit_by_signs_of, sign_in, 
 use blade::{Hit, Point};
 
 // To the left of the blade's line, on it, or to its right.
-#[derive(Drop)]
+#[derive(Clone, Copy)]
 pub enum Sign {
     Left,
     On,

@@ -1,4 +1,6 @@
 // A fan's elements: which of them are neighbours. (Their groups: crate fan_groups.)
+#![tactic(auto)]
+
 ghost use Rattle.std.specs.Prelude.{◌≡◌, ℕ, ◌*◌, ◌<◌, length, get_or};
 ghost use Rattle.lists.specs.Lists.{stands};
 ghost use Rattle.fan.specs.Fan.{fan, shared_others_of, near_test};

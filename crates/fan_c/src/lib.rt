@@ -1,4 +1,6 @@
 // The fan of a particle of a mesh image: the numbers of its elements, in the order in which sides are given for them. They are read from the image's bytes.
+#![tactic(auto)]
+
 ghost use Rattle.std.specs.Prelude.{◌≡◌, true, List, ◌+◌, ◌*◌, ◌≤◌, Float, length};
 ghost use Rattle.mesh.specs.Given.{mesh_of};
 ghost use Rattle.mesh_tables.specs.Fans.{NumbersRead, triangles_with, straps_with};
@@ -11,7 +13,7 @@ ghost use Rattle.fan_c.specs.Work.{Listed, Answered, Tellable, found_words};
 use mesh_tables::fans;
 
 // A refusal, or how many elements a fan has.
-#[derive(Drop)]
+#[derive(Clone, Copy)]
 pub enum Found {
     Refused(usize),
     Elements(usize),

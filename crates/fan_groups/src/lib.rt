@@ -1,4 +1,6 @@
 // The groups of a fan's elements: which of them a chain of neighbours joins, numbered by first appearance, all of side 0 before side 1.
+#![tactic(auto)]
+
 ghost use Rattle.std.specs.Prelude.{◌≡◌, ℕ, ◌+◌, ◌<◌, ◌≤◌, length, get_or};
 ghost use Rattle.fan.specs.Fan.{fan};
 ghost use Rattle.fan.specs.Calls.{Fits, Counted};

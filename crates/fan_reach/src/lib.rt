@@ -1,4 +1,6 @@
 // The untouched neighbours of an element of a fan, reached by its label: among all elements, or along chains of corners.
+#![tactic(auto)]
+
 ghost use Rattle.std.specs.Prelude.{◌≡◌, ◌+◌, ◌*◌, ◌<◌, length};
 ghost use Rattle.fan.specs.Fan.{fan};
 ghost use Rattle.fan_reach.specs.Spread.{beside_test, Reached, Reaching, Touching};

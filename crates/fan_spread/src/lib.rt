@@ -1,4 +1,6 @@
 // Labels spread through a fan, the smallest first: each element gets the first one of its group.
+#![tactic(auto)]
+
 ghost use Rattle.std.specs.Prelude.{◌≡◌, ◌+◌, ◌*◌, ◌<◌, ◌≤◌, length, get_or};
 ghost use Rattle.fan.specs.Fan.{fan};
 ghost use Rattle.fan_reach.specs.Spread.{Reached, Onward, Next, Settled, Spread};

@@ -1,4 +1,6 @@
 // The worked sheet fed to a reader in parts: byte by byte, in growing parts, in the second edition, and cut short; then calls behind the close.
+#![tactic(auto)]
+
 use libc::STDOUT_FILENO;
 
 // The worked sheet.

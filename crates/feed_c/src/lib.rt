@@ -1,4 +1,6 @@
 // A reader of sheets that is closed by a host: the reply is that of the whole sheet.
+#![tactic(auto)]
+
 ghost use Rattle.std.specs.Prelude.{length};
 ghost use Rattle.feed_c.specs.Closing.{Closed};
 

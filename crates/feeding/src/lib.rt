@@ -1,4 +1,6 @@
 // A sheet's reader that is fed in parts: the bytes of a reader are lent by the caller, who keeps them between the calls.
+#![tactic(auto)]
+
 ghost use Rattle.std.specs.Prelude.{◌≡◌, min, length};
 ghost use Rattle.feeding.specs.Feeding.{size, standing, fitting, grown_by, OpenDone, FeedDone, ShutDone};
 ghost use Rattle.feeding.specs.Work.{Held};

@@ -2,7 +2,7 @@
 ghost use Rattle.std.specs.Prelude.{◌≡◌, ℕ, ◌+◌, ◌-◌, ◌*◌, ◌^◌, ◌≤◌, ◌<◌};
 ghost use Rattle.float.specs.Root.{RootBits, RootOf, root_of};
 
-#[derive(Drop)]
+#[derive(Clone, Copy)]
 pub enum Rooted {
     Value(f32),
     Refused,

@@ -1,4 +1,6 @@
 // A mesh as one run of bytes, read into blocks. (Written: crate image_writing.)
+#![tactic(auto)]
+
 pub mod small;
 
 ghost use Rattle.std.specs.Prelude.{◌≡◌, ◌+◌, ◌*◌, ◌%◌, ◌≤◌, ◌<◌, length, take, ltb};

@@ -1,5 +1,7 @@
 // The checks of a mesh image, from its bytes: no block is filled for them. An image's columns stand one behind the other, so that neighbours with one test are
 // one run of words.
+#![tactic(auto)]
+
 mod places;
 mod rows;
 mod runs;

@@ -1,4 +1,6 @@
 // The elements of a mesh image in one table, read from its bytes: no block is filled on the way.
+#![tactic(auto)]
+
 ghost use Rattle.std.specs.Prelude.{◌≡◌, true, ◌+◌, ◌*◌, ◌≤◌, length};
 ghost use Rattle.model.specs.Valid.{indices_fit_of};
 ghost use Rattle.model.specs.Elements.{triangles_from, straps_from};

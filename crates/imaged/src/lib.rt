@@ -1,1 +1,2 @@
 // The image of an accepted mesh, read back, is that mesh: see specs/ and proofs/. There is no code here.
+#![tactic(auto)]

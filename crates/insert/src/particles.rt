@@ -14,7 +14,7 @@ use crate::plan::Plan;
 use blade::Point;
 
 // One particle.
-#[derive(Drop)]
+#[derive(Clone, Copy)]
 pub struct ParticleRow {
     pub at: Point,
     pub rest: Point,

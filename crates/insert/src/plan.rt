@@ -11,7 +11,7 @@ use crate::shares;
 use mesh::EdgeRow;
 
 // Edge `number` is to be opened at the fraction `at`; `first` and `second` are the shares of its ends, and `before` particles are there.
-#[derive(Drop)]
+#[derive(Clone, Copy)]
 pub struct Plan {
     pub number: usize,
     pub row: EdgeRow,

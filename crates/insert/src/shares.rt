@@ -21,7 +21,7 @@ pub fn strap_at(v: usize, i: usize, ends: &[usize]) -> bool
 }
 
 // The straps at two particles, by their initial lengths added.
-#[derive(Drop)]
+#[derive(Clone, Copy)]
 pub struct Totals {
     pub first: f32,
     pub second: f32,

@@ -3,18 +3,18 @@ use Rattle.std.specs.Prelude.{ℕ, ◌≤◌, min, length}
 use Rattle.mesh.specs.declared.Rooms.{Rooms}
 use Rattle.image.specs.Image.{image_of, image_sized_of}
 use Rattle.mesh.specs.Given.{mesh_of, as_rooms}
-use Rattle.mesh.specs.Blocks.{Indices}
+use Rattle.mesh.specs.Blocks.{Indices, LentIndices}
 use Rattle.mesh_calls.specs.declared.Job.{Job}
 use Rattle.mesh_calls.specs.Jobs.{job_numbers, job_call}
 use Rattle.job_replies.specs.Outcomes.{OutcomeReplied, with_rooms}
 
 -- a job on an image was answered, in the bytes that were lent for the result and for the log
-abbrev pub JobReplied : Job → Indices → Indices → Rooms → Indices → Indices → ℕ → Type 0
+abbrev pub JobReplied : Job → Indices → Indices → Rooms → LentIndices → LentIndices → ℕ → Type 0
 JobReplied job list bytes room out log r =
     OutcomeReplied (job_call job list.entry.now (image_sized_of bytes.entry.now) (mesh_of (image_of bytes.entry.now)) (as_rooms room)) (length out.entry.now) (length log.entry.now) r out.exit.now log.exit.now
 
 -- the same beside the bytes of rooms, which are four words or a bad argument
-abbrev pub CallReplied : Job → Indices → Indices → Indices → Rooms → Indices → Indices → ℕ → Type 0
+abbrev pub CallReplied : Job → Indices → Indices → Indices → Rooms → LentIndices → LentIndices → ℕ → Type 0
 CallReplied job list bytes rooms room out log r =
     OutcomeReplied (with_rooms bytes.entry.now rooms.entry.now (job_numbers job) (job_call job list.entry.now (image_sized_of bytes.entry.now) (mesh_of (image_of bytes.entry.now)) (as_rooms room))) (length out.entry.now) (length log.entry.now) r out.exit.now log.exit.now
 

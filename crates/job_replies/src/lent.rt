@@ -2,13 +2,14 @@
 ghost use Rattle.std.specs.Prelude.{◌≡◌, true, length};
 ghost use Rattle.mesh.specs.Given.{mesh_of, sizes, as_rooms};
 ghost use Rattle.mesh.specs.Filled.{Fits};
-ghost use Rattle.mesh.specs.Blocks.{mesh_in, blocks_in, lent_in};
+ghost use Rattle.mesh.specs.Blocks.{blocks_in, lent_in};
 ghost use Rattle.work.specs.Working.{Roomed};
 ghost use Rattle.call_frame.specs.Framed.{Begun};
 ghost use Rattle.mesh_calls.specs.Jobs.{job_refusal};
 ghost use Rattle.image.specs.Image.{image_of, image_sized_of};
 ghost use Rattle.call_words.specs.Rooms.{Limited};
 ghost use Rattle.job_replies.specs.Told.{JobReplied, CallReplied};
+ghost use Rattle.mesh.specs.At.{mesh_at};
 
 use mesh::Rooms;
 use mesh_calls::Job;
@@ -32,7 +33,7 @@ fn reply_work(
 ) -> u32
     requires { let I = image_of bytes.now in (image_sized_of bytes.now ≡ true) × Limited room (length log.old) × Roomed room
         (lent_in points roots corners volumes ends lengths outline words) × Begun (job_refusal job list.now (image_sized_of bytes.now)
-        (mesh_of I) (as_rooms room)) room (mesh_of I) (mesh_in (sizes I) points roots corners volumes ends lengths outline) 0 }
+        (mesh_of I) (as_rooms room)) room (mesh_of I) (mesh_at (sizes I) points.old roots.old corners.old volumes.old ends.old lengths.old outline.old) 0 }
     ensures { JobReplied job list bytes room out log result }
 {
     let k = mesh_replies::placing::image_counts(bytes);
@@ -65,7 +66,7 @@ fn reply_accepted(
 ) -> u32
     requires { let I = image_of bytes.now in (image_sized_of bytes.now ≡ true) × Limited room (length log.old) × Roomed room
         (lent_in points roots corners volumes ends lengths outline words) × (job_refusal job list.now (image_sized_of bytes.now) (mesh_of I)
-        (as_rooms room) ≡ 0) × (mesh_in (sizes I) points roots corners volumes ends lengths outline ≡ mesh_of I) }
+        (as_rooms room) ≡ 0) × (mesh_at (sizes I) points.old roots.old corners.old volumes.old ends.old lengths.old outline.old ≡ mesh_of I) }
     ensures { JobReplied job list bytes room out log result }
 {
     let k = mesh_replies::placing::image_counts(bytes);

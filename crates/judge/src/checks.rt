@@ -7,7 +7,7 @@ ghost use Rattle.mesh.specs.At.{particles_at, edges_at};
 ghost use Rattle.judge.specs.Checks.{fault_in, fault_of};
 ghost use Rattle.mesh.specs.Workers.{ParticleRoom, EdgeRoom};
 ghost use Rattle.judge.specs.Told.{RootsTold, CornersTold, VolumesTold, pair_ok};
-ghost use Rattle.mesh.specs.Blocks.{mesh_before, given_before, blocks_in};
+ghost use Rattle.mesh.specs.Blocks.{mesh_before, given_before, inputs_in};
 ghost use Rattle.mesh.specs.Widths.{corner_columns, root_columns, volume_columns};
 
 use crate::{faults, ranges, tests};
@@ -106,7 +106,7 @@ pub fn numbers_fit(
     lengths: &[f32],
     outline: &[usize],
 ) -> bool
-    requires { Fits k (blocks_in points roots corners volumes ends lengths outline) }
+    requires { Fits k (inputs_in points roots corners volumes ends lengths outline) }
     ensures { result ≡ numbers_fit_of (mesh_before k points roots corners volumes ends lengths outline) }
 {
     let z = particles_fit(k.particles, points, roots);
@@ -125,7 +125,7 @@ pub fn indices_fit(
     lengths: &[f32],
     outline: &[usize],
 ) -> bool
-    requires { Fits k (blocks_in points roots corners volumes ends lengths outline) }
+    requires { Fits k (inputs_in points roots corners volumes ends lengths outline) }
     ensures { result ≡ indices_fit_of (mesh_before k points roots corners volumes ends lengths outline) }
 {
     let n = k.particles;
@@ -152,7 +152,7 @@ pub fn judge_sized(
     lengths: &[f32],
     outline: &[usize],
 ) -> usize
-    requires { Fits k (blocks_in points roots corners volumes ends lengths outline) }
+    requires { Fits k (inputs_in points roots corners volumes ends lengths outline) }
     ensures { result ≡ fault_in (mesh_before k points roots corners volumes ends lengths outline) }
 {
     let ok = numbers_fit(k, points, roots, corners, volumes, ends, lengths, outline);

@@ -1,4 +1,6 @@
 // The table of links kept true where one cell changes: it is new, a corner of it moves, or it goes.
+#![tactic(auto)]
+
 ghost use Rattle.std.specs.Prelude.{◌≡◌, ◌+◌, ◌-◌, ◌/◌, ◌≤◌, length};
 ghost use Rattle.columns.specs.Block.{cell, RowTurned};
 ghost use Rattle.columns.specs.View.{Shifted};

@@ -1,4 +1,6 @@
 // The fan of a particle, read by walking the table of links: its triangles, or its straps.
+#![tactic(auto)]
+
 ghost use Rattle.std.specs.Prelude.{◌/◌, ◌<◌, ◌≤◌, length};
 ghost use Rattle.model.specs.Elements.{triangles_from, straps_from};
 ghost use Rattle.mesh.specs.At.{triangles_at, edges_at};

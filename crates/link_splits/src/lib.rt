@@ -1,4 +1,6 @@
 // The table of links kept true through a split: the cells of a fan go from a particle to the copies of their groups.
+#![tactic(auto)]
+
 ghost use Rattle.columns.specs.Block.{cell};
 ghost use Rattle.links.specs.Links.{LinksOf};
 ghost use Rattle.link_splits.specs.Splits.{corner_after, SplitRoom};

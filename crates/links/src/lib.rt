@@ -1,6 +1,8 @@
 // The cells that hold each particle, in one table: built and read.
 // The table has a head for each particle and, behind the heads, the links in as many columns of `span` places as a cell has corners.
 // The corners stand in columns of `rows` places.
+#![tactic(auto)]
+
 ghost use Rattle.std.specs.Prelude.{◌<◌, ◌≤◌, length};
 ghost use Rattle.columns.specs.Block.{cell};
 ghost use Rattle.elements.specs.Table.{kind_is};

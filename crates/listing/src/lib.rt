@@ -1,4 +1,6 @@
 // The listing of a cut, and the line of a refusal, as bytes.
+#![tactic(auto)]
+
 ghost use Rattle.std.specs.Prelude.{◌≡◌, [], ◌∷◌, ◌+◌, ◌*◌, ◌≤◌, ◌<◌, length};
 ghost use Rattle.lists.specs.Lists.{each};
 ghost use Rattle.mesh.specs.Log.{log_at, entry_row};
@@ -7,7 +9,7 @@ ghost use Rattle.listing.specs.Answers.{Wrote};
 ghost use Rattle.listing.specs.Work.{Appends, Cleared, Finishes, Listable, entry_line};
 
 // How far a text was written: so many bytes, or the lent bytes are too few for it.
-#[derive(Drop)]
+#[derive(Clone, Copy)]
 pub enum Written {
     Short,
     Bytes(usize),

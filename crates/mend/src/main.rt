@@ -1,4 +1,6 @@
 // The program of docs/RULES.md, R22: reads a broken sheet on standard input, writes the mended sheet into a new file, and prints what was dropped.
+#![tactic(auto)]
+
 ghost use Rattle.std.specs.Prelude.{◌≡◌, ◌≤◌, length};
 ghost use Rattle.io.specs.Counts.{IsPrefixLen};
 ghost use Rattle.mend.specs.Printing.{Printed};

@@ -1,4 +1,6 @@
 // Mending through C: the mended sheet, what is said, and how many bytes each has.
+#![tactic(auto)]
+
 ghost use Rattle.std.specs.Prelude.{length};
 ghost use Rattle.mend_c.specs.Mends.{MendReplied};
 

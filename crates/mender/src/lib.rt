@@ -1,4 +1,6 @@
 // A broken sheet mended, from bytes to bytes: the mended sheet in its own edition, and what is said.
+#![tactic(auto)]
+
 ghost use Rattle.std.specs.Prelude.{◌≡◌, ℕ, ◌*◌, length, replicate};
 ghost use Rattle.bits.specs.Bits.{bits_of};
 ghost use Rattle.mending.specs.Work.{Mendable};
@@ -11,7 +13,7 @@ pub mod fates;
 pub mod write;
 
 // What mending answers: how many bytes the mended sheet and the text have, or that the lent bytes are too few for either, or the number of a refusal.
-#[derive(Drop)]
+#[derive(Clone, Copy)]
 pub enum Mended {
     Bytes(usize, usize),
     Short,

@@ -1,4 +1,6 @@
 // Seven blocks of columns held as a mesh, with the log beside them: its rows changed, the whole copied and finished.
+#![tactic(auto)]
+
 pub mod refusals;
 pub mod rows;
 pub mod whole;
@@ -52,7 +54,7 @@ pub const ENTRIES: usize = 4096;
 pub const PARTICLE_WORDS: usize = 10;
 
 // How many of each list's places are in use.
-#[derive(Drop)]
+#[derive(Clone, Copy)]
 pub struct Counts {
     pub particles: usize,
     pub triangles: usize,
@@ -62,7 +64,7 @@ pub struct Counts {
 }
 
 // How many rows each list has room for.
-#[derive(Drop)]
+#[derive(Clone, Copy)]
 pub struct Rooms {
     pub particles: usize,
     pub triangles: usize,
@@ -72,7 +74,7 @@ pub struct Rooms {
 }
 
 // One edge.
-#[derive(Drop)]
+#[derive(Clone, Copy)]
 pub struct EdgeRow {
     pub a: usize,
     pub b: usize,

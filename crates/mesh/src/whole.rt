@@ -2,7 +2,8 @@
 ghost use Rattle.std.specs.Prelude.{◌≡◌, ℕ, min, []};
 ghost use Rattle.mesh.specs.Given.{rooms_of};
 ghost use Rattle.mesh.specs.Filled.{Filled, Fits, Holds, lent};
-ghost use Rattle.mesh.specs.Blocks.{mesh_before, mesh_behind, world_before, lent_in, lent_before, blocks_in};
+ghost use Rattle.mesh.specs.Blocks.{mesh_before, mesh_behind, lent_in, lent_before, blocks_in, inputs_in};
+ghost use Rattle.mesh.specs.Log.{world_at};
 
 use crate::{Counts, POINT_COLUMNS, Rooms};
 
@@ -68,8 +69,8 @@ pub fn copy_all(
     lengths: &mut [f32],
     outline: &mut [usize],
 )
-    requires fits { Fits k (blocks_in in_points in_roots in_corners in_volumes in_ends in_lengths in_outline) }
-    requires holds { Holds (blocks_in in_points in_roots in_corners in_volumes in_ends in_lengths in_outline)
+    requires fits { Fits k (inputs_in in_points in_roots in_corners in_volumes in_ends in_lengths in_outline) }
+    requires holds { Holds (inputs_in in_points in_roots in_corners in_volumes in_ends in_lengths in_outline)
         (blocks_in points roots corners volumes ends lengths outline) }
     ensures { mesh_behind k points roots corners volumes ends lengths outline
         ≡ mesh_before k in_points in_roots in_corners in_volumes in_ends in_lengths in_outline }
@@ -126,7 +127,7 @@ pub fn finish_all(
     log: &mut [usize],
 )
     requires { Fits k (lent_in points roots corners volumes ends lengths outline log) }
-    ensures { Filled (world_before k points roots corners volumes ends lengths outline log)
+    ensures { Filled (world_at k points.old roots.old corners.old volumes.old ends.old lengths.old outline.old log.old)
         (lent_before points roots corners volumes ends lengths outline log) points.new roots.new corners.new
         volumes.new ends.new lengths.new outline.new log.new }
 {

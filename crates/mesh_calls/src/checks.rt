@@ -5,7 +5,7 @@ ghost use Rattle.mesh.specs.Given.{mesh_of, sizes_fit_of, as_rooms};
 ghost use Rattle.mesh_calls.specs.Jobs.{job_numbers, job_arguments, job_edition, job_refusal, whole_places_of};
 ghost use Rattle.mesh.specs.Widths.{point_columns};
 ghost use Rattle.mesh.specs.Filled.{Fits, lent};
-ghost use Rattle.mesh.specs.Blocks.{mesh_before, given_before, blocks_in};
+ghost use Rattle.mesh.specs.Blocks.{mesh_before, given_before, inputs_in};
 
 use crate::{Job, fans};
 use elements::Kind;
@@ -42,7 +42,7 @@ fn sides_given(
     in_lengths: &[f32],
     in_outline: &[usize],
 ) -> bool
-    requires { Fits k (blocks_in in_points in_roots in_corners in_volumes in_ends in_lengths in_outline) }
+    requires { Fits k (inputs_in in_points in_roots in_corners in_volumes in_ends in_lengths in_outline) }
     ensures { result ≡ sides_ok (mesh_before k in_points in_roots in_corners in_volumes in_ends in_lengths in_outline) v
         sides.now }
 {
@@ -64,7 +64,7 @@ fn arguments_fit(
     in_lengths: &[f32],
     in_outline: &[usize],
 ) -> bool
-    requires { Fits k (blocks_in in_points in_roots in_corners in_volumes in_ends in_lengths in_outline) }
+    requires { Fits k (inputs_in in_points in_roots in_corners in_volumes in_ends in_lengths in_outline) }
     ensures { result ≡ job_arguments job list.now (as_rooms room) (mesh_before k in_points in_roots in_corners in_volumes
         in_ends in_lengths in_outline) }
 {
@@ -103,7 +103,7 @@ fn judge_arguments(
     in_lengths: &[f32],
     in_outline: &[usize],
 ) -> usize
-    requires { Fits k (blocks_in in_points in_roots in_corners in_volumes in_ends in_lengths in_outline) }
+    requires { Fits k (inputs_in in_points in_roots in_corners in_volumes in_ends in_lengths in_outline) }
     ensures { let M = mesh_before k in_points in_roots in_corners in_volumes in_ends in_lengths in_outline in result
         ≡ refusal true M (job_numbers job) (job_arguments job list.now (as_rooms room) M) }
 {
@@ -148,7 +148,7 @@ fn edition_refusal(
     in_lengths: &[f32],
     in_outline: &[usize],
 ) -> usize
-    requires { Fits k (blocks_in in_points in_roots in_corners in_volumes in_ends in_lengths in_outline) }
+    requires { Fits k (inputs_in in_points in_roots in_corners in_volumes in_ends in_lengths in_outline) }
     ensures { result ≡ job_edition job (mesh_before k in_points in_roots in_corners in_volumes in_ends in_lengths in_outline) }
 {
     let Job::Cut(edition, b0, b1, _) = job else {
@@ -182,7 +182,7 @@ pub fn judge_sized(
     in_lengths: &[f32],
     in_outline: &[usize],
 ) -> usize
-    requires { Fits k (blocks_in in_points in_roots in_corners in_volumes in_ends in_lengths in_outline) }
+    requires { Fits k (inputs_in in_points in_roots in_corners in_volumes in_ends in_lengths in_outline) }
     ensures { result ≡ job_refusal job list.now true (mesh_before k in_points in_roots in_corners in_volumes in_ends
         in_lengths in_outline) (as_rooms room) }
 {

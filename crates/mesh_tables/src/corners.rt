@@ -9,7 +9,7 @@ ghost use Rattle.mesh.specs.Widths.{corner_columns, end_columns};
 use elements::Kind;
 
 // How many elements there are, and how many corners each has.
-#[derive(Drop)]
+#[derive(Clone, Copy)]
 pub struct Rows {
     pub n: usize,
     pub k: usize,

@@ -1,4 +1,6 @@
 // The tables of an accepted mesh: its elements, their corners, the fan of a particle; and its measure.
+#![tactic(auto)]
+
 pub mod corners;
 pub mod fans;
 pub mod measures;

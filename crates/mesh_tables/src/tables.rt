@@ -4,7 +4,7 @@ ghost use Rattle.mesh_tables.specs.Accepted.{Accepted, TableLent, MeshTabled, Fa
 ghost use Rattle.mesh.specs.Blocks.{given_in, given_before};
 
 // How many elements there are, how many corners each has, and how many particles two neighbours share at least.
-#[derive(Drop)]
+#[derive(Clone, Copy)]
 pub struct Shape {
     pub n: usize,
     pub k: usize,
@@ -12,7 +12,7 @@ pub struct Shape {
 }
 
 // The same, and how many elements a fan has.
-#[derive(Drop)]
+#[derive(Clone, Copy)]
 pub struct FanShape {
     pub n: usize,
     pub k: usize,

@@ -1,4 +1,6 @@
 // The outline of triangles and straps, and a typed outline settled by it.
+#![tactic(auto)]
+
 mod chains;
 
 ghost use Rattle.std.specs.Prelude.{◌≡◌, ◌&&◌, List, [], ◌∷◌, ◌++◌, ℕ, ◌+◌, ◌/◌, ◌^◌, ◌<◌, ◌≤◌, length, eqb};
@@ -8,7 +10,7 @@ ghost use Rattle.outline_tables.specs.Rows.{rows3, row3, sides_at, Even, Added, 
 ghost use Rattle.outline_tables.specs.Links.{Linked};
 
 // How many sides an outline has now, and whether it was replaced.
-#[derive(Drop)]
+#[derive(Clone, Copy)]
 pub struct Settled {
     pub count: usize,
     pub replaced: bool,

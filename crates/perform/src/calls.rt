@@ -10,10 +10,12 @@ ghost use Rattle.work.specs.Working.{Roomed, Logged};
 ghost use Rattle.call_frame.specs.Framed.{RoomsLent, Begun, Came};
 ghost use Rattle.mesh_calls.specs.Jobs.{job_refusal, rule_in_of, job_run, job_call};
 ghost use Rattle.perform.specs.Asks.{JobAsked, marks_tell_of, passed_by};
-ghost use Rattle.mesh.specs.Blocks.{mesh_in, mesh_before, mesh_behind, world_behind, lent_in, given_before, blocks_in};
+ghost use Rattle.mesh.specs.Blocks.{mesh_in, mesh_behind, lent_in, given_before, blocks_in};
 ghost use Rattle.work.specs.Blocks.{ReadyIn, WorksIn};
 ghost use Rattle.edge_drops.specs.Parted.{PartsIn};
 ghost use Rattle.split.specs.Blocks.{ListIn};
+ghost use Rattle.mesh.specs.At.{mesh_at};
+ghost use Rattle.mesh.specs.Log.{world_at};
 
 use blade::Point;
 use elements::Kind;
@@ -146,7 +148,7 @@ pub fn work(
 ) -> Ran
     requires { ReadyIn room k points roots corners volumes ends lengths outline log × Logged k.log log.old
         × JobAsked job list.now (mesh_in k points roots corners volumes ends lengths outline) × (2049 ≤ length gone.old) }
-    ensures { PartsIn (job_run job list.now (kind_of (mesh_before k points roots corners volumes ends lengths outline))) room
+    ensures { PartsIn (job_run job list.now (kind_of (mesh_at k points.old roots.old corners.old volumes.now ends.old lengths.old outline.old))) room
         k points roots corners volumes ends lengths outline log gone result }
 {
     gone[edge_drops::LISTED] = 0;
@@ -213,7 +215,7 @@ pub fn run(
     requires { Roomed room (lent_in points roots corners volumes ends lengths outline log) }
     ensures { let G = given_before in_points in_roots in_corners in_volumes in_ends in_lengths in_outline in
         Came (job_call job list.now (sizes_fit_of G) (mesh_of G) (as_rooms room)) room
-        (λ k. world_behind k points roots corners volumes ends lengths outline log) result }
+        (λ k. world_at k points.new roots.new corners.new volumes.new ends.new lengths.new outline.new log.new) result }
 {
     let code = begin(
         job, list, room, in_points, in_roots, in_corners, in_volumes, in_ends, in_lengths,

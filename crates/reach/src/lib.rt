@@ -1,4 +1,6 @@
 // Whether each group of a fan reaches the minimum piece: a walk over the table of all elements, breadth first, that stops at the minimum.
+#![tactic(auto)]
+
 ghost use Rattle.std.specs.Prelude.{◌≡◌, ℕ, ◌+◌, ◌*◌, ◌<◌, ◌≤◌, length, get_or, leb, List, [], ◌∷◌};
 ghost use Rattle.lists.specs.Lists.{stands};
 ghost use Rattle.lists.specs.Labels.{labelled};

@@ -1,4 +1,6 @@
 // Particles as a lent run of records: one entry, which tells of one of them whether it is pinned and whether it is damaged.
+#![tactic(auto)]
+
 ghost use Rattle.std.specs.Prelude.{◌≡◌, eqb};
 ghost use Rattle.std.specs.Float.Ieee.{eq};
 ghost use Rattle.float.specs.Numbers.{zero32};
@@ -6,7 +8,7 @@ ghost use Rattle.model.specs.Reads.{state_call};
 ghost use Rattle.records.specs.State.{state_of, particles_of};
 
 // A particle as one record: position, rest position, mass, inverse mass (0 means pinned), velocity, root, damaged flag.
-#[derive(Drop)]
+#[derive(Clone, Copy)]
 pub struct Particle {
     pub x: f32,
     pub y: f32,
@@ -21,7 +23,7 @@ pub struct Particle {
 }
 
 // A refusal's number, or what is told of a particle: is it pinned, and is it damaged.
-#[derive(Drop)]
+#[derive(Clone, Copy)]
 pub enum State {
     Refused(usize),
     Told(bool, bool),

@@ -1,5 +1,7 @@
 // Replays a fixed list of the published Rust's answers through the C functions, and prints how many passed.
 // The list is the file stdin beside src/: oracle/replay/README.md says how it was made.
+#![tactic(auto)]
+
 ghost use Rattle.std.specs.Prelude.{◌≡◌, ◌<◌, ◌≤◌, length};
 
 use libc::{STDIN_FILENO, STDOUT_FILENO};

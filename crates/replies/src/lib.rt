@@ -1,4 +1,6 @@
 // The reply of a C function: the words of an answer in the lent bytes, and the number of the refusal.
+#![tactic(auto)]
+
 ghost use Rattle.std.specs.Prelude.{◌<◌, ◌≤◌, [], ◌∷◌, length};
 ghost use Rattle.model.specs.Reads.{refused, value};
 ghost use Rattle.replies.specs.Reply.{Replied};

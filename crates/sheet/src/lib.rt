@@ -1,11 +1,13 @@
 // Sheets of the first edition, packed in bits: how many of each they have, and what they are answered.
+#![tactic(auto)]
+
 ghost use Rattle.std.specs.Prelude.{◌≡◌, ◌||◌, ℕ, ◌+◌, ◌≤◌, length};
 ghost use Rattle.bits.specs.Bits.{bits_of};
 ghost use Rattle.sheet.specs.Sheet.{end_of, bytes_of, above, too_many_of, pair_ok_of, seen_of};
 ghost use Rattle.sheet.specs.Work.{row_at, ok_at_of, names_at, Small, CountsRead, RowsIn, Framed};
 
 // How many of each a sheet says it has.
-#[derive(Drop)]
+#[derive(Clone, Copy)]
 pub struct Counts {
     pub particles: usize,
     pub triangles: usize,
@@ -14,7 +16,7 @@ pub struct Counts {
 }
 
 // What a look at a sheet finds.
-#[derive(Drop)]
+#[derive(Clone, Copy)]
 pub enum Seen {
     Whole(Counts),
     Refused(usize),

@@ -1,4 +1,6 @@
 // What a writer of sheets is handed: its columns are tested, and their coordinates are written as fields of 11 bits.
+#![tactic(auto)]
+
 ghost use Rattle.std.specs.Prelude.{◌≡◌, [], ◌∷◌, map, ℕ, length};
 ghost use Rattle.std.proofs.lemmas.List.Edits.{sets};
 ghost use Rattle.bits.specs.Bits.{bits_of};

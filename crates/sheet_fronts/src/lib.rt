@@ -1,4 +1,6 @@
 // A sheet read to the fronts of the blocks that a program lends, within the limits of sheets.
+#![tactic(auto)]
+
 ghost use Rattle.std.specs.Prelude.{length};
 ghost use Rattle.sheet_fronts.specs.Fronts.{Roomy, FrontsRead};
 ghost use Rattle.mesh.specs.Blocks.{blocks_in};

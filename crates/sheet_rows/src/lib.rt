@@ -1,4 +1,6 @@
 // Rows of a sheet read into blocks: each list's fields, and the numbers that follow from them; its blade; and blocks that are left empty.
+#![tactic(auto)]
+
 ghost use Rattle.std.specs.Prelude.{◌≡◌, ◌&&◌, [], ◌∷◌, ◌++◌, ℕ, ◌+◌, ◌*◌, ◌/◌, ◌<◌, ◌≤◌, length, leb};
 ghost use Rattle.lists.specs.Lists.{tab, padded};
 ghost use Rattle.float.specs.Numbers.{zero32};

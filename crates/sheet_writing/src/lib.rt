@@ -1,4 +1,6 @@
 // Sheets written, in the second edition.
+#![tactic(auto)]
+
 ghost use Rattle.std.specs.Prelude.{◌≡◌, ℕ, ◌*◌, length, ltb};
 ghost use Rattle.lists.specs.Lists.{padded};
 ghost use Rattle.bits.specs.Bits.{bits_of};

@@ -1,4 +1,6 @@
 // The program of docs/RULES.md, R14, from bytes to bytes: a sheet is read, cut and listed.
+#![tactic(auto)]
+
 ghost use Rattle.std.specs.Prelude.{◌≡◌, length};
 ghost use Rattle.model.specs.Calls.{cut_call};
 ghost use Rattle.mesh.specs.Given.{mesh_of, sizes_fit_of};
@@ -10,7 +12,7 @@ ghost use Rattle.sheet.specs.Sheet.{limits as most};
 ghost use Rattle.listing.specs.Answers.{Told};
 ghost use Rattle.sheetcut.specs.SheetCut.{fraction as tenth, rooms, cut_of, listed};
 ghost use Rattle.sheetcut.specs.Work.{Cuttable, fronts_before, line_before};
-ghost use Rattle.mesh.specs.Blocks.{given_before, blocks_in};
+ghost use Rattle.mesh.specs.Blocks.{given_before, inputs_in};
 
 use blade::Point;
 use call_frame::Answer;
@@ -99,7 +101,7 @@ fn list_fronts(
     blade: &[f32],
     out: &mut [u8],
 ) -> Written
-    requires { Cuttable c (blocks_in points roots corners volumes ends lengths outline) (length blade.now) }
+    requires { Cuttable c (inputs_in points roots corners volumes ends lengths outline) (length blade.now) }
     ensures { let F = fronts_before c points roots corners volumes ends lengths outline in
         Told (printed replaced (cut_call (sizes_fit_of F) (mesh_of F) 1 (line_before blade) tenth rooms)) (length out.old)
         out.new result }

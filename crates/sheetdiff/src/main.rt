@@ -1,4 +1,6 @@
 // The program of docs/RULES.md, R23: reads the two sheets that its arguments name, and prints their differences, or the line of a refusal.
+#![tactic(auto)]
+
 ghost use Rattle.std.specs.Prelude.{◌≡◌, ◌≤◌, length, take};
 ghost use Rattle.io.specs.Counts.{IsPrefixLen};
 ghost use Rattle.differing.specs.Differed.{differed};

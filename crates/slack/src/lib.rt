@@ -1,4 +1,6 @@
 // The edges at particles from one on: impulse and stress are taken from them.
+#![tactic(auto)]
+
 ghost use Rattle.std.specs.Prelude.{◌≡◌, ◌||◌, leb, length};
 ghost use Rattle.slack.specs.Slack.{EdgeHere, SlackAt, EdgesHere, SlackFrom};
 

@@ -1,11 +1,13 @@
 // A split over the lent blocks: one particle by the groups of its fan.
+#![tactic(auto)]
+
 pub mod fans;
 pub mod grow;
 pub mod settle;
 pub mod step;
 
 // What the first half of a split came to: the number of the room that lacks, or the number of edges at their longest.
-#[derive(Drop)]
+#[derive(Clone, Copy)]
 pub enum Grew {
     Lacking(usize),
     Longest(usize),

@@ -1,4 +1,6 @@
 // A split to be made, read off the tables of a fan and its groups: weights, rings, directions.
+#![tactic(auto)]
+
 ghost use Rattle.std.specs.Prelude.{◌≡◌, ◌+◌, ◌*◌, ◌/◌, ◌<◌, ◌≤◌, length, take, drop};
 ghost use Rattle.lists.specs.Lists.{stands};
 ghost use Rattle.split_plan.specs.Opened.{RingRoom, mass_by, place_in, rest_in};
@@ -9,7 +11,7 @@ ghost use Rattle.mesh.specs.Widths.{point_columns};
 use blade::Point;
 
 // The best score so far, and its group.
-#[derive(Drop)]
+#[derive(Clone, Copy)]
 pub struct Best {
     pub score: f32,
     pub group: usize,

@@ -1,4 +1,6 @@
 // Straddlers: edges between two neighbours of v with no common group, which no element holds. They are listed, rising.
+#![tactic(auto)]
+
 ghost use Rattle.std.specs.Prelude.{◌≡◌, ◌<◌, ◌≤◌, length};
 ghost use Rattle.lists.specs.Lists.{stands};
 ghost use Rattle.elements.specs.Table.{kind_is};
@@ -14,7 +16,7 @@ pub mod held;
 pub mod rising;
 
 // The split whose straddlers are looked for: of particle v among elements of a kind, whose fan has n parts in `count` groups; there were `before` particles before its copies.
-#[derive(Drop)]
+#[derive(Clone, Copy)]
 pub struct Split {
     kind: Kind,
     v: usize,

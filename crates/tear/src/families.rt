@@ -5,7 +5,7 @@ ghost use Rattle.mesh.specs.Widths.{end_columns, entry_words};
 ghost use Rattle.tear.specs.Families.{joins_by, source_in, FamilyRoom, FamilyFound, JoinTold, MeetRoom, MeetTold, FirstMet, PairMet, CurrentRoom, FamiliesMet};
 
 // Two particles, or none.
-#[derive(Drop)]
+#[derive(Clone, Copy)]
 pub enum Pair {
     None,
     Ends(usize, usize),

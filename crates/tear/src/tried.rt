@@ -1,12 +1,13 @@
 // One way to open an edge: the fan of one end in tables, with the sides across the edge, and their mean load.
 ghost use Rattle.std.specs.Prelude.{◌≡◌, ◌≤◌, length};
 ghost use Rattle.elements.specs.Table.{kind_is, TableRoom};
-ghost use Rattle.links.specs.Linked.{LinkedIn};
+ghost use Rattle.links.specs.Linked.{MeshLinked};
 ghost use Rattle.model.specs.Elements.{fan_of};
 ghost use Rattle.model.specs.Pieces.{opens_without_confetti_of};
 ghost use Rattle.split.specs.Tables.{opened_by};
 ghost use Rattle.tear.specs.Tried.{WayReady, WayTables, WayRead, LoadsLong, WayLoad, OpensRoom};
-ghost use Rattle.mesh.specs.Blocks.{mesh_in, mesh_before};
+ghost use Rattle.mesh.specs.Blocks.{mesh_before};
+ghost use Rattle.mesh.specs.At.{mesh_at};
 
 use elements::Kind;
 use mesh::Counts;
@@ -31,8 +32,8 @@ pub fn way_tables(
     links: &[u16],
 ) -> usize
     requires { WayReady v w k (length points.now) (length corners.now) (length volumes.now) (length ends.now)
-        (length lengths.now) (mesh_in k points roots corners volumes ends lengths outline) × WayTables (length numbers.old)
-        (length verts.old) (length measures.old) (length sides.old) × LinkedIn (kind_is kind) k corners ends outline links }
+        (length lengths.now) (mesh_at k points.now roots.now corners.now volumes.now ends.now lengths.now outline.now) × WayTables (length numbers.old)
+        (length verts.old) (length measures.old) (length sides.old) × MeshLinked (kind_is kind) k.triangles k.edges k.boundary corners.now ends.now outline.now links.now }
     ensures { WayRead (kind_is kind) v w (mesh_before k points roots corners volumes ends lengths outline) result numbers.new
         verts.new measures.new sides.new }
 {
@@ -72,8 +73,8 @@ pub fn way_load(
     links: &[u16],
 ) -> f32
     requires { let K = kind_is kind in WayReady v w k (length points.now) (length corners.now) (length volumes.now)
-        (length ends.now) (length lengths.now) (mesh_in k points roots corners volumes ends lengths outline)
-        × LoadsLong K k (length loads.now) × LinkedIn K k corners ends outline links }
+        (length ends.now) (length lengths.now) (mesh_at k points.now roots.now corners.now volumes.now ends.now lengths.now outline.now)
+        × LoadsLong K k (length loads.now) × MeshLinked K k.triangles k.edges k.boundary corners.now ends.now outline.now links.now }
     ensures { WayLoad (kind_is kind) v w k loads.now (mesh_before k points roots corners volumes ends lengths outline) result }
 {
     let mut numbers = [0usize; mesh::ELEMENTS];
@@ -120,8 +121,7 @@ pub fn way_opens(
     queue: &mut [usize],
 ) -> bool
     requires { TableRoom k.triangles k.edges (length corners.now) (length volumes.now) (length ends.now)
-        (length lengths.now) 2048 4096 2048 × OpensRoom n (length (fan_of (kind_is kind) (mesh_in k points roots corners volumes ends lengths
-        outline) v)) (length groups.now) × (2048 ≤ length queue.old) }
+        (length lengths.now) 2048 4096 2048 × OpensRoom n (length (fan_of (kind_is kind) (mesh_at k points.now roots.now corners.now volumes.now ends.now lengths.now outline.now) v)) (length groups.now) × (2048 ≤ length queue.old) }
     ensures { let K = kind_is kind in let M = mesh_before k points roots corners volumes ends lengths outline in result
         ≡ opens_without_confetti_of K M minimum (opened_by K M v n count groups.now) }
 {

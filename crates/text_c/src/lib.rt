@@ -1,4 +1,6 @@
 // What a host gets that is not made of words: the number of the layout, the text of a sheet's cut, and that of the differences of two sheets.
+#![tactic(auto)]
+
 ghost use Rattle.std.specs.Prelude.{◌≡◌, length};
 ghost use Rattle.sheetcut.specs.SheetCut.{listed};
 ghost use Rattle.differing.specs.Differed.{differed};

@@ -1,7 +1,9 @@
 // One torn edge cracked: the pair that stands for it now, the ways at both ends in their order, and the first that opens without confetti.
+#![tactic(auto)]
+
 ghost use Rattle.std.specs.Prelude.{◌≡◌, ◌<◌, ◌≤◌, true, length};
 ghost use Rattle.elements.specs.Table.{kind_is};
-ghost use Rattle.links.specs.Linked.{LinkedIn};
+ghost use Rattle.links.specs.Linked.{LinkedIn, MeshLinked};
 ghost use Rattle.model.specs.Crack.{two_sided_of};
 ghost use Rattle.work.specs.Working.{Logged, Works};
 ghost use Rattle.tear.specs.Tried.{WayReady, LoadsLong};
@@ -10,6 +12,7 @@ ghost use Rattle.mesh.specs.Blocks.{mesh_in, mesh_before, world_before, world_be
 ghost use Rattle.mesh.specs.Limits.{particle_limit};
 ghost use Rattle.work.specs.Blocks.{ReadyIn, OverBlocks};
 ghost use Rattle.split.specs.Blocks.{LinkedBehind};
+ghost use Rattle.mesh.specs.At.{mesh_at};
 
 use elements::Kind;
 use mesh::{Counts, Rooms};
@@ -17,14 +20,14 @@ use tear::families::Pair;
 use work::Ran;
 
 // How an edge parts the fan of one of its ends: not into two sides; or so many elements into so many groups.
-#[derive(Drop)]
+#[derive(Clone, Copy)]
 pub enum Parts {
     Whole,
     Grouped(usize, usize),
 }
 
 // What trying a way came to: it doesn't open, or what its split came to.
-#[derive(Drop)]
+#[derive(Clone, Copy)]
 pub enum Tried {
     Not,
     Tore(Ran),
@@ -48,8 +51,8 @@ fn way_groups(
     links: &[u16],
 ) -> Parts
     requires { WayReady v w k (length points.now) (length corners.now) (length volumes.now) (length ends.now)
-        (length lengths.now) (mesh_in k points roots corners volumes ends lengths outline) × (2048 ≤ length sides.old)
-        × (2048 ≤ length groups.old) × LinkedIn (kind_is kind) k corners ends outline links }
+        (length lengths.now) (mesh_at k points.now roots.now corners.now volumes.now ends.now lengths.now outline.now) × (2048 ≤ length sides.old)
+        × (2048 ≤ length groups.old) × MeshLinked (kind_is kind) k.triangles k.edges k.boundary corners.now ends.now outline.now links.now }
     ensures { Parted (kind_is kind) v w (mesh_before k points roots corners volumes ends lengths outline) groups.new result }
 {
     let mut numbers = [0usize; mesh::ELEMENTS];
@@ -97,8 +100,8 @@ fn way_open(
     links: &[u16],
 ) -> bool
     requires { WayReady v w k (length points.now) (length corners.now) (length volumes.now) (length ends.now)
-        (length lengths.now) (mesh_in k points roots corners volumes ends lengths outline)
-        × LinkedIn (kind_is kind) k corners ends outline links }
+        (length lengths.now) (mesh_at k points.now roots.now corners.now volumes.now ends.now lengths.now outline.now)
+        × MeshLinked (kind_is kind) k.triangles k.edges k.boundary corners.now ends.now outline.now links.now }
     ensures { result ≡ opens_at (kind_is kind) minimum (mesh_before k points roots corners volumes ends lengths outline) v w }
 {
     let mut sides = [0usize; mesh::ELEMENTS];
