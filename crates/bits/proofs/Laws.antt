@@ -68,6 +68,7 @@ bits_mod (suc k) j n =
 
 pub get_d_bits : (w n i : ℕ) → i < w → get_or (bits w n) i 0 ≡ n / 2 ^ (w - suc i) % 2
 unfolding bits
+get_d_bits zero n i h = elim h [ ]
 get_d_bits (suc w) n zero h = let e : suc w - suc zero ≡ w = omega arith in rw e
 get_d_bits (suc w) n (suc i) h = let e : suc w - suc (suc i) ≡ w - suc i = omega arith in rw e (get_d_bits w n i (omega arith))
 

@@ -19,7 +19,9 @@ shape_of-outline-then-asked c = let a = c.args in
     | else-n-o w ↦ ap length w.outline-is ]
 
 pub returns-then-asked : goal.returns-then-asked
-returns-then-asked c = ?
+returns-then-asked c = let a = c.args in
+    elim c.if-n-o.branch [ then-n-o w ↦ put_here a.n a.x a.y a.outline.now _ c.if-asked.true w.if-n-o.true w.outline-is
+    | else-n-o w ↦ put_past a.n a.x a.y a.outline.now _ c.if-asked.true w.if-n-o.false w.outline-is ]
 
 pub returns : goal.returns
 returns c = rw c.if-asked.false (added_none _ _)

@@ -26,13 +26,13 @@ loop-i-init c =
     let A = c.args in
     let M = c.at_most-m in
     let K = c.link_corners in
-    let k = K.auto.1.1.1.1 in (
+    (
       omega arith,
       omega arith,
       refl,
       faces_none A.a.now A.b.now A.c.now A.outline.now,
-      new_linked A.a.now A.b.now A.c.now M.result _ _ c.requires M.ensures.0 M.ensures.1 k.0 k.1.0 K.ensures,
-      k.1.1.0 ∙ none_long 1024,
+      new_linked A.a.now A.b.now A.c.now M.result _ _ c.requires M.ensures.0 M.ensures.1 c.link_corners.auto.heads c.link_corners.auto.links K.ensures,
+      c.link_corners.auto.sizes ∙ none_long 1024,
     )
 
 pub add_faces-n-requires : goal.add_faces-n-requires

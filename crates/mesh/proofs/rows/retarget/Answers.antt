@@ -9,4 +9,4 @@ pub turn_row-requires : goal.turn_row-requires
 turn_row-requires c = record { here = c.requires; columns = omega arith }
 
 pub returns : goal.returns
-returns c = retargeting _ _ _ _ _ (same_length c) c.turn_row.ensures
+returns c = retargeting _ _ _ _ _ (search rules) c.turn_row.ensures
