@@ -80,7 +80,7 @@ pub fn tear_open(
     requires { let K = kind_is kind in ReadyIn room k points roots corners volumes ends lengths outline log
         × GroupedIn K (mesh_in k points roots corners volumes ends lengths outline) v n count numbers verts measures groups
         × TearAsked v w x y a b k.particles × ListIn list × LinkedIn K k corners ends outline links }
-    ensures { let K = kind_is kind in OverBlocks (λ M W at. Works (split_across a b x y K (opened_by K M v n count groups.entry.now)) room W at result) k points roots corners volumes ends lengths outline log × LinkedBehind K corners ends outline links result }
+    ensures { let K = kind_is kind in OverBlocks (λ M W at. Works (split_across a b x y K (opened_by K M v n count groups.now)) room W at result) k points roots corners volumes ends lengths outline log × LinkedBehind K corners ends outline links result }
 {
     let was = k.particles;
     let ran = split::step::split_opened(
