@@ -3,7 +3,7 @@ use Prim.Native.Nat.{ℕ, ◌<◌}
 use native.Mathlib.Omega.{arith}
 use mathlib.Core.Path.{◌≡◌}
 use lib.Ieee.{Float}
-use Rattle.model.specs.Mesh.{Particle, changed_to}
+use Rattle.model.specs.Mesh.{changed_to}
 use Rattle.mesh.specs.At.{particle_by}
 use Rattle.mesh.specs.Widths.{point_columns}
 

@@ -4,14 +4,11 @@ use mathlib.Core.Path.{◌≡◌, refl}
 use mathlib.Core.Bool.{true, false}
 use mathlib.Core.List.{List, [], ◌∷◌, map}
 use lib.Ieee.{is_nan, neg, add, sub, mul, div, lt, le, eq, ne, of_int, of_bits}
-use Rattle.blade.specs.declared.Hit.TheVariants.{Miss, Hit as HitAt}
 use Rattle.model.specs.Mesh.{Mesh}
-use Rattle.model.specs.Pieces.{default_min_piece}
-use Rattle.model.specs.Run.{split, edge as removed, insert, opened, met}
-use Rattle.model.specs.Calls.{refused, done}
-use Rattle.model.specs.Reads.{refused as denied, value}
-use Rattle.model.specs.Starred.{Case, meshes, groups, flag, number, float, hit}
-use Rattle.model.proofs.Asked.{bits, point, blade, rooms, mesh, particle, triangle, edge, side}
+use Rattle.model.specs.Run.{split, edge as removed}
+use Rattle.model.specs.Calls.{done}
+use Rattle.model.specs.Starred.{Case, meshes}
+use Rattle.model.proofs.Asked.{rooms, mesh, particle, triangle, edge, side}
 use Rattle.lists.specs.Lists.{same_row_of, any, all, sift, sift_at, find, fold, each, pairs, map_at_of, tab, up_to, rising, distinct, disjoint, padded, keep, kept_of, nth}
 use Rattle.lists.specs.Labels.{merged, join_pair, join_row, join_rows, labelled}
 use Rattle.float.specs.Numbers.{abs_of, max_of, inv_of}

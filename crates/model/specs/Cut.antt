@@ -1,8 +1,8 @@
 -- The cut along a blade: `cut_facets` for triangles, `cut_segments` for straps. Definitions only.
-use Rattle.std.specs.Prelude.{ℕ, ◌+◌, Bool, true, false, not, ◌&&◌, ◌||◌, List, [], ◌∷◌, ◌++◌, map, length, get_or, eqb, Float}
+use Rattle.std.specs.Prelude.{ℕ, ◌+◌, Bool, true, false, not, ◌&&◌, ◌||◌, List, [], ◌∷◌, ◌++◌, map, length, get_or, Float}
 use Rattle.std.specs.Bool.{beq}
 use Rattle.std.specs.Float.Ieee.{lt, le, eq, ne}
-use Rattle.lists.specs.Lists.{pick, stands, same_row_of, any, sift, sift_at, fold, each, pairs, map_at_of, empty, head_or, rest, rising}
+use Rattle.lists.specs.Lists.{pick, stands, same_row_of, any, sift, sift_at, fold, each, pairs, map_at_of, empty, head_or, rising}
 use Rattle.float.specs.Numbers.{plus, minus, times, zero32, one, half, inv_of, share_of}
 use Rattle.blade.specs.declared.Point.{Point}
 use Rattle.blade.specs.declared.Hit.{Hit}

@@ -1,16 +1,16 @@
 -- Every call that gives a mesh of triangles keeps them: three different particles each, traced back the triangle that it was, and every copy in one of them.
 -- Assumes nothing.
-use mathlib.Core.Path.{◌≡◌, refl, sym, ap, subst}
+use mathlib.Core.Path.{◌≡◌, refl, ap, subst}
 use mathlib.Core.Bool.{Bool, true, false, not, ◌&&◌}
 use mathlib.Core.List.{List, [], ◌∷◌}
-use Prim.Native.Nat.{ℕ, zero, suc, ◌<◌}
+use Prim.Native.Nat.{ℕ, zero, suc}
 use native.Mathlib.Omega.{arith}
 use borrow.Author.Tests.{eqb-true}
 use lib.ListN.{length}
 use lib.Ieee.{Float}
-use Rattle.lists.specs.Lists.{pick, stands, all}
+use Rattle.lists.specs.Lists.{pick, all}
 use Rattle.model.specs.Mesh.{Triangle, Mesh}
-use Rattle.model.specs.Valid.{numbers_fit_of, named, root_ok, corners_ok, ends_ok, side_ok, indices_fit_of}
+use Rattle.model.specs.Valid.{numbers_fit_of, root_ok, corners_ok, ends_ok, side_ok, indices_fit_of}
 use Rattle.model.specs.Elements.{Kind, Triangles, kind_of}
 use Rattle.model.specs.Run.{Entry, Rooms, Run, start, step_to, changed}
 use Rattle.model.specs.Split.{split_by_sides_of}

@@ -13,11 +13,11 @@ use Rattle.lists.proofs.Sifts.{any_append}
 use Rattle.blade.specs.declared.Hit.{Hit}
 use Rattle.blade.specs.declared.Hit.TheVariants.{Miss, Hit as HitAt}
 use Rattle.model.specs.Mesh.{Triangle, Edge, Mesh}
-use Rattle.model.specs.Elements.{Kind, Triangles, Straps, Nothing, Element, structural?, strap_element, corners_of, triangles_from, straps_from, elements_of, kind_of}
+use Rattle.model.specs.Elements.{Kind, Triangles, Straps, Nothing, Element, structural?, strap_element, corners_of, triangles_from, straps_from, elements_of}
 use Rattle.model.specs.Run.{Entry, Need, Rooms, Run, start, step_to, split_of, splits_of, changes, changed}
 use Rattle.model.specs.Split.{Opening, opening_of, splits?, split_made, split_step, split_by_sides_of}
 use Rattle.model.specs.Cut.{Blade, roundly, split_by_blade, split_free, split_ends, near_corners, pinched, split_pinched_of, candidates, cut_facets_of, Crossing, crossings, insertion_of, insertable, bends_over, insert_step, Strapping, strapping, inserted_at, snapped_at, crossed, unbent, split_snapped_of, after_crossings, cut_segments_of, meets, mark_at, mark_of, marks_of, marked_by, cut_along, cut}
-use Rattle.model.specs.Calls.{too_small, first_fault, Outcome, refused, done, fitted, outcome}
+use Rattle.model.specs.Calls.{too_small, first_fault}
 use Rattle.model.specs.Trace.{Threes}
 use Rattle.model_laws.proofs.Laws.{each_append}
 

@@ -1,5 +1,4 @@
 -- Which numbers have a root: what the call refuses, and with which number. Assumes nothing.
-use Prim.Native.Nat.{ℕ}
 use mathlib.Core.Path.{◌≡◌, refl, ◌∙◌}
 use mathlib.Core.Bool.{cond, ◌&&◌}
 use lib.Dec.{T}

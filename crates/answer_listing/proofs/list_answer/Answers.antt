@@ -18,4 +18,4 @@ returns-in-Refused c = refused_text _ _ _ _ _ _ _ _ _ _ _ c.in-Refused.is (recor
 pub returns-in-Done : goal.returns-in-Done
 returns-in-Done c =
     let H = done_listable _ _ _ _ _ _ _ _ c.in-Done.is c.requires in
-    done_text _ _ _ _ _ _ _ _ _ _ _ _ _ c.in-Done.is c.count_pieces-found.ensures (record { wrote = c.write_listing.ensures; enough = listing_few _ _ _ _ _ H.2 (λ j. omega (arith, c.shared_slice_known-5-1.given j)) (omega (arith, H.0.few_particles)) (omega (arith, c.count_pieces-found.type-inv)) })
+    done_text _ _ _ _ _ _ _ _ _ _ _ _ _ c.in-Done.is c.count_pieces-found.ensures (record { wrote = c.write_listing.ensures; enough = listing_few _ _ _ _ _ H.2 (λ j. omega (arith, c.shared_slice_known-5-1.given j)) (omega (arith, H.0.few_particles)) (omega (arith, c.count_pieces-found.type_inv)) })

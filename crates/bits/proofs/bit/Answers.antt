@@ -1,6 +1,5 @@
 -- `bits::bit` meets its contract. Assumes nothing.
-use native.Mathlib.Omega.{arith}
-use mathlib.Core.Path.{◌≡◌, ◌∙◌, sym}
+use mathlib.Core.Path.{sym}
 use Rattle.bits.proofs.Laws.{get_d_bits_of}
 use borrow.Author.Rules.{rules}
 use Rattle.bits.proofs.bit.Goals as goal

@@ -1,11 +1,9 @@
 -- `bits::blank` meets its contract. Assumes nothing.
-use borrow.Author.Rules.{rules}
 use native.Mathlib.Omega.{arith}
-use Prim.Native.Nat.{ℕ, ◌-◌, ◌+◌, ◌*◌, ◌^◌, ◌<◌, ◌≤◌}
-use mathlib.Core.Path.{◌≡◌, ◌∙◌, sym, refl, ap}
-use mathlib.Core.List.{List, [], ◌∷◌, ◌++◌, append_assoc, append-nil}
-use lib.ListN.{length, take, drop, get_or, set, replicate, length-set, length-take, drop_of_length-le}
-use Rattle.bits.specs.Bits.{bits_of}
+use Prim.Native.Nat.{ℕ}
+use mathlib.Core.Path.{◌≡◌, ◌∙◌, refl, ap}
+use mathlib.Core.List.{List, [], append-nil}
+use lib.ListN.{length, drop, set, replicate, length-set, drop_of_length-le}
 use borrow.Author.Fill.{fill_none, fill_more}
 use Rattle.bits.proofs.RowLaws.{bits_of_zeros}
 use Rattle.bits.proofs.blank.Goals as goal

@@ -1,13 +1,8 @@
 -- `bits::blank` meets its contract. Assumes nothing.
-use borrow.Author.Rules.{rules}
-use native.Mathlib.Omega.{arith}
-use Prim.Native.Nat.{ℕ, ◌-◌, ◌+◌, ◌*◌, ◌^◌, ◌<◌, ◌≤◌}
-use mathlib.Core.Path.{◌≡◌, ◌∙◌, sym, refl, ap}
-use mathlib.Core.List.{List, [], ◌∷◌, ◌++◌, append_assoc, append-nil}
-use lib.ListN.{length, take, drop, get_or, set, replicate, length-set, length-take, drop_of_length-le}
-use Rattle.bits.specs.Bits.{bits_of}
-use borrow.Author.Fill.{fill_none, fill_more}
-use Rattle.bits.proofs.RowLaws.{bits_of_zeros}
+use Prim.Native.Nat.{◌-◌, ◌≤◌}
+use mathlib.Core.Path.{◌≡◌}
+use mathlib.Core.List.{◌++◌}
+use lib.ListN.{length, drop, replicate}
 use Rattle.bits.proofs.blank.Given as goal
 
 -- `bits::blank` meets its contract. Assumes nothing.

@@ -1,12 +1,11 @@
 -- `bits::field` meets its contract. Assumes nothing.
-use borrow.Author.Rules.{rules}
 use native.Mathlib.Omega.{arith}
-use Prim.Native.Nat.{ℕ, ◌-◌, ◌+◌, ◌*◌, ◌^◌, ◌<◌, ◌≤◌}
-use mathlib.Core.Path.{◌≡◌, ◌∙◌, sym, refl}
+use Prim.Native.Nat.{◌^◌, ◌≤◌}
+use mathlib.Core.Path.{◌≡◌, sym, refl}
 use lib.Pow.{pow_mono}
 use native.Mathlib.Nat.{pow-suc}
 use native.Mathlib.Numerals.{add-one}
-use Rattle.bits.specs.Bits.{num, field_at, bits_of}
+use Rattle.bits.specs.Bits.{num, bits_of}
 use Rattle.bits.proofs.Laws.{field_more, length_bits_of}
 use Rattle.bits.proofs.field.Goals as goal
 

@@ -3,8 +3,7 @@ use native.Mathlib.Omega.{arith}
 use lib.Pow.{shl_exact, pow_mono, pow_pos}
 use mathlib.Core.Path.{◌≡◌, ◌∙◌}
 use native.Mathlib.Nat.{one-mul}
-use Prim.Native.Nat.{ℕ, ◌*◌, ◌%◌, ◌^◌, ◌<◌, ◌≤◌}
-use borrow.Author.Rules.{rules}
+use Prim.Native.Nat.{◌*◌, ◌%◌, ◌^◌, ◌<◌, ◌≤◌}
 use Rattle.bits.proofs.pow2.Goals as goal
 
 pub returns : goal.returns

@@ -1,11 +1,10 @@
 -- `bits::put_bit` meets its contract. Assumes nothing.
 use native.Mathlib.Nat.{div-le_self}
 use native.Mathlib.Omega.{arith}
-use Prim.Native.Nat.{ℕ, suc, ◌-◌, ◌+◌, ◌*◌, ◌/◌, ◌%◌, ◌^◌, ◌<◌, ◌≤◌}
-use mathlib.Core.Path.{◌≡◌, ◌∙◌, sym, refl, ap}
-use mathlib.Core.List.{List}
+use Prim.Native.Nat.{suc, ◌-◌, ◌+◌, ◌*◌, ◌/◌, ◌%◌, ◌^◌}
+use mathlib.Core.Path.{◌≡◌, ◌∙◌}
 use lib.ListN.{get_or, set}
-use Rattle.bits.specs.Bits.{bits, bits_of}
+use Rattle.bits.specs.Bits.{bits}
 use Rattle.bits.proofs.Laws.{put_small, bits_mod, bits_put, bits_of_set}
 use borrow.Author.Rules.{rules}
 use Rattle.bits.proofs.put_bit.Goals as goal

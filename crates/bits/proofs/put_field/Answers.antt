@@ -1,11 +1,9 @@
 -- `bits::put_field` meets its contract. Assumes nothing.
-use borrow.Author.Rules.{rules}
 use native.Mathlib.Omega.{arith}
-use Prim.Native.Nat.{ℕ, ◌-◌, ◌+◌, ◌*◌, ◌^◌, ◌<◌, ◌≤◌}
-use mathlib.Core.Path.{◌≡◌, ◌∙◌, sym, refl, ap}
-use lib.ListN.{length, take, length-set}
-use lib.Seq.{sets, take_all, length-take-le}
-use Rattle.bits.specs.Bits.{bits, bits_of}
+use mathlib.Core.Path.{◌≡◌, ◌∙◌, refl}
+use lib.ListN.{length, take}
+use lib.Seq.{take_all, length-take-le}
+use Rattle.bits.specs.Bits.{bits}
 use Rattle.bits.proofs.Laws.{take_bits, sets_snoc, length_bits}
 use Rattle.bits.proofs.put_field.Goals as goal
 

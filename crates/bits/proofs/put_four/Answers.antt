@@ -2,7 +2,6 @@
 use mathlib.Core.Path.{◌∙◌}
 use Rattle.bits.specs.Bits.{bits_of}
 use Rattle.bits.proofs.RowLaws.{sets_pack4}
-use borrow.Author.Rules.{rules}
 use Rattle.bits.proofs.put_four.Goals as goal
 
 pub returns : goal.returns

@@ -1,12 +1,9 @@
 -- `bits::put_rows` meets its contract. Assumes nothing.
-use borrow.Author.Rules.{rules}
 use native.Mathlib.Omega.{arith}
-use Prim.Native.Nat.{ℕ, ◌-◌, ◌+◌, ◌*◌, ◌^◌, ◌<◌, ◌≤◌}
-use mathlib.Core.Path.{◌≡◌, ◌∙◌, sym, refl, ap}
-use mathlib.Core.List.{List, [], ◌∷◌, ◌++◌, append_assoc, append-nil}
-use lib.ListN.{length, take, drop, get_or, set, replicate, length-set, length-take}
-use lib.Seq.{take-suc-set, take_all, length-take-le, sets}
-use native.Mathlib.Numerals.{add-one}
+use Prim.Native.Nat.{◌-◌, ◌+◌}
+use mathlib.Core.Path.{◌≡◌, ◌∙◌, refl}
+use mathlib.Core.List.{[], ◌∷◌}
+use lib.ListN.{length, get_or}
 use Rattle.bits.specs.Bits.{bits_of}
 use Rattle.bits.specs.Rows.{pack, write_rows, rows_of, total}
 use Rattle.bits.proofs.RowLaws.{fewer, rows_turn, rows_none, sets_then, length_pack}

@@ -1,15 +1,13 @@
 -- `bits::read_column` meets its contract. Assumes nothing.
-use borrow.Author.Rules.{rules}
 use native.Mathlib.Omega.{arith}
-use Prim.Native.Nat.{ℕ, ◌-◌, ◌+◌, ◌*◌, ◌^◌, ◌<◌, ◌≤◌}
+use Prim.Native.Nat.{ℕ, ◌-◌, ◌+◌}
 use mathlib.Core.Path.{◌≡◌, ◌∙◌, sym, refl, ap, ap₂, subst}
-use mathlib.Core.List.{List, [], ◌∷◌, ◌++◌, append_assoc, append-nil}
-use lib.ListN.{length, take, drop, get_or, set, replicate, length-set, length-take, take-append-drop}
-use lib.Seq.{take-suc-set, take_all, length-take-le, sets, drop-set-lt}
-use native.Mathlib.Numerals.{add-one}
+use mathlib.Core.List.{List, ◌++◌, append_assoc, append-nil}
+use lib.ListN.{take, drop, length-set, take-append-drop}
+use lib.Seq.{drop-set-lt}
 use Rattle.bits.specs.Bits.{bits_of}
 use Rattle.bits.specs.Rows.{column_at}
-use Rattle.bits.proofs.RowLaws.{fewer, column_turn, column_none, length_column, take_store, drop_more}
+use Rattle.bits.proofs.RowLaws.{fewer, column_turn, column_none, take_store, drop_more}
 use Rattle.bits.proofs.read_column.Goals as goal
 
 pub loop-i-init : goal.loop-i-init

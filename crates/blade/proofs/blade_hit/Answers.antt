@@ -1,5 +1,4 @@
 -- `blade::blade_hit` meets its contract. Assumes nothing.
-use borrow.Author.Rules.{rules}
 use mathlib.Core.Path.{◌≡◌, ap, ◌∙◌}
 use lib.Ieee.{Float}
 use Rattle.blade.specs.declared.Point.{Point}

@@ -1,5 +1,4 @@
 -- `blade::centroid_of_three` meets its contract. Assumes nothing.
-use borrow.Author.Rules.{rules}
 use mathlib.Core.Path.{◌≡◌, ap, ◌∙◌}
 use mathlib.Core.List.{[], ◌∷◌}
 use lib.Ieee.{of_int, of_bits}

@@ -1,5 +1,4 @@
 -- `blade::length` meets its contract. Assumes nothing.
-use borrow.Author.Rules.{rules}
 use mathlib.Core.Path.{◌≡◌, sym, ap, ◌∙◌}
 use lib.Ieee.{Float, div, of_bits}
 use Rattle.float.specs.Root.{root_of}

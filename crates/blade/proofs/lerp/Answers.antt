@@ -1,5 +1,4 @@
 -- `blade::lerp` meets its contract. Assumes nothing.
-use borrow.Author.Rules.{rules}
 use mathlib.Core.Path.{◌≡◌, ap, ◌∙◌}
 use lib.Ieee.{Float, of_bits}
 use Rattle.blade.specs.declared.Point.{Point}

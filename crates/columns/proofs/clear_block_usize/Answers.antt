@@ -1,9 +1,9 @@
 -- `columns::clear_block_usize` meets its contract: it clears each column behind its front. The laws are in proofs/Blocks.antt.
-use Prim.Native.Nat.{◌+◌, ◌-◌, ◌≤◌}
+use Prim.Native.Nat.{◌+◌, ◌≤◌}
 use native.Mathlib.Omega.{arith}
 use mathlib.Core.Path.{◌∙◌}
 use lib.ListN.{length}
-use Rattle.columns.proofs.Blocks.{BlockClearing, block_clear_start, clear_part_fits, block_clear_more, block_clear_done, block_clear_all}
+use Rattle.columns.proofs.Blocks.{block_clear_start, clear_part_fits, block_clear_more, block_clear_done, block_clear_all}
 use Rattle.columns.proofs.clear_block_usize.Goals as goal
 
 pub loop-c-init : goal.loop-c-init
@@ -11,11 +11,11 @@ loop-c-init c = block_clear_start _ _ _ _ _
 
 pub overflow_add-e : goal.overflow_add-e
 overflow_add-e c =
-    let fits : c.loop-c.o + c.args.stride ≤ length c.loop-c.s = clear_part_fits _ _ _ _ _ _ _ _ c.loop-c.invariant c.loop-c-test.true c.requires.1 c.requires.0 in  omega (arith, fits)
+    let fits : c.loop-c.o + c.args.stride ≤ length c.loop-c.s = clear_part_fits _ _ _ _ _ _ _ _ c.loop-c.invariant c.loop-c-test.true c.requires.1 c.requires.0 in omega (arith, fits)
 
 pub offset_bounds-s-o : goal.offset_bounds-s-o
 offset_bounds-s-o c =
-    let fits : c.loop-c.o + c.args.stride ≤ length c.loop-c.s = clear_part_fits _ _ _ _ _ _ _ _ c.loop-c.invariant c.loop-c-test.true c.requires.1 c.requires.0 in  omega (arith, fits)
+    let fits : c.loop-c.o + c.args.stride ≤ length c.loop-c.s = clear_part_fits _ _ _ _ _ _ _ _ c.loop-c.invariant c.loop-c-test.true c.requires.1 c.requires.0 in omega (arith, fits)
 
 pub slice_bounds-clear_usize-count : goal.slice_bounds-clear_usize-count
 slice_bounds-clear_usize-count c = omega arith
@@ -25,7 +25,7 @@ slice_bounds-clear_usize-start c = omega arith
 
 pub slice_bounds-clear_usize-end : goal.slice_bounds-clear_usize-end
 slice_bounds-clear_usize-end c =
-    let fits : c.loop-c.o + c.args.stride ≤ length c.loop-c.s = clear_part_fits _ _ _ _ _ _ _ _ c.loop-c.invariant c.loop-c-test.true c.requires.1 c.requires.0 in  fits
+    let fits : c.loop-c.o + c.args.stride ≤ length c.loop-c.s = clear_part_fits _ _ _ _ _ _ _ _ c.loop-c.invariant c.loop-c-test.true c.requires.1 c.requires.0 in fits
 
 pub clear_usize-requires : goal.clear_usize-requires
 clear_usize-requires c = omega (arith, c.clear_usize-arg-1.given.1)

@@ -1,9 +1,6 @@
 -- `columns::clear_block_usize` meets its contract: it clears each column behind its front. The laws are in proofs/Blocks.antt.
-use Prim.Native.Nat.{◌+◌, ◌-◌, ◌≤◌}
-use native.Mathlib.Omega.{arith}
-use mathlib.Core.Path.{◌∙◌}
-use lib.ListN.{length}
-use Rattle.columns.proofs.Blocks.{BlockClearing, block_clear_start, clear_part_fits, block_clear_more, block_clear_done, block_clear_all}
+use Prim.Native.Nat.{◌-◌}
+use Rattle.columns.proofs.Blocks.{BlockClearing}
 use Rattle.columns.proofs.clear_block_usize.Given as goal
 
 -- `columns::clear_block_usize` meets its contract: it clears each column behind its front. The laws are in proofs/Blocks.antt.

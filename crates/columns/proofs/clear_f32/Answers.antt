@@ -1,10 +1,7 @@
 -- `columns::clear_f32` meets its contract: it clears one column behind its front. The laws are in proofs/Sweep.antt.
-use Prim.Native.Nat.{◌-◌}
 use native.Mathlib.Omega.{arith}
-use lib.ListN.{length}
 use lib.Ieee.{of_bits}
-use Rattle.float.specs.Numbers.{zero32}
-use Rattle.columns.proofs.Sweep.{Clearing, clear_start, clear_more, clear_done}
+use Rattle.columns.proofs.Sweep.{clear_start, clear_more, clear_done}
 use Rattle.columns.proofs.clear_f32.Goals as goal
 
 pub loop-i-init : goal.loop-i-init

@@ -1,10 +1,8 @@
 -- `columns::clear_f32` meets its contract: it clears one column behind its front. The laws are in proofs/Sweep.antt.
 use Prim.Native.Nat.{◌-◌}
-use native.Mathlib.Omega.{arith}
 use lib.ListN.{length}
-use lib.Ieee.{of_bits}
 use Rattle.float.specs.Numbers.{zero32}
-use Rattle.columns.proofs.Sweep.{Clearing, clear_start, clear_more, clear_done}
+use Rattle.columns.proofs.Sweep.{Clearing}
 use Rattle.columns.proofs.clear_f32.Given as goal
 
 -- `columns::clear_f32` meets its contract: it clears one column behind its front. The laws are in proofs/Sweep.antt.

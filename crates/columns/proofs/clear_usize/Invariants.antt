@@ -1,8 +1,7 @@
 -- `columns::clear_usize` meets its contract: it clears one column behind its front. The laws are in proofs/Sweep.antt.
 use Prim.Native.Nat.{◌-◌}
-use native.Mathlib.Omega.{arith}
 use lib.ListN.{length}
-use Rattle.columns.proofs.Sweep.{Clearing, clear_start, clear_more, clear_done}
+use Rattle.columns.proofs.Sweep.{Clearing}
 use Rattle.columns.proofs.clear_usize.Given as goal
 
 -- `columns::clear_usize` meets its contract: it clears one column behind its front. The laws are in proofs/Sweep.antt.

@@ -1,9 +1,8 @@
 -- `columns::copy_block_f32` meets its contract: it copies each column. The laws are in proofs/Blocks.antt.
-use Prim.Native.Nat.{◌+◌, ◌-◌, ◌≤◌}
+use Prim.Native.Nat.{◌+◌, ◌≤◌}
 use native.Mathlib.Omega.{arith}
 use lib.ListN.{length}
-use lib.Ieee.{nan}
-use Rattle.columns.proofs.Blocks.{BlockCopying, block_copy_start, copy_part_fits, copy_part_given, block_copy_more, block_copy_done}
+use Rattle.columns.proofs.Blocks.{block_copy_start, copy_part_fits, copy_part_given, block_copy_more, block_copy_done}
 use Rattle.columns.proofs.copy_block_f32.Goals as goal
 
 pub loop-c-init : goal.loop-c-init
@@ -11,15 +10,15 @@ loop-c-init c = block_copy_start _ _ _ _ _ _
 
 pub overflow_add-b : goal.overflow_add-b
 overflow_add-b c =
-    let given : c.loop-c.a + c.args.n ≤ length c.args.src.now = copy_part_given _ _ _ _ _ _ _ _ _ _ c.loop-c.invariant c.loop-c-test.true c.requires.1 c.requires.2 c.requires.0 in  omega (arith, given)
+    let given : c.loop-c.a + c.args.n ≤ length c.args.src.now = copy_part_given _ _ _ _ _ _ _ _ _ _ c.loop-c.invariant c.loop-c-test.true c.requires.1 c.requires.2 c.requires.0 in omega (arith, given)
 
 pub overflow_add-e : goal.overflow_add-e
 overflow_add-e c =
-    let fits : c.loop-c.o + c.args.stride ≤ length c.loop-c.dst = copy_part_fits _ _ _ _ _ _ _ _ _ _ c.loop-c.invariant c.loop-c-test.true c.requires.1 c.requires.2 c.requires.0 in  omega (arith, fits)
+    let fits : c.loop-c.o + c.args.stride ≤ length c.loop-c.dst = copy_part_fits _ _ _ _ _ _ _ _ _ _ c.loop-c.invariant c.loop-c-test.true c.requires.1 c.requires.2 c.requires.0 in omega (arith, fits)
 
 pub offset_bounds-src-a : goal.offset_bounds-src-a
 offset_bounds-src-a c =
-    let given : c.loop-c.a + c.args.n ≤ length c.args.src.now = copy_part_given _ _ _ _ _ _ _ _ _ _ c.loop-c.invariant c.loop-c-test.true c.requires.1 c.requires.2 c.requires.0 in  omega (arith, given)
+    let given : c.loop-c.a + c.args.n ≤ length c.args.src.now = copy_part_given _ _ _ _ _ _ _ _ _ _ c.loop-c.invariant c.loop-c-test.true c.requires.1 c.requires.2 c.requires.0 in omega (arith, given)
 
 pub slice_bounds-copy_f32-count : goal.slice_bounds-copy_f32-count
 slice_bounds-copy_f32-count c = omega arith
@@ -29,11 +28,11 @@ slice_bounds-copy_f32-start c = omega arith
 
 pub slice_bounds-copy_f32-end : goal.slice_bounds-copy_f32-end
 slice_bounds-copy_f32-end c =
-    let given : c.loop-c.a + c.args.n ≤ length c.args.src.now = copy_part_given _ _ _ _ _ _ _ _ _ _ c.loop-c.invariant c.loop-c-test.true c.requires.1 c.requires.2 c.requires.0 in  given
+    let given : c.loop-c.a + c.args.n ≤ length c.args.src.now = copy_part_given _ _ _ _ _ _ _ _ _ _ c.loop-c.invariant c.loop-c-test.true c.requires.1 c.requires.2 c.requires.0 in given
 
 pub offset_bounds-dst-o : goal.offset_bounds-dst-o
 offset_bounds-dst-o c =
-    let fits : c.loop-c.o + c.args.stride ≤ length c.loop-c.dst = copy_part_fits _ _ _ _ _ _ _ _ _ _ c.loop-c.invariant c.loop-c-test.true c.requires.1 c.requires.2 c.requires.0 in  omega (arith, fits)
+    let fits : c.loop-c.o + c.args.stride ≤ length c.loop-c.dst = copy_part_fits _ _ _ _ _ _ _ _ _ _ c.loop-c.invariant c.loop-c-test.true c.requires.1 c.requires.2 c.requires.0 in omega (arith, fits)
 
 pub slice_bounds-copy_f32-count-in-loop-c : goal.slice_bounds-copy_f32-count-in-loop-c
 slice_bounds-copy_f32-count-in-loop-c c = omega arith

@@ -1,9 +1,7 @@
 -- `columns::copy_block_f32` meets its contract: it copies each column. The laws are in proofs/Blocks.antt.
-use Prim.Native.Nat.{◌+◌, ◌-◌, ◌≤◌}
-use native.Mathlib.Omega.{arith}
-use lib.ListN.{length}
+use Prim.Native.Nat.{◌-◌}
 use lib.Ieee.{nan}
-use Rattle.columns.proofs.Blocks.{BlockCopying, block_copy_start, copy_part_fits, copy_part_given, block_copy_more, block_copy_done}
+use Rattle.columns.proofs.Blocks.{BlockCopying}
 use Rattle.columns.proofs.copy_block_f32.Given as goal
 
 -- `columns::copy_block_f32` meets its contract: it copies each column. The laws are in proofs/Blocks.antt.

@@ -1,8 +1,6 @@
 -- `columns::copy_block_usize` meets its contract: it copies each column. The laws are in proofs/Blocks.antt.
-use Prim.Native.Nat.{◌+◌, ◌-◌, ◌≤◌}
-use native.Mathlib.Omega.{arith}
-use lib.ListN.{length}
-use Rattle.columns.proofs.Blocks.{BlockCopying, block_copy_start, copy_part_fits, copy_part_given, block_copy_more, block_copy_done}
+use Prim.Native.Nat.{◌-◌}
+use Rattle.columns.proofs.Blocks.{BlockCopying}
 use Rattle.columns.proofs.copy_block_usize.Given as goal
 
 -- `columns::copy_block_usize` meets its contract: it copies each column. The laws are in proofs/Blocks.antt.

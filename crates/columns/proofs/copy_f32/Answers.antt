@@ -1,9 +1,7 @@
 -- `columns::copy_f32` meets its contract: it copies one column. The laws are in proofs/Sweep.antt.
-use Prim.Native.Nat.{◌-◌}
 use native.Mathlib.Omega.{arith}
-use lib.ListN.{length}
 use lib.Ieee.{nan}
-use Rattle.columns.proofs.Sweep.{Copying, copy_start, copy_more, copy_done}
+use Rattle.columns.proofs.Sweep.{copy_start, copy_more, copy_done}
 use Rattle.columns.proofs.copy_f32.Goals as goal
 
 pub loop-i-init : goal.loop-i-init

@@ -1,9 +1,7 @@
 -- `columns::copy_row_f32` meets its contract: it copies a row in each column. The laws are in proofs/Blocks.antt.
-use Prim.Native.Nat.{◌+◌, ◌-◌, ◌≤◌}
-use native.Mathlib.Omega.{arith}
-use lib.ListN.{length}
+use Prim.Native.Nat.{◌-◌}
 use lib.Ieee.{nan}
-use Rattle.columns.proofs.Blocks.{RowCopying, row_copy_start, row_fits, row_copy_more, row_copy_done}
+use Rattle.columns.proofs.Blocks.{RowCopying}
 use Rattle.columns.proofs.copy_row_f32.Given as goal
 
 -- `columns::copy_row_f32` meets its contract: it copies a row in each column. The laws are in proofs/Blocks.antt.

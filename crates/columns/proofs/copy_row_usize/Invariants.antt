@@ -1,8 +1,6 @@
 -- `columns::copy_row_usize` meets its contract: it copies a row in each column. The laws are in proofs/Blocks.antt.
-use Prim.Native.Nat.{◌+◌, ◌-◌, ◌≤◌}
-use native.Mathlib.Omega.{arith}
-use lib.ListN.{length}
-use Rattle.columns.proofs.Blocks.{RowCopying, row_copy_start, row_fits, row_copy_more, row_copy_done}
+use Prim.Native.Nat.{◌-◌}
+use Rattle.columns.proofs.Blocks.{RowCopying}
 use Rattle.columns.proofs.copy_row_usize.Given as goal
 
 -- `columns::copy_row_usize` meets its contract: it copies a row in each column. The laws are in proofs/Blocks.antt.

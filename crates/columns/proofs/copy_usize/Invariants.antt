@@ -1,8 +1,7 @@
 -- `columns::copy_usize` meets its contract: it copies one column. The laws are in proofs/Sweep.antt.
 use Prim.Native.Nat.{◌-◌}
-use native.Mathlib.Omega.{arith}
 use lib.ListN.{length}
-use Rattle.columns.proofs.Sweep.{Copying, copy_start, copy_more, copy_done}
+use Rattle.columns.proofs.Sweep.{Copying}
 use Rattle.columns.proofs.copy_usize.Given as goal
 
 -- `columns::copy_usize` meets its contract: it copies one column. The laws are in proofs/Sweep.antt.

@@ -1,7 +1,6 @@
 -- `columns::keep_block_usize` meets its contract: a turn leaves out a marked row, and moves those up to the next. The laws are in proofs/Blocks.antt.
 use Prim.Native.Nat.{◌-◌}
-use native.Mathlib.Omega.{arith}
-use Rattle.columns.proofs.Blocks.{BlockKeeping, block_keep_start, block_keep_more, block_keep_done}
+use Rattle.columns.proofs.Blocks.{BlockKeeping}
 use Rattle.columns.proofs.keep_block_usize.Given as goal
 
 -- `columns::keep_block_usize` meets its contract: a turn leaves out a marked row, and moves those up to the next. The laws are in proofs/Blocks.antt.

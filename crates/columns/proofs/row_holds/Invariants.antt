@@ -1,8 +1,6 @@
 -- `columns::row_holds` meets its contract. The laws are in proofs/RowLaws.antt. Assumes nothing.
-use Prim.Native.Nat.{◌+◌, ◌-◌, ◌≤◌}
-use native.Mathlib.Omega.{arith}
-use lib.ListN.{length}
-use Rattle.columns.proofs.RowLaws.{Looking, look_start, look_fits, look_found, look_more, look_end}
+use Prim.Native.Nat.{◌-◌}
+use Rattle.columns.proofs.RowLaws.{Looking}
 use Rattle.columns.proofs.row_holds.Given as goal
 
 -- `columns::row_holds` meets its contract. The laws are in proofs/RowLaws.antt. Assumes nothing.

@@ -1,9 +1,7 @@
 -- `columns::shift_block_f32` meets its contract: it moves the rows in each column. The laws are in proofs/Blocks.antt.
-use Prim.Native.Nat.{◌+◌, ◌-◌, ◌≤◌}
-use native.Mathlib.Omega.{arith}
-use lib.ListN.{length}
+use Prim.Native.Nat.{◌-◌}
 use lib.Ieee.{nan}
-use Rattle.columns.proofs.Blocks.{BlockShifting, block_shift_start, shift_fits, block_shift_more, block_shift_done}
+use Rattle.columns.proofs.Blocks.{BlockShifting}
 use Rattle.columns.proofs.shift_block_f32.Given as goal
 
 -- `columns::shift_block_f32` meets its contract: it moves the rows in each column. The laws are in proofs/Blocks.antt.

@@ -1,8 +1,8 @@
 -- `columns::shift_block_usize` meets its contract: it moves the rows in each column. The laws are in proofs/Blocks.antt.
-use Prim.Native.Nat.{◌+◌, ◌-◌, ◌≤◌}
+use Prim.Native.Nat.{◌+◌, ◌≤◌}
 use native.Mathlib.Omega.{arith}
 use lib.ListN.{length}
-use Rattle.columns.proofs.Blocks.{BlockShifting, block_shift_start, shift_fits, block_shift_more, block_shift_done}
+use Rattle.columns.proofs.Blocks.{block_shift_start, shift_fits, block_shift_more, block_shift_done}
 use Rattle.columns.proofs.shift_block_usize.Goals as goal
 
 pub loop-c-init : goal.loop-c-init
@@ -10,19 +10,19 @@ loop-c-init c = block_shift_start _ _ _ _ _ _ _
 
 pub overflow_add-o : goal.overflow_add-o
 overflow_add-o c =
-    let fits : c.loop-c.o + c.args.stride ≤ length c.loop-c.s = shift_fits _ _ _ _ _ _ _ _ _ _ c.loop-c.invariant c.loop-c-test.true c.requires.0 c.requires.1 c.requires.2 in  omega (arith, fits)
+    let fits : c.loop-c.o + c.args.stride ≤ length c.loop-c.s = shift_fits _ _ _ _ _ _ _ _ _ _ c.loop-c.invariant c.loop-c-test.true c.requires.0 c.requires.1 c.requires.2 in omega (arith, fits)
 
 pub overflow_add-o-in-loop-c : goal.overflow_add-o-in-loop-c
 overflow_add-o-in-loop-c c =
-    let fits : c.loop-c.o + c.args.stride ≤ length c.loop-c.s = shift_fits _ _ _ _ _ _ _ _ _ _ c.loop-c.invariant c.loop-c-test.true c.requires.0 c.requires.1 c.requires.2 in  omega (arith, fits)
+    let fits : c.loop-c.o + c.args.stride ≤ length c.loop-c.s = shift_fits _ _ _ _ _ _ _ _ _ _ c.loop-c.invariant c.loop-c-test.true c.requires.0 c.requires.1 c.requires.2 in omega (arith, fits)
 
 pub shift_usize-requires : goal.shift_usize-requires
 shift_usize-requires c =
-    let fits : c.loop-c.o + c.args.stride ≤ length c.loop-c.s = shift_fits _ _ _ _ _ _ _ _ _ _ c.loop-c.invariant c.loop-c-test.true c.requires.0 c.requires.1 c.requires.2 in  (omega arith, omega (arith, fits))
+    let fits : c.loop-c.o + c.args.stride ≤ length c.loop-c.s = shift_fits _ _ _ _ _ _ _ _ _ _ c.loop-c.invariant c.loop-c-test.true c.requires.0 c.requires.1 c.requires.2 in (omega arith, omega (arith, fits))
 
 pub overflow_add-o-in-loop-c-2 : goal.overflow_add-o-in-loop-c-2
 overflow_add-o-in-loop-c-2 c =
-    let fits : c.loop-c.o + c.args.stride ≤ length c.loop-c.s = shift_fits _ _ _ _ _ _ _ _ _ _ c.loop-c.invariant c.loop-c-test.true c.requires.0 c.requires.1 c.requires.2 in  omega (arith, fits)
+    let fits : c.loop-c.o + c.args.stride ≤ length c.loop-c.s = shift_fits _ _ _ _ _ _ _ _ _ _ c.loop-c.invariant c.loop-c-test.true c.requires.0 c.requires.1 c.requires.2 in omega (arith, fits)
 
 pub overflow_add-c : goal.overflow_add-c
 overflow_add-c c = omega arith

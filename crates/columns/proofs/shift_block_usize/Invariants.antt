@@ -1,8 +1,6 @@
 -- `columns::shift_block_usize` meets its contract: it moves the rows in each column. The laws are in proofs/Blocks.antt.
-use Prim.Native.Nat.{◌+◌, ◌-◌, ◌≤◌}
-use native.Mathlib.Omega.{arith}
-use lib.ListN.{length}
-use Rattle.columns.proofs.Blocks.{BlockShifting, block_shift_start, shift_fits, block_shift_more, block_shift_done}
+use Prim.Native.Nat.{◌-◌}
+use Rattle.columns.proofs.Blocks.{BlockShifting}
 use Rattle.columns.proofs.shift_block_usize.Given as goal
 
 -- `columns::shift_block_usize` meets its contract: it moves the rows in each column. The laws are in proofs/Blocks.antt.

@@ -1,8 +1,6 @@
 -- `columns::shift_f32` meets its contract: it moves a place a turn. The laws are in proofs/Blocks.antt.
-use Prim.Native.Nat.{◌-◌, ◌≤◌}
 use native.Mathlib.Omega.{arith}
-use lib.Ieee.{nan}
-use Rattle.columns.proofs.Blocks.{Shifting, shift_start, shift_more, shift_done}
+use Rattle.columns.proofs.Blocks.{shift_start, shift_more, shift_done}
 use Rattle.columns.proofs.shift_f32.Goals as goal
 
 pub loop-i-init : goal.loop-i-init

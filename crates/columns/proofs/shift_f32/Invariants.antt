@@ -1,8 +1,7 @@
 -- `columns::shift_f32` meets its contract: it moves a place a turn. The laws are in proofs/Blocks.antt.
 use Prim.Native.Nat.{◌-◌, ◌≤◌}
-use native.Mathlib.Omega.{arith}
 use lib.Ieee.{nan}
-use Rattle.columns.proofs.Blocks.{Shifting, shift_start, shift_more, shift_done}
+use Rattle.columns.proofs.Blocks.{Shifting}
 use Rattle.columns.proofs.shift_f32.Given as goal
 
 -- `columns::shift_f32` meets its contract: it moves a place a turn. The laws are in proofs/Blocks.antt.

@@ -1,7 +1,6 @@
 -- `columns::shift_usize` meets its contract: it moves a place a turn. The laws are in proofs/Blocks.antt.
 use Prim.Native.Nat.{◌-◌, ◌≤◌}
-use native.Mathlib.Omega.{arith}
-use Rattle.columns.proofs.Blocks.{Shifting, shift_start, shift_more, shift_done}
+use Rattle.columns.proofs.Blocks.{Shifting}
 use Rattle.columns.proofs.shift_usize.Given as goal
 
 -- `columns::shift_usize` meets its contract: it moves a place a turn. The laws are in proofs/Blocks.antt.

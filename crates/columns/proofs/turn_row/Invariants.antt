@@ -1,9 +1,6 @@
 -- `columns::turn_row` meets its contract. The laws are in proofs/RowLaws.antt. Assumes nothing.
-use Prim.Native.Nat.{◌+◌, ◌-◌, ◌≤◌}
-use native.Mathlib.Omega.{arith}
-use mathlib.Core.Logic.{⊎_elim}
-use lib.ListN.{length}
-use Rattle.columns.proofs.RowLaws.{Turning, turn_start, turn_fits, turn_stored, turn_left, turn_done}
+use Prim.Native.Nat.{◌-◌}
+use Rattle.columns.proofs.RowLaws.{Turning}
 use Rattle.columns.proofs.turn_row.Given as goal
 
 -- `columns::turn_row` meets its contract. The laws are in proofs/RowLaws.antt. Assumes nothing.

@@ -1,5 +1,5 @@
 -- `exact::crossing` meets its contract. Assumes nothing.
-use Rattle.std.proofs.Common.{◌≡◌, Bool, true, false, ◌&&◌, ◌||◌, ap, ◌∙◌, ⊎_elim, rules}
+use Rattle.std.proofs.Common.{◌≡◌, Bool, true, false, ◌&&◌, ◌||◌, ap, ◌∙◌}
 use lib.Ieee.{Float, lt}
 use Rattle.blade.specs.declared.Point.{Point}
 use Rattle.blade.specs.Blade.{offset_of}
@@ -38,9 +38,11 @@ pub returns-then-dq-dp : goal.returns-then-dq-dp
 returns-then-dq-dp c =
     let first_two : c.if-apart.value ≡ (c.apart.result && off c.offset-dp.result c.offset-dq.result) = let m = c.offset-dp.result in
     let n = c.offset-dq.result in
-    elim c.if-apart.branch [ then-apart+then-dp-dq w ↦ w.value-is ∙ or_first (lt n m) w.if-apart.true w.if-dp-dq.true
-    | then-apart+else-dp-dq w ↦ w.value-is ∙ or_second (lt n m) w.if-apart.true w.if-dp-dq.false
-    | else-apart w ↦ w.value-is ∙ and_first (off m n) w.if-apart.false ] in 
+    elim c.if-apart.branch [
+      | then-apart+then-dp-dq w ↦ w.value-is ∙ or_first (lt n m) w.if-apart.true w.if-dp-dq.true
+      | then-apart+else-dp-dq w ↦ w.value-is ∙ or_second (lt n m) w.if-apart.true w.if-dp-dq.false
+      | else-apart w ↦ w.value-is ∙ and_first (off m n) w.if-apart.false
+    ] in
     let a = c.args in
     all_three a.b0 a.b1 a.p a.q c.offset-dp.result c.offset-dq.result c.offset-dp.ensures c.offset-dq.ensures
     c.offset.result c.offset-then-dq-dp.result c.if-apart.value c.apart-then-dq-dp.result c.apart.result
@@ -50,9 +52,11 @@ pub returns-else-dq-dp : goal.returns-else-dq-dp
 returns-else-dq-dp c =
     let first_two : c.if-apart.value ≡ (c.apart.result && off c.offset-dp.result c.offset-dq.result) = let m = c.offset-dp.result in
     let n = c.offset-dq.result in
-    elim c.if-apart.branch [ then-apart+then-dp-dq w ↦ w.value-is ∙ or_first (lt n m) w.if-apart.true w.if-dp-dq.true
-    | then-apart+else-dp-dq w ↦ w.value-is ∙ or_second (lt n m) w.if-apart.true w.if-dp-dq.false
-    | else-apart w ↦ w.value-is ∙ and_first (off m n) w.if-apart.false ] in 
+    elim c.if-apart.branch [
+      | then-apart+then-dp-dq w ↦ w.value-is ∙ or_first (lt n m) w.if-apart.true w.if-dp-dq.true
+      | then-apart+else-dp-dq w ↦ w.value-is ∙ or_second (lt n m) w.if-apart.true w.if-dp-dq.false
+      | else-apart w ↦ w.value-is ∙ and_first (off m n) w.if-apart.false
+    ] in
     let a = c.args in
     not_all a.b0 a.b1 a.p a.q c.offset-dp.result c.offset-dq.result c.offset-dp.ensures c.offset-dq.ensures
     c.if-apart.value c.apart.result c.apart.ensures c.if-dq-dp.false (first_two)

@@ -12,18 +12,18 @@ pub returns-then-s-c : goal.returns-then-s-c
 unfolding sign_of_sum_of
 returns-then-s-c c =
     let right : Bool = lt (plus c.args.a c.args.b) (neg c.args.c) in
-    let left : Bool = lt (neg c.args.c) (plus c.args.a c.args.b) in  picked (left) Left (pick (right) Right On) c.if-s-c.true
+    let left : Bool = lt (neg c.args.c) (plus c.args.a c.args.b) in picked (left) Left (pick (right) Right On) c.if-s-c.true
 
 pub returns-then-s-c-2 : goal.returns-then-s-c-2
 unfolding sign_of_sum_of
 returns-then-s-c-2 c =
     let right : Bool = lt (plus c.args.a c.args.b) (neg c.args.c) in
-    let left : Bool = lt (neg c.args.c) (plus c.args.a c.args.b) in 
+    let left : Bool = lt (neg c.args.c) (plus c.args.a c.args.b) in
     picked (right) Right On c.if-s-c-2.true ∙ passed (left) Left (pick (right) Right On) c.if-s-c.false
 
 pub returns : goal.returns
 unfolding sign_of_sum_of
 returns c =
     let right : Bool = lt (plus c.args.a c.args.b) (neg c.args.c) in
-    let left : Bool = lt (neg c.args.c) (plus c.args.a c.args.b) in 
+    let left : Bool = lt (neg c.args.c) (plus c.args.a c.args.b) in
     passed (right) Right On c.if-s-c-2.false ∙ passed (left) Left (pick (right) Right On) c.if-s-c.false

@@ -1,5 +1,5 @@
 -- `exact::whole_point` meets its contract. Assumes nothing.
-use Rattle.std.proofs.Common.{◌≡◌, Bool, true, false, sym, ◌∙◌, rules}
+use Rattle.std.proofs.Common.{◌≡◌, Bool, true, false, sym, ◌∙◌}
 use Rattle.blade.specs.declared.Point.{Point}
 use Rattle.exact.specs.Exact.{whole?, whole_point_of}
 use Rattle.exact.proofs.Picks.{and_first, and_second}

@@ -1,12 +1,7 @@
 -- `fan::own_numbers` meets its contract. Assumes nothing.
-use borrow.Author.Rules.{rules}
-use native.Mathlib.Omega.{arith}
-use mathlib.Core.Path.{◌≡◌, sym, ◌∙◌, refl}
-use mathlib.Core.Logic.{⊎_elim}
+use mathlib.Core.Path.{◌≡◌}
 use Prim.Native.Nat.{ℕ, ◌<◌, ◌≤◌, ◌-◌}
-use native.Mathlib.Nat.{not-suc-le-zero}
-use lib.ListN.{length, get_or, length-set}
-use Rattle.lists.proofs.Stores.{stored}
+use lib.ListN.{length, get_or}
 use Rattle.fan.proofs.own_numbers.Given as goal
 
 -- `fan::own_numbers` meets its contract. Assumes nothing.

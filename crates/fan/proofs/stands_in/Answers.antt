@@ -1,9 +1,6 @@
 -- `fan::stands_in` meets its contract. The invariant: whether x stands in the rest is whether it stands in the whole. Assumes nothing.
 use borrow.Author.Rules.{rules}
-use mathlib.Core.Path.{◌≡◌, refl, sym, ◌∙◌}
-use Prim.Native.Nat.{◌≤◌, ◌-◌}
-use lib.ListN.{length, drop}
-use Rattle.lists.specs.Lists.{stands}
+use mathlib.Core.Path.{refl, sym, ◌∙◌}
 use Rattle.lists.proofs.Sifts.{stands_here, stands_on, stands_end}
 use Rattle.fan.proofs.stands_in.Goals as goal
 

@@ -3,7 +3,6 @@ use Rattle.fan_reach.proofs.Touching.{beside_up, beside_down}
 use Rattle.fan.specs.Fan.{fan}
 use mathlib.Core.Path.{◌∙◌}
 use native.Mathlib.Omega.{arith}
-use borrow.Author.Rules.{rules}
 use Rattle.fan_reach.proofs.beside.Goals as goal
 
 pub returns-then-a-j : goal.returns-then-a-j

@@ -2,10 +2,9 @@
 use Rattle.fan_reach.proofs.Corners.{linked_more}
 use Rattle.fan_reach.specs.Corners.{LinkedFrom}
 use lib.ListN.{length}
-use Prim.Native.Nat.{ℕ, ◌+◌, ◌-◌, ◌<◌, ◌≤◌}
+use Prim.Native.Nat.{ℕ, ◌+◌, ◌-◌, ◌<◌}
 use mathlib.Core.Path.{◌≡◌, sym, ◌∙◌, subst}
 use native.Mathlib.Omega.{arith}
-use borrow.Author.Rules.{rules}
 use Rattle.fan_reach.proofs.link_corners.Goals as goal
 
 pub loop-p-init : goal.loop-p-init

@@ -1,11 +1,7 @@
 -- `fan_reach::link_corners` meets its contract. The invariant: the places from p on are linked. Assumes nothing.
-use Rattle.fan_reach.proofs.Corners.{linked_more}
 use Rattle.fan_reach.specs.Corners.{LinkedFrom}
 use lib.ListN.{length}
-use Prim.Native.Nat.{ℕ, ◌+◌, ◌-◌, ◌<◌, ◌≤◌}
-use mathlib.Core.Path.{◌≡◌, sym, ◌∙◌, subst}
-use native.Mathlib.Omega.{arith}
-use borrow.Author.Rules.{rules}
+use Prim.Native.Nat.{◌≤◌}
 use Rattle.fan_reach.proofs.link_corners.Given as goal
 
 -- `fan_reach::link_corners` meets its contract. The invariant: the places from p on are linked. Assumes nothing.

@@ -2,8 +2,8 @@
 use borrow.Author.Rules.{rules}
 use native.Mathlib.Omega.{arith}
 use mathlib.Core.Path.{◌≡◌, sym, ◌∙◌, subst}
-use mathlib.Core.Logic.{inl, ⊎_elim}
-use Prim.Native.Nat.{ℕ, ◌<◌, ◌-◌}
+use mathlib.Core.Logic.{inl}
+use Prim.Native.Nat.{ℕ, ◌<◌}
 use lib.ListN.{length}
 use Rattle.fan.specs.Fan.{fan}
 use Rattle.fan_reach.specs.Spread.{Reaching}
@@ -27,14 +27,15 @@ near-requires c =
     let l = P.reaching.reached.within in
     record { verts_len = P.verts_len; i_in_bounds = (l, search rules) }
 
-
 pub loop-j-preserved : goal.loop-j-preserved
 loop-j-preserved c =
     let L = c.loop-j in
     let l : L.j < length c.args.sides.now = search rules in
-    elim c.if-table-j.branch [ then-table-j+then-near w ↦ (omega arith, reaching_at w.table-is (reaching_reach L.invariant.1 l w.if-table-j.true (inl (near_yes _ _ _ L.invariant.0 l (sym w.near.ensures ∙ w.if-near.true)))))
-    | then-table-j+else-near w ↦ (omega arith, reaching_at w.table-is (reaching_miss L.invariant.1 l (missed L.invariant.0 (near_no _ _ _ (sym w.near.ensures ∙ w.if-near.false)))))
-    | else-table-j w ↦ (omega arith, reaching_at w.table-is (reaching_pass L.invariant.1 l w.if-table-j.false)) ]
+    elim c.if-table-j.branch [
+      | then-table-j+then-near w ↦ (omega arith, reaching_at w.table-is (reaching_reach L.invariant.1 l w.if-table-j.true (inl (near_yes _ _ _ L.invariant.0 l (sym w.near.ensures ∙ w.if-near.true)))))
+      | then-table-j+else-near w ↦ (omega arith, reaching_at w.table-is (reaching_miss L.invariant.1 l (missed L.invariant.0 (near_no _ _ _ (sym w.near.ensures ∙ w.if-near.false)))))
+      | else-table-j w ↦ (omega arith, reaching_at w.table-is (reaching_pass L.invariant.1 l w.if-table-j.false))
+    ]
 
 pub shape_of-table : goal.shape_of-table
 shape_of-table c = c.loop-j.invariant.1.reached.spreading.long ∙ sym c.requires.reaching.reached.spreading.long

@@ -1,14 +1,8 @@
 -- `fan_reach::reach_above` meets its contract. The invariant: those below j have been looked at. Assumes nothing.
-use borrow.Author.Rules.{rules}
-use native.Mathlib.Omega.{arith}
-use mathlib.Core.Path.{◌≡◌, sym, ◌∙◌, subst}
-use mathlib.Core.Logic.{inl, ⊎_elim}
-use Prim.Native.Nat.{ℕ, ◌<◌, ◌-◌}
+use Prim.Native.Nat.{◌<◌, ◌-◌}
 use lib.ListN.{length}
 use Rattle.fan.specs.Fan.{fan}
 use Rattle.fan_reach.specs.Spread.{Reaching}
-use Rattle.fan.proofs.Shared.{near_yes, near_no}
-use Rattle.fan_reach.proofs.Spreading.{missed, reaching_pass, reaching_miss, reaching_reach, reaching_at}
 use Rattle.fan_reach.proofs.reach_above.Given as goal
 
 -- `fan_reach::reach_above` meets its contract. The invariant: those below j have been looked at. Assumes nothing.

@@ -1,14 +1,7 @@
 -- `fan_reach::reach_below` meets its contract. The invariant: those below j have been looked at. Assumes nothing.
-use borrow.Author.Rules.{rules}
-use native.Mathlib.Omega.{arith}
-use mathlib.Core.Path.{sym, ◌∙◌}
-use mathlib.Core.Logic.{inr, ⊎_elim}
-use Prim.Native.Nat.{◌+◌, ◌<◌, ◌≤◌, ◌-◌}
-use lib.ListN.{length}
+use Prim.Native.Nat.{◌+◌, ◌≤◌, ◌-◌}
 use Rattle.fan.specs.Fan.{fan}
 use Rattle.fan_reach.specs.Spread.{Reaching}
-use Rattle.fan.proofs.Shared.{near_yes, near_no}
-use Rattle.fan_reach.proofs.Spreading.{beside_turn, missed, reached_above, reaching_none, reaching_self, reaching_pass, reaching_miss, reaching_reach, reaching_at}
 use Rattle.fan_reach.proofs.reach_below.Given as goal
 
 -- `fan_reach::reach_below` meets its contract. The invariant: those below j have been looked at. Assumes nothing.

@@ -1,13 +1,8 @@
 -- `fan_reach::reach_holders` meets its contract. The invariant: the elements that hold x before place p have been looked at. Assumes nothing.
-use Rattle.fan_reach.proofs.Touching.{Walking, walking_start, walking_hit, walking_pass, walking_up, walking_at, walking_end}
-use Rattle.fan_reach.proofs.Corners.{some_corner, place_in}
+use Rattle.fan_reach.proofs.Touching.{Walking}
 use Rattle.fan.specs.Fan.{fan}
 use lib.ListN.{length}
-use Prim.Native.Nat.{◌-◌, ◌<◌}
-use mathlib.Core.Logic.{⊎_elim}
-use mathlib.Core.Path.{sym, ◌∙◌}
-use native.Mathlib.Omega.{arith}
-use borrow.Author.Rules.{rules}
+use Prim.Native.Nat.{◌-◌}
 use Rattle.fan_reach.proofs.reach_holders.Given as goal
 
 -- `fan_reach::reach_holders` meets its contract. The invariant: the elements that hold x before place p have been looked at. Assumes nothing.

@@ -1,15 +1,9 @@
 -- `fan_reach::reach_linked` meets its contract. The invariant: the elements that share a particle at a place of a before p have been looked at. Assumes nothing.
 use Rattle.fan_reach.proofs.Touching.{touching_at, corners_start, corners_other, corners_own, corners_end}
 use Rattle.fan.proofs.Shared.{rows_end}
-use Rattle.fan_reach.specs.Corners.{Meets}
-use Rattle.fan_reach.specs.Spread.{Touching}
-use Rattle.fan.specs.Fan.{fan}
 use lib.ListN.{length}
-use Prim.Native.Nat.{◌*◌, ◌-◌, ◌≤◌}
-use mathlib.Core.Logic.{⊎_elim}
 use mathlib.Core.Path.{sym, ◌∙◌}
 use native.Mathlib.Omega.{arith}
-use borrow.Author.Rules.{rules}
 use Rattle.fan_reach.proofs.reach_linked.Goals as goal
 use Rattle.fan_reach.proofs.reach_linked.Goals.{else-x-v, then-x-v}
 
@@ -35,7 +29,6 @@ bounds-verts-p c = let w = rows_end c.args.a c.args.a (length c.args.sides.now) 
 pub reach_holders-requires : goal.reach_holders-requires
 reach_holders-requires c = record { verts_len = (c.requires.verts_len.0, c.requires.verts_len.1); reached = c.loop-p.invariant.1.reached }
 
-
 pub overflow_add-p : goal.overflow_add-p
 overflow_add-p c = let w = rows_end c.args.a c.args.a (length c.args.sides.now) c.args.k _ c.requires.verts_len.0 (c.requires.reached.within, c.requires.reached.within) in
     omega arith
@@ -43,8 +36,10 @@ overflow_add-p c = let w = rows_end c.args.a c.args.a (length c.args.sides.now) 
 pub loop-p-preserved : goal.loop-p-preserved
 loop-p-preserved c = let A = c.args in
     let L = c.loop-p in
-    elim c.if-x-v.branch [ then-x-v w ↦ (omega arith, touching_at w.table-is (corners_other L.p L.invariant.1 w.reach_holders.ensures))
-    | else-x-v w ↦ (omega arith, touching_at w.table-is (corners_own L.p L.invariant.1 w.if-x-v.false)) ]
+    elim c.if-x-v.branch [
+      | then-x-v w ↦ (omega arith, touching_at w.table-is (corners_other L.p L.invariant.1 w.reach_holders.ensures))
+      | else-x-v w ↦ (omega arith, touching_at w.table-is (corners_own L.p L.invariant.1 w.if-x-v.false))
+    ]
 
 pub shape_of-table : goal.shape_of-table
 shape_of-table c = c.loop-p.invariant.1.reached.spreading.long ∙ sym c.requires.reached.spreading.long

@@ -2,7 +2,6 @@
 use Rattle.fan_reach.proofs.Touching.{touch_reach, touch_miss, touch_old, touch_low}
 use mathlib.Core.Path.{sym, ◌∙◌}
 use native.Mathlib.Omega.{arith}
-use borrow.Author.Rules.{rules}
 use Rattle.fan_reach.proofs.reach_one.Goals as goal
 
 pub returns-then-beside : goal.returns-then-beside

@@ -1,4 +1,5 @@
 -- `image_writing::store_numbers_block` meets its contract: one column more a turn. Assumes nothing.
+use mathlib.Core.Path.{sym}
 use Prim.Native.Nat.{◌-◌}
 use native.Mathlib.Omega.{arith}
 use mathlib.Core.Path.{refl}
@@ -29,7 +30,7 @@ pub slice_bounds-store_numbers_left-end : goal.slice_bounds-store_numbers_left-e
 slice_bounds-store_numbers_left-end c = front_in bits_in_of (to_bits binary32) refl (λ a. refl) bits_append bits_length _ _ _ _ _ _ _ _ _ _ _ c.loop-c.invariant c.loop-c-test.true c.requires
 
 pub store_numbers_left-requires : goal.store_numbers_left-requires
-store_numbers_left-requires c = column_placed bits_in_of (to_bits binary32) refl (λ a. refl) bits_append bits_length _ _ _ _ _ _ _ _ _ _ _ c.loop-c.invariant c.loop-c-test.true c.requires _ c.store_numbers_left-arg-1.given.1
+store_numbers_left-requires c = column_placed bits_in_of (to_bits binary32) refl (λ a. refl) bits_append bits_length _ _ _ _ _ _ _ _ _ _ _ c.loop-c.invariant c.loop-c-test.true c.requires _ (sym c.store_numbers_left-arg-1.given.1)
 
 pub overflow_add-o : goal.overflow_add-o
 overflow_add-o c = omega (arith, (column_in bits_in_of (to_bits binary32) refl (λ a. refl) bits_append bits_length _ _ _ _ _ _ _ _ _ _ _ c.loop-c.invariant c.loop-c-test.true c.requires))

@@ -1,4 +1,5 @@
 -- `image_writing::store_words_block` meets its contract: one column more a turn. Assumes nothing.
+use mathlib.Core.Path.{sym}
 use Prim.Native.Nat.{◌-◌}
 use native.Mathlib.Omega.{arith}
 use mathlib.Core.Path.{refl}
@@ -27,7 +28,7 @@ pub slice_bounds-store_words_left-end : goal.slice_bounds-store_words_left-end
 slice_bounds-store_words_left-end c = front_in (λ l. l) (λ x. x) refl (λ a. refl) (λ x y. refl) (λ x. refl) _ _ _ _ _ _ _ _ _ _ _ c.loop-c.invariant c.loop-c-test.true c.requires
 
 pub store_words_left-requires : goal.store_words_left-requires
-store_words_left-requires c = column_placed (λ l. l) (λ x. x) refl (λ a. refl) (λ x y. refl) (λ x. refl) _ _ _ _ _ _ _ _ _ _ _ c.loop-c.invariant c.loop-c-test.true c.requires _ c.store_words_left-arg-1.given.1
+store_words_left-requires c = column_placed (λ l. l) (λ x. x) refl (λ a. refl) (λ x y. refl) (λ x. refl) _ _ _ _ _ _ _ _ _ _ _ c.loop-c.invariant c.loop-c-test.true c.requires _ (sym c.store_words_left-arg-1.given.1)
 
 pub overflow_add-o : goal.overflow_add-o
 overflow_add-o c = omega (arith, (column_in (λ l. l) (λ x. x) refl (λ a. refl) (λ x y. refl) (λ x. refl) _ _ _ _ _ _ _ _ _ _ _ c.loop-c.invariant c.loop-c-test.true c.requires))

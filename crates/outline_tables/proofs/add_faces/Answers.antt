@@ -6,7 +6,6 @@ use Rattle.outline_tables.proofs.Adding.{faces_added, one_most}
 use native.Mathlib.Omega.{arith}
 use mathlib.Core.Path.{◌∙◌}
 use lib.ListN.{get_or}
-use borrow.Author.Rules.{rules}
 use Rattle.outline_tables.proofs.add_faces.Goals as goal
 
 pub single_side-xy-requires : goal.single_side-xy-requires

@@ -5,7 +5,7 @@ use Rattle.outline.specs.Outline.{within}
 use mathlib.Core.Bool.{true}
 use native.Mathlib.Omega.{arith}
 use mathlib.Core.Path.{◌≡◌, sym, subst}
-use Prim.Native.Nat.{ℕ, ◌-◌, ◌≤◌}
+use Prim.Native.Nat.{ℕ}
 use Rattle.outline_tables.proofs.all_among.Goals as goal
 
 pub loop-i-init : goal.loop-i-init

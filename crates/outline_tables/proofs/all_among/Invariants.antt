@@ -1,11 +1,9 @@
 -- `outline::all_among` meets its contract. Assumes nothing.
-use Rattle.outline_tables.proofs.Comparing.{within_none, within_on, within_not}
 use Rattle.outline_tables.specs.Rows.{sides_at}
 use Rattle.outline.specs.Outline.{within}
 use mathlib.Core.Bool.{true}
-use native.Mathlib.Omega.{arith}
-use mathlib.Core.Path.{◌≡◌, sym, subst}
-use Prim.Native.Nat.{ℕ, ◌-◌, ◌≤◌}
+use mathlib.Core.Path.{◌≡◌}
+use Prim.Native.Nat.{◌-◌, ◌≤◌}
 use Rattle.outline_tables.proofs.all_among.Given as goal
 
 -- `outline::all_among` meets its contract. Assumes nothing.

@@ -1,13 +1,11 @@
 -- `outline::among` meets its contract. Assumes nothing.
-use Rattle.outline_tables.proofs.Comparing.{among_here, among_on, among_none}
 use Rattle.outline_tables.specs.Rows.{sides_at}
 use Rattle.outline.specs.Outline.{same_pair}
 use Rattle.lists.specs.Lists.{any}
 use mathlib.Core.Bool.{false}
 use mathlib.Core.List.{[], ◌∷◌}
-use native.Mathlib.Omega.{arith}
-use mathlib.Core.Path.{◌≡◌, sym, subst}
-use Prim.Native.Nat.{ℕ, ◌-◌, ◌≤◌}
+use mathlib.Core.Path.{◌≡◌}
+use Prim.Native.Nat.{◌-◌, ◌≤◌}
 use Rattle.outline_tables.proofs.among.Given as goal
 
 -- `outline::among` meets its contract. Assumes nothing.

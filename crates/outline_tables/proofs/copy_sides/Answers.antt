@@ -1,10 +1,7 @@
 -- `outline::copy_sides` meets its contract. Assumes nothing.
 use Rattle.outline_tables.proofs.Comparing.{copy_none, copy_turn, copy_end}
-use Rattle.outline_tables.specs.Rows.{sides_at, Added}
 use native.Mathlib.Omega.{arith}
-use mathlib.Core.Path.{◌≡◌, refl, ◌∙◌}
-use Prim.Native.Nat.{◌-◌, ◌≤◌}
-use lib.ListN.{length}
+use mathlib.Core.Path.{refl, ◌∙◌}
 use Rattle.outline_tables.proofs.copy_sides.Goals as goal
 
 pub loop-i-init : goal.loop-i-init

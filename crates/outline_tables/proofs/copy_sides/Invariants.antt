@@ -1,8 +1,6 @@
 -- `outline::copy_sides` meets its contract. Assumes nothing.
-use Rattle.outline_tables.proofs.Comparing.{copy_none, copy_turn, copy_end}
 use Rattle.outline_tables.specs.Rows.{sides_at, Added}
-use native.Mathlib.Omega.{arith}
-use mathlib.Core.Path.{◌≡◌, refl, ◌∙◌}
+use mathlib.Core.Path.{◌≡◌}
 use Prim.Native.Nat.{◌-◌, ◌≤◌}
 use lib.ListN.{length}
 use Rattle.outline_tables.proofs.copy_sides.Given as goal

@@ -1,6 +1,5 @@
 -- `outline::holds_side` meets its contract. Assumes nothing.
 use mathlib.Core.Path.{sym, ◌∙◌}
-use borrow.Author.Rules.{rules}
 use Rattle.outline_tables.proofs.holds_side.Goals as goal
 
 pub returns-then-corner : goal.returns-then-corner

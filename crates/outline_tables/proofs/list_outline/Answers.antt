@@ -1,7 +1,6 @@
 -- `outline::list_outline` meets its contract. Assumes nothing.
 use Rattle.outline_tables.proofs.Comparing.{straps_only, triangles_only}
 use native.Mathlib.Omega.{arith}
-use borrow.Author.Rules.{rules}
 use Rattle.outline_tables.proofs.list_outline.Goals as goal
 
 pub returns-then-t0-eq0 : goal.returns-then-t0-eq0

@@ -3,12 +3,8 @@ use mathlib.Core.List.{[], ◌∷◌}
 use lib.Dec.{eqb}
 use Rattle.outline_tables.proofs.Adding.{strap_turn, strap_none, strap_end, one_most}
 use native.Mathlib.Omega.{arith}
-use mathlib.Core.Path.{◌≡◌, refl, ◌∙◌}
-use Prim.Native.Nat.{◌-◌, ◌≤◌}
-use lib.ListN.{length, get_or}
-use Rattle.lists.specs.Lists.{tab}
-use Rattle.outline.specs.Outline.{outline_of_straps}
-use Rattle.outline_tables.specs.Rows.{row3, Added}
+use mathlib.Core.Path.{refl, ◌∙◌}
+use lib.ListN.{get_or}
 use Rattle.outline_tables.proofs.outline_straps.Goals as goal
 
 pub loop-i-init : goal.loop-i-init

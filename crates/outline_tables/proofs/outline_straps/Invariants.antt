@@ -1,11 +1,7 @@
 -- `outline::outline_straps` meets its contract. Assumes nothing.
-use mathlib.Core.List.{[], ◌∷◌}
-use lib.Dec.{eqb}
-use Rattle.outline_tables.proofs.Adding.{strap_turn, strap_none, strap_end, one_most}
-use native.Mathlib.Omega.{arith}
-use mathlib.Core.Path.{◌≡◌, refl, ◌∙◌}
+use mathlib.Core.Path.{◌≡◌}
 use Prim.Native.Nat.{◌-◌, ◌≤◌}
-use lib.ListN.{length, get_or}
+use lib.ListN.{length}
 use Rattle.lists.specs.Lists.{tab}
 use Rattle.outline.specs.Outline.{outline_of_straps}
 use Rattle.outline_tables.specs.Rows.{row3, Added}

@@ -1,14 +1,11 @@
 -- `outline::outline_triangles` meets its contract. The invariant: the faces of the first i triangles are added, and the corners stay linked. Assumes nothing.
-use borrow.Author.Rules.{rules}
 use native.Mathlib.Omega.{arith}
-use mathlib.Core.Path.{◌≡◌, refl, ◌∙◌}
-use Prim.Native.Nat.{◌*◌, ◌-◌, ◌≤◌}
+use mathlib.Core.Path.{refl, ◌∙◌}
 use lib.ListN.{length}
 use Rattle.lists.proofs.Sifts.{sift_length}
 use Rattle.outline.specs.Outline.{faces_of, single}
-use Rattle.outline_tables.specs.Rows.{row3, rows3, Added}
-use Rattle.outline_tables.specs.Links.{Linked}
-use Rattle.outline_tables.proofs.Adding.{faces_to, faces_turn, faces_none, faces_end}
+use Rattle.outline_tables.specs.Rows.{row3, rows3}
+use Rattle.outline_tables.proofs.Adding.{faces_turn, faces_none, faces_end}
 use Rattle.outline_tables.proofs.Linking.{none_long, new_room, new_linked}
 use Rattle.outline_tables.proofs.outline_triangles.Goals as goal
 
@@ -25,8 +22,7 @@ pub loop-i-init : goal.loop-i-init
 loop-i-init c =
     let A = c.args in
     let M = c.at_most-m in
-    let K = c.link_corners in
-    (
+    let K = c.link_corners in (
       omega arith,
       omega arith,
       refl,

@@ -1,6 +1,5 @@
 -- `outline::same_pair` meets its contract. Assumes nothing.
 use mathlib.Core.Path.{sym, ◌∙◌}
-use borrow.Author.Rules.{rules}
 use Rattle.outline_tables.proofs.same_pair.Goals as goal
 
 pub returns-then-both_same : goal.returns-then-both_same

@@ -1,7 +1,6 @@
 -- `outline::same_sides` meets its contract. Assumes nothing.
 use Rattle.outline.specs.Outline.{same_sides_of}
 use mathlib.Core.Path.{sym, ◌∙◌}
-use borrow.Author.Rules.{rules}
 use Rattle.outline_tables.proofs.same_sides.Goals as goal
 
 pub returns-then-all_among : goal.returns-then-all_among

@@ -1,6 +1,5 @@
 -- `outline::settle` meets its contract. Assumes nothing.
 use Rattle.outline_tables.proofs.Comparing.{settled_kept, settled_new}
-use borrow.Author.Rules.{rules}
 use Rattle.outline_tables.proofs.settle.Goals as goal
 
 pub returns-then-same_sides : goal.returns-then-same_sides

@@ -1,12 +1,8 @@
 -- `outline::single_side` meets its contract. The invariant: n tells how many of the first i triangles hold the side, up to 2. Assumes nothing.
 use Rattle.outline_tables.proofs.Linking.{told_more, told_same, told_end}
 use native.Mathlib.Omega.{arith}
-use borrow.Author.Rules.{rules}
-use mathlib.Core.Path.{◌≡◌, sym, ap, ◌∙◌}
-use mathlib.Core.Logic.{⊎_elim}
-use Prim.Native.Nat.{ℕ, ◌+◌, ◌-◌, ◌≤◌, min}
-use lib.ListN.{length}
-use Rattle.outline_tables.specs.Links.{held_to}
+use mathlib.Core.Path.{sym, ap, ◌∙◌}
+use Prim.Native.Nat.{ℕ, min}
 use Rattle.outline_tables.proofs.single_side.Goals as goal
 use Rattle.outline_tables.proofs.single_side.Goals.{else-holds_side, then-holds_side}
 
@@ -54,8 +50,10 @@ loop-i-preserved c =
     let a = A.a.now in
     let b = A.b.now in
     let d = A.c.now in
-    elim c.if-holds_side.branch [ then-holds_side w ↦ (omega arith, omega (arith, w.n-is, L.invariant.1), ap (λ (n : ℕ). min 2 n) w.n-is ∙ told_more a b d A.x A.y L.n L.i L.invariant.2 (sym H.ensures ∙ w.if-holds_side.true))
-    | else-holds_side w ↦ (omega arith, omega (arith, w.n-is, L.invariant.1), ap (λ (n : ℕ). min 2 n) w.n-is ∙ told_same a b d A.x A.y L.n L.i L.invariant.2 (sym H.ensures ∙ w.if-holds_side.false)) ]
+    elim c.if-holds_side.branch [
+      | then-holds_side w ↦ (omega arith, omega (arith, w.n-is, L.invariant.1), ap (λ (n : ℕ). min 2 n) w.n-is ∙ told_more a b d A.x A.y L.n L.i L.invariant.2 (sym H.ensures ∙ w.if-holds_side.true))
+      | else-holds_side w ↦ (omega arith, omega (arith, w.n-is, L.invariant.1), ap (λ (n : ℕ). min 2 n) w.n-is ∙ told_same a b d A.x A.y L.n L.i L.invariant.2 (sym H.ensures ∙ w.if-holds_side.false))
+    ]
 
 pub returns : goal.returns
 returns c =

@@ -1,10 +1,6 @@
 -- `outline::single_side` meets its contract. The invariant: n tells how many of the first i triangles hold the side, up to 2. Assumes nothing.
-use Rattle.outline_tables.proofs.Linking.{told_more, told_same, told_end}
-use native.Mathlib.Omega.{arith}
-use borrow.Author.Rules.{rules}
-use mathlib.Core.Path.{◌≡◌, sym, ap, ◌∙◌}
-use mathlib.Core.Logic.{⊎_elim}
-use Prim.Native.Nat.{ℕ, ◌+◌, ◌-◌, ◌≤◌, min}
+use mathlib.Core.Path.{◌≡◌}
+use Prim.Native.Nat.{◌+◌, ◌-◌, ◌≤◌, min}
 use lib.ListN.{length}
 use Rattle.outline_tables.specs.Links.{held_to}
 use Rattle.outline_tables.proofs.single_side.Given as goal

@@ -1,6 +1,5 @@
 -- `float::inverse::inv` meets its contract. Assumes nothing.
 use mathlib.Core.Bool.{◌&&◌}
-use mathlib.Core.Logic.{⊎_elim}
 use lib.Ieee.{binary32, le, neg, div, of_bits}
 use Rattle.float.specs.Numbers.{zero32, one, tiny, inv_of}
 use Rattle.float.proofs.Picks.{yes, no, and_yes, and_no_1, and_no_2}
@@ -19,5 +18,7 @@ unfolding of_bits neg inv_of
 returns c =
     let x = c.args.x in
     no (le (neg tiny) x && le x tiny) zero32 (div binary32 one x)
-    (elim c.if-x.branch [ then-x+else-x-2 w ↦ and_no_2 w.if-x.true w.if-x-2.false
-    | else-x w ↦ and_no_1 (le x tiny) w.if-x.false ])
+    (elim c.if-x.branch [
+      | then-x+else-x-2 w ↦ and_no_2 w.if-x.true w.if-x-2.false
+      | else-x w ↦ and_no_1 (le x tiny) w.if-x.false
+    ])

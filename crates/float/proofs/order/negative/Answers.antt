@@ -1,7 +1,6 @@
 -- `float::order::negative` meets its contract. Assumes nothing.
 use mathlib.Core.Path.{sym, subst}
 use lib.Dec.{T}
-use borrow.Author.Rules.{rules}
 use Rattle.float.proofs.Signs.{first_bit}
 use Rattle.float.proofs.order.negative.Goals as goal
 

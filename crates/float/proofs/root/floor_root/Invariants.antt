@@ -1,9 +1,6 @@
 -- `float::root::floor_root` meets its contract. The invariant: the root lies from r up to, and not at, r + b. The measure is b.
 -- Assumes nothing.
-use mathlib.Core.Path.{◌≡◌}
-use Prim.Native.Nat.{◌+◌, ◌*◌, ◌/◌, ◌^◌, ◌≤◌, ◌<◌}
-use native.Mathlib.Omega.{arith}
-use Rattle.float.proofs.Squares.{root_lt, sq_fits, covers}
+use Prim.Native.Nat.{◌+◌, ◌*◌, ◌^◌, ◌≤◌, ◌<◌}
 use Rattle.float.proofs.root.floor_root.Given as goal
 
 -- `float::root::floor_root` meets its contract. The invariant: the root lies from r up to, and not at, r + b. The measure is b.

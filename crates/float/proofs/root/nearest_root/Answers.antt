@@ -1,6 +1,5 @@
 -- `float::root::nearest_root` meets its contract. Assumes nothing.
 use native.Mathlib.Omega.{arith}
-use borrow.Author.Rules.{rules}
 use Rattle.float.proofs.Squares.{root_lt, stays, moves}
 use Rattle.float.proofs.root.nearest_root.Goals as goal
 

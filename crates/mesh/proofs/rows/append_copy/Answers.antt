@@ -2,7 +2,6 @@
 use Rattle.mesh.proofs.Lists.{pushed}
 use lib.ListN.{length-set}
 use native.Mathlib.Omega.{arith}
-use borrow.Author.Rules.{rules}
 use Rattle.mesh.proofs.rows.append_copy.Goals as goal
 
 pub bounds-points-p-2 : goal.bounds-points-p-2

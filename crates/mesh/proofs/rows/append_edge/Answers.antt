@@ -2,7 +2,6 @@
 use Rattle.mesh.proofs.Lists.{edge_pushed}
 use lib.ListN.{length-set}
 use native.Mathlib.Omega.{arith}
-use borrow.Author.Rules.{rules}
 use Rattle.mesh.proofs.rows.append_edge.Goals as goal
 
 pub bounds-ends-e : goal.bounds-ends-e

@@ -1,5 +1,4 @@
 -- `mesh::rows::copy_for` meets its contract: by cases of the group. Assumes nothing.
-use borrow.Author.Rules.{rules}
 use borrow.Author.Tests.{eq-eqb, ne_eqb}
 use Rattle.mesh.proofs.rows.copy_for.Goals as goal
 

@@ -1,7 +1,6 @@
 -- `mesh::rows::remove_edges` meets its contract: a turn leaves out a marked edge, and moves those up to the next in both blocks. Assumes nothing.
 use Prim.Native.Nat.{◌-◌}
-use native.Mathlib.Omega.{arith}
-use Rattle.mesh.proofs.Lists.{Removing, removing_start, removing_more, removing_done}
+use Rattle.mesh.proofs.Lists.{Removing}
 use Rattle.mesh.proofs.rows.remove_edges.Given as goal
 
 -- `mesh::rows::remove_edges` meets its contract: a turn leaves out a marked edge, and moves those up to the next in both blocks. Assumes nothing.

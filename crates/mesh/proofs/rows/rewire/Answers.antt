@@ -1,7 +1,5 @@
 -- `mesh::rows::rewire` meets its contract: the loop over the fan is `Rewiring` of proofs/Fan.antt. Assumes nothing.
-use Rattle.mesh.proofs.Fan.{Rewiring, rewiring_start, rewiring_more, rewiring_done}
-use Prim.Native.Nat.{◌-◌}
-use lib.ListN.{length}
+use Rattle.mesh.proofs.Fan.{rewiring_start, rewiring_more, rewiring_done}
 use native.Mathlib.Omega.{arith}
 use Rattle.mesh.proofs.rows.rewire.Goals as goal
 

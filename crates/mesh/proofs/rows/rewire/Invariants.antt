@@ -1,8 +1,7 @@
 -- `mesh::rows::rewire` meets its contract: the loop over the fan is `Rewiring` of proofs/Fan.antt. Assumes nothing.
-use Rattle.mesh.proofs.Fan.{Rewiring, rewiring_start, rewiring_more, rewiring_done}
+use Rattle.mesh.proofs.Fan.{Rewiring}
 use Prim.Native.Nat.{◌-◌}
 use lib.ListN.{length}
-use native.Mathlib.Omega.{arith}
 use Rattle.mesh.proofs.rows.rewire.Given as goal
 
 -- `mesh::rows::rewire` meets its contract: the loop over the fan is `Rewiring` of proofs/Fan.antt. Assumes nothing.

@@ -3,7 +3,6 @@ use Rattle.mesh.proofs.Blocks.{copied_particles, copied_triangles, copied_edges,
 use Rattle.mesh.proofs.Lists.{mesh_path}
 use Rattle.mesh.specs.At.{mesh_at}
 use native.Mathlib.Omega.{arith}
-use borrow.Author.Rules.{rules}
 use Rattle.mesh.proofs.whole.copy_all.Goals as goal
 
 pub copy_block_usize-requires-3 : goal.copy_block_usize-requires-3

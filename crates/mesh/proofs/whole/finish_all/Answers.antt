@@ -10,7 +10,6 @@ use lib.ListN.{length}
 use Prim.Native.Nat.{◌/◌}
 use mathlib.Core.Path.{ap, ◌∙◌}
 use native.Mathlib.Omega.{arith}
-use borrow.Author.Rules.{rules}
 use Rattle.mesh.proofs.whole.finish_all.Goals as goal
 
 pub overflow_mul-k : goal.overflow_mul-k

@@ -1,5 +1,4 @@
 -- `mesh::whole::rooms_for` meets its contract: each room is a chain of `least`. Assumes nothing.
-use borrow.Author.Rules.{rules}
 use Rattle.mesh.proofs.whole.rooms_for.Goals as goal
 
 pub returns : goal.returns

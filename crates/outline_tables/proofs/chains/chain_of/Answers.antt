@@ -1,7 +1,6 @@
 -- `outline::chains::chain_of` meets its contract. Assumes nothing.
 use native.Mathlib.Omega.{arith}
 use Rattle.outline_tables.proofs.Linking.{chain_first, chain_second, chain_third}
-use borrow.Author.Rules.{rules}
 use Rattle.outline_tables.proofs.chains.chain_of.Goals as goal
 
 pub returns-then-corner-eq0 : goal.returns-then-corner-eq0

@@ -3,8 +3,7 @@
 use borrow.Author.Rules.{rules}
 use native.Mathlib.Omega.{arith}
 use mathlib.Core.Path.{◌≡◌, sym, ◌∙◌, subst}
-use mathlib.Core.Logic.{⊎_elim}
-use Prim.Native.Nat.{ℕ, ◌*◌, ◌/◌, ◌%◌, ◌-◌, ◌<◌, ◌≤◌}
+use Prim.Native.Nat.{ℕ, ◌*◌, ◌/◌, ◌%◌, ◌-◌, ◌<◌}
 use Rattle.outline_tables.specs.Links.{chain_at, LastBefore}
 use Rattle.outline_tables.proofs.Linking.{Walk, walk_start, walk_hit, walk_pass, walk_end}
 use Rattle.outline_tables.proofs.chains.holders_along.Goals as goal
@@ -82,8 +81,10 @@ loop-e-preserved c =
     let j = (L.e - 1) / 3 in
     let f = c.wide-e-in-loop-e.result in
     let K = subst (λ (e : ℕ). LastBefore (chain_at a b d) (chain_at a b d (L.e - 1)) (L.e - 1) e) (sym c.wide-e-in-loop-e.ensures) (P.chained.link (L.e - 1) h) in
-    elim c.if-holds_before.branch [ then-holds_before+else-n-eq1 w ↦ (omega (arith, L.invariant.0, w.n-is), subst (λ (n : ℕ). Walk a b d A.x A.y A.m n j f) (sym w.n-is) (walk_hit a b d A.x A.y A.m L.n L.t L.e f L.invariant.1 l K (sym H.ensures ∙ w.if-holds_before.true)))
-    | else-holds_before w ↦ (omega (arith, L.invariant.0, w.n-is), subst (λ (n : ℕ). Walk a b d A.x A.y A.m n j f) (sym w.n-is) (walk_pass a b d A.x A.y A.m L.n L.t L.e f L.invariant.1 l K (sym H.ensures ∙ w.if-holds_before.false))) ]
+    elim c.if-holds_before.branch [
+      | then-holds_before+else-n-eq1 w ↦ (omega (arith, L.invariant.0, w.n-is), subst (λ (n : ℕ). Walk a b d A.x A.y A.m n j f) (sym w.n-is) (walk_hit a b d A.x A.y A.m L.n L.t L.e f L.invariant.1 l K (sym H.ensures ∙ w.if-holds_before.true)))
+      | else-holds_before w ↦ (omega (arith, L.invariant.0, w.n-is), subst (λ (n : ℕ). Walk a b d A.x A.y A.m n j f) (sym w.n-is) (walk_pass a b d A.x A.y A.m L.n L.t L.e f L.invariant.1 l K (sym H.ensures ∙ w.if-holds_before.false)))
+    ]
 
 pub returns : goal.returns
 returns c =

@@ -1,9 +1,9 @@
 -- `outline::chains::link_corners` meets its contract. The invariant: the places below t are linked. Assumes nothing.
 use native.Mathlib.Omega.{arith}
 use mathlib.Core.Path.{◌≡◌, refl, sym, ◌∙◌, subst}
-use Prim.Native.Nat.{ℕ, ◌+◌, ◌-◌, ◌<◌, ◌≤◌}
+use Prim.Native.Nat.{ℕ, ◌+◌, ◌<◌}
 use lib.ListN.{length, get_or, length-set}
-use Rattle.outline_tables.specs.Links.{chain_at, Chained, Sized}
+use Rattle.outline_tables.specs.Links.{chain_at, Chained}
 use Rattle.outline_tables.proofs.Linking.{chained_none, chained_more, sized_more, chain_below}
 use Rattle.outline_tables.proofs.chains.link_corners.Goals as goal
 

@@ -1,10 +1,8 @@
 -- `outline::chains::link_corners` meets its contract. The invariant: the places below t are linked. Assumes nothing.
-use native.Mathlib.Omega.{arith}
-use mathlib.Core.Path.{◌≡◌, refl, sym, ◌∙◌, subst}
-use Prim.Native.Nat.{ℕ, ◌+◌, ◌-◌, ◌<◌, ◌≤◌}
-use lib.ListN.{length, get_or, length-set}
+use mathlib.Core.Path.{◌≡◌}
+use Prim.Native.Nat.{◌-◌, ◌≤◌}
+use lib.ListN.{length}
 use Rattle.outline_tables.specs.Links.{chain_at, Chained, Sized}
-use Rattle.outline_tables.proofs.Linking.{chained_none, chained_more, sized_more, chain_below}
 use Rattle.outline_tables.proofs.chains.link_corners.Given as goal
 
 -- `outline::chains::link_corners` meets its contract. The invariant: the places below t are linked. Assumes nothing.

@@ -2,7 +2,6 @@
 use mathlib.Core.Path.{ap, ◌∙◌}
 use Prim.Native.Nat.{ℕ, min}
 use Rattle.outline_tables.proofs.Linking.{held_turned}
-use borrow.Author.Rules.{rules}
 use Rattle.outline_tables.proofs.chains.side_holders.Goals as goal
 
 pub returns-then-sizes-y : goal.returns-then-sizes-y

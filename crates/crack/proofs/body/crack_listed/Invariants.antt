@@ -1,0 +1,20 @@
+-- `crack::body::crack_listed` meets its contract: the loop over the list is `ListedTo` of proofs/ListedLaws.antt, and the tables are those of the blocks. Assumes nothing.
+use Prim.Native.Nat.{◌-◌}
+use native.Mathlib.Omega.{arith}
+use mathlib.Core.Path.{◌≡◌, refl, ◌∙◌, ap}
+use lib.ListN.{length, get_or}
+use Rattle.elements.specs.Table.{kind_is}
+use Rattle.links.specs.Linked.{MeshLinked}
+use Rattle.mesh.specs.Given.{Lent}
+use Rattle.mesh.proofs.Agree.{lent_path}
+use Rattle.split.proofs.LinkLaws.{linked_done}
+use Rattle.crack.proofs.ListedLaws.{ListedTo, to_start, to_ready, to_room, to_skip, to_step, to_stop, to_done}
+use borrow.Author.Rules.{rules}
+use Rattle.crack.proofs.body.crack_listed.Given as goal
+
+-- `crack::body::crack_listed` meets its contract: the loop over the list is `ListedTo` of proofs/ListedLaws.antt, and the tables are those of the blocks. Assumes nothing.
+abbrev pub invariant-loop-i : goal.invariant-loop-i
+invariant-loop-i l = ListedTo (kind_is l.kind) l.minimum l.torn l.e l.from l.to l.loads l.room l.initial.counts l.initial.points l.initial.roots l.initial.corners l.volumes l.initial.ends l.initial.lengths l.initial.outline l.initial.log l.points l.roots l.corners l.ends l.lengths l.outline l.log l.counts l.i × MeshLinked (kind_is l.kind) l.counts.triangles l.counts.edges l.counts.boundary l.corners l.ends l.outline l.links × (length l.links ≡ length l.initial.links)
+
+abbrev pub decreases-loop-i : goal.decreases-loop-i
+decreases-loop-i l = length l.torn - l.i
