@@ -2,7 +2,8 @@
 ghost use Rattle.std.specs.Prelude.{◌≡◌, ◌≤◌, length, take};
 ghost use Rattle.lists.specs.Lists.{padded};
 ghost use Rattle.mesh.specs.Filled.{Filled, Fits, lent};
-ghost use Rattle.mesh.specs.Blocks.{worldBefore, lentIn, lentBefore};
+ghost use Rattle.mesh.specs.Blocks.{lentIn, lentBefore};
+ghost use Rattle.mesh.specs.Log.{worldAt};
 
 use mesh::Counts;
 
@@ -31,7 +32,7 @@ pub fn finish_all(
     log: &mut [u32],
 )
     requires { Fits k (lentIn points roots corners volumes ends lengths outline log) }
-    ensures { Filled (worldBefore k points roots corners volumes ends lengths outline log)
+    ensures { Filled (worldAt k points.old roots.old corners.old volumes.old ends.old lengths.old outline.old log.old)
         (lentBefore points roots corners volumes ends lengths outline log) points.new roots.new corners.new
         volumes.new ends.new lengths.new outline.new log.new }
 {

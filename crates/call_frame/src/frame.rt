@@ -4,7 +4,8 @@ ghost use Rattle.model.specs.Calls.{tooSmall};
 ghost use Rattle.mesh.specs.Given.{meshOf, sizes, asRooms};
 ghost use Rattle.mesh.specs.Filled.{lent};
 ghost use Rattle.call_frame.specs.Framed.{copyNeed, BeginAsked, Begun, RanFits, Finished};
-ghost use Rattle.mesh.specs.Blocks.{meshBehind, worldBefore, lentIn, lentBefore, givenIn, givenBefore, blocksIn};
+ghost use Rattle.mesh.specs.Blocks.{meshBehind, lentIn, lentBefore, givenIn, givenBefore, blocksIn};
+ghost use Rattle.mesh.specs.Log.{worldAt};
 
 use crate::Answer;
 use mesh::{Counts, Rooms};
@@ -84,7 +85,7 @@ pub fn finish(
     log: &mut [u32],
 ) -> Answer
     requires { RanFits ran (lentIn points roots corners volumes ends lengths outline log) }
-    ensures { Finished ran (λ k. worldBefore k points roots corners volumes ends lengths outline log)
+    ensures { Finished ran (λ k. worldAt k points.old roots.old corners.old volumes.old ends.old lengths.old outline.old log.old)
         (lentBefore points roots corners volumes ends lengths outline log) result points.new roots.new corners.new
         volumes.new ends.new lengths.new outline.new log.new }
 {

@@ -15,7 +15,7 @@ use Rattle.work.specs.Working.{Ready, Went, Logged}
 use Rattle.work.specs.declared.Ran.{Ran}
 use Rattle.work.specs.declared.Ran.TheVariants.{Done}
 use Rattle.marks.specs.Marking.{Marks}
-use Rattle.mesh.specs.Blocks.{NumbersIn, IndicesIn, Numbers, Indices}
+use Rattle.mesh.specs.Blocks.{LentNumbersIn, LentIndicesIn, LentNumbers, LentIndices}
 
 -- the run of a strap cut at work, the bend edges to go, and the ends to split
 abbrev pub ranOf : Strapping → Run
@@ -63,12 +63,12 @@ pub record CrossingsIn (m : ℕ) (numbers : List ℕ) (lt : ℕ) (k : Counts) (l
 -- ---- the blocks and lists, as a contract names them
 
 -- the blocks have room, and so have the lists of bends and of snapped ends
-abbrev pub CrossIn : Rooms → Counts → NumbersIn → IndicesIn → IndicesIn → NumbersIn → IndicesIn → IndicesIn → IndicesIn → IndicesIn → Type 0
+abbrev pub CrossIn : Rooms → Counts → LentNumbersIn → LentIndicesIn → LentIndicesIn → LentNumbersIn → LentIndicesIn → LentIndicesIn → LentIndicesIn → LentIndicesIn → Type 0
 CrossIn L k points roots ends lengths outline log bends snapped =
     CrossRoom L k points.now roots.now ends.now lengths.now outline.now log.now (length bends.now) (length snapped.now)
 
 -- these crossings were done in turn
-abbrev pub CrossedIn : Float → List Crossing → Rooms → Counts → Numbers → Indices → Indices → Numbers → Indices → Indices → Indices → Indices → Ran → Type 0
+abbrev pub CrossedIn : Float → List Crossing → Rooms → Counts → LentNumbers → LentIndices → LentIndices → LentNumbers → LentIndices → LentIndices → LentIndices → LentIndices → Ran → Type 0
 CrossedIn f cs L k points roots ends lengths outline log bends snapped r =
     CrossTold f cs L k points.entry.now roots.entry.now ends.entry.now lengths.entry.now outline.entry.now log.entry.now bends.entry.now snapped.entry.now
     points.exit.now roots.exit.now ends.exit.now lengths.exit.now outline.exit.now log.exit.now bends.exit.now snapped.exit.now r

@@ -7,7 +7,10 @@ ghost use Rattle.model.specs.Cut.{markedBy};
 ghost use Rattle.marks.specs.Marking.{bladeBy};
 ghost use Rattle.mesh.specs.Widths.{pointColumns};
 ghost use Rattle.crossmarks.specs.Noting.{Noted, pairMarks, rowMarks, triangleMarks, strapMarks, besideBy, OffsetAt, OffsetsAre, PairRoom, TriangleRoom, StrapRoom};
-ghost use Rattle.work.specs.Blocks.{ReadyIn, WorksIn};
+ghost use Rattle.mesh.specs.Filled.{lent};
+ghost use Rattle.work.specs.Working.{Works, Ready};
+ghost use Rattle.mesh.specs.Log.{worldAt};
+ghost use Rattle.mesh.specs.At.{meshAt};
 
 use blade::{Hit, Point};
 use elements::Kind;
@@ -207,9 +210,9 @@ fn note_elements(
     offsets: &[f32],
     log: &mut [u32],
 ) -> Ran
-    requires { ReadyIn room k points roots corners volumes ends lengths outline log
+    requires { Ready room k (lent points.now roots.now corners.now volumes.now ends.now lengths.now outline.now log.old) (meshAt k points.now roots.now corners.now volumes.now ends.now lengths.now outline.now)
         × OffsetsAre b0 b1 points.now offsets.now k.particles }
-    ensures { WorksIn (markedBy (kindIs kind) (bladeBy rule b0 b1)) room k points roots corners volumes ends lengths outline log result }
+    ensures { Works (markedBy (kindIs kind) (bladeBy rule b0 b1)) room (worldAt k points.now roots.now corners.now volumes.now ends.now lengths.now outline.now log.old) (λ q. worldAt q points.now roots.now corners.now volumes.now ends.now lengths.now outline.now log.new) result }
 {
     let before = k.log;
     let n = match kind {
@@ -256,8 +259,8 @@ pub fn note_crossings(
     outline: &[usize],
     log: &mut [u32],
 ) -> Ran
-    requires { ReadyIn room k points roots corners volumes ends lengths outline log }
-    ensures { WorksIn (markedBy (kindIs kind) (bladeBy rule b0 b1)) room k points roots corners volumes ends lengths outline log result }
+    requires { Ready room k (lent points.now roots.now corners.now volumes.now ends.now lengths.now outline.now log.old) (meshAt k points.now roots.now corners.now volumes.now ends.now lengths.now outline.now) }
+    ensures { Works (markedBy (kindIs kind) (bladeBy rule b0 b1)) room (worldAt k points.now roots.now corners.now volumes.now ends.now lengths.now outline.now log.old) (λ q. worldAt q points.now roots.now corners.now volumes.now ends.now lengths.now outline.now log.new) result }
 {
     let mut offsets = [0.0f32; mesh::PARTICLES];
     read_offsets(b0, b1, k.particles, points, &mut offsets);

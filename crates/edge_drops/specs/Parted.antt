@@ -6,7 +6,7 @@ use Rattle.model.specs.Run.{Run}
 use Rattle.mesh.specs.At.{particlesAt, trianglesAt, edges_at, boundaryAt}
 use Rattle.mesh.specs.Log.{World, log_at}
 use Rattle.mesh.specs.Workers.{EdgeRoom}
-use Rattle.mesh.specs.Blocks.{Numbers, Indices, worldBefore}
+use Rattle.mesh.specs.Blocks.{Numbers, LentNumbers, LentIndices, worldBefore}
 use Rattle.mesh.specs.declared.Counts.{Counts}
 use Rattle.mesh.specs.declared.Rooms.{Rooms}
 use Rattle.mesh.specs.Limits.{edgeLimit}
@@ -52,16 +52,16 @@ ListingAfter le ll list (Done q) = Listing q.edges le ll list
 -- ---- as a contract names them
 
 -- the mesh and the log behind a call, without the listed edges
-abbrev pub partedBehind : Counts → Numbers → Indices → Indices → Numbers → Indices → Numbers → Indices → Indices → Indices → World
+abbrev pub partedBehind : Counts → LentNumbers → LentIndices → LentIndices → Numbers → LentIndices → LentNumbers → LentIndices → LentIndices → LentIndices → World
 partedBehind k points roots corners volumes ends lengths outline log list =
     worldParted k points.exit.now roots.exit.now corners.exit.now volumes.exit.now ends.exit.now lengths.exit.now outline.exit.now log.exit.now list.exit.now
 
 -- the list behind a call that came to r is one of the edges in the blocks
-abbrev pub ListedBehind : Indices → Numbers → Indices → Ran → Type 0
+abbrev pub ListedBehind : LentIndices → LentNumbers → LentIndices → Ran → Type 0
 ListedBehind ends lengths list r = ListingAfter (length ends.exit.now) (length lengths.exit.now) list.exit.now r
 
 -- behind a call that came to r: it did f to whatever run the lent blocks held, and the edges that are to go are listed
-abbrev pub PartsIn : (Run → Run) → Rooms → Counts → Numbers → Indices → Indices → Numbers → Indices → Numbers → Indices → Indices → Indices → Ran → Type 0
+abbrev pub PartsIn : (Run → Run) → Rooms → Counts → LentNumbers → LentIndices → LentIndices → Numbers → LentIndices → LentNumbers → LentIndices → LentIndices → LentIndices → Ran → Type 0
 PartsIn f L k points roots corners volumes ends lengths outline log list r =
     Works f L (worldBefore k points roots corners volumes ends lengths outline log) (λ q. partedBehind q points roots corners volumes ends lengths outline log list) r
     × ListedBehind ends lengths list r

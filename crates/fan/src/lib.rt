@@ -48,7 +48,7 @@ pub fn near(
     j: usize,
 ) -> bool
     requires verts_len { length verts.now ≡ length sides.now * k }
-    requires i_in_bounds { (i < length sides.now) × (j < length sides.now) }
+    requires in_bounds { (i < length sides.now) × (j < length sides.now) }
     ensures { result ≡ nearTest (fan verts.now k v needed sides.now) i j }
 {
     if sides[i] != sides[j] {

@@ -71,7 +71,7 @@ fn beside(
     j: usize,
 ) -> bool
     requires verts_len { length verts.now ≡ length sides.now * k }
-    requires a_in_bounds { (a < length sides.now) × (j < length sides.now) }
+    requires in_bounds { (a < length sides.now) × (j < length sides.now) }
     ensures { result ≡ besideTest (fan verts.now k v needed sides.now) a j }
 {
     if a < j {

@@ -3,18 +3,18 @@ use Rattle.std.specs.Prelude.{ℕ, ◌≤◌, min, length}
 use Rattle.mesh.specs.declared.Rooms.{Rooms}
 use Rattle.image.specs.Image.{image_of, imageSized}
 use Rattle.mesh.specs.Given.{meshOf, asRooms}
-use Rattle.mesh.specs.Blocks.{Indices}
+use Rattle.mesh.specs.Blocks.{Indices, LentIndices}
 use Rattle.mesh_calls.specs.declared.Job.{Job}
 use Rattle.mesh_calls.specs.Jobs.{jobNumbers, jobCall}
 use Rattle.job_replies.specs.Outcomes.{OutcomeReplied, withRooms}
 
 -- a job on an image was answered, in the bytes that were lent for the result and for the log
-abbrev pub JobReplied : Job → Indices → Indices → Rooms → Indices → Indices → ℕ → Type 0
+abbrev pub JobReplied : Job → Indices → Indices → Rooms → LentIndices → LentIndices → ℕ → Type 0
 JobReplied job list bytes room out log r =
     OutcomeReplied (jobCall job list.entry.now (imageSized bytes.entry.now) (meshOf (image_of bytes.entry.now)) (asRooms room)) (length out.entry.now) (length log.entry.now) r out.exit.now log.exit.now
 
 -- the same beside the bytes of rooms, which are four words or a bad argument
-abbrev pub CallReplied : Job → Indices → Indices → Indices → Rooms → Indices → Indices → ℕ → Type 0
+abbrev pub CallReplied : Job → Indices → Indices → Indices → Rooms → LentIndices → LentIndices → ℕ → Type 0
 CallReplied job list bytes rooms room out log r =
     OutcomeReplied (withRooms bytes.entry.now rooms.entry.now (jobNumbers job) (jobCall job list.entry.now (imageSized bytes.entry.now) (meshOf (image_of bytes.entry.now)) (asRooms room))) (length out.entry.now) (length log.entry.now) r out.exit.now log.exit.now
 

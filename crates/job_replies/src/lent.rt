@@ -2,13 +2,14 @@
 ghost use Rattle.std.specs.Prelude.{◌≡◌, true, length};
 ghost use Rattle.mesh.specs.Given.{meshOf, sizes, asRooms};
 ghost use Rattle.mesh.specs.Filled.{Fits};
-ghost use Rattle.mesh.specs.Blocks.{meshIn, blocksIn, lentIn};
+ghost use Rattle.mesh.specs.Blocks.{blocksIn, lentIn};
 ghost use Rattle.work.specs.Working.{Roomed};
 ghost use Rattle.call_frame.specs.Framed.{Begun};
 ghost use Rattle.mesh_calls.specs.Jobs.{jobRefusal};
 ghost use Rattle.image.specs.Image.{image_of, imageSized};
 ghost use Rattle.call_words.specs.Rooms.{Limited};
 ghost use Rattle.job_replies.specs.Told.{JobReplied, CallReplied};
+ghost use Rattle.mesh.specs.At.{meshAt};
 
 use mesh::Rooms;
 use mesh_calls::Job;
@@ -32,7 +33,7 @@ fn reply_work(
 ) -> u32
     requires { let I = image_of bytes.now in (imageSized bytes.now ≡ true) × Limited room (length log.old) × Roomed room
         (lentIn points roots corners volumes ends lengths outline words) × Begun (jobRefusal job list.now (imageSized bytes.now)
-        (meshOf I) (asRooms room)) room (meshOf I) (meshIn (sizes I) points roots corners volumes ends lengths outline) 0 }
+        (meshOf I) (asRooms room)) room (meshOf I) (meshAt (sizes I) points.old roots.old corners.old volumes.old ends.old lengths.old outline.old) 0 }
     ensures { JobReplied job list bytes room out log result }
 {
     let k = mesh_replies::placing::image_counts(bytes);
@@ -65,7 +66,7 @@ fn reply_accepted(
 ) -> u32
     requires { let I = image_of bytes.now in (imageSized bytes.now ≡ true) × Limited room (length log.old) × Roomed room
         (lentIn points roots corners volumes ends lengths outline words) × (jobRefusal job list.now (imageSized bytes.now) (meshOf I)
-        (asRooms room) ≡ 0) × (meshIn (sizes I) points roots corners volumes ends lengths outline ≡ meshOf I) }
+        (asRooms room) ≡ 0) × (meshAt (sizes I) points.old roots.old corners.old volumes.old ends.old lengths.old outline.old ≡ meshOf I) }
     ensures { JobReplied job list bytes room out log result }
 {
     let k = mesh_replies::placing::image_counts(bytes);

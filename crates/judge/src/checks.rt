@@ -7,7 +7,7 @@ ghost use Rattle.mesh.specs.At.{particlesAt, edges_at};
 ghost use Rattle.judge.specs.Checks.{faultIn, faultOf};
 ghost use Rattle.mesh.specs.Workers.{ParticleRoom, EdgeRoom};
 ghost use Rattle.judge.specs.Told.{RootsTold, CornersTold, VolumesTold, pairOk};
-ghost use Rattle.mesh.specs.Blocks.{meshBefore, givenBefore, blocksIn};
+ghost use Rattle.mesh.specs.Blocks.{meshBefore, givenBefore, inputs_in};
 ghost use Rattle.mesh.specs.Widths.{cornerColumns, rootColumns, volumeColumns};
 
 use crate::{faults, ranges, tests};
@@ -106,7 +106,7 @@ pub fn numbers_fit(
     lengths: &[f32],
     outline: &[usize],
 ) -> bool
-    requires { Fits k (blocksIn points roots corners volumes ends lengths outline) }
+    requires { Fits k (inputs_in points roots corners volumes ends lengths outline) }
     ensures { result ≡ numbersFit (meshBefore k points roots corners volumes ends lengths outline) }
 {
     let z = particles_fit(k.particles, points, roots);
@@ -125,7 +125,7 @@ pub fn indices_fit(
     lengths: &[f32],
     outline: &[usize],
 ) -> bool
-    requires { Fits k (blocksIn points roots corners volumes ends lengths outline) }
+    requires { Fits k (inputs_in points roots corners volumes ends lengths outline) }
     ensures { result ≡ indicesFit (meshBefore k points roots corners volumes ends lengths outline) }
 {
     let n = k.particles;
@@ -152,7 +152,7 @@ pub fn judge_sized(
     lengths: &[f32],
     outline: &[usize],
 ) -> usize
-    requires { Fits k (blocksIn points roots corners volumes ends lengths outline) }
+    requires { Fits k (inputs_in points roots corners volumes ends lengths outline) }
     ensures { result ≡ faultIn (meshBefore k points roots corners volumes ends lengths outline) }
 {
     let ok = numbers_fit(k, points, roots, corners, volumes, ends, lengths, outline);

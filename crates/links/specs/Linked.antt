@@ -6,7 +6,7 @@ use Rattle.model.specs.Elements.{Kind, Triangles}
 use Rattle.links.specs.Links.{LinksOf}
 use Rattle.links.specs.Rooms.{CornersApart}
 use Rattle.mesh.specs.declared.Counts.{Counts}
-use Rattle.mesh.specs.Blocks.{IndicesIn}
+use Rattle.mesh.specs.Blocks.{LentIndicesIn}
 use Rattle.mesh.specs.Widths.{cornerColumns}
 use Rattle.mesh.specs.Limits.{particleLimit, triangleLimit, edgeLimit}
 
@@ -72,5 +72,5 @@ pub record MeshLinkable (K : Kind) (t e b : ℕ) (corners ends outline : List �
   pub sides : PairsLinkable 2 b outline 5120
 
 -- `MeshLinked` of blocks and a table, as a contract names them
-abbrev pub LinkedIn : Kind → Counts → IndicesIn → IndicesIn → IndicesIn → IndicesIn → Type 0
+abbrev pub LinkedIn : Kind → Counts → LentIndicesIn → LentIndicesIn → LentIndicesIn → LentIndicesIn → Type 0
 LinkedIn K k corners ends outline links = MeshLinked K k.triangles k.edges k.boundary corners.now ends.now outline.now links.now

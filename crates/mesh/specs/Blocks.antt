@@ -1,6 +1,6 @@
 -- The blocks that a function is lent, as its contract names them: what they hold before the call and behind it. A name that ends in `In` is for a `requires`. Definitions only.
 use Rattle.std.specs.Prelude.{ℕ, List, [], Float}
-use Rattle.std.specs.Borrow.{Bor}
+use Rattle.std.specs.Borrow.{Bor, MutBor}
 use denote.Triple.Both.{Both}
 use Rattle.model.specs.Mesh.{Mesh}
 use Rattle.mesh.specs.At.{meshAt}
@@ -11,15 +11,22 @@ use Rattle.mesh.specs.declared.Counts.{Counts}
 
 -- ---- before a call, in a `requires`
 
--- a block of numbers, and one of indices, flags or words
+-- a block of numbers, and one of indices, flags or words, lent to read alone
 abbrev pub NumbersIn : Type 0
 NumbersIn = Bor (List Float)
 
 abbrev pub IndicesIn : Type 0
 IndicesIn = Bor (List ℕ)
 
--- the mesh in their fronts
-abbrev pub meshIn : Counts → NumbersIn → IndicesIn → IndicesIn → NumbersIn → IndicesIn → NumbersIn → IndicesIn → Mesh
+-- the same lent to write
+abbrev pub LentNumbersIn : Type 0
+LentNumbersIn = MutBor (List Float)
+
+abbrev pub LentIndicesIn : Type 0
+LentIndicesIn = MutBor (List ℕ)
+
+-- the mesh in the fronts of blocks that are lent to write, but for the volumes, which no worker changes
+abbrev pub meshIn : Counts → LentNumbersIn → LentIndicesIn → LentIndicesIn → NumbersIn → LentIndicesIn → LentNumbersIn → LentIndicesIn → Mesh
 meshIn k points roots corners volumes ends lengths outline = meshAt k points.now roots.now corners.now volumes.now ends.now lengths.now outline.now
 
 -- the seven blocks of an input
@@ -27,11 +34,15 @@ abbrev pub givenIn : NumbersIn → IndicesIn → IndicesIn → NumbersIn → Ind
 givenIn points roots corners volumes ends lengths outline = given points.now roots.now corners.now volumes.now ends.now lengths.now outline.now
 
 -- the lengths of eight blocks, and of seven without a log
-abbrev pub lentIn : NumbersIn → IndicesIn → IndicesIn → NumbersIn → IndicesIn → NumbersIn → IndicesIn → IndicesIn → Lent
+abbrev pub lentIn : LentNumbersIn → LentIndicesIn → LentIndicesIn → LentNumbersIn → LentIndicesIn → LentNumbersIn → LentIndicesIn → LentIndicesIn → Lent
 lentIn points roots corners volumes ends lengths outline log = lent points.now roots.now corners.now volumes.now ends.now lengths.now outline.now log.now
 
-abbrev pub blocksIn : NumbersIn → IndicesIn → IndicesIn → NumbersIn → IndicesIn → NumbersIn → IndicesIn → Lent
+abbrev pub blocksIn : LentNumbersIn → LentIndicesIn → LentIndicesIn → LentNumbersIn → LentIndicesIn → LentNumbersIn → LentIndicesIn → Lent
 blocksIn points roots corners volumes ends lengths outline = lent points.now roots.now corners.now volumes.now ends.now lengths.now outline.now []
+
+-- the lengths of the seven blocks of an input
+abbrev pub inputs_in : NumbersIn → IndicesIn → IndicesIn → NumbersIn → IndicesIn → NumbersIn → IndicesIn → Lent
+inputs_in points roots corners volumes ends lengths outline = lent points.now roots.now corners.now volumes.now ends.now lengths.now outline.now []
 
 -- ---- before a call and behind it, in an `ensures`
 
@@ -42,21 +53,28 @@ Numbers = Both (Bor (List Float)) (Bor (List Float))
 abbrev pub Indices : Type 0
 Indices = Both (Bor (List ℕ)) (Bor (List ℕ))
 
--- the mesh in the fronts of the blocks before the call, and behind it
+-- the same lent to write
+abbrev pub LentNumbers : Type 0
+LentNumbers = Both (MutBor (List Float)) (MutBor (List Float))
+
+abbrev pub LentIndices : Type 0
+LentIndices = Both (MutBor (List ℕ)) (MutBor (List ℕ))
+
+-- the mesh in the fronts of blocks that are lent to read alone before the call, and in those of blocks that are lent to write behind it
 abbrev pub meshBefore : Counts → Numbers → Indices → Indices → Numbers → Indices → Numbers → Indices → Mesh
 meshBefore k points roots corners volumes ends lengths outline =
     meshAt k points.entry.now roots.entry.now corners.entry.now volumes.entry.now ends.entry.now lengths.entry.now outline.entry.now
 
-abbrev pub meshBehind : Counts → Numbers → Indices → Indices → Numbers → Indices → Numbers → Indices → Mesh
+abbrev pub meshBehind : Counts → LentNumbers → LentIndices → LentIndices → LentNumbers → LentIndices → LentNumbers → LentIndices → Mesh
 meshBehind k points roots corners volumes ends lengths outline =
     meshAt k points.exit.now roots.exit.now corners.exit.now volumes.exit.now ends.exit.now lengths.exit.now outline.exit.now
 
--- the mesh and the log
-abbrev pub worldBefore : Counts → Numbers → Indices → Indices → Numbers → Indices → Numbers → Indices → Indices → World
+-- the mesh and the log in blocks that are lent to write, but for the volumes
+abbrev pub worldBefore : Counts → LentNumbers → LentIndices → LentIndices → Numbers → LentIndices → LentNumbers → LentIndices → LentIndices → World
 worldBefore k points roots corners volumes ends lengths outline log =
     worldAt k points.entry.now roots.entry.now corners.entry.now volumes.entry.now ends.entry.now lengths.entry.now outline.entry.now log.entry.now
 
-abbrev pub worldBehind : Counts → Numbers → Indices → Indices → Numbers → Indices → Numbers → Indices → Indices → World
+abbrev pub worldBehind : Counts → LentNumbers → LentIndices → LentIndices → Numbers → LentIndices → LentNumbers → LentIndices → LentIndices → World
 worldBehind k points roots corners volumes ends lengths outline log =
     worldAt k points.exit.now roots.exit.now corners.exit.now volumes.exit.now ends.exit.now lengths.exit.now outline.exit.now log.exit.now
 
@@ -66,6 +84,6 @@ givenBefore points roots corners volumes ends lengths outline =
     given points.entry.now roots.entry.now corners.entry.now volumes.entry.now ends.entry.now lengths.entry.now outline.entry.now
 
 -- the lengths of eight blocks, which stay
-abbrev pub lentBefore : Numbers → Indices → Indices → Numbers → Indices → Numbers → Indices → Indices → Lent
+abbrev pub lentBefore : LentNumbers → LentIndices → LentIndices → LentNumbers → LentIndices → LentNumbers → LentIndices → LentIndices → Lent
 lentBefore points roots corners volumes ends lengths outline log =
     lent points.entry.now roots.entry.now corners.entry.now volumes.entry.now ends.entry.now lengths.entry.now outline.entry.now log.entry.now

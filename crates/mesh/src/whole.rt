@@ -2,7 +2,8 @@
 ghost use Rattle.std.specs.Prelude.{◌≡◌, ℕ, min, []};
 ghost use Rattle.mesh.specs.Given.{rooms_of};
 ghost use Rattle.mesh.specs.Filled.{Filled, Fits, Holds, lent};
-ghost use Rattle.mesh.specs.Blocks.{meshBefore, meshBehind, worldBefore, lentIn, lentBefore, blocksIn};
+ghost use Rattle.mesh.specs.Blocks.{meshBefore, meshBehind, lentIn, lentBefore, blocksIn, inputs_in};
+ghost use Rattle.mesh.specs.Log.{worldAt};
 
 use crate::{Counts, POINT_COLUMNS, Rooms};
 
@@ -68,8 +69,8 @@ pub fn copy_all(
     lengths: &mut [f32],
     outline: &mut [usize],
 )
-    requires fits { Fits k (blocksIn in_points in_roots in_corners in_volumes in_ends in_lengths in_outline) }
-    requires holds { Holds (blocksIn in_points in_roots in_corners in_volumes in_ends in_lengths in_outline)
+    requires fits { Fits k (inputs_in in_points in_roots in_corners in_volumes in_ends in_lengths in_outline) }
+    requires holds { Holds (inputs_in in_points in_roots in_corners in_volumes in_ends in_lengths in_outline)
         (blocksIn points roots corners volumes ends lengths outline) }
     ensures { meshBehind k points roots corners volumes ends lengths outline
         ≡ meshBefore k in_points in_roots in_corners in_volumes in_ends in_lengths in_outline }
@@ -126,7 +127,7 @@ pub fn finish_all(
     log: &mut [usize],
 )
     requires { Fits k (lentIn points roots corners volumes ends lengths outline log) }
-    ensures { Filled (worldBefore k points roots corners volumes ends lengths outline log)
+    ensures { Filled (worldAt k points.old roots.old corners.old volumes.old ends.old lengths.old outline.old log.old)
         (lentBefore points roots corners volumes ends lengths outline log) points.new roots.new corners.new
         volumes.new ends.new lengths.new outline.new log.new }
 {

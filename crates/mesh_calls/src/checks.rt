@@ -5,7 +5,7 @@ ghost use Rattle.mesh.specs.Given.{meshOf, sizesFit, asRooms};
 ghost use Rattle.mesh_calls.specs.Jobs.{jobNumbers, jobArguments, jobEdition, jobRefusal, wholePlaces};
 ghost use Rattle.mesh.specs.Widths.{pointColumns};
 ghost use Rattle.mesh.specs.Filled.{Fits, lent};
-ghost use Rattle.mesh.specs.Blocks.{meshBefore, givenBefore, blocksIn};
+ghost use Rattle.mesh.specs.Blocks.{meshBefore, givenBefore, inputs_in};
 
 use crate::{Job, fans};
 use elements::Kind;
@@ -42,7 +42,7 @@ fn sides_given(
     in_lengths: &[f32],
     in_outline: &[usize],
 ) -> bool
-    requires { Fits k (blocksIn in_points in_roots in_corners in_volumes in_ends in_lengths in_outline) }
+    requires { Fits k (inputs_in in_points in_roots in_corners in_volumes in_ends in_lengths in_outline) }
     ensures { result ≡ sidesOk (meshBefore k in_points in_roots in_corners in_volumes in_ends in_lengths in_outline) v
         sides.now }
 {
@@ -64,7 +64,7 @@ fn arguments_fit(
     in_lengths: &[f32],
     in_outline: &[usize],
 ) -> bool
-    requires { Fits k (blocksIn in_points in_roots in_corners in_volumes in_ends in_lengths in_outline) }
+    requires { Fits k (inputs_in in_points in_roots in_corners in_volumes in_ends in_lengths in_outline) }
     ensures { result ≡ jobArguments job list.now (asRooms room) (meshBefore k in_points in_roots in_corners in_volumes
         in_ends in_lengths in_outline) }
 {
@@ -103,7 +103,7 @@ fn judge_arguments(
     in_lengths: &[f32],
     in_outline: &[usize],
 ) -> usize
-    requires { Fits k (blocksIn in_points in_roots in_corners in_volumes in_ends in_lengths in_outline) }
+    requires { Fits k (inputs_in in_points in_roots in_corners in_volumes in_ends in_lengths in_outline) }
     ensures { let M = meshBefore k in_points in_roots in_corners in_volumes in_ends in_lengths in_outline in result
         ≡ refusal true M (jobNumbers job) (jobArguments job list.now (asRooms room) M) }
 {
@@ -148,7 +148,7 @@ fn edition_refusal(
     in_lengths: &[f32],
     in_outline: &[usize],
 ) -> usize
-    requires { Fits k (blocksIn in_points in_roots in_corners in_volumes in_ends in_lengths in_outline) }
+    requires { Fits k (inputs_in in_points in_roots in_corners in_volumes in_ends in_lengths in_outline) }
     ensures { result ≡ jobEdition job (meshBefore k in_points in_roots in_corners in_volumes in_ends in_lengths in_outline) }
 {
     let Job::Cut(edition, b0, b1, _) = job else {
@@ -182,7 +182,7 @@ pub fn judge_sized(
     in_lengths: &[f32],
     in_outline: &[usize],
 ) -> usize
-    requires { Fits k (blocksIn in_points in_roots in_corners in_volumes in_ends in_lengths in_outline) }
+    requires { Fits k (inputs_in in_points in_roots in_corners in_volumes in_ends in_lengths in_outline) }
     ensures { result ≡ jobRefusal job list.now true (meshBefore k in_points in_roots in_corners in_volumes in_ends
         in_lengths in_outline) (asRooms room) }
 {

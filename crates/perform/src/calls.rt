@@ -10,10 +10,12 @@ ghost use Rattle.work.specs.Working.{Roomed, Logged};
 ghost use Rattle.call_frame.specs.Framed.{RoomsLent, Begun, Came};
 ghost use Rattle.mesh_calls.specs.Jobs.{jobRefusal, ruleIn, jobRun, jobCall};
 ghost use Rattle.perform.specs.Asks.{JobAsked, marksTell, passed_by};
-ghost use Rattle.mesh.specs.Blocks.{meshIn, meshBefore, meshBehind, worldBehind, lentIn, givenBefore, blocksIn};
+ghost use Rattle.mesh.specs.Blocks.{meshIn, meshBehind, lentIn, givenBefore, blocksIn};
 ghost use Rattle.work.specs.Blocks.{ReadyIn, WorksIn};
 ghost use Rattle.edge_drops.specs.Parted.{PartsIn};
 ghost use Rattle.split.specs.Blocks.{ListIn};
+ghost use Rattle.mesh.specs.At.{meshAt};
+ghost use Rattle.mesh.specs.Log.{worldAt};
 
 use blade::Point;
 use elements::Kind;
@@ -146,7 +148,7 @@ pub fn work(
 ) -> Ran
     requires { ReadyIn room k points roots corners volumes ends lengths outline log × Logged k.log log.old
         × JobAsked job list.now (meshIn k points roots corners volumes ends lengths outline) × (2049 ≤ length gone.old) }
-    ensures { PartsIn (jobRun job list.now (kind_of (meshBefore k points roots corners volumes ends lengths outline))) room
+    ensures { PartsIn (jobRun job list.now (kind_of (meshAt k points.old roots.old corners.old volumes.now ends.old lengths.old outline.old))) room
         k points roots corners volumes ends lengths outline log gone result }
 {
     gone[edge_drops::LISTED] = 0;
@@ -213,7 +215,7 @@ pub fn run(
     requires { Roomed room (lentIn points roots corners volumes ends lengths outline log) }
     ensures { let G = givenBefore in_points in_roots in_corners in_volumes in_ends in_lengths in_outline in
         Came (jobCall job list.now (sizesFit G) (meshOf G) (asRooms room)) room
-        (λ k. worldBehind k points roots corners volumes ends lengths outline log) result }
+        (λ k. worldAt k points.new roots.new corners.new volumes.new ends.new lengths.new outline.new log.new) result }
 {
     let code = begin(
         job, list, room, in_points, in_roots, in_corners, in_volumes, in_ends, in_lengths,

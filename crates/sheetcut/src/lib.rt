@@ -12,7 +12,7 @@ ghost use Rattle.sheet.specs.Sheet.{limits as most};
 ghost use Rattle.listing.specs.Answers.{Told};
 ghost use Rattle.sheetcut.specs.SheetCut.{fraction as tenth, rooms, cut_of, listed};
 ghost use Rattle.sheetcut.specs.Work.{Cuttable, frontsBefore, lineBefore};
-ghost use Rattle.mesh.specs.Blocks.{givenBefore, blocksIn};
+ghost use Rattle.mesh.specs.Blocks.{givenBefore, inputs_in};
 
 use blade::Point;
 use call_frame::Answer;
@@ -101,7 +101,7 @@ fn list_fronts(
     blade: &[f32],
     out: &mut [u8],
 ) -> Written
-    requires { Cuttable c (blocksIn points roots corners volumes ends lengths outline) (length blade.now) }
+    requires { Cuttable c (inputs_in points roots corners volumes ends lengths outline) (length blade.now) }
     ensures { let F = frontsBefore c points roots corners volumes ends lengths outline in
         Told (printed replaced (cutCall (sizesFit F) (meshOf F) 1 (lineBefore blade) tenth rooms)) (length out.old)
         out.new result }

@@ -4,14 +4,14 @@ use Rattle.model.specs.Mesh.{Mesh}
 use Rattle.model.specs.Elements.{Kind}
 use Rattle.mesh.specs.At.{meshAt}
 use Rattle.mesh.specs.Log.{World, worldAt}
-use Rattle.mesh.specs.Blocks.{NumbersIn, IndicesIn, Numbers, Indices, meshBefore, worldBefore}
+use Rattle.mesh.specs.Blocks.{NumbersIn, LentNumbersIn, IndicesIn, LentIndicesIn, Numbers, LentNumbers, Indices, LentIndices, worldBefore}
 use Rattle.mesh.specs.declared.Counts.{Counts}
 use Rattle.mesh.specs.declared.Rooms.{Rooms}
-use Rattle.links.specs.Linked.{FrontLinked, LinkedIn}
+use Rattle.links.specs.Linked.{FrontLinked, MeshLinked}
 use Rattle.work.specs.Places.{EndsIn}
 use Rattle.work.specs.declared.Ran.{Ran}
 use Rattle.work.specs.declared.Grown.{Grown}
-use Rattle.edge_drops.specs.Parted.{worldParted, partedBehind, ListedBehind}
+use Rattle.edge_drops.specs.Parted.{worldParted, ListingAfter, partedBehind, ListedBehind}
 use Rattle.boundary.specs.Faces.{GrownLinked}
 use Rattle.split.specs.declared.Grew.{Grew}
 use Rattle.split.specs.Tables.{FanGrouped, FanSided, TablesFit}
@@ -30,37 +30,37 @@ abbrev pub SidedIn : Kind → Mesh → ℕ → ℕ → IndicesIn → IndicesIn �
 SidedIn K M v n numbers verts measures sides = FanSided K M v n numbers.now verts.now measures.now sides.now
 
 -- a list has a place for each edge, and one that says how many are listed
-abbrev pub ListIn : IndicesIn → Type 0
+abbrev pub ListIn : LentIndicesIn → Type 0
 ListIn list = 2049 ≤ length list.now
 
 -- behind a worker that came to r: where it is done, the tables of links are those of the blocks again
-abbrev pub LinkedBehind : Kind → Indices → Indices → Indices → Indices → Ran → Type 0
+abbrev pub LinkedBehind : Kind → LentIndices → LentIndices → LentIndices → LentIndices → Ran → Type 0
 LinkedBehind K corners ends outline links r = LinkedAfter K corners.exit.now ends.exit.now outline.exit.now links.exit.now r
 
 -- the same where edges are listed that are to go: the tables are those of the blocks with the listed edges
-abbrev pub LinkedParted : Kind → Indices → Indices → Indices → Indices → Indices → Ran → Type 0
+abbrev pub LinkedParted : Kind → LentIndices → LentIndices → LentIndices → LentIndices → LentIndices → Ran → Type 0
 LinkedParted K corners ends outline links list r = LinkedListed K corners.exit.now ends.exit.now outline.exit.now links.exit.now list.exit.now r
 
 -- behind a worker that came to r: where it is done, the list is one of the edges in the blocks, and the tables are those of the blocks with them
-abbrev pub EdgesBehind : Kind → Indices → Indices → Numbers → Indices → Indices → Indices → Ran → Type 0
+abbrev pub EdgesBehind : Kind → LentIndices → LentIndices → LentNumbers → LentIndices → LentIndices → LentIndices → Ran → Type 0
 EdgesBehind K corners ends lengths outline links list r = ListedBehind ends lengths list r × LinkedParted K corners ends outline links list r
 
 -- what P says of the mesh and of the world before a call, and of the worlds that the blocks may be read as behind it, without the listed edges
-abbrev pub OverParted : (Mesh → World → (Counts → World) → Type 0) → Counts → Numbers → Indices → Indices → Numbers → Indices → Numbers → Indices → Indices → Indices → Type 0
+abbrev pub OverParted : (Mesh → World → (Counts → World) → Type 0) → Counts → LentNumbers → LentIndices → LentIndices → Numbers → LentIndices → LentNumbers → LentIndices → LentIndices → LentIndices → Type 0
 OverParted P k points roots corners volumes ends lengths outline log list =
-    P (meshBefore k points roots corners volumes ends lengths outline) (worldBefore k points roots corners volumes ends lengths outline log) (λ q. partedBehind q points roots corners volumes ends lengths outline log list)
+    P (meshAt k points.entry.now roots.entry.now corners.entry.now volumes.entry.now ends.entry.now lengths.entry.now outline.entry.now) (worldBefore k points roots corners volumes ends lengths outline log) (λ q. partedBehind q points roots corners volumes ends lengths outline log list)
 
 -- the front of the tables of links is that of the blocks; and behind a worker it is that again, and the boundary's part is as it was
 abbrev pub FrontIn : Kind → Counts → IndicesIn → IndicesIn → IndicesIn → Type 0
 FrontIn K k corners ends links = FrontLinked K k.triangles k.edges corners.now ends.now links.now
 
-abbrev pub FrontBehind : Kind → ℕ → ℕ → Indices → Indices → Indices → Type 0
+abbrev pub FrontBehind : Kind → ℕ → ℕ → LentIndices → LentIndices → LentIndices → Type 0
 FrontBehind K t e corners ends links = FrontKept K t e corners.exit.now ends.exit.now links.entry.now links.exit.now
 
 -- ---- parts 1 to 3
 
 -- the elements of the fan have room, their tables are those of the blocks, and the ends name particles
-abbrev pub ElementsIn : Kind → ℕ → ℕ → ℕ → ℕ → ℕ → IndicesIn → IndicesIn → IndicesIn → IndicesIn → IndicesIn → Type 0
+abbrev pub ElementsIn : Kind → ℕ → ℕ → ℕ → ℕ → ℕ → IndicesIn → IndicesIn → LentIndicesIn → LentIndicesIn → LentIndicesIn → Type 0
 ElementsIn K v before t e n numbers groups corners ends links =
     ElementsRoom K before n (length corners.now) e numbers.now groups.now
     × FrontLinked K t e corners.now ends.now links.now
@@ -70,18 +70,18 @@ ElementsIn K v before t e n numbers groups corners ends links =
     × StrapsNamed K v n numbers.now ends.now
 
 -- the blocks have room, the tables hold a split of v by `count` groups of n elements, the ends name particles, and the links are those of the block
-abbrev pub GrowIn : Kind → Rooms → Counts → ℕ → ℕ → ℕ → IndicesIn → IndicesIn → NumbersIn → IndicesIn → NumbersIn → IndicesIn → IndicesIn → IndicesIn → NumbersIn → IndicesIn → IndicesIn → Type 0
+abbrev pub GrowIn : Kind → Rooms → Counts → ℕ → ℕ → ℕ → IndicesIn → IndicesIn → NumbersIn → IndicesIn → LentNumbersIn → LentIndicesIn → LentIndicesIn → LentIndicesIn → LentNumbersIn → LentIndicesIn → LentIndicesIn → Type 0
 GrowIn K L k v n count numbers verts measures groups points roots corners ends lengths list links =
     GrowRoom L k (length points.now) (length roots.now) (length corners.now) (length ends.now) (length lengths.now)
     × TablesFit K k.particles k.triangles k.edges v n count numbers.now verts.now measures.now groups.now
     × EndsIn k.particles k.edges ends.now
     × StrapsNamed K v n numbers.now ends.now
-    × FrontIn K k corners ends links
+    × FrontLinked K k.triangles k.edges corners.now ends.now links.now
     × FanNamed K v k.particles k.triangles n numbers.now corners.now
     × ListIn list
 
 -- what they came to, whatever stands in the blocks of volumes and of the outline
-abbrev pub GrewIn : Kind → Rooms → Counts → ℕ → ℕ → ℕ → Indices → Indices → Numbers → Indices → Numbers → Indices → Indices → Indices → Numbers → Indices → Grew → Type 0
+abbrev pub GrewIn : Kind → Rooms → Counts → ℕ → ℕ → ℕ → Indices → Indices → Numbers → Indices → LentNumbers → LentIndices → LentIndices → LentIndices → LentNumbers → LentIndices → Grew → Type 0
 GrewIn K L k v n count numbers verts measures groups points roots corners ends lengths links r =
     GrowthTold K L k v n count numbers.entry.now verts.entry.now measures.entry.now groups.entry.now
     (λ q volumes outline. meshAt q points.entry.now roots.entry.now corners.entry.now volumes ends.entry.now lengths.entry.now outline)
@@ -91,30 +91,30 @@ GrewIn K L k v n count numbers verts measures groups points roots corners ends l
 -- ---- parts 4 to 6
 
 -- what the boundary asks, with its table, and a list for its entries at v; and what becomes of it
-abbrev pub OpenIn : Kind → ℕ → ℕ → ℕ → ℕ → ℕ → ℕ → IndicesIn → IndicesIn → IndicesIn → NumbersIn → IndicesIn → IndicesIn → IndicesIn → IndicesIn → Type 0
+abbrev pub OpenIn : Kind → ℕ → ℕ → ℕ → ℕ → ℕ → ℕ → IndicesIn → IndicesIn → IndicesIn → NumbersIn → IndicesIn → LentIndicesIn → LentIndicesIn → LentIndicesIn → Type 0
 OpenIn K v before n count b room numbers verts groups points corners outline table list =
     BoundaryAsked K v before n count b room numbers.now verts.now groups.now (length points.now) (length corners.now) outline.now
     × FacetsLinked K n b room numbers.now corners.now outline.now table.now
     × ListIn list
 
-abbrev pub OpenedIn : Kind → ℕ → ℕ → ℕ → ℕ → ℕ → ℕ → Indices → Indices → Indices → Numbers → Indices → Indices → Indices → Grown → Type 0
+abbrev pub OpenedIn : Kind → ℕ → ℕ → ℕ → ℕ → ℕ → ℕ → Indices → Indices → Indices → Numbers → Indices → LentIndices → LentIndices → Grown → Type 0
 OpenedIn K v before n count b room numbers verts groups points corners outline table r =
     BoundaryTold K v before n count b room numbers.entry.now verts.entry.now groups.entry.now points.entry.now corners.entry.now outline.entry.now outline.exit.now r
     × GrownLinked r outline.exit.now table.exit.now
 
 -- the blocks have room, the tables hold a split of v, of which parts 1 to 3 are done, and the links are those of the block
-abbrev pub SettleIn : Kind → Rooms → Counts → ℕ → ℕ → ℕ → ℕ → ℕ → IndicesIn → IndicesIn → IndicesIn → NumbersIn → IndicesIn → NumbersIn → IndicesIn → NumbersIn → IndicesIn → IndicesIn → IndicesIn → IndicesIn → Type 0
+abbrev pub SettleIn : Kind → Rooms → Counts → ℕ → ℕ → ℕ → ℕ → ℕ → IndicesIn → IndicesIn → IndicesIn → NumbersIn → IndicesIn → NumbersIn → IndicesIn → NumbersIn → LentIndicesIn → LentIndicesIn → LentIndicesIn → LentIndicesIn → Type 0
 SettleIn K L k v before n count extra numbers verts groups points corners volumes ends lengths outline log list links =
     SettleAsked K L k v before n count extra numbers.now verts.now groups.now (length points.now) (length corners.now) (length volumes.now) ends.now (length lengths.now) outline.now (length log.now)
     × ListIn list
-    × LinkedIn K k corners ends outline links
+    × MeshLinked K k.triangles k.edges k.boundary corners.now ends.now outline.now links.now
     × FanSound K n numbers.now corners.now
 
 -- what they came to, whatever stands in the block of roots
-abbrev pub SettledIn : Kind → Rooms → ℕ → ℕ → ℕ → ℕ → ℕ → Counts → Indices → Indices → Indices → Numbers → Indices → Numbers → Indices → Numbers → Indices → Indices → Indices → Indices → Ran → Type 0
+abbrev pub SettledIn : Kind → Rooms → ℕ → ℕ → ℕ → ℕ → ℕ → Counts → Indices → Indices → Indices → Numbers → Indices → Numbers → Indices → Numbers → LentIndices → LentIndices → LentIndices → LentIndices → Ran → Type 0
 SettledIn K L extra v before n count k numbers verts groups points corners volumes ends lengths outline log list links r =
     SettledFor K L extra v before n count numbers.entry.now verts.entry.now groups.entry.now
     (λ roots. worldAt k points.entry.now roots corners.entry.now volumes.entry.now ends.entry.now lengths.entry.now outline.entry.now log.entry.now)
     (λ roots q. worldParted q points.exit.now roots corners.exit.now volumes.exit.now ends.exit.now lengths.exit.now outline.exit.now log.exit.now list.exit.now) r
-    × ListedBehind ends lengths list r
-    × LinkedParted K corners ends outline links list r
+    × ListingAfter (length ends.exit.now) (length lengths.exit.now) list.exit.now r
+    × LinkedListed K corners.exit.now ends.exit.now outline.exit.now links.exit.now list.exit.now r

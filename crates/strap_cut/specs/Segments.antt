@@ -12,7 +12,7 @@ use Rattle.work.specs.Working.{Went}
 use Rattle.work.specs.declared.Ran.{Ran}
 use Rattle.crossing.specs.Crossings.{crossed-in, CrossingsAre}
 use Rattle.crossing.specs.Crossed.{ranOf, bendsOf, StrapMarks, CrossTold}
-use Rattle.mesh.specs.Blocks.{Numbers, Indices}
+use Rattle.mesh.specs.Blocks.{LentNumbers, LentIndices}
 
 -- each edge and each particle has a mark, and the marks of the edges can be a list of them
 pub record MarksLent (bends snapped : ℕ) : Type 0 where
@@ -34,7 +34,7 @@ pub record BladeCrossed (b0 b1 : Point) (f : Float) (L : Rooms) (k : Counts) (po
   pub told : CrossTold f (crossed-in many numbers ts) L k points roots ends lengths outline log bends snapped points' roots' ends' lengths' outline' log' bends' snapped' r
 
 -- `BladeCrossed` of the blocks and lists, as a contract names them
-abbrev pub BladeCrossedIn : Point → Point → Float → Rooms → Counts → Numbers → Indices → Indices → Numbers → Indices → Indices → Indices → Indices → Ran → Type 0
+abbrev pub BladeCrossedIn : Point → Point → Float → Rooms → Counts → LentNumbers → LentIndices → LentIndices → LentNumbers → LentIndices → LentIndices → LentIndices → LentIndices → Ran → Type 0
 BladeCrossedIn b0 b1 f L k points roots ends lengths outline log bends snapped r =
     BladeCrossed b0 b1 f L k points.entry.now roots.entry.now ends.entry.now lengths.entry.now outline.entry.now log.entry.now bends.entry.now snapped.entry.now
     points.exit.now roots.exit.now ends.exit.now lengths.exit.now outline.exit.now log.exit.now bends.exit.now snapped.exit.now r

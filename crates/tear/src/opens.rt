@@ -80,7 +80,7 @@ pub fn tear_open(
     requires { let K = kindIs kind in ReadyIn room k points roots corners volumes ends lengths outline log
         × GroupedIn K (meshIn k points roots corners volumes ends lengths outline) v n count numbers verts measures groups
         × TearAsked v w x y a b k.particles × ListIn list × LinkedIn K k corners ends outline links }
-    ensures { let K = kindIs kind in OverBlocks (λ M W at. Works (splitAcross a b x y K (openedBy K M v n count groups.entry.now)) room W at result) k points roots corners volumes ends lengths outline log × LinkedBehind K corners ends outline links result }
+    ensures { let K = kindIs kind in OverBlocks (λ M W at. Works (splitAcross a b x y K (openedBy K M v n count groups.now)) room W at result) k points roots corners volumes ends lengths outline log × LinkedBehind K corners ends outline links result }
 {
     let was = k.particles;
     let ran = split::step::split_opened(

@@ -22,7 +22,7 @@ use Rattle.tornedge.specs.declared.Parts.{Parts}
 use Rattle.tornedge.specs.declared.Parts.TheVariants.{Whole, Grouped}
 use Rattle.tornedge.specs.declared.Tried.{Tried}
 use Rattle.tornedge.specs.declared.Tried.TheVariants.{Not, Tore}
-use Rattle.mesh.specs.Blocks.{Indices}
+use Rattle.mesh.specs.Blocks.{LentIndices}
 
 -- ---- one way tried
 
@@ -77,5 +77,5 @@ pub record CrackTold (K : Kind) (min a b t : ℕ) (loads : List Float) (L : Room
   pub works : (ls : List Float) → (K ≡ Triangles → take t loads ≡ ls) → Works (λ R. crackEdge K ls min R (a, b)) L W at r
 
 -- `LinkedTried` of blocks and a table, as a contract names them
-abbrev pub TriedBehind : Kind → Counts → Indices → Indices → Indices → Indices → Tried → Type 0
+abbrev pub TriedBehind : Kind → Counts → LentIndices → LentIndices → LentIndices → LentIndices → Tried → Type 0
 TriedBehind K k corners ends outline links r = LinkedTried K k.triangles k.edges k.boundary corners.exit.now ends.exit.now outline.exit.now links.exit.now r

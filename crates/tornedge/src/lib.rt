@@ -3,7 +3,7 @@
 
 ghost use Rattle.std.specs.Prelude.{◌≡◌, ◌<◌, ◌≤◌, true, length};
 ghost use Rattle.elements.specs.Table.{kindIs};
-ghost use Rattle.links.specs.Linked.{LinkedIn};
+ghost use Rattle.links.specs.Linked.{LinkedIn, MeshLinked};
 ghost use Rattle.model.specs.Crack.{twoSided};
 ghost use Rattle.work.specs.Working.{Logged, Works};
 ghost use Rattle.tear.specs.Tried.{WayReady, LoadsLong};
@@ -12,6 +12,7 @@ ghost use Rattle.mesh.specs.Blocks.{meshIn, meshBefore, worldBefore, worldBehind
 ghost use Rattle.mesh.specs.Limits.{particleLimit};
 ghost use Rattle.work.specs.Blocks.{ReadyIn, OverBlocks};
 ghost use Rattle.split.specs.Blocks.{LinkedBehind};
+ghost use Rattle.mesh.specs.At.{meshAt};
 
 use elements::Kind;
 use mesh::{Counts, Rooms};
@@ -50,8 +51,8 @@ fn way_groups(
     links: &[u16],
 ) -> Parts
     requires { WayReady v w k (length points.now) (length corners.now) (length volumes.now) (length ends.now)
-        (length lengths.now) (meshIn k points roots corners volumes ends lengths outline) × (2048 ≤ length sides.old)
-        × (2048 ≤ length groups.old) × LinkedIn (kindIs kind) k corners ends outline links }
+        (length lengths.now) (meshAt k points.now roots.now corners.now volumes.now ends.now lengths.now outline.now) × (2048 ≤ length sides.old)
+        × (2048 ≤ length groups.old) × MeshLinked (kindIs kind) k.triangles k.edges k.boundary corners.now ends.now outline.now links.now }
     ensures { Parted (kindIs kind) v w (meshBefore k points roots corners volumes ends lengths outline) groups.new result }
 {
     let mut numbers = [0usize; mesh::ELEMENTS];
@@ -99,8 +100,8 @@ fn way_open(
     links: &[u16],
 ) -> bool
     requires { WayReady v w k (length points.now) (length corners.now) (length volumes.now) (length ends.now)
-        (length lengths.now) (meshIn k points roots corners volumes ends lengths outline)
-        × LinkedIn (kindIs kind) k corners ends outline links }
+        (length lengths.now) (meshAt k points.now roots.now corners.now volumes.now ends.now lengths.now outline.now)
+        × MeshLinked (kindIs kind) k.triangles k.edges k.boundary corners.now ends.now outline.now links.now }
     ensures { result ≡ opens_at (kindIs kind) minimum (meshBefore k points roots corners volumes ends lengths outline) v w }
 {
     let mut sides = [0usize; mesh::ELEMENTS];
