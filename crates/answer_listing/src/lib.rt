@@ -2,9 +2,9 @@
 #![tactic(auto)]
 
 ghost use Rattle.std.specs.Prelude.{◌≡◌, length};
-ghost use Rattle.mesh.specs.At.{trianglesAt, edges_at};
+ghost use Rattle.mesh.specs.At.{triangles_at, edges_at};
 ghost use Rattle.listing.specs.Answers.{Told};
-ghost use Rattle.answer_listing.specs.Listed.{piecesIn, Countable, Listable, text_of};
+ghost use Rattle.answer_listing.specs.Listed.{pieces_in, Countable, Listable, text_of};
 
 use call_frame::Answer;
 use listing::Written;
@@ -19,7 +19,7 @@ fn count_pieces(
     lengths: &[f32],
 ) -> usize
     requires { Countable k corners.now volumes.now ends.now lengths.now }
-    ensures { result ≡ piecesIn (trianglesAt k.triangles corners.now volumes.now) (edges_at k.edges
+    ensures { result ≡ pieces_in (triangles_at k.triangles corners.now volumes.now) (edges_at k.edges
         ends.now lengths.now) }
 {
     let mut numbers = [0usize; 512];

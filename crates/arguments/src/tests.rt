@@ -1,29 +1,29 @@
 // Tests of the arguments that stand beside a mesh.
 ghost use Rattle.std.specs.Prelude.{◌≡◌, ◌&&◌, eqb, ltb, length};
 ghost use Rattle.lists.specs.Lists.{all};
-ghost use Rattle.model.specs.Calls.{strictly, pointOk, fractionOk};
-ghost use Rattle.arguments.specs.Beside.{withNumbers};
+ghost use Rattle.model.specs.Calls.{strictly, point_ok, fraction_ok};
+ghost use Rattle.arguments.specs.Beside.{with_numbers_of};
 
 use blade::Point;
 use judge::tests;
 
 // Are both numbers of a point in range?
 pub fn point_fits(p: Point) -> bool
-    ensures { result ≡ pointOk p }
+    ensures { result ≡ point_ok p }
 {
     tests::both(float::range::in_range(p.x), float::range::in_range(p.y))
 }
 
 // Is an insertion fraction in its range, from 0 to 0.5?
 pub fn fraction_fits(f: f32) -> bool
-    ensures { result ≡ fractionOk f }
+    ensures { result ≡ fraction_ok f }
 {
     tests::both(0.0 <= f, f <= 0.5)
 }
 
 // The fault of a mesh and of the numbers beside it: bad ones refuse with 2, behind 1 and before 3.
 pub fn with_numbers(fault: usize, ok: bool) -> usize
-    ensures { result ≡ withNumbers fault ok }
+    ensures { result ≡ with_numbers_of fault ok }
 {
     if ok {
         return fault;

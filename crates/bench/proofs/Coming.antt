@@ -8,5 +8,5 @@ use Rattle.mesh.specs.Given.{Lent}
 use Rattle.call_frame.specs.declared.Answer.{Answer}
 use Rattle.call_frame.specs.Answered.{Answered}
 
-pub answered-as : {o o' : Outcome} {L : Lent} {a : Answer} {p : List Float} {r c : List ℕ} {v : List Float} {e : List ℕ} {l : List Float} {b g : List ℕ} → o ≡ o' → Answered o L a p r c v e l b g → Answered o' L a p r c v e l b g
-answered-as {L = L} {a} {p} {r} {c} {v} {e} {l} {b} {g} q h = subst (λ (o : Outcome). Answered o L a p r c v e l b g) q h
+pub answered_as : {o o' : Outcome} {L : Lent} {a : Answer} {p : List Float} {r c : List ℕ} {v : List Float} {e : List ℕ} {l : List Float} {b g : List ℕ} → o ≡ o' → Answered o L a p r c v e l b g → Answered o' L a p r c v e l b g
+answered_as {L = L} {a} {p} {r} {c} {v} {e} {l} {b} {g} q h = subst (λ (o : Outcome). Answered o L a p r c v e l b g) q h

@@ -1,11 +1,11 @@
 // The entries that give a mesh: they copy the input to the lent blocks, work there, and leave 0 behind.
 ghost use Rattle.std.specs.Prelude.{◌≡◌};
-ghost use Rattle.model.specs.Calls.{splitCall, straddlersCall, cutCall, crackCall};
-ghost use Rattle.mesh_calls.specs.Jobs.{jobCall};
-ghost use Rattle.mesh.specs.Given.{meshOf, sizesFit, rooms_of, asRooms};
+ghost use Rattle.model.specs.Calls.{split_call, straddlers_call, cut_call, crack_call};
+ghost use Rattle.mesh_calls.specs.Jobs.{job_call};
+ghost use Rattle.mesh.specs.Given.{mesh_of, sizes_fit_of, rooms_of, as_rooms};
 ghost use Rattle.mesh.specs.Filled.{lent};
-ghost use Rattle.call_frame.specs.Answered.{Answered, frontOf};
-ghost use Rattle.mesh.specs.Blocks.{lentBefore, givenBefore};
+ghost use Rattle.call_frame.specs.Answered.{Answered, front_of};
+ghost use Rattle.mesh.specs.Blocks.{lent_before, given_before};
 
 use blade::Point;
 use call_frame::Answer;
@@ -31,9 +31,9 @@ fn answer_job(
     outline: &mut [usize],
     log: &mut [u32],
 ) -> Answer
-    ensures { let G = givenBefore in_points in_roots in_corners in_volumes in_ends in_lengths in_outline in
-        let L = lentBefore points roots corners volumes ends lengths outline log in
-        Answered (jobCall job list.now (sizesFit G) (meshOf G) (asRooms (rooms_of L))) L result points.new
+    ensures { let G = given_before in_points in_roots in_corners in_volumes in_ends in_lengths in_outline in
+        let L = lent_before points roots corners volumes ends lengths outline log in
+        Answered (job_call job list.now (sizes_fit_of G) (mesh_of G) (as_rooms (rooms_of L))) L result points.new
         roots.new corners.new volumes.new ends.new lengths.new outline.new
         log.new }
 {
@@ -74,9 +74,9 @@ pub fn straddlers(
     outline: &mut [usize],
     log: &mut [u32],
 ) -> Answer
-    ensures { let G = givenBefore in_points in_roots in_corners in_volumes in_ends in_lengths in_outline in
-        let L = lentBefore points roots corners volumes ends lengths outline log in
-        Answered (straddlersCall (sizesFit G) (meshOf G) (asRooms (rooms_of L))) L result points.new roots.new
+    ensures { let G = given_before in_points in_roots in_corners in_volumes in_ends in_lengths in_outline in
+        let L = lent_before points roots corners volumes ends lengths outline log in
+        Answered (straddlers_call (sizes_fit_of G) (mesh_of G) (as_rooms (rooms_of L))) L result points.new roots.new
         corners.new volumes.new ends.new lengths.new outline.new log.new }
 {
     let none = [0usize; 0];
@@ -121,9 +121,9 @@ pub fn split(
     outline: &mut [usize],
     log: &mut [u32],
 ) -> Answer
-    ensures { let G = givenBefore in_points in_roots in_corners in_volumes in_ends in_lengths in_outline in
-        let L = lentBefore points roots corners volumes ends lengths outline log in
-        Answered (splitCall (sizesFit G) (meshOf G) v sides.now (asRooms (rooms_of L))) L result points.new
+    ensures { let G = given_before in_points in_roots in_corners in_volumes in_ends in_lengths in_outline in
+        let L = lent_before points roots corners volumes ends lengths outline log in
+        Answered (split_call (sizes_fit_of G) (mesh_of G) v sides.now (as_rooms (rooms_of L))) L result points.new
         roots.new corners.new volumes.new ends.new lengths.new outline.new
         log.new }
 {
@@ -171,9 +171,9 @@ pub fn cut(
     outline: &mut [usize],
     log: &mut [u32],
 ) -> Answer
-    ensures { let G = givenBefore in_points in_roots in_corners in_volumes in_ends in_lengths in_outline in
-        let L = lentBefore points roots corners volumes ends lengths outline log in
-        Answered (cutCall (sizesFit G) (meshOf G) edition (record { from = b0; to = b1 }) f (asRooms (rooms_of L))) L result points.new
+    ensures { let G = given_before in_points in_roots in_corners in_volumes in_ends in_lengths in_outline in
+        let L = lent_before points roots corners volumes ends lengths outline log in
+        Answered (cut_call (sizes_fit_of G) (mesh_of G) edition (record { from = b0; to = b1 }) f (as_rooms (rooms_of L))) L result points.new
         roots.new corners.new volumes.new ends.new lengths.new outline.new
         log.new }
 {
@@ -226,9 +226,9 @@ pub fn crack(
     outline: &mut [usize],
     log: &mut [u32],
 ) -> Answer
-    ensures { let G = givenBefore in_points in_roots in_corners in_volumes in_ends in_lengths in_outline in
-        let L = lentBefore points roots corners volumes ends lengths outline log in
-        Answered (crackCall (sizesFit G) (meshOf G) torn.now minimum (asRooms (rooms_of L))) L result points.new
+    ensures { let G = given_before in_points in_roots in_corners in_volumes in_ends in_lengths in_outline in
+        let L = lent_before points roots corners volumes ends lengths outline log in
+        Answered (crack_call (sizes_fit_of G) (mesh_of G) torn.now minimum (as_rooms (rooms_of L))) L result points.new
         roots.new corners.new volumes.new ends.new lengths.new outline.new
         log.new }
 {
@@ -255,7 +255,7 @@ pub fn crack(
 
 // The filled front of a log, which a call that gives a mesh told n entries of: those entries, or as many as it has.
 pub fn log_front(n: usize, log: &[u32]) -> &[u32]
-    ensures { result.now ≡ frontOf n log.now }
+    ensures { result.now ≡ front_of n log.now }
 {
     call_frame::logged::log_front(n, log)
 }

@@ -7,10 +7,10 @@ use Rattle.reading_replies.specs.Replies.{Replied}
 use Rattle.mesh_replies.specs.Both.{BothReplied}
 
 -- the functions that read a mesh or numbers: the number that is returned, and every result byte
-pub replied-agree : (o : Read (List ℕ)) (lent r r' : ℕ) (s s' : List ℕ) → Replied o lent r s → Replied o lent r' s' → (r ≡ r') × (s ≡ s')
-replied-agree o lent r r' s s' A B = (A.code ∙ sym B.code, A.bytes ∙ sym B.bytes)
+pub replied_agree : (o : Read (List ℕ)) (lent r r' : ℕ) (s s' : List ℕ) → Replied o lent r s → Replied o lent r' s' → (r ≡ r') × (s ≡ s')
+replied_agree o lent r r' s s' A B = (A.code ∙ sym B.code, A.bytes ∙ sym B.bytes)
 
 -- the functions that give a mesh: the same, and every byte of the log
-pub both-agree : (o : Read (List ℕ)) (ws : List ℕ) (lent logged r r' : ℕ) (s s' g g' : List ℕ)
+pub both_agree : (o : Read (List ℕ)) (ws : List ℕ) (lent logged r r' : ℕ) (s s' g g' : List ℕ)
     → BothReplied o ws lent logged r s g → BothReplied o ws lent logged r' s' g' → (r ≡ r') × (s ≡ s') × (g ≡ g')
-both-agree o ws lent logged r r' s s' g g' A B = (A.code ∙ sym B.code, A.bytes ∙ sym B.bytes, A.entries ∙ sym B.entries)
+both_agree o ws lent logged r r' s s' g g' A B = (A.code ∙ sym B.code, A.bytes ∙ sym B.bytes, A.entries ∙ sym B.entries)

@@ -3,47 +3,47 @@ use Rattle.std.specs.Prelude.{ℕ, ◌/◌, ◌%◌, min, Bool, true, false, ◌
 use Rattle.lists.specs.Lists.{pick}
 use Rattle.model.specs.Run.{Rooms}
 use Rattle.model.specs.Cut.{Line}
-use Rattle.model.specs.Calls.{Outcome, refusal, bladeOk, splitCall, straddlersCall, cutCall, crackCall}
-use Rattle.model.specs.Calls.{refused as turnedDown}
-use Rattle.mesh.specs.Given.{meshOf}
-use Rattle.mesh.specs.Limits.{particleLimit, triangleLimit, edgeLimit, boundaryLimit, entryLimit}
-use Rattle.image.specs.Words.{wordAt, wordsFrom, number_of}
-use Rattle.image.specs.Image.{image_of, imageSized}
-use Rattle.reading_replies.specs.Replies.{pointAt}
-use Rattle.job_replies.specs.Outcomes.{withRooms}
+use Rattle.model.specs.Calls.{Outcome, refusal, blade_ok, split_call, straddlers_call, cut_call, crack_call}
+use Rattle.model.specs.Calls.{refused as turned_down}
+use Rattle.mesh.specs.Given.{mesh_of}
+use Rattle.mesh.specs.Limits.{particle_limit, triangle_limit, edge_limit, boundary_limit, entry_limit}
+use Rattle.image.specs.Words.{word_at_of, words_from, number_of}
+use Rattle.image.specs.Image.{image_of, image_sized_of}
+use Rattle.reading_replies.specs.Replies.{point_at_of}
+use Rattle.job_replies.specs.Outcomes.{with_rooms}
 
 -- ---- what each C function is asked
 
 -- four words: the places lent for particles, triangles, edges and boundary entries, each at most the limit; and the entries that the log's bytes have room for
-abbrev pub roomsIn : List ℕ → ℕ → Rooms
-roomsIn s logged = record { particles = min particleLimit (wordAt s 0); triangles = min triangleLimit (wordAt s 1); edges = min edgeLimit (wordAt s 2); boundary = min boundaryLimit (wordAt s 3); log = min entryLimit (logged / 24) }
+abbrev pub rooms_in_of : List ℕ → ℕ → Rooms
+rooms_in_of s logged = record { particles = min particle_limit (word_at_of s 0); triangles = min triangle_limit (word_at_of s 1); edges = min edge_limit (word_at_of s 2); boundary = min boundary_limit (word_at_of s 3); log = min entry_limit (logged / 24) }
 
 -- the split of particle v of the mesh that an image is, by sides, a byte for each
-unfoldable pub splitOutcome : List ℕ → ℕ → List ℕ → List ℕ → ℕ → Outcome
-splitOutcome s v sides rooms logged = withRooms s rooms true (splitCall (imageSized s) (meshOf (image_of s)) v sides (roomsIn rooms logged))
+unfoldable pub split_outcome : List ℕ → ℕ → List ℕ → List ℕ → ℕ → Outcome
+split_outcome s v sides rooms logged = with_rooms s rooms true (split_call (image_sized_of s) (mesh_of (image_of s)) v sides (rooms_in_of rooms logged))
 
 -- the removal of straddlers across its pieces
-unfoldable pub straddlersOutcome : List ℕ → List ℕ → ℕ → Outcome
-straddlersOutcome s rooms logged = withRooms s rooms true (straddlersCall (imageSized s) (meshOf (image_of s)) (roomsIn rooms logged))
+unfoldable pub straddlers_outcome : List ℕ → List ℕ → ℕ → Outcome
+straddlers_outcome s rooms logged = with_rooms s rooms true (straddlers_call (image_sized_of s) (mesh_of (image_of s)) (rooms_in_of rooms logged))
 
 -- the outcome o, if the bytes beside an image are as they should be; else they are a bad argument
-abbrev pub ifRead : Bool → List ℕ → Outcome → Outcome
-ifRead ok s o = pick ok o (turnedDown (refusal (imageSized s) (meshOf (image_of s)) true false))
+abbrev pub if_read : Bool → List ℕ → Outcome → Outcome
+if_read ok s o = pick ok o (turned_down (refusal (image_sized_of s) (mesh_of (image_of s)) true false))
 
 -- the blade of four words x0, y0, x1, y1
-abbrev pub bladeIn : List ℕ → Line
-bladeIn blade = record { from = pointAt blade 0; to = pointAt blade 2 }
+abbrev pub blade_in : List ℕ → Line
+blade_in blade = record { from = point_at_of blade 0; to = point_at_of blade 2 }
 
 -- the cut in an edition along a blade of 16 bytes, with the insertion fraction of a word
-unfoldable pub cutOutcome : List ℕ → List ℕ → ℕ → ℕ → List ℕ → ℕ → Outcome
-cutOutcome s blade n f rooms logged =
-    ifRead (eqb (length blade) 16) s (withRooms s rooms (bladeOk (bladeIn blade)) (cutCall (imageSized s) (meshOf (image_of s)) n (bladeIn blade) (number_of f) (roomsIn rooms logged)))
+unfoldable pub cut_outcome : List ℕ → List ℕ → ℕ → ℕ → List ℕ → ℕ → Outcome
+cut_outcome s blade n f rooms logged =
+    if_read (eqb (length blade) 16) s (with_rooms s rooms (blade_ok (blade_in blade)) (cut_call (image_sized_of s) (mesh_of (image_of s)) n (blade_in blade) (number_of f) (rooms_in_of rooms logged)))
 
 -- the bytes are at most 2,048 whole words
-abbrev pub wordsFew : ℕ → Bool
-wordsFew n = eqb (n % 4) 0 && leb n 8192
+abbrev pub words_few_of : ℕ → Bool
+words_few_of n = eqb (n % 4) 0 && leb n 8192
 
 -- the crack of torn edges, a word for each, with a minimum piece
-unfoldable pub crackOutcome : List ℕ → List ℕ → ℕ → List ℕ → ℕ → Outcome
-crackOutcome s torn min rooms logged =
-    ifRead (wordsFew (length torn)) s (withRooms s rooms true (crackCall (imageSized s) (meshOf (image_of s)) (wordsFrom torn 0 (length torn / 4)) min (roomsIn rooms logged)))
+unfoldable pub crack_outcome : List ℕ → List ℕ → ℕ → List ℕ → ℕ → Outcome
+crack_outcome s torn min rooms logged =
+    if_read (words_few_of (length torn)) s (with_rooms s rooms true (crack_call (image_sized_of s) (mesh_of (image_of s)) (words_from torn 0 (length torn / 4)) min (rooms_in_of rooms logged)))

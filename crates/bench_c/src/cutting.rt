@@ -1,7 +1,7 @@
 // The C functions that cut and crack: their arguments read from bytes, and the job run.
 ghost use Rattle.std.specs.Prelude.{◌≡◌, length};
 ghost use Rattle.job_replies.specs.Outcomes.{OutcomeReplied};
-ghost use Rattle.bench_c.specs.Torn.{cutOutcome, crackOutcome, wordsFew};
+ghost use Rattle.bench_c.specs.Torn.{cut_outcome, crack_outcome, words_few_of};
 
 use mesh_calls::Job;
 
@@ -15,7 +15,7 @@ pub fn bench_cut(
     out: &mut [u8],
     log: &mut [u8],
 ) -> u32
-    ensures { OutcomeReplied (cutOutcome bytes.now blade.now edition fraction rooms.now
+    ensures { OutcomeReplied (cut_outcome bytes.now blade.now edition fraction rooms.now
         (length log.old)) (length out.old) (length log.old) result out.new log.new }
 {
     if blade.len() != 16 {
@@ -28,7 +28,7 @@ pub fn bench_cut(
 
 // Are so many bytes at most 2,048 whole words?
 fn words_few(n: usize) -> bool
-    ensures { result ≡ wordsFew n }
+    ensures { result ≡ words_few_of n }
 {
     judge::tests::both(n % 4 == 0, n <= 8192)
 }
@@ -42,7 +42,7 @@ pub fn bench_crack(
     out: &mut [u8],
     log: &mut [u8],
 ) -> u32
-    ensures { OutcomeReplied (crackOutcome bytes.now torn.now minimum rooms.now
+    ensures { OutcomeReplied (crack_outcome bytes.now torn.now minimum rooms.now
         (length log.old)) (length out.old) (length log.old) result out.new log.new }
 {
     if words_few(torn.len()) {

@@ -2,7 +2,7 @@
 ghost use Rattle.std.specs.Prelude.{length};
 ghost use Rattle.sheetcut.specs.SheetCut.{listed};
 ghost use Rattle.differing.specs.Differed.{differed};
-ghost use Rattle.sheet_c.specs.Sheets.{sheetReply};
+ghost use Rattle.sheet_c.specs.Sheets.{sheet_reply};
 ghost use Rattle.sheet_c.specs.Fields.{SheetWritten};
 ghost use Rattle.feeding.specs.Feeding.{OpenDone, FeedDone};
 ghost use Rattle.feed_c.specs.Closing.{Closed};
@@ -12,7 +12,7 @@ ghost use Rattle.text_c.specs.Texts.{TextReplied};
 
 // The blade and the mesh image of a sheet.
 pub fn bench_sheet(sheet: &[u8], out: &mut [u8]) -> u32
-    ensures { Replied (sheetReply sheet.now) (length out.old) result out.new }
+    ensures { Replied (sheet_reply sheet.now) (length out.old) result out.new }
 {
     sheet_c::reading::read_sheet(sheet, out)
 }

@@ -1,10 +1,10 @@
 // The C functions that give a mesh. Each is a job on an image, which crate job_replies answers.
 ghost use Rattle.std.specs.Prelude.{length};
-ghost use Rattle.mesh.specs.Given.{meshOf};
-ghost use Rattle.mesh_calls.specs.Jobs.{jobNumbers, jobCall};
-ghost use Rattle.image.specs.Image.{image_of, imageSized};
-ghost use Rattle.job_replies.specs.Outcomes.{OutcomeReplied, withRooms};
-ghost use Rattle.bench_c.specs.Torn.{roomsIn, splitOutcome, straddlersOutcome};
+ghost use Rattle.mesh.specs.Given.{mesh_of};
+ghost use Rattle.mesh_calls.specs.Jobs.{job_numbers, job_call};
+ghost use Rattle.image.specs.Image.{image_of, image_sized_of};
+ghost use Rattle.job_replies.specs.Outcomes.{OutcomeReplied, with_rooms};
+ghost use Rattle.bench_c.specs.Torn.{rooms_in_of, split_outcome, straddlers_outcome};
 
 use mesh_calls::Job;
 
@@ -17,9 +17,9 @@ pub fn reply_job(
     out: &mut [u8],
     log: &mut [u8],
 ) -> u32
-    ensures { OutcomeReplied (withRooms bytes.now rooms.now (jobNumbers job)
-        (jobCall job list.now (imageSized bytes.now) (meshOf (image_of bytes.now))
-        (roomsIn rooms.now (length log.old)))) (length out.old) (length log.old) result
+    ensures { OutcomeReplied (with_rooms bytes.now rooms.now (job_numbers job)
+        (job_call job list.now (image_sized_of bytes.now) (mesh_of (image_of bytes.now))
+        (rooms_in_of rooms.now (length log.old)))) (length out.old) (length log.old) result
         out.new log.new }
 {
     if image::image_sized(bytes) {
@@ -31,7 +31,7 @@ pub fn reply_job(
 
 // The straddlers across the pieces of a mesh image removed. The job looks at no list.
 pub fn bench_straddlers(bytes: &[u8], rooms: &[u8], out: &mut [u8], log: &mut [u8]) -> u32
-    ensures { OutcomeReplied (straddlersOutcome bytes.now rooms.now (length log.old)) (length
+    ensures { OutcomeReplied (straddlers_outcome bytes.now rooms.now (length log.old)) (length
         out.old) (length log.old) result out.new log.new }
 {
     let none = [0usize; 1];
@@ -47,7 +47,7 @@ pub fn bench_split(
     out: &mut [u8],
     log: &mut [u8],
 ) -> u32
-    ensures { OutcomeReplied (splitOutcome bytes.now v sides.now rooms.now
+    ensures { OutcomeReplied (split_outcome bytes.now v sides.now rooms.now
         (length log.old)) (length out.old) (length log.old) result out.new log.new }
 {
     let mut numbers = [0usize; 2049];

@@ -2,14 +2,14 @@
 #![tactic(auto)]
 
 ghost use Rattle.std.specs.Prelude.{◌≡◌, length};
-ghost use Rattle.reading_replies.specs.Replies.{Replied, rootReply, bladeReply, piecesReply, measureReply, measureOfReply, opensReply, groupsReply};
-ghost use Rattle.text_c.specs.Texts.{layoutNumber, TextReplied};
-ghost use Rattle.fan_c.specs.Fans.{fanReply};
+ghost use Rattle.reading_replies.specs.Replies.{Replied, root_reply, blade_reply, pieces_reply, measure_reply, measure_of_reply, opens_reply, groups_reply};
+ghost use Rattle.text_c.specs.Texts.{layout_number, TextReplied};
+ghost use Rattle.fan_c.specs.Fans.{fan_reply};
 ghost use Rattle.job_replies.specs.Outcomes.{OutcomeReplied};
-ghost use Rattle.bench_c.specs.Torn.{splitOutcome, straddlersOutcome, cutOutcome, crackOutcome};
+ghost use Rattle.bench_c.specs.Torn.{split_outcome, straddlers_outcome, cut_outcome, crack_outcome};
 ghost use Rattle.sheetcut.specs.SheetCut.{listed};
 ghost use Rattle.differing.specs.Differed.{differed};
-ghost use Rattle.sheet_c.specs.Sheets.{sheetReply};
+ghost use Rattle.sheet_c.specs.Sheets.{sheet_reply};
 ghost use Rattle.sheet_c.specs.Fields.{SheetWritten};
 ghost use Rattle.feeding.specs.Feeding.{OpenDone, FeedDone};
 ghost use Rattle.feed_c.specs.Closing.{Closed};
@@ -18,7 +18,7 @@ ghost use Rattle.mend_c.specs.Mends.{MendReplied};
 // The number of the layout of images, logs, fields and results, so that a host built for another one can tell.
 #[unsafe(no_mangle)]
 pub extern "C" fn bench_layout() -> u32
-    ensures { result ≡ layoutNumber }
+    ensures { result ≡ layout_number }
 {
     bench_c::leaves::bench_layout()
 }
@@ -26,7 +26,7 @@ pub extern "C" fn bench_layout() -> u32
 // The root of the number of a word.
 #[unsafe(no_mangle)]
 pub extern "C" fn bench_root(bits: u32, out: &mut [u8]) -> u32
-    ensures { Replied (rootReply bits) (length out.old) result out.new }
+    ensures { Replied (root_reply bits) (length out.old) result out.new }
 {
     bench_c::leaves::bench_root(bits, out)
 }
@@ -34,7 +34,7 @@ pub extern "C" fn bench_root(bits: u32, out: &mut [u8]) -> u32
 // The blade test on eight words.
 #[unsafe(no_mangle)]
 pub extern "C" fn bench_blade_hit(words: &[u8], out: &mut [u8]) -> u32
-    ensures { Replied (bladeReply words.now) (length out.old) result out.new }
+    ensures { Replied (blade_reply words.now) (length out.old) result out.new }
 {
     bench_c::leaves::bench_blade_hit(words, out)
 }
@@ -42,7 +42,7 @@ pub extern "C" fn bench_blade_hit(words: &[u8], out: &mut [u8]) -> u32
 // The number of pieces of a mesh image.
 #[unsafe(no_mangle)]
 pub extern "C" fn bench_pieces(bytes: &[u8], out: &mut [u8]) -> u32
-    ensures { Replied (piecesReply bytes.now) (length out.old) result out.new }
+    ensures { Replied (pieces_reply bytes.now) (length out.old) result out.new }
 {
     bench_c::meshes::bench_pieces(bytes, out)
 }
@@ -50,7 +50,7 @@ pub extern "C" fn bench_pieces(bytes: &[u8], out: &mut [u8]) -> u32
 // The measure of a mesh image.
 #[unsafe(no_mangle)]
 pub extern "C" fn bench_rest_measure(bytes: &[u8], out: &mut [u8]) -> u32
-    ensures { Replied (measureReply bytes.now) (length out.old) result out.new }
+    ensures { Replied (measure_reply bytes.now) (length out.old) result out.new }
 {
     bench_c::meshes::bench_rest_measure(bytes, out)
 }
@@ -58,7 +58,7 @@ pub extern "C" fn bench_rest_measure(bytes: &[u8], out: &mut [u8]) -> u32
 // The measure of a list of particles of a mesh image.
 #[unsafe(no_mangle)]
 pub extern "C" fn bench_rest_measure_of(bytes: &[u8], list: &[u8], out: &mut [u8]) -> u32
-    ensures { Replied (measureOfReply bytes.now list.now) (length out.old) result out.new }
+    ensures { Replied (measure_of_reply bytes.now list.now) (length out.old) result out.new }
 {
     bench_c::listed::bench_rest_measure_of(bytes, list, out)
 }
@@ -72,7 +72,7 @@ pub extern "C" fn bench_opens_without_confetti(
     minimum: u32,
     out: &mut [u8],
 ) -> u32
-    ensures { Replied (opensReply bytes.now v sides.now minimum) (length out.old) result
+    ensures { Replied (opens_reply bytes.now v sides.now minimum) (length out.old) result
         out.new }
 {
     bench_c::fans::bench_opens_without_confetti(bytes, v, sides, minimum, out)
@@ -81,7 +81,7 @@ pub extern "C" fn bench_opens_without_confetti(
 // The groups that sides make at a particle of a mesh image.
 #[unsafe(no_mangle)]
 pub extern "C" fn bench_groups(bytes: &[u8], v: u32, sides: &[u8], out: &mut [u8]) -> u32
-    ensures { Replied (groupsReply bytes.now v sides.now) (length out.old) result out.new }
+    ensures { Replied (groups_reply bytes.now v sides.now) (length out.old) result out.new }
 {
     bench_c::fans::bench_groups(bytes, v, sides, out)
 }
@@ -89,7 +89,7 @@ pub extern "C" fn bench_groups(bytes: &[u8], v: u32, sides: &[u8], out: &mut [u8
 // The numbers of the elements at a particle of a mesh image, in the order in which sides are given for them.
 #[unsafe(no_mangle)]
 pub extern "C" fn bench_fan(bytes: &[u8], v: u32, out: &mut [u8]) -> u32
-    ensures { Replied (fanReply bytes.now v) (length out.old) result out.new }
+    ensures { Replied (fan_reply bytes.now v) (length out.old) result out.new }
 {
     bench_c::fans::bench_fan(bytes, v, out)
 }
@@ -102,7 +102,7 @@ pub extern "C" fn bench_straddlers(
     out: &mut [u8],
     log: &mut [u8],
 ) -> u32
-    ensures { OutcomeReplied (straddlersOutcome bytes.now rooms.now (length log.old)) (length
+    ensures { OutcomeReplied (straddlers_outcome bytes.now rooms.now (length log.old)) (length
         out.old) (length log.old) result out.new log.new }
 {
     bench_c::tearing::bench_straddlers(bytes, rooms, out, log)
@@ -118,7 +118,7 @@ pub extern "C" fn bench_split(
     out: &mut [u8],
     log: &mut [u8],
 ) -> u32
-    ensures { OutcomeReplied (splitOutcome bytes.now v sides.now rooms.now
+    ensures { OutcomeReplied (split_outcome bytes.now v sides.now rooms.now
         (length log.old)) (length out.old) (length log.old) result out.new log.new }
 {
     bench_c::tearing::bench_split(bytes, v, sides, rooms, out, log)
@@ -135,7 +135,7 @@ pub extern "C" fn bench_cut(
     out: &mut [u8],
     log: &mut [u8],
 ) -> u32
-    ensures { OutcomeReplied (cutOutcome bytes.now blade.now edition fraction rooms.now
+    ensures { OutcomeReplied (cut_outcome bytes.now blade.now edition fraction rooms.now
         (length log.old)) (length out.old) (length log.old) result out.new log.new }
 {
     bench_c::cutting::bench_cut(bytes, blade, edition, fraction, rooms, out, log)
@@ -151,7 +151,7 @@ pub extern "C" fn bench_crack(
     out: &mut [u8],
     log: &mut [u8],
 ) -> u32
-    ensures { OutcomeReplied (crackOutcome bytes.now torn.now minimum rooms.now
+    ensures { OutcomeReplied (crack_outcome bytes.now torn.now minimum rooms.now
         (length log.old)) (length out.old) (length log.old) result out.new log.new }
 {
     bench_c::cutting::bench_crack(bytes, torn, minimum, rooms, out, log)
@@ -160,7 +160,7 @@ pub extern "C" fn bench_crack(
 // The blade and the mesh image of a sheet.
 #[unsafe(no_mangle)]
 pub extern "C" fn bench_sheet(sheet: &[u8], out: &mut [u8]) -> u32
-    ensures { Replied (sheetReply sheet.now) (length out.old) result out.new }
+    ensures { Replied (sheet_reply sheet.now) (length out.old) result out.new }
 {
     bench_c::sheets::bench_sheet(sheet, out)
 }

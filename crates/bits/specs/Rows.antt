@@ -18,14 +18,14 @@ pack [] vs = []
 pack (w ∷ ws) vs = bits w (get_or vs 0 0) ++ pack ws (drop 1 vs)
 
 -- n rows from the front of the bits
-unfoldable pub readRows : List ℕ → ℕ → List ℕ → List (List ℕ)
-readRows ws zero l = []
-readRows ws (suc n) l = unpack ws l ∷ readRows ws n (drop (total ws) l)
+unfoldable pub read_rows : List ℕ → ℕ → List ℕ → List (List ℕ)
+read_rows ws zero l = []
+read_rows ws (suc n) l = unpack ws l ∷ read_rows ws n (drop (total ws) l)
 
 -- the bits of rows
-unfoldable pub writeRows : List ℕ → List (List ℕ) → List ℕ
-writeRows ws [] = []
-writeRows ws (r ∷ rs) = pack ws r ++ writeRows ws rs
+unfoldable pub write_rows : List ℕ → List (List ℕ) → List ℕ
+write_rows ws [] = []
+write_rows ws (r ∷ rs) = pack ws r ++ write_rows ws rs
 
 -- a row has a number for each width, and the width holds it
 unfoldable pub Fit : List ℕ → List ℕ → Type 0
@@ -44,9 +44,9 @@ abbrev pub col : ℕ → List (List ℕ) → List ℕ
 col k rows = map (λ (r : List ℕ). get_or r k 0) rows
 
 -- n fields of w bits, the first at bit `at`, each `step` bits after the one before
-unfoldable pub columnAt : List ℕ → ℕ → ℕ → ℕ → ℕ → List ℕ
-columnAt l at step w zero = []
-columnAt l at step w (suc n) = field_at l at w ∷ columnAt l (at + step) step w n
+unfoldable pub column_at : List ℕ → ℕ → ℕ → ℕ → ℕ → List ℕ
+column_at l at step w zero = []
+column_at l at step w (suc n) = field_at l at w ∷ column_at l (at + step) step w n
 
 -- n rows from columns, from place i on
 unfoldable pub rows_of : List (List ℕ) → ℕ → ℕ → List (List ℕ)

@@ -4,7 +4,7 @@
 ghost use Rattle.std.specs.Prelude.{◌≡◌, [], ◌∷◌, ◌++◌, ℕ, ◌*◌, ◌^◌, ◌<◌, length, get_or, set, replicate, drop};
 ghost use Rattle.std.proofs.lemmas.List.Edits.{sets};
 ghost use Rattle.bits.specs.Bits.{bits, bits_of, field_at};
-ghost use Rattle.bits.specs.Rows.{pack, writeRows, columnAt, rows_of};
+ghost use Rattle.bits.specs.Rows.{pack, write_rows, column_at, rows_of};
 ghost use Rattle.bits.specs.Places.{Inside, Power, ColumnIn, RowIn, TableIn, FourIn};
 
 // A byte as a number.
@@ -73,7 +73,7 @@ pub fn put_field(s: &mut [u8], at: usize, w: usize, v: usize)
 // Reads n fields of w bits, the first at bit `at`, each `step` bits after the one before, to the front of a column.
 pub fn read_column(s: &[u8], at: usize, step: usize, w: usize, n: usize, out: &mut [usize])
     requires { ColumnIn s.now at step w n out.old }
-    ensures { out.new ≡ columnAt (bits_of s.now) at step w n ++ drop n out.old }
+    ensures { out.new ≡ column_at (bits_of s.now) at step w n ++ drop n out.old }
 {
     let mut i = 0;
     let mut pos = at;
@@ -115,7 +115,7 @@ pub fn put_rows(
     c: &[usize],
 )
     requires { TableIn s.old at w0 w1 w2 a.now b.now c.now }
-    ensures { bits_of s.new ≡ sets (bits_of s.old) at (writeRows (w0 ∷ w1 ∷ w2 ∷ [])
+    ensures { bits_of s.new ≡ sets (bits_of s.old) at (write_rows (w0 ∷ w1 ∷ w2 ∷ [])
         (rows_of (a.now ∷ b.now ∷ c.now ∷ []) 0 (length a.now))) }
 {
     let n = a.len();

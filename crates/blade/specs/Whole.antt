@@ -5,10 +5,10 @@ use Rattle.blade.specs.declared.Point.{Point}
 
 -- p is the point (x, y), each a whole number from -1024 to 1024
 pub record IsPoint (p : Point) (x y : ℤ) : Type 0 where
-  pub x-is : Is p.x x
-  pub y-is : Is p.y y
-  pub x-in : nat_abs x ≤ 1024
-  pub y-in : nat_abs y ≤ 1024
+  pub x_is : Is p.x x
+  pub y_is : Is p.y y
+  pub x_in : nat_abs x ≤ 1024
+  pub y_in : nat_abs y ≤ 1024
 
 -- the side of (x, y) by the line from (x0, y0) to (x1, y1): above 0 to the left, below 0 to the right, 0 on the line
 abbrev pub side_of : ℤ → ℤ → ℤ → ℤ → ℤ → ℤ → ℤ

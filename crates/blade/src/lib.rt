@@ -2,8 +2,8 @@
 #![tactic(auto)]
 
 ghost use Rattle.std.specs.Prelude.{◌≡◌, [], ◌∷◌};
-ghost use Rattle.blade.specs.Points.{plusOf, minusOf, timesOf, overOf, dotOf, centroidOf, lerpOf, length_of};
-ghost use Rattle.blade.specs.Blade.{offset_of, clampHigh, clampLow, hitAt, crossAt, bladeHit};
+ghost use Rattle.blade.specs.Points.{plus_of, minus_of, times_of, over_of, dot_of, centroid_of, lerp_of, length_of};
+ghost use Rattle.blade.specs.Blade.{offset_of, clamp_high, clamp_low, hit_at_of, cross_at_of, blade_hit_of};
 
 use float::root::Rooted;
 
@@ -21,7 +21,7 @@ pub enum Hit {
 }
 
 pub fn plus(a: Point, b: Point) -> Point
-    ensures { result ≡ plusOf a b }
+    ensures { result ≡ plus_of a b }
 {
     Point {
         x: a.x + b.x,
@@ -30,7 +30,7 @@ pub fn plus(a: Point, b: Point) -> Point
 }
 
 pub fn minus(a: Point, b: Point) -> Point
-    ensures { result ≡ minusOf a b }
+    ensures { result ≡ minus_of a b }
 {
     Point {
         x: a.x - b.x,
@@ -39,7 +39,7 @@ pub fn minus(a: Point, b: Point) -> Point
 }
 
 pub fn times(p: Point, k: f32) -> Point
-    ensures { result ≡ timesOf p k }
+    ensures { result ≡ times_of p k }
 {
     Point {
         x: p.x * k,
@@ -48,7 +48,7 @@ pub fn times(p: Point, k: f32) -> Point
 }
 
 pub fn over(p: Point, k: f32) -> Point
-    ensures { result ≡ overOf p k }
+    ensures { result ≡ over_of p k }
 {
     Point {
         x: p.x / k,
@@ -57,7 +57,7 @@ pub fn over(p: Point, k: f32) -> Point
 }
 
 pub fn dot(a: Point, b: Point) -> f32
-    ensures { result ≡ dotOf a b }
+    ensures { result ≡ dot_of a b }
 {
     a.x * b.x + a.y * b.y
 }
@@ -75,14 +75,14 @@ pub fn length(v: Point) -> f32
 
 // p times (1 - t), plus q times t.
 pub fn lerp(p: Point, q: Point, t: f32) -> Point
-    ensures { result ≡ lerpOf p q t }
+    ensures { result ≡ lerp_of p q t }
 {
     plus(times(p, 1.0 - t), times(q, t))
 }
 
 // The middle of a strap: its ends added, from 0, and divided by 2.
 pub fn centroid_of_two(a: Point, b: Point) -> Point
-    ensures { result ≡ centroidOf (a ∷ b ∷ []) }
+    ensures { result ≡ centroid_of (a ∷ b ∷ []) }
 {
     let start = Point { x: 0.0, y: 0.0 };
     over(plus(plus(start, a), b), 2.0)
@@ -90,7 +90,7 @@ pub fn centroid_of_two(a: Point, b: Point) -> Point
 
 // The middle of a triangle: its corners added, from 0, and divided by 3.
 pub fn centroid_of_three(a: Point, b: Point, c: Point) -> Point
-    ensures { result ≡ centroidOf (a ∷ b ∷ c ∷ []) }
+    ensures { result ≡ centroid_of (a ∷ b ∷ c ∷ []) }
 {
     let start = Point { x: 0.0, y: 0.0 };
     over(plus(plus(plus(start, a), b), c), 3.0)
@@ -107,7 +107,7 @@ pub fn offset(b0: Point, b1: Point, v: Point) -> f32
 
 // t brought into the range from 0 to 1.
 pub fn clamp(t: f32) -> f32
-    ensures { result ≡ clampHigh (clampLow t) }
+    ensures { result ≡ clamp_high (clamp_low t) }
 {
     let mut u = t;
     if u < 0.0 {
@@ -120,7 +120,7 @@ pub fn clamp(t: f32) -> f32
 }
 
 fn hit_at(d: Point, b0: Point, p: Point, w: Point, t: f32) -> Hit
-    ensures { result ≡ hitAt d b0 p w t }
+    ensures { result ≡ hit_at_of d b0 p w t }
 {
     let hit = Point {
         x: p.x + w.x * t,
@@ -134,7 +134,7 @@ fn hit_at(d: Point, b0: Point, p: Point, w: Point, t: f32) -> Hit
 }
 
 fn cross_at(d: Point, b0: Point, p: Point, w: Point, dp: f32, dq: f32) -> Hit
-    ensures { result ≡ crossAt d b0 p w dp dq }
+    ensures { result ≡ cross_at_of d b0 p w dp dq }
 {
     if dp * dq > 0.0 || dp == dq {
         return Hit::Miss;
@@ -143,7 +143,7 @@ fn cross_at(d: Point, b0: Point, p: Point, w: Point, dp: f32, dq: f32) -> Hit
 }
 
 pub fn blade_hit(b0: Point, b1: Point, p: Point, q: Point) -> Hit
-    ensures { result ≡ bladeHit b0 b1 p q }
+    ensures { result ≡ blade_hit_of b0 b1 p q }
 {
     let d = minus(b1, b0);
     let n = Point { x: -d.y, y: d.x };

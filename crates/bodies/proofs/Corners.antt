@@ -9,10 +9,10 @@ use lib.ListN.{length, get_or, get_or-append}
 use lib.Seq.{get_or-append-add, get_or-take}
 use Rattle.lists.specs.Lists.{each}
 use Rattle.lists.specs.Chain.{Chain, stay, ahead, back}
-use Rattle.lists.proofs.Stores.{at-eq}
-use Rattle.lists.proofs.Sifts.{stands-get, stands-made}
+use Rattle.lists.proofs.Stores.{at_eq}
+use Rattle.lists.proofs.Sifts.{stands_get, stands_made}
 use Rattle.model.specs.Elements.{Element}
-use Rattle.model.specs.Pieces.{cornersAt}
+use Rattle.model.specs.Pieces.{corners_at}
 use Rattle.elements.specs.Table.{Cornered}
 use Rattle.piece_classes.specs.Classes.{Holds, Together}
 use Rattle.bodies.specs.Bodies.{Corners}
@@ -48,23 +48,23 @@ each_at f k [] w i c h g = absurd (not-suc-le-zero h)
 each_at f k (a ∷ l) w zero c h g =
     let e : 0 * k + c ≡ c = omega arith in
     let s : length (f a) ≡ k = w 0 (suc-le-suc zero-le) in
-    at-eq (f a ++ each f l) e ∙ get_or-append (f a) (each f l) 0 c (omega arith)
+    at_eq (f a ++ each f l) e ∙ get_or-append (f a) (each f l) 0 c (omega arith)
 each_at f k (a ∷ l) w (suc i) c h g =
     let s : length (f a) ≡ k = w 0 (suc-le-suc zero-le) in
     let e : suc i * k + c ≡ length (f a) + (i * k + c) = omega arith in
-    at-eq (f a ++ each f l) e ∙ get_or-append-add (f a) (each f l) (i * k + c) 0 ∙ each_at f k l (λ j m. w (suc j) (suc-le-suc m)) i c (le_of_suc-le-suc h) g
+    at_eq (f a ++ each f l) e ∙ get_or-append-add (f a) (each f l) (i * k + c) 0 ∙ each_at f k l (λ j m. w (suc j) (suc-le-suc m)) i c (le_of_suc-le-suc h) g
 
 -- the same corners, where the count of particles is said another way
-pub corners-for : {n k : ℕ} {verts : List ℕ} {l m : ℕ} → l ≡ m → Corners n k verts l → Corners n k verts m
-corners-for {n} {k} {verts} e C = subst (λ (m : ℕ). Corners n k verts m) e C
+pub corners_for : {n k : ℕ} {verts : List ℕ} {l m : ℕ} → l ≡ m → Corners n k verts l → Corners n k verts m
+corners_for {n} {k} {verts} e C = subst (λ (m : ℕ). Corners n k verts m) e C
 
 -- where the corners of element i stand, and that they are particles
 module _ {n k : ℕ} {verts : List ℕ} {m : ℕ} (C : Corners n k verts m) where
-  pub corners-room : (i : ℕ) → i < n → i * k + k ≤ length verts
-  corners-room i l = omega (arith, row_before k i n l, C.room)
+  pub corners_room : (i : ℕ) → i < n → i * k + k ≤ length verts
+  corners_room i l = omega (arith, row_before k i n l, C.room)
 
-  pub corner-below : (i c : ℕ) → i < n → c < k → get_or verts (i * k + c) 0 < m
-  corner-below i c l g = C.below (i * k + c) (omega (arith, row_before k i n l))
+  pub corner_below : (i c : ℕ) → i < n → c < k → get_or verts (i * k + c) 0 < m
+  corner_below i c l g = C.below (i * k + c) (omega (arith, row_before k i n l))
 
   pub first_below : (i : ℕ) → i < n → get_or verts (i * k) 0 < m
   first_below i l = C.below (i * k) (omega (arith, row_before k i n l, C.width.0))
@@ -73,44 +73,44 @@ module _ {n k : ℕ} {verts : List ℕ} {m : ℕ} (C : Corners n k verts m) wher
 
 module _ {k n : ℕ} {es : List Element} {verts : List ℕ} (C : Cornered k es n verts) where
   -- corner c of element i
-  pub corner-at : (i c : ℕ) → i < n → c < k → get_or (cornersAt es i) c 0 ≡ get_or verts (i * k + c) 0
-  corner-at i c h g =
+  pub corner_at : (i c : ℕ) → i < n → c < k → get_or (corners_at es i) c 0 ≡ get_or verts (i * k + c) 0
+  corner_at i c h g =
       let l : i < length es = omega (arith, C.count) in
       let b : i * k + c < n * k = omega (arith, row_before k i n h) in
       sym (each_at (λ (e : Element). e.corners) k es C.whole i c l g)
-      ∙ ap (λ (t : List ℕ). get_or t (i * k + c) 0) (sym C.corners-are)
+      ∙ ap (λ (t : List ℕ). get_or t (i * k + c) 0) (sym C.corners_are)
       ∙ get_or-take (n * k) verts (i * k + c) 0 b
 
   -- an element holds each of its corners, and only those
-  pub holds-corner : (i c x : ℕ) → i < n → c < k → get_or verts (i * k + c) 0 ≡ x → Holds es i x
-  holds-corner i c x h g e =
+  pub holds_corner : (i c x : ℕ) → i < n → c < k → get_or verts (i * k + c) 0 ≡ x → Holds es i x
+  holds_corner i c x h g e =
       let l : i < length es = omega (arith, C.count) in
-      (l, stands-made x (cornersAt es i) c (omega (arith, C.whole i l)) (corner-at i c h g ∙ e))
+      (l, stands_made x (corners_at es i) c (omega (arith, C.whole i l)) (corner_at i c h g ∙ e))
 
-  pub corner-held : (i x : ℕ) → Holds es i x → (c : ℕ) × ((c < k) × (get_or verts (i * k + c) 0 ≡ x))
-  corner-held i x h =
-      let w = stands-get x (cornersAt es i) h.1 in
+  pub corner_held : (i x : ℕ) → Holds es i x → (c : ℕ) × ((c < k) × (get_or verts (i * k + c) 0 ≡ x))
+  corner_held i x h =
+      let w = stands_get x (corners_at es i) h.1 in
       let l : i < n = omega (arith, C.count, h.0) in
       let g : w.0 < k = omega (arith, C.whole i h.0, w.1.0) in
-      (w.0, (g, sym (corner-at i w.0 l g) ∙ w.1.1))
+      (w.0, (g, sym (corner_at i w.0 l g) ∙ w.1.1))
 
   -- linked corners lie together, and what lies together is linked through the first corner
-  pub link-together : (x y : ℕ) → Link k verts (n * k) x y → Together es x y
-  link-together x y L =
+  pub link_together : (x y : ℕ) → Link k verts (n * k) x y → Together es x y
+  link_together x y L =
       let l : L.element < n = row_within k L.element L.corner n L.before in
       let z : L.element * k + 0 ≡ L.element * k = omega arith in
       record {
         element = L.element;
-        holds-first = holds-corner L.element 0 x l (let g = L.narrow in omega arith) (at-eq verts z ∙ L.first);
-        holds-second = holds-corner L.element L.corner y l L.narrow L.other;
+        holds_first = holds_corner L.element 0 x l (let g = L.narrow in omega arith) (at_eq verts z ∙ L.first);
+        holds_second = holds_corner L.element L.corner y l L.narrow L.other;
       }
 
-  link-to : (i x : ℕ) → Holds es i x → Link k verts (n * k) (get_or verts (i * k) 0) x
-  link-to i x h =
-      let w = corner-held i x h in
+  link_to : (i x : ℕ) → Holds es i x → Link k verts (n * k) (get_or verts (i * k) 0) x
+  link_to i x h =
+      let w = corner_held i x h in
       let g = w.1.0 in
       let l : i < n = omega (arith, C.count, h.0) in
       record { element = i; corner = w.0; narrow = g; before = omega (arith, row_before k i n l); first = refl; other = w.1.1 }
 
-  pub together-links : (x y : ℕ) → Together es x y → Chain (Link k verts (n * k)) x y
-  together-links x y T = back (link-to T.element x T.holds-first) (ahead (link-to T.element y T.holds-second) stay)
+  pub together_links : (x y : ℕ) → Together es x y → Chain (Link k verts (n * k)) x y
+  together_links x y T = back (link_to T.element x T.holds_first) (ahead (link_to T.element y T.holds_second) stay)

@@ -4,7 +4,7 @@ use Rattle.lists.specs.Lists.{pick}
 use Rattle.lists.specs.Labels.{Lowest}
 use Rattle.model.specs.Elements.{Element}
 use Rattle.elements.specs.Table.{Cornered}
-use Rattle.piece_classes.specs.Classes.{heldBy, Together}
+use Rattle.piece_classes.specs.Classes.{held_by, Together}
 
 -- The first n * k numbers of a table are corners, k to each of n elements, below a count of particles.
 pub record Corners (n k : ℕ) (verts : List ℕ) (particles : ℕ) : Type 0 where
@@ -21,4 +21,4 @@ pub record BodyRoots (n k : ℕ) (verts roots : List ℕ) : Type 0 where
 
 -- 1 at each particle that some element holds, 0 at the others.
 pub record UsedMarked (n k : ℕ) (verts used : List ℕ) : Type 0 where
-  pub marks : (es : List Element) → Cornered k es n verts → (x : ℕ) → x < length used → get_or used x 0 ≡ pick (heldBy es x) 1 0
+  pub marks : (es : List Element) → Cornered k es n verts → (x : ℕ) → x < length used → get_or used x 0 ≡ pick (held_by es x) 1 0

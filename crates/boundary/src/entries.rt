@@ -2,13 +2,13 @@
 ghost use Rattle.std.specs.Prelude.{◌≡◌, true, [], ◌∷◌, ◌+◌, ◌*◌, ◌≤◌, length};
 ghost use Rattle.lists.specs.Lists.{stands};
 ghost use Rattle.split_plan.specs.Opened.{RingRoom};
-ghost use Rattle.boundary.specs.Following.{SidesFollowed, rowHolds, FirstHolder, SideRoom, SideGroupIs, CopiesSmall, SideCopyIs, EntryRoom, EntryFollowed, SidesRoom};
+ghost use Rattle.boundary.specs.Following.{SidesFollowed, row_holds, FirstHolder, SideRoom, SideGroupIs, CopiesSmall, SideCopyIs, EntryRoom, EntryFollowed, SidesRoom};
 ghost use Rattle.links.specs.Linked.{SidesLinked};
 
 // Does part i hold both x and y?
 fn part_holds(x: usize, y: usize, k: usize, i: usize, verts: &[usize]) -> bool
     requires { i * k + k ≤ length verts.now }
-    ensures { result ≡ rowHolds x y k verts.now i }
+    ensures { result ≡ row_holds x y k verts.now i }
 {
     if elements::holds(x, k, i, verts) {
         return elements::holds(y, k, i, verts);

@@ -1,7 +1,7 @@
 // Crack facets: where a split parts two triangles of the fan that shared a side at v, both faces that open there join the boundary and its table.
 ghost use Rattle.std.specs.Prelude.{◌≡◌, [], ◌∷◌, ◌+◌, ◌/◌, ◌<◌, length};
 ghost use Rattle.lists.specs.Lists.{all};
-ghost use Rattle.boundary.specs.Faces.{onBy, facesBy, foundBy, faceIs, FaceApart, ThreeApart, FanApart, FaceRoom, FaceFound, SidesGrown, FacetsGrown, pairFacets, rowFacets, allFacets, FacetTable, GrownLinked};
+ghost use Rattle.boundary.specs.Faces.{on_by, faces_by, found_by, face_is, FaceApart, ThreeApart, FanApart, FaceRoom, FaceFound, SidesGrown, FacetsGrown, pair_facets, row_facets, all_facets, FacetTable, GrownLinked};
 ghost use Rattle.work.specs.Rows.{SideRoom};
 
 use work::Grown;
@@ -15,7 +15,7 @@ pub enum Face {
 
 // Is w the copy, or a particle besides v of both p and q?
 fn on_facet(w: usize, v: usize, copy: usize, p: &[usize], q: &[usize]) -> bool
-    ensures { result ≡ onBy v copy p.now q.now w }
+    ensures { result ≡ on_by v copy p.now q.now w }
 {
     if w == copy {
         return true;
@@ -31,7 +31,7 @@ fn on_facet(w: usize, v: usize, copy: usize, p: &[usize], q: &[usize]) -> bool
 
 // Are both x and y?
 fn side_on(x: usize, y: usize, v: usize, copy: usize, p: &[usize], q: &[usize]) -> bool
-    ensures { result ≡ all (onBy v copy p.now q.now) (x ∷ y ∷ []) }
+    ensures { result ≡ all (on_by v copy p.now q.now) (x ∷ y ∷ []) }
 {
     if on_facet(x, v, copy, p, q) {
         return on_facet(y, v, copy, p, q);
@@ -42,7 +42,7 @@ fn side_on(x: usize, y: usize, v: usize, copy: usize, p: &[usize], q: &[usize]) 
 // The first face of (x, y, z) with both ends on the facet.
 fn first_face(x: usize, y: usize, z: usize, v: usize, copy: usize, p: &[usize], q: &[usize]) -> Face
     requires { ThreeApart x y z }
-    ensures { (faceIs result ≡ foundBy v copy p.now q.now (facesBy x y z)) × FaceApart result }
+    ensures { (face_is result ≡ found_by v copy p.now q.now (faces_by x y z)) × FaceApart result }
 {
     if side_on(x, y, v, copy, p, q) {
         return Face::Ends(x, y);
@@ -96,7 +96,7 @@ fn face_of(
 // Appends a face that was found to the m entries, and to their table.
 fn append_face(face: Face, m: usize, room: usize, outline: &mut [usize], table: &mut [u16]) -> Grown
     requires { SideRoom m room (length outline.old) × FacetTable m room outline.old table.old × FaceApart face }
-    ensures { SidesGrown (faceIs face) m room outline.old outline.new result × GrownLinked result outline.new
+    ensures { SidesGrown (face_is face) m room outline.old outline.new result × GrownLinked result outline.new
         table.new }
 {
     let Face::Ends(a, b) = face else {
@@ -140,7 +140,7 @@ fn open_pair(
     requires { FaceRoom before n count numbers.now (length verts.now) (length groups.now) (length corners.now)
         × SideRoom m room (length outline.old) × (i < n) × (j < n) × FanApart n numbers.now corners.now
         × FacetTable m room outline.old table.old }
-    ensures { FacetsGrown (pairFacets i j) v before n count m room numbers.now verts.now groups.now
+    ensures { FacetsGrown (pair_facets i j) v before n count m room numbers.now verts.now groups.now
         corners.now outline.old outline.new result × GrownLinked result outline.new table.new }
 {
     if groups[i] == groups[j] {
@@ -183,7 +183,7 @@ fn open_row(
     requires { FaceRoom before n count numbers.now (length verts.now) (length groups.now) (length corners.now)
         × SideRoom m room (length outline.old) × (i < n) × FanApart n numbers.now corners.now
         × FacetTable m room outline.old table.old }
-    ensures { FacetsGrown (rowFacets i) v before n count m room numbers.now verts.now groups.now
+    ensures { FacetsGrown (row_facets i) v before n count m room numbers.now verts.now groups.now
         corners.now outline.old outline.new result × GrownLinked result outline.new table.new }
 {
     let mut rows = m;
@@ -219,7 +219,7 @@ pub fn crack_facets(
     requires { FaceRoom before n count numbers.now (length verts.now) (length groups.now) (length corners.now)
         × SideRoom b room (length outline.old) × FanApart n numbers.now corners.now
         × FacetTable b room outline.old table.old }
-    ensures { FacetsGrown allFacets v before n count b room numbers.now verts.now groups.now
+    ensures { FacetsGrown all_facets v before n count b room numbers.now verts.now groups.now
         corners.now outline.old outline.new result × GrownLinked result outline.new table.new }
 {
     let mut rows = b;

@@ -7,39 +7,39 @@ use borrow.Author.Tests.{ne_eqb}
 use lib.ListN.{length, length-map}
 use lib.Ieee.{Float}
 use Rattle.lists.specs.Lists.{any, tab}
-use Rattle.lists.proofs.Stores.{tab-length}
+use Rattle.lists.proofs.Stores.{tab_length}
 use Rattle.model.specs.Mesh.{Mesh}
 use Rattle.model.specs.Run.{Entry, split, edge, insert, opened, met, Run, start, changes, changed}
-use Rattle.model.specs.Calls.{firstFault, Outcome, refused, done, fitted, outcome, unless}
-use Rattle.model_laws.proofs.Steps.{Onward, refused-early}
-use Rattle.mesh.specs.At.{meshAt, trianglesAt, boundaryAt}
-use Rattle.mesh.specs.Log.{World, words_of, worldOf, log_at, worldAt}
-use Rattle.mesh.specs.Given.{Given, Lent, meshOf, rooms_of, asRooms}
+use Rattle.model.specs.Calls.{first_fault, Outcome, refused, done, fitted, outcome, unless}
+use Rattle.model_laws.proofs.Steps.{Onward, refused_early}
+use Rattle.mesh.specs.At.{mesh_at, triangles_at, boundary_at}
+use Rattle.mesh.specs.Log.{World, words_of, world_of, log_at, world_at}
+use Rattle.mesh.specs.Given.{Given, Lent, mesh_of, rooms_of, as_rooms}
 use Rattle.mesh.specs.Filled.{Filled}
 use Rattle.mesh.specs.declared.Counts.{Counts}
 use Rattle.mesh.specs.declared.Rooms.{Rooms}
-use Rattle.judge.proofs.Accepted.{rooms-fit}
+use Rattle.judge.proofs.Accepted.{rooms_fit}
 use Rattle.mesh.proofs.Agree.{agree, Zero, zeros}
-use Rattle.mesh.proofs.Lists.{particles-length, edges-length, log-length}
+use Rattle.mesh.proofs.Lists.{particles_length, edges_length, log_length}
 use Rattle.work.specs.Working.{Within, Went, Works}
 use Rattle.work.specs.declared.Ran.{Ran}
 use Rattle.work.specs.declared.Ran.TheVariants.{Refused as Stopped, Done as Ended}
-use Rattle.call_frame.specs.Answered.{shown, countsOf, Answered}
-use Rattle.call_frame.specs.Framed.{wordsChange, begunWith, Begun, RanFits, RanWithin, Came, Finished}
+use Rattle.call_frame.specs.Answered.{shown, counts_of, Answered}
+use Rattle.call_frame.specs.Framed.{words_change, begun_with, Begun, RanFits, RanWithin, Came, Finished}
 use Rattle.call_frame.specs.declared.Answer.{Answer}
 use Rattle.call_frame.specs.declared.Answer.TheVariants.{Refused, Done}
 
 -- ---- the log
 
 -- whether anything changed, by the words of the entries
-pub words-tell : (l : List Entry) → wordsChange (map words_of l) ≡ any changes l
+pub words_tell : (l : List Entry) → words_change (map words_of l) ≡ any changes l
 unfolding any
-words-tell [] = refl
-words-tell (split c v ∷ l) = refl
-words-tell (edge a b ∷ l) = words-tell l
-words-tell (insert a b p q t ∷ l) = refl
-words-tell (opened a b ∷ l) = words-tell l
-words-tell (met a b p t ∷ l) = words-tell l
+words_tell [] = refl
+words_tell (split c v ∷ l) = refl
+words_tell (edge a b ∷ l) = words_tell l
+words_tell (insert a b p q t ∷ l) = refl
+words_tell (opened a b ∷ l) = words_tell l
+words_tell (met a b p t ∷ l) = words_tell l
 
 -- ---- what a worker came to, and the outcome
 
@@ -56,21 +56,21 @@ pub record Counted (k : Counts) (W : World) : Type 0 where
   pub log : length W.log ≡ k.log
 
 -- as they are of what the fronts of blocks hold
-pub blocks-counted : (p : List Float) (r c : List ℕ) (v : List Float) (e : List ℕ) (l : List Float) (o g : List ℕ) (k : Counts) → Counted k (worldAt k p r c v e l o g)
-unfolding worldAt meshAt trianglesAt boundaryAt
-blocks-counted p r c v e l o g k =
+pub blocks_counted : (p : List Float) (r c : List ℕ) (v : List Float) (e : List ℕ) (l : List Float) (o g : List ℕ) (k : Counts) → Counted k (world_at k p r c v e l o g)
+unfolding world_at mesh_at triangles_at boundary_at
+blocks_counted p r c v e l o g k =
     record {
-      particles = particles-length k.particles p r;
-      triangles = tab-length k.triangles _;
-      edges = edges-length k.edges e l;
-      boundary = tab-length k.boundary _;
-      log = log-length k.log g;
+      particles = particles_length k.particles p r;
+      triangles = tab_length k.triangles _;
+      edges = edges_length k.edges e l;
+      boundary = tab_length k.boundary _;
+      log = log_length k.log g;
     }
 
 module _ (at : Counts → World) where
   -- the counts of what the blocks hold
-  counts-are : (k : Counts) (M : Mesh) (log : List Entry) → Counted k (at k) → at k ≡ worldOf M log → k ≡ countsOf M log
-  counts-are k M log C q =
+  counts_are : (k : Counts) (M : Mesh) (log : List Entry) → Counted k (at k) → at k ≡ world_of M log → k ≡ counts_of M log
+  counts_are k M log C q =
       λ i.
       record {
         particles = (sym C.particles ∙ ap (λ (W : World). length W.mesh.particles) q) i;
@@ -81,76 +81,76 @@ module _ (at : Counts → World) where
       }
 
   -- a run that had room
-  came-done : (R : Rooms) (S : Run) (k : Counts) → Within k R → Counted k (at k) → at k ≡ worldOf S.mesh S.log → Came (done S.mesh S.log (changed S)) R at (Ended k)
+  came_done : (R : Rooms) (S : Run) (k : Counts) → Within k R → Counted k (at k) → at k ≡ world_of S.mesh S.log → Came (done S.mesh S.log (changed S)) R at (Ended k)
   unfolding changed
-  came-done R S k w C q =
+  came_done R S k w C q =
       record {
         said =
-            ap (λ (W : World). Done k (wordsChange W.log)) q ∙ ap (Done k) (words-tell S.log) ∙ ap (λ (n : Counts). Done n (any changes S.log)) (counts-are k S.mesh S.log C q);
+            ap (λ (W : World). Done k (words_change W.log)) q ∙ ap (Done k) (words_tell S.log) ∙ ap (λ (n : Counts). Done n (any changes S.log)) (counts_are k S.mesh S.log C q);
         shows = q;
         within = w;
       }
 
   -- a run
-  came-run : (R : Rooms) (S : Run) (ran : Ran) → ((k : Counts) → ran ≡ Ended k → Counted k (at k)) → Went R S at ran → Came (outcome (asRooms R) S) R at ran
+  came_run : (R : Rooms) (S : Run) (ran : Ran) → ((k : Counts) → ran ≡ Ended k → Counted k (at k)) → Went R S at ran → Came (outcome (as_rooms R) S) R at ran
   unfolding outcome
-  came-run R S (Stopped zero) C w = absurd (omega (arith, w.1))
-  came-run R S (Stopped (suc n)) C w = came_refused _ R _ _ (suc n) refl (ap (λ (m : ℕ). fitted m S) w.0)
-  came-run R S (Ended k) C w = subst (λ (m : ℕ). Came (fitted m S) R at (Ended k)) (sym w.0) (came-done R S k w.1 (C k refl) w.2)
+  came_run R S (Stopped zero) C w = absurd (omega (arith, w.1))
+  came_run R S (Stopped (suc n)) C w = came_refused _ R _ _ (suc n) refl (ap (λ (m : ℕ). fitted m S) w.0)
+  came_run R S (Ended k) C w = subst (λ (m : ℕ). Came (fitted m S) R at (Ended k)) (sym w.0) (came_done R S k w.1 (C k refl) w.2)
 
 -- ---- a call
 
 -- blocks without a log
-pub unlogged : (k : Counts) (p : List Float) (r c : List ℕ) (v : List Float) (e : List ℕ) (l : List Float) (o g : List ℕ) → k.log ≡ 0 → worldAt k p r c v e l o g ≡ worldOf (meshAt k p r c v e l o) []
-unfolding worldAt log_at tab
-unlogged k p r c v e l o g z = ap (λ (n : ℕ). record { mesh = meshAt k p r c v e l o; log = log_at n g }) z
+pub unlogged : (k : Counts) (p : List Float) (r c : List ℕ) (v : List Float) (e : List ℕ) (l : List Float) (o g : List ℕ) → k.log ≡ 0 → world_at k p r c v e l o g ≡ world_of (mesh_at k p r c v e l o) []
+unfolding world_at log_at tab
+unlogged k p r c v e l o g z = ap (λ (n : ℕ). record { mesh = mesh_at k p r c v e l o; log = log_at n g }) z
 
-module _ (f : Run → Run) (onward : (S : Run) → Onward S (f S)) (G : Given) {R : Rooms} {code begun : ℕ} {held : Mesh} (B : Begun code R (meshOf G) held begun) where
+module _ (f : Run → Run) (onward : (S : Run) → Onward S (f S)) (G : Given) {R : Rooms} {code begun : ℕ} {held : Mesh} (B : Begun code R (mesh_of G) held begun) where
   -- a check that refused is what the call begins with
-  refused-first : (n : ℕ) → code ≡ suc n → begun ≡ suc n
-  refused-first n q = B.number ∙ ap (λ (k : ℕ). begunWith k (asRooms R) (meshOf G)) q ∙ rw (ne_eqb (suc n) 0 (λ d. omega arith)) refl
+  refused_first : (n : ℕ) → code ≡ suc n → begun ≡ suc n
+  refused_first n q = B.number ∙ ap (λ (k : ℕ). begun_with k (as_rooms R) (mesh_of G)) q ∙ rw (ne_eqb (suc n) 0 (λ d. omega arith)) refl
 
   -- where none did, it is the room that lacks
-  room_next : code ≡ 0 → begun ≡ firstFault (asRooms R) (start (meshOf G)).needs
-  room_next q = B.number ∙ ap (λ (k : ℕ). begunWith k (asRooms R) (meshOf G)) q
+  room_next : code ≡ 0 → begun ≡ first_fault (as_rooms R) (start (mesh_of G)).needs
+  room_next q = B.number ∙ ap (λ (k : ℕ). begun_with k (as_rooms R) (mesh_of G)) q
 
   -- no check refused where the copy was made
-  pub nothing-before : begun ≡ 0 → code ≡ 0
-  nothing-before z = by code refl
+  pub nothing_before : begun ≡ 0 → code ≡ 0
+  nothing_before z = by code refl
     where
       by : (n : ℕ) → code ≡ n → code ≡ 0
       by zero q = q
-      by (suc n) q = absurd (omega (arith, refused-first n q))
+      by (suc n) q = absurd (omega (arith, refused_first n q))
 
   -- a refusal, by a check or for want of room
-  pub came-begun : (at : Counts → World) → (begun ≡ 0 → ⊥) → Came (unless code (outcome (asRooms R) (f (start (meshOf G))))) R at (Stopped begun)
-  came-begun at h = by code begun refl refl
+  pub came_begun : (at : Counts → World) → (begun ≡ 0 → ⊥) → Came (unless code (outcome (as_rooms R) (f (start (mesh_of G))))) R at (Stopped begun)
+  came_begun at h = by code begun refl refl
     where
-      by : (n m : ℕ) → code ≡ n → begun ≡ m → Came (unless n (outcome (asRooms R) (f (start (meshOf G))))) R at (Stopped begun)
+      by : (n m : ℕ) → code ≡ n → begun ≡ m → Came (unless n (outcome (as_rooms R) (f (start (mesh_of G))))) R at (Stopped begun)
       by zero zero q b = absurd (h b)
-      by zero (suc m) q b = came_refused _ R at _ (suc m) (ap Stopped b) (refused-early (asRooms R) (start (meshOf G)) (f (start (meshOf G))) m (onward (start (meshOf G))) (sym (room_next q) ∙ b))
-      by (suc n) m q b = came_refused _ R at _ (suc n) (ap Stopped (refused-first n q)) refl
+      by zero (suc m) q b = came_refused _ R at _ (suc m) (ap Stopped b) (refused_early (as_rooms R) (start (mesh_of G)) (f (start (mesh_of G))) m (onward (start (mesh_of G))) (sym (room_next q) ∙ b))
+      by (suc n) m q b = came_refused _ R at _ (suc n) (ap Stopped (refused_first n q)) refl
 
   -- the copy, and what the worker made of it
-  pub came-worked : (at : Counts → World) (W : World) (ran : Ran) → ((k : Counts) → ran ≡ Ended k → Counted k (at k)) → W ≡ worldOf held [] → begun ≡ 0 → Works f R W at ran
-      → Came (unless code (outcome (asRooms R) (f (start (meshOf G))))) R at ran
+  pub came_worked : (at : Counts → World) (W : World) (ran : Ran) → ((k : Counts) → ran ≡ Ended k → Counted k (at k)) → W ≡ world_of held [] → begun ≡ 0 → Works f R W at ran
+      → Came (unless code (outcome (as_rooms R) (f (start (mesh_of G))))) R at ran
   unfolding start
-  came-worked at W ran C fresh z works =
-      let same : W ≡ worldOf (start (meshOf G)).mesh (start (meshOf G)).log = fresh ∙ ap (λ (M : Mesh). worldOf M []) (B.copied z) in
-      subst (λ (n : ℕ). Came (unless n (outcome (asRooms R) (f (start (meshOf G))))) R at ran) (sym (nothing-before z))
-      (came-run at R (f (start (meshOf G))) ran C (works.went (start (meshOf G)) same (sym (room_next (nothing-before z)) ∙ z)))
+  came_worked at W ran C fresh z works =
+      let same : W ≡ world_of (start (mesh_of G)).mesh (start (mesh_of G)).log = fresh ∙ ap (λ (M : Mesh). world_of M []) (B.copied z) in
+      subst (λ (n : ℕ). Came (unless n (outcome (as_rooms R) (f (start (mesh_of G))))) R at ran) (sym (nothing_before z))
+      (came_run at R (f (start (mesh_of G))) ran C (works.went (start (mesh_of G)) same (sym (room_next (nothing_before z)) ∙ z)))
 
 -- ---- the end
 
 -- counts within the rooms of the lent blocks fit them
-ran-fits : (ran : Ran) (L : Lent) → RanWithin ran (rooms_of L) → RanFits ran L
-ran-fits (Stopped n) L w = tt
-ran-fits (Ended k) L w = rooms-fit k L w.particles w.triangles w.edges w.boundary w.log
+ran_fits : (ran : Ran) (L : Lent) → RanWithin ran (rooms_of L) → RanFits ran L
+ran_fits (Stopped n) L w = tt
+ran_fits (Ended k) L w = rooms_fit k L w.particles w.triangles w.edges w.boundary w.log
 
 module _ (call : Rooms → Outcome) (L : Lent) {R : Rooms} (room : R ≡ rooms_of L) {at : Counts → World} {ran : Ran} (C : Came (call R) R at ran) where
   -- what a call came to fits the lent blocks
-  pub came-fits : (K : Lent) → K ≡ L → RanFits ran K
-  came-fits K same = subst (RanFits ran) (sym same) (ran-fits ran L (subst (RanWithin ran) room C.within))
+  pub came_fits : (K : Lent) → K ≡ L → RanFits ran K
+  came_fits K same = subst (RanFits ran) (sym same) (ran_fits ran L (subst (RanWithin ran) room C.within))
 
   -- and finished, they hold its outcome
   pub answered : (K : Lent) (a : Answer) (p : List Float) (r c : List ℕ) (v : List Float) (e : List ℕ) (l : List Float) (o g : List ℕ) → K ≡ L → Finished ran at K a p r c v e l o g
@@ -165,15 +165,15 @@ module _ (call : Rooms → Outcome) (L : Lent) {R : Rooms} (room : R ≡ rooms_o
 -- ---- one answer
 
 -- any two results that are allowed for one outcome and one set of lent lengths are equal, in the answer and in every lent place
-pub agree-answers :
+pub agree_answers :
     (x : Outcome) (L : Lent) (a a' : Answer) (p p' : List Float) (r r' c c' : List ℕ) (v v' : List Float) (e e' : List ℕ) (l l' : List Float) (o o' g g' : List ℕ)
     → Answered x L a p r c v e l o g → Answered x L a' p' r' c' v' e' l' o' g'
     → (a ≡ a') × (p ≡ p') × (r ≡ r') × (c ≡ c') × (v ≡ v') × (e ≡ e') × (l ≡ l') × (o ≡ o') × (g ≡ g')
-agree-answers x L a a' p p' r r' c c' v v' e e' l l' o o' g g' A B =
+agree_answers x L a a' p p' r r' c c' v v' e e' l l' o o' g g' A B =
     let h = agree (shown x) L p p' r r' c c' v v' e e' l l' o o' g g' A.blocks B.blocks in
     (A.answer ∙ sym B.answer, h.0, h.1, h.2, h.3, h.4, h.5, h.6, h.7)
 
 -- after a refusal every lent place is 0
-pub refused-zeros : (n : ℕ) (L : Lent) (a : Answer) (p : List Float) (r c : List ℕ) (v : List Float) (e : List ℕ) (l : List Float) (o g : List ℕ) → Answered (refused n) L a p r c v e l o g
+pub refused_zeros : (n : ℕ) (L : Lent) (a : Answer) (p : List Float) (r c : List ℕ) (v : List Float) (e : List ℕ) (l : List Float) (o g : List ℕ) → Answered (refused n) L a p r c v e l o g
     → (a ≡ Refused n) × Zero L p r c v e l o g
-refused-zeros n L a p r c v e l o g A = (A.answer, zeros L p r c v e l o g A.blocks)
+refused_zeros n L a p r c v e l o g A = (A.answer, zeros L p r c v e l o g A.blocks)

@@ -4,13 +4,13 @@ use Rattle.lists.specs.Lists.{pick, any}
 use Rattle.model.specs.Mesh.{Mesh}
 use Rattle.model.specs.Run as M
 use Rattle.model.specs.Run.{Need, start}
-use Rattle.model.specs.Calls.{firstFault, Outcome}
+use Rattle.model.specs.Calls.{first_fault, Outcome}
 use Rattle.mesh.specs.Log.{Words, World}
-use Rattle.mesh.specs.Given.{Given, Lent, sizes, sizesFit, asRooms}
+use Rattle.mesh.specs.Given.{Given, Lent, sizes, sizes_fit_of, as_rooms}
 use Rattle.mesh.specs.Filled.{Filled, Fits}
 use Rattle.mesh.specs.declared.Counts.{Counts}
 use Rattle.mesh.specs.declared.Rooms.{Rooms}
-use Rattle.mesh.specs.Widths.{pointColumns, cornerColumns, endColumns, lengthColumns, rootColumns, volumeColumns, sideColumns}
+use Rattle.mesh.specs.Widths.{point_columns, corner_columns, end_columns, length_columns, root_columns, volume_columns, side_columns}
 use Rattle.work.specs.Working.{Within}
 use Rattle.work.specs.declared.Ran.{Ran}
 use Rattle.work.specs.declared.Ran.TheVariants.{Refused as Stopped, Done as Ended}
@@ -21,42 +21,42 @@ use Rattle.call_frame.specs.declared.Answer.TheVariants.{Refused, Done}
 -- ---- what a log tells
 
 -- an entry of this kind tells of something split or inserted
-abbrev pub kindChanges : ℕ → Bool
-kindChanges n = pick (eqb n 1) true (eqb n 3)
+abbrev pub kind_changes_of : ℕ → Bool
+kind_changes_of n = pick (eqb n 1) true (eqb n 3)
 
 -- some entry of a log does, by its words
-abbrev pub wordsChange : List Words → Bool
-wordsChange l = any (λ (e : Words). kindChanges e.kind) l
+abbrev pub words_change : List Words → Bool
+words_change l = any (λ (e : Words). kind_changes_of e.kind) l
 
 -- ---- the beginning
 
 -- what the copy of an input with these counts needs
-abbrev pub copyNeed : Counts → Need
-copyNeed k = record { particles = k.particles; edges = k.edges; boundary = k.boundary; log = 0 }
+abbrev pub copy_need : Counts → Need
+copy_need k = record { particles = k.particles; edges = k.edges; boundary = k.boundary; log = 0 }
 
 -- the refusal that is there, or that of the room which the copy of M lacks
-abbrev pub begunWith : ℕ → M.Rooms → Mesh → ℕ
-begunWith code L N = pick (eqb code 0) (firstFault L (start N).needs) code
+abbrev pub begun_with : ℕ → M.Rooms → Mesh → ℕ
+begun_with code L N = pick (eqb code 0) (first_fault L (start N).needs) code
 
 -- the rooms are within the columns of the seven blocks
 pub record RoomsLent (R : Rooms) (I : Lent) : Type 0 where
-  pub points : R.particles ≤ I.points / pointColumns
-  pub roots : R.particles ≤ I.roots / rootColumns
-  pub corners : R.triangles ≤ I.corners / cornerColumns
-  pub volumes : R.triangles ≤ I.volumes / volumeColumns
-  pub ends : R.edges ≤ I.ends / endColumns
-  pub lengths : R.edges ≤ I.lengths / lengthColumns
-  pub outline : R.boundary ≤ I.outline / sideColumns
+  pub points : R.particles ≤ I.points / point_columns
+  pub roots : R.particles ≤ I.roots / root_columns
+  pub corners : R.triangles ≤ I.corners / corner_columns
+  pub volumes : R.triangles ≤ I.volumes / volume_columns
+  pub ends : R.edges ≤ I.ends / end_columns
+  pub lengths : R.edges ≤ I.lengths / length_columns
+  pub outline : R.boundary ≤ I.outline / side_columns
 
 -- what is asked before an input is copied: where nothing has refused it, its sizes fit, and its triangles have room
 pub record BeginAsked (code : ℕ) (R : Rooms) (G : Given) (I : Lent) : Type 0 where
-  pub sized : code ≡ 0 → sizesFit G ≡ true
+  pub sized : code ≡ 0 → sizes_fit_of G ≡ true
   pub triangles : code ≡ 0 → (sizes G).triangles ≤ R.triangles
   pub rooms : RoomsLent R I
 
 -- the number that is told, and the mesh that the lent blocks hold where it is 0
 pub record Begun (code : ℕ) (R : Rooms) (N held : Mesh) (r : ℕ) : Type 0 where
-  pub number : r ≡ begunWith code (asRooms R) N
+  pub number : r ≡ begun_with code (as_rooms R) N
   pub copied : r ≡ 0 → held ≡ N
 
 -- ---- the end
@@ -67,14 +67,14 @@ RanFits (Stopped c) L = Unit {0}
 RanFits (Ended k) L = Fits k L
 
 -- what is shown of what a worker came to, where the blocks hold `at` of its counts
-abbrev pub shownOf : Ran → (Counts → World) → World
-shownOf (Stopped c) at = nothing
-shownOf (Ended k) at = at k
+abbrev pub shown_of : Ran → (Counts → World) → World
+shown_of (Stopped c) at = nothing
+shown_of (Ended k) at = at k
 
 -- what is answered of it
 abbrev pub said_of : Ran → (Counts → World) → Answer
 said_of (Stopped c) at = Refused c
-said_of (Ended k) at = Done k (wordsChange (at k).log)
+said_of (Ended k) at = Done k (words_change (at k).log)
 
 -- the counts that a worker came to are within the rooms
 abbrev pub RanWithin : Ran → Rooms → Type 0
@@ -84,10 +84,10 @@ RanWithin (Ended k) R = Within k R
 -- a call came to the outcome o, in rooms R and in blocks that hold `at` of its counts
 pub record Came (o : Outcome) (R : Rooms) (at : Counts → World) (ran : Ran) : Type 0 where
   pub said : said_of ran at ≡ answer_of o
-  pub shows : shownOf ran at ≡ shown o
+  pub shows : shown_of ran at ≡ shown o
   pub within : RanWithin ran R
 
 -- the answer, and every lent place
 pub record Finished (ran : Ran) (at : Counts → World) (L : Lent) (a : Answer) (p : List Float) (r c : List ℕ) (v : List Float) (e : List ℕ) (l : List Float) (b g : List ℕ) : Type 0 where
   pub answer : a ≡ said_of ran at
-  pub blocks : Filled (shownOf ran at) L p r c v e l b g
+  pub blocks : Filled (shown_of ran at) L p r c v e l b g

@@ -2,8 +2,8 @@
 ghost use Rattle.std.specs.Prelude.{◌≡◌, ◌≤◌, length, take};
 ghost use Rattle.lists.specs.Lists.{padded};
 ghost use Rattle.mesh.specs.Filled.{Filled, Fits, lent};
-ghost use Rattle.mesh.specs.Blocks.{lentIn, lentBefore};
-ghost use Rattle.mesh.specs.Log.{worldAt};
+ghost use Rattle.mesh.specs.Blocks.{lent_in, lent_before};
+ghost use Rattle.mesh.specs.Log.{world_at};
 
 use mesh::Counts;
 
@@ -31,9 +31,9 @@ pub fn finish_all(
     outline: &mut [usize],
     log: &mut [u32],
 )
-    requires { Fits k (lentIn points roots corners volumes ends lengths outline log) }
-    ensures { Filled (worldAt k points.old roots.old corners.old volumes.old ends.old lengths.old outline.old log.old)
-        (lentBefore points roots corners volumes ends lengths outline log) points.new roots.new corners.new
+    requires { Fits k (lent_in points roots corners volumes ends lengths outline log) }
+    ensures { Filled (world_at k points.old roots.old corners.old volumes.old ends.old lengths.old outline.old log.old)
+        (lent_before points roots corners volumes ends lengths outline log) points.new roots.new corners.new
         volumes.new ends.new lengths.new outline.new log.new }
 {
     let mut none = [0usize; 1];

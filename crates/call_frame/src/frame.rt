@@ -1,11 +1,11 @@
 // The frame around the workers of a call: the input copied, or a refusal; and the lent blocks finished with the answer.
 ghost use Rattle.std.specs.Prelude.{◌≡◌, []};
-ghost use Rattle.model.specs.Calls.{tooSmall};
-ghost use Rattle.mesh.specs.Given.{meshOf, sizes, asRooms};
+ghost use Rattle.model.specs.Calls.{too_small};
+ghost use Rattle.mesh.specs.Given.{mesh_of, sizes, as_rooms};
 ghost use Rattle.mesh.specs.Filled.{lent};
-ghost use Rattle.call_frame.specs.Framed.{copyNeed, BeginAsked, Begun, RanFits, Finished};
-ghost use Rattle.mesh.specs.Blocks.{meshBehind, lentIn, lentBefore, givenIn, givenBefore, blocksIn};
-ghost use Rattle.mesh.specs.Log.{worldAt};
+ghost use Rattle.call_frame.specs.Framed.{copy_need, BeginAsked, Begun, RanFits, Finished};
+ghost use Rattle.mesh.specs.Blocks.{mesh_behind, lent_in, lent_before, given_in, given_before, blocks_in};
+ghost use Rattle.mesh.specs.Log.{world_at};
 
 use crate::Answer;
 use mesh::{Counts, Rooms};
@@ -13,7 +13,7 @@ use work::Ran;
 
 // 5, 6 or 7 if the copy of an input with these counts lacks room for particles, edges or boundary, else 0.
 pub fn lacking(k: Counts, room: Rooms) -> usize
-    ensures { result ≡ tooSmall (asRooms room) (copyNeed k) }
+    ensures { result ≡ too_small (as_rooms room) (copy_need k) }
 {
     if room.particles < k.particles {
         return mesh::refusals::PARTICLES;
@@ -46,10 +46,10 @@ pub fn begin(
     lengths: &mut [f32],
     outline: &mut [usize],
 ) -> usize
-    requires { BeginAsked code room (givenIn in_points in_roots in_corners in_volumes in_ends in_lengths in_outline)
-        (blocksIn points roots corners volumes ends lengths outline) }
-    ensures { let G = givenBefore in_points in_roots in_corners in_volumes in_ends in_lengths in_outline in
-        Begun code room (meshOf G) (meshBehind (sizes G) points roots corners volumes ends lengths outline) result }
+    requires { BeginAsked code room (given_in in_points in_roots in_corners in_volumes in_ends in_lengths in_outline)
+        (blocks_in points roots corners volumes ends lengths outline) }
+    ensures { let G = given_before in_points in_roots in_corners in_volumes in_ends in_lengths in_outline in
+        Begun code room (mesh_of G) (mesh_behind (sizes G) points roots corners volumes ends lengths outline) result }
 {
     if code != 0 {
         return code;
@@ -84,9 +84,9 @@ pub fn finish(
     outline: &mut [usize],
     log: &mut [u32],
 ) -> Answer
-    requires { RanFits ran (lentIn points roots corners volumes ends lengths outline log) }
-    ensures { Finished ran (λ k. worldAt k points.old roots.old corners.old volumes.old ends.old lengths.old outline.old log.old)
-        (lentBefore points roots corners volumes ends lengths outline log) result points.new roots.new corners.new
+    requires { RanFits ran (lent_in points roots corners volumes ends lengths outline log) }
+    ensures { Finished ran (λ k. world_at k points.old roots.old corners.old volumes.old ends.old lengths.old outline.old log.old)
+        (lent_before points roots corners volumes ends lengths outline log) result points.new roots.new corners.new
         volumes.new ends.new lengths.new outline.new log.new }
 {
     match ran {

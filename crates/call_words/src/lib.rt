@@ -4,15 +4,15 @@
 ghost use Rattle.std.specs.Prelude.{◌≡◌, length};
 ghost use Rattle.mesh_calls.specs.declared.Job.TheVariants.{Cut};
 ghost use Rattle.image.specs.Words.{number_of};
-ghost use Rattle.reading_replies.specs.Replies.{pointAt};
-ghost use Rattle.call_words.specs.Rooms.{Limited, roomsGiven, roomsToo, lacksRoom};
+ghost use Rattle.reading_replies.specs.Replies.{point_at_of};
+ghost use Rattle.call_words.specs.Rooms.{Limited, rooms_given, rooms_too, lacks_room_of};
 
 use mesh::Rooms;
 use mesh_calls::Job;
 
 // The rooms that four words and so many log bytes are; other bytes are none.
 pub fn rooms_in(rooms: &[u8], logged: usize) -> Rooms
-    ensures { Limited result logged × (length rooms.now ≡ 16 → result ≡ roomsGiven rooms.now logged) }
+    ensures { Limited result logged × (length rooms.now ≡ 16 → result ≡ rooms_given rooms.now logged) }
 {
     if rooms.len() != 16 {
         return Rooms {
@@ -34,7 +34,7 @@ pub fn rooms_in(rooms: &[u8], logged: usize) -> Rooms
 
 // The refusal of a job, where the rooms are four words; other rooms are a bad argument, 4, which comes behind 1 to 3 and before the rest.
 pub fn with_rooms(code: usize, sixteen: bool) -> usize
-    ensures { result ≡ roomsToo code sixteen }
+    ensures { result ≡ rooms_too code sixteen }
 {
     if sixteen {
         return code;
@@ -47,7 +47,7 @@ pub fn with_rooms(code: usize, sixteen: bool) -> usize
 
 // Does a refusal say that a room lacks?
 pub fn lacks_room(code: u32) -> bool
-    ensures { result ≡ lacksRoom code }
+    ensures { result ≡ lacks_room_of code }
 {
     judge::tests::both(5 <= code, code <= 8)
 }
@@ -55,7 +55,7 @@ pub fn lacks_room(code: u32) -> bool
 // The cut in an edition along a blade of four words, with the insertion fraction of a word.
 pub fn cut_job(blade: &[u8], edition: u32, fraction: u32) -> Job
     requires { length blade.now ≡ 16 }
-    ensures { result ≡ Cut edition (pointAt blade.now 0) (pointAt blade.now 2) (number_of fraction) }
+    ensures { result ≡ Cut edition (point_at_of blade.now 0) (point_at_of blade.now 2) (number_of fraction) }
 {
     let b0 = reading_replies::leaves::point_at(blade, 0);
     let b1 = reading_replies::leaves::point_at(blade, 2);

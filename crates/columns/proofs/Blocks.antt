@@ -11,28 +11,28 @@ use lib.ListN.{length, get_or, take, drop, set, length-set}
 use lib.Seq.{take-take, drop-drop, get_or-take, get_or-set_same, get_or-set_other}
 use lib.Dec.{eqb}
 use borrow.Rule.Slice.PartMut.{mid_of, put_mid, mid_len, drop_put}
-use Rattle.lists.specs.Lists.{up_to, tab, pick, keep, keptOf, padded}
+use Rattle.lists.specs.Lists.{up_to, tab, pick, keep, kept_of, padded}
 use Rattle.columns.specs.View.{NextMarked, Shifted}
 use Rattle.columns.specs.Block.{cell, stack, block_of, BlockKept, BlockShifted, BlockCopied, RowCopied}
-use Rattle.columns.proofs.Rows.{tab-length}
-use Rattle.columns.proofs.Keep.{Compacting, compact-start, compact-more, compact-done, compact-row}
-use Rattle.columns.proofs.Cells.{next-col, col-fits, store_same, store-row, store-col, part-before, part_in, part_length, part-front, mid_at}
+use Rattle.columns.proofs.Rows.{tab_length}
+use Rattle.columns.proofs.Keep.{Compacting, compact_start, compact_more, compact_done, compact_row}
+use Rattle.columns.proofs.Cells.{next_col, col_fits, store_same, store_row, store_col, part_before, part_in, part_length, part_front, mid_at}
 
 -- what is kept is among what was there
-pub kept-few : {A : Type 0} (m : List ℕ) (l : List A) → length (keep m l) ≤ length l
+pub kept_few : {A : Type 0} (m : List ℕ) (l : List A) → length (keep m l) ≤ length l
 unfolding keep
-kept-few m [] = zero-le
-kept-few [] (a ∷ l) = suc-le-suc (kept-few [] l)
-kept-few (b ∷ m) (a ∷ l) = by (eqb b 1) (kept-few m l)
+kept_few m [] = zero-le
+kept_few [] (a ∷ l) = suc-le-suc (kept_few [] l)
+kept_few (b ∷ m) (a ∷ l) = by (eqb b 1) (kept_few m l)
   where
     by : (t : Bool) → length (keep m l) ≤ length l → length (pick t (keep m l) (a ∷ keep m l)) ≤ suc (length l)
     by true h = omega arith
     by false h = suc-le-suc h
 
 -- a mask leaves at most n of n places
-pub kept-le : (m : List ℕ) (n : ℕ) → keptOf m n ≤ n
-unfolding keptOf up_to
-kept-le m n = omega (arith, kept-few m (tab n (λ k. k)), tab-length n (λ k. k))
+pub kept_le : (m : List ℕ) (n : ℕ) → kept_of m n ≤ n
+unfolding kept_of up_to
+kept_le m n = omega (arith, kept_few m (tab n (λ k. k)), tab_length n (λ k. k))
 
 -- ---- move
 -- at the head of the loop over one column: i places are moved
@@ -43,12 +43,12 @@ pub record Shifting {A : Type 0} (d : A) (to from : ℕ) (s₀ s : List A) (i : 
 
 module _ {A : Type 0} (d : A) (to from : ℕ) where
   -- before the first turn no place is moved
-  pub shift-start : (s : List A) → Shifting d to from s s 0
-  shift-start s = record { long = refl; moved = λ k h. absurd (not-suc-le-zero h); other = λ j h. refl }
+  pub shift_start : (s : List A) → Shifting d to from s s 0
+  shift_start s = record { long = refl; moved = λ k h. absurd (not-suc-le-zero h); other = λ j h. refl }
 
   -- a turn moves one place more: it lies behind all that were written
-  pub shift-more : (s₀ s : List A) (i : ℕ) → Shifting d to from s₀ s i → to ≤ from → from + i < length s₀ → Shifting d to from s₀ (set s (to + i) (get_or s (from + i) d)) (i + 1)
-  shift-more s₀ s i v h g =
+  pub shift_more : (s₀ s : List A) (i : ℕ) → Shifting d to from s₀ s i → to ≤ from → from + i < length s₀ → Shifting d to from s₀ (set s (to + i) (get_or s (from + i) d)) (i + 1)
+  shift_more s₀ s i v h g =
       record {
         long = length-set s (to + i) (get_or s (from + i) d) ∙ v.long;
         moved = λ k p. by k p (ℕ_discrete k i);
@@ -60,8 +60,8 @@ module _ {A : Type 0} (d : A) (to from : ℕ) where
       by k p (no e) = get_or-set_other s (to + i) (to + k) (get_or s (from + i) d) d (λ q. e (omega arith)) ∙ v.moved k (omega (arith, e))
 
   -- after the last turn all are moved
-  pub shift-done : (s₀ s : List A) (i len : ℕ) → Shifting d to from s₀ s i → i ≡ len → Shifted d to from len s₀ s
-  shift-done s₀ s i len v e = rw (← e) (record { moved = v.moved; other = v.other })
+  pub shift_done : (s₀ s : List A) (i len : ℕ) → Shifting d to from s₀ s i → i ≡ len → Shifted d to from len s₀ s
+  shift_done s₀ s i len v e = rw (← e) (record { moved = v.moved; other = v.other })
 
 -- at the head of the loop over the columns: those before c are done, and the others are as they were
 pub record BlockShifting {A : Type 0} (d : A) (to from len w R : ℕ) (s₀ s : List A) (c o : ℕ) : Type 0 where
@@ -73,28 +73,28 @@ pub record BlockShifting {A : Type 0} (d : A) (to from len w R : ℕ) (s₀ s : 
 
 module _ {A : Type 0} (d : A) (to from len w R : ℕ) where
   -- before the first turn no column is done
-  pub block-shift-start : (s : List A) → BlockShifting d to from len w R s s 0 0
-  block-shift-start s =
+  pub block_shift_start : (s : List A) → BlockShifting d to from len w R s s 0 0
+  block_shift_start s =
       record { at = sym (zero-mul R); below = zero-le; long = refl; moved = λ j k h. absurd (not-suc-le-zero h); other = λ j k h n. refl }
 
   -- a shift in column c, by its cells
-  shift-moves : (s s' : List A) (c : ℕ) → Shifted d (c * R + to) (c * R + from) len s s' → (k : ℕ) → k < len → cell d R s' c (to + k) ≡ cell d R s c (from + k)
+  shift_moves : (s s' : List A) (c : ℕ) → Shifted d (c * R + to) (c * R + from) len s s' → (k : ℕ) → k < len → cell d R s' c (to + k) ≡ cell d R s c (from + k)
   unfolding cell
-  shift-moves s s' c q k h =
+  shift_moves s s' c q k h =
       let a : c * R + to + k ≡ c * R + (to + k) = omega arith in
       let b : c * R + from + k ≡ c * R + (from + k) = omega arith in
       ap (λ (x : ℕ). get_or s' x d) (sym a) ∙ q.moved k h ∙ ap (λ (x : ℕ). get_or s x d) b
 
   -- a shift in column c leaves the cells of other columns, and of other rows
-  shift-leaves : (s s' : List A) (c : ℕ) → Shifted d (c * R + to) (c * R + from) len s s' → to ≤ from → from + len ≤ R
+  shift_leaves : (s s' : List A) (c : ℕ) → Shifted d (c * R + to) (c * R + from) len s s' → to ≤ from → from + len ≤ R
       → (j k : ℕ) → k < R → (j ≡ c → to ≤ k → k < to + len → ⊥) → cell d R s' j k ≡ cell d R s j k
   unfolding cell
-  shift-leaves s s' c q h g j k hk ne = q.other (j * R + k) out
+  shift_leaves s s' c q h g j k hk ne = q.other (j * R + k) out
     where
       out : c * R + to ≤ j * R + k → j * R + k < c * R + to + len → ⊥
       out a b =
-          let low : j < c → ⊥ = λ l. omega (arith, col-fits j c R l) in
-          let high : c < j → ⊥ = λ l. omega (arith, col-fits c j R l) in
+          let low : j < c → ⊥ = λ l. omega (arith, col_fits j c R l) in
+          let high : c < j → ⊥ = λ l. omega (arith, col_fits c j R l) in
           let e : j ≡ c = omega (arith, low, high) in
           let f : j * R ≡ c * R = ap (λ (x : ℕ). x * R) e in
           ne e (omega arith) (omega arith)
@@ -102,29 +102,29 @@ module _ {A : Type 0} (d : A) (to from len w R : ℕ) where
   module _ (s₀ s : List A) (c o : ℕ) (v : BlockShifting d to from len w R s₀ s c o) (h : c < w) (back : to ≤ from) (few : from + len ≤ R) (room : w * R ≤ length s₀) where
     -- the turn's column lies in the block
     pub shift_fits : o + R ≤ length s
-    shift_fits = omega (arith, col-fits c w R h, v.at, v.long)
+    shift_fits = omega (arith, col_fits c w R h, v.at, v.long)
 
     -- a turn does one column more
-    pub block-shift-more : (s' : List A) → Shifted d (o + to) (o + from) len s s' → length s' ≡ length s → BlockShifting d to from len w R s₀ s' (c + 1) (o + R)
-    block-shift-more s' q long =
+    pub block_shift_more : (s' : List A) → Shifted d (o + to) (o + from) len s s' → length s' ≡ length s → BlockShifting d to from len w R s₀ s' (c + 1) (o + R)
+    block_shift_more s' q long =
         record {
-          at = ap (λ (x : ℕ). x + R) v.at ∙ sym (next-col c R);
+          at = ap (λ (x : ℕ). x + R) v.at ∙ sym (next_col c R);
           below = omega arith;
           long = long ∙ v.long;
           moved = λ j k hj hk. by j k hj hk (ℕ_discrete j c);
-          other = λ j k hk ne. shift-leaves s s' c here back few j k hk (λ e. ne (omega arith)) ∙ v.other j k hk (λ l. ne (omega arith));
+          other = λ j k hk ne. shift_leaves s s' c here back few j k hk (λ e. ne (omega arith)) ∙ v.other j k hk (λ l. ne (omega arith));
         }
       where
         here : Shifted d (c * R + to) (c * R + from) len s s'
         here = rw (← v.at) q
 
         by : (j k : ℕ) → j < c + 1 → k < len → Dec (j ≡ c) → cell d R s' j (to + k) ≡ cell d R s₀ j (from + k)
-        by j k hj hk (yes e) = rw e (shift-moves s s' c here k hk ∙ v.other c (from + k) (omega arith) (λ l. absurd (omega arith)))
-        by j k hj hk (no e) = shift-leaves s s' c here back few j (to + k) (omega arith) (λ x. absurd (e x)) ∙ v.moved j k (omega (arith, e)) hk
+        by j k hj hk (yes e) = rw e (shift_moves s s' c here k hk ∙ v.other c (from + k) (omega arith) (λ l. absurd (omega arith)))
+        by j k hj hk (no e) = shift_leaves s s' c here back few j (to + k) (omega arith) (λ x. absurd (e x)) ∙ v.moved j k (omega (arith, e)) hk
 
   -- after the last turn every column is done
-  pub block-shift-done : (s₀ s : List A) (c o : ℕ) → BlockShifting d to from len w R s₀ s c o → w ≤ c → BlockShifted d to from len w R s₀ s
-  block-shift-done s₀ s c o v h =
+  pub block_shift_done : (s₀ s : List A) (c o : ℕ) → BlockShifting d to from len w R s₀ s c o → w ≤ c → BlockShifted d to from len w R s₀ s
+  block_shift_done s₀ s c o v h =
       record { moved = λ j k hj hk. v.moved j k (omega arith) hk; other = λ j k hk ne. v.other j k hk (λ _. ne) }
 
 -- ---- keep
@@ -137,24 +137,24 @@ pub record BlockKeeping {A : Type 0} (d : A) (m : List ℕ) (n w R : ℕ) (s₀ 
 
 module _ {A : Type 0} (d : A) (m : List ℕ) (n w R : ℕ) where
   -- before the first turn nothing but what stands before the first marked row is kept
-  pub block-keep-start : (s : List A) (r : ℕ) → NextMarked m 0 n r → BlockKeeping d m n w R s s r r
-  block-keep-start s r x = record { long = refl; within = omega arith; below = x.below; columns = λ c h. compact-start m n _ r x }
+  pub block_keep_start : (s : List A) (r : ℕ) → NextMarked m 0 n r → BlockKeeping d m n w R s s r r
+  block_keep_start s r x = record { long = refl; within = omega arith; below = x.below; columns = λ c h. compact_start m n _ r x }
 
   -- a turn moves the rows up to the next marked one
-  pub block-keep-more : (s₀ s s' : List A) (left r b : ℕ) → BlockKeeping d m n w R s₀ s left r → r < n → NextMarked m (r + 1) n b → BlockShifted d left (r + 1) (b - (r + 1)) w R s s' → length s' ≡ length s → n ≤ R
+  pub block_keep_more : (s₀ s s' : List A) (left r b : ℕ) → BlockKeeping d m n w R s₀ s left r → r < n → NextMarked m (r + 1) n b → BlockShifted d left (r + 1) (b - (r + 1)) w R s s' → length s' ≡ length s → n ≤ R
       → BlockKeeping d m n w R s₀ s' (left + (b - (r + 1))) b
-  block-keep-more s₀ s s' left r b v h x q long few =
+  block_keep_more s₀ s s' left r b v h x q long few =
       record {
         long = long ∙ v.long;
         within = omega (arith, v.within, x.above);
         below = x.below;
-        columns = λ c p. compact-more m n _ _ _ left r b (v.columns c p) h x (record { moved = λ k l. q.moved c k p l; other = λ k l. q.other c k (omega arith) });
+        columns = λ c p. compact_more m n _ _ _ left r b (v.columns c p) h x (record { moved = λ k l. q.moved c k p l; other = λ k l. q.other c k (omega arith) });
       }
 
   -- after the last turn every column is done
-  pub block-keep-done : (s₀ s : List A) (left r : ℕ) → BlockKeeping d m n w R s₀ s left r → n ≤ r → 0 < w → BlockKept d m n w R s₀ s left
-  block-keep-done s₀ s left r v h some =
-      record { count = (compact-done m n _ _ left r (v.columns 0 some) h).0; cells = λ c k p l. compact-row m n _ _ left r (v.columns c p) h d k l }
+  pub block_keep_done : (s₀ s : List A) (left r : ℕ) → BlockKeeping d m n w R s₀ s left r → n ≤ r → 0 < w → BlockKept d m n w R s₀ s left
+  block_keep_done s₀ s left r v h some =
+      record { count = (compact_done m n _ _ left r (v.columns 0 some) h).0; cells = λ c k p l. compact_row m n _ _ left r (v.columns c p) h d k l }
 
 -- ---- copy
 -- at the head of the loop: columns before c are copied
@@ -167,35 +167,35 @@ pub record BlockCopying {A : Type 0} (d : A) (n w R : ℕ) (src s₀ s : List A)
 
 module _ {A : Type 0} (d : A) (n w R : ℕ) (src : List A) where
   -- before the first turn no column is copied
-  pub block-copy-start : (s : List A) → BlockCopying d n w R src s s 0 0 0
-  block-copy-start s = record { at = sym (zero-mul R); from = sym (zero-mul n); below = zero-le; long = refl; done = λ j k h. absurd (not-suc-le-zero h) }
+  pub block_copy_start : (s : List A) → BlockCopying d n w R src s s 0 0 0
+  block_copy_start s = record { at = sym (zero-mul R); from = sym (zero-mul n); below = zero-le; long = refl; done = λ j k h. absurd (not-suc-le-zero h) }
 
   module _ (s₀ s : List A) (c o a : ℕ) (v : BlockCopying d n w R src s₀ s c o a) (h : c < w) (given : w * n ≤ length src) (room : w * R ≤ length s₀) (few : n ≤ R) where
     -- the turn's column lies in the block
-    pub copy-part-fits : o + R ≤ length s
-    copy-part-fits = omega (arith, col-fits c w R h, v.at, v.long)
+    pub copy_part_fits : o + R ≤ length s
+    copy_part_fits = omega (arith, col_fits c w R h, v.at, v.long)
 
     -- the turn's column lies in the source
-    pub copy-part-given : a + n ≤ length src
-    copy-part-given = omega (arith, col-fits c w n h, v.from)
+    pub copy_part_given : a + n ≤ length src
+    copy_part_given = omega (arith, col_fits c w n h, v.from)
 
     -- a turn copies one column more
-    pub block-copy-more : (p : List A) → take (length (mid_of a (a + n - a) src)) p ≡ mid_of a (a + n - a) src → length p ≡ length (mid_of o (o + R - o) s) → BlockCopying d n w R src s₀ (put_mid o (o + R - o) s p) (c + 1) (o + R) (a + n)
+    pub block_copy_more : (p : List A) → take (length (mid_of a (a + n - a) src)) p ≡ mid_of a (a + n - a) src → length p ≡ length (mid_of o (o + R - o) s) → BlockCopying d n w R src s₀ (put_mid o (o + R - o) s p) (c + 1) (o + R) (a + n)
     unfolding cell
-    block-copy-more p q long =
+    block_copy_more p q long =
         record {
-          at = ap (λ (x : ℕ). x + R) v.at ∙ sym (next-col c R);
-          from = ap (λ (x : ℕ). x + n) v.from ∙ sym (next-col c n);
+          at = ap (λ (x : ℕ). x + R) v.at ∙ sym (next_col c R);
+          from = ap (λ (x : ℕ). x + n) v.from ∙ sym (next_col c n);
           below = omega arith;
           long = part_length d s p o R fits long ∙ v.long;
           done = λ j k hj hk. by j k hj hk (ℕ_discrete j c);
         }
       where
         fits : o + R ≤ length s
-        fits = copy-part-fits
+        fits = copy_part_fits
 
         wide : length (mid_of a (a + n - a) src) ≡ n
-        wide = let e : a + n - a ≡ n = omega arith in mid_len a (a + n) src copy-part-given ∙ e
+        wide = let e : a + n - a ≡ n = omega arith in mid_len a (a + n) src copy_part_given ∙ e
 
         by : (j k : ℕ) → j < c + 1 → k < n → Dec (j ≡ c) → get_or (put_mid o (o + R - o) s p) (j * R + k) d ≡ get_or src (j * n + k) d
         by j k hj hk (yes q') =
@@ -205,11 +205,11 @@ module _ {A : Type 0} (d : A) (n w R : ℕ) (src : List A) where
             (part_in d s p o R fits long k (omega arith) ∙ sym (get_or-take (length (mid_of a (a + n - a) src)) p k d (rw wide hk)) ∙ ap (λ (t : List A). get_or t k d) q ∙ mid_at d src a n k hk)
         by j k hj hk (no q') =
             let g : j < c = omega (arith, q') in
-            part-before d s p o R fits long (j * R + k) (omega (arith, col-fits j c R g, v.at)) ∙ v.done j k g hk
+            part_before d s p o R fits long (j * R + k) (omega (arith, col_fits j c R g, v.at)) ∙ v.done j k g hk
 
   -- after the last turn every column is copied
-  pub block-copy-done : (s₀ s : List A) (c o a : ℕ) → BlockCopying d n w R src s₀ s c o a → w ≤ c → BlockCopied d n w R src s
-  block-copy-done s₀ s c o a v h = record { cells = λ j k hj hk. v.done j k (omega arith) hk }
+  pub block_copy_done : (s₀ s : List A) (c o a : ℕ) → BlockCopying d n w R src s₀ s c o a → w ≤ c → BlockCopied d n w R src s
+  block_copy_done s₀ s c o a v h = record { cells = λ j k hj hk. v.done j k (omega arith) hk }
 
 -- ---- clear
 -- at the head of the loop: columns before c are cleared, and the rest is as it was
@@ -222,29 +222,29 @@ pub record BlockClearing {A : Type 0} (z : A) (n w R : ℕ) (s₀ s : List A) (c
 
 module _ {A : Type 0} (z : A) (n w R : ℕ) where
   -- before the first turn no column is cleared
-  pub block-clear-start : (s : List A) → BlockClearing z n w R s s 0 0
+  pub block_clear_start : (s : List A) → BlockClearing z n w R s s 0 0
   unfolding stack
-  block-clear-start s = record { at = sym (zero-mul R); below = zero-le; long = refl; front = refl; rest = refl }
+  block_clear_start s = record { at = sym (zero-mul R); below = zero-le; long = refl; front = refl; rest = refl }
 
   module _ (s₀ s : List A) (c o : ℕ) (v : BlockClearing z n w R s₀ s c o) (h : c < w) (room : w * R ≤ length s₀) (few : n ≤ R) where
     -- the turn's column lies in the block
-    pub clear-part-fits : o + R ≤ length s
-    clear-part-fits = omega (arith, col-fits c w R h, v.at, v.long)
+    pub clear_part_fits : o + R ≤ length s
+    clear_part_fits = omega (arith, col_fits c w R h, v.at, v.long)
 
     -- a turn clears one column more
-    pub block-clear-more : (p : List A) → p ≡ padded (length (mid_of o (o + R - o) s)) z (take n (mid_of o (o + R - o) s)) → length p ≡ length (mid_of o (o + R - o) s) → BlockClearing z n w R s₀ (put_mid o (o + R - o) s p) (c + 1) (o + R)
+    pub block_clear_more : (p : List A) → p ≡ padded (length (mid_of o (o + R - o) s)) z (take n (mid_of o (o + R - o) s)) → length p ≡ length (mid_of o (o + R - o) s) → BlockClearing z n w R s₀ (put_mid o (o + R - o) s p) (c + 1) (o + R)
     unfolding stack
-    block-clear-more p q long =
+    block_clear_more p q long =
         record {
-          at = ap (λ (x : ℕ). x + R) v.at ∙ sym (next-col c R);
+          at = ap (λ (x : ℕ). x + R) v.at ∙ sym (next_col c R);
           below = omega arith;
           long = part_length z s p o R fits long ∙ v.long;
-          front = part-front z s p o R fits long ∙ rw (add-one c) (ap₂ (λ (a b : List A). a ++ b) v.front column);
+          front = part_front z s p o R fits long ∙ rw (add-one c) (ap₂ (λ (a b : List A). a ++ b) v.front column);
           rest = drop_put o (o + R) s p (omega arith) fits (long ∙ mid_len o (o + R) s fits) ∙ sym (drop-drop R o s) ∙ ap (drop R) v.rest ∙ drop-drop R o s₀;
         }
       where
         fits : o + R ≤ length s
-        fits = clear-part-fits
+        fits = clear_part_fits
 
         e : o + R - o ≡ R
         e = omega arith
@@ -255,15 +255,15 @@ module _ {A : Type 0} (z : A) (n w R : ℕ) where
             (take-take n (o + R - o) (drop o s) (omega arith) ∙ ap (take n) v.rest ∙ ap (λ (x : ℕ). take n (drop x s₀)) v.at)
 
   -- after the last turn the columns end within the block
-  pub block-clear-all : (s₀ s : List A) (c o : ℕ) → BlockClearing z n w R s₀ s c o → w ≤ c → w * R ≤ length s₀ → o ≤ length s
-  block-clear-all s₀ s c o v h room =
+  pub block_clear_all : (s₀ s : List A) (c o : ℕ) → BlockClearing z n w R s₀ s c o → w ≤ c → w * R ≤ length s₀ → o ≤ length s
+  block_clear_all s₀ s c o v h room =
       let e : c ≡ w = omega (arith, v.below) in
       let f : c * R ≡ w * R = ap (λ (x : ℕ). x * R) e in
       omega (arith, v.at, v.long)
 
   -- with what is left over cleared too, the block is as stated
-  pub block-clear-done : (s₀ s s' : List A) (c o : ℕ) → BlockClearing z n w R s₀ s c o → w ≤ c → s' ≡ padded (length s) z (take o s) → s' ≡ block_of (length s₀) w R z (λ j. take n (drop (j * R) s₀))
-  block-clear-done s₀ s s' c o v h q =
+  pub block_clear_done : (s₀ s s' : List A) (c o : ℕ) → BlockClearing z n w R s₀ s c o → w ≤ c → s' ≡ padded (length s) z (take o s) → s' ≡ block_of (length s₀) w R z (λ j. take n (drop (j * R) s₀))
+  block_clear_done s₀ s s' c o v h q =
       let e : c ≡ w = omega (arith, v.below) in
       q ∙ ap₂ (λ (k : ℕ) (t : List A). padded k z t) v.long (v.front ∙ ap (λ (x : ℕ). stack x (λ j. padded R z (take n (drop (j * R) s₀)))) e)
 
@@ -278,25 +278,25 @@ pub record RowCopying {A : Type 0} (d : A) (v i w R : ℕ) (s₀ s : List A) (c 
 
 module _ {A : Type 0} (d : A) (v i w R : ℕ) where
   -- before the first turn no row is copied
-  pub row-copy-start : (s : List A) → RowCopying d v i w R s s 0 0
-  row-copy-start s = record { at = sym (zero-mul R); below = zero-le; long = refl; new = λ j h. absurd (not-suc-le-zero h); old = λ j k h o. refl }
+  pub row_copy_start : (s : List A) → RowCopying d v i w R s s 0 0
+  row_copy_start s = record { at = sym (zero-mul R); below = zero-le; long = refl; new = λ j h. absurd (not-suc-le-zero h); old = λ j k h o. refl }
 
   module _ (s₀ s : List A) (c o : ℕ) (r : RowCopying d v i w R s₀ s c o) (h : c < w) (room : w * R ≤ length s₀) (far : v < i) (here : i < R) where
     -- the turn's column lies in the block
     pub row_fits : o + R ≤ length s
-    row_fits = omega (arith, col-fits c w R h, r.at, r.long)
+    row_fits = omega (arith, col_fits c w R h, r.at, r.long)
 
     -- a turn copies the row in one column more
-    pub row-copy-more : RowCopying d v i w R s₀ (set s (o + i) (get_or s (o + v) d)) (c + 1) (o + R)
+    pub row_copy_more : RowCopying d v i w R s₀ (set s (o + i) (get_or s (o + v) d)) (c + 1) (o + R)
     unfolding cell
-    row-copy-more =
+    row_copy_more =
         rw r.at
         (record {
-          at = sym (next-col c R);
+          at = sym (next_col c R);
           below = omega arith;
           long = length-set s (c * R + i) (get_or s (c * R + v) d) ∙ r.long;
           new = λ j hj. by j hj (ℕ_discrete j c);
-          old = λ j k hk ne. store-row d R s c i (get_or s (c * R + v) d) j k hk here ne ∙ r.old j k hk ne;
+          old = λ j k hk ne. store_row d R s c i (get_or s (c * R + v) d) j k hk here ne ∙ r.old j k hk ne;
         })
       where
         inside : c * R + i < length s
@@ -304,8 +304,8 @@ module _ {A : Type 0} (d : A) (v i w R : ℕ) where
 
         by : (j : ℕ) → j < c + 1 → Dec (j ≡ c) → cell d R (set s (c * R + i) (get_or s (c * R + v) d)) j i ≡ cell d R s₀ j v
         by j hj (yes q) = rw q (store_same d R s c i (get_or s (c * R + v) d) inside ∙ r.old c v (omega arith) (λ e. omega arith))
-        by j hj (no q) = store-col d R s c i (get_or s (c * R + v) d) j i here here q ∙ r.new j (omega (arith, q))
+        by j hj (no q) = store_col d R s c i (get_or s (c * R + v) d) j i here here q ∙ r.new j (omega (arith, q))
 
   -- after the last turn the row is copied in every column
-  pub row-copy-done : (s₀ s : List A) (c o : ℕ) → RowCopying d v i w R s₀ s c o → w ≤ c → RowCopied d v i w R s₀ s
-  row-copy-done s₀ s c o r h = record { new = λ j hj. r.new j (omega arith); old = r.old }
+  pub row_copy_done : (s₀ s : List A) (c o : ℕ) → RowCopying d v i w R s₀ s c o → w ≤ c → RowCopied d v i w R s₀ s
+  row_copy_done s₀ s c o r h = record { new = λ j hj. r.new j (omega arith); old = r.old }

@@ -10,74 +10,74 @@ use mathlib.Core.List.{List, [], ◌∷◌, ◌++◌, map}
 use lib.ListN.{length, get_or, take, set}
 use lib.Seq.{ext_get_or, get_or-take, length-take-le}
 use lib.Dec.{eqb}
-use Rattle.lists.specs.Lists.{sift, any, all, up_to, tab, pick, keep, keptOf, nth, mapAt}
+use Rattle.lists.specs.Lists.{sift, any, all, up_to, tab, pick, keep, kept_of, nth, map_at_of}
 use Rattle.lists.proofs.Truths.{untrue}
-use Rattle.lists.proofs.Sifts.{pick-ap}
+use Rattle.lists.proofs.Sifts.{pick_ap}
 
 module _ {A : Type 0} where
   -- a view of n rows has n rows
-  pub tab-length : (n : ℕ) (f : ℕ → A) → length (tab n f) ≡ n
+  pub tab_length : (n : ℕ) (f : ℕ → A) → length (tab n f) ≡ n
   unfolding tab
-  tab-length zero f = refl
-  tab-length (suc n) f = ap suc (tab-length n (λ k. f (suc k)))
+  tab_length zero f = refl
+  tab_length (suc n) f = ap suc (tab_length n (λ k. f (suc k)))
 
   -- row k of a view is what it was made of
-  pub tab-at : (n : ℕ) (f : ℕ → A) (k : ℕ) (d : A) → k < n → get_or (tab n f) k d ≡ f k
+  pub tab_at : (n : ℕ) (f : ℕ → A) (k : ℕ) (d : A) → k < n → get_or (tab n f) k d ≡ f k
   unfolding tab
-  tab-at zero f k d h = absurd (not-suc-le-zero h)
-  tab-at (suc n) f zero d h = refl
-  tab-at (suc n) f (suc k) d h = tab-at n (λ j. f (suc j)) k d (le_of_suc-le-suc h)
+  tab_at zero f k d h = absurd (not-suc-le-zero h)
+  tab_at (suc n) f zero d h = refl
+  tab_at (suc n) f (suc k) d h = tab_at n (λ j. f (suc j)) k d (le_of_suc-le-suc h)
 
   -- two views are equal where their rows are
-  pub tab-ext : (n : ℕ) (f g : ℕ → A) → ((k : ℕ) → k < n → f k ≡ g k) → tab n f ≡ tab n g
+  pub tab_ext : (n : ℕ) (f g : ℕ → A) → ((k : ℕ) → k < n → f k ≡ g k) → tab n f ≡ tab n g
   unfolding tab
-  tab-ext zero f g h = refl
-  tab-ext (suc n) f g h = ap₂ ◌∷◌ (h 0 (suc-le-suc zero-le)) (tab-ext n (λ k. f (suc k)) (λ k. g (suc k)) (λ k p. h (suc k) (suc-le-suc p)))
+  tab_ext zero f g h = refl
+  tab_ext (suc n) f g h = ap₂ ◌∷◌ (h 0 (suc-le-suc zero-le)) (tab_ext n (λ k. f (suc k)) (λ k. g (suc k)) (λ k p. h (suc k) (suc-le-suc p)))
 
   -- a view of one row more has it last
-  pub tab-suc : (n : ℕ) (f : ℕ → A) → tab (suc n) f ≡ tab n f ++ (f n ∷ [])
+  pub tab_suc : (n : ℕ) (f : ℕ → A) → tab (suc n) f ≡ tab n f ++ (f n ∷ [])
   unfolding tab
-  tab-suc zero f = refl
-  tab-suc (suc n) f = ap (λ (l : List A). f 0 ∷ l) (tab-suc n (λ k. f (suc k)))
+  tab_suc zero f = refl
+  tab_suc (suc n) f = ap (λ (l : List A). f 0 ∷ l) (tab_suc n (λ k. f (suc k)))
 
   -- the view of a list by its own elements
-  pub tab-of : (l : List A) (d : A) → tab (length l) (λ k. get_or l k d) ≡ l
+  pub tab_of : (l : List A) (d : A) → tab (length l) (λ k. get_or l k d) ≡ l
   unfolding tab
-  tab-of [] d = refl
-  tab-of (a ∷ l) d = ap (λ (t : List A). a ∷ t) (tab-of l d)
+  tab_of [] d = refl
+  tab_of (a ∷ l) d = ap (λ (t : List A). a ∷ t) (tab_of l d)
 
   -- a store in the columns: row i is a now
-  pub rows-store : (n : ℕ) (f f' : ℕ → A) (i : ℕ) (a : A) → ((k : ℕ) → k < n → (k ≡ i → ⊥) → f' k ≡ f k) → f' i ≡ a → tab n f' ≡ set (tab n f) i a
+  pub rows_store : (n : ℕ) (f f' : ℕ → A) (i : ℕ) (a : A) → ((k : ℕ) → k < n → (k ≡ i → ⊥) → f' k ≡ f k) → f' i ≡ a → tab n f' ≡ set (tab n f) i a
   unfolding tab
-  rows-store zero f f' i a h e = refl
-  rows-store (suc n) f f' zero a h e = ap₂ ◌∷◌ e (tab-ext n (λ k. f' (suc k)) (λ k. f (suc k)) (λ k p. h (suc k) (suc-le-suc p) (λ q. omega arith)))
-  rows-store (suc n) f f' (suc i) a h e =
+  rows_store zero f f' i a h e = refl
+  rows_store (suc n) f f' zero a h e = ap₂ ◌∷◌ e (tab_ext n (λ k. f' (suc k)) (λ k. f (suc k)) (λ k p. h (suc k) (suc-le-suc p) (λ q. omega arith)))
+  rows_store (suc n) f f' (suc i) a h e =
       ap₂ ◌∷◌ (h 0 (suc-le-suc zero-le) (λ q. omega arith))
-      (rows-store n (λ k. f (suc k)) (λ k. f' (suc k)) i a (λ k p q. h (suc k) (suc-le-suc p) (λ r. q (omega arith))) e)
+      (rows_store n (λ k. f (suc k)) (λ k. f' (suc k)) i a (λ k p q. h (suc k) (suc-le-suc p) (λ r. q (omega arith))) e)
 
   -- an append to all columns: the rows are as they were, and a comes last
-  pub rows-push : (n : ℕ) (f f' : ℕ → A) (a : A) → ((k : ℕ) → k < n → f' k ≡ f k) → f' n ≡ a → tab (n + 1) f' ≡ tab n f ++ (a ∷ [])
-  rows-push n f f' a h e = rw (add-one, tab-suc, e) (ap (λ (l : List A). l ++ (a ∷ [])) (tab-ext n f' f h))
+  pub rows_push : (n : ℕ) (f f' : ℕ → A) (a : A) → ((k : ℕ) → k < n → f' k ≡ f k) → f' n ≡ a → tab (n + 1) f' ≡ tab n f ++ (a ∷ [])
+  rows_push n f f' a h e = rw (add-one, tab_suc, e) (ap (λ (l : List A). l ++ (a ∷ [])) (tab_ext n f' f h))
 
 module _ {A B : Type 0} where
   -- a function on each row of a view
-  pub map-tab : (g : A → B) (n : ℕ) (f : ℕ → A) → map g (tab n f) ≡ tab n (λ k. g (f k))
+  pub map_tab : (g : A → B) (n : ℕ) (f : ℕ → A) → map g (tab n f) ≡ tab n (λ k. g (f k))
   unfolding tab
-  map-tab g zero f = refl
-  map-tab g (suc n) f = ap (λ (l : List B). g (f 0) ∷ l) (map-tab g n (λ k. f (suc k)))
+  map_tab g zero f = refl
+  map_tab g (suc n) f = ap (λ (l : List B). g (f 0) ∷ l) (map_tab g n (λ k. f (suc k)))
 
   -- a change of each row by its number
-  pub rows-map : (g : ℕ → A → B) (n : ℕ) (f : ℕ → A) → mapAt g (tab n f) ≡ tab n (λ k. g k (f k))
-  unfolding tab mapAt
-  rows-map g zero f = refl
-  rows-map g (suc n) f = ap (λ (l : List B). g 0 (f 0) ∷ l) (rows-map (λ k. g (suc k)) n (λ k. f (suc k)))
+  pub rows_map : (g : ℕ → A → B) (n : ℕ) (f : ℕ → A) → map_at_of g (tab n f) ≡ tab n (λ k. g k (f k))
+  unfolding tab map_at_of
+  rows_map g zero f = refl
+  rows_map g (suc n) f = ap (λ (l : List B). g 0 (f 0) ∷ l) (rows_map (λ k. g (suc k)) n (λ k. f (suc k)))
 
   -- a mask and a function on each element can change places
-  keep-map : (g : A → B) (m : List ℕ) (l : List A) → keep m (map g l) ≡ map g (keep m l)
+  keep_map : (g : A → B) (m : List ℕ) (l : List A) → keep m (map g l) ≡ map g (keep m l)
   unfolding keep
-  keep-map g m [] = refl
-  keep-map g [] (a ∷ l) = ap (λ (t : List B). g a ∷ t) (keep-map g [] l)
-  keep-map g (x ∷ m) (a ∷ l) = rw (keep-map g m l) (pick-ap (map g) (eqb x 1) (keep m l) (a ∷ keep m l))
+  keep_map g m [] = refl
+  keep_map g [] (a ∷ l) = ap (λ (t : List B). g a ∷ t) (keep_map g [] l)
+  keep_map g (x ∷ m) (a ∷ l) = rw (keep_map g m l) (pick_ap (map g) (eqb x 1) (keep m l) (a ∷ keep m l))
 
   -- what a mapped list has at a place
   map_at : (g : A → B) (l : List A) (k : ℕ) (a : A) (b : B) → k < length l → get_or (map g l) k b ≡ g (get_or l k a)
@@ -87,42 +87,42 @@ module _ {A B : Type 0} where
 
 module _ {A : Type 0} where
   -- what is kept of a view, by the rows' numbers
-  keep-tab : (m : List ℕ) (n : ℕ) (f : ℕ → A) → keep m (tab n f) ≡ tab (keptOf m n) (λ k. f (nth m n k))
-  unfolding keptOf nth up_to
-  keep-tab m n f =
+  keep_tab : (m : List ℕ) (n : ℕ) (f : ℕ → A) → keep m (tab n f) ≡ tab (kept_of m n) (λ k. f (nth m n k))
+  unfolding kept_of nth up_to
+  keep_tab m n f =
       let kept = keep m (tab n (λ k. k)) in
-      ap (keep m) (sym (map-tab f n (λ k. k))) ∙ keep-map f m (tab n (λ k. k)) ∙ ap (map f) (sym (tab-of kept 0)) ∙ map-tab f (length kept) (λ k. get_or kept k 0)
+      ap (keep m) (sym (map_tab f n (λ k. k))) ∙ keep_map f m (tab n (λ k. k)) ∙ ap (map f) (sym (tab_of kept 0)) ∙ map_tab f (length kept) (λ k. get_or kept k 0)
 
   -- a compaction of all columns by one mask
-  pub rows-keep : (m : List ℕ) (n : ℕ) (f f' : ℕ → A) → ((k : ℕ) → k < keptOf m n → f' k ≡ f (nth m n k)) → tab (keptOf m n) f' ≡ keep m (tab n f)
-  rows-keep m n f f' h = tab-ext (keptOf m n) f' (λ k. f (nth m n k)) h ∙ sym (keep-tab m n f)
+  pub rows_keep : (m : List ℕ) (n : ℕ) (f f' : ℕ → A) → ((k : ℕ) → k < kept_of m n → f' k ≡ f (nth m n k)) → tab (kept_of m n) f' ≡ keep m (tab n f)
+  rows_keep m n f f' h = tab_ext (kept_of m n) f' (λ k. f (nth m n k)) h ∙ sym (keep_tab m n f)
 
   -- the front of a column is its view
-  pub take-tab : (n : ℕ) (s : List A) (d : A) → n ≤ length s → take n s ≡ tab n (λ k. get_or s k d)
-  take-tab n s d h =
-      ext_get_or d (take n s) (tab n (λ k. get_or s k d)) (length-take-le n s h ∙ sym (tab-length n (λ k. get_or s k d)))
-      (λ i p. let q : i < n = rw (length-take-le n s h) at p in get_or-take n s i d q ∙ sym (tab-at n (λ k. get_or s k d) i d q))
+  pub take_tab : (n : ℕ) (s : List A) (d : A) → n ≤ length s → take n s ≡ tab n (λ k. get_or s k d)
+  take_tab n s d h =
+      ext_get_or d (take n s) (tab n (λ k. get_or s k d)) (length-take-le n s h ∙ sym (tab_length n (λ k. get_or s k d)))
+      (λ i p. let q : i < n = rw (length-take-le n s h) at p in get_or-take n s i d q ∙ sym (tab_at n (λ k. get_or s k d) i d q))
 
 module _ {A B C : Type 0} where
   -- two changes by number, one after the other, are one
-  pub mapAt-mapAt : (g : ℕ → B → C) (h : ℕ → A → B) (l : List A) → mapAt g (mapAt h l) ≡ mapAt (λ k a. g k (h k a)) l
-  unfolding mapAt
-  mapAt-mapAt g h [] = refl
-  mapAt-mapAt g h (a ∷ l) = ap (λ (t : List C). g 0 (h 0 a) ∷ t) (mapAt-mapAt (λ k. g (suc k)) (λ k. h (suc k)) l)
+  pub map_at_map_at : (g : ℕ → B → C) (h : ℕ → A → B) (l : List A) → map_at_of g (map_at_of h l) ≡ map_at_of (λ k a. g k (h k a)) l
+  unfolding map_at_of
+  map_at_map_at g h [] = refl
+  map_at_map_at g h (a ∷ l) = ap (λ (t : List C). g 0 (h 0 a) ∷ t) (map_at_map_at (λ k. g (suc k)) (λ k. h (suc k)) l)
 
 module _ {A B : Type 0} where
   -- changes that agree at each place give the same list
-  pub mapAt-ext : (g h : ℕ → A → B) (l : List A) → ((k : ℕ) (a : A) → g k a ≡ h k a) → mapAt g l ≡ mapAt h l
-  unfolding mapAt
-  mapAt-ext g h [] e = refl
-  mapAt-ext g h (a ∷ l) e = ap₂ ◌∷◌ (e 0 a) (mapAt-ext (λ k. g (suc k)) (λ k. h (suc k)) l (λ k. e (suc k)))
+  pub map_at_ext : (g h : ℕ → A → B) (l : List A) → ((k : ℕ) (a : A) → g k a ≡ h k a) → map_at_of g l ≡ map_at_of h l
+  unfolding map_at_of
+  map_at_ext g h [] e = refl
+  map_at_ext g h (a ∷ l) e = ap₂ ◌∷◌ (e 0 a) (map_at_ext (λ k. g (suc k)) (λ k. h (suc k)) l (λ k. e (suc k)))
 
 module _ {A : Type 0} where
   -- a change that changes untrue element leaves the list
-  pub mapAt-same : (g : ℕ → A → A) (l : List A) → ((k : ℕ) (a : A) → g k a ≡ a) → mapAt g l ≡ l
-  unfolding mapAt
-  mapAt-same g [] e = refl
-  mapAt-same g (a ∷ l) e = ap₂ ◌∷◌ (e 0 a) (mapAt-same (λ k. g (suc k)) l (λ k. e (suc k)))
+  pub map_at_same : (g : ℕ → A → A) (l : List A) → ((k : ℕ) (a : A) → g k a ≡ a) → map_at_of g l ≡ l
+  unfolding map_at_of
+  map_at_same g [] e = refl
+  map_at_same g (a ∷ l) e = ap₂ ◌∷◌ (e 0 a) (map_at_same (λ k. g (suc k)) l (λ k. e (suc k)))
 
 -- ---- a test on every row, asked row by row
 
@@ -132,19 +132,19 @@ both_true true u e = (refl, e)
 both_true false u e = untrue e
 
 -- neither of a disjunction that fails
-pub either-false : (t u : Bool) → (t || u) ≡ false → (t ≡ false) × (u ≡ false)
-either-false true u e = untrue (sym e)
-either-false false u e = (refl, e)
+pub either_false : (t u : Bool) → (t || u) ≡ false → (t ≡ false) × (u ≡ false)
+either_false true u e = untrue (sym e)
+either_false false u e = (refl, e)
 
 -- a disjunction with true
-pub or-true : (t : Bool) → (t || true) ≡ true
-or-true true = refl
-or-true false = refl
+pub or_true : (t : Bool) → (t || true) ≡ true
+or_true true = refl
+or_true false = refl
 
 -- a conjunction with false
-pub and-false : (t : Bool) → (t && false) ≡ false
-and-false true = refl
-and-false false = refl
+pub and_false : (t : Bool) → (t && false) ≡ false
+and_false true = refl
+and_false false = refl
 
 module _ {A : Type 0} (p : A → Bool) where
   -- untrue row fails where there is none
@@ -153,38 +153,38 @@ module _ {A : Type 0} (p : A → Bool) where
   all_none row = refl
 
   -- one row more that passes
-  all-suc : (i : ℕ) (row : ℕ → A) → all p (tab i row) ≡ true → p (row i) ≡ true → all p (tab (suc i) row) ≡ true
+  all_suc : (i : ℕ) (row : ℕ → A) → all p (tab i row) ≡ true → p (row i) ≡ true → all p (tab (suc i) row) ≡ true
   unfolding all tab
-  all-suc zero row h g = rw g refl
-  all-suc (suc i) row h g =
+  all_suc zero row h g = rw g refl
+  all_suc (suc i) row h g =
       let q = both_true (p (row 0)) (all p (tab i (λ k. row (suc k)))) h in
-      rw q.0 (all-suc i (λ k. row (suc k)) q.1 g)
+      rw q.0 (all_suc i (λ k. row (suc k)) q.1 g)
 
   -- the same, as a loop counts
   pub all_more : (i : ℕ) (row : ℕ → A) → all p (tab i row) ≡ true → p (row i) ≡ true → all p (tab (i + 1) row) ≡ true
-  all_more i row h g = rw (add-one i) (all-suc i row h g)
+  all_more i row h g = rw (add-one i) (all_suc i row h g)
 
   -- a row that fails decides
-  pub all-stops : (n i : ℕ) (row : ℕ → A) → i < n → p (row i) ≡ false → all p (tab n row) ≡ false
+  pub all_stops : (n i : ℕ) (row : ℕ → A) → i < n → p (row i) ≡ false → all p (tab n row) ≡ false
   unfolding all tab
-  all-stops zero i row h g = absurd (not-suc-le-zero h)
-  all-stops (suc n) zero row h g = rw g refl
-  all-stops (suc n) (suc i) row h g = rw (all-stops n i (λ k. row (suc k)) (le_of_suc-le-suc h) g) (and-false (p (row 0)))
+  all_stops zero i row h g = absurd (not-suc-le-zero h)
+  all_stops (suc n) zero row h g = rw g refl
+  all_stops (suc n) (suc i) row h g = rw (all_stops n i (λ k. row (suc k)) (le_of_suc-le-suc h) g) (and_false (p (row 0)))
 
 -- at the loop's end every row has passed
 pub all_end : {A : Type 0} (p : A → Bool) (n i : ℕ) (row : ℕ → A) → all p (tab i row) ≡ true → i ≤ n → n ≤ i → true ≡ all p (tab n row)
 all_end p n i row h g k = let e : i ≡ n = omega arith in sym (ap (λ (j : ℕ). all p (tab j row)) (sym e) ∙ h)
 
 -- a test of the rows that f names is a test of their numbers
-all-along : {A : Type 0} (p : A → Bool) (n : ℕ) (row : ℕ → A) (f : ℕ → ℕ) → all p (tab n (λ k. row (f k))) ≡ all (λ k. p (row k)) (tab n f)
+all_along : {A : Type 0} (p : A → Bool) (n : ℕ) (row : ℕ → A) (f : ℕ → ℕ) → all p (tab n (λ k. row (f k))) ≡ all (λ k. p (row k)) (tab n f)
 unfolding all tab
-all-along p zero row f = refl
-all-along p (suc n) row f = ap (λ (b : Bool). p (row (f 0)) && b) (all-along p n row (λ k. f (suc k)))
+all_along p zero row f = refl
+all_along p (suc n) row f = ap (λ (b : Bool). p (row (f 0)) && b) (all_along p n row (λ k. f (suc k)))
 
 -- a test of the rows is a test of their numbers
-pub all-tab : {A : Type 0} (p : A → Bool) (n : ℕ) (row : ℕ → A) → all p (tab n row) ≡ all (λ k. p (row k)) (up_to n)
+pub all_tab : {A : Type 0} (p : A → Bool) (n : ℕ) (row : ℕ → A) → all p (tab n row) ≡ all (λ k. p (row k)) (up_to n)
 unfolding up_to
-all-tab p n row = all-along p n row (λ k. k)
+all_tab p n row = all_along p n row (λ k. k)
 
 -- ---- a test on some row, asked row by row
 
@@ -195,38 +195,38 @@ module _ {A : Type 0} (p : A → Bool) where
   any_none row = refl
 
   -- one row more that fails
-  any-suc : (i : ℕ) (row : ℕ → A) → any p (tab i row) ≡ false → p (row i) ≡ false → any p (tab (suc i) row) ≡ false
+  any_suc : (i : ℕ) (row : ℕ → A) → any p (tab i row) ≡ false → p (row i) ≡ false → any p (tab (suc i) row) ≡ false
   unfolding any tab
-  any-suc zero row h g = rw g refl
-  any-suc (suc i) row h g =
-      let q = either-false (p (row 0)) (any p (tab i (λ k. row (suc k)))) h in
-      rw q.0 (any-suc i (λ k. row (suc k)) q.1 g)
+  any_suc zero row h g = rw g refl
+  any_suc (suc i) row h g =
+      let q = either_false (p (row 0)) (any p (tab i (λ k. row (suc k)))) h in
+      rw q.0 (any_suc i (λ k. row (suc k)) q.1 g)
 
   -- the same, as a loop counts
-  pub any-more : (i : ℕ) (row : ℕ → A) → any p (tab i row) ≡ false → p (row i) ≡ false → any p (tab (i + 1) row) ≡ false
-  any-more i row h g = rw (add-one i) (any-suc i row h g)
+  pub any_more : (i : ℕ) (row : ℕ → A) → any p (tab i row) ≡ false → p (row i) ≡ false → any p (tab (i + 1) row) ≡ false
+  any_more i row h g = rw (add-one i) (any_suc i row h g)
 
   -- a row that passes decides
-  pub any-stops : (n i : ℕ) (row : ℕ → A) → i < n → p (row i) ≡ true → any p (tab n row) ≡ true
+  pub any_stops : (n i : ℕ) (row : ℕ → A) → i < n → p (row i) ≡ true → any p (tab n row) ≡ true
   unfolding any tab
-  any-stops zero i row h g = absurd (not-suc-le-zero h)
-  any-stops (suc n) zero row h g = rw g refl
-  any-stops (suc n) (suc i) row h g = rw (any-stops n i (λ k. row (suc k)) (le_of_suc-le-suc h) g) (or-true (p (row 0)))
+  any_stops zero i row h g = absurd (not-suc-le-zero h)
+  any_stops (suc n) zero row h g = rw g refl
+  any_stops (suc n) (suc i) row h g = rw (any_stops n i (λ k. row (suc k)) (le_of_suc-le-suc h) g) (or_true (p (row 0)))
 
 -- at the loop's end untrue row has passed
-pub any-end : {A : Type 0} (p : A → Bool) (n i : ℕ) (row : ℕ → A) → any p (tab i row) ≡ false → i ≤ n → n ≤ i → false ≡ any p (tab n row)
-any-end p n i row h g k = let e : i ≡ n = omega arith in sym (ap (λ (j : ℕ). any p (tab j row)) (sym e) ∙ h)
+pub any_end : {A : Type 0} (p : A → Bool) (n i : ℕ) (row : ℕ → A) → any p (tab i row) ≡ false → i ≤ n → n ≤ i → false ≡ any p (tab n row)
+any_end p n i row h g k = let e : i ≡ n = omega arith in sym (ap (λ (j : ℕ). any p (tab j row)) (sym e) ∙ h)
 
 -- ---- a mask that marks what a test refuses
 
 -- a choice by the opposite of a test is the choice the other way round
-pick-not : {A : Type 0} (s t : Bool) (x y : A) → s ≡ not t → pick s x y ≡ pick t y x
-pick-not s true x y e = rw e refl
-pick-not s false x y e = rw e refl
+pick_not : {A : Type 0} (s t : Bool) (x y : A) → s ≡ not t → pick s x y ≡ pick t y x
+pick_not s true x y e = rw e refl
+pick_not s false x y e = rw e refl
 
 -- what the mask leaves is what passes
-pub keep-sift : {A : Type 0} (p : A → Bool) (d : A) (m : List ℕ) (l : List A) → ((k : ℕ) → k < length l → eqb (get_or m k 0) 1 ≡ not (p (get_or l k d))) → keep m l ≡ sift p l
+pub keep_sift : {A : Type 0} (p : A → Bool) (d : A) (m : List ℕ) (l : List A) → ((k : ℕ) → k < length l → eqb (get_or m k 0) 1 ≡ not (p (get_or l k d))) → keep m l ≡ sift p l
 unfolding keep sift
-keep-sift p d m [] h = refl
-keep-sift p d [] (a ∷ l) h = rw (keep-sift p d [] l (λ k q. h (suc k) (suc-le-suc q))) (pick-not false (p a) (sift p l) (a ∷ sift p l) (h 0 (suc-le-suc zero-le)))
-keep-sift p d (b ∷ m) (a ∷ l) h = rw (keep-sift p d m l (λ k q. h (suc k) (suc-le-suc q))) (pick-not (eqb b 1) (p a) (sift p l) (a ∷ sift p l) (h 0 (suc-le-suc zero-le)))
+keep_sift p d m [] h = refl
+keep_sift p d [] (a ∷ l) h = rw (keep_sift p d [] l (λ k q. h (suc k) (suc-le-suc q))) (pick_not false (p a) (sift p l) (a ∷ sift p l) (h 0 (suc-le-suc zero-le)))
+keep_sift p d (b ∷ m) (a ∷ l) h = rw (keep_sift p d m l (λ k q. h (suc k) (suc-le-suc q))) (pick_not (eqb b 1) (p a) (sift p l) (a ∷ sift p l) (h 0 (suc-le-suc zero-le)))

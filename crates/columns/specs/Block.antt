@@ -1,6 +1,6 @@
 -- A block: columns of R places each, one behind the other. Definitions only; their laws are in proofs/Cells.antt.
 use Rattle.std.specs.Prelude.{ℕ, zero, suc, ◌+◌, ◌*◌, ◌<◌, ◌≤◌, ◌≡◌, List, [], ◌∷◌, ◌++◌, get_or}
-use Rattle.lists.specs.Lists.{keptOf, nth, padded}
+use Rattle.lists.specs.Lists.{kept_of, nth, padded}
 use Rattle.lists.specs.Labels.{replaced}
 
 -- what column c of the block s has at place k, or d past the block's end
@@ -8,12 +8,12 @@ unfoldable pub cell : {A : Type 0} → A → ℕ → List A → ℕ → ℕ → 
 cell d R s c k = get_or s (c * R + k) d
 
 -- row k: what the w columns from column c on have at place k; and all w columns
-abbrev pub rowFrom : ℕ → ℕ → ℕ → List ℕ → ℕ → List ℕ
-rowFrom zero c R s k = []
-rowFrom (suc w) c R s k = cell 0 R s c k ∷ rowFrom w (suc c) R s k
+abbrev pub row_from : ℕ → ℕ → ℕ → List ℕ → ℕ → List ℕ
+row_from zero c R s k = []
+row_from (suc w) c R s k = cell 0 R s c k ∷ row_from w (suc c) R s k
 
 abbrev pub row_at : ℕ → ℕ → List ℕ → ℕ → List ℕ
-row_at w R s k = rowFrom w 0 R s k
+row_at w R s k = row_from w 0 R s k
 
 -- column 0, column 1, .., column w - 1, one behind the other
 unfoldable pub stack : {A : Type 0} → ℕ → (ℕ → List A) → List A
@@ -28,8 +28,8 @@ block_of len w R z f = padded len z (stack w (λ c. padded R z (f c)))
 
 -- of the first n places of each column the mask leaves r, in their order
 pub record BlockKept {A : Type 0} (d : A) (m : List ℕ) (n w R : ℕ) (s s' : List A) (r : ℕ) : Type 0 where
-  pub count : r ≡ keptOf m n
-  pub cells : (c k : ℕ) → c < w → k < keptOf m n → cell d R s' c k ≡ cell d R s c (nth m n k)
+  pub count : r ≡ kept_of m n
+  pub cells : (c k : ℕ) → c < w → k < kept_of m n → cell d R s' c k ≡ cell d R s c (nth m n k)
 
 -- in each column the len places from `from` on stand at `to`, and the other places are as they were
 pub record BlockShifted {A : Type 0} (d : A) (to from len w R : ℕ) (s s' : List A) : Type 0 where

@@ -9,11 +9,11 @@ use lib.Dec.{eqb}
 use lib.ListN.{length, get_or}
 use lib.Ieee.{Float, nan}
 use Rattle.lists.specs.Lists.{stands}
-use Rattle.lists.proofs.Truths.{pick-self}
+use Rattle.lists.proofs.Truths.{pick_self}
 use Rattle.columns.specs.Block.{cell, RowTurned}
-use Rattle.columns.proofs.Cells.{col-0, col-1}
+use Rattle.columns.proofs.Cells.{col_0, col_1}
 use Rattle.model.specs.Mesh.{Edge}
-use Rattle.mesh.specs.At.{edgeRow}
+use Rattle.mesh.specs.At.{edge_row}
 use Rattle.mesh.specs.Workers.{row_at}
 use Rattle.copies.specs.Ends.{EndsMoved}
 
@@ -21,15 +21,15 @@ use Rattle.copies.specs.Ends.{EndsMoved}
 
 module _ {t : Bool} (v a b : ℕ) where
   -- an element is no other edge
-  pub other-element : t ≡ true → false ≡ not t && stands v (a ∷ b ∷ [])
-  other-element e = rw e
+  pub other_element : t ≡ true → false ≡ not t && stands v (a ∷ b ∷ [])
+  other_element e = rw e
 
   -- one that is none, by its first end, and by its second
-  pub other-first : t ≡ false → a ≡ v → true ≡ not t && stands v (a ∷ b ∷ [])
-  other-first e q = rw (e, eq-eqb a v q)
+  pub other_first : t ≡ false → a ≡ v → true ≡ not t && stands v (a ∷ b ∷ [])
+  other_first e q = rw (e, eq-eqb a v q)
 
-  pub other-second : t ≡ false → (a ≡ v → ⊥) → eqb b v ≡ not t && stands v (a ∷ b ∷ [])
-  other-second e q = rw (e, ne_eqb a v q) (pick-self (eqb b v))
+  pub other_second : t ≡ false → (a ≡ v → ⊥) → eqb b v ≡ not t && stands v (a ∷ b ∷ [])
+  other_second e q = rw (e, ne_eqb a v q) (pick_self (eqb b v))
 
 -- ---- rows of the edges
 
@@ -51,23 +51,23 @@ unfolding cell
 row_read A B i =
     λ h.
     record {
-      a = sym (col-0 0 (length A / 4) A i) h;
-      b = sym (col-1 0 (length A / 4) A i) h;
+      a = sym (col_0 0 (length A / 4) A i) h;
+      b = sym (col_1 0 (length A / 4) A i) h;
       structural = get_or A (2 * (length A / 4) + i) 0;
       torn = get_or A (3 * (length A / 4) + i) 0;
-      rest = sym (col-0 nan (length B / 4) B i) h;
-      initial = sym (col-1 nan (length B / 4) B i) h;
+      rest = sym (col_0 nan (length B / 4) B i) h;
+      initial = sym (col_1 nan (length B / 4) B i) h;
       impulse = get_or B (2 * (length B / 4) + i) nan;
       stress = get_or B (3 * (length B / 4) + i) nan;
     }
 
 -- a row turned in its first two columns is an edge with its ends moved
-pub ends-moved : (i v w : ℕ) (s s' : List ℕ) → i < length s / 4 → length s' ≡ length s → RowTurned 2 (length s / 4) i v w s s' → EndsMoved i v w s s'
-ends-moved i v w s s' h long T =
+pub ends_moved : (i v w : ℕ) (s s' : List ℕ) → i < length s / 4 → length s' ≡ length s → RowTurned 2 (length s / 4) i v w s s' → EndsMoved i v w s s'
+ends_moved i v w s s' h long T =
     record {
       here =
           λ B.
-          ap (λ (m : ℕ). edgeRow (m / 4) (length B / 4) s' B i) long
+          ap (λ (m : ℕ). edge_row (m / 4) (length B / 4) s' B i) long
           ∙ (λ z.
           record {
             a = T.here 0 (omega arith) z;
@@ -81,7 +81,7 @@ ends-moved i v w s s' h long T =
           });
       others =
           λ B j l n.
-          ap (λ (m : ℕ). edgeRow (m / 4) (length B / 4) s' B j) long
+          ap (λ (m : ℕ). edge_row (m / 4) (length B / 4) s' B j) long
           ∙ (λ z.
           record {
             a = T.others 0 j l n z;

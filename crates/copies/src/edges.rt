@@ -2,11 +2,11 @@
 ghost use Rattle.std.specs.Prelude.{◌≡◌, not, ◌&&◌, ◌+◌, ◌<◌, ◌/◌, length};
 ghost use Rattle.lists.specs.Lists.{stands};
 ghost use Rattle.lists.specs.Labels.{replaced};
-ghost use Rattle.model.specs.Elements.{element?, endsOf, farEnd};
-ghost use Rattle.model.specs.Split.{moved as movedOf, calm as calmOf};
-ghost use Rattle.elements.specs.Table.{kindIs};
+ghost use Rattle.model.specs.Elements.{element?, ends_of, far_end_of};
+ghost use Rattle.model.specs.Split.{moved as moved_of, calm as calm_of};
+ghost use Rattle.elements.specs.Table.{kind_is};
 ghost use Rattle.mesh.specs.Workers.{EdgeRoom, edge_of, row_at};
-ghost use Rattle.mesh.specs.Widths.{endColumns};
+ghost use Rattle.mesh.specs.Widths.{end_columns};
 ghost use Rattle.copies.specs.Ends.{EndsMoved};
 
 use elements::Kind;
@@ -43,7 +43,7 @@ pub fn edge_at(i: usize, ends: &[usize], lengths: &[f32]) -> EdgeRow
 
 // Does an edge at v go to its groups: it is no element, and names v?
 pub fn is_other(kind: Kind, v: usize, row: EdgeRow) -> bool
-    ensures { result ≡ (not (element? (kindIs kind) (edge_of row)) && stands v (endsOf (edge_of row))) }
+    ensures { result ≡ (not (element? (kind_is kind) (edge_of row)) && stands v (ends_of (edge_of row))) }
 {
     if elements::is_element(kind, row.structural) {
         return false;
@@ -56,7 +56,7 @@ pub fn is_other(kind: Kind, v: usize, row: EdgeRow) -> bool
 
 // The end that isn't v.
 pub fn far_end(v: usize, row: EdgeRow) -> usize
-    ensures { result ≡ farEnd v (edge_of row) }
+    ensures { result ≡ far_end_of v (edge_of row) }
 {
     if row.a == v {
         return row.b;
@@ -66,7 +66,7 @@ pub fn far_end(v: usize, row: EdgeRow) -> usize
 
 // A copy of an edge with w for v, impulse 0.
 pub fn copied(row: EdgeRow, v: usize, w: usize) -> EdgeRow
-    ensures { edge_of result ≡ calmOf (movedOf v w (edge_of row)) }
+    ensures { edge_of result ≡ calm_of (moved_of v w (edge_of row)) }
 {
     EdgeRow {
         a: swapped(row.a, v, w),
@@ -82,7 +82,7 @@ pub fn copied(row: EdgeRow, v: usize, w: usize) -> EdgeRow
 
 // Puts w for v in the ends of edge i.
 pub fn move_ends(i: usize, v: usize, w: usize, ends: &mut [usize])
-    requires { i < length ends.old / endColumns }
+    requires { i < length ends.old / end_columns }
     ensures { EndsMoved i v w ends.old ends.new }
 {
     let e = ends.len() / mesh::END_COLUMNS;

@@ -1,11 +1,11 @@
 // The particles of a split: v keeps the mass of group 0, and each other group has a copy of v with its own mass.
 ghost use Rattle.std.specs.Prelude.{◌/◌, ◌<◌, length};
 ghost use Rattle.copies.specs.Particles.{ParticlesCopied, CopyRoom, Weighed};
-ghost use Rattle.mesh.specs.Widths.{pointColumns};
+ghost use Rattle.mesh.specs.Widths.{point_columns};
 
 // Gives v mass m and inverse mass w.
 fn weigh(v: usize, m: f32, w: f32, points: &mut [f32])
-    requires { v < length points.old / pointColumns }
+    requires { v < length points.old / point_columns }
     ensures { Weighed v m w points.old points.new }
 {
     let size = points.len() / mesh::POINT_COLUMNS;

@@ -10,32 +10,32 @@ use lib.Seq.{take_all}
 use lib.Ieee.{Float}
 use Rattle.lists.specs.Lists.{pick, sift, fold}
 use Rattle.model.specs.Elements.{Kind}
-use Rattle.mesh.specs.At.{meshAt}
-use Rattle.mesh.specs.Log.{World, worldAt}
+use Rattle.mesh.specs.At.{mesh_at}
+use Rattle.mesh.specs.Log.{World, world_at}
 use Rattle.mesh.specs.Filled.{lent}
 use Rattle.mesh.specs.declared.Counts.{Counts}
 use Rattle.mesh.specs.declared.Rooms.{Rooms}
 use Rattle.work.specs.Working.{Within, Ready}
 use Rattle.work.specs.declared.Ran.{Ran}
 use Rattle.work.specs.declared.Ran.TheVariants.{Refused, Done}
-use Rattle.work.proofs.Placed.{triangles-count}
+use Rattle.work.proofs.Placed.{triangles_count}
 use Rattle.tornedge.specs.Cracks.{CrackTold}
-use Rattle.crack.specs.Bodies.{endsListed, CracksRoom, CracksTold}
-use Rattle.crack.proofs.BodyLaws.{cracks-none, cracks-then, cracks-refused, cracks-ready, cracks-entries, cracks-words, cracks-triangles, ends-step, ends-rest}
+use Rattle.crack.specs.Bodies.{ends_listed, CracksRoom, CracksTold}
+use Rattle.crack.proofs.BodyLaws.{cracks_none, cracks_then, cracks_refused, cracks_ready, cracks_entries, cracks_words, cracks_triangles, ends_step, ends_rest}
 
 -- ---- one number
 
 -- a number that is skipped
-number-skipped : (K : Kind) (min t : ℕ) (loads : List Float) (L : Rooms) (e : ℕ) (from to : List ℕ) (n : ℕ) {at : Counts → World} (k : Counts) → e ≤ n → Within k L → CracksTold K min t (endsListed e from to (n ∷ [])) loads L (at k) at (Done k)
-unfolding endsListed sift
-number-skipped K min t loads L e from to n {at} k h b =
-    subst (λ (s : Bool). CracksTold K min t (map (λ i. (get_or from i 0, get_or to i 0)) (pick s (n ∷ []) [])) loads L (at k) at (Done k)) (sym (le-ltb n e h)) (cracks-none K min t loads L k b)
+number_skipped : (K : Kind) (min t : ℕ) (loads : List Float) (L : Rooms) (e : ℕ) (from to : List ℕ) (n : ℕ) {at : Counts → World} (k : Counts) → e ≤ n → Within k L → CracksTold K min t (ends_listed e from to (n ∷ [])) loads L (at k) at (Done k)
+unfolding ends_listed sift
+number_skipped K min t loads L e from to n {at} k h b =
+    subst (λ (s : Bool). CracksTold K min t (map (λ i. (get_or from i 0, get_or to i 0)) (pick s (n ∷ []) [])) loads L (at k) at (Done k)) (sym (le-ltb n e h)) (cracks_none K min t loads L k b)
 
 -- one that is cracked
-number-cracked : {K : Kind} {min t : ℕ} {loads : List Float} {L : Rooms} {W : World} {at : Counts → World} {r : Ran} (e : ℕ) (from to : List ℕ) (n : ℕ) → n < e → CrackTold K min (get_or from n 0) (get_or to n 0) t loads L W at r
-    → CracksTold K min t (endsListed e from to (n ∷ [])) loads L W at r
-unfolding endsListed sift fold
-number-cracked {K} {min} {t} {loads} {L} {W} {at} {r} e from to n h F =
+number_cracked : {K : Kind} {min t : ℕ} {loads : List Float} {L : Rooms} {W : World} {at : Counts → World} {r : Ran} (e : ℕ) (from to : List ℕ) (n : ℕ) → n < e → CrackTold K min (get_or from n 0) (get_or to n 0) t loads L W at r
+    → CracksTold K min t (ends_listed e from to (n ∷ [])) loads L W at r
+unfolding ends_listed sift fold
+number_cracked {K} {min} {t} {loads} {L} {W} {at} {r} e from to n h F =
     subst (λ (s : Bool). CracksTold K min t (map (λ i. (get_or from i 0, get_or to i 0)) (pick s (n ∷ []) [])) loads L W at r) (sym (lt-ltb n e h)) (record { works = F.works })
 
 -- ---- the loop
@@ -45,67 +45,67 @@ pub record ListedTo (K : Kind) (min : ℕ) (is : List ℕ) (e : ℕ) (from to : 
     (points : List Float) (roots corners ends : List ℕ) (lengths : List Float) (outline log : List ℕ) (k : Counts) (i : ℕ) : Type 0 where
   pub inside : i ≤ length is
   pub same : lent points roots corners volumes ends lengths outline log ≡ lent points₀ roots₀ corners₀ volumes ends₀ lengths₀ outline₀ log₀
-  pub told : CracksTold K min k₀.triangles (endsListed e from to (take i is)) loads L (worldAt k₀ points₀ roots₀ corners₀ volumes ends₀ lengths₀ outline₀ log₀) (λ q. worldAt q points roots corners volumes ends lengths outline log) (Done k)
+  pub told : CracksTold K min k₀.triangles (ends_listed e from to (take i is)) loads L (world_at k₀ points₀ roots₀ corners₀ volumes ends₀ lengths₀ outline₀ log₀) (λ q. world_at q points roots corners volumes ends lengths outline log) (Done k)
 
 module _ (K : Kind) (min : ℕ) (is : List ℕ) (e : ℕ) (from to : List ℕ) (loads : List Float) (L : Rooms) (k₀ : Counts) (points₀ : List Float) (roots₀ corners₀ : List ℕ) (volumes : List Float) (ends₀ : List ℕ) (lengths₀ : List Float) (outline₀ log₀ : List ℕ)
-    (Y : Ready L k₀ (lent points₀ roots₀ corners₀ volumes ends₀ lengths₀ outline₀ log₀) (meshAt k₀ points₀ roots₀ corners₀ volumes ends₀ lengths₀ outline₀))
+    (Y : Ready L k₀ (lent points₀ roots₀ corners₀ volumes ends₀ lengths₀ outline₀ log₀) (mesh_at k₀ points₀ roots₀ corners₀ volumes ends₀ lengths₀ outline₀))
     (X : CracksRoom K e from to k₀ (length loads) log₀) where
   abbrev world₀ : World
-  world₀ = worldAt k₀ points₀ roots₀ corners₀ volumes ends₀ lengths₀ outline₀ log₀
+  world₀ = world_at k₀ points₀ roots₀ corners₀ volumes ends₀ lengths₀ outline₀ log₀
 
   pub to_start : ListedTo K min is e from to loads L k₀ points₀ roots₀ corners₀ volumes ends₀ lengths₀ outline₀ log₀ points₀ roots₀ corners₀ ends₀ lengths₀ outline₀ log₀ k₀ 0
-  unfolding endsListed sift
+  unfolding ends_listed sift
   to_start =
       record {
         inside = omega arith;
         same = refl;
-        told = cracks-none K min k₀.triangles loads L {at = λ q. worldAt q points₀ roots₀ corners₀ volumes ends₀ lengths₀ outline₀ log₀} k₀ Y.counts;
+        told = cracks_none K min k₀.triangles loads L {at = λ q. world_at q points₀ roots₀ corners₀ volumes ends₀ lengths₀ outline₀ log₀} k₀ Y.counts;
       }
 
   module _ (points : List Float) (roots corners ends : List ℕ) (lengths : List Float) (outline log : List ℕ) (k : Counts) (i : ℕ)
       (O : ListedTo K min is e from to loads L k₀ points₀ roots₀ corners₀ volumes ends₀ lengths₀ outline₀ log₀ points roots corners ends lengths outline log k i) where
     abbrev at : Counts → World
-    at q = worldAt q points roots corners volumes ends lengths outline log
+    at q = world_at q points roots corners volumes ends lengths outline log
 
     -- the blocks are ready for the next
-    pub to-ready : Ready L k (lent points roots corners volumes ends lengths outline log) (meshAt k points roots corners volumes ends lengths outline)
-    unfolding worldAt
-    to-ready = cracks-ready K min k₀.triangles (endsListed e from to (take i is)) loads L world₀ at k O.told X.logged.entries X.logged.words k₀ _ _ Y O.same
+    pub to_ready : Ready L k (lent points roots corners volumes ends lengths outline log) (mesh_at k points roots corners volumes ends lengths outline)
+    unfolding world_at
+    to_ready = cracks_ready K min k₀.triangles (ends_listed e from to (take i is)) loads L world₀ at k O.told X.logged.entries X.logged.words k₀ _ _ Y O.same
 
     -- they have as many triangles as at the start
-    pub to-triangles : k.triangles ≡ k₀.triangles
-    unfolding worldAt
-    to-triangles =
-        sym (triangles-count k points roots corners volumes ends lengths outline)
-        ∙ cracks-triangles K min k₀.triangles (endsListed e from to (take i is)) loads L world₀ at k O.told X.logged.entries X.logged.words
-        ∙ triangles-count k₀ points₀ roots₀ corners₀ volumes ends₀ lengths₀ outline₀
+    pub to_triangles : k.triangles ≡ k₀.triangles
+    unfolding world_at
+    to_triangles =
+        sym (triangles_count k points roots corners volumes ends lengths outline)
+        ∙ cracks_triangles K min k₀.triangles (ends_listed e from to (take i is)) loads L world₀ at k O.told X.logged.entries X.logged.words
+        ∙ triangles_count k₀ points₀ roots₀ corners₀ volumes ends₀ lengths₀ outline₀
 
     pub to_room : CracksRoom K e from to k (length loads) log
-    unfolding worldAt
+    unfolding world_at
     to_room =
         record {
           first = X.first;
           second = X.second;
-          first-few = X.first-few;
-          second-few = X.second-few;
-          loads = record { long = λ q. let h = X.loads.long q in let t = to-triangles in omega arith };
+          first_few = X.first_few;
+          second_few = X.second_few;
+          loads = record { long = λ q. let h = X.loads.long q in let t = to_triangles in omega arith };
           logged = record {
-            entries = cracks-entries K min k₀.triangles (endsListed e from to (take i is)) loads L world₀ at k O.told X.logged.entries X.logged.words;
-            words = cracks-words K min k₀.triangles (endsListed e from to (take i is)) loads L world₀ at k O.told X.logged.entries X.logged.words;
+            entries = cracks_entries K min k₀.triangles (ends_listed e from to (take i is)) loads L world₀ at k O.told X.logged.entries X.logged.words;
+            words = cracks_words K min k₀.triangles (ends_listed e from to (take i is)) loads L world₀ at k O.told X.logged.entries X.logged.words;
           };
         }
 
     -- one number more
     module _ (points' : List Float) (roots' corners' ends' : List ℕ) (lengths' : List Float) (outline' log' : List ℕ) (r : Ran)
-        (G : CracksTold K min k.triangles (endsListed e from to (get_or is i 0 ∷ [])) loads L (worldAt k points roots corners volumes ends lengths outline log) (λ q. worldAt q points' roots' corners' volumes ends' lengths' outline' log') r) (h : i < length is) where
+        (G : CracksTold K min k.triangles (ends_listed e from to (get_or is i 0 ∷ [])) loads L (world_at k points roots corners volumes ends lengths outline log) (λ q. world_at q points' roots' corners' volumes ends' lengths' outline' log') r) (h : i < length is) where
       abbrev at' : Counts → World
-      at' q = worldAt q points' roots' corners' volumes ends' lengths' outline' log'
+      at' q = world_at q points' roots' corners' volumes ends' lengths' outline' log'
 
-      more : CracksTold K min k₀.triangles (endsListed e from to (take (i + 1) is)) loads L world₀ at' r
+      more : CracksTold K min k₀.triangles (ends_listed e from to (take (i + 1) is)) loads L world₀ at' r
       more =
-          subst (λ (abs : List (ℕ × ℕ)). CracksTold K min k₀.triangles abs loads L world₀ at' r) (sym (ends-step e from to is i h))
-          (cracks-then K min k₀.triangles loads L (endsListed e from to (take i is)) (endsListed e from to (get_or is i 0 ∷ [])) O.told
-          (subst (λ (t : ℕ). CracksTold K min t (endsListed e from to (get_or is i 0 ∷ [])) loads L (at k) at' r) to-triangles G))
+          subst (λ (abs : List (ℕ × ℕ)). CracksTold K min k₀.triangles abs loads L world₀ at' r) (sym (ends_step e from to is i h))
+          (cracks_then K min k₀.triangles loads L (ends_listed e from to (take i is)) (ends_listed e from to (get_or is i 0 ∷ [])) O.told
+          (subst (λ (t : ℕ). CracksTold K min t (ends_listed e from to (get_or is i 0 ∷ [])) loads L (at k) at' r) to_triangles G))
 
       one_more : (k' : Counts) → r ≡ Done k' → lent points' roots' corners' volumes ends' lengths' outline' log' ≡ lent points roots corners volumes ends lengths outline log
           → ListedTo K min is e from to loads L k₀ points₀ roots₀ corners₀ volumes ends₀ lengths₀ outline₀ log₀ points' roots' corners' ends' lengths' outline' log' k' (i + 1)
@@ -113,33 +113,33 @@ module _ (K : Kind) (min : ℕ) (is : List ℕ) (e : ℕ) (from to : List ℕ) (
           record {
             inside = omega arith;
             same = same ∙ O.same;
-            told = subst (λ (x : Ran). CracksTold K min k₀.triangles (endsListed e from to (take (i + 1) is)) loads L world₀ at' x) known more;
+            told = subst (λ (x : Ran). CracksTold K min k₀.triangles (ends_listed e from to (take (i + 1) is)) loads L world₀ at' x) known more;
           }
 
       -- a room lacks
-      none_more : (c : ℕ) → r ≡ Refused c → CracksTold K min k₀.triangles (endsListed e from to is) loads L world₀ at' r
+      none_more : (c : ℕ) → r ≡ Refused c → CracksTold K min k₀.triangles (ends_listed e from to is) loads L world₀ at' r
       none_more c known =
-          subst (λ (x : Ran). CracksTold K min k₀.triangles (endsListed e from to is) loads L world₀ at' x) (sym known)
-          (subst (λ (abs : List (ℕ × ℕ)). CracksTold K min k₀.triangles abs loads L world₀ at' (Refused c)) (ends-rest e from to is (i + 1))
-          (cracks-refused K min k₀.triangles loads L {at = at'} (endsListed e from to (take (i + 1) is)) (endsListed e from to (drop (i + 1) is))
-          (subst (λ (x : Ran). CracksTold K min k₀.triangles (endsListed e from to (take (i + 1) is)) loads L world₀ at' x) known more)))
+          subst (λ (x : Ran). CracksTold K min k₀.triangles (ends_listed e from to is) loads L world₀ at' x) (sym known)
+          (subst (λ (abs : List (ℕ × ℕ)). CracksTold K min k₀.triangles abs loads L world₀ at' (Refused c)) (ends_rest e from to is (i + 1))
+          (cracks_refused K min k₀.triangles loads L {at = at'} (ends_listed e from to (take (i + 1) is)) (ends_listed e from to (drop (i + 1) is))
+          (subst (λ (x : Ran). CracksTold K min k₀.triangles (ends_listed e from to (take (i + 1) is)) loads L world₀ at' x) known more)))
 
     -- it is skipped
-    pub to-skip : e ≤ get_or is i 0 → i < length is
+    pub to_skip : e ≤ get_or is i 0 → i < length is
         → ListedTo K min is e from to loads L k₀ points₀ roots₀ corners₀ volumes ends₀ lengths₀ outline₀ log₀ points roots corners ends lengths outline log k (i + 1)
-    to-skip n h =
-        one_more points roots corners ends lengths outline log (Done k) (number-skipped K min k.triangles loads L e from to (get_or is i 0) {at = at} k n to-ready.counts) h k refl refl
+    to_skip n h =
+        one_more points roots corners ends lengths outline log (Done k) (number_skipped K min k.triangles loads L e from to (get_or is i 0) {at = at} k n to_ready.counts) h k refl refl
 
     -- it is cracked
     module _ (points' : List Float) (roots' corners' ends' : List ℕ) (lengths' : List Float) (outline' log' : List ℕ) (r : Ran) (n : get_or is i 0 < e)
-        (F : CrackTold K min (get_or from (get_or is i 0) 0) (get_or to (get_or is i 0) 0) k.triangles loads L (worldAt k points roots corners volumes ends lengths outline log) (λ q. worldAt q points' roots' corners' volumes ends' lengths' outline' log') r) (h : i < length is) where
+        (F : CrackTold K min (get_or from (get_or is i 0) 0) (get_or to (get_or is i 0) 0) k.triangles loads L (world_at k points roots corners volumes ends lengths outline log) (λ q. world_at q points' roots' corners' volumes ends' lengths' outline' log') r) (h : i < length is) where
       pub to_step : (k' : Counts) → r ≡ Done k' → lent points' roots' corners' volumes ends' lengths' outline' log' ≡ lent points roots corners volumes ends lengths outline log
           → ListedTo K min is e from to loads L k₀ points₀ roots₀ corners₀ volumes ends₀ lengths₀ outline₀ log₀ points' roots' corners' ends' lengths' outline' log' k' (i + 1)
-      to_step = one_more points' roots' corners' ends' lengths' outline' log' r (number-cracked e from to (get_or is i 0) n F) h
+      to_step = one_more points' roots' corners' ends' lengths' outline' log' r (number_cracked e from to (get_or is i 0) n F) h
 
-      pub to-stop : (c : ℕ) → r ≡ Refused c → CracksTold K min k₀.triangles (endsListed e from to is) loads L world₀ (λ q. worldAt q points' roots' corners' volumes ends' lengths' outline' log') r
-      to-stop = none_more points' roots' corners' ends' lengths' outline' log' r (number-cracked e from to (get_or is i 0) n F) h
+      pub to_stop : (c : ℕ) → r ≡ Refused c → CracksTold K min k₀.triangles (ends_listed e from to is) loads L world₀ (λ q. world_at q points' roots' corners' volumes ends' lengths' outline' log') r
+      to_stop = none_more points' roots' corners' ends' lengths' outline' log' r (number_cracked e from to (get_or is i 0) n F) h
 
     -- all of them
-    pub to-done : length is ≤ i → CracksTold K min k₀.triangles (endsListed e from to is) loads L world₀ (λ q. worldAt q points roots corners volumes ends lengths outline log) (Done k)
-    to-done h = subst (λ (js : List ℕ). CracksTold K min k₀.triangles (endsListed e from to js) loads L world₀ at (Done k)) (take_all i is h) O.told
+    pub to_done : length is ≤ i → CracksTold K min k₀.triangles (ends_listed e from to is) loads L world₀ (λ q. world_at q points roots corners volumes ends lengths outline log) (Done k)
+    to_done h = subst (λ (js : List ℕ). CracksTold K min k₀.triangles (ends_listed e from to js) loads L world₀ at (Done k)) (take_all i is h) O.told

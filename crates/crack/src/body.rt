@@ -1,12 +1,12 @@
 // The crack of a whole body: the torn edges of the input in turn, and what comes behind them.
 ghost use Rattle.std.specs.Prelude.{◌≡◌, length, take};
-ghost use Rattle.elements.specs.Table.{kindIs};
+ghost use Rattle.elements.specs.Table.{kind_is};
 ghost use Rattle.links.specs.Linked.{LinkedIn};
-ghost use Rattle.model.specs.Cut.{splitPinched};
+ghost use Rattle.model.specs.Cut.{split_pinched_of};
 ghost use Rattle.model.specs.Crack.{crack};
 ghost use Rattle.work.specs.Working.{Logged};
-ghost use Rattle.crack.specs.Bodies.{NarrowRoom, EndsRoom, EndsKept, endsListed, CracksRoom, CracksTold, crackTurns, crackEnd};
-ghost use Rattle.mesh.specs.Blocks.{worldBefore, worldBehind};
+ghost use Rattle.crack.specs.Bodies.{NarrowRoom, EndsRoom, EndsKept, ends_listed, CracksRoom, CracksTold, crack_turns, crack_end};
+ghost use Rattle.mesh.specs.Blocks.{world_before, world_behind};
 ghost use Rattle.work.specs.Blocks.{ReadyIn, WorksIn};
 ghost use Rattle.split.specs.Blocks.{LinkedBehind};
 
@@ -58,11 +58,11 @@ fn crack_listed(
     log: &mut [u32],
     links: &mut [u16],
 ) -> Ran
-    requires { let K = kindIs kind in ReadyIn room k points roots corners volumes ends lengths outline log
+    requires { let K = kind_is kind in ReadyIn room k points roots corners volumes ends lengths outline log
         × CracksRoom K e from.now to.now k (length loads.now) log.old × LinkedIn K k corners ends outline links }
-    ensures { let K = kindIs kind in CracksTold K minimum k.triangles (endsListed e from.now to.now
-        torn.now) loads.now room (worldBefore k points roots corners volumes ends lengths outline log)
-        (λ q. worldBehind q points roots corners volumes ends lengths outline log) result × LinkedBehind K corners ends outline links result }
+    ensures { let K = kind_is kind in CracksTold K minimum k.triangles (ends_listed e from.now to.now
+        torn.now) loads.now room (world_before k points roots corners volumes ends lengths outline log)
+        (λ q. world_behind q points roots corners volumes ends lengths outline log) result × LinkedBehind K corners ends outline links result }
 {
     let mut counts = k;
     let mut i: usize = 0;
@@ -117,8 +117,8 @@ fn crack_torn(
     links: &mut [u16],
 ) -> Ran
     requires { ReadyIn room k points roots corners volumes ends lengths outline log × Logged k.log log.old
-        × LinkedIn (kindIs kind) k corners ends outline links }
-    ensures { let K = kindIs kind in WorksIn (crackTurns K minimum torn.now) room k points roots corners volumes ends
+        × LinkedIn (kind_is kind) k corners ends outline links }
+    ensures { let K = kind_is kind in WorksIn (crack_turns K minimum torn.now) room k points roots corners volumes ends
         lengths outline log result × LinkedBehind K corners ends outline links result }
 {
     let none = k.edges as u16;
@@ -159,8 +159,8 @@ fn split_pinched(
     links: &mut [u16],
 ) -> Ran
     requires { ReadyIn room k points roots corners volumes ends lengths outline log × Logged k.log log.old
-        × LinkedIn (kindIs kind) k corners ends outline links }
-    ensures { WorksIn (splitPinched (kindIs kind)) room k points roots corners volumes ends lengths outline log result }
+        × LinkedIn (kind_is kind) k corners ends outline links }
+    ensures { WorksIn (split_pinched_of (kind_is kind)) room k points roots corners volumes ends lengths outline log result }
 {
     match kind {
         Kind::Triangles => {
@@ -192,8 +192,8 @@ fn finish(
     links: &mut [u16],
 ) -> Ran
     requires { ReadyIn room k points roots corners volumes ends lengths outline log × Logged k.log log.old
-        × LinkedIn (kindIs kind) k corners ends outline links }
-    ensures { WorksIn (crackEnd (kindIs kind)) room k points roots corners volumes ends lengths outline log result }
+        × LinkedIn (kind_is kind) k corners ends outline links }
+    ensures { WorksIn (crack_end (kind_is kind)) room k points roots corners volumes ends lengths outline log result }
 {
     if !marks::particles::any_split(k.log, log) {
         return Ran::Done(k);
@@ -227,8 +227,8 @@ fn crack_linked(
     links: &mut [u16],
 ) -> Ran
     requires { ReadyIn room k points roots corners volumes ends lengths outline log × Logged k.log log.old
-        × LinkedIn (kindIs kind) k corners ends outline links }
-    ensures { WorksIn (crack (kindIs kind) minimum torn.now) room k points roots corners volumes ends lengths outline log
+        × LinkedIn (kind_is kind) k corners ends outline links }
+    ensures { WorksIn (crack (kind_is kind) minimum torn.now) room k points roots corners volumes ends lengths outline log
         result }
 {
     let ran = crack_torn(
@@ -260,7 +260,7 @@ pub fn crack_body(
     log: &mut [u32],
 ) -> Ran
     requires { ReadyIn room k points roots corners volumes ends lengths outline log × Logged k.log log.old }
-    ensures { WorksIn (crack (kindIs kind) minimum torn.now) room k points roots corners volumes ends lengths outline log
+    ensures { WorksIn (crack (kind_is kind) minimum torn.now) room k points roots corners volumes ends lengths outline log
         result }
 {
     if torn.len() == 0 {

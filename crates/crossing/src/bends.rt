@@ -1,14 +1,14 @@
 // The bend edges over a strap: from its first end's side alone to its second end's side alone, either way.
 ghost use Rattle.std.specs.Prelude.{◌≡◌, not, ◌&&◌, ◌<◌, ◌≤◌, ◌/◌, length, get_or};
-ghost use Rattle.crossing.specs.Bends.{FarIs, NeighbourIs, SideRoom, SideMarked, onlyBy, BendRoom, BendTold, MarkRoom, BendsAt, BetweenMarked, BendsRoom, BendsMarked};
+ghost use Rattle.crossing.specs.Bends.{FarIs, NeighbourIs, SideRoom, SideMarked, only_by, BendRoom, BendTold, MarkRoom, BendsAt, BetweenMarked, BendsRoom, BendsMarked};
 ghost use Rattle.links.specs.Linked.{EdgesLinked};
-ghost use Rattle.mesh.specs.Widths.{endColumns};
+ghost use Rattle.mesh.specs.Widths.{end_columns};
 
 use insert::shares;
 
 // The end of edge i that isn't v.
 fn far_end(v: usize, i: usize, ends: &[usize]) -> usize
-    requires { i < length ends.now / endColumns }
+    requires { i < length ends.now / end_columns }
     ensures { FarIs v i ends.now result }
 {
     let c = ends.len() / mesh::END_COLUMNS;
@@ -20,7 +20,7 @@ fn far_end(v: usize, i: usize, ends: &[usize]) -> usize
 
 // The end of strap i at v that isn't v, unless it is w; else v.
 fn neighbour(v: usize, w: usize, i: usize, ends: &[usize]) -> usize
-    requires { i < length ends.now / endColumns }
+    requires { i < length ends.now / end_columns }
     ensures { NeighbourIs v w i ends.now result }
 {
     if shares::strap_at(v, i, ends) {
@@ -51,7 +51,7 @@ fn mark_side(v: usize, w: usize, e: usize, ends: &[usize], side: &mut [u8], tabl
 // Is w marked in the first table, and not in the second?
 fn only(w: usize, first: &[u8], second: &[u8]) -> bool
     requires { (w < length first.now) × (w < length second.now) }
-    ensures { result ≡ onlyBy first.now second.now w }
+    ensures { result ≡ only_by first.now second.now w }
 {
     if first[w] == 1 {
         return second[w] != 1;

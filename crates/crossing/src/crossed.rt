@@ -1,6 +1,6 @@
 // The crossings of a strap cut, one after the other over the lent blocks.
 ghost use Rattle.std.specs.Prelude.{◌≡◌, [], ◌∷◌, ◌<◌, ◌≤◌, length};
-ghost use Rattle.crossing.specs.Crossings.{crossed-in};
+ghost use Rattle.crossing.specs.Crossings.{crossed_in};
 ghost use Rattle.crossing.specs.Crossed.{CrossingsIn, CrossIn, CrossedIn};
 ghost use Rattle.links.specs.Linked.{EdgesLinked};
 ghost use Rattle.insert.specs.Tables.{EdgesAfter};
@@ -74,7 +74,7 @@ pub fn cross_all(
 ) -> Ran
     requires { CrossIn room k points roots ends lengths outline log bends snapped
         × CrossingsIn m numbers.now (length ts.now) k log.old × EdgesLinked k.edges ends.old table.old }
-    ensures { CrossedIn f (crossed-in m numbers.now ts.now) room k points roots ends lengths outline log bends
+    ensures { CrossedIn f (crossed_in m numbers.now ts.now) room k points roots ends lengths outline log bends
         snapped result × EdgesAfter ends.new table.new result }
 {
     let mut counts = k;

@@ -1,6 +1,6 @@
 // The bend edges over the segments that were cut go, each noted by its ends.
 ghost use Rattle.std.specs.Prelude.{◌≡◌, ◌≤◌, length};
-ghost use Rattle.work.specs.Removal.{markedOf};
+ghost use Rattle.work.specs.Removal.{marked_of};
 ghost use Rattle.crossing.specs.Unbent.{UnbentRoom, UnbentTold};
 
 use mesh::{Counts, Rooms};
@@ -9,7 +9,7 @@ use work::Ran;
 // How many of the first n marks are 1.
 fn count_marked(n: usize, marks: &[usize]) -> usize
     requires { n ≤ length marks.now }
-    ensures { result ≡ length (markedOf marks.now n) }
+    ensures { result ≡ length (marked_of marks.now n) }
 {
     let mut count: usize = 0;
     let mut i: usize = 0;

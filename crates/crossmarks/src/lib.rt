@@ -2,15 +2,15 @@
 #![tactic(auto)]
 
 ghost use Rattle.std.specs.Prelude.{◌+◌, ◌/◌, ◌<◌, ◌≤◌, ◌≡◌, [], ◌∷◌, length};
-ghost use Rattle.elements.specs.Table.{kindIs};
-ghost use Rattle.model.specs.Cut.{markedBy};
-ghost use Rattle.marks.specs.Marking.{bladeBy};
-ghost use Rattle.mesh.specs.Widths.{pointColumns};
-ghost use Rattle.crossmarks.specs.Noting.{Noted, pairMarks, rowMarks, triangleMarks, strapMarks, besideBy, OffsetAt, OffsetsAre, PairRoom, TriangleRoom, StrapRoom};
+ghost use Rattle.elements.specs.Table.{kind_is};
+ghost use Rattle.model.specs.Cut.{marked_by};
+ghost use Rattle.marks.specs.Marking.{blade_by};
+ghost use Rattle.mesh.specs.Widths.{point_columns};
+ghost use Rattle.crossmarks.specs.Noting.{Noted, pair_marks, row_marks, triangle_marks, strap_marks, beside_by, OffsetAt, OffsetsAre, PairRoom, TriangleRoom, StrapRoom};
 ghost use Rattle.mesh.specs.Filled.{lent};
 ghost use Rattle.work.specs.Working.{Works, Ready};
-ghost use Rattle.mesh.specs.Log.{worldAt};
-ghost use Rattle.mesh.specs.At.{meshAt};
+ghost use Rattle.mesh.specs.Log.{world_at};
+ghost use Rattle.mesh.specs.At.{mesh_at};
 
 use blade::{Hit, Point};
 use elements::Kind;
@@ -23,7 +23,7 @@ use work::notes::bits_of;
 
 // The offset of each of the first p particles from the blade's line.
 fn read_offsets(b0: Point, b1: Point, p: usize, points: &[f32], offsets: &mut [f32])
-    requires { (p ≤ length points.now / pointColumns) × (p ≤ length offsets.old) }
+    requires { (p ≤ length points.now / point_columns) × (p ≤ length offsets.old) }
     ensures { OffsetsAre b0 b1 points.now offsets.new p }
 {
     let mut w: usize = 0;
@@ -36,7 +36,7 @@ fn read_offsets(b0: Point, b1: Point, p: usize, points: &[f32], offsets: &mut [f
 // Are two offsets strictly on one side of the blade's line, so that it does not meet what lies between? Their product is that of the blade test.
 // In edition 2 each pair has its own test.
 fn beside(rule: Rule, dx: f32, dy: f32) -> bool
-    ensures { result ≡ besideBy rule dx dy }
+    ensures { result ≡ beside_by rule dx dy }
 {
     match rule {
         Rule::Rounded => dx * dy > 0.0,
@@ -56,7 +56,7 @@ fn note_pair(
     log: &mut [u32],
 ) -> usize
     requires { PairRoom x y n (length points.now) }
-    ensures { Noted (pairMarks (bladeBy rule b0 b1) points.now (x, y)) n log.old log.new result }
+    ensures { Noted (pair_marks (blade_by rule b0 b1) points.now (x, y)) n log.old log.new result }
 {
     let hit = tested(rule, b0, b1, place(x, points), place(y, points));
     let Hit::Hit(t, p) = hit else {
@@ -84,7 +84,7 @@ fn note_across(
 ) -> usize
     requires { PairRoom x y n (length points.now) × OffsetAt b0 b1 points.now offsets.now x
         × OffsetAt b0 b1 points.now offsets.now y }
-    ensures { Noted (pairMarks (bladeBy rule b0 b1) points.now (x, y)) n log.old log.new result }
+    ensures { Noted (pair_marks (blade_by rule b0 b1) points.now (x, y)) n log.old log.new result }
 {
     if beside(rule, offsets[x], offsets[y]) {
         return n;
@@ -107,7 +107,7 @@ fn note_sides(
 ) -> usize
     requires { let O = OffsetAt b0 b1 points.now offsets.now in PairRoom x y (n + 2) (length points.now)
         × PairRoom x z (n + 2) (length points.now) × O x × O y × O z }
-    ensures { Noted (rowMarks (bladeBy rule b0 b1) points.now (x ∷ y ∷ z ∷ [])) n log.old
+    ensures { Noted (row_marks (blade_by rule b0 b1) points.now (x ∷ y ∷ z ∷ [])) n log.old
         log.new result }
 {
     let first = note_across(rule, b0, b1, x, y, n, points, offsets, log);
@@ -128,7 +128,7 @@ fn note_triangles(
     log: &mut [u32],
 ) -> usize
     requires { TriangleRoom b0 b1 t n points.now corners.now offsets.now }
-    ensures { Noted (triangleMarks (bladeBy rule b0 b1) points.now t corners.now) n log.old
+    ensures { Noted (triangle_marks (blade_by rule b0 b1) points.now t corners.now) n log.old
         log.new result }
 {
     let size = corners.len() / mesh::CORNER_COLUMNS;
@@ -167,7 +167,7 @@ fn note_straps(
     log: &mut [u32],
 ) -> usize
     requires { StrapRoom b0 b1 e n points.now ends.now offsets.now }
-    ensures { Noted (strapMarks (bladeBy rule b0 b1) points.now e ends.now) n log.old
+    ensures { Noted (strap_marks (blade_by rule b0 b1) points.now e ends.now) n log.old
         log.new result }
 {
     let size = ends.len() / mesh::END_COLUMNS;
@@ -210,9 +210,9 @@ fn note_elements(
     offsets: &[f32],
     log: &mut [u32],
 ) -> Ran
-    requires { Ready room k (lent points.now roots.now corners.now volumes.now ends.now lengths.now outline.now log.old) (meshAt k points.now roots.now corners.now volumes.now ends.now lengths.now outline.now)
+    requires { Ready room k (lent points.now roots.now corners.now volumes.now ends.now lengths.now outline.now log.old) (mesh_at k points.now roots.now corners.now volumes.now ends.now lengths.now outline.now)
         × OffsetsAre b0 b1 points.now offsets.now k.particles }
-    ensures { Works (markedBy (kindIs kind) (bladeBy rule b0 b1)) room (worldAt k points.now roots.now corners.now volumes.now ends.now lengths.now outline.now log.old) (λ q. worldAt q points.now roots.now corners.now volumes.now ends.now lengths.now outline.now log.new) result }
+    ensures { Works (marked_by (kind_is kind) (blade_by rule b0 b1)) room (world_at k points.now roots.now corners.now volumes.now ends.now lengths.now outline.now log.old) (λ q. world_at q points.now roots.now corners.now volumes.now ends.now lengths.now outline.now log.new) result }
 {
     let before = k.log;
     let n = match kind {
@@ -259,8 +259,8 @@ pub fn note_crossings(
     outline: &[usize],
     log: &mut [u32],
 ) -> Ran
-    requires { Ready room k (lent points.now roots.now corners.now volumes.now ends.now lengths.now outline.now log.old) (meshAt k points.now roots.now corners.now volumes.now ends.now lengths.now outline.now) }
-    ensures { Works (markedBy (kindIs kind) (bladeBy rule b0 b1)) room (worldAt k points.now roots.now corners.now volumes.now ends.now lengths.now outline.now log.old) (λ q. worldAt q points.now roots.now corners.now volumes.now ends.now lengths.now outline.now log.new) result }
+    requires { Ready room k (lent points.now roots.now corners.now volumes.now ends.now lengths.now outline.now log.old) (mesh_at k points.now roots.now corners.now volumes.now ends.now lengths.now outline.now) }
+    ensures { Works (marked_by (kind_is kind) (blade_by rule b0 b1)) room (world_at k points.now roots.now corners.now volumes.now ends.now lengths.now outline.now log.old) (λ q. world_at q points.now roots.now corners.now volumes.now ends.now lengths.now outline.now log.new) result }
 {
     let mut offsets = [0.0f32; mesh::PARTICLES];
     read_offsets(b0, b1, k.particles, points, &mut offsets);

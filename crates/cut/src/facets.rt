@@ -1,15 +1,15 @@
 // The cut of triangles: the candidates are split by the blade, and then the pinched.
 ghost use Rattle.std.specs.Prelude.{◌<◌, ◌≤◌, ◌≡◌, length};
 ghost use Rattle.lists.specs.Lists.{fold};
-ghost use Rattle.model.specs.Elements.{Triangles, cornersPer};
-ghost use Rattle.model.specs.Cut.{splitPinched, cutFacets};
+ghost use Rattle.model.specs.Elements.{Triangles, corners_per_of};
+ghost use Rattle.model.specs.Cut.{split_pinched_of, cut_facets_of};
 ghost use Rattle.mesh.specs.Filled.{lent};
-ghost use Rattle.elements.specs.Table.{kindIs};
+ghost use Rattle.elements.specs.Table.{kind_is};
 ghost use Rattle.work.specs.Working.{Logged};
-ghost use Rattle.marks.specs.Marking.{bladeBy};
+ghost use Rattle.marks.specs.Marking.{blade_by};
 ghost use Rattle.marks.specs.Sided.{SidesRoom};
 ghost use Rattle.links.specs.Linked.{LinkedIn};
-ghost use Rattle.cut.specs.Running.{splitBy, splitIn, slackens?, Splittable, SidesFor, chosen, Chosen};
+ghost use Rattle.cut.specs.Running.{split_by_of, split_in, slackens?, Splittable, SidesFor, chosen, Chosen};
 ghost use Rattle.work.specs.Blocks.{ReadyIn, WorksIn};
 ghost use Rattle.split.specs.Blocks.{ListIn, LinkedBehind, LinkedParted};
 ghost use Rattle.edge_drops.specs.Parted.{PartsIn};
@@ -41,8 +41,8 @@ fn part_fan(
     points: &[f32],
     sides: &mut [usize],
 )
-    requires { SidesRoom v (cornersPer (kindIs kind)) n verts.now (length points.now) (length sides.old) }
-    ensures { SidesFor way (kindIs kind) v n verts.now points.now sides.new }
+    requires { SidesRoom v (corners_per_of (kind_is kind)) n verts.now (length points.now) (length sides.old) }
+    ensures { SidesFor way (kind_is kind) v n verts.now points.now sides.new }
 {
     match way {
         Parting::Free => columns::clear_usize(0, sides),
@@ -74,8 +74,8 @@ fn split_many(
     links: &mut [u16],
 ) -> Ran
     requires { ReadyIn room k points roots corners volumes ends lengths outline log × (v < k.particles)
-        × ListIn list × LinkedIn (kindIs kind) k corners ends outline links }
-    ensures { let K = kindIs kind in PartsIn (λ R. splitBy way K R v) room k points roots corners volumes ends lengths outline log
+        × ListIn list × LinkedIn (kind_is kind) k corners ends outline links }
+    ensures { let K = kind_is kind in PartsIn (λ R. split_by_of way K R v) room k points roots corners volumes ends lengths outline log
         list result × LinkedParted K corners ends outline links list result }
 {
     let mut numbers = [0usize; MANY];
@@ -141,8 +141,8 @@ fn split_one(
     links: &mut [u16],
 ) -> Ran
     requires { ReadyIn room k points roots corners volumes ends lengths outline log × (v < k.particles)
-        × ListIn list × LinkedIn (kindIs kind) k corners ends outline links }
-    ensures { let K = kindIs kind in PartsIn (λ R. splitBy way K R v) room k points roots corners volumes ends lengths outline log
+        × ListIn list × LinkedIn (kind_is kind) k corners ends outline links }
+    ensures { let K = kind_is kind in PartsIn (λ R. split_by_of way K R v) room k points roots corners volumes ends lengths outline log
         list result × LinkedParted K corners ends outline links list result }
 {
     let mut numbers = [0usize; FEW];
@@ -225,8 +225,8 @@ fn split_next(
     links: &mut [u16],
 ) -> Ran
     requires { ReadyIn room k points roots corners volumes ends lengths outline log × Splittable v k log.old
-        × ListIn list × LinkedIn (kindIs kind) k corners ends outline links }
-    ensures { let K = kindIs kind in WorksIn (λ R. splitIn way K R v) room k points roots corners volumes ends lengths outline log result
+        × ListIn list × LinkedIn (kind_is kind) k corners ends outline links }
+    ensures { let K = kind_is kind in WorksIn (λ R. split_in way K R v) room k points roots corners volumes ends lengths outline log result
         × LinkedBehind K corners ends outline links result }
 {
     let ran = split_one(
@@ -270,8 +270,8 @@ pub fn split_marked(
     links: &mut [u16],
 ) -> Ran
     requires { ReadyIn room k points roots corners volumes ends lengths outline log × Chosen p k log.old (length marks.now)
-        × ListIn list × LinkedIn (kindIs kind) k corners ends outline links }
-    ensures { let K = kindIs kind in WorksIn (λ R. fold (splitIn way K) R (chosen p marks.now)) room k points roots
+        × ListIn list × LinkedIn (kind_is kind) k corners ends outline links }
+    ensures { let K = kind_is kind in WorksIn (λ R. fold (split_in way K) R (chosen p marks.now)) room k points roots
         corners volumes ends lengths outline log result × LinkedBehind K corners ends outline links result }
 {
     let mut counts = k;
@@ -312,7 +312,7 @@ pub fn split_pinched(
 ) -> Ran
     requires { ReadyIn room k points roots corners volumes ends lengths outline log × Logged k.log log.old
         × (1024 ≤ length marks.old) × ListIn list × LinkedIn Triangles k corners ends outline links }
-    ensures { WorksIn (splitPinched Triangles) room k points roots corners volumes ends lengths outline log result
+    ensures { WorksIn (split_pinched_of Triangles) room k points roots corners volumes ends lengths outline log result
         × LinkedBehind Triangles corners ends outline links result }
 {
     particles::mark_near(k.log, log, list);
@@ -358,7 +358,7 @@ pub fn cut_facets(
 ) -> Ran
     requires { ReadyIn room k points roots corners volumes ends lengths outline log × Logged k.log log.old
         × (1024 ≤ length marks.old) × ListIn list × LinkedIn Triangles k corners ends outline links }
-    ensures { WorksIn (cutFacets (bladeBy rule b0 b1)) room k points roots corners volumes ends lengths outline log result
+    ensures { WorksIn (cut_facets_of (blade_by rule b0 b1)) room k points roots corners volumes ends lengths outline log result
         × LinkedBehind Triangles corners ends outline links result }
 {
     particles::mark_candidates(rule, b0, b1, k.triangles, points, corners, marks);

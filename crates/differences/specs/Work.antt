@@ -1,7 +1,7 @@
 -- What the workers ask and promise. Only the contracts between workers, and theorems, need this file. Definitions only.
 use Rattle.std.specs.Prelude.{ℕ, zero, suc, ◌+◌, ◌<◌, ◌≡◌, Bool, true, false, ◌&&◌, eqb, List, [], ◌∷◌, length}
 use Rattle.std.proofs.Math.Option.{Option, none, some}
-use Rattle.lists.specs.Lists.{pick, each, sameRow}
+use Rattle.lists.specs.Lists.{pick, each, same_row_of}
 use Rattle.listing.specs.Work.{Appends}
 use Rattle.differences.specs.Differences.{Difference, counts, place, blades, line_of}
 use Rattle.differences.specs.declared.Part.{Part}
@@ -12,58 +12,58 @@ use Rattle.differences.specs.declared.lines.Lines.{Lines}
 use Rattle.differences.specs.declared.lines.Four.{Four}
 
 -- the reading of place k of a list, where it has one
-abbrev pub readAt : List (List ℕ) → ℕ → Option (List ℕ)
-readAt [] k = none
-readAt (r ∷ a) zero = some r
-readAt (r ∷ a) (suc k) = readAt a k
+abbrev pub read_at : List (List ℕ) → ℕ → Option (List ℕ)
+read_at [] k = none
+read_at (r ∷ a) zero = some r
+read_at (r ∷ a) (suc k) = read_at a k
 
 -- the same reading of a place
-abbrev pub sameReading : Option (List ℕ) → Option (List ℕ) → Bool
-sameReading none none = true
-sameReading none (some s) = false
-sameReading (some r) none = false
-sameReading (some r) (some s) = sameRow r s
+abbrev pub same_reading_of : Option (List ℕ) → Option (List ℕ) → Bool
+same_reading_of none none = true
+same_reading_of none (some s) = false
+same_reading_of (some r) none = false
+same_reading_of (some r) (some s) = same_row_of r s
 
 -- the difference at a place, if its readings differ
-unfoldable pub placeDiffers : Part → ℕ → Option (List ℕ) → Option (List ℕ) → List Difference
-placeDiffers p k r s = pick (sameReading r s) [] (place p k r s ∷ [])
+unfoldable pub place_differs : Part → ℕ → Option (List ℕ) → Option (List ℕ) → List Difference
+place_differs p k r s = pick (same_reading_of r s) [] (place p k r s ∷ [])
 
 -- ---- the differences of one place
 
 -- the same list
-abbrev pub samePart : Part → Part → Bool
-samePart Particles Particles = true
-samePart Particles Triangles = false
-samePart Particles Edges = false
-samePart Particles Boundary = false
-samePart Triangles Particles = false
-samePart Triangles Triangles = true
-samePart Triangles Edges = false
-samePart Triangles Boundary = false
-samePart Edges Particles = false
-samePart Edges Triangles = false
-samePart Edges Edges = true
-samePart Edges Boundary = false
-samePart Boundary Particles = false
-samePart Boundary Triangles = false
-samePart Boundary Edges = false
-samePart Boundary Boundary = true
+abbrev pub same_part : Part → Part → Bool
+same_part Particles Particles = true
+same_part Particles Triangles = false
+same_part Particles Edges = false
+same_part Particles Boundary = false
+same_part Triangles Particles = false
+same_part Triangles Triangles = true
+same_part Triangles Edges = false
+same_part Triangles Boundary = false
+same_part Edges Particles = false
+same_part Edges Triangles = false
+same_part Edges Edges = true
+same_part Edges Boundary = false
+same_part Boundary Particles = false
+same_part Boundary Triangles = false
+same_part Boundary Edges = false
+same_part Boundary Boundary = true
 
 -- does a difference tell of place k of a list; of a list's count; of the blade
-abbrev pub ofPlace : Part → ℕ → Difference → Bool
-ofPlace p k (counts q m n) = false
-ofPlace p k (place q j r s) = samePart p q && eqb j k
-ofPlace p k (blades a b) = false
+abbrev pub of_place : Part → ℕ → Difference → Bool
+of_place p k (counts q m n) = false
+of_place p k (place q j r s) = same_part p q && eqb j k
+of_place p k (blades a b) = false
 
-abbrev pub ofCount : Part → Difference → Bool
-ofCount p (counts q m n) = samePart p q
-ofCount p (place q j r s) = false
-ofCount p (blades a b) = false
+abbrev pub of_count : Part → Difference → Bool
+of_count p (counts q m n) = same_part p q
+of_count p (place q j r s) = false
+of_count p (blades a b) = false
 
-abbrev pub ofBlade : Difference → Bool
-ofBlade (counts q m n) = false
-ofBlade (place q j r s) = false
-ofBlade (blades a b) = true
+abbrev pub of_blade : Difference → Bool
+of_blade (counts q m n) = false
+of_blade (place q j r s) = false
+of_blade (blades a b) = true
 
 -- a difference with its readings exchanged
 abbrev pub turn : Difference → Difference
@@ -102,8 +102,8 @@ pub record Placing (p : Part) (r s : Reading) (count : ℕ) : Type 0 where
   pub few : count < 4096
 
 -- the fields of a blade
-abbrev pub fourOf : Four → List ℕ
-fourOf f = f.x0 ∷ f.y0 ∷ f.x1 ∷ f.y1 ∷ []
+abbrev pub four_of : Four → List ℕ
+four_of f = f.x0 ∷ f.y0 ∷ f.x1 ∷ f.y1 ∷ []
 
 pub record FourFits (f : Four) : Type 0 where
   pub x0 : f.x0 < 2048

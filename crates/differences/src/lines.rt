@@ -1,10 +1,10 @@
 // One difference as a line of text.
 ghost use Rattle.std.specs.Prelude.{◌≡◌, List, [], ◌∷◌, map, ℕ, ◌<◌, eqb};
-ghost use Rattle.lists.specs.Lists.{pick, each, sameRow};
+ghost use Rattle.lists.specs.Lists.{pick, each, same_row_of};
 ghost use Rattle.listing.specs.Listing.{decimal};
 ghost use Rattle.listing.specs.Work.{Appends};
-ghost use Rattle.differences.specs.Differences.{counts, blades, coordText, textsOf, reading_of, apart, word_of, pluralOf};
-ghost use Rattle.differences.specs.Work.{sameReading, placeDiffers, row_by, as_row, Coords, CoordsRead, Lists, fourOf, Placing, FourFits, Blading};
+ghost use Rattle.differences.specs.Differences.{counts, blades, coord_text, texts_of, reading_of, apart, word_of, plural_of};
+ghost use Rattle.differences.specs.Work.{same_reading_of, place_differs, row_by, as_row, Coords, CoordsRead, Lists, four_of, Placing, FourFits, Blading};
 
 use crate::{Part, Reading};
 use listing::Written;
@@ -36,7 +36,7 @@ fn put_plain(out: &mut [u8], at: Written, n: usize) -> Written
 // Writes a space and the coordinate of a field behind the text.
 fn put_coord(out: &mut [u8], at: Written, raw: usize) -> Written
     requires { raw < 2048 }
-    ensures { Appends (apart (coordText raw)) out.old at out.new result }
+    ensures { Appends (apart (coord_text raw)) out.old at out.new result }
 {
     if raw < 1024 {
         return put_plain(out, at, raw);
@@ -64,7 +64,7 @@ fn put_three(out: &mut [u8], at: Written, x: usize, y: usize, z: usize) -> Writt
 // Writes the fields of a row, each behind a space.
 fn put_row(out: &mut [u8], at: Written, part: Part, x: usize, y: usize, z: usize) -> Written
     requires { Coords part x y }
-    ensures { Appends (each apart (textsOf part (row_by part x y z))) out.old at out.new result }
+    ensures { Appends (each apart (texts_of part (row_by part x y z))) out.old at out.new result }
 {
     match part {
         Part::Particles => {
@@ -103,7 +103,7 @@ fn put_word(out: &mut [u8], at: Written, part: Part) -> Written
 
 // Writes a list's name behind a space.
 fn put_name(out: &mut [u8], at: Written, part: Part) -> Written
-    ensures { Appends (apart (pluralOf part)) out.old at out.new result }
+    ensures { Appends (apart (plural_of part)) out.old at out.new result }
 {
     match part {
         Part::Particles => listing::put_text(out, at, b" particles"),
@@ -115,7 +115,7 @@ fn put_name(out: &mut [u8], at: Written, part: Part) -> Written
 
 // Whether two rows have the same fields, in order.
 fn same_row(part: Part, x: usize, y: usize, z: usize, u: usize, v: usize, w: usize) -> bool
-    ensures { result ≡ sameRow (row_by part x y z) (row_by part u v w) }
+    ensures { result ≡ same_row_of (row_by part x y z) (row_by part u v w) }
 {
     if x != u {
         return false;
@@ -133,7 +133,7 @@ fn same_row(part: Part, x: usize, y: usize, z: usize, u: usize, v: usize, w: usi
 
 // Whether two readings of a place are the same.
 fn same_reading(part: Part, r: Reading, s: Reading) -> bool
-    ensures { result ≡ sameReading (as_row part r) (as_row part s) }
+    ensures { result ≡ same_reading_of (as_row part r) (as_row part s) }
 {
     match r {
         Reading::Missing => match s {
@@ -150,7 +150,7 @@ fn same_reading(part: Part, r: Reading, s: Reading) -> bool
 // Writes the line of a place, where its readings differ.
 pub fn put_place(out: &mut [u8], l: Lines, part: Part, k: usize, r: Reading, s: Reading) -> Lines
     requires { Placing part r s l.count }
-    ensures { Lists (placeDiffers part k (as_row part r) (as_row part s)) out.old l out.new result }
+    ensures { Lists (place_differs part k (as_row part r) (as_row part s)) out.old l out.new result }
 {
     if same_reading(part, r, s) {
         return l;
@@ -191,7 +191,7 @@ pub fn put_count(out: &mut [u8], l: Lines, part: Part, m: usize, n: usize) -> Li
 
 // Whether two blades have the same fields.
 fn same_four(a: Four, b: Four) -> bool
-    ensures { result ≡ sameRow (fourOf a) (fourOf b) }
+    ensures { result ≡ same_row_of (four_of a) (four_of b) }
 {
     if a.x0 != b.x0 {
         return false;
@@ -208,7 +208,7 @@ fn same_four(a: Four, b: Four) -> bool
 // Writes the coordinates of a blade, each behind a space.
 fn put_four(out: &mut [u8], at: Written, f: Four) -> Written
     requires { FourFits f }
-    ensures { Appends (each apart (map coordText (fourOf f))) out.old at out.new result }
+    ensures { Appends (each apart (map coord_text (four_of f))) out.old at out.new result }
 {
     let first = put_coord(out, at, f.x0);
     let two = put_coord(out, first, f.y0);
@@ -219,7 +219,7 @@ fn put_four(out: &mut [u8], at: Written, f: Four) -> Written
 // Writes the line of the blades, where they differ.
 pub fn put_blades(out: &mut [u8], l: Lines, a: Four, b: Four) -> Lines
     requires { Blading a b l.count }
-    ensures { Lists (pick (sameRow (fourOf a) (fourOf b)) [] (blades (fourOf a) (fourOf b) ∷ [])) out.old l
+    ensures { Lists (pick (same_row_of (four_of a) (four_of b)) [] (blades (four_of a) (four_of b) ∷ [])) out.old l
         out.new result }
 {
     if same_four(a, b) {

@@ -2,22 +2,22 @@
 use Rattle.std.specs.Prelude.{ℕ, List}
 use Rattle.bits.specs.Bits.{bits_of}
 use Rattle.sheet.specs.Sheet.{Sheet, limits}
-use Rattle.edition.specs.Edition.{sheetOf, seenOf}
+use Rattle.edition.specs.Edition.{sheet_of, seen_of}
 use Rattle.edition.specs.declared.Seen.{Seen}
 use Rattle.edition.specs.declared.Seen.TheVariants.{Whole, Refused}
-use Rattle.listing.specs.Listing.{refusedBytes}
-use Rattle.differences.specs.Differences.{differences, differenceText}
+use Rattle.listing.specs.Listing.{refused_bytes}
+use Rattle.differences.specs.Differences.{differences, difference_text}
 
 -- the sheet that bytes of either edition are read as
-abbrev pub readSheet : List ℕ → Sheet
-readSheet s = (sheetOf (bits_of s)).sheet
+abbrev pub read_sheet : List ℕ → Sheet
+read_sheet s = (sheet_of (bits_of s)).sheet
 
 -- what is printed once both were looked at: the refusal of the first; else that of the second; else the differences
-unfoldable pub differedSeen : Seen → Seen → List ℕ → List ℕ → List ℕ
-differedSeen (Refused n) v a b = refusedBytes n
-differedSeen (Whole c f) (Refused n) a b = refusedBytes n
-differedSeen (Whole c f) (Whole d g) a b = differenceText (differences (readSheet a) (readSheet b))
+unfoldable pub differed_seen : Seen → Seen → List ℕ → List ℕ → List ℕ
+differed_seen (Refused n) v a b = refused_bytes n
+differed_seen (Whole c f) (Refused n) a b = refused_bytes n
+differed_seen (Whole c f) (Whole d g) a b = difference_text (differences (read_sheet a) (read_sheet b))
 
 -- the bytes that the program prints for the bytes of two files
 abbrev pub differed : List ℕ → List ℕ → List ℕ
-differed a b = differedSeen (seenOf limits a) (seenOf limits b) a b
+differed a b = differed_seen (seen_of limits a) (seen_of limits b) a b

@@ -1,24 +1,24 @@
 -- What the workers ask and promise. Only the contracts between workers, and theorems, need this file. Definitions only.
 use Rattle.std.specs.Prelude.{ℕ, ◌≤◌, ◌≡◌, eqb, List, [], ◌∷◌, ◌++◌, length, drop}
-use Rattle.lists.specs.Lists.{pick, sameRow}
+use Rattle.lists.specs.Lists.{pick, same_row_of}
 use Rattle.bits.specs.Bits.{bits_of}
 use Rattle.bits.specs.Rows.{unpack}
-use Rattle.outline_tables.specs.Rows.{sidesAt}
-use Rattle.sheet.specs.Sheet.{Sheet, FitSheet, limits, countsAt, countsOf, bladeW}
+use Rattle.outline_tables.specs.Rows.{sides_at}
+use Rattle.sheet.specs.Sheet.{Sheet, FitSheet, limits, counts_at, counts_of, blade_w}
 use Rattle.sheet.specs.declared.Counts.{Counts}
-use Rattle.edition.specs.Edition.{bitsIn, seenOf}
+use Rattle.edition.specs.Edition.{bits_in_of, seen_of}
 use Rattle.edition.specs.Work.{TypedIn}
 use Rattle.edition.specs.declared.Seen.{Seen}
 use Rattle.edition.specs.declared.Seen.TheVariants.{Whole, Refused}
-use Rattle.listing.specs.Listing.{refusedBytes}
+use Rattle.listing.specs.Listing.{refused_bytes}
 use Rattle.listing.specs.declared.Written.TheVariants.{Bytes}
-use Rattle.differences.specs.Differences.{Difference, counts, blades, rowsDiffer, differences, differenceText}
-use Rattle.differing.specs.Differed.{readSheet}
+use Rattle.differences.specs.Differences.{Difference, counts, blades, rows_differ, differences, difference_text}
+use Rattle.differing.specs.Differed.{read_sheet}
 use Rattle.differences.specs.declared.Part.{Part}
 use Rattle.differences.specs.declared.Part.TheVariants.{Particles, Triangles, Edges, Boundary}
 use Rattle.differences.specs.declared.lines.Lines.{Lines}
 use Rattle.differences.specs.declared.lines.Four.{Four}
-use Rattle.differences.specs.Work.{fourOf, FourFits}
+use Rattle.differences.specs.Work.{four_of, FourFits}
 
 -- ---- two whole sheets
 
@@ -27,21 +27,21 @@ abbrev pub start : Lines
 start = record { at = Bytes 0; count = 0 }
 
 -- the difference of a count, where it differs
-abbrev pub oneCount : Part → ℕ → ℕ → List Difference
-oneCount p m n = pick (eqb m n) [] (counts p m n ∷ [])
+abbrev pub one_count : Part → ℕ → ℕ → List Difference
+one_count p m n = pick (eqb m n) [] (counts p m n ∷ [])
 
-abbrev pub countLines : Counts → Counts → List Difference
-countLines c d = oneCount Particles c.particles d.particles ++ oneCount Triangles c.triangles d.triangles ++ oneCount Edges c.edges d.edges ++ oneCount Boundary c.boundary d.boundary
+abbrev pub count_lines : Counts → Counts → List Difference
+count_lines c d = one_count Particles c.particles d.particles ++ one_count Triangles c.triangles d.triangles ++ one_count Edges c.edges d.edges ++ one_count Boundary c.boundary d.boundary
 
-abbrev pub listLines : Sheet → Sheet → List Difference
-listLines a b = rowsDiffer Particles 0 a.particles b.particles ++ rowsDiffer Triangles 0 a.triangles b.triangles ++ rowsDiffer Edges 0 a.edges b.edges
+abbrev pub list_lines : Sheet → Sheet → List Difference
+list_lines a b = rows_differ Particles 0 a.particles b.particles ++ rows_differ Triangles 0 a.triangles b.triangles ++ rows_differ Edges 0 a.edges b.edges
 
 abbrev pub rest_lines : Sheet → Sheet → List Difference
-rest_lines a b = rowsDiffer Boundary 0 a.boundary b.boundary ++ pick (sameRow a.blade b.blade) [] (blades a.blade b.blade ∷ [])
+rest_lines a b = rows_differ Boundary 0 a.boundary b.boundary ++ pick (same_row_of a.blade b.blade) [] (blades a.blade b.blade ∷ [])
 
 -- a blade's fields, read
 pub record BladeRead (l : List ℕ) (at : ℕ) (f : Four) : Type 0 where
-  pub is : fourOf f ≡ unpack bladeW (drop at l)
+  pub is : four_of f ≡ unpack blade_w (drop at l)
   pub fits : FourFits f
 
 -- a sheet within the program's limits, all of whose fields hold their numbers
@@ -54,10 +54,10 @@ pub record Within (s : Sheet) : Type 0 where
 
 -- a whole sheet with counts c, whose outline stands at the front of a block
 pub record FirstIn (s : List ℕ) (c : Counts) (o : List ℕ) : Type 0 where
-  pub typed : TypedIn s (countsAt (bitsIn (bits_of s)))
-  pub counts : countsOf (readSheet s) ≡ c
-  pub within : Within (readSheet s)
-  pub sides : sidesAt c.boundary o ≡ (readSheet s).boundary
+  pub typed : TypedIn s (counts_at (bits_in_of (bits_of s)))
+  pub counts : counts_of (read_sheet s) ≡ c
+  pub within : Within (read_sheet s)
+  pub sides : sides_at c.boundary o ≡ (read_sheet s).boundary
   pub block : length o ≡ 6144
 
 -- two such sheets, and how many lines there are at most
@@ -68,8 +68,8 @@ pub record Going (s : List ℕ) (c : Counts) (o t : List ℕ) (d : Counts) (u : 
 
 -- what is printed where the first sheet is whole
 abbrev pub seconded : Seen → List ℕ → List ℕ → List ℕ
-seconded (Refused n) a b = refusedBytes n
-seconded (Whole d g) a b = differenceText (differences (readSheet a) (readSheet b))
+seconded (Refused n) a b = refused_bytes n
+seconded (Whole d g) a b = difference_text (differences (read_sheet a) (read_sheet b))
 
-abbrev pub secondText : List ℕ → List ℕ → List ℕ
-secondText a b = seconded (seenOf limits b) a b
+abbrev pub second_text : List ℕ → List ℕ → List ℕ
+second_text a b = seconded (seen_of limits b) a b

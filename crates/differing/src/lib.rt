@@ -4,9 +4,9 @@
 ghost use Rattle.std.specs.Prelude.{length};
 ghost use Rattle.edition.specs.declared.Seen.TheVariants.{Whole};
 ghost use Rattle.listing.specs.Answers.{Wrote, Told};
-ghost use Rattle.differences.specs.Differences.{differences, differenceText};
-ghost use Rattle.differing.specs.Differed.{readSheet, differed};
-ghost use Rattle.differing.specs.Work.{Going, secondText, FirstIn};
+ghost use Rattle.differences.specs.Differences.{differences, difference_text};
+ghost use Rattle.differing.specs.Differed.{read_sheet, differed};
+ghost use Rattle.differing.specs.Work.{Going, second_text, FirstIn};
 
 use edition::Seen;
 use listing::Written;
@@ -33,7 +33,7 @@ fn write_differences(
     out: &mut [u8],
 ) -> Written
     requires { Going first.now c left.now second.now d right.now 0 0 }
-    ensures { Wrote (differenceText (differences (readSheet first.now) (readSheet second.now))) (length
+    ensures { Wrote (difference_text (differences (read_sheet first.now) (read_sheet second.now))) (length
         out.old) out.new result }
 {
     let l = crate::whole::put_all(out, first, c, left, second, d, right);
@@ -46,7 +46,7 @@ fn write_differences(
 // Looks at the second sheet, where the first is whole.
 fn list_second(first: &[u8], c: Counts, left: &[usize], second: &[u8], out: &mut [u8]) -> Written
     requires { FirstIn first.now c left.now }
-    ensures { Told (secondText first.now second.now) (length out.old) out.new result }
+    ensures { Told (second_text first.now second.now) (length out.old) out.new result }
 {
     let mut right = [0usize; 6144];
     let seen = edition::outlines::look_into(second, LIMITS, &mut right);

@@ -3,11 +3,11 @@ ghost use Rattle.std.specs.Prelude.{◌≤◌, length};
 ghost use Rattle.bits.specs.Bits.{bits_of};
 ghost use Rattle.sheet.specs.Work.{RowsIn};
 ghost use Rattle.edition.specs.Work.{BladeAt};
-ghost use Rattle.differences.specs.Differences.{rowsDiffer, differences};
+ghost use Rattle.differences.specs.Differences.{rows_differ, differences};
 ghost use Rattle.differences.specs.declared.Part.TheVariants.{Edges};
-ghost use Rattle.differing.specs.Differed.{readSheet};
+ghost use Rattle.differing.specs.Differed.{read_sheet};
 ghost use Rattle.differences.specs.Work.{Lists};
-ghost use Rattle.differing.specs.Work.{start, countLines, BladeRead, listLines, rest_lines, Going};
+ghost use Rattle.differing.specs.Work.{start, count_lines, BladeRead, list_lines, rest_lines, Going};
 
 use differences::Part;
 use differences::lines::{Four, Lines};
@@ -39,7 +39,7 @@ fn blade_at(s: &[u8], at: usize) -> Four
 
 // Writes the lines of the counts that differ, from nothing on.
 fn put_counts(out: &mut [u8], c: Counts, d: Counts) -> Lines
-    ensures { Lists (countLines c d) out.old start out.new result }
+    ensures { Lists (count_lines c d) out.old start out.new result }
 {
     let none = Lines {
         at: Written::Bytes(0),
@@ -63,7 +63,7 @@ fn put_edges(
     right: &[usize],
 ) -> Lines
     requires { Going first.now c left.now second.now d right.now 1028 l.count }
-    ensures { Lists (rowsDiffer Edges 0 (readSheet first.now).edges (readSheet second.now).edges)
+    ensures { Lists (rows_differ Edges 0 (read_sheet first.now).edges (read_sheet second.now).edges)
         out.old l out.new result }
 {
     let p = edition::typed::start_bit(first) + c.particles * 23 + c.triangles * 30;
@@ -95,7 +95,7 @@ fn put_lists(
     right: &[usize],
 ) -> Lines
     requires { Going first.now c left.now second.now d right.now 4 l.count }
-    ensures { Lists (listLines (readSheet first.now) (readSheet second.now)) out.old l
+    ensures { Lists (list_lines (read_sheet first.now) (read_sheet second.now)) out.old l
         out.new result }
 {
     let p = edition::typed::start_bit(first);
@@ -143,7 +143,7 @@ fn put_rest(
     right: &[usize],
 ) -> Lines
     requires { Going first.now c left.now second.now d right.now 2048 l.count }
-    ensures { Lists (rest_lines (readSheet first.now) (readSheet second.now)) out.old l
+    ensures { Lists (rest_lines (read_sheet first.now) (read_sheet second.now)) out.old l
         out.new result }
 {
     let sides = row_differences::put_sides(out, l, left, c.boundary, right, d.boundary);
@@ -163,7 +163,7 @@ pub fn put_all(
     right: &[usize],
 ) -> Lines
     requires { Going first.now c left.now second.now d right.now 0 0 }
-    ensures { Lists (differences (readSheet first.now) (readSheet second.now)) out.old start
+    ensures { Lists (differences (read_sheet first.now) (read_sheet second.now)) out.old start
         out.new result }
 {
     let counts = put_counts(out, c, d);

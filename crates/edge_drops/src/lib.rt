@@ -2,11 +2,11 @@
 #![tactic(auto)]
 
 ghost use Rattle.std.specs.Prelude.{◌≡◌, ◌+◌, ◌-◌, length, take};
-ghost use Rattle.lists.specs.LeftOut.{without, leftOut};
+ghost use Rattle.lists.specs.LeftOut.{without, left_out};
 ghost use Rattle.mesh.specs.At.{edges_at};
 ghost use Rattle.links.specs.Linked.{EdgesLinked};
 ghost use Rattle.edge_drops.specs.Drops.{RowAsked, RowGone, DropAsked, ListedRoom};
-ghost use Rattle.edge_drops.specs.Parted.{Listing, listed, edgesParted};
+ghost use Rattle.edge_drops.specs.Parted.{Listing, listed, edges_parted};
 
 // The place of a list of edges that says how many are listed.
 pub const LISTED: usize = mesh::EDGES;
@@ -49,7 +49,7 @@ fn drop_rest(
 ) -> usize
     requires { ListedRoom list.now n s (length ends.old) (length lengths.old) × EdgesLinked n ends.old table.old }
     ensures { (result ≡ n - s) × (edges_at result ends.new lengths.new
-        ≡ leftOut (take s list.now) (edges_at n ends.old lengths.old))
+        ≡ left_out (take s list.now) (edges_at n ends.old lengths.old))
         × EdgesLinked result ends.new table.new }
 {
     let mut left = n;
@@ -73,7 +73,7 @@ pub fn drop_listed(
 ) -> usize
     requires { ListedRoom list.now n s (length ends.old) (length lengths.old) × EdgesLinked n ends.old table.old }
     ensures { (result ≡ n - s) × (edges_at result ends.new lengths.new
-        ≡ leftOut (take s list.now) (edges_at n ends.old lengths.old))
+        ≡ left_out (take s list.now) (edges_at n ends.old lengths.old))
         × EdgesLinked result ends.new table.new }
 {
     if s == 0 {
@@ -93,7 +93,7 @@ pub fn close(
 )
     requires { Listing left (length ends.old) (length lengths.old) list.now × EdgesLinked (left + listed list.now) ends.old
         table.old }
-    ensures { (edges_at left ends.new lengths.new ≡ edgesParted left ends.old lengths.old
+    ensures { (edges_at left ends.new lengths.new ≡ edges_parted left ends.old lengths.old
         list.now) × EdgesLinked left ends.new table.new }
 {
     let s = list[LISTED];
@@ -106,7 +106,7 @@ pub fn close(
 // The listed edges go from the blocks, which no table is kept of, the last of them first.
 pub fn close_rows(left: usize, list: &[usize], ends: &mut [usize], lengths: &mut [f32])
     requires { Listing left (length ends.old) (length lengths.old) list.now }
-    ensures { edges_at left ends.new lengths.new ≡ edgesParted left ends.old lengths.old
+    ensures { edges_at left ends.new lengths.new ≡ edges_parted left ends.old lengths.old
         list.now }
 {
     let mut more = list[LISTED];

@@ -11,17 +11,17 @@ use Rattle.mesh.specs.Filled.{Filled}
 use Rattle.mesh.proofs.Agree.{agree}
 use Rattle.bits.specs.Bits.{bits_of}
 use Rattle.sheet.specs.declared.Counts.{Counts}
-use Rattle.edition.specs.Reading.{ReadDone, worldOf, bladeLeft}
+use Rattle.edition.specs.Reading.{ReadDone, world_of, blade_left}
 use Rattle.edition.specs.declared.Seen.{Seen}
 
 -- two readings of one sheet into blocks of the same lengths
-pub read-agree :
+pub read_agree :
     (limits : Counts) (s : List ℕ) (L : Lent) (b : List Float) (r r' : Seen) (p p' : List Float) (q q' c c' : List ℕ) (v v' : List Float) (e e' : List ℕ) (l l' : List Float) (o o' g g' : List ℕ) (d d' : List Float)
     → ReadDone limits s L r p q c v e l o g b d → ReadDone limits s L r' p' q' c' v' e' l' o' g' b d'
     → (r ≡ r') × ((p ≡ p') × (q ≡ q') × (c ≡ c') × (v ≡ v') × (e ≡ e') × (l ≡ l') × (o ≡ o') × (g ≡ g')) × (d ≡ d')
-read-agree limits s L b r r' p p' q q' c c' v v' e e' l l' o o' g g' d d' f h =
+read_agree limits s L b r r' p p' q q' c c' v v' e e' l l' o o' g g' d d' f h =
     let z : r ≡ r' = f.answer ∙ sym h.answer in (
       z,
-      agree (worldOf r (bits_of s)) L p p' q q' c c' v v' e e' l l' o o' g g' f.blocks (subst (λ (x : Seen). Filled (worldOf x (bits_of s)) L p' q' c' v' e' l' o' g') (sym z) h.blocks),
-      f.blade ∙ (ap (λ (x : Seen). padded (length b) zero32 (bladeLeft x (bits_of s))) z ∙ sym h.blade),
+      agree (world_of r (bits_of s)) L p p' q q' c c' v v' e e' l l' o o' g g' f.blocks (subst (λ (x : Seen). Filled (world_of x (bits_of s)) L p' q' c' v' e' l' o' g') (sym z) h.blocks),
+      f.blade ∙ (ap (λ (x : Seen). padded (length b) zero32 (blade_left x (bits_of s))) z ∙ sym h.blade),
     )

@@ -7,23 +7,23 @@ use native.Mathlib.Omega.{arith}
 use borrow.Author.Tests.{leb-true, ltb-false}
 use lib.Dec.{leb, ltb}
 use lib.ListN.{length}
-use Rattle.lists.proofs.Sifts.{and-true}
+use Rattle.lists.proofs.Sifts.{and_true}
 use Rattle.bits.specs.Bits.{bits_of}
 use Rattle.mesh.specs.Given.{Lent}
-use Rattle.mesh.specs.Widths.{pointColumns}
-use Rattle.outline_tables.specs.Rows.{sidesAt}
-use Rattle.sheet.specs.Sheet.{countsAt}
+use Rattle.mesh.specs.Widths.{point_columns}
+use Rattle.outline_tables.specs.Rows.{sides_at}
+use Rattle.sheet.specs.Sheet.{counts_at}
 use Rattle.sheet.specs.declared.Counts.{Counts}
 use Rattle.sheet.specs.declared.Seen.{Seen as Typed}
 use Rattle.sheet.specs.declared.Seen.TheVariants.{Whole as TypedWhole, Refused as TypedRefused}
 use Rattle.sheet.proofs.PutLaws.{neither}
-use Rattle.edition.specs.Edition.{bitsIn, sheetOf, overlong, typedSeen, seenIn, seenOf}
+use Rattle.edition.specs.Edition.{bits_in_of, sheet_of, overlong, typed_seen, seen_in, seen_of}
 use Rattle.edition.specs.Reading.{room_for, lent_of}
 use Rattle.edition.specs.Work.{Held, LookedAt}
 use Rattle.edition.specs.declared.Seen.{Seen}
 use Rattle.edition.specs.declared.Seen.TheVariants.{Whole, Refused}
-use Rattle.edition.proofs.Starts.{typed-in}
-use Rattle.edition.proofs.Meshes.{outlined-sides}
+use Rattle.edition.proofs.Starts.{typed_in}
+use Rattle.edition.proofs.Meshes.{outlined_sides}
 
 pub never : (n : ℕ) (c : Counts) (f : Bool) → Refused n ≡ Whole c f → ⊥
 never n c f e = let z : ◌≡◌ {A = ℕ} 0 1 = cc in omega arith
@@ -34,24 +34,24 @@ outlined c n = record { particles = c.particles; triangles = c.triangles; edges 
 
 -- what it tells of a sheet that its answer is whole
 pub record SeenWhole (limits : Counts) (s : List ℕ) (c : Counts) (f : Bool) : Type 0 where
-  pub typed : typedSeen limits s ≡ TypedWhole (countsAt (bitsIn (bits_of s)))
-  pub counts : c ≡ outlined (countsAt (bitsIn (bits_of s))) (length (sheetOf (bits_of s)).sheet.boundary)
-  pub told : f ≡ (sheetOf (bits_of s)).replaced
-  pub few : length (sheetOf (bits_of s)).sheet.boundary ≤ 2048
-  pub within : length (sheetOf (bits_of s)).sheet.boundary ≤ limits.boundary
+  pub typed : typed_seen limits s ≡ TypedWhole (counts_at (bits_in_of (bits_of s)))
+  pub counts : c ≡ outlined (counts_at (bits_in_of (bits_of s))) (length (sheet_of (bits_of s)).sheet.boundary)
+  pub told : f ≡ (sheet_of (bits_of s)).replaced
+  pub few : length (sheet_of (bits_of s)).sheet.boundary ≤ 2048
+  pub within : length (sheet_of (bits_of s)).sheet.boundary ≤ limits.boundary
 
 cases : (t : Bool) (d c : Counts) (g f : Bool) → cond t (Refused 1) (Whole d g) ≡ Whole c f → (t ≡ false) × (c ≡ d) × (f ≡ g)
 cases true d c g f e = absurd (never 1 c f e)
 cases false d c g f e = (refl, cc, cc)
 
-seen_parts : (limits : Counts) (s : List ℕ) (c : Counts) (f : Bool) (w : Typed) → typedSeen limits s ≡ w → seenIn limits s w ≡ Whole c f → SeenWhole limits s c f
-unfolding seenIn
+seen_parts : (limits : Counts) (s : List ℕ) (c : Counts) (f : Bool) (w : Typed) → typed_seen limits s ≡ w → seen_in limits s w ≡ Whole c f → SeenWhole limits s c f
+unfolding seen_in
 seen_parts limits s c f (TypedRefused n) e h = absurd (never n c f h)
 seen_parts limits s c f (TypedWhole d) e h =
-    let n = length (sheetOf (bits_of s)).sheet.boundary in
-    let w = cases (overlong limits n) (outlined d n) c (sheetOf (bits_of s)).replaced f h in
+    let n = length (sheet_of (bits_of s)).sheet.boundary in
+    let w = cases (overlong limits n) (outlined d n) c (sheet_of (bits_of s)).replaced f h in
     let v = neither (ltb 2048 n) (ltb limits.boundary n) w.0 in
-    let i : d ≡ countsAt (bitsIn (bits_of s)) = sym (typed-in limits s d e).is in
+    let i : d ≡ counts_at (bits_in_of (bits_of s)) = sym (typed_in limits s d e).is in
     record {
       typed = e ∙ ap TypedWhole i;
       counts = w.1 ∙ ap (λ (x : Counts). outlined x n) i;
@@ -60,8 +60,8 @@ seen_parts limits s c f (TypedWhole d) e h =
       within = ltb-false _ _ v.1;
     }
 
-pub seen-whole-tells : (limits : Counts) (s : List ℕ) (c : Counts) (f : Bool) → seenOf limits s ≡ Whole c f → SeenWhole limits s c f
-seen-whole-tells limits s c f e = seen_parts limits s c f (typedSeen limits s) refl e
+pub seen_whole_tells : (limits : Counts) (s : List ℕ) (c : Counts) (f : Bool) → seen_of limits s ≡ Whole c f → SeenWhole limits s c f
+seen_whole_tells limits s c f e = seen_parts limits s c f (typed_seen limits s) refl e
 
 -- ---- the room that was found
 
@@ -74,26 +74,26 @@ roomy true true true false c d f g h = absurd (never 7 d g h)
 roomy true true true true c d f g h = (refl, refl, refl, refl, cc, cc)
 
 fits : (n a b : ℕ) → (leb n a && leb n b) ≡ true → (n ≤ a) × (n ≤ b)
-fits n a b e = let w = and-true (leb n a) (leb n b) e in (leb-true n a w.0, leb-true n b w.1)
+fits n a b e = let w = and_true (leb n a) (leb n b) e in (leb-true n a w.0, leb-true n b w.1)
 
-module _ (limits : Counts) (s o : List ℕ) (L : Lent) (nb : ℕ) (c : Counts) (f : Bool) (e : seenOf limits s ≡ Whole c f) (h : room_for c f L nb ≡ Whole c f)
-    (places : 6144 ≤ length o) (sides : sidesAt c.boundary o ≡ (sheetOf (bits_of s)).sheet.boundary) where
-  held-here : Held s c o L nb
+module _ (limits : Counts) (s o : List ℕ) (L : Lent) (nb : ℕ) (c : Counts) (f : Bool) (e : seen_of limits s ≡ Whole c f) (h : room_for c f L nb ≡ Whole c f)
+    (places : 6144 ≤ length o) (sides : sides_at c.boundary o ≡ (sheet_of (bits_of s)).sheet.boundary) where
+  held_here : Held s c o L nb
   unfolding room_for
-  held-here =
-      let w = roomy ((leb c.triangles (L.corners / 3) && leb c.triangles (L.volumes / 2)) && leb 4 nb) (leb c.particles (L.points / pointColumns) && leb c.particles (L.roots / 2))
+  held_here =
+      let w = roomy ((leb c.triangles (L.corners / 3) && leb c.triangles (L.volumes / 2)) && leb 4 nb) (leb c.particles (L.points / point_columns) && leb c.particles (L.roots / 2))
       (leb c.edges (L.ends / 4) && leb c.edges (L.lengths / 4)) (leb c.boundary (L.outline / 2)) c c f f h in
-      let v = and-true (leb c.triangles (L.corners / 3) && leb c.triangles (L.volumes / 2)) (leb 4 nb) w.0 in
+      let v = and_true (leb c.triangles (L.corners / 3) && leb c.triangles (L.volumes / 2)) (leb 4 nb) w.0 in
       let t = fits c.triangles (L.corners / 3) (L.volumes / 2) v.0 in
-      let p = fits c.particles (L.points / pointColumns) (L.roots / 2) w.1 in
+      let p = fits c.particles (L.points / point_columns) (L.roots / 2) w.1 in
       let q = fits c.edges (L.ends / 4) (L.lengths / 4) w.2 in
       let b = leb-true c.boundary (L.outline / 2) w.3 in
-      let a = seen-whole-tells limits s c f e in
+      let a = seen_whole_tells limits s c f e in
       let k = ap (λ (x : Counts). x.boundary) a.counts in
       record {
         mesh =
             record {
-              typed = typed-in limits s (countsAt (bitsIn (bits_of s))) a.typed;
+              typed = typed_in limits s (counts_at (bits_in_of (bits_of s))) a.typed;
               particles = ap (λ (x : Counts). x.particles) a.counts;
               triangles = ap (λ (x : Counts). x.triangles) a.counts;
               edges = ap (λ (x : Counts). x.edges) a.counts;
@@ -106,11 +106,11 @@ module _ (limits : Counts) (s o : List ℕ) (L : Lent) (nb : ℕ) (c : Counts) (
       }
 
 -- what a reader left whole was a whole sheet
-pub lent-whole : (x : Seen) (L : Lent) (nb : ℕ) (c : Counts) (f : Bool) → lent_of x L nb ≡ Whole c f → x ≡ Whole c f
+pub lent_whole : (x : Seen) (L : Lent) (nb : ℕ) (c : Counts) (f : Bool) → lent_of x L nb ≡ Whole c f → x ≡ Whole c f
 unfolding lent_of room_for
-lent-whole (Refused n) L nb c f e = absurd (never n c f e)
-lent-whole (Whole d g) L nb c f e =
-    let w = roomy ((leb d.triangles (L.corners / 3) && leb d.triangles (L.volumes / 2)) && leb 4 nb) (leb d.particles (L.points / pointColumns) && leb d.particles (L.roots / 2))
+lent_whole (Refused n) L nb c f e = absurd (never n c f e)
+lent_whole (Whole d g) L nb c f e =
+    let w = roomy ((leb d.triangles (L.corners / 3) && leb d.triangles (L.volumes / 2)) && leb 4 nb) (leb d.particles (L.points / point_columns) && leb d.particles (L.roots / 2))
     (leb d.edges (L.ends / 4) && leb d.edges (L.lengths / 4)) (leb d.boundary (L.outline / 2)) d c g f e in
     λ i. Whole (w.4 i) (w.5 i)
 
@@ -118,15 +118,15 @@ lent-whole (Whole d g) L nb c f e =
 pub held : (limits : Counts) (s o : List ℕ) (L : Lent) (nb : ℕ) (c : Counts) (f : Bool) (x : Seen) → LookedAt limits s o x → lent_of x L nb ≡ Whole c f → 6144 ≤ length o → Held s c o L nb
 unfolding lent_of
 held limits s o L nb c f x k h places =
-    let w = lent-whole x L nb c f h in
-    held-here limits s o L nb c f (sym k.answer ∙ w) (sym (ap (λ (y : Seen). lent_of y L nb) w) ∙ h) places (outlined-sides x s o c f w k.outlined)
+    let w = lent_whole x L nb c f h in
+    held_here limits s o L nb c f (sym k.answer ∙ w) (sym (ap (λ (y : Seen). lent_of y L nb) w) ∙ h) places (outlined_sides x s o c f w k.outlined)
 
 -- room does not hang on the log
-pub lent-log :
-    (limits : Counts) (s : List ℕ) (x : Seen) (L : Lent) (nb : ℕ) → x ≡ seenOf limits s
-    → lent_of x (record { points = L.points; roots = L.roots; corners = L.corners; volumes = L.volumes; ends = L.ends; lengths = L.lengths; outline = L.outline; log = 0 }) nb ≡ lent_of (seenOf limits s) L nb
+pub lent_log :
+    (limits : Counts) (s : List ℕ) (x : Seen) (L : Lent) (nb : ℕ) → x ≡ seen_of limits s
+    → lent_of x (record { points = L.points; roots = L.roots; corners = L.corners; volumes = L.volumes; ends = L.ends; lengths = L.lengths; outline = L.outline; log = 0 }) nb ≡ lent_of (seen_of limits s) L nb
 unfolding lent_of room_for
-lent-log limits s x L nb e = by x ∙ ap (λ (y : Seen). lent_of y L nb) e
+lent_log limits s x L nb e = by x ∙ ap (λ (y : Seen). lent_of y L nb) e
   where
     by : (y : Seen) → lent_of y (record { points = L.points; roots = L.roots; corners = L.corners; volumes = L.volumes; ends = L.ends; lengths = L.lengths; outline = L.outline; log = 0 }) nb ≡ lent_of y L nb
     by (Whole c f) = refl

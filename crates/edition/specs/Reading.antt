@@ -5,25 +5,25 @@ use Rattle.float.specs.Numbers.{zero32}
 use Rattle.mesh.specs.Log.{World}
 use Rattle.mesh.specs.Given as G
 use Rattle.mesh.specs.Filled as F
-use Rattle.mesh.specs.Widths.{pointColumns, cornerColumns, endColumns, lengthColumns, rootColumns, volumeColumns, sideColumns}
+use Rattle.mesh.specs.Widths.{point_columns, corner_columns, end_columns, length_columns, root_columns, volume_columns, side_columns}
 use Rattle.bits.specs.Bits.{bits_of}
-use Rattle.sheet.specs.Read.{meshOfSheet, bladeOfSheet}
+use Rattle.sheet.specs.Read.{mesh_of_sheet, blade_of_sheet}
 use Rattle.sheet.specs.declared.Counts.{Counts}
-use Rattle.edition.specs.Edition.{sheetOf, seenOf}
+use Rattle.edition.specs.Edition.{sheet_of, seen_of}
 use Rattle.edition.specs.declared.Seen.{Seen}
 use Rattle.edition.specs.declared.Seen.TheVariants.{Whole, Refused}
-use Rattle.model.specs.Refusals.{argumentRefusal, particleRefusal, edgeRefusal, boundaryRefusal}
+use Rattle.model.specs.Refusals.{argument_refusal, particle_refusal, edge_refusal, boundary_refusal}
 
 -- what a reader answers that was lent these places: triangle (or blade) places too few 4; then particles 5, edges 6, boundary 7
 unfoldable pub room_for : Counts → Bool → G.Lent → ℕ → Seen
 room_for c replaced L blade =
-    cond ((leb c.triangles (L.corners / cornerColumns) && leb c.triangles (L.volumes / volumeColumns)) && leb 4 blade)
-    (cond (leb c.particles (L.points / pointColumns) && leb c.particles (L.roots / rootColumns))
-    (cond (leb c.edges (L.ends / endColumns) && leb c.edges (L.lengths / lengthColumns))
-    (cond (leb c.boundary (L.outline / sideColumns)) (Whole c replaced) (Refused boundaryRefusal))
-    (Refused edgeRefusal))
-    (Refused particleRefusal))
-    (Refused argumentRefusal)
+    cond ((leb c.triangles (L.corners / corner_columns) && leb c.triangles (L.volumes / volume_columns)) && leb 4 blade)
+    (cond (leb c.particles (L.points / point_columns) && leb c.particles (L.roots / root_columns))
+    (cond (leb c.edges (L.ends / end_columns) && leb c.edges (L.lengths / length_columns))
+    (cond (leb c.boundary (L.outline / side_columns)) (Whole c replaced) (Refused boundary_refusal))
+    (Refused edge_refusal))
+    (Refused particle_refusal))
+    (Refused argument_refusal)
 
 -- the same where the sheet itself is not refused
 unfoldable pub lent_of : Seen → G.Lent → ℕ → Seen
@@ -31,17 +31,17 @@ lent_of (Whole c replaced) L blade = room_for c replaced L blade
 lent_of (Refused n) L blade = Refused n
 
 -- the mesh and the log that an answer leaves: the mesh of the sheet as it is read, or nothing
-unfoldable pub worldOf : Seen → List ℕ → World
-worldOf (Whole c replaced) l = record { mesh = meshOfSheet (sheetOf l).sheet; log = [] }
-worldOf (Refused n) l = record { mesh = record { particles = []; triangles = []; edges = []; boundary = [] }; log = [] }
+unfoldable pub world_of : Seen → List ℕ → World
+world_of (Whole c replaced) l = record { mesh = mesh_of_sheet (sheet_of l).sheet; log = [] }
+world_of (Refused n) l = record { mesh = record { particles = []; triangles = []; edges = []; boundary = [] }; log = [] }
 
 -- the blade that an answer leaves
-unfoldable pub bladeLeft : Seen → List ℕ → List Float
-bladeLeft (Whole c replaced) l = bladeOfSheet (sheetOf l).sheet
-bladeLeft (Refused n) l = []
+unfoldable pub blade_left : Seen → List ℕ → List Float
+blade_left (Whole c replaced) l = blade_of_sheet (sheet_of l).sheet
+blade_left (Refused n) l = []
 
 -- what a reader answers, and every place that it was lent
 pub record ReadDone (limits : Counts) (s : List ℕ) (L : G.Lent) (r : Seen) (p : List Float) (q c : List ℕ) (v : List Float) (e : List ℕ) (l : List Float) (o g : List ℕ) (b b' : List Float) : Type 0 where
-  pub answer : r ≡ lent_of (seenOf limits s) L (length b)
-  pub blocks : F.Filled (worldOf r (bits_of s)) L p q c v e l o g
-  pub blade : b' ≡ padded (length b) zero32 (bladeLeft r (bits_of s))
+  pub answer : r ≡ lent_of (seen_of limits s) L (length b)
+  pub blocks : F.Filled (world_of r (bits_of s)) L p q c v e l o g
+  pub blade : b' ≡ padded (length b) zero32 (blade_left r (bits_of s))

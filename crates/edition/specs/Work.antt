@@ -4,14 +4,14 @@ use Rattle.lists.specs.Lists.{pick}
 use Rattle.bits.specs.Bits.{bits_of}
 use Rattle.mesh.specs.Given.{Lent}
 use Rattle.mesh.specs.Filled.{Fits}
-use Rattle.mesh.specs.Limits.{boundaryLimit}
-use Rattle.outline_tables.specs.Rows.{sidesAt}
+use Rattle.mesh.specs.Limits.{boundary_limit}
+use Rattle.outline_tables.specs.Rows.{sides_at}
 use Rattle.outline_tables.specs.declared.Settled.{Settled}
-use Rattle.sheet.specs.Sheet.{countsAt, sheetWith, end_of, tooMany, namesOK}
-use Rattle.sheet.specs.Read.{countsFor}
+use Rattle.sheet.specs.Sheet.{counts_at, sheet_with, end_of, too_many_of, names_ok}
+use Rattle.sheet.specs.Read.{counts_for}
 use Rattle.sheet.specs.Work.{Small, RowsIn}
 use Rattle.sheet.specs.declared.Counts.{Counts}
-use Rattle.edition.specs.Edition.{second, bitsIn, typed_of, sheetOf, outlineIn, replacedIn, bytesIn, spareIn, seenOf}
+use Rattle.edition.specs.Edition.{second, bits_in_of, typed_of, sheet_of, outline_in, replaced_in, bytes_in, spare_in, seen_of}
 use Rattle.edition.specs.declared.Seen.{Seen}
 use Rattle.edition.specs.declared.Seen.TheVariants.{Whole, Refused}
 
@@ -27,12 +27,12 @@ start_of l = pick (second l) 45 46
 
 -- a sheet that is whole before its outline is looked at, with typed counts c
 pub record TypedIn (s : List ℕ) (c : Counts) : Type 0 where
-  pub is : countsAt (bitsIn (bits_of s)) ≡ c
+  pub is : counts_at (bits_in_of (bits_of s)) ≡ c
   pub six : 6 ≤ length s
-  pub few : tooMany c ≡ false
-  pub long : length s ≡ bytesIn (second (bits_of s)) c
-  pub spare : spareIn c s ≡ 0
-  pub names : namesOK (sheetWith c (bitsIn (bits_of s))) ≡ true
+  pub few : too_many_of c ≡ false
+  pub long : length s ≡ bytes_in (second (bits_of s)) c
+  pub spare : spare_in c s ≡ 0
+  pub names : names_ok (sheet_with c (bits_in_of (bits_of s))) ≡ true
 
 -- n rows of names from bit `at` lie inside the bytes, with a blade behind them, and three columns have places for them
 pub record NamesIn (s : List ℕ) (at step n la lb lc : ℕ) : Type 0 where
@@ -51,7 +51,7 @@ pub record StartIn (s : List ℕ) (c : Counts) (start : ℕ) : Type 0 where
 pub record FirstIn (s : List ℕ) (c : Counts) (own o : ℕ) : Type 0 where
   pub typed : TypedIn s c
   pub first : second (bits_of s) ≡ false
-  pub own-places : 6144 ≤ own
+  pub own_places : 6144 ≤ own
   pub places : 6144 ≤ o
 
 -- such a sheet, and a block for any outline
@@ -61,34 +61,34 @@ pub record BlockIn (s : List ℕ) (c : Counts) (o : ℕ) : Type 0 where
 
 -- the outline that a sheet is read with stands at the front of a block
 pub record OutlineFound (s o : List ℕ) (r : Settled) : Type 0 where
-  pub sides : sidesAt r.count o ≡ outlineIn (second (bits_of s)) (typed_of (bits_of s))
-  pub told : r.replaced ≡ replacedIn (second (bits_of s)) (typed_of (bits_of s))
+  pub sides : sides_at r.count o ≡ outline_in (second (bits_of s)) (typed_of (bits_of s))
+  pub told : r.replaced ≡ replaced_in (second (bits_of s)) (typed_of (bits_of s))
 
 -- where a sheet is whole, its outline stands at the front of a block
 abbrev pub Outlined : Seen → List ℕ → List ℕ → Type 0
-Outlined (Whole c replaced) s o = sidesAt c.boundary o ≡ (sheetOf (bits_of s)).sheet.boundary
+Outlined (Whole c replaced) s o = sides_at c.boundary o ≡ (sheet_of (bits_of s)).sheet.boundary
 Outlined (Refused n) s o = Unit {0}
 
 -- the answer to a sheet, and its outline
 pub record LookedAt (limits : Counts) (s o : List ℕ) (r : Seen) : Type 0 where
-  pub answer : r ≡ seenOf limits s
+  pub answer : r ≡ seen_of limits s
   pub outlined : Outlined r s o
 
 -- a sheet that is whole, its outline in a block, and blocks that have room for its mesh
 pub record MeshIn (s : List ℕ) (c : Counts) (o : List ℕ) (L : Lent) : Type 0 where
-  pub typed : TypedIn s (countsAt (bitsIn (bits_of s)))
-  pub particles : c.particles ≡ (countsAt (bitsIn (bits_of s))).particles
-  pub triangles : c.triangles ≡ (countsAt (bitsIn (bits_of s))).triangles
-  pub edges : c.edges ≡ (countsAt (bitsIn (bits_of s))).edges
-  pub few : c.boundary ≤ boundaryLimit
-  pub sides : sidesAt c.boundary o ≡ (sheetOf (bits_of s)).sheet.boundary
+  pub typed : TypedIn s (counts_at (bits_in_of (bits_of s)))
+  pub particles : c.particles ≡ (counts_at (bits_in_of (bits_of s))).particles
+  pub triangles : c.triangles ≡ (counts_at (bits_in_of (bits_of s))).triangles
+  pub edges : c.edges ≡ (counts_at (bits_in_of (bits_of s))).edges
+  pub few : c.boundary ≤ boundary_limit
+  pub sides : sides_at c.boundary o ≡ (sheet_of (bits_of s)).sheet.boundary
   pub block : c.boundary ≤ length o / 2
-  pub room : Fits (countsFor c) L
+  pub room : Fits (counts_for c) L
 
 -- the bit that the blade of a sheet begins at
 pub record BladeAt (l : List ℕ) (at : ℕ) : Type 0 where
-  pub counts : Small (countsAt (bitsIn l))
-  pub is : at ≡ start_of l + (countsAt (bitsIn l)).particles * 23 + (countsAt (bitsIn l)).triangles * 30 + (countsAt (bitsIn l)).edges * 21 + (countsAt (bitsIn l)).boundary * 20
+  pub counts : Small (counts_at (bits_in_of l))
+  pub is : at ≡ start_of l + (counts_at (bits_in_of l)).particles * 23 + (counts_at (bits_in_of l)).triangles * 30 + (counts_at (bits_in_of l)).edges * 21 + (counts_at (bits_in_of l)).boundary * 20
 
 -- the same, and places for its blade
 pub record Held (s : List ℕ) (c : Counts) (o : List ℕ) (L : Lent) (places : ℕ) : Type 0 where

@@ -2,7 +2,7 @@
 #![tactic(auto)]
 
 ghost use Rattle.std.specs.Prelude.{◌≡◌};
-ghost use Rattle.edition.specs.Edition.{seenOf};
+ghost use Rattle.edition.specs.Edition.{seen_of};
 
 use sheet::Counts;
 
@@ -19,7 +19,7 @@ pub enum Seen {
 
 // What a sheet is: whole, with its counts, or refused with a number.
 pub fn look(s: &[u8], limits: Counts) -> Seen
-    ensures { result ≡ seenOf limits s.now }
+    ensures { result ≡ seen_of limits s.now }
 {
     let mut block = [0usize; 6144];
     crate::outlines::look_into(s, limits, &mut block)

@@ -1,10 +1,10 @@
 // The outline that a sheet is read with.
 ghost use Rattle.std.specs.Prelude.{◌≡◌, ◌||◌, ℕ, ◌≤◌, length, drop, ltb};
 ghost use Rattle.bits.specs.Bits.{bits_of};
-ghost use Rattle.bits.specs.Rows.{readRows};
-ghost use Rattle.outline.specs.Outline.{outlineOfTriangles, outlineOfStraps};
+ghost use Rattle.bits.specs.Rows.{read_rows};
+ghost use Rattle.outline.specs.Outline.{outline_of_triangles, outline_of_straps};
 ghost use Rattle.outline_tables.specs.Rows.{Listed};
-ghost use Rattle.sheet.specs.Sheet.{triangleW, edgeW};
+ghost use Rattle.sheet.specs.Sheet.{triangle_w, edge_w};
 ghost use Rattle.edition.specs.Edition.{typed_of, own_of, overlong};
 ghost use Rattle.edition.specs.Work.{NamesIn, StartIn, FirstIn, BlockIn, OutlineFound, LookedAt};
 
@@ -23,7 +23,7 @@ fn triangle_sides(
     block: &mut [usize],
 ) -> usize
     requires { NamesIn s.now at 30 n (length a.old) (length b.old) (length c.old) }
-    ensures { Listed (outlineOfTriangles (readRows triangleW n (drop at (bits_of s.now)))) block.new result }
+    ensures { Listed (outline_of_triangles (read_rows triangle_w n (drop at (bits_of s.now)))) block.new result }
 {
     bits::read_column(s, at, 30, 10, n, a);
     bits::read_column(s, at + 10, 30, 10, n, b);
@@ -42,7 +42,7 @@ fn strap_sides(
     block: &mut [usize],
 ) -> usize
     requires { NamesIn s.now at 21 n (length a.old) (length b.old) (length c.old) }
-    ensures { Listed (outlineOfStraps (readRows edgeW n (drop at (bits_of s.now)))) block.new result }
+    ensures { Listed (outline_of_straps (read_rows edge_w n (drop at (bits_of s.now)))) block.new result }
 {
     bits::read_column(s, at, 21, 10, n, a);
     bits::read_column(s, at + 10, 21, 10, n, b);

@@ -4,11 +4,11 @@ ghost use Rattle.lists.specs.Lists.{padded};
 ghost use Rattle.float.specs.Numbers.{zero32};
 ghost use Rattle.mesh.specs.Filled.{Filled};
 ghost use Rattle.bits.specs.Bits.{bits_of};
-ghost use Rattle.sheet.specs.Read.{meshOfSheet, bladeOfSheet, countsFor};
-ghost use Rattle.edition.specs.Edition.{sheetOf};
+ghost use Rattle.sheet.specs.Read.{mesh_of_sheet, blade_of_sheet, counts_for};
+ghost use Rattle.edition.specs.Edition.{sheet_of};
 ghost use Rattle.edition.specs.Reading.{room_for, lent_of, ReadDone};
 ghost use Rattle.edition.specs.Work.{MeshIn, BladeAt, Held};
-ghost use Rattle.mesh.specs.Blocks.{meshBehind, lentBefore, blocksIn};
+ghost use Rattle.mesh.specs.Blocks.{mesh_behind, lent_before, blocks_in};
 
 use crate::Seen;
 use sheet::Counts;
@@ -81,9 +81,9 @@ fn read_mesh(
     lengths: &mut [f32],
     outline: &mut [usize],
 )
-    requires { MeshIn s.now c found.now (blocksIn points roots corners volumes ends lengths outline) }
-    ensures { meshBehind (countsFor c) points roots corners volumes ends lengths outline
-        ≡ meshOfSheet (sheetOf (bits_of s.now)).sheet }
+    requires { MeshIn s.now c found.now (blocks_in points roots corners volumes ends lengths outline) }
+    ensures { mesh_behind (counts_for c) points roots corners volumes ends lengths outline
+        ≡ mesh_of_sheet (sheet_of (bits_of s.now)).sheet }
 {
     let p = c.particles;
     let at = crate::typed::start_bit(s);
@@ -120,11 +120,11 @@ fn accept(
     log: &mut [usize],
     blade: &mut [f32],
 )
-    requires { Held s.now c found.now (blocksIn points roots corners volumes ends lengths outline) (length blade.old) }
-    ensures { let S = (sheetOf (bits_of s.now)).sheet in
-        (Filled (record { mesh = meshOfSheet S; log = [] }) (lentBefore points roots corners volumes ends lengths outline log)
+    requires { Held s.now c found.now (blocks_in points roots corners volumes ends lengths outline) (length blade.old) }
+    ensures { let S = (sheet_of (bits_of s.now)).sheet in
+        (Filled (record { mesh = mesh_of_sheet S; log = [] }) (lent_before points roots corners volumes ends lengths outline log)
         points.new roots.new corners.new volumes.new ends.new lengths.new
-        outline.new log.new) × (blade.new ≡ padded (length blade.old) zero32 (bladeOfSheet S)) }
+        outline.new log.new) × (blade.new ≡ padded (length blade.old) zero32 (blade_of_sheet S)) }
 {
     let k = mesh::Counts {
         particles: c.particles,
@@ -156,7 +156,7 @@ pub fn read(
     log: &mut [usize],
     blade: &mut [f32],
 ) -> Seen
-    ensures { ReadDone limits s.now (lentBefore points roots corners volumes ends lengths outline log) result
+    ensures { ReadDone limits s.now (lent_before points roots corners volumes ends lengths outline log) result
         points.new roots.new corners.new volumes.new ends.new lengths.new
         outline.new log.new blade.old blade.new }
 {

@@ -1,8 +1,8 @@
 // Sheets of either edition: the second has no boundary entries.
 ghost use Rattle.std.specs.Prelude.{◌≡◌, true, ℕ, ◌+◌, ◌*◌, ◌≤◌, length};
 ghost use Rattle.bits.specs.Bits.{bits_of};
-ghost use Rattle.sheet.specs.Sheet.{end_of, namesOK, sheetWith};
-ghost use Rattle.edition.specs.Edition.{second, bitsIn, asFirst, typedWith, typedSeen};
+ghost use Rattle.sheet.specs.Sheet.{end_of, names_ok, sheet_with};
+ghost use Rattle.edition.specs.Edition.{second, bits_in_of, as_first_of, typed_with, typed_seen};
 ghost use Rattle.sheet.specs.Work.{CountsRead};
 ghost use Rattle.edition.specs.Work.{Framed2, start_of};
 
@@ -19,7 +19,7 @@ pub fn is_second(s: &[u8]) -> bool
 // The counts that a second-edition sheet begins with.
 fn counted_second(s: &[u8]) -> Counts
     requires { 6 ≤ length s.now }
-    ensures { CountsRead (asFirst (bits_of s.now)) result }
+    ensures { CountsRead (as_first_of (bits_of s.now)) result }
 {
     Counts {
         particles: bits::field(s, 11, 11),
@@ -32,7 +32,7 @@ fn counted_second(s: &[u8]) -> Counts
 // The counts that a sheet of either edition begins with.
 pub fn counts_in(s: &[u8]) -> Counts
     requires { 6 ≤ length s.now }
-    ensures { CountsRead (bitsIn (bits_of s.now)) result }
+    ensures { CountsRead (bits_in_of (bits_of s.now)) result }
 {
     if is_second(s) {
         return counted_second(s);
@@ -51,7 +51,7 @@ pub fn start_bit(s: &[u8]) -> usize
 // Every element of a second-edition sheet names particles, and none twice.
 fn names_second(s: &[u8], c: Counts) -> bool
     requires { Framed2 s.now c }
-    ensures { result ≡ namesOK (sheetWith c (asFirst (bits_of s.now))) }
+    ensures { result ≡ names_ok (sheet_with c (as_first_of (bits_of s.now))) }
 {
     let p = c.particles;
     let at_t = 45 + p * 23;
@@ -66,7 +66,7 @@ fn names_second(s: &[u8], c: Counts) -> bool
 // What a second-edition sheet is, before its outline is looked at: whole, with its counts, or refused with a number.
 fn look_second(s: &[u8], limits: Counts) -> Seen
     requires { (6 ≤ length s.now) × (second (bits_of s.now) ≡ true) }
-    ensures { result ≡ typedSeen limits s.now }
+    ensures { result ≡ typed_seen limits s.now }
 {
     let c = counted_second(s);
     if sheet::refused_counts(limits, c) {
@@ -89,7 +89,7 @@ fn look_second(s: &[u8], limits: Counts) -> Seen
 
 // What a sheet of either edition is, before its outline is looked at.
 pub fn look_typed(s: &[u8], limits: Counts) -> Seen
-    ensures { result ≡ typedSeen limits s.now }
+    ensures { result ≡ typed_seen limits s.now }
 {
     if s.len() < 6 {
         return Seen::Refused(mesh::refusals::SHEET);

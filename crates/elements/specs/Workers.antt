@@ -3,20 +3,20 @@ use Rattle.std.specs.Prelude.{ℕ, ◌*◌, ◌/◌, ◌<◌, ◌≤◌, ◌≡�
 use Rattle.lists.specs.Lists.{stands, all, sift}
 use Rattle.model.specs.Elements.{Element, sum}
 use Rattle.elements.specs.Table.{Cornered}
-use Rattle.mesh.specs.Widths.{cornerColumns, endColumns, lengthColumns, volumeColumns}
+use Rattle.mesh.specs.Widths.{corner_columns, end_columns, length_columns, volume_columns}
 
 -- what the table of t triangles asks
 pub record TriangleRoom (t lc lv ln lk lm : ℕ) : Type 0 where
-  pub corners : t ≤ lc / cornerColumns
-  pub volumes : t ≤ lv / volumeColumns
+  pub corners : t ≤ lc / corner_columns
+  pub volumes : t ≤ lv / volume_columns
   pub numbers : t ≤ ln
   pub verts : t * 3 ≤ lk
   pub measures : t ≤ lm
 
 -- what the table of the straps among e edges asks
 pub record StrapRoom (e le ll ln lk lm : ℕ) : Type 0 where
-  pub ends : e ≤ le / endColumns
-  pub lengths : e ≤ ll / lengthColumns
+  pub ends : e ≤ le / end_columns
+  pub lengths : e ≤ ll / length_columns
   pub numbers : e ≤ ln
   pub verts : e * 2 ≤ lk
   pub measures : e ≤ lm
@@ -38,6 +38,6 @@ pub record MeasuredMarked (k n : ℕ) (verts : List ℕ) (measures : List Float)
 
 -- what the pass over marked elements asks
 pub record PassRoom (k n : ℕ) (verts : List ℕ) (lm marks : ℕ) : Type 0 where
-  pub verts-long : n * k ≤ length verts
-  pub measures-long : n ≤ lm
-  pub verts-below : (j : ℕ) → j < n * k → get_or verts j 0 < marks
+  pub verts_long : n * k ≤ length verts
+  pub measures_long : n ≤ lm
+  pub verts_below : (j : ℕ) → j < n * k → get_or verts j 0 < marks

@@ -3,10 +3,10 @@
 
 ghost use Rattle.std.specs.Prelude.{◌≡◌, ◌&&◌, ℕ, ◌+◌, ◌*◌, ◌/◌, ◌<◌, ◌≤◌, length, get_or, take, drop};
 ghost use Rattle.lists.specs.Lists.{stands, all};
-ghost use Rattle.model.specs.Elements.{cornersPer, facetOthers, trianglesFrom, strapsFrom, sum};
-ghost use Rattle.mesh.specs.At.{trianglesAt, edges_at};
-ghost use Rattle.mesh.specs.Widths.{endColumns};
-ghost use Rattle.elements.specs.Table.{kindIs, elementsIn, KindFound, ElementIs, Tabled, TableRoom, FanTabled, FanRoom, MeasuredWithin, MarkRoom, HeldBoth};
+ghost use Rattle.model.specs.Elements.{corners_per_of, facet_others_of, triangles_from, straps_from, sum};
+ghost use Rattle.mesh.specs.At.{triangles_at, edges_at};
+ghost use Rattle.mesh.specs.Widths.{end_columns};
+ghost use Rattle.elements.specs.Table.{kind_is, elements_in, KindFound, ElementIs, Tabled, TableRoom, FanTabled, FanRoom, MeasuredWithin, MarkRoom, HeldBoth};
 ghost use Rattle.elements.specs.Workers.{TriangleRoom, StrapRoom, marked, Marked, MeasuredMarked, PassRoom};
 
 // A mesh is triangles, or straps, or nothing.
@@ -19,7 +19,7 @@ pub enum Kind {
 
 // The kind of a mesh with t triangles and the first e edges of a block.
 pub fn kind_of(t: usize, e: usize, ends: &[usize]) -> Kind
-    requires { e ≤ length ends.now / endColumns }
+    requires { e ≤ length ends.now / end_columns }
     ensures { KindFound t e ends.now result }
 {
     if t != 0 {
@@ -38,7 +38,7 @@ pub fn kind_of(t: usize, e: usize, ends: &[usize]) -> Kind
 
 // How many corners an element has.
 pub fn corners_per(kind: Kind) -> usize
-    ensures { result ≡ cornersPer (kindIs kind) }
+    ensures { result ≡ corners_per_of (kind_is kind) }
 {
     match kind {
         Kind::Triangles => 3,
@@ -49,7 +49,7 @@ pub fn corners_per(kind: Kind) -> usize
 
 // How many particles besides v two neighbours of one side share at least.
 pub fn facet_others(kind: Kind) -> usize
-    ensures { result ≡ facetOthers (kindIs kind) }
+    ensures { result ≡ facet_others_of (kind_is kind) }
 {
     match kind {
         Kind::Triangles => 1,
@@ -60,7 +60,7 @@ pub fn facet_others(kind: Kind) -> usize
 
 // Is an edge with this flag an element?
 pub fn is_element(kind: Kind, structural: usize) -> bool
-    ensures { ElementIs (kindIs kind) structural result }
+    ensures { ElementIs (kind_is kind) structural result }
 {
     match kind {
         Kind::Triangles => false,
@@ -80,7 +80,7 @@ fn triangle_table(
 )
     requires { TriangleRoom t (length corners.now) (length volumes.now) (length numbers.old) (length verts.old)
         (length measures.old) }
-    ensures { Tabled 3 (trianglesFrom 0 (trianglesAt t corners.now volumes.now)) t numbers.new
+    ensures { Tabled 3 (triangles_from 0 (triangles_at t corners.now volumes.now)) t numbers.new
         verts.new measures.new }
 {
     let c = corners.len() / mesh::CORNER_COLUMNS;
@@ -108,7 +108,7 @@ fn strap_table(
 ) -> usize
     requires { StrapRoom e (length ends.now) (length lengths.now) (length numbers.old) (length verts.old)
         (length measures.old) }
-    ensures { Tabled 2 (strapsFrom 0 (edges_at e ends.now lengths.now)) result numbers.new
+    ensures { Tabled 2 (straps_from 0 (edges_at e ends.now lengths.now)) result numbers.new
         verts.new measures.new }
 {
     let c = ends.len() / mesh::END_COLUMNS;
@@ -145,7 +145,7 @@ pub fn element_table(
 ) -> usize
     requires { TableRoom t e (length corners.now) (length volumes.now) (length ends.now) (length lengths.now)
         (length numbers.old) (length verts.old) (length measures.old) }
-    ensures { let K = kindIs kind in Tabled (cornersPer K) (elementsIn K (trianglesAt t corners.now
+    ensures { let K = kind_is kind in Tabled (corners_per_of K) (elements_in K (triangles_at t corners.now
         volumes.now) (edges_at e ends.now lengths.now)) result numbers.new verts.new
         measures.new }
 {

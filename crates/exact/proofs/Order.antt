@@ -3,34 +3,34 @@ use Rattle.std.proofs.Common.{◌≡◌, ℕ, zero, suc, ◌+◌, ◌-◌, ◌�
 use native.Mathlib.Decide.{dec_lt}
 use lib.IntN.{sub_ℕ}
 use lib.Signed.{lt_z}
-use Rattle.exact.proofs.Ring.{neg-sub}
+use Rattle.exact.proofs.Ring.{neg_sub}
 
 -- one more on either side
 pub one_more : (a b : ℕ) → ltb (suc a) (suc b) ≡ ltb a b
 one_more a b = elim (dec_lt a b) [ yes l ↦ lt-ltb (suc a) (suc b) (omega arith) ∙ sym (lt-ltb a b l) | no l ↦ le-ltb (suc a) (suc b) (omega arith) ∙ sym (le-ltb a b (omega arith)) ]
 
 -- the order turns round with the signs
-pub less-neg : (a b : ℤ) → lt_z (neg_ℤ a) (neg_ℤ b) ≡ lt_z b a
-less-neg (pos zero) (pos zero) = refl
-less-neg (pos zero) (pos (suc b)) = sym (le-ltb (suc b) 0 (omega arith))
-less-neg (pos zero) (negsuc b) = lt-ltb 0 (suc b) (omega arith)
-less-neg (pos (suc a)) (pos zero) = sym (lt-ltb 0 (suc a) (omega arith))
-less-neg (pos (suc a)) (pos (suc b)) = sym (one_more b a)
-less-neg (pos (suc a)) (negsuc b) = refl
-less-neg (negsuc a) (pos zero) = le-ltb (suc a) 0 (omega arith)
-less-neg (negsuc a) (pos (suc b)) = refl
-less-neg (negsuc a) (negsuc b) = one_more a b
+pub less_neg : (a b : ℤ) → lt_z (neg_ℤ a) (neg_ℤ b) ≡ lt_z b a
+less_neg (pos zero) (pos zero) = refl
+less_neg (pos zero) (pos (suc b)) = sym (le-ltb (suc b) 0 (omega arith))
+less_neg (pos zero) (negsuc b) = lt-ltb 0 (suc b) (omega arith)
+less_neg (pos (suc a)) (pos zero) = sym (lt-ltb 0 (suc a) (omega arith))
+less_neg (pos (suc a)) (pos (suc b)) = sym (one_more b a)
+less_neg (pos (suc a)) (negsuc b) = refl
+less_neg (negsuc a) (pos zero) = le-ltb (suc a) 0 (omega arith)
+less_neg (negsuc a) (pos (suc b)) = refl
+less_neg (negsuc a) (negsuc b) = one_more a b
 
-pub left-neg : (a : ℤ) → lt_z (pos 0) (neg_ℤ a) ≡ lt_z a (pos 0)
-left-neg a = less-neg (pos 0) a
+pub left_neg : (a : ℤ) → lt_z (pos 0) (neg_ℤ a) ≡ lt_z a (pos 0)
+left_neg a = less_neg (pos 0) a
 
-pub right-neg : (a : ℤ) → lt_z (neg_ℤ a) (pos 0) ≡ lt_z (pos 0) a
-right-neg a = less-neg a (pos 0)
+pub right_neg : (a : ℤ) → lt_z (neg_ℤ a) (pos 0) ≡ lt_z (pos 0) a
+right_neg a = less_neg a (pos 0)
 
 -- ---- the sign of a difference
 
-above-sub : (m n : ℕ) → lt_z (pos 0) (sub_ℕ m n) ≡ ltb n m
-above-sub m n = elim (dec_lt m n) [
+above_sub : (m n : ℕ) → lt_z (pos 0) (sub_ℕ m n) ≡ ltb n m
+above_sub m n = elim (dec_lt m n) [
   | yes l ↦
       let g : m ≤ n = omega arith in
       ap (λ (t : Bool). lt_z (pos 0) (cond t (negsuc (n - suc m)) (pos (m - n)))) (lt-ltb m n l) ∙ sym (le-ltb n m g)
@@ -41,16 +41,16 @@ above-sub m n = elim (dec_lt m n) [
     rest = elim (dec_lt n m) [ yes g ↦ lt-ltb 0 (m - n) (omega arith) ∙ sym (lt-ltb n m g) | no g ↦ le-ltb 0 (m - n) (omega arith) ∙ sym (le-ltb n m (omega arith)) ]
 
 -- a is below b exactly if b - a is above 0
-pub less-above : (a b : ℤ) → lt_z a b ≡ lt_z (pos 0) (b -ℤ a)
-less-above (pos zero) (pos b) =
+pub less_above : (a b : ℤ) → lt_z a b ≡ lt_z (pos 0) (b -ℤ a)
+less_above (pos zero) (pos b) =
     let e : b ≡ b + 0 = omega arith in
     ap (λ (n : ℕ). ltb 0 n) e
-less-above (pos (suc a)) (pos b) = sym (above-sub b (suc a))
-less-above (pos zero) (negsuc b) = sym (above-sub 0 (suc b) ∙ le-ltb (suc b) 0 (omega arith))
-less-above (pos (suc a)) (negsuc b) = refl
-less-above (negsuc a) (pos b) = sym (lt-ltb 0 (b + suc a) (omega arith))
-less-above (negsuc a) (negsuc b) = sym (above-sub (suc a) (suc b) ∙ one_more b a)
+less_above (pos (suc a)) (pos b) = sym (above_sub b (suc a))
+less_above (pos zero) (negsuc b) = sym (above_sub 0 (suc b) ∙ le-ltb (suc b) 0 (omega arith))
+less_above (pos (suc a)) (negsuc b) = refl
+less_above (negsuc a) (pos b) = sym (lt-ltb 0 (b + suc a) (omega arith))
+less_above (negsuc a) (negsuc b) = sym (above_sub (suc a) (suc b) ∙ one_more b a)
 
 -- and exactly if a - b is below 0
-pub less-below : (a b : ℤ) → lt_z a b ≡ lt_z (a -ℤ b) (pos 0)
-less-below a b = less-above a b ∙ sym (right-neg (b -ℤ a)) ∙ ap (λ (z : ℤ). lt_z z (pos 0)) (neg-sub b a)
+pub less_below : (a b : ℤ) → lt_z a b ≡ lt_z (a -ℤ b) (pos 0)
+less_below a b = less_above a b ∙ sym (right_neg (b -ℤ a)) ∙ ap (λ (z : ℤ). lt_z z (pos 0)) (neg_sub b a)

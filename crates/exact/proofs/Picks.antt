@@ -16,11 +16,11 @@ pub and_first : {s : Bool} (t : Bool) → s ≡ false → s ≡ (s && t)
 and_first t h = rw h
 
 -- and of `s && (t || u)`
-pub or-first : {s t : Bool} (u : Bool) → s ≡ true → t ≡ true → t ≡ (s && (t || u))
-or-first u h k = rw (h, k)
+pub or_first : {s t : Bool} (u : Bool) → s ≡ true → t ≡ true → t ≡ (s && (t || u))
+or_first u h k = rw (h, k)
 
-pub or-second : {s t : Bool} (u : Bool) → s ≡ true → t ≡ false → u ≡ (s && (t || u))
-or-second u h k = rw (h, k)
+pub or_second : {s t : Bool} (u : Bool) → s ≡ true → t ≡ false → u ≡ (s && (t || u))
+or_second u h k = rw (h, k)
 
 -- `!x && !y`
 pub neither : (x y s t : Bool) → not x ≡ true → x ≡ s → y ≡ t → not y ≡ (not s && not t)

@@ -2,41 +2,41 @@
 use Rattle.std.proofs.Common.{◌≡◌, ℕ, zero, suc, Bool, true, false, cond, not, ◌&&◌, eqb, leb, List, [], ◌∷◌, ℤ, pos, ◌+ℤ◌, ◌-ℤ◌, ◌*ℤ◌, neg_ℤ, sym, refl, ap, ◌∙◌, subst, ap₂, true≢false, eqb-true}
 use mathlib.Core.Bool.{beq}
 use lib.IntN.{suc_ℤ, pred_ℤ, ℤ_ind, +ℤ_one, -ℤ_one, +ℤ_assoc, +ℤ_comm, +ℤ_idl, +ℤ_idr, +ℤ_invr, +ℤ_invl, neg_ℤ-+ℤ, neg_ℤ-neg_ℤ, zero-*ℤ, suc_ℤ-*ℤ, pred_ℤ-*ℤ, *ℤ_comm, -ℤ-+ℤ_cancel}
-use Rattle.blade.proofs.Sides.{neg-mul}
-use Rattle.exact.proofs.Ring.{mul-add, mul-neg}
-use Rattle.lists.proofs.Sifts.{and-true}
+use Rattle.blade.proofs.Sides.{neg_mul}
+use Rattle.exact.proofs.Ring.{mul_add, mul_neg}
+use Rattle.lists.proofs.Sifts.{and_true}
 
 -- ---- products
 
-pub add-mul : (k m a : ℤ) → (k +ℤ m) *ℤ a ≡ k *ℤ a +ℤ m *ℤ a
-add-mul k m a = *ℤ_comm (k +ℤ m) a ∙ mul-add k m a ∙ ap₂ {C = ℤ} (λ x y. x +ℤ y) (*ℤ_comm a k) (*ℤ_comm a m)
+pub add_mul : (k m a : ℤ) → (k +ℤ m) *ℤ a ≡ k *ℤ a +ℤ m *ℤ a
+add_mul k m a = *ℤ_comm (k +ℤ m) a ∙ mul_add k m a ∙ ap₂ {C = ℤ} (λ x y. x +ℤ y) (*ℤ_comm a k) (*ℤ_comm a m)
 
 module _ (b c : ℤ) where
   abbrev Assoc : ℤ → Type 0
   Assoc a = (a *ℤ b) *ℤ c ≡ a *ℤ (b *ℤ c)
 
-  assoc-suc : (a : ℤ) → Assoc a → Assoc (suc_ℤ a)
-  assoc-suc a h = ap (λ (z : ℤ). z *ℤ c) (suc_ℤ-*ℤ a b) ∙ add-mul (a *ℤ b) b c ∙ ap (λ (z : ℤ). z +ℤ b *ℤ c) h ∙ sym (suc_ℤ-*ℤ a (b *ℤ c))
+  assoc_suc : (a : ℤ) → Assoc a → Assoc (suc_ℤ a)
+  assoc_suc a h = ap (λ (z : ℤ). z *ℤ c) (suc_ℤ-*ℤ a b) ∙ add_mul (a *ℤ b) b c ∙ ap (λ (z : ℤ). z +ℤ b *ℤ c) h ∙ sym (suc_ℤ-*ℤ a (b *ℤ c))
 
-  assoc-pred : (a : ℤ) → Assoc a → Assoc (pred_ℤ a)
-  assoc-pred a h =
-      ap (λ (z : ℤ). z *ℤ c) (pred_ℤ-*ℤ a b) ∙ add-mul (a *ℤ b) (neg_ℤ b) c ∙ ap₂ {C = ℤ} (λ x y. x +ℤ y) h (neg-mul b c) ∙ sym (pred_ℤ-*ℤ a (b *ℤ c))
+  assoc_pred : (a : ℤ) → Assoc a → Assoc (pred_ℤ a)
+  assoc_pred a h =
+      ap (λ (z : ℤ). z *ℤ c) (pred_ℤ-*ℤ a b) ∙ add_mul (a *ℤ b) (neg_ℤ b) c ∙ ap₂ {C = ℤ} (λ x y. x +ℤ y) h (neg_mul b c) ∙ sym (pred_ℤ-*ℤ a (b *ℤ c))
 
   pub mul_assoc : (a : ℤ) → (a *ℤ b) *ℤ c ≡ a *ℤ (b *ℤ c)
   mul_assoc a =
       ℤ_ind Assoc
       (ap (λ (z : ℤ). z *ℤ c) (zero-*ℤ b) ∙ zero-*ℤ c ∙ sym (zero-*ℤ (b *ℤ c)))
-      (λ n h. subst Assoc (sym (+ℤ_one (pos n))) (assoc-suc (pos n) h))
-      (λ n h. subst Assoc (sym (-ℤ_one (neg_ℤ (pos n)))) (assoc-pred (neg_ℤ (pos n)) h)) a
+      (λ n h. subst Assoc (sym (+ℤ_one (pos n))) (assoc_suc (pos n) h))
+      (λ n h. subst Assoc (sym (-ℤ_one (neg_ℤ (pos n)))) (assoc_pred (neg_ℤ (pos n)) h)) a
 
-mul-swap : (a b c : ℤ) → a *ℤ (b *ℤ c) ≡ b *ℤ (a *ℤ c)
-mul-swap a b c = sym (mul_assoc b c a) ∙ ap (λ (z : ℤ). z *ℤ c) (*ℤ_comm a b) ∙ mul_assoc a c b
+mul_swap : (a b c : ℤ) → a *ℤ (b *ℤ c) ≡ b *ℤ (a *ℤ c)
+mul_swap a b c = sym (mul_assoc b c a) ∙ ap (λ (z : ℤ). z *ℤ c) (*ℤ_comm a b) ∙ mul_assoc a c b
 
-one-mul : (a : ℤ) → pos 1 *ℤ a ≡ a
-one-mul a = suc_ℤ-*ℤ (pos 0) a ∙ ap (λ (z : ℤ). z +ℤ a) (zero-*ℤ a) ∙ +ℤ_idl a
+one_mul : (a : ℤ) → pos 1 *ℤ a ≡ a
+one_mul a = suc_ℤ-*ℤ (pos 0) a ∙ ap (λ (z : ℤ). z +ℤ a) (zero-*ℤ a) ∙ +ℤ_idl a
 
-add-swap : (a b c : ℤ) → a +ℤ (b +ℤ c) ≡ b +ℤ (a +ℤ c)
-add-swap a b c = sym (+ℤ_assoc a b c) ∙ ap (λ (z : ℤ). z +ℤ c) (+ℤ_comm a b) ∙ +ℤ_assoc b a c
+add_swap : (a b c : ℤ) → a +ℤ (b +ℤ c) ≡ b +ℤ (a +ℤ c)
+add_swap a b c = sym (+ℤ_assoc a b c) ∙ ap (λ (z : ℤ). z +ℤ c) (+ℤ_comm a b) ∙ +ℤ_assoc b a c
 
 -- ---- what is written, and what it is multiplied out
 
@@ -130,34 +130,34 @@ module _ (z : List ℤ) where
   signed true a = neg_ℤ a
   signed false a = a
 
-  abbrev ofTerm : Term → ℤ
-  ofTerm t = signed t.0 (mono t.1)
+  abbrev of_term : Term → ℤ
+  of_term t = signed t.0 (mono t.1)
 
   abbrev poly : Poly → ℤ
   poly [] = pos 0
-  poly (t ∷ l) = ofTerm t +ℤ poly l
+  poly (t ∷ l) = of_term t +ℤ poly l
 
   -- ---- each step keeps it
 
-  into-is : (i : ℕ) (m : Mono) → mono (into i m) ≡ at z i *ℤ mono m
-  into-is i [] = refl
-  into-is i (j ∷ m) = by (leb i j) (into-is i m)
+  into_is : (i : ℕ) (m : Mono) → mono (into i m) ≡ at z i *ℤ mono m
+  into_is i [] = refl
+  into_is i (j ∷ m) = by (leb i j) (into_is i m)
     where
       by : (t : Bool) → mono (into i m) ≡ at z i *ℤ mono m → mono (cond t (i ∷ j ∷ m) (j ∷ into i m)) ≡ at z i *ℤ (at z j *ℤ mono m)
       by true h = refl
-      by false h = ap (λ (a : ℤ). at z j *ℤ a) h ∙ mul-swap (at z j) (at z i) (mono m)
+      by false h = ap (λ (a : ℤ). at z j *ℤ a) h ∙ mul_swap (at z j) (at z i) (mono m)
 
   both_is : (m n : Mono) → mono (both m n) ≡ mono m *ℤ mono n
-  both_is [] n = sym (one-mul (mono n))
-  both_is (i ∷ m) n = into-is i (both m n) ∙ ap (λ (a : ℤ). at z i *ℤ a) (both_is m n) ∙ sym (mul_assoc (mono m) (mono n) (at z i))
+  both_is [] n = sym (one_mul (mono n))
+  both_is (i ∷ m) n = into_is i (both m n) ∙ ap (λ (a : ℤ). at z i *ℤ a) (both_is m n) ∙ sym (mul_assoc (mono m) (mono n) (at z i))
 
-  same-is : (m n : Mono) → same m n ≡ true → mono m ≡ mono n
-  same-is [] [] h = refl
-  same-is [] (j ∷ n) h = absurd (true≢false (sym h))
-  same-is (i ∷ m) [] h = absurd (true≢false (sym h))
-  same-is (i ∷ m) (j ∷ n) h =
-      let k = and-true (eqb i j) (same m n) h in
-      ap₂ {C = ℤ} (λ a b. a *ℤ b) (ap (at z) (eqb-true i j k.0)) (same-is m n k.1)
+  same_is : (m n : Mono) → same m n ≡ true → mono m ≡ mono n
+  same_is [] [] h = refl
+  same_is [] (j ∷ n) h = absurd (true≢false (sym h))
+  same_is (i ∷ m) [] h = absurd (true≢false (sym h))
+  same_is (i ∷ m) (j ∷ n) h =
+      let k = and_true (eqb i j) (same m n) h in
+      ap₂ {C = ℤ} (λ a b. a *ℤ b) (ap (at z) (eqb-true i j k.0)) (same_is m n k.1)
 
   gone : (s t : Bool) (a b : ℤ) → not (beq s t) ≡ true → a ≡ b → signed s a +ℤ signed t b ≡ pos 0
   gone true true a b h e = absurd (true≢false (sym h))
@@ -165,19 +165,19 @@ module _ (z : List ℤ) where
   gone false true a b h e = ap (λ (c : ℤ). a +ℤ neg_ℤ c) (sym e) ∙ +ℤ_invr a
   gone false false a b h e = absurd (true≢false (sym h))
 
-  put_is : (t : Term) (l : Poly) → poly (put t l) ≡ ofTerm t +ℤ poly l
+  put_is : (t : Term) (l : Poly) → poly (put t l) ≡ of_term t +ℤ poly l
   put_is t [] = refl
   put_is t (u ∷ l) = by (cancels t u) refl (put_is t l)
     where
-      by : (x : Bool) → cancels t u ≡ x → poly (put t l) ≡ ofTerm t +ℤ poly l → poly (cond x l (u ∷ put t l)) ≡ ofTerm t +ℤ (ofTerm u +ℤ poly l)
+      by : (x : Bool) → cancels t u ≡ x → poly (put t l) ≡ of_term t +ℤ poly l → poly (cond x l (u ∷ put t l)) ≡ of_term t +ℤ (of_term u +ℤ poly l)
       by true e h =
-          let k = and-true (not (beq t.0 u.0)) (same t.1 u.1) e in
-          sym (sym (+ℤ_assoc (ofTerm t) (ofTerm u) (poly l)) ∙ ap (λ (a : ℤ). a +ℤ poly l) (gone t.0 u.0 (mono t.1) (mono u.1) k.0 (same-is t.1 u.1 k.1)) ∙ +ℤ_idl (poly l))
-      by false e h = ap (λ (a : ℤ). ofTerm u +ℤ a) h ∙ add-swap (ofTerm u) (ofTerm t) (poly l)
+          let k = and_true (not (beq t.0 u.0)) (same t.1 u.1) e in
+          sym (sym (+ℤ_assoc (of_term t) (of_term u) (poly l)) ∙ ap (λ (a : ℤ). a +ℤ poly l) (gone t.0 u.0 (mono t.1) (mono u.1) k.0 (same_is t.1 u.1 k.1)) ∙ +ℤ_idl (poly l))
+      by false e h = ap (λ (a : ℤ). of_term u +ℤ a) h ∙ add_swap (of_term u) (of_term t) (poly l)
 
   join_is : (l k : Poly) → poly (join l k) ≡ poly l +ℤ poly k
   join_is [] k = sym (+ℤ_idl (poly k))
-  join_is (t ∷ l) k = put_is t (join l k) ∙ ap (λ (a : ℤ). ofTerm t +ℤ a) (join_is l k) ∙ sym (+ℤ_assoc (ofTerm t) (poly l) (poly k))
+  join_is (t ∷ l) k = put_is t (join l k) ∙ ap (λ (a : ℤ). of_term t +ℤ a) (join_is l k) ∙ sym (+ℤ_assoc (of_term t) (poly l) (poly k))
 
   turned : (s : Bool) (a : ℤ) → signed (not s) a ≡ neg_ℤ (signed s a)
   turned true a = sym (neg_ℤ-neg_ℤ a)
@@ -185,34 +185,34 @@ module _ (z : List ℤ) where
 
   turn_is : (l : Poly) → poly (turn l) ≡ neg_ℤ (poly l)
   turn_is [] = refl
-  turn_is (t ∷ l) = ap₂ {C = ℤ} (λ a b. a +ℤ b) (turned t.0 (mono t.1)) (turn_is l) ∙ sym (neg_ℤ-+ℤ (ofTerm t) (poly l))
+  turn_is (t ∷ l) = ap₂ {C = ℤ} (λ a b. a +ℤ b) (turned t.0 (mono t.1)) (turn_is l) ∙ sym (neg_ℤ-+ℤ (of_term t) (poly l))
 
   signs : (s t : Bool) (a b : ℤ) → signed (not (beq s t)) (a *ℤ b) ≡ signed s a *ℤ signed t b
-  signs true true a b = sym (neg-mul a (neg_ℤ b) ∙ ap neg_ℤ (mul-neg a b) ∙ neg_ℤ-neg_ℤ (a *ℤ b))
-  signs true false a b = sym (neg-mul a b)
-  signs false true a b = sym (mul-neg a b)
+  signs true true a b = sym (neg_mul a (neg_ℤ b) ∙ ap neg_ℤ (mul_neg a b) ∙ neg_ℤ-neg_ℤ (a *ℤ b))
+  signs true false a b = sym (neg_mul a b)
+  signs false true a b = sym (mul_neg a b)
   signs false false a b = refl
 
-  term_is : (t u : Term) → ofTerm (term t u) ≡ ofTerm t *ℤ ofTerm u
+  term_is : (t u : Term) → of_term (term t u) ≡ of_term t *ℤ of_term u
   term_is t u = ap (signed (not (beq t.0 u.0))) (both_is t.1 u.1) ∙ signs t.0 u.0 (mono t.1) (mono u.1)
 
-  scale-is : (t : Term) (l : Poly) → poly (scale t l) ≡ ofTerm t *ℤ poly l
-  scale-is t [] = sym (*ℤ_comm (ofTerm t) (pos 0) ∙ zero-*ℤ (ofTerm t))
-  scale-is t (u ∷ l) = put_is (term t u) (scale t l) ∙ ap₂ {C = ℤ} (λ a b. a +ℤ b) (term_is t u) (scale-is t l) ∙ sym (mul-add (ofTerm u) (poly l) (ofTerm t))
+  scale_is : (t : Term) (l : Poly) → poly (scale t l) ≡ of_term t *ℤ poly l
+  scale_is t [] = sym (*ℤ_comm (of_term t) (pos 0) ∙ zero-*ℤ (of_term t))
+  scale_is t (u ∷ l) = put_is (term t u) (scale t l) ∙ ap₂ {C = ℤ} (λ a b. a +ℤ b) (term_is t u) (scale_is t l) ∙ sym (mul_add (of_term u) (poly l) (of_term t))
 
-  mult-is : (l k : Poly) → poly (mult l k) ≡ poly l *ℤ poly k
-  mult-is [] k = sym (zero-*ℤ (poly k))
-  mult-is (t ∷ l) k = join_is (scale t k) (mult l k) ∙ ap₂ {C = ℤ} (λ a b. a +ℤ b) (scale-is t k) (mult-is l k) ∙ sym (add-mul (ofTerm t) (poly l) (poly k))
+  mult_is : (l k : Poly) → poly (mult l k) ≡ poly l *ℤ poly k
+  mult_is [] k = sym (zero-*ℤ (poly k))
+  mult_is (t ∷ l) k = join_is (scale t k) (mult l k) ∙ ap₂ {C = ℤ} (λ a b. a +ℤ b) (scale_is t k) (mult_is l k) ∙ sym (add_mul (of_term t) (poly l) (poly k))
 
-  out-is : (e : Expr) → poly (out e) ≡ worth e
-  out-is (var i) = +ℤ_idr (at z i *ℤ pos 1) ∙ *ℤ_comm (at z i) (pos 1) ∙ one-mul (at z i)
-  out-is (plus a b) = join_is (out a) (out b) ∙ ap₂ {C = ℤ} (λ x y. x +ℤ y) (out-is a) (out-is b)
-  out-is (times a b) = mult-is (out a) (out b) ∙ ap₂ {C = ℤ} (λ x y. x *ℤ y) (out-is a) (out-is b)
-  out-is (minus a) = turn_is (out a) ∙ ap neg_ℤ (out-is a)
+  out_is : (e : Expr) → poly (out e) ≡ worth e
+  out_is (var i) = +ℤ_idr (at z i *ℤ pos 1) ∙ *ℤ_comm (at z i) (pos 1) ∙ one_mul (at z i)
+  out_is (plus a b) = join_is (out a) (out b) ∙ ap₂ {C = ℤ} (λ x y. x +ℤ y) (out_is a) (out_is b)
+  out_is (times a b) = mult_is (out a) (out b) ∙ ap₂ {C = ℤ} (λ x y. x *ℤ y) (out_is a) (out_is b)
+  out_is (minus a) = turn_is (out a) ∙ ap neg_ℤ (out_is a)
 
   -- what leaves no term is 0
   pub vanishes : (a : Expr) → out a ≡ [] → worth a ≡ pos 0
-  vanishes a h = sym (out-is a) ∙ ap poly h
+  vanishes a h = sym (out_is a) ∙ ap poly h
 
   -- two that differ by nothing are equal
   pub solved : (a b : Expr) → out (less a b) ≡ [] → worth a ≡ worth b

@@ -3,12 +3,12 @@ use Rattle.std.specs.Prelude.{Bool, true, false, not, ◌&&◌, ◌||◌, List, 
 use Rattle.std.specs.Float.{fin, binary32}
 use Rattle.std.specs.Float.Ieee.{le, eq, of_int, to_signed}
 use Rattle.lists.specs.Lists.{pick}
-use Rattle.float.specs.Numbers.{minus, over, absOf}
+use Rattle.float.specs.Numbers.{minus, over, abs_of}
 use Rattle.blade.specs.declared.Point.{Point}
 use Rattle.blade.specs.declared.Hit.{Hit}
 use Rattle.blade.specs.declared.Hit.TheVariants.{Miss, Hit as HitAt}
-use Rattle.blade.specs.Points.{minusOf}
-use Rattle.blade.specs.Blade.{offset_of, clampLow, clampHigh, hitPoint}
+use Rattle.blade.specs.Points.{minus_of}
+use Rattle.blade.specs.Blade.{offset_of, clamp_low, clamp_high, hit_point}
 use Rattle.blade.specs.Whole.{side_of}
 use Rattle.exact.specs.declared.Sign.{Sign}
 use Rattle.exact.specs.declared.Sign.TheVariants.{Left, On, Right}
@@ -21,15 +21,15 @@ whole_of x = to_signed 63 x
 
 -- a whole number from -1,024 to 1,024: of magnitude at most 2 ^ 10, and equal to its whole part
 unfoldable pub whole? : Float → Bool
-whole? x = le (absOf x) (fin false 1 (pos 10)) && eq (of_int binary32 (whole_of x)) x
+whole? x = le (abs_of x) (fin false 1 (pos 10)) && eq (of_int binary32 (whole_of x)) x
 
 -- both coordinates are
-abbrev pub wholePoint : Point → Bool
-wholePoint p = whole? p.x && whole? p.y
+abbrev pub whole_point_of : Point → Bool
+whole_point_of p = whole? p.x && whole? p.y
 
 -- the offset of p from the line through a and b, in whole numbers: above 0 to the left, 0 on the line
-unfoldable pub sideBy : Point → Point → Point → ℤ
-sideBy a b p = side_of (whole_of a.x) (whole_of a.y) (whole_of b.x) (whole_of b.y) (whole_of p.x) (whole_of p.y)
+unfoldable pub side_by : Point → Point → Point → ℤ
+side_by a b p = side_of (whole_of a.x) (whole_of a.y) (whole_of b.x) (whole_of b.y) (whole_of p.x) (whole_of p.y)
 
 -- ---- crossings
 
@@ -44,18 +44,18 @@ differ a b = int_lt a b || int_lt b a
 -- p and q lie on or across the blade's line, not equally far from it, and the blade's ends lie on or across theirs: the exact hit point is on the blade, ends included (crosses-meant)
 unfoldable pub crosses : Point → Point → Point → Point → Bool
 crosses b0 b1 p q =
-    across (sideBy b0 b1 p) (sideBy b0 b1 q) && differ (sideBy b0 b1 p) (sideBy b0 b1 q) && across (sideBy p q b0) (sideBy p q b1)
+    across (side_by b0 b1 p) (side_by b0 b1 q) && differ (side_by b0 b1 p) (side_by b0 b1 q) && across (side_by p q b0) (side_by p q b1)
 
 -- what a hit carries: the fraction and the point as edition 1 rounds them
-abbrev pub roundedAt : Point → Point → Point → Point → Hit
-roundedAt b0 b1 p q =
+abbrev pub rounded_at : Point → Point → Point → Point → Hit
+rounded_at b0 b1 p q =
     let dp = offset_of b0 b1 p in
-    let t = clampHigh (clampLow (over dp (minus dp (offset_of b0 b1 q)))) in
-    HitAt t (hitPoint p (minusOf q p) t)
+    let t = clamp_high (clamp_low (over dp (minus dp (offset_of b0 b1 q)))) in
+    HitAt t (hit_point p (minus_of q p) t)
 
 -- the blade test of edition 2
-unfoldable pub exactHit : Point → Point → Point → Point → Hit
-exactHit b0 b1 p q = pick (crosses b0 b1 p q) (roundedAt b0 b1 p q) Miss
+unfoldable pub exact_hit : Point → Point → Point → Point → Hit
+exact_hit b0 b1 p q = pick (crosses b0 b1 p q) (rounded_at b0 b1 p q) Miss
 
 -- ---- sides
 
@@ -69,11 +69,11 @@ total [] = pos 0
 total (a ∷ l) = a +ℤ total l
 
 -- the kept side: the particle's own; if it is on the line, that of the first fan element off the line; on the line if there is none
-unfoldable pub keptBy : Sign → List Sign → Sign
-keptBy own [] = own
-keptBy Left (m ∷ ms) = Left
-keptBy On (m ∷ ms) = keptBy m ms
-keptBy Right (m ∷ ms) = Right
+unfoldable pub kept_by_of : Sign → List Sign → Sign
+kept_by_of own [] = own
+kept_by_of Left (m ∷ ms) = Left
+kept_by_of On (m ∷ ms) = kept_by_of m ms
+kept_by_of Right (m ∷ ms) = Right
 
 -- one strictly to the left and one strictly to the right
 abbrev pub opposite : Sign → Sign → Bool

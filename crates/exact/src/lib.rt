@@ -2,8 +2,8 @@
 #![tactic(auto)]
 
 ghost use Rattle.std.specs.Prelude.{◌≡◌};
-ghost use Rattle.exact.specs.Exact.{whole?, wholePoint, opposite};
-ghost use Rattle.exact.specs.Signs.{crossesBySigns, hitBySigns, signIn, signOfSum, acrossIn};
+ghost use Rattle.exact.specs.Exact.{whole?, whole_point_of, opposite};
+ghost use Rattle.exact.specs.Signs.{crosses_by_signs, hit_by_signs_of, sign_in, sign_of_sum_of, across_in};
 
 use blade::{Hit, Point};
 
@@ -28,14 +28,14 @@ pub fn whole(x: f32) -> bool
 
 // Are both coordinates?
 pub fn whole_point(p: Point) -> bool
-    ensures { result ≡ wholePoint p }
+    ensures { result ≡ whole_point_of p }
 {
     whole(p.x) && whole(p.y)
 }
 
 // To which side an offset tells.
 pub fn sign_of(x: f32) -> Sign
-    ensures { result ≡ signIn x }
+    ensures { result ≡ sign_in x }
 {
     if x > 0.0 {
         return Sign::Left;
@@ -48,7 +48,7 @@ pub fn sign_of(x: f32) -> Sign
 
 // To which side the sum of three offsets tells, which is the side of a triangle's centroid. The third is not added: the sum of two fits, that of three might not.
 pub fn sign_of_sum(a: f32, b: f32, c: f32) -> Sign
-    ensures { result ≡ signOfSum a b c }
+    ensures { result ≡ sign_of_sum_of a b c }
 {
     let s = a + b;
     if s > -c {
@@ -81,14 +81,14 @@ pub fn opposed(a: Sign, b: Sign) -> bool
 
 // Neither both above 0 nor both below.
 fn apart(a: f32, b: f32) -> bool
-    ensures { result ≡ acrossIn a b }
+    ensures { result ≡ across_in a b }
 {
     !(a > 0.0 && b > 0.0) && !(a < 0.0 && b < 0.0)
 }
 
 // Does the edge from p to q cross the blade?
 fn crossing(b0: Point, b1: Point, p: Point, q: Point) -> bool
-    ensures { result ≡ crossesBySigns b0 b1 p q }
+    ensures { result ≡ crosses_by_signs b0 b1 p q }
 {
     let dp = blade::offset(b0, b1, p);
     let dq = blade::offset(b0, b1, q);
@@ -97,7 +97,7 @@ fn crossing(b0: Point, b1: Point, p: Point, q: Point) -> bool
 
 // The blade test by signs: a hit carries the fraction and the point as edition 1 rounds them.
 pub fn hit_by_signs(b0: Point, b1: Point, p: Point, q: Point) -> Hit
-    ensures { result ≡ hitBySigns b0 b1 p q }
+    ensures { result ≡ hit_by_signs_of b0 b1 p q }
 {
     if !crossing(b0, b1, p, q) {
         return Hit::Miss;

@@ -3,7 +3,7 @@
 
 ghost use Rattle.std.specs.Prelude.{◌≡◌, ℕ, ◌*◌, ◌<◌, length, get_or};
 ghost use Rattle.lists.specs.Lists.{stands};
-ghost use Rattle.fan.specs.Fan.{fan, sharedOthers, nearTest};
+ghost use Rattle.fan.specs.Fan.{fan, shared_others_of, near_test};
 
 // Does x stand in b?
 pub fn stands_in(x: usize, b: &[usize]) -> bool
@@ -21,7 +21,7 @@ pub fn stands_in(x: usize, b: &[usize]) -> bool
 
 // How many of a, other than v, stand in b.
 pub fn shared_others(a: &[usize], b: &[usize], v: usize) -> usize
-    ensures { result ≡ sharedOthers v a.now b.now }
+    ensures { result ≡ shared_others_of v a.now b.now }
 {
     let mut count: usize = 0;
     let mut i = 0;
@@ -48,8 +48,8 @@ pub fn near(
     j: usize,
 ) -> bool
     requires verts_len { length verts.now ≡ length sides.now * k }
-    requires in_bounds { (i < length sides.now) × (j < length sides.now) }
-    ensures { result ≡ nearTest (fan verts.now k v needed sides.now) i j }
+    requires i_in_bounds { (i < length sides.now) × (j < length sides.now) }
+    ensures { result ≡ near_test (fan verts.now k v needed sides.now) i j }
 {
     if sides[i] != sides[j] {
         return false;

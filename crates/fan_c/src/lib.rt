@@ -2,13 +2,13 @@
 #![tactic(auto)]
 
 ghost use Rattle.std.specs.Prelude.{◌≡◌, true, List, ◌+◌, ◌*◌, ◌≤◌, Float, length};
-ghost use Rattle.mesh.specs.Given.{meshOf};
-ghost use Rattle.mesh_tables.specs.Fans.{NumbersRead, trianglesWith, strapsWith};
-ghost use Rattle.image.specs.Words.{wordsFrom};
-ghost use Rattle.image.specs.Image.{image_of, imageSized};
+ghost use Rattle.mesh.specs.Given.{mesh_of};
+ghost use Rattle.mesh_tables.specs.Fans.{NumbersRead, triangles_with, straps_with};
+ghost use Rattle.image.specs.Words.{words_from};
+ghost use Rattle.image.specs.Image.{image_of, image_sized_of};
 ghost use Rattle.replies.specs.Reply.{Replied};
-ghost use Rattle.fan_c.specs.Fans.{fanCall, fanReply};
-ghost use Rattle.fan_c.specs.Work.{Listed, Answered, Tellable, foundWords};
+ghost use Rattle.fan_c.specs.Fans.{fan_call, fan_reply};
+ghost use Rattle.fan_c.specs.Work.{Listed, Answered, Tellable, found_words};
 
 use mesh_tables::fans;
 
@@ -23,7 +23,7 @@ pub enum Found {
 fn triangle_numbers(bytes: &[u8], at: usize, t: usize, v: usize, numbers: &mut [usize]) -> usize
     requires { (4 * (at + 3 * t) ≤ length bytes.now) × (t ≤ length numbers.old) }
     ensures { (result ≤ t) × ((volumes : List Float)
-        → NumbersRead (trianglesWith v t (wordsFrom bytes.now at (3 * t)) volumes) result numbers.new) }
+        → NumbersRead (triangles_with v t (words_from bytes.now at (3 * t)) volumes) result numbers.new) }
 {
     let second = at + t;
     let third = second + t;
@@ -46,7 +46,7 @@ fn triangle_numbers(bytes: &[u8], at: usize, t: usize, v: usize, numbers: &mut [
 fn strap_numbers(bytes: &[u8], at: usize, e: usize, v: usize, numbers: &mut [usize]) -> usize
     requires { (4 * (at + 4 * e) ≤ length bytes.now) × (e ≤ length numbers.old) }
     ensures { (result ≤ e) × ((lengths : List Float)
-        → NumbersRead (strapsWith v e (wordsFrom bytes.now at (4 * e)) lengths) result numbers.new) }
+        → NumbersRead (straps_with v e (words_from bytes.now at (4 * e)) lengths) result numbers.new) }
 {
     let second = at + e;
     let third = second + e;
@@ -68,7 +68,7 @@ fn strap_numbers(bytes: &[u8], at: usize, e: usize, v: usize, numbers: &mut [usi
 // Writes the numbers of v's fan to the front of a table: triangles if there are any, else straps. Returns how many they are.
 // (A mesh without a triangle and without a strap is of nothing, and no strap is found in it.)
 fn fan_numbers(bytes: &[u8], v: usize, numbers: &mut [usize]) -> usize
-    requires { (imageSized bytes.now ≡ true) × (2048 ≤ length numbers.old) }
+    requires { (image_sized_of bytes.now ≡ true) × (2048 ≤ length numbers.old) }
     ensures { Listed (image_of bytes.now) v result numbers.new }
 {
     let p = image::word_at(bytes, 0);
@@ -83,8 +83,8 @@ fn fan_numbers(bytes: &[u8], v: usize, numbers: &mut [usize]) -> usize
 
 // The fan of particle v of an image that has the sizes of a mesh: the faults of the mesh, 4 for an absent particle, or the numbers at the front of a table.
 fn image_fan(bytes: &[u8], v: usize, numbers: &mut [usize]) -> Found
-    requires { (imageSized bytes.now ≡ true) × (2048 ≤ length numbers.old) }
-    ensures { Answered (fanCall (imageSized bytes.now) (meshOf (image_of bytes.now)) v) result
+    requires { (image_sized_of bytes.now ≡ true) × (2048 ≤ length numbers.old) }
+    ensures { Answered (fan_call (image_sized_of bytes.now) (mesh_of (image_of bytes.now)) v) result
         numbers.new }
 {
     let code = image_checks::image_fault(bytes);
@@ -101,7 +101,7 @@ fn image_fan(bytes: &[u8], v: usize, numbers: &mut [usize]) -> Found
 // The reply to a case whose numbers are the first of a table.
 fn reply_found(a: Found, numbers: &[usize], out: &mut [u8]) -> u32
     requires { Tellable a (length numbers.now) }
-    ensures { Replied (foundWords a numbers.now) (length out.old) result out.new }
+    ensures { Replied (found_words a numbers.now) (length out.old) result out.new }
 {
     match a {
         Found::Refused(code) => {
@@ -115,7 +115,7 @@ fn reply_found(a: Found, numbers: &[usize], out: &mut [u8]) -> u32
 
 // The fan of particle v of a mesh image.
 pub fn fan(bytes: &[u8], v: usize, out: &mut [u8]) -> u32
-    ensures { Replied (fanReply bytes.now v) (length out.old) result out.new }
+    ensures { Replied (fan_reply bytes.now v) (length out.old) result out.new }
 {
     if image::image_sized(bytes) {
         let mut numbers = [0usize; mesh::ELEMENTS];

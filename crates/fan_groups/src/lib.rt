@@ -5,7 +5,7 @@ ghost use Rattle.std.specs.Prelude.{◌≡◌, ℕ, ◌+◌, ◌<◌, ◌≤◌,
 ghost use Rattle.fan.specs.Fan.{fan};
 ghost use Rattle.fan.specs.Calls.{Fits, Counted};
 ghost use Rattle.fan.specs.Parts.{Turning, Turns};
-ghost use Rattle.fan_groups.specs.Sides.{groupsOn, Sided};
+ghost use Rattle.fan_groups.specs.Sides.{groups_on_of, Sided};
 
 // Numbers the elements of one side, from a count. An element still to be numbered has its label plus the number of elements in its place; one that is its
 // own label gets the next number, any other the number at its label, which was passed before.
@@ -36,7 +36,7 @@ fn number_side(sides: &[usize], side: usize, from: usize, table: &mut [usize]) -
 
 // How many groups the elements of a side are, where no corner need be shared.
 fn groups_on(side: usize, sides: &[usize]) -> usize
-    ensures { result ≡ groupsOn side sides.now }
+    ensures { result ≡ groups_on_of side sides.now }
 {
     if fan::stands_in(side, sides) {
         return 1;

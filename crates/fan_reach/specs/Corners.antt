@@ -3,22 +3,22 @@ use Rattle.std.specs.Prelude.{◌≡◌, List, ℕ, ◌+◌, ◌/◌, ◌%◌, �
 use Rattle.fan.specs.Fan.{Fan}
 
 -- the chain of place p: the last six bits of its particle
-abbrev pub chainOf : List ℕ → ℕ → ℕ
-chainOf verts p = get_or verts p 0 % 64
+abbrev pub chain_of : List ℕ → ℕ → ℕ
+chain_of verts p = get_or verts p 0 % 64
 
 -- e is the first place of chain b that is not before f, or is no place where there is none
 pub record FirstFrom (verts : List ℕ) (b f e : ℕ) : Type 0 where
   pub behind : f ≤ e
-  pub first : (p : ℕ) → f ≤ p → p < length verts → chainOf verts p ≡ b → e ≤ p
-  pub inside : e < length verts → chainOf verts e ≡ b
+  pub first : (p : ℕ) → f ≤ p → p < length verts → chain_of verts p ≡ b → e ≤ p
+  pub inside : e < length verts → chain_of verts e ≡ b
 
 -- The places from f on are linked: a head is the first of them in its chain, and behind each the next one of its chain is named.
 pub record LinkedFrom (verts heads nexts : List ℕ) (f : ℕ) : Type 0 where
   pub few : length verts ≤ 4096
-  pub heads-long : length heads ≡ 64
-  pub nexts-long : length nexts ≡ 4096
+  pub heads_long : length heads ≡ 64
+  pub nexts_long : length nexts ≡ 4096
   pub head : (b : ℕ) → b < 64 → FirstFrom verts b f (get_or heads b 0)
-  pub next : (p : ℕ) → f ≤ p → p < length verts → FirstFrom verts (chainOf verts p) (p + 1) (get_or nexts p 0)
+  pub next : (p : ℕ) → f ≤ p → p < length verts → FirstFrom verts (chain_of verts p) (p + 1) (get_or nexts p 0)
 
 -- What is lent beside a fan whose neighbours share a particle besides v: either every place is linked, or the heads are not as many as the chains.
 pub record Lent (F : Fan) (heads nexts : List ℕ) : Type 0 where

@@ -3,8 +3,8 @@
 use Rattle.std.specs.Prelude.{◌≡◌, Bool, ◌⊎◌, List, [], ◌∷◌, ℕ, ◌+◌, ◌-◌, ◌<◌, ◌≤◌, length, get_or, ltb}
 use Rattle.lists.specs.Lists.{pick}
 use Rattle.lists.specs.Chain.{Chain}
-use Rattle.fan.specs.Fan.{Fan, Near, size, nearTest}
-use Rattle.fan.specs.Groups.{labelsOf}
+use Rattle.fan.specs.Fan.{Fan, Near, size, near_test}
+use Rattle.fan.specs.Groups.{labels_of}
 
 -- the label of a place that holds x
 unfoldable pub label : ℕ → ℕ → ℕ
@@ -27,8 +27,8 @@ abbrev pub Beside : Fan → ℕ → ℕ → Type 0
 Beside F a b = Near F a b ⊎ Near F b a
 
 -- the same as a test that antt computes, for two elements that are not one
-abbrev pub besideTest : Fan → ℕ → ℕ → Bool
-besideTest F a b = pick (ltb a b) (nearTest F a b) (nearTest F b a)
+abbrev pub beside_test : Fan → ℕ → ℕ → Bool
+beside_test F a b = pick (ltb a b) (near_test F a b) (near_test F b a)
 
 -- The label i is being spread: all below i are spread; one that is not is untouched or has the label i; no label is above i or above its element;
 -- a chain leads from each element to its label; and the neighbours of one that is spread have its label.
@@ -91,4 +91,4 @@ pub record Going (F : Fan) (i : ℕ) (t : List ℕ) (a : ℕ) : Type 0 where
 -- each place holds its element's label and n
 pub record Spread (F : Fan) (t : List ℕ) : Type 0 where
   pub long : length t ≡ size F
-  pub labels : (a : ℕ) → a < size F → get_or t a 0 ≡ get_or (labelsOf F) a 0 + size F
+  pub labels : (a : ℕ) → a < size F → get_or t a 0 ≡ get_or (labels_of F) a 0 + size F

@@ -3,7 +3,7 @@
 
 ghost use Rattle.std.specs.Prelude.{◌≡◌, ◌+◌, ◌*◌, ◌<◌, length};
 ghost use Rattle.fan.specs.Fan.{fan};
-ghost use Rattle.fan_reach.specs.Spread.{besideTest, Reached, Reaching, Touching};
+ghost use Rattle.fan_reach.specs.Spread.{beside_test, Reached, Reaching, Touching};
 ghost use Rattle.fan_reach.specs.Corners.{LinkedFrom, Lent, Holds};
 
 // Reaches the untouched neighbours below a, which has the label. (None is as low as the label.)
@@ -71,8 +71,8 @@ fn beside(
     j: usize,
 ) -> bool
     requires verts_len { length verts.now ≡ length sides.now * k }
-    requires in_bounds { (a < length sides.now) × (j < length sides.now) }
-    ensures { result ≡ besideTest (fan verts.now k v needed sides.now) a j }
+    requires a_in_bounds { (a < length sides.now) × (j < length sides.now) }
+    ensures { result ≡ beside_test (fan verts.now k v needed sides.now) a j }
 {
     if a < j {
         return fan::near(verts, k, v, needed, sides, a, j);

@@ -3,14 +3,14 @@
 #![tactic(auto)]
 
 ghost use Rattle.std.specs.Prelude.{◌≡◌, ◌+◌, ◌*◌, ◌/◌, ◌<◌, ◌≤◌, length};
-ghost use Rattle.elements.specs.Table.{kindIs};
+ghost use Rattle.elements.specs.Table.{kind_is};
 ghost use Rattle.mesh.specs.At.{edges_at};
-ghost use Rattle.mesh.specs.Limits.{particleLimit};
-ghost use Rattle.mesh.specs.Blocks.{meshIn};
+ghost use Rattle.mesh.specs.Limits.{particle_limit};
+ghost use Rattle.mesh.specs.Blocks.{mesh_in};
 ghost use Rattle.links.specs.Rooms.{Cleared};
 ghost use Rattle.links.specs.Linked.{MeshLinked, MeshLinkable, FrontLinked, LinkedIn, EdgesLinked};
 ghost use Rattle.work.specs.Blocks.{ReadyIn};
-ghost use Rattle.edge_drops.specs.Parted.{Listing, listed, edgesParted};
+ghost use Rattle.edge_drops.specs.Parted.{Listing, listed, edges_parted};
 ghost use Rattle.split.specs.Tables.{FanLent, FanTables};
 ghost use Rattle.split.specs.Blocks.{SidedIn, ListIn};
 
@@ -29,8 +29,8 @@ pub extern "C" fn fans_build(
     outline: &[usize],
     links: &mut [u16],
 )
-    requires { MeshLinkable (kindIs Kind.Triangles) t e b corners.now ends.now outline.now (length links.old) × Cleared links.old }
-    ensures { MeshLinked (kindIs Kind.Triangles) t e b corners.now ends.now outline.now links.new }
+    requires { MeshLinkable (kind_is Kind.Triangles) t e b corners.now ends.now outline.now (length links.old) × Cleared links.old }
+    ensures { MeshLinked (kind_is Kind.Triangles) t e b corners.now ends.now outline.now links.new }
 {
     links::link_mesh(Kind::Triangles, t, e, b, corners, ends, outline, links);
 }
@@ -51,8 +51,8 @@ pub extern "C" fn fans_walk(
     measures: &mut [f32],
 ) -> usize
     requires { FanLent t e (length corners.now) (length volumes.now) (length ends.now) (length lengths.now)
-        × FrontLinked (kindIs Kind.Triangles) t e corners.now ends.now links.now × (v < particleLimit) }
-    ensures { FanTables (kindIs Kind.Triangles) v t e corners.now volumes.now ends.now lengths.now result numbers.new verts.new
+        × FrontLinked (kind_is Kind.Triangles) t e corners.now ends.now links.now × (v < particle_limit) }
+    ensures { FanTables (kind_is Kind.Triangles) v t e corners.now volumes.now ends.now lengths.now result numbers.new verts.new
         measures.new }
 {
     split::fans::fan_tables(
@@ -146,9 +146,9 @@ pub extern "C" fn fans_part(
     links: &mut [u16],
     counts: &mut [usize],
 ) -> usize
-    requires lent { (let K = kindIs Kind.Triangles in let k = record { particles = particles; triangles = triangles; edges = edges; boundary = boundary; log = entries } in
+    requires lent { (let K = kind_is Kind.Triangles in let k = record { particles = particles; triangles = triangles; edges = edges; boundary = boundary; log = entries } in
         ReadyIn (record { particles = 1024; triangles = 1024; edges = 2048; boundary = 2048; log = 4096 }) k points roots corners volumes ends lengths outline log
-        × SidedIn K (meshIn k points roots corners volumes ends lengths outline) v n numbers verts measures sides
+        × SidedIn K (mesh_in k points roots corners volumes ends lengths outline) v n numbers verts measures sides
         × (n ≤ length groups.old) × ListIn list × LinkedIn K k corners ends outline links) }
     requires told { 5 ≤ length counts.old }
 {
@@ -212,7 +212,7 @@ pub extern "C" fn fans_close(
 )
     requires { Listing left (length ends.old) (length lengths.old) list.now × EdgesLinked (left + listed list.now) ends.old
         table.old }
-    ensures { (edges_at left ends.new lengths.new ≡ edgesParted left ends.old lengths.old
+    ensures { (edges_at left ends.new lengths.new ≡ edges_parted left ends.old lengths.old
         list.now) × EdgesLinked left ends.new table.new }
 {
     edge_drops::close(left, list, ends, lengths, table);

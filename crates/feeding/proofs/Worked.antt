@@ -6,17 +6,17 @@ use mathlib.Core.Path.{◌≡◌, refl, ap, ◌∙◌}
 use mathlib.Core.List.{List, [], ◌∷◌, ◌++◌, map}
 use lib.ListN.{length, take, drop, replicate}
 use Rattle.bits.specs.Bits.{bits, bits_of, num}
-use Rattle.sheet.specs.Sheet.{above, most, tooMany, countsAt}
+use Rattle.sheet.specs.Sheet.{above, most, too_many_of, counts_at}
 use Rattle.sheet.specs.declared.Counts.{Counts}
-use Rattle.sheet.proofs.Cases.{worked, workedCounts}
-use Rattle.edition.specs.Edition.{asFirst, bitsIn, typedWith, typedSeen, seenIn, seenOf}
+use Rattle.sheet.proofs.Cases.{worked, worked_counts}
+use Rattle.edition.specs.Edition.{as_first_of, bits_in_of, typed_with, typed_seen, seen_in, seen_of}
 use Rattle.edition.specs.declared.Seen.{Seen}
 use Rattle.edition.specs.declared.Seen.TheVariants.{Whole, Refused}
-use Rattle.edition.proofs.Cases.{worked2, worked-seen, worked2-seen}
+use Rattle.edition.proofs.Cases.{worked2, worked_seen, worked2_seen}
 use Rattle.feeding.specs.Parts.{joined}
-use Rattle.feeding.specs.Feeding.{size, keptIn, OpenDone, Feeds}
-use Rattle.feeding.proofs.Long.{seen-full}
-use Rattle.feeding.proofs.Cuts.{kept_seen, fed-keeps}
+use Rattle.feeding.specs.Feeding.{size, kept_in, OpenDone, Feeds}
+use Rattle.feeding.proofs.Long.{seen_full}
+use Rattle.feeding.proofs.Cuts.{kept_seen, fed_keeps}
 
 -- ---- ways of cutting the worked sheet
 
@@ -29,63 +29,63 @@ unfoldable pub steps : ℕ → ℕ → List ℕ → List (List ℕ)
 steps zero k l = l ∷ []
 steps (suc n) k l = take k l ∷ steps n (suc k) (drop k l)
 
-pub ones-count : (length (ones worked) ≡ 46) × (length (ones worked2) ≡ 36)
+pub ones_count : (length (ones worked) ≡ 46) × (length (ones worked2) ≡ 36)
 unfolding worked worked2
-ones-count = (refl, refl)
+ones_count = (refl, refl)
 
-pub ones-joined : joined (ones worked) ≡ worked
+pub ones_joined : joined (ones worked) ≡ worked
 unfolding joined worked
-ones-joined = refl
+ones_joined = refl
 
-pub ones2-joined : joined (ones worked2) ≡ worked2
+pub ones2_joined : joined (ones worked2) ≡ worked2
 unfolding joined worked2
-ones2-joined = refl
+ones2_joined = refl
 
-pub steps-joined : joined (steps 9 0 worked) ≡ worked
+pub steps_joined : joined (steps 9 0 worked) ≡ worked
 unfolding joined worked steps
-steps-joined = refl
+steps_joined = refl
 
-pub steps2-joined : joined (steps 9 0 worked2) ≡ worked2
+pub steps2_joined : joined (steps 9 0 worked2) ≡ worked2
 unfolding joined worked2 steps
-steps2-joined = refl
+steps2_joined = refl
 
-pub one-joined : joined (worked ∷ []) ≡ worked
+pub one_joined : joined (worked ∷ []) ≡ worked
 unfolding joined worked
-one-joined = refl
+one_joined = refl
 
 -- whichever way it is cut, what a reader keeps is the worked sheet, whole
-pub worked-fed : (parts : List (List ℕ)) (b₀ b₁ b₂ : List ℕ) (a : ℕ) → joined parts ≡ worked → length b₀ ≡ size → OpenDone b₀ a b₁ → Feeds b₁ parts b₂ → seenOf most (keptIn b₂) ≡ Whole workedCounts false
-worked-fed parts b₀ b₁ b₂ a j h O F = kept_seen most (joined parts) b₂ (fed-keeps parts b₀ b₁ b₂ a h O F) ∙ (ap (seenOf most) j ∙ worked-seen)
+pub worked_fed : (parts : List (List ℕ)) (b₀ b₁ b₂ : List ℕ) (a : ℕ) → joined parts ≡ worked → length b₀ ≡ size → OpenDone b₀ a b₁ → Feeds b₁ parts b₂ → seen_of most (kept_in b₂) ≡ Whole worked_counts false
+worked_fed parts b₀ b₁ b₂ a j h O F = kept_seen most (joined parts) b₂ (fed_keeps parts b₀ b₁ b₂ a h O F) ∙ (ap (seen_of most) j ∙ worked_seen)
 
 -- in the second edition too
-pub worked2-fed : (parts : List (List ℕ)) (b₀ b₁ b₂ : List ℕ) (a : ℕ) → joined parts ≡ worked2 → length b₀ ≡ size → OpenDone b₀ a b₁ → Feeds b₁ parts b₂ → seenOf most (keptIn b₂) ≡ Whole workedCounts false
-worked2-fed parts b₀ b₁ b₂ a j h O F = kept_seen most (joined parts) b₂ (fed-keeps parts b₀ b₁ b₂ a h O F) ∙ (ap (seenOf most) j ∙ worked2-seen)
+pub worked2_fed : (parts : List (List ℕ)) (b₀ b₁ b₂ : List ℕ) (a : ℕ) → joined parts ≡ worked2 → length b₀ ≡ size → OpenDone b₀ a b₁ → Feeds b₁ parts b₂ → seen_of most (kept_in b₂) ≡ Whole worked_counts false
+worked2_fed parts b₀ b₁ b₂ a j h O F = kept_seen most (joined parts) b₂ (fed_keeps parts b₀ b₁ b₂ a h O F) ∙ (ap (seen_of most) j ∙ worked2_seen)
 
 -- ---- refusals
 
 -- its first 45 bytes: 9; the first 35 of the second edition's: 9
-pub short-seen : seenOf most (take 45 worked) ≡ Refused 9
-unfolding worked seenIn typedSeen typedWith bitsIn bits_of bits num above
-short-seen = refl
+pub short_seen : seen_of most (take 45 worked) ≡ Refused 9
+unfolding worked seen_in typed_seen typed_with bits_in_of bits_of bits num above
+short_seen = refl
 
-pub short2-seen : seenOf most (take 35 worked2) ≡ Refused 9
-unfolding worked2 seenIn typedSeen typedWith bitsIn asFirst bits_of bits num above
-short2-seen = refl
+pub short2_seen : seen_of most (take 35 worked2) ≡ Refused 9
+unfolding worked2 seen_in typed_seen typed_with bits_in_of as_first_of bits_of bits num above
+short2_seen = refl
 
 -- a reader that was fed nothing: 9
-pub nothing_seen : seenOf most (joined []) ≡ Refused 9
-unfolding joined seenIn typedSeen
+pub nothing_seen : seen_of most (joined []) ≡ Refused 9
+unfolding joined seen_in typed_seen
 nothing_seen = refl
 
 -- the header of a full sheet: 1,024 particles, 1,024 triangles, 2,048 edges and 2,048 boundary entries
-abbrev pub fullHeader : List ℕ
-fullHeader = 128 ∷ 16 ∷ 2 ∷ 0 ∷ 32 ∷ 0 ∷ []
+abbrev pub full_header : List ℕ
+full_header = 128 ∷ 16 ∷ 2 ∷ 0 ∷ 32 ∷ 0 ∷ []
 
-full-counts : countsAt (bitsIn (bits_of fullHeader)) ≡ most
-unfolding bitsIn bits_of bits num
-full-counts = refl
+full_counts : counts_at (bits_in_of (bits_of full_header)) ≡ most
+unfolding bits_in_of bits_of bits num
+full_counts = refl
 
 -- 17,293 bytes or more that begin like it: 9
-pub long-seen : (rest : List ℕ) → 17287 ≤ length rest → seenOf most (fullHeader ++ rest) ≡ Refused 9
+pub long_seen : (rest : List ℕ) → 17287 ≤ length rest → seen_of most (full_header ++ rest) ≡ Refused 9
 unfolding above
-long-seen rest h = seen-full most fullHeader rest (omega arith) (omega arith) ∙ ap (λ (c : Counts). Refused (cond (tooMany c || above most c) 1 9)) full-counts
+long_seen rest h = seen_full most full_header rest (omega arith) (omega arith) ∙ ap (λ (c : Counts). Refused (cond (too_many_of c || above most c) 1 9)) full_counts

@@ -2,7 +2,7 @@
 #![tactic(auto)]
 
 ghost use Rattle.std.specs.Prelude.{◌≡◌, min, length};
-ghost use Rattle.feeding.specs.Feeding.{size, standing, fitting, grownBy, OpenDone, FeedDone, ShutDone};
+ghost use Rattle.feeding.specs.Feeding.{size, standing, fitting, grown_by, OpenDone, FeedDone, ShutDone};
 ghost use Rattle.feeding.specs.Work.{Held};
 
 // How many bytes a reader has.
@@ -61,7 +61,7 @@ fn copy_bytes(src: &[u8], dst: &mut [u8])
 // Puts as much of a part as fits behind the bytes that a reader keeps.
 fn grow(reader: &mut [u8], part: &[u8])
     requires { length reader.old ≡ size }
-    ensures { reader.new ≡ grownBy reader.old (fitting reader.old part.now) }
+    ensures { reader.new ≡ grown_by reader.old (fitting reader.old part.now) }
 {
     let k = held(reader);
     let n = least(MOST - k, part.len());

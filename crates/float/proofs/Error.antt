@@ -18,8 +18,8 @@ use lib.Ieee.Scale.{grid, round_val, round_same}
 use Rattle.float.specs.Whole.{Near}
 
 -- n / u to the nearest whole number is off by at most 1
-off-by : (n u : ℕ) → 0 < u → (closest n u * u ≤ n + u) × (n ≤ closest n u * u + u)
-off-by n u p =
+off_by : (n u : ℕ) → 0 < u → (closest n u * u ≤ n + u) × (n ≤ closest n u * u + u)
+off_by n u p =
     let w = n / u in
     let K = closest n u in
     let lo : w * u ≤ K * u = mul-le-mul_right u (nearest-ge w (compare (n % u * 2) u)) in
@@ -32,14 +32,14 @@ off-by n u p =
 few : (z : ℕ) → z ≤ 149 → z - 24 ≤ 125
 few z h = omega arith
 
-join-hi : (x n u v : ℕ) → x ≤ n + u → u ≤ v → x ≤ n + v
-join-hi x n u v a b = omega arith
+join_hi : (x n u v : ℕ) → x ≤ n + u → u ≤ v → x ≤ n + v
+join_hi x n u v a b = omega arith
 
-join-lo : (x n u v : ℕ) → n ≤ x + u → u ≤ v → n ≤ x + v
-join-lo x n u v a b = omega arith
+join_lo : (x n u v : ℕ) → n ≤ x + u → u ≤ v → n ≤ x + v
+join_lo x n u v a b = omega arith
 
-sum-le : (x n v N W : ℕ) → x ≤ n + v → n ≤ N → v ≤ W → x ≤ N + W
-sum-le x n v N W a b c = omega arith
+sum_le : (x n v N W : ℕ) → x ≤ n + v → n ≤ N → v ≤ W → x ≤ N + W
+sum_le x n v N W a b c = omega arith
 
 rescaled : (x : Float) → HasValue x false 1 1 → HasValue x false (2 ^ 149) (2 ^ 149)
 rescaled nan h = absurd h
@@ -62,13 +62,13 @@ close a b p h = go (eq-or-lt_of_le h)
         let u = b * 2 ^ k in
         let K = kept 24 n b in
         let g : grid binary32 a b * b ≡ K * u = mul_right_comm K (2 ^ k) b ∙ mul_assoc K b (2 ^ k) in
-        let o = off-by n u (mul-pos p (pow_pos k)) in
+        let o = off_by n u (mul-pos p (pow_pos k)) in
         let s : size (n / b) ≤ 149 = size-le (n / b) 149 ((div-lt_iff_lt-mul p).1 (lt_of_lt_of_le (mul-lt-mul_of_pos_right l (pow_pos 149)) (le_of_eq (mul_comm b (2 ^ 149))))) in
         let v : u ≤ b * 2 ^ 125 = mul-le-mul_left b (pow_mono (few (size (n / b)) s)) in
-        let hi : grid binary32 a b * b ≤ n + b * 2 ^ 125 = join-hi (grid binary32 a b * b) n u (b * 2 ^ 125) (le_trans (le_of_eq g) o.0) v in
-        let lo : n ≤ grid binary32 a b * b + b * 2 ^ 125 = join-lo (grid binary32 a b * b) n u (b * 2 ^ 125) (le_trans o.1 (le_of_eq (ap (λ (z : ℕ). z + u) (sym g)))) v in
+        let hi : grid binary32 a b * b ≤ n + b * 2 ^ 125 = join_hi (grid binary32 a b * b) n u (b * 2 ^ 125) (le_trans (le_of_eq g) o.0) v in
+        let lo : n ≤ grid binary32 a b * b + b * 2 ^ 125 = join_lo (grid binary32 a b * b) n u (b * 2 ^ 125) (le_trans o.1 (le_of_eq (ap (λ (z : ℕ). z + u) (sym g)))) v in
         let top : grid binary32 a b ≤ 2 ^ 149 + 2 ^ 125 = le_of_mul-le-mul_right
-        (le_trans (sum-le (grid binary32 a b * b) n (b * 2 ^ 125) (2 ^ 149 * b) (2 ^ 125 * b) hi (le_trans (mul-le-mul_right (2 ^ 149) (le_of_lt l)) (le_of_eq (mul_comm b (2 ^ 149)))) (le_of_eq (mul_comm b (2 ^ 125))))
+        (le_trans (sum_le (grid binary32 a b * b) n (b * 2 ^ 125) (2 ^ 149 * b) (2 ^ 125 * b) hi (le_trans (mul-le-mul_right (2 ^ 149) (le_of_lt l)) (le_of_eq (mul_comm b (2 ^ 149)))) (le_of_eq (mul_comm b (2 ^ 125))))
         (le_of_eq (sym (add-mul (2 ^ 149) (2 ^ 125) b)))) p in
         (grid binary32 a b, round_val binary32 a b (lt_of_le_of_lt top (lit< tt)), hi, lo)
 

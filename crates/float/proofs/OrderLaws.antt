@@ -9,8 +9,8 @@ use lib.Ieee.{Float, nan, inf, fin, binary32, up, down, fits, lt, is_nan}
 use lib.Ieee.Fits.{down_pos}
 use Rattle.float.specs.declared.order.Order.{Order}
 use Rattle.float.specs.declared.order.Order.TheVariants.{Less, Equal, Greater, Unordered}
-use Rattle.float.specs.Order.{sign_of, by_sign, totalCmp}
-use Rattle.float.proofs.Values.{same-value}
+use Rattle.float.specs.Order.{sign_of, by_sign, total_cmp_of}
+use Rattle.float.proofs.Values.{same_value}
 
 different : {X : Type 0} (o : Order) → o ≡ Less → o ≡ Equal → X
 different o p q = let z : ◌≡◌ {A = ℕ} 0 1 = cc in absurd (no z)
@@ -18,14 +18,14 @@ different o p q = let z : ◌≡◌ {A = ℕ} 0 1 = cc in absurd (no z)
     no : ◌≡◌ {A = ℕ} 0 1 → ⊥
     no z = omega arith
 
-different-2 : {X : Type 0} (o : Order) → o ≡ Greater → o ≡ Equal → X
-different-2 o p q = let z : ◌≡◌ {A = ℕ} 0 1 = cc in absurd (no z)
+different_2 : {X : Type 0} (o : Order) → o ≡ Greater → o ≡ Equal → X
+different_2 o p q = let z : ◌≡◌ {A = ℕ} 0 1 = cc in absurd (no z)
   where
     no : ◌≡◌ {A = ℕ} 0 1 → ⊥
     no z = omega arith
 
-different-3 : {X : Type 0} (o : Order) → o ≡ Unordered → o ≡ Equal → X
-different-3 o p q = let z : ◌≡◌ {A = ℕ} 0 1 = cc in absurd (no z)
+different_3 : {X : Type 0} (o : Order) → o ≡ Unordered → o ≡ Equal → X
+different_3 o p q = let z : ◌≡◌ {A = ℕ} 0 1 = cc in absurd (no z)
   where
     no : ◌≡◌ {A = ℕ} 0 1 → ⊥
     no z = omega arith
@@ -34,17 +34,17 @@ same_sign : (s t : Bool) → by_sign s t ≡ Equal → s ≡ t
 same_sign true true h = refl
 same_sign false false h = refl
 same_sign true false h = different Less refl h
-same_sign false true h = different-2 Greater refl h
+same_sign false true h = different_2 Greater refl h
 
 -- where the order says equal, neither is less and the signs agree
 by_tests : (n l g : Bool) (s t : Bool) → cond n Unordered (cond l Less (cond g Greater (by_sign s t))) ≡ Equal → (n ≡ false) × (l ≡ false) × (g ≡ false) × (s ≡ t)
-by_tests true l g s t h = different-3 Unordered refl h
+by_tests true l g s t h = different_3 Unordered refl h
 by_tests false true g s t h = different Less refl h
-by_tests false false true s t h = different-2 Greater refl h
+by_tests false false true s t h = different_2 Greater refl h
 by_tests false false false s t h = (refl, refl, refl, same_sign s t h)
 
-not-lt : (a b : ℕ) → ltb a b ≡ false → b ≤ a
-not-lt a b h = nltb→le a b (subst (λ (z : Bool). T (not z)) (sym h) tt)
+not_lt : (a b : ℕ) → ltb a b ≡ false → b ≤ a
+not_lt a b h = nltb→le a b (subst (λ (z : Bool). T (not z)) (sym h) tt)
 
 level : (a b : Float) → (is_nan a || is_nan b) ≡ false → lt a b ≡ false → lt b a ≡ false → sign_of a ≡ sign_of b → T (fits binary32 a) → T (fits binary32 b) → a ≡ b
 unfolding lt is_nan sign_of
@@ -59,13 +59,13 @@ level (fin u m e) (inf false) n l g s p q = absurd (true≢false l)
 level (fin true m e) (fin false k d) n l g s p q = absurd (true≢false s)
 level (fin false m e) (fin true k d) n l g s p q = absurd (true≢false (sym s))
 level (fin true m e) (fin true k d) n l g s p q =
-    same-value binary32 (fin true m e) (fin true k d) true (m * up e) (down e) (down_pos e) p q (refl, refl)
-    (refl, le_antisymm (not-lt (m * up e * down d) (k * up d * down e) g) (not-lt (k * up d * down e) (m * up e * down d) l))
+    same_value binary32 (fin true m e) (fin true k d) true (m * up e) (down e) (down_pos e) p q (refl, refl)
+    (refl, le_antisymm (not_lt (m * up e * down d) (k * up d * down e) g) (not_lt (k * up d * down e) (m * up e * down d) l))
 level (fin false m e) (fin false k d) n l g s p q =
-    same-value binary32 (fin false m e) (fin false k d) false (m * up e) (down e) (down_pos e) p q (refl, refl)
-    (refl, le_antisymm (not-lt (m * up e * down d) (k * up d * down e) l) (not-lt (k * up d * down e) (m * up e * down d) g))
+    same_value binary32 (fin false m e) (fin false k d) false (m * up e) (down e) (down_pos e) p q (refl, refl)
+    (refl, le_antisymm (not_lt (m * up e * down d) (k * up d * down e) l) (not_lt (k * up d * down e) (m * up e * down d) g))
 
-pub equal-is-one : (a b : Float) → T (fits binary32 a) → T (fits binary32 b) → totalCmp a b ≡ Equal → a ≡ b
-equal-is-one a b p q h =
+pub equal_is_one : (a b : Float) → T (fits binary32 a) → T (fits binary32 b) → total_cmp_of a b ≡ Equal → a ≡ b
+equal_is_one a b p q h =
     let c = by_tests (is_nan a || is_nan b) (lt a b) (lt b a) (sign_of a) (sign_of b) h in
     level a b c.0 c.1 c.2 c.3 p q

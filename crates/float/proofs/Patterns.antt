@@ -18,8 +18,8 @@ use Rattle.float.specs.declared.root.Rooted.{Rooted}
 use Rattle.float.specs.declared.root.Rooted.TheVariants.{Value, Refused}
 use Rattle.float.specs.Root.{RootBits, RootOfUnits, RootAt, RootOf}
 
-pub lt-or-ge : (a b : ℕ) → (a < b) ⊎ (b ≤ a)
-lt-or-ge a b = go (ltb a b) (ltb→lt a b) (nltb→le a b)
+pub lt_or_ge : (a b : ℕ) → (a < b) ⊎ (b ≤ a)
+lt_or_ge a b = go (ltb a b) (ltb→lt a b) (nltb→le a b)
   where
     go : (t : Bool) → (T t → a < b) → (T (not t) → b ≤ a) → (a < b) ⊎ (b ≤ a)
     go true p q = inl (p tt)
@@ -49,8 +49,8 @@ unfolding of_fields
 subnormal s t = refl
 
 -- ---- the value of the pattern k * 2 ^ 23 + q: q * 2 ^ k units
-pub pattern-value : (q k : ℕ) → 2 ^ 23 ≤ q → q < 2 ^ 24 → k ≤ 252 → HasValue (of_bits binary32 (k * 2 ^ 23 + q)) false (q * 2 ^ k) (2 ^ 149)
-pattern-value q k lo hi h =
+pub pattern_value : (q k : ℕ) → 2 ^ 23 ≤ q → q < 2 ^ 24 → k ≤ 252 → HasValue (of_bits binary32 (k * 2 ^ 23 + q)) false (q * 2 ^ k) (2 ^ 149)
+pattern_value q k lo hi h =
     let b = k * 2 ^ 23 + q in
     let t = q - 2 ^ 23 in
     let e : of_bits binary32 b ≡ odd 24 false (2 ^ 23 + t) k 149 =
@@ -59,20 +59,20 @@ pattern-value q k lo hi h =
     subst (λ (z : Float). HasValue z false (q * 2 ^ k) (2 ^ 149)) (sym e)
     (subst (λ (z : ℕ). HasValue (odd 24 false (2 ^ 23 + t) k 149) false (z * 2 ^ k) (2 ^ 149)) back (odd_sign 24 false (2 ^ 23 + t) k 149))
 
-pub of-bits : (n b : ℕ) → RootBits n b → RootOfUnits n (of_bits binary32 b)
-of-bits n b h =
+pub of_bits_lem : (n b : ℕ) → RootBits n b → RootOfUnits n (of_bits binary32 b)
+of_bits_lem n b h =
     record {
       q = h.q;
       k = h.k;
       held = of_bits-fits binary32 b;
       size =
           subst (λ (z : ℕ). HasValue (of_bits binary32 z) false (h.q * 2 ^ h.k) (2 ^ 149)) (sym h.is)
-          (pattern-value h.q h.k h.nearest.digits h.nearest.fewer h.small);
+          (pattern_value h.q h.k h.nearest.digits h.nearest.fewer h.small);
       nearest = h.nearest;
     }
 
-pub no-nan-pattern : (n b : ℕ) → RootBits n b → T (not (nan_bits binary32 b))
-no-nan-pattern n b h =
+pub no_nan_pattern : (n b : ℕ) → RootBits n b → T (not (nan_bits binary32 b))
+no_nan_pattern n b h =
     let is = h.is in
     let small = h.small in
     let fewer = h.nearest.fewer in
@@ -94,8 +94,8 @@ answered : (n : ℕ) (x r : Float) → 0 < n → RootOfUnits n r → RootAt fals
 answered zero x r h u = absurd (lt_irrefl 0 h)
 answered (suc n) x r h u = (r, refl, u)
 
-pub below-zero : (q k : ℕ) → 0 < q → RootOf (odd 24 true q k 149) Refused
-below-zero q k h = sized (odd 24 true q k 149) true (q * 2 ^ k) Refused (odd_sign 24 true q k 149) (refused (q * 2 ^ k) (odd 24 true q k 149) (mul-pos h (pow_pos k)))
+pub below_zero : (q k : ℕ) → 0 < q → RootOf (odd 24 true q k 149) Refused
+below_zero q k h = sized (odd 24 true q k 149) true (q * 2 ^ k) Refused (odd_sign 24 true q k 149) (refused (q * 2 ^ k) (odd 24 true q k 149) (mul-pos h (pow_pos k)))
 
 pub above_zero : (q k : ℕ) (r : Float) → 0 < q → RootOfUnits (q * 2 ^ k) r → RootOf (odd 24 false q k 149) (Value r)
 above_zero q k r h u = sized (odd 24 false q k 149) false (q * 2 ^ k) (Value r) (odd_sign 24 false q k 149) (answered (q * 2 ^ k) (odd 24 false q k 149) r (mul-pos h (pow_pos k)) u)
@@ -121,15 +121,15 @@ topmost s t = go (eqb t 0)
     go false = refl
 
 negatives : (f t : ℕ) → f ≤ 255 → (f ≡ 0 → 0 < t) → RootOf (of_fields binary32 true f t) Refused
-negatives zero t h n = subst (λ (z : Float). RootOf z Refused) (sym (subnormal true t)) (below-zero t 0 (n refl))
+negatives zero t h n = subst (λ (z : Float). RootOf z Refused) (sym (subnormal true t)) (below_zero t 0 (n refl))
 negatives (suc x) t h n = go (eq-or-lt_of_le h)
   where
     go : (suc x ≡ 255) ⊎ (suc x < 255) → RootOf (of_fields binary32 true (suc x) t) Refused
     go (inl e) = subst (λ (z : ℕ). RootOf (of_fields binary32 true z t) Refused) (sym e) (topmost true t)
-    go (inr l) = subst (λ (z : Float). RootOf z Refused) (sym (normal true x t (omega arith))) (below-zero (2 ^ 23 + t) x (omega arith))
+    go (inr l) = subst (λ (z : Float). RootOf z Refused) (sym (normal true x t (omega arith))) (below_zero (2 ^ 23 + t) x (omega arith))
 
-pub at-infinity : (b : ℕ) → b < 2 ^ 32 → (b % 2 ^ 31 ≡ 0 → ⊥) → 255 * 2 ^ 23 ≤ b → RootOf (of_bits binary32 b) Refused
-at-infinity b w n h = elim (lt-or-ge b (2 ^ 31)) [
+pub at_infinity : (b : ℕ) → b < 2 ^ 32 → (b % 2 ^ 31 ≡ 0 → ⊥) → 255 * 2 ^ 23 ≤ b → RootOf (of_bits binary32 b) Refused
+at_infinity b w n h = elim (lt_or_ge b (2 ^ 31)) [
   | inl l ↦
       let f : b % 2 ^ 31 / 2 ^ 23 ≡ 255 = omega arith in
       subst (λ (z : Float). RootOf z Refused) (sym (read b false 255 (b % 2 ^ 23) (positive b l) f refl)) (topmost false (b % 2 ^ 23))
@@ -140,25 +140,25 @@ at-infinity b w n h = elim (lt-or-ge b (2 ^ 31)) [
       (negatives f t (omega arith) (λ e. omega arith))
 ]
 
-pub at-subnormal : (b r : ℕ) → (b % 2 ^ 31 ≡ 0 → ⊥) → b < 255 * 2 ^ 23 → b / 2 ^ 23 ≡ 0 → RootBits (b % 2 ^ 23 * 2 ^ 0) r → RootOf (of_bits binary32 b) (Value (of_bits binary32 r))
-at-subnormal b r n l z h =
+pub at_subnormal : (b r : ℕ) → (b % 2 ^ 31 ≡ 0 → ⊥) → b < 255 * 2 ^ 23 → b / 2 ^ 23 ≡ 0 → RootBits (b % 2 ^ 23 * 2 ^ 0) r → RootOf (of_bits binary32 b) (Value (of_bits binary32 r))
+at_subnormal b r n l z h =
     let t = b % 2 ^ 23 in
     let f : b % 2 ^ 31 / 2 ^ 23 ≡ 0 = omega arith in
     subst (λ (y : Float). RootOf y (Value (of_bits binary32 r))) (sym (read b false 0 t (positive b (omega arith)) f refl ∙ subnormal false t))
-    (above_zero t 0 (of_bits binary32 r) (omega arith) (of-bits (t * 2 ^ 0) r h))
+    (above_zero t 0 (of_bits binary32 r) (omega arith) (of_bits_lem (t * 2 ^ 0) r h))
 
-pub at-normal : (b r : ℕ) → b < 255 * 2 ^ 23 → (b / 2 ^ 23 ≡ 0 → ⊥) → RootBits ((b % 2 ^ 23 + 2 ^ 23) * 2 ^ (b / 2 ^ 23 - 1)) r → RootOf (of_bits binary32 b) (Value (of_bits binary32 r))
-at-normal b r l z h =
+pub at_normal : (b r : ℕ) → b < 255 * 2 ^ 23 → (b / 2 ^ 23 ≡ 0 → ⊥) → RootBits ((b % 2 ^ 23 + 2 ^ 23) * 2 ^ (b / 2 ^ 23 - 1)) r → RootOf (of_bits binary32 b) (Value (of_bits binary32 r))
+at_normal b r l z h =
     let t = b % 2 ^ 23 in
     let x = b / 2 ^ 23 - 1 in
     let f : b % 2 ^ 31 / 2 ^ 23 ≡ suc x = omega arith in
     let m : t + 2 ^ 23 ≡ 2 ^ 23 + t = omega arith in
     subst (λ (y : Float). RootOf y (Value (of_bits binary32 r))) (sym (read b false (suc x) t (positive b (omega arith)) f refl ∙ normal false x t (omega arith)))
-    (above_zero (2 ^ 23 + t) x (of_bits binary32 r) (omega arith) (of-bits ((2 ^ 23 + t) * 2 ^ x) r (subst (λ (y : ℕ). RootBits (y * 2 ^ x) r) m h)))
+    (above_zero (2 ^ 23 + t) x (of_bits binary32 r) (omega arith) (of_bits_lem ((2 ^ 23 + t) * 2 ^ x) r (subst (λ (y : ℕ). RootBits (y * 2 ^ x) r) m h)))
 
 -- ---- x itself
-pub is-a-nan : (x : Float) → ne x x ≡ true → RootOf x Refused
-is-a-nan x h = subst (λ (z : Float). RootOf z Refused) (sym (differs_from_itself x (subst T (sym h) tt))) refl
+pub is_a_nan : (x : Float) → ne x x ≡ true → RootOf x Refused
+is_a_nan x h = subst (λ (z : Float). RootOf z Refused) (sym (differs_from_itself x (subst T (sym h) tt))) refl
 
 pub is_no_nan : (x : Float) → ne x x ≡ false → T (not (is_nan x))
 unfolding is_nan

@@ -17,13 +17,13 @@ opened nan s a c h = absurd h
 opened (inf t) s a c h = absurd h
 opened (fin t m e) s a c h = (m, e, ap (λ (z : Bool). fin z m e) h.0, h.1)
 
-mul-fin : (s : Bool) (m : ℕ) (e : ℤ) (t : Bool) (n : ℕ) (d : ℤ) → mul binary32 (fin s m e) (fin t n d) ≡ round binary32 (unlike s t) (m * up e * (n * up d)) (down e * down d)
+mul_fin : (s : Bool) (m : ℕ) (e : ℤ) (t : Bool) (n : ℕ) (d : ℤ) → mul binary32 (fin s m e) (fin t n d) ≡ round binary32 (unlike s t) (m * up e * (n * up d)) (down e * down d)
 unfolding mul
-mul-fin s m e t n d = refl
+mul_fin s m e t n d = refl
 
-div-fin : (s : Bool) (m : ℕ) (e : ℤ) (t : Bool) (n : ℕ) (d : ℤ) → T (not (eqb n 0)) → div binary32 (fin s m e) (fin t n d) ≡ round binary32 (unlike s t) (m * up e * down d) (n * up d * down e)
+div_fin : (s : Bool) (m : ℕ) (e : ℤ) (t : Bool) (n : ℕ) (d : ℤ) → T (not (eqb n 0)) → div binary32 (fin s m e) (fin t n d) ≡ round binary32 (unlike s t) (m * up e * down d) (n * up d * down e)
 unfolding div
-div-fin s m e t n d z = cond_no (eqb n 0) (cond (eqb m 0) nan (inf (unlike s t))) (round binary32 (unlike s t) (m * up e * down d) (n * up d * down e)) z
+div_fin s m e t n d z = cond_no (eqb n 0) (cond (eqb m 0) nan (inf (unlike s t))) (round binary32 (unlike s t) (m * up e * down d) (n * up d * down e)) z
 
 across : (x y a b c e d : ℕ) → 0 < c → x * c ≡ a * e → y * c ≡ b * d → x * d * b ≡ a * (y * e)
 across x y a b c e d C p q =
@@ -32,8 +32,8 @@ across x y a b c e d C p q =
     eq_of_mul-eq-mul_right c C (x * d * b) (a * (y * e)) (l ∙ ap (λ (z : ℕ). z * (b * d)) p ∙ ap (λ (z : ℕ). a * e * z) (sym q) ∙ r)
 
 module _ (x y : Float) (s t : Bool) (a b c : ℕ) (C : 0 < c) (h : HasValue x s a c) (k : HasValue y t b c) where
-  pub mul-of : mul binary32 x y ≡ round binary32 (unlike s t) (a * b) (c * c)
-  mul-of =
+  pub mul_of : mul binary32 x y ≡ round binary32 (unlike s t) (a * b) (c * c)
+  mul_of =
       let v = opened x s a c h in
       let w = opened y t b c k in
       let m = v.0 in
@@ -42,12 +42,12 @@ module _ (x y : Float) (s t : Bool) (a b c : ℕ) (C : 0 < c) (h : HasValue x s 
       let d = w.1 in
       ap (λ (z : Float). mul binary32 z y) v.2
       ∙ ap (λ (z : Float). mul binary32 (fin s m e) z) w.2
-      ∙ mul-fin s m e t n d
+      ∙ mul_fin s m e t n d
       ∙ round_same binary32 (unlike s t) (m * up e * (n * up d)) (down e * down d) (a * b) (c * c) (mul-pos (down_pos e) (down_pos d)) (mul-pos C C)
       (mul-mul-mul_comm (m * up e) (n * up d) c c ∙ ap (λ (z : ℕ). z * (n * up d * c)) v.3 ∙ ap (λ (z : ℕ). a * down e * z) w.3 ∙ mul-mul-mul_comm a (down e) b (down d))
 
-  pub div-of : 0 < b → div binary32 x y ≡ round binary32 (unlike s t) a b
-  div-of p =
+  pub div_of : 0 < b → div binary32 x y ≡ round binary32 (unlike s t) a b
+  div_of p =
       let v = opened x s a c h in
       let w = opened y t b c k in
       let m = v.0 in
@@ -59,5 +59,5 @@ module _ (x y : Float) (s t : Bool) (a b c : ℕ) (C : 0 < c) (h : HasValue x s 
       let nu : 0 < n * up d = first_pos (n * up d) c np in
       ap (λ (z : Float). div binary32 z y) v.2
       ∙ ap (λ (z : Float). div binary32 (fin s m e) z) w.2
-      ∙ div-fin s m e t n d nz
+      ∙ div_fin s m e t n d nz
       ∙ round_same binary32 (unlike s t) (m * up e * down d) (n * up d * down e) a b (mul-pos nu (down_pos e)) p (across (m * up e) (n * up d) a b c (down e) (down d) C v.3 w.3)

@@ -9,8 +9,8 @@ use lib.Count.{count_leading_zeros, leading_top}
 use Rattle.float.specs.Root.{Nearest, RootBits}
 use Rattle.float.proofs.Squares.{Closest}
 
-pub pow-lt-inv : {i j : ℕ} → 2 ^ i < 2 ^ j → i < j
-pow-lt-inv {i} {j} h = lt_of_not-le (λ (g : j ≤ i). not-le_of_lt h (pow_mono g))
+pub pow_lt_inv : {i j : ℕ} → 2 ^ i < 2 ^ j → i < j
+pow_lt_inv {i} {j} h = lt_of_not-le (λ (g : j ≤ i). not-le_of_lt h (pow_mono g))
 
 pub four : (k : ℕ) → 4 ^ k ≡ 2 ^ (k + k)
 four zero = refl
@@ -35,7 +35,7 @@ shifted m p h =
     let j = t.0 in
     let s = z - 8 in
     let e : z + suc j ≡ 32 = t.1 in
-    let j-lt : j < 24 = pow-lt-inv {j = 24} (lt_of_le_of_lt t.2 h) in
+    let j_lt : j < 24 = pow_lt_inv {j = 24} (lt_of_le_of_lt t.2 h) in
     let js : j + s ≡ 23 = omega arith in
     let js' : suc j + s ≡ 24 = omega arith in
     let lo : 2 ^ 23 ≤ m * 2 ^ s = le_trans (le_of_eq (ap (λ (i : ℕ). 2 ^ i) (sym js) ∙ pow-add 2 j s)) (mul-le-mul_right (2 ^ s) t.2) in

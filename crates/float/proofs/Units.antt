@@ -11,7 +11,7 @@ use lib.Ieee.Fits.{down_pos, eq→eqb}
 use lib.Ieee.Exact.{HasValue, odd_sign}
 use lib.Ieee.Bits.{is_true, of_bits-to_bits}
 use lib.Ieee.Order.{le_of_values}
-use Rattle.float.specs.Numbers.{zero32, absOf}
+use Rattle.float.specs.Numbers.{zero32, abs_of}
 use Rattle.float.specs.Ranges.{finite?}
 use Rattle.float.proofs.Patterns.{read, normal, subnormal}
 
@@ -24,8 +24,8 @@ pub record Units (x : Float) : Type 0 where
   pub place : j ≤ 253
   pub value : HasValue x sign (q * 2 ^ j) (2 ^ 149)
 
-by-odd : (s : Bool) (q j : ℕ) → q < 2 ^ 24 → j ≤ 253 → Units (odd 24 s q j 149)
-by-odd s q j h l = record { sign = s; q = q; j = j; small = h; place = l; value = odd_sign 24 s q j 149 }
+by_odd : (s : Bool) (q j : ℕ) → q < 2 ^ 24 → j ≤ 253 → Units (odd 24 s q j 149)
+by_odd s q j h l = record { sign = s; q = q; j = j; small = h; place = l; value = odd_sign 24 s q j 149 }
 
 topmost : (s : Bool) (t : ℕ) → finite? (of_fields binary32 s 255 t) ≡ false
 unfolding of_fields finite?
@@ -35,20 +35,20 @@ topmost s t = go (eqb t 0)
     go true = refl
     go false = refl
 
-by-fields : (s : Bool) (f t : ℕ) → f ≤ 255 → t < 2 ^ 23 → finite? (of_fields binary32 s f t) ≡ true → Units (of_fields binary32 s f t)
-by-fields s zero t h l y = subst (λ (x : Float). Units x) (sym (subnormal s t)) (by-odd s t 0 (omega arith) (omega arith))
-by-fields s (suc f) t h l y = go (eq-or-lt_of_le h)
+by_fields : (s : Bool) (f t : ℕ) → f ≤ 255 → t < 2 ^ 23 → finite? (of_fields binary32 s f t) ≡ true → Units (of_fields binary32 s f t)
+by_fields s zero t h l y = subst (λ (x : Float). Units x) (sym (subnormal s t)) (by_odd s t 0 (omega arith) (omega arith))
+by_fields s (suc f) t h l y = go (eq-or-lt_of_le h)
   where
     go : (suc f ≡ 255) ⊎ (suc f < 255) → Units (of_fields binary32 s (suc f) t)
     go (inl e) = absurd (true≢false (sym y ∙ ap (λ (z : ℕ). finite? (of_fields binary32 s z t)) e ∙ topmost s t))
-    go (inr g) = subst (λ (x : Float). Units x) (sym (normal s f t (omega arith))) (by-odd s (2 ^ 23 + t) f (omega arith) (omega arith))
+    go (inr g) = subst (λ (x : Float). Units x) (sym (normal s f t (omega arith))) (by_odd s (2 ^ 23 + t) f (omega arith) (omega arith))
 
 pub units_of : (x : Float) → T (fits binary32 x) → finite? x ≡ true → Units x
 units_of x h y =
     let b = to_bits binary32 x in
     let e : of_fields binary32 (leb (2 ^ 31) b) (b % 2 ^ 31 / 2 ^ 23) (b % 2 ^ 23) ≡ x = sym (read b (leb (2 ^ 31) b) (b % 2 ^ 31 / 2 ^ 23) (b % 2 ^ 23) refl refl refl) ∙ of_bits-to_bits binary32 x h in
     subst (λ (z : Float). Units z) e
-    (by-fields (leb (2 ^ 31) b) (b % 2 ^ 31 / 2 ^ 23) (b % 2 ^ 23) (omega arith) (omega arith) (ap finite? e ∙ y))
+    (by_fields (leb (2 ^ 31) b) (b % 2 ^ 31 / 2 ^ 23) (b % 2 ^ 23) (omega arith) (omega arith) (ap finite? e ∙ y))
 
 -- ---- what a value tells
 
@@ -59,21 +59,21 @@ agree true false f g = absurd (f tt)
 agree false true f g = absurd (g tt)
 agree false false f g = refl
 
-pub abs-value : (x : Float) (s : Bool) (a c : ℕ) → HasValue x s a c → HasValue (absOf x) false a c
-unfolding absOf
-abs-value nan s a c h = absurd h
-abs-value (inf t) s a c h = absurd h
-abs-value (fin t m e) s a c h = (refl, h.1)
+pub abs_value : (x : Float) (s : Bool) (a c : ℕ) → HasValue x s a c → HasValue (abs_of x) false a c
+unfolding abs_of
+abs_value nan s a c h = absurd h
+abs_value (inf t) s a c h = absurd h
+abs_value (fin t m e) s a c h = (refl, h.1)
 
-pub value-finite : (x : Float) (s : Bool) (a c : ℕ) → HasValue x s a c → finite? x ≡ true
+pub value_finite : (x : Float) (s : Bool) (a c : ℕ) → HasValue x s a c → finite? x ≡ true
 unfolding finite?
-value-finite nan s a c h = absurd h
-value-finite (inf t) s a c h = absurd h
-value-finite (fin t m e) s a c h = refl
+value_finite nan s a c h = absurd h
+value_finite (inf t) s a c h = absurd h
+value_finite (fin t m e) s a c h = refl
 
-pub with-true : (a : Bool) → (a && true) ≡ a
-with-true true = refl
-with-true false = refl
+pub with_true : (a : Bool) → (a && true) ≡ a
+with_true true = refl
+with_true false = refl
 
 no_size : (x a c d : ℕ) → 0 < c → 0 < d → x * c ≡ a * d → eqb 0 (x * 1) ≡ eqb a 0
 no_size x a c d C D h =
@@ -84,16 +84,16 @@ no_size x a c d C D h =
     eq→eqb (sym (mul-one x ∙ e)))
 
 -- a value is at least 0 where it has no minus sign, or is a zero
-pub not-below : (x : Float) (s : Bool) (a c : ℕ) → 0 < c → HasValue x s a c → le zero32 x ≡ (not s || eqb a 0)
+pub not_below : (x : Float) (s : Bool) (a c : ℕ) → 0 < c → HasValue x s a c → le zero32 x ≡ (not s || eqb a 0)
 unfolding le
-not-below nan s a c C h = absurd h
-not-below (inf t) s a c C h = absurd h
-not-below (fin false m e) s a c C h =
+not_below nan s a c C h = absurd h
+not_below (inf t) s a c C h = absurd h
+not_below (fin false m e) s a c C h =
     is_true (le zero32 (fin false m e))
     (le_of_values zero32 (fin false m e) 0 1 (m * up e) (down e) (zero-lt-suc 0) (down_pos e) (refl, refl) (refl, refl) (le_trans (le_of_eq (zero-mul (down e))) zero-le))
     ∙ ap (λ (z : Bool). not z || eqb a 0) h.0
-not-below (fin true m e) s a c C h =
+not_below (fin true m e) s a c C h =
     ap (λ (z : ℕ). eqb z (m * up e * 1) && eqb z 0) (zero-mul (down e))
-    ∙ with-true (eqb 0 (m * up e * 1))
+    ∙ with_true (eqb 0 (m * up e * 1))
     ∙ no_size (m * up e) a c (down e) C (down_pos e) h.1
     ∙ ap (λ (z : Bool). not z || eqb a 0) h.0

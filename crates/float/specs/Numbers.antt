@@ -39,18 +39,18 @@ abbrev pub largest : Float
 largest = fin false 16777215 (pos 104)
 
 -- the size of x
-unfoldable pub absOf : Float → Float
-absOf nan = nan
-absOf (inf s) = inf false
-absOf (fin s m e) = fin false m e
+unfoldable pub abs_of : Float → Float
+abs_of nan = nan
+abs_of (inf s) = inf false
+abs_of (fin s m e) = fin false m e
 
 -- the larger of two
 unfoldable pub max_of : Float → Float → Float
 max_of x y = cond (lt x y) y x
 
 -- 0 from -1e-20 to 1e-20, else 1 divided by x
-unfoldable pub invOf : Float → Float
-invOf x = cond (le (neg tiny) x && le x tiny) zero32 (over one x)
+unfoldable pub inv_of : Float → Float
+inv_of x = cond (le (neg tiny) x && le x tiny) zero32 (over one x)
 
 -- (mass times weight) divided by total
 abbrev pub share_of : Float → Float → Float → Float

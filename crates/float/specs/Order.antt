@@ -18,8 +18,8 @@ by_sign true false = Less
 by_sign false true = Greater
 by_sign false false = Equal
 
-abbrev pub totalCmp : Float → Float → Order
-totalCmp a b =
+abbrev pub total_cmp_of : Float → Float → Order
+total_cmp_of a b =
     cond (is_nan a || is_nan b) Unordered
     (cond (lt a b) Less
     (cond (lt b a) Greater

@@ -36,8 +36,8 @@ pub record RootOfUnits (n : ℕ) (r : Float) : Type 0 where
   pub nearest : Nearest n q k
 
 -- m * 2 ^ e in units
-abbrev pub inUnits : ℕ → ℤ → ℕ
-inUnits m e = m * up e * 2 ^ 149 / down e
+abbrev pub in_units : ℕ → ℤ → ℕ
+in_units m e = m * up e * 2 ^ 149 / down e
 
 -- what `root` answers for x, whose sign is s (true: below zero) and whose size is n units
 abbrev pub RootAt : Bool → ℕ → Float → Rooted → Type 0
@@ -49,41 +49,41 @@ RootAt false (suc n) x a = (r : Float) × (a ≡ Value r) × RootOfUnits (suc n)
 abbrev pub RootOf : Float → Rooted → Type 0
 RootOf nan a = a ≡ Refused
 RootOf (inf s) a = a ≡ Refused
-RootOf (fin s m e) a = RootAt s (inUnits m e) (fin s m e) a
+RootOf (fin s m e) a = RootAt s (in_units m e) (fin s m e) a
 
 -- ---- the same as a function, which antt computes. That it is the root above is proved in `proofs/Computed.antt`
 
 -- the largest r with r * r ≤ n, for an n below 4 ^ d: its binary digits from the first to the last
-unfoldable pub floorRoot : ℕ → ℕ → ℕ
-floorRoot zero n = 0
-floorRoot (suc d) n = let r = 2 * floorRoot d (n / 4) in cond (leb ((r + 1) * (r + 1)) n) (r + 1) r
+unfoldable pub floor_root : ℕ → ℕ → ℕ
+floor_root zero n = 0
+floor_root (suc d) n = let r = 2 * floor_root d (n / 4) in cond (leb ((r + 1) * (r + 1)) n) (r + 1) r
 
 -- the whole number nearest to the root of n, from the root's whole part r
-abbrev pub nearestRoot : ℕ → ℕ → ℕ
-nearestRoot n r = cond (ltb (r * r + r) n) (r + 1) r
+abbrev pub nearest_root : ℕ → ℕ → ℕ
+nearest_root n r = cond (ltb (r * r + r) n) (r + 1) r
 
 -- the place of the last of 24 digits of the root of n units
 abbrev pub place_of : ℕ → ℕ
 place_of n = (bits (n * 2 ^ 149) - 47) / 2
 
-unfoldable pub rootUnits : ℕ → Float
-unfolding bits floorRoot round
-rootUnits n =
+unfoldable pub root_units : ℕ → Float
+unfolding bits floor_root round
+root_units n =
     let k = place_of n in
     let N = n * 2 ^ 149 / 4 ^ k in
-    round binary32 false (nearestRoot N (floorRoot 24 N) * 2 ^ k) (2 ^ 149)
+    round binary32 false (nearest_root N (floor_root 24 N) * 2 ^ k) (2 ^ 149)
 
-abbrev pub rootAt : Bool → ℕ → Float → Rooted
-rootAt s zero x = Value x
-rootAt true (suc n) x = Refused
-rootAt false (suc n) x = Value (rootUnits (suc n))
+abbrev pub root_at : Bool → ℕ → Float → Rooted
+root_at s zero x = Value x
+root_at true (suc n) x = Refused
+root_at false (suc n) x = Value (root_units (suc n))
 
-abbrev pub rootOf : Float → Rooted
-rootOf nan = Refused
-rootOf (inf s) = Refused
-rootOf (fin s m e) = rootAt s (inUnits m e) (fin s m e)
+abbrev pub root_of : Float → Rooted
+root_of nan = Refused
+root_of (inf s) = Refused
+root_of (fin s m e) = root_at s (in_units m e) (fin s m e)
 
 -- the refusal number of an answer (docs/RULES.md, R3.10): 0 for a root, 4 where there is none
-abbrev pub rootRefusal : Rooted → ℕ
-rootRefusal (Value r) = 0
-rootRefusal Refused = 4
+abbrev pub root_refusal : Rooted → ℕ
+root_refusal (Value r) = 0
+root_refusal Refused = 4

@@ -1,10 +1,10 @@
 // The inverse of a mass.
 ghost use Rattle.std.specs.Prelude.{◌≡◌};
-ghost use Rattle.float.specs.Numbers.{invOf};
+ghost use Rattle.float.specs.Numbers.{inv_of};
 
 // 0 from -1e-20 to 1e-20, else 1 divided by x.
 pub fn inv(x: f32) -> f32
-    ensures { result ≡ invOf x }
+    ensures { result ≡ inv_of x }
 {
     if x >= -1e-20 {
         if x <= 1e-20 {

@@ -1,7 +1,7 @@
 // The total order of IEEE 754 on f32.
 ghost use Rattle.std.specs.Prelude.{◌≡◌, not, T};
 ghost use Rattle.std.specs.Float.Ieee.{is_nan};
-ghost use Rattle.float.specs.Order.{sign_of, totalCmp};
+ghost use Rattle.float.specs.Order.{sign_of, total_cmp_of};
 
 #[derive(Clone, Copy)]
 pub enum Order {
@@ -19,7 +19,7 @@ fn negative(x: f32) -> bool
 }
 
 pub fn total_cmp(a: f32, b: f32) -> Order
-    ensures { result ≡ totalCmp a b }
+    ensures { result ≡ total_cmp_of a b }
 {
     if a != a || b != b {
         return Order::Unordered;

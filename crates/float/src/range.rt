@@ -1,6 +1,6 @@
 // The ranges (docs/RULES.md, R2.10) of the numbers of a mesh.
 ghost use Rattle.std.specs.Prelude.{◌≡◌};
-ghost use Rattle.float.specs.Ranges.{finite?, number?, volume?, notBelow0?};
+ghost use Rattle.float.specs.Ranges.{finite?, number?, volume?, not_below0?};
 
 // Neither a NaN nor an infinity.
 pub fn finite(x: f32) -> bool
@@ -37,7 +37,7 @@ pub fn volume_in_range(x: f32) -> bool
 
 // At least 0, minus zero included.
 pub fn not_below_zero(x: f32) -> bool
-    ensures { result ≡ notBelow0? x }
+    ensures { result ≡ not_below0? x }
 {
     x >= 0.0
 }

@@ -1,6 +1,6 @@
 // The square root of an f32, correctly rounded, worked out with integers.
 ghost use Rattle.std.specs.Prelude.{◌≡◌, ℕ, ◌+◌, ◌-◌, ◌*◌, ◌^◌, ◌≤◌, ◌<◌};
-ghost use Rattle.float.specs.Root.{RootBits, RootOf, rootOf};
+ghost use Rattle.float.specs.Root.{RootBits, RootOf, root_of};
 
 #[derive(Clone, Copy)]
 pub enum Rooted {
@@ -55,7 +55,7 @@ fn root_bits(m: u32, x: u32) -> u32
 
 // The IEEE 754 square root of x, rounded to the nearest f32, for a finite x that is not below zero.
 pub fn root(x: f32) -> Rooted
-    ensures { (result ≡ rootOf x) × RootOf x result }
+    ensures { (result ≡ root_of x) × RootOf x result }
 {
     if x != x {
         return Rooted::Refused;

@@ -5,8 +5,8 @@ pub mod small;
 
 ghost use Rattle.std.specs.Prelude.{◌≡◌, ◌+◌, ◌*◌, ◌%◌, ◌≤◌, ◌<◌, length, take, ltb};
 ghost use Rattle.lists.specs.Lists.{pick};
-ghost use Rattle.image.specs.Words.{wordAt, number_of, wordsFrom, numbersFrom};
-ghost use Rattle.image.specs.Image.{imageFits, countsWithin, imageSized};
+ghost use Rattle.image.specs.Words.{word_at_of, number_of, words_from, numbers_from};
+ghost use Rattle.image.specs.Image.{image_fits_of, counts_within_of, image_sized_of};
 ghost use Rattle.image.specs.Loads.{Loadable, Loaded};
 
 use mesh::Counts;
@@ -21,7 +21,7 @@ fn wide(x: u8) -> usize
 // Word i of the bytes.
 pub fn word_at(bytes: &[u8], i: usize) -> usize
     requires { 4 * i + 4 ≤ length bytes.now }
-    ensures { (result ≡ wordAt bytes.now i) × (result < 4294967296) }
+    ensures { (result ≡ word_at_of bytes.now i) × (result < 4294967296) }
 {
     let at = 4 * i;
     let a = wide(bytes[at]);
@@ -52,7 +52,7 @@ pub fn number_of(word: usize) -> f32
 // Writes n words, from word `at` on, to the front of out.
 pub fn words_into(bytes: &[u8], at: usize, n: usize, out: &mut [usize])
     requires { (4 * (at + n) ≤ length bytes.now) × (n ≤ length out.old) }
-    ensures { take n out.new ≡ wordsFrom bytes.now at n }
+    ensures { take n out.new ≡ words_from bytes.now at n }
 {
     let mut i: usize = 0;
     while i < n {
@@ -64,7 +64,7 @@ pub fn words_into(bytes: &[u8], at: usize, n: usize, out: &mut [usize])
 // Writes n numbers, from word `at` on, to the front of out.
 pub fn numbers_into(bytes: &[u8], at: usize, n: usize, out: &mut [f32])
     requires { (4 * (at + n) ≤ length bytes.now) × (n ≤ length out.old) }
-    ensures { take n out.new ≡ numbersFrom bytes.now at n }
+    ensures { take n out.new ≡ numbers_from bytes.now at n }
 {
     let mut i: usize = 0;
     while i < n {
@@ -75,7 +75,7 @@ pub fn numbers_into(bytes: &[u8], at: usize, n: usize, out: &mut [f32])
 
 // The bytes are as many as the four counts say.
 pub fn image_fits(image: &[u8]) -> bool
-    ensures { result ≡ imageFits image.now }
+    ensures { result ≡ image_fits_of image.now }
 {
     if image.len() < 16 {
         return false;
@@ -90,7 +90,7 @@ pub fn image_fits(image: &[u8]) -> bool
 // The counts are within the limits.
 pub fn counts_within(image: &[u8]) -> bool
     requires { 16 ≤ length image.now }
-    ensures { result ≡ countsWithin image.now }
+    ensures { result ≡ counts_within_of image.now }
 {
     let p = word_at(image, 0);
     let t = word_at(image, 1);
@@ -103,7 +103,7 @@ pub fn counts_within(image: &[u8]) -> bool
 
 // The image has the sizes of a mesh.
 pub fn image_sized(image: &[u8]) -> bool
-    ensures { result ≡ imageSized image.now }
+    ensures { result ≡ image_sized_of image.now }
 {
     if image_fits(image) {
         return counts_within(image);

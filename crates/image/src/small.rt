@@ -1,6 +1,6 @@
 // Small and middling images: local blocks for them are a sixteenth and a quarter of those for the most that a mesh may have, and are cleared as much sooner.
 ghost use Rattle.std.specs.Prelude.{◌≡◌, ◌≤◌, length};
-ghost use Rattle.image.specs.Small.{countsIn, smallImage, middlingImage};
+ghost use Rattle.image.specs.Small.{counts_in, small_image, middling_image};
 
 // The most particles of a small image.
 pub const PARTICLES: usize = 64;
@@ -38,7 +38,7 @@ pub fn within(
     boundary: usize,
 ) -> bool
     requires { 16 ≤ length bytes.now }
-    ensures { result ≡ countsIn particles triangles edges boundary bytes.now }
+    ensures { result ≡ counts_in particles triangles edges boundary bytes.now }
 {
     let p = crate::word_at(bytes, 0);
     let t = crate::word_at(bytes, 1);
@@ -52,7 +52,7 @@ pub fn within(
 // The counts of an image are those of a small one.
 pub fn is_small(bytes: &[u8]) -> bool
     requires { 16 ≤ length bytes.now }
-    ensures { result ≡ smallImage bytes.now }
+    ensures { result ≡ small_image bytes.now }
 {
     within(bytes, PARTICLES, TRIANGLES, EDGES, BOUNDARY)
 }
@@ -60,7 +60,7 @@ pub fn is_small(bytes: &[u8]) -> bool
 // The counts of an image are those of a middling one, or of a small one.
 pub fn is_middling(bytes: &[u8]) -> bool
     requires { 16 ≤ length bytes.now }
-    ensures { result ≡ middlingImage bytes.now }
+    ensures { result ≡ middling_image bytes.now }
 {
     within(
         bytes,

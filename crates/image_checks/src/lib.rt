@@ -7,17 +7,17 @@ mod rows;
 mod runs;
 
 ghost use Rattle.std.specs.Prelude.{◌≡◌, true};
-ghost use Rattle.model.specs.Valid.{numbersFit, indicesFit};
-ghost use Rattle.mesh.specs.Given.{meshOf};
-ghost use Rattle.judge.specs.Checks.{faultIn};
-ghost use Rattle.image.specs.Image.{image_of, imageSized};
+ghost use Rattle.model.specs.Valid.{numbers_fit_of, indices_fit_of};
+ghost use Rattle.mesh.specs.Given.{mesh_of};
+ghost use Rattle.judge.specs.Checks.{fault_in};
+ghost use Rattle.image.specs.Image.{image_of, image_sized_of};
 
 use judge::tests;
 
 // The numbers and flags of the mesh that an image is.
 fn numbers_fit(bytes: &[u8]) -> bool
-    requires { imageSized bytes.now ≡ true }
-    ensures { result ≡ numbersFit (meshOf (image_of bytes.now)) }
+    requires { image_sized_of bytes.now ≡ true }
+    ensures { result ≡ numbers_fit_of (mesh_of (image_of bytes.now)) }
 {
     let p = image::word_at(bytes, 0);
     let t = image::word_at(bytes, 1);
@@ -30,8 +30,8 @@ fn numbers_fit(bytes: &[u8]) -> bool
 
 // Its indices and roots.
 fn indices_fit(bytes: &[u8]) -> bool
-    requires { imageSized bytes.now ≡ true }
-    ensures { result ≡ indicesFit (meshOf (image_of bytes.now)) }
+    requires { image_sized_of bytes.now ≡ true }
+    ensures { result ≡ indices_fit_of (mesh_of (image_of bytes.now)) }
 {
     let p = image::word_at(bytes, 0);
     let t = image::word_at(bytes, 1);
@@ -47,8 +47,8 @@ fn indices_fit(bytes: &[u8]) -> bool
 
 // The refusals 2 and 3 of the mesh that an image is, 0 for none.
 pub fn image_fault(bytes: &[u8]) -> usize
-    requires { imageSized bytes.now ≡ true }
-    ensures { result ≡ faultIn (meshOf (image_of bytes.now)) }
+    requires { image_sized_of bytes.now ≡ true }
+    ensures { result ≡ fault_in (mesh_of (image_of bytes.now)) }
 {
     let code = tests::first(0, numbers_fit(bytes), 2);
     if code != 0 {

@@ -1,21 +1,21 @@
 // The tests of the rows of an image's lists, by its runs of words.
 ghost use Rattle.std.specs.Prelude.{◌≡◌, [], ◌∷◌, ℕ, ◌+◌, ◌*◌, ◌≤◌, length};
 ghost use Rattle.lists.specs.Lists.{all};
-ghost use Rattle.model.specs.Valid.{particleOk, edgeOk};
-ghost use Rattle.mesh.specs.At.{particlesAt, edges_at};
-ghost use Rattle.mesh.specs.Widths.{pointColumns, particleWords};
+ghost use Rattle.model.specs.Valid.{particle_ok, edge_ok};
+ghost use Rattle.mesh.specs.At.{particles_at, edges_at};
+ghost use Rattle.mesh.specs.Widths.{point_columns, particle_words};
 ghost use Rattle.judge.specs.Told.{VolumesTold};
-ghost use Rattle.image.specs.Words.{wordsFrom, numbersFrom};
-ghost use Rattle.image_checks.specs.Runs.{pairsOk, threesOk};
+ghost use Rattle.image.specs.Words.{words_from, numbers_from};
+ghost use Rattle.image_checks.specs.Runs.{pairs_ok, threes_ok};
 
 use crate::{places, runs};
 use judge::{faults, tests};
 
 // The numbers of n particles. (The fifth number is the mass, the sixth the inverse mass.)
 pub fn particles_fit(bytes: &[u8], n: usize) -> bool
-    requires { 4 * (4 + particleWords * n) ≤ length bytes.now }
+    requires { 4 * (4 + particle_words * n) ≤ length bytes.now }
     ensures { let s = bytes.now in
-        result ≡ all particleOk (particlesAt n (numbersFrom s 4 (pointColumns * n)) (wordsFrom s (4 + pointColumns * n) (2 * n))) }
+        result ≡ all particle_ok (particles_at n (numbers_from s 4 (point_columns * n)) (words_from s (4 + point_columns * n) (2 * n))) }
 {
     let z = runs::in_range(bytes, 4, 5 * n);
     let z = tests::both(z, runs::finite(bytes, 4 + 5 * n, n));
@@ -26,7 +26,7 @@ pub fn particles_fit(bytes: &[u8], n: usize) -> bool
 // The numbers of n triangles, whose volumes stand from word `at` on, whatever their corners.
 pub fn triangles_fit(bytes: &[u8], at: usize, n: usize) -> bool
     requires { 4 * (at + 2 * n) ≤ length bytes.now }
-    ensures { VolumesTold n (numbersFrom bytes.now at (2 * n)) result }
+    ensures { VolumesTold n (numbers_from bytes.now at (2 * n)) result }
 {
     let z = runs::volumes(bytes, at, n);
     tests::both(z, runs::in_range(bytes, at + n, n))
@@ -36,7 +36,7 @@ pub fn triangles_fit(bytes: &[u8], at: usize, n: usize) -> bool
 pub fn edges_fit(bytes: &[u8], at: usize, n: usize) -> bool
     requires { 4 * (at + 8 * n) ≤ length bytes.now }
     ensures { let s = bytes.now in
-        result ≡ all edgeOk (edges_at n (wordsFrom s at (4 * n)) (numbersFrom s (at + 4 * n) (4 * n))) }
+        result ≡ all edge_ok (edges_at n (words_from s at (4 * n)) (numbers_from s (at + 4 * n) (4 * n))) }
 {
     let z = runs::flags(bytes, at + 2 * n, 2 * n);
     let z = tests::both(z, runs::lengths(bytes, at + 4 * n, 2 * n));
@@ -46,7 +46,7 @@ pub fn edges_fit(bytes: &[u8], at: usize, n: usize) -> bool
 // The corners of t triangles, which stand from word `at` on, among n particles.
 pub fn corners_fit(bytes: &[u8], at: usize, n: usize, t: usize) -> bool
     requires { (4 * (at + 3 * t) ≤ length bytes.now) × (n ≤ 9223372036854775808) }
-    ensures { result ≡ threesOk n bytes.now at t }
+    ensures { result ≡ threes_ok n bytes.now at t }
 {
     let second = at + t;
     let third = second + t;
@@ -66,7 +66,7 @@ pub fn corners_fit(bytes: &[u8], at: usize, n: usize, t: usize) -> bool
 // The two ends in each of t rows, which stand from word `at` on, among n particles.
 pub fn pairs_fit(bytes: &[u8], at: usize, n: usize, t: usize) -> bool
     requires { (4 * (at + 2 * t) ≤ length bytes.now) × (n ≤ 9223372036854775808) }
-    ensures { result ≡ pairsOk n bytes.now at t }
+    ensures { result ≡ pairs_ok n bytes.now at t }
 {
     let second = at + t;
     let room = faults::LIMIT - n;

@@ -3,7 +3,7 @@ ghost use Rattle.std.specs.Prelude.{◌≡◌, ℕ, ◌+◌, ◌*◌, ◌≤◌,
 ghost use Rattle.float.specs.Ranges.{finite?, number?, volume?};
 ghost use Rattle.model.specs.Valid.{flag?};
 ghost use Rattle.judge.specs.Told.{length?};
-ghost use Rattle.image_checks.specs.Runs.{wordsOk, numbersOk};
+ghost use Rattle.image_checks.specs.Runs.{words_ok, numbers_ok};
 
 use crate::places;
 use judge::{faults, tests};
@@ -11,7 +11,7 @@ use judge::{faults, tests};
 // The n numbers from word `at` on are in range.
 pub fn in_range(bytes: &[u8], at: usize, n: usize) -> bool
     requires { 4 * (at + n) ≤ length bytes.now }
-    ensures { result ≡ numbersOk number? bytes.now at n }
+    ensures { result ≡ numbers_ok number? bytes.now at n }
 {
     let mut ok = true;
     let mut i: usize = 0;
@@ -26,7 +26,7 @@ pub fn in_range(bytes: &[u8], at: usize, n: usize) -> bool
 // The n numbers from word `at` on are finite.
 pub fn finite(bytes: &[u8], at: usize, n: usize) -> bool
     requires { 4 * (at + n) ≤ length bytes.now }
-    ensures { result ≡ numbersOk finite? bytes.now at n }
+    ensures { result ≡ numbers_ok finite? bytes.now at n }
 {
     let mut ok = true;
     let mut i: usize = 0;
@@ -41,7 +41,7 @@ pub fn finite(bytes: &[u8], at: usize, n: usize) -> bool
 // The n numbers from word `at` on are in the range of a rest volume.
 pub fn volumes(bytes: &[u8], at: usize, n: usize) -> bool
     requires { 4 * (at + n) ≤ length bytes.now }
-    ensures { result ≡ numbersOk volume? bytes.now at n }
+    ensures { result ≡ numbers_ok volume? bytes.now at n }
 {
     let mut ok = true;
     let mut i: usize = 0;
@@ -56,7 +56,7 @@ pub fn volumes(bytes: &[u8], at: usize, n: usize) -> bool
 // The n numbers from word `at` on are in the range of a rest length.
 pub fn lengths(bytes: &[u8], at: usize, n: usize) -> bool
     requires { 4 * (at + n) ≤ length bytes.now }
-    ensures { result ≡ numbersOk length? bytes.now at n }
+    ensures { result ≡ numbers_ok length? bytes.now at n }
 {
     let mut ok = true;
     let mut i: usize = 0;
@@ -71,7 +71,7 @@ pub fn lengths(bytes: &[u8], at: usize, n: usize) -> bool
 // The n words from word `at` on are flags: so is the word of all their bits.
 pub fn flags(bytes: &[u8], at: usize, n: usize) -> bool
     requires { 4 * (at + n) ≤ length bytes.now }
-    ensures { result ≡ wordsOk flag? bytes.now at n }
+    ensures { result ≡ words_ok flag? bytes.now at n }
 {
     let mut bits: usize = 0;
     let mut i: usize = 0;
@@ -85,7 +85,7 @@ pub fn flags(bytes: &[u8], at: usize, n: usize) -> bool
 // The n words from word `at` on are below a bound.
 pub fn below(bytes: &[u8], at: usize, bound: usize, n: usize) -> bool
     requires { (4 * (at + n) ≤ length bytes.now) × (bound ≤ 9223372036854775808) }
-    ensures { result ≡ wordsOk (λ (w : ℕ). ltb w bound) bytes.now at n }
+    ensures { result ≡ words_ok (λ (w : ℕ). ltb w bound) bytes.now at n }
 {
     let room = faults::LIMIT - bound;
     let mut fault: usize = 0;

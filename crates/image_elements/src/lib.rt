@@ -2,14 +2,14 @@
 #![tactic(auto)]
 
 ghost use Rattle.std.specs.Prelude.{◌≡◌, true, ◌+◌, ◌*◌, ◌≤◌, length};
-ghost use Rattle.model.specs.Valid.{indicesFit};
-ghost use Rattle.model.specs.Elements.{trianglesFrom, strapsFrom};
-ghost use Rattle.mesh.specs.At.{trianglesAt, edges_at};
-ghost use Rattle.mesh.specs.Given.{meshOf};
+ghost use Rattle.model.specs.Valid.{indices_fit_of};
+ghost use Rattle.model.specs.Elements.{triangles_from, straps_from};
+ghost use Rattle.mesh.specs.At.{triangles_at, edges_at};
+ghost use Rattle.mesh.specs.Given.{mesh_of};
 ghost use Rattle.elements.specs.Table.{Tabled};
 ghost use Rattle.mesh_tables.specs.Accepted.{MeshTabled};
-ghost use Rattle.image.specs.Words.{wordAt, number_of, wordsFrom, numbersFrom};
-ghost use Rattle.image.specs.Image.{image_of, imageSized};
+ghost use Rattle.image.specs.Words.{word_at_of, number_of, words_from, numbers_from};
+ghost use Rattle.image.specs.Image.{image_of, image_sized_of};
 ghost use Rattle.image_elements.specs.Room.{ElementsRoom, RowsRoom};
 
 use mesh_tables::tables::Shape;
@@ -17,7 +17,7 @@ use mesh_tables::tables::Shape;
 // The number of word i, as `image::load` reads it.
 fn number_at(bytes: &[u8], i: usize) -> f32
     requires { 4 * i + 4 ≤ length bytes.now }
-    ensures { result ≡ number_of (wordAt bytes.now i) }
+    ensures { result ≡ number_of (word_at_of bytes.now i) }
 {
     image::number_of(image::word_at(bytes, i))
 }
@@ -32,7 +32,7 @@ fn triangle_rows(
     measures: &mut [f32],
 )
     requires { RowsRoom 3 5 at t (length bytes.now) (length numbers.old) (length verts.old) (length measures.old) }
-    ensures { Tabled 3 (trianglesFrom 0 (trianglesAt t (wordsFrom bytes.now at (3 * t)) (numbersFrom bytes.now
+    ensures { Tabled 3 (triangles_from 0 (triangles_at t (words_from bytes.now at (3 * t)) (numbers_from bytes.now
         (at + 3 * t) (2 * t)))) t numbers.new verts.new measures.new }
 {
     let mut i: usize = 0;
@@ -59,7 +59,7 @@ fn strap_rows(
     measures: &mut [f32],
 ) -> usize
     requires { RowsRoom 2 8 at e (length bytes.now) (length numbers.old) (length verts.old) (length measures.old) }
-    ensures { Tabled 2 (strapsFrom 0 (edges_at e (wordsFrom bytes.now at (4 * e)) (numbersFrom bytes.now
+    ensures { Tabled 2 (straps_from 0 (edges_at e (words_from bytes.now at (4 * e)) (numbers_from bytes.now
         (at + 4 * e) (4 * e)))) result numbers.new verts.new measures.new }
 {
     let mut i: usize = 0;
@@ -86,7 +86,7 @@ pub fn image_table(
     verts: &mut [usize],
     measures: &mut [f32],
 ) -> Shape
-    requires { (imageSized bytes.now ≡ true) × (indicesFit (meshOf (image_of bytes.now)) ≡ true)
+    requires { (image_sized_of bytes.now ≡ true) × (indices_fit_of (mesh_of (image_of bytes.now)) ≡ true)
         × ElementsRoom bytes.now (length numbers.old) (length verts.old) (length measures.old) }
     ensures { MeshTabled (image_of bytes.now) result.n result.k result.others numbers.new verts.new
         measures.new }

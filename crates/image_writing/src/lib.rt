@@ -5,9 +5,9 @@ ghost use Rattle.std.specs.Prelude.{◌≡◌, ◌+◌, ◌*◌, ◌/◌, ◌%�
 ghost use Rattle.std.specs.Float.{binary32};
 ghost use Rattle.std.specs.Float.Ieee.{to_bits};
 ghost use Rattle.lists.specs.Lists.{padded};
-ghost use Rattle.lists.specs.LeftOut.{leftOut};
-ghost use Rattle.image.specs.Words.{written, putWord, putWords, bitsIn};
-ghost use Rattle.image_writing.specs.Stores.{leftFronts, ColumnPlaced, Placed, blockWords, leftWords, Storable, StorableWithout};
+ghost use Rattle.lists.specs.LeftOut.{left_out};
+ghost use Rattle.image.specs.Words.{written, put_word_of, put_words, bits_in_of};
+ghost use Rattle.image_writing.specs.Stores.{left_fronts, ColumnPlaced, Placed, block_words, left_words, Storable, StorableWithout};
 
 use mesh::Counts;
 
@@ -44,7 +44,7 @@ fn low(w: usize) -> u8
 // Writes the four bytes of w as word i.
 pub fn put_word(out: &mut [u8], i: usize, w: usize)
     requires { 4 * i + 4 ≤ length out.old }
-    ensures { out.new ≡ putWord out.old i w }
+    ensures { out.new ≡ put_word_of out.old i w }
 {
     let at = 4 * i;
     out[at] = low(w);
@@ -97,7 +97,7 @@ pub fn bits_of(x: f32) -> usize
 // Writes words from word `at` on.
 pub fn store_words(words: &[usize], at: usize, out: &mut [u8])
     requires { 4 * (at + length words.now) ≤ length out.old }
-    ensures { out.new ≡ putWords out.old at words.now }
+    ensures { out.new ≡ put_words out.old at words.now }
 {
     let mut i: usize = 0;
     while i < words.len() {
@@ -109,7 +109,7 @@ pub fn store_words(words: &[usize], at: usize, out: &mut [u8])
 // Writes the bits of numbers from word `at` on.
 pub fn store_numbers(numbers: &[f32], at: usize, out: &mut [u8])
     requires { 4 * (at + length numbers.now) ≤ length out.old }
-    ensures { out.new ≡ putWords out.old at (bitsIn numbers.now) }
+    ensures { out.new ≡ put_words out.old at (bits_in_of numbers.now) }
 {
     let mut i: usize = 0;
     while i < numbers.len() {
@@ -121,7 +121,7 @@ pub fn store_numbers(numbers: &[f32], at: usize, out: &mut [u8])
 // Writes a column of words from word `at` on, without the first s listed places: a run between each two of them.
 fn store_words_left(column: &[usize], s: usize, gone: &[usize], at: usize, out: &mut [u8])
     requires { ColumnPlaced (length column.now) s gone.now at (length out.old) }
-    ensures { out.new ≡ putWords out.old at (leftOut (take s gone.now) column.now) }
+    ensures { out.new ≡ put_words out.old at (left_out (take s gone.now) column.now) }
 {
     let mut from: usize = 0;
     let mut to: usize = at;
@@ -148,8 +148,8 @@ fn store_words_block(
     out: &mut [u8],
 )
     requires { Placed width n s gone.now at (length block.now) (length out.old) }
-    ensures { out.new ≡ putWords out.old at
-        (leftFronts width n (length block.now / width) (take s gone.now) block.now) }
+    ensures { out.new ≡ put_words out.old at
+        (left_fronts width n (length block.now / width) (take s gone.now) block.now) }
 {
     let stride = block.len() / width;
     let mut c: usize = 0;
@@ -167,8 +167,8 @@ fn store_words_block(
 // Writes a column of numbers from word `at` on, without the first s listed places: a run between each two of them.
 fn store_numbers_left(column: &[f32], s: usize, gone: &[usize], at: usize, out: &mut [u8])
     requires { ColumnPlaced (length column.now) s gone.now at (length out.old) }
-    ensures { out.new ≡ putWords out.old at
-        (bitsIn (leftOut (take s gone.now) column.now)) }
+    ensures { out.new ≡ put_words out.old at
+        (bits_in_of (left_out (take s gone.now) column.now)) }
 {
     let mut from: usize = 0;
     let mut to: usize = at;
@@ -195,8 +195,8 @@ fn store_numbers_block(
     out: &mut [u8],
 )
     requires { Placed width n s gone.now at (length block.now) (length out.old) }
-    ensures { out.new ≡ putWords out.old at
-        (bitsIn (leftFronts width n (length block.now / width) (take s gone.now) block.now)) }
+    ensures { out.new ≡ put_words out.old at
+        (bits_in_of (left_fronts width n (length block.now / width) (take s gone.now) block.now)) }
 {
     let stride = block.len() / width;
     let mut c: usize = 0;
@@ -214,7 +214,7 @@ fn store_numbers_block(
 // Writes four words from word `at` on.
 pub fn store_four(at: usize, a: usize, b: usize, c: usize, d: usize, out: &mut [u8])
     requires { 4 * (at + 4) ≤ length out.old }
-    ensures { out.new ≡ putWords out.old at (a ∷ b ∷ c ∷ d ∷ []) }
+    ensures { out.new ≡ put_words out.old at (a ∷ b ∷ c ∷ d ∷ []) }
 {
     put_word(out, at, a);
     put_word(out, at + 1, b);
@@ -239,7 +239,7 @@ pub fn store_without(
 )
     requires { StorableWithout k s gone.now (length points.now) (length roots.now) (length corners.now) (length volumes.now)
         (length ends.now) (length lengths.now) (length outline.now) at (length out.old) }
-    ensures { out.new ≡ putWords out.old at (leftWords k (take s gone.now) points.now
+    ensures { out.new ≡ put_words out.old at (left_words k (take s gone.now) points.now
         roots.now corners.now volumes.now ends.now lengths.now
         outline.now) }
 {
@@ -277,7 +277,7 @@ pub fn store(
 )
     requires { Storable k (length points.now) (length roots.now) (length corners.now) (length volumes.now) (length ends.now)
         (length lengths.now) (length outline.now) at (length out.old) }
-    ensures { out.new ≡ putWords out.old at (blockWords k points.now roots.now
+    ensures { out.new ≡ put_words out.old at (block_words k points.now roots.now
         corners.now volumes.now ends.now lengths.now outline.now) }
 {
     let none: [usize; 1] = [0];

@@ -5,27 +5,27 @@ use Rattle.links.specs.Linked.{EdgesLinked}
 use Rattle.work.specs.declared.Ran.{Ran}
 use Rattle.work.specs.declared.Ran.TheVariants.{Refused, Done}
 use Rattle.insert.specs.declared.plan.Plan.{Plan}
-use Rattle.mesh.specs.Widths.{endColumns, lengthColumns}
-use Rattle.mesh.specs.Limits.{particleLimit, edgeLimit}
+use Rattle.mesh.specs.Widths.{end_columns, length_columns}
+use Rattle.mesh.specs.Limits.{particle_limit, edge_limit}
 
 -- the table is that of e edges, which have lengths in a block of ll places, and v has a head in it
 pub record TotalRoom (v e : ℕ) (ends : List ℕ) (ll : ℕ) (table : List ℕ) : Type 0 where
   pub linked : EdgesLinked e ends table
-  pub lengths : e ≤ ll / lengthColumns
-  pub here : v < particleLimit
+  pub lengths : e ≤ ll / length_columns
+  pub here : v < particle_limit
 
 -- the table is that of e edges, and the edge of the plan has the ends that its row tells
 pub record StrapLinked (plan : Plan) (e : ℕ) (ends table : List ℕ) : Type 0 where
   pub linked : EdgesLinked e ends table
-  pub a-is : cell 0 (length ends / endColumns) ends 0 plan.number ≡ plan.row.a
-  pub b-is : cell 0 (length ends / endColumns) ends 1 plan.number ≡ plan.row.b
+  pub a_is : cell 0 (length ends / end_columns) ends 0 plan.number ≡ plan.row.a
+  pub b_is : cell 0 (length ends / end_columns) ends 1 plan.number ≡ plan.row.b
 
 -- the ends are particles before the new two, which have heads; and one edge more has links
 pub record NewEnds (plan : Plan) (e : ℕ) : Type 0 where
   pub a_in : plan.row.a < plan.before
-  pub b-in : plan.row.b < plan.before
-  pub heads : plan.before + 1 < particleLimit
-  pub few : e + 1 ≤ edgeLimit
+  pub b_in : plan.row.b < plan.before
+  pub heads : plan.before + 1 < particle_limit
+  pub few : e + 1 ≤ edge_limit
 
 -- where a step is done, the table is that of the edges behind it
 abbrev pub EdgesAfter : List ℕ → List ℕ → Ran → Type 0

@@ -2,13 +2,13 @@
 ghost use Rattle.std.specs.Prelude.{◌≡◌, [], ◌∷◌, ◌++◌, ◌<◌, ◌≤◌, ◌/◌, ◌+◌, length};
 ghost use Rattle.std.specs.Float.Ieee.{ne};
 ghost use Rattle.lists.specs.Lists.{pick};
-ghost use Rattle.float.specs.Numbers.{zero32, invOf};
-ghost use Rattle.model.specs.Cut.{half-a, half-b};
-ghost use Rattle.mesh.specs.At.{particlesAt};
+ghost use Rattle.float.specs.Numbers.{zero32, inv_of};
+ghost use Rattle.model.specs.Cut.{half_a, half_b};
+ghost use Rattle.mesh.specs.At.{particles_at};
 ghost use Rattle.mesh.specs.Workers.{ParticleRoom};
-ghost use Rattle.mesh.specs.Widths.{pointColumns};
+ghost use Rattle.mesh.specs.Widths.{point_columns};
 ghost use Rattle.insert.specs.Plans.{planned, InsertableRoom};
-ghost use Rattle.insert.specs.Inserts.{velocityIn, Lightened, particleOf, BetweenIs, ParticlesRoom, ParticlesInserted};
+ghost use Rattle.insert.specs.Inserts.{velocity_in, Lightened, particle_of, BetweenIs, ParticlesRoom, ParticlesInserted};
 
 use crate::plan::Plan;
 use blade::Point;
@@ -27,8 +27,8 @@ pub struct ParticleRow {
 
 // How fast particle w goes.
 fn velocity_of(w: usize, points: &[f32]) -> Point
-    requires { w < length points.now / pointColumns }
-    ensures { result ≡ velocityIn points.now w }
+    requires { w < length points.now / point_columns }
+    ensures { result ≡ velocity_in points.now w }
 {
     let p = points.len() / mesh::POINT_COLUMNS;
     Point {
@@ -39,7 +39,7 @@ fn velocity_of(w: usize, points: &[f32]) -> Point
 
 // The inverse of mass m, or the one there is where that is 0.
 fn kept_inverse(m: f32, inverse: f32) -> f32
-    ensures { result ≡ pick (ne inverse zero32) (invOf m) inverse }
+    ensures { result ≡ pick (ne inverse zero32) (inv_of m) inverse }
 {
     if inverse != 0.0 {
         return float::inverse::inv(m);
@@ -49,7 +49,7 @@ fn kept_inverse(m: f32, inverse: f32) -> f32
 
 // Particle v gives up its share of the strap and keeps its half of a part.
 fn lighten(v: usize, share: f32, keeps: f32, points: &mut [f32])
-    requires { v < length points.old / pointColumns }
+    requires { v < length points.old / point_columns }
     ensures { Lightened v share keeps points.old points.new }
 {
     let p = points.len() / mesh::POINT_COLUMNS;
@@ -61,14 +61,14 @@ fn lighten(v: usize, share: f32, keeps: f32, points: &mut [f32])
 
 // Half the mass of the first end's part.
 fn first_half(plan: Plan) -> f32
-    ensures { result ≡ half-a (planned plan) }
+    ensures { result ≡ half_a (planned plan) }
 {
     (plan.first + plan.second) * plan.at * 0.5
 }
 
 // Half the mass of the second end's part.
 fn second_half(plan: Plan) -> f32
-    ensures { result ≡ half-b (planned plan) }
+    ensures { result ≡ half_b (planned plan) }
 {
     (plan.first + plan.second) * (1.0 - plan.at) * 0.5
 }
@@ -106,8 +106,8 @@ fn between(plan: Plan, m: f32, n: usize, damaged: usize, points: &[f32]) -> Part
 // Appends a particle to the n that are there.
 fn append_particle(n: usize, row: ParticleRow, points: &mut [f32], roots: &mut [usize])
     requires { ParticleRoom (n + 1) (length points.old) (length roots.old) }
-    ensures { particlesAt (n + 1) points.new roots.new
-        ≡ particlesAt n points.old roots.old ++ (particleOf row ∷ []) }
+    ensures { particles_at (n + 1) points.new roots.new
+        ≡ particles_at n points.old roots.old ++ (particle_of row ∷ []) }
 {
     let p = points.len() / mesh::POINT_COLUMNS;
     let r = roots.len() / mesh::ROOT_COLUMNS;

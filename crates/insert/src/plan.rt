@@ -3,7 +3,7 @@ ghost use Rattle.std.specs.Prelude.{◌≡◌, ◌&&◌, ◌||◌, ◌<◌, ◌�
 ghost use Rattle.std.specs.Float.Ieee.{lt, le, eq};
 ghost use Rattle.lists.specs.Lists.{pick};
 ghost use Rattle.float.specs.Numbers.{minus, one, half, zero32};
-ghost use Rattle.model.specs.Cut.{clampTo};
+ghost use Rattle.model.specs.Cut.{clamp_to_of};
 ghost use Rattle.links.specs.Linked.{EdgesLinked};
 ghost use Rattle.insert.specs.Plans.{PlanRoom, PlanIs, InsertableRoom, InsertableIs};
 
@@ -23,7 +23,7 @@ pub struct Plan {
 
 // t brought into the range from lo to hi.
 fn clamp_to(lo: f32, hi: f32, t: f32) -> f32
-    ensures { result ≡ clampTo lo hi t }
+    ensures { result ≡ clamp_to_of lo hi t }
 {
     let mut u = t;
     if u < lo {

@@ -1,13 +1,13 @@
 // The share of an end's mass that a strap has among the straps there.
 ghost use Rattle.std.specs.Prelude.{◌≡◌, ◌<◌, ◌/◌, length};
 ghost use Rattle.mesh.specs.At.{edges_at};
-ghost use Rattle.mesh.specs.Widths.{pointColumns, endColumns};
-ghost use Rattle.insert.specs.Shares.{StrapTold, totalAt, shareBy};
+ghost use Rattle.mesh.specs.Widths.{point_columns, end_columns};
+ghost use Rattle.insert.specs.Shares.{StrapTold, total_at_of, share_by};
 ghost use Rattle.insert.specs.Tables.{TotalRoom};
 
 // Is edge i structural, with an end at v?
 pub fn strap_at(v: usize, i: usize, ends: &[usize]) -> bool
-    requires { i < length ends.now / endColumns }
+    requires { i < length ends.now / end_columns }
     ensures { StrapTold v i ends.now result }
 {
     let c = ends.len() / mesh::END_COLUMNS;
@@ -30,7 +30,7 @@ pub struct Totals {
 // The initial lengths of the structural edges at v among the first e, added in edge order: those edges are met along their table.
 fn total_at(v: usize, e: usize, ends: &[usize], lengths: &[f32], table: &[u16]) -> f32
     requires { TotalRoom v e ends.now (length lengths.now) table.now }
-    ensures { result ≡ totalAt v (edges_at e ends.now lengths.now) }
+    ensures { result ≡ total_at_of v (edges_at e ends.now lengths.now) }
 {
     let rows = ends.len() / mesh::END_COLUMNS;
     let l = lengths.len() / mesh::LENGTH_COLUMNS;
@@ -57,8 +57,8 @@ pub fn strap_totals(
 ) -> Totals
     requires { TotalRoom v e ends.now (length lengths.now) table.now
         × TotalRoom w e ends.now (length lengths.now) table.now }
-    ensures { (result.first ≡ totalAt v (edges_at e ends.now lengths.now))
-        × (result.second ≡ totalAt w (edges_at e ends.now lengths.now)) }
+    ensures { (result.first ≡ total_at_of v (edges_at e ends.now lengths.now))
+        × (result.second ≡ total_at_of w (edges_at e ends.now lengths.now)) }
 {
     Totals {
         first: total_at(v, e, ends, lengths, table),
@@ -68,8 +68,8 @@ pub fn strap_totals(
 
 // The share of v's mass that a strap of length len has among straps of this length in all.
 pub fn share_of(v: usize, len: f32, total: f32, points: &[f32]) -> f32
-    requires { v < length points.now / pointColumns }
-    ensures { result ≡ shareBy v len total points.now }
+    requires { v < length points.now / point_columns }
+    ensures { result ≡ share_by v len total points.now }
 {
     let p = points.len() / mesh::POINT_COLUMNS;
     if 0.0 < total {

@@ -1,8 +1,8 @@
 // The boundary entries along a strap that is opened: each becomes two, and the second half is appended.
 ghost use Rattle.std.specs.Prelude.{◌≡◌, [], ◌∷◌, ◌<◌, ◌≤◌, ◌/◌, length, get_or};
 ghost use Rattle.model.specs.Cut.{shortened, appended};
-ghost use Rattle.mesh.specs.At.{sideRow};
-ghost use Rattle.mesh.specs.Widths.{sideColumns};
+ghost use Rattle.mesh.specs.At.{side_row};
+ghost use Rattle.mesh.specs.Widths.{side_columns};
 ghost use Rattle.work.specs.Rows.{SideRoom};
 ghost use Rattle.insert.specs.Sides.{EntryGrown, SidesInserted};
 
@@ -44,8 +44,8 @@ fn insert_side(
     outline: &mut [usize],
 ) -> Grown
     requires { SideRoom m room (length outline.old) × (i < m) }
-    ensures { EntryGrown (shortened a b p q (sideRow (length outline.old / sideColumns) outline.old i))
-        (appended a b p q (sideRow (length outline.old / sideColumns) outline.old i)) i m room outline.old
+    ensures { EntryGrown (shortened a b p q (side_row (length outline.old / side_columns) outline.old i))
+        (appended a b p q (side_row (length outline.old / side_columns) outline.old i)) i m room outline.old
         outline.new result }
 {
     let o = outline.len() / mesh::SIDE_COLUMNS;

@@ -10,60 +10,60 @@ use lib.Seq.{length-take-le}
 use lib.Ieee.{Float}
 use Rattle.lists.specs.Lists.{pick}
 use Rattle.lists.specs.LeftOut.{Rising}
-use Rattle.lists.proofs.Stores.{tab-length}
+use Rattle.lists.proofs.Stores.{tab_length}
 use Rattle.model.specs.Run.{Need, Rooms, Run}
-use Rattle.model.specs.Calls.{Outcome, done, tooSmall, firstFault, fitted, outcome, unless}
-use Rattle.model.specs.Calls.{refused as turnedDown}
+use Rattle.model.specs.Calls.{Outcome, done, too_small, first_fault, fitted, outcome, unless}
+use Rattle.model.specs.Calls.{refused as turned_down}
 use Rattle.model.specs.Reads.{Read, refused, value}
-use Rattle.mesh.specs.At.{trianglesAt, edges_at, boundaryAt}
+use Rattle.mesh.specs.At.{triangles_at, edges_at, boundary_at}
 use Rattle.mesh.specs.Log.{World, words_in, log_at}
-use Rattle.mesh.proofs.Lists.{particles-length, edges-length, log-length}
-use Rattle.edge_drops.specs.Parted.{listed, edgesParted, meshParted, worldParted, Listing, ListingAfter}
+use Rattle.mesh.proofs.Lists.{particles_length, edges_length, log_length}
+use Rattle.edge_drops.specs.Parted.{listed, edges_parted, mesh_parted, world_parted, Listing, ListingAfter}
 use Rattle.mesh.specs.declared.Counts.{Counts}
 use Rattle.mesh.specs.declared.Rooms.{Rooms as Given-Rooms}
 use Rattle.work.specs.Working.{Within, Roomed}
 use Rattle.work.specs.declared.Ran.{Ran}
 use Rattle.work.specs.declared.Ran.TheVariants.{Refused as Stopped, Done as Ended}
-use Rattle.call_frame.specs.Framed.{wordsChange, Came}
+use Rattle.call_frame.specs.Framed.{words_change, Came}
 use Rattle.call_frame.specs.declared.Answer.{Answer}
 use Rattle.call_frame.specs.declared.Answer.TheVariants.{Refused, Done}
-use Rattle.image.specs.Image.{imageWordsOf}
-use Rattle.image_writing.specs.Stores.{leftWords}
-use Rattle.image_writing.proofs.Left.{rising-all, left-length}
+use Rattle.image.specs.Image.{image_words_of}
+use Rattle.image_writing.specs.Stores.{left_words}
+use Rattle.image_writing.proofs.Left.{rising_all, left_length}
 use Rattle.reading_replies.specs.Given.{SmallCode}
 use Rattle.mesh_replies.specs.Both.{BothReplied}
-use Rattle.mesh_replies.specs.Told.{listedEdges, meshTold, logTold, Telling}
+use Rattle.mesh_replies.specs.Told.{listed_edges, mesh_told, log_told, Telling}
 use Rattle.call_words.specs.Rooms.{Limited}
-use Rattle.job_replies.specs.Outcomes.{meshReply, logReply, OutcomeReplied}
+use Rattle.job_replies.specs.Outcomes.{mesh_reply, log_reply, OutcomeReplied}
 use Rattle.call_frame.proofs.Calls.{Counted}
-use Rattle.mesh_replies.proofs.Shown.{told-image, rows_log}
+use Rattle.mesh_replies.proofs.Shown.{told_image, rows_log}
 use Rattle.replies.proofs.Saying.{pick_small}
 
 -- ---- refusals are small
 
-room_small : (L : Rooms) (N : Need) → tooSmall L N < 256
-unfolding tooSmall
+room_small : (L : Rooms) (N : Need) → too_small L N < 256
+unfolding too_small
 room_small L N =
     pick_small (ltb L.particles N.particles) 5 _ (omega arith)
     (pick_small (ltb L.edges N.edges) 6 _ (omega arith)
     (pick_small (ltb L.boundary N.boundary) 7 _ (omega arith) (pick_small (ltb L.log N.log) 8 0 (omega arith) (omega arith))))
 
-pub fault-small : (L : Rooms) (Ns : List Need) → firstFault L Ns < 256
-unfolding firstFault
-fault-small L [] = omega arith
-fault-small L (N ∷ Ns) = pick_small (eqb (tooSmall L N) 0) (firstFault L Ns) (tooSmall L N) (fault-small L Ns) (room_small L N)
+pub fault_small : (L : Rooms) (Ns : List Need) → first_fault L Ns < 256
+unfolding first_fault
+fault_small L [] = omega arith
+fault_small L (N ∷ Ns) = pick_small (eqb (too_small L N) 0) (first_fault L Ns) (too_small L N) (fault_small L Ns) (room_small L N)
 
-fitted-small : (n : ℕ) (R : Run) → n < 256 → SmallCode (meshReply (fitted n R))
-fitted-small zero R h = omega arith
-fitted-small (suc n) R h = h
+fitted_small : (n : ℕ) (R : Run) → n < 256 → SmallCode (mesh_reply (fitted n R))
+fitted_small zero R h = omega arith
+fitted_small (suc n) R h = h
 
-outcome-small : (L : Rooms) (R : Run) → SmallCode (meshReply (outcome L R))
+outcome_small : (L : Rooms) (R : Run) → SmallCode (mesh_reply (outcome L R))
 unfolding outcome
-outcome-small L R = fitted-small (firstFault L R.needs) R (fault-small L R.needs)
+outcome_small L R = fitted_small (first_fault L R.needs) R (fault_small L R.needs)
 
-pub unless-small : (n : ℕ) (L : Rooms) (R : Run) → n < 256 → SmallCode (meshReply (unless n (outcome L R)))
-unless-small zero L R h = outcome-small L R
-unless-small (suc n) L R h = h
+pub unless_small : (n : ℕ) (L : Rooms) (R : Run) → n < 256 → SmallCode (mesh_reply (unless n (outcome L R)))
+unless_small zero L R h = outcome_small L R
+unless_small (suc n) L R h = h
 
 -- ---- what a call came to
 
@@ -72,40 +72,40 @@ abbrev number_in : Answer → ℕ
 number_in (Refused n) = suc n
 number_in (Done k b) = 0
 
-abbrev logIn : Answer → ℕ
-logIn (Refused n) = 0
-logIn (Done k b) = k.log
+abbrev log_in : Answer → ℕ
+log_in (Refused n) = 0
+log_in (Done k b) = k.log
 
-abbrev changedIn : Answer → Bool
-changedIn (Refused n) = false
-changedIn (Done k b) = b
+abbrev changed_in : Answer → Bool
+changed_in (Refused n) = false
+changed_in (Done k b) = b
 
 -- the counts of what the blocks hold without the listed edges
-pub parted-counted : (p : List Float) (r c : List ℕ) (v : List Float) (e : List ℕ) (l : List Float) (o g gone : List ℕ) (k : Counts) → Listing k.edges (length e) (length l) gone
-    → Counted k (worldParted k p r c v e l o g gone)
-unfolding worldParted meshParted edgesParted trianglesAt boundaryAt
-parted-counted p r c v e l o g gone k Z =
+pub parted_counted : (p : List Float) (r c : List ℕ) (v : List Float) (e : List ℕ) (l : List Float) (o g gone : List ℕ) (k : Counts) → Listing k.edges (length e) (length l) gone
+    → Counted k (world_parted k p r c v e l o g gone)
+unfolding world_parted mesh_parted edges_parted triangles_at boundary_at
+parted_counted p r c v e l o g gone k Z =
     let s : ℕ = listed gone in
     let few : s ≤ length gone = omega (arith, Z.few, Z.long) in
-    let many : length (edges_at (k.edges + s) e l) ≡ k.edges + s = edges-length (k.edges + s) e l in
+    let many : length (edges_at (k.edges + s) e l) ≡ k.edges + s = edges_length (k.edges + s) e l in
     let n : length (take s gone) ≡ s = length-take-le s gone few in
-    let left = left-length (take s gone) (edges_at (k.edges + s) e l) (subst (Rising (take s gone) (length (take s gone))) (sym many) (rising-all gone s (k.edges + s) Z.rising few)) in
+    let left = left_length (take s gone) (edges_at (k.edges + s) e l) (subst (Rising (take s gone) (length (take s gone))) (sym many) (rising_all gone s (k.edges + s) Z.rising few)) in
     record {
-      particles = particles-length k.particles p r;
-      triangles = tab-length k.triangles _;
+      particles = particles_length k.particles p r;
+      triangles = tab_length k.triangles _;
       edges = omega (arith, left, many, n);
-      boundary = tab-length k.boundary _;
-      log = log-length k.log g;
+      boundary = tab_length k.boundary _;
+      log = log_length k.log g;
     }
 
 module _ (R : Given-Rooms) (at : Counts → World) (gone : List ℕ) where
   -- it can be told: its refusal is small, or its rows and the listed edges stand in the lent blocks
-  pub came-telling : (o : Outcome) (ran : Ran) (lp lr lc lv le ll lo lg logged : ℕ) → Came o R at ran → ListingAfter le ll gone ran
-      → Roomed R (record { points = lp; roots = lr; corners = lc; volumes = lv; ends = le; lengths = ll; outline = lo; log = lg }) → Limited R logged → SmallCode (meshReply o)
+  pub came_telling : (o : Outcome) (ran : Ran) (lp lr lc lv le ll lo lg logged : ℕ) → Came o R at ran → ListingAfter le ll gone ran
+      → Roomed R (record { points = lp; roots = lr; corners = lc; volumes = lv; ends = le; lengths = ll; outline = lo; log = lg }) → Limited R logged → SmallCode (mesh_reply o)
       → Telling ran gone lp lr lc lv le ll lo lg logged
-  came-telling (turnedDown m) (Stopped n) lp lr lc lv le ll lo lg logged C Z A z s = let q : suc n ≡ suc m = ap number_in C.said in omega (arith, q, s)
-  came-telling (done M es any) (Stopped n) lp lr lc lv le ll lo lg logged C Z A z s = let q : suc n ≡ 0 = ap number_in C.said in absurd (omega arith)
-  came-telling o (Ended k) lp lr lc lv le ll lo lg logged C Z A z s =
+  came_telling (turned_down m) (Stopped n) lp lr lc lv le ll lo lg logged C Z A z s = let q : suc n ≡ suc m = ap number_in C.said in omega (arith, q, s)
+  came_telling (done M es any) (Stopped n) lp lr lc lv le ll lo lg logged C Z A z s = let q : suc n ≡ 0 = ap number_in C.said in absurd (omega arith)
+  came_telling o (Ended k) lp lr lc lv le ll lo lg logged C Z A z s =
       let w : Within k R = C.within in
       record {
         points = omega (arith, w.particles, A.points);
@@ -117,35 +117,35 @@ module _ (R : Given-Rooms) (at : Counts → World) (gone : List ℕ) where
         outline = omega (arith, w.boundary, A.outline);
         list = Z.long;
         rising = Z.rising;
-        few-particles = omega (arith, w.particles, z.particles);
-        few-triangles = omega (arith, w.triangles, z.triangles);
-        few-edges = Z.few;
-        few-boundary = omega (arith, w.boundary, z.boundary);
+        few_particles = omega (arith, w.particles, z.particles);
+        few_triangles = omega (arith, w.triangles, z.triangles);
+        few_edges = Z.few;
+        few_boundary = omega (arith, w.boundary, z.boundary);
         words = omega (arith, w.log, A.log);
         entries = omega (arith, w.log, z.entries);
       }
 
 module _ (R : Given-Rooms) (p : List Float) (r c : List ℕ) (v : List Float) (e : List ℕ) (l : List Float) (b g gone : List ℕ) (logged : ℕ) where
   -- what is told of it are the words of the outcome
-  came-words : (o : Outcome) (ran : Ran) → Came o R (λ k. worldParted k p r c v e l b g gone) ran → Telling ran gone (length p) (length r) (length c) (length v) (length e) (length l) (length b) (length g) logged
-      → (meshTold ran gone p r c v e l b g ≡ meshReply o) × (logTold ran g ≡ logReply o)
-  unfolding worldParted meshParted edgesParted
-  came-words (turnedDown m) (Stopped n) C t = let q : suc n ≡ suc m = ap number_in C.said in let f : n ≡ m = omega (arith, q) in (ap refused f, refl)
-  came-words (done M es any) (Stopped n) C t = let q : suc n ≡ 0 = ap number_in C.said in absurd (omega arith)
-  came-words (turnedDown m) (Ended k) C t = let q : 0 ≡ suc m = ap number_in C.said in absurd (omega arith)
-  came-words (done M es any) (Ended k) C t =
-      let changed : wordsChange (log_at k.log g) ≡ any = ap changedIn C.said in
-      let logged' : k.log ≡ length es = ap logIn C.said in
-      let rows : leftWords k (listedEdges gone) p r c v e l b ≡ imageWordsOf M
-      = told-image k gone p r c v e l b (length g) logged t (meshParted k p r c v e l b gone) refl refl refl refl ∙ ap (λ (W : World). imageWordsOf W.mesh) C.shows in (
+  came_words : (o : Outcome) (ran : Ran) → Came o R (λ k. world_parted k p r c v e l b g gone) ran → Telling ran gone (length p) (length r) (length c) (length v) (length e) (length l) (length b) (length g) logged
+      → (mesh_told ran gone p r c v e l b g ≡ mesh_reply o) × (log_told ran g ≡ log_reply o)
+  unfolding world_parted mesh_parted edges_parted
+  came_words (turned_down m) (Stopped n) C t = let q : suc n ≡ suc m = ap number_in C.said in let f : n ≡ m = omega (arith, q) in (ap refused f, refl)
+  came_words (done M es any) (Stopped n) C t = let q : suc n ≡ 0 = ap number_in C.said in absurd (omega arith)
+  came_words (turned_down m) (Ended k) C t = let q : 0 ≡ suc m = ap number_in C.said in absurd (omega arith)
+  came_words (done M es any) (Ended k) C t =
+      let changed : words_change (log_at k.log g) ≡ any = ap changed_in C.said in
+      let logged' : k.log ≡ length es = ap log_in C.said in
+      let rows : left_words k (listed_edges gone) p r c v e l b ≡ image_words_of M
+      = told_image k gone p r c v e l b (length g) logged t (mesh_parted k p r c v e l b gone) refl refl refl refl ∙ ap (λ (W : World). image_words_of W.mesh) C.shows in (
         (λ i. value (pick (changed i) 1 0 ∷ logged' i ∷ rows i)),
         rows_log k.log g t.words ∙ ap (λ (W : World). words_in W.log) C.shows,
       )
 
   -- so the reply is the outcome's
-  pub came-replied : (o : Outcome) (ran : Ran) (lent x : ℕ) (out log : List ℕ) → Came o R (λ k. worldParted k p r c v e l b g gone) ran
-      → Telling ran gone (length p) (length r) (length c) (length v) (length e) (length l) (length b) (length g) logged → BothReplied (meshTold ran gone p r c v e l b g) (logTold ran g) lent logged x out log
+  pub came_replied : (o : Outcome) (ran : Ran) (lent x : ℕ) (out log : List ℕ) → Came o R (λ k. world_parted k p r c v e l b g gone) ran
+      → Telling ran gone (length p) (length r) (length c) (length v) (length e) (length l) (length b) (length g) logged → BothReplied (mesh_told ran gone p r c v e l b g) (log_told ran g) lent logged x out log
       → OutcomeReplied o lent logged x out log
-  came-replied o ran lent x out log C t h =
-      let q = came-words o ran C t in
-      subst (λ (ws : List ℕ). BothReplied (meshReply o) ws lent logged x out log) q.1 (subst (λ (m : Read (List ℕ)). BothReplied m (logTold ran g) lent logged x out log) q.0 h)
+  came_replied o ran lent x out log C t h =
+      let q = came_words o ran C t in
+      subst (λ (ws : List ℕ). BothReplied (mesh_reply o) ws lent logged x out log) q.1 (subst (λ (m : Read (List ℕ)). BothReplied m (log_told ran g) lent logged x out log) q.0 h)

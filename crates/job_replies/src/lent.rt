@@ -1,15 +1,15 @@
 // A job in lent blocks: the mesh of an image is read into them, judged and worked on there, and what they then hold is written. Nothing but these blocks stands beside the log.
 ghost use Rattle.std.specs.Prelude.{◌≡◌, true, length};
-ghost use Rattle.mesh.specs.Given.{meshOf, sizes, asRooms};
+ghost use Rattle.mesh.specs.Given.{mesh_of, sizes, as_rooms};
 ghost use Rattle.mesh.specs.Filled.{Fits};
-ghost use Rattle.mesh.specs.Blocks.{blocksIn, lentIn};
+ghost use Rattle.mesh.specs.Blocks.{blocks_in, lent_in};
 ghost use Rattle.work.specs.Working.{Roomed};
 ghost use Rattle.call_frame.specs.Framed.{Begun};
-ghost use Rattle.mesh_calls.specs.Jobs.{jobRefusal};
-ghost use Rattle.image.specs.Image.{image_of, imageSized};
+ghost use Rattle.mesh_calls.specs.Jobs.{job_refusal};
+ghost use Rattle.image.specs.Image.{image_of, image_sized_of};
 ghost use Rattle.call_words.specs.Rooms.{Limited};
 ghost use Rattle.job_replies.specs.Told.{JobReplied, CallReplied};
-ghost use Rattle.mesh.specs.At.{meshAt};
+ghost use Rattle.mesh.specs.At.{mesh_at};
 
 use mesh::Rooms;
 use mesh_calls::Job;
@@ -31,9 +31,9 @@ fn reply_work(
     out: &mut [u8],
     log: &mut [u8],
 ) -> u32
-    requires { let I = image_of bytes.now in (imageSized bytes.now ≡ true) × Limited room (length log.old) × Roomed room
-        (lentIn points roots corners volumes ends lengths outline words) × Begun (jobRefusal job list.now (imageSized bytes.now)
-        (meshOf I) (asRooms room)) room (meshOf I) (meshAt (sizes I) points.old roots.old corners.old volumes.old ends.old lengths.old outline.old) 0 }
+    requires { let I = image_of bytes.now in (image_sized_of bytes.now ≡ true) × Limited room (length log.old) × Roomed room
+        (lent_in points roots corners volumes ends lengths outline words) × Begun (job_refusal job list.now (image_sized_of bytes.now)
+        (mesh_of I) (as_rooms room)) room (mesh_of I) (mesh_at (sizes I) points.old roots.old corners.old volumes.old ends.old lengths.old outline.old) 0 }
     ensures { JobReplied job list bytes room out log result }
 {
     let k = mesh_replies::placing::image_counts(bytes);
@@ -64,9 +64,9 @@ fn reply_accepted(
     out: &mut [u8],
     log: &mut [u8],
 ) -> u32
-    requires { let I = image_of bytes.now in (imageSized bytes.now ≡ true) × Limited room (length log.old) × Roomed room
-        (lentIn points roots corners volumes ends lengths outline words) × (jobRefusal job list.now (imageSized bytes.now) (meshOf I)
-        (asRooms room) ≡ 0) × (meshAt (sizes I) points.old roots.old corners.old volumes.old ends.old lengths.old outline.old ≡ meshOf I) }
+    requires { let I = image_of bytes.now in (image_sized_of bytes.now ≡ true) × Limited room (length log.old) × Roomed room
+        (lent_in points roots corners volumes ends lengths outline words) × (job_refusal job list.now (image_sized_of bytes.now) (mesh_of I)
+        (as_rooms room) ≡ 0) × (mesh_at (sizes I) points.old roots.old corners.old volumes.old ends.old lengths.old outline.old ≡ mesh_of I) }
     ensures { JobReplied job list bytes room out log result }
 {
     let k = mesh_replies::placing::image_counts(bytes);
@@ -98,9 +98,9 @@ pub fn reply_lent(
     out: &mut [u8],
     log: &mut [u8],
 ) -> u32
-    requires { (imageSized bytes.now ≡ true) × Limited room (length log.old) × Fits (sizes (image_of bytes.now))
-        (blocksIn points roots corners volumes ends lengths outline) × Roomed room
-        (lentIn points roots corners volumes ends lengths outline words) }
+    requires { (image_sized_of bytes.now ≡ true) × Limited room (length log.old) × Fits (sizes (image_of bytes.now))
+        (blocks_in points roots corners volumes ends lengths outline) × Roomed room
+        (lent_in points roots corners volumes ends lengths outline words) }
     ensures { CallReplied job list bytes rooms room out log result }
 {
     let k = mesh_replies::placing::image_counts(bytes);

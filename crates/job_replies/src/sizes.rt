@@ -1,9 +1,9 @@
 // Local blocks of two sizes for a job on an image. A middling image is tried in blocks of a quarter, with rooms cut down to them: they are cleared sooner, and the answer is the same unless a room lacks.
 ghost use Rattle.std.specs.Prelude.{◌≡◌, true, false, length};
-ghost use Rattle.image.specs.Image.{imageSized};
-ghost use Rattle.image.specs.Small.{middlingImage};
-ghost use Rattle.call_words.specs.Rooms.{Limited, lacksRoom};
-ghost use Rattle.job_replies.specs.Told.{CallReplied, middlingRooms, Middling};
+ghost use Rattle.image.specs.Image.{image_sized_of};
+ghost use Rattle.image.specs.Small.{middling_image};
+ghost use Rattle.call_words.specs.Rooms.{Limited, lacks_room_of};
+ghost use Rattle.job_replies.specs.Told.{CallReplied, middling_rooms_of, Middling};
 
 use image::small;
 use mesh::Rooms;
@@ -14,7 +14,7 @@ const MIDDLING_ENTRIES: usize = 512;
 
 // The rooms, each at most what middling blocks have.
 fn middling_rooms(room: Rooms) -> Rooms
-    ensures { result ≡ middlingRooms room }
+    ensures { result ≡ middling_rooms_of room }
 {
     Rooms {
         particles: mesh::whole::least(small::MIDDLING_PARTICLES, room.particles),
@@ -35,7 +35,7 @@ fn reply_middling(
     out: &mut [u8],
     log: &mut [u8],
 ) -> u32
-    requires { (imageSized bytes.now ≡ true) × (middlingImage bytes.now ≡ true) × Limited room (length log.old) × Middling room }
+    requires { (image_sized_of bytes.now ≡ true) × (middling_image bytes.now ≡ true) × Limited room (length log.old) × Middling room }
     ensures { CallReplied job list bytes rooms room out log result }
 {
     let mut points = [0.0f32; small::MIDDLING_PARTICLES * mesh::POINT_COLUMNS];
@@ -75,7 +75,7 @@ fn reply_large(
     out: &mut [u8],
     log: &mut [u8],
 ) -> u32
-    requires { (imageSized bytes.now ≡ true) × Limited room (length log.old) }
+    requires { (image_sized_of bytes.now ≡ true) × Limited room (length log.old) }
     ensures { CallReplied job list bytes rooms room out log result }
 {
     let mut points = [0.0f32; mesh::PARTICLES * mesh::POINT_COLUMNS];
@@ -115,8 +115,8 @@ fn reply_tried(
     out: &mut [u8],
     log: &mut [u8],
 ) -> u32
-    requires { (imageSized bytes.now ≡ true) × Limited room (length log.old) }
-    ensures { lacksRoom result ≡ false → CallReplied job list bytes rooms room out log result }
+    requires { (image_sized_of bytes.now ≡ true) × Limited room (length log.old) }
+    ensures { lacks_room_of result ≡ false → CallReplied job list bytes rooms room out log result }
 {
     if small::is_middling(bytes) {
         let few = middling_rooms(room);
@@ -135,7 +135,7 @@ pub fn reply_sized(
     out: &mut [u8],
     log: &mut [u8],
 ) -> u32
-    requires { (imageSized bytes.now ≡ true) × Limited room (length log.old) }
+    requires { (image_sized_of bytes.now ≡ true) × Limited room (length log.old) }
     ensures { CallReplied job list bytes rooms room out log result }
 {
     let code = reply_tried(job, list, room, bytes, rooms, out, log);

@@ -14,8 +14,8 @@ abbrev pub SizedInput : Given → Type 0
 SizedInput G = Sized (length G.points) (length G.roots) (length G.corners) (length G.volumes) (length G.ends) (length G.lengths) (length G.outline)
 
 -- its counts fit its own blocks
-pub input-fits : (G : Given) → SizedInput G → Fits (sizes G) (lent_of G)
-input-fits G s =
+pub input_fits : (G : Given) → SizedInput G → Fits (sizes G) (lent_of G)
+input_fits G s =
     record {
       points = omega arith;
       roots = omega (arith, s.particles);
@@ -32,10 +32,10 @@ within : (n a b c : ℕ) → n ≤ min a (min b c) → (n ≤ a) × (n ≤ b) ×
 within n a b c h = (omega arith, omega arith, omega arith)
 
 -- where its counts are within the rooms, its blocks fit into the lent ones
-pub input-held :
+pub input_held :
     (G : Given) (L : Lent) → SizedInput G → (sizes G).particles ≤ (rooms_of L).particles → (sizes G).triangles ≤ (rooms_of L).triangles → (sizes G).edges ≤ (rooms_of L).edges → (sizes G).boundary ≤ (rooms_of L).boundary
     → Holds (lent_of G) L
-input-held G L s p t e b =
+input_held G L s p t e b =
     let p' = within _ _ _ _ p in
     let t' = within _ _ _ _ t in
     let e' = within _ _ _ _ e in
@@ -50,9 +50,9 @@ input-held G L s p t e b =
     }
 
 -- counts within the rooms fit the lent blocks
-pub rooms-fit :
+pub rooms_fit :
     (k : Counts) (L : Lent) → k.particles ≤ (rooms_of L).particles → k.triangles ≤ (rooms_of L).triangles → k.edges ≤ (rooms_of L).edges → k.boundary ≤ (rooms_of L).boundary → k.log ≤ (rooms_of L).log → Fits k L
-rooms-fit k L p t e b g =
+rooms_fit k L p t e b g =
     let p' = within _ _ _ _ p in
     let t' = within _ _ _ _ t in
     let e' = within _ _ _ _ e in

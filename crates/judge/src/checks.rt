@@ -1,14 +1,14 @@
 // The checks of an input: its columns tested one by one, and the refusals 1 to 3 in their order.
 ghost use Rattle.std.specs.Prelude.{◌≡◌, ◌*◌, ◌/◌, ◌≤◌, true, [], length};
 ghost use Rattle.lists.specs.Lists.{all, up_to};
-ghost use Rattle.model.specs.Valid.{particleOk, edgeOk, numbersFit, indicesFit};
+ghost use Rattle.model.specs.Valid.{particle_ok, edge_ok, numbers_fit_of, indices_fit_of};
 ghost use Rattle.mesh.specs.Filled.{Fits};
-ghost use Rattle.mesh.specs.At.{particlesAt, edges_at};
-ghost use Rattle.judge.specs.Checks.{faultIn, faultOf};
+ghost use Rattle.mesh.specs.At.{particles_at, edges_at};
+ghost use Rattle.judge.specs.Checks.{fault_in, fault_of};
 ghost use Rattle.mesh.specs.Workers.{ParticleRoom, EdgeRoom};
-ghost use Rattle.judge.specs.Told.{RootsTold, CornersTold, VolumesTold, pairOk};
-ghost use Rattle.mesh.specs.Blocks.{meshBefore, givenBefore, inputs_in};
-ghost use Rattle.mesh.specs.Widths.{cornerColumns, rootColumns, volumeColumns};
+ghost use Rattle.judge.specs.Told.{RootsTold, CornersTold, VolumesTold, pair_ok};
+ghost use Rattle.mesh.specs.Blocks.{mesh_before, given_before, inputs_in};
+ghost use Rattle.mesh.specs.Widths.{corner_columns, root_columns, volume_columns};
 
 use crate::{faults, ranges, tests};
 use mesh::Counts;
@@ -16,7 +16,7 @@ use mesh::Counts;
 // The numbers of the first n particles.
 fn particles_fit(n: usize, points: &[f32], roots: &[usize]) -> bool
     requires { ParticleRoom n (length points.now) (length roots.now) }
-    ensures { result ≡ all particleOk (particlesAt n points.now roots.now) }
+    ensures { result ≡ all particle_ok (particles_at n points.now roots.now) }
 {
     let p = points.len() / mesh::POINT_COLUMNS;
     let q = roots.len() / mesh::ROOT_COLUMNS;
@@ -33,7 +33,7 @@ fn particles_fit(n: usize, points: &[f32], roots: &[usize]) -> bool
 
 // The numbers of the first n triangles, whatever their corners.
 fn triangles_fit(n: usize, volumes: &[f32]) -> bool
-    requires { n ≤ length volumes.now / volumeColumns }
+    requires { n ≤ length volumes.now / volume_columns }
     ensures { VolumesTold n volumes.now result }
 {
     let w = volumes.len() / mesh::VOLUME_COLUMNS;
@@ -44,7 +44,7 @@ fn triangles_fit(n: usize, volumes: &[f32]) -> bool
 // The numbers of the first n edges.
 fn edges_fit(n: usize, ends: &[usize], lengths: &[f32]) -> bool
     requires { EdgeRoom n (length ends.now) (length lengths.now) }
-    ensures { result ≡ all edgeOk (edges_at n ends.now lengths.now) }
+    ensures { result ≡ all edge_ok (edges_at n ends.now lengths.now) }
 {
     let e = ends.len() / mesh::END_COLUMNS;
     let l = lengths.len() / mesh::LENGTH_COLUMNS;
@@ -58,7 +58,7 @@ fn edges_fit(n: usize, ends: &[usize], lengths: &[f32]) -> bool
 
 // The roots of n particles.
 fn roots_fit(n: usize, roots: &[usize]) -> bool
-    requires { n ≤ length roots.now / rootColumns }
+    requires { n ≤ length roots.now / root_columns }
     ensures { RootsTold n roots.now result }
 {
     ranges::below(roots, n, n)
@@ -66,7 +66,7 @@ fn roots_fit(n: usize, roots: &[usize]) -> bool
 
 // The corners of the first t triangles, among n particles.
 fn corners_fit(n: usize, t: usize, corners: &[usize]) -> bool
-    requires { (t ≤ length corners.now / cornerColumns) × (n ≤ 9223372036854775808) }
+    requires { (t ≤ length corners.now / corner_columns) × (n ≤ 9223372036854775808) }
     ensures { CornersTold n t corners.now result }
 {
     let c = corners.len() / mesh::CORNER_COLUMNS;
@@ -83,7 +83,7 @@ fn corners_fit(n: usize, t: usize, corners: &[usize]) -> bool
 // The two ends in each of the first t rows of a block with columns of stride places, among n particles.
 fn pairs_fit(n: usize, t: usize, stride: usize, s: &[usize]) -> bool
     requires { (t ≤ stride) × (2 * stride ≤ length s.now) × (n ≤ 9223372036854775808) }
-    ensures { result ≡ all (pairOk n stride s.now) (up_to t) }
+    ensures { result ≡ all (pair_ok n stride s.now) (up_to t) }
 {
     let room = faults::LIMIT - n;
     let mut fault: usize = 0;
@@ -107,7 +107,7 @@ pub fn numbers_fit(
     outline: &[usize],
 ) -> bool
     requires { Fits k (inputs_in points roots corners volumes ends lengths outline) }
-    ensures { result ≡ numbersFit (meshBefore k points roots corners volumes ends lengths outline) }
+    ensures { result ≡ numbers_fit_of (mesh_before k points roots corners volumes ends lengths outline) }
 {
     let z = particles_fit(k.particles, points, roots);
     let z = tests::both(z, triangles_fit(k.triangles, volumes));
@@ -126,7 +126,7 @@ pub fn indices_fit(
     outline: &[usize],
 ) -> bool
     requires { Fits k (inputs_in points roots corners volumes ends lengths outline) }
-    ensures { result ≡ indicesFit (meshBefore k points roots corners volumes ends lengths outline) }
+    ensures { result ≡ indices_fit_of (mesh_before k points roots corners volumes ends lengths outline) }
 {
     let n = k.particles;
     let z = roots_fit(n, roots);
@@ -153,7 +153,7 @@ pub fn judge_sized(
     outline: &[usize],
 ) -> usize
     requires { Fits k (inputs_in points roots corners volumes ends lengths outline) }
-    ensures { result ≡ faultIn (meshBefore k points roots corners volumes ends lengths outline) }
+    ensures { result ≡ fault_in (mesh_before k points roots corners volumes ends lengths outline) }
 {
     let ok = numbers_fit(k, points, roots, corners, volumes, ends, lengths, outline);
     let code = tests::first(0, ok, 2);
@@ -174,7 +174,7 @@ pub fn judge(
     lengths: &[f32],
     outline: &[usize],
 ) -> usize
-    ensures { result ≡ faultOf (givenBefore points roots corners volumes ends lengths outline) }
+    ensures { result ≡ fault_of (given_before points roots corners volumes ends lengths outline) }
 {
     let fit = tests::sizes_fit(
         points.len(),

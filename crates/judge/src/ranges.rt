@@ -4,14 +4,14 @@ ghost use Rattle.std.specs.Float.{nan};
 ghost use Rattle.lists.specs.Lists.{all, up_to};
 ghost use Rattle.float.specs.Ranges.{finite?, number?, volume?};
 ghost use Rattle.model.specs.Valid.{flag?};
-ghost use Rattle.judge.specs.Told.{columnOk, length?};
+ghost use Rattle.judge.specs.Told.{column_ok, length?};
 
 use crate::{faults, tests};
 
 // The n numbers from place `at` on are in range.
 pub fn in_range(s: &[f32], at: usize, n: usize) -> bool
     requires { at + n ≤ length s.now }
-    ensures { result ≡ columnOk number? nan s.now at n }
+    ensures { result ≡ column_ok number? nan s.now at n }
 {
     let mut ok = true;
     let mut i: usize = 0;
@@ -25,7 +25,7 @@ pub fn in_range(s: &[f32], at: usize, n: usize) -> bool
 // The n numbers from place `at` on are finite.
 pub fn finite(s: &[f32], at: usize, n: usize) -> bool
     requires { at + n ≤ length s.now }
-    ensures { result ≡ columnOk finite? nan s.now at n }
+    ensures { result ≡ column_ok finite? nan s.now at n }
 {
     let mut ok = true;
     let mut i: usize = 0;
@@ -39,7 +39,7 @@ pub fn finite(s: &[f32], at: usize, n: usize) -> bool
 // The n numbers from place `at` on are in the range of a rest volume.
 pub fn volumes(s: &[f32], at: usize, n: usize) -> bool
     requires { at + n ≤ length s.now }
-    ensures { result ≡ columnOk volume? nan s.now at n }
+    ensures { result ≡ column_ok volume? nan s.now at n }
 {
     let mut ok = true;
     let mut i: usize = 0;
@@ -53,7 +53,7 @@ pub fn volumes(s: &[f32], at: usize, n: usize) -> bool
 // The n numbers from place `at` on are in the range of a rest length.
 pub fn lengths(s: &[f32], at: usize, n: usize) -> bool
     requires { at + n ≤ length s.now }
-    ensures { result ≡ columnOk length? nan s.now at n }
+    ensures { result ≡ column_ok length? nan s.now at n }
 {
     let mut ok = true;
     let mut i: usize = 0;
@@ -67,7 +67,7 @@ pub fn lengths(s: &[f32], at: usize, n: usize) -> bool
 // The n words from place `at` on are flags: so is the word of all their bits.
 pub fn flags(s: &[usize], at: usize, n: usize) -> bool
     requires { at + n ≤ length s.now }
-    ensures { result ≡ columnOk flag? 0 s.now at n }
+    ensures { result ≡ column_ok flag? 0 s.now at n }
 {
     let mut bits: usize = 0;
     let mut i: usize = 0;

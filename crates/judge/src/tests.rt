@@ -1,8 +1,8 @@
 // The tests of one number and of one row of indices, and of one list by its sizes.
 ghost use Rattle.std.specs.Prelude.{◌≡◌, ◌/◌, ◌%◌, ◌&&◌, [], ◌∷◌};
 ghost use Rattle.model.specs.Valid.{named};
-ghost use Rattle.mesh.specs.Given.{listFits, lengthsFit};
-ghost use Rattle.judge.specs.Checks.{thenCheck};
+ghost use Rattle.mesh.specs.Given.{list_fits_of, lengths_fit};
+ghost use Rattle.judge.specs.Checks.{then_check};
 ghost use Rattle.judge.specs.Told.{length?};
 
 // Both tests hold.
@@ -14,7 +14,7 @@ pub fn both(a: bool, b: bool) -> bool
 
 // The first refusal: the one that is there, or this one where its test is false.
 pub fn first(code: usize, ok: bool, number: usize) -> usize
-    ensures { result ≡ thenCheck code ok number }
+    ensures { result ≡ then_check code ok number }
 {
     if code == 0 {
         if ok { 0 } else { number }
@@ -25,7 +25,7 @@ pub fn first(code: usize, ok: bool, number: usize) -> usize
 
 // Two blocks of one list: nothing is left over, and the columns are equally long, at most the limit.
 fn list_fits(limit: usize, over_a: usize, a: usize, over_b: usize, b: usize) -> bool
-    ensures { result ≡ listFits limit over_a a over_b b }
+    ensures { result ≡ list_fits_of limit over_a a over_b b }
 {
     let z = both(over_a == 0, over_b == 0);
     let z = both(z, a == b);
@@ -42,7 +42,7 @@ pub fn sizes_fit(
     ll: usize,
     lo: usize,
 ) -> bool
-    ensures { result ≡ lengthsFit lp lr lc lv le ll lo }
+    ensures { result ≡ lengths_fit lp lr lc lv le ll lo }
 {
     let z = list_fits(
         mesh::PARTICLES,

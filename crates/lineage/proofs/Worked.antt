@@ -7,21 +7,21 @@ use Prim.Native.Nat.{ℕ}
 use lib.Dec.{T, lit<, lit≤}
 use lib.ListN.{length}
 use lib.Ieee.{binary32, fin, neg, add, sub, mul, div, lt, le, eq, ne, of_int, fits}
-use Rattle.lists.specs.Lists.{any, all, sift, siftAt, find, fold, each, pairs, mapAt, tab, up_to, rising, distinct, disjoint}
-use Rattle.lists.specs.Labels.{merged, joinPair, joinRow, joinRows, labelled}
-use Rattle.float.specs.Numbers.{half, absOf, max_of, invOf}
-use Rattle.float.specs.Ranges.{finite?, number?, volume?, notBelow0?}
+use Rattle.lists.specs.Lists.{any, all, sift, sift_at, find, fold, each, pairs, map_at_of, tab, up_to, rising, distinct, disjoint}
+use Rattle.lists.specs.Labels.{merged, join_pair, join_row, join_rows, labelled}
+use Rattle.float.specs.Numbers.{half, abs_of, max_of, inv_of}
+use Rattle.float.specs.Ranges.{finite?, number?, volume?, not_below0?}
 use Rattle.blade.specs.declared.Point.{Point}
-use Rattle.fan.specs.Groups.{labelsOf, numberOne, numberSide, numbered, groups_of, count_of}
-use Rattle.model.specs.Mesh.{Particle, Mesh, changedTo}
-use Rattle.model.specs.Valid.{particleOk, triangleOk, edgeOk, numbersFit, named, rootOk, cornersOk, endsOk, sideOk, indicesFit}
-use Rattle.model.specs.Elements.{sum, kindBy, kind_of, trianglesFrom, elementsOf, held, fanOf, gridOf}
-use Rattle.model.specs.Split.{parts_of, openingOf, splits?, made, weightOf, total_of, massOf, portion, copied, groupAt, rewiredTriangles, rewiredStraps, ring, edgeGroups, stayed, doubled, otherEdges, parted, straddles, sideGroup, followed, faceOn, facetsAt, crackFacets, atLongest, settled, splitEntries, goneEntries, splitMade, splitStep, splitBySides}
-use Rattle.model.specs.Run.{split, start, stepTo, splitsOf, changed}
-use Rattle.model.specs.Calls.{sidesOk, refusal, tooSmall, firstFault, done, outcome, splitCall}
+use Rattle.fan.specs.Groups.{labels_of, number_one, number_side, numbered, groups_of, count_of}
+use Rattle.model.specs.Mesh.{Particle, Mesh, changed_to}
+use Rattle.model.specs.Valid.{particle_ok, triangle_ok, edge_ok, numbers_fit_of, named, root_ok, corners_ok, ends_ok, side_ok, indices_fit_of}
+use Rattle.model.specs.Elements.{sum, kind_by, kind_of, triangles_from, elements_of, held, fan_of, grid_of}
+use Rattle.model.specs.Split.{parts_of, opening_of, splits?, made, weight_of, total_of, mass_of, portion, copied, group_at_of, rewired_triangles, rewired_straps, ring, edge_groups, stayed, doubled, other_edges, parted, straddles, side_group, followed, face_on, facets_at, crack_facets, at_longest, settled, split_entries, gone_entries, split_made, split_step, split_by_sides_of}
+use Rattle.model.specs.Run.{split, start, step_to, splits_of, changed}
+use Rattle.model.specs.Calls.{sides_ok, refusal, too_small, first_fault, done, outcome, split_call}
 use Rattle.model.specs.Starred.{point, free, triangle, limits}
-use Rattle.lineage.specs.History.{Particle32, Stored, Accepted, Begins, splitting, History, first, calling, inUse, mostParticles}
-use Rattle.lineage.proofs.Again.{accepted-always}
+use Rattle.lineage.specs.History.{Particle32, Stored, Accepted, Begins, splitting, History, first, calling, in_use, most_particles}
+use Rattle.lineage.proofs.Again.{accepted_always}
 
 -- two triangles with particle 0 alone in common
 abbrev pub joined : Mesh
@@ -35,7 +35,7 @@ joined =
 
 -- particle 0 with half its mass
 abbrev halved : Particle
-halved = changedTo half (fin false 1 (pos 1)) 0 (free 0 (point (pos 0) (pos 0)))
+halved = changed_to half (fin false 1 (pos 1)) 0 (free 0 (point (pos 0) (pos 0)))
 
 -- the two apart, each with a particle of its own there
 abbrev pub apart : Mesh
@@ -47,38 +47,38 @@ apart =
       boundary = [];
     }
 
-joined-begins : Begins joined
-unfolding numbersFit indicesFit particleOk triangleOk named rootOk cornersOk number? finite? volume? absOf le lt eq all up_to tab of_int fits
-joined-begins = record { some = lit< tt; numbers = refl; indices = refl; roots = refl }
+joined_begins : Begins joined
+unfolding numbers_fit_of indices_fit_of particle_ok triangle_ok named root_ok corners_ok number? finite? volume? abs_of le lt eq all up_to tab of_int fits
+joined_begins = record { some = lit< tt; numbers = refl; indices = refl; roots = refl }
 
-split-there : splitCall true joined 0 (0 ∷ 0 ∷ []) limits ≡ done apart (split 5 0 ∷ []) true
-unfolding neg add sub mul div lt le eq ne of_int any all sift siftAt find fold each pairs mapAt tab up_to rising distinct disjoint merged joinPair joinRow joinRows labelled absOf max_of invOf finite? number? volume? notBelow0? labelsOf numberOne numberSide numbered groups_of count_of particleOk triangleOk edgeOk numbersFit named rootOk cornersOk endsOk sideOk indicesFit sum kindBy kind_of trianglesFrom elementsOf held fanOf gridOf parts_of openingOf splits? made weightOf total_of massOf portion copied groupAt rewiredTriangles rewiredStraps ring edgeGroups stayed doubled otherEdges parted straddles sideGroup followed faceOn facetsAt crackFacets atLongest settled splitEntries goneEntries splitMade splitStep splitBySides start stepTo splitsOf changed sidesOk refusal tooSmall firstFault outcome splitCall
-split-there = refl
+split_there : split_call true joined 0 (0 ∷ 0 ∷ []) limits ≡ done apart (split 5 0 ∷ []) true
+unfolding neg add sub mul div lt le eq ne of_int any all sift sift_at find fold each pairs map_at_of tab up_to rising distinct disjoint merged join_pair join_row join_rows labelled abs_of max_of inv_of finite? number? volume? not_below0? labels_of number_one number_side numbered groups_of count_of particle_ok triangle_ok edge_ok numbers_fit_of named root_ok corners_ok ends_ok side_ok indices_fit_of sum kind_by kind_of triangles_from elements_of held fan_of grid_of parts_of opening_of splits? made weight_of total_of mass_of portion copied group_at_of rewired_triangles rewired_straps ring edge_groups stayed doubled other_edges parted straddles side_group followed face_on facets_at crack_facets at_longest settled split_entries gone_entries split_made split_step split_by_sides_of start step_to splits_of changed sides_ok refusal too_small first_fault outcome split_call
+split_there = refl
 
 -- a free particle whose coordinates f32 holds
-free-32 : (n : ℕ) (p : Point) → T (fits binary32 p.x) → T (fits binary32 p.y) → Particle32 (free n p)
+free_32 : (n : ℕ) (p : Point) → T (fits binary32 p.x) → T (fits binary32 p.y) → Particle32 (free n p)
 unfolding fits
-free-32 n p x y = record { x = x; y = y; rest-x = x; rest-y = y; mass = tt; inv = tt; velocity-x = tt; velocity-y = tt }
+free_32 n p x y = record { x = x; y = y; rest_x = x; rest_y = y; mass = tt; inv = tt; velocity_x = tt; velocity_y = tt }
 
-joined-stored : Stored joined
+joined_stored : Stored joined
 unfolding fits of_int
-joined-stored =
+joined_stored =
     record {
-      particles = (free-32 0 _ tt tt, (free-32 1 _ tt tt, (free-32 2 _ tt tt, (free-32 3 _ tt tt, (free-32 4 _ tt tt, tt)))));
+      particles = (free_32 0 _ tt tt, (free_32 1 _ tt tt, (free_32 2 _ tt tt, (free_32 3 _ tt tt, (free_32 4 _ tt tt, tt)))));
       triangles = (record { volume = tt; stress = tt }, (record { volume = tt; stress = tt }, tt));
       edges = tt;
     }
 
 -- a history of one split
 pub one_split : History joined apart (split 5 0 ∷ [])
-one_split = calling limits (first joined-begins) (splitting 0 (0 ∷ 0 ∷ []) split-there)
+one_split = calling limits (first joined_begins) (splitting 0 (0 ∷ 0 ∷ []) split_there)
 
 -- after it there are as many particles as can be: 6, which is 5 and three for each of two triangles, less the 5 in use at first
-pub bound-reached : length apart.particles ≡ mostParticles joined
-unfolding mostParticles inUse rising up_to tab sift each
-bound-reached = refl
+pub bound_reached : length apart.particles ≡ most_particles joined
+unfolding most_particles in_use rising up_to tab sift each
+bound_reached = refl
 
 -- and the mesh then is accepted
-pub apart-accepted : Accepted apart
+pub apart_accepted : Accepted apart
 unfolding one_split
-apart-accepted = accepted-always one_split (lit≤ tt) joined-stored
+apart_accepted = accepted_always one_split (lit≤ tt) joined_stored

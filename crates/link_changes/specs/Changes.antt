@@ -7,16 +7,16 @@ use Rattle.links.specs.Rooms.{LinkRoom, CornersApart}
 use Rattle.links.specs.Linked.{PairsLinked}
 
 -- the corners where corner c of cell i is w
-unfoldable pub cornerMoved : ℕ → ℕ → ℕ → (ℕ → ℕ → ℕ) → ℕ → ℕ → ℕ
-cornerMoved i c w corner d j = pick (eqb d c && eqb j i) w (corner d j)
+unfoldable pub corner_moved : ℕ → ℕ → ℕ → (ℕ → ℕ → ℕ) → ℕ → ℕ → ℕ
+corner_moved i c w corner d j = pick (eqb d c && eqb j i) w (corner d j)
 
 -- the corners where cell i has none: P, which has no head, at each place
-unfoldable pub cornerGone : ℕ → ℕ → (ℕ → ℕ → ℕ) → ℕ → ℕ → ℕ
-cornerGone P i corner d j = pick (eqb j i) P (corner d j)
+unfoldable pub corner_gone : ℕ → ℕ → (ℕ → ℕ → ℕ) → ℕ → ℕ → ℕ
+corner_gone P i corner d j = pick (eqb j i) P (corner d j)
 
 -- the corners where cell i is gone, and those behind it are up by one
-unfoldable pub cornerDropped : ℕ → (ℕ → ℕ → ℕ) → ℕ → ℕ → ℕ
-cornerDropped i corner d j = corner d (pick (ltb j i) j (suc j))
+unfoldable pub corner_dropped : ℕ → (ℕ → ℕ → ℕ) → ℕ → ℕ → ℕ
+corner_dropped i corner d j = corner d (pick (ltb j i) j (suc j))
 
 -- a number of the table, where those above `own` are less by one
 unfoldable pub less_one : ℕ → ℕ → ℕ

@@ -5,7 +5,7 @@ ghost use Rattle.std.specs.Prelude.{◌≡◌, ◌+◌, ◌-◌, ◌/◌, ◌≤
 ghost use Rattle.columns.specs.Block.{cell, RowTurned};
 ghost use Rattle.columns.specs.View.{Shifted};
 ghost use Rattle.links.specs.Links.{LinksOf};
-ghost use Rattle.link_changes.specs.Changes.{cornerMoved, cornerGone, cornerDropped, less_one, SlotRoom, SlotOf, ChainRoom, CellPut, CellTaken, AppendRoom, MoveRoom, DropRoom, RaiseRoom, LinksRaised, NumbersLowered, TurnRoom};
+ghost use Rattle.link_changes.specs.Changes.{corner_moved, corner_gone, corner_dropped, less_one, SlotRoom, SlotOf, ChainRoom, CellPut, CellTaken, AppendRoom, MoveRoom, DropRoom, RaiseRoom, LinksRaised, NumbersLowered, TurnRoom};
 ghost use Rattle.links.specs.Linked.{PairsLinked};
 
 // The place of the table before cell i in the chain of v: its head, or the link of the last cell below i that holds v.
@@ -113,7 +113,7 @@ pub fn move_corner(
     table: &mut [u16],
 )
     requires { MoveRoom i c w heads k span rows n corners.now table.old }
-    ensures { LinksOf heads k span n (cornerMoved i c w (cell 0 rows corners.now)) table.new }
+    ensures { LinksOf heads k span n (corner_moved i c w (cell 0 rows corners.now)) table.new }
 {
     let v = corners[c * rows + i];
     take_out(v, i, c, k, heads, span, rows, corners, table);
@@ -155,7 +155,7 @@ fn take_cell(
     table: &mut [u16],
 )
     requires { DropRoom i heads k span rows n corners.now table.old }
-    ensures { LinksOf heads k span n (cornerGone heads i (cell 0 rows corners.now)) table.new }
+    ensures { LinksOf heads k span n (corner_gone heads i (cell 0 rows corners.now)) table.new }
 {
     let mut c: usize = 0;
     let mut o: usize = 0;
@@ -222,7 +222,7 @@ pub fn drop_cell(
     table: &mut [u16],
 )
     requires { DropRoom i heads k span rows n corners.now table.old }
-    ensures { LinksOf heads k span (n - 1) (cornerDropped i (cell 0 rows corners.now)) table.new }
+    ensures { LinksOf heads k span (n - 1) (corner_dropped i (cell 0 rows corners.now)) table.new }
 {
     take_cell(i, n, k, heads, span, rows, corners, table);
     raise_links(i, n, k, heads, span, table);

@@ -2,10 +2,10 @@
 #![tactic(auto)]
 
 ghost use Rattle.std.specs.Prelude.{◌/◌, ◌<◌, ◌≤◌, length};
-ghost use Rattle.model.specs.Elements.{trianglesFrom, strapsFrom};
-ghost use Rattle.mesh.specs.At.{trianglesAt, edges_at};
-ghost use Rattle.mesh.specs.Widths.{lengthColumns};
-ghost use Rattle.mesh.specs.Limits.{particleLimit};
+ghost use Rattle.model.specs.Elements.{triangles_from, straps_from};
+ghost use Rattle.mesh.specs.At.{triangles_at, edges_at};
+ghost use Rattle.mesh.specs.Widths.{length_columns};
+ghost use Rattle.mesh.specs.Limits.{particle_limit};
 ghost use Rattle.elements.specs.Table.{holding};
 ghost use Rattle.link_fans.specs.Fans.{FanPut, FanLinked};
 ghost use Rattle.links.specs.Linked.{EdgesLinked};
@@ -26,7 +26,7 @@ pub fn fan_linked(
     measures: &mut [f32],
 ) -> usize
     requires { FanLinked v heads span t corners.now (length volumes.now) table.now }
-    ensures { FanPut 3 (holding v (trianglesFrom 0 (trianglesAt t corners.now volumes.now))) result
+    ensures { FanPut 3 (holding v (triangles_from 0 (triangles_at t corners.now volumes.now))) result
         numbers.new verts.new measures.new }
 {
     let c = corners.len() / mesh::CORNER_COLUMNS;
@@ -59,8 +59,8 @@ pub fn straps_linked(
     verts: &mut [usize],
     measures: &mut [f32],
 ) -> usize
-    requires { EdgesLinked e ends.now table.now × (e ≤ length lengths.now / lengthColumns) × (v < particleLimit) }
-    ensures { FanPut 2 (holding v (strapsFrom 0 (edges_at e ends.now lengths.now))) result numbers.new
+    requires { EdgesLinked e ends.now table.now × (e ≤ length lengths.now / length_columns) × (v < particle_limit) }
+    ensures { FanPut 2 (holding v (straps_from 0 (edges_at e ends.now lengths.now))) result numbers.new
         verts.new measures.new }
 {
     let c = ends.len() / mesh::END_COLUMNS;

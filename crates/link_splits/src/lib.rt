@@ -3,7 +3,7 @@
 
 ghost use Rattle.columns.specs.Block.{cell};
 ghost use Rattle.links.specs.Links.{LinksOf};
-ghost use Rattle.link_splits.specs.Splits.{cornerAfter, SplitRoom};
+ghost use Rattle.link_splits.specs.Splits.{corner_after, SplitRoom};
 
 // Takes the cells of a fan from v, and links them anew at the copies of their groups, from the last to the first.
 // The corners are those before the split, and the table of n cells is then that of the corners after it.
@@ -21,7 +21,7 @@ pub fn split_links(
     table: &mut [u16],
 )
     requires { SplitRoom v before heads k span rows n numbers.now groups.now corners.now table.old }
-    ensures { LinksOf heads k span n (cornerAfter v before numbers.now groups.now
+    ensures { LinksOf heads k span n (corner_after v before numbers.now groups.now
         (cell 0 rows corners.now)) table.new }
 {
     table[v] = 0;

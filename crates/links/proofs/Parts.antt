@@ -17,26 +17,26 @@ use Rattle.links.specs.Linked.{Linked, PairsLinked, PairsLinkable, EdgesLinked, 
 -- ---- a list of which a part was lent
 
 -- behind a list of a places
-getD-behind : (p q : List ℕ) (a i : ℕ) → length p ≡ a → get_or (p ++ q) (a + i) 0 ≡ get_or q i 0
-getD-behind p q a i e = ap (λ (n : ℕ). get_or (p ++ q) (n + i) 0) (sym e) ∙ get_or-append-add p q i 0
+get_d_behind : (p q : List ℕ) (a i : ℕ) → length p ≡ a → get_or (p ++ q) (a + i) 0 ≡ get_or q i 0
+get_d_behind p q a i e = ap (λ (n : ℕ). get_or (p ++ q) (n + i) 0) (sym e) ∙ get_or-append-add p q i 0
 
 -- what is cleared has 0 wherever it is read, and so have its parts
 cleared_at : {l : List ℕ} → Cleared l → (i : ℕ) → get_or l i 0 ≡ 0
 cleared_at {l} C i =
     elim (dec_lt i (length l)) [
-      | yes h ↦ C.zero-at i h
+      | yes h ↦ C.zero_at i h
       | no h ↦ get_or-eq_default l 0 (omega (arith, h))
     ]
 
-pub cleared-take : {l : List ℕ} (a : ℕ) → Cleared l → Cleared (take a l)
-cleared-take {l} a C = record { zero-at = λ i h. get_or-take a l i 0 (let n = length-take a l in omega arith) ∙ cleared_at C i }
+pub cleared_take : {l : List ℕ} (a : ℕ) → Cleared l → Cleared (take a l)
+cleared_take {l} a C = record { zero_at = λ i h. get_or-take a l i 0 (let n = length-take a l in omega arith) ∙ cleared_at C i }
 
-cleared-drop : {l : List ℕ} (a : ℕ) → Cleared l → Cleared (drop a l)
-cleared-drop {l} a C = record { zero-at = λ i h. get_or-drop a l i 0 ∙ cleared_at C (a + i) }
+cleared_drop : {l : List ℕ} (a : ℕ) → Cleared l → Cleared (drop a l)
+cleared_drop {l} a C = record { zero_at = λ i h. get_or-drop a l i 0 ∙ cleared_at C (a + i) }
 
 -- a fresh table is cleared
-pub cleared-fresh : (n : ℕ) → Cleared (replicate n 0)
-cleared-fresh n = record { zero-at = λ i h. get_or-replicate n i 0 0 (let e = length-replicate {A = ℕ} n 0 in omega arith) }
+pub cleared_fresh : (n : ℕ) → Cleared (replicate n 0)
+cleared_fresh n = record { zero_at = λ i h. get_or-replicate n i 0 0 (let e = length-replicate {A = ℕ} n 0 in omega arith) }
 
 -- the first a places were lent, and came back as x
 module _ (a : ℕ) (l x : List ℕ) (e : length x ≡ a) where
@@ -48,8 +48,8 @@ module _ (a : ℕ) (l x : List ℕ) (e : length x ≡ a) where
 
 -- the m places from a on
 module _ (a m : ℕ) (l : List ℕ) (fits : a + m ≤ length l) where
-  mid-long : length (mid_of a m l) ≡ m
-  mid-long = let n = length-drop a l in length-take-le m (drop a l) (omega arith)
+  mid_long : length (mid_of a m l) ≡ m
+  mid_long = let n = length-drop a l in length-take-le m (drop a l) (omega arith)
 
   mid_at : (i : ℕ) → i < m → get_or (mid_of a m l) i 0 ≡ get_or (drop a l) i 0
   mid_at i h = get_or-take m (drop a l) i 0 h
@@ -59,21 +59,21 @@ module _ (a m : ℕ) (l : List ℕ) (fits : a + m ≤ length l) where
     before : length (take a l) ≡ a
     before = length-take-le a l (omega arith)
 
-    put-before : (i : ℕ) → i < a → get_or (put_mid a m l x) i 0 ≡ get_or l i 0
-    put-before i h =
+    put_before : (i : ℕ) → i < a → get_or (put_mid a m l x) i 0 ≡ get_or l i 0
+    put_before i h =
         let b : length (take a l) ≡ a = before in
         get_or-append (take a l) (x ++ post_of a m l) 0 i (rw b h) ∙ get_or-take a l i 0 h
 
-    put-within : (i : ℕ) → i < m → get_or (put_mid a m l x) (a + i) 0 ≡ get_or x i 0
-    put-within i h = getD-behind (take a l) (x ++ post_of a m l) a i before ∙ get_or-append x (post_of a m l) 0 i (rw e h)
+    put_within : (i : ℕ) → i < m → get_or (put_mid a m l x) (a + i) 0 ≡ get_or x i 0
+    put_within i h = get_d_behind (take a l) (x ++ post_of a m l) a i before ∙ get_or-append x (post_of a m l) 0 i (rw e h)
 
-    put-long : length (put_mid a m l x) ≡ length l
-    put-long = same_len_mid a m l x (e ∙ sym mid-long)
+    put_long : length (put_mid a m l x) ≡ length l
+    put_long = same_len_mid a m l x (e ∙ sym mid_long)
 
 -- ---- a table reads nothing behind its places
 
-pub linked-near : {K : Kind} {t : ℕ} {C l l' : List ℕ} → Linked K t C l → 4096 ≤ length l' → ((i : ℕ) → i < 4096 → get_or l' i 0 ≡ get_or l i 0) → Linked K t C l'
-linked-near L long same =
+pub linked_near : {K : Kind} {t : ℕ} {C l l' : List ℕ} → Linked K t C l → 4096 ≤ length l' → ((i : ℕ) → i < 4096 → get_or l' i 0 ≡ get_or l i 0) → Linked K t C l'
+linked_near L long same =
     record {
       long = λ e. long;
       are =
@@ -85,8 +85,8 @@ linked-near L long same =
           };
     }
 
-pub pairs-near : {w n : ℕ} {B l l' : List ℕ} → PairsLinked w n B l → 5120 ≤ length l' → ((i : ℕ) → i < 5120 → get_or l' i 0 ≡ get_or l i 0) → PairsLinked w n B l'
-pairs-near L long same =
+pub pairs_near : {w n : ℕ} {B l l' : List ℕ} → PairsLinked w n B l → 5120 ≤ length l' → ((i : ℕ) → i < 5120 → get_or l' i 0 ≡ get_or l i 0) → PairsLinked w n B l'
+pairs_near L long same =
     record {
       long = long;
       few = L.few;
@@ -100,168 +100,168 @@ pairs-near L long same =
     }
 
 -- three tables, each at its place
-mesh-from : {K : Kind} {t e b : ℕ} {C E B T U S : List ℕ} (l : List ℕ) → 14336 ≤ length l
+mesh_from : {K : Kind} {t e b : ℕ} {C E B T U S : List ℕ} (l : List ℕ) → 14336 ≤ length l
     → Linked K t C T → ((i : ℕ) → i < 4096 → get_or l i 0 ≡ get_or T i 0)
     → EdgesLinked e E U → ((i : ℕ) → i < 5120 → get_or l (4096 + i) 0 ≡ get_or U i 0)
     → SidesLinked b B S → ((i : ℕ) → i < 5120 → get_or l (9216 + i) 0 ≡ get_or S i 0) → MeshLinked K t e b C E B l
-mesh-from l long X x Y y Z z =
+mesh_from l long X x Y y Z z =
     record {
       long = long;
-      triangles = linked-near X (omega arith) x;
-      edges = pairs-near Y (omega (arith, length-drop 4096 l)) (λ i h. get_or-drop 4096 l i 0 ∙ y i h);
-      sides = pairs-near Z (omega (arith, length-drop 9216 l)) (λ i h. get_or-drop 9216 l i 0 ∙ z i h);
+      triangles = linked_near X (omega arith) x;
+      edges = pairs_near Y (omega (arith, length-drop 4096 l)) (λ i h. get_or-drop 4096 l i 0 ∙ y i h);
+      sides = pairs_near Z (omega (arith, length-drop 9216 l)) (λ i h. get_or-drop 9216 l i 0 ∙ z i h);
     }
 
 -- ---- a part of the front lent, and given back as another: the boundary's part stays
 
 module _ {K : Kind} {t e : ℕ} {C E l : List ℕ} (M : FrontLinked K t e C E l) where
-  edge-fits : 4096 + 5120 ≤ length l
-  edge-fits = omega (arith, M.long)
+  edge_fits : 4096 + 5120 ≤ length l
+  edge_fits = omega (arith, M.long)
 
   -- the triangles' table, as it is lent
-  pub triangles-lent : Linked K t C (take 4096 l)
-  triangles-lent =
+  pub triangles_lent : Linked K t C (take 4096 l)
+  triangles_lent =
       let n : length (take 4096 l) ≡ 4096 = length-take-le 4096 l (omega (arith, M.long)) in
-      linked-near M.triangles (omega (arith, n)) (λ i h. get_or-take 4096 l i 0 h)
+      linked_near M.triangles (omega (arith, n)) (λ i h. get_or-take 4096 l i 0 h)
 
   -- and the edges', to be changed or, with all that is behind it, to be read
   pub edges_lent : EdgesLinked e E (mid_of 4096 5120 l)
-  edges_lent = pairs-near M.edges (omega (arith, mid-long 4096 5120 l edge-fits)) (mid_at 4096 5120 l edge-fits)
+  edges_lent = pairs_near M.edges (omega (arith, mid_long 4096 5120 l edge_fits)) (mid_at 4096 5120 l edge_fits)
 
-  pub edges-read : EdgesLinked e E (mid_of 4096 (length l - 4096) l)
-  edges-read =
+  pub edges_read : EdgesLinked e E (mid_of 4096 (length l - 4096) l)
+  edges_read =
       let f : 4096 + (length l - 4096) ≤ length l = omega (arith, M.long) in
-      pairs-near M.edges (omega (arith, mid-long 4096 (length l - 4096) l f, M.long)) (λ i h. mid_at 4096 (length l - 4096) l f i (omega (arith, M.long)))
+      pairs_near M.edges (omega (arith, mid_long 4096 (length l - 4096) l f, M.long)) (λ i h. mid_at 4096 (length l - 4096) l f i (omega (arith, M.long)))
 
   -- with another table of the triangles
-  pub triangles-back : {C' x : List ℕ} → length x ≡ 4096 → Linked K t C' x → FrontLinked K t e C' E (x ++ drop 4096 l) × (drop 9216 (x ++ drop 4096 l) ≡ drop 9216 l)
-  triangles-back {C'} {x} n X =
+  pub triangles_back : {C' x : List ℕ} → length x ≡ 4096 → Linked K t C' x → FrontLinked K t e C' E (x ++ drop 4096 l) × (drop 9216 (x ++ drop 4096 l) ≡ drop 9216 l)
+  triangles_back {C'} {x} n X =
       let w : length (x ++ drop 4096 l) ≡ length l = front_long 4096 l x n (omega (arith, M.long)) in
       let r : drop 4096 (x ++ drop 4096 l) ≡ drop 4096 l = drop_at x (drop 4096 l) 4096 n in (
         record {
           long = omega (arith, w, M.long);
-          triangles = linked-near X (omega (arith, w, M.long)) (front_at 4096 l x n);
+          triangles = linked_near X (omega (arith, w, M.long)) (front_at 4096 l x n);
           edges = subst (λ (z : List ℕ). EdgesLinked e E z) (sym r) M.edges;
         },
         sym (drop-drop 5120 4096 (x ++ drop 4096 l)) ∙ ap (drop 5120) r ∙ drop-drop 5120 4096 l,
       )
 
   -- of the edges
-  pub edges-back : {e' : ℕ} {E' x : List ℕ} → length x ≡ length (mid_of 4096 5120 l) → EdgesLinked e' E' x
+  pub edges_back : {e' : ℕ} {E' x : List ℕ} → length x ≡ length (mid_of 4096 5120 l) → EdgesLinked e' E' x
       → FrontLinked K t e' C E' (put_mid 4096 5120 l x) × (drop 9216 (put_mid 4096 5120 l x) ≡ drop 9216 l)
-  edges-back {e'} {E'} {x} n X =
-      let m : length x ≡ 5120 = n ∙ mid-long 4096 5120 l edge-fits in
-      let w : length (put_mid 4096 5120 l x) ≡ length l = put-long 4096 5120 l edge-fits x m in (
+  edges_back {e'} {E'} {x} n X =
+      let m : length x ≡ 5120 = n ∙ mid_long 4096 5120 l edge_fits in
+      let w : length (put_mid 4096 5120 l x) ≡ length l = put_long 4096 5120 l edge_fits x m in (
         record {
           long = omega (arith, w, M.long);
-          triangles = linked-near M.triangles (omega (arith, w, M.long)) (put-before 4096 5120 l edge-fits x m);
-          edges = pairs-near X (omega (arith, w, M.long, length-drop 4096 (put_mid 4096 5120 l x))) (λ i h. get_or-drop 4096 (put_mid 4096 5120 l x) i 0 ∙ put-within 4096 5120 l edge-fits x m i h);
+          triangles = linked_near M.triangles (omega (arith, w, M.long)) (put_before 4096 5120 l edge_fits x m);
+          edges = pairs_near X (omega (arith, w, M.long, length-drop 4096 (put_mid 4096 5120 l x))) (λ i h. get_or-drop 4096 (put_mid 4096 5120 l x) i 0 ∙ put_within 4096 5120 l edge_fits x m i h);
         },
         drop_put 4096 9216 l x (omega arith) (omega (arith, M.long)) m,
       )
 
 -- ---- the front, and the boundary's part behind it
 
-pub with-sides : {K : Kind} {t e b : ℕ} {C E B l' : List ℕ} (l : List ℕ) → FrontLinked K t e C E l' → drop 9216 l' ≡ drop 9216 l → SidesLinked b B (drop 9216 l) → MeshLinked K t e b C E B l'
-with-sides {b = b} {B = B} l F q S =
+pub with_sides : {K : Kind} {t e b : ℕ} {C E B l' : List ℕ} (l : List ℕ) → FrontLinked K t e C E l' → drop 9216 l' ≡ drop 9216 l → SidesLinked b B (drop 9216 l) → MeshLinked K t e b C E B l'
+with_sides {b = b} {B = B} l F q S =
     record { long = F.long; triangles = F.triangles; edges = F.edges; sides = subst (λ (z : List ℕ). SidesLinked b B z) (sym q) S }
 
 module _ {K : Kind} {t e b : ℕ} {C E B l : List ℕ} (M : MeshLinked K t e b C E B l) where
   pub front_of : FrontLinked K t e C E l
   front_of = record { long = M.long; triangles = M.triangles; edges = M.edges }
 
-  side-fits : 9216 + (length l - 9216) ≤ length l
-  side-fits = omega (arith, M.long)
+  side_fits : 9216 + (length l - 9216) ≤ length l
+  side_fits = omega (arith, M.long)
 
   -- the boundary's table, as it is lent
-  pub sides-lent : SidesLinked b B (mid_of 9216 (length l - 9216) l)
-  sides-lent =
-      pairs-near M.sides (omega (arith, mid-long 9216 (length l - 9216) l side-fits, M.long)) (λ i h. mid_at 9216 (length l - 9216) l side-fits i (omega (arith, M.long)))
+  pub sides_lent : SidesLinked b B (mid_of 9216 (length l - 9216) l)
+  sides_lent =
+      pairs_near M.sides (omega (arith, mid_long 9216 (length l - 9216) l side_fits, M.long)) (λ i h. mid_at 9216 (length l - 9216) l side_fits i (omega (arith, M.long)))
 
   -- with another table of the boundary
-  pub sides-back : {b' : ℕ} {B' x : List ℕ} → length x ≡ length (mid_of 9216 (length l - 9216) l) → SidesLinked b' B' x
+  pub sides_back : {b' : ℕ} {B' x : List ℕ} → length x ≡ length (mid_of 9216 (length l - 9216) l) → SidesLinked b' B' x
       → MeshLinked K t e b' C E B' (put_mid 9216 (length l - 9216) l x)
-  sides-back {b'} {B'} {x} n X =
-      let m : length x ≡ length l - 9216 = n ∙ mid-long 9216 (length l - 9216) l side-fits in
-      let was : (i : ℕ) → i < 9216 → get_or (put_mid 9216 (length l - 9216) l x) i 0 ≡ get_or l i 0 = put-before 9216 (length l - 9216) l side-fits x m in
-      mesh-from (put_mid 9216 (length l - 9216) l x) (omega (arith, put-long 9216 (length l - 9216) l side-fits x m, M.long)) M.triangles (λ i h. was i (omega arith))
-      M.edges (λ i h. was (4096 + i) (omega arith) ∙ sym (get_or-drop 4096 l i 0)) X (λ i h. put-within 9216 (length l - 9216) l side-fits x m i (omega (arith, M.long)))
+  sides_back {b'} {B'} {x} n X =
+      let m : length x ≡ length l - 9216 = n ∙ mid_long 9216 (length l - 9216) l side_fits in
+      let was : (i : ℕ) → i < 9216 → get_or (put_mid 9216 (length l - 9216) l x) i 0 ≡ get_or l i 0 = put_before 9216 (length l - 9216) l side_fits x m in
+      mesh_from (put_mid 9216 (length l - 9216) l x) (omega (arith, put_long 9216 (length l - 9216) l side_fits x m, M.long)) M.triangles (λ i h. was i (omega arith))
+      M.edges (λ i h. was (4096 + i) (omega arith) ∙ sym (get_or-drop 4096 l i 0)) X (λ i h. put_within 9216 (length l - 9216) l side_fits x m i (omega (arith, M.long)))
 
 -- ---- all three built, one after the other
 
 -- two of w columns lie within the block
-pub two-columns : {w : ℕ} (B : List ℕ) → 2 ≤ w → 2 * (length B / w) ≤ length B
-two-columns {w} B two =
+pub two_columns : {w : ℕ} (B : List ℕ) → 2 ≤ w → 2 * (length B / w) ≤ length B
+two_columns {w} B two =
     let q = div-add-mod' (length B) w in
     let m : 2 * (length B / w) ≤ w * (length B / w) = mul-le-mul_right _ two in
     omega arith
 
 -- the room of a table of pairs
-pub pairs-room : {w n : ℕ} {B : List ℕ} {lt : ℕ} → 2 ≤ w → PairsLinkable w n B lt → BuildRoom 1024 2 2048 (length B / w) n B lt
-pairs-room {w} {n} {B} two P =
+pub pairs_room : {w n : ℕ} {B : List ℕ} {lt : ℕ} → 2 ≤ w → PairsLinkable w n B lt → BuildRoom 1024 2 2048 (length B / w) n B lt
+pairs_room {w} {n} {B} two P =
     record {
-      room = record { cells = P.few; rows = P.rows; columns = two-columns B two; table = P.long; small = omega (arith, P.few) };
+      room = record { cells = P.few; rows = P.rows; columns = two_columns B two; table = P.long; small = omega (arith, P.few) };
       apart = P.apart;
     }
 
-pub pairs-built : {w n : ℕ} {B : List ℕ} {lt : ℕ} {table : List ℕ} → PairsLinkable w n B lt → length table ≡ lt → LinksOf 1024 2 2048 n (cell 0 (length B / w) B) table → PairsLinked w n B table
-pairs-built P long L = record { long = omega (arith, long, P.long); few = P.few; rows = P.rows; are = L; apart = P.apart }
+pub pairs_built : {w n : ℕ} {B : List ℕ} {lt : ℕ} {table : List ℕ} → PairsLinkable w n B lt → length table ≡ lt → LinksOf 1024 2 2048 n (cell 0 (length B / w) B) table → PairsLinked w n B table
+pairs_built P long L = record { long = omega (arith, long, P.long); few = P.few; rows = P.rows; are = L; apart = P.apart }
 
 -- in a list of so many places
-pairs-within : {w n : ℕ} {B : List ℕ} {lt : ℕ} → PairsLinkable w n B 5120 → 5120 ≤ lt → PairsLinkable w n B lt
-pairs-within P h = record { long = h; few = P.few; rows = P.rows; apart = P.apart }
+pairs_within : {w n : ℕ} {B : List ℕ} {lt : ℕ} → PairsLinkable w n B 5120 → 5120 ≤ lt → PairsLinkable w n B lt
+pairs_within P h = record { long = h; few = P.few; rows = P.rows; apart = P.apart }
 
 module _ (l x : List ℕ) (long : 14336 ≤ length l) (n : length x ≡ 4096) where
   abbrev l₁ : List ℕ
   l₁ = x ++ drop 4096 l
 
-  first-long : length l₁ ≡ length l
-  first-long = front_long 4096 l x n (omega arith)
+  first_long : length l₁ ≡ length l
+  first_long = front_long 4096 l x n (omega arith)
 
-  edge-room : 4096 + 5120 ≤ length l₁
-  edge-room = omega (arith, first-long)
+  edge_room : 4096 + 5120 ≤ length l₁
+  edge_room = omega (arith, first_long)
 
   -- the second is as cleared as it was
-  pub cleared-second : Cleared l → Cleared (mid_of 4096 5120 l₁)
-  cleared-second C = subst (λ (s : List ℕ). Cleared (take 5120 s)) (sym (drop_at x (drop 4096 l) 4096 n)) (cleared-take 5120 (cleared-drop 4096 C))
+  pub cleared_second : Cleared l → Cleared (mid_of 4096 5120 l₁)
+  cleared_second C = subst (λ (s : List ℕ). Cleared (take 5120 s)) (sym (drop_at x (drop 4096 l) 4096 n)) (cleared_take 5120 (cleared_drop 4096 C))
 
   -- the second has room
-  pub room-second : {e : ℕ} {E : List ℕ} → PairsLinkable 4 e E 5120 → PairsLinkable 4 e E (length (mid_of 4096 5120 l₁))
-  room-second P = pairs-within P (omega (arith, mid-long 4096 5120 l₁ edge-room))
+  pub room_second : {e : ℕ} {E : List ℕ} → PairsLinkable 4 e E 5120 → PairsLinkable 4 e E (length (mid_of 4096 5120 l₁))
+  room_second P = pairs_within P (omega (arith, mid_long 4096 5120 l₁ edge_room))
 
   module _ (y : List ℕ) (m : length y ≡ length (mid_of 4096 5120 l₁)) where
     abbrev l₂ : List ℕ
     l₂ = put_mid 4096 5120 l₁ y
 
     wide : length y ≡ 5120
-    wide = m ∙ mid-long 4096 5120 l₁ edge-room
+    wide = m ∙ mid_long 4096 5120 l₁ edge_room
 
-    second-long : length l₂ ≡ length l
-    second-long = put-long 4096 5120 l₁ edge-room y wide ∙ first-long
+    second_long : length l₂ ≡ length l
+    second_long = put_long 4096 5120 l₁ edge_room y wide ∙ first_long
 
-    side-room : 9216 + (length l₂ - 9216) ≤ length l₂
-    side-room = omega (arith, second-long)
+    side_room : 9216 + (length l₂ - 9216) ≤ length l₂
+    side_room = omega (arith, second_long)
 
     -- and so has the third
-    pub cleared-third : Cleared l → Cleared (mid_of 9216 (length l₂ - 9216) l₂)
-    cleared-third C =
-        cleared-take (length l₂ - 9216)
-        (subst Cleared (sym (drop_put 4096 9216 l₁ y (omega arith) (omega (arith, first-long)) wide ∙ sym (drop-drop 5120 4096 l₁) ∙ ap (drop 5120) (drop_at x (drop 4096 l) 4096 n))) (cleared-drop 5120 (cleared-drop 4096 C)))
+    pub cleared_third : Cleared l → Cleared (mid_of 9216 (length l₂ - 9216) l₂)
+    cleared_third C =
+        cleared_take (length l₂ - 9216)
+        (subst Cleared (sym (drop_put 4096 9216 l₁ y (omega arith) (omega (arith, first_long)) wide ∙ sym (drop-drop 5120 4096 l₁) ∙ ap (drop 5120) (drop_at x (drop 4096 l) 4096 n))) (cleared_drop 5120 (cleared_drop 4096 C)))
 
-    pub room-third : {b : ℕ} {B : List ℕ} → PairsLinkable 2 b B 5120 → PairsLinkable 2 b B (length (mid_of 9216 (length l₂ - 9216) l₂))
-    room-third P = pairs-within P (omega (arith, mid-long 9216 (length l₂ - 9216) l₂ side-room, second-long))
+    pub room_third : {b : ℕ} {B : List ℕ} → PairsLinkable 2 b B 5120 → PairsLinkable 2 b B (length (mid_of 9216 (length l₂ - 9216) l₂))
+    room_third P = pairs_within P (omega (arith, mid_long 9216 (length l₂ - 9216) l₂ side_room, second_long))
 
     module _ (z : List ℕ) (k : length z ≡ length (mid_of 9216 (length l₂ - 9216) l₂)) where
       tail : length z ≡ length l₂ - 9216
-      tail = k ∙ mid-long 9216 (length l₂ - 9216) l₂ side-room
+      tail = k ∙ mid_long 9216 (length l₂ - 9216) l₂ side_room
 
-      pub all-long : length (put_mid 9216 (length l₂ - 9216) l₂ z) ≡ length l
-      all-long = put-long 9216 (length l₂ - 9216) l₂ side-room z tail ∙ second-long
+      pub all_long : length (put_mid 9216 (length l₂ - 9216) l₂ z) ≡ length l
+      all_long = put_long 9216 (length l₂ - 9216) l₂ side_room z tail ∙ second_long
 
-      pub all-built : {K : Kind} {t e b : ℕ} {C E B : List ℕ} → Linked K t C x → EdgesLinked e E y → SidesLinked b B z → MeshLinked K t e b C E B (put_mid 9216 (length l₂ - 9216) l₂ z)
-      all-built X Y Z =
-          let was : (i : ℕ) → i < 9216 → get_or (put_mid 9216 (length l₂ - 9216) l₂ z) i 0 ≡ get_or l₂ i 0 = put-before 9216 (length l₂ - 9216) l₂ side-room z tail in
-          mesh-from (put_mid 9216 (length l₂ - 9216) l₂ z) (omega (arith, all-long))
-          X (λ i h. was i (omega arith) ∙ put-before 4096 5120 l₁ edge-room y wide i h ∙ front_at 4096 l x n i h)
-          Y (λ i h. was (4096 + i) (omega arith) ∙ put-within 4096 5120 l₁ edge-room y wide i h)
-          Z (λ i h. put-within 9216 (length l₂ - 9216) l₂ side-room z tail i (omega (arith, second-long)))
+      pub all_built : {K : Kind} {t e b : ℕ} {C E B : List ℕ} → Linked K t C x → EdgesLinked e E y → SidesLinked b B z → MeshLinked K t e b C E B (put_mid 9216 (length l₂ - 9216) l₂ z)
+      all_built X Y Z =
+          let was : (i : ℕ) → i < 9216 → get_or (put_mid 9216 (length l₂ - 9216) l₂ z) i 0 ≡ get_or l₂ i 0 = put_before 9216 (length l₂ - 9216) l₂ side_room z tail in
+          mesh_from (put_mid 9216 (length l₂ - 9216) l₂ z) (omega (arith, all_long))
+          X (λ i h. was i (omega arith) ∙ put_before 4096 5120 l₁ edge_room y wide i h ∙ front_at 4096 l x n i h)
+          Y (λ i h. was (4096 + i) (omega arith) ∙ put_within 4096 5120 l₁ edge_room y wide i h)
+          Z (λ i h. put_within 9216 (length l₂ - 9216) l₂ side_room z tail i (omega (arith, second_long)))

@@ -8,14 +8,14 @@ use mathlib.Core.List.{List}
 use lib.ListN.{length, get_or}
 use lib.Seq.{ext_get_or}
 use Rattle.links.specs.Links.{lowest, holds, first_of, next_of, LinksOf}
-use Rattle.links.proofs.Lowest.{low_end, low-ext, holds-ext}
+use Rattle.links.proofs.Lowest.{low_end, low_ext, holds_ext}
 
 -- ---- one table
 
 module _ (P k R n : ℕ) (f : ℕ → ℕ → ℕ) (t t' : List ℕ) (L : LinksOf P k R n f t) (L' : LinksOf P k R n f t') where
   -- the same at every place
-  pub links-agree : (j : ℕ) → j < P + k * R → get_or t j 0 ≡ get_or t' j 0
-  links-agree j h = by (dec_lt j P) (ℕ_discrete R 0)
+  pub links_agree : (j : ℕ) → j < P + k * R → get_or t j 0 ≡ get_or t' j 0
+  links_agree j h = by (dec_lt j P) (ℕ_discrete R 0)
     where
       by : Dec (j < P) → Dec (R ≡ 0) → get_or t j 0 ≡ get_or t' j 0
       by (yes l) d = L.heads j l ∙ sym (L'.heads j l)
@@ -29,15 +29,15 @@ module _ (P k R n : ℕ) (f : ℕ → ℕ → ℕ) (t t' : List ℕ) (L : LinksO
           subst (λ (x : ℕ). get_or t x 0 ≡ get_or t' x 0) q (L.links _ _ c i ∙ sym (L'.links _ _ c i))
 
   -- so tables that have just these places are equal
-  pub links-same : length t ≡ P + k * R → length t' ≡ P + k * R → t ≡ t'
-  links-same e e' = ext_get_or 0 t t' (e ∙ sym e') (λ j h. links-agree j (omega (arith, e)))
+  pub links_same : length t ≡ P + k * R → length t' ≡ P + k * R → t ≡ t'
+  links_same e e' = ext_get_or 0 t t' (e ∙ sym e') (λ j h. links_agree j (omega (arith, e)))
 
 -- corners that agree have the same table
-pub links-ext : (P k R n : ℕ) (f g : ℕ → ℕ → ℕ) (t : List ℕ) → ((c i : ℕ) → c < k → i < n → f c i ≡ g c i) → LinksOf P k R n f t → LinksOf P k R n g t
+pub links_ext : (P k R n : ℕ) (f g : ℕ → ℕ → ℕ) (t : List ℕ) → ((c i : ℕ) → c < k → i < n → f c i ≡ g c i) → LinksOf P k R n f t → LinksOf P k R n g t
 unfolding first_of next_of
-links-ext P k R n f g t h L =
+links_ext P k R n f g t h L =
     record {
-      heads = λ v l. L.heads v l ∙ low-ext _ _ 0 n (λ i x y. holds-ext k f g v i (λ c m. h c i m (omega arith)));
+      heads = λ v l. L.heads v l ∙ low_ext _ _ 0 n (λ i x y. holds_ext k f g v i (λ c m. h c i m (omega arith)));
       links = λ c i m l. L.links c i m l ∙ link c i m (dec_lt i n);
     }
   where
@@ -45,4 +45,4 @@ links-ext P k R n f g t h L =
     link c i m (no l) = low_end _ (suc i) (n - suc i) (omega (arith, l)) ∙ sym (low_end _ (suc i) (n - suc i) (omega (arith, l)))
     link c i m (yes l) =
         ap (λ (u : ℕ). lowest (holds k f u) (suc i) (n - suc i)) (h c i m l)
-        ∙ low-ext _ _ (suc i) (n - suc i) (λ j x y. holds-ext k f g (g c i) j (λ b z. h b j z (omega arith)))
+        ∙ low_ext _ _ (suc i) (n - suc i) (λ j x y. holds_ext k f g (g c i) j (λ b z. h b j z (omega arith)))

@@ -7,12 +7,12 @@ use Rattle.links.specs.Links.{LinksOf}
 use Rattle.links.specs.Rooms.{CornersApart}
 use Rattle.mesh.specs.declared.Counts.{Counts}
 use Rattle.mesh.specs.Blocks.{LentIndicesIn}
-use Rattle.mesh.specs.Widths.{cornerColumns}
-use Rattle.mesh.specs.Limits.{particleLimit, triangleLimit, edgeLimit}
+use Rattle.mesh.specs.Widths.{corner_columns}
+use Rattle.mesh.specs.Limits.{particle_limit, triangle_limit, edge_limit}
 
 -- the table is that of the first t triangles of a block of corners
 abbrev pub TrianglesLinked : ℕ → List ℕ → List ℕ → Type 0
-TrianglesLinked t corners links = LinksOf particleLimit cornerColumns triangleLimit t (cell 0 (length corners / cornerColumns) corners) links
+TrianglesLinked t corners links = LinksOf particle_limit corner_columns triangle_limit t (cell 0 (length corners / corner_columns) corners) links
 
 -- where the elements are triangles, the table is that of the first t triangles of the block
 pub record Linked (K : Kind) (t : ℕ) (corners links : List ℕ) : Type 0 where
@@ -21,25 +21,25 @@ pub record Linked (K : Kind) (t : ℕ) (corners links : List ℕ) : Type 0 where
 
 -- where the elements are triangles, such a table can be built in lt places: there are at most 1,024 of them, their corners are among 1,024 particles, and none has one twice
 pub record Linkable (K : Kind) (t : ℕ) (corners : List ℕ) (lt : ℕ) : Type 0 where
-  pub few : t ≤ triangleLimit
-  pub rows : t ≤ length corners / cornerColumns
+  pub few : t ≤ triangle_limit
+  pub rows : t ≤ length corners / corner_columns
   pub long : K ≡ Triangles → 4096 ≤ lt
-  pub apart : K ≡ Triangles → CornersApart particleLimit cornerColumns t (cell 0 (length corners / cornerColumns) corners)
+  pub apart : K ≡ Triangles → CornersApart particle_limit corner_columns t (cell 0 (length corners / corner_columns) corners)
 
 -- the table is that of the first n rows of a block of w columns, whose first two columns name in each row two different ones of 1,024 particles
 pub record PairsLinked (w n : ℕ) (block table : List ℕ) : Type 0 where
   pub long : 5120 ≤ length table
   pub few : n ≤ 2048
   pub rows : n ≤ length block / w
-  pub are : LinksOf particleLimit 2 edgeLimit n (cell 0 (length block / w) block) table
-  pub apart : CornersApart particleLimit 2 n (cell 0 (length block / w) block)
+  pub are : LinksOf particle_limit 2 edge_limit n (cell 0 (length block / w) block) table
+  pub apart : CornersApart particle_limit 2 n (cell 0 (length block / w) block)
 
 -- such a table can be built in lt places
 pub record PairsLinkable (w n : ℕ) (block : List ℕ) (lt : ℕ) : Type 0 where
   pub long : 5120 ≤ lt
   pub few : n ≤ 2048
   pub rows : n ≤ length block / w
-  pub apart : CornersApart particleLimit 2 n (cell 0 (length block / w) block)
+  pub apart : CornersApart particle_limit 2 n (cell 0 (length block / w) block)
 
 -- the table is that of the first e edges, by their ends
 abbrev pub EdgesLinked : ℕ → List ℕ → List ℕ → Type 0

@@ -57,7 +57,7 @@ pub record LinkRead (P k R S v i : ℕ) (corners : List ℕ) (lt : ℕ) : Type 0
 
 -- every place has 0
 pub record Cleared (t : List ℕ) : Type 0 where
-  pub zero-at : (j : ℕ) → j < length t → get_or t j 0 ≡ 0
+  pub zero_at : (j : ℕ) → j < length t → get_or t j 0 ≡ 0
 
 -- r is the first cell that holds v, whatever cells the table is of
 pub record FirstIs (v : ℕ) (table : List ℕ) (r : ℕ) : Type 0 where

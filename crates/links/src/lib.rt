@@ -5,7 +5,7 @@
 
 ghost use Rattle.std.specs.Prelude.{◌<◌, ◌≤◌, length};
 ghost use Rattle.columns.specs.Block.{cell};
-ghost use Rattle.elements.specs.Table.{kindIs};
+ghost use Rattle.elements.specs.Table.{kind_is};
 ghost use Rattle.links.specs.Links.{LinksOf};
 ghost use Rattle.links.specs.Rooms.{BuildRoom, RowLent, RowRead, LinkRead, CellLinked, ColumnOf, Cleared, FirstIs, NextIs, ListRoom, CellsListed};
 ghost use Rattle.links.specs.Linked.{Linked, Linkable, PairsLinked, PairsLinkable, MeshLinked, MeshLinkable};
@@ -70,8 +70,8 @@ pub fn build_links(
 
 // Builds the table of t triangles, where the elements are triangles.
 fn link_triangles(kind: Kind, t: usize, corners: &[usize], links: &mut [u16])
-    requires { Linkable (kindIs kind) t corners.now (length links.old) × Cleared links.old }
-    ensures { Linked (kindIs kind) t corners.now links.new }
+    requires { Linkable (kind_is kind) t corners.now (length links.old) × Cleared links.old }
+    ensures { Linked (kind_is kind) t corners.now links.new }
 {
     match kind {
         Kind::Triangles => {
@@ -111,8 +111,8 @@ pub fn link_mesh(
     outline: &[usize],
     links: &mut [u16],
 )
-    requires { MeshLinkable (kindIs kind) t e b corners.now ends.now outline.now (length links.old) × Cleared links.old }
-    ensures { MeshLinked (kindIs kind) t e b corners.now ends.now outline.now
+    requires { MeshLinkable (kind_is kind) t e b corners.now ends.now outline.now (length links.old) × Cleared links.old }
+    ensures { MeshLinked (kind_is kind) t e b corners.now ends.now outline.now
         links.new }
 {
     link_triangles(kind, t, corners, &mut links[..EDGES_FROM]);

@@ -8,8 +8,8 @@ use mathlib.Core.List.{List, [], ◌∷◌, ◌++◌}
 use lib.ListN.{length, length-append}
 use Rattle.lists.specs.Lists.{each}
 use Rattle.model.specs.Trace.{All}
-use Rattle.listing.specs.Listing.{digit, decimal, spaced, line, refusedWord, refusedBytes}
-use Rattle.listing.proofs.Decimal.{decimal-small, decimal-more}
+use Rattle.listing.specs.Listing.{digit, decimal, spaced, line, refused_word, refused_bytes}
+use Rattle.listing.proofs.Decimal.{decimal_small, decimal_more}
 
 -- ---- numbers
 
@@ -18,27 +18,27 @@ tens : ℕ → ℕ
 tens zero = 10
 tens (suc k) = 10 * tens k
 
-decimal-long : (k n : ℕ) → n < tens k → length (decimal n) ≤ suc k
+decimal_long : (k n : ℕ) → n < tens k → length (decimal n) ≤ suc k
 unfolding tens
-decimal-long zero n h = omega (arith, ap length (decimal-small n h))
-decimal-long (suc k) n h =
+decimal_long zero n h = omega (arith, ap length (decimal_small n h))
+decimal_long (suc k) n h =
     elim (dec_le 10 n) [
-      | yes l ↦ omega (arith, ap length (decimal-more n l), length-append (decimal (n / 10)) (digit (n % 10) ∷ []), decimal-long k (n / 10) (omega arith))
-      | no l ↦ omega (arith, ap length (decimal-small n (omega arith)))
+      | yes l ↦ omega (arith, ap length (decimal_more n l), length-append (decimal (n / 10)) (digit (n % 10) ∷ []), decimal_long k (n / 10) (omega arith))
+      | no l ↦ omega (arith, ap length (decimal_small n (omega arith)))
     ]
 
-pub four-digits : (n : ℕ) → n < 10000 → length (decimal n) ≤ 4
+pub four_digits : (n : ℕ) → n < 10000 → length (decimal n) ≤ 4
 unfolding tens
-four-digits n h = let e : tens 3 ≡ 10000 = refl in decimal-long 3 n (omega arith)
+four_digits n h = let e : tens 3 ≡ 10000 = refl in decimal_long 3 n (omega arith)
 
 -- numbers of 64 bits
 abbrev pub Wide : ℕ → Type 0
 Wide n = n < 18446744073709551616
 
 -- have at most 20 digits
-wide-long : (n : ℕ) → Wide n → length (decimal n) ≤ 20
+wide_long : (n : ℕ) → Wide n → length (decimal n) ≤ 20
 unfolding tens
-wide-long n h = let e : tens 19 ≡ 100000000000000000000 = refl in decimal-long 19 n (omega arith)
+wide_long n h = let e : tens 19 ≡ 100000000000000000000 = refl in decimal_long 19 n (omega arith)
 
 -- ---- lines
 
@@ -49,13 +49,13 @@ each_long P f m few [] h = omega arith
 each_long P f m few (a ∷ l) h = omega (arith, length-append (f a) (each f l), suc-mul (length l) m, few a h.0, each_long P f m few l h.1)
 
 -- a line has its word, at most 21 bytes a number, and its end
-pub line-long : (word numbers : List ℕ) → All Wide numbers → length (line word numbers) ≤ length word + length numbers * 21 + 1
+pub line_long : (word numbers : List ℕ) → All Wide numbers → length (line word numbers) ≤ length word + length numbers * 21 + 1
 unfolding line
-line-long word numbers h =
-    let e = each_long Wide spaced 21 (λ n w. omega (arith, wide-long n w)) numbers h in
+line_long word numbers h =
+    let e = each_long Wide spaced 21 (λ n w. omega (arith, wide_long n w)) numbers h in
     omega (arith, length-append (word ++ each spaced numbers) (10 ∷ []), length-append word (each spaced numbers))
 
 -- the line of a refusal
-pub refused-few : (n : ℕ) → Wide n → length (refusedBytes n) ≤ 65536
-unfolding refusedBytes
-refused-few n h = let e = line-long refusedWord (n ∷ []) (h, tt) in omega arith
+pub refused_few : (n : ℕ) → Wide n → length (refused_bytes n) ≤ 65536
+unfolding refused_bytes
+refused_few n h = let e = line_long refused_word (n ∷ []) (h, tt) in omega arith

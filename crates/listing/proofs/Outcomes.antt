@@ -11,7 +11,7 @@ use borrow.Author.Tests.{le-leb, lt-leb}
 use Rattle.lists.specs.Lists.{padded}
 use Rattle.listing.specs.declared.Written.{Written}
 use Rattle.listing.specs.declared.Written.TheVariants.{Short, Bytes}
-use Rattle.listing.specs.Answers.{answerFor, shownFor, Wrote, Told}
+use Rattle.listing.specs.Answers.{answer_for, shown_for, Wrote, Told}
 
 -- the two cases of the contract
 pub record Whole (text : List ℕ) (lent : ℕ) (s : List ℕ) (r : Written) : Type 0 where
@@ -26,7 +26,7 @@ pub record TooLong (text : List ℕ) (lent : ℕ) (s : List ℕ) (r : Written) :
 
 module _ (text : List ℕ) (lent : ℕ) (s : List ℕ) (r : Written) (w : Wrote text lent s r) where
   whole : length text ≤ lent → Whole text lent s r
-  unfolding answerFor shownFor
+  unfolding answer_for shown_for
   whole h =
       record {
         fits = h;
@@ -35,7 +35,7 @@ module _ (text : List ℕ) (lent : ℕ) (s : List ℕ) (r : Written) (w : Wrote 
       }
 
   too_long : lent < length text → TooLong text lent s r
-  unfolding answerFor shownFor padded
+  unfolding answer_for shown_for padded
   too_long h =
       record {
         longer = h;
@@ -44,9 +44,9 @@ module _ (text : List ℕ) (lent : ℕ) (s : List ℕ) (r : Written) (w : Wrote 
       }
 
   -- an answer of n bytes: the text has n bytes, and the first n of those lent are the text
-  pub wrote-bytes : (n : ℕ) → r ≡ Bytes n → (n ≡ length text) × (take n s ≡ text) × (s ≡ padded lent 0 text)
+  pub wrote_bytes : (n : ℕ) → r ≡ Bytes n → (n ≡ length text) × (take n s ≡ text) × (s ≡ padded lent 0 text)
   unfolding padded
-  wrote-bytes n e =
+  wrote_bytes n e =
       elim (dec_le (length text) lent) [
         | yes h ↦
             let v : Whole text lent s r = whole h in
@@ -61,8 +61,8 @@ module _ (text : List ℕ) (lent : ℕ) (s : List ℕ) (r : Written) (w : Wrote 
       ]
 
   -- the answer that the lent bytes are too few: so they are, and each is 0
-  pub wrote-short : r ≡ Short → (lent < length text) × (s ≡ replicate lent 0)
-  wrote-short e =
+  pub wrote_short : r ≡ Short → (lent < length text) × (s ≡ replicate lent 0)
+  wrote_short e =
       elim (dec_le (length text) lent) [
         | yes h ↦
             let v : Whole text lent s r = whole h in
@@ -73,18 +73,18 @@ module _ (text : List ℕ) (lent : ℕ) (s : List ℕ) (r : Written) (w : Wrote 
       ]
 
 -- two outcomes of one call agree
-pub wrote-agree : (text : List ℕ) (lent : ℕ) (s s' : List ℕ) (r r' : Written) → Wrote text lent s r → Wrote text lent s' r' → (s ≡ s') × (r ≡ r')
-wrote-agree text lent s s' r r' w w' = (w.bytes ∙ sym w'.bytes, w.answer ∙ sym w'.answer)
+pub wrote_agree : (text : List ℕ) (lent : ℕ) (s s' : List ℕ) (r r' : Written) → Wrote text lent s r → Wrote text lent s' r' → (s ≡ s') × (r ≡ r')
+wrote_agree text lent s s' r r' w w' = (w.bytes ∙ sym w'.bytes, w.answer ∙ sym w'.answer)
 
 -- ---- a text that 65,536 bytes are enough for
 
 -- so many lent bytes hold the whole text, and the answer is its length
-pub told-whole : (text : List ℕ) (lent : ℕ) (s : List ℕ) (r : Written) → Told text lent s r → 65536 ≤ lent → (r ≡ Bytes (length text)) × (take (length text) s ≡ text)
-told-whole text lent s Short T h = absurd (omega (arith, (wrote-short text lent s Short T.wrote refl).0, T.enough))
-told-whole text lent s (Bytes n) T h =
-    let w = wrote-bytes text lent s (Bytes n) T.wrote n refl in
+pub told_whole : (text : List ℕ) (lent : ℕ) (s : List ℕ) (r : Written) → Told text lent s r → 65536 ≤ lent → (r ≡ Bytes (length text)) × (take (length text) s ≡ text)
+told_whole text lent s Short T h = absurd (omega (arith, (wrote_short text lent s Short T.wrote refl).0, T.enough))
+told_whole text lent s (Bytes n) T h =
+    let w = wrote_bytes text lent s (Bytes n) T.wrote n refl in
     (ap Bytes w.0, subst (λ (k : ℕ). take k s ≡ text) w.0 w.1)
 
 -- two outcomes of one call agree
-pub told-agree : (text : List ℕ) (lent : ℕ) (s s' : List ℕ) (r r' : Written) → Told text lent s r → Told text lent s' r' → (s ≡ s') × (r ≡ r')
-told-agree text lent s s' r r' T T' = wrote-agree text lent s s' r r' T.wrote T'.wrote
+pub told_agree : (text : List ℕ) (lent : ℕ) (s s' : List ℕ) (r r' : Written) → Told text lent s r → Told text lent s' r' → (s ≡ s') × (r ≡ r')
+told_agree text lent s s' r r' T T' = wrote_agree text lent s s' r r' T.wrote T'.wrote

@@ -8,15 +8,15 @@ use lib.Ieee.{fin}
 use Rattle.lists.specs.Lists.{sift, each}
 use Rattle.float.specs.Numbers.{zero32, one}
 use Rattle.model.specs.Run.{Entry, split, edge, insert, met}
-use Rattle.model.specs.Calls.{Outcome, refused, done, cutCall}
-use Rattle.model.specs.Starred.{point, quarter, tenth, limits, strapMesh, listingMesh, blade}
-use Rattle.model.proofs.Starred.{Said, no-mesh, told, said, listing-worked, strap-worked}
+use Rattle.model.specs.Calls.{Outcome, refused, done, cut_call}
+use Rattle.model.specs.Starred.{point, quarter, tenth, limits, strap_mesh, listing_mesh, blade}
+use Rattle.model.proofs.Starred.{Said, no_mesh, told, said, listing_worked, strap_worked}
 use Rattle.mesh.specs.Log.{words_of}
-use Rattle.listing.specs.Listing.{decimalBy, decimal, line, ofKind, replacedLine, listingBytes, refusedBytes, printed}
+use Rattle.listing.specs.Listing.{decimal_by, decimal, line, of_kind, replaced_line, listing_bytes, refused_bytes, printed}
 
 -- `tear 1`, `split 4 0`, `split 5 2`, `edge 1 3`, `particles 6`, `pieces 2`, a line each
-abbrev pub worked-bytes : List ℕ
-worked-bytes =
+abbrev pub worked_bytes : List ℕ
+worked_bytes =
     116 ∷ 101 ∷ 97 ∷ 114 ∷ 32 ∷ 49 ∷ 10
     ∷ 115 ∷ 112 ∷ 108 ∷ 105 ∷ 116 ∷ 32 ∷ 52 ∷ 32 ∷ 48 ∷ 10
     ∷ 115 ∷ 112 ∷ 108 ∷ 105 ∷ 116 ∷ 32 ∷ 53 ∷ 32 ∷ 50 ∷ 10
@@ -25,8 +25,8 @@ worked-bytes =
     ∷ 112 ∷ 105 ∷ 101 ∷ 99 ∷ 101 ∷ 115 ∷ 32 ∷ 50 ∷ 10 ∷ []
 
 -- the log in the order of happening: the four sides that the blade meets, which have no line; copy 4 of 0, with which edge (1, 3) goes, then copy 5 of 2
-abbrev pub worked-log : List Entry
-worked-log =
+abbrev pub worked_log : List Entry
+worked_log =
     met 0 1 (point (pos 0) (pos 0)) zero32 ∷ met 1 2 (point (pos 4) (pos 4)) one ∷ met 0 3 (point (pos 0) (pos 0)) (fin true 0 (pos 0))
     ∷ met 2 3 (point (pos 4) (pos 4)) (fin true 0 (pos 0))
     ∷ split 4 0
@@ -34,13 +34,13 @@ worked-log =
     ∷ split 5 2
     ∷ []
 
-pub worked-listing : listingBytes false (map words_of worked-log) 6 2 ≡ worked-bytes
-unfolding listingBytes replacedLine ofKind sift each line decimal decimalBy
-worked-listing = refl
+pub worked_listing : listing_bytes false (map words_of worked_log) 6 2 ≡ worked_bytes
+unfolding listing_bytes replaced_line of_kind sift each line decimal decimal_by
+worked_listing = refl
 
 -- the same with the line of a replaced outline behind `tear 1`
-abbrev pub replaced-bytes : List ℕ
-replaced-bytes =
+abbrev pub replaced_bytes : List ℕ
+replaced_bytes =
     116 ∷ 101 ∷ 97 ∷ 114 ∷ 32 ∷ 49 ∷ 10
     ∷ 111 ∷ 117 ∷ 116 ∷ 108 ∷ 105 ∷ 110 ∷ 101 ∷ 32 ∷ 114 ∷ 101 ∷ 112 ∷ 108 ∷ 97 ∷ 99 ∷ 101 ∷ 100 ∷ 10
     ∷ 115 ∷ 112 ∷ 108 ∷ 105 ∷ 116 ∷ 32 ∷ 52 ∷ 32 ∷ 48 ∷ 10
@@ -49,49 +49,49 @@ replaced-bytes =
     ∷ 112 ∷ 97 ∷ 114 ∷ 116 ∷ 105 ∷ 99 ∷ 108 ∷ 101 ∷ 115 ∷ 32 ∷ 54 ∷ 10
     ∷ 112 ∷ 105 ∷ 101 ∷ 99 ∷ 101 ∷ 115 ∷ 32 ∷ 50 ∷ 10 ∷ []
 
-pub replaced-listing : listingBytes true (map words_of worked-log) 6 2 ≡ replaced-bytes
-unfolding listingBytes replacedLine ofKind sift each line decimal decimalBy
-replaced-listing = refl
+pub replaced_listing : listing_bytes true (map words_of worked_log) 6 2 ≡ replaced_bytes
+unfolding listing_bytes replaced_line of_kind sift each line decimal decimal_by
+replaced_listing = refl
 
 -- `tear 1`, `insert 0 1 2 3`, `particles 4`, `pieces 2`, a line each
-abbrev strap-bytes : List ℕ
-strap-bytes =
+abbrev strap_bytes : List ℕ
+strap_bytes =
     116 ∷ 101 ∷ 97 ∷ 114 ∷ 32 ∷ 49 ∷ 10
     ∷ 105 ∷ 110 ∷ 115 ∷ 101 ∷ 114 ∷ 116 ∷ 32 ∷ 48 ∷ 32 ∷ 49 ∷ 32 ∷ 50 ∷ 32 ∷ 51 ∷ 10
     ∷ 112 ∷ 97 ∷ 114 ∷ 116 ∷ 105 ∷ 99 ∷ 108 ∷ 101 ∷ 115 ∷ 32 ∷ 52 ∷ 10
     ∷ 112 ∷ 105 ∷ 101 ∷ 99 ∷ 101 ∷ 115 ∷ 32 ∷ 50 ∷ 10 ∷ []
 
-strap-listing : listingBytes false (map words_of (met 0 1 (point (pos 2) (pos 0)) quarter ∷ insert 0 1 2 3 quarter ∷ [])) 4 2 ≡ strap-bytes
-unfolding listingBytes replacedLine ofKind sift each line decimal decimalBy
-strap-listing = refl
+strap_listing : listing_bytes false (map words_of (met 0 1 (point (pos 2) (pos 0)) quarter ∷ insert 0 1 2 3 quarter ∷ [])) 4 2 ≡ strap_bytes
+unfolding listing_bytes replaced_line of_kind sift each line decimal decimal_by
+strap_listing = refl
 
 -- ---- from the mesh to the bytes
 
 -- what is printed depends only on what the worked case says of a result
-abbrev printed-said : Said → List ℕ
-printed-said (no-mesh code) = refusedBytes code
-printed-said (told t) = listingBytes false (map words_of t.log) t.particles t.pieces
+abbrev printed_said : Said → List ℕ
+printed_said (no_mesh code) = refused_bytes code
+printed_said (told t) = listing_bytes false (map words_of t.log) t.particles t.pieces
 
-printed-as : (o : Outcome) → printed false o ≡ printed-said (said o)
-printed-as (refused code) = refl
-printed-as (done M log changed) = refl
+printed_as : (o : Outcome) → printed false o ≡ printed_said (said o)
+printed_as (refused code) = refl
+printed_as (done M log changed) = refl
 
 -- the worked mesh, cut by (-1,-1) to (5,5)
-pub worked-printed : printed false (cutCall true listingMesh 1 (blade (negsuc 0) (negsuc 0) (pos 5) (pos 5)) tenth limits) ≡ worked-bytes
-worked-printed = printed-as (cutCall true listingMesh 1 (blade (negsuc 0) (negsuc 0) (pos 5) (pos 5)) tenth limits) ∙ ap printed-said listing-worked ∙ worked-listing
+pub worked_printed : printed false (cut_call true listing_mesh 1 (blade (negsuc 0) (negsuc 0) (pos 5) (pos 5)) tenth limits) ≡ worked_bytes
+worked_printed = printed_as (cut_call true listing_mesh 1 (blade (negsuc 0) (negsuc 0) (pos 5) (pos 5)) tenth limits) ∙ ap printed_said listing_worked ∙ worked_listing
 
 -- the worked strap, cut by (2,-1) to (2,1)
-pub strap-printed : printed false (cutCall true strapMesh 1 (blade (pos 2) (negsuc 0) (pos 2) (pos 1)) tenth limits) ≡ strap-bytes
-strap-printed = printed-as (cutCall true strapMesh 1 (blade (pos 2) (negsuc 0) (pos 2) (pos 1)) tenth limits) ∙ ap printed-said strap-worked ∙ strap-listing
+pub strap_printed : printed false (cut_call true strap_mesh 1 (blade (pos 2) (negsuc 0) (pos 2) (pos 1)) tenth limits) ≡ strap_bytes
+strap_printed = printed_as (cut_call true strap_mesh 1 (blade (pos 2) (negsuc 0) (pos 2) (pos 1)) tenth limits) ∙ ap printed_said strap_worked ∙ strap_listing
 
 -- ---- single lines and numbers
 
 -- `refused 9`
-pub worked-refused : refusedBytes 9 ≡ 114 ∷ 101 ∷ 102 ∷ 117 ∷ 115 ∷ 101 ∷ 100 ∷ 32 ∷ 57 ∷ 10 ∷ []
-unfolding refusedBytes each line decimal decimalBy
-worked-refused = refl
+pub worked_refused : refused_bytes 9 ≡ 114 ∷ 101 ∷ 102 ∷ 117 ∷ 115 ∷ 101 ∷ 100 ∷ 32 ∷ 57 ∷ 10 ∷ []
+unfolding refused_bytes each line decimal decimal_by
+worked_refused = refl
 
 -- `128`, and `1024`
-pub worked-number : (decimal 128 ≡ 49 ∷ 50 ∷ 56 ∷ []) × (decimal 1024 ≡ 49 ∷ 48 ∷ 50 ∷ 52 ∷ [])
-unfolding decimal decimalBy
-worked-number = (refl, refl)
+pub worked_number : (decimal 128 ≡ 49 ∷ 50 ∷ 56 ∷ []) × (decimal 1024 ≡ 49 ∷ 48 ∷ 50 ∷ 52 ∷ [])
+unfolding decimal decimal_by
+worked_number = (refl, refl)

@@ -5,17 +5,17 @@ use Rattle.listing.specs.declared.Written.{Written}
 use Rattle.listing.specs.declared.Written.TheVariants.{Short, Bytes}
 
 -- the answer: how many bytes the text has, or that the lent bytes are too few
-unfoldable pub answerFor : List ℕ → ℕ → Written
-answerFor text lent = pick (leb (length text) lent) (Bytes (length text)) Short
+unfoldable pub answer_for : List ℕ → ℕ → Written
+answer_for text lent = pick (leb (length text) lent) (Bytes (length text)) Short
 
 -- what the lent bytes show: the text where it fits, never a part of it, and 0 in all other bytes
-unfoldable pub shownFor : List ℕ → ℕ → List ℕ
-shownFor text lent = padded lent 0 (pick (leb (length text) lent) text [])
+unfoldable pub shown_for : List ℕ → ℕ → List ℕ
+shown_for text lent = padded lent 0 (pick (leb (length text) lent) text [])
 
 -- the answer, and every lent byte
 pub record Wrote (text : List ℕ) (lent : ℕ) (s : List ℕ) (r : Written) : Type 0 where
-  pub answer : r ≡ answerFor text lent
-  pub bytes : s ≡ shownFor text lent
+  pub answer : r ≡ answer_for text lent
+  pub bytes : s ≡ shown_for text lent
 
 -- what is told of a text that was to be written: the answer and every lent byte; and 65,536 bytes are always enough for it
 pub record Told (text : List ℕ) (lent : ℕ) (s : List ℕ) (r : Written) : Type 0 where

@@ -30,5 +30,5 @@ pub record Listable (words lent count : ℕ) : Type 0 where
   pub few : count ≤ 4
 
 -- the line of an entry of the kind, with the first of its numbers, and nothing of another entry
-unfoldable pub entryLine : List ℕ → ℕ → ℕ → Words → List ℕ
-entryLine word kind count e = pick (eqb e.kind kind) (line word (take count (e.a ∷ e.b ∷ e.p ∷ e.q ∷ []))) []
+unfoldable pub entry_line : List ℕ → ℕ → ℕ → Words → List ℕ
+entry_line word kind count e = pick (eqb e.kind kind) (line word (take count (e.a ∷ e.b ∷ e.p ∷ e.q ∷ []))) []

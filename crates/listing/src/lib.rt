@@ -3,10 +3,10 @@
 
 ghost use Rattle.std.specs.Prelude.{◌≡◌, [], ◌∷◌, ◌+◌, ◌*◌, ◌≤◌, ◌<◌, length};
 ghost use Rattle.lists.specs.Lists.{each};
-ghost use Rattle.mesh.specs.Log.{log_at, entryRow};
-ghost use Rattle.listing.specs.Listing.{digit as digitByte, decimal, line, replacedLine, listingBytes, refusedBytes};
+ghost use Rattle.mesh.specs.Log.{log_at, entry_row};
+ghost use Rattle.listing.specs.Listing.{digit as digit_byte, decimal, line, replaced_line, listing_bytes, refused_bytes};
 ghost use Rattle.listing.specs.Answers.{Wrote};
-ghost use Rattle.listing.specs.Work.{Appends, Cleared, Finishes, Listable, entryLine};
+ghost use Rattle.listing.specs.Work.{Appends, Cleared, Finishes, Listable, entry_line};
 
 // How far a text was written: so many bytes, or the lent bytes are too few for it.
 #[derive(Clone, Copy)]
@@ -45,7 +45,7 @@ pub fn put_text(out: &mut [u8], at: Written, text: &[u8]) -> Written
 // The byte of a digit.
 fn digit(d: usize) -> u8
     requires { d < 10 }
-    ensures { result ≡ digitByte d }
+    ensures { result ≡ digit_byte d }
 {
     (48 + d) as u8
 }
@@ -91,7 +91,7 @@ fn put_words(out: &mut [u8], at: Written, word: &[u8], words: &[u32]) -> Written
 
 // Writes the line of a replaced outline behind the text, where it was replaced.
 fn put_replaced(out: &mut [u8], at: Written, replaced: bool) -> Written
-    ensures { Appends (replacedLine replaced) out.old at out.new result }
+    ensures { Appends (replaced_line replaced) out.old at out.new result }
 {
     if replaced {
         let none: [usize; 0] = [];
@@ -111,7 +111,7 @@ fn put_entry(
     i: usize,
 ) -> Written
     requires { Listable (6 * i + 6) (length log.now) count }
-    ensures { Appends (entryLine word.now kind count (entryRow log.now i)) out.old at
+    ensures { Appends (entry_line word.now kind count (entry_row log.now i)) out.old at
         out.new result }
 {
     let place = 6 * i;
@@ -134,7 +134,7 @@ fn put_entries(
     log: &[u32],
 ) -> Written
     requires { Listable (6 * entries) (length log.now) count }
-    ensures { Appends (each (entryLine word.now kind count) (log_at entries log.now)) out.old at
+    ensures { Appends (each (entry_line word.now kind count) (log_at entries log.now)) out.old at
         out.new result }
 {
     let mut at = at;
@@ -179,7 +179,7 @@ pub fn write_listing(
     out: &mut [u8],
 ) -> Written
     requires { 6 * entries ≤ length log.now }
-    ensures { Wrote (listingBytes replaced (log_at entries log.now) particles pieces) (length out.old)
+    ensures { Wrote (listing_bytes replaced (log_at entries log.now) particles pieces) (length out.old)
         out.new result }
 {
     let edition = [1usize];
@@ -197,7 +197,7 @@ pub fn write_listing(
 
 // Writes the line of a refusal, and 0 behind it.
 pub fn write_refused(code: usize, out: &mut [u8]) -> Written
-    ensures { Wrote (refusedBytes code) (length out.old) out.new result }
+    ensures { Wrote (refused_bytes code) (length out.old) out.new result }
 {
     let number = [code];
     let at = put_line(out, Written::Bytes(0), b"refused", &number);

@@ -8,52 +8,52 @@ use native.Mathlib.Numerals.{add-one}
 use lib.ListN.{length, get_or, drop}
 use lib.Seq.{drop-cons}
 use Rattle.lists.specs.Lists.{pick, any, all, sift, fold, each, tab}
-use Rattle.lists.proofs.Sifts.{any_append, all_append, sift-append, each_append, fold-append, tab-suc}
-use Rattle.lists.proofs.Truths.{and-end, or-end}
+use Rattle.lists.proofs.Sifts.{any_append, all_append, sift_append, each_append, fold_append, tab_suc}
+use Rattle.lists.proofs.Truths.{and_end, or_end}
 
 -- one more row of a table
-pub tab-step : {A : Type 0} (f : ℕ → A) (i : ℕ) → tab (i + 1) f ≡ tab i f ++ (f i ∷ [])
-tab-step f i = rw (add-one i) (tab-suc i f)
+pub tab_step : {A : Type 0} (f : ℕ → A) (i : ℕ) → tab (i + 1) f ≡ tab i f ++ (f i ∷ [])
+tab_step f i = rw (add-one i) (tab_suc i f)
 
 module _ {A : Type 0} (p : A → Bool) where
   pub any_step : (f : ℕ → A) (i : ℕ) → any p (tab (i + 1) f) ≡ any p (tab i f) || p (f i)
   unfolding any
-  any_step f i = rw (tab-step f i, any_append p (tab i f) (f i ∷ []), or-end (p (f i)))
+  any_step f i = rw (tab_step f i, any_append p (tab i f) (f i ∷ []), or_end (p (f i)))
 
-  pub all-step : (f : ℕ → A) (i : ℕ) → all p (tab (i + 1) f) ≡ all p (tab i f) && p (f i)
+  pub all_step : (f : ℕ → A) (i : ℕ) → all p (tab (i + 1) f) ≡ all p (tab i f) && p (f i)
   unfolding all
-  all-step f i = rw (tab-step f i, all_append p (tab i f) (f i ∷ []), and-end (p (f i)))
+  all_step f i = rw (tab_step f i, all_append p (tab i f) (f i ∷ []), and_end (p (f i)))
 
-  pub sift-step : (f : ℕ → A) (i : ℕ) → sift p (tab (i + 1) f) ≡ sift p (tab i f) ++ pick (p (f i)) (f i ∷ []) []
+  pub sift_step : (f : ℕ → A) (i : ℕ) → sift p (tab (i + 1) f) ≡ sift p (tab i f) ++ pick (p (f i)) (f i ∷ []) []
   unfolding sift
-  sift-step f i = rw (tab-step f i, sift-append p (tab i f) (f i ∷ []))
+  sift_step f i = rw (tab_step f i, sift_append p (tab i f) (f i ∷ []))
 
   -- what is left of a list
-  pub any-drop : (l : List A) (i : ℕ) (d : A) → i < length l → any p (drop i l) ≡ p (get_or l i d) || any p (drop (i + 1) l)
+  pub any_drop : (l : List A) (i : ℕ) (d : A) → i < length l → any p (drop i l) ≡ p (get_or l i d) || any p (drop (i + 1) l)
   unfolding any
-  any-drop l i d h = rw (drop-cons l i d h, add-one i)
+  any_drop l i d h = rw (drop-cons l i d h, add-one i)
 
   pub all_drop : (l : List A) (i : ℕ) (d : A) → i < length l → all p (drop i l) ≡ p (get_or l i d) && all p (drop (i + 1) l)
   unfolding all
   all_drop l i d h = rw (drop-cons l i d h, add-one i)
 
-  pub sift-drop : (l : List A) (i : ℕ) (d : A) → i < length l → sift p (drop i l) ≡ pick (p (get_or l i d)) (get_or l i d ∷ sift p (drop (i + 1) l)) (sift p (drop (i + 1) l))
+  pub sift_drop : (l : List A) (i : ℕ) (d : A) → i < length l → sift p (drop i l) ≡ pick (p (get_or l i d)) (get_or l i d ∷ sift p (drop (i + 1) l)) (sift p (drop (i + 1) l))
   unfolding sift
-  sift-drop l i d h = rw (drop-cons l i d h, add-one i)
+  sift_drop l i d h = rw (drop-cons l i d h, add-one i)
 
 module _ {A B : Type 0} where
   pub each_step : (g : A → List B) (f : ℕ → A) (i : ℕ) → each g (tab (i + 1) f) ≡ each g (tab i f) ++ g (f i)
   unfolding each
-  each_step g f i = rw (tab-step f i, each_append g (tab i f) (f i ∷ []), append-nil (g (f i)))
+  each_step g f i = rw (tab_step f i, each_append g (tab i f) (f i ∷ []), append-nil (g (f i)))
 
   pub fold_step : (g : B → A → B) (b : B) (f : ℕ → A) (i : ℕ) → fold g b (tab (i + 1) f) ≡ g (fold g b (tab i f)) (f i)
   unfolding fold
-  fold_step g b f i = rw (tab-step f i, fold-append g b (tab i f) (f i ∷ []))
+  fold_step g b f i = rw (tab_step f i, fold_append g b (tab i f) (f i ∷ []))
 
-  pub each-drop : (g : A → List B) (l : List A) (i : ℕ) (d : A) → i < length l → each g (drop i l) ≡ g (get_or l i d) ++ each g (drop (i + 1) l)
+  pub each_drop : (g : A → List B) (l : List A) (i : ℕ) (d : A) → i < length l → each g (drop i l) ≡ g (get_or l i d) ++ each g (drop (i + 1) l)
   unfolding each
-  each-drop g l i d h = rw (drop-cons l i d h, add-one i)
+  each_drop g l i d h = rw (drop-cons l i d h, add-one i)
 
-  pub fold-drop : (g : B → A → B) (b : B) (l : List A) (i : ℕ) (d : A) → i < length l → fold g b (drop i l) ≡ fold g (g b (get_or l i d)) (drop (i + 1) l)
+  pub fold_drop : (g : B → A → B) (b : B) (l : List A) (i : ℕ) (d : A) → i < length l → fold g b (drop i l) ≡ fold g (g b (get_or l i d)) (drop (i + 1) l)
   unfolding fold
-  fold-drop g b l i d h = rw (drop-cons l i d h, add-one i)
+  fold_drop g b l i d h = rw (drop-cons l i d h, add-one i)

@@ -22,21 +22,21 @@ stored l i x j h =
     ]
 
 -- equal places hold the same
-pub at-eq : (l : List ℕ) {a b : ℕ} → a ≡ b → get_or l a 0 ≡ get_or l b 0
-at-eq l e = ap (λ (m : ℕ). get_or l m 0) e
+pub at_eq : (l : List ℕ) {a b : ℕ} → a ≡ b → get_or l a 0 ≡ get_or l b 0
+at_eq l e = ap (λ (m : ℕ). get_or l m 0) e
 
 module _ {A : Type 0} where
   -- a table that a function makes: its length, and each place
-  pub tab-length : (n : ℕ) (f : ℕ → A) → length (tab n f) ≡ n
+  pub tab_length : (n : ℕ) (f : ℕ → A) → length (tab n f) ≡ n
   unfolding tab
-  tab-length zero f = refl
-  tab-length (suc n) f = ap suc (tab-length n (λ k. f (suc k)))
+  tab_length zero f = refl
+  tab_length (suc n) f = ap suc (tab_length n (λ k. f (suc k)))
 
-  pub tab-at : (n : ℕ) (f : ℕ → A) (k : ℕ) (d : A) → k < n → get_or (tab n f) k d ≡ f k
+  pub tab_at : (n : ℕ) (f : ℕ → A) (k : ℕ) (d : A) → k < n → get_or (tab n f) k d ≡ f k
   unfolding tab
-  tab-at zero f k d h = absurd (not-suc-le-zero h)
-  tab-at (suc n) f zero d h = refl
-  tab-at (suc n) f (suc k) d h = tab-at n (λ j. f (suc j)) k d (le_of_suc-le-suc h)
+  tab_at zero f k d h = absurd (not-suc-le-zero h)
+  tab_at (suc n) f zero d h = refl
+  tab_at (suc n) f (suc k) d h = tab_at n (λ j. f (suc j)) k d (le_of_suc-le-suc h)
 
 -- each place of a list whose elements g changes
 pub map_at : {A B : Type 0} (g : A → B) (l : List A) (k : ℕ) (a : A) (b : B) → k < length l → get_or (map g l) k b ≡ g (get_or l k a)
@@ -45,5 +45,5 @@ map_at g (x ∷ l) zero a b h = refl
 map_at g (x ∷ l) (suc k) a b h = map_at g l k a b (le_of_suc-le-suc h)
 
 -- w for v: at v, and at any other number
-pub replaced-case : (v w z : ℕ) → ((z ≡ v) × (replaced v w z ≡ w)) ⊎ ((z ≡ v → ⊥) × (replaced v w z ≡ z))
-replaced-case v w z = elim (ℕ_discrete z v) [ yes e ↦ inl (e, rw (eq-eqb _ _ e)) | no n ↦ inr (n, rw (ne_eqb _ _ n)) ]
+pub replaced_case : (v w z : ℕ) → ((z ≡ v) × (replaced v w z ≡ w)) ⊎ ((z ≡ v → ⊥) × (replaced v w z ≡ z))
+replaced_case v w z = elim (ℕ_discrete z v) [ yes e ↦ inl (e, rw (eq-eqb _ _ e)) | no n ↦ inr (n, rw (ne_eqb _ _ n)) ]

@@ -9,13 +9,13 @@ use Rattle.lists.specs.Lists.{pick}
 pub untrue : {P : Type 0} → ◌≡◌ {A = Bool} false true → P
 untrue e = absurd (false≢true e)
 
-pub and-end : (s : Bool) → s && true ≡ s
-and-end true = refl
-and-end false = refl
+pub and_end : (s : Bool) → s && true ≡ s
+and_end true = refl
+and_end false = refl
 
-pub or-end : (s : Bool) → s || false ≡ s
-or-end true = refl
-or-end false = refl
+pub or_end : (s : Bool) → s || false ≡ s
+or_end true = refl
+or_end false = refl
 
 pub or_cases : (s t : Bool) → s || t ≡ true → (s ≡ true) ⊎ (t ≡ true)
 or_cases true t e = inl refl
@@ -26,25 +26,25 @@ or_left true t e = refl
 or_left false t e = untrue e
 
 -- what is not true is false
-pub not-true : (t : Bool) → (t ≡ true → ⊥) → t ≡ false
-not-true true n = absurd (n refl)
-not-true false n = refl
+pub not_true : (t : Bool) → (t ≡ true → ⊥) → t ≡ false
+not_true true n = absurd (n refl)
+not_true false n = refl
 
-pub of-not : (t : Bool) → true ≡ not t → t ≡ false
-of-not true e = absurd (true≢false e)
-of-not false e = refl
+pub of_not : (t : Bool) → true ≡ not t → t ≡ false
+of_not true e = absurd (true≢false e)
+of_not false e = refl
 
-pub of-not-false : (t : Bool) → false ≡ not t → t ≡ true
-of-not-false true e = refl
-of-not-false false e = untrue e
+pub of_not_false : (t : Bool) → false ≡ not t → t ≡ true
+of_not_false true e = refl
+of_not_false false e = untrue e
 
 -- a truth value as a choice
-pub pick-self : (t : Bool) → t ≡ pick t true false
-pick-self true = refl
-pick-self false = refl
+pub pick_self : (t : Bool) → t ≡ pick t true false
+pick_self true = refl
+pick_self false = refl
 
 -- a mark that is put where s holds, and then where t holds
-pub mark-or : (s t : Bool) (x : ℕ) → pick t 1 (pick s 1 x) ≡ pick (s || t) 1 x
-mark-or true true x = refl
-mark-or true false x = refl
-mark-or false t x = refl
+pub mark_or : (s t : Bool) (x : ℕ) → pick t 1 (pick s 1 x) ≡ pick (s || t) 1 x
+mark_or true true x = refl
+mark_or true false x = refl
+mark_or false t x = refl

@@ -26,18 +26,18 @@ unfoldable pub merged : ℕ → ℕ → List ℕ → List ℕ
 merged x y p = map (replaced (max x y) (min x y)) p
 
 -- a pair that the test joins gets one label
-unfoldable pub joinPair : (ℕ → ℕ → Bool) → ℕ → ℕ → List ℕ → List ℕ
-joinPair near i j p = pick (near i j) (merged (get_or p i 0) (get_or p j 0) p) p
+unfoldable pub join_pair : (ℕ → ℕ → Bool) → ℕ → ℕ → List ℕ → List ℕ
+join_pair near i j p = pick (near i j) (merged (get_or p i 0) (get_or p j 0) p) p
 
 -- i with each of the m places from j on; and each of the m places from i on with each later one of n
-unfoldable pub joinRow : (ℕ → ℕ → Bool) → ℕ → ℕ → ℕ → List ℕ → List ℕ
-joinRow near i zero j p = p
-joinRow near i (suc m) j p = joinRow near i m (suc j) (joinPair near i j p)
+unfoldable pub join_row : (ℕ → ℕ → Bool) → ℕ → ℕ → ℕ → List ℕ → List ℕ
+join_row near i zero j p = p
+join_row near i (suc m) j p = join_row near i m (suc j) (join_pair near i j p)
 
-unfoldable pub joinRows : (ℕ → ℕ → Bool) → ℕ → ℕ → ℕ → List ℕ → List ℕ
-joinRows near n zero i p = p
-joinRows near n (suc m) i p = joinRows near n m (suc i) (joinRow near i (n - suc i) (suc i) p)
+unfoldable pub join_rows : (ℕ → ℕ → Bool) → ℕ → ℕ → ℕ → List ℕ → List ℕ
+join_rows near n zero i p = p
+join_rows near n (suc m) i p = join_rows near n m (suc i) (join_row near i (n - suc i) (suc i) p)
 
 -- each place starts with its own number, and each pair that the test joins is joined
 unfoldable pub labelled : (ℕ → ℕ → Bool) → ℕ → List ℕ
-labelled near n = joinRows near n n 0 (up_to n)
+labelled near n = join_rows near n n 0 (up_to n)

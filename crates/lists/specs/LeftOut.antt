@@ -17,6 +17,6 @@ unfoldable pub without : {A : Type 0} → ℕ → List A → List A
 without i l = take i l ++ drop (suc i) l
 
 -- a list without the elements at the places of a rising list: the last goes first
-unfoldable pub leftOut : {A : Type 0} → List ℕ → List A → List A
-leftOut [] l = l
-leftOut (i ∷ is) l = without i (leftOut is l)
+unfoldable pub left_out : {A : Type 0} → List ℕ → List A → List A
+left_out [] l = l
+left_out (i ∷ is) l = without i (left_out is l)

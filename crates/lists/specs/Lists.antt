@@ -13,11 +13,11 @@ stands x [] = false
 stands x (y ∷ b) = pick (eqb y x) true (stands x b)
 
 -- the same numbers in the same order
-unfoldable pub sameRow : List ℕ → List ℕ → Bool
-sameRow [] [] = true
-sameRow [] (y ∷ s) = false
-sameRow (x ∷ r) [] = false
-sameRow (x ∷ r) (y ∷ s) = eqb x y && sameRow r s
+unfoldable pub same_row_of : List ℕ → List ℕ → Bool
+same_row_of [] [] = true
+same_row_of [] (y ∷ s) = false
+same_row_of (x ∷ r) [] = false
+same_row_of (x ∷ r) (y ∷ s) = eqb x y && same_row_of r s
 
 -- some element passes; every element passes
 unfoldable pub any : {A : Type 0} → (A → Bool) → List A → Bool
@@ -33,9 +33,9 @@ unfoldable pub sift : {A : Type 0} → (A → Bool) → List A → List A
 sift p [] = []
 sift p (a ∷ l) = pick (p a) (a ∷ sift p l) (sift p l)
 
-unfoldable pub siftAt : {A : Type 0} → (ℕ → A → Bool) → List A → List A
-siftAt p [] = []
-siftAt p (a ∷ l) = pick (p 0 a) (a ∷ siftAt (λ k. p (suc k)) l) (siftAt (λ k. p (suc k)) l)
+unfoldable pub sift_at : {A : Type 0} → (ℕ → A → Bool) → List A → List A
+sift_at p [] = []
+sift_at p (a ∷ l) = pick (p 0 a) (a ∷ sift_at (λ k. p (suc k)) l) (sift_at (λ k. p (suc k)) l)
 
 -- the first element that passes
 unfoldable pub find : {A : Type 0} → (A → Bool) → List A → Option A
@@ -58,9 +58,9 @@ pairs [] = []
 pairs (a ∷ l) = map (λ b. (a, b)) l ++ pairs l
 
 -- g, at each place with its number
-unfoldable pub mapAt : {A B : Type 0} → (ℕ → A → B) → List A → List B
-mapAt g [] = []
-mapAt g (a ∷ l) = g 0 a ∷ mapAt (λ k. g (suc k)) l
+unfoldable pub map_at_of : {A B : Type 0} → (ℕ → A → B) → List A → List B
+map_at_of g [] = []
+map_at_of g (a ∷ l) = g 0 a ∷ map_at_of (λ k. g (suc k)) l
 
 -- has the list no element
 abbrev pub empty : {A : Type 0} → List A → Bool
@@ -115,8 +115,8 @@ keep [] (a ∷ l) = a ∷ keep [] l
 keep (b ∷ m) (a ∷ l) = pick (eqb b 1) (keep m l) (a ∷ keep m l)
 
 -- how many of the first n places the mask keeps
-unfoldable pub keptOf : List ℕ → ℕ → ℕ
-keptOf m n = length (keep m (up_to n))
+unfoldable pub kept_of : List ℕ → ℕ → ℕ
+kept_of m n = length (keep m (up_to n))
 
 -- which of the first n places is the kth that the mask keeps
 unfoldable pub nth : List ℕ → ℕ → ℕ → ℕ

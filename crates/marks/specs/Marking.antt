@@ -7,13 +7,13 @@ use Rattle.blade.specs.declared.Point.{Point}
 use Rattle.blade.specs.declared.Hit.{Hit}
 use Rattle.blade.specs.declared.Hit.TheVariants.{Miss}
 use Rattle.model.specs.Mesh.{Mesh}
-use Rattle.model.specs.Elements.{Triangles, Element, place_of, elementsOf}
-use Rattle.model.specs.Run.{Run, splitsOf}
+use Rattle.model.specs.Elements.{Triangles, Element, place_of, elements_of}
+use Rattle.model.specs.Run.{Run, splits_of}
 use Rattle.model.specs.Cut as M
-use Rattle.model.specs.Cut.{rounded, signs, Blade, hitBy, hit?, ifMet, splitEnds, nearCorners}
-use Rattle.mesh.specs.At.{trianglesAt}
+use Rattle.model.specs.Cut.{rounded, signs, Blade, hit_by, hit?, if_met, split_ends, near_corners}
+use Rattle.mesh.specs.At.{triangles_at}
 use Rattle.mesh.specs.Log.{Words, words_of, log_at}
-use Rattle.mesh.specs.Widths.{pointColumns, cornerColumns}
+use Rattle.mesh.specs.Widths.{point_columns, corner_columns}
 use Rattle.work.specs.Places.{CornersIn}
 use Rattle.split_plan.specs.Opened.{place_in}
 use Rattle.marks.specs.declared.Rule.{Rule}
@@ -36,71 +36,71 @@ abbrev pub PlacesIn : Mesh → ℕ → List Float → Type 0
 PlacesIn M p points = (w : ℕ) → w < p → place_of M w ≡ place_in points w
 
 -- which of the definitions' rules one of the program's is
-abbrev pub ruleIs : Rule → M.Rule
-ruleIs Rounded = rounded
-ruleIs Signs = signs
+abbrev pub rule_is : Rule → M.Rule
+rule_is Rounded = rounded
+rule_is Signs = signs
 
 -- the blade from b0 to b1 by a rule, and by rounded numbers
-abbrev pub bladeBy : Rule → Point → Point → Blade
-bladeBy r b0 b1 = record { line = record { from = b0; to = b1 }; rule = ruleIs r }
+abbrev pub blade_by : Rule → Point → Point → Blade
+blade_by r b0 b1 = record { line = record { from = b0; to = b1 }; rule = rule_is r }
 
-abbrev pub bladeFrom : Point → Point → Blade
-bladeFrom b0 b1 = bladeBy Rounded b0 b1
+abbrev pub blade_from : Point → Point → Blade
+blade_from b0 b1 = blade_by Rounded b0 b1
 
 -- ---- candidates
 
 -- the blade test on a pair of particles, by the block of points
-abbrev pub hitIn : Blade → List Float → ℕ × ℕ → Hit
-hitIn B points xy = hitBy B.rule B.line.from B.line.to (place_in points xy.0) (place_in points xy.1)
+abbrev pub hit_in : Blade → List Float → ℕ × ℕ → Hit
+hit_in B points xy = hit_by B.rule B.line.from B.line.to (place_in points xy.0) (place_in points xy.1)
 
 -- is the product of each two of three offsets above 0
-abbrev pub alikeBy : Float → Float → Float → Bool
-alikeBy x y z = lt zero32 (times x y) && lt zero32 (times x z) && lt zero32 (times y z)
+abbrev pub alike_by : Float → Float → Float → Bool
+alike_by x y z = lt zero32 (times x y) && lt zero32 (times x z) && lt zero32 (times y z)
 
 -- what is told of three particles: if true, the blade meets no side between them
 pub record BesideTold (B : Blade) (points : List Float) (x y z : ℕ) (b : Bool) : Type 0 where
-  pub first : b ≡ true → hitIn B points (x, y) ≡ Miss
-  pub second : b ≡ true → hitIn B points (x, z) ≡ Miss
-  pub third : b ≡ true → hitIn B points (y, z) ≡ Miss
+  pub first : b ≡ true → hit_in B points (x, y) ≡ Miss
+  pub second : b ≡ true → hit_in B points (x, z) ≡ Miss
+  pub third : b ≡ true → hit_in B points (y, z) ≡ Miss
 
 -- the ends of a pair of corners that the blade meets, by the block of points
-unfoldable pub metIn : Blade → List Float → ℕ × ℕ → List ℕ
-metIn B points xy = pick (hit? (hitIn B points xy)) (xy.0 ∷ xy.1 ∷ []) []
+unfoldable pub met_in : Blade → List Float → ℕ × ℕ → List ℕ
+met_in B points xy = pick (hit? (hit_in B points xy)) (xy.0 ∷ xy.1 ∷ []) []
 
 -- the same of all pairs of a triangle's corners
-unfoldable pub metOf : Blade → List Float → List ℕ → List ℕ
-metOf B points corners = each (metIn B points) (pairs corners)
+unfoldable pub met_of : Blade → List Float → List ℕ → List ℕ
+met_of B points corners = each (met_in B points) (pairs corners)
 
 -- every end of a triangle's side that the blade meets: `candidates` are these, rising
-unfoldable pub candidateEnds : Blade → Mesh → List ℕ
-candidateEnds B M = each (λ (e : Element). each (ifMet B M) (pairs e.corners)) (elementsOf Triangles M)
+unfoldable pub candidate_ends : Blade → Mesh → List ℕ
+candidate_ends B M = each (λ (e : Element). each (if_met B M) (pairs e.corners)) (elements_of Triangles M)
 
 -- the corners of t triangles stand in the block, and name particles of the block of points
 pub record CandidateRoom (t : ℕ) (corners : List ℕ) (lp : ℕ) : Type 0 where
-  pub long : t ≤ length corners / cornerColumns
-  pub corners-in : CornersIn (lp / pointColumns) t corners
+  pub long : t ≤ length corners / corner_columns
+  pub corners_in : CornersIn (lp / point_columns) t corners
 
 -- the candidates of every mesh of these triangles and places are marked
 pub record CandidatesMarked (B : Blade) (t : ℕ) (points : List Float) (corners marks : List ℕ) : Type 0 where
-  pub marked : (M : Mesh) (p : ℕ) (volumes : List Float) → PlacesIn M p points → CornersIn p t corners → M.triangles ≡ trianglesAt t corners volumes → Marks (candidateEnds B M) marks
+  pub marked : (M : Mesh) (p : ℕ) (volumes : List Float) → PlacesIn M p points → CornersIn p t corners → M.triangles ≡ triangles_at t corners volumes → Marks (candidate_ends B M) marks
 
 -- ---- the log
 
 -- does an entry's first word tell of a split
-abbrev pub splitWords : Words → Bool
-splitWords w = eqb w.kind 1
+abbrev pub split_words : Words → Bool
+split_words w = eqb w.kind 1
 
 -- the copy and the source that an entry tells of
-unfoldable pub endsIn : Words → List ℕ
-endsIn w = pick (splitWords w) (w.a ∷ w.b ∷ []) []
+unfoldable pub ends_in_of : Words → List ℕ
+ends_in_of w = pick (split_words w) (w.a ∷ w.b ∷ []) []
 
 -- the copies and sources of every run with this log are marked
 pub record NearMarked (l : ℕ) (log near : List ℕ) : Type 0 where
-  pub marked : (R : Run) → log_at l log ≡ map words_of R.log → Marks (splitEnds R) near
+  pub marked : (R : Run) → log_at l log ≡ map words_of R.log → Marks (split_ends R) near
 
 -- r says whether anything split in a run with this log
 pub record SplitFound (l : ℕ) (log : List ℕ) (r : Bool) : Type 0 where
-  pub is : (R : Run) → log_at l log ≡ map words_of R.log → r ≡ not (empty (splitsOf R.log))
+  pub is : (R : Run) → log_at l log ≡ map words_of R.log → r ≡ not (empty (splits_of R.log))
 
 -- ---- pinched
 
@@ -109,18 +109,18 @@ abbrev pub marked? : List ℕ → ℕ → Bool
 marked? marks w = eqb (get_or marks w 0) 1
 
 -- the corners of a row with a marked one
-unfoldable pub nearRow : List ℕ → List ℕ → List ℕ
-nearRow near corners = pick (any (marked? near) corners) corners []
+unfoldable pub near_row : List ℕ → List ℕ → List ℕ
+near_row near corners = pick (any (marked? near) corners) corners []
 
 -- every corner of a triangle that touches a copy or its source: `pinched` are these, rising
-unfoldable pub pinchedEnds : Run → List ℕ
-pinchedEnds R = each (nearCorners (splitEnds R)) (elementsOf Triangles R.mesh)
+unfoldable pub pinched_ends : Run → List ℕ
+pinched_ends R = each (near_corners (split_ends R)) (elements_of Triangles R.mesh)
 
 -- the corners of t triangles stand in the block, and name particles that may be near
 pub record PinchedRoom (t : ℕ) (corners : List ℕ) (ln : ℕ) : Type 0 where
-  pub long : t ≤ length corners / cornerColumns
-  pub corners-in : CornersIn ln t corners
+  pub long : t ≤ length corners / corner_columns
+  pub corners_in : CornersIn ln t corners
 
 -- the pinched of every run of these triangles are marked, where the near are
 pub record PinchedMarked (t : ℕ) (corners near marks : List ℕ) : Type 0 where
-  pub marked : (R : Run) (volumes : List Float) → R.mesh.triangles ≡ trianglesAt t corners volumes → CornersIn (length near) t corners → Marks (splitEnds R) near → Marks (pinchedEnds R) marks
+  pub marked : (R : Run) (volumes : List Float) → R.mesh.triangles ≡ triangles_at t corners volumes → CornersIn (length near) t corners → Marks (split_ends R) near → Marks (pinched_ends R) marks

@@ -1,9 +1,9 @@
 // Marks of particles: the candidates of a cut, the particles near a split, and the pinched.
 ghost use Rattle.std.specs.Prelude.{◌≡◌, [], ◌∷◌, ◌/◌, ◌<◌, ◌≤◌, length};
 ghost use Rattle.lists.specs.Lists.{any};
-ghost use Rattle.model.specs.Cut.{hitBy};
-ghost use Rattle.marks.specs.Marking.{MarkedBy, alikeBy, BesideTold, ruleIs, bladeBy, metIn, metOf, CandidateRoom, CandidatesMarked, NearMarked, SplitFound, marked?, nearRow, PinchedRoom, PinchedMarked};
-ghost use Rattle.mesh.specs.Widths.{pointColumns, entryWords};
+ghost use Rattle.model.specs.Cut.{hit_by};
+ghost use Rattle.marks.specs.Marking.{MarkedBy, alike_by, BesideTold, rule_is, blade_by, met_in, met_of, CandidateRoom, CandidatesMarked, NearMarked, SplitFound, marked?, near_row, PinchedRoom, PinchedMarked};
+ghost use Rattle.mesh.specs.Widths.{point_columns, entry_words};
 
 use crate::Rule;
 use blade::{Hit, Point};
@@ -20,7 +20,7 @@ fn mark(w: usize, marks: &mut [usize])
 
 // The blade test of a rule.
 pub fn tested(rule: Rule, b0: Point, b1: Point, p: Point, q: Point) -> Hit
-    ensures { result ≡ hitBy (ruleIs rule) b0 b1 p q }
+    ensures { result ≡ hit_by (rule_is rule) b0 b1 p q }
 {
     match rule {
         Rule::Rounded => blade::blade_hit(b0, b1, p, q),
@@ -30,7 +30,7 @@ pub fn tested(rule: Rule, b0: Point, b1: Point, p: Point, q: Point) -> Hit
 
 // Is the product of each two above 0?
 fn alike(x: f32, y: f32, z: f32) -> bool
-    ensures { result ≡ alikeBy x y z }
+    ensures { result ≡ alike_by x y z }
 {
     if x * y > 0.0 {
         if x * z > 0.0 {
@@ -51,9 +51,9 @@ pub fn beside(
     z: usize,
     points: &[f32],
 ) -> bool
-    requires { (x < length points.now / pointColumns) × (y < length points.now / pointColumns)
-        × (z < length points.now / pointColumns) }
-    ensures { BesideTold (bladeBy rule b0 b1) points.now x y z result }
+    requires { (x < length points.now / point_columns) × (y < length points.now / point_columns)
+        × (z < length points.now / point_columns) }
+    ensures { BesideTold (blade_by rule b0 b1) points.now x y z result }
 {
     match rule {
         Rule::Rounded => {
@@ -76,8 +76,8 @@ fn mark_pair(
     points: &[f32],
     marks: &mut [usize],
 )
-    requires { (x < length points.now / pointColumns) × (y < length points.now / pointColumns) }
-    ensures { MarkedBy (metIn (bladeBy rule b0 b1) points.now (x, y)) marks.old marks.new }
+    requires { (x < length points.now / point_columns) × (y < length points.now / point_columns) }
+    ensures { MarkedBy (met_in (blade_by rule b0 b1) points.now (x, y)) marks.old marks.new }
 {
     let hit = tested(rule, b0, b1, place(x, points), place(y, points));
     let Hit::Hit(_, _) = hit else {
@@ -98,9 +98,9 @@ fn mark_sides(
     points: &[f32],
     marks: &mut [usize],
 )
-    requires { (x < length points.now / pointColumns) × (y < length points.now / pointColumns)
-        × (z < length points.now / pointColumns) }
-    ensures { MarkedBy (metOf (bladeBy rule b0 b1) points.now (x ∷ y ∷ z ∷ [])) marks.old
+    requires { (x < length points.now / point_columns) × (y < length points.now / point_columns)
+        × (z < length points.now / point_columns) }
+    ensures { MarkedBy (met_of (blade_by rule b0 b1) points.now (x ∷ y ∷ z ∷ [])) marks.old
         marks.new }
 {
     if beside(rule, b0, b1, x, y, z, points) {
@@ -122,7 +122,7 @@ pub fn mark_candidates(
     marks: &mut [usize],
 )
     requires { CandidateRoom t corners.now (length points.now) }
-    ensures { CandidatesMarked (bladeBy rule b0 b1) t points.now corners.now marks.new }
+    ensures { CandidatesMarked (blade_by rule b0 b1) t points.now corners.now marks.new }
 {
     columns::clear_usize(0, marks);
     let size = corners.len() / mesh::CORNER_COLUMNS;
@@ -146,7 +146,7 @@ pub fn mark_candidates(
 
 // Marks the copy and the source of each split of the first l entries of the log, and no other.
 pub fn mark_near(l: usize, log: &[u32], near: &mut [usize])
-    requires { l ≤ length log.now / entryWords }
+    requires { l ≤ length log.now / entry_words }
     ensures { NearMarked l log.now near.new }
 {
     columns::clear_usize(0, near);
@@ -163,7 +163,7 @@ pub fn mark_near(l: usize, log: &[u32], near: &mut [usize])
 
 // Do the first l entries of the log tell of a split?
 pub fn any_split(l: usize, log: &[u32]) -> bool
-    requires { l ≤ length log.now / entryWords }
+    requires { l ≤ length log.now / entry_words }
     ensures { SplitFound l log.now result }
 {
     let mut i: usize = 0;
@@ -194,7 +194,7 @@ fn one_near(x: usize, y: usize, z: usize, near: &[usize]) -> bool
 // Marks all three, if one of them is near.
 fn mark_three(x: usize, y: usize, z: usize, near: &[usize], marks: &mut [usize])
     requires { (x < length near.now) × (y < length near.now) × (z < length near.now) }
-    ensures { MarkedBy (nearRow near.now (x ∷ y ∷ z ∷ [])) marks.old marks.new }
+    ensures { MarkedBy (near_row near.now (x ∷ y ∷ z ∷ [])) marks.old marks.new }
 {
     if one_near(x, y, z, near) {
         mark(x, marks);

@@ -1,11 +1,11 @@
 // The sides of a fan by the blade.
 ghost use Rattle.std.specs.Prelude.{◌≡◌, ◌/◌, ◌<◌, length};
-ghost use Rattle.model.specs.Elements.{Triangles, cornersPer};
-ghost use Rattle.elements.specs.Table.{kindIs};
-ghost use Rattle.marks.specs.Marking.{bladeBy, bladeFrom};
+ghost use Rattle.model.specs.Elements.{Triangles, corners_per_of};
+ghost use Rattle.elements.specs.Table.{kind_is};
+ghost use Rattle.marks.specs.Marking.{blade_by, blade_from};
 ghost use Rattle.marks.specs.declared.Rule.TheVariants.{Signs};
-ghost use Rattle.marks.specs.Sided.{RowIn, leftIn, keptIn, sideBy, RowsIn, SidesRoom, SidesBy};
-ghost use Rattle.marks.specs.Signed.{TriangleIn, signAt, on?, keptSignIn, sideOfSign};
+ghost use Rattle.marks.specs.Sided.{RowIn, left_in, kept_in, side_by, RowsIn, SidesRoom, SidesBy};
+ghost use Rattle.marks.specs.Signed.{TriangleIn, sign_at, on?, kept_sign_in, side_of_sign_of};
 
 use crate::Rule;
 use blade::Point;
@@ -16,7 +16,7 @@ use split_plan::place;
 // Is the middle of two or three corners to the left of the blade?
 fn left_of(b0: Point, b1: Point, row: &[usize], points: &[f32]) -> bool
     requires { RowIn row.now (length points.now) }
-    ensures { result ≡ leftIn (bladeFrom b0 b1) points.now row.now }
+    ensures { result ≡ left_in (blade_from b0 b1) points.now row.now }
 {
     let x = place(row[0], points);
     let y = place(row[1], points);
@@ -38,7 +38,7 @@ fn kept_side(
     points: &[f32],
 ) -> bool
     requires { RowsIn v k n verts.now (length points.now) }
-    ensures { result ≡ keptIn (bladeFrom b0 b1) points.now v k n verts.now }
+    ensures { result ≡ kept_in (blade_from b0 b1) points.now v k n verts.now }
 {
     let own = blade::offset(b0, b1, place(v, points));
     if own != 0.0 {
@@ -52,7 +52,7 @@ fn kept_side(
 
 // 0 on the kept side, else 1.
 fn side_of(kept: bool, left: bool) -> usize
-    ensures { result ≡ sideBy kept left }
+    ensures { result ≡ side_by kept left }
 {
     if kept {
         return if left { 0 } else { 1 };
@@ -71,8 +71,8 @@ fn rounded_sides(
     points: &[f32],
     sides: &mut [usize],
 )
-    requires { SidesRoom v (cornersPer (kindIs kind)) n verts.now (length points.now) (length sides.old) }
-    ensures { SidesBy (kindIs kind) (bladeFrom b0 b1) v n verts.now points.now sides.new }
+    requires { SidesRoom v (corners_per_of (kind_is kind)) n verts.now (length points.now) (length sides.old) }
+    ensures { SidesBy (kind_is kind) (blade_from b0 b1) v n verts.now points.now sides.new }
 {
     let k = elements::corners_per(kind);
     let kept = kept_side(b0, b1, v, k, n, verts, points);
@@ -90,7 +90,7 @@ fn rounded_sides(
 // To which side the middle of a triangle lies, by its corners' offsets.
 fn row_sign(b0: Point, b1: Point, row: &[usize], points: &[f32]) -> Sign
     requires { TriangleIn row.now (length points.now) }
-    ensures { result ≡ signAt (bladeBy Signs b0 b1) points.now row.now }
+    ensures { result ≡ sign_at (blade_by Signs b0 b1) points.now row.now }
 {
     let x = blade::offset(b0, b1, place(row[0], points));
     let y = blade::offset(b0, b1, place(row[1], points));
@@ -112,7 +112,7 @@ fn on_line(s: Sign) -> bool
 // The kept side: v's own, or that of the first triangle off the line where v lies on it.
 fn kept_sign(b0: Point, b1: Point, v: usize, n: usize, verts: &[usize], points: &[f32]) -> Sign
     requires { RowsIn v 3 n verts.now (length points.now) }
-    ensures { result ≡ keptSignIn (bladeBy Signs b0 b1) points.now v n verts.now }
+    ensures { result ≡ kept_sign_in (blade_by Signs b0 b1) points.now v n verts.now }
 {
     let own = exact::sign_of(blade::offset(b0, b1, place(v, points)));
     if !on_line(own) {
@@ -134,7 +134,7 @@ fn kept_sign(b0: Point, b1: Point, v: usize, n: usize, verts: &[usize], points: 
 
 // 1 for what lies opposite to the kept side, else 0.
 fn side_of_sign(kept: Sign, s: Sign) -> usize
-    ensures { result ≡ sideOfSign kept s }
+    ensures { result ≡ side_of_sign_of kept s }
 {
     if exact::opposed(kept, s) { 1 } else { 0 }
 }
@@ -150,7 +150,7 @@ fn sign_sides(
     sides: &mut [usize],
 )
     requires { SidesRoom v 3 n verts.now (length points.now) (length sides.old) }
-    ensures { SidesBy Triangles (bladeBy Signs b0 b1) v n verts.now points.now sides.new }
+    ensures { SidesBy Triangles (blade_by Signs b0 b1) v n verts.now points.now sides.new }
 {
     let kept = kept_sign(b0, b1, v, n, verts, points);
     let mut i: usize = 0;
@@ -176,8 +176,8 @@ pub fn blade_sides(
     points: &[f32],
     sides: &mut [usize],
 )
-    requires { SidesRoom v (cornersPer (kindIs kind)) n verts.now (length points.now) (length sides.old) }
-    ensures { SidesBy (kindIs kind) (bladeBy rule b0 b1) v n verts.now points.now sides.new }
+    requires { SidesRoom v (corners_per_of (kind_is kind)) n verts.now (length points.now) (length sides.old) }
+    ensures { SidesBy (kind_is kind) (blade_by rule b0 b1) v n verts.now points.now sides.new }
 {
     let Rule::Signs = rule else {
         rounded_sides(kind, b0, b1, v, n, verts, points, sides);

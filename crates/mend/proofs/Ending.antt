@@ -11,84 +11,84 @@ use lib.Seq.{take_at, length-take-le}
 use Rattle.io.specs.Counts.{IsPrefixLen}
 use Rattle.lists.specs.Lists.{pick, padded, each}
 use Rattle.bits.specs.Bits.{bits_of}
-use Rattle.bits.proofs.Laws.{length-bitsOf}
-use Rattle.sheet.specs.Sheet.{countsAt, tooMany}
-use Rattle.sheet.proofs.There.{bitsOf-take}
-use Rattle.edition.specs.Edition.{second, bitsIn, bytesIn, typed_of}
-use Rattle.listing.specs.Listing.{decimal, digit, line, refusedBytes, refusedWord}
+use Rattle.bits.proofs.Laws.{length_bits_of}
+use Rattle.sheet.specs.Sheet.{counts_at, too_many_of}
+use Rattle.sheet.proofs.There.{bits_of_take}
+use Rattle.edition.specs.Edition.{second, bits_in_of, bytes_in, typed_of}
+use Rattle.listing.specs.Listing.{decimal, digit, line, refused_bytes, refused_word}
 use Rattle.listing.specs.Answers.{Wrote}
 use Rattle.listing.specs.declared.Written.{Written}
 use Rattle.listing.specs.declared.Written.TheVariants.{Short as Cut, Bytes as Told}
-use Rattle.listing.proofs.Decimal.{decimal-small}
-use Rattle.mending.specs.Sheets.{Mending, mended, refused, mendedSheet, sheetBytes, said_of, mendWith, mendOf}
-use Rattle.mender.specs.Answers.{fits, answerFor, bytes_of, text_of, MendDone}
+use Rattle.listing.proofs.Decimal.{decimal_small}
+use Rattle.mending.specs.Sheets.{Mending, mended, refused, mended_sheet, sheet_bytes, said_of, mend_with, mend_of}
+use Rattle.mender.specs.Answers.{fits, answer_for, bytes_of, text_of, MendDone}
 use Rattle.mender.specs.declared.Mended.{Mended}
 use Rattle.mender.specs.declared.Mended.TheVariants.{Bytes, Short, Refused}
-use Rattle.mender.proofs.Done.{wrote-told, wrote-cut}
-use Rattle.mender.proofs.Ends.{padded-front, tell, refused-tell, small-code}
+use Rattle.mender.proofs.Done.{wrote_told, wrote_cut}
+use Rattle.mender.proofs.Ends.{padded_front, tell, refused_tell, small_code}
 use Rattle.mender.proofs.Lengths.{enough}
-use Rattle.mend.specs.Printing.{printed, isMended, Printed}
+use Rattle.mend.specs.Printing.{printed, is_mended, Printed}
 
 counts : (n : ℕ) (l : List ℕ) → n ≤ length l → IsPrefixLen n l
 counts n l h = (h, sym (length-take-le n l h))
 
-says : (M : Mending) → M ≡ mended (bytes_of M) (text_of M) → (true ≡ isMended M) × (text_of M ≡ printed M)
-unfolding isMended printed
-says M e = (ap isMended (sym e), sym (ap printed e))
+says : (M : Mending) → M ≡ mended (bytes_of M) (text_of M) → (true ≡ is_mended M) × (text_of M ≡ printed M)
+unfolding is_mended printed
+says M e = (ap is_mended (sym e), sym (ap printed e))
 
-pub whole-end : (s : List ℕ) (a b : ℕ) (out said : List ℕ) (r : Mended) (n k : ℕ) → MendDone s a b out said r → r ≡ Bytes n k → length out ≡ a → length said ≡ b
+pub whole_end : (s : List ℕ) (a b : ℕ) (out said : List ℕ) (r : Mended) (n k : ℕ) → MendDone s a b out said r → r ≡ Bytes n k → length out ≡ a → length said ≡ b
     → IsPrefixLen n out × IsPrefixLen k said × Printed s out said (record { whole = true; sheet = n; text = k })
-whole-end s a b out said r n k d e lo ls =
-    let M = mendOf s in
+whole_end s a b out said r n k d e lo ls =
+    let M = mend_of s in
     let w = tell M a b n k (sym e ∙ d.answer) in
     let m = bytes_of M in
     let o : bits_of out ≡ padded (8 * a) 0 (bits_of m) = d.bits ∙ ap (λ (x : Bool). padded (8 * a) 0 (bits_of (pick x m []))) w.fit in
     let q : said ≡ padded b 0 (text_of M) = d.text ∙ ap (λ (x : Bool). padded b 0 (pick x (text_of M) [])) w.fit in
-    let l : 8 * n ≡ length (bits_of m) = ap (λ (j : ℕ). 8 * j) w.sheet ∙ sym (length-bitsOf m) in
-    let x : bits_of (take n out) ≡ bits_of m = bitsOf-take n out ∙ (ap (take (8 * n)) o ∙ (ap (λ (j : ℕ). take j (padded (8 * a) 0 (bits_of m))) l ∙ padded-front (8 * a) (bits_of m))) in
-    let y : take k said ≡ text_of M = ap (take k) q ∙ (ap (λ (j : ℕ). take j (padded b 0 (text_of M))) w.text ∙ padded-front b (text_of M)) in
-    (counts n out (omega (arith, w.room)), counts k said (omega (arith, w.room-text)), record { whole = (says M w.is).0; sheet = x; text = y ∙ (says M w.is).1 })
+    let l : 8 * n ≡ length (bits_of m) = ap (λ (j : ℕ). 8 * j) w.sheet ∙ sym (length_bits_of m) in
+    let x : bits_of (take n out) ≡ bits_of m = bits_of_take n out ∙ (ap (take (8 * n)) o ∙ (ap (λ (j : ℕ). take j (padded (8 * a) 0 (bits_of m))) l ∙ padded_front (8 * a) (bits_of m))) in
+    let y : take k said ≡ text_of M = ap (take k) q ∙ (ap (λ (j : ℕ). take j (padded b 0 (text_of M))) w.text ∙ padded_front b (text_of M)) in
+    (counts n out (omega (arith, w.room)), counts k said (omega (arith, w.room_text)), record { whole = (says M w.is).0; sheet = x; text = y ∙ (says M w.is).1 })
 
 -- ---- a refusal
 
-line-long : (n : ℕ) → n < 10 → length (refusedBytes n) ≤ 20
-unfolding refusedBytes line each
-line-long n h =
-    let d = ap length (decimal-small n h) in
+line_long : (n : ℕ) → n < 10 → length (refused_bytes n) ≤ 20
+unfolding refused_bytes line each
+line_long n h =
+    let d = ap length (decimal_small n h) in
     let x : List ℕ = 32 ∷ decimal n in
-    omega (arith, length-append (refusedWord ++ (x ++ [])) (10 ∷ []), length-append refusedWord (x ++ []), length-append x [])
+    omega (arith, length-append (refused_word ++ (x ++ [])) (10 ∷ []), length-append refused_word (x ++ []), length-append x [])
 
-printed-refused : (n : ℕ) → refusedBytes n ≡ printed (refused n)
+printed_refused : (n : ℕ) → refused_bytes n ≡ printed (refused n)
 unfolding printed
-printed-refused n = refl
+printed_refused n = refl
 
-not-whole : (n : ℕ) → false ≡ isMended (refused n)
-unfolding isMended
-not-whole n = refl
+not_whole : (n : ℕ) → false ≡ is_mended (refused n)
+unfolding is_mended
+not_whole n = refl
 
 no_bytes : (n : ℕ) → [] ≡ bytes_of (refused n)
 unfolding bytes_of
 no_bytes n = refl
 
-module _ (s : List ℕ) (a b : ℕ) (out said said' : List ℕ) (r : Mended) (n : ℕ) (line : Written) (d : MendDone s a b out said r) (e : r ≡ Refused n) (w : Wrote (refusedBytes n) b said' line) where
-  is : mendOf s ≡ refused n
-  is = refused-tell (mendOf s) a b n (sym e ∙ d.answer)
+module _ (s : List ℕ) (a b : ℕ) (out said said' : List ℕ) (r : Mended) (n : ℕ) (line : Written) (d : MendDone s a b out said r) (e : r ≡ Refused n) (w : Wrote (refused_bytes n) b said' line) where
+  is : mend_of s ≡ refused n
+  is = refused_tell (mend_of s) a b n (sym e ∙ d.answer)
 
   pub refused_end : (k : ℕ) → line ≡ Told k → length said' ≡ b → IsPrefixLen 0 out × IsPrefixLen k said' × Printed s out said' (record { whole = false; sheet = 0; text = k })
   refused_end k f l =
-      let v = wrote-told (refusedBytes n) b said' line k w f in
-      let y : take k said' ≡ refusedBytes n = ap (take k) v.2 ∙ (ap (λ (j : ℕ). take j (padded b 0 (refusedBytes n))) v.1 ∙ padded-front b (refusedBytes n)) in (
+      let v = wrote_told (refused_bytes n) b said' line k w f in
+      let y : take k said' ≡ refused_bytes n = ap (take k) v.2 ∙ (ap (λ (j : ℕ). take j (padded b 0 (refused_bytes n))) v.1 ∙ padded_front b (refused_bytes n)) in (
         counts 0 out (omega arith),
-        counts k said' (omega (arith, v.1, leb-true (length (refusedBytes n)) b v.0)),
-        record { whole = not-whole n ∙ ap isMended (sym is); sheet = ap bits_of (no_bytes n ∙ ap bytes_of (sym is)); text = y ∙ (printed-refused n ∙ ap printed (sym is)) },
+        counts k said' (omega (arith, v.1, leb-true (length (refused_bytes n)) b v.0)),
+        record { whole = not_whole n ∙ ap is_mended (sym is); sheet = ap bits_of (no_bytes n ∙ ap bytes_of (sym is)); text = y ∙ (printed_refused n ∙ ap printed (sym is)) },
       )
 
-  pub refused-fits : line ≡ Cut → 131072 ≤ b → ⊥
-  refused-fits f h = let v = wrote-cut (refusedBytes n) b said' line w f in omega (arith, leb-false (length (refusedBytes n)) b v.0, line-long n (small-code s n is))
+  pub refused_fits : line ≡ Cut → 131072 ≤ b → ⊥
+  refused_fits f h = let v = wrote_cut (refused_bytes n) b said' line w f in omega (arith, leb-false (length (refused_bytes n)) b v.0, line_long n (small_code s n is))
 
 -- too few lent bytes, which does not happen
-pub short-never : (s : List ℕ) (a b : ℕ) (out said : List ℕ) (r : Mended) → MendDone s a b out said r → r ≡ Short → 17292 ≤ a → 131072 ≤ b → ⊥
-short-never s a b out said r d e h g = enough s a b out said r h (omega arith) d e
+pub short_never : (s : List ℕ) (a b : ℕ) (out said : List ℕ) (r : Mended) → MendDone s a b out said r → r ≡ Short → 17292 ≤ a → 131072 ≤ b → ⊥
+short_never s a b out said r d e h g = enough s a b out said r h (omega arith) d e
 
 -- a length by another name
 pub wrote_as : (text : List ℕ) (a b : ℕ) (s : List ℕ) (r : Written) → Wrote text a s r → a ≡ b → Wrote text b s r

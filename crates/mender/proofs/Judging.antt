@@ -7,10 +7,10 @@ use native.Mathlib.Omega.{arith}
 use borrow.Author.Tests.{lt-ltb, le-ltb, eq-eqb, ne_eqb}
 use lib.ListN.{length}
 use Rattle.bits.specs.Bits.{bits_of}
-use Rattle.sheet.specs.Sheet.{countsAt, tooMany, above, most}
+use Rattle.sheet.specs.Sheet.{counts_at, too_many_of, above, most}
 use Rattle.sheet.specs.declared.Counts.{Counts}
-use Rattle.edition.specs.Edition.{second, bitsIn, bytesIn}
-use Rattle.mending.specs.Sheets.{mendWith, mendOf, refused}
+use Rattle.edition.specs.Edition.{second, bits_in_of, bytes_in}
+use Rattle.mending.specs.Sheets.{mend_with, mend_of, refused}
 use Rattle.mending.specs.Work.{Mendable}
 use Rattle.mender.specs.Work.{Judged}
 
@@ -20,29 +20,29 @@ nine e = omega (arith, e)
 one : ◌≡◌ {A = ℕ} 1 0 → ⊥
 one e = omega (arith, e)
 
-pub judge-short : (s : List ℕ) → length s < 6 → Judged s 9
-unfolding mendOf
-judge-short s h = record { yes = λ e. absurd (nine e); no = λ z. rw (lt-ltb (length s) 6 h) }
+pub judge_short : (s : List ℕ) → length s < 6 → Judged s 9
+unfolding mend_of
+judge_short s h = record { yes = λ e. absurd (nine e); no = λ z. rw (lt-ltb (length s) 6 h) }
 
 twice : (x : Bool) → (x || x) ≡ x
 twice true = refl
 twice false = refl
 
-module _ (s : List ℕ) (c : Counts) (six : 6 ≤ length s) (is : c ≡ countsAt (bitsIn (bits_of s))) where
-  few : (b : Bool) → (tooMany c || tooMany c) ≡ b → tooMany (countsAt (bitsIn (bits_of s))) ≡ b
-  few b e = ap tooMany (sym is) ∙ (sym (twice (tooMany c)) ∙ e)
+module _ (s : List ℕ) (c : Counts) (six : 6 ≤ length s) (is : c ≡ counts_at (bits_in_of (bits_of s))) where
+  few : (b : Bool) → (too_many_of c || too_many_of c) ≡ b → too_many_of (counts_at (bits_in_of (bits_of s))) ≡ b
+  few b e = ap too_many_of (sym is) ∙ (sym (twice (too_many_of c)) ∙ e)
 
-  pub judge-many : (tooMany c || tooMany c) ≡ true → Judged s 1
-  unfolding mendOf mendWith
-  judge-many e = record { yes = λ z. absurd (one z); no = λ z. rw (le-ltb (length s) 6 six, few true e) }
+  pub judge_many : (too_many_of c || too_many_of c) ≡ true → Judged s 1
+  unfolding mend_of mend_with
+  judge_many e = record { yes = λ z. absurd (one z); no = λ z. rw (le-ltb (length s) 6 six, few true e) }
 
-  module _ (t : Bool) (n : ℕ) (e : (tooMany c || tooMany c) ≡ false) (two : t ≡ second (bits_of s)) (long : n ≡ bytesIn t c) where
-    whole : n ≡ bytesIn (second (bits_of s)) (countsAt (bitsIn (bits_of s)))
-    whole = long ∙ ap₂ bytesIn two is
+  module _ (t : Bool) (n : ℕ) (e : (too_many_of c || too_many_of c) ≡ false) (two : t ≡ second (bits_of s)) (long : n ≡ bytes_in t c) where
+    whole : n ≡ bytes_in (second (bits_of s)) (counts_at (bits_in_of (bits_of s)))
+    whole = long ∙ ap₂ bytes_in two is
 
-    pub judge-right : length s ≡ n → Judged s 0
-    judge-right h = record { yes = λ z. record { few = few false e; long = h ∙ whole }; no = λ z. absurd (z refl) }
+    pub judge_right : length s ≡ n → Judged s 0
+    judge_right h = record { yes = λ z. record { few = few false e; long = h ∙ whole }; no = λ z. absurd (z refl) }
 
-    pub judge-long : (length s ≡ n → ⊥) → Judged s 9
-    unfolding mendOf mendWith
-    judge-long h = record { yes = λ z. absurd (nine z); no = λ z. rw (le-ltb (length s) 6 six, few false e, ne_eqb (length s) (bytesIn (second (bits_of s)) (countsAt (bitsIn (bits_of s)))) (λ x. h (x ∙ sym whole))) }
+    pub judge_long : (length s ≡ n → ⊥) → Judged s 9
+    unfolding mend_of mend_with
+    judge_long h = record { yes = λ z. absurd (nine z); no = λ z. rw (le-ltb (length s) 6 six, few false e, ne_eqb (length s) (bytes_in (second (bits_of s)) (counts_at (bits_in_of (bits_of s)))) (λ x. h (x ∙ sym whole))) }

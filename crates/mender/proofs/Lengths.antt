@@ -10,45 +10,45 @@ use lib.Dec.{eqb, leb}
 use lib.ListN.{length, length-append}
 use Rattle.lists.specs.Lists.{pick, each}
 use Rattle.bits.specs.Bits.{bits_of}
-use Rattle.sheet.specs.Sheet.{Sheet, countsAt, countsOf}
+use Rattle.sheet.specs.Sheet.{Sheet, counts_at, counts_of}
 use Rattle.sheet.specs.declared.Counts.{Counts}
-use Rattle.edition.specs.Edition.{second, bitsIn, bytesIn, typed_of}
-use Rattle.listing.specs.Listing.{spaced, edgeWord}
-use Rattle.listing.proofs.Lengths.{four-digits}
+use Rattle.edition.specs.Edition.{second, bits_in_of, bytes_in, typed_of}
+use Rattle.listing.specs.Listing.{spaced, edge_word}
+use Rattle.listing.proofs.Lengths.{four_digits}
 use Rattle.mending.specs.Mending.{Why, absent, twice, double, Drop}
-use Rattle.mending.specs.Sheets.{Mending, mended, refused, mendedSheet, sheetBytes, dropLine, whyWord, triangleWord, boundaryWord, said_of, mendOf}
-use Rattle.mending.specs.Work.{causeBy, doubleBy, saidBy, codes_of, boundaryFrom}
-use Rattle.mending.proofs.Bytes.{answered, sheet-length, typed-is}
-use Rattle.mender.specs.Answers.{answerFor, MendDone}
+use Rattle.mending.specs.Sheets.{Mending, mended, refused, mended_sheet, sheet_bytes, drop_line, why_word, triangle_word, boundary_word, said_of, mend_of}
+use Rattle.mending.specs.Work.{cause_by, double_by, said_by, codes_of, boundary_from}
+use Rattle.mending.proofs.Bytes.{answered, sheet_length, typed_is}
+use Rattle.mender.specs.Answers.{answer_for, MendDone}
 use Rattle.mender.specs.declared.Mended.{Mended}
 use Rattle.mender.specs.declared.Mended.TheVariants.{Bytes, Short}
 use Rattle.mender.specs.Work.{Marked}
-use Rattle.mender.proofs.Whole.{few-held, few-out, many, long-t, long-e, long-b, marked-said}
+use Rattle.mender.proofs.Whole.{few_held, few_out, many, long_t, long_e, long_b, marked_said}
 
 -- ---- lines
 
-why-few : (w : Why) → length (whyWord w) ≤ 6
-why-few absent = omega arith
-why-few twice = omega arith
-why-few double = omega arith
+why_few : (w : Why) → length (why_word w) ≤ 6
+why_few absent = omega arith
+why_few twice = omega arith
+why_few double = omega arith
 
-line-few : (word : List ℕ) (d : Drop) → d.place < 10000 → length (dropLine word d) ≤ length word + 13
-unfolding dropLine
-line-few word d h =
-    let tail : List ℕ = 32 ∷ (whyWord d.why ++ (10 ∷ [])) in
-    let f = four-digits d.place h in
-    let w = why-few d.why in
-    omega (arith, length-append word (spaced d.place ++ tail), length-append (spaced d.place) tail, length-append (whyWord d.why) (10 ∷ []))
+line_few : (word : List ℕ) (d : Drop) → d.place < 10000 → length (drop_line word d) ≤ length word + 13
+unfolding drop_line
+line_few word d h =
+    let tail : List ℕ = 32 ∷ (why_word d.why ++ (10 ∷ [])) in
+    let f = four_digits d.place h in
+    let w = why_few d.why in
+    omega (arith, length-append word (spaced d.place ++ tail), length-append (spaced d.place) tail, length-append (why_word d.why) (10 ∷ []))
 
 -- ---- the lines of a column: a place has one at most
 
 module _ (word : List ℕ) where
   lines : List Drop → ℕ
-  lines l = length (each (dropLine word) l)
+  lines l = length (each (drop_line word) l)
 
   lines_cons : (d : Drop) (l : List Drop) → d.place < 10000 → lines (d ∷ l) ≤ length word + 13 + lines l
   unfolding lines each
-  lines_cons d l h = let f = line-few word d h in omega (arith, length-append (dropLine word d) (each (dropLine word) l))
+  lines_cons d l h = let f = line_few word d h in omega (arith, length-append (drop_line word d) (each (drop_line word) l))
 
   by_one : (x y z : Bool) (A B D : Drop) (X Y : List Drop) → A.place < 10000 → B.place < 10000 → D.place < 10000 → (x ≡ true → z ≡ false) → (y ≡ true → z ≡ false)
       → lines (pick x (A ∷ X) (pick y (B ∷ X) X)) + lines (pick z (D ∷ Y) Y) ≤ length word + 13 + (lines X + lines Y)
@@ -62,70 +62,70 @@ module _ (word : List ℕ) where
   not_three : (c k : ℕ) → (k ≡ 3 → ⊥) → eqb c k ≡ true → eqb c 3 ≡ false
   not_three c k h e = ne_eqb c 3 (λ z. h (sym (eqb-true c k e) ∙ z))
 
-  none-long : lines [] ≡ 0
+  none_long : lines [] ≡ 0
   unfolding lines each
-  none-long = refl
+  none_long = refl
 
-  column-few : (k : ℕ) (cs : List ℕ) → k + length cs ≤ 10000 → lines (causeBy k cs) + lines (doubleBy k cs) ≤ length cs * (length word + 13)
-  unfolding causeBy doubleBy
-  column-few k [] h = omega (arith, none-long)
-  column-few k (c ∷ cs) h =
-      let q = column-few (suc k) cs (omega arith) in
-      let r = by_one (eqb c 1) (eqb c 2) (eqb c 3) (record { place = k; why = absent }) (record { place = k; why = twice }) (record { place = k; why = double }) (causeBy (suc k) cs) (doubleBy (suc k) cs) (omega arith) (omega arith) (omega arith)
+  column_few : (k : ℕ) (cs : List ℕ) → k + length cs ≤ 10000 → lines (cause_by k cs) + lines (double_by k cs) ≤ length cs * (length word + 13)
+  unfolding cause_by double_by
+  column_few k [] h = omega (arith, none_long)
+  column_few k (c ∷ cs) h =
+      let q = column_few (suc k) cs (omega arith) in
+      let r = by_one (eqb c 1) (eqb c 2) (eqb c 3) (record { place = k; why = absent }) (record { place = k; why = twice }) (record { place = k; why = double }) (cause_by (suc k) cs) (double_by (suc k) cs) (omega arith) (omega arith) (omega arith)
       (not_three c 1 (λ z. omega (arith, z))) (not_three c 2 (λ z. omega (arith, z))) in
       omega (arith, suc-mul (length cs) (length word + 13))
 
-  pub both-few : (cs : List ℕ) → length cs ≤ 10000 → length (each (dropLine word) (causeBy 0 cs)) + length (each (dropLine word) (doubleBy 0 cs)) ≤ length cs * (length word + 13)
+  pub both_few : (cs : List ℕ) → length cs ≤ 10000 → length (each (drop_line word) (cause_by 0 cs)) + length (each (drop_line word) (double_by 0 cs)) ≤ length cs * (length word + 13)
   unfolding lines
-  both-few cs h = column-few 0 cs (omega arith)
+  both_few cs h = column_few 0 cs (omega arith)
 
-said-by : (t e b : List ℕ) → length t ≤ 1024 → length e ≤ 2048 → length b ≤ 2048 → length (saidBy t e b) ≤ 99328
-unfolding saidBy
-said-by t e b ht he hb =
-    let T = each (dropLine triangleWord) (causeBy 0 t) in
-    let E = each (dropLine edgeWord) (causeBy 0 e) in
-    let B = each (dropLine boundaryWord) (causeBy 0 b) in
-    let D = each (dropLine boundaryWord) (doubleBy 0 b) in
-    let x = both-few triangleWord t (omega arith) in
-    let y = both-few edgeWord e (omega arith) in
-    let z = both-few boundaryWord b (omega arith) in
+said_by_lem : (t e b : List ℕ) → length t ≤ 1024 → length e ≤ 2048 → length b ≤ 2048 → length (said_by t e b) ≤ 99328
+unfolding said_by
+said_by_lem t e b ht he hb =
+    let T = each (drop_line triangle_word) (cause_by 0 t) in
+    let E = each (drop_line edge_word) (cause_by 0 e) in
+    let B = each (drop_line boundary_word) (cause_by 0 b) in
+    let D = each (drop_line boundary_word) (double_by 0 b) in
+    let x = both_few triangle_word t (omega arith) in
+    let y = both_few edge_word e (omega arith) in
+    let z = both_few boundary_word b (omega arith) in
     omega (arith, length-append T (E ++ (B ++ D)), length-append E (B ++ D), length-append B D)
 
 -- ---- both bounds
 
-bytes-few : (t : Bool) (c : Counts) → c.particles ≤ 1024 → c.triangles ≤ 1024 → c.edges ≤ 2048 → c.boundary ≤ 2048 → bytesIn t c ≤ 17292
-bytes-few true c p t e b = omega arith
-bytes-few false c p t e b = omega arith
+bytes_few : (t : Bool) (c : Counts) → c.particles ≤ 1024 → c.triangles ≤ 1024 → c.edges ≤ 2048 → c.boundary ≤ 2048 → bytes_in t c ≤ 17292
+bytes_few true c p t e b = omega arith
+bytes_few false c p t e b = omega arith
 
 -- the columns that every sheet has
-own-marks : (s : List ℕ) → Marked s (codes_of (length (typed_of (bits_of s)).particles) 3 (typed_of (bits_of s)).triangles) (codes_of (length (typed_of (bits_of s)).particles) 2 (typed_of (bits_of s)).edges) (boundaryFrom (length (typed_of (bits_of s)).particles) [] (typed_of (bits_of s)).boundary)
-own-marks s = record { triangles = refl; edges = refl; boundary = refl }
+own_marks : (s : List ℕ) → Marked s (codes_of (length (typed_of (bits_of s)).particles) 3 (typed_of (bits_of s)).triangles) (codes_of (length (typed_of (bits_of s)).particles) 2 (typed_of (bits_of s)).edges) (boundary_from (length (typed_of (bits_of s)).particles) [] (typed_of (bits_of s)).boundary)
+own_marks s = record { triangles = refl; edges = refl; boundary = refl }
 
-pub mended-short : (s m t : List ℕ) → mendOf s ≡ mended m t → (length m ≤ 17292) × (length t ≤ 99328)
-mended-short s m t e =
+pub mended_short : (s m t : List ℕ) → mend_of s ≡ mended m t → (length m ≤ 17292) × (length t ≤ 99328)
+mended_short s m t e =
     let w = answered s m t e in
     let a = w.held in
     let P = length (typed_of (bits_of s)).particles in
     let ct = codes_of P 3 (typed_of (bits_of s)).triangles in
     let ce = codes_of P 2 (typed_of (bits_of s)).edges in
-    let cb = boundaryFrom P [] (typed_of (bits_of s)).boundary in
-    let k = own-marks s in
-    let f = few-out s ct ce cb a k in
-    let c = few-held s (countsAt (bitsIn (bits_of s))) a refl in
+    let cb = boundary_from P [] (typed_of (bits_of s)).boundary in
+    let k = own_marks s in
+    let f = few_out s ct ce cb a k in
+    let c = few_held s (counts_at (bits_in_of (bits_of s))) a refl in
     let n = many s a in
-    let lt : length ct ≤ 1024 = omega (arith, long-t s ct ce cb a k, n.1, c.1) in
-    let le : length ce ≤ 2048 = omega (arith, long-e s ct ce cb a k, n.2, c.2) in
-    let lb : length cb ≤ 2048 = omega (arith, long-b s ct ce cb a k, n.3, c.3) in
-    let q = said-by ct ce cb lt le lb in
-    let x : length t ≡ length (saidBy ct ce cb) = ap length (w.said ∙ (ap said_of (sym (typed-is s)) ∙ sym (marked-said s ct ce cb a k))) in
-    let M = mendedSheet (typed_of (bits_of s)) in
-    let y : length m ≡ bytesIn (second (bits_of s)) (countsOf M) = ap length (w.bytes ∙ ap (λ (z : Sheet). sheetBytes (second (bits_of s)) (mendedSheet z)) (sym (typed-is s))) ∙ sheet-length (second (bits_of s)) M in
-    let z = bytes-few (second (bits_of s)) (countsOf M) f.0 f.1 f.2 f.3 in
+    let lt : length ct ≤ 1024 = omega (arith, long_t s ct ce cb a k, n.1, c.1) in
+    let le : length ce ≤ 2048 = omega (arith, long_e s ct ce cb a k, n.2, c.2) in
+    let lb : length cb ≤ 2048 = omega (arith, long_b s ct ce cb a k, n.3, c.3) in
+    let q = said_by_lem ct ce cb lt le lb in
+    let x : length t ≡ length (said_by ct ce cb) = ap length (w.said ∙ (ap said_of (sym (typed_is s)) ∙ sym (marked_said s ct ce cb a k))) in
+    let M = mended_sheet (typed_of (bits_of s)) in
+    let y : length m ≡ bytes_in (second (bits_of s)) (counts_of M) = ap length (w.bytes ∙ ap (λ (z : Sheet). sheet_bytes (second (bits_of s)) (mended_sheet z)) (sym (typed_is s))) ∙ sheet_length (second (bits_of s)) M in
+    let z = bytes_few (second (bits_of s)) (counts_of M) f.0 f.1 f.2 f.3 in
     (omega arith, omega arith)
 
 -- enough: such rooms are never too few
-fits_all : (M : Mending) (a b : ℕ) → ((m t : List ℕ) → M ≡ mended m t → (length m ≤ a) × (length t ≤ b)) → Short ≡ answerFor M a b → ⊥
-unfolding answerFor
+fits_all : (M : Mending) (a b : ℕ) → ((m t : List ℕ) → M ≡ mended m t → (length m ≤ a) × (length t ≤ b)) → Short ≡ answer_for M a b → ⊥
+unfolding answer_for
 fits_all (mended m t) a b h e =
     let q = h m t refl in
     let f : leb (length m) a ≡ true = le-leb (length m) a q.0 in
@@ -136,4 +136,4 @@ fits_all (refused n) a b h e = absurd (let y : ◌≡◌ {A = ℕ} 0 1 = cc in o
 
 pub enough : (s : List ℕ) (a b : ℕ) (out said : List ℕ) (r : Mended) → 17292 ≤ a → 99328 ≤ b → MendDone s a b out said r → r ≡ Short → ⊥
 enough s a b out said r h g d e =
-    fits_all (mendOf s) a b (λ m t q. let w = mended-short s m t q in (omega (arith, w.0), omega (arith, w.1))) (sym e ∙ d.answer)
+    fits_all (mend_of s) a b (λ m t q. let w = mended_short s m t q in (omega (arith, w.0), omega (arith, w.1))) (sym e ∙ d.answer)

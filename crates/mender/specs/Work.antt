@@ -3,24 +3,24 @@ use Rattle.std.specs.Prelude.{ℕ, zero, suc, ◌+◌, ◌*◌, ◌^◌, ◌≤�
 use Rattle.std.proofs.lemmas.List.Edits.{sets}
 use Rattle.lists.specs.Lists.{pick}
 use Rattle.bits.specs.Bits.{bits_of, field_at}
-use Rattle.bits.specs.Rows.{unpack, pack, readRows, writeRows}
-use Rattle.sheet.specs.Sheet.{countsAt, countsOf, headerW, headerOf}
+use Rattle.bits.specs.Rows.{unpack, pack, read_rows, write_rows}
+use Rattle.sheet.specs.Sheet.{counts_at, counts_of, header_w, header_of}
 use Rattle.sheet.specs.declared.Counts.{Counts}
-use Rattle.edition.specs.Edition.{second, bitsIn, bytesIn, header2W, typed_of}
-use Rattle.mending.specs.Sheets.{mendedSheet, mendOf, refused}
-use Rattle.mending.specs.Work.{rowCode, keptBy, zerosOf, codes_of, boundaryFrom, Mendable}
+use Rattle.edition.specs.Edition.{second, bits_in_of, bytes_in, header2_w, typed_of}
+use Rattle.mending.specs.Sheets.{mended_sheet, mend_of, refused}
+use Rattle.mending.specs.Work.{row_code, kept_by_of, zeros_of, codes_of, boundary_from, Mendable}
 
 -- ---- which bytes are mended, and the fates of their rows
 
 -- those of n rows of names from bit `at` on, each `step` bits after the one before
-unfoldable pub codesAt : Bool → ℕ → List ℕ → ℕ → ℕ → ℕ → List ℕ
-codesAt three p l at step zero = []
-codesAt three p l at step (suc n) = rowCode three p (field_at l at 10) (field_at l (at + 10) 10) (field_at l (at + 20) 10) ∷ codesAt three p l (at + step) step n
+unfoldable pub codes_at : Bool → ℕ → List ℕ → ℕ → ℕ → ℕ → List ℕ
+codes_at three p l at step zero = []
+codes_at three p l at step (suc n) = row_code three p (field_at l at 10) (field_at l (at + 10) 10) (field_at l (at + 20) 10) ∷ codes_at three p l (at + step) step n
 
 -- 0 where they are mended, else the number of their refusal
 pub record Judged (s : List ℕ) (r : ℕ) : Type 0 where
   pub yes : r ≡ 0 → Mendable s
-  pub no : (r ≡ 0 → ⊥) → mendOf s ≡ refused r
+  pub no : (r ≡ 0 → ⊥) → mend_of s ≡ refused r
 
 -- n rows of `step` bits from bit `at` lie inside the bytes, with a blade behind them
 pub record MarkIn (s : List ℕ) (at step n : ℕ) : Type 0 where
@@ -30,15 +30,15 @@ pub record MarkIn (s : List ℕ) (at step n : ℕ) : Type 0 where
 -- columns for the fates of the three lists of a sheet
 pub record LentMarks (s : List ℕ) (t e b : ℕ) : Type 0 where
   pub held : Mendable s
-  pub triangles : t ≡ (countsAt (bitsIn (bits_of s))).triangles
-  pub edges : e ≡ (countsAt (bitsIn (bits_of s))).edges
-  pub boundary : b ≡ (countsAt (bitsIn (bits_of s))).boundary
+  pub triangles : t ≡ (counts_at (bits_in_of (bits_of s))).triangles
+  pub edges : e ≡ (counts_at (bits_in_of (bits_of s))).edges
+  pub boundary : b ≡ (counts_at (bits_in_of (bits_of s))).boundary
 
 -- they hold the fates
 pub record Marked (s t e b : List ℕ) : Type 0 where
   pub triangles : t ≡ codes_of (length (typed_of (bits_of s)).particles) 3 (typed_of (bits_of s)).triangles
   pub edges : e ≡ codes_of (length (typed_of (bits_of s)).particles) 2 (typed_of (bits_of s)).edges
-  pub boundary : b ≡ boundaryFrom (length (typed_of (bits_of s)).particles) [] (typed_of (bits_of s)).boundary
+  pub boundary : b ≡ boundary_from (length (typed_of (bits_of s)).particles) [] (typed_of (bits_of s)).boundary
 
 -- ---- kept rows written
 
@@ -68,23 +68,23 @@ pub record KeptIn (s : List ℕ) (at w0 w1 w2 : ℕ) (mask out : List ℕ) (to :
   pub narrow0 : w0 ≤ 12
   pub narrow1 : w1 ≤ 12
   pub narrow2 : w2 ≤ 12
-  pub lent : to + zerosOf mask * (w0 + w1 + w2) ≤ 8 * length out
-  pub short : to + zerosOf mask * (w0 + w1 + w2) < 2 ^ 32
+  pub lent : to + zeros_of mask * (w0 + w1 + w2) ≤ 8 * length out
+  pub short : to + zeros_of mask * (w0 + w1 + w2) < 2 ^ 32
 
 pub record Kept (s : List ℕ) (at w0 w1 w2 : ℕ) (mask out : List ℕ) (to : ℕ) (out' : List ℕ) (r : ℕ) : Type 0 where
-  pub bits : bits_of out' ≡ sets (bits_of out) to (writeRows (w0 ∷ w1 ∷ w2 ∷ []) (keptBy mask (readRows (w0 ∷ w1 ∷ w2 ∷ []) (length mask) (drop at (bits_of s)))))
-  pub next : r ≡ to + zerosOf mask * (w0 + w1 + w2)
+  pub bits : bits_of out' ≡ sets (bits_of out) to (write_rows (w0 ∷ w1 ∷ w2 ∷ []) (kept_by_of mask (read_rows (w0 ∷ w1 ∷ w2 ∷ []) (length mask) (drop at (bits_of s)))))
+  pub next : r ≡ to + zeros_of mask * (w0 + w1 + w2)
 
 -- a header in an edition
-unfoldable pub headerAs : Bool → Counts → List ℕ
-headerAs true c = pack header2W (2047 ∷ c.particles ∷ c.triangles ∷ c.edges ∷ [])
-headerAs false c = pack headerW (headerOf c)
+unfoldable pub header_as : Bool → Counts → List ℕ
+header_as true c = pack header2_w (2047 ∷ c.particles ∷ c.triangles ∷ c.edges ∷ [])
+header_as false c = pack header_w (header_of c)
 
 -- marked lists, and bytes that are 0 and have room for the mended sheet
 pub record PutIn (s t e b out : List ℕ) : Type 0 where
   pub held : Mendable s
   pub marked : Marked s t e b
-  pub room : bytesIn (second (bits_of s)) (countsOf (mendedSheet (typed_of (bits_of s)))) ≤ length out
+  pub room : bytes_in (second (bits_of s)) (counts_of (mended_sheet (typed_of (bits_of s)))) ≤ length out
   pub zeros : bits_of out ≡ replicate (8 * length out) 0
 
 -- marked lists, and bytes that are 0

@@ -1,19 +1,19 @@
 // Which bytes are mended, and the fates of the rows of their lists.
 ghost use Rattle.std.specs.Prelude.{◌≡◌, [], ℕ, ◌≤◌, length, drop};
 ghost use Rattle.bits.specs.Bits.{bits_of};
-ghost use Rattle.bits.specs.Rows.{readRows};
-ghost use Rattle.sheet.specs.Sheet.{boundaryW};
+ghost use Rattle.bits.specs.Rows.{read_rows};
+ghost use Rattle.sheet.specs.Sheet.{boundary_w};
 ghost use Rattle.sheet.specs.Work.{Small};
-ghost use Rattle.edition.specs.Edition.{bytesIn};
-ghost use Rattle.mending.specs.Work.{boundaryFrom};
-ghost use Rattle.mender.specs.Work.{codesAt, Judged, MarkIn, LentMarks, Marked};
+ghost use Rattle.edition.specs.Edition.{bytes_in};
+ghost use Rattle.mending.specs.Work.{boundary_from};
+ghost use Rattle.mender.specs.Work.{codes_at, Judged, MarkIn, LentMarks, Marked};
 
 use sheet::Counts;
 
 // How many bytes a sheet of an edition has.
 pub fn byte_len(second: bool, c: Counts) -> usize
     requires { Small c }
-    ensures { result ≡ bytesIn second c }
+    ensures { result ≡ bytes_in second c }
 {
     let end = sheet::end_bit(c);
     if second {
@@ -50,7 +50,7 @@ pub fn refusal(s: &[u8]) -> usize
 // Marks what becomes of the rows of two names, or of three, of p particles that begin at bit `at`, each `step` bits after the one before.
 fn mark_list(s: &[u8], at: usize, step: usize, three: bool, p: usize, mask: &mut [usize])
     requires { MarkIn s.now at step (length mask.old) }
-    ensures { mask.new ≡ codesAt three p (bits_of s.now) at step (length mask.old) }
+    ensures { mask.new ≡ codes_at three p (bits_of s.now) at step (length mask.old) }
 {
     let n = mask.len();
     let mut i = 0;
@@ -75,7 +75,7 @@ fn mark_boundary(
     mask: &mut [usize],
 )
     requires { MarkIn s.now at 20 (length mask.old) × (length mask.old ≤ length a.old) × (length mask.old ≤ length b.old) }
-    ensures { mask.new ≡ boundaryFrom p [] (readRows boundaryW (length mask.old)
+    ensures { mask.new ≡ boundary_from p [] (read_rows boundary_w (length mask.old)
         (drop at (bits_of s.now))) }
 {
     let n = mask.len();

@@ -5,10 +5,10 @@ ghost use Rattle.lists.specs.Lists.{padded};
 ghost use Rattle.bits.specs.Bits.{bits_of};
 ghost use Rattle.bits.specs.Rows.{unpack, pack};
 ghost use Rattle.bits.specs.Places.{FourIn};
-ghost use Rattle.sheet.specs.Sheet.{bladeW};
+ghost use Rattle.sheet.specs.Sheet.{blade_w};
 ghost use Rattle.edition.specs.Edition.{second, typed_of};
-ghost use Rattle.mending.specs.Sheets.{bitsAs, mendedSheet};
-ghost use Rattle.mender.specs.Work.{OneIn, OneKept, KeptIn, Kept, headerAs, PutIn};
+ghost use Rattle.mending.specs.Sheets.{bits_as, mended_sheet};
+ghost use Rattle.mender.specs.Work.{OneIn, OneKept, KeptIn, Kept, header_as, PutIn};
 
 use sheet::Counts;
 
@@ -66,7 +66,7 @@ fn put_kept(
 // Writes a header in an edition.
 fn put_header(out: &mut [u8], second: bool, c: Counts)
     requires { 6 ≤ length out.old }
-    ensures { bits_of out.new ≡ sets (bits_of out.old) 0 (headerAs second c) }
+    ensures { bits_of out.new ≡ sets (bits_of out.old) 0 (header_as second c) }
 {
     if second {
         bits::put_row(out, 0, 11, 11, 11, 2047, c.particles, c.triangles);
@@ -88,8 +88,8 @@ fn put_header(out: &mut [u8], second: bool, c: Counts)
 // Writes the blade at bit `at` to bit `to` of other bytes.
 fn put_blade(s: &[u8], at: usize, out: &mut [u8], to: usize)
     requires { FourIn s.now at 11 11 × FourIn out.old to 11 11 }
-    ensures { bits_of out.new ≡ sets (bits_of out.old) to (pack bladeW
-        (unpack bladeW (drop at (bits_of s.now)))) }
+    ensures { bits_of out.new ≡ sets (bits_of out.old) to (pack blade_w
+        (unpack blade_w (drop at (bits_of s.now)))) }
 {
     let a = bits::field(s, at, 11);
     let b = bits::field(s, at + 11, 11);
@@ -101,8 +101,8 @@ fn put_blade(s: &[u8], at: usize, out: &mut [u8], to: usize)
 // Writes the mended sheet into bytes that are 0, by the fates of its three lists.
 pub fn put_sheet(s: &[u8], triangles: &[usize], edges: &[usize], boundary: &[usize], out: &mut [u8])
     requires { PutIn s.now triangles.now edges.now boundary.now out.old }
-    ensures { bits_of out.new ≡ padded (8 * length out.old) 0 (bitsAs (second (bits_of s.now))
-        (mendedSheet (typed_of (bits_of s.now)))) }
+    ensures { bits_of out.new ≡ padded (8 * length out.old) 0 (bits_as (second (bits_of s.now))
+        (mended_sheet (typed_of (bits_of s.now)))) }
 {
     let c = edition::typed::counts_in(s);
     let p = c.particles;

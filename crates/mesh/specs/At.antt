@@ -5,27 +5,27 @@ use Rattle.lists.specs.Lists.{tab}
 use Rattle.columns.specs.Block.{cell, row_at}
 use Rattle.model.specs.Mesh.{Particle, Triangle, Edge, Side, Mesh}
 use Rattle.mesh.specs.declared.Counts.{Counts}
-use Rattle.mesh.specs.Widths.{pointColumns, cornerColumns, sideColumns, endColumns, lengthColumns, rootColumns, volumeColumns}
+use Rattle.mesh.specs.Widths.{point_columns, corner_columns, side_columns, end_columns, length_columns, root_columns, volume_columns}
 
 -- ---- one row
 
 -- the particle with these numbers, by column, this root and this damaged flag
-abbrev pub particleBy : (ℕ → Float) → ℕ → ℕ → Particle
-particleBy f r d =
-    record { x = f 0; y = f 1; rest-x = f 2; rest-y = f 3; mass = f 4; inv = f 5; velocity-x = f 6; velocity-y = f 7; root = r; damaged = d }
+abbrev pub particle_by : (ℕ → Float) → ℕ → ℕ → Particle
+particle_by f r d =
+    record { x = f 0; y = f 1; rest_x = f 2; rest_y = f 3; mass = f 4; inv = f 5; velocity_x = f 6; velocity_y = f 7; root = r; damaged = d }
 
 -- particle k, of columns of P and of R places
-abbrev pub particleRow : ℕ → ℕ → List Float → List ℕ → ℕ → Particle
-particleRow P R points roots k = particleBy (λ c. cell nan P points c k) (cell 0 R roots 0 k) (cell 0 R roots 1 k)
+abbrev pub particle_row : ℕ → ℕ → List Float → List ℕ → ℕ → Particle
+particle_row P R points roots k = particle_by (λ c. cell nan P points c k) (cell 0 R roots 0 k) (cell 0 R roots 1 k)
 
 -- triangle k, of columns of C and of W places
-abbrev pub triangleRow : ℕ → ℕ → List ℕ → List Float → ℕ → Triangle
-triangleRow C W corners volumes k =
-    record { corners = row_at cornerColumns C corners k; volume = cell nan W volumes 0 k; stress = cell nan W volumes 1 k }
+abbrev pub triangle_row : ℕ → ℕ → List ℕ → List Float → ℕ → Triangle
+triangle_row C W corners volumes k =
+    record { corners = row_at corner_columns C corners k; volume = cell nan W volumes 0 k; stress = cell nan W volumes 1 k }
 
 -- edge k, of columns of E and of L places
-abbrev pub edgeRow : ℕ → ℕ → List ℕ → List Float → ℕ → Edge
-edgeRow E L ends lengths k =
+abbrev pub edge_row : ℕ → ℕ → List ℕ → List Float → ℕ → Edge
+edge_row E L ends lengths k =
     record {
       a = cell 0 E ends 0 k;
       b = cell 0 E ends 1 k;
@@ -38,33 +38,33 @@ edgeRow E L ends lengths k =
     }
 
 -- boundary entry k, of columns of O places
-abbrev pub sideRow : ℕ → List ℕ → ℕ → Side
-sideRow O outline k = record { corners = row_at sideColumns O outline k }
+abbrev pub side_row : ℕ → List ℕ → ℕ → Side
+side_row O outline k = record { corners = row_at side_columns O outline k }
 
 -- ---- the first n rows
 
 -- the first n particles
-unfoldable pub particlesAt : ℕ → List Float → List ℕ → List Particle
-particlesAt n points roots = tab n (particleRow (length points / pointColumns) (length roots / rootColumns) points roots)
+unfoldable pub particles_at : ℕ → List Float → List ℕ → List Particle
+particles_at n points roots = tab n (particle_row (length points / point_columns) (length roots / root_columns) points roots)
 
 -- the first n triangles
-unfoldable pub trianglesAt : ℕ → List ℕ → List Float → List Triangle
-trianglesAt n corners volumes = tab n (triangleRow (length corners / cornerColumns) (length volumes / volumeColumns) corners volumes)
+unfoldable pub triangles_at : ℕ → List ℕ → List Float → List Triangle
+triangles_at n corners volumes = tab n (triangle_row (length corners / corner_columns) (length volumes / volume_columns) corners volumes)
 
 -- the first n edges
 unfoldable pub edges_at : ℕ → List ℕ → List Float → List Edge
-edges_at n ends lengths = tab n (edgeRow (length ends / endColumns) (length lengths / lengthColumns) ends lengths)
+edges_at n ends lengths = tab n (edge_row (length ends / end_columns) (length lengths / length_columns) ends lengths)
 
 -- the first n boundary entries
-unfoldable pub boundaryAt : ℕ → List ℕ → List Side
-boundaryAt n outline = tab n (sideRow (length outline / sideColumns) outline)
+unfoldable pub boundary_at : ℕ → List ℕ → List Side
+boundary_at n outline = tab n (side_row (length outline / side_columns) outline)
 
 -- the mesh that the fronts of seven blocks hold
-unfoldable pub meshAt : Counts → List Float → List ℕ → List ℕ → List Float → List ℕ → List Float → List ℕ → Mesh
-meshAt k points roots corners volumes ends lengths outline =
+unfoldable pub mesh_at : Counts → List Float → List ℕ → List ℕ → List Float → List ℕ → List Float → List ℕ → Mesh
+mesh_at k points roots corners volumes ends lengths outline =
     record {
-      particles = particlesAt k.particles points roots;
-      triangles = trianglesAt k.triangles corners volumes;
+      particles = particles_at k.particles points roots;
+      triangles = triangles_at k.triangles corners volumes;
       edges = edges_at k.edges ends lengths;
-      boundary = boundaryAt k.boundary outline;
+      boundary = boundary_at k.boundary outline;
     }

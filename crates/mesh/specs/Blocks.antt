@@ -3,8 +3,8 @@ use Rattle.std.specs.Prelude.{ℕ, List, [], Float}
 use Rattle.std.specs.Borrow.{Bor, MutBor}
 use denote.Triple.Both.{Both}
 use Rattle.model.specs.Mesh.{Mesh}
-use Rattle.mesh.specs.At.{meshAt}
-use Rattle.mesh.specs.Log.{World, worldAt}
+use Rattle.mesh.specs.At.{mesh_at}
+use Rattle.mesh.specs.Log.{World, world_at}
 use Rattle.mesh.specs.Given.{Given, Lent, given}
 use Rattle.mesh.specs.Filled.{lent}
 use Rattle.mesh.specs.declared.Counts.{Counts}
@@ -26,19 +26,19 @@ abbrev pub LentIndicesIn : Type 0
 LentIndicesIn = MutBor (List ℕ)
 
 -- the mesh in the fronts of blocks that are lent to write, but for the volumes, which no worker changes
-abbrev pub meshIn : Counts → LentNumbersIn → LentIndicesIn → LentIndicesIn → NumbersIn → LentIndicesIn → LentNumbersIn → LentIndicesIn → Mesh
-meshIn k points roots corners volumes ends lengths outline = meshAt k points.now roots.now corners.now volumes.now ends.now lengths.now outline.now
+abbrev pub mesh_in : Counts → LentNumbersIn → LentIndicesIn → LentIndicesIn → NumbersIn → LentIndicesIn → LentNumbersIn → LentIndicesIn → Mesh
+mesh_in k points roots corners volumes ends lengths outline = mesh_at k points.now roots.now corners.now volumes.now ends.now lengths.now outline.now
 
 -- the seven blocks of an input
-abbrev pub givenIn : NumbersIn → IndicesIn → IndicesIn → NumbersIn → IndicesIn → NumbersIn → IndicesIn → Given
-givenIn points roots corners volumes ends lengths outline = given points.now roots.now corners.now volumes.now ends.now lengths.now outline.now
+abbrev pub given_in : NumbersIn → IndicesIn → IndicesIn → NumbersIn → IndicesIn → NumbersIn → IndicesIn → Given
+given_in points roots corners volumes ends lengths outline = given points.now roots.now corners.now volumes.now ends.now lengths.now outline.now
 
 -- the lengths of eight blocks, and of seven without a log
-abbrev pub lentIn : LentNumbersIn → LentIndicesIn → LentIndicesIn → LentNumbersIn → LentIndicesIn → LentNumbersIn → LentIndicesIn → LentIndicesIn → Lent
-lentIn points roots corners volumes ends lengths outline log = lent points.now roots.now corners.now volumes.now ends.now lengths.now outline.now log.now
+abbrev pub lent_in : LentNumbersIn → LentIndicesIn → LentIndicesIn → LentNumbersIn → LentIndicesIn → LentNumbersIn → LentIndicesIn → LentIndicesIn → Lent
+lent_in points roots corners volumes ends lengths outline log = lent points.now roots.now corners.now volumes.now ends.now lengths.now outline.now log.now
 
-abbrev pub blocksIn : LentNumbersIn → LentIndicesIn → LentIndicesIn → LentNumbersIn → LentIndicesIn → LentNumbersIn → LentIndicesIn → Lent
-blocksIn points roots corners volumes ends lengths outline = lent points.now roots.now corners.now volumes.now ends.now lengths.now outline.now []
+abbrev pub blocks_in : LentNumbersIn → LentIndicesIn → LentIndicesIn → LentNumbersIn → LentIndicesIn → LentNumbersIn → LentIndicesIn → Lent
+blocks_in points roots corners volumes ends lengths outline = lent points.now roots.now corners.now volumes.now ends.now lengths.now outline.now []
 
 -- the lengths of the seven blocks of an input
 abbrev pub inputs_in : NumbersIn → IndicesIn → IndicesIn → NumbersIn → IndicesIn → NumbersIn → IndicesIn → Lent
@@ -61,29 +61,29 @@ abbrev pub LentIndices : Type 0
 LentIndices = Both (MutBor (List ℕ)) (MutBor (List ℕ))
 
 -- the mesh in the fronts of blocks that are lent to read alone before the call, and in those of blocks that are lent to write behind it
-abbrev pub meshBefore : Counts → Numbers → Indices → Indices → Numbers → Indices → Numbers → Indices → Mesh
-meshBefore k points roots corners volumes ends lengths outline =
-    meshAt k points.entry.now roots.entry.now corners.entry.now volumes.entry.now ends.entry.now lengths.entry.now outline.entry.now
+abbrev pub mesh_before : Counts → Numbers → Indices → Indices → Numbers → Indices → Numbers → Indices → Mesh
+mesh_before k points roots corners volumes ends lengths outline =
+    mesh_at k points.entry.now roots.entry.now corners.entry.now volumes.entry.now ends.entry.now lengths.entry.now outline.entry.now
 
-abbrev pub meshBehind : Counts → LentNumbers → LentIndices → LentIndices → LentNumbers → LentIndices → LentNumbers → LentIndices → Mesh
-meshBehind k points roots corners volumes ends lengths outline =
-    meshAt k points.exit.now roots.exit.now corners.exit.now volumes.exit.now ends.exit.now lengths.exit.now outline.exit.now
+abbrev pub mesh_behind : Counts → LentNumbers → LentIndices → LentIndices → LentNumbers → LentIndices → LentNumbers → LentIndices → Mesh
+mesh_behind k points roots corners volumes ends lengths outline =
+    mesh_at k points.exit.now roots.exit.now corners.exit.now volumes.exit.now ends.exit.now lengths.exit.now outline.exit.now
 
 -- the mesh and the log in blocks that are lent to write, but for the volumes
-abbrev pub worldBefore : Counts → LentNumbers → LentIndices → LentIndices → Numbers → LentIndices → LentNumbers → LentIndices → LentIndices → World
-worldBefore k points roots corners volumes ends lengths outline log =
-    worldAt k points.entry.now roots.entry.now corners.entry.now volumes.entry.now ends.entry.now lengths.entry.now outline.entry.now log.entry.now
+abbrev pub world_before : Counts → LentNumbers → LentIndices → LentIndices → Numbers → LentIndices → LentNumbers → LentIndices → LentIndices → World
+world_before k points roots corners volumes ends lengths outline log =
+    world_at k points.entry.now roots.entry.now corners.entry.now volumes.entry.now ends.entry.now lengths.entry.now outline.entry.now log.entry.now
 
-abbrev pub worldBehind : Counts → LentNumbers → LentIndices → LentIndices → Numbers → LentIndices → LentNumbers → LentIndices → LentIndices → World
-worldBehind k points roots corners volumes ends lengths outline log =
-    worldAt k points.exit.now roots.exit.now corners.exit.now volumes.exit.now ends.exit.now lengths.exit.now outline.exit.now log.exit.now
+abbrev pub world_behind : Counts → LentNumbers → LentIndices → LentIndices → Numbers → LentIndices → LentNumbers → LentIndices → LentIndices → World
+world_behind k points roots corners volumes ends lengths outline log =
+    world_at k points.exit.now roots.exit.now corners.exit.now volumes.exit.now ends.exit.now lengths.exit.now outline.exit.now log.exit.now
 
 -- the seven blocks of an input, which a call leaves as they are
-abbrev pub givenBefore : Numbers → Indices → Indices → Numbers → Indices → Numbers → Indices → Given
-givenBefore points roots corners volumes ends lengths outline =
+abbrev pub given_before : Numbers → Indices → Indices → Numbers → Indices → Numbers → Indices → Given
+given_before points roots corners volumes ends lengths outline =
     given points.entry.now roots.entry.now corners.entry.now volumes.entry.now ends.entry.now lengths.entry.now outline.entry.now
 
 -- the lengths of eight blocks, which stay
-abbrev pub lentBefore : LentNumbers → LentIndices → LentIndices → LentNumbers → LentIndices → LentNumbers → LentIndices → LentIndices → Lent
-lentBefore points roots corners volumes ends lengths outline log =
+abbrev pub lent_before : LentNumbers → LentIndices → LentIndices → LentNumbers → LentIndices → LentNumbers → LentIndices → LentIndices → Lent
+lent_before points roots corners volumes ends lengths outline log =
     lent points.entry.now roots.entry.now corners.entry.now volumes.entry.now ends.entry.now lengths.entry.now outline.entry.now log.entry.now

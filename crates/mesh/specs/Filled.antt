@@ -7,7 +7,7 @@ use Rattle.model.specs.Mesh.{Particle, Triangle, Edge, Side}
 use Rattle.mesh.specs.Log.{World, words_in}
 use Rattle.mesh.specs.Given.{Lent}
 use Rattle.mesh.specs.declared.Counts.{Counts}
-use Rattle.mesh.specs.Widths.{pointColumns, cornerColumns, endColumns, lengthColumns, rootColumns, volumeColumns, sideColumns, entryWords}
+use Rattle.mesh.specs.Widths.{point_columns, corner_columns, end_columns, length_columns, root_columns, volume_columns, side_columns, entry_words}
 
 -- ---- the columns of each block, by their numbers
 
@@ -15,26 +15,26 @@ use Rattle.mesh.specs.Widths.{pointColumns, cornerColumns, endColumns, lengthCol
 abbrev pub point_of : ℕ → Particle → Float
 point_of zero p = p.x
 point_of (suc zero) p = p.y
-point_of (suc (suc zero)) p = p.rest-x
-point_of (suc (suc (suc zero))) p = p.rest-y
+point_of (suc (suc zero)) p = p.rest_x
+point_of (suc (suc (suc zero))) p = p.rest_y
 point_of (suc (suc (suc (suc zero)))) p = p.mass
 point_of (suc (suc (suc (suc (suc zero))))) p = p.inv
-point_of (suc (suc (suc (suc (suc (suc zero)))))) p = p.velocity-x
-point_of (suc (suc (suc (suc (suc (suc (suc c))))))) p = p.velocity-y
+point_of (suc (suc (suc (suc (suc (suc zero)))))) p = p.velocity_x
+point_of (suc (suc (suc (suc (suc (suc (suc c))))))) p = p.velocity_y
 
 -- of roots
-abbrev pub rootOf : ℕ → Particle → ℕ
-rootOf zero p = p.root
-rootOf (suc c) p = p.damaged
+abbrev pub root_of : ℕ → Particle → ℕ
+root_of zero p = p.root
+root_of (suc c) p = p.damaged
 
 -- of corners
-abbrev pub cornerOf : ℕ → Triangle → ℕ
-cornerOf c t = get_or t.corners c 0
+abbrev pub corner_of : ℕ → Triangle → ℕ
+corner_of c t = get_or t.corners c 0
 
 -- of volumes
-abbrev pub volumeOf : ℕ → Triangle → Float
-volumeOf zero t = t.volume
-volumeOf (suc c) t = t.stress
+abbrev pub volume_of : ℕ → Triangle → Float
+volume_of zero t = t.volume
+volume_of (suc c) t = t.stress
 
 -- of ends
 abbrev pub end_of : ℕ → Edge → ℕ
@@ -58,35 +58,35 @@ side_of c s = get_or s.corners c 0
 
 -- every place of the lent blocks: the columns of the mesh and the words of the log at the fronts, and 0 in every place behind them
 pub record Filled (W : World) (L : Lent) (p : List Float) (r c : List ℕ) (v : List Float) (e : List ℕ) (l : List Float) (o g : List ℕ) : Type 0 where
-  pub points : p ≡ block_of L.points pointColumns (L.points / pointColumns) zero32 (λ k. map (point_of k) W.mesh.particles)
-  pub roots : r ≡ block_of L.roots rootColumns (L.roots / rootColumns) 0 (λ k. map (rootOf k) W.mesh.particles)
-  pub corners : c ≡ block_of L.corners cornerColumns (L.corners / cornerColumns) 0 (λ k. map (cornerOf k) W.mesh.triangles)
-  pub volumes : v ≡ block_of L.volumes volumeColumns (L.volumes / volumeColumns) zero32 (λ k. map (volumeOf k) W.mesh.triangles)
-  pub ends : e ≡ block_of L.ends endColumns (L.ends / endColumns) 0 (λ k. map (end_of k) W.mesh.edges)
-  pub lengths : l ≡ block_of L.lengths lengthColumns (L.lengths / lengthColumns) zero32 (λ k. map (length_of k) W.mesh.edges)
-  pub outline : o ≡ block_of L.outline sideColumns (L.outline / sideColumns) 0 (λ k. map (side_of k) W.mesh.boundary)
+  pub points : p ≡ block_of L.points point_columns (L.points / point_columns) zero32 (λ k. map (point_of k) W.mesh.particles)
+  pub roots : r ≡ block_of L.roots root_columns (L.roots / root_columns) 0 (λ k. map (root_of k) W.mesh.particles)
+  pub corners : c ≡ block_of L.corners corner_columns (L.corners / corner_columns) 0 (λ k. map (corner_of k) W.mesh.triangles)
+  pub volumes : v ≡ block_of L.volumes volume_columns (L.volumes / volume_columns) zero32 (λ k. map (volume_of k) W.mesh.triangles)
+  pub ends : e ≡ block_of L.ends end_columns (L.ends / end_columns) 0 (λ k. map (end_of k) W.mesh.edges)
+  pub lengths : l ≡ block_of L.lengths length_columns (L.lengths / length_columns) zero32 (λ k. map (length_of k) W.mesh.edges)
+  pub outline : o ≡ block_of L.outline side_columns (L.outline / side_columns) 0 (λ k. map (side_of k) W.mesh.boundary)
   pub log : g ≡ padded L.log 0 (words_in W.log)
 
 -- the counts fit the lent columns
 pub record Fits (k : Counts) (L : Lent) : Type 0 where
-  pub points : k.particles ≤ L.points / pointColumns
-  pub roots : k.particles ≤ L.roots / rootColumns
-  pub corners : k.triangles ≤ L.corners / cornerColumns
-  pub volumes : k.triangles ≤ L.volumes / volumeColumns
-  pub ends : k.edges ≤ L.ends / endColumns
-  pub lengths : k.edges ≤ L.lengths / lengthColumns
-  pub outline : k.boundary ≤ L.outline / sideColumns
-  pub log : k.log ≤ L.log / entryWords
+  pub points : k.particles ≤ L.points / point_columns
+  pub roots : k.particles ≤ L.roots / root_columns
+  pub corners : k.triangles ≤ L.corners / corner_columns
+  pub volumes : k.triangles ≤ L.volumes / volume_columns
+  pub ends : k.edges ≤ L.ends / end_columns
+  pub lengths : k.edges ≤ L.lengths / length_columns
+  pub outline : k.boundary ≤ L.outline / side_columns
+  pub log : k.log ≤ L.log / entry_words
 
 -- each block of the input has no longer columns than the one lent for it
 pub record Holds (I L : Lent) : Type 0 where
-  pub points : I.points / pointColumns ≤ L.points / pointColumns
-  pub roots : I.roots / rootColumns ≤ L.roots / rootColumns
-  pub corners : I.corners / cornerColumns ≤ L.corners / cornerColumns
-  pub volumes : I.volumes / volumeColumns ≤ L.volumes / volumeColumns
-  pub ends : I.ends / endColumns ≤ L.ends / endColumns
-  pub lengths : I.lengths / lengthColumns ≤ L.lengths / lengthColumns
-  pub outline : I.outline / sideColumns ≤ L.outline / sideColumns
+  pub points : I.points / point_columns ≤ L.points / point_columns
+  pub roots : I.roots / root_columns ≤ L.roots / root_columns
+  pub corners : I.corners / corner_columns ≤ L.corners / corner_columns
+  pub volumes : I.volumes / volume_columns ≤ L.volumes / volume_columns
+  pub ends : I.ends / end_columns ≤ L.ends / end_columns
+  pub lengths : I.lengths / length_columns ≤ L.lengths / length_columns
+  pub outline : I.outline / side_columns ≤ L.outline / side_columns
 
 -- the lengths of eight lent blocks
 abbrev pub lent : List Float → List ℕ → List ℕ → List Float → List ℕ → List Float → List ℕ → List ℕ → Lent

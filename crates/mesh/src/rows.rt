@@ -1,17 +1,17 @@
 // Workers on the rows of the blocks: each states the view of what it is lent, and requires the room.
 ghost use Rattle.std.specs.Prelude.{◌≡◌, ℕ, ◌+◌, ◌-◌, ◌*◌, ◌/◌, ◌<◌, ◌≤◌, List, [], ◌∷◌, ◌++◌, length, Float};
-ghost use Rattle.mesh.specs.At.{particlesAt, edges_at};
-ghost use Rattle.model.specs.Split.{retargeted, onlyAt, copyFor};
-ghost use Rattle.mesh.specs.Workers.{withCopy, group_of, edge_of, ParticleRoom, EdgeRoom, Removed, Mapped, FanOk};
-ghost use Rattle.mesh.specs.Widths.{cornerColumns};
+ghost use Rattle.mesh.specs.At.{particles_at, edges_at};
+ghost use Rattle.model.specs.Split.{retargeted, only_at, copy_for_of};
+ghost use Rattle.mesh.specs.Workers.{with_copy, group_of, edge_of, ParticleRoom, EdgeRoom, Removed, Mapped, FanOk};
+ghost use Rattle.mesh.specs.Widths.{corner_columns};
 
 use crate::{EdgeRow, POINT_COLUMNS};
 
 // Appends to the n particles a copy of v, of mass m and inverse mass w.
 pub fn append_copy(v: usize, n: usize, m: f32, w: f32, points: &mut [f32], roots: &mut [usize])
     requires { (v < n) × ParticleRoom (n + 1) (length points.old) (length roots.old) }
-    ensures { particlesAt (n + 1) points.new roots.new
-        ≡ withCopy v m w (particlesAt n points.old roots.old) }
+    ensures { particles_at (n + 1) points.new roots.new
+        ≡ with_copy v m w (particles_at n points.old roots.old) }
 {
     let p = points.len() / POINT_COLUMNS;
     let r = roots.len() / crate::ROOT_COLUMNS;
@@ -64,15 +64,15 @@ pub fn append_edge(n: usize, row: EdgeRow, ends: &mut [usize], lengths: &mut [f3
 // The number that stands for v in group g, where n particles were there before the copies.
 pub fn copy_for(v: usize, n: usize, g: usize) -> usize
     requires { (0 < n) × (n + g ≤ 65536) }
-    ensures { result ≡ copyFor v n g }
+    ensures { result ≡ copy_for_of v n g }
 {
     if g == 0 { v } else { n + g - 1 }
 }
 
 // Puts w for v in the corners of triangle e.
 fn retarget(e: usize, v: usize, w: usize, corners: &mut [usize])
-    requires { e < length corners.old / cornerColumns }
-    ensures { Mapped (onlyAt e (retargeted v w)) corners.old corners.new }
+    requires { e < length corners.old / corner_columns }
+    ensures { Mapped (only_at e (retargeted v w)) corners.old corners.new }
 {
     let c = corners.len() / crate::CORNER_COLUMNS;
     columns::turn_row(e, v, w, crate::CORNER_COLUMNS, c, corners);
@@ -81,7 +81,7 @@ fn retarget(e: usize, v: usize, w: usize, corners: &mut [usize])
 // Puts the copies of the fan's groups for v in the corners of its triangles.
 pub fn rewire(v: usize, n: usize, elements: &[usize], groups: &[usize], corners: &mut [usize])
     requires { FanOk n elements.now groups.now (length corners.old) }
-    ensures { Mapped (λ k. retargeted v (copyFor v n (group_of elements.now groups.now k)))
+    ensures { Mapped (λ k. retargeted v (copy_for_of v n (group_of elements.now groups.now k)))
         corners.old corners.new }
 {
     let mut i: usize = 0;

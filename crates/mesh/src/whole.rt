@@ -2,8 +2,8 @@
 ghost use Rattle.std.specs.Prelude.{◌≡◌, ℕ, min, []};
 ghost use Rattle.mesh.specs.Given.{rooms_of};
 ghost use Rattle.mesh.specs.Filled.{Filled, Fits, Holds, lent};
-ghost use Rattle.mesh.specs.Blocks.{meshBefore, meshBehind, lentIn, lentBefore, blocksIn, inputs_in};
-ghost use Rattle.mesh.specs.Log.{worldAt};
+ghost use Rattle.mesh.specs.Blocks.{mesh_before, mesh_behind, lent_in, lent_before, blocks_in, inputs_in};
+ghost use Rattle.mesh.specs.Log.{world_at};
 
 use crate::{Counts, POINT_COLUMNS, Rooms};
 
@@ -71,9 +71,9 @@ pub fn copy_all(
 )
     requires fits { Fits k (inputs_in in_points in_roots in_corners in_volumes in_ends in_lengths in_outline) }
     requires holds { Holds (inputs_in in_points in_roots in_corners in_volumes in_ends in_lengths in_outline)
-        (blocksIn points roots corners volumes ends lengths outline) }
-    ensures { meshBehind k points roots corners volumes ends lengths outline
-        ≡ meshBefore k in_points in_roots in_corners in_volumes in_ends in_lengths in_outline }
+        (blocks_in points roots corners volumes ends lengths outline) }
+    ensures { mesh_behind k points roots corners volumes ends lengths outline
+        ≡ mesh_before k in_points in_roots in_corners in_volumes in_ends in_lengths in_outline }
 {
     columns::copy_block_f32(
         in_points,
@@ -126,9 +126,9 @@ pub fn finish_all(
     outline: &mut [usize],
     log: &mut [usize],
 )
-    requires { Fits k (lentIn points roots corners volumes ends lengths outline log) }
-    ensures { Filled (worldAt k points.old roots.old corners.old volumes.old ends.old lengths.old outline.old log.old)
-        (lentBefore points roots corners volumes ends lengths outline log) points.new roots.new corners.new
+    requires { Fits k (lent_in points roots corners volumes ends lengths outline log) }
+    ensures { Filled (world_at k points.old roots.old corners.old volumes.old ends.old lengths.old outline.old log.old)
+        (lent_before points roots corners volumes ends lengths outline log) points.new roots.new corners.new
         volumes.new ends.new lengths.new outline.new log.new }
 {
     columns::clear_block_f32(

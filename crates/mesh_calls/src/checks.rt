@@ -1,11 +1,11 @@
 // What refuses a call before its steps: 1 to 4, those of the mesh, then those of what stands beside it, and then what its edition refuses.
 ghost use Rattle.std.specs.Prelude.{◌≡◌, ◌/◌, ◌≤◌, true, [], length};
-ghost use Rattle.model.specs.Calls.{sidesOk, refusal};
-ghost use Rattle.mesh.specs.Given.{meshOf, sizesFit, asRooms};
-ghost use Rattle.mesh_calls.specs.Jobs.{jobNumbers, jobArguments, jobEdition, jobRefusal, wholePlaces};
-ghost use Rattle.mesh.specs.Widths.{pointColumns};
+ghost use Rattle.model.specs.Calls.{sides_ok, refusal};
+ghost use Rattle.mesh.specs.Given.{mesh_of, sizes_fit_of, as_rooms};
+ghost use Rattle.mesh_calls.specs.Jobs.{job_numbers, job_arguments, job_edition, job_refusal, whole_places_of};
+ghost use Rattle.mesh.specs.Widths.{point_columns};
 ghost use Rattle.mesh.specs.Filled.{Fits, lent};
-ghost use Rattle.mesh.specs.Blocks.{meshBefore, givenBefore, inputs_in};
+ghost use Rattle.mesh.specs.Blocks.{mesh_before, given_before, inputs_in};
 
 use crate::{Job, fans};
 use elements::Kind;
@@ -14,7 +14,7 @@ use split_plan::place;
 
 // Are the numbers beside the mesh right?
 fn numbers_fit(job: Job) -> bool
-    ensures { result ≡ jobNumbers job }
+    ensures { result ≡ job_numbers job }
 {
     match job {
         Job::Straddlers => true,
@@ -43,7 +43,7 @@ fn sides_given(
     in_outline: &[usize],
 ) -> bool
     requires { Fits k (inputs_in in_points in_roots in_corners in_volumes in_ends in_lengths in_outline) }
-    ensures { result ≡ sidesOk (meshBefore k in_points in_roots in_corners in_volumes in_ends in_lengths in_outline) v
+    ensures { result ≡ sides_ok (mesh_before k in_points in_roots in_corners in_volumes in_ends in_lengths in_outline) v
         sides.now }
 {
     let fan = fans::fan_count(v, k, in_corners, in_ends);
@@ -65,7 +65,7 @@ fn arguments_fit(
     in_outline: &[usize],
 ) -> bool
     requires { Fits k (inputs_in in_points in_roots in_corners in_volumes in_ends in_lengths in_outline) }
-    ensures { result ≡ jobArguments job list.now (asRooms room) (meshBefore k in_points in_roots in_corners in_volumes
+    ensures { result ≡ job_arguments job list.now (as_rooms room) (mesh_before k in_points in_roots in_corners in_volumes
         in_ends in_lengths in_outline) }
 {
     let lent = k.triangles <= room.triangles;
@@ -104,8 +104,8 @@ fn judge_arguments(
     in_outline: &[usize],
 ) -> usize
     requires { Fits k (inputs_in in_points in_roots in_corners in_volumes in_ends in_lengths in_outline) }
-    ensures { let M = meshBefore k in_points in_roots in_corners in_volumes in_ends in_lengths in_outline in result
-        ≡ refusal true M (jobNumbers job) (jobArguments job list.now (asRooms room) M) }
+    ensures { let M = mesh_before k in_points in_roots in_corners in_volumes in_ends in_lengths in_outline in result
+        ≡ refusal true M (job_numbers job) (job_arguments job list.now (as_rooms room) M) }
 {
     let fault = judge::checks::judge_sized(
         k, in_points, in_roots, in_corners, in_volumes, in_ends, in_lengths, in_outline,
@@ -123,8 +123,8 @@ fn judge_arguments(
 
 // Is each of the first n positions a whole point?
 fn whole_places(n: usize, points: &[f32]) -> bool
-    requires { n ≤ length points.now / pointColumns }
-    ensures { result ≡ wholePlaces n points.now }
+    requires { n ≤ length points.now / point_columns }
+    ensures { result ≡ whole_places_of n points.now }
 {
     let mut i: usize = 0;
     while i < n {
@@ -149,7 +149,7 @@ fn edition_refusal(
     in_outline: &[usize],
 ) -> usize
     requires { Fits k (inputs_in in_points in_roots in_corners in_volumes in_ends in_lengths in_outline) }
-    ensures { result ≡ jobEdition job (meshBefore k in_points in_roots in_corners in_volumes in_ends in_lengths in_outline) }
+    ensures { result ≡ job_edition job (mesh_before k in_points in_roots in_corners in_volumes in_ends in_lengths in_outline) }
 {
     let Job::Cut(edition, b0, b1, _) = job else {
         return 0;
@@ -183,8 +183,8 @@ pub fn judge_sized(
     in_outline: &[usize],
 ) -> usize
     requires { Fits k (inputs_in in_points in_roots in_corners in_volumes in_ends in_lengths in_outline) }
-    ensures { result ≡ jobRefusal job list.now true (meshBefore k in_points in_roots in_corners in_volumes in_ends
-        in_lengths in_outline) (asRooms room) }
+    ensures { result ≡ job_refusal job list.now true (mesh_before k in_points in_roots in_corners in_volumes in_ends
+        in_lengths in_outline) (as_rooms room) }
 {
     let code = judge_arguments(
         job, list, room, k, in_points, in_roots, in_corners, in_volumes, in_ends, in_lengths,
@@ -211,8 +211,8 @@ pub fn judge(
     in_lengths: &[f32],
     in_outline: &[usize],
 ) -> usize
-    ensures { let G = givenBefore in_points in_roots in_corners in_volumes in_ends in_lengths in_outline in result
-        ≡ jobRefusal job list.now (sizesFit G) (meshOf G) (asRooms room) }
+    ensures { let G = given_before in_points in_roots in_corners in_volumes in_ends in_lengths in_outline in result
+        ≡ job_refusal job list.now (sizes_fit_of G) (mesh_of G) (as_rooms room) }
 {
     let fit = judge::tests::sizes_fit(
         in_points.len(),

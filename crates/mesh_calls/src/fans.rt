@@ -2,7 +2,7 @@
 ghost use Rattle.std.specs.Prelude.{◌≡◌, ◌&&◌, [], ◌∷◌, ◌/◌, ◌≤◌, eqb, length};
 ghost use Rattle.lists.specs.Lists.{pick, stands};
 ghost use Rattle.mesh_calls.specs.Fans.{TrianglesWith, StrapsWith, FanCounted};
-ghost use Rattle.mesh.specs.Widths.{cornerColumns, endColumns};
+ghost use Rattle.mesh.specs.Widths.{corner_columns, end_columns};
 
 use elements::Kind;
 use mesh::Counts;
@@ -41,7 +41,7 @@ fn strap_holds(v: usize, structural: usize, a: usize, b: usize) -> usize
 
 // How many of the first t triangles hold v.
 fn triangles_with(v: usize, t: usize, corners: &[usize]) -> usize
-    requires { t ≤ length corners.now / cornerColumns }
+    requires { t ≤ length corners.now / corner_columns }
     ensures { TrianglesWith v t corners.now result }
 {
     let c = corners.len() / mesh::CORNER_COLUMNS;
@@ -57,7 +57,7 @@ fn triangles_with(v: usize, t: usize, corners: &[usize]) -> usize
 
 // How many straps among the first e edges hold v.
 fn straps_with(v: usize, e: usize, ends: &[usize]) -> usize
-    requires { e ≤ length ends.now / endColumns }
+    requires { e ≤ length ends.now / end_columns }
     ensures { StrapsWith v e ends.now result }
 {
     let c = ends.len() / mesh::END_COLUMNS;
@@ -73,7 +73,7 @@ fn straps_with(v: usize, e: usize, ends: &[usize]) -> usize
 
 // How many elements of the first k rows hold v.
 pub fn fan_count(v: usize, k: Counts, corners: &[usize], ends: &[usize]) -> usize
-    requires { (k.triangles ≤ length corners.now / cornerColumns) × (k.edges ≤ length ends.now / endColumns) }
+    requires { (k.triangles ≤ length corners.now / corner_columns) × (k.edges ≤ length ends.now / end_columns) }
     ensures { FanCounted v k corners.now ends.now result }
 {
     let t = k.triangles;

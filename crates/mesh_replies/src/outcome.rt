@@ -2,9 +2,9 @@
 ghost use Rattle.std.specs.Prelude.{◌≡◌, ◌+◌, ◌*◌, ◌≤◌, ◌<◌, [], length, take};
 ghost use Rattle.lists.specs.Lists.{pick};
 ghost use Rattle.model.specs.Reads.{refused, value};
-ghost use Rattle.image.specs.Words.{putWords, written};
+ghost use Rattle.image.specs.Words.{put_words, written};
 ghost use Rattle.mesh_replies.specs.Both.{BothReplied};
-ghost use Rattle.mesh_replies.specs.Told.{listedEdges, doneWords, meshTold, logTold, Tellable, Telling};
+ghost use Rattle.mesh_replies.specs.Told.{listed_edges, done_words, mesh_told, log_told, Tellable, Telling};
 
 use mesh::Counts;
 use work::Ran;
@@ -33,7 +33,7 @@ fn one_if(b: bool) -> usize
 // Writes words of a log from word `at` on.
 fn store_log(words: &[u32], at: usize, log: &mut [u8])
     requires { 4 * (at + length words.now) ≤ length log.old }
-    ensures { log.new ≡ putWords log.old at words.now }
+    ensures { log.new ≡ put_words log.old at words.now }
 {
     let mut i: usize = 0;
     while i < words.len() {
@@ -71,7 +71,7 @@ fn reply_done(
 ) -> u32
     requires { Tellable k gone.now (length points.now) (length roots.now) (length corners.now) (length volumes.now)
         (length ends.now) (length lengths.now) (length outline.now) (length words.now) (length log.old) }
-    ensures { BothReplied (value (doneWords k any (listedEdges gone.now) points.now roots.now
+    ensures { BothReplied (value (done_words k any (listed_edges gone.now) points.now roots.now
         corners.now volumes.now ends.now lengths.now outline.now)) (take
         (6 * k.log) words.now) (length out.old) (length log.old) result out.new log.new }
 {
@@ -112,9 +112,9 @@ pub fn reply_ran(
 ) -> u32
     requires { Telling ran gone.now (length points.now) (length roots.now) (length corners.now) (length volumes.now)
         (length ends.now) (length lengths.now) (length outline.now) (length words.now) (length log.old) }
-    ensures { BothReplied (meshTold ran gone.now points.now roots.now corners.now
+    ensures { BothReplied (mesh_told ran gone.now points.now roots.now corners.now
         volumes.now ends.now lengths.now outline.now words.now)
-        (logTold ran words.now) (length out.old) (length log.old) result out.new log.new }
+        (log_told ran words.now) (length out.old) (length log.old) result out.new log.new }
 {
     match ran {
         Ran::Refused(code) => {

@@ -2,17 +2,17 @@
 ghost use Rattle.std.specs.Prelude.{◌≡◌, true, [], ◌+◌, ◌*◌, ◌≤◌, length};
 ghost use Rattle.std.specs.Float.{nan};
 ghost use Rattle.columns.specs.Block.{BlockCopied};
-ghost use Rattle.mesh.specs.Given.{meshOf, sizes};
+ghost use Rattle.mesh.specs.Given.{mesh_of, sizes};
 ghost use Rattle.mesh.specs.Filled.{Fits, lent};
-ghost use Rattle.image.specs.Words.{wordsFrom, numbersFrom};
-ghost use Rattle.image.specs.Image.{image_of, imageSized};
-ghost use Rattle.mesh.specs.Blocks.{meshBehind, blocksIn};
+ghost use Rattle.image.specs.Words.{words_from, numbers_from};
+ghost use Rattle.image.specs.Image.{image_of, image_sized_of};
+ghost use Rattle.mesh.specs.Blocks.{mesh_behind, blocks_in};
 
 use mesh::Counts;
 
 // How many rows each list of an image has that has the sizes of a mesh.
 pub fn image_counts(bytes: &[u8]) -> Counts
-    requires { imageSized bytes.now ≡ true }
+    requires { image_sized_of bytes.now ≡ true }
     ensures { result ≡ sizes (image_of bytes.now) }
 {
     Counts {
@@ -27,7 +27,7 @@ pub fn image_counts(bytes: &[u8]) -> Counts
 // Reads columns of n words each, from word `at` on, to the fronts of the columns of a block.
 fn place_words(bytes: &[u8], at: usize, n: usize, width: usize, stride: usize, block: &mut [usize])
     requires { (n ≤ stride) × (width * stride ≤ length block.old) × (4 * (at + width * n) ≤ length bytes.now) }
-    ensures { BlockCopied 0 n width stride (wordsFrom bytes.now at (width * n)) block.new }
+    ensures { BlockCopied 0 n width stride (words_from bytes.now at (width * n)) block.new }
 {
     let mut c: usize = 0;
     let mut o: usize = 0;
@@ -44,7 +44,7 @@ fn place_words(bytes: &[u8], at: usize, n: usize, width: usize, stride: usize, b
 // The same of numbers.
 fn place_numbers(bytes: &[u8], at: usize, n: usize, width: usize, stride: usize, block: &mut [f32])
     requires { (n ≤ stride) × (width * stride ≤ length block.old) × (4 * (at + width * n) ≤ length bytes.now) }
-    ensures { BlockCopied nan n width stride (numbersFrom bytes.now at (width * n)) block.new }
+    ensures { BlockCopied nan n width stride (numbers_from bytes.now at (width * n)) block.new }
 {
     let mut c: usize = 0;
     let mut o: usize = 0;
@@ -70,10 +70,10 @@ pub fn place_image(
     lengths: &mut [f32],
     outline: &mut [usize],
 )
-    requires { (imageSized bytes.now ≡ true) × (k ≡ sizes (image_of bytes.now))
-        × Fits k (blocksIn points roots corners volumes ends lengths outline) }
-    ensures { let I = image_of bytes.now in meshBehind (sizes I) points roots corners volumes ends lengths outline
-        ≡ meshOf I }
+    requires { (image_sized_of bytes.now ≡ true) × (k ≡ sizes (image_of bytes.now))
+        × Fits k (blocks_in points roots corners volumes ends lengths outline) }
+    ensures { let I = image_of bytes.now in mesh_behind (sizes I) points roots corners volumes ends lengths outline
+        ≡ mesh_of I }
 {
     let p = k.particles;
     let t = k.triangles;

@@ -1,10 +1,10 @@
 // The corners of all elements of an accepted mesh in one table, where neither their numbers nor their measures are asked for.
 ghost use Rattle.std.specs.Prelude.{◌*◌, ◌/◌, ◌≤◌, length};
-ghost use Rattle.elements.specs.Table.{kindIs};
-ghost use Rattle.mesh.specs.Blocks.{givenIn, givenBefore};
+ghost use Rattle.elements.specs.Table.{kind_is};
+ghost use Rattle.mesh.specs.Blocks.{given_in, given_before};
 ghost use Rattle.mesh_tables.specs.Accepted.{Accepted};
 ghost use Rattle.mesh_tables.specs.Cornering.{CornerRoom, TriangleCorners, StrapCorners, KindCorners, MeshCornered};
-ghost use Rattle.mesh.specs.Widths.{cornerColumns, endColumns};
+ghost use Rattle.mesh.specs.Widths.{corner_columns, end_columns};
 
 use elements::Kind;
 
@@ -17,7 +17,7 @@ pub struct Rows {
 
 // The corners of the first t triangles.
 fn triangle_corners(t: usize, corners: &[usize], verts: &mut [usize])
-    requires { (t ≤ length corners.now / cornerColumns) × (t * 3 ≤ length verts.old) }
+    requires { (t ≤ length corners.now / corner_columns) × (t * 3 ≤ length verts.old) }
     ensures { TriangleCorners t corners.now verts.new }
 {
     let c = corners.len() / mesh::CORNER_COLUMNS;
@@ -34,7 +34,7 @@ fn triangle_corners(t: usize, corners: &[usize], verts: &mut [usize])
 
 // The corners of the structural edges among the first e, and how many these are.
 fn strap_corners(e: usize, ends: &[usize], verts: &mut [usize]) -> usize
-    requires { (e ≤ length ends.now / endColumns) × (e * 2 ≤ length verts.old) }
+    requires { (e ≤ length ends.now / end_columns) × (e * 2 ≤ length verts.old) }
     ensures { StrapCorners e ends.now result verts.new }
 {
     let c = ends.len() / mesh::END_COLUMNS;
@@ -63,7 +63,7 @@ fn kind_corners(
     verts: &mut [usize],
 ) -> usize
     requires { CornerRoom t e (length corners.now) (length ends.now) (length verts.old) }
-    ensures { KindCorners (kindIs kind) t e corners.now ends.now result verts.new }
+    ensures { KindCorners (kind_is kind) t e corners.now ends.now result verts.new }
 {
     match kind {
         Kind::Triangles => {
@@ -86,8 +86,8 @@ pub fn corners_of(
     outline: &[usize],
     verts: &mut [usize],
 ) -> Rows
-    requires { Accepted (givenIn points roots corners volumes ends lengths outline) × (4096 ≤ length verts.old) }
-    ensures { MeshCornered (givenBefore points roots corners volumes ends lengths outline) result.n result.k verts.new }
+    requires { Accepted (given_in points roots corners volumes ends lengths outline) × (4096 ≤ length verts.old) }
+    ensures { MeshCornered (given_before points roots corners volumes ends lengths outline) result.n result.k verts.new }
 {
     let t = corners.len() / mesh::CORNER_COLUMNS;
     let e = ends.len() / mesh::END_COLUMNS;

@@ -1,9 +1,9 @@
 // The fan of a particle, read from the columns of a mesh: the corners of its elements.
 ghost use Rattle.std.specs.Prelude.{◌≡◌, ◌&&◌, List, [], ◌∷◌, ◌/◌, ◌≤◌, eqb, Float, length};
 ghost use Rattle.lists.specs.Lists.{stands};
-ghost use Rattle.elements.specs.Table.{kindIs};
-ghost use Rattle.mesh_tables.specs.Fans.{RowPut, CornersRead, trianglesWith, strapsWith, FanCorners};
-ghost use Rattle.mesh.specs.Widths.{cornerColumns, endColumns};
+ghost use Rattle.elements.specs.Table.{kind_is};
+ghost use Rattle.mesh_tables.specs.Fans.{RowPut, CornersRead, triangles_with, straps_with, FanCorners};
+ghost use Rattle.mesh.specs.Widths.{corner_columns, end_columns};
 
 use elements::Kind;
 
@@ -58,8 +58,8 @@ fn put_two(r: usize, a: usize, b: usize, verts: &mut [usize])
 
 // The corners of the triangles that hold v, as far as a table goes, and how many triangles they are.
 fn triangle_corners(v: usize, t: usize, corners: &[usize], verts: &mut [usize]) -> usize
-    requires { t ≤ length corners.now / cornerColumns }
-    ensures { (volumes : List Float) → CornersRead 3 (trianglesWith v t corners.now volumes) result verts.new }
+    requires { t ≤ length corners.now / corner_columns }
+    ensures { (volumes : List Float) → CornersRead 3 (triangles_with v t corners.now volumes) result verts.new }
 {
     let c = corners.len() / mesh::CORNER_COLUMNS;
     let mut r: usize = 0;
@@ -79,8 +79,8 @@ fn triangle_corners(v: usize, t: usize, corners: &[usize], verts: &mut [usize]) 
 
 // The ends of the straps that hold v, as far as a table goes, and how many straps they are.
 fn strap_corners(v: usize, e: usize, ends: &[usize], verts: &mut [usize]) -> usize
-    requires { e ≤ length ends.now / endColumns }
-    ensures { (lengths : List Float) → CornersRead 2 (strapsWith v e ends.now lengths) result verts.new }
+    requires { e ≤ length ends.now / end_columns }
+    ensures { (lengths : List Float) → CornersRead 2 (straps_with v e ends.now lengths) result verts.new }
 {
     let c = ends.len() / mesh::END_COLUMNS;
     let mut r: usize = 0;
@@ -107,8 +107,8 @@ pub fn fan_corners(
     ends: &[usize],
     verts: &mut [usize],
 ) -> usize
-    requires { (t ≤ length corners.now / cornerColumns) × (e ≤ length ends.now / endColumns) }
-    ensures { FanCorners (kindIs kind) v t e corners.now ends.now result verts.new }
+    requires { (t ≤ length corners.now / corner_columns) × (e ≤ length ends.now / end_columns) }
+    ensures { FanCorners (kind_is kind) v t e corners.now ends.now result verts.new }
 {
     match kind {
         Kind::Triangles => triangle_corners(v, t, corners, verts),

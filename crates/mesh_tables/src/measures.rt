@@ -1,19 +1,19 @@
 // The measure of an accepted mesh: those of its elements, added in their order, without a table of them.
 ghost use Rattle.std.specs.Prelude.{◌≡◌, map, ◌/◌, ◌≤◌, length};
-ghost use Rattle.model.specs.Elements.{Element, trianglesFrom, strapsFrom, sum, restMeasure};
-ghost use Rattle.mesh.specs.At.{trianglesAt, edges_at};
-ghost use Rattle.mesh.specs.Given.{meshOf};
-ghost use Rattle.mesh.specs.Blocks.{givenIn, givenBefore};
-ghost use Rattle.elements.specs.Table.{kindIs, elementsIn};
+ghost use Rattle.model.specs.Elements.{Element, triangles_from, straps_from, sum, rest_measure};
+ghost use Rattle.mesh.specs.At.{triangles_at, edges_at};
+ghost use Rattle.mesh.specs.Given.{mesh_of};
+ghost use Rattle.mesh.specs.Blocks.{given_in, given_before};
+ghost use Rattle.elements.specs.Table.{kind_is, elements_in};
 ghost use Rattle.mesh_tables.specs.Accepted.{Accepted};
-ghost use Rattle.mesh.specs.Widths.{endColumns, lengthColumns};
+ghost use Rattle.mesh.specs.Widths.{end_columns, length_columns};
 
 use elements::Kind;
 
 // The sum of the first t triangles.
 fn triangle_sum(t: usize, corners: &[usize], volumes: &[f32]) -> f32
     requires { t ≤ length volumes.now }
-    ensures { result ≡ sum (map (λ (x : Element). x.measure) (trianglesFrom 0 (trianglesAt t corners.now
+    ensures { result ≡ sum (map (λ (x : Element). x.measure) (triangles_from 0 (triangles_at t corners.now
         volumes.now))) }
 {
     let mut s: f32 = 0.0;
@@ -27,8 +27,8 @@ fn triangle_sum(t: usize, corners: &[usize], volumes: &[f32]) -> f32
 
 // The sum of the structural edges among the first e.
 fn strap_sum(e: usize, ends: &[usize], lengths: &[f32]) -> f32
-    requires { (e ≤ length ends.now / endColumns) × (e ≤ length lengths.now / lengthColumns) }
-    ensures { result ≡ sum (map (λ (x : Element). x.measure) (strapsFrom 0 (edges_at e ends.now lengths.now))) }
+    requires { (e ≤ length ends.now / end_columns) × (e ≤ length lengths.now / length_columns) }
+    ensures { result ≡ sum (map (λ (x : Element). x.measure) (straps_from 0 (edges_at e ends.now lengths.now))) }
 {
     let c = ends.len() / mesh::END_COLUMNS;
     let m = lengths.len() / mesh::LENGTH_COLUMNS;
@@ -53,8 +53,8 @@ fn kind_sum(
     ends: &[usize],
     lengths: &[f32],
 ) -> f32
-    requires { (t ≤ length volumes.now) × (e ≤ length ends.now / endColumns) × (e ≤ length lengths.now / lengthColumns) }
-    ensures { result ≡ sum (map (λ (x : Element). x.measure) (elementsIn (kindIs kind) (trianglesAt t corners.now
+    requires { (t ≤ length volumes.now) × (e ≤ length ends.now / end_columns) × (e ≤ length lengths.now / length_columns) }
+    ensures { result ≡ sum (map (λ (x : Element). x.measure) (elements_in (kind_is kind) (triangles_at t corners.now
         volumes.now) (edges_at e ends.now lengths.now))) }
 {
     match kind {
@@ -74,8 +74,8 @@ pub fn whole_measure(
     lengths: &[f32],
     outline: &[usize],
 ) -> f32
-    requires { Accepted (givenIn points roots corners volumes ends lengths outline) }
-    ensures { result ≡ restMeasure (meshOf (givenBefore points roots corners volumes ends lengths outline)) }
+    requires { Accepted (given_in points roots corners volumes ends lengths outline) }
+    ensures { result ≡ rest_measure (mesh_of (given_before points roots corners volumes ends lengths outline)) }
 {
     let t = corners.len() / mesh::CORNER_COLUMNS;
     let e = ends.len() / mesh::END_COLUMNS;

@@ -1,7 +1,7 @@
 // The tables of an accepted mesh: all its elements, and the fan of a particle.
 ghost use Rattle.std.specs.Prelude.{length};
 ghost use Rattle.mesh_tables.specs.Accepted.{Accepted, TableLent, MeshTabled, FanLent, FanFound};
-ghost use Rattle.mesh.specs.Blocks.{givenIn, givenBefore};
+ghost use Rattle.mesh.specs.Blocks.{given_in, given_before};
 
 // How many elements there are, how many corners each has, and how many particles two neighbours share at least.
 #[derive(Clone, Copy)]
@@ -33,9 +33,9 @@ pub fn table(
     verts: &mut [usize],
     measures: &mut [f32],
 ) -> Shape
-    requires { Accepted (givenIn points roots corners volumes ends lengths outline)
+    requires { Accepted (given_in points roots corners volumes ends lengths outline)
         × TableLent (length numbers.old) (length verts.old) (length measures.old) }
-    ensures { MeshTabled (givenBefore points roots corners volumes ends lengths outline) result.n result.k result.others
+    ensures { MeshTabled (given_before points roots corners volumes ends lengths outline) result.n result.k result.others
         numbers.new verts.new measures.new }
 {
     let t = corners.len() / mesh::CORNER_COLUMNS;
@@ -62,9 +62,9 @@ pub fn fan_of(
     verts: &mut [usize],
     fan_verts: &mut [usize],
 ) -> FanShape
-    requires { Accepted (givenIn points roots corners volumes ends lengths outline)
+    requires { Accepted (given_in points roots corners volumes ends lengths outline)
         × FanLent (length verts.old) (length fan_verts.old) }
-    ensures { FanFound (givenBefore points roots corners volumes ends lengths outline) v result.n result.k result.others result.fan
+    ensures { FanFound (given_before points roots corners volumes ends lengths outline) v result.n result.k result.others result.fan
         verts.new fan_verts.new }
 {
     let mut numbers = [0usize; mesh::ELEMENTS];

@@ -21,7 +21,7 @@ abbrev pub rooms : ℕ → ℕ → ℕ → ℕ → ℕ → Rooms
 rooms p t e b l = record { particles = p; triangles = t; edges = e; boundary = b; log = l }
 
 abbrev pub particle : ℕ → ℕ → ℕ → ℕ → ℕ → ℕ → ℕ → ℕ → Particle
-particle x y rx ry m w r d = record { x = bits x; y = bits y; rest-x = bits rx; rest-y = bits ry; mass = bits m; inv = bits w; velocity-x = zero32; velocity-y = zero32; root = r; damaged = d }
+particle x y rx ry m w r d = record { x = bits x; y = bits y; rest_x = bits rx; rest_y = bits ry; mass = bits m; inv = bits w; velocity_x = zero32; velocity_y = zero32; root = r; damaged = d }
 
 abbrev pub triangle : ℕ → ℕ → ℕ → ℕ → ℕ → Triangle
 triangle a b c v s = record { corners = a ∷ b ∷ c ∷ []; volume = bits v; stress = bits s }

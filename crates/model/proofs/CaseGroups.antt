@@ -6,30 +6,30 @@ use mathlib.Core.List.{List, [], ◌∷◌, map}
 use lib.Ieee.{is_nan, neg, add, sub, mul, div, lt, le, eq, ne, of_int, of_bits}
 use Rattle.blade.specs.declared.Hit.TheVariants.{Miss, Hit as HitAt}
 use Rattle.model.specs.Mesh.{Mesh}
-use Rattle.model.specs.Pieces.{defaultMinPiece}
+use Rattle.model.specs.Pieces.{default_min_piece}
 use Rattle.model.specs.Run.{split, edge as removed, insert, opened, met}
 use Rattle.model.specs.Calls.{refused, done}
 use Rattle.model.specs.Reads.{refused as denied, value}
 use Rattle.model.specs.Starred.{Case, meshes, groups, flag, number, float, hit}
 use Rattle.model.proofs.Asked.{bits, point, blade, rooms, mesh, particle, triangle, edge, side}
-use Rattle.lists.specs.Lists.{sameRow, any, all, sift, siftAt, find, fold, each, pairs, mapAt, tab, up_to, rising, distinct, disjoint, padded, keep, keptOf, nth}
-use Rattle.lists.specs.Labels.{merged, joinPair, joinRow, joinRows, labelled}
-use Rattle.float.specs.Numbers.{absOf, max_of, invOf}
-use Rattle.float.specs.Ranges.{finite?, number?, volume?, notBelow0?}
-use Rattle.float.specs.Root.{floorRoot, rootUnits}
+use Rattle.lists.specs.Lists.{same_row_of, any, all, sift, sift_at, find, fold, each, pairs, map_at_of, tab, up_to, rising, distinct, disjoint, padded, keep, kept_of, nth}
+use Rattle.lists.specs.Labels.{merged, join_pair, join_row, join_rows, labelled}
+use Rattle.float.specs.Numbers.{abs_of, max_of, inv_of}
+use Rattle.float.specs.Ranges.{finite?, number?, volume?, not_below0?}
+use Rattle.float.specs.Root.{floor_root, root_units}
 use Rattle.float.specs.Order.{sign_of}
-use Rattle.blade.specs.Points.{sum_of, centroidOf, lerpOf, length_of}
-use Rattle.blade.specs.Blade.{bladeHit}
-use Rattle.fan.specs.Groups.{labelsOf, numberOne, numberSide, numbered, groups_of, count_of}
-use Rattle.model.specs.Valid.{particleOk, triangleOk, edgeOk, numbersFit, named, rootOk, cornersOk, endsOk, sideOk, indicesFit}
-use Rattle.model.specs.Elements.{place_of, rest_of, besides, sum, kindBy, kind_of, trianglesFrom, strapsFrom, elementsOf, held, restMeasure, restMeasureOf, fanOf, gridOf}
-use Rattle.model.specs.Split.{parts_of, openingOf, splits?, made, weightOf, total_of, massOf, portion, copied, groupAt, rewiredTriangles, rewiredStraps, ring, scoreOf, scored, toward, edgeGroups, stayed, doubled, otherEdges, parted, straddles, sideGroup, followed, faceOn, facetsAt, crackFacets, atLongest, settled, splitEntries, goneEntries, splitMade, splitStep, splitBySides}
-use Rattle.model.specs.Pieces.{sharedOf, pieceLabels, pieceCount, pieces, bodyLabels, bodies, body_of, spans, across?, withoutStraddlers, straddlersGone, removeStraddlers, reachLabels, labelsAt, members_of, reachOf, opensWithoutConfetti}
-use Rattle.model.specs.Cut.{meets, left_of, keptSide, bladeSides, splitByBlade, splitEnds, nearCorners, pinched, splitFree, splitPinched, candidates, cutFacets, crossings, nearEnd, strapsAt, strapShare, insertionOf, wanted?, insertable, sideAlong, bends, numbersOf, bendsOver, lightened, between, insertedParticles, half_of, insertedEdges, shortened, appended, insertedSides, insertedMesh, insertStep, insertedAt, snappedAt, crossed, unbent, slackened, splitSnapped, afterCrossings, cutSegments, marksOf, markedBy, cutAlong, cut}
-use Rattle.model.specs.Crack.{largestStress, stressBetween, triangleLoad, loadsOf, family, crossPairs, currentOf, currentPair, beyond, farSide, meanLoad, twoSided, wayAt, ways_of, damagedAt, torn, crackBy, crackPair, crackEdge, tornEnds, crack}
-use Rattle.model.specs.Run.{start, stepTo, splitsOf, changed}
-use Rattle.model.specs.Calls.{sidesOk, strictly, particlesOk, refusal, tooSmall, firstFault, outcome, cutCall, crackCall, splitCall, straddlersCall}
-use Rattle.model.specs.Reads.{bladeCall, groupsCall, restMeasureCall, restMeasureOfCall, opensCall, piecesCall, stateCall}
+use Rattle.blade.specs.Points.{sum_of, centroid_of, lerp_of, length_of}
+use Rattle.blade.specs.Blade.{blade_hit_of}
+use Rattle.fan.specs.Groups.{labels_of, number_one, number_side, numbered, groups_of, count_of}
+use Rattle.model.specs.Valid.{particle_ok, triangle_ok, edge_ok, numbers_fit_of, named, root_ok, corners_ok, ends_ok, side_ok, indices_fit_of}
+use Rattle.model.specs.Elements.{place_of, rest_of, besides, sum, kind_by, kind_of, triangles_from, straps_from, elements_of, held, rest_measure, the_rest_measure_of, fan_of, grid_of}
+use Rattle.model.specs.Split.{parts_of, opening_of, splits?, made, weight_of, total_of, mass_of, portion, copied, group_at_of, rewired_triangles, rewired_straps, ring, score_of, scored, toward, edge_groups, stayed, doubled, other_edges, parted, straddles, side_group, followed, face_on, facets_at, crack_facets, at_longest, settled, split_entries, gone_entries, split_made, split_step, split_by_sides_of}
+use Rattle.model.specs.Pieces.{shared_of, piece_labels, piece_count, pieces, body_labels, bodies, body_of, spans, across?, without_straddlers, straddlers_gone, remove_straddlers_of, reach_labels, labels_at, members_of, reach_of, opens_without_confetti_of}
+use Rattle.model.specs.Cut.{meets, left_of, kept_side, blade_sides, split_by_blade, split_ends, near_corners, pinched, split_free, split_pinched_of, candidates, cut_facets_of, crossings, near_end, straps_at, strap_share, insertion_of, wanted?, insertable, side_along, bends, numbers_of, bends_over, lightened, between, inserted_particles, half_of, inserted_edges, shortened, appended, inserted_sides, inserted_mesh, insert_step, inserted_at, snapped_at, crossed, unbent, slackened, split_snapped_of, after_crossings, cut_segments_of, marks_of, marked_by, cut_along, cut}
+use Rattle.model.specs.Crack.{largest_stress, stress_between, triangle_load, loads_of, family, cross_pairs, current_of, current_pair, beyond, far_side, mean_load, two_sided_of, way_at, ways_of, damaged_at, torn, crack_by, crack_pair, crack_edge, torn_ends, crack}
+use Rattle.model.specs.Run.{start, step_to, splits_of, changed}
+use Rattle.model.specs.Calls.{sides_ok, strictly, particles_ok, refusal, too_small, first_fault, outcome, cut_call, crack_call, split_call, straddlers_call}
+use Rattle.model.specs.Reads.{blade_call, groups_call, rest_measure_call, rest_measure_of_call, opens_call, pieces_call, state_call}
 
 abbrev in101 : Mesh
 in101 =
@@ -41,11 +41,11 @@ in101 =
 
 -- starred: sides 0, 0, 0 give groups 0, 0, 1
 abbrev case101 : Case
-case101 = record { asked = groups (groupsCall true in101 0 (0 ∷ 0 ∷ 0 ∷ [])); wanted = groups (value ((0 ∷ 0 ∷ 1 ∷ []), 2)) }
+case101 = record { asked = groups (groups_call true in101 0 (0 ∷ 0 ∷ 0 ∷ [])); wanted = groups (value ((0 ∷ 0 ∷ 1 ∷ []), 2)) }
 
 -- starred: sides 1, 0, 0 give groups 2, 0, 1
 abbrev case102 : Case
-case102 = record { asked = groups (groupsCall true in101 0 (1 ∷ 0 ∷ 0 ∷ [])); wanted = groups (value ((2 ∷ 0 ∷ 1 ∷ []), 3)) }
+case102 = record { asked = groups (groups_call true in101 0 (1 ∷ 0 ∷ 0 ∷ [])); wanted = groups (value ((2 ∷ 0 ∷ 1 ∷ []), 3)) }
 
 abbrev in103 : Mesh
 in103 =
@@ -57,11 +57,11 @@ in103 =
 
 -- starred: strap sides 0, 1, 0 at a shared end
 abbrev case103 : Case
-case103 = record { asked = groups (groupsCall true in103 0 (0 ∷ 1 ∷ 0 ∷ [])); wanted = groups (value ((0 ∷ 1 ∷ 0 ∷ []), 2)) }
+case103 = record { asked = groups (groups_call true in103 0 (0 ∷ 1 ∷ 0 ∷ [])); wanted = groups (value ((0 ∷ 1 ∷ 0 ∷ []), 2)) }
 
 -- groups at a particle of one element
 abbrev case104 : Case
-case104 = record { asked = groups (groupsCall true in101 1 (1 ∷ [])); wanted = groups (value ((0 ∷ []), 1)) }
+case104 = record { asked = groups (groups_call true in101 1 (1 ∷ [])); wanted = groups (value ((0 ∷ []), 1)) }
 
 abbrev in105 : Mesh
 in105 =
@@ -73,23 +73,23 @@ in105 =
 
 -- groups in a mesh of nothing
 abbrev case105 : Case
-case105 = record { asked = groups (groupsCall true in105 0 []); wanted = groups (value ([], 0)) }
+case105 = record { asked = groups (groups_call true in105 0 []); wanted = groups (value ([], 0)) }
 
 -- a side that is not 0 or 1
 abbrev case106 : Case
-case106 = record { asked = groups (groupsCall true in101 0 (0 ∷ 2 ∷ 0 ∷ [])); wanted = groups (denied 4) }
+case106 = record { asked = groups (groups_call true in101 0 (0 ∷ 2 ∷ 0 ∷ [])); wanted = groups (denied 4) }
 
 -- not one side per fan element
 abbrev case107 : Case
-case107 = record { asked = groups (groupsCall true in101 0 (0 ∷ 1 ∷ [])); wanted = groups (denied 4) }
+case107 = record { asked = groups (groups_call true in101 0 (0 ∷ 1 ∷ [])); wanted = groups (denied 4) }
 
 -- particle absent
 abbrev case108 : Case
-case108 = record { asked = groups (groupsCall true in101 6 []); wanted = groups (denied 4) }
+case108 = record { asked = groups (groups_call true in101 6 []); wanted = groups (denied 4) }
 
 abbrev pub cases : List Case
 cases = case101 ∷ case102 ∷ case103 ∷ case104 ∷ case105 ∷ case106 ∷ case107 ∷ case108 ∷ []
 
 pub agree : map (λ (c : Case). c.asked) cases ≡ map (λ (c : Case). c.wanted) cases
-unfolding sameRow any all sift siftAt find fold each pairs mapAt tab up_to rising distinct disjoint padded keep keptOf nth merged joinPair joinRow joinRows labelled absOf max_of invOf finite? number? volume? notBelow0? floorRoot rootUnits sign_of sum_of centroidOf lerpOf length_of bladeHit labelsOf numberOne numberSide numbered groups_of count_of particleOk triangleOk edgeOk numbersFit named rootOk cornersOk endsOk sideOk indicesFit place_of rest_of besides sum kindBy kind_of trianglesFrom strapsFrom elementsOf held restMeasure restMeasureOf fanOf gridOf parts_of openingOf splits? made weightOf total_of massOf portion copied groupAt rewiredTriangles rewiredStraps ring scoreOf scored toward edgeGroups stayed doubled otherEdges parted straddles sideGroup followed faceOn facetsAt crackFacets atLongest settled splitEntries goneEntries splitMade splitStep splitBySides sharedOf pieceLabels pieceCount pieces bodyLabels bodies body_of spans across? withoutStraddlers straddlersGone removeStraddlers reachLabels labelsAt members_of reachOf opensWithoutConfetti meets left_of keptSide bladeSides splitByBlade splitEnds nearCorners pinched splitFree splitPinched candidates cutFacets crossings nearEnd strapsAt strapShare insertionOf wanted? insertable sideAlong bends numbersOf bendsOver lightened between insertedParticles half_of insertedEdges shortened appended insertedSides insertedMesh insertStep insertedAt snappedAt crossed unbent slackened splitSnapped afterCrossings cutSegments marksOf markedBy cutAlong cut largestStress stressBetween triangleLoad loadsOf family crossPairs currentOf currentPair beyond farSide meanLoad twoSided wayAt ways_of damagedAt torn crackBy crackPair crackEdge tornEnds crack start stepTo splitsOf changed sidesOk strictly particlesOk refusal tooSmall firstFault outcome cutCall crackCall splitCall straddlersCall bladeCall groupsCall restMeasureCall restMeasureOfCall opensCall piecesCall stateCall is_nan neg add sub mul div lt le eq ne of_int of_bits
+unfolding same_row_of any all sift sift_at find fold each pairs map_at_of tab up_to rising distinct disjoint padded keep kept_of nth merged join_pair join_row join_rows labelled abs_of max_of inv_of finite? number? volume? not_below0? floor_root root_units sign_of sum_of centroid_of lerp_of length_of blade_hit_of labels_of number_one number_side numbered groups_of count_of particle_ok triangle_ok edge_ok numbers_fit_of named root_ok corners_ok ends_ok side_ok indices_fit_of place_of rest_of besides sum kind_by kind_of triangles_from straps_from elements_of held rest_measure the_rest_measure_of fan_of grid_of parts_of opening_of splits? made weight_of total_of mass_of portion copied group_at_of rewired_triangles rewired_straps ring score_of scored toward edge_groups stayed doubled other_edges parted straddles side_group followed face_on facets_at crack_facets at_longest settled split_entries gone_entries split_made split_step split_by_sides_of shared_of piece_labels piece_count pieces body_labels bodies body_of spans across? without_straddlers straddlers_gone remove_straddlers_of reach_labels labels_at members_of reach_of opens_without_confetti_of meets left_of kept_side blade_sides split_by_blade split_ends near_corners pinched split_free split_pinched_of candidates cut_facets_of crossings near_end straps_at strap_share insertion_of wanted? insertable side_along bends numbers_of bends_over lightened between inserted_particles half_of inserted_edges shortened appended inserted_sides inserted_mesh insert_step inserted_at snapped_at crossed unbent slackened split_snapped_of after_crossings cut_segments_of marks_of marked_by cut_along cut largest_stress stress_between triangle_load loads_of family cross_pairs current_of current_pair beyond far_side mean_load two_sided_of way_at ways_of damaged_at torn crack_by crack_pair crack_edge torn_ends crack start step_to splits_of changed sides_ok strictly particles_ok refusal too_small first_fault outcome cut_call crack_call split_call straddlers_call blade_call groups_call rest_measure_call rest_measure_of_call opens_call pieces_call state_call is_nan neg add sub mul div lt le eq ne of_int of_bits
 agree = refl

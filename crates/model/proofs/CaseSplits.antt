@@ -6,30 +6,30 @@ use mathlib.Core.List.{List, [], ◌∷◌, map}
 use lib.Ieee.{is_nan, neg, add, sub, mul, div, lt, le, eq, ne, of_int, of_bits}
 use Rattle.blade.specs.declared.Hit.TheVariants.{Miss, Hit as HitAt}
 use Rattle.model.specs.Mesh.{Mesh}
-use Rattle.model.specs.Pieces.{defaultMinPiece}
+use Rattle.model.specs.Pieces.{default_min_piece}
 use Rattle.model.specs.Run.{split, edge as removed, insert, opened, met}
 use Rattle.model.specs.Calls.{refused, done}
 use Rattle.model.specs.Reads.{refused as denied, value}
 use Rattle.model.specs.Starred.{Case, meshes, groups, flag, number, float, hit}
 use Rattle.model.proofs.Asked.{bits, point, blade, rooms, mesh, particle, triangle, edge, side}
-use Rattle.lists.specs.Lists.{sameRow, any, all, sift, siftAt, find, fold, each, pairs, mapAt, tab, up_to, rising, distinct, disjoint, padded, keep, keptOf, nth}
-use Rattle.lists.specs.Labels.{merged, joinPair, joinRow, joinRows, labelled}
-use Rattle.float.specs.Numbers.{absOf, max_of, invOf}
-use Rattle.float.specs.Ranges.{finite?, number?, volume?, notBelow0?}
-use Rattle.float.specs.Root.{floorRoot, rootUnits}
+use Rattle.lists.specs.Lists.{same_row_of, any, all, sift, sift_at, find, fold, each, pairs, map_at_of, tab, up_to, rising, distinct, disjoint, padded, keep, kept_of, nth}
+use Rattle.lists.specs.Labels.{merged, join_pair, join_row, join_rows, labelled}
+use Rattle.float.specs.Numbers.{abs_of, max_of, inv_of}
+use Rattle.float.specs.Ranges.{finite?, number?, volume?, not_below0?}
+use Rattle.float.specs.Root.{floor_root, root_units}
 use Rattle.float.specs.Order.{sign_of}
-use Rattle.blade.specs.Points.{sum_of, centroidOf, lerpOf, length_of}
-use Rattle.blade.specs.Blade.{bladeHit}
-use Rattle.fan.specs.Groups.{labelsOf, numberOne, numberSide, numbered, groups_of, count_of}
-use Rattle.model.specs.Valid.{particleOk, triangleOk, edgeOk, numbersFit, named, rootOk, cornersOk, endsOk, sideOk, indicesFit}
-use Rattle.model.specs.Elements.{place_of, rest_of, besides, sum, kindBy, kind_of, trianglesFrom, strapsFrom, elementsOf, held, restMeasure, restMeasureOf, fanOf, gridOf}
-use Rattle.model.specs.Split.{parts_of, openingOf, splits?, made, weightOf, total_of, massOf, portion, copied, groupAt, rewiredTriangles, rewiredStraps, ring, scoreOf, scored, toward, edgeGroups, stayed, doubled, otherEdges, parted, straddles, sideGroup, followed, faceOn, facetsAt, crackFacets, atLongest, settled, splitEntries, goneEntries, splitMade, splitStep, splitBySides}
-use Rattle.model.specs.Pieces.{sharedOf, pieceLabels, pieceCount, pieces, bodyLabels, bodies, body_of, spans, across?, withoutStraddlers, straddlersGone, removeStraddlers, reachLabels, labelsAt, members_of, reachOf, opensWithoutConfetti}
-use Rattle.model.specs.Cut.{meets, left_of, keptSide, bladeSides, splitByBlade, splitEnds, nearCorners, pinched, splitFree, splitPinched, candidates, cutFacets, crossings, nearEnd, strapsAt, strapShare, insertionOf, wanted?, insertable, sideAlong, bends, numbersOf, bendsOver, lightened, between, insertedParticles, half_of, insertedEdges, shortened, appended, insertedSides, insertedMesh, insertStep, insertedAt, snappedAt, crossed, unbent, slackened, splitSnapped, afterCrossings, cutSegments, marksOf, markedBy, cutAlong, cut}
-use Rattle.model.specs.Crack.{largestStress, stressBetween, triangleLoad, loadsOf, family, crossPairs, currentOf, currentPair, beyond, farSide, meanLoad, twoSided, wayAt, ways_of, damagedAt, torn, crackBy, crackPair, crackEdge, tornEnds, crack}
-use Rattle.model.specs.Run.{start, stepTo, splitsOf, changed}
-use Rattle.model.specs.Calls.{sidesOk, strictly, particlesOk, refusal, tooSmall, firstFault, outcome, cutCall, crackCall, splitCall, straddlersCall}
-use Rattle.model.specs.Reads.{bladeCall, groupsCall, restMeasureCall, restMeasureOfCall, opensCall, piecesCall, stateCall}
+use Rattle.blade.specs.Points.{sum_of, centroid_of, lerp_of, length_of}
+use Rattle.blade.specs.Blade.{blade_hit_of}
+use Rattle.fan.specs.Groups.{labels_of, number_one, number_side, numbered, groups_of, count_of}
+use Rattle.model.specs.Valid.{particle_ok, triangle_ok, edge_ok, numbers_fit_of, named, root_ok, corners_ok, ends_ok, side_ok, indices_fit_of}
+use Rattle.model.specs.Elements.{place_of, rest_of, besides, sum, kind_by, kind_of, triangles_from, straps_from, elements_of, held, rest_measure, the_rest_measure_of, fan_of, grid_of}
+use Rattle.model.specs.Split.{parts_of, opening_of, splits?, made, weight_of, total_of, mass_of, portion, copied, group_at_of, rewired_triangles, rewired_straps, ring, score_of, scored, toward, edge_groups, stayed, doubled, other_edges, parted, straddles, side_group, followed, face_on, facets_at, crack_facets, at_longest, settled, split_entries, gone_entries, split_made, split_step, split_by_sides_of}
+use Rattle.model.specs.Pieces.{shared_of, piece_labels, piece_count, pieces, body_labels, bodies, body_of, spans, across?, without_straddlers, straddlers_gone, remove_straddlers_of, reach_labels, labels_at, members_of, reach_of, opens_without_confetti_of}
+use Rattle.model.specs.Cut.{meets, left_of, kept_side, blade_sides, split_by_blade, split_ends, near_corners, pinched, split_free, split_pinched_of, candidates, cut_facets_of, crossings, near_end, straps_at, strap_share, insertion_of, wanted?, insertable, side_along, bends, numbers_of, bends_over, lightened, between, inserted_particles, half_of, inserted_edges, shortened, appended, inserted_sides, inserted_mesh, insert_step, inserted_at, snapped_at, crossed, unbent, slackened, split_snapped_of, after_crossings, cut_segments_of, marks_of, marked_by, cut_along, cut}
+use Rattle.model.specs.Crack.{largest_stress, stress_between, triangle_load, loads_of, family, cross_pairs, current_of, current_pair, beyond, far_side, mean_load, two_sided_of, way_at, ways_of, damaged_at, torn, crack_by, crack_pair, crack_edge, torn_ends, crack}
+use Rattle.model.specs.Run.{start, step_to, splits_of, changed}
+use Rattle.model.specs.Calls.{sides_ok, strictly, particles_ok, refusal, too_small, first_fault, outcome, cut_call, crack_call, split_call, straddlers_call}
+use Rattle.model.specs.Reads.{blade_call, groups_call, rest_measure_call, rest_measure_of_call, opens_call, pieces_call, state_call}
 
 abbrev in201 : Mesh
 in201 =
@@ -49,7 +49,7 @@ out201 =
 
 -- two groups at a free particle do split
 abbrev case201 : Case
-case201 = record { asked = meshes (splitCall true in201 0 (0 ∷ 0 ∷ 0 ∷ []) (rooms 1024 1024 2048 2048 4096)); wanted = meshes (done out201 (split 6 0 ∷ []) true) }
+case201 = record { asked = meshes (split_call true in201 0 (0 ∷ 0 ∷ 0 ∷ []) (rooms 1024 1024 2048 2048 4096)); wanted = meshes (done out201 (split 6 0 ∷ []) true) }
 
 abbrev out202 : Mesh
 out202 =
@@ -61,7 +61,7 @@ out202 =
 
 -- three groups
 abbrev case202 : Case
-case202 = record { asked = meshes (splitCall true in201 0 (1 ∷ 0 ∷ 0 ∷ []) (rooms 1024 1024 2048 2048 4096)); wanted = meshes (done out202 (split 6 0 ∷ split 7 0 ∷ []) true) }
+case202 = record { asked = meshes (split_call true in201 0 (1 ∷ 0 ∷ 0 ∷ []) (rooms 1024 1024 2048 2048 4096)); wanted = meshes (done out202 (split 6 0 ∷ split 7 0 ∷ []) true) }
 
 abbrev in203 : Mesh
 in203 =
@@ -81,7 +81,7 @@ out203 =
 
 -- starred: pinned v, unchanged
 abbrev case203 : Case
-case203 = record { asked = meshes (splitCall true in203 0 (1 ∷ 0 ∷ 0 ∷ []) (rooms 1024 1024 2048 2048 4096)); wanted = meshes (done out203 [] false) }
+case203 = record { asked = meshes (split_call true in203 0 (1 ∷ 0 ∷ 0 ∷ []) (rooms 1024 1024 2048 2048 4096)); wanted = meshes (done out203 [] false) }
 
 abbrev in204 : Mesh
 in204 =
@@ -101,7 +101,7 @@ out204 =
 
 -- pinned by minus zero, unchanged
 abbrev case204 : Case
-case204 = record { asked = meshes (splitCall true in204 0 (1 ∷ 0 ∷ 0 ∷ []) (rooms 1024 1024 2048 2048 4096)); wanted = meshes (done out204 [] false) }
+case204 = record { asked = meshes (split_call true in204 0 (1 ∷ 0 ∷ 0 ∷ []) (rooms 1024 1024 2048 2048 4096)); wanted = meshes (done out204 [] false) }
 
 abbrev out205 : Mesh
 out205 =
@@ -113,7 +113,7 @@ out205 =
 
 -- starred: one element, unchanged
 abbrev case205 : Case
-case205 = record { asked = meshes (splitCall true in201 1 (1 ∷ []) (rooms 1024 1024 2048 2048 4096)); wanted = meshes (done out205 [] false) }
+case205 = record { asked = meshes (split_call true in201 1 (1 ∷ []) (rooms 1024 1024 2048 2048 4096)); wanted = meshes (done out205 [] false) }
 
 abbrev in206 : Mesh
 in206 =
@@ -133,7 +133,7 @@ out206 =
 
 -- a strap splits
 abbrev case206 : Case
-case206 = record { asked = meshes (splitCall true in206 0 (0 ∷ 1 ∷ 0 ∷ []) (rooms 1024 1024 2048 2048 4096)); wanted = meshes (done out206 (split 4 0 ∷ []) true) }
+case206 = record { asked = meshes (split_call true in206 0 (0 ∷ 1 ∷ 0 ∷ []) (rooms 1024 1024 2048 2048 4096)); wanted = meshes (done out206 (split 4 0 ∷ []) true) }
 
 abbrev in207 : Mesh
 in207 =
@@ -153,7 +153,7 @@ out207 =
 
 -- starred: pinned v of straps, unchanged
 abbrev case207 : Case
-case207 = record { asked = meshes (splitCall true in207 0 (0 ∷ 1 ∷ 0 ∷ []) (rooms 1024 1024 2048 2048 4096)); wanted = meshes (done out207 [] false) }
+case207 = record { asked = meshes (split_call true in207 0 (0 ∷ 1 ∷ 0 ∷ []) (rooms 1024 1024 2048 2048 4096)); wanted = meshes (done out207 [] false) }
 
 abbrev in208 : Mesh
 in208 =
@@ -173,7 +173,7 @@ out208 =
 
 -- a mesh of nothing, unchanged
 abbrev case208 : Case
-case208 = record { asked = meshes (splitCall true in208 0 [] (rooms 1024 1024 2048 2048 4096)); wanted = meshes (done out208 [] false) }
+case208 = record { asked = meshes (split_call true in208 0 [] (rooms 1024 1024 2048 2048 4096)); wanted = meshes (done out208 [] false) }
 
 abbrev in209 : Mesh
 in209 =
@@ -193,7 +193,7 @@ out209 =
 
 -- edges and boundary follow the group that points their way
 abbrev case209 : Case
-case209 = record { asked = meshes (splitCall true in209 0 (1 ∷ 0 ∷ []) (rooms 1024 1024 2048 2048 4096)); wanted = meshes (done out209 (split 8 0 ∷ []) true) }
+case209 = record { asked = meshes (split_call true in209 0 (1 ∷ 0 ∷ []) (rooms 1024 1024 2048 2048 4096)); wanted = meshes (done out209 (split 8 0 ∷ []) true) }
 
 abbrev out210 : Mesh
 out210 =
@@ -205,7 +205,7 @@ out210 =
 
 -- the same with the sides exchanged
 abbrev case210 : Case
-case210 = record { asked = meshes (splitCall true in209 0 (0 ∷ 1 ∷ []) (rooms 1024 1024 2048 2048 4096)); wanted = meshes (done out210 (split 8 0 ∷ []) true) }
+case210 = record { asked = meshes (split_call true in209 0 (0 ∷ 1 ∷ []) (rooms 1024 1024 2048 2048 4096)); wanted = meshes (done out210 (split 8 0 ∷ []) true) }
 
 abbrev in211 : Mesh
 in211 =
@@ -225,7 +225,7 @@ out211 =
 
 -- an edge shared by groups; a straddler goes
 abbrev case211 : Case
-case211 = record { asked = meshes (splitCall true in211 0 (1 ∷ 0 ∷ 0 ∷ 1 ∷ []) (rooms 1024 1024 2048 2048 4096)); wanted = meshes (done out211 (split 5 0 ∷ removed 2 3 ∷ removed 2 4 ∷ []) true) }
+case211 = record { asked = meshes (split_call true in211 0 (1 ∷ 0 ∷ 0 ∷ 1 ∷ []) (rooms 1024 1024 2048 2048 4096)); wanted = meshes (done out211 (split 5 0 ∷ removed 2 3 ∷ removed 2 4 ∷ []) true) }
 
 abbrev out212 : Mesh
 out212 =
@@ -237,7 +237,7 @@ out212 =
 
 -- the same with the sides exchanged
 abbrev case212 : Case
-case212 = record { asked = meshes (splitCall true in211 0 (0 ∷ 1 ∷ 1 ∷ 0 ∷ []) (rooms 1024 1024 2048 2048 4096)); wanted = meshes (done out212 (split 5 0 ∷ removed 2 3 ∷ removed 2 4 ∷ []) true) }
+case212 = record { asked = meshes (split_call true in211 0 (0 ∷ 1 ∷ 1 ∷ 0 ∷ []) (rooms 1024 1024 2048 2048 4096)); wanted = meshes (done out212 (split 5 0 ∷ removed 2 3 ∷ removed 2 4 ∷ []) true) }
 
 abbrev in213 : Mesh
 in213 =
@@ -257,7 +257,7 @@ out213 =
 
 -- a doubled triangle opens no facet
 abbrev case213 : Case
-case213 = record { asked = meshes (splitCall true in213 0 (0 ∷ 1 ∷ []) (rooms 1024 1024 2048 2048 4096)); wanted = meshes (done out213 (split 3 0 ∷ []) true) }
+case213 = record { asked = meshes (split_call true in213 0 (0 ∷ 1 ∷ []) (rooms 1024 1024 2048 2048 4096)); wanted = meshes (done out213 (split 3 0 ∷ []) true) }
 
 abbrev in214 : Mesh
 in214 =
@@ -277,7 +277,7 @@ out214 =
 
 -- a weightless group gets mass 0 and a pinned copy
 abbrev case214 : Case
-case214 = record { asked = meshes (splitCall true in214 0 (0 ∷ 0 ∷ 0 ∷ []) (rooms 1024 1024 2048 2048 4096)); wanted = meshes (done out214 (split 6 0 ∷ []) true) }
+case214 = record { asked = meshes (split_call true in214 0 (0 ∷ 0 ∷ 0 ∷ []) (rooms 1024 1024 2048 2048 4096)); wanted = meshes (done out214 (split 6 0 ∷ []) true) }
 
 abbrev in215 : Mesh
 in215 =
@@ -297,11 +297,11 @@ out215 =
 
 -- with total 0 the mass is divided equally
 abbrev case215 : Case
-case215 = record { asked = meshes (splitCall true in215 0 (1 ∷ 0 ∷ 0 ∷ []) (rooms 1024 1024 2048 2048 4096)); wanted = meshes (done out215 (split 6 0 ∷ split 7 0 ∷ []) true) }
+case215 = record { asked = meshes (split_call true in215 0 (1 ∷ 0 ∷ 0 ∷ []) (rooms 1024 1024 2048 2048 4096)); wanted = meshes (done out215 (split 6 0 ∷ split 7 0 ∷ []) true) }
 
 abbrev pub cases : List Case
 cases = case201 ∷ case202 ∷ case203 ∷ case204 ∷ case205 ∷ case206 ∷ case207 ∷ case208 ∷ case209 ∷ case210 ∷ case211 ∷ case212 ∷ case213 ∷ case214 ∷ case215 ∷ []
 
 pub agree : map (λ (c : Case). c.asked) cases ≡ map (λ (c : Case). c.wanted) cases
-unfolding sameRow any all sift siftAt find fold each pairs mapAt tab up_to rising distinct disjoint padded keep keptOf nth merged joinPair joinRow joinRows labelled absOf max_of invOf finite? number? volume? notBelow0? floorRoot rootUnits sign_of sum_of centroidOf lerpOf length_of bladeHit labelsOf numberOne numberSide numbered groups_of count_of particleOk triangleOk edgeOk numbersFit named rootOk cornersOk endsOk sideOk indicesFit place_of rest_of besides sum kindBy kind_of trianglesFrom strapsFrom elementsOf held restMeasure restMeasureOf fanOf gridOf parts_of openingOf splits? made weightOf total_of massOf portion copied groupAt rewiredTriangles rewiredStraps ring scoreOf scored toward edgeGroups stayed doubled otherEdges parted straddles sideGroup followed faceOn facetsAt crackFacets atLongest settled splitEntries goneEntries splitMade splitStep splitBySides sharedOf pieceLabels pieceCount pieces bodyLabels bodies body_of spans across? withoutStraddlers straddlersGone removeStraddlers reachLabels labelsAt members_of reachOf opensWithoutConfetti meets left_of keptSide bladeSides splitByBlade splitEnds nearCorners pinched splitFree splitPinched candidates cutFacets crossings nearEnd strapsAt strapShare insertionOf wanted? insertable sideAlong bends numbersOf bendsOver lightened between insertedParticles half_of insertedEdges shortened appended insertedSides insertedMesh insertStep insertedAt snappedAt crossed unbent slackened splitSnapped afterCrossings cutSegments marksOf markedBy cutAlong cut largestStress stressBetween triangleLoad loadsOf family crossPairs currentOf currentPair beyond farSide meanLoad twoSided wayAt ways_of damagedAt torn crackBy crackPair crackEdge tornEnds crack start stepTo splitsOf changed sidesOk strictly particlesOk refusal tooSmall firstFault outcome cutCall crackCall splitCall straddlersCall bladeCall groupsCall restMeasureCall restMeasureOfCall opensCall piecesCall stateCall is_nan neg add sub mul div lt le eq ne of_int of_bits
+unfolding same_row_of any all sift sift_at find fold each pairs map_at_of tab up_to rising distinct disjoint padded keep kept_of nth merged join_pair join_row join_rows labelled abs_of max_of inv_of finite? number? volume? not_below0? floor_root root_units sign_of sum_of centroid_of lerp_of length_of blade_hit_of labels_of number_one number_side numbered groups_of count_of particle_ok triangle_ok edge_ok numbers_fit_of named root_ok corners_ok ends_ok side_ok indices_fit_of place_of rest_of besides sum kind_by kind_of triangles_from straps_from elements_of held rest_measure the_rest_measure_of fan_of grid_of parts_of opening_of splits? made weight_of total_of mass_of portion copied group_at_of rewired_triangles rewired_straps ring score_of scored toward edge_groups stayed doubled other_edges parted straddles side_group followed face_on facets_at crack_facets at_longest settled split_entries gone_entries split_made split_step split_by_sides_of shared_of piece_labels piece_count pieces body_labels bodies body_of spans across? without_straddlers straddlers_gone remove_straddlers_of reach_labels labels_at members_of reach_of opens_without_confetti_of meets left_of kept_side blade_sides split_by_blade split_ends near_corners pinched split_free split_pinched_of candidates cut_facets_of crossings near_end straps_at strap_share insertion_of wanted? insertable side_along bends numbers_of bends_over lightened between inserted_particles half_of inserted_edges shortened appended inserted_sides inserted_mesh insert_step inserted_at snapped_at crossed unbent slackened split_snapped_of after_crossings cut_segments_of marks_of marked_by cut_along cut largest_stress stress_between triangle_load loads_of family cross_pairs current_of current_pair beyond far_side mean_load two_sided_of way_at ways_of damaged_at torn crack_by crack_pair crack_edge torn_ends crack start step_to splits_of changed sides_ok strictly particles_ok refusal too_small first_fault outcome cut_call crack_call split_call straddlers_call blade_call groups_call rest_measure_call rest_measure_of_call opens_call pieces_call state_call is_nan neg add sub mul div lt le eq ne of_int of_bits
 agree = refl

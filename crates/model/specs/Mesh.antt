@@ -6,12 +6,12 @@ use Rattle.float.specs.Numbers.{zero32}
 pub record Particle : Type 0 where
   pub x : Float
   pub y : Float
-  pub rest-x : Float
-  pub rest-y : Float
+  pub rest_x : Float
+  pub rest_y : Float
   pub mass : Float
   pub inv : Float
-  pub velocity-x : Float
-  pub velocity-y : Float
+  pub velocity_x : Float
+  pub velocity_y : Float
   pub root : ℕ
   pub damaged : ℕ
 
@@ -44,17 +44,17 @@ pub record Mesh : Type 0 where
   pub boundary : List Side
 
 -- p with another mass, inverse mass and damaged flag: everything else is as p has it
-abbrev pub changedTo : Float → Float → ℕ → Particle → Particle
-changedTo m w d p =
+abbrev pub changed_to : Float → Float → ℕ → Particle → Particle
+changed_to m w d p =
     record {
       x = p.x;
       y = p.y;
-      rest-x = p.rest-x;
-      rest-y = p.rest-y;
+      rest_x = p.rest_x;
+      rest_y = p.rest_y;
       mass = m;
       inv = w;
-      velocity-x = p.velocity-x;
-      velocity-y = p.velocity-y;
+      velocity_x = p.velocity_x;
+      velocity_y = p.velocity_y;
       root = p.root;
       damaged = d;
     }
@@ -65,18 +65,18 @@ blank =
     record {
       x = zero32;
       y = zero32;
-      rest-x = zero32;
-      rest-y = zero32;
+      rest_x = zero32;
+      rest_y = zero32;
       mass = zero32;
       inv = zero32;
-      velocity-x = zero32;
-      velocity-y = zero32;
+      velocity_x = zero32;
+      velocity_y = zero32;
       root = 0;
       damaged = 0;
     }
 
-abbrev pub blankTriangle : Triangle
-blankTriangle = record { corners = 0 ∷ 0 ∷ 0 ∷ []; volume = zero32; stress = zero32 }
+abbrev pub blank_triangle : Triangle
+blank_triangle = record { corners = 0 ∷ 0 ∷ 0 ∷ []; volume = zero32; stress = zero32 }
 
-abbrev pub blankEdge : Edge
-blankEdge = record { a = 0; b = 0; structural = 0; torn = 0; rest = zero32; initial = zero32; impulse = zero32; stress = zero32 }
+abbrev pub blank_edge : Edge
+blank_edge = record { a = 0; b = 0; structural = 0; torn = 0; rest = zero32; initial = zero32; impulse = zero32; stress = zero32 }

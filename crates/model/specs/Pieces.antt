@@ -3,36 +3,36 @@ use Rattle.std.specs.Prelude.{ℕ, ◌-◌, max, Bool, false, not, ◌&&◌, Lis
 use Rattle.std.proofs.Math.Option.{Option, none, some}
 use Rattle.lists.specs.Lists.{pick, stands, any, all, sift, pairs, up_to, distinct}
 use Rattle.lists.specs.Labels.{labelled}
-use Rattle.fan.specs.Fan.{sharedOthers}
+use Rattle.fan.specs.Fan.{shared_others_of}
 use Rattle.model.specs.Mesh.{Edge, Side, Mesh}
-use Rattle.model.specs.Elements.{Kind, Triangles, Straps, Nothing, Element, kind_of, elementsOf, element?, cornersPer}
-use Rattle.model.specs.Run.{Run, stepTo}
-use Rattle.model.specs.Split.{Part, Opening, goneEntries}
+use Rattle.model.specs.Elements.{Kind, Triangles, Straps, Nothing, Element, kind_of, elements_of, element?, corners_per_of}
+use Rattle.model.specs.Run.{Run, step_to}
+use Rattle.model.specs.Split.{Part, Opening, gone_entries}
 
 -- ---- pieces
 
 -- the corners of the ith element of a list
-abbrev pub cornersAt : List Element → ℕ → List ℕ
-cornersAt es i = get_or (map (λ (e : Element). e.corners) es) i []
+abbrev pub corners_at : List Element → ℕ → List ℕ
+corners_at es i = get_or (map (λ (e : Element). e.corners) es) i []
 
 -- how many particles of a are in b too
-unfoldable pub sharedOf : List ℕ → List ℕ → ℕ
-sharedOf a b = length (sift (λ x. stands x b) a)
+unfoldable pub shared_of : List ℕ → List ℕ → ℕ
+shared_of a b = length (sift (λ x. stands x b) a)
 
 -- two elements of k corners belong together where they share at least k - 1 particles, all corners but one: two for triangles, one for straps
 abbrev pub together : ℕ → List ℕ → List ℕ → Bool
-together k a b = leb (k - 1) (sharedOf a b)
+together k a b = leb (k - 1) (shared_of a b)
 
 -- elements that belong together lie in one piece, and so on along chains: each element's piece, named by the first element in it
-unfoldable pub pieceLabels : ℕ → List Element → List ℕ
-pieceLabels k es = labelled (λ i j. together k (cornersAt es i) (cornersAt es j)) (length es)
+unfoldable pub piece_labels : ℕ → List Element → List ℕ
+piece_labels k es = labelled (λ i j. together k (corners_at es i) (corners_at es j)) (length es)
 
 -- the count is the number of such sets
-unfoldable pub pieceCount : ℕ → List Element → ℕ
-pieceCount k es = length (distinct (pieceLabels k es))
+unfoldable pub piece_count : ℕ → List Element → ℕ
+piece_count k es = length (distinct (piece_labels k es))
 
 unfoldable pub pieces : Mesh → ℕ
-pieces M = pieceCount (cornersPer (kind_of M)) (elementsOf (kind_of M) M)
+pieces M = piece_count (corners_per_of (kind_of M)) (elements_of (kind_of M) M)
 
 -- ---- bodies, which straddlers go by: one shared particle holds a body together
 
@@ -41,12 +41,12 @@ abbrev pub touch : List ℕ → List ℕ → Bool
 touch a b = any (λ x. stands x b) a
 
 -- two elements that share a particle lie in one body, and so on along chains: each element's body, named by the first element in it
-unfoldable pub bodyLabels : List Element → List ℕ
-bodyLabels es = labelled (λ i j. touch (cornersAt es i) (cornersAt es j)) (length es)
+unfoldable pub body_labels : List Element → List ℕ
+body_labels es = labelled (λ i j. touch (corners_at es i) (corners_at es j)) (length es)
 
 -- how many bodies a mesh has (docs/RULES.md, R8.3)
 unfoldable pub bodies : Mesh → ℕ
-bodies M = length (distinct (bodyLabels (elementsOf (kind_of M) M)))
+bodies M = length (distinct (body_labels (elements_of (kind_of M) M)))
 
 -- ---- `remove_straddlers_across_pieces`, whose pieces are bodies
 
@@ -75,8 +75,8 @@ abbrev pub spread : List Element → List ℕ → List ℕ → Bool
 spread es ls l = any (λ (xy : ℕ × ℕ). spans es ls xy.0 xy.1) (pairs l)
 
 -- such edges go, and boundary entries that join two bodies; what touches a particle of no element stays
-unfoldable pub withoutStraddlers : Kind → List Element → List ℕ → Mesh → Mesh
-withoutStraddlers k es ls M =
+unfoldable pub without_straddlers : Kind → List Element → List ℕ → Mesh → Mesh
+without_straddlers k es ls M =
     record {
       particles = M.particles;
       triangles = M.triangles;
@@ -85,51 +85,51 @@ withoutStraddlers k es ls M =
     }
 
 -- the removal as one step, in which the edges are logged and the boundary entries are not
-unfoldable pub straddlersGone : Kind → List Element → Run → Run
-straddlersGone k es R =
-    let ls = bodyLabels es in
-    stepTo R (withoutStraddlers k es ls R.mesh) (goneEntries (across? k es ls) R.mesh.edges) (length R.mesh.edges) (length R.mesh.boundary)
+unfoldable pub straddlers_gone : Kind → List Element → Run → Run
+straddlers_gone k es R =
+    let ls = body_labels es in
+    step_to R (without_straddlers k es ls R.mesh) (gone_entries (across? k es ls) R.mesh.edges) (length R.mesh.edges) (length R.mesh.boundary)
 
 -- a mesh of nothing stays as it is
-unfoldable pub removeStraddlers : Kind → Run → Run
-removeStraddlers Triangles R = straddlersGone Triangles (elementsOf Triangles R.mesh) R
-removeStraddlers Straps R = straddlersGone Straps (elementsOf Straps R.mesh) R
-removeStraddlers Nothing R = R
+unfoldable pub remove_straddlers_of : Kind → Run → Run
+remove_straddlers_of Triangles R = straddlers_gone Triangles (elements_of Triangles R.mesh) R
+remove_straddlers_of Straps R = straddlers_gone Straps (elements_of Straps R.mesh) R
+remove_straddlers_of Nothing R = R
 
 -- ---- `opens_without_confetti`
 
 -- two elements share a facet without v: all corners but one, and none of them v
-abbrev pub facetBetween : Kind → ℕ → List ℕ → List ℕ → Bool
-facetBetween k v a b = leb (cornersPer k - 1) (sharedOthers v a b)
+abbrev pub facet_between : Kind → ℕ → List ℕ → List ℕ → Bool
+facet_between k v a b = leb (corners_per_of k - 1) (shared_others_of v a b)
 
 -- each element of the whole body, labelled by the first that it reaches across such facets
-unfoldable pub reachLabels : Kind → ℕ → List Element → List ℕ
-reachLabels k v es = labelled (λ i j. facetBetween k v (cornersAt es i) (cornersAt es j)) (length es)
+unfoldable pub reach_labels : Kind → ℕ → List Element → List ℕ
+reach_labels k v es = labelled (λ i j. facet_between k v (corners_at es i) (corners_at es j)) (length es)
 
 -- the labels of the elements with these numbers
-unfoldable pub labelsAt : List ℕ → List Element → List ℕ → List ℕ
-labelsAt ns [] ls = []
-labelsAt ns (e ∷ es) [] = []
-labelsAt ns (e ∷ es) (l ∷ ls) = pick (stands e.number ns) (l ∷ labelsAt ns es ls) (labelsAt ns es ls)
+unfoldable pub labels_at : List ℕ → List Element → List ℕ → List ℕ
+labels_at ns [] ls = []
+labels_at ns (e ∷ es) [] = []
+labels_at ns (e ∷ es) (l ∷ ls) = pick (stands e.number ns) (l ∷ labels_at ns es ls) (labels_at ns es ls)
 
 -- the numbers of the fan elements of group g
 unfoldable pub members_of : Opening → ℕ → List ℕ
 members_of O g = map (λ (p : Part). p.number) (sift (λ (p : Part). eqb p.group g) O.fan)
 
 -- how many elements group g reaches
-unfoldable pub reachOf : List Element → List ℕ → Opening → ℕ → ℕ
-reachOf es ls O g = let seeds = labelsAt (members_of O g) es ls in length (sift (λ l. stands l seeds) ls)
+unfoldable pub reach_of : List Element → List ℕ → Opening → ℕ → ℕ
+reach_of es ls O g = let seeds = labels_at (members_of O g) es ls in length (sift (λ l. stands l seeds) ls)
 
 -- the minimum piece is 3; a setting of 0 counts as 1
-abbrev pub defaultMinPiece : ℕ
-defaultMinPiece = 3
+abbrev pub default_min_piece : ℕ
+default_min_piece = 3
 
-abbrev pub minPiece : ℕ → ℕ
-minPiece n = max n 1
+abbrev pub min_piece_of : ℕ → ℕ
+min_piece_of n = max n 1
 
 -- each group reaches at least the minimum piece
-unfoldable pub opensWithoutConfetti : Kind → Mesh → ℕ → Opening → Bool
-opensWithoutConfetti k M min O =
-    let es = elementsOf k M in
-    let ls = reachLabels k O.v es in
-    all (λ g. leb (minPiece min) (reachOf es ls O g)) (up_to O.count)
+unfoldable pub opens_without_confetti_of : Kind → Mesh → ℕ → Opening → Bool
+opens_without_confetti_of k M min O =
+    let es = elements_of k M in
+    let ls = reach_labels k O.v es in
+    all (λ g. leb (min_piece_of min) (reach_of es ls O g)) (up_to O.count)

@@ -2,45 +2,45 @@
 use Rattle.std.specs.Prelude.{ℕ}
 
 -- too many particles, triangles, edges or boundary entries, or blocks whose lengths do not fit each other
-abbrev pub sizeRefusal : ℕ
-sizeRefusal = 1
+abbrev pub size_refusal : ℕ
+size_refusal = 1
 
 -- a number that is too large or not finite, or a flag that is neither 0 nor 1
-abbrev pub numberRefusal : ℕ
-numberRefusal = 2
+abbrev pub number_refusal : ℕ
+number_refusal = 2
 
 -- something names a particle that is not there, or one twice
-abbrev pub nameRefusal : ℕ
-nameRefusal = 3
+abbrev pub name_refusal : ℕ
+name_refusal = 3
 
 -- a bad argument
-abbrev pub argumentRefusal : ℕ
-argumentRefusal = 4
+abbrev pub argument_refusal : ℕ
+argument_refusal = 4
 
 -- no room for particles, edges, boundary entries, entries of the log
-abbrev pub particleRefusal : ℕ
-particleRefusal = 5
+abbrev pub particle_refusal : ℕ
+particle_refusal = 5
 
-abbrev pub edgeRefusal : ℕ
-edgeRefusal = 6
+abbrev pub edge_refusal : ℕ
+edge_refusal = 6
 
-abbrev pub boundaryRefusal : ℕ
-boundaryRefusal = 7
+abbrev pub boundary_refusal : ℕ
+boundary_refusal = 7
 
-abbrev pub entryRefusal : ℕ
-entryRefusal = 8
+abbrev pub entry_refusal : ℕ
+entry_refusal = 8
 
 -- the bytes are no whole sheet
-abbrev pub sheetRefusal : ℕ
-sheetRefusal = 9
+abbrev pub sheet_refusal : ℕ
+sheet_refusal = 9
 
 -- the reader of a sheet is closed
-abbrev pub closedRefusal : ℕ
-closedRefusal = 10
+abbrev pub closed_refusal : ℕ
+closed_refusal = 10
 
 -- edition 2: a coordinate that is not whole, or a mesh of straps
-abbrev pub wholeRefusal : ℕ
-wholeRefusal = 11
+abbrev pub whole_refusal : ℕ
+whole_refusal = 11
 
-abbrev pub strapRefusal : ℕ
-strapRefusal = 12
+abbrev pub strap_refusal : ℕ
+strap_refusal = 12

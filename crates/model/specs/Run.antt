@@ -43,8 +43,8 @@ start M =
     }
 
 -- a step to M that logs `more`, with e edges and b boundary entries at the longest
-unfoldable pub stepTo : Run → Mesh → List Entry → ℕ → ℕ → Run
-stepTo R M more e b =
+unfoldable pub step_to : Run → Mesh → List Entry → ℕ → ℕ → Run
+step_to R M more e b =
     record {
       mesh = M;
       log = R.log ++ more;
@@ -52,20 +52,20 @@ stepTo R M more e b =
     }
 
 -- the mesh alone changes, in no step of its own
-abbrev pub withMesh : Mesh → Run → Run
-withMesh M R = record { mesh = M; log = R.log; needs = R.needs }
+abbrev pub with_mesh : Mesh → Run → Run
+with_mesh M R = record { mesh = M; log = R.log; needs = R.needs }
 
 -- the copies of a log, each with its source
-abbrev pub splitOf : Entry → List (ℕ × ℕ)
-splitOf (split c v) = (c, v) ∷ []
-splitOf (edge a b) = []
-splitOf (insert a b p q t) = []
-splitOf (opened a b) = []
-splitOf (met a b p t) = []
+abbrev pub split_of : Entry → List (ℕ × ℕ)
+split_of (split c v) = (c, v) ∷ []
+split_of (edge a b) = []
+split_of (insert a b p q t) = []
+split_of (opened a b) = []
+split_of (met a b p t) = []
 
 -- of the whole log
-unfoldable pub splitsOf : List Entry → List (ℕ × ℕ)
-splitsOf l = each splitOf l
+unfoldable pub splits_of : List Entry → List (ℕ × ℕ)
+splits_of l = each split_of l
 
 -- does an entry tell of something split or inserted
 abbrev pub changes : Entry → Bool

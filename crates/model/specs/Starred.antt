@@ -10,8 +10,8 @@ use Rattle.blade.specs.Points.{length_of}
 use Rattle.model.specs.Mesh.{Particle, Triangle, Edge, Side, Mesh}
 use Rattle.model.specs.Run.{Rooms}
 use Rattle.model.specs.Cut.{Line}
-use Rattle.model.specs.Calls.{Outcome, done, splitCall}
-use Rattle.model.specs.Reads.{Read, value, rootCall, bladeCall, groupsCall}
+use Rattle.model.specs.Calls.{Outcome, done, split_call}
+use Rattle.model.specs.Reads.{Read, value, root_call, blade_call, groups_call}
 
 -- ---- words
 
@@ -41,7 +41,7 @@ tenth = fin false 13421773 (negsuc 26)
 
 -- a free particle of mass 1 that rests where it is, with its own number as root; a triangle without stress; an edge with equal rest lengths
 abbrev pub free : ℕ → Point → Particle
-free n p = record { x = p.x; y = p.y; rest-x = p.x; rest-y = p.y; mass = one; inv = one; velocity-x = zero32; velocity-y = zero32; root = n; damaged = 0 }
+free n p = record { x = p.x; y = p.y; rest_x = p.x; rest_y = p.y; mass = one; inv = one; velocity_x = zero32; velocity_y = zero32; root = n; damaged = 0 }
 
 abbrev pub triangle : ℕ → ℕ → ℕ → Float → Triangle
 triangle a b c v = record { corners = a ∷ b ∷ c ∷ []; volume = v; stress = zero32 }
@@ -60,8 +60,8 @@ limits = record { particles = 1024; triangles = 1024; edges = 2048; boundary = 2
 -- ---- meshes
 
 -- (0,1,2), (0,2,3), (0,4,5), where particle 0 is as given
-abbrev pub fanWith : Particle → Mesh
-fanWith p =
+abbrev pub fan_with : Particle → Mesh
+fan_with p =
     record {
       particles =
           p ∷ free 1 (point (pos 1) (pos 0)) ∷ free 2 (point (pos 1) (pos 1)) ∷ free 3 (point (pos 0) (pos 1)) ∷ free 4 (point (negsuc 0) (pos 0))
@@ -73,16 +73,16 @@ fanWith p =
     }
 
 -- with particle 0 free
-abbrev pub fanMesh : Mesh
-fanMesh = fanWith (free 0 (point (pos 0) (pos 0)))
+abbrev pub fan_mesh : Mesh
+fan_mesh = fan_with (free 0 (point (pos 0) (pos 0)))
 
 -- the same with particle 0 pinned
-abbrev pub pinnedMesh : Mesh
-pinnedMesh = fanWith (record { x = zero32; y = zero32; rest-x = zero32; rest-y = zero32; mass = one; inv = zero32; velocity-x = zero32; velocity-y = zero32; root = 0; damaged = 0 })
+abbrev pub pinned_mesh : Mesh
+pinned_mesh = fan_with (record { x = zero32; y = zero32; rest_x = zero32; rest_y = zero32; mass = one; inv = zero32; velocity_x = zero32; velocity_y = zero32; root = 0; damaged = 0 })
 
 -- three straps that share the end 0
-abbrev pub starMesh : Mesh
-starMesh =
+abbrev pub star_mesh : Mesh
+star_mesh =
     record {
       particles = free 0 (point (pos 0) (pos 0)) ∷ free 1 (point (pos 1) (pos 0)) ∷ free 2 (point (pos 2) (pos 0)) ∷ free 3 (point (pos 0) (pos 3)) ∷ [];
       triangles = [];
@@ -91,8 +91,8 @@ starMesh =
     }
 
 -- the strap from (0,0) to (8,0), masses 1 and 1, both rest lengths 8
-abbrev pub strapMesh : Mesh
-strapMesh =
+abbrev pub strap_mesh : Mesh
+strap_mesh =
     record {
       particles = free 0 (point (pos 0) (pos 0)) ∷ free 1 (point (pos 8) (pos 0)) ∷ [];
       triangles = [];
@@ -101,8 +101,8 @@ strapMesh =
     }
 
 -- the whole listing's mesh
-abbrev pub listingMesh : Mesh
-listingMesh =
+abbrev pub listing_mesh : Mesh
+listing_mesh =
     let eight = of_int binary32 (pos 8) in
     let diagonal = length_of (point (pos 4) (pos 4)) in
     record {
@@ -122,19 +122,19 @@ blade x0 y0 x1 y1 = record { from = point x0 y0; to = point x1 y1 }
 abbrev pub starred : List Case
 starred =
     -- sides 0,0,0 give groups 0,0,1; sides 1,0,0 give 2,0,1; strap sides 0,1,0 at a shared end give 0,1,0
-    record { asked = groups (groupsCall true fanMesh 0 (0 ∷ 0 ∷ 0 ∷ [])); wanted = groups (value ((0 ∷ 0 ∷ 1 ∷ []), 2)) }
-    ∷ record { asked = groups (groupsCall true fanMesh 0 (1 ∷ 0 ∷ 0 ∷ [])); wanted = groups (value ((2 ∷ 0 ∷ 1 ∷ []), 3)) }
-    ∷ record { asked = groups (groupsCall true starMesh 0 (0 ∷ 1 ∷ 0 ∷ [])); wanted = groups (value ((0 ∷ 1 ∷ 0 ∷ []), 2)) }
+    record { asked = groups (groups_call true fan_mesh 0 (0 ∷ 0 ∷ 0 ∷ [])); wanted = groups (value ((0 ∷ 0 ∷ 1 ∷ []), 2)) }
+    ∷ record { asked = groups (groups_call true fan_mesh 0 (1 ∷ 0 ∷ 0 ∷ [])); wanted = groups (value ((2 ∷ 0 ∷ 1 ∷ []), 3)) }
+    ∷ record { asked = groups (groups_call true star_mesh 0 (0 ∷ 1 ∷ 0 ∷ [])); wanted = groups (value ((0 ∷ 1 ∷ 0 ∷ []), 2)) }
     -- pinned v: unchanged; one element: unchanged. (proofs/Splitting.antt has both for any mesh.)
-    ∷ record { asked = meshes (splitCall true pinnedMesh 0 (1 ∷ 0 ∷ 0 ∷ []) limits); wanted = meshes (done pinnedMesh [] false) }
-    ∷ record { asked = meshes (splitCall true fanMesh 1 (1 ∷ []) limits); wanted = meshes (done fanMesh [] false) }
+    ∷ record { asked = meshes (split_call true pinned_mesh 0 (1 ∷ 0 ∷ 0 ∷ []) limits); wanted = meshes (done pinned_mesh [] false) }
+    ∷ record { asked = meshes (split_call true fan_mesh 1 (1 ∷ []) limits); wanted = meshes (done fan_mesh [] false) }
     -- blade (2,-1) to (2,1), edge (0,0) to (8,0): 0.25 at (2,0); edge (2,0) to (2,5): miss; blade (2,0) to (2,1): hit; blade (3,3) to (3,3): miss
-    ∷ record { asked = hit (bladeCall (blade (pos 2) (negsuc 0) (pos 2) (pos 1)) (point (pos 0) (pos 0)) (point (pos 8) (pos 0))); wanted = hit (value (HitAt quarter (point (pos 2) (pos 0)))) }
-    ∷ record { asked = hit (bladeCall (blade (pos 2) (negsuc 0) (pos 2) (pos 1)) (point (pos 2) (pos 0)) (point (pos 2) (pos 5))); wanted = hit (value Miss) }
-    ∷ record { asked = hit (bladeCall (blade (pos 2) (pos 0) (pos 2) (pos 1)) (point (pos 0) (pos 0)) (point (pos 8) (pos 0))); wanted = hit (value (HitAt quarter (point (pos 2) (pos 0)))) }
-    ∷ record { asked = hit (bladeCall (blade (pos 3) (pos 3) (pos 3) (pos 3)) (point (pos 0) (pos 0)) (point (pos 8) (pos 0))); wanted = hit (value Miss) }
+    ∷ record { asked = hit (blade_call (blade (pos 2) (negsuc 0) (pos 2) (pos 1)) (point (pos 0) (pos 0)) (point (pos 8) (pos 0))); wanted = hit (value (HitAt quarter (point (pos 2) (pos 0)))) }
+    ∷ record { asked = hit (blade_call (blade (pos 2) (negsuc 0) (pos 2) (pos 1)) (point (pos 2) (pos 0)) (point (pos 2) (pos 5))); wanted = hit (value Miss) }
+    ∷ record { asked = hit (blade_call (blade (pos 2) (pos 0) (pos 2) (pos 1)) (point (pos 0) (pos 0)) (point (pos 8) (pos 0))); wanted = hit (value (HitAt quarter (point (pos 2) (pos 0)))) }
+    ∷ record { asked = hit (blade_call (blade (pos 3) (pos 3) (pos 3) (pos 3)) (point (pos 0) (pos 0)) (point (pos 8) (pos 0))); wanted = hit (value Miss) }
     -- roots of 0, 4 and 0.25
-    ∷ record { asked = float (rootCall zero32); wanted = float (value zero32) }
-    ∷ record { asked = float (rootCall (of_int binary32 (pos 4))); wanted = float (value (of_int binary32 (pos 2))) }
-    ∷ record { asked = float (rootCall quarter); wanted = float (value half) }
+    ∷ record { asked = float (root_call zero32); wanted = float (value zero32) }
+    ∷ record { asked = float (root_call (of_int binary32 (pos 4))); wanted = float (value (of_int binary32 (pos 2))) }
+    ∷ record { asked = float (root_call quarter); wanted = float (value half) }
     ∷ []

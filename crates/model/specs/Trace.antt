@@ -1,10 +1,10 @@
 -- What a run of splits keeps of the triangles: the words of the theorems in proofs/Traced.antt and proofs/Holding.antt of crate model_laws. Definitions only.
 use Rattle.std.specs.Prelude.{ℕ, ◌<◌, ◌≡◌, true, List, [], ◌∷◌, map, length, get_or, eqb}
 use Rattle.lists.specs.Lists.{pick, stands}
-use Rattle.model.specs.Mesh.{Triangle, Side, Mesh, blankTriangle}
-use Rattle.model.specs.Elements.{cornersOf}
+use Rattle.model.specs.Mesh.{Triangle, Side, Mesh, blank_triangle}
+use Rattle.model.specs.Elements.{corners_of}
 use Rattle.model.specs.Valid.{named}
-use Rattle.model.specs.Run.{Entry, Run, splitsOf}
+use Rattle.model.specs.Run.{Entry, Run, splits_of}
 
 -- P holds of every element
 abbrev pub All : {A : Type 0} → (A → Type 0) → List A → Type 0
@@ -38,24 +38,24 @@ abbrev pub Sound : ℕ → Triangle → Type 0
 Sound n t = Different 3 n t.corners
 
 -- the corners of a triangle, traced back through these splits
-abbrev pub tracedBack : List (ℕ × ℕ) → Triangle → List ℕ
-tracedBack splits t = map (origin_of splits) (cornersOf t)
+abbrev pub traced_back : List (ℕ × ℕ) → Triangle → List ℕ
+traced_back splits t = map (origin_of splits) (corners_of t)
 
 -- every triangle has three different particles, and traced back is the triangle that it was
 pub record Traced (M : Mesh) (R : Run) : Type 0 where
   pub sound : All (Sound (length R.mesh.particles)) R.mesh.triangles
-  pub back : map (tracedBack (splitsOf R.log)) R.mesh.triangles ≡ map cornersOf M.triangles
+  pub back : map (traced_back (splits_of R.log)) R.mesh.triangles ≡ map corners_of M.triangles
 
 -- some triangle of the list holds x
 abbrev pub Hold : ℕ → List Triangle → Type 0
-Hold x ts = (i : ℕ) × ((i < length ts) × (stands x (cornersOf (get_or ts i blankTriangle)) ≡ true))
+Hold x ts = (i : ℕ) × ((i < length ts) × (stands x (corners_of (get_or ts i blank_triangle)) ≡ true))
 
 -- every copy of the log belongs to a triangle
 pub record Held (R : Run) : Type 0 where
-  pub copies : All (λ (cs : ℕ × ℕ). Hold cs.0 R.mesh.triangles) (splitsOf R.log)
+  pub copies : All (λ (cs : ℕ × ℕ). Hold cs.0 R.mesh.triangles) (splits_of R.log)
 
 -- the same of a call that was given M and gives M' with a log
 pub record Kept (M M' : Mesh) (log : List Entry) : Type 0 where
   pub sound : All (Sound (length M'.particles)) M'.triangles
-  pub back : map (tracedBack (splitsOf log)) M'.triangles ≡ map cornersOf M.triangles
-  pub copies : All (λ (cs : ℕ × ℕ). Hold cs.0 M'.triangles) (splitsOf log)
+  pub back : map (traced_back (splits_of log)) M'.triangles ≡ map corners_of M.triangles
+  pub copies : All (λ (cs : ℕ × ℕ). Hold cs.0 M'.triangles) (splits_of log)

@@ -9,18 +9,18 @@ use lib.ListN.{length, length-append}
 use lib.Ieee.{Float}
 use Rattle.blade.specs.declared.Hit.{Hit}
 use Rattle.blade.specs.declared.Hit.TheVariants.{Miss, Hit as HitAt}
-use Rattle.lists.specs.Lists.{pick, stands, fold, each, mapAt, rising}
-use Rattle.model.specs.Mesh.{Particle, Edge, Side, Mesh, blankEdge}
-use Rattle.model.specs.Elements.{Kind, Triangles, Straps, Nothing, Element, edge_at, structural?, strapElement, strapsFrom, elementsOf}
-use Rattle.model.specs.Run.{Run, stepTo}
-use Rattle.model.specs.Split.{onlyAt}
-use Rattle.model.specs.Cut.{Blade, roundly, meets, Crossing, crossingAt, crossings, Insertion, insertionOf, half-a, half-b, left_over, insertable, lightened, between, insertedParticles, half_of, insertedEdges, same, shortened, appended, insertedSides, insertedMesh, insertStep, Strapping, strapping, insertedAt, snappedAt, crossed, unbent, splitSnapped, afterCrossings, cutSegments, markedBy, cutAlong, cut}
+use Rattle.lists.specs.Lists.{pick, stands, fold, each, map_at_of, rising}
+use Rattle.model.specs.Mesh.{Particle, Edge, Side, Mesh, blank_edge}
+use Rattle.model.specs.Elements.{Kind, Triangles, Straps, Nothing, Element, edge_at, structural?, strap_element, straps_from, elements_of}
+use Rattle.model.specs.Run.{Run, step_to}
+use Rattle.model.specs.Split.{only_at}
+use Rattle.model.specs.Cut.{Blade, roundly, meets, Crossing, crossing_at, crossings, Insertion, insertion_of, half_a, half_b, left_over, insertable, lightened, between, inserted_particles, half_of, inserted_edges, same, shortened, appended, inserted_sides, inserted_mesh, insert_step, Strapping, strapping, inserted_at, snapped_at, crossed, unbent, split_snapped_of, after_crossings, cut_segments_of, marked_by, cut_along, cut}
 use Rattle.model.specs.Trace.{All, Different, Sound}
-use Rattle.model_laws.proofs.Rows.{Pair, pair-to, different-wide}
-use Rattle.model_laws.proofs.Indexed.{Indexed, Ends, Sides, wide, sound-wide, fold-indexed, facets-indexed, snapped-indexed}
+use Rattle.model_laws.proofs.Rows.{Pair, pair_to, different_wide}
+use Rattle.model_laws.proofs.Indexed.{Indexed, Ends, Sides, wide, sound_wide, fold_indexed, facets_indexed, snapped_indexed}
 use Rattle.model_laws.proofs.Steps.{run_of}
-use Rattle.model_laws.proofs.Marks.{marked-mesh}
-use Rattle.model_laws.proofs.Laws.{pick-both, all-over, all_append, all-mapAt, all_in, all_map, all-eachOf, all-siftAt, length-mapAt}
+use Rattle.model_laws.proofs.Marks.{marked_mesh}
+use Rattle.model_laws.proofs.Laws.{pick_both, all_over, all_append, all_map_at, all_in, all_map, all_each_of, all_sift_at, length_map_at}
 
 -- ---- one insertion
 
@@ -28,101 +28,101 @@ module _ (M : Mesh) (X : Indexed M) (I : Insertion) (before : I.before ≡ lengt
   abbrev Rooted : Particle → Type 0
   Rooted p = p.root < I.before + 2
 
-  light-rooted : (s m : Float) (p : Particle) → Rooted p → Rooted (lightened s m p)
+  light_rooted : (s m : Float) (p : Particle) → Rooted p → Rooted (lightened s m p)
   unfolding lightened
-  light-rooted s m p u = u
+  light_rooted s m p u = u
 
-  at-rooted : (j : ℕ) (s m : Float) (ps : List Particle) → All Rooted ps → All Rooted (mapAt (onlyAt j (lightened s m)) ps)
-  at-rooted j s m ps h = all-mapAt Rooted Rooted (onlyAt j (lightened s m)) (λ i p u. pick-both Rooted (eqb i j) (lightened s m p) p (light-rooted s m p u) u) ps h
+  at_rooted : (j : ℕ) (s m : Float) (ps : List Particle) → All Rooted ps → All Rooted (map_at_of (only_at j (lightened s m)) ps)
+  at_rooted j s m ps h = all_map_at Rooted Rooted (only_at j (lightened s m)) (λ i p u. pick_both Rooted (eqb i j) (lightened s m p) p (light_rooted s m p u) u) ps h
 
-  ends-light : List Particle
-  ends-light = mapAt (onlyAt I.edge.b (lightened I.share-b (half-b I))) (mapAt (onlyAt I.edge.a (lightened I.share-a (half-a I))) M.particles)
+  ends_light : List Particle
+  ends_light = map_at_of (only_at I.edge.b (lightened I.share_b (half_b I))) (map_at_of (only_at I.edge.a (lightened I.share_a (half_a I))) M.particles)
 
-  roots : All Rooted (insertedParticles I M)
-  unfolding insertedParticles between ends-light
+  roots : All Rooted (inserted_particles I M)
+  unfolding inserted_particles between ends_light
   roots =
-      let old = all-over (λ (p : Particle). p.root < length M.particles) Rooted (λ p u. omega (arith, before)) M.particles X.roots in
-      all_append Rooted ends-light _
-      (at-rooted I.edge.b I.share-b (half-b I) (mapAt (onlyAt I.edge.a (lightened I.share-a (half-a I))) M.particles) (at-rooted I.edge.a I.share-a (half-a I) M.particles old))
+      let old = all_over (λ (p : Particle). p.root < length M.particles) Rooted (λ p u. omega (arith, before)) M.particles X.roots in
+      all_append Rooted ends_light _
+      (at_rooted I.edge.b I.share_b (half_b I) (map_at_of (only_at I.edge.a (lightened I.share_a (half_a I))) M.particles) (at_rooted I.edge.a I.share_a (half_a I) M.particles old))
       (omega arith, (omega arith, tt))
 
-  len : length (insertedParticles I M) ≡ I.before + 2
-  unfolding insertedParticles ends-light
+  len : length (inserted_particles I M) ≡ I.before + 2
+  unfolding inserted_particles ends_light
   len =
-      let e : length ends-light ≡ length M.particles = length-mapAt _ (mapAt (onlyAt I.edge.a (lightened I.share-a (half-a I))) M.particles) ∙ length-mapAt _ M.particles in
-      length-append ends-light _ ∙ ap (λ n. n + 2) (e ∙ sym before)
+      let e : length ends_light ≡ length M.particles = length_map_at _ (map_at_of (only_at I.edge.a (lightened I.share_a (half_a I))) M.particles) ∙ length_map_at _ M.particles in
+      length-append ends_light _ ∙ ap (λ n. n + 2) (e ∙ sym before)
 
-  half-first : (f : Float) → Ends (I.before + 2) (half_of I.edge I.edge.a I.before f)
+  half_first : (f : Float) → Ends (I.before + 2) (half_of I.edge I.edge.a I.before f)
   unfolding half_of
-  half-first f = let h = P.first in record { first = omega arith; second = omega arith; differ = λ d. omega arith }
+  half_first f = let h = P.first in record { first = omega arith; second = omega arith; differ = λ d. omega arith }
 
-  half-second : (f : Float) → Ends (I.before + 2) (half_of I.edge (I.before + 1) I.edge.b f)
+  half_second : (f : Float) → Ends (I.before + 2) (half_of I.edge (I.before + 1) I.edge.b f)
   unfolding half_of
-  half-second f = let h = P.second in record { first = omega arith; second = omega arith; differ = λ d. omega arith }
+  half_second f = let h = P.second in record { first = omega arith; second = omega arith; differ = λ d. omega arith }
 
-  ends : All (Ends (I.before + 2)) (insertedEdges I M.edges)
-  unfolding insertedEdges
+  ends : All (Ends (I.before + 2)) (inserted_edges I M.edges)
+  unfolding inserted_edges
   ends =
-      let old = all-over (Ends (length M.particles)) (Ends (I.before + 2)) (λ e Q. wide I.before 2 e.a e.b (subst (λ (n : ℕ). Ends n e) (sym before) Q)) M.edges X.edges in
-      all_append (Ends (I.before + 2)) (mapAt (onlyAt I.number (λ e. half_of I.edge I.edge.a I.before I.t)) M.edges) _
-      (all-mapAt (Ends (I.before + 2)) (Ends (I.before + 2)) (onlyAt I.number (λ e. half_of I.edge I.edge.a I.before I.t))
-      (λ i e Q. pick-both (Ends (I.before + 2)) (eqb i I.number) (half_of I.edge I.edge.a I.before I.t) e (half-first I.t) Q) M.edges old)
-      (half-second (left_over I), tt)
+      let old = all_over (Ends (length M.particles)) (Ends (I.before + 2)) (λ e Q. wide I.before 2 e.a e.b (subst (λ (n : ℕ). Ends n e) (sym before) Q)) M.edges X.edges in
+      all_append (Ends (I.before + 2)) (map_at_of (only_at I.number (λ e. half_of I.edge I.edge.a I.before I.t)) M.edges) _
+      (all_map_at (Ends (I.before + 2)) (Ends (I.before + 2)) (only_at I.number (λ e. half_of I.edge I.edge.a I.before I.t))
+      (λ i e Q. pick_both (Ends (I.before + 2)) (eqb i I.number) (half_of I.edge I.edge.a I.before I.t) e (half_first I.t) Q) M.edges old)
+      (half_second (left_over I), tt)
 
   two : (a b : ℕ) → Pair (I.before + 2) a b → Different 2 (I.before + 2) (a ∷ b ∷ [])
-  two a b Q = record { many = refl; apart = pair-to (I.before + 2) a b Q }
+  two a b Q = record { many = refl; apart = pair_to (I.before + 2) a b Q }
 
-  first-old : Sides (I.before + 2) (record { corners = I.edge.a ∷ I.before ∷ [] })
-  first-old = let h = P.first in two _ _ (record { first = omega arith; second = omega arith; differ = λ d. omega arith })
+  first_old : Sides (I.before + 2) (record { corners = I.edge.a ∷ I.before ∷ [] })
+  first_old = let h = P.first in two _ _ (record { first = omega arith; second = omega arith; differ = λ d. omega arith })
 
-  second-old : Sides (I.before + 2) (record { corners = I.edge.b ∷ (I.before + 1) ∷ [] })
-  second-old = let h = P.second in two _ _ (record { first = omega arith; second = omega arith; differ = λ d. omega arith })
+  second_old : Sides (I.before + 2) (record { corners = I.edge.b ∷ (I.before + 1) ∷ [] })
+  second_old = let h = P.second in two _ _ (record { first = omega arith; second = omega arith; differ = λ d. omega arith })
 
-  new-second : Sides (I.before + 2) (record { corners = (I.before + 1) ∷ I.edge.b ∷ [] })
-  new-second = let h = P.second in two _ _ (record { first = omega arith; second = omega arith; differ = λ d. omega arith })
+  new_second : Sides (I.before + 2) (record { corners = (I.before + 1) ∷ I.edge.b ∷ [] })
+  new_second = let h = P.second in two _ _ (record { first = omega arith; second = omega arith; differ = λ d. omega arith })
 
-  new-first : Sides (I.before + 2) (record { corners = I.before ∷ I.edge.a ∷ [] })
-  new-first = let h = P.first in two _ _ (record { first = omega arith; second = omega arith; differ = λ d. omega arith })
+  new_first : Sides (I.before + 2) (record { corners = I.before ∷ I.edge.a ∷ [] })
+  new_first = let h = P.first in two _ _ (record { first = omega arith; second = omega arith; differ = λ d. omega arith })
 
   abbrev Good : Side → Type 0
   Good = Sides (I.before + 2)
 
-  short-good : (s : Side) → Good s → Good (shortened I.edge.a I.edge.b I.before (I.before + 1) s)
+  short_good : (s : Side) → Good s → Good (shortened I.edge.a I.edge.b I.before (I.before + 1) s)
   unfolding shortened
-  short-good s Q =
-      pick-both Good (same s I.edge.a I.edge.b) (record { corners = I.edge.a ∷ I.before ∷ [] }) (pick (same s I.edge.b I.edge.a) (record { corners = I.edge.b ∷ (I.before + 1) ∷ [] }) s) first-old
-      (pick-both Good (same s I.edge.b I.edge.a) (record { corners = I.edge.b ∷ (I.before + 1) ∷ [] }) s second-old Q)
+  short_good s Q =
+      pick_both Good (same s I.edge.a I.edge.b) (record { corners = I.edge.a ∷ I.before ∷ [] }) (pick (same s I.edge.b I.edge.a) (record { corners = I.edge.b ∷ (I.before + 1) ∷ [] }) s) first_old
+      (pick_both Good (same s I.edge.b I.edge.a) (record { corners = I.edge.b ∷ (I.before + 1) ∷ [] }) s second_old Q)
 
-  app-good : (s : Side) → All Good (appended I.edge.a I.edge.b I.before (I.before + 1) s)
+  app_good : (s : Side) → All Good (appended I.edge.a I.edge.b I.before (I.before + 1) s)
   unfolding appended
-  app-good s =
-      pick-both (All Good) (same s I.edge.a I.edge.b) (record { corners = (I.before + 1) ∷ I.edge.b ∷ [] } ∷ []) (pick (same s I.edge.b I.edge.a) (record { corners = I.before ∷ I.edge.a ∷ [] } ∷ []) []) (new-second, tt)
-      (pick-both (All Good) (same s I.edge.b I.edge.a) (record { corners = I.before ∷ I.edge.a ∷ [] } ∷ []) [] (new-first, tt) tt)
+  app_good s =
+      pick_both (All Good) (same s I.edge.a I.edge.b) (record { corners = (I.before + 1) ∷ I.edge.b ∷ [] } ∷ []) (pick (same s I.edge.b I.edge.a) (record { corners = I.before ∷ I.edge.a ∷ [] } ∷ []) []) (new_second, tt)
+      (pick_both (All Good) (same s I.edge.b I.edge.a) (record { corners = I.before ∷ I.edge.a ∷ [] } ∷ []) [] (new_first, tt) tt)
 
-  sides : All Good (insertedSides I M.boundary)
-  unfolding insertedSides
+  sides : All Good (inserted_sides I M.boundary)
+  unfolding inserted_sides
   sides =
-      let old = all-over (Sides (length M.particles)) Good (λ s Q. different-wide 2 I.before 2 s.corners (subst (λ (n : ℕ). Sides n s) (sym before) Q)) M.boundary X.boundary in
+      let old = all_over (Sides (length M.particles)) Good (λ s Q. different_wide 2 I.before 2 s.corners (subst (λ (n : ℕ). Sides n s) (sym before) Q)) M.boundary X.boundary in
       all_append Good (map (shortened I.edge.a I.edge.b I.before (I.before + 1)) M.boundary) (each (appended I.edge.a I.edge.b I.before (I.before + 1)) M.boundary)
-      (all_map Good Good (shortened I.edge.a I.edge.b I.before (I.before + 1)) short-good M.boundary old)
-      (all-eachOf Good Good (appended I.edge.a I.edge.b I.before (I.before + 1)) (λ s Q. app-good s) M.boundary old)
+      (all_map Good Good (shortened I.edge.a I.edge.b I.before (I.before + 1)) short_good M.boundary old)
+      (all_each_of Good Good (appended I.edge.a I.edge.b I.before (I.before + 1)) (λ s Q. app_good s) M.boundary old)
 
-  pub inserted-indexed : Indexed (insertedMesh I M)
-  unfolding insertedMesh
-  inserted-indexed =
+  pub inserted_indexed : Indexed (inserted_mesh I M)
+  unfolding inserted_mesh
+  inserted_indexed =
       record {
-        roots = subst (λ (n : ℕ). All (λ (p : Particle). p.root < n) (insertedParticles I M)) (sym len) roots;
+        roots = subst (λ (n : ℕ). All (λ (p : Particle). p.root < n) (inserted_particles I M)) (sym len) roots;
         triangles =
             subst (λ (n : ℕ). All (Sound n) M.triangles) (sym len)
-            (all-over (Sound (length M.particles)) (Sound (I.before + 2)) (λ t S. sound-wide I.before 2 t (subst (λ (n : ℕ). Sound n t) (sym before) S)) M.triangles X.triangles);
-        edges = subst (λ (n : ℕ). All (Ends n) (insertedEdges I M.edges)) (sym len) ends;
-        boundary = subst (λ (n : ℕ). All (Sides n) (insertedSides I M.boundary)) (sym len) sides;
+            (all_over (Sound (length M.particles)) (Sound (I.before + 2)) (λ t S. sound_wide I.before 2 t (subst (λ (n : ℕ). Sound n t) (sym before) S)) M.triangles X.triangles);
+        edges = subst (λ (n : ℕ). All (Ends n) (inserted_edges I M.edges)) (sym len) ends;
+        boundary = subst (λ (n : ℕ). All (Sides n) (inserted_sides I M.boundary)) (sym len) sides;
       }
 
   -- the edges get one more
-  pub more_edges : length (insertedEdges I M.edges) ≡ length M.edges + 1
-  unfolding insertedEdges
-  more_edges = length-append (mapAt _ M.edges) _ ∙ ap (λ n. n + 1) (length-mapAt _ M.edges)
+  pub more_edges : length (inserted_edges I M.edges) ≡ length M.edges + 1
+  unfolding inserted_edges
+  more_edges = length-append (map_at_of _ M.edges) _ ∙ ap (λ n. n + 1) (length_map_at _ M.edges)
 
 -- ---- a strap cut at work
 
@@ -130,69 +130,69 @@ module _ (M : Mesh) (X : Indexed M) (I : Insertion) (before : I.before ≡ lengt
 abbrev Ready : ℕ → Strapping → Type 0
 Ready n S = Indexed (run_of S).mesh × (n ≤ length (run_of S).mesh.edges)
 
-inserted-ready : (f : Float) (R : Run) (marked snapped : List ℕ) (c : Crossing) (n : ℕ) → c.number < n → Indexed R.mesh → n ≤ length R.mesh.edges → Ready n (insertedAt f R marked snapped c)
-unfolding insertedAt insertStep stepTo run_of insertionOf insertedMesh
-inserted-ready f R marked snapped c n u X w =
+inserted_ready : (f : Float) (R : Run) (marked snapped : List ℕ) (c : Crossing) (n : ℕ) → c.number < n → Indexed R.mesh → n ≤ length R.mesh.edges → Ready n (inserted_at f R marked snapped c)
+unfolding inserted_at insert_step step_to run_of insertion_of inserted_mesh
+inserted_ready f R marked snapped c n u X w =
     let M = R.mesh in
-    let I = insertionOf f M c in
-    let P = all_in (Ends (length M.particles)) M.edges c.number blankEdge (omega arith) X.edges in
+    let I = insertion_of f M c in
+    let P = all_in (Ends (length M.particles)) M.edges c.number blank_edge (omega arith) X.edges in
     let e = more_edges M X I refl P in
-    (inserted-indexed M X I refl P, omega (arith, e))
+    (inserted_indexed M X I refl P, omega (arith, e))
 
-crossed-ready : (f : Float) (S : Strapping) (c : Crossing) (n : ℕ) → c.number < n → Ready n S → Ready n (crossed f S c)
-unfolding crossed snappedAt run_of
-crossed-ready f (strapping R marked snapped) c n u Y = by (insertable f R.mesh c)
+crossed_ready : (f : Float) (S : Strapping) (c : Crossing) (n : ℕ) → c.number < n → Ready n S → Ready n (crossed f S c)
+unfolding crossed snapped_at run_of
+crossed_ready f (strapping R marked snapped) c n u Y = by (insertable f R.mesh c)
   where
-    by : (b : Bool) → Ready n (pick b (insertedAt f R marked snapped c) (snappedAt R marked snapped c))
-    by true = inserted-ready f R marked snapped c n u Y.0 Y.1
+    by : (b : Bool) → Ready n (pick b (inserted_at f R marked snapped c) (snapped_at R marked snapped c))
+    by true = inserted_ready f R marked snapped c n u Y.0 Y.1
     by false = Y
 
-crossings-ready : (f : Float) (n : ℕ) (S : Strapping) (l : List Crossing) → All (λ (c : Crossing). c.number < n) l → Ready n S → Ready n (fold (crossed f) S l)
+crossings_ready : (f : Float) (n : ℕ) (S : Strapping) (l : List Crossing) → All (λ (c : Crossing). c.number < n) l → Ready n S → Ready n (fold (crossed f) S l)
 unfolding fold
-crossings-ready f n S [] h Y = Y
-crossings-ready f n S (c ∷ l) h Y = crossings-ready f n (crossed f S c) l h.1 (crossed-ready f S c n h.0 Y)
+crossings_ready f n S [] h Y = Y
+crossings_ready f n S (c ∷ l) h Y = crossings_ready f n (crossed f S c) l h.1 (crossed_ready f S c n h.0 Y)
 
-pub straps-inside : (i : ℕ) (es : List Edge) → All (λ (e : Element). e.number < i + length es) (strapsFrom i es)
-unfolding strapsFrom
-straps-inside i [] = tt
-straps-inside i (e ∷ es) =
-    by (structural? e) (all-over (λ (x : Element). x.number < suc i + length es) (λ (x : Element). x.number < i + suc (length es)) (λ x u. omega arith) (strapsFrom (suc i) es) (straps-inside (suc i) es))
+pub straps_inside : (i : ℕ) (es : List Edge) → All (λ (e : Element). e.number < i + length es) (straps_from i es)
+unfolding straps_from
+straps_inside i [] = tt
+straps_inside i (e ∷ es) =
+    by (structural? e) (all_over (λ (x : Element). x.number < suc i + length es) (λ (x : Element). x.number < i + suc (length es)) (λ x u. omega arith) (straps_from (suc i) es) (straps_inside (suc i) es))
   where
-    by : (b : Bool) → All (λ (x : Element). x.number < i + suc (length es)) (strapsFrom (suc i) es)
-        → All (λ (x : Element). x.number < i + suc (length es)) (pick b (strapElement i e ∷ strapsFrom (suc i) es) (strapsFrom (suc i) es))
+    by : (b : Bool) → All (λ (x : Element). x.number < i + suc (length es)) (straps_from (suc i) es)
+        → All (λ (x : Element). x.number < i + suc (length es)) (pick b (strap_element i e ∷ straps_from (suc i) es) (straps_from (suc i) es))
     by true h = (omega arith, h)
     by false h = h
 
-pub hit-inside : (n i : ℕ) → i < n → (h : Hit) → All (λ (c : Crossing). c.number < n) (crossingAt i h)
-hit-inside n i u Miss = tt
-hit-inside n i u (HitAt t p) = (u, tt)
+pub hit_inside : (n i : ℕ) → i < n → (h : Hit) → All (λ (c : Crossing). c.number < n) (crossing_at i h)
+hit_inside n i u Miss = tt
+hit_inside n i u (HitAt t p) = (u, tt)
 
-pub crossings-inside : (B : Blade) (M : Mesh) → All (λ (c : Crossing). c.number < length M.edges) (crossings B M)
-unfolding crossings elementsOf
-crossings-inside B M =
-    all-eachOf (λ (e : Element). e.number < 0 + length M.edges) (λ (c : Crossing). c.number < length M.edges) _ (λ e u. hit-inside (length M.edges) e.number (omega arith) (meets B M (edge_at M e.number).a (edge_at M e.number).b)) (strapsFrom 0 M.edges)
-    (straps-inside 0 M.edges)
+pub crossings_inside : (B : Blade) (M : Mesh) → All (λ (c : Crossing). c.number < length M.edges) (crossings B M)
+unfolding crossings elements_of
+crossings_inside B M =
+    all_each_of (λ (e : Element). e.number < 0 + length M.edges) (λ (c : Crossing). c.number < length M.edges) _ (λ e u. hit_inside (length M.edges) e.number (omega arith) (meets B M (edge_at M e.number).a (edge_at M e.number).b)) (straps_from 0 M.edges)
+    (straps_inside 0 M.edges)
 
-pub unbent-indexed : (is : List ℕ) (R : Run) → Indexed R.mesh → Indexed (unbent is R).mesh
-unfolding unbent stepTo
-unbent-indexed [] R X = X
-unbent-indexed (i ∷ is) R X =
-    record { roots = X.roots; triangles = X.triangles; edges = all-siftAt (Ends (length R.mesh.particles)) (λ j e. not (stands j (i ∷ is))) R.mesh.edges X.edges; boundary = X.boundary }
+pub unbent_indexed : (is : List ℕ) (R : Run) → Indexed R.mesh → Indexed (unbent is R).mesh
+unfolding unbent step_to
+unbent_indexed [] R X = X
+unbent_indexed (i ∷ is) R X =
+    record { roots = X.roots; triangles = X.triangles; edges = all_sift_at (Ends (length R.mesh.particles)) (λ j e. not (stands j (i ∷ is))) R.mesh.edges X.edges; boundary = X.boundary }
 
-after-indexed : (B : Blade) (S : Strapping) → Indexed (run_of S).mesh → Indexed (afterCrossings B S).mesh
-unfolding afterCrossings run_of
-after-indexed B (strapping R marked snapped) X = fold-indexed (splitSnapped B) (λ Q v Y. snapped-indexed B Q v Y) (unbent marked R) (rising _ snapped) (unbent-indexed marked R X)
+after_indexed : (B : Blade) (S : Strapping) → Indexed (run_of S).mesh → Indexed (after_crossings B S).mesh
+unfolding after_crossings run_of
+after_indexed B (strapping R marked snapped) X = fold_indexed (split_snapped_of B) (λ Q v Y. snapped_indexed B Q v Y) (unbent marked R) (rising _ snapped) (unbent_indexed marked R X)
 
 -- a cut of any kind
-along-indexed : (k : Kind) (B : Blade) (f : Float) (R : Run) → Indexed R.mesh → Indexed (cutAlong k B f R).mesh
-unfolding cutAlong cutSegments run_of
-along-indexed Triangles B f R X = facets-indexed B R X
-along-indexed Straps B f R X =
+along_indexed : (k : Kind) (B : Blade) (f : Float) (R : Run) → Indexed R.mesh → Indexed (cut_along k B f R).mesh
+unfolding cut_along cut_segments_of run_of
+along_indexed Triangles B f R X = facets_indexed B R X
+along_indexed Straps B f R X =
     let n = length R.mesh.edges in
-    after-indexed (roundly B) (fold (crossed f) (strapping R [] []) (crossings (roundly B) R.mesh)) (crossings-ready f n (strapping R [] []) (crossings (roundly B) R.mesh) (crossings-inside (roundly B) R.mesh) (X, omega arith)).0
-along-indexed Nothing B f R X = X
+    after_indexed (roundly B) (fold (crossed f) (strapping R [] []) (crossings (roundly B) R.mesh)) (crossings_ready f n (strapping R [] []) (crossings (roundly B) R.mesh) (crossings_inside (roundly B) R.mesh) (X, omega arith)).0
+along_indexed Nothing B f R X = X
 
 -- with its crossings marked
-pub cut-indexed : (k : Kind) (B : Blade) (f : Float) (R : Run) → Indexed R.mesh → Indexed (cut k B f R).mesh
+pub cut_indexed : (k : Kind) (B : Blade) (f : Float) (R : Run) → Indexed R.mesh → Indexed (cut k B f R).mesh
 unfolding cut
-cut-indexed k B f R X = along-indexed k B f (markedBy k B R) (subst Indexed (sym (marked-mesh k B R)) X)
+cut_indexed k B f R X = along_indexed k B f (marked_by k B R) (subst Indexed (sym (marked_mesh k B R)) X)

@@ -11,99 +11,99 @@ use native.Mathlib.Decide.{ℕ_discrete}
 use borrow.Author.Tests.{eq-eqb, ne_eqb}
 use lib.Dec.{eqb}
 use lib.ListN.{length, get_or, set, replicate}
-use Rattle.lists.specs.Lists.{pick, stands, all, mapAt, each, sift, siftAt, find, pairs, tab, up_to, rising, head_or, rest, or_else}
+use Rattle.lists.specs.Lists.{pick, stands, all, map_at_of, each, sift, sift_at, find, pairs, tab, up_to, rising, head_or, rest, or_else}
 use Rattle.model.specs.Trace.{All}
-use Rattle.lists.proofs.Sifts.{and-true}
+use Rattle.lists.proofs.Sifts.{and_true}
 
 -- ---- Booleans
 
-pub false-true : ◌≡◌ {A = Bool} false true → ⊥
-false-true e = let y : ◌≡◌ {A = ℕ} 0 1 = cc in omega arith
+pub false_true : ◌≡◌ {A = Bool} false true → ⊥
+false_true e = let y : ◌≡◌ {A = ℕ} 0 1 = cc in omega arith
 
 pub both : (a b : Bool) → a ≡ true → b ≡ true → (a && b) ≡ true
 both true b p q = q
 both false b p q = p
 
-pub pick-both : {A : Type 0} (P : A → Type 0) (b : Bool) (x y : A) → P x → P y → P (pick b x y)
-pick-both P true x y p q = p
-pick-both P false x y p q = q
+pub pick_both : {A : Type 0} (P : A → Type 0) (b : Bool) (x y : A) → P x → P y → P (pick b x y)
+pick_both P true x y p q = p
+pick_both P false x y p q = q
 
 -- ---- every element
 
-pub all-at : {A : Type 0} (P : A → Type 0) (l : List A) (i : ℕ) (d : A) → P d → All P l → P (get_or l i d)
-all-at P [] i d p h = p
-all-at P (a ∷ l) zero d p h = h.0
-all-at P (a ∷ l) (suc i) d p h = all-at P l i d p h.1
+pub all_at : {A : Type 0} (P : A → Type 0) (l : List A) (i : ℕ) (d : A) → P d → All P l → P (get_or l i d)
+all_at P [] i d p h = p
+all_at P (a ∷ l) zero d p h = h.0
+all_at P (a ∷ l) (suc i) d p h = all_at P l i d p h.1
 
 pub all_set : {A : Type 0} (P : A → Type 0) (l : List A) (i : ℕ) (x : A) → P x → All P l → All P (set l i x)
 all_set P [] i x p h = tt
 all_set P (a ∷ l) zero x p h = (p, h.1)
 all_set P (a ∷ l) (suc i) x p h = (h.0, all_set P l i x p h.1)
 
-pub all-each : (P : ℕ → Type 0) (l : List ℕ) → ((i : ℕ) → i < length l → P (get_or l i 0)) → All P l
-all-each P [] h = tt
-all-each P (a ∷ l) h = (h 0 (omega arith), all-each P l (λ i u. h (suc i) (omega arith)))
+pub all_each : (P : ℕ → Type 0) (l : List ℕ) → ((i : ℕ) → i < length l → P (get_or l i 0)) → All P l
+all_each P [] h = tt
+all_each P (a ∷ l) h = (h 0 (omega arith), all_each P l (λ i u. h (suc i) (omega arith)))
 
 pub all_replicate : {A : Type 0} (P : A → Type 0) (n : ℕ) (x : A) → P x → All P (replicate n x)
 all_replicate P zero x p = tt
 all_replicate P (suc n) x p = (p, all_replicate P n x p)
 
-pub all-over : {A : Type 0} (P Q : A → Type 0) → ((a : A) → P a → Q a) → (l : List A) → All P l → All Q l
-all-over P Q f [] h = tt
-all-over P Q f (a ∷ l) h = (f a h.0, all-over P Q f l h.1)
+pub all_over : {A : Type 0} (P Q : A → Type 0) → ((a : A) → P a → Q a) → (l : List A) → All P l → All Q l
+all_over P Q f [] h = tt
+all_over P Q f (a ∷ l) h = (f a h.0, all_over P Q f l h.1)
 
 pub all_append : {A : Type 0} (P : A → Type 0) (a b : List A) → All P a → All P b → All P (a ++ b)
 all_append P [] b u w = w
 all_append P (x ∷ a) b u w = (u.0, all_append P a b u.1 w)
 
-pub all-mapAt : {A B : Type 0} (P : A → Type 0) (Q : B → Type 0) (g : ℕ → A → B) → ((i : ℕ) (a : A) → P a → Q (g i a)) → (l : List A) → All P l → All Q (mapAt g l)
-unfolding mapAt
-all-mapAt P Q g f [] h = tt
-all-mapAt P Q g f (a ∷ l) h = (f 0 a h.0, all-mapAt P Q (λ k. g (suc k)) (λ i. f (suc i)) l h.1)
+pub all_map_at : {A B : Type 0} (P : A → Type 0) (Q : B → Type 0) (g : ℕ → A → B) → ((i : ℕ) (a : A) → P a → Q (g i a)) → (l : List A) → All P l → All Q (map_at_of g l)
+unfolding map_at_of
+all_map_at P Q g f [] h = tt
+all_map_at P Q g f (a ∷ l) h = (f 0 a h.0, all_map_at P Q (λ k. g (suc k)) (λ i. f (suc i)) l h.1)
 
-pub all-tab : {A : Type 0} (P : A → Type 0) (h : ℕ → A) (k : ℕ) (f : ℕ → ℕ) → ((i : ℕ) → P (h (f i))) → All P (map h (tab k f))
+pub all_tab : {A : Type 0} (P : A → Type 0) (h : ℕ → A) (k : ℕ) (f : ℕ → ℕ) → ((i : ℕ) → P (h (f i))) → All P (map h (tab k f))
 unfolding tab
-all-tab P h zero f p = tt
-all-tab P h (suc k) f p = (p 0, all-tab P h k (λ i. f (suc i)) (λ i. p (suc i)))
+all_tab P h zero f p = tt
+all_tab P h (suc k) f p = (p 0, all_tab P h k (λ i. f (suc i)) (λ i. p (suc i)))
 
-pub tab-all : {A : Type 0} (P : A → Type 0) (h : ℕ → A) (k : ℕ) (f : ℕ → ℕ) → All P (map h (tab k f)) → (i : ℕ) → i < k → P (h (f i))
+pub tab_all : {A : Type 0} (P : A → Type 0) (h : ℕ → A) (k : ℕ) (f : ℕ → ℕ) → All P (map h (tab k f)) → (i : ℕ) → i < k → P (h (f i))
 unfolding tab
-tab-all P h zero f u i l = absurd (not-suc-le-zero l)
-tab-all P h (suc k) f u zero l = u.0
-tab-all P h (suc k) f u (suc i) l = tab-all P h k (λ i. f (suc i)) u.1 i (le_of_suc-le-suc l)
+tab_all P h zero f u i l = absurd (not-suc-le-zero l)
+tab_all P h (suc k) f u zero l = u.0
+tab_all P h (suc k) f u (suc i) l = tab_all P h k (λ i. f (suc i)) u.1 i (le_of_suc-le-suc l)
 
-pub tab-at : (P : ℕ → Type 0) (n : ℕ) (f : ℕ → ℕ) → All P (tab n f) → (i : ℕ) → i < n → P (f i)
+pub tab_at : (P : ℕ → Type 0) (n : ℕ) (f : ℕ → ℕ) → All P (tab n f) → (i : ℕ) → i < n → P (f i)
 unfolding tab
-tab-at P zero f h i l = absurd (not-suc-le-zero l)
-tab-at P (suc n) f h zero l = h.0
-tab-at P (suc n) f h (suc i) l = tab-at P n (λ k. f (suc k)) h.1 i (le_of_suc-le-suc l)
+tab_at P zero f h i l = absurd (not-suc-le-zero l)
+tab_at P (suc n) f h zero l = h.0
+tab_at P (suc n) f h (suc i) l = tab_at P n (λ k. f (suc k)) h.1 i (le_of_suc-le-suc l)
 
-pub all-below : {A : Type 0} (P : A → Type 0) (h : ℕ → A) (k : ℕ) (f : ℕ → ℕ) → ((i : ℕ) → i < k → P (h (f i))) → All P (map h (tab k f))
+pub all_below : {A : Type 0} (P : A → Type 0) (h : ℕ → A) (k : ℕ) (f : ℕ → ℕ) → ((i : ℕ) → i < k → P (h (f i))) → All P (map h (tab k f))
 unfolding tab
-all-below P h zero f p = tt
-all-below P h (suc k) f p = (p 0 (omega arith), all-below P h k (λ i. f (suc i)) (λ i l. p (suc i) (omega arith)))
+all_below P h zero f p = tt
+all_below P h (suc k) f p = (p 0 (omega arith), all_below P h k (λ i. f (suc i)) (λ i l. p (suc i) (omega arith)))
 
-pub all-sifted : {A : Type 0} (P : A → Type 0) (f : A → ℕ) (Q : ℕ → Type 0) → ((a : A) → P a → Q (f a)) → (p : A → Bool) (l : List A) → All P l → All Q (map f (sift p l))
+pub all_sifted : {A : Type 0} (P : A → Type 0) (f : A → ℕ) (Q : ℕ → Type 0) → ((a : A) → P a → Q (f a)) → (p : A → Bool) (l : List A) → All P l → All Q (map f (sift p l))
 unfolding sift
-all-sifted P f Q k p [] h = tt
-all-sifted P f Q k p (a ∷ l) h = by (p a) (all-sifted P f Q k p l h.1)
+all_sifted P f Q k p [] h = tt
+all_sifted P f Q k p (a ∷ l) h = by (p a) (all_sifted P f Q k p l h.1)
   where
     by : (b : Bool) → All Q (map f (sift p l)) → All Q (map f (pick b (a ∷ sift p l) (sift p l)))
     by true u = (k a h.0, u)
     by false u = u
 
-pub sifted-all : {A : Type 0} (p : A → Bool) (l : List A) → All (λ a. p a ≡ true) (sift p l)
+pub sifted_all : {A : Type 0} (p : A → Bool) (l : List A) → All (λ a. p a ≡ true) (sift p l)
 unfolding sift
-sifted-all p [] = tt
-sifted-all p (a ∷ l) = by (p a) refl (sifted-all p l)
+sifted_all p [] = tt
+sifted_all p (a ∷ l) = by (p a) refl (sifted_all p l)
   where
     by : (b : Bool) → p a ≡ b → All (λ x. p x ≡ true) (sift p l) → All (λ x. p x ≡ true) (pick b (a ∷ sift p l) (sift p l))
     by true e h = (e, h)
     by false e h = h
 
-pub pick-one : {A : Type 0} (P : A → Type 0) (b : Bool) (a : A) → P a → All P (pick b (a ∷ []) [])
-pick-one P true a h = (h, tt)
-pick-one P false a h = tt
+pub pick_one : {A : Type 0} (P : A → Type 0) (b : Bool) (a : A) → P a → All P (pick b (a ∷ []) [])
+pick_one P true a h = (h, tt)
+pick_one P false a h = tt
 
 pub all_in : {A : Type 0} (P : A → Type 0) (l : List A) (i : ℕ) (d : A) → i < length l → All P l → P (get_or l i d)
 all_in P [] i d u h = absurd (let z : i < 0 = u in omega arith)
@@ -118,34 +118,34 @@ pub all_map : {A B : Type 0} (P : A → Type 0) (Q : B → Type 0) (f : A → B)
 all_map P Q f k [] h = tt
 all_map P Q f k (a ∷ l) h = (k a h.0, all_map P Q f k l h.1)
 
-pub all-eachOf : {A B : Type 0} (P : A → Type 0) (Q : B → Type 0) (f : A → List B) → ((a : A) → P a → All Q (f a)) → (l : List A) → All P l → All Q (each f l)
+pub all_each_of : {A B : Type 0} (P : A → Type 0) (Q : B → Type 0) (f : A → List B) → ((a : A) → P a → All Q (f a)) → (l : List A) → All P l → All Q (each f l)
 unfolding each
-all-eachOf P Q f k [] h = tt
-all-eachOf P Q f k (a ∷ l) h = all_append Q (f a) (each f l) (k a h.0) (all-eachOf P Q f k l h.1)
+all_each_of P Q f k [] h = tt
+all_each_of P Q f k (a ∷ l) h = all_append Q (f a) (each f l) (k a h.0) (all_each_of P Q f k l h.1)
 
-pub all-sift : {A : Type 0} (P : A → Type 0) (p : A → Bool) (l : List A) → All P l → All P (sift p l)
+pub all_sift : {A : Type 0} (P : A → Type 0) (p : A → Bool) (l : List A) → All P l → All P (sift p l)
 unfolding sift
-all-sift P p [] h = tt
-all-sift P p (a ∷ l) h = by (p a) (all-sift P p l h.1)
+all_sift P p [] h = tt
+all_sift P p (a ∷ l) h = by (p a) (all_sift P p l h.1)
   where
     by : (b : Bool) → All P (sift p l) → All P (pick b (a ∷ sift p l) (sift p l))
     by true u = (h.0, u)
     by false u = u
 
-pub all-siftAt : {A : Type 0} (P : A → Type 0) (p : ℕ → A → Bool) (l : List A) → All P l → All P (siftAt p l)
-unfolding siftAt
-all-siftAt P p [] h = tt
-all-siftAt P p (a ∷ l) h = pick-both (All P) (p 0 a) (a ∷ siftAt (λ k. p (suc k)) l) (siftAt (λ k. p (suc k)) l) (h.0, all-siftAt P (λ k. p (suc k)) l h.1) (all-siftAt P (λ k. p (suc k)) l h.1)
+pub all_sift_at : {A : Type 0} (P : A → Type 0) (p : ℕ → A → Bool) (l : List A) → All P l → All P (sift_at p l)
+unfolding sift_at
+all_sift_at P p [] h = tt
+all_sift_at P p (a ∷ l) h = pick_both (All P) (p 0 a) (a ∷ sift_at (λ k. p (suc k)) l) (sift_at (λ k. p (suc k)) l) (h.0, all_sift_at P (λ k. p (suc k)) l h.1) (all_sift_at P (λ k. p (suc k)) l h.1)
 
-pub all-upTo : (n k : ℕ) (f : ℕ → ℕ) → ((i : ℕ) → i < k → f i < n) → All (λ g. g < n) (tab k f)
+pub all_up_to : (n k : ℕ) (f : ℕ → ℕ) → ((i : ℕ) → i < k → f i < n) → All (λ g. g < n) (tab k f)
 unfolding tab
-all-upTo n zero f h = tt
-all-upTo n (suc k) f h = (h 0 (omega arith), all-upTo n k (λ i. f (suc i)) (λ i u. h (suc i) (omega arith)))
+all_up_to n zero f h = tt
+all_up_to n (suc k) f h = (h 0 (omega arith), all_up_to n k (λ i. f (suc i)) (λ i u. h (suc i) (omega arith)))
 
-pub all-pairs : {A : Type 0} (P : A → Type 0) (l : List A) → All P l → All (λ (pq : A × A). P pq.0 × P pq.1) (pairs l)
+pub all_pairs : {A : Type 0} (P : A → Type 0) (l : List A) → All P l → All (λ (pq : A × A). P pq.0 × P pq.1) (pairs l)
 unfolding pairs
-all-pairs P [] h = tt
-all-pairs P (a ∷ l) h = all_append _ (map (λ b. (a, b)) l) (pairs l) (all_map P _ (λ b. (a, b)) (λ b u. (h.0, u)) l h.1) (all-pairs P l h.1)
+all_pairs P [] h = tt
+all_pairs P (a ∷ l) h = all_append _ (map (λ b. (a, b)) l) (pairs l) (all_map P _ (λ b. (a, b)) (λ b u. (h.0, u)) l h.1) (all_pairs P l h.1)
 
 pub all_rest : {A : Type 0} (P : A → Type 0) (l : List A) → All P l → All P (rest l)
 all_rest P [] h = tt
@@ -155,37 +155,37 @@ pub all_head : {A : Type 0} (P : A → Type 0) (d : A) (l : List A) → P d → 
 all_head P d [] p h = p
 all_head P d (a ∷ l) p h = h.0
 
-pub all-else : {A : Type 0} (P : A → Type 0) (l m : List A) → All P l → All P m → All P (or_else l m)
-all-else P [] m h u = u
-all-else P (a ∷ l) m h u = h
+pub all_else : {A : Type 0} (P : A → Type 0) (l m : List A) → All P l → All P m → All P (or_else l m)
+all_else P [] m h u = u
+all_else P (a ∷ l) m h u = h
 
 pub all_from : {A : Type 0} (p : A → Bool) (P : A → Type 0) → ((a : A) → p a ≡ true → P a) → (l : List A) → all p l ≡ true → All P l
 unfolding all
 all_from p P k [] e = tt
-all_from p P k (a ∷ l) e = let d = and-true (p a) (all p l) e in (k a d.0, all_from p P k l d.1)
+all_from p P k (a ∷ l) e = let d = and_true (p a) (all p l) e in (k a d.0, all_from p P k l d.1)
 
-pub all-to : {A : Type 0} (p : A → Bool) (P : A → Type 0) → ((a : A) → P a → p a ≡ true) → (l : List A) → All P l → all p l ≡ true
+pub all_to : {A : Type 0} (p : A → Bool) (P : A → Type 0) → ((a : A) → P a → p a ≡ true) → (l : List A) → All P l → all p l ≡ true
 unfolding all
-all-to p P k [] h = refl
-all-to p P k (a ∷ l) h = both (p a) (all p l) (k a h.0) (all-to p P k l h.1)
+all_to p P k [] h = refl
+all_to p P k (a ∷ l) h = both (p a) (all p l) (k a h.0) (all_to p P k l h.1)
 
 -- ---- each element with its number
 
-pub length-mapAt : {A B : Type 0} (g : ℕ → A → B) (l : List A) → length (mapAt g l) ≡ length l
-unfolding mapAt
-length-mapAt g [] = refl
-length-mapAt g (a ∷ l) = ap suc (length-mapAt (λ k. g (suc k)) l)
+pub length_map_at : {A B : Type 0} (g : ℕ → A → B) (l : List A) → length (map_at_of g l) ≡ length l
+unfolding map_at_of
+length_map_at g [] = refl
+length_map_at g (a ∷ l) = ap suc (length_map_at (λ k. g (suc k)) l)
 
-pub getD-mapAt : {A B : Type 0} (g : ℕ → A → B) (l : List A) (i : ℕ) (d : A) (z : B) → i < length l → get_or (mapAt g l) i z ≡ g i (get_or l i d)
-unfolding mapAt
-getD-mapAt g [] i d z l = absurd (not-suc-le-zero l)
-getD-mapAt g (a ∷ l) zero d z h = refl
-getD-mapAt g (a ∷ l) (suc i) d z h = getD-mapAt (λ k. g (suc k)) l i d z (le_of_suc-le-suc h)
+pub get_d_map_at : {A B : Type 0} (g : ℕ → A → B) (l : List A) (i : ℕ) (d : A) (z : B) → i < length l → get_or (map_at_of g l) i z ≡ g i (get_or l i d)
+unfolding map_at_of
+get_d_map_at g [] i d z l = absurd (not-suc-le-zero l)
+get_d_map_at g (a ∷ l) zero d z h = refl
+get_d_map_at g (a ∷ l) (suc i) d z h = get_d_map_at (λ k. g (suc k)) l i d z (le_of_suc-le-suc h)
 
-pub map-mapAt : {A B C : Type 0} (P : A → Type 0) (g : ℕ → A → B) (h : B → C) (k : A → C) → ((i : ℕ) (a : A) → P a → h (g i a) ≡ k a) → (l : List A) → All P l → map h (mapAt g l) ≡ map k l
-unfolding mapAt
-map-mapAt P g h k f [] u = refl
-map-mapAt P g h k f (a ∷ l) u = ap₂ {C = List _} (λ x y. x ∷ y) (f 0 a u.0) (map-mapAt P (λ i. g (suc i)) h k (λ i. f (suc i)) l u.1)
+pub map_map_at : {A B C : Type 0} (P : A → Type 0) (g : ℕ → A → B) (h : B → C) (k : A → C) → ((i : ℕ) (a : A) → P a → h (g i a) ≡ k a) → (l : List A) → All P l → map h (map_at_of g l) ≡ map k l
+unfolding map_at_of
+map_map_at P g h k f [] u = refl
+map_map_at P g h k f (a ∷ l) u = ap₂ {C = List _} (λ x y. x ∷ y) (f 0 a u.0) (map_map_at P (λ i. g (suc i)) h k (λ i. f (suc i)) l u.1)
 
 -- ---- one list behind the other, none left, the first found
 
@@ -194,19 +194,19 @@ unfolding each
 each_append f [] b = refl
 each_append f (x ∷ a) b = rw (each_append f a b, append_assoc (f x) (each f a) (each f b))
 
-pub map-none : {A : Type 0} (f : A → ℕ) (l : List A) → map f l ≡ [] → l ≡ []
-map-none f [] e = refl
-map-none f (a ∷ l) e = absurd (let z : ◌≡◌ {A = ℕ} (suc (length (map f l))) 0 = ap length e in omega arith)
+pub map_none : {A : Type 0} (f : A → ℕ) (l : List A) → map f l ≡ [] → l ≡ []
+map_none f [] e = refl
+map_none f (a ∷ l) e = absurd (let z : ◌≡◌ {A = ℕ} (suc (length (map f l))) 0 = ap length e in omega arith)
 
-pub sift-none : {A : Type 0} (p : A → Bool) (l : List A) → All (λ a. p a ≡ false) l → sift p l ≡ []
+pub sift_none : {A : Type 0} (p : A → Bool) (l : List A) → All (λ a. p a ≡ false) l → sift p l ≡ []
 unfolding sift
-sift-none p [] h = refl
-sift-none p (a ∷ l) h = rw h.0 (sift-none p l h.1)
+sift_none p [] h = refl
+sift_none p (a ∷ l) h = rw h.0 (sift_none p l h.1)
 
-pub none-sifted : {A : Type 0} (p : A → Bool) (l : List A) → sift p l ≡ [] → All (λ a. p a ≡ false) l
+pub none_sifted : {A : Type 0} (p : A → Bool) (l : List A) → sift p l ≡ [] → All (λ a. p a ≡ false) l
 unfolding sift
-none-sifted p [] e = tt
-none-sifted p (a ∷ l) e = by (p a) refl e (none-sifted p l)
+none_sifted p [] e = tt
+none_sifted p (a ∷ l) e = by (p a) refl e (none_sifted p l)
   where
     by : (b : Bool) → p a ≡ b → pick b (a ∷ sift p l) (sift p l) ≡ [] → (sift p l ≡ [] → All (λ x. p x ≡ false) l) → (p a ≡ false) × All (λ x. p x ≡ false) l
     by true q d h = absurd (let z : ◌≡◌ {A = ℕ} (suc (length (sift p l))) 0 = ap length d in omega arith)
@@ -217,26 +217,26 @@ pub rising_none : (n : ℕ) (l : List ℕ) → All (λ g. g < n) l → rising n 
 unfolding rising up_to
 rising_none n [] h e = refl
 rising_none n (g ∷ l) h e =
-    let q = tab-at (λ k. stands k (g ∷ l) ≡ false) n (λ k. k) (none-sifted (λ k. stands k (g ∷ l)) (tab n (λ k. k)) e) g h.0 in
-    absurd (false-true (sym q ∙ rw (eq-eqb g g refl)))
+    let q = tab_at (λ k. stands k (g ∷ l) ≡ false) n (λ k. k) (none_sifted (λ k. stands k (g ∷ l)) (tab n (λ k. k)) e) g h.0 in
+    absurd (false_true (sym q ∙ rw (eq-eqb g g refl)))
 
-pub none-rising : (n : ℕ) → rising n [] ≡ []
+pub none_rising : (n : ℕ) → rising n [] ≡ []
 unfolding rising up_to tab
-none-rising n = sift-none (λ k. false) (tab n (λ k. k)) (all-false n (λ k. k))
+none_rising n = sift_none (λ k. false) (tab n (λ k. k)) (all_false n (λ k. k))
   where
-    all-false : (n : ℕ) (f : ℕ → ℕ) → All (λ k. ◌≡◌ {A = Bool} false false) (tab n f)
-    all-false zero f = tt
-    all-false (suc n) f = (refl, all-false n (λ k. f (suc k)))
+    all_false : (n : ℕ) (f : ℕ → ℕ) → All (λ k. ◌≡◌ {A = Bool} false false) (tab n f)
+    all_false zero f = tt
+    all_false (suc n) f = (refl, all_false n (λ k. f (suc k)))
 
 -- P of what is found, if anything is
 abbrev pub Found : {A : Type 0} → (A → Type 0) → Option A → Type 0
 Found P nothing = Unit {0}
 Found P (some a) = P a
 
-pub find-fits : {A : Type 0} (P : A → Type 0) (p : A → Bool) (l : List A) → All P l → Found P (find p l)
+pub find_fits : {A : Type 0} (P : A → Type 0) (p : A → Bool) (l : List A) → All P l → Found P (find p l)
 unfolding find
-find-fits P p [] h = tt
-find-fits P p (a ∷ l) h = one (p a) (find p l) h.0 (find-fits P p l h.1)
+find_fits P p [] h = tt
+find_fits P p (a ∷ l) h = one (p a) (find p l) h.0 (find_fits P p l h.1)
   where
     one : (b : Bool) (o : Option _) → P a → Found P o → Found P (pick b (some a) o)
     one true o x y = x
@@ -252,27 +252,27 @@ find_none p [] e = tt
 find_none p (a ∷ l) e = by (p a) refl e (find_none p l)
   where
     by : (b : Bool) → p a ≡ b → pick b (some a) (find p l) ≡ nothing → (find p l ≡ nothing → All (λ x. p x ≡ false) l) → (p a ≡ false) × All (λ x. p x ≡ false) l
-    by true q d h = absurd (false-true (sym (ap found? d)))
+    by true q d h = absurd (false_true (sym (ap found? d)))
     by false q d h = (q, h d)
 
 -- ---- what stands in a list
 
-pub stands-head : (x y : ℕ) (l : List ℕ) → y ≡ x → stands x (y ∷ l) ≡ true
-stands-head x y l e = rw (eq-eqb y x e)
+pub stands_head : (x y : ℕ) (l : List ℕ) → y ≡ x → stands x (y ∷ l) ≡ true
+stands_head x y l e = rw (eq-eqb y x e)
 
 pub pick_true : (b c : Bool) → c ≡ true → pick b true c ≡ true
 pick_true true c e = refl
 pick_true false c e = e
 
-pub stands-tail : (x y : ℕ) (l : List ℕ) → stands x l ≡ true → stands x (y ∷ l) ≡ true
-stands-tail x y l e = pick_true (eqb y x) (stands x l) e
+pub stands_tail : (x y : ℕ) (l : List ℕ) → stands x l ≡ true → stands x (y ∷ l) ≡ true
+stands_tail x y l e = pick_true (eqb y x) (stands x l) e
 
-pub stands-case : (x y : ℕ) (l : List ℕ) → stands x (y ∷ l) ≡ true → (y ≡ x) ⊎ (stands x l ≡ true)
-stands-case x y l e = elim (ℕ_discrete y x) [ yes d ↦ inl d | no n ↦ inr (rw (ne_eqb y x n) at e) ]
+pub stands_case : (x y : ℕ) (l : List ℕ) → stands x (y ∷ l) ≡ true → (y ≡ x) ⊎ (stands x l ≡ true)
+stands_case x y l e = elim (ℕ_discrete y x) [ yes d ↦ inl d | no n ↦ inr (rw (ne_eqb y x n) at e) ]
 
-pub stands-not : (x y : ℕ) (l : List ℕ) → stands x (y ∷ l) ≡ false → (y ≡ x → ⊥) × (stands x l ≡ false)
-stands-not x y l e =
+pub stands_not : (x y : ℕ) (l : List ℕ) → stands x (y ∷ l) ≡ false → (y ≡ x → ⊥) × (stands x l ≡ false)
+stands_not x y l e =
     elim (ℕ_discrete y x) [
-      | yes d ↦ absurd (false-true (sym e ∙ rw (eq-eqb y x d)))
+      | yes d ↦ absurd (false_true (sym e ∙ rw (eq-eqb y x d)))
       | no n ↦ (n, rw (ne_eqb y x n) at e)
     ]

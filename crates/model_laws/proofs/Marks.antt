@@ -13,27 +13,27 @@ use Rattle.lists.proofs.Sifts.{any_append}
 use Rattle.blade.specs.declared.Hit.{Hit}
 use Rattle.blade.specs.declared.Hit.TheVariants.{Miss, Hit as HitAt}
 use Rattle.model.specs.Mesh.{Triangle, Edge, Mesh}
-use Rattle.model.specs.Elements.{Kind, Triangles, Straps, Nothing, Element, structural?, strapElement, cornersOf, trianglesFrom, strapsFrom, elementsOf, kind_of}
-use Rattle.model.specs.Run.{Entry, Need, Rooms, Run, start, stepTo, splitOf, splitsOf, changes, changed}
-use Rattle.model.specs.Split.{Opening, openingOf, splits?, splitMade, splitStep, splitBySides}
-use Rattle.model.specs.Cut.{Blade, roundly, splitByBlade, splitFree, splitEnds, nearCorners, pinched, splitPinched, candidates, cutFacets, Crossing, crossings, insertionOf, insertable, bendsOver, insertStep, Strapping, strapping, insertedAt, snappedAt, crossed, unbent, splitSnapped, afterCrossings, cutSegments, meets, markAt, mark_of, marksOf, markedBy, cutAlong, cut}
-use Rattle.model.specs.Calls.{tooSmall, firstFault, Outcome, refused, done, fitted, outcome}
+use Rattle.model.specs.Elements.{Kind, Triangles, Straps, Nothing, Element, structural?, strap_element, corners_of, triangles_from, straps_from, elements_of, kind_of}
+use Rattle.model.specs.Run.{Entry, Need, Rooms, Run, start, step_to, split_of, splits_of, changes, changed}
+use Rattle.model.specs.Split.{Opening, opening_of, splits?, split_made, split_step, split_by_sides_of}
+use Rattle.model.specs.Cut.{Blade, roundly, split_by_blade, split_free, split_ends, near_corners, pinched, split_pinched_of, candidates, cut_facets_of, Crossing, crossings, insertion_of, insertable, bends_over, insert_step, Strapping, strapping, inserted_at, snapped_at, crossed, unbent, split_snapped_of, after_crossings, cut_segments_of, meets, mark_at, mark_of, marks_of, marked_by, cut_along, cut}
+use Rattle.model.specs.Calls.{too_small, first_fault, Outcome, refused, done, fitted, outcome}
 use Rattle.model.specs.Trace.{Threes}
 use Rattle.model_laws.proofs.Laws.{each_append}
 
 -- ---- a mark tells of no split and of no change
 
-hit-no-split : (xy : ℕ × ℕ) (h : Hit) → each splitOf (markAt xy h) ≡ []
+hit_no_split : (xy : ℕ × ℕ) (h : Hit) → each split_of (mark_at xy h) ≡ []
 unfolding each
-hit-no-split xy Miss = refl
-hit-no-split xy (HitAt t p) = refl
+hit_no_split xy Miss = refl
+hit_no_split xy (HitAt t p) = refl
 
-hit-no-change : (xy : ℕ × ℕ) (h : Hit) → any changes (markAt xy h) ≡ false
+hit_no_change : (xy : ℕ × ℕ) (h : Hit) → any changes (mark_at xy h) ≡ false
 unfolding any
-hit-no-change xy Miss = refl
-hit-no-change xy (HitAt t p) = refl
+hit_no_change xy Miss = refl
+hit_no_change xy (HitAt t p) = refl
 
-hit_few : (xy : ℕ × ℕ) (h : Hit) → length (markAt xy h) ≤ 1
+hit_few : (xy : ℕ × ℕ) (h : Hit) → length (mark_at xy h) ≤ 1
 hit_few xy Miss = omega arith
 hit_few xy (HitAt t p) = omega arith
 
@@ -47,89 +47,89 @@ unfolding each any
 any_none p f k [] = refl
 any_none p f k (a ∷ l) = any_append p (f a) (each f l) ∙ ap₂ {C = Bool} ◌||◌ (k a) (any_none p f k l)
 
-pub marks-no-split : (k : Kind) (B : Blade) (M : Mesh) → splitsOf (marksOf k B M) ≡ []
-unfolding splitsOf marksOf
-marks-no-split k B M =
-    each_none splitOf (λ (e : Element). each (mark_of B M) (pairs e.corners))
-    (λ e. each_none splitOf (mark_of B M) (λ xy. hit-no-split xy (meets B M xy.0 xy.1)) (pairs e.corners))
-    (elementsOf k M)
+pub marks_no_split : (k : Kind) (B : Blade) (M : Mesh) → splits_of (marks_of k B M) ≡ []
+unfolding splits_of marks_of
+marks_no_split k B M =
+    each_none split_of (λ (e : Element). each (mark_of B M) (pairs e.corners))
+    (λ e. each_none split_of (mark_of B M) (λ xy. hit_no_split xy (meets B M xy.0 xy.1)) (pairs e.corners))
+    (elements_of k M)
 
-pub marks-no-change : (k : Kind) (B : Blade) (M : Mesh) → any changes (marksOf k B M) ≡ false
-unfolding marksOf
-marks-no-change k B M =
+pub marks_no_change : (k : Kind) (B : Blade) (M : Mesh) → any changes (marks_of k B M) ≡ false
+unfolding marks_of
+marks_no_change k B M =
     any_none changes (λ (e : Element). each (mark_of B M) (pairs e.corners))
-    (λ e. any_none changes (mark_of B M) (λ xy. hit-no-change xy (meets B M xy.0 xy.1)) (pairs e.corners))
-    (elementsOf k M)
+    (λ e. any_none changes (mark_of B M) (λ xy. hit_no_change xy (meets B M xy.0 xy.1)) (pairs e.corners))
+    (elements_of k M)
 
 -- ---- how many marks there are: three at most to a triangle, one to a strap
 
-each-few : {A B : Type 0} (n : ℕ) (f : A → List B) → ((a : A) → length (f a) ≤ n) → (l : List A) → length (each f l) ≤ n * length l
+each_few : {A B : Type 0} (n : ℕ) (f : A → List B) → ((a : A) → length (f a) ≤ n) → (l : List A) → length (each f l) ≤ n * length l
 unfolding each
-each-few n f k [] = omega arith
-each-few n f k (a ∷ l) =
+each_few n f k [] = omega arith
+each_few n f k (a ∷ l) =
     let e = length-append (f a) (each f l) in
     let h = k a in
-    let r = each-few n f k l in
+    let r = each_few n f k l in
     omega (arith, e, h, r)
 
-pair-few : (B : Blade) (M : Mesh) (l : List (ℕ × ℕ)) → length (each (mark_of B M) l) ≤ length l
-pair-few B M l = let h = each-few 1 (mark_of B M) (λ xy. hit_few xy (meets B M xy.0 xy.1)) l in omega arith
+pair_few : (B : Blade) (M : Mesh) (l : List (ℕ × ℕ)) → length (each (mark_of B M) l) ≤ length l
+pair_few B M l = let h = each_few 1 (mark_of B M) (λ xy. hit_few xy (meets B M xy.0 xy.1)) l in omega arith
 
 -- three corners have three pairs
-pairs-few : (l : List ℕ) → length l ≡ 3 → length (pairs l) ≤ 3
+pairs_few : (l : List ℕ) → length l ≡ 3 → length (pairs l) ≤ 3
 unfolding pairs
-pairs-few [] e = absurd (omega (arith, e))
-pairs-few (a ∷ []) e = absurd (omega (arith, e))
-pairs-few (a ∷ b ∷ []) e = absurd (omega (arith, e))
-pairs-few (a ∷ b ∷ c ∷ []) e = omega arith
-pairs-few (a ∷ b ∷ c ∷ d ∷ l) e = absurd (omega (arith, e))
+pairs_few [] e = absurd (omega (arith, e))
+pairs_few (a ∷ []) e = absurd (omega (arith, e))
+pairs_few (a ∷ b ∷ []) e = absurd (omega (arith, e))
+pairs_few (a ∷ b ∷ c ∷ []) e = omega arith
+pairs_few (a ∷ b ∷ c ∷ d ∷ l) e = absurd (omega (arith, e))
 
-triangle-few : (B : Blade) (M : Mesh) (i : ℕ) (ts : List Triangle) → Threes ts → length (each (λ (e : Element). each (mark_of B M) (pairs e.corners)) (trianglesFrom i ts)) ≤ 3 * length ts
-unfolding trianglesFrom each pairs
-triangle-few B M i [] w = omega arith
-triangle-few B M i (t ∷ ts) w =
-    let mine = each (mark_of B M) (pairs (cornersOf t)) in
-    let rest = each (λ (e : Element). each (mark_of B M) (pairs e.corners)) (trianglesFrom (suc i) ts) in
+triangle_few : (B : Blade) (M : Mesh) (i : ℕ) (ts : List Triangle) → Threes ts → length (each (λ (e : Element). each (mark_of B M) (pairs e.corners)) (triangles_from i ts)) ≤ 3 * length ts
+unfolding triangles_from each pairs
+triangle_few B M i [] w = omega arith
+triangle_few B M i (t ∷ ts) w =
+    let mine = each (mark_of B M) (pairs (corners_of t)) in
+    let rest = each (λ (e : Element). each (mark_of B M) (pairs e.corners)) (triangles_from (suc i) ts) in
     let e = length-append mine rest in
-    let p = pairs-few (cornersOf t) w.0 in
-    let q = pair-few B M (pairs (cornersOf t)) in
+    let p = pairs_few (corners_of t) w.0 in
+    let q = pair_few B M (pairs (corners_of t)) in
     let h : length mine ≤ 3 = omega arith in
-    let r : length rest ≤ 3 * length ts = triangle-few B M (suc i) ts w.1 in
+    let r : length rest ≤ 3 * length ts = triangle_few B M (suc i) ts w.1 in
     omega (arith, e, h, r)
 
-strap-few : (B : Blade) (M : Mesh) (i : ℕ) (es : List Edge) → length (each (λ (e : Element). each (mark_of B M) (pairs e.corners)) (strapsFrom i es)) ≤ length es
-unfolding strapsFrom each pairs
-strap-few B M i [] = omega arith
-strap-few B M i (x ∷ es) = by (structural? x) (strap-few B M (suc i) es)
+strap_few : (B : Blade) (M : Mesh) (i : ℕ) (es : List Edge) → length (each (λ (e : Element). each (mark_of B M) (pairs e.corners)) (straps_from i es)) ≤ length es
+unfolding straps_from each pairs
+strap_few B M i [] = omega arith
+strap_few B M i (x ∷ es) = by (structural? x) (strap_few B M (suc i) es)
   where
-    by : (b : Bool) → length (each (λ (e : Element). each (mark_of B M) (pairs e.corners)) (strapsFrom (suc i) es)) ≤ length es
-        → length (each (λ (e : Element). each (mark_of B M) (pairs e.corners)) (pick b (strapElement i x ∷ strapsFrom (suc i) es) (strapsFrom (suc i) es))) ≤ suc (length es)
+    by : (b : Bool) → length (each (λ (e : Element). each (mark_of B M) (pairs e.corners)) (straps_from (suc i) es)) ≤ length es
+        → length (each (λ (e : Element). each (mark_of B M) (pairs e.corners)) (pick b (strap_element i x ∷ straps_from (suc i) es) (straps_from (suc i) es))) ≤ suc (length es)
     by true r =
         let mine = each (mark_of B M) ((x.a, x.b) ∷ []) in
-        let e = length-append mine (each (λ (e : Element). each (mark_of B M) (pairs e.corners)) (strapsFrom (suc i) es)) in
-        let h : length mine ≤ 1 = pair-few B M ((x.a, x.b) ∷ []) in
+        let e = length-append mine (each (λ (e : Element). each (mark_of B M) (pairs e.corners)) (straps_from (suc i) es)) in
+        let h : length mine ≤ 1 = pair_few B M ((x.a, x.b) ∷ []) in
         omega (arith, e, h, r)
     by false r = omega (arith, r)
 
 -- the marks of a mesh of at most t triangles and e edges
-pub marks-few : (k : Kind) (B : Blade) (M : Mesh) (t e : ℕ) → Threes M.triangles → length M.triangles ≤ t → length M.edges ≤ e → e ≤ 3 * t → length (marksOf k B M) ≤ 3 * t
-unfolding marksOf elementsOf each
-marks-few Triangles B M t e w ht he hte = let r = triangle-few B M 0 M.triangles w in omega (arith, r)
-marks-few Straps B M t e w ht he hte = let r = strap-few B M 0 M.edges in omega (arith, r)
-marks-few Nothing B M t e w ht he hte = omega arith
+pub marks_few : (k : Kind) (B : Blade) (M : Mesh) (t e : ℕ) → Threes M.triangles → length M.triangles ≤ t → length M.edges ≤ e → e ≤ 3 * t → length (marks_of k B M) ≤ 3 * t
+unfolding marks_of elements_of each
+marks_few Triangles B M t e w ht he hte = let r = triangle_few B M 0 M.triangles w in omega (arith, r)
+marks_few Straps B M t e w ht he hte = let r = strap_few B M 0 M.edges in omega (arith, r)
+marks_few Nothing B M t e w ht he hte = omega arith
 
 -- ---- the marked run
 
-pub marked-mesh : (k : Kind) (B : Blade) (R : Run) → (markedBy k B R).mesh ≡ R.mesh
-unfolding markedBy stepTo
-marked-mesh k B R = refl
+pub marked_mesh : (k : Kind) (B : Blade) (R : Run) → (marked_by k B R).mesh ≡ R.mesh
+unfolding marked_by step_to
+marked_mesh k B R = refl
 
-pub marked-splits : (k : Kind) (B : Blade) (R : Run) → splitsOf (markedBy k B R).log ≡ splitsOf R.log
-unfolding markedBy stepTo splitsOf
-marked-splits k B R =
-    each_append splitOf R.log (marksOf k B R.mesh)
-    ∙ ap (λ (l : List (ℕ × ℕ)). splitsOf R.log ++ l) (marks-no-split k B R.mesh)
-    ∙ append-nil (splitsOf R.log)
+pub marked_splits : (k : Kind) (B : Blade) (R : Run) → splits_of (marked_by k B R).log ≡ splits_of R.log
+unfolding marked_by step_to splits_of
+marked_splits k B R =
+    each_append split_of R.log (marks_of k B R.mesh)
+    ∙ ap (λ (l : List (ℕ × ℕ)). splits_of R.log ++ l) (marks_no_split k B R.mesh)
+    ∙ append-nil (splits_of R.log)
 
 -- ---- a run with marks before its log
 
@@ -141,109 +141,109 @@ later m N = record { particles = N.particles; edges = N.edges; boundary = N.boun
 unfoldable pub carried : List Need → List Entry → Run → Run
 carried front marks R = record { mesh = R.mesh; log = marks ++ R.log; needs = front ++ map (later (length marks)) R.needs }
 
-run-path : (M : Mesh) {l l' : List Entry} {n n' : List Need} → l ≡ l' → n ≡ n' → ◌≡◌ {A = Run} (record { mesh = M; log = l; needs = n }) (record { mesh = M; log = l'; needs = n' })
-run-path M {l} {l'} {n} {n'} e d = ap₂ {C = Run} (λ (a : List Entry) (b : List Need). record { mesh = M; log = a; needs = b }) e d
+run_path : (M : Mesh) {l l' : List Entry} {n n' : List Need} → l ≡ l' → n ≡ n' → ◌≡◌ {A = Run} (record { mesh = M; log = l; needs = n }) (record { mesh = M; log = l'; needs = n' })
+run_path M {l} {l'} {n} {n'} e d = ap₂ {C = Run} (λ (a : List Entry) (b : List Need). record { mesh = M; log = a; needs = b }) e d
 
-map-end : (f : Need → Need) (l : List Need) (y : Need) → map f (l ++ (y ∷ [])) ≡ map f l ++ (f y ∷ [])
-map-end f [] y = refl
-map-end f (x ∷ l) y = ap (λ (r : List Need). f x ∷ r) (map-end f l y)
+map_end : (f : Need → Need) (l : List Need) (y : Need) → map f (l ++ (y ∷ [])) ≡ map f l ++ (f y ∷ [])
+map_end f [] y = refl
+map_end f (x ∷ l) y = ap (λ (r : List Need). f x ∷ r) (map_end f l y)
 
-needs-end : (m : ℕ) (front l : List Need) (y : Need) (n : ℕ) → n ≡ m + y.log
+needs_end : (m : ℕ) (front l : List Need) (y : Need) (n : ℕ) → n ≡ m + y.log
     → (front ++ map (later m) l) ++ (record { particles = y.particles; edges = y.edges; boundary = y.boundary; log = n } ∷ []) ≡ front ++ map (later m) (l ++ (y ∷ []))
 unfolding later
-needs-end m front l y n e =
+needs_end m front l y n e =
     append_assoc front (map (later m) l) _
     ∙ ap (λ (r : List Need). front ++ r)
-    (ap (λ (z : ℕ). map (later m) l ++ (record { particles = y.particles; edges = y.edges; boundary = y.boundary; log = z } ∷ [])) e ∙ sym (map-end (later m) l y))
+    (ap (λ (z : ℕ). map (later m) l ++ (record { particles = y.particles; edges = y.edges; boundary = y.boundary; log = z } ∷ [])) e ∙ sym (map_end (later m) l y))
 
-module _ (front : List Need) (marks : List Entry) (none : splitsOf marks ≡ []) where
+module _ (front : List Need) (marks : List Entry) (none : splits_of marks ≡ []) where
   abbrev on : Run → Run
   on R = carried front marks R
 
-  step-on : (R : Run) (M : Mesh) (more : List Entry) (e b : ℕ) → stepTo (on R) M more e b ≡ on (stepTo R M more e b)
-  unfolding stepTo carried
-  step-on R M more e b =
+  step_on : (R : Run) (M : Mesh) (more : List Entry) (e b : ℕ) → step_to (on R) M more e b ≡ on (step_to R M more e b)
+  unfolding step_to carried
+  step_on R M more e b =
       let a = append_assoc marks R.log more in
-      run-path M a
-      (needs-end (length marks) front R.needs (record { particles = length M.particles; edges = e; boundary = b; log = length (R.log ++ more) }) _
+      run_path M a
+      (needs_end (length marks) front R.needs (record { particles = length M.particles; edges = e; boundary = b; log = length (R.log ++ more) }) _
       (ap length a ∙ length-append marks (R.log ++ more)))
 
-  pick-on : (b : Bool) (x y z : Run) → x ≡ on y → pick b x (on z) ≡ on (pick b y z)
-  pick-on true x y z e = e
-  pick-on false x y z e = refl
+  pick_on : (b : Bool) (x y z : Run) → x ≡ on y → pick b x (on z) ≡ on (pick b y z)
+  pick_on true x y z e = e
+  pick_on false x y z e = refl
 
   fold_on : {A : Type 0} (g : Run → A → Run) → ((R : Run) (a : A) → g (on R) a ≡ on (g R a)) → (R : Run) (l : List A) → fold g (on R) l ≡ on (fold g R l)
   unfolding fold
   fold_on g k R [] = refl
   fold_on g k R (a ∷ l) = ap (λ (Q : Run). fold g Q l) (k R a) ∙ fold_on g k (g R a) l
 
-  split-on : (more : List Entry) (f : Mesh → Mesh) (k : Kind) (O : Opening) (R : Run) → splitStep more f k O (on R) ≡ on (splitStep more f k O R)
-  unfolding splitStep splitMade carried
-  split-on more f k O R = pick-on (splits? O R.mesh) (splitMade more f k O (on R)) (splitMade more f k O R) R (step-on R _ _ _ _)
+  split_on : (more : List Entry) (f : Mesh → Mesh) (k : Kind) (O : Opening) (R : Run) → split_step more f k O (on R) ≡ on (split_step more f k O R)
+  unfolding split_step split_made carried
+  split_on more f k O R = pick_on (splits? O R.mesh) (split_made more f k O (on R)) (split_made more f k O R) R (step_on R _ _ _ _)
 
-  sides-on : (k : Kind) (v : ℕ) (sides : List ℕ) (R : Run) → splitBySides k v sides (on R) ≡ on (splitBySides k v sides R)
-  unfolding splitBySides carried
-  sides-on k v sides R = split-on [] (λ M. M) k (openingOf k R.mesh v sides) R
+  sides_on : (k : Kind) (v : ℕ) (sides : List ℕ) (R : Run) → split_by_sides_of k v sides (on R) ≡ on (split_by_sides_of k v sides R)
+  unfolding split_by_sides_of carried
+  sides_on k v sides R = split_on [] (λ M. M) k (opening_of k R.mesh v sides) R
 
-  splits-on : (R : Run) → splitsOf (on R).log ≡ splitsOf R.log
-  unfolding carried splitsOf
-  splits-on R = each_append splitOf marks R.log ∙ ap (λ (l : List (ℕ × ℕ)). l ++ each splitOf R.log) none
+  splits_on : (R : Run) → splits_of (on R).log ≡ splits_of R.log
+  unfolding carried splits_of
+  splits_on R = each_append split_of marks R.log ∙ ap (λ (l : List (ℕ × ℕ)). l ++ each split_of R.log) none
 
-  pinched-on : (R : Run) → splitPinched Triangles (on R) ≡ on (splitPinched Triangles R)
-  unfolding splitPinched splitFree pinched splitEnds carried
-  pinched-on R =
-      ap (λ (s : List (ℕ × ℕ)). fold (splitFree Triangles) (on R) (rising (length R.mesh.particles) (each (nearCorners (each (λ (cs : ℕ × ℕ). cs.0 ∷ cs.1 ∷ []) s)) (elementsOf Triangles R.mesh)))) (splits-on R)
-      ∙ fold_on (splitFree Triangles) (λ S v. sides-on Triangles v _ S) R (pinched Triangles R)
+  pinched_on : (R : Run) → split_pinched_of Triangles (on R) ≡ on (split_pinched_of Triangles R)
+  unfolding split_pinched_of split_free pinched split_ends carried
+  pinched_on R =
+      ap (λ (s : List (ℕ × ℕ)). fold (split_free Triangles) (on R) (rising (length R.mesh.particles) (each (near_corners (each (λ (cs : ℕ × ℕ). cs.0 ∷ cs.1 ∷ []) s)) (elements_of Triangles R.mesh)))) (splits_on R)
+      ∙ fold_on (split_free Triangles) (λ S v. sides_on Triangles v _ S) R (pinched Triangles R)
 
-  facets-on : (B : Blade) (R : Run) → cutFacets B (on R) ≡ on (cutFacets B R)
-  unfolding cutFacets splitByBlade carried
-  facets-on B R =
-      let S = fold (splitByBlade Triangles B) R (candidates B R.mesh) in
-      ap (λ (Q : Run). pick (empty (splitsOf Q.log)) Q (splitPinched Triangles Q))
-      (fold_on (splitByBlade Triangles B) (λ Q v. sides-on Triangles v _ Q) R (candidates B R.mesh))
-      ∙ ap (λ (s : List (ℕ × ℕ)). pick (empty s) (on S) (splitPinched Triangles (on S))) (splits-on S)
-      ∙ by (empty (splitsOf S.log)) S (pinched-on S)
+  facets_on : (B : Blade) (R : Run) → cut_facets_of B (on R) ≡ on (cut_facets_of B R)
+  unfolding cut_facets_of split_by_blade carried
+  facets_on B R =
+      let S = fold (split_by_blade Triangles B) R (candidates B R.mesh) in
+      ap (λ (Q : Run). pick (empty (splits_of Q.log)) Q (split_pinched_of Triangles Q))
+      (fold_on (split_by_blade Triangles B) (λ Q v. sides_on Triangles v _ Q) R (candidates B R.mesh))
+      ∙ ap (λ (s : List (ℕ × ℕ)). pick (empty s) (on S) (split_pinched_of Triangles (on S))) (splits_on S)
+      ∙ by (empty (splits_of S.log)) S (pinched_on S)
     where
-      by : (b : Bool) (S : Run) → splitPinched Triangles (on S) ≡ on (splitPinched Triangles S) → pick b (on S) (splitPinched Triangles (on S)) ≡ on (pick b S (splitPinched Triangles S))
+      by : (b : Bool) (S : Run) → split_pinched_of Triangles (on S) ≡ on (split_pinched_of Triangles S) → pick b (on S) (split_pinched_of Triangles (on S)) ≡ on (pick b S (split_pinched_of Triangles S))
       by true S e = refl
       by false S e = e
 
   onward : Strapping → Strapping
   onward (strapping R marked snapped) = strapping (on R) marked snapped
 
-  crossed-on : (f : Float) (S : Strapping) (c : Crossing) → crossed f (onward S) c ≡ onward (crossed f S c)
-  unfolding crossed insertedAt snappedAt insertStep carried onward
-  crossed-on f (strapping R marked snapped) c = by (insertable f R.mesh c)
+  crossed_on : (f : Float) (S : Strapping) (c : Crossing) → crossed f (onward S) c ≡ onward (crossed f S c)
+  unfolding crossed inserted_at snapped_at insert_step carried onward
+  crossed_on f (strapping R marked snapped) c = by (insertable f R.mesh c)
     where
-      by : (b : Bool) → pick b (insertedAt f (on R) marked snapped c) (snappedAt (on R) marked snapped c) ≡ onward (pick b (insertedAt f R marked snapped c) (snappedAt R marked snapped c))
+      by : (b : Bool) → pick b (inserted_at f (on R) marked snapped c) (snapped_at (on R) marked snapped c) ≡ onward (pick b (inserted_at f R marked snapped c) (snapped_at R marked snapped c))
       by true =
-          let I = insertionOf f R.mesh c in
-          ap (λ (Q : Run). strapping Q (marked ++ bendsOver R.mesh I.edge.a I.edge.b) snapped) (step-on R _ _ _ _)
+          let I = insertion_of f R.mesh c in
+          ap (λ (Q : Run). strapping Q (marked ++ bends_over R.mesh I.edge.a I.edge.b) snapped) (step_on R _ _ _ _)
       by false = refl
 
-  crossings-on : (f : Float) (S : Strapping) (l : List Crossing) → fold (crossed f) (onward S) l ≡ onward (fold (crossed f) S l)
+  crossings_on : (f : Float) (S : Strapping) (l : List Crossing) → fold (crossed f) (onward S) l ≡ onward (fold (crossed f) S l)
   unfolding fold
-  crossings-on f S [] = refl
-  crossings-on f S (c ∷ l) = ap (λ (Q : Strapping). fold (crossed f) Q l) (crossed-on f S c) ∙ crossings-on f (crossed f S c) l
+  crossings_on f S [] = refl
+  crossings_on f S (c ∷ l) = ap (λ (Q : Strapping). fold (crossed f) Q l) (crossed_on f S c) ∙ crossings_on f (crossed f S c) l
 
-  unbent-on : (is : List ℕ) (R : Run) → unbent is (on R) ≡ on (unbent is R)
+  unbent_on : (is : List ℕ) (R : Run) → unbent is (on R) ≡ on (unbent is R)
   unfolding unbent carried
-  unbent-on [] R = refl
-  unbent-on (i ∷ is) R = step-on R _ _ _ _
+  unbent_on [] R = refl
+  unbent_on (i ∷ is) R = step_on R _ _ _ _
 
-  after_on : (B : Blade) (S : Strapping) → afterCrossings B (onward S) ≡ on (afterCrossings B S)
-  unfolding afterCrossings onward splitSnapped carried
+  after_on : (B : Blade) (S : Strapping) → after_crossings B (onward S) ≡ on (after_crossings B S)
+  unfolding after_crossings onward split_snapped_of carried
   after_on B (strapping R marked snapped) =
-      ap (λ (Q : Run). fold (splitSnapped B) Q (rising (length R.mesh.particles) snapped)) (unbent-on marked R)
-      ∙ fold_on (splitSnapped B) (λ Q v. split-on _ _ Straps _ Q) (unbent marked R) (rising (length R.mesh.particles) snapped)
+      ap (λ (Q : Run). fold (split_snapped_of B) Q (rising (length R.mesh.particles) snapped)) (unbent_on marked R)
+      ∙ fold_on (split_snapped_of B) (λ Q v. split_on _ _ Straps _ Q) (unbent marked R) (rising (length R.mesh.particles) snapped)
 
   -- a cut without marks of its own does not read those that are there
-  pub along-on : (k : Kind) (B : Blade) (f : Float) (R : Run) → cutAlong k B f (carried front marks R) ≡ carried front marks (cutAlong k B f R)
-  unfolding cutAlong cutSegments onward carried
-  along-on Triangles B f R = facets-on B R
-  along-on Straps B f R =
-      ap (afterCrossings (roundly B)) (crossings-on f (strapping R [] []) (crossings (roundly B) R.mesh)) ∙ after_on (roundly B) _
-  along-on Nothing B f R = refl
+  pub along_on : (k : Kind) (B : Blade) (f : Float) (R : Run) → cut_along k B f (carried front marks R) ≡ carried front marks (cut_along k B f R)
+  unfolding cut_along cut_segments_of onward carried
+  along_on Triangles B f R = facets_on B R
+  along_on Straps B f R =
+      ap (after_crossings (roundly B)) (crossings_on f (strapping R [] []) (crossings (roundly B) R.mesh)) ∙ after_on (roundly B) _
+  along_on Nothing B f R = refl
 
 -- ---- a whole cut, with its marks and without
 
@@ -254,51 +254,51 @@ bare M = record { mesh = M; log = []; needs = [] }
 unfoldable pub copying : Mesh → Need
 copying M = record { particles = length M.particles; edges = length M.edges; boundary = length M.boundary; log = 0 }
 
-begun-bare : (M : Mesh) → start M ≡ carried (copying M ∷ []) [] (bare M)
+begun_bare : (M : Mesh) → start M ≡ carried (copying M ∷ []) [] (bare M)
 unfolding start carried bare copying
-begun-bare M = refl
+begun_bare M = refl
 
-begun-marked : (k : Kind) (B : Blade) (M : Mesh) → markedBy k B (start M) ≡ carried (copying M ∷ later (length (marksOf k B M)) (copying M) ∷ []) (marksOf k B M) (bare M)
-unfolding start markedBy stepTo carried bare copying later
-begun-marked k B M =
-    let m = length (marksOf k B M) in
+begun_marked : (k : Kind) (B : Blade) (M : Mesh) → marked_by k B (start M) ≡ carried (copying M ∷ later (length (marks_of k B M)) (copying M) ∷ []) (marks_of k B M) (bare M)
+unfolding start marked_by step_to carried bare copying later
+begun_marked k B M =
+    let m = length (marks_of k B M) in
     let e : m ≡ m + 0 = omega arith in
-    run-path M (sym (append-nil (marksOf k B M)))
+    run_path M (sym (append-nil (marks_of k B M)))
     (ap (λ (z : ℕ). copying M ∷ record { particles = length M.particles; edges = length M.edges; boundary = length M.boundary; log = z } ∷ []) e)
 
 -- the run behind the copy, with neither marks nor the copy's need
 unfoldable pub tail : Kind → Blade → Float → Mesh → Run
-tail k B f M = cutAlong k B f (bare M)
+tail k B f M = cut_along k B f (bare M)
 
-along-is : (k : Kind) (B : Blade) (f : Float) (M : Mesh) → cutAlong k B f (start M) ≡ carried (copying M ∷ []) [] (tail k B f M)
-unfolding tail splitsOf each
-along-is k B f M = ap (cutAlong k B f) (begun-bare M) ∙ along-on (copying M ∷ []) [] refl k B f (bare M)
+along_is : (k : Kind) (B : Blade) (f : Float) (M : Mesh) → cut_along k B f (start M) ≡ carried (copying M ∷ []) [] (tail k B f M)
+unfolding tail splits_of each
+along_is k B f M = ap (cut_along k B f) (begun_bare M) ∙ along_on (copying M ∷ []) [] refl k B f (bare M)
 
 -- a cut is that run behind the copy and the marks
-pub cut-is : (k : Kind) (B : Blade) (f : Float) (M : Mesh) → cut k B f (start M) ≡ carried (copying M ∷ later (length (marksOf k B M)) (copying M) ∷ []) (marksOf k B M) (tail k B f M)
+pub cut_is : (k : Kind) (B : Blade) (f : Float) (M : Mesh) → cut k B f (start M) ≡ carried (copying M ∷ later (length (marks_of k B M)) (copying M) ∷ []) (marks_of k B M) (tail k B f M)
 unfolding cut tail
-cut-is k B f M = ap (cutAlong k B f) (begun-marked k B M) ∙ along-on (copying M ∷ later (length (marksOf k B M)) (copying M) ∷ []) (marksOf k B M) (marks-no-split k B M) k B f (bare M)
+cut_is k B f M = ap (cut_along k B f) (begun_marked k B M) ∙ along_on (copying M ∷ later (length (marks_of k B M)) (copying M) ∷ []) (marks_of k B M) (marks_no_split k B M) k B f (bare M)
 
-pub carried-changed : (front : List Need) (marks : List Entry) (R : Run) → any changes marks ≡ false → changed (carried front marks R) ≡ changed R
+pub carried_changed : (front : List Need) (marks : List Entry) (R : Run) → any changes marks ≡ false → changed (carried front marks R) ≡ changed R
 unfolding changed carried
-carried-changed front marks R none = any_append changes marks R.log ∙ ap (λ (b : Bool). b || any changes R.log) none
+carried_changed front marks R none = any_append changes marks R.log ∙ ap (λ (b : Bool). b || any changes R.log) none
 
 -- the mesh is that of the cut without marks, the log stands behind the marks, and they do not count as a change. (A refused cut leaves no mark: a refusal has no log, by the definition of `Outcome`.)
 pub record AsUnmarked (k : Kind) (B : Blade) (f : Float) (M : Mesh) : Type 0 where
-  pub mesh : (cut k B f (start M)).mesh ≡ (cutAlong k B f (start M)).mesh
-  pub log : (cut k B f (start M)).log ≡ marksOf k B M ++ (cutAlong k B f (start M)).log
-  pub changed : changed (cut k B f (start M)) ≡ changed (cutAlong k B f (start M))
+  pub mesh : (cut k B f (start M)).mesh ≡ (cut_along k B f (start M)).mesh
+  pub log : (cut k B f (start M)).log ≡ marks_of k B M ++ (cut_along k B f (start M)).log
+  pub changed : changed (cut k B f (start M)) ≡ changed (cut_along k B f (start M))
 
-pub as-unmarked : (k : Kind) (B : Blade) (f : Float) (M : Mesh) → AsUnmarked k B f M
+pub as_unmarked : (k : Kind) (B : Blade) (f : Float) (M : Mesh) → AsUnmarked k B f M
 unfolding carried any
-as-unmarked k B f M =
+as_unmarked k B f M =
     let T = tail k B f M in
-    let c = cut-is k B f M in
-    let a = along-is k B f M in
+    let c = cut_is k B f M in
+    let a = along_is k B f M in
     record {
       mesh = ap (λ (R : Run). R.mesh) c ∙ sym (ap (λ (R : Run). R.mesh) a);
-      log = ap (λ (R : Run). R.log) c ∙ ap (λ (l : List Entry). marksOf k B M ++ l) (sym (ap (λ (R : Run). R.log) a));
-      changed = ap changed c ∙ carried-changed (copying M ∷ later (length (marksOf k B M)) (copying M) ∷ []) (marksOf k B M) T (marks-no-change k B M) ∙ sym (ap changed a ∙ carried-changed (copying M ∷ []) [] T refl);
+      log = ap (λ (R : Run). R.log) c ∙ ap (λ (l : List Entry). marks_of k B M ++ l) (sym (ap (λ (R : Run). R.log) a));
+      changed = ap changed c ∙ carried_changed (copying M ∷ later (length (marks_of k B M)) (copying M) ∷ []) (marks_of k B M) T (marks_no_change k B M) ∙ sym (ap changed a ∙ carried_changed (copying M ∷ []) [] T refl);
     }
 
 -- ---- the room for the marks
@@ -308,36 +308,36 @@ unfoldable pub roomier : ℕ → Rooms → Rooms
 roomier m L = record { particles = L.particles; triangles = L.triangles; edges = L.edges; boundary = L.boundary; log = L.log + m }
 
 -- four tests in their order
-abbrev first-of : Bool → Bool → Bool → Bool → ℕ
-first-of p e b l = pick p 5 (pick e 6 (pick b 7 (pick l 8 0)))
+abbrev first_of_lem : Bool → Bool → Bool → Bool → ℕ
+first_of_lem p e b l = pick p 5 (pick e 6 (pick b 7 (pick l 8 0)))
 
-first-same : (p e b l l' : Bool) → (l ≡ false → l' ≡ false) → (first-of p e b l ≡ 8 → ⊥) → first-of p e b l' ≡ first-of p e b l
-first-same true e b l l' h n = refl
-first-same false true b l l' h n = refl
-first-same false false true l l' h n = refl
-first-same false false false true l' h n = absurd (n refl)
-first-same false false false false l' h n = ap (λ (x : Bool). pick x 8 0) (h refl)
+first_same : (p e b l l' : Bool) → (l ≡ false → l' ≡ false) → (first_of_lem p e b l ≡ 8 → ⊥) → first_of_lem p e b l' ≡ first_of_lem p e b l
+first_same true e b l l' h n = refl
+first_same false true b l l' h n = refl
+first_same false false true l l' h n = refl
+first_same false false false true l' h n = absurd (n refl)
+first_same false false false false l' h n = ap (λ (x : Bool). pick x 8 0) (h refl)
 
 -- a step that needed no more than the log's room needs no more than the larger one with the marks
-small_same : (L : Rooms) (m n : ℕ) (N : Need) → n ≤ m → (tooSmall L (later 0 N) ≡ 8 → ⊥) → tooSmall (roomier m L) (later n N) ≡ tooSmall L (later 0 N)
-unfolding tooSmall later roomier
+small_same : (L : Rooms) (m n : ℕ) (N : Need) → n ≤ m → (too_small L (later 0 N) ≡ 8 → ⊥) → too_small (roomier m L) (later n N) ≡ too_small L (later 0 N)
+unfolding too_small later roomier
 small_same L m n N u not8 =
-    first-same (ltb L.particles N.particles) (ltb L.edges N.edges) (ltb L.boundary N.boundary) (ltb L.log (0 + N.log)) (ltb (L.log + m) (n + N.log))
+    first_same (ltb L.particles N.particles) (ltb L.edges N.edges) (ltb L.boundary N.boundary) (ltb L.log (0 + N.log)) (ltb (L.log + m) (n + N.log))
     (λ e. let w = ltb-false L.log (0 + N.log) e in le-ltb (L.log + m) (n + N.log) (omega (arith, w))) not8
 
 -- the fault of a first step and of the rest
-fault-same : (t t' r r' : ℕ) → (pick (eqb t 0) r t ≡ 8 → ⊥) → ((t ≡ 8 → ⊥) → t' ≡ t) → ((r ≡ 8 → ⊥) → r' ≡ r) → pick (eqb t' 0) r' t' ≡ pick (eqb t 0) r t
-fault-same zero t' r r' not8 h k = ap₂ {C = ℕ} (λ (x y : ℕ). pick (eqb x 0) y x) (h (λ z. omega arith)) (k not8)
-fault-same (suc t) t' r r' not8 h k =
+fault_same : (t t' r r' : ℕ) → (pick (eqb t 0) r t ≡ 8 → ⊥) → ((t ≡ 8 → ⊥) → t' ≡ t) → ((r ≡ 8 → ⊥) → r' ≡ r) → pick (eqb t' 0) r' t' ≡ pick (eqb t 0) r t
+fault_same zero t' r r' not8 h k = ap₂ {C = ℕ} (λ (x y : ℕ). pick (eqb x 0) y x) (h (λ z. omega arith)) (k not8)
+fault_same (suc t) t' r r' not8 h k =
     let e = ne_eqb (suc t) 0 (λ d. omega arith) in
     ap (λ (x : ℕ). pick (eqb x 0) r' x) (h (λ z. not8 (ap (λ b. pick b r (suc t)) e ∙ z))) ∙ ap (λ b. pick b r' (suc t)) e ∙ sym (ap (λ b. pick b r (suc t)) e)
 
-faults-same : (L : Rooms) (m n : ℕ) → n ≤ m → (l : List Need) → (firstFault L (map (later 0) l) ≡ 8 → ⊥) → firstFault (roomier m L) (map (later n) l) ≡ firstFault L (map (later 0) l)
-unfolding firstFault
-faults-same L m n u [] not8 = refl
-faults-same L m n u (N ∷ l) not8 =
-    fault-same (tooSmall L (later 0 N)) (tooSmall (roomier m L) (later n N)) (firstFault L (map (later 0) l)) (firstFault (roomier m L) (map (later n) l)) not8
-    (small_same L m n N u) (faults-same L m n u l)
+faults_same : (L : Rooms) (m n : ℕ) → n ≤ m → (l : List Need) → (first_fault L (map (later 0) l) ≡ 8 → ⊥) → first_fault (roomier m L) (map (later n) l) ≡ first_fault L (map (later 0) l)
+unfolding first_fault
+faults_same L m n u [] not8 = refl
+faults_same L m n u (N ∷ l) not8 =
+    fault_same (too_small L (later 0 N)) (too_small (roomier m L) (later n N)) (first_fault L (map (later 0) l)) (first_fault (roomier m L) (map (later n) l)) not8
+    (small_same L m n N u) (faults_same L m n u l)
 
 twice : (t r : ℕ) → pick (eqb t 0) (pick (eqb t 0) r t) t ≡ pick (eqb t 0) r t
 twice zero r = refl
@@ -347,18 +347,18 @@ twice (suc t) r = ap (λ b. pick b (pick b r (suc t)) (suc t)) e ∙ sym (ap (λ
     e = ne_eqb (suc t) 0 (λ d. omega arith)
 
 -- No new refusal 8: with room for m more log entries a cut that finds at most m crossings is refused, and by the same number, only where the cut without marks was; unless that one was refused by 8.
-pub marks-fit : (k : Kind) (B : Blade) (f : Float) (M : Mesh) (L : Rooms) (m : ℕ) → length (marksOf k B M) ≤ m → (firstFault L (cutAlong k B f (start M)).needs ≡ 8 → ⊥)
-    → firstFault (roomier m L) (cut k B f (start M)).needs ≡ firstFault L (cutAlong k B f (start M)).needs
-unfolding carried later copying firstFault
-marks-fit k B f M L m u not8 =
-    let n = length (marksOf k B M) in
+pub marks_fit : (k : Kind) (B : Blade) (f : Float) (M : Mesh) (L : Rooms) (m : ℕ) → length (marks_of k B M) ≤ m → (first_fault L (cut_along k B f (start M)).needs ≡ 8 → ⊥)
+    → first_fault (roomier m L) (cut k B f (start M)).needs ≡ first_fault L (cut_along k B f (start M)).needs
+unfolding carried later copying first_fault
+marks_fit k B f M L m u not8 =
+    let n = length (marks_of k B M) in
     let T = tail k B f M in
     let l = copying M ∷ T.needs in
-    let t = tooSmall L (copying M) in
-    let r = firstFault L (map (later 0) T.needs) in
-    let a : firstFault L (cutAlong k B f (start M)).needs ≡ firstFault L (map (later 0) l) = ap (λ (R : Run). firstFault L R.needs) (along-is k B f M) in
-    let c : firstFault (roomier m L) (cut k B f (start M)).needs ≡ firstFault (roomier m L) (copying M ∷ map (later n) l) = ap (λ (R : Run). firstFault (roomier m L) R.needs) (cut-is k B f M) in
-    let not8' : firstFault L (map (later 0) l) ≡ 8 → ⊥ = λ z. not8 (a ∙ z) in
-    let first : tooSmall (roomier m L) (copying M) ≡ t = small_same L m 0 (copying M) (omega arith) (λ z. not8' (subst (λ (x : ℕ). pick (eqb x 0) r x ≡ 8) (sym z) refl)) in
-    let rest : firstFault (roomier m L) (map (later n) l) ≡ pick (eqb t 0) r t = faults-same L m n u l not8' in
+    let t = too_small L (copying M) in
+    let r = first_fault L (map (later 0) T.needs) in
+    let a : first_fault L (cut_along k B f (start M)).needs ≡ first_fault L (map (later 0) l) = ap (λ (R : Run). first_fault L R.needs) (along_is k B f M) in
+    let c : first_fault (roomier m L) (cut k B f (start M)).needs ≡ first_fault (roomier m L) (copying M ∷ map (later n) l) = ap (λ (R : Run). first_fault (roomier m L) R.needs) (cut_is k B f M) in
+    let not8' : first_fault L (map (later 0) l) ≡ 8 → ⊥ = λ z. not8 (a ∙ z) in
+    let first : too_small (roomier m L) (copying M) ≡ t = small_same L m 0 (copying M) (omega arith) (λ z. not8' (subst (λ (x : ℕ). pick (eqb x 0) r x ≡ 8) (sym z) refl)) in
+    let rest : first_fault (roomier m L) (map (later n) l) ≡ pick (eqb t 0) r t = faults_same L m n u l not8' in
     c ∙ ap₂ {C = ℕ} (λ (x y : ℕ). pick (eqb x 0) y x) first rest ∙ twice t r ∙ sym a

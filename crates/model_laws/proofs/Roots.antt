@@ -6,15 +6,15 @@ use lib.Dec.{T}
 use lib.Ieee.{Float, binary32, fits}
 use Rattle.float.specs.declared.root.Rooted.{Rooted}
 use Rattle.float.specs.declared.root.Rooted.TheVariants.{Value, Refused}
-use Rattle.float.specs.Root.{rootOf, rootRefusal}
-use Rattle.float.specs.Ranges.{finite?, notBelow0?}
-use Rattle.float.proofs.Computed.{root-refused}
-use Rattle.model.specs.Reads.{refusalIn, rooted, rootCall}
+use Rattle.float.specs.Root.{root_of, root_refusal}
+use Rattle.float.specs.Ranges.{finite?, not_below0?}
+use Rattle.float.proofs.Computed.{root_refused}
+use Rattle.model.specs.Reads.{refusal_in, rooted, root_call}
 
-number_is : (a : Rooted) → refusalIn (rooted a) ≡ rootRefusal a
+number_is : (a : Rooted) → refusal_in (rooted a) ≡ root_refusal a
 number_is (Value r) = refl
 number_is Refused = refl
 
 -- The call refuses, and with 4, exactly where x is a NaN, infinite or below zero. (Minus zero is not below zero.)
-pub root-called : (x : Float) → T (fits binary32 x) → refusalIn (rootCall x) ≡ cond (finite? x && notBelow0? x) 0 4
-root-called x h = number_is (rootOf x) ∙ root-refused x h
+pub root_called : (x : Float) → T (fits binary32 x) → refusal_in (root_call x) ≡ cond (finite? x && not_below0? x) 0 4
+root_called x h = number_is (root_of x) ∙ root_refused x h

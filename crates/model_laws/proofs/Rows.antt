@@ -8,23 +8,23 @@ use borrow.Author.Tests.{ltb-true, lt-ltb, ne_eqb, not-true}
 use lib.Dec.{ltb}
 use lib.ListN.{length, length-map, get_or}
 use Rattle.lists.specs.Lists.{stands}
-use Rattle.lists.proofs.Sifts.{and-true}
+use Rattle.lists.proofs.Sifts.{and_true}
 use Rattle.model.specs.Valid.{named}
 use Rattle.model.specs.Trace.{All, Different}
-use Rattle.model_laws.proofs.Laws.{both, stands-not}
+use Rattle.model_laws.proofs.Laws.{both, stands_not}
 
 -- ---- the test
 
-pub named-first : (n x : ℕ) (l : List ℕ) → named n (x ∷ l) ≡ true → (x < n) × (stands x l ≡ false) × (named n l ≡ true)
+pub named_first : (n x : ℕ) (l : List ℕ) → named n (x ∷ l) ≡ true → (x < n) × (stands x l ≡ false) × (named n l ≡ true)
 unfolding named
-named-first n x l e =
-    let p = and-true _ _ e in
-    let q = and-true _ _ p.0 in
+named_first n x l e =
+    let p = and_true _ _ e in
+    let q = and_true _ _ p.0 in
     (ltb-true x n q.0, not-true _ q.1, p.1)
 
-named-one : (n x : ℕ) (l : List ℕ) → x < n → stands x l ≡ false → named n l ≡ true → named n (x ∷ l) ≡ true
+named_one : (n x : ℕ) (l : List ℕ) → x < n → stands x l ≡ false → named n l ≡ true → named n (x ∷ l) ≡ true
 unfolding named
-named-one n x l u s e = both (ltb x n && not (stands x l)) (named n l) (both (ltb x n) (not (stands x l)) (lt-ltb x n u) (ap not s)) e
+named_one n x l u s e = both (ltb x n && not (stands x l)) (named n l) (both (ltb x n) (not (stands x l)) (lt-ltb x n u) (ap not s)) e
 
 not_there : (x y : ℕ) (l : List ℕ) → (y ≡ x → ⊥) → stands x l ≡ false → stands x (y ∷ l) ≡ false
 not_there x y l n s = rw (ne_eqb y x n) s
@@ -34,42 +34,42 @@ unfolding named
 none_named n = refl
 
 -- each lies below n
-pub named-below : (n : ℕ) (l : List ℕ) → named n l ≡ true → All (λ x. x < n) l
-named-below n [] e = tt
-named-below n (x ∷ l) e = let p = named-first n x l e in (p.0, named-below n l p.2)
+pub named_below : (n : ℕ) (l : List ℕ) → named n l ≡ true → All (λ x. x < n) l
+named_below n [] e = tt
+named_below n (x ∷ l) e = let p = named_first n x l e in (p.0, named_below n l p.2)
 
 -- and so does what stands at any place, or 0
-pub named-at : (n : ℕ) (l : List ℕ) → named n l ≡ true → (c : ℕ) → get_or l c 0 ≤ n
-named-at n [] e c = omega arith
-named-at n (x ∷ l) e zero = let p = named-first n x l e in omega (arith, p.0)
-named-at n (x ∷ l) e (suc c) = named-at n l (named-first n x l e).2 c
+pub named_at : (n : ℕ) (l : List ℕ) → named n l ≡ true → (c : ℕ) → get_or l c 0 ≤ n
+named_at n [] e c = omega arith
+named_at n (x ∷ l) e zero = let p = named_first n x l e in omega (arith, p.0)
+named_at n (x ∷ l) e (suc c) = named_at n l (named_first n x l e).2 c
 
 -- ---- a row put through a map that keeps its particles apart
 
 module _ (n m : ℕ) (f : ℕ → ℕ) (below : (c : ℕ) → c < n → f c < m) (apart : (c d : ℕ) → c < n → d < n → (c ≡ d → ⊥) → f c ≡ f d → ⊥) where
-  stands-mapped : (x : ℕ) → x < n → (l : List ℕ) → named n l ≡ true → stands x l ≡ false → stands (f x) (map f l) ≡ false
-  stands-mapped x h [] e s = refl
-  stands-mapped x h (y ∷ l) e s =
-      let p = named-first n y l e in
-      let q = stands-not x y l s in
-      not_there (f x) (f y) (map f l) (apart y x p.0 h q.0) (stands-mapped x h l p.2 q.1)
+  stands_mapped : (x : ℕ) → x < n → (l : List ℕ) → named n l ≡ true → stands x l ≡ false → stands (f x) (map f l) ≡ false
+  stands_mapped x h [] e s = refl
+  stands_mapped x h (y ∷ l) e s =
+      let p = named_first n y l e in
+      let q = stands_not x y l s in
+      not_there (f x) (f y) (map f l) (apart y x p.0 h q.0) (stands_mapped x h l p.2 q.1)
 
-  named-mapped : (l : List ℕ) → named n l ≡ true → named m (map f l) ≡ true
-  named-mapped [] e = none_named m
-  named-mapped (x ∷ l) e =
-      let p = named-first n x l e in
-      named-one m (f x) (map f l) (below x p.0) (stands-mapped x p.0 l p.2 p.1) (named-mapped l p.2)
+  named_mapped : (l : List ℕ) → named n l ≡ true → named m (map f l) ≡ true
+  named_mapped [] e = none_named m
+  named_mapped (x ∷ l) e =
+      let p = named_first n x l e in
+      named_one m (f x) (map f l) (below x p.0) (stands_mapped x p.0 l p.2 p.1) (named_mapped l p.2)
 
-  pub different-mapped : (w : ℕ) (l : List ℕ) → Different w n l → Different w m (map f l)
-  different-mapped w l D = record { many = length-map l f ∙ D.many; apart = named-mapped l D.apart }
+  pub different_mapped : (w : ℕ) (l : List ℕ) → Different w n l → Different w m (map f l)
+  different_mapped w l D = record { many = length-map l f ∙ D.many; apart = named_mapped l D.apart }
 
 -- among more particles
-named-wide : (n k : ℕ) (l : List ℕ) → named n l ≡ true → named (n + k) l ≡ true
-named-wide n k [] e = none_named (n + k)
-named-wide n k (x ∷ l) e = let p = named-first n x l e in named-one (n + k) x l (omega (arith, p.0)) p.1 (named-wide n k l p.2)
+named_wide : (n k : ℕ) (l : List ℕ) → named n l ≡ true → named (n + k) l ≡ true
+named_wide n k [] e = none_named (n + k)
+named_wide n k (x ∷ l) e = let p = named_first n x l e in named_one (n + k) x l (omega (arith, p.0)) p.1 (named_wide n k l p.2)
 
-pub different-wide : (w n k : ℕ) (l : List ℕ) → Different w n l → Different w (n + k) l
-different-wide w n k l D = record { many = D.many; apart = named-wide n k l D.apart }
+pub different_wide : (w n k : ℕ) (l : List ℕ) → Different w n l → Different w (n + k) l
+different_wide w n k l D = record { many = D.many; apart = named_wide n k l D.apart }
 
 -- ---- two and three
 
@@ -88,39 +88,39 @@ pub record Three (n x y z : ℕ) : Type 0 where
   pub bc : y ≡ z → ⊥
   pub ca : z ≡ x → ⊥
 
-pub pair-from : (n a b : ℕ) → named n (a ∷ b ∷ []) ≡ true → Pair n a b
-pair-from n a b e =
-    let p = named-first n a (b ∷ []) e in
-    let q = named-first n b [] p.2 in
-    let u = stands-not a b [] p.1 in
+pub pair_from : (n a b : ℕ) → named n (a ∷ b ∷ []) ≡ true → Pair n a b
+pair_from n a b e =
+    let p = named_first n a (b ∷ []) e in
+    let q = named_first n b [] p.2 in
+    let u = stands_not a b [] p.1 in
     record { first = p.0; second = q.0; differ = λ d. u.0 (sym d) }
 
-pub pair-to : (n a b : ℕ) → Pair n a b → named n (a ∷ b ∷ []) ≡ true
-pair-to n a b P = named-one n a (b ∷ []) P.first (not_there a b [] (λ d. P.differ (sym d)) refl) (named-one n b [] P.second refl (none_named n))
+pub pair_to : (n a b : ℕ) → Pair n a b → named n (a ∷ b ∷ []) ≡ true
+pair_to n a b P = named_one n a (b ∷ []) P.first (not_there a b [] (λ d. P.differ (sym d)) refl) (named_one n b [] P.second refl (none_named n))
 
-pub three-from : (n a b c : ℕ) → named n (a ∷ b ∷ c ∷ []) ≡ true → Three n a b c
-three-from n a b c e =
-    let p = named-first n a (b ∷ c ∷ []) e in
-    let q = pair-from n b c p.2 in
-    let u = stands-not a b (c ∷ []) p.1 in
-    let w = stands-not a c [] u.1 in
+pub three_from : (n a b c : ℕ) → named n (a ∷ b ∷ c ∷ []) ≡ true → Three n a b c
+three_from n a b c e =
+    let p = named_first n a (b ∷ c ∷ []) e in
+    let q = pair_from n b c p.2 in
+    let u = stands_not a b (c ∷ []) p.1 in
+    let w = stands_not a c [] u.1 in
     record { a = p.0; b = q.first; c = q.second; ab = λ d. u.0 (sym d); bc = q.differ; ca = w.0 }
 
-pub three-to : (n a b c : ℕ) → Three n a b c → named n (a ∷ b ∷ c ∷ []) ≡ true
-three-to n a b c T =
-    named-one n a (b ∷ c ∷ []) T.a (not_there a b (c ∷ []) (λ d. T.ab (sym d)) (not_there a c [] T.ca refl))
-    (pair-to n b c (record { first = T.b; second = T.c; differ = T.bc }))
+pub three_to : (n a b c : ℕ) → Three n a b c → named n (a ∷ b ∷ c ∷ []) ≡ true
+three_to n a b c T =
+    named_one n a (b ∷ c ∷ []) T.a (not_there a b (c ∷ []) (λ d. T.ab (sym d)) (not_there a c [] T.ca refl))
+    (pair_to n b c (record { first = T.b; second = T.c; differ = T.bc }))
 
 -- a row of two, and of three, is one of its corners
-pub two-are : (l : List ℕ) → length l ≡ 2 → l ≡ get_or l 0 0 ∷ get_or l 1 0 ∷ []
-two-are [] e = absurd (omega (arith, e))
-two-are (a ∷ []) e = absurd (omega (arith, e))
-two-are (a ∷ b ∷ []) e = refl
-two-are (a ∷ b ∷ c ∷ l) e = absurd (omega (arith, e))
+pub two_are : (l : List ℕ) → length l ≡ 2 → l ≡ get_or l 0 0 ∷ get_or l 1 0 ∷ []
+two_are [] e = absurd (omega (arith, e))
+two_are (a ∷ []) e = absurd (omega (arith, e))
+two_are (a ∷ b ∷ []) e = refl
+two_are (a ∷ b ∷ c ∷ l) e = absurd (omega (arith, e))
 
-pub three-are : (l : List ℕ) → length l ≡ 3 → l ≡ get_or l 0 0 ∷ get_or l 1 0 ∷ get_or l 2 0 ∷ []
-three-are [] e = absurd (omega (arith, e))
-three-are (a ∷ []) e = absurd (omega (arith, e))
-three-are (a ∷ b ∷ []) e = absurd (omega (arith, e))
-three-are (a ∷ b ∷ c ∷ []) e = refl
-three-are (a ∷ b ∷ c ∷ d ∷ l) e = absurd (omega (arith, e))
+pub three_are : (l : List ℕ) → length l ≡ 3 → l ≡ get_or l 0 0 ∷ get_or l 1 0 ∷ get_or l 2 0 ∷ []
+three_are [] e = absurd (omega (arith, e))
+three_are (a ∷ []) e = absurd (omega (arith, e))
+three_are (a ∷ b ∷ []) e = absurd (omega (arith, e))
+three_are (a ∷ b ∷ c ∷ []) e = refl
+three_are (a ∷ b ∷ c ∷ d ∷ l) e = absurd (omega (arith, e))

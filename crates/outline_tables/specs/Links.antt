@@ -6,12 +6,12 @@ use Rattle.outline.specs.Outline.{holds}
 use Rattle.outline_tables.specs.Rows.{row3, Even}
 
 -- the chain of a place: the last ten bits of its corner's name
-unfoldable pub chainAt : List ℕ → List ℕ → List ℕ → ℕ → ℕ
-chainAt a b c q = get_or (row3 a b c (q / 3)) (q % 3) 0 % 1024
+unfoldable pub chain_at : List ℕ → List ℕ → List ℕ → ℕ → ℕ
+chain_at a b c q = get_or (row3 a b c (q / 3)) (q % 3) 0 % 1024
 
 -- how many of the first m triangles hold both x and y
-unfoldable pub heldTo : List ℕ → List ℕ → List ℕ → ℕ → ℕ → ℕ → ℕ
-heldTo a b c x y m = length (sift (holds (x ∷ y ∷ [])) (tab m (row3 a b c)))
+unfoldable pub held_to : List ℕ → List ℕ → List ℕ → ℕ → ℕ → ℕ → ℕ
+held_to a b c x y m = length (sift (holds (x ∷ y ∷ [])) (tab m (row3 a b c)))
 
 -- e is 1 more than the last place before b that is in chain k, and 0 where none is
 pub record LastBefore (chain : ℕ → ℕ) (k b e : ℕ) : Type 0 where
@@ -33,9 +33,9 @@ pub record LinkRoom (a b c q : ℕ) (heads : List ℕ) (links : ℕ) (sizes : Li
   pub even : Even a b c
   pub inside : q ≤ 3 * a
   pub few : q ≤ 3072
-  pub heads-long : length heads ≡ 1024
-  pub links-long : links ≡ 3072
-  pub sizes-long : length sizes ≡ 1024
+  pub heads_long : length heads ≡ 1024
+  pub links_long : links ≡ 3072
+  pub sizes_long : length sizes ≡ 1024
   pub none : (k : ℕ) → get_or heads k 0 ≡ 0
   pub empty : Sized sizes 0
 
@@ -44,6 +44,6 @@ pub record Linked (a b c : List ℕ) (m : ℕ) (heads links : List ℕ) : Type 0
   pub even : Even (length a) (length b) (length c)
   pub inside : m ≤ length a
   pub few : m ≤ 1024
-  pub heads-long : length heads ≡ 1024
-  pub links-long : length links ≡ 3072
-  pub chained : Chained (chainAt a b c) heads links (3 * m)
+  pub heads_long : length heads ≡ 1024
+  pub links_long : length links ≡ 3072
+  pub chained : Chained (chain_at a b c) heads links (3 * m)

@@ -4,7 +4,7 @@ ghost use Rattle.std.specs.Prelude.{◌≡◌, false, [], ◌∷◌, ◌*◌, �
 ghost use Rattle.lists.specs.Lists.{pick};
 ghost use Rattle.outline.specs.Outline.{holds};
 ghost use Rattle.outline_tables.specs.Rows.{row3, Even};
-ghost use Rattle.outline_tables.specs.Links.{chainAt, heldTo, Chained, LinkRoom, Linked};
+ghost use Rattle.outline_tables.specs.Links.{chain_at, held_to, Chained, LinkRoom, Linked};
 
 // The same number in more bits.
 fn wide(x: u16) -> usize
@@ -16,7 +16,7 @@ fn wide(x: u16) -> usize
 // The chain of place q.
 fn chain_of(q: usize, a: &[usize], b: &[usize], c: &[usize]) -> usize
     requires { Even (length a.now) (length b.now) (length c.now) × (q < 3 * length a.now) }
-    ensures { result ≡ chainAt a.now b.now c.now q }
+    ensures { result ≡ chain_at a.now b.now c.now q }
 {
     let i = q / 3;
     let corner = q % 3;
@@ -41,7 +41,7 @@ pub fn link_corners(
     sizes: &mut [u16],
 )
     requires { LinkRoom (length a.now) (length b.now) (length c.now) q heads.old (length links.old) sizes.old }
-    ensures { Chained (chainAt a.now b.now c.now) heads.new links.new q }
+    ensures { Chained (chain_at a.now b.now c.now) heads.new links.new q }
 {
     let mut t: usize = 0;
     while t < q {
@@ -85,7 +85,7 @@ fn holders_along(
     links: &[u16],
 ) -> usize
     requires { Linked a.now b.now c.now m heads.now links.now }
-    ensures { result ≡ min 2 (heldTo a.now b.now c.now x y m) }
+    ensures { result ≡ min 2 (held_to a.now b.now c.now x y m) }
 {
     let mut n: usize = 0;
     let mut t = m;
@@ -118,7 +118,7 @@ pub fn side_holders(
     sizes: &[u16],
 ) -> usize
     requires { Linked a.now b.now c.now m heads.now links.now × (length sizes.now ≡ 1024) }
-    ensures { result ≡ min 2 (heldTo a.now b.now c.now x y m) }
+    ensures { result ≡ min 2 (held_to a.now b.now c.now x y m) }
 {
     if sizes[y % 1024] < sizes[x % 1024] {
         return holders_along(y, x, m, a, b, c, heads, links);

@@ -5,8 +5,8 @@ mod chains;
 
 ghost use Rattle.std.specs.Prelude.{◌≡◌, ◌&&◌, List, [], ◌∷◌, ◌++◌, ℕ, ◌+◌, ◌/◌, ◌^◌, ◌<◌, ◌≤◌, length, eqb};
 ghost use Rattle.lists.specs.Lists.{pick, stands, any, sift};
-ghost use Rattle.outline.specs.Outline.{holds, facesOf, single, same_pair, within, sameSides, settled, outlineOfTriangles, outlineOfStraps, outlineOf};
-ghost use Rattle.outline_tables.specs.Rows.{rows3, row3, sidesAt, Even, Added, Listed, Held, SettledBy};
+ghost use Rattle.outline.specs.Outline.{holds, faces_of, single, same_pair, within, same_sides_of, settled, outline_of_triangles, outline_of_straps, outline_of};
+ghost use Rattle.outline_tables.specs.Rows.{rows3, row3, sides_at, Even, Added, Listed, Held, SettledBy};
 ghost use Rattle.outline_tables.specs.Links.{Linked};
 
 // How many sides an outline has now, and whether it was replaced.
@@ -98,7 +98,7 @@ fn add_faces(
     requires { Linked a.now b.now c.now m heads.now links.now × (length sizes.now ≡ 1024) × (i < length a.now)
         × (n < 2 ^ 30) }
     ensures { Added (sift (single (rows3 a.now b.now c.now))
-        (facesOf (row3 a.now b.now c.now i))) outline.old outline.new n result }
+        (faces_of (row3 a.now b.now c.now i))) outline.old outline.new n result }
 {
     let x = a[i];
     let y = b[i];
@@ -121,7 +121,7 @@ fn at_most(n: usize, most: usize) -> usize
 // Lists the outline of triangles, and returns how many sides it has. A block without room for them is left with some.
 pub fn outline_triangles(a: &[usize], b: &[usize], c: &[usize], outline: &mut [usize]) -> usize
     requires { Even (length a.now) (length b.now) (length c.now) }
-    ensures { Listed (outlineOfTriangles (rows3 a.now b.now c.now)) outline.new result }
+    ensures { Listed (outline_of_triangles (rows3 a.now b.now c.now)) outline.new result }
 {
     let mut heads = [0u16; 1024];
     let mut links = [0u16; 3072];
@@ -140,7 +140,7 @@ pub fn outline_triangles(a: &[usize], b: &[usize], c: &[usize], outline: &mut [u
 // Lists the structural edges, and returns how many there are.
 pub fn outline_straps(a: &[usize], b: &[usize], c: &[usize], outline: &mut [usize]) -> usize
     requires { Even (length a.now) (length b.now) (length c.now) }
-    ensures { Listed (outlineOfStraps (rows3 a.now b.now c.now)) outline.new result }
+    ensures { Listed (outline_of_straps (rows3 a.now b.now c.now)) outline.new result }
 {
     let mut n: usize = 0;
     let mut i: usize = 0;
@@ -163,7 +163,7 @@ pub fn list_outline(
 ) -> usize
     requires { Even (length t0.now) (length t1.now) (length t2.now)
         × Even (length e0.now) (length e1.now) (length structural.now) }
-    ensures { Listed (outlineOf (rows3 t0.now t1.now t2.now)
+    ensures { Listed (outline_of (rows3 t0.now t1.now t2.now)
         (rows3 e0.now e1.now structural.now)) outline.new result }
 {
     if t0.len() == 0 {
@@ -192,7 +192,7 @@ fn same_pair(x: usize, y: usize, u: usize, v: usize) -> bool
 // Whether the pair (x, y) is among the first m sides of a block.
 fn among(x: usize, y: usize, q: &[usize], m: usize) -> bool
     requires { m ≤ length q.now / 2 }
-    ensures { result ≡ any (same_pair (x ∷ y ∷ [])) (sidesAt m q.now) }
+    ensures { result ≡ any (same_pair (x ∷ y ∷ [])) (sides_at m q.now) }
 {
     let o = q.len() / 2;
     let mut i: usize = 0;
@@ -208,7 +208,7 @@ fn among(x: usize, y: usize, q: &[usize], m: usize) -> bool
 // Whether each of the first n sides of the one block is among the first m of the other.
 fn all_among(p: &[usize], n: usize, q: &[usize], m: usize) -> bool
     requires { Held n (length p.now) m (length q.now) }
-    ensures { result ≡ within (sidesAt n p.now) (sidesAt m q.now) }
+    ensures { result ≡ within (sides_at n p.now) (sides_at m q.now) }
 {
     let o = p.len() / 2;
     let mut i: usize = 0;
@@ -225,7 +225,7 @@ fn all_among(p: &[usize], n: usize, q: &[usize], m: usize) -> bool
 // Whether n sides of the one block and m of the other are the same set of pairs. Order, direction and repeats do not count.
 pub fn same_sides(p: &[usize], n: usize, q: &[usize], m: usize) -> bool
     requires { Held n (length p.now) m (length q.now) }
-    ensures { result ≡ sameSides (sidesAt n p.now) (sidesAt m q.now) }
+    ensures { result ≡ same_sides_of (sides_at n p.now) (sides_at m q.now) }
 {
     if all_among(p, n, q, m) {
         all_among(q, m, p, n)
@@ -237,7 +237,7 @@ pub fn same_sides(p: &[usize], n: usize, q: &[usize], m: usize) -> bool
 // Copies m sides to the front of another block.
 pub fn copy_sides(own: &[usize], m: usize, outline: &mut [usize])
     requires { Held m (length own.now) m (length outline.old) × (m < 2 ^ 32) }
-    ensures { sidesAt m outline.new ≡ sidesAt m own.now }
+    ensures { sides_at m outline.new ≡ sides_at m own.now }
 {
     let o = own.len() / 2;
     let mut i: usize = 0;
@@ -249,7 +249,7 @@ pub fn copy_sides(own: &[usize], m: usize, outline: &mut [usize])
 // Settles a typed outline, n sides of a block, by the own one, m sides of another: it stays where it is the same set, else the own one takes its place.
 pub fn settle(own: &[usize], m: usize, n: usize, outline: &mut [usize]) -> Settled
     requires { Held n (length outline.old) m (length own.now) × (m ≤ length outline.old / 2) × (m < 2 ^ 32) }
-    ensures { SettledBy (sidesAt n outline.old) (sidesAt m own.now) outline.new result }
+    ensures { SettledBy (sides_at n outline.old) (sides_at m own.now) outline.new result }
 {
     if same_sides(outline, n, own, m) {
         return Settled {

@@ -18,12 +18,12 @@ JobAsked (Cut n b0 b1 f) ls M = Unit {0}
 JobAsked (Crack min) ls M = Unit {0}
 
 -- do the marks by a rule tell of all that a cut would meet: straps are cut by rounded numbers alone, so those of another rule do not
-abbrev pub marksTell : Rule → Kind → Bool
-marksTell r Triangles = true
-marksTell Rounded Straps = true
-marksTell Signs Straps = false
-marksTell r Nothing = true
+abbrev pub marks_tell_of : Rule → Kind → Bool
+marks_tell_of r Triangles = true
+marks_tell_of Rounded Straps = true
+marks_tell_of Signs Straps = false
+marks_tell_of r Nothing = true
 
 -- the blade passes by, where they do and a log that has them is empty
 abbrev pub passed_by : Rule → Kind → ℕ → Bool
-passed_by r K n = eqb n 0 && marksTell r K
+passed_by r K n = eqb n 0 && marks_tell_of r K

@@ -2,20 +2,20 @@
 ghost use Rattle.std.specs.Prelude.{[], ◌≤◌, length, ◌≡◌};
 ghost use Rattle.model.specs.Elements.{kind_of};
 ghost use Rattle.model.specs.Cut.{cut};
-ghost use Rattle.elements.specs.Table.{kindIs};
-ghost use Rattle.marks.specs.Marking.{bladeBy};
-ghost use Rattle.mesh.specs.Given.{meshOf, sizes, sizesFit, asRooms};
+ghost use Rattle.elements.specs.Table.{kind_is};
+ghost use Rattle.marks.specs.Marking.{blade_by};
+ghost use Rattle.mesh.specs.Given.{mesh_of, sizes, sizes_fit_of, as_rooms};
 ghost use Rattle.mesh.specs.Filled.{lent};
 ghost use Rattle.work.specs.Working.{Roomed, Logged};
 ghost use Rattle.call_frame.specs.Framed.{RoomsLent, Begun, Came};
-ghost use Rattle.mesh_calls.specs.Jobs.{jobRefusal, ruleIn, jobRun, jobCall};
-ghost use Rattle.perform.specs.Asks.{JobAsked, marksTell, passed_by};
-ghost use Rattle.mesh.specs.Blocks.{meshIn, meshBehind, lentIn, givenBefore, blocksIn};
+ghost use Rattle.mesh_calls.specs.Jobs.{job_refusal, rule_in_of, job_run, job_call};
+ghost use Rattle.perform.specs.Asks.{JobAsked, marks_tell_of, passed_by};
+ghost use Rattle.mesh.specs.Blocks.{mesh_in, mesh_behind, lent_in, given_before, blocks_in};
 ghost use Rattle.work.specs.Blocks.{ReadyIn, WorksIn};
 ghost use Rattle.edge_drops.specs.Parted.{PartsIn};
 ghost use Rattle.split.specs.Blocks.{ListIn};
-ghost use Rattle.mesh.specs.At.{meshAt};
-ghost use Rattle.mesh.specs.Log.{worldAt};
+ghost use Rattle.mesh.specs.At.{mesh_at};
+ghost use Rattle.mesh.specs.Log.{world_at};
 
 use blade::Point;
 use elements::Kind;
@@ -44,9 +44,9 @@ pub fn begin(
     lengths: &mut [f32],
     outline: &mut [usize],
 ) -> usize
-    requires { RoomsLent room (blocksIn points roots corners volumes ends lengths outline) }
-    ensures { let G = givenBefore in_points in_roots in_corners in_volumes in_ends in_lengths in_outline in
-        Begun (jobRefusal job list.now (sizesFit G) (meshOf G) (asRooms room)) room (meshOf G) (meshBehind
+    requires { RoomsLent room (blocks_in points roots corners volumes ends lengths outline) }
+    ensures { let G = given_before in_points in_roots in_corners in_volumes in_ends in_lengths in_outline in
+        Begun (job_refusal job list.now (sizes_fit_of G) (mesh_of G) (as_rooms room)) room (mesh_of G) (mesh_behind
         (sizes G) points roots corners volumes ends lengths outline) result }
 {
     let code = checks::judge(
@@ -61,7 +61,7 @@ pub fn begin(
 
 // The rule of an edition.
 fn rule_in(edition: usize) -> Rule
-    ensures { result ≡ ruleIn edition }
+    ensures { result ≡ rule_in_of edition }
 {
     if edition == 2 {
         return Rule::Signs;
@@ -71,7 +71,7 @@ fn rule_in(edition: usize) -> Rule
 
 // Do the marks by a rule tell of all that a cut would meet? Straps are cut by rounded numbers alone.
 fn marks_tell(rule: Rule, kind: Kind) -> bool
-    ensures { result ≡ marksTell rule kind }
+    ensures { result ≡ marks_tell_of rule kind }
 {
     match kind {
         Kind::Triangles => true,
@@ -113,7 +113,7 @@ fn cut_marked(
     list: &mut [usize],
 ) -> Ran
     requires { ReadyIn room k points roots corners volumes ends lengths outline log × Logged k.log log.old × ListIn list }
-    ensures { WorksIn (cut (kindIs kind) (bladeBy rule b0 b1) f) room k points roots corners volumes ends lengths outline log result }
+    ensures { WorksIn (cut (kind_is kind) (blade_by rule b0 b1) f) room k points roots corners volumes ends lengths outline log result }
 {
     let ran = crossmarks::note_crossings(
         rule, kind, b0, b1, k, room, points, roots, corners, volumes, ends, lengths, outline, log,
@@ -147,8 +147,8 @@ pub fn work(
     gone: &mut [usize],
 ) -> Ran
     requires { ReadyIn room k points roots corners volumes ends lengths outline log × Logged k.log log.old
-        × JobAsked job list.now (meshIn k points roots corners volumes ends lengths outline) × (2049 ≤ length gone.old) }
-    ensures { PartsIn (jobRun job list.now (kind_of (meshAt k points.old roots.old corners.old volumes.now ends.old lengths.old outline.old))) room
+        × JobAsked job list.now (mesh_in k points roots corners volumes ends lengths outline) × (2049 ≤ length gone.old) }
+    ensures { PartsIn (job_run job list.now (kind_of (mesh_at k points.old roots.old corners.old volumes.now ends.old lengths.old outline.old))) room
         k points roots corners volumes ends lengths outline log gone result }
 {
     gone[edge_drops::LISTED] = 0;
@@ -212,10 +212,10 @@ pub fn run(
     outline: &mut [usize],
     log: &mut [u32],
 ) -> Ran
-    requires { Roomed room (lentIn points roots corners volumes ends lengths outline log) }
-    ensures { let G = givenBefore in_points in_roots in_corners in_volumes in_ends in_lengths in_outline in
-        Came (jobCall job list.now (sizesFit G) (meshOf G) (asRooms room)) room
-        (λ k. worldAt k points.new roots.new corners.new volumes.new ends.new lengths.new outline.new log.new) result }
+    requires { Roomed room (lent_in points roots corners volumes ends lengths outline log) }
+    ensures { let G = given_before in_points in_roots in_corners in_volumes in_ends in_lengths in_outline in
+        Came (job_call job list.now (sizes_fit_of G) (mesh_of G) (as_rooms room)) room
+        (λ k. world_at k points.new roots.new corners.new volumes.new ends.new lengths.new outline.new log.new) result }
 {
     let code = begin(
         job, list, room, in_points, in_roots, in_corners, in_volumes, in_ends, in_lengths,

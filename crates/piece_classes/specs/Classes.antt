@@ -5,7 +5,7 @@ use Rattle.lists.specs.Lists.{stands, any}
 use Rattle.lists.specs.Chain.{Chain}
 use Rattle.fan.specs.Fan.{Distinct}
 use Rattle.model.specs.Elements.{Element}
-use Rattle.model.specs.Pieces.{cornersAt}
+use Rattle.model.specs.Pieces.{corners_at}
 
 -- Numbers below n that stand for the classes of R: no chain joins two of them, and one joins each number below n to one of them.
 pub record Classes (R : ℕ → ℕ → Type 0) (n : ℕ) (reps : List ℕ) : Type 0 where
@@ -15,7 +15,7 @@ pub record Classes (R : ℕ → ℕ → Type 0) (n : ℕ) (reps : List ℕ) : Ty
 
 -- element number i of a list holds particle x
 abbrev pub Holds : List Element → ℕ → ℕ → Type 0
-Holds es i x = (i < length es) × (stands x (cornersAt es i) ≡ true)
+Holds es i x = (i < length es) × (stands x (corners_at es i) ≡ true)
 
 -- ---- pieces
 
@@ -26,8 +26,8 @@ pub record Share (k : ℕ) (es : List Element) (i j : ℕ) : Type 0 where
   pub particles : List ℕ
   pub differ : Distinct particles
   pub enough : k - 1 ≤ length particles
-  pub in-first : (x : ℕ) → stands x particles ≡ true → stands x (cornersAt es i) ≡ true
-  pub in-second : (x : ℕ) → stands x particles ≡ true → stands x (cornersAt es j) ≡ true
+  pub in_first : (x : ℕ) → stands x particles ≡ true → stands x (corners_at es i) ≡ true
+  pub in_second : (x : ℕ) → stands x particles ≡ true → stands x (corners_at es j) ≡ true
 
 -- elements that stand for the pieces of a list of elements with k corners each
 abbrev pub Pieces : ℕ → List Element → List ℕ → Type 0
@@ -38,22 +38,22 @@ Pieces k es reps = Classes (Share k es) (length es) reps
 -- two elements share a particle
 pub record ShareOne (es : List Element) (i j : ℕ) : Type 0 where
   pub particle : ℕ
-  pub in-first : Holds es i particle
-  pub in-second : Holds es j particle
+  pub in_first : Holds es i particle
+  pub in_second : Holds es j particle
 
 -- elements that stand for the bodies
 abbrev pub Bodies : List Element → List ℕ → Type 0
 Bodies es reps = Classes (ShareOne es) (length es) reps
 
 -- some element holds x
-unfoldable pub heldBy : List Element → ℕ → Bool
-heldBy es x = any (λ (e : Element). stands x e.corners) es
+unfoldable pub held_by : List Element → ℕ → Bool
+held_by es x = any (λ (e : Element). stands x e.corners) es
 
 -- some element holds both x and y
 pub record Together (es : List Element) (x y : ℕ) : Type 0 where
   pub element : ℕ
-  pub holds-first : Holds es element x
-  pub holds-second : Holds es element y
+  pub holds_first : Holds es element x
+  pub holds_second : Holds es element y
 
 -- ---- corners
 
@@ -74,11 +74,11 @@ SameCorners a b = (x : ℕ) → stands x a ≡ stands x b
 
 -- each element of the one list has one in the other with the same particles
 abbrev pub FoundIn : List Element → List Element → Type 0
-FoundIn es fs = (i : ℕ) → i < length es → (j : ℕ) × ((j < length fs) × SameCorners (cornersAt es i) (cornersAt fs j))
+FoundIn es fs = (i : ℕ) → i < length es → (j : ℕ) × ((j < length fs) × SameCorners (corners_at es i) (corners_at fs j))
 
 -- each element has k corners
 abbrev pub Whole : ℕ → List Element → Type 0
-Whole k es = (i : ℕ) → i < length es → length (cornersAt es i) ≡ k
+Whole k es = (i : ℕ) → i < length es → length (corners_at es i) ≡ k
 
 -- the same elements: in whatever order, and each with its corners in whatever order
 pub record SameElements (es fs : List Element) : Type 0 where

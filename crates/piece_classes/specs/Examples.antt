@@ -6,7 +6,7 @@ use Rattle.model.specs.Mesh.{Particle, Triangle, Edge, Mesh}
 use Rattle.model.specs.Pieces.{pieces, bodies}
 use Rattle.model.specs.Run.{Entry}
 use Rattle.model.specs.Calls.{Outcome, refused, done}
-use Rattle.model.specs.Starred.{point, free, triangle, listingMesh}
+use Rattle.model.specs.Starred.{point, free, triangle, listing_mesh}
 
 -- so many bodies, and so many pieces
 abbrev pub counts : Mesh → ℕ × ℕ
@@ -14,37 +14,37 @@ counts M = (bodies M, pieces M)
 
 -- what is said of a cut: the log, how many particles, bodies and pieces; a refusal's number
 pub data Said : Type 0 where
-  no-mesh : ℕ → Said
+  no_mesh : ℕ → Said
   said : List Entry → ℕ → ℕ × ℕ → Said
 
-abbrev pub toldOf : Outcome → Said
-toldOf (refused n) = no-mesh n
-toldOf (done M l c) = said l (length M.particles) (counts M)
+abbrev pub told_of : Outcome → Said
+told_of (refused n) = no_mesh n
+told_of (done M l c) = said l (length M.particles) (counts M)
 
 -- a particle that is pinned
 abbrev pub pinned : ℕ → Point → Particle
-pinned n p = record { x = p.x; y = p.y; rest-x = p.x; rest-y = p.y; mass = one; inv = zero32; velocity-x = zero32; velocity-y = zero32; root = n; damaged = 0 }
+pinned n p = record { x = p.x; y = p.y; rest_x = p.x; rest_y = p.y; mass = one; inv = zero32; velocity_x = zero32; velocity_y = zero32; root = n; damaged = 0 }
 
 -- the worked listing's mesh with other particles 0 and 2
-abbrev pub sheetWith : Particle → Particle → Mesh
-sheetWith p q =
+abbrev pub sheet_with : Particle → Particle → Mesh
+sheet_with p q =
     record {
       particles = p ∷ free 1 (point (pos 4) (pos 0)) ∷ q ∷ free 3 (point (pos 0) (pos 4)) ∷ [];
-      triangles = listingMesh.triangles;
-      edges = listingMesh.edges;
-      boundary = listingMesh.boundary;
+      triangles = listing_mesh.triangles;
+      edges = listing_mesh.edges;
+      boundary = listing_mesh.boundary;
     }
 
 -- with particle 0 pinned, and with 0 and 2
-abbrev pub onePin : Mesh
-onePin = sheetWith (pinned 0 (point (pos 0) (pos 0))) (free 2 (point (pos 4) (pos 4)))
+abbrev pub one_pin : Mesh
+one_pin = sheet_with (pinned 0 (point (pos 0) (pos 0))) (free 2 (point (pos 4) (pos 4)))
 
-abbrev pub twoPins : Mesh
-twoPins = sheetWith (pinned 0 (point (pos 0) (pos 0))) (pinned 2 (point (pos 4) (pos 4)))
+abbrev pub two_pins : Mesh
+two_pins = sheet_with (pinned 0 (point (pos 0) (pos 0))) (pinned 2 (point (pos 4) (pos 4)))
 
 -- the letter's sheet: a square of two triangles that meet on its diagonal, pinned at one end of it
-abbrev pub letterMesh : Mesh
-letterMesh =
+abbrev pub letter_mesh : Mesh
+letter_mesh =
     record {
       particles =
           pinned 0 (point (pos 0) (pos 0)) ∷ free 1 (point (pos 1) (pos 0)) ∷ free 2 (point (pos 1) (pos 1)) ∷ free 3 (point (pos 0) (pos 1)) ∷ [];

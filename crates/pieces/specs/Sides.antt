@@ -47,11 +47,11 @@ pub record Sought (low e : ℕ) (links lows : List ℕ) : Type 0 where
   pub f : ℕ → ℕ
   pub g : ℕ → ℕ
   pub t : ℕ
-  pub is-low : low ≡ f t
+  pub is_low : low ≡ f t
   pub start : LastIn f g (3 * f t + g t) t e
   pub filed : Filed f g links lows t
-  pub links-long : t ≤ length links
-  pub lows-long : t ≤ length lows
+  pub links_long : t ≤ length links
+  pub lows_long : t ≤ length lows
 
 -- r is 1 more than the last place before t that has its facet, and 0 where none has
 pub record FacetFound (f g : ℕ → ℕ) (t r : ℕ) : Type 0 where
@@ -89,17 +89,17 @@ pub record SideRoom (n k : ℕ) (verts : List ℕ) (heads links lows parents : �
   pub rows : Rows n k (length verts)
   pub few : n * k ≤ 4096
   pub particles : (t : ℕ) → t < n * k → get_or verts t 0 < 1024
-  pub heads-long : heads ≡ 4096
-  pub links-long : n * k ≤ links
-  pub lows-long : n * k ≤ lows
-  pub parents-long : parents ≡ n
+  pub heads_long : heads ≡ 4096
+  pub links_long : n * k ≤ links
+  pub lows_long : n * k ≤ lows
+  pub parents_long : parents ≡ n
 
 -- what is asked where the facet of place t, of row i, is put into its chain
 pub record FacetStep (n k : ℕ) (verts : List ℕ) (t i low high : ℕ) : Type 0 where
   pub inside : t < n * k
   pub row : i ≡ t / k
-  pub is-low : low ≡ low_of k verts t
-  pub is-high : high ≡ high_of k verts t
+  pub is_low : low ≡ low_of k verts t
+  pub is_high : high ≡ high_of k verts t
   pub chain : 3 * low + high < 4096
 
 -- and beside which table it is

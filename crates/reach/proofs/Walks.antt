@@ -11,42 +11,42 @@ use lib.ListN.{length, get_or, length-map}
 use Rattle.lists.specs.Lists.{stands, sift, up_to}
 use Rattle.lists.specs.Chain.{Chain, stay, ahead, back}
 use Rattle.lists.specs.Labels.{Joins, labelled}
-use Rattle.lists.proofs.Chains.{chain-trans, chain-keeps, chain-to}
-use Rattle.lists.proofs.Labelled.{labelled-joined}
+use Rattle.lists.proofs.Chains.{chain_trans, chain_keeps, chain_to}
+use Rattle.lists.proofs.Labelled.{labelled_joined}
 use Rattle.lists.proofs.Stores.{map_at}
-use Rattle.lists.proofs.Sifts.{stands-get, stands-made, sift-stands, upTo-stands, upTo-below, and-true, true-and}
-use Rattle.reach.specs.Walk.{seedLabels, reachFrom, marked, Queued, Spread, Walk}
-use Rattle.reach.proofs.Tallies.{both, tally-ext, tally-mono}
+use Rattle.lists.proofs.Sifts.{stands_get, stands_made, sift_stands, up_to_stands, up_to_below, and_true, true_and}
+use Rattle.reach.specs.Walk.{seed_labels, reach_from, marked, Queued, Spread, Walk}
+use Rattle.reach.proofs.Tallies.{both, tally_ext, tally_mono}
 use Rattle.lists.proofs.Truths.{or_cases, or_left}
 
 -- ---- labels of the rows that pass
 
 module _ (p : ℕ → Bool) (n : ℕ) (ls : List ℕ) (x : ℕ) where
   -- x is the label of a row that passes
-  pub seed-get : stands x (seedLabels p n ls) ≡ true → (i : ℕ) × ((i < n) × ((p i ≡ true) × (get_or ls i 0 ≡ x)))
-  unfolding seedLabels
-  seed-get e =
-      let w = stands-get x (map (λ j. get_or ls j 0) (sift p (up_to n))) e in
+  pub seed_get : stands x (seed_labels p n ls) ≡ true → (i : ℕ) × ((i < n) × ((p i ≡ true) × (get_or ls i 0 ≡ x)))
+  unfolding seed_labels
+  seed_get e =
+      let w = stands_get x (map (λ j. get_or ls j 0) (sift p (up_to n))) e in
       let b : w.0 < length (sift p (up_to n)) = omega (arith, length-map (sift p (up_to n)) (λ j. get_or ls j 0), w.1.0) in
       let i = get_or (sift p (up_to n)) w.0 0 in
-      let s = and-true (p i) (stands i (up_to n)) (sym (sift-stands p i (up_to n)) ∙ stands-made i (sift p (up_to n)) w.0 b refl) in
-      (i, (upTo-below n i s.1, (s.0, sym (map_at (λ j. get_or ls j 0) (sift p (up_to n)) w.0 0 0 b) ∙ w.1.1)))
+      let s = and_true (p i) (stands i (up_to n)) (sym (sift_stands p i (up_to n)) ∙ stands_made i (sift p (up_to n)) w.0 b refl) in
+      (i, (up_to_below n i s.1, (s.0, sym (map_at (λ j. get_or ls j 0) (sift p (up_to n)) w.0 0 0 b) ∙ w.1.1)))
 
-  pub seed-made : (i : ℕ) → i < n → p i ≡ true → get_or ls i 0 ≡ x → stands x (seedLabels p n ls) ≡ true
-  unfolding seedLabels
-  seed-made i l e f =
-      let w = stands-get i (sift p (up_to n)) (sift-stands p i (up_to n) ∙ true-and e (upTo-stands n i l)) in
-      stands-made x (map (λ j. get_or ls j 0) (sift p (up_to n))) w.0 (omega (arith, length-map (sift p (up_to n)) (λ j. get_or ls j 0), w.1.0))
+  pub seed_made : (i : ℕ) → i < n → p i ≡ true → get_or ls i 0 ≡ x → stands x (seed_labels p n ls) ≡ true
+  unfolding seed_labels
+  seed_made i l e f =
+      let w = stands_get i (sift p (up_to n)) (sift_stands p i (up_to n) ∙ true_and e (up_to_stands n i l)) in
+      stands_made x (map (λ j. get_or ls j 0) (sift p (up_to n))) w.0 (omega (arith, length-map (sift p (up_to n)) (λ j. get_or ls j 0), w.1.0))
       (map_at (λ j. get_or ls j 0) (sift p (up_to n)) w.0 0 0 w.1.0 ∙ ap (λ (m : ℕ). get_or ls m 0) w.1.1 ∙ f)
 
 -- tests that agree below n reach the same
-pub reach-ext : (p q : ℕ → Bool) (n : ℕ) (ls : List ℕ) → ((j : ℕ) → j < n → p j ≡ q j) → reachFrom p n ls ≡ reachFrom q n ls
-unfolding reachFrom
-reach-ext p q n ls h =
-    tally-ext (λ j. stands (get_or ls j 0) (seedLabels p n ls)) (λ j. stands (get_or ls j 0) (seedLabels q n ls)) n
+pub reach_ext : (p q : ℕ → Bool) (n : ℕ) (ls : List ℕ) → ((j : ℕ) → j < n → p j ≡ q j) → reach_from p n ls ≡ reach_from q n ls
+unfolding reach_from
+reach_ext p q n ls h =
+    tally_ext (λ j. stands (get_or ls j 0) (seed_labels p n ls)) (λ j. stands (get_or ls j 0) (seed_labels q n ls)) n
     (λ j l. both _ _
-    (λ e. let w = seed-get p n ls (get_or ls j 0) e in seed-made q n ls (get_or ls j 0) w.0 w.1.0 (sym (h w.0 w.1.0) ∙ w.1.1.0) w.1.1.1)
-    (λ e. let w = seed-get q n ls (get_or ls j 0) e in seed-made p n ls (get_or ls j 0) w.0 w.1.0 (h w.0 w.1.0 ∙ w.1.1.0) w.1.1.1))
+    (λ e. let w = seed_get p n ls (get_or ls j 0) e in seed_made q n ls (get_or ls j 0) w.0 w.1.0 (sym (h w.0 w.1.0) ∙ w.1.1.0) w.1.1.1)
+    (λ e. let w = seed_get q n ls (get_or ls j 0) e in seed_made p n ls (get_or ls j 0) w.0 w.1.0 (h w.0 w.1.0 ∙ w.1.1.0) w.1.1.1))
 
 -- ---- the walk
 
@@ -56,10 +56,10 @@ or_right false t e = e
 
 module _ (near : ℕ → ℕ → Bool) (n : ℕ) (either : (i j : ℕ) → near i j ≡ near j i) where
   -- rows that touch are joined
-  touch-chain : (i j : ℕ) → i < n → j < n → near i j ≡ true → Chain (Joins near n) i j
-  touch-chain i j li lj e =
+  touch_chain : (i j : ℕ) → i < n → j < n → near i j ≡ true → Chain (Joins near n) i j
+  touch_chain i j li lj e =
       elim (ℕ_discrete i j) [
-        | yes d ↦ chain-to d stay
+        | yes d ↦ chain_to d stay
         | no d ↦ by (dec_le i j) d
       ]
     where
@@ -104,19 +104,19 @@ module _ (near : ℕ → ℕ → Bool) (n : ℕ) (either : (i j : ℕ) → near 
         further j l d =
             let q = W.queued.within head h in
             let w = W.joined (get_or queue head 0) q.0 q.1 in
-            (w.0, (w.1.0, (w.1.1.0, chain-trans w.1.1.1 (touch-chain (get_or queue head 0) j q.0 l d))))
+            (w.0, (w.1.0, (w.1.1.0, chain_trans w.1.1.1 (touch_chain (get_or queue head 0) j q.0 l d))))
 
     -- what is marked has a label of the first
-    labelled-in : (j : ℕ) → j < n → marked seen j ≡ true → stands (get_or (labelled near n) j 0) (seedLabels (marked first) n (labelled near n)) ≡ true
-    labelled-in j l e =
+    labelled_in : (j : ℕ) → j < n → marked seen j ≡ true → stands (get_or (labelled near n) j 0) (seed_labels (marked first) n (labelled near n)) ≡ true
+    labelled_in j l e =
         let w = W.joined j l e in
-        seed-made (marked first) n (labelled near n) _ w.0 w.1.0 w.1.1.0 ((labelled-joined near n w.0 j w.1.0 l).1 w.1.1.1)
+        seed_made (marked first) n (labelled near n) _ w.0 w.1.0 w.1.1.0 ((labelled_joined near n w.0 j w.1.0 l).1 w.1.1.1)
 
     -- so many rows at least are reached
-    pub walk-least : tail ≤ reachFrom (marked first) n (labelled near n)
-    unfolding reachFrom
-    walk-least =
-        let h = tally-mono (marked seen) (λ j. stands (get_or (labelled near n) j 0) (seedLabels (marked first) n (labelled near n))) n labelled-in in
+    pub walk_least : tail ≤ reach_from (marked first) n (labelled near n)
+    unfolding reach_from
+    walk_least =
+        let h = tally_mono (marked seen) (λ j. stands (get_or (labelled near n) j 0) (seed_labels (marked first) n (labelled near n))) n labelled_in in
         omega (arith, W.queued.counted)
 
     module _ (over : tail ≤ head) where
@@ -132,16 +132,16 @@ module _ (near : ℕ → ℕ → Bool) (n : ℕ) (either : (i j : ℕ) → near 
           let u = k.within in
           both _ _ (spreads i j (omega arith) u k.joined) (spreads j i u (omega arith) (either j i ∙ k.joined))
 
-      in-labelled : (j : ℕ) → j < n → stands (get_or (labelled near n) j 0) (seedLabels (marked first) n (labelled near n)) ≡ true → marked seen j ≡ true
-      in-labelled j l e =
-          let w = seed-get (marked first) n (labelled near n) _ e in
-          let c = (labelled-joined near n w.0 j w.1.0 l).0 w.1.1.1 in
-          sym (chain-keeps (marked seen) along c) ∙ W.kept w.0 w.1.0 w.1.1.0
+      in_labelled : (j : ℕ) → j < n → stands (get_or (labelled near n) j 0) (seed_labels (marked first) n (labelled near n)) ≡ true → marked seen j ≡ true
+      in_labelled j l e =
+          let w = seed_get (marked first) n (labelled near n) _ e in
+          let c = (labelled_joined near n w.0 j w.1.0 l).0 w.1.1.1 in
+          sym (chain_keeps (marked seen) along c) ∙ W.kept w.0 w.1.0 w.1.1.0
 
       -- at the end the marked rows are all that are reached
-      pub walk-done : tail ≡ reachFrom (marked first) n (labelled near n)
-      unfolding reachFrom
-      walk-done =
+      pub walk_done : tail ≡ reach_from (marked first) n (labelled near n)
+      unfolding reach_from
+      walk_done =
           W.queued.counted
-          ∙ tally-ext (marked seen) (λ j. stands (get_or (labelled near n) j 0) (seedLabels (marked first) n (labelled near n))) n
-          (λ j l. both _ _ (labelled-in j l) (in-labelled j l))
+          ∙ tally_ext (marked seen) (λ j. stands (get_or (labelled near n) j 0) (seed_labels (marked first) n (labelled near n))) n
+          (λ j l. both _ _ (labelled_in j l) (in_labelled j l))

@@ -3,7 +3,7 @@ use Rattle.std.specs.Prelude.{ℕ, zero, suc, ◌-◌, ◌*◌, ◌<◌, ◌≤�
 use Rattle.lists.specs.Lists.{pick, stands, sift, up_to}
 use Rattle.lists.specs.Chain.{Chain}
 use Rattle.lists.specs.Labels.{Joins, labelled}
-use Rattle.fan.specs.Fan.{sharedOthers}
+use Rattle.fan.specs.Fan.{shared_others_of}
 
 -- ---- rows
 
@@ -12,16 +12,16 @@ abbrev pub row : ℕ → List ℕ → ℕ → List ℕ
 row k verts j = take k (drop (j * k) verts)
 
 -- all corners of row i but one, and none of them v, stand in row j
-unfoldable pub facetShared : ℕ → ℕ → List ℕ → ℕ → ℕ → Bool
-facetShared k v verts i j = leb (k - 1) (sharedOthers v (row k verts i) (row k verts j))
+unfoldable pub facet_shared : ℕ → ℕ → List ℕ → ℕ → ℕ → Bool
+facet_shared k v verts i j = leb (k - 1) (shared_others_of v (row k verts i) (row k verts j))
 
 -- the same of two rows, the earlier first
 unfoldable pub touching : ℕ → ℕ → List ℕ → ℕ → ℕ → Bool
-touching k v verts i j = pick (ltb i j) (facetShared k v verts i j) (facetShared k v verts j i)
+touching k v verts i j = pick (ltb i j) (facet_shared k v verts i j) (facet_shared k v verts j i)
 
 -- row j holds v
-unfoldable pub holdsRow : ℕ → ℕ → List ℕ → ℕ → Bool
-holdsRow k v verts j = stands v (row k verts j)
+unfoldable pub holds_row : ℕ → ℕ → List ℕ → ℕ → Bool
+holds_row k v verts j = stands v (row k verts j)
 
 -- ---- counts
 
@@ -32,19 +32,19 @@ tally p (suc n) = pick (p n) (suc (tally p n)) (tally p n)
 
 -- row j holds v, and the fan's group at its place is g
 unfoldable pub seeds : ℕ → ℕ → List ℕ → List ℕ → ℕ → ℕ → Bool
-seeds k v verts groups g j = pick (holdsRow k v verts j) (eqb (get_or groups (tally (holdsRow k v verts) j) 0) g) false
+seeds k v verts groups g j = pick (holds_row k v verts j) (eqb (get_or groups (tally (holds_row k v verts) j) 0) g) false
 
 -- the labels at the places that pass
-unfoldable pub seedLabels : (ℕ → Bool) → ℕ → List ℕ → List ℕ
-seedLabels p n ls = map (λ j. get_or ls j 0) (sift p (up_to n))
+unfoldable pub seed_labels : (ℕ → Bool) → ℕ → List ℕ → List ℕ
+seed_labels p n ls = map (λ j. get_or ls j 0) (sift p (up_to n))
 
 -- how many of n places have the label of one that passes
-unfoldable pub reachFrom : (ℕ → Bool) → ℕ → List ℕ → ℕ
-reachFrom p n ls = tally (λ j. stands (get_or ls j 0) (seedLabels p n ls)) n
+unfoldable pub reach_from : (ℕ → Bool) → ℕ → List ℕ → ℕ
+reach_from p n ls = tally (λ j. stands (get_or ls j 0) (seed_labels p n ls)) n
 
 -- the same by the table: how many rows group g reaches
-unfoldable pub tableReach : ℕ → ℕ → ℕ → List ℕ → List ℕ → ℕ → ℕ
-tableReach n k v verts groups g = reachFrom (seeds k v verts groups g) n (labelled (touching k v verts) n)
+unfoldable pub table_reach : ℕ → ℕ → ℕ → List ℕ → List ℕ → ℕ → ℕ
+table_reach n k v verts groups g = reach_from (seeds k v verts groups g) n (labelled (touching k v verts) n)
 
 -- ---- what workers ask
 
@@ -56,9 +56,9 @@ pub record Rows (n k long : ℕ) : Type 0 where
 -- what the whole call asks: the rows, room for the walk, and a group for each row that holds v
 pub record Lent (n k v : ℕ) (verts groups : List ℕ) (s q : ℕ) : Type 0 where
   pub rows : Rows n k (length verts)
-  pub seen-room : n ≤ s
-  pub queue-room : n ≤ q
-  pub grouped : length groups ≡ tally (holdsRow k v verts) n
+  pub seen_room : n ≤ s
+  pub queue_room : n ≤ q
+  pub grouped : length groups ≡ tally (holds_row k v verts) n
 
 -- ---- the walk
 
@@ -68,8 +68,8 @@ marked seen j = eqb (get_or seen j 0) 1
 
 -- the queue's first tail entries are the marked rows
 pub record Queued (n : ℕ) (seen queue : List ℕ) (tail : ℕ) : Type 0 where
-  pub seen-room : n ≤ length seen
-  pub queue-room : n ≤ length queue
+  pub seen_room : n ≤ length seen
+  pub queue_room : n ≤ length queue
   pub counted : tail ≡ tally (marked seen) n
   pub within : (a : ℕ) → a < tail → (get_or queue a 0 < n) × (marked seen (get_or queue a 0) ≡ true)
   pub listed : (j : ℕ) → j < n → marked seen j ≡ true → (a : ℕ) × ((a < tail) × (get_or queue a 0 ≡ j))

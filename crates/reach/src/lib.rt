@@ -4,10 +4,10 @@
 ghost use Rattle.std.specs.Prelude.{◌≡◌, ℕ, ◌+◌, ◌*◌, ◌<◌, ◌≤◌, length, get_or, leb, List, [], ◌∷◌};
 ghost use Rattle.lists.specs.Lists.{stands};
 ghost use Rattle.lists.specs.Labels.{labelled};
-ghost use Rattle.fan.specs.Fan.{sharedOthers};
-ghost use Rattle.model.specs.Pieces.{minPiece};
+ghost use Rattle.fan.specs.Fan.{shared_others_of};
+ghost use Rattle.model.specs.Pieces.{min_piece_of};
 ghost use Rattle.reach.specs.Opens.{Opens};
-ghost use Rattle.reach.specs.Walk.{row, facetShared, touching, holdsRow, seeds, reachFrom, Rows, Lent, marked, Queued, Spread, Seeded};
+ghost use Rattle.reach.specs.Walk.{row, facet_shared, touching, holds_row, seeds, reach_from, Rows, Lent, marked, Queued, Spread, Seeded};
 
 // Does triangle j hold v?
 pub fn triangle_holds(verts: &[usize], j: usize, v: usize) -> bool
@@ -27,7 +27,7 @@ pub fn triangle_holds(verts: &[usize], j: usize, v: usize) -> bool
 // Does row j hold v? (Three corners that are written out are looked at faster.)
 fn holds(n: usize, k: usize, v: usize, verts: &[usize], j: usize) -> bool
     requires { Rows n k (length verts.now) × (j < n) }
-    ensures { result ≡ holdsRow k v verts.now j }
+    ensures { result ≡ holds_row k v verts.now j }
 {
     if k == 3 {
         return triangle_holds(verts, j, v);
@@ -40,7 +40,7 @@ fn holds(n: usize, k: usize, v: usize, verts: &[usize], j: usize) -> bool
 // 1 if x is not v and triangle j holds it, else 0.
 fn shares_corner(verts: &[usize], j: usize, v: usize, x: usize) -> usize
     requires { j * 3 + 3 ≤ length verts.now }
-    ensures { result ≡ sharedOthers v (x ∷ []) (row 3 verts.now j) }
+    ensures { result ≡ shared_others_of v (x ∷ []) (row 3 verts.now j) }
 {
     if x == v {
         return 0;
@@ -54,7 +54,7 @@ fn shares_corner(verts: &[usize], j: usize, v: usize, x: usize) -> usize
 // Do two corners of triangle i, and neither of them v, stand in triangle j? Where the first two do not, the third is not looked at.
 fn triangles_share(v: usize, verts: &[usize], i: usize, j: usize) -> bool
     requires { (i * 3 + 3 ≤ length verts.now) × (j * 3 + 3 ≤ length verts.now) }
-    ensures { result ≡ facetShared 3 v verts.now i j }
+    ensures { result ≡ facet_shared 3 v verts.now i j }
 {
     let t = i * 3;
     let a = shares_corner(verts, j, v, verts[t]);
@@ -69,7 +69,7 @@ fn triangles_share(v: usize, verts: &[usize], i: usize, j: usize) -> bool
 // Do all corners of row i but one, and none of them v, stand in row j?
 fn shares_facet(n: usize, k: usize, v: usize, verts: &[usize], i: usize, j: usize) -> bool
     requires { Rows n k (length verts.now) × (i < n) × (j < n) }
-    ensures { result ≡ facetShared k v verts.now i j }
+    ensures { result ≡ facet_shared k v verts.now i j }
 {
     if k == 3 {
         return triangles_share(v, verts, i, j);
@@ -196,7 +196,7 @@ fn reaches(
     queue: &mut [usize],
 ) -> bool
     requires { Rows n k (length verts.now) × Queued n seen.old queue.old tail }
-    ensures { result ≡ leb minimum (reachFrom (marked seen.old) n (labelled (touching k v verts.now) n)) }
+    ensures { result ≡ leb minimum (reach_from (marked seen.old) n (labelled (touching k v verts.now) n)) }
 {
     let mut end = tail;
     let mut head = 0;
@@ -213,7 +213,7 @@ fn reaches(
 
 // The minimum piece: a setting of 0 counts as 1.
 fn min_piece(minimum: usize) -> usize
-    ensures { result ≡ minPiece minimum }
+    ensures { result ≡ min_piece_of minimum }
 {
     if minimum == 0 {
         return 1;

@@ -6,52 +6,52 @@ use mathlib.Core.Bool.{Bool, true, false}
 use mathlib.Core.List.{List}
 use Rattle.model.specs.Mesh.{Mesh}
 use Rattle.model.specs.Calls.{refusal}
-use Rattle.model.specs.Reads.{refused, piecesCall, restMeasureCall, restMeasureOfCall, opensCall}
-use Rattle.mesh.specs.Given.{Given, meshOf, sizesFit}
-use Rattle.judge.specs.Checks.{thenCheck, faultOf}
-use Rattle.arguments.proofs.Judged.{arguments-refuse}
+use Rattle.model.specs.Reads.{refused, pieces_call, rest_measure_call, rest_measure_of_call, opens_call}
+use Rattle.mesh.specs.Given.{Given, mesh_of, sizes_fit_of}
+use Rattle.judge.specs.Checks.{then_check, fault_of}
+use Rattle.arguments.proofs.Judged.{arguments_refuse}
 use Rattle.readings.specs.declared.Number.{Number}
 use Rattle.readings.specs.declared.Count.{Count}
 use Rattle.readings.specs.declared.Truth.{Truth}
 use Rattle.readings.specs.Answers.{number_of, count_of, truth_of}
-use Rattle.replies.proofs.Saying.{refusal-small, replied-as}
+use Rattle.replies.proofs.Saying.{refusal_small, replied_as}
 use Rattle.reading_replies.specs.Replies.{Replied}
-use Rattle.reading_replies.specs.Given.{numberReply, countReply, truthReply}
-use Rattle.reading_c.specs.Questions.{questionCall}
+use Rattle.reading_replies.specs.Given.{number_reply, count_reply, truth_reply}
+use Rattle.reading_c.specs.Questions.{question_call}
 use Rattle.reading_c.specs.declared.Question.{Question}
 use Rattle.reading_c.specs.declared.Question.TheVariants.{Pieces, Measure, MeasureOf, Opens, Unread}
-use Rattle.reading_replies.proofs.Replying.{number-words, count-words}
-use Rattle.reading_c.proofs.Siding.{truth-words}
+use Rattle.reading_replies.proofs.Replying.{number_words_lem, count_words_lem}
+use Rattle.reading_c.proofs.Siding.{truth_words_lem}
 
 module _ (q : Question) (z : Bool) (M : Mesh) (l : List ℕ) (lent r : ℕ) (out : List ℕ) where
   -- a question in one of its cases
-  pub question-as : (q' : Question) → q ≡ q' → Replied (questionCall q' z M l) lent r out → Replied (questionCall q z M l) lent r out
-  question-as q' e h = subst (λ (x : Question). Replied (questionCall x z M l) lent r out) (sym e) h
+  pub question_as : (q' : Question) → q ≡ q' → Replied (question_call q' z M l) lent r out → Replied (question_call q z M l) lent r out
+  question_as q' e h = subst (λ (x : Question). Replied (question_call x z M l) lent r out) (sym e) h
 
-  pub pieces-asked : (a : Count) → q ≡ Pieces → a ≡ count_of (piecesCall z M) → Replied (countReply a) lent r out → Replied (questionCall q z M l) lent r out
-  pieces-asked a e f h = question-as Pieces e (replied-as (countReply a) _ lent r out (ap countReply f ∙ count-words (piecesCall z M)) h)
+  pub pieces_asked : (a : Count) → q ≡ Pieces → a ≡ count_of (pieces_call z M) → Replied (count_reply a) lent r out → Replied (question_call q z M l) lent r out
+  pieces_asked a e f h = question_as Pieces e (replied_as (count_reply a) _ lent r out (ap count_reply f ∙ count_words_lem (pieces_call z M)) h)
 
-  pub measure-asked : (a : Number) → q ≡ Measure → a ≡ number_of (restMeasureCall z M) → Replied (numberReply a) lent r out → Replied (questionCall q z M l) lent r out
-  measure-asked a e f h = question-as Measure e (replied-as (numberReply a) _ lent r out (ap numberReply f ∙ number-words (restMeasureCall z M)) h)
+  pub measure_asked : (a : Number) → q ≡ Measure → a ≡ number_of (rest_measure_call z M) → Replied (number_reply a) lent r out → Replied (question_call q z M l) lent r out
+  measure_asked a e f h = question_as Measure e (replied_as (number_reply a) _ lent r out (ap number_reply f ∙ number_words_lem (rest_measure_call z M)) h)
 
-  pub measure-of-asked : (a : Number) → q ≡ MeasureOf → a ≡ number_of (restMeasureOfCall z M l) → Replied (numberReply a) lent r out → Replied (questionCall q z M l) lent r out
-  measure-of-asked a e f h = question-as MeasureOf e (replied-as (numberReply a) _ lent r out (ap numberReply f ∙ number-words (restMeasureOfCall z M l)) h)
+  pub measure_of_asked : (a : Number) → q ≡ MeasureOf → a ≡ number_of (rest_measure_of_call z M l) → Replied (number_reply a) lent r out → Replied (question_call q z M l) lent r out
+  measure_of_asked a e f h = question_as MeasureOf e (replied_as (number_reply a) _ lent r out (ap number_reply f ∙ number_words_lem (rest_measure_of_call z M l)) h)
 
-  pub opens-asked : (v min : ℕ) (a : Truth) → q ≡ Opens v min → a ≡ truth_of (opensCall z M v l min) → Replied (truthReply a) lent r out → Replied (questionCall q z M l) lent r out
-  opens-asked v min a e f h = question-as (Opens v min) e (replied-as (truthReply a) _ lent r out (ap truthReply f ∙ truth-words (opensCall z M v l min)) h)
+  pub opens_asked : (v min : ℕ) (a : Truth) → q ≡ Opens v min → a ≡ truth_of (opens_call z M v l min) → Replied (truth_reply a) lent r out → Replied (question_call q z M l) lent r out
+  opens_asked v min a e f h = question_as (Opens v min) e (replied_as (truth_reply a) _ lent r out (ap truth_reply f ∙ truth_words_lem (opens_call z M v l min)) h)
 
 -- behind the faults of a mesh, a bad argument
-unread-code : (G : Given) (fault code : ℕ) → fault ≡ faultOf G → code ≡ thenCheck fault false 4 → code ≡ refusal (sizesFit G) (meshOf G) true false
-unread-code G fault code f e = e ∙ ap (λ (n : ℕ). thenCheck n false 4) f ∙ arguments-refuse G false
+unread_code : (G : Given) (fault code : ℕ) → fault ≡ fault_of G → code ≡ then_check fault false 4 → code ≡ refusal (sizes_fit_of G) (mesh_of G) true false
+unread_code G fault code f e = e ∙ ap (λ (n : ℕ). then_check n false 4) f ∙ arguments_refuse G false
 
 -- the number fits a byte
-pub unread-small : (z : Bool) (M : Mesh) (code : ℕ) → code ≡ refusal z M true false → code < 256
-unread-small z M code e = let h = refusal-small z M true false in omega (arith, h, e)
+pub unread_small : (z : Bool) (M : Mesh) (code : ℕ) → code ≡ refusal z M true false → code < 256
+unread_small z M code e = let h = refusal_small z M true false in omega (arith, h, e)
 
-pub unread-fits : (G : Given) (fault code : ℕ) → fault ≡ faultOf G → code ≡ thenCheck fault false 4 → code < 256
-unread-fits G fault code f e = unread-small (sizesFit G) (meshOf G) code (unread-code G fault code f e)
+pub unread_fits : (G : Given) (fault code : ℕ) → fault ≡ fault_of G → code ≡ then_check fault false 4 → code < 256
+unread_fits G fault code f e = unread_small (sizes_fit_of G) (mesh_of G) code (unread_code G fault code f e)
 
-pub unread-asked : (q : Question) (G : Given) (l : List ℕ) (lent r : ℕ) (out : List ℕ) (fault code : ℕ) → q ≡ Unread → fault ≡ faultOf G → code ≡ thenCheck fault false 4
-    → Replied (refused code) lent r out → Replied (questionCall q (sizesFit G) (meshOf G) l) lent r out
-unread-asked q G l lent r out fault code e f g h =
-    question-as q (sizesFit G) (meshOf G) l lent r out Unread e (replied-as (refused code) _ lent r out (ap refused (unread-code G fault code f g)) h)
+pub unread_asked : (q : Question) (G : Given) (l : List ℕ) (lent r : ℕ) (out : List ℕ) (fault code : ℕ) → q ≡ Unread → fault ≡ fault_of G → code ≡ then_check fault false 4
+    → Replied (refused code) lent r out → Replied (question_call q (sizes_fit_of G) (mesh_of G) l) lent r out
+unread_asked q G l lent r out fault code e f g h =
+    question_as q (sizes_fit_of G) (mesh_of G) l lent r out Unread e (replied_as (refused code) _ lent r out (ap refused (unread_code G fault code f g)) h)

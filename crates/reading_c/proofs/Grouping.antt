@@ -11,86 +11,86 @@ use lib.Seq.{take_at}
 use borrow.Author.Tests.{le-leb}
 use Rattle.lists.specs.Lists.{pick, padded}
 use Rattle.model.specs.Mesh.{Mesh}
-use Rattle.model.specs.Elements.{kind_of, fanOf, gridOf}
-use Rattle.model.specs.Calls.{sidesOk, refusal}
-use Rattle.model.specs.Reads.{Read, refused, value, orRefused, grouped, groupsCall}
-use Rattle.mesh.specs.Given.{meshOf}
+use Rattle.model.specs.Elements.{kind_of, fan_of, grid_of}
+use Rattle.model.specs.Calls.{sides_ok, refusal}
+use Rattle.model.specs.Reads.{Read, refused, value, or_refused, grouped, groups_call}
+use Rattle.mesh.specs.Given.{mesh_of}
 use Rattle.readings.specs.declared.Count.{Count}
-use Rattle.readings.specs.Answers.{placedIn, groupCount, groupsShown, GroupsAnswered}
-use Rattle.readings.proofs.Grouped.{groups-long, placed-is}
-use Rattle.image.specs.Image.{image_of, imageSized}
-use Rattle.reading_replies.specs.Replies.{Replied, groupsWords}
-use Rattle.reading_replies.specs.Given.{groupsTold, SmallCode}
+use Rattle.readings.specs.Answers.{placed_in, group_count, groups_shown, GroupsAnswered}
+use Rattle.readings.proofs.Grouped.{groups_long, placed_is}
+use Rattle.image.specs.Image.{image_of, image_sized_of}
+use Rattle.reading_replies.specs.Replies.{Replied, groups_words}
+use Rattle.reading_replies.specs.Given.{groups_told, SmallCode}
 use Rattle.reading_c.specs.Capped.{Capped}
-use Rattle.replies.proofs.Saying.{refusal-small, replied-as}
-use Rattle.reading_c.proofs.Siding.{capped-sides, refused-either}
+use Rattle.replies.proofs.Saying.{refusal_small, replied_as}
+use Rattle.reading_c.proofs.Siding.{capped_sides, refused_either}
 
 -- a front is no longer than it is asked to be
-pub front-few : (n : ℕ) (l : List ℕ) → n ≤ 2049 → length (take n l) ≤ 2049
-front-few n l h = omega (arith, length-take n l)
+pub front_few : (n : ℕ) (l : List ℕ) → n ≤ 2049 → length (take n l) ≤ 2049
+front_few n l h = omega (arith, length-take n l)
 
-pub few-front : (n : ℕ) (l : List ℕ) → n ≤ 32 → length (take n l) ≤ 128
-few-front n l h = omega (arith, length-take n l)
+pub few_front : (n : ℕ) (l : List ℕ) → n ≤ 32 → length (take n l) ≤ 128
+few_front n l h = omega (arith, length-take n l)
 
-pub few-most : (n : ℕ) (l : List ℕ) → n ≤ 32 → length (take n l) ≤ 2049
-few-most n l h = front-few n l (omega arith)
+pub few_most : (n : ℕ) (l : List ℕ) → n ≤ 32 → length (take n l) ≤ 2049
+few_most n l h = front_few n l (omega arith)
 
 -- the same of the front of a table that has a place for each
-pub front-placed : (n places : ℕ) (l : List ℕ) → n ≤ places → places ≤ 2049 → length (take n l) ≤ 2049
-front-placed n places l h m = front-few n l (omega arith)
+pub front_placed : (n places : ℕ) (l : List ℕ) → n ≤ places → places ≤ 2049 → length (take n l) ≤ 2049
+front_placed n places l h m = front_few n l (omega arith)
 
 -- ---- the entry on a capped list
 
-placed-or : (lent c : ℕ) (gs : List ℕ × ℕ) → length gs.0 ≤ lent → placedIn lent (orRefused c gs) ≡ orRefused c gs
-placed-or lent zero gs h = ap (λ (b : Bool). pick b (value gs) (refused 4)) (le-leb (length gs.0) lent h)
-placed-or lent (suc c) gs h = refl
+placed_or : (lent c : ℕ) (gs : List ℕ × ℕ) → length gs.0 ≤ lent → placed_in lent (or_refused c gs) ≡ or_refused c gs
+placed_or lent zero gs h = ap (λ (b : Bool). pick b (value gs) (refused 4)) (le-leb (length gs.0) lent h)
+placed_or lent (suc c) gs h = refl
 
 -- a table that has a place for each side is no bad argument
-placed-call : (z : Bool) (M : Mesh) (v : ℕ) (t : List ℕ) (places : ℕ) → length t ≤ places → placedIn places (groupsCall z M v t) ≡ groupsCall z M v t
-unfolding groupsCall gridOf
-placed-call z M v t places h = let l = groups-long (gridOf (kind_of M) v (fanOf (kind_of M) M v) t) in placed-or places (refusal z M true (sidesOk M v t)) _ (omega (arith, l, h))
+placed_call : (z : Bool) (M : Mesh) (v : ℕ) (t : List ℕ) (places : ℕ) → length t ≤ places → placed_in places (groups_call z M v t) ≡ groups_call z M v t
+unfolding groups_call grid_of
+placed_call z M v t places h = let l = groups_long (grid_of (kind_of M) v (fan_of (kind_of M) M v) t) in placed_or places (refusal z M true (sides_ok M v t)) _ (omega (arith, l, h))
 
-calls-refused : (z : Bool) (M : Mesh) (v : ℕ) (t sides : List ℕ) → sidesOk M v t ≡ false → sidesOk M v sides ≡ false → groupsCall z M v t ≡ groupsCall z M v sides
-unfolding groupsCall
-calls-refused z M v t sides e f =
-    let x : List ℕ × ℕ = grouped (gridOf (kind_of M) v (fanOf (kind_of M) M v) t) in
-    let y : List ℕ × ℕ = grouped (gridOf (kind_of M) v (fanOf (kind_of M) M v) sides) in
-    ap (λ (b : Bool). orRefused (refusal z M true b) x) e ∙ refused-either z M x y ∙ sym (ap (λ (b : Bool). orRefused (refusal z M true b) y) f)
+calls_refused : (z : Bool) (M : Mesh) (v : ℕ) (t sides : List ℕ) → sides_ok M v t ≡ false → sides_ok M v sides ≡ false → groups_call z M v t ≡ groups_call z M v sides
+unfolding groups_call
+calls_refused z M v t sides e f =
+    let x : List ℕ × ℕ = grouped (grid_of (kind_of M) v (fan_of (kind_of M) M v) t) in
+    let y : List ℕ × ℕ = grouped (grid_of (kind_of M) v (fan_of (kind_of M) M v) sides) in
+    ap (λ (b : Bool). or_refused (refusal z M true b) x) e ∙ refused_either z M x y ∙ sym (ap (λ (b : Bool). or_refused (refusal z M true b) y) f)
 
-pub groups-capped : (s : List ℕ) (v r : ℕ) (sides t : List ℕ) → imageSized s ≡ true → Capped (length sides) 2049 r → t ≡ take r sides
-    → groupsCall (imageSized s) (meshOf (image_of s)) v t ≡ groupsCall (imageSized s) (meshOf (image_of s)) v sides
-groups-capped s v r sides t h c e =
+pub groups_capped : (s : List ℕ) (v r : ℕ) (sides t : List ℕ) → image_sized_of s ≡ true → Capped (length sides) 2049 r → t ≡ take r sides
+    → groups_call (image_sized_of s) (mesh_of (image_of s)) v t ≡ groups_call (image_sized_of s) (mesh_of (image_of s)) v sides
+groups_capped s v r sides t h c e =
     ⊎_elim
-    (λ y. ap (λ (l : List ℕ). groupsCall (imageSized s) (meshOf (image_of s)) v l) y)
-    (λ y. calls-refused (imageSized s) (meshOf (image_of s)) v t sides y.0 y.1)
-    (capped-sides s v r sides t h c e)
+    (λ y. ap (λ (l : List ℕ). groups_call (image_sized_of s) (mesh_of (image_of s)) v l) y)
+    (λ y. calls_refused (image_sized_of s) (mesh_of (image_of s)) v t sides y.0 y.1)
+    (capped_sides s v r sides t h c e)
 
 -- ---- the reply
 
-told-or : (c : ℕ) (gs : List ℕ × ℕ) (n places : ℕ) → length gs.0 ≡ n → groupsTold (groupCount (orRefused c gs)) (take n (padded places 0 (groupsShown (orRefused c gs)))) ≡ groupsWords (orRefused c gs)
+told_or : (c : ℕ) (gs : List ℕ × ℕ) (n places : ℕ) → length gs.0 ≡ n → groups_told (group_count (or_refused c gs)) (take n (padded places 0 (groups_shown (or_refused c gs)))) ≡ groups_words (or_refused c gs)
 unfolding padded
-told-or zero gs n places e = ap (λ (l : List ℕ). value (gs.1 ∷ l)) (take_at gs.0 (replicate (places - length gs.0) 0) n e)
-told-or (suc c) gs n places e = refl
+told_or zero gs n places e = ap (λ (l : List ℕ). value (gs.1 ∷ l)) (take_at gs.0 (replicate (places - length gs.0) 0) n e)
+told_or (suc c) gs n places e = refl
 
-call-told : (z : Bool) (M : Mesh) (v : ℕ) (t : List ℕ) (n places : ℕ) → length t ≡ n → groupsTold (groupCount (groupsCall z M v t)) (take n (padded places 0 (groupsShown (groupsCall z M v t)))) ≡ groupsWords (groupsCall z M v t)
-unfolding groupsCall gridOf
-call-told z M v t n places e = told-or (refusal z M true (sidesOk M v t)) _ n places (groups-long (gridOf (kind_of M) v (fanOf (kind_of M) M v) t) ∙ e)
+call_told : (z : Bool) (M : Mesh) (v : ℕ) (t : List ℕ) (n places : ℕ) → length t ≡ n → groups_told (group_count (groups_call z M v t)) (take n (padded places 0 (groups_shown (groups_call z M v t)))) ≡ groups_words (groups_call z M v t)
+unfolding groups_call grid_of
+call_told z M v t n places e = told_or (refusal z M true (sides_ok M v t)) _ n places (groups_long (grid_of (kind_of M) v (fan_of (kind_of M) M v) t) ∙ e)
 
-small-or : (c : ℕ) (gs : List ℕ × ℕ) (ws : List ℕ) → c < 256 → SmallCode (groupsTold (groupCount (orRefused c gs)) ws)
-small-or zero gs ws h = omega arith
-small-or (suc c) gs ws h = h
+small_or : (c : ℕ) (gs : List ℕ × ℕ) (ws : List ℕ) → c < 256 → SmallCode (groups_told (group_count (or_refused c gs)) ws)
+small_or zero gs ws h = omega arith
+small_or (suc c) gs ws h = h
 
-pub groups-small : (z : Bool) (M : Mesh) (v : ℕ) (t : List ℕ) (lent : ℕ) (a : Count) (table ws : List ℕ) → GroupsAnswered (groupsCall z M v t) lent a table → SmallCode (groupsTold a ws)
-groups-small z M v t lent a table ws A =
-    rw (A.answer ∙ ap groupCount (placed-is z M v t lent)) (small-or _ _ ws (refusal-small z M true (sidesOk M v t && leb (length t) lent)))
+pub groups_small : (z : Bool) (M : Mesh) (v : ℕ) (t : List ℕ) (lent : ℕ) (a : Count) (table ws : List ℕ) → GroupsAnswered (groups_call z M v t) lent a table → SmallCode (groups_told a ws)
+groups_small z M v t lent a table ws A =
+    rw (A.answer ∙ ap group_count (placed_is z M v t lent)) (small_or _ _ ws (refusal_small z M true (sides_ok M v t && leb (length t) lent)))
 
 -- sides that are no more than the table has places
-pub groups-told : (z : Bool) (M : Mesh) (v : ℕ) (t : List ℕ) (places lent r : ℕ) (a : Count) (table out : List ℕ) → length t ≤ places → GroupsAnswered (groupsCall z M v t) places a table
-    → Replied (groupsTold a (take (length t) table)) lent r out → Replied (groupsWords (groupsCall z M v t)) lent r out
-groups-told z M v t places lent r a table out m A h =
-    let o : Read (List ℕ × ℕ) = groupsCall z M v t in
-    let q : placedIn places o ≡ o = placed-call z M v t places m in
-    replied-as (groupsTold a (take (length t) table)) _ lent r out
-    (ap (λ (x : Count). groupsTold x (take (length t) table)) (A.answer ∙ ap groupCount q)
-    ∙ ap (λ (x : List ℕ). groupsTold (groupCount o) (take (length t) x)) (A.table_is ∙ ap (λ (x : Read (List ℕ × ℕ)). padded places 0 (groupsShown x)) q)
-    ∙ call-told z M v t (length t) places refl) h
+pub groups_told_lem : (z : Bool) (M : Mesh) (v : ℕ) (t : List ℕ) (places lent r : ℕ) (a : Count) (table out : List ℕ) → length t ≤ places → GroupsAnswered (groups_call z M v t) places a table
+    → Replied (groups_told a (take (length t) table)) lent r out → Replied (groups_words (groups_call z M v t)) lent r out
+groups_told_lem z M v t places lent r a table out m A h =
+    let o : Read (List ℕ × ℕ) = groups_call z M v t in
+    let q : placed_in places o ≡ o = placed_call z M v t places m in
+    replied_as (groups_told a (take (length t) table)) _ lent r out
+    (ap (λ (x : Count). groups_told x (take (length t) table)) (A.answer ∙ ap group_count q)
+    ∙ ap (λ (x : List ℕ). groups_told (group_count o) (take (length t) x)) (A.table_is ∙ ap (λ (x : Read (List ℕ × ℕ)). padded places 0 (groups_shown x)) q)
+    ∙ call_told z M v t (length t) places refl) h

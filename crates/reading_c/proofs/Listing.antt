@@ -10,92 +10,92 @@ use lib.Dec.{ltb}
 use lib.Ieee.{Float}
 use borrow.Author.Tests.{ltb-true}
 use Rattle.lists.specs.Lists.{all}
-use Rattle.lists.proofs.Sifts.{and-true}
+use Rattle.lists.proofs.Sifts.{and_true}
 use Rattle.model.specs.Mesh.{Mesh}
-use Rattle.model.specs.Elements.{restMeasureOf}
-use Rattle.model.specs.Calls.{present, strictly, particlesOk, refusal}
-use Rattle.model.specs.Reads.{orRefused, restMeasureOfCall}
-use Rattle.mesh.specs.Given.{meshOf}
-use Rattle.judge.proofs.Joined.{Sized, sizes-told}
-use Rattle.mesh_tables.proofs.Accepted.{particles-count}
+use Rattle.model.specs.Elements.{the_rest_measure_of}
+use Rattle.model.specs.Calls.{present, strictly, particles_ok, refusal}
+use Rattle.model.specs.Reads.{or_refused, rest_measure_of_call}
+use Rattle.mesh.specs.Given.{mesh_of}
+use Rattle.judge.proofs.Joined.{Sized, sizes_told}
+use Rattle.mesh_tables.proofs.Accepted.{particles_count}
 use Rattle.readings.specs.declared.Number.{Number}
 use Rattle.readings.specs.Answers.{number_of}
-use Rattle.image.specs.Words.{wordsFrom}
+use Rattle.image.specs.Words.{words_from}
 use Rattle.image.proofs.InBlocks.{words_long}
-use Rattle.image.specs.Image.{image_of, imageSized}
-use Rattle.reading_replies.specs.Given.{numberReply, SmallCode}
+use Rattle.image.specs.Image.{image_of, image_sized_of}
+use Rattle.reading_replies.specs.Given.{number_reply, SmallCode}
 use Rattle.reading_c.specs.Capped.{Capped}
-use Rattle.replies.proofs.Saying.{refusal-small}
-use Rattle.image.proofs.Loading.{sized-input}
-use Rattle.reading_c.proofs.Siding.{capped-within, capped-most, refused-either}
+use Rattle.replies.proofs.Saying.{refusal_small}
+use Rattle.image.proofs.Loading.{sized_input}
+use Rattle.reading_c.proofs.Siding.{capped_within, capped_most, refused_either}
 
 -- ---- a rising list of particles is short
 
-rising-few : (n x : ℕ) (l : List ℕ) → strictly (x ∷ l) ≡ true → all (λ y. ltb y n) (x ∷ l) ≡ true → x + suc (length l) ≤ n
+rising_few : (n x : ℕ) (l : List ℕ) → strictly (x ∷ l) ≡ true → all (λ y. ltb y n) (x ∷ l) ≡ true → x + suc (length l) ≤ n
 unfolding strictly all
-rising-few n x [] h k = let a = ltb-true x n (and-true (ltb x n) true k).0 in omega arith
-rising-few n x (y ∷ l) h k =
-    let f = rising-few n y l (and-true (ltb x y) (strictly (y ∷ l)) h).1 (and-true (ltb x n) (all (λ y. ltb y n) (y ∷ l)) k).1 in
-    let a = ltb-true x y (and-true (ltb x y) (strictly (y ∷ l)) h).0 in
+rising_few n x [] h k = let a = ltb-true x n (and_true (ltb x n) true k).0 in omega arith
+rising_few n x (y ∷ l) h k =
+    let f = rising_few n y l (and_true (ltb x y) (strictly (y ∷ l)) h).1 (and_true (ltb x n) (all (λ y. ltb y n) (y ∷ l)) k).1 in
+    let a = ltb-true x y (and_true (ltb x y) (strictly (y ∷ l)) h).0 in
     omega (arith, f, a)
 
 -- so an accepted list has at most as many as there are particles
-ok-few : (M : Mesh) (l : List ℕ) → particlesOk M l ≡ true → length l ≤ length M.particles
-unfolding particlesOk
-ok-few M [] h = omega arith
-ok-few M (x ∷ l) h =
-    let a = and-true (strictly (x ∷ l)) (all (present M) (x ∷ l)) h in
-    let f = rising-few (length M.particles) x l a.0 a.1 in
+ok_few : (M : Mesh) (l : List ℕ) → particles_ok M l ≡ true → length l ≤ length M.particles
+unfolding particles_ok
+ok_few M [] h = omega arith
+ok_few M (x ∷ l) h =
+    let a = and_true (strictly (x ∷ l)) (all (present M) (x ∷ l)) h in
+    let f = rising_few (length M.particles) x l a.0 a.1 in
     omega (arith, f)
 
 -- and a longer one is refused
-many-wrong : (M : Mesh) (l : List ℕ) → length M.particles ≤ 1024 → 1025 ≤ length l → particlesOk M l ≡ false
-many-wrong M l f h = by (particlesOk M l) refl
+many_wrong : (M : Mesh) (l : List ℕ) → length M.particles ≤ 1024 → 1025 ≤ length l → particles_ok M l ≡ false
+many_wrong M l f h = by (particles_ok M l) refl
   where
-    by : (b : Bool) → particlesOk M l ≡ b → b ≡ false
+    by : (b : Bool) → particles_ok M l ≡ b → b ≡ false
     by false e = refl
-    by true e = let a = ok-few M l e in absurd (omega (arith, a, f, h))
+    by true e = let a = ok_few M l e in absurd (omega (arith, a, f, h))
 
-particles-small : (s : List ℕ) → imageSized s ≡ true → length (meshOf (image_of s)).particles ≤ 1024
-particles-small s h =
+particles_small : (s : List ℕ) → image_sized_of s ≡ true → length (mesh_of (image_of s)).particles ≤ 1024
+particles_small s h =
     let G = image_of s in
-    let z : Sized (length G.points) (length G.roots) (length G.corners) (length G.volumes) (length G.ends) (length G.lengths) (length G.outline) = sizes-told _ _ _ _ _ _ _ (sized-input s h ∙ h) in
-    omega (arith, particles-count G, z.few-particles)
+    let z : Sized (length G.points) (length G.roots) (length G.corners) (length G.volumes) (length G.ends) (length G.lengths) (length G.outline) = sizes_told _ _ _ _ _ _ _ (sized_input s h ∙ h) in
+    omega (arith, particles_count G, z.few_particles)
 
 -- ---- the entry on a capped list
 
-bad-calls : (z : Bool) (M : Mesh) (t l : List ℕ) → particlesOk M t ≡ false → particlesOk M l ≡ false → restMeasureOfCall z M t ≡ restMeasureOfCall z M l
-unfolding restMeasureOfCall
-bad-calls z M t l e f =
-    ap (λ (b : Bool). orRefused (refusal z M true b) (restMeasureOf M t)) e ∙ refused-either z M (restMeasureOf M t) (restMeasureOf M l)
-    ∙ sym (ap (λ (b : Bool). orRefused (refusal z M true b) (restMeasureOf M l)) f)
+bad_calls : (z : Bool) (M : Mesh) (t l : List ℕ) → particles_ok M t ≡ false → particles_ok M l ≡ false → rest_measure_of_call z M t ≡ rest_measure_of_call z M l
+unfolding rest_measure_of_call
+bad_calls z M t l e f =
+    ap (λ (b : Bool). or_refused (refusal z M true b) (the_rest_measure_of M t)) e ∙ refused_either z M (the_rest_measure_of M t) (the_rest_measure_of M l)
+    ∙ sym (ap (λ (b : Bool). or_refused (refusal z M true b) (the_rest_measure_of M l)) f)
 
-pub words-capped : (s b : List ℕ) (m n : ℕ) → imageSized s ≡ true → Capped m 1025 n
-    → restMeasureOfCall (imageSized s) (meshOf (image_of s)) (wordsFrom b 0 n) ≡ restMeasureOfCall (imageSized s) (meshOf (image_of s)) (wordsFrom b 0 m)
-words-capped s b m n h c =
+pub words_capped : (s b : List ℕ) (m n : ℕ) → image_sized_of s ≡ true → Capped m 1025 n
+    → rest_measure_of_call (image_sized_of s) (mesh_of (image_of s)) (words_from b 0 n) ≡ rest_measure_of_call (image_sized_of s) (mesh_of (image_of s)) (words_from b 0 m)
+words_capped s b m n h c =
     ⊎_elim
-    (λ y. ap (λ (k : ℕ). restMeasureOfCall (imageSized s) (meshOf (image_of s)) (wordsFrom b 0 k)) y.0)
+    (λ y. ap (λ (k : ℕ). rest_measure_of_call (image_sized_of s) (mesh_of (image_of s)) (words_from b 0 k)) y.0)
     (λ y.
-    let f = particles-small s h in
-    bad-calls (imageSized s) (meshOf (image_of s)) (wordsFrom b 0 n) (wordsFrom b 0 m)
-    (many-wrong (meshOf (image_of s)) (wordsFrom b 0 n) f (omega (arith, words_long b 0 n, y.0)))
-    (many-wrong (meshOf (image_of s)) (wordsFrom b 0 m) f (omega (arith, words_long b 0 m, y.1))))
+    let f = particles_small s h in
+    bad_calls (image_sized_of s) (mesh_of (image_of s)) (words_from b 0 n) (words_from b 0 m)
+    (many_wrong (mesh_of (image_of s)) (words_from b 0 n) f (omega (arith, words_long b 0 n, y.0)))
+    (many_wrong (mesh_of (image_of s)) (words_from b 0 m) f (omega (arith, words_long b 0 m, y.1))))
     c
 
 -- capped words stand in the bytes
-pub words-within : (m n : ℕ) → Capped (m / 4) 1025 n → 4 * (0 + n) ≤ m
-words-within m n c = let w = capped-within c in omega arith
+pub words_within : (m n : ℕ) → Capped (m / 4) 1025 n → 4 * (0 + n) ≤ m
+words_within m n c = let w = capped_within c in omega arith
 
 -- and are no more than a question may have
-pub words-few : {m n : ℕ} → Capped m 1025 n → n ≤ 2049
-words-few c = let w = capped-most c in omega arith
+pub words_few : {m n : ℕ} → Capped m 1025 n → n ≤ 2049
+words_few c = let w = capped_most c in omega arith
 
 -- ---- the reply
 
-small-or : (n : ℕ) (x : Float) → n < 256 → SmallCode (numberReply (number_of (orRefused n x)))
-small-or zero x h = omega arith
-small-or (suc n) x h = h
+small_or : (n : ℕ) (x : Float) → n < 256 → SmallCode (number_reply (number_of (or_refused n x)))
+small_or zero x h = omega arith
+small_or (suc n) x h = h
 
-pub measure-of-small : (z : Bool) (M : Mesh) (l : List ℕ) (a : Number) → a ≡ number_of (restMeasureOfCall z M l) → SmallCode (numberReply a)
-unfolding restMeasureOfCall
-measure-of-small z M l a e = rw e (small-or _ _ (refusal-small z M true (particlesOk M l)))
+pub measure_of_small : (z : Bool) (M : Mesh) (l : List ℕ) (a : Number) → a ≡ number_of (rest_measure_of_call z M l) → SmallCode (number_reply a)
+unfolding rest_measure_of_call
+measure_of_small z M l a e = rw e (small_or _ _ (refusal_small z M true (particles_ok M l)))

@@ -1,6 +1,6 @@
 // What the C functions on the fan of a particle of a mesh image answer. Their sides are bytes.
 ghost use Rattle.std.specs.Prelude.{◌≡◌, ◌≤◌, ◌<◌, length, take};
-ghost use Rattle.reading_replies.specs.Replies.{Replied, opensReply, groupsReply};
+ghost use Rattle.reading_replies.specs.Replies.{Replied, opens_reply, groups_reply};
 ghost use Rattle.reading_c.specs.Capped.{Capped};
 
 use crate::Question;
@@ -40,7 +40,7 @@ pub fn bytes_into(bytes: &[u8], n: usize, out: &mut [usize])
 // Whether few sides open a particle of a mesh image without confetti, by a small table of them.
 fn few_open(bytes: &[u8], v: usize, sides: &[u8], minimum: usize, out: &mut [u8]) -> u32
     requires { length sides.now ≤ 32 }
-    ensures { Replied (opensReply bytes.now v sides.now minimum) (length out.old) result
+    ensures { Replied (opens_reply bytes.now v sides.now minimum) (length out.old) result
         out.new }
 {
     let mut numbers = [0usize; FEW_SIDES];
@@ -51,7 +51,7 @@ fn few_open(bytes: &[u8], v: usize, sides: &[u8], minimum: usize, out: &mut [u8]
 
 // The same of any sides. More than 2,048 sides are too many for any fan, so 2,049 of them tell.
 fn many_open(bytes: &[u8], v: usize, sides: &[u8], minimum: usize, out: &mut [u8]) -> u32
-    ensures { Replied (opensReply bytes.now v sides.now minimum) (length out.old) result
+    ensures { Replied (opens_reply bytes.now v sides.now minimum) (length out.old) result
         out.new }
 {
     let mut numbers = [0usize; 2049];
@@ -68,7 +68,7 @@ pub fn opens_without_confetti(
     minimum: usize,
     out: &mut [u8],
 ) -> u32
-    ensures { Replied (opensReply bytes.now v sides.now minimum) (length out.old) result
+    ensures { Replied (opens_reply bytes.now v sides.now minimum) (length out.old) result
         out.new }
 {
     if sides.len() <= FEW_SIDES {
@@ -80,7 +80,7 @@ pub fn opens_without_confetti(
 // The groups that few sides make at a particle of a mesh image, by a small table of them.
 fn few_sides(bytes: &[u8], v: usize, sides: &[u8], out: &mut [u8]) -> u32
     requires { length sides.now ≤ 32 }
-    ensures { Replied (groupsReply bytes.now v sides.now) (length out.old) result out.new }
+    ensures { Replied (groups_reply bytes.now v sides.now) (length out.old) result out.new }
 {
     let mut numbers = [0usize; FEW_SIDES];
     let n = sides.len();
@@ -90,7 +90,7 @@ fn few_sides(bytes: &[u8], v: usize, sides: &[u8], out: &mut [u8]) -> u32
 
 // The groups that any sides make there.
 fn many_sides(bytes: &[u8], v: usize, sides: &[u8], out: &mut [u8]) -> u32
-    ensures { Replied (groupsReply bytes.now v sides.now) (length out.old) result out.new }
+    ensures { Replied (groups_reply bytes.now v sides.now) (length out.old) result out.new }
 {
     let mut numbers = [0usize; 2049];
     let n = capped(sides.len(), 2049);
@@ -100,7 +100,7 @@ fn many_sides(bytes: &[u8], v: usize, sides: &[u8], out: &mut [u8]) -> u32
 
 // The groups that sides make at a particle of a mesh image.
 pub fn groups(bytes: &[u8], v: usize, sides: &[u8], out: &mut [u8]) -> u32
-    ensures { Replied (groupsReply bytes.now v sides.now) (length out.old) result out.new }
+    ensures { Replied (groups_reply bytes.now v sides.now) (length out.old) result out.new }
 {
     if sides.len() <= FEW_SIDES {
         return few_sides(bytes, v, sides, out);

@@ -1,14 +1,14 @@
 // A question to a mesh image. Pieces and measures are answered by `tabled`, from its bytes. For the others the image is loaded into local blocks, smaller ones for a small
 // or a middling image, and the public entry that answers is called on their fronts. No other function that reads has such blocks, but for the tiny ones of `tiny`.
 ghost use Rattle.std.specs.Prelude.{◌≡◌, true, ◌≤◌, length};
-ghost use Rattle.mesh.specs.Given.{meshOf, sizesFit};
-ghost use Rattle.image.specs.Image.{imageSized};
+ghost use Rattle.mesh.specs.Given.{mesh_of, sizes_fit_of};
+ghost use Rattle.image.specs.Image.{image_sized_of};
 ghost use Rattle.image.specs.Loads.{Loadable};
 ghost use Rattle.reading_replies.specs.Replies.{Replied};
-ghost use Rattle.reading_c.specs.Questions.{questionOf, questionCall, questionReply};
-ghost use Rattle.image.specs.Small.{smallImage, middlingImage};
+ghost use Rattle.reading_c.specs.Questions.{question_of, question_call, question_reply};
+ghost use Rattle.image.specs.Small.{small_image, middling_image};
 ghost use Rattle.reading_c.specs.declared.Question.TheVariants.{Groups, Unread};
-ghost use Rattle.mesh.specs.Blocks.{givenBefore};
+ghost use Rattle.mesh.specs.Blocks.{given_before};
 
 use crate::{Asked, Question, tabled};
 use image::small;
@@ -31,8 +31,8 @@ fn groups_within(
     out: &mut [u8],
 ) -> u32
     requires { (length list.now ≤ length groups.old) × (length groups.old ≤ 2049) }
-    ensures { let G = givenBefore points roots corners volumes ends lengths outline in
-        Replied (questionCall (Groups v) (sizesFit G) (meshOf G) list.now) (length out.old) result out.new }
+    ensures { let G = given_before points roots corners volumes ends lengths outline in
+        Replied (question_call (Groups v) (sizes_fit_of G) (mesh_of G) list.now) (length out.old) result out.new }
 {
     let n = list.len();
     let a = grouping::groups(
@@ -55,8 +55,8 @@ pub fn few_groups(
     out: &mut [u8],
 ) -> u32
     requires { length list.now ≤ 128 }
-    ensures { let G = givenBefore points roots corners volumes ends lengths outline in
-        Replied (questionCall (Groups v) (sizesFit G) (meshOf G) list.now) (length out.old) result out.new }
+    ensures { let G = given_before points roots corners volumes ends lengths outline in
+        Replied (question_call (Groups v) (sizes_fit_of G) (mesh_of G) list.now) (length out.old) result out.new }
 {
     let mut groups = [0usize; small::SIDES];
     groups_within(
@@ -88,8 +88,8 @@ fn many_groups(
     out: &mut [u8],
 ) -> u32
     requires { length list.now ≤ 2049 }
-    ensures { let G = givenBefore points roots corners volumes ends lengths outline in
-        Replied (questionCall (Groups v) (sizesFit G) (meshOf G) list.now) (length out.old) result out.new }
+    ensures { let G = given_before points roots corners volumes ends lengths outline in
+        Replied (question_call (Groups v) (sizes_fit_of G) (mesh_of G) list.now) (length out.old) result out.new }
 {
     let mut groups = [0usize; 2049];
     groups_within(
@@ -121,8 +121,8 @@ fn ask_groups(
     out: &mut [u8],
 ) -> u32
     requires { length list.now ≤ 2049 }
-    ensures { let G = givenBefore points roots corners volumes ends lengths outline in
-        Replied (questionCall (Groups v) (sizesFit G) (meshOf G) list.now) (length out.old) result out.new }
+    ensures { let G = given_before points roots corners volumes ends lengths outline in
+        Replied (question_call (Groups v) (sizes_fit_of G) (mesh_of G) list.now) (length out.old) result out.new }
 {
     if list.len() <= small::SIDES {
         return few_groups(
@@ -148,8 +148,8 @@ fn ask(
     out: &mut [u8],
 ) -> u32
     requires { length list.now ≤ 2049 }
-    ensures { let G = givenBefore points roots corners volumes ends lengths outline in Replied (questionCall (questionOf q)
-        (sizesFit G) (meshOf G) list.now) (length out.old) result out.new }
+    ensures { let G = given_before points roots corners volumes ends lengths outline in Replied (question_call (question_of q)
+        (sizes_fit_of G) (mesh_of G) list.now) (length out.old) result out.new }
 {
     match q {
         Asked::Opens(v, minimum) => {
@@ -184,10 +184,10 @@ fn ask_within(
     outline: &mut [usize],
     out: &mut [u8],
 ) -> u32
-    requires { (imageSized bytes.now ≡ true) × (length list.now ≤ 2049)
+    requires { (image_sized_of bytes.now ≡ true) × (length list.now ≤ 2049)
         × Loadable bytes.now (length points.old) (length roots.old) (length corners.old) (length volumes.old) (length ends.old)
         (length lengths.old) (length outline.old) }
-    ensures { Replied (questionReply (questionOf q) bytes.now list.now) (length out.old) result
+    ensures { Replied (question_reply (question_of q) bytes.now list.now) (length out.old) result
         out.new }
 {
     let p = image::word_at(bytes, 0);
@@ -219,8 +219,8 @@ fn ask_within(
 
 // A question to a small image, in small blocks: they are cleared in a sixteenth of the time.
 fn ask_small(q: Asked, list: &[usize], bytes: &[u8], out: &mut [u8]) -> u32
-    requires { (imageSized bytes.now ≡ true) × (length list.now ≤ 2049) × (smallImage bytes.now ≡ true) }
-    ensures { Replied (questionReply (questionOf q) bytes.now list.now) (length out.old) result
+    requires { (image_sized_of bytes.now ≡ true) × (length list.now ≤ 2049) × (small_image bytes.now ≡ true) }
+    ensures { Replied (question_reply (question_of q) bytes.now list.now) (length out.old) result
         out.new }
 {
     let mut points = [0.0f32; small::PARTICLES * mesh::POINT_COLUMNS];
@@ -247,8 +247,8 @@ fn ask_small(q: Asked, list: &[usize], bytes: &[u8], out: &mut [u8]) -> u32
 
 // A question to a middling image, in blocks that are cleared in a quarter of the time.
 fn ask_middling(q: Asked, list: &[usize], bytes: &[u8], out: &mut [u8]) -> u32
-    requires { (imageSized bytes.now ≡ true) × (length list.now ≤ 2049) × (middlingImage bytes.now ≡ true) }
-    ensures { Replied (questionReply (questionOf q) bytes.now list.now) (length out.old) result
+    requires { (image_sized_of bytes.now ≡ true) × (length list.now ≤ 2049) × (middling_image bytes.now ≡ true) }
+    ensures { Replied (question_reply (question_of q) bytes.now list.now) (length out.old) result
         out.new }
 {
     let mut points = [0.0f32; small::MIDDLING_PARTICLES * mesh::POINT_COLUMNS];
@@ -275,8 +275,8 @@ fn ask_middling(q: Asked, list: &[usize], bytes: &[u8], out: &mut [u8]) -> u32
 
 // A question to any other image, in blocks for the most that a mesh may have.
 fn ask_large(q: Asked, list: &[usize], bytes: &[u8], out: &mut [u8]) -> u32
-    requires { (imageSized bytes.now ≡ true) × (length list.now ≤ 2049) }
-    ensures { Replied (questionReply (questionOf q) bytes.now list.now) (length out.old) result
+    requires { (image_sized_of bytes.now ≡ true) × (length list.now ≤ 2049) }
+    ensures { Replied (question_reply (question_of q) bytes.now list.now) (length out.old) result
         out.new }
 {
     let mut points = [0.0f32; mesh::PARTICLES * mesh::POINT_COLUMNS];
@@ -303,8 +303,8 @@ fn ask_large(q: Asked, list: &[usize], bytes: &[u8], out: &mut [u8]) -> u32
 
 // A question to an image that is not small.
 fn ask_larger(q: Asked, list: &[usize], bytes: &[u8], out: &mut [u8]) -> u32
-    requires { (imageSized bytes.now ≡ true) × (length list.now ≤ 2049) }
-    ensures { Replied (questionReply (questionOf q) bytes.now list.now) (length out.old) result
+    requires { (image_sized_of bytes.now ≡ true) × (length list.now ≤ 2049) }
+    ensures { Replied (question_reply (question_of q) bytes.now list.now) (length out.old) result
         out.new }
 {
     if small::is_middling(bytes) {
@@ -315,8 +315,8 @@ fn ask_larger(q: Asked, list: &[usize], bytes: &[u8], out: &mut [u8]) -> u32
 
 // A question to an image that has the sizes of a mesh.
 fn ask_loaded(q: Asked, list: &[usize], bytes: &[u8], out: &mut [u8]) -> u32
-    requires { (imageSized bytes.now ≡ true) × (length list.now ≤ 2049) }
-    ensures { Replied (questionReply (questionOf q) bytes.now list.now) (length out.old) result
+    requires { (image_sized_of bytes.now ≡ true) × (length list.now ≤ 2049) }
+    ensures { Replied (question_reply (question_of q) bytes.now list.now) (length out.old) result
         out.new }
 {
     if small::is_small(bytes) {
@@ -327,8 +327,8 @@ fn ask_loaded(q: Asked, list: &[usize], bytes: &[u8], out: &mut [u8]) -> u32
 
 // A question to an image that has the sizes of a mesh: its elements answer, or its blocks.
 fn ask_sized(q: Question, list: &[usize], bytes: &[u8], out: &mut [u8]) -> u32
-    requires { (imageSized bytes.now ≡ true) × (length list.now ≤ 2049) }
-    ensures { Replied (questionReply q bytes.now list.now) (length out.old) result out.new }
+    requires { (image_sized_of bytes.now ≡ true) × (length list.now ≤ 2049) }
+    ensures { Replied (question_reply q bytes.now list.now) (length out.old) result out.new }
 {
     match q {
         Question::Pieces => {
@@ -355,7 +355,7 @@ fn ask_sized(q: Question, list: &[usize], bytes: &[u8], out: &mut [u8]) -> u32
 // A question to an image, beside a list that is no longer than a reply has places for. What is no image of a mesh is refused.
 pub fn image_asked(q: Question, list: &[usize], bytes: &[u8], out: &mut [u8]) -> u32
     requires { length list.now ≤ 2049 }
-    ensures { Replied (questionReply q bytes.now list.now) (length out.old) result out.new }
+    ensures { Replied (question_reply q bytes.now list.now) (length out.old) result out.new }
 {
     if image::image_sized(bytes) {
         return ask_sized(q, list, bytes, out);

@@ -1,14 +1,14 @@
 // The questions that the elements of a mesh image answer: its pieces and its measures. One table of the elements is read from the bytes, small for a small image, and no
 // block is filled. Once it is made, its numbers are not needed, and their places hold the forest of the pieces, or the marks of a list.
 ghost use Rattle.std.specs.Prelude.{◌≡◌, true, ◌≤◌, length};
-ghost use Rattle.model.specs.Elements.{restMeasure, restMeasureOf};
+ghost use Rattle.model.specs.Elements.{rest_measure, the_rest_measure_of};
 ghost use Rattle.model.specs.Pieces.{pieces as pieces_of};
-ghost use Rattle.model.specs.Calls.{particlesOk};
-ghost use Rattle.model.specs.Reads.{piecesCall, restMeasureCall, restMeasureOfCall};
-ghost use Rattle.mesh.specs.Given.{meshOf, sizesFit};
-ghost use Rattle.image.specs.Words.{wordAt};
-ghost use Rattle.image.specs.Image.{image_of, imageSized};
-ghost use Rattle.image.specs.Small.{smallImage};
+ghost use Rattle.model.specs.Calls.{particles_ok};
+ghost use Rattle.model.specs.Reads.{pieces_call, rest_measure_call, rest_measure_of_call};
+ghost use Rattle.mesh.specs.Given.{mesh_of, sizes_fit_of};
+ghost use Rattle.image.specs.Words.{word_at_of};
+ghost use Rattle.image.specs.Image.{image_of, image_sized_of};
+ghost use Rattle.image.specs.Small.{small_image};
 ghost use Rattle.readings.specs.Answers.{number_of, count_of};
 ghost use Rattle.reading_c.specs.Elements.{Faultless, TableRoom, MarksRoom};
 
@@ -21,7 +21,7 @@ const MOST: usize = mesh::ELEMENTS;
 // The measure of an image, by three lent tables.
 fn sum_by(bytes: &[u8], numbers: &mut [usize], verts: &mut [usize], measures: &mut [f32]) -> f32
     requires { TableRoom bytes.now (length numbers.old) (length verts.old) (length measures.old) }
-    ensures { result ≡ restMeasure (meshOf (image_of bytes.now)) }
+    ensures { result ≡ rest_measure (mesh_of (image_of bytes.now)) }
 {
     let s = image_elements::image_table(bytes, numbers, verts, measures);
     elements::sum_of(s.n, measures)
@@ -29,8 +29,8 @@ fn sum_by(bytes: &[u8], numbers: &mut [usize], verts: &mut [usize], measures: &m
 
 // The measure of a small image.
 fn small_sum(bytes: &[u8]) -> f32
-    requires { Faultless bytes.now × (smallImage bytes.now ≡ true) }
-    ensures { result ≡ restMeasure (meshOf (image_of bytes.now)) }
+    requires { Faultless bytes.now × (small_image bytes.now ≡ true) }
+    ensures { result ≡ rest_measure (mesh_of (image_of bytes.now)) }
 {
     let mut numbers = [0usize; small::EDGES];
     let mut verts = [0usize; 2 * small::EDGES];
@@ -41,7 +41,7 @@ fn small_sum(bytes: &[u8]) -> f32
 // The measure of any image.
 fn large_sum(bytes: &[u8]) -> f32
     requires { Faultless bytes.now }
-    ensures { result ≡ restMeasure (meshOf (image_of bytes.now)) }
+    ensures { result ≡ rest_measure (mesh_of (image_of bytes.now)) }
 {
     let mut numbers = [0usize; MOST];
     let mut verts = [0usize; 2 * MOST];
@@ -51,8 +51,8 @@ fn large_sum(bytes: &[u8]) -> f32
 
 // The measure of an image that has the sizes of a mesh.
 pub fn measure(bytes: &[u8]) -> Number
-    requires { imageSized bytes.now ≡ true }
-    ensures { let G = image_of bytes.now in result ≡ number_of (restMeasureCall (sizesFit G) (meshOf G)) }
+    requires { image_sized_of bytes.now ≡ true }
+    ensures { let G = image_of bytes.now in result ≡ number_of (rest_measure_call (sizes_fit_of G) (mesh_of G)) }
 {
     let code = image_checks::image_fault(bytes);
     if code != 0 {
@@ -75,7 +75,7 @@ fn pieces_by(
 ) -> usize
     requires { TableRoom bytes.now (length numbers.old) (length verts.old) (length measures.old)
         × (length verts.old ≤ length links.old) × (length verts.old ≤ length lows.old) }
-    ensures { result ≡ pieces_of (meshOf (image_of bytes.now)) }
+    ensures { result ≡ pieces_of (mesh_of (image_of bytes.now)) }
 {
     let mut heads = [0u16; mesh::ELEMENT_CORNERS];
     let s = image_elements::image_table(bytes, numbers, verts, measures);
@@ -85,8 +85,8 @@ fn pieces_by(
 
 // The pieces of a small image.
 fn small_pieces(bytes: &[u8]) -> usize
-    requires { Faultless bytes.now × (smallImage bytes.now ≡ true) }
-    ensures { result ≡ pieces_of (meshOf (image_of bytes.now)) }
+    requires { Faultless bytes.now × (small_image bytes.now ≡ true) }
+    ensures { result ≡ pieces_of (mesh_of (image_of bytes.now)) }
 {
     let mut numbers = [0usize; small::EDGES];
     let mut verts = [0usize; 2 * small::EDGES];
@@ -106,7 +106,7 @@ fn small_pieces(bytes: &[u8]) -> usize
 // The pieces of any image.
 fn large_pieces(bytes: &[u8]) -> usize
     requires { Faultless bytes.now }
-    ensures { result ≡ pieces_of (meshOf (image_of bytes.now)) }
+    ensures { result ≡ pieces_of (mesh_of (image_of bytes.now)) }
 {
     let mut numbers = [0usize; MOST];
     let mut verts = [0usize; 2 * MOST];
@@ -125,8 +125,8 @@ fn large_pieces(bytes: &[u8]) -> usize
 
 // The pieces of an image that has the sizes of a mesh.
 pub fn pieces(bytes: &[u8]) -> Count
-    requires { imageSized bytes.now ≡ true }
-    ensures { let G = image_of bytes.now in result ≡ count_of (piecesCall (sizesFit G) (meshOf G)) }
+    requires { image_sized_of bytes.now ≡ true }
+    ensures { let G = image_of bytes.now in result ≡ count_of (pieces_call (sizes_fit_of G) (mesh_of G)) }
 {
     let code = image_checks::image_fault(bytes);
     if code != 0 {
@@ -149,7 +149,7 @@ fn listed_by(
 ) -> f32
     requires { TableRoom bytes.now (length numbers.old) (length verts.old) (length measures.old)
         × MarksRoom bytes.now p list.now (length numbers.old) }
-    ensures { result ≡ restMeasureOf (meshOf (image_of bytes.now)) list.now }
+    ensures { result ≡ the_rest_measure_of (mesh_of (image_of bytes.now)) list.now }
 {
     let s = image_elements::image_table(bytes, numbers, verts, measures);
     elements::measure_within(s.n, s.k, verts, measures, list, &mut numbers[..p])
@@ -157,9 +157,9 @@ fn listed_by(
 
 // The same of a small image.
 fn small_listed(bytes: &[u8], p: usize, list: &[usize]) -> f32
-    requires { Faultless bytes.now × (smallImage bytes.now ≡ true) × (p ≡ wordAt bytes.now 0)
-        × (particlesOk (meshOf (image_of bytes.now)) list.now ≡ true) }
-    ensures { result ≡ restMeasureOf (meshOf (image_of bytes.now)) list.now }
+    requires { Faultless bytes.now × (small_image bytes.now ≡ true) × (p ≡ word_at_of bytes.now 0)
+        × (particles_ok (mesh_of (image_of bytes.now)) list.now ≡ true) }
+    ensures { result ≡ the_rest_measure_of (mesh_of (image_of bytes.now)) list.now }
 {
     let mut numbers = [0usize; small::EDGES];
     let mut verts = [0usize; 2 * small::EDGES];
@@ -169,9 +169,9 @@ fn small_listed(bytes: &[u8], p: usize, list: &[usize]) -> f32
 
 // The same of any image.
 fn large_listed(bytes: &[u8], p: usize, list: &[usize]) -> f32
-    requires { Faultless bytes.now × (p ≡ wordAt bytes.now 0)
-        × (particlesOk (meshOf (image_of bytes.now)) list.now ≡ true) }
-    ensures { result ≡ restMeasureOf (meshOf (image_of bytes.now)) list.now }
+    requires { Faultless bytes.now × (p ≡ word_at_of bytes.now 0)
+        × (particles_ok (mesh_of (image_of bytes.now)) list.now ≡ true) }
+    ensures { result ≡ the_rest_measure_of (mesh_of (image_of bytes.now)) list.now }
 {
     let mut numbers = [0usize; MOST];
     let mut verts = [0usize; 2 * MOST];
@@ -181,8 +181,8 @@ fn large_listed(bytes: &[u8], p: usize, list: &[usize]) -> f32
 
 // The measure of what lies in a list of particles of an image that has the sizes of a mesh: 4 where the list does not rise strictly, or names a particle that is absent.
 pub fn measure_of(bytes: &[u8], list: &[usize]) -> Number
-    requires { imageSized bytes.now ≡ true }
-    ensures { let G = image_of bytes.now in result ≡ number_of (restMeasureOfCall (sizesFit G) (meshOf G)
+    requires { image_sized_of bytes.now ≡ true }
+    ensures { let G = image_of bytes.now in result ≡ number_of (rest_measure_of_call (sizes_fit_of G) (mesh_of G)
         list.now) }
 {
     let fault = image_checks::image_fault(bytes);

@@ -1,10 +1,10 @@
 // The groups of a tiny image, such as a fan alone: its blocks are so small that they are cleared in less time than a call touches the pages of the large ones.
 ghost use Rattle.std.specs.Prelude.{◌≡◌, true, ◌≤◌, length};
-ghost use Rattle.image.specs.Image.{imageSized};
+ghost use Rattle.image.specs.Image.{image_sized_of};
 ghost use Rattle.image.specs.Loads.{Loadable};
 ghost use Rattle.reading_replies.specs.Replies.{Replied};
-ghost use Rattle.reading_c.specs.Questions.{questionReply};
-ghost use Rattle.reading_c.specs.Tiny.{tinyImage};
+ghost use Rattle.reading_c.specs.Questions.{question_reply};
+ghost use Rattle.reading_c.specs.Tiny.{tiny_image};
 ghost use Rattle.reading_c.specs.declared.Question.TheVariants.{Groups};
 
 use crate::{Question, questions};
@@ -24,7 +24,7 @@ const BOUNDARY: usize = 32;
 // The counts of an image are those of a tiny one.
 fn is_tiny(bytes: &[u8]) -> bool
     requires { 16 ≤ length bytes.now }
-    ensures { result ≡ tinyImage bytes.now }
+    ensures { result ≡ tiny_image bytes.now }
 {
     image::small::within(bytes, PARTICLES, TRIANGLES, EDGES, BOUNDARY)
 }
@@ -43,10 +43,10 @@ fn groups_loaded(
     outline: &mut [usize],
     out: &mut [u8],
 ) -> u32
-    requires { (imageSized bytes.now ≡ true) × (length list.now ≤ 128)
+    requires { (image_sized_of bytes.now ≡ true) × (length list.now ≤ 128)
         × Loadable bytes.now (length points.old) (length roots.old) (length corners.old) (length volumes.old) (length ends.old)
         (length lengths.old) (length outline.old) }
-    ensures { Replied (questionReply (Groups v) bytes.now list.now) (length out.old) result
+    ensures { Replied (question_reply (Groups v) bytes.now list.now) (length out.old) result
         out.new }
 {
     let p = image::word_at(bytes, 0);
@@ -78,8 +78,8 @@ fn groups_loaded(
 
 // The groups that few sides make in a tiny image, in tiny blocks.
 fn tiny_groups(v: usize, list: &[usize], bytes: &[u8], out: &mut [u8]) -> u32
-    requires { (imageSized bytes.now ≡ true) × (length list.now ≤ 128) × (tinyImage bytes.now ≡ true) }
-    ensures { Replied (questionReply (Groups v) bytes.now list.now) (length out.old) result
+    requires { (image_sized_of bytes.now ≡ true) × (length list.now ≤ 128) × (tiny_image bytes.now ≡ true) }
+    ensures { Replied (question_reply (Groups v) bytes.now list.now) (length out.old) result
         out.new }
 {
     let mut points = [0.0f32; PARTICLES * mesh::POINT_COLUMNS];
@@ -107,7 +107,7 @@ fn tiny_groups(v: usize, list: &[usize], bytes: &[u8], out: &mut [u8]) -> u32
 // The groups that few sides make in an image: a tiny one has a way of its own.
 pub fn groups_asked(v: usize, list: &[usize], bytes: &[u8], out: &mut [u8]) -> u32
     requires { length list.now ≤ 128 }
-    ensures { Replied (questionReply (Groups v) bytes.now list.now) (length out.old) result
+    ensures { Replied (question_reply (Groups v) bytes.now list.now) (length out.old) result
         out.new }
 {
     if image::image_sized(bytes) {

@@ -12,29 +12,29 @@ use Rattle.readings.specs.declared.Truth.{Truth}
 use Rattle.readings.specs.declared.Truth.TheVariants.{Refused as TruthRefused, Holds}
 use Rattle.readings.specs.declared.Tested.{Tested}
 use Rattle.readings.specs.declared.Tested.TheVariants.{Refused as TestRefused, Tested as TestedAs}
-use Rattle.reading_replies.specs.Replies.{code_of, hitWords}
+use Rattle.reading_replies.specs.Replies.{code_of, hit_words}
 
 -- an answer that is a number, a count, a truth, a blade test
-abbrev pub numberReply : Number → Read (List ℕ)
-numberReply (NumberRefused n) = refused n
-numberReply (Value x) = value (to_bits binary32 x ∷ [])
+abbrev pub number_reply : Number → Read (List ℕ)
+number_reply (NumberRefused n) = refused n
+number_reply (Value x) = value (to_bits binary32 x ∷ [])
 
-abbrev pub countReply : Count → Read (List ℕ)
-countReply (CountRefused n) = refused n
-countReply (Counted n) = value (n ∷ [])
+abbrev pub count_reply : Count → Read (List ℕ)
+count_reply (CountRefused n) = refused n
+count_reply (Counted n) = value (n ∷ [])
 
 -- a count, and words behind it
-abbrev pub groupsTold : Count → List ℕ → Read (List ℕ)
-groupsTold (CountRefused n) ws = refused n
-groupsTold (Counted n) ws = value (n ∷ ws)
+abbrev pub groups_told : Count → List ℕ → Read (List ℕ)
+groups_told (CountRefused n) ws = refused n
+groups_told (Counted n) ws = value (n ∷ ws)
 
-abbrev pub truthReply : Truth → Read (List ℕ)
-truthReply (TruthRefused n) = refused n
-truthReply (Holds b) = value (pick b 1 0 ∷ [])
+abbrev pub truth_reply : Truth → Read (List ℕ)
+truth_reply (TruthRefused n) = refused n
+truth_reply (Holds b) = value (pick b 1 0 ∷ [])
 
-abbrev pub testedReply : Tested → Read (List ℕ)
-testedReply (TestRefused n) = refused n
-testedReply (TestedAs h) = value (hitWords h)
+abbrev pub tested_reply : Tested → Read (List ℕ)
+tested_reply (TestRefused n) = refused n
+tested_reply (TestedAs h) = value (hit_words h)
 
 -- the number of a refusal fits a byte
 abbrev pub SmallCode : Read (List ℕ) → Type 0

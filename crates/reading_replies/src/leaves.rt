@@ -1,12 +1,12 @@
 // What the C functions without a mesh answer: the root, and the blade test.
 ghost use Rattle.std.specs.Prelude.{◌≡◌, ◌+◌, ◌*◌, ◌≤◌, length};
-ghost use Rattle.reading_replies.specs.Replies.{Replied, rootReply, bladeReply, pointAt};
+ghost use Rattle.reading_replies.specs.Replies.{Replied, root_reply, blade_reply, point_at_of};
 
 use blade::Point;
 
 // The root of the number of a word.
 pub fn root(bits: u32, out: &mut [u8]) -> u32
-    ensures { Replied (rootReply bits) (length out.old) result out.new }
+    ensures { Replied (root_reply bits) (length out.old) result out.new }
 {
     let x = image::number_of(bits as usize);
     crate::reply::reply_number(readings::reading::root(x), out)
@@ -15,7 +15,7 @@ pub fn root(bits: u32, out: &mut [u8]) -> u32
 // The point of words i and i + 1.
 pub fn point_at(words: &[u8], i: usize) -> Point
     requires { 4 * i + 8 ≤ length words.now }
-    ensures { result ≡ pointAt words.now i }
+    ensures { result ≡ point_at_of words.now i }
 {
     let x = image::number_of(image::word_at(words, i));
     let y = image::number_of(image::word_at(words, i + 1));
@@ -24,7 +24,7 @@ pub fn point_at(words: &[u8], i: usize) -> Point
 
 // The blade test on eight words.
 pub fn blade_hit(words: &[u8], out: &mut [u8]) -> u32
-    ensures { Replied (bladeReply words.now) (length out.old) result out.new }
+    ensures { Replied (blade_reply words.now) (length out.old) result out.new }
 {
     if words.len() != 32 {
         return replies::reply_refused(4, out);

@@ -1,15 +1,15 @@
 // The reply to the answer of an entry that only reads.
 ghost use Rattle.std.specs.Prelude.{◌≤◌, length};
 ghost use Rattle.reading_replies.specs.Replies.{Replied};
-ghost use Rattle.reading_replies.specs.Given.{numberReply, countReply, groupsTold, truthReply, testedReply, SmallCode};
+ghost use Rattle.reading_replies.specs.Given.{number_reply, count_reply, groups_told, truth_reply, tested_reply, SmallCode};
 
 use blade::Hit;
 use readings::{Count, Number, Tested, Truth};
 
 // The reply of an entry that answers a number.
 pub fn reply_number(a: Number, out: &mut [u8]) -> u32
-    requires { SmallCode (numberReply a) }
-    ensures { Replied (numberReply a) (length out.old) result out.new }
+    requires { SmallCode (number_reply a) }
+    ensures { Replied (number_reply a) (length out.old) result out.new }
 {
     match a {
         Number::Refused(code) => {
@@ -23,8 +23,8 @@ pub fn reply_number(a: Number, out: &mut [u8]) -> u32
 
 // The reply of an entry that answers a count.
 pub fn reply_count(a: Count, out: &mut [u8]) -> u32
-    requires { SmallCode (countReply a) }
-    ensures { Replied (countReply a) (length out.old) result out.new }
+    requires { SmallCode (count_reply a) }
+    ensures { Replied (count_reply a) (length out.old) result out.new }
 {
     match a {
         Count::Refused(code) => {
@@ -38,8 +38,8 @@ pub fn reply_count(a: Count, out: &mut [u8]) -> u32
 
 // The reply of an entry that answers a count and a table of groups.
 pub fn reply_groups(a: Count, groups: &[usize], out: &mut [u8]) -> u32
-    requires { SmallCode (groupsTold a groups.now) × (length groups.now ≤ 2049) }
-    ensures { Replied (groupsTold a groups.now) (length out.old) result out.new }
+    requires { SmallCode (groups_told a groups.now) × (length groups.now ≤ 2049) }
+    ensures { Replied (groups_told a groups.now) (length out.old) result out.new }
 {
     match a {
         Count::Refused(code) => {
@@ -53,8 +53,8 @@ pub fn reply_groups(a: Count, groups: &[usize], out: &mut [u8]) -> u32
 
 // The reply of an entry that answers whether something holds.
 pub fn reply_truth(a: Truth, out: &mut [u8]) -> u32
-    requires { SmallCode (truthReply a) }
-    ensures { Replied (truthReply a) (length out.old) result out.new }
+    requires { SmallCode (truth_reply a) }
+    ensures { Replied (truth_reply a) (length out.old) result out.new }
 {
     match a {
         Truth::Refused(code) => {
@@ -71,8 +71,8 @@ pub fn reply_truth(a: Truth, out: &mut [u8]) -> u32
 
 // The reply of a blade test.
 pub fn reply_tested(a: Tested, out: &mut [u8]) -> u32
-    requires { SmallCode (testedReply a) }
-    ensures { Replied (testedReply a) (length out.old) result out.new }
+    requires { SmallCode (tested_reply a) }
+    ensures { Replied (tested_reply a) (length out.old) result out.new }
 {
     match a {
         Tested::Refused(code) => {

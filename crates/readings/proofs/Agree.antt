@@ -12,5 +12,5 @@ pub answers_agree : {A : Type 0} {o r s : A} → r ≡ o → s ≡ o → r ≡ s
 answers_agree p q = p ∙ sym q
 
 -- groups: the count or the refusal, and every place of the lent table
-pub groups-agree : {o : Read (List ℕ × ℕ)} {lent : ℕ} {r s : Count} {t u : List ℕ} → GroupsAnswered o lent r t → GroupsAnswered o lent s u → (r ≡ s) × (t ≡ u)
-groups-agree P Q = (answers_agree P.answer Q.answer, answers_agree P.table_is Q.table_is)
+pub groups_agree : {o : Read (List ℕ × ℕ)} {lent : ℕ} {r s : Count} {t u : List ℕ} → GroupsAnswered o lent r t → GroupsAnswered o lent s u → (r ≡ s) × (t ≡ u)
+groups_agree P Q = (answers_agree P.answer Q.answer, answers_agree P.table_is Q.table_is)

@@ -10,20 +10,20 @@ use lib.Ieee.{Float}
 use Rattle.lists.specs.Lists.{pick, all}
 use Rattle.blade.specs.declared.Point.{Point}
 use Rattle.blade.specs.declared.Hit.{Hit}
-use Rattle.blade.specs.Blade.{bladeHit}
-use Rattle.model.specs.Elements.{restMeasure, restMeasureOf}
+use Rattle.blade.specs.Blade.{blade_hit_of}
+use Rattle.model.specs.Elements.{rest_measure, the_rest_measure_of}
 use Rattle.model.specs.Pieces.{pieces}
 use Rattle.model.specs.Cut.{Line}
-use Rattle.model.specs.Calls.{pointOk, bladeOk, refusal, strictly, particlesOk}
-use Rattle.model.specs.Reads.{refused, value, orRefused, bladeCall, piecesCall, restMeasureCall, restMeasureOfCall}
-use Rattle.mesh.specs.Given.{Given, meshOf, sizesFit}
-use Rattle.mesh.specs.Widths.{pointColumns}
-use Rattle.judge.specs.Checks.{thenCheck, faultOf}
-use Rattle.judge.proofs.Joined.{then-zero}
-use Rattle.judge.proofs.Refusals.{fault-refuses}
+use Rattle.model.specs.Calls.{point_ok, blade_ok, refusal, strictly, particles_ok}
+use Rattle.model.specs.Reads.{refused, value, or_refused, blade_call, pieces_call, rest_measure_call, rest_measure_of_call}
+use Rattle.mesh.specs.Given.{Given, mesh_of, sizes_fit_of}
+use Rattle.mesh.specs.Widths.{point_columns}
+use Rattle.judge.specs.Checks.{then_check, fault_of}
+use Rattle.judge.proofs.Joined.{then_zero}
+use Rattle.judge.proofs.Refusals.{fault_refuses}
 use Rattle.mesh_tables.specs.Accepted.{Accepted}
-use Rattle.mesh_tables.proofs.Accepted.{particles-count}
-use Rattle.arguments.proofs.Judged.{arguments-refuse}
+use Rattle.mesh_tables.proofs.Accepted.{particles_count}
+use Rattle.arguments.proofs.Judged.{arguments_refuse}
 use Rattle.mesh_tables.proofs.Checked.{accepted}
 use Rattle.readings.specs.Answers.{number_of, count_of, tested_of}
 use Rattle.readings.specs.declared.Number.TheVariants.{Refused as NumberRefused, Value}
@@ -31,62 +31,62 @@ use Rattle.readings.specs.declared.Count.TheVariants.{Refused as CountRefused, C
 use Rattle.readings.specs.declared.Tested.TheVariants.{Refused as TestRefused, Tested as TestedAs}
 
 -- a number that isn't 0 refuses
-pub refuse-by : {A : Type 0} (code m : ℕ) (a : A) → code ≡ m → (code ≡ 0 → ⊥) → orRefused m a ≡ refused code
-refuse-by zero m a e h = absurd (h refl)
-refuse-by (suc n) m a e h = rw (sym e) refl
+pub refuse_by : {A : Type 0} (code m : ℕ) (a : A) → code ≡ m → (code ≡ 0 → ⊥) → or_refused m a ≡ refused code
+refuse_by zero m a e h = absurd (h refl)
+refuse_by (suc n) m a e h = rw (sym e) refl
 
 -- where it is 0, the value is the answer
-pub value-by : {A : Type 0} (code m : ℕ) (a b : A) → code ≡ m → code ≡ 0 → b ≡ a → orRefused m a ≡ value b
-value-by code m a b e z q = rw (sym e ∙ z, q) refl
+pub value_by : {A : Type 0} (code m : ℕ) (a b : A) → code ≡ m → code ≡ 0 → b ≡ a → or_refused m a ≡ value b
+value_by code m a b e z q = rw (sym e ∙ z, q) refl
 
 -- ---- the blade test
 
-module _ (B : Line) (p q : Point) (z : Bool) (e : z ≡ (bladeOk B && pointOk p && pointOk q)) where
-  pub blade-refuses : z ≡ false → TestRefused 2 ≡ tested_of (bladeCall B p q)
-  unfolding bladeCall
-  blade-refuses f = ap (λ (t : Bool). tested_of (orRefused (pick t 0 2) (bladeHit B.from B.to p q))) (sym f ∙ e)
+module _ (B : Line) (p q : Point) (z : Bool) (e : z ≡ (blade_ok B && point_ok p && point_ok q)) where
+  pub blade_refuses : z ≡ false → TestRefused 2 ≡ tested_of (blade_call B p q)
+  unfolding blade_call
+  blade_refuses f = ap (λ (t : Bool). tested_of (or_refused (pick t 0 2) (blade_hit_of B.from B.to p q))) (sym f ∙ e)
 
-  pub blade-answers : (r : Hit) → z ≡ true → r ≡ bladeHit B.from B.to p q → TestedAs r ≡ tested_of (bladeCall B p q)
-  unfolding bladeCall
-  blade-answers r f g = ap TestedAs g ∙ ap (λ (t : Bool). tested_of (orRefused (pick t 0 2) (bladeHit B.from B.to p q))) (sym f ∙ e)
+  pub blade_answers : (r : Hit) → z ≡ true → r ≡ blade_hit_of B.from B.to p q → TestedAs r ≡ tested_of (blade_call B p q)
+  unfolding blade_call
+  blade_answers r f g = ap TestedAs g ∙ ap (λ (t : Bool). tested_of (or_refused (pick t 0 2) (blade_hit_of B.from B.to p q))) (sym f ∙ e)
 
 -- ---- a mesh, with arguments beside it
 
 module _ (G : Given) (code : ℕ) where
-  pub pieces-refuses : code ≡ faultOf G → (code ≡ 0 → ⊥) → CountRefused code ≡ count_of (piecesCall (sizesFit G) (meshOf G))
-  unfolding piecesCall
-  pieces-refuses e h = sym (ap count_of (refuse-by code _ (pieces (meshOf G)) (e ∙ fault-refuses G) h))
+  pub pieces_refuses : code ≡ fault_of G → (code ≡ 0 → ⊥) → CountRefused code ≡ count_of (pieces_call (sizes_fit_of G) (mesh_of G))
+  unfolding pieces_call
+  pieces_refuses e h = sym (ap count_of (refuse_by code _ (pieces (mesh_of G)) (e ∙ fault_refuses G) h))
 
-  pub pieces-answers : (r : ℕ) → code ≡ faultOf G → code ≡ 0 → r ≡ pieces (meshOf G) → Counted r ≡ count_of (piecesCall (sizesFit G) (meshOf G))
-  unfolding piecesCall
-  pieces-answers r e z q = sym (ap count_of (value-by code _ (pieces (meshOf G)) r (e ∙ fault-refuses G) z q))
+  pub pieces_answers : (r : ℕ) → code ≡ fault_of G → code ≡ 0 → r ≡ pieces (mesh_of G) → Counted r ≡ count_of (pieces_call (sizes_fit_of G) (mesh_of G))
+  unfolding pieces_call
+  pieces_answers r e z q = sym (ap count_of (value_by code _ (pieces (mesh_of G)) r (e ∙ fault_refuses G) z q))
 
-  pub measure-refuses : code ≡ faultOf G → (code ≡ 0 → ⊥) → NumberRefused code ≡ number_of (restMeasureCall (sizesFit G) (meshOf G))
-  unfolding restMeasureCall
-  measure-refuses e h = sym (ap number_of (refuse-by code _ (restMeasure (meshOf G)) (e ∙ fault-refuses G) h))
+  pub measure_refuses : code ≡ fault_of G → (code ≡ 0 → ⊥) → NumberRefused code ≡ number_of (rest_measure_call (sizes_fit_of G) (mesh_of G))
+  unfolding rest_measure_call
+  measure_refuses e h = sym (ap number_of (refuse_by code _ (rest_measure (mesh_of G)) (e ∙ fault_refuses G) h))
 
-  pub measure-answers : (r : Float) → code ≡ faultOf G → code ≡ 0 → r ≡ restMeasure (meshOf G) → Value r ≡ number_of (restMeasureCall (sizesFit G) (meshOf G))
-  unfolding restMeasureCall
-  measure-answers r e z q = sym (ap number_of (value-by code _ (restMeasure (meshOf G)) r (e ∙ fault-refuses G) z q))
+  pub measure_answers : (r : Float) → code ≡ fault_of G → code ≡ 0 → r ≡ rest_measure (mesh_of G) → Value r ≡ number_of (rest_measure_call (sizes_fit_of G) (mesh_of G))
+  unfolding rest_measure_call
+  measure_answers r e z q = sym (ap number_of (value_by code _ (rest_measure (mesh_of G)) r (e ∙ fault_refuses G) z q))
 
 -- a list that was tested by the length of the points
-pub listed_ok : (G : Given) (l : List ℕ) (t : Bool) → t ≡ (strictly l && all (λ x. ltb x (length G.points / pointColumns)) l) → t ≡ particlesOk (meshOf G) l
-unfolding particlesOk
-listed_ok G l t e = e ∙ ap (λ (n : ℕ). strictly l && all (λ x. ltb x n) l) (sym (particles-count G))
+pub listed_ok : (G : Given) (l : List ℕ) (t : Bool) → t ≡ (strictly l && all (λ x. ltb x (length G.points / point_columns)) l) → t ≡ particles_ok (mesh_of G) l
+unfolding particles_ok
+listed_ok G l t e = e ∙ ap (λ (n : ℕ). strictly l && all (λ x. ltb x n) l) (sym (particles_count G))
 
 -- one refusal behind the faults: the tests that were made, and the number that came of them
-module _ (G : Given) (code code₀ : ℕ) (t : Bool) (first : code ≡ thenCheck code₀ t 4) (fault : code₀ ≡ faultOf G) where
-  behind : code ≡ refusal (sizesFit G) (meshOf G) true t
-  behind = first ∙ ap (λ (c : ℕ). thenCheck c t 4) fault ∙ arguments-refuse G t
+module _ (G : Given) (code code₀ : ℕ) (t : Bool) (first : code ≡ then_check code₀ t 4) (fault : code₀ ≡ fault_of G) where
+  behind : code ≡ refusal (sizes_fit_of G) (mesh_of G) true t
+  behind = first ∙ ap (λ (c : ℕ). then_check c t 4) fault ∙ arguments_refuse G t
 
   -- where none refuses, the mesh is accepted and the test holds
-  pub accepted-with : code ≡ 0 → Accepted G × (t ≡ true)
-  accepted-with z = let w = then-zero code₀ t 4 (λ q. omega arith) (sym first ∙ z) in (accepted G (sym fault ∙ w.0), w.1)
+  pub accepted_with : code ≡ 0 → Accepted G × (t ≡ true)
+  accepted_with z = let w = then_zero code₀ t 4 (λ q. omega arith) (sym first ∙ z) in (accepted G (sym fault ∙ w.0), w.1)
 
-  pub listed-refuses : (l : List ℕ) → t ≡ particlesOk (meshOf G) l → (code ≡ 0 → ⊥) → NumberRefused code ≡ number_of (restMeasureOfCall (sizesFit G) (meshOf G) l)
-  unfolding restMeasureOfCall
-  listed-refuses l e h = sym (ap number_of (refuse-by code _ (restMeasureOf (meshOf G) l) (behind ∙ ap (refusal (sizesFit G) (meshOf G) true) e) h))
+  pub listed_refuses : (l : List ℕ) → t ≡ particles_ok (mesh_of G) l → (code ≡ 0 → ⊥) → NumberRefused code ≡ number_of (rest_measure_of_call (sizes_fit_of G) (mesh_of G) l)
+  unfolding rest_measure_of_call
+  listed_refuses l e h = sym (ap number_of (refuse_by code _ (the_rest_measure_of (mesh_of G) l) (behind ∙ ap (refusal (sizes_fit_of G) (mesh_of G) true) e) h))
 
-  pub listed-answers : (l : List ℕ) (r : Float) → t ≡ particlesOk (meshOf G) l → code ≡ 0 → r ≡ restMeasureOf (meshOf G) l → Value r ≡ number_of (restMeasureOfCall (sizesFit G) (meshOf G) l)
-  unfolding restMeasureOfCall
-  listed-answers l r e z q = sym (ap number_of (value-by code _ (restMeasureOf (meshOf G) l) r (behind ∙ ap (refusal (sizesFit G) (meshOf G) true) e) z q))
+  pub listed_answers : (l : List ℕ) (r : Float) → t ≡ particles_ok (mesh_of G) l → code ≡ 0 → r ≡ the_rest_measure_of (mesh_of G) l → Value r ≡ number_of (rest_measure_of_call (sizes_fit_of G) (mesh_of G) l)
+  unfolding rest_measure_of_call
+  listed_answers l r e z q = sym (ap number_of (value_by code _ (the_rest_measure_of (mesh_of G) l) r (behind ∙ ap (refusal (sizes_fit_of G) (mesh_of G) true) e) z q))

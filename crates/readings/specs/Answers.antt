@@ -3,7 +3,7 @@ use Rattle.std.specs.Prelude.{ℕ, ◌≡◌, Bool, List, [], length, leb, Float
 use Rattle.lists.specs.Lists.{pick, padded}
 use Rattle.blade.specs.declared.Hit.{Hit}
 use Rattle.model.specs.Reads.{Read, refused, value}
-use Rattle.model.specs.Refusals.{argumentRefusal}
+use Rattle.model.specs.Refusals.{argument_refusal}
 use Rattle.readings.specs.declared.Number.{Number}
 use Rattle.readings.specs.declared.Number.TheVariants.{Refused as NumberRefused, Value}
 use Rattle.readings.specs.declared.Count.{Count}
@@ -36,21 +36,21 @@ tested_of (value x) = TestedAs x
 -- ---- groups: a table is lent for them
 
 -- a table with fewer places than there are groups to show, one for each element of the fan, is a bad argument
-abbrev pub placedIn : ℕ → Read (List ℕ × ℕ) → Read (List ℕ × ℕ)
-placedIn lent (refused n) = refused n
-placedIn lent (value gs) = pick (leb (length gs.0) lent) (value gs) (refused argumentRefusal)
+abbrev pub placed_in : ℕ → Read (List ℕ × ℕ) → Read (List ℕ × ℕ)
+placed_in lent (refused n) = refused n
+placed_in lent (value gs) = pick (leb (length gs.0) lent) (value gs) (refused argument_refusal)
 
 -- the answer is the number of groups
-abbrev pub groupCount : Read (List ℕ × ℕ) → Count
-groupCount (refused n) = CountRefused n
-groupCount (value gs) = Counted gs.1
+abbrev pub group_count : Read (List ℕ × ℕ) → Count
+group_count (refused n) = CountRefused n
+group_count (value gs) = Counted gs.1
 
 -- what the lent table shows: the groups, or nothing after a refusal
-abbrev pub groupsShown : Read (List ℕ × ℕ) → List ℕ
-groupsShown (refused n) = []
-groupsShown (value gs) = gs.0
+abbrev pub groups_shown : Read (List ℕ × ℕ) → List ℕ
+groups_shown (refused n) = []
+groups_shown (value gs) = gs.0
 
 -- the answer to a call of o, and every place of the lent table: the groups, and 0 behind them
 pub record GroupsAnswered (o : Read (List ℕ × ℕ)) (lent : ℕ) (r : Count) (table : List ℕ) : Type 0 where
-  pub answer : r ≡ groupCount (placedIn lent o)
-  pub table_is : table ≡ padded lent 0 (groupsShown (placedIn lent o))
+  pub answer : r ≡ group_count (placed_in lent o)
+  pub table_is : table ≡ padded lent 0 (groups_shown (placed_in lent o))

@@ -4,10 +4,10 @@ use Rattle.lists.specs.Lists.{padded}
 use Rattle.fan.specs.Fan.{Fan}
 use Rattle.fan.specs.Groups.{groups_of, count_of}
 use Rattle.reach.specs.Walk.{Lent}
-use Rattle.model.specs.Reads.{groupsCall}
-use Rattle.mesh.specs.Given.{given, meshOf, sizesFit}
-use Rattle.mesh.specs.Widths.{pointColumns}
-use Rattle.judge.specs.Checks.{faultOf}
+use Rattle.model.specs.Reads.{groups_call}
+use Rattle.mesh.specs.Given.{given, mesh_of, sizes_fit_of}
+use Rattle.mesh.specs.Widths.{point_columns}
+use Rattle.judge.specs.Checks.{fault_of}
 use Rattle.readings.specs.declared.Count.{Count}
 use Rattle.readings.specs.Answers.{GroupsAnswered}
 
@@ -20,7 +20,7 @@ pub record FanAsked (verts : List ℕ) (k : ℕ) (sides : List ℕ) : Type 0 whe
 -- a lent table shows the groups of a fan, and 0 behind them; n is their count
 pub record GroupsFilled (F : Fan) (lent : ℕ) (table : List ℕ) (n : ℕ) : Type 0 where
   pub table_is : table ≡ padded lent 0 (groups_of F)
-  pub count-is : n ≡ count_of F
+  pub count_is : n ≡ count_of F
 
 -- what is asked of a table of n elements for a walk from the groups of v's fan, whichever these are
 pub record WalkAsked (n k v : ℕ) (verts : List ℕ) (size seen queue : ℕ) : Type 0 where
@@ -37,6 +37,6 @@ Roomy sides verts = (k : ℕ) → k ≤ 3 → sides * k ≤ 4096 → sides * k �
 -- the answer of `groups` on any accepted mesh of p particles with these corners and ends, whatever stands in its other blocks
 abbrev pub GroupsBy : ℕ → ℕ → List ℕ → List ℕ → List ℕ → ℕ → Count → List ℕ → Type 0
 GroupsBy p v corners ends sides lent r table =
-    (points : List Float) (roots : List ℕ) (volumes lengths : List Float) (outline : List ℕ) → length points / pointColumns ≡ p
-    → faultOf (given points roots corners volumes ends lengths outline) ≡ 0
-    → GroupsAnswered (groupsCall (sizesFit (given points roots corners volumes ends lengths outline)) (meshOf (given points roots corners volumes ends lengths outline)) v sides) lent r table
+    (points : List Float) (roots : List ℕ) (volumes lengths : List Float) (outline : List ℕ) → length points / point_columns ≡ p
+    → fault_of (given points roots corners volumes ends lengths outline) ≡ 0
+    → GroupsAnswered (groups_call (sizes_fit_of (given points roots corners volumes ends lengths outline)) (mesh_of (given points roots corners volumes ends lengths outline)) v sides) lent r table

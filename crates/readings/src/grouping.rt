@@ -3,13 +3,13 @@ ghost use Rattle.std.specs.Prelude.{◌≡◌, ◌/◌, ◌≤◌, length};
 ghost use Rattle.fan.specs.Fan.{fan};
 ghost use Rattle.fan.specs.Groups.{groups_of, count_of};
 ghost use Rattle.reach.specs.Opens.{Opens};
-ghost use Rattle.model.specs.Reads.{groupsCall, opensCall};
-ghost use Rattle.mesh.specs.Given.{meshOf, sizesFit};
-ghost use Rattle.judge.specs.Checks.{faultOf};
+ghost use Rattle.model.specs.Reads.{groups_call, opens_call};
+ghost use Rattle.mesh.specs.Given.{mesh_of, sizes_fit_of};
+ghost use Rattle.judge.specs.Checks.{fault_of};
 ghost use Rattle.readings.specs.Fans.{FanAsked, GroupsFilled, WalkAsked, WalksIn, Roomy, GroupsBy};
 ghost use Rattle.readings.specs.Answers.{GroupsAnswered, truth_of};
-ghost use Rattle.mesh.specs.Blocks.{givenIn, givenBefore};
-ghost use Rattle.mesh.specs.Widths.{cornerColumns, endColumns};
+ghost use Rattle.mesh.specs.Blocks.{given_in, given_before};
+ghost use Rattle.mesh.specs.Widths.{corner_columns, end_columns};
 
 use crate::{Count, Truth};
 use arguments::tests;
@@ -50,7 +50,7 @@ fn groups_by(
     verts: &mut [usize],
     groups: &mut [usize],
 ) -> Count
-    requires { (length corners.now / cornerColumns ≤ 1024) × (length ends.now / endColumns ≤ 2048) × Roomy (length sides.now)
+    requires { (length corners.now / corner_columns ≤ 1024) × (length ends.now / end_columns ≤ 2048) × Roomy (length sides.now)
         (length verts.old) }
     ensures { GroupsBy p v corners.now ends.now sides.now (length groups.old) result
         groups.new }
@@ -80,7 +80,7 @@ fn few_groups(
     sides: &[usize],
     groups: &mut [usize],
 ) -> Count
-    requires { (length corners.now / cornerColumns ≤ 1024) × (length ends.now / endColumns ≤ 2048) × (length sides.now ≤ 16) }
+    requires { (length corners.now / corner_columns ≤ 1024) × (length ends.now / end_columns ≤ 2048) × (length sides.now ≤ 16) }
     ensures { GroupsBy p v corners.now ends.now sides.now (length groups.old) result
         groups.new }
 {
@@ -97,7 +97,7 @@ fn many_groups(
     sides: &[usize],
     groups: &mut [usize],
 ) -> Count
-    requires { (length corners.now / cornerColumns ≤ 1024) × (length ends.now / endColumns ≤ 2048) }
+    requires { (length corners.now / corner_columns ≤ 1024) × (length ends.now / end_columns ≤ 2048) }
     ensures { GroupsBy p v corners.now ends.now sides.now (length groups.old) result
         groups.new }
 {
@@ -118,8 +118,8 @@ pub fn groups(
     sides: &[usize],
     groups: &mut [usize],
 ) -> Count
-    ensures { let G = givenBefore points roots corners volumes ends lengths outline in
-        GroupsAnswered (groupsCall (sizesFit G) (meshOf G) v sides.now) (length groups.old) result
+    ensures { let G = given_before points roots corners volumes ends lengths outline in
+        GroupsAnswered (groups_call (sizes_fit_of G) (mesh_of G) v sides.now) (length groups.old) result
         groups.new }
 {
     let code = judge::checks::judge(points, roots, corners, volumes, ends, lengths, outline);
@@ -260,9 +260,9 @@ fn mesh_opens(
     sides: &[usize],
     minimum: usize,
 ) -> Truth
-    requires { faultOf (givenIn points roots corners volumes ends lengths outline) ≡ 0 }
-    ensures { let G = givenBefore points roots corners volumes ends lengths outline in result
-        ≡ truth_of (opensCall (sizesFit G) (meshOf G) v sides.now minimum) }
+    requires { fault_of (given_in points roots corners volumes ends lengths outline) ≡ 0 }
+    ensures { let G = given_before points roots corners volumes ends lengths outline in result
+        ≡ truth_of (opens_call (sizes_fit_of G) (mesh_of G) v sides.now minimum) }
 {
     let mut verts = [0usize; mesh::ELEMENT_CORNERS];
     let mut fan_verts = [0usize; mesh::ELEMENT_CORNERS];
@@ -309,8 +309,8 @@ pub fn opens_without_confetti(
     sides: &[usize],
     minimum: usize,
 ) -> Truth
-    ensures { let G = givenBefore points roots corners volumes ends lengths outline in result
-        ≡ truth_of (opensCall (sizesFit G) (meshOf G) v sides.now minimum) }
+    ensures { let G = given_before points roots corners volumes ends lengths outline in result
+        ≡ truth_of (opens_call (sizes_fit_of G) (mesh_of G) v sides.now minimum) }
 {
     let code = judge::checks::judge(points, roots, corners, volumes, ends, lengths, outline);
     if code != 0 {

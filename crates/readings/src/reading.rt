@@ -1,13 +1,13 @@
 // The entries that only read a mesh: pieces, measures.
 ghost use Rattle.std.specs.Prelude.{◌≡◌, true, ◌/◌, length};
-ghost use Rattle.model.specs.Elements.{restMeasureOf};
+ghost use Rattle.model.specs.Elements.{the_rest_measure_of};
 ghost use Rattle.model.specs.Pieces.{pieces as pieces_of};
-ghost use Rattle.model.specs.Calls.{particlesOk};
-ghost use Rattle.model.specs.Reads.{rootCall, bladeCall, piecesCall, restMeasureCall, restMeasureOfCall};
-ghost use Rattle.mesh.specs.Given.{meshOf, sizesFit};
+ghost use Rattle.model.specs.Calls.{particles_ok};
+ghost use Rattle.model.specs.Reads.{root_call, blade_call, pieces_call, rest_measure_call, rest_measure_of_call};
+ghost use Rattle.mesh.specs.Given.{mesh_of, sizes_fit_of};
 ghost use Rattle.mesh_tables.specs.Accepted.{Accepted};
 ghost use Rattle.readings.specs.Answers.{number_of, count_of, tested_of};
-ghost use Rattle.mesh.specs.Blocks.{givenIn, givenBefore};
+ghost use Rattle.mesh.specs.Blocks.{given_in, given_before};
 
 use crate::{Count, Number, Tested};
 use arguments::tests;
@@ -16,7 +16,7 @@ use float::root::Rooted;
 
 // The root of a number: 4 where it is below 0 or not finite.
 pub fn root(x: f32) -> Number
-    ensures { result ≡ number_of (rootCall x) }
+    ensures { result ≡ number_of (root_call x) }
 {
     let r = float::root::root(x);
     match r {
@@ -27,7 +27,7 @@ pub fn root(x: f32) -> Number
 
 // The blade from b0 to b1 on the edge from p to q: 2 where a number is out of range.
 pub fn blade_hit(b0: Point, b1: Point, p: Point, q: Point) -> Tested
-    ensures { result ≡ tested_of (bladeCall (record { from = b0; to = b1 }) p q) }
+    ensures { result ≡ tested_of (blade_call (record { from = b0; to = b1 }) p q) }
 {
     let z = judge::tests::both(tests::point_fits(b0), tests::point_fits(b1));
     let z = judge::tests::both(z, tests::point_fits(p));
@@ -48,8 +48,8 @@ fn count_pieces(
     lengths: &[f32],
     outline: &[usize],
 ) -> usize
-    requires { Accepted (givenIn points roots corners volumes ends lengths outline) }
-    ensures { result ≡ pieces_of (meshOf (givenBefore points roots corners volumes ends lengths outline)) }
+    requires { Accepted (given_in points roots corners volumes ends lengths outline) }
+    ensures { result ≡ pieces_of (mesh_of (given_before points roots corners volumes ends lengths outline)) }
 {
     let mut verts = [0usize; mesh::ELEMENT_CORNERS];
     let mut heads = [0u16; mesh::ELEMENT_CORNERS];
@@ -82,8 +82,8 @@ pub fn pieces(
     lengths: &[f32],
     outline: &[usize],
 ) -> Count
-    ensures { let G = givenBefore points roots corners volumes ends lengths outline in result
-        ≡ count_of (piecesCall (sizesFit G) (meshOf G)) }
+    ensures { let G = given_before points roots corners volumes ends lengths outline in result
+        ≡ count_of (pieces_call (sizes_fit_of G) (mesh_of G)) }
 {
     let code = judge::checks::judge(points, roots, corners, volumes, ends, lengths, outline);
     if code != 0 {
@@ -102,8 +102,8 @@ pub fn rest_measure(
     lengths: &[f32],
     outline: &[usize],
 ) -> Number
-    ensures { let G = givenBefore points roots corners volumes ends lengths outline in result
-        ≡ number_of (restMeasureCall (sizesFit G) (meshOf G)) }
+    ensures { let G = given_before points roots corners volumes ends lengths outline in result
+        ≡ number_of (rest_measure_call (sizes_fit_of G) (mesh_of G)) }
 {
     let code = judge::checks::judge(points, roots, corners, volumes, ends, lengths, outline);
     if code != 0 {
@@ -125,9 +125,9 @@ fn listed_measure(
     outline: &[usize],
     list: &[usize],
 ) -> f32
-    requires { Accepted (givenIn points roots corners volumes ends lengths outline)
-        × (particlesOk (meshOf (givenIn points roots corners volumes ends lengths outline)) list.now ≡ true) }
-    ensures { result ≡ restMeasureOf (meshOf (givenBefore points roots corners volumes ends lengths outline)) list.now }
+    requires { Accepted (given_in points roots corners volumes ends lengths outline)
+        × (particles_ok (mesh_of (given_in points roots corners volumes ends lengths outline)) list.now ≡ true) }
+    ensures { result ≡ the_rest_measure_of (mesh_of (given_before points roots corners volumes ends lengths outline)) list.now }
 {
     let mut numbers = [0usize; mesh::ELEMENTS];
     let mut verts = [0usize; mesh::ELEMENT_CORNERS];
@@ -159,8 +159,8 @@ pub fn rest_measure_of(
     outline: &[usize],
     list: &[usize],
 ) -> Number
-    ensures { let G = givenBefore points roots corners volumes ends lengths outline in result
-        ≡ number_of (restMeasureOfCall (sizesFit G) (meshOf G) list.now) }
+    ensures { let G = given_before points roots corners volumes ends lengths outline in result
+        ≡ number_of (rest_measure_of_call (sizes_fit_of G) (mesh_of G) list.now) }
 {
     let code = judge::checks::judge(points, roots, corners, volumes, ends, lengths, outline);
     let ok = tests::rising_below(list, points.len() / mesh::POINT_COLUMNS);

@@ -10,8 +10,8 @@ use borrow.Author.Tests.{lt-ltb, le-ltb}
 use Rattle.lists.specs.Lists.{pick}
 use Rattle.float.specs.Numbers.{zero32}
 use Rattle.model.specs.Mesh.{Particle as Model, blank}
-use Rattle.model.specs.Reads.{orRefused, stateCall}
-use Rattle.records.specs.State.{particleOf, particlesOf, state_of}
+use Rattle.model.specs.Reads.{or_refused, state_call}
+use Rattle.records.specs.State.{particle_of, particles_of, state_of}
 use Rattle.records.specs.declared.Particle.{Particle}
 use Rattle.records.specs.declared.State.{State}
 use Rattle.records.specs.declared.State.TheVariants.{Refused, Told}
@@ -21,29 +21,29 @@ abbrev pub unused : Particle
 unused = record { x = zero32; y = zero32; rest_x = zero32; rest_y = zero32; mass = zero32; inv = zero32; velocity_x = zero32; velocity_y = zero32; root = 0; damaged = 0 }
 
 -- what a record tells
-abbrev pub toldBy : Particle → State
-toldBy p = Told (eq p.inv zero32) (eqb p.damaged 1)
+abbrev pub told_by : Particle → State
+told_by p = Told (eq p.inv zero32) (eqb p.damaged 1)
 
 -- the answer at how the test came out and at the particle that is read
 abbrev answered : Bool → Model → State
-answered there p = state_of (orRefused (pick there 0 4) (eq p.inv zero32, eqb p.damaged 1))
+answered there p = state_of (or_refused (pick there 0 4) (eq p.inv zero32, eqb p.damaged 1))
 
 -- as many particles as records
-as_many : (ps : List Particle) → length (particlesOf ps) ≡ length ps
-as_many ps = length-map ps particleOf
+as_many : (ps : List Particle) → length (particles_of ps) ≡ length ps
+as_many ps = length-map ps particle_of
 
 -- past the end: 4
-pub absent : (ps : List Particle) (v : ℕ) → length ps ≤ v → Refused 4 ≡ state_of (stateCall (particlesOf ps) v)
-unfolding stateCall
-absent ps v h = sym (ap (λ (there : Bool). answered there (get_or (particlesOf ps) v blank)) (le-ltb v (length (particlesOf ps)) (rw (as_many ps) h)))
+pub absent : (ps : List Particle) (v : ℕ) → length ps ≤ v → Refused 4 ≡ state_of (state_call (particles_of ps) v)
+unfolding state_call
+absent ps v h = sym (ap (λ (there : Bool). answered there (get_or (particles_of ps) v blank)) (le-ltb v (length (particles_of ps)) (rw (as_many ps) h)))
 
 -- elsewhere: what the record at v tells
-pub present : (ps : List Particle) (v : ℕ) → v < length ps → toldBy (get_or ps v unused) ≡ state_of (stateCall (particlesOf ps) v)
-unfolding stateCall
+pub present : (ps : List Particle) (v : ℕ) → v < length ps → told_by (get_or ps v unused) ≡ state_of (state_call (particles_of ps) v)
+unfolding state_call
 present ps v h =
-    sym (ap (λ (there : Bool). answered there (get_or (particlesOf ps) v blank)) (lt-ltb v (length (particlesOf ps)) (rw (as_many ps) h))
-    ∙ ap (λ (p : Model). answered true p) (get_or-map particleOf ps v unused))
+    sym (ap (λ (there : Bool). answered there (get_or (particles_of ps) v blank)) (lt-ltb v (length (particles_of ps)) (rw (as_many ps) h))
+    ∙ ap (λ (p : Model). answered true p) (get_or-map particle_of ps v unused))
 
 -- any two answers that the contract allows agree: it states the answer as an equation, and nothing is lent to be written
-pub answers_agree : (ps : List Particle) (v : ℕ) (r s : State) → r ≡ state_of (stateCall (particlesOf ps) v) → s ≡ state_of (stateCall (particlesOf ps) v) → r ≡ s
+pub answers_agree : (ps : List Particle) (v : ℕ) (r s : State) → r ≡ state_of (state_call (particles_of ps) v) → s ≡ state_of (state_call (particles_of ps) v) → r ≡ s
 answers_agree ps v r s p q = p ∙ sym q

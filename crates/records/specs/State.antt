@@ -7,24 +7,24 @@ use Rattle.records.specs.declared.State.{State}
 use Rattle.records.specs.declared.State.TheVariants.{Refused, Told}
 
 -- a record as the model's particle: field by field
-abbrev pub particleOf : Particle → Model
-particleOf p =
+abbrev pub particle_of : Particle → Model
+particle_of p =
     record {
       x = p.x;
       y = p.y;
-      rest-x = p.rest_x;
-      rest-y = p.rest_y;
+      rest_x = p.rest_x;
+      rest_y = p.rest_y;
       mass = p.mass;
       inv = p.inv;
-      velocity-x = p.velocity_x;
-      velocity-y = p.velocity_y;
+      velocity_x = p.velocity_x;
+      velocity_y = p.velocity_y;
       root = p.root;
       damaged = p.damaged;
     }
 
 -- a run of records as the model's particles, in order
-abbrev pub particlesOf : List Particle → List Model
-particlesOf ps = map particleOf ps
+abbrev pub particles_of : List Particle → List Model
+particles_of ps = map particle_of ps
 
 -- the answer of the call: a refusal's number, or pinned and damaged
 abbrev pub state_of : Read (Bool × Bool) → State

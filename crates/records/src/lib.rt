@@ -4,8 +4,8 @@
 ghost use Rattle.std.specs.Prelude.{◌≡◌, eqb};
 ghost use Rattle.std.specs.Float.Ieee.{eq};
 ghost use Rattle.float.specs.Numbers.{zero32};
-ghost use Rattle.model.specs.Reads.{stateCall};
-ghost use Rattle.records.specs.State.{state_of, particlesOf};
+ghost use Rattle.model.specs.Reads.{state_call};
+ghost use Rattle.records.specs.State.{state_of, particles_of};
 
 // A particle as one record: position, rest position, mass, inverse mass (0 means pinned), velocity, root, damaged flag.
 #[derive(Clone, Copy)]
@@ -38,7 +38,7 @@ fn told(inv: f32, damaged: usize) -> State
 
 // Is particle v pinned, and is it damaged: 4 where there is no such particle.
 pub fn particle_state(particles: &[Particle], v: usize) -> State
-    ensures { result ≡ state_of (stateCall (particlesOf particles.now) v) }
+    ensures { result ≡ state_of (state_call (particles_of particles.now) v) }
 {
     if particles.len() <= v {
         return State::Refused(4);

@@ -4,12 +4,12 @@ use Rattle.model.specs.Mesh.{Edge, Mesh}
 use Rattle.lists.specs.Lists.{stands}
 use Rattle.columns.specs.Block.{cell}
 use Rattle.model.specs.Elements.{Kind, element?}
-use Rattle.model.specs.Split.{Opening, copyFor, moved, calm, stayed, doubled}
+use Rattle.model.specs.Split.{Opening, copy_for_of, moved, calm, stayed, doubled}
 use Rattle.mesh.specs.At.{edges_at}
 use Rattle.mesh.specs.Workers.{EdgeRoom, row_at}
-use Rattle.mesh.specs.Widths.{pointColumns, endColumns}
-use Rattle.mesh.specs.Limits.{particleLimit}
-use Rattle.split_plan.specs.Opened.{Ringed, RingRoom, CornersBelow, ringFrom, OpeningIn}
+use Rattle.mesh.specs.Widths.{point_columns, end_columns}
+use Rattle.mesh.specs.Limits.{particle_limit}
+use Rattle.split_plan.specs.Opened.{Ringed, RingRoom, CornersBelow, ring_from, OpeningIn}
 use Rattle.work.specs.Rows.{GrownTo, Between}
 use Rattle.work.specs.Places.{EndsIn}
 use Rattle.work.specs.declared.Grown.{Grown}
@@ -35,18 +35,18 @@ pub record CopyRoom (before k n count m room lv lg le ll : ℕ) : Type 0 where
 pub record CopiesGrown (e : Edge) (x from v before k n count m room : ℕ) (verts groups ends ends' : List ℕ) (lengths lengths' : List Float) (r : Grown) : Type 0 where
   pub copies :
       (O : Opening) → Ringed k O n verts groups → O.count ≡ count
-      → GrownTo r room (edges_at m ends lengths ++ map (λ g. calm (moved v (copyFor v before g) e)) (ringFrom O from x)) (λ q. edges_at q ends' lengths')
+      → GrownTo r room (edges_at m ends lengths ++ map (λ g. calm (moved v (copy_for_of v before g) e)) (ring_from O from x)) (λ q. edges_at q ends' lengths')
   pub same : SameRows m ends ends' lengths lengths'
   pub between : Between m room r
 
 -- what edge i of m asks: one that is no element names particles that rest in the block
 pub record SettleRoom (K : Kind) (i v before k n count p m room : ℕ) (verts groups : List ℕ) (lp : ℕ) (ends : List ℕ) (lengths : List Float) : Type 0 where
   pub copy : CopyRoom before k n count m room (length verts) (length groups) (length ends) (length lengths)
-  pub rests : p ≤ lp / pointColumns
-  pub v-in : v < p
-  pub corners-in : CornersBelow p n k verts
-  pub i-in : i < m
-  pub ends-in : element? K (row_at ends lengths i) ≡ false → ((row_at ends lengths i).a < p) × ((row_at ends lengths i).b < p)
+  pub rests : p ≤ lp / point_columns
+  pub v_in : v < p
+  pub corners_in : CornersBelow p n k verts
+  pub i_in : i < m
+  pub ends_in : element? K (row_at ends lengths i) ≡ false → ((row_at ends lengths i).a < p) × ((row_at ends lengths i).b < p)
 
 -- edge i of m stays in the lowest of its groups, and its copies stand behind the m edges
 pub record EdgeSettled (K : Kind) (i v before k n count p m room : ℕ) (verts groups : List ℕ) (points : List Float) (ends ends' : List ℕ) (lengths lengths' : List Float) (r : Grown) : Type 0 where
@@ -59,16 +59,16 @@ pub record EdgeSettled (K : Kind) (i v before k n count p m room : ℕ) (verts g
 -- what the first e edges ask: those that are no element name particles that rest in the block
 pub record EdgesRoom (K : Kind) (v before k n count p e room : ℕ) (verts groups : List ℕ) (lp : ℕ) (ends : List ℕ) (lengths : List Float) : Type 0 where
   pub copy : CopyRoom before k n count e room (length verts) (length groups) (length ends) (length lengths)
-  pub rests : p ≤ lp / pointColumns
-  pub v-in : v < p
-  pub corners-in : CornersBelow p n k verts
-  pub ends-in : (j : ℕ) → j < e → element? K (row_at ends lengths j) ≡ false → ((row_at ends lengths j).a < p) × ((row_at ends lengths j).b < p)
+  pub rests : p ≤ lp / point_columns
+  pub v_in : v < p
+  pub corners_in : CornersBelow p n k verts
+  pub ends_in : (j : ℕ) → j < e → element? K (row_at ends lengths j) ≡ false → ((row_at ends lengths j).a < p) × ((row_at ends lengths j).b < p)
 
 -- r is the next edge from `from` on, of the first e, that names v, else e: those before it do not
 pub record NextNamed (v from e : ℕ) (ends : List ℕ) (r : ℕ) : Type 0 where
   pub onward : from ≤ r
   pub within : r ≤ e
-  pub unnamed : (j : ℕ) → from ≤ j → j < r → stands v (get_or ends j 0 ∷ get_or ends (length ends / endColumns + j) 0 ∷ []) ≡ false
+  pub unnamed : (j : ℕ) → from ≤ j → j < r → stands v (get_or ends j 0 ∷ get_or ends (length ends / end_columns + j) 0 ∷ []) ≡ false
 
 -- ---- other edges, by the table of the edges
 
@@ -76,7 +76,7 @@ pub record NextNamed (v from e : ℕ) (ends : List ℕ) (r : ℕ) : Type 0 where
 pub record TableRoom (before count p m room : ℕ) (ends table : List ℕ) : Type 0 where
   pub linked : EdgesLinked m ends table
   pub few : room ≤ 2048
-  pub most : before ≤ particleLimit
+  pub most : before ≤ particle_limit
   pub heads : before + count ≤ 1025
   pub behind : p ≤ before
 
@@ -89,17 +89,17 @@ LinkedGrown (Rows m) ends table = EdgesLinked m ends table
 pub record EndRoom (i v w m : ℕ) (ends table : List ℕ) : Type 0 where
   pub linked : EdgesLinked m ends table
   pub here : i < m
-  pub holding : holds 2 (cell 0 (length ends / endColumns) ends) v i ≡ true
-  pub head : w < particleLimit
-  pub fresh : (w ≡ v → ⊥) → (c : ℕ) → c < 2 → cell 0 (length ends / endColumns) ends c i ≡ w → ⊥
+  pub holding : holds 2 (cell 0 (length ends / end_columns) ends) v i ≡ true
+  pub head : w < particle_limit
+  pub fresh : (w ≡ v → ⊥) → (c : ℕ) → c < 2 → cell 0 (length ends / end_columns) ends c i ≡ w → ⊥
 
 -- the first n numbers rise and name edges at v, of the first e, whose table this is and whose ends are particles that were there before; each group's copy has a head
 pub record StrapsRoom (v before n e : ℕ) (numbers groups ends table : List ℕ) : Type 0 where
   pub parts : PartsRoom before n e numbers groups
   pub linked : EdgesLinked e ends table
-  pub ends-in : EndsIn before e ends
-  pub holding : (i : ℕ) → i < n → holds 2 (cell 0 (length ends / endColumns) ends) v (get_or numbers i 0) ≡ true
-  pub copies : (i : ℕ) → i < n → copyFor v before (get_or groups i 0) < particleLimit
+  pub ends_in : EndsIn before e ends
+  pub holding : (i : ℕ) → i < n → holds 2 (cell 0 (length ends / end_columns) ends) v (get_or numbers i 0) ≡ true
+  pub copies : (i : ℕ) → i < n → copy_for_of v before (get_or groups i 0) < particle_limit
 
 -- two different ends below p
 pub record EndsBelow (p : ℕ) (e : Edge) : Type 0 where
@@ -112,4 +112,4 @@ pub record PushRoom (n : ℕ) (e : Edge) (ends : List ℕ) (ll : ℕ) (table : L
   pub linked : EdgesLinked n ends table
   pub few : n + 1 ≤ 2048
   pub columns : EdgeRoom (n + 1) (length ends) ll
-  pub row : EndsBelow particleLimit e
+  pub row : EndsBelow particle_limit e

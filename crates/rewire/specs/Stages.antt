@@ -2,9 +2,9 @@
 use Rattle.std.specs.Prelude.{ℕ, ◌/◌, ◌<◌, ◌≤◌, ◌≡◌, List, map, length, get_or, Float}
 use Rattle.model.specs.Mesh.{Mesh}
 use Rattle.model.specs.Elements.{Kind, Triangles, Straps}
-use Rattle.model.specs.Split.{Opening, rewiredTriangles, rewiredStraps, otherEdges}
-use Rattle.mesh.specs.At.{trianglesAt, edges_at}
-use Rattle.mesh.specs.Widths.{cornerColumns, endColumns}
+use Rattle.model.specs.Split.{Opening, rewired_triangles, rewired_straps, other_edges}
+use Rattle.mesh.specs.At.{triangles_at, edges_at}
+use Rattle.mesh.specs.Widths.{corner_columns, end_columns}
 use Rattle.split_plan.specs.Opened.{Numbered, OpeningIn}
 use Rattle.work.specs.declared.Grown.{Grown}
 use Rattle.work.specs.Rows.{GrownTo}
@@ -14,22 +14,22 @@ use Rattle.work.specs.Rows.{GrownTo}
 -- an opening at v with so many particles before it, whose parts' numbers and groups these are
 pub record PartsBy (O : Opening) (v before n : ℕ) (numbers groups : List ℕ) : Type 0 where
   pub at : O.v ≡ v
-  pub before-is : O.before ≡ before
+  pub before_is : O.before ≡ before
   pub numbered : Numbered O n numbers
   pub size : length O.fan ≡ n
-  pub group-is : (i : ℕ) → i < n → get_or (map (λ (p : _). p.group) O.fan) i 0 ≡ get_or groups i 0
+  pub group_is : (i : ℕ) → i < n → get_or (map (λ (p : _). p.group) O.fan) i 0 ≡ get_or groups i 0
 
 -- the triangles of the fan have their groups' copies for v
 pub record TrianglesRewired (v before n : ℕ) (numbers groups corners corners' : List ℕ) : Type 0 where
   pub triangles :
-      (O : Opening) (t : ℕ) (volumes : List Float) → PartsBy O v before n numbers groups → t ≤ length corners / cornerColumns
-      → trianglesAt t corners' volumes ≡ rewiredTriangles Triangles O (trianglesAt t corners volumes)
+      (O : Opening) (t : ℕ) (volumes : List Float) → PartsBy O v before n numbers groups → t ≤ length corners / corner_columns
+      → triangles_at t corners' volumes ≡ rewired_triangles Triangles O (triangles_at t corners volumes)
 
 -- the straps of the fan have their groups' copies for v
 pub record StrapsRewired (v before n : ℕ) (numbers groups ends ends' : List ℕ) : Type 0 where
   pub straps :
-      (O : Opening) (e : ℕ) (lengths : List Float) → PartsBy O v before n numbers groups → e ≤ length ends / endColumns
-      → edges_at e ends' lengths ≡ rewiredStraps Straps O (edges_at e ends lengths)
+      (O : Opening) (e : ℕ) (lengths : List Float) → PartsBy O v before n numbers groups → e ≤ length ends / end_columns
+      → edges_at e ends' lengths ≡ rewired_straps Straps O (edges_at e ends lengths)
 
 -- ---- other edges
 
@@ -37,4 +37,4 @@ pub record StrapsRewired (v before n : ℕ) (numbers groups ends ends' : List �
 pub record EdgesGrown (K : Kind) (v before k n count p e room : ℕ) (verts groups : List ℕ) (points : List Float) (ends ends' : List ℕ) (lengths lengths' : List Float) (r : Grown) : Type 0 where
   pub edges :
       (O : Opening) (M : Mesh) → OpeningIn O M v before k n count p verts groups points
-      → GrownTo r room (otherEdges K M O (edges_at e ends lengths)) (λ m. edges_at m ends' lengths')
+      → GrownTo r room (other_edges K M O (edges_at e ends lengths)) (λ m. edges_at m ends' lengths')

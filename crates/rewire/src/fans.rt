@@ -2,7 +2,7 @@
 ghost use Rattle.std.specs.Prelude.{◌/◌, length};
 ghost use Rattle.rewire.specs.Stages.{TrianglesRewired};
 ghost use Rattle.rewire.specs.Parts.{PartsRoom};
-ghost use Rattle.mesh.specs.Widths.{cornerColumns};
+ghost use Rattle.mesh.specs.Widths.{corner_columns};
 
 // Puts the copies of the groups for v in the corners of the fan's triangles.
 pub fn rewire_triangles(
@@ -13,7 +13,7 @@ pub fn rewire_triangles(
     groups: &[usize],
     corners: &mut [usize],
 )
-    requires { PartsRoom before n (length corners.old / cornerColumns) numbers.now groups.now }
+    requires { PartsRoom before n (length corners.old / corner_columns) numbers.now groups.now }
     ensures { TrianglesRewired v before n numbers.now groups.now corners.old
         corners.new }
 {

@@ -1,6 +1,6 @@
 // The straps of a fan, and the other edges at v, which the table of the edges at each particle finds: the table is kept true.
 ghost use Rattle.std.specs.Prelude.{◌≡◌, [], ◌∷◌, ◌++◌, ◌+◌, ◌<◌, ◌≤◌, ◌/◌, length};
-ghost use Rattle.elements.specs.Table.{kindIs};
+ghost use Rattle.elements.specs.Table.{kind_is};
 ghost use Rattle.mesh.specs.At.{edges_at};
 ghost use Rattle.mesh.specs.Workers.{edge_of};
 ghost use Rattle.links.specs.Linked.{EdgesLinked};
@@ -131,9 +131,9 @@ fn settle_edge(
     lengths: &mut [f32],
     table: &mut [u16],
 ) -> Grown
-    requires { SettleRoom (kindIs kind) i v before k n count p m room verts.now groups.now (length points.now) ends.old
+    requires { SettleRoom (kind_is kind) i v before k n count p m room verts.now groups.now (length points.now) ends.old
         lengths.old × TableRoom before count p m room ends.old table.old }
-    ensures { EdgeSettled (kindIs kind) i v before k n count p m room verts.now groups.now
+    ensures { EdgeSettled (kind_is kind) i v before k n count p m room verts.now groups.now
         points.now ends.old ends.new lengths.old lengths.new result
         × LinkedGrown result ends.new table.new }
 {
@@ -190,9 +190,9 @@ pub fn other_edges(
     table: &mut [u16],
     list: &mut [usize],
 ) -> Grown
-    requires { EdgesRoom (kindIs kind) v before k n count p e room verts.now groups.now (length points.now) ends.old
+    requires { EdgesRoom (kind_is kind) v before k n count p e room verts.now groups.now (length points.now) ends.old
         lengths.old × TableRoom before count p e room ends.old table.old × (e ≤ length list.old) }
-    ensures { EdgesGrown (kindIs kind) v before k n count p e room verts.now groups.now
+    ensures { EdgesGrown (kind_is kind) v before k n count p e room verts.now groups.now
         points.now ends.old ends.new lengths.old lengths.new result
         × LinkedGrown result ends.new table.new }
 {

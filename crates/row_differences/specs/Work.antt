@@ -1,7 +1,7 @@
 -- What the workers ask and promise. Only the contracts between workers, and theorems, need this file. Definitions only.
 use Rattle.std.specs.Prelude.{ℕ, ◌+◌, ◌/◌, ◌^◌, ◌<◌, ◌≤◌, ◌≡◌, Bool, true, false, ltb, List, length, get_or, take}
 use Rattle.lists.specs.Lists.{pick, tab}
-use Rattle.bits.specs.Rows.{columnAt}
+use Rattle.bits.specs.Rows.{column_at}
 use Rattle.sheet.specs.Work.{RowsIn}
 use Rattle.differences.specs.declared.Part.{Part}
 use Rattle.differences.specs.declared.Part.TheVariants.{Particles, Triangles, Edges, Boundary}
@@ -21,12 +21,12 @@ pub record Level (a b c : ℕ) : Type 0 where
   pub third : c ≡ a
 
 -- the reading of place k of three columns
-abbrev pub readingAt : List ℕ → List ℕ → List ℕ → ℕ → Reading
-readingAt a b c k = pick (ltb k (length a)) (Row (get_or a k 0) (get_or b k 0) (get_or c k 0)) Missing
+abbrev pub reading_at : List ℕ → List ℕ → List ℕ → ℕ → Reading
+reading_at a b c k = pick (ltb k (length a)) (Row (get_or a k 0) (get_or b k 0) (get_or c k 0)) Missing
 
 -- the rows of three columns
-unfoldable pub rowsIn : Part → List ℕ → List ℕ → List ℕ → List (List ℕ)
-rowsIn p a b c = tab (length a) (λ k. row_by p (get_or a k 0) (get_or b k 0) (get_or c k 0))
+unfoldable pub rows_in : Part → List ℕ → List ℕ → List ℕ → List (List ℕ)
+rows_in p a b c = tab (length a) (λ k. row_by p (get_or a k 0) (get_or b k 0) (get_or c k 0))
 
 -- the first two columns of particles hold coordinates' fields
 abbrev pub CoordsIn : Part → List ℕ → List ℕ → Type 0
@@ -40,16 +40,16 @@ pub record RowsAsked (p : Part) (a b c x y z : List ℕ) (count : ℕ) : Type 0 
   pub first : Level (length a) (length b) (length c)
   pub second : Level (length x) (length y) (length z)
   pub few : length a ≤ 256
-  pub few-second : length x ≤ 256
+  pub few_second : length x ≤ 256
   pub coords : CoordsIn p a b
-  pub coords-second : CoordsIn p x y
+  pub coords_second : CoordsIn p x y
   pub counted : count ≤ 3000
 
 -- n rows of three fields from bit `at` lie inside the bytes, with a blade behind them, and three columns have places for them
 pub record ThreeIn (s : List ℕ) (at w v n la lb lc : ℕ) : Type 0 where
   pub rows : RowsIn s (at + 44) (w + w + v) n
   pub narrow : w ≤ 11
-  pub narrow-third : v ≤ 11
+  pub narrow_third : v ≤ 11
   pub few : n ≤ 256
   pub first : n ≤ la
   pub second : n ≤ lb
@@ -57,27 +57,27 @@ pub record ThreeIn (s : List ℕ) (at w v n la lb lc : ℕ) : Type 0 where
 
 -- they stand at the fronts of the columns
 pub record ThreeRead (l : List ℕ) (at w v n : ℕ) (a b c : List ℕ) : Type 0 where
-  pub first : take n a ≡ columnAt l at (w + w + v) w n
-  pub second : take n b ≡ columnAt l (at + w) (w + w + v) w n
-  pub third : take n c ≡ columnAt l (at + w + w) (w + w + v) v n
+  pub first : take n a ≡ column_at l at (w + w + v) w n
+  pub second : take n b ≡ column_at l (at + w) (w + w + v) w n
+  pub third : take n c ≡ column_at l (at + w + w) (w + w + v) v n
 
 -- the lists whose entries have three fields
-abbrev pub ofThree : Part → Bool
-ofThree Particles = true
-ofThree Triangles = true
-ofThree Edges = true
-ofThree Boundary = false
+abbrev pub of_three : Part → Bool
+of_three Particles = true
+of_three Triangles = true
+of_three Edges = true
+of_three Boundary = false
 
 -- what the lines of one list of two sheets ask
 pub record ListAsked (p : Part) (w v : ℕ) (s : List ℕ) (at n : ℕ) (t : List ℕ) (from m : ℕ) (count : ℕ) : Type 0 where
-  pub three : ofThree p ≡ true
+  pub three : of_three p ≡ true
   pub narrow : w ≤ 11
-  pub narrow-third : v ≤ 11
+  pub narrow_third : v ≤ 11
   pub coords : 2 ^ w ≤ 2048
   pub rows : RowsIn s (at + 44) (w + w + v) n
-  pub rows-second : RowsIn t (from + 44) (w + w + v) m
+  pub rows_second : RowsIn t (from + 44) (w + w + v) m
   pub few : n ≤ 256
-  pub few-second : m ≤ 256
+  pub few_second : m ≤ 256
   pub counted : count ≤ 3000
 
 -- what the lines of two outlines ask
@@ -85,5 +85,5 @@ pub record SidesAsked (n left m right count : ℕ) : Type 0 where
   pub first : n ≤ left / 2
   pub second : m ≤ right / 2
   pub few : n ≤ 256
-  pub few-second : m ≤ 256
+  pub few_second : m ≤ 256
   pub counted : count ≤ 3000

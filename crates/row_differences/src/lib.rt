@@ -3,11 +3,11 @@
 
 ghost use Rattle.std.specs.Prelude.{◌≡◌, [], ◌∷◌, ℕ, ◌≤◌, length, drop};
 ghost use Rattle.bits.specs.Bits.{bits_of};
-ghost use Rattle.bits.specs.Rows.{readRows};
-ghost use Rattle.outline_tables.specs.Rows.{sidesAt};
-ghost use Rattle.differences.specs.Differences.{rowsDiffer};
+ghost use Rattle.bits.specs.Rows.{read_rows};
+ghost use Rattle.outline_tables.specs.Rows.{sides_at};
+ghost use Rattle.differences.specs.Differences.{rows_differ};
 ghost use Rattle.differences.specs.Work.{Lists};
-ghost use Rattle.row_differences.specs.Work.{Longer, readingAt, rowsIn, Level, RowsAsked, ThreeIn, ThreeRead, ListAsked, SidesAsked};
+ghost use Rattle.row_differences.specs.Work.{Longer, reading_at, rows_in, Level, RowsAsked, ThreeIn, ThreeRead, ListAsked, SidesAsked};
 ghost use Rattle.differences.specs.declared.Part.TheVariants.{Boundary};
 
 use differences::lines::Lines;
@@ -23,7 +23,7 @@ fn longer(n: usize, m: usize) -> usize
 // The reading of place k of three columns.
 fn reading(a: &[usize], b: &[usize], c: &[usize], k: usize) -> Reading
     requires { Level (length a.now) (length b.now) (length c.now) }
-    ensures { result ≡ readingAt a.now b.now c.now k }
+    ensures { result ≡ reading_at a.now b.now c.now k }
 {
     if k < a.len() {
         return Reading::Row(a[k], b[k], c[k]);
@@ -44,8 +44,8 @@ fn put_rows(
     z: &[usize],
 ) -> Lines
     requires { RowsAsked part a.now b.now c.now x.now y.now z.now l.count }
-    ensures { Lists (rowsDiffer part 0 (rowsIn part a.now b.now c.now)
-        (rowsIn part x.now y.now z.now)) out.old l out.new result }
+    ensures { Lists (rows_differ part 0 (rows_in part a.now b.now c.now)
+        (rows_in part x.now y.now z.now)) out.old l out.new result }
 {
     let n = longer(a.len(), x.len());
     let mut l = l;
@@ -94,8 +94,8 @@ pub fn put_list(
     m: usize,
 ) -> Lines
     requires { ListAsked part w v first.now p n second.now q m l.count }
-    ensures { Lists (rowsDiffer part 0 (readRows (w ∷ w ∷ v ∷ []) n (drop p (bits_of first.now)))
-        (readRows (w ∷ w ∷ v ∷ []) m (drop q (bits_of second.now)))) out.old l out.new result }
+    ensures { Lists (rows_differ part 0 (read_rows (w ∷ w ∷ v ∷ []) n (drop p (bits_of first.now)))
+        (read_rows (w ∷ w ∷ v ∷ []) m (drop q (bits_of second.now)))) out.old l out.new result }
 {
     let mut a = [0usize; 256];
     let mut b = [0usize; 256];
@@ -128,7 +128,7 @@ pub fn put_sides(
     m: usize,
 ) -> Lines
     requires { SidesAsked n (length left.now) m (length right.now) l.count }
-    ensures { Lists (rowsDiffer Boundary 0 (sidesAt n left.now) (sidesAt m right.now)) out.old l
+    ensures { Lists (rows_differ Boundary 0 (sides_at n left.now) (sides_at m right.now)) out.old l
         out.new result }
 {
     let h = left.len() / 2;

@@ -1,22 +1,22 @@
 -- Helper definitions and records that only contracts inside the crate and proofs need.
 use Rattle.std.specs.Prelude.{ℕ, zero, suc, ◌+◌, ◌*◌, ◌^◌, ◌<◌, ◌≤◌, ◌≡◌, Bool, true, false, ◌&&◌, List, length}
 use Rattle.bits.specs.Bits.{field_at}
-use Rattle.sheet.specs.Sheet.{Columns, countsAt, end_of, rowOK, atTriangles, atEdges, atBoundary}
+use Rattle.sheet.specs.Sheet.{Columns, counts_at, end_of, row_ok, at_triangles, at_edges, at_boundary}
 use Rattle.sheet.specs.declared.Counts.{Counts}
 
 -- a row of names whose fields begin at bit `at`
 abbrev pub row_at : Bool → ℕ → List ℕ → ℕ → Bool
-row_at three p l at = rowOK three p (field_at l at 10) (field_at l (at + 10) 10) (field_at l (at + 20) 10)
+row_at three p l at = row_ok three p (field_at l at 10) (field_at l (at + 10) 10) (field_at l (at + 20) 10)
 
 -- n such rows, each `step` bits after the one before
-unfoldable pub okAt : Bool → ℕ → List ℕ → ℕ → ℕ → ℕ → Bool
-okAt three p l at step zero = true
-okAt three p l at step (suc n) = row_at three p l at && okAt three p l (at + step) step n
+unfoldable pub ok_at_of : Bool → ℕ → List ℕ → ℕ → ℕ → ℕ → Bool
+ok_at_of three p l at step zero = true
+ok_at_of three p l at step (suc n) = row_at three p l at && ok_at_of three p l (at + step) step n
 
 -- every element, by the places of its fields
 abbrev pub names_at : Counts → List ℕ → Bool
-names_at c l = okAt true c.particles l (atTriangles c) 30 c.triangles
-    && (okAt false c.particles l (atEdges c) 21 c.edges && okAt false c.particles l (atBoundary c) 20 c.boundary)
+names_at c l = ok_at_of true c.particles l (at_triangles c) 30 c.triangles
+    && (ok_at_of false c.particles l (at_edges c) 21 c.edges && ok_at_of false c.particles l (at_boundary c) 20 c.boundary)
 
 -- counts that fields of 12 bits hold
 pub record Small (c : Counts) : Type 0 where
@@ -27,7 +27,7 @@ pub record Small (c : Counts) : Type 0 where
 
 -- the counts read from bits
 pub record CountsRead (l : List ℕ) (c : Counts) : Type 0 where
-  pub is : c ≡ countsAt l
+  pub is : c ≡ counts_at l
   pub small : Small c
 
 -- n rows of `step` bits from bit `at` lie inside the bytes

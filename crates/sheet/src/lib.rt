@@ -3,8 +3,8 @@
 
 ghost use Rattle.std.specs.Prelude.{◌≡◌, ◌||◌, ℕ, ◌+◌, ◌≤◌, length};
 ghost use Rattle.bits.specs.Bits.{bits_of};
-ghost use Rattle.sheet.specs.Sheet.{end_of, bytes_of, above, tooMany, pairOK, seenOf};
-ghost use Rattle.sheet.specs.Work.{row_at, okAt, names_at, Small, CountsRead, RowsIn, Framed};
+ghost use Rattle.sheet.specs.Sheet.{end_of, bytes_of, above, too_many_of, pair_ok_of, seen_of};
+ghost use Rattle.sheet.specs.Work.{row_at, ok_at_of, names_at, Small, CountsRead, RowsIn, Framed};
 
 // How many of each a sheet says it has.
 #[derive(Clone, Copy)]
@@ -53,7 +53,7 @@ fn exceeds(limits: Counts, c: Counts) -> bool
 
 // Whether a count is above its limit.
 pub fn too_many(c: Counts) -> bool
-    ensures { result ≡ tooMany c }
+    ensures { result ≡ too_many_of c }
 {
     exceeds(
         Counts {
@@ -68,7 +68,7 @@ pub fn too_many(c: Counts) -> bool
 
 // Whether a count is above its limit or the caller's.
 pub fn refused_counts(limits: Counts, c: Counts) -> bool
-    ensures { result ≡ (tooMany c || above limits c) }
+    ensures { result ≡ (too_many_of c || above limits c) }
 {
     if too_many(c) {
         return true;
@@ -93,7 +93,7 @@ pub fn byte_len(c: Counts) -> usize
 
 // Two different particles of p.
 pub fn pair_ok(p: usize, a: usize, b: usize) -> bool
-    ensures { result ≡ pairOK p a b }
+    ensures { result ≡ pair_ok_of p a b }
 {
     if a < p {
         if b < p { a != b } else { false }
@@ -128,7 +128,7 @@ fn row_ok(s: &[u8], at: usize, three: bool, p: usize) -> bool
 // n rows of `step` bits from bit `at` name different particles of p.
 pub fn rows_ok(s: &[u8], at: usize, step: usize, n: usize, three: bool, p: usize) -> bool
     requires { RowsIn s.now (at + 44) step n }
-    ensures { result ≡ okAt three p (bits_of s.now) at step n }
+    ensures { result ≡ ok_at_of three p (bits_of s.now) at step n }
 {
     let mut i = 0;
     let mut pos = at;
@@ -165,7 +165,7 @@ fn names_ok(s: &[u8], c: Counts) -> bool
 
 // What a sheet is: whole, with its counts, or refused with a number.
 pub fn look(s: &[u8], limits: Counts) -> Seen
-    ensures { result ≡ seenOf limits s.now }
+    ensures { result ≡ seen_of limits s.now }
 {
     if s.len() < 6 {
         return Seen::Refused(mesh::refusals::SHEET);

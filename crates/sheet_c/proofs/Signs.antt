@@ -24,21 +24,21 @@ signed_high n g h =
     let k : 4294967296 - suc n ≡ 4294967295 - n = omega arith in
     rw (e, lt-ltb n 4294967296 h, k)
 
-pub less-word : (n : ℕ) → n < 4294967296 → to_z w64 n -ℤ pos 4294967296 ≡ negsuc (4294967295 - n)
-less-word n h =
+pub less_word : (n : ℕ) → n < 4294967296 → to_z w64 n -ℤ pos 4294967296 ≡ negsuc (4294967295 - n)
+less_word n h =
     let k : 4294967296 - suc n ≡ 4294967295 - n = omega arith in
     rw (to_z_pos w64 n (omega arith), lt-ltb n 4294967296 h, k)
 
-pub less-fits : (n : ℕ) → n < 4294967296 → SFits w64 (to_z w64 n -ℤ pos 4294967296)
-less-fits n h = subst (λ (z : ℤ). SFits w64 z) (sym (less-word n h)) (sfits_of {w = w64} {z = negsuc (4294967295 - n)} (omega arith))
+pub less_fits : (n : ℕ) → n < 4294967296 → SFits w64 (to_z w64 n -ℤ pos 4294967296)
+less_fits n h = subst (λ (z : ℤ). SFits w64 z) (sym (less_word n h)) (sfits_of {w = w64} {z = negsuc (4294967295 - n)} (omega arith))
 
 -- a word's whole number fits 64 bits, so it is stored as it is
-signed-fits : (n : ℕ) → n < 4294967296 → SFits w64 (signed_of n)
-signed-fits n h =
+signed_fits : (n : ℕ) → n < 4294967296 → SFits w64 (signed_of n)
+signed_fits n h =
     ⊎_elim
     (λ (g : n < 2147483648). subst (λ (z : ℤ). SFits w64 z) (sym (signed_low n g)) (sfits_of {w = w64} {z = pos n} (omega arith)))
     (λ (g : 2147483648 ≤ n). subst (λ (z : ℤ). SFits w64 z) (sym (signed_high n g h)) (sfits_of {w = w64} {z = negsuc (4294967295 - n)} (omega arith)))
     (below? n 2147483648)
 
 pub stored_same : (z : ℤ) (n : ℕ) → z ≡ signed_of n → n < 4294967296 → to_z w64 (of_z w64 z) ≡ z
-stored_same z n e h = to_z-of_z w64 z (subst (λ (y : ℤ). SFits w64 y) (sym e) (signed-fits n h))
+stored_same z n e h = to_z-of_z w64 z (subst (λ (y : ℤ). SFits w64 y) (sym e) (signed_fits n h))

@@ -4,22 +4,22 @@ use Rattle.lists.specs.Lists.{pick}
 use Rattle.model.specs.Reads.{Read, refused, value}
 use Rattle.bits.specs.Bits.{bits_of}
 use Rattle.sheet.specs.Sheet.{most}
-use Rattle.sheet.specs.Read.{meshOfSheet, bladeOfSheet}
-use Rattle.edition.specs.Edition.{SheetRead, sheetOf, seenOf}
+use Rattle.sheet.specs.Read.{mesh_of_sheet, blade_of_sheet}
+use Rattle.edition.specs.Edition.{SheetRead, sheet_of, seen_of}
 use Rattle.edition.specs.declared.Seen.{Seen}
 use Rattle.edition.specs.declared.Seen.TheVariants.{Whole, Refused}
-use Rattle.image.specs.Words.{bitsIn}
-use Rattle.image.specs.Image.{imageWordsOf}
+use Rattle.image.specs.Words.{bits_in_of}
+use Rattle.image.specs.Image.{image_words_of}
 
 -- the words of a sheet as it is read: 1 if its outline was replaced, else 0; the four numbers of the blade; then the image of the mesh
-unfoldable pub sheetWords : SheetRead → List ℕ
-sheetWords R = (pick R.replaced 1 0 ∷ bitsIn (bladeOfSheet R.sheet)) ++ imageWordsOf (meshOfSheet R.sheet)
+unfoldable pub sheet_words : SheetRead → List ℕ
+sheet_words R = (pick R.replaced 1 0 ∷ bits_in_of (blade_of_sheet R.sheet)) ++ image_words_of (mesh_of_sheet R.sheet)
 
 -- what a look at bytes comes to
-abbrev pub sheetTold : Seen → List ℕ → Read (List ℕ)
-sheetTold (Refused n) s = refused n
-sheetTold (Whole c replaced) s = value (sheetWords (sheetOf (bits_of s)))
+abbrev pub sheet_told : Seen → List ℕ → Read (List ℕ)
+sheet_told (Refused n) s = refused n
+sheet_told (Whole c replaced) s = value (sheet_words (sheet_of (bits_of s)))
 
 -- the sheet that bytes are, within the limits of a mesh
-unfoldable pub sheetReply : List ℕ → Read (List ℕ)
-sheetReply s = sheetTold (seenOf most s) s
+unfoldable pub sheet_reply : List ℕ → Read (List ℕ)
+sheet_reply s = sheet_told (seen_of most s) s

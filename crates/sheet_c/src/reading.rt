@@ -3,8 +3,8 @@ ghost use Rattle.std.specs.Prelude.{◌≡◌, length};
 ghost use Rattle.lists.specs.Lists.{pick};
 ghost use Rattle.model.specs.Reads.{value};
 ghost use Rattle.replies.specs.Reply.{Replied};
-ghost use Rattle.sheet_c.specs.Sheets.{sheetReply};
-ghost use Rattle.sheet_c.specs.Work.{Storing, blocksTold};
+ghost use Rattle.sheet_c.specs.Sheets.{sheet_reply};
+ghost use Rattle.sheet_c.specs.Work.{Storing, blocks_told};
 
 use edition::Seen;
 use sheet::Counts;
@@ -40,7 +40,7 @@ fn reply_blocks(
 ) -> u32
     requires { Storing c (length points.now) (length roots.now) (length corners.now) (length volumes.now) (length ends.now)
         (length lengths.now) (length outline.now) (length blade.now) }
-    ensures { Replied (value (blocksTold first c points.now roots.now corners.now
+    ensures { Replied (value (blocks_told first c points.now roots.now corners.now
         volumes.now ends.now lengths.now outline.now blade.now)) (length
         out.old) result out.new }
 {
@@ -70,7 +70,7 @@ fn reply_blocks(
 
 // A sheet read into local blocks, and the reply to them.
 pub fn read_sheet(bytes: &[u8], out: &mut [u8]) -> u32
-    ensures { Replied (sheetReply bytes.now) (length out.old) result out.new }
+    ensures { Replied (sheet_reply bytes.now) (length out.old) result out.new }
 {
     let mut points = [0.0f32; mesh::PARTICLES * mesh::POINT_COLUMNS];
     let mut roots = [0usize; mesh::ROOT_COLUMNS * mesh::PARTICLES];

@@ -1,9 +1,9 @@
 // The fields of a sheet, as words, written to its bytes, in the second edition.
 ghost use Rattle.std.specs.Prelude.{◌≡◌, ◌&&◌, ◌+◌, ◌*◌, ◌≤◌, ◌<◌, length, take};
-ghost use Rattle.image.specs.Words.{wordAt};
+ghost use Rattle.image.specs.Words.{word_at_of};
 ghost use Rattle.sheet_writing.specs.Writing.{WriteDone};
-ghost use Rattle.sheet_c.specs.Fields.{signed_of, signedFrom, fieldsFit, besides, SheetWritten};
-ghost use Rattle.sheet_c.specs.Work.{fieldsFew, FieldsRoom};
+ghost use Rattle.sheet_c.specs.Fields.{signed_of, signed_from, fields_fit_of, besides, SheetWritten};
+ghost use Rattle.sheet_c.specs.Work.{fields_few_of, FieldsRoom};
 
 // The whole number that a word is in two's complement.
 fn signed(word: usize) -> i64
@@ -19,7 +19,7 @@ fn signed(word: usize) -> i64
 // Writes n whole numbers, from word `at` on, to the front of out.
 fn signed_into(bytes: &[u8], at: usize, n: usize, out: &mut [i64])
     requires { (4 * (at + n) ≤ length bytes.now) × (n ≤ length out.old) }
-    ensures { take n out.new ≡ signedFrom bytes.now at n }
+    ensures { take n out.new ≡ signed_from bytes.now at n }
 {
     let mut i: usize = 0;
     while i < n {
@@ -30,7 +30,7 @@ fn signed_into(bytes: &[u8], at: usize, n: usize, out: &mut [i64])
 
 // The bytes are as many as the three counts say.
 fn fields_fit(fields: &[u8]) -> bool
-    ensures { result ≡ fieldsFit fields.now }
+    ensures { result ≡ fields_fit_of fields.now }
 {
     if fields.len() < 12 {
         return false;
@@ -44,7 +44,7 @@ fn fields_fit(fields: &[u8]) -> bool
 // The counts are within the limits.
 fn fields_few(fields: &[u8]) -> bool
     requires { 12 ≤ length fields.now }
-    ensures { result ≡ fieldsFew fields.now }
+    ensures { result ≡ fields_few_of fields.now }
 {
     let p = image::word_at(fields, 0);
     let t = image::word_at(fields, 1);
@@ -60,7 +60,7 @@ fn fields_few(fields: &[u8]) -> bool
 
 // Both.
 fn fields_ok(fields: &[u8]) -> bool
-    ensures { result ≡ (fieldsFit fields.now && fieldsFew fields.now) }
+    ensures { result ≡ (fields_fit_of fields.now && fields_few_of fields.now) }
 {
     if fields_fit(fields) {
         return fields_few(fields);
@@ -78,8 +78,8 @@ fn write_elements(
     out: &mut [u8],
 ) -> usize
     requires { FieldsRoom fields.now }
-    ensures { WriteDone (besides fields.now (wordAt fields.now 0) (wordAt fields.now 1)
-        (wordAt fields.now 2) x.now y.now pinned.now blade.now) out.old
+    ensures { WriteDone (besides fields.now (word_at_of fields.now 0) (word_at_of fields.now 1)
+        (word_at_of fields.now 2) x.now y.now pinned.now blade.now) out.old
         out.new result }
 {
     let mut t0 = [0usize; mesh::TRIANGLES];

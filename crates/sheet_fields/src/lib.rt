@@ -4,16 +4,16 @@
 ghost use Rattle.std.specs.Prelude.{◌≡◌, [], ◌∷◌, map, ℕ, length};
 ghost use Rattle.std.proofs.lemmas.List.Edits.{sets};
 ghost use Rattle.bits.specs.Bits.{bits_of};
-ghost use Rattle.bits.specs.Rows.{pack, writeRows, rows_of};
+ghost use Rattle.bits.specs.Rows.{pack, write_rows, rows_of};
 ghost use Rattle.bits.specs.Places.{TableIn, FourIn};
-ghost use Rattle.sheet.specs.Sheet.{all_below, allOK, rowOK, even3, evenOf, fit3, fitOf, sheetFrom, namesOK, answer_of, fieldOf, fields_of, particleW, bladeW, wholesIn, wholesBefore};
+ghost use Rattle.sheet.specs.Sheet.{all_below, all_ok, row_ok, even3, even_of, fit3, fit_of, sheet_from, names_ok, answer_of, the_field_of, fields_of, particle_w, blade_w, wholes_in, wholes_before};
 ghost use Rattle.sheet.specs.Work.{Even};
 
 use sheet::Counts;
 
 // The 11-bit two's complement field of a whole number; 2048, which the writer refuses, where there is none.
 pub fn field_of(z: i64) -> usize
-    ensures { result ≡ fieldOf z }
+    ensures { result ≡ the_field_of z }
 {
     if z < 0 {
         if z < -1024 {
@@ -45,7 +45,7 @@ fn below(a: &[usize], bound: usize) -> bool
 // Every row of three columns names different particles of p: in the first two, or in all three.
 fn names_in(three: bool, p: usize, a: &[usize], b: &[usize], c: &[usize]) -> bool
     requires { (length b.now ≡ length a.now) × (length c.now ≡ length a.now) }
-    ensures { result ≡ allOK three p (rows_of (a.now ∷ b.now ∷ c.now ∷ []) 0 (length a.now)) }
+    ensures { result ≡ all_ok three p (rows_of (a.now ∷ b.now ∷ c.now ∷ []) 0 (length a.now)) }
 {
     let n = a.len();
     let mut i = 0;
@@ -60,7 +60,7 @@ fn names_in(three: bool, p: usize, a: &[usize], b: &[usize], c: &[usize]) -> boo
 }
 
 fn names_row(three: bool, p: usize, a: usize, b: usize, c: usize) -> bool
-    ensures { result ≡ rowOK three p a b c }
+    ensures { result ≡ row_ok three p a b c }
 {
     if sheet::pair_ok(p, a, b) {
         if three {
@@ -99,7 +99,7 @@ fn fits3(l: usize, m: usize, n: usize, a: &[usize], b: &[usize], c: &[usize]) ->
 
 // Every whole number of a column has a field.
 fn whole_fit(a: &[i64]) -> bool
-    ensures { result ≡ all_below 2048 (map fieldOf a.now) }
+    ensures { result ≡ all_below 2048 (map the_field_of a.now) }
 {
     let mut i = 0;
     while i < a.len() {
@@ -114,7 +114,7 @@ fn whole_fit(a: &[i64]) -> bool
 
 // The columns of particles have one length.
 fn same_particles(x: &[i64], y: &[i64], pinned: &[usize]) -> bool
-    ensures { result ≡ even3 (map fieldOf x.now) (map fieldOf y.now) pinned.now }
+    ensures { result ≡ even3 (map the_field_of x.now) (map the_field_of y.now) pinned.now }
 {
     if y.len() == x.len() {
         pinned.len() == x.len()
@@ -125,7 +125,7 @@ fn same_particles(x: &[i64], y: &[i64], pinned: &[usize]) -> bool
 
 // The bits can hold each number of the particles.
 fn particles_fit(x: &[i64], y: &[i64], pinned: &[usize]) -> bool
-    ensures { result ≡ fit3 2048 2048 2 (map fieldOf x.now) (map fieldOf y.now) pinned.now }
+    ensures { result ≡ fit3 2048 2048 2 (map the_field_of x.now) (map the_field_of y.now) pinned.now }
 {
     if whole_fit(x) {
         if whole_fit(y) {
@@ -140,10 +140,10 @@ fn particles_fit(x: &[i64], y: &[i64], pinned: &[usize]) -> bool
 
 // Writes the rows of particles from bit `at` on.
 pub fn put_particles(s: &mut [u8], at: usize, x: &[i64], y: &[i64], pinned: &[usize])
-    requires { TableIn s.old at 11 11 1 (map fieldOf x.now) (map fieldOf y.now) pinned.now }
-    ensures { bits_of s.new ≡ sets (bits_of s.old) at (writeRows particleW
-        (rows_of (map fieldOf x.now ∷ map fieldOf y.now ∷ pinned.now ∷ []) 0
-        (length (map fieldOf x.now)))) }
+    requires { TableIn s.old at 11 11 1 (map the_field_of x.now) (map the_field_of y.now) pinned.now }
+    ensures { bits_of s.new ≡ sets (bits_of s.old) at (write_rows particle_w
+        (rows_of (map the_field_of x.now ∷ map the_field_of y.now ∷ pinned.now ∷ []) 0
+        (length (map the_field_of x.now)))) }
 {
     let n = x.len();
     let mut i = 0;
@@ -160,7 +160,7 @@ pub fn put_particles(s: &mut [u8], at: usize, x: &[i64], y: &[i64], pinned: &[us
 // Writes the four coordinates of the blade at bit `at`.
 pub fn put_blade(s: &mut [u8], at: usize, blade: &[i64])
     requires { FourIn s.old at 11 11 × (length blade.now ≡ 4) }
-    ensures { bits_of s.new ≡ sets (bits_of s.old) at (pack bladeW (map fieldOf blade.now)) }
+    ensures { bits_of s.new ≡ sets (bits_of s.old) at (pack blade_w (map the_field_of blade.now)) }
 {
     let x0 = field_of(blade[0]);
     let y0 = field_of(blade[1]);
@@ -183,7 +183,7 @@ fn all_same(
     b1: &[usize],
     blade: &[i64],
 ) -> bool
-    ensures { result ≡ evenOf (fields_of (wholesBefore x y pinned t0 t1 t2 e0 e1 structural b0 b1 blade)) }
+    ensures { result ≡ even_of (fields_of (wholes_before x y pinned t0 t1 t2 e0 e1 structural b0 b1 blade)) }
 {
     if same_particles(x, y, pinned) {
         if same3(t0, t1, t2) {
@@ -218,7 +218,7 @@ fn all_fit(
     b1: &[usize],
     blade: &[i64],
 ) -> bool
-    ensures { result ≡ fitOf (fields_of (wholesBefore x y pinned t0 t1 t2 e0 e1 structural b0 b1 blade)) }
+    ensures { result ≡ fit_of (fields_of (wholes_before x y pinned t0 t1 t2 e0 e1 structural b0 b1 blade)) }
 {
     if particles_fit(x, y, pinned) {
         if fits3(1024, 1024, 1024, t0, t1, t2) {
@@ -253,8 +253,8 @@ fn names_all(
     b1: &[usize],
     blade: &[i64],
 ) -> bool
-    requires { Even (fields_of (wholesIn x y pinned t0 t1 t2 e0 e1 structural b0 b1 blade)) }
-    ensures { result ≡ namesOK (sheetFrom (fields_of (wholesBefore x y pinned t0 t1 t2 e0 e1 structural b0 b1 blade))) }
+    requires { Even (fields_of (wholes_in x y pinned t0 t1 t2 e0 e1 structural b0 b1 blade)) }
+    ensures { result ≡ names_ok (sheet_from (fields_of (wholes_before x y pinned t0 t1 t2 e0 e1 structural b0 b1 blade))) }
 {
     let p = x.len();
     if names_in(true, p, t0, t1, t2) {
@@ -284,7 +284,7 @@ pub fn refusal(
     b1: &[usize],
     blade: &[i64],
 ) -> usize
-    ensures { result ≡ answer_of (fields_of (wholesBefore x y pinned t0 t1 t2 e0 e1 structural b0 b1 blade)) m }
+    ensures { result ≡ answer_of (fields_of (wholes_before x y pinned t0 t1 t2 e0 e1 structural b0 b1 blade)) m }
 {
     if all_same(x, y, pinned, t0, t1, t2, e0, e1, structural, b0, b1, blade) {
         let c = Counts {

@@ -3,7 +3,7 @@
 
 ghost use Rattle.std.specs.Prelude.{length};
 ghost use Rattle.sheet_fronts.specs.Fronts.{Roomy, FrontsRead};
-ghost use Rattle.mesh.specs.Blocks.{blocksIn};
+ghost use Rattle.mesh.specs.Blocks.{blocks_in};
 
 use sheet::Counts as SheetCounts;
 
@@ -28,7 +28,7 @@ pub fn read_fronts(
     outline: &mut [usize],
     blade: &mut [f32],
 )
-    requires { Roomy sheet.now c (blocksIn points roots corners volumes ends lengths outline) (length blade.old) }
+    requires { Roomy sheet.now c (blocks_in points roots corners volumes ends lengths outline) (length blade.old) }
     ensures { FrontsRead sheet.now c points.new roots.new corners.new volumes.new
         ends.new lengths.new outline.new blade.new }
 {

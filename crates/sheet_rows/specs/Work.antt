@@ -3,26 +3,26 @@ use Rattle.std.specs.Prelude.{ℕ, ◌+◌, ◌*◌, ◌/◌, ◌<◌, ◌≤◌
 use Rattle.blade.specs.declared.Point.{Point}
 use Rattle.model.specs.Mesh.{Particle, Triangle, Edge, Side}
 use Rattle.mesh.specs.Workers.{ParticleRoom, EdgeRoom}
-use Rattle.mesh.specs.Widths.{pointColumns, cornerColumns, volumeColumns, sideColumns}
+use Rattle.mesh.specs.Widths.{point_columns, corner_columns, volume_columns, side_columns}
 use Rattle.bits.specs.Bits.{bits_of, field_at}
-use Rattle.sheet.specs.Read.{particleFrom, triangleFrom, edgeFrom, sideFrom}
-use Rattle.sheet.specs.Work.{okAt, RowsIn}
+use Rattle.sheet.specs.Read.{particle_from, triangle_from, edge_from, side_from}
+use Rattle.sheet.specs.Work.{ok_at_of, RowsIn}
 
 -- particle k, by the places of its fields
-abbrev pub particleBits : List ℕ → ℕ → ℕ → Particle
-particleBits l at k = particleFrom k (field_at l (at + k * 23) 11) (field_at l (at + k * 23 + 11) 11) (field_at l (at + k * 23 + 22) 1)
+abbrev pub particle_bits : List ℕ → ℕ → ℕ → Particle
+particle_bits l at k = particle_from k (field_at l (at + k * 23) 11) (field_at l (at + k * 23 + 11) 11) (field_at l (at + k * 23 + 22) 1)
 
 -- triangle k, by the places of its fields
-abbrev pub triangleBits : (ℕ → Point) → List ℕ → ℕ → ℕ → Triangle
-triangleBits place l at k = triangleFrom place (field_at l (at + k * 30) 10) (field_at l (at + k * 30 + 10) 10) (field_at l (at + k * 30 + 20) 10)
+abbrev pub triangle_bits : (ℕ → Point) → List ℕ → ℕ → ℕ → Triangle
+triangle_bits place l at k = triangle_from place (field_at l (at + k * 30) 10) (field_at l (at + k * 30 + 10) 10) (field_at l (at + k * 30 + 20) 10)
 
 -- edge k, by the places of its fields
-abbrev pub edgeBits : (ℕ → Point) → List ℕ → ℕ → ℕ → Edge
-edgeBits place l at k = edgeFrom place (field_at l (at + k * 21) 10) (field_at l (at + k * 21 + 10) 10) (field_at l (at + k * 21 + 20) 1)
+abbrev pub edge_bits : (ℕ → Point) → List ℕ → ℕ → ℕ → Edge
+edge_bits place l at k = edge_from place (field_at l (at + k * 21) 10) (field_at l (at + k * 21 + 10) 10) (field_at l (at + k * 21 + 20) 1)
 
 -- boundary entry k, by the places of its fields
-abbrev pub sideBits : List ℕ → ℕ → ℕ → Side
-sideBits l at k = sideFrom (field_at l (at + k * 20) 10) (field_at l (at + k * 20 + 10) 10)
+abbrev pub side_bits : List ℕ → ℕ → ℕ → Side
+side_bits l at k = side_from (field_at l (at + k * 20) 10) (field_at l (at + k * 20 + 10) 10)
 
 -- n particles' rows lie inside the bytes, and have room in the blocks
 pub record ParticlesIn (s : List ℕ) (at n lp lr : ℕ) : Type 0 where
@@ -37,31 +37,31 @@ pub record ParticleIn (x y n lp lr : ℕ) : Type 0 where
 
 -- three particles of the points, and room for a triangle more
 pub record TriangleIn (a b c lp n lc lv : ℕ) : Type 0 where
-  pub first : a < lp / pointColumns
-  pub second : b < lp / pointColumns
-  pub third : c < lp / pointColumns
-  pub corners : n + 1 ≤ lc / cornerColumns
-  pub volumes : n + 1 ≤ lv / volumeColumns
+  pub first : a < lp / point_columns
+  pub second : b < lp / point_columns
+  pub third : c < lp / point_columns
+  pub corners : n + 1 ≤ lc / corner_columns
+  pub volumes : n + 1 ≤ lv / volume_columns
 
 -- n triangles' rows lie inside the bytes, name particles of the points, and have room in the blocks
 pub record TrianglesIn (s : List ℕ) (at n p lp lc lv : ℕ) : Type 0 where
   pub rows : RowsIn s at 30 n
-  pub names : okAt true p (bits_of s) at 30 n ≡ true
-  pub points : p ≤ lp / pointColumns
-  pub corners : n ≤ lc / cornerColumns
-  pub volumes : n ≤ lv / volumeColumns
+  pub names : ok_at_of true p (bits_of s) at 30 n ≡ true
+  pub points : p ≤ lp / point_columns
+  pub corners : n ≤ lc / corner_columns
+  pub volumes : n ≤ lv / volume_columns
 
 -- n edges' rows lie inside the bytes, name particles of the points, and have room in the blocks
 pub record EdgesIn (s : List ℕ) (at n p lp le ll : ℕ) : Type 0 where
   pub rows : RowsIn s at 21 n
-  pub names : okAt false p (bits_of s) at 21 n ≡ true
-  pub points : p ≤ lp / pointColumns
+  pub names : ok_at_of false p (bits_of s) at 21 n ≡ true
+  pub points : p ≤ lp / point_columns
   pub room : EdgeRoom n le ll
 
 -- n boundary entries' rows lie inside the bytes, and have room in the block
 pub record SidesIn (s : List ℕ) (at n lo : ℕ) : Type 0 where
   pub rows : RowsIn s at 20 n
-  pub outline : n ≤ lo / sideColumns
+  pub outline : n ≤ lo / side_columns
 
 -- the blade's fields lie inside the bytes, and have places
 pub record BladeIn (s : List ℕ) (at places : ℕ) : Type 0 where

@@ -4,16 +4,16 @@
 ghost use Rattle.std.specs.Prelude.{◌≡◌, ◌&&◌, [], ◌∷◌, ◌++◌, ℕ, ◌+◌, ◌*◌, ◌/◌, ◌<◌, ◌≤◌, length, leb};
 ghost use Rattle.lists.specs.Lists.{tab, padded};
 ghost use Rattle.float.specs.Numbers.{zero32};
-ghost use Rattle.mesh.specs.At.{particlesAt, trianglesAt, edges_at, boundaryAt};
+ghost use Rattle.mesh.specs.At.{particles_at, triangles_at, edges_at, boundary_at};
 ghost use Rattle.mesh.specs.Filled.{Filled};
-ghost use Rattle.mesh.specs.Widths.{pointColumns, sideColumns};
-ghost use Rattle.blade.specs.Points.{minusOf, length_of};
+ghost use Rattle.mesh.specs.Widths.{point_columns, side_columns};
+ghost use Rattle.blade.specs.Points.{minus_of, length_of};
 ghost use Rattle.bits.specs.Bits.{bits_of, field_at};
 ghost use Rattle.sheet.specs.Sheet.{coord};
-ghost use Rattle.sheet.specs.Read.{floatOf, inverseOf, areaOf, particleFrom, triangleFrom, sideFrom};
+ghost use Rattle.sheet.specs.Read.{the_float_of, the_inverse_of, area_of, particle_from, triangle_from, side_from};
 ghost use Rattle.split_plan.specs.Opened.{place_in};
-ghost use Rattle.sheet_rows.specs.Work.{particleBits, triangleBits, edgeBits, sideBits, ParticleIn, ParticlesIn, TriangleIn, TrianglesIn, EdgesIn, SidesIn, BladeIn};
-ghost use Rattle.mesh.specs.Blocks.{lentBefore};
+ghost use Rattle.sheet_rows.specs.Work.{particle_bits, triangle_bits, edge_bits, side_bits, ParticleIn, ParticlesIn, TriangleIn, TrianglesIn, EdgesIn, SidesIn, BladeIn};
+ghost use Rattle.mesh.specs.Blocks.{lent_before};
 
 use blade::Point;
 use mesh::EdgeRow;
@@ -33,14 +33,14 @@ fn coordinate(raw: usize) -> i64
 // A coordinate's field as an f32.
 fn float_of(raw: usize) -> f32
     requires { raw < 2048 }
-    ensures { result ≡ floatOf raw }
+    ensures { result ≡ the_float_of raw }
 {
     coordinate(raw) as f32
 }
 
 // The inverse mass of a particle with this flag.
 fn inverse_of(pinned: usize) -> f32
-    ensures { result ≡ inverseOf pinned }
+    ensures { result ≡ the_inverse_of pinned }
 {
     if pinned == 1 { 0.0 } else { 1.0 }
 }
@@ -55,8 +55,8 @@ fn put_particle(
     roots: &mut [usize],
 )
     requires { ParticleIn x y n (length points.old) (length roots.old) }
-    ensures { particlesAt (n + 1) points.new roots.new
-        ≡ particlesAt n points.old roots.old ++ (particleFrom n x y pinned ∷ []) }
+    ensures { particles_at (n + 1) points.new roots.new
+        ≡ particles_at n points.old roots.old ++ (particle_from n x y pinned ∷ []) }
 {
     let p = points.len() / mesh::POINT_COLUMNS;
     let r = roots.len() / mesh::ROOT_COLUMNS;
@@ -77,7 +77,7 @@ fn put_particle(
 // Reads n particles from bit `at` on.
 pub fn read_particles(s: &[u8], at: usize, n: usize, points: &mut [f32], roots: &mut [usize])
     requires { ParticlesIn s.now at n (length points.old) (length roots.old) }
-    ensures { particlesAt n points.new roots.new ≡ tab n (particleBits (bits_of s.now) at) }
+    ensures { particles_at n points.new roots.new ≡ tab n (particle_bits (bits_of s.now) at) }
 {
     let mut i = 0;
     let mut pos = at;
@@ -93,7 +93,7 @@ pub fn read_particles(s: &[u8], at: usize, n: usize, points: &mut [f32], roots: 
 
 // Half the absolute cross product.
 fn area(a: Point, b: Point, c: Point) -> f32
-    ensures { result ≡ areaOf a b c }
+    ensures { result ≡ area_of a b c }
 {
     float::abs::abs((b.x - a.x) * (c.y - a.y) - (b.y - a.y) * (c.x - a.x)) * 0.5
 }
@@ -109,8 +109,8 @@ fn put_triangle(
     volumes: &mut [f32],
 )
     requires { TriangleIn a b c (length points.now) n (length corners.old) (length volumes.old) }
-    ensures { trianglesAt (n + 1) corners.new volumes.new
-        ≡ trianglesAt n corners.old volumes.old ++ (triangleFrom (place_in points.now) a b c ∷ []) }
+    ensures { triangles_at (n + 1) corners.new volumes.new
+        ≡ triangles_at n corners.old volumes.old ++ (triangle_from (place_in points.now) a b c ∷ []) }
 {
     let t = corners.len() / mesh::CORNER_COLUMNS;
     let v = volumes.len() / mesh::VOLUME_COLUMNS;
@@ -132,8 +132,8 @@ pub fn read_triangles(
     volumes: &mut [f32],
 )
     requires { TrianglesIn s.now at n p (length points.now) (length corners.old) (length volumes.old) }
-    ensures { trianglesAt n corners.new volumes.new
-        ≡ tab n (triangleBits (place_in points.now) (bits_of s.now) at) }
+    ensures { triangles_at n corners.new volumes.new
+        ≡ tab n (triangle_bits (place_in points.now) (bits_of s.now) at) }
 {
     let mut i = 0;
     let mut pos = at;
@@ -149,8 +149,8 @@ pub fn read_triangles(
 
 // The rest length between two particles of the points.
 fn span(points: &[f32], a: usize, b: usize) -> f32
-    requires { (a < length points.now / pointColumns) × (b < length points.now / pointColumns) }
-    ensures { result ≡ length_of (minusOf (place_in points.now b) (place_in points.now a)) }
+    requires { (a < length points.now / point_columns) × (b < length points.now / point_columns) }
+    ensures { result ≡ length_of (minus_of (place_in points.now b) (place_in points.now a)) }
 {
     blade::length(blade::minus(place(b, points), place(a, points)))
 }
@@ -167,7 +167,7 @@ pub fn read_edges(
 )
     requires { EdgesIn s.now at n p (length points.now) (length ends.old) (length lengths.old) }
     ensures { edges_at n ends.new lengths.new
-        ≡ tab n (edgeBits (place_in points.now) (bits_of s.now) at) }
+        ≡ tab n (edge_bits (place_in points.now) (bits_of s.now) at) }
 {
     let mut i = 0;
     let mut pos = at;
@@ -193,8 +193,8 @@ pub fn read_edges(
 
 // Puts a boundary entry behind the n that are there.
 fn put_side(n: usize, a: usize, b: usize, outline: &mut [usize])
-    requires { n + 1 ≤ length outline.old / sideColumns }
-    ensures { boundaryAt (n + 1) outline.new ≡ boundaryAt n outline.old ++ (sideFrom a b ∷ []) }
+    requires { n + 1 ≤ length outline.old / side_columns }
+    ensures { boundary_at (n + 1) outline.new ≡ boundary_at n outline.old ++ (side_from a b ∷ []) }
 {
     let o = outline.len() / mesh::SIDE_COLUMNS;
     outline[n] = a;
@@ -204,7 +204,7 @@ fn put_side(n: usize, a: usize, b: usize, outline: &mut [usize])
 // Reads n boundary entries from bit `at` on.
 pub fn read_sides(s: &[u8], at: usize, n: usize, outline: &mut [usize])
     requires { SidesIn s.now at n (length outline.old) }
-    ensures { boundaryAt n outline.new ≡ tab n (sideBits (bits_of s.now) at) }
+    ensures { boundary_at n outline.new ≡ tab n (side_bits (bits_of s.now) at) }
 {
     let mut i = 0;
     let mut pos = at;
@@ -223,9 +223,9 @@ pub fn read_sides(s: &[u8], at: usize, n: usize, outline: &mut [usize])
 // Reads the blade's four coordinates from bit `at` on; 0 behind them.
 pub fn read_blade(s: &[u8], at: usize, blade: &mut [f32])
     requires { BladeIn s.now at (length blade.old) }
-    ensures { blade.new ≡ padded (length blade.old) zero32 (floatOf
-        (field_at (bits_of s.now) at 11) ∷ floatOf (field_at (bits_of s.now) (at + 11) 11) ∷ floatOf (field_at
-        (bits_of s.now) (at + 22) 11) ∷ floatOf (field_at (bits_of s.now) (at + 33) 11) ∷ []) }
+    ensures { blade.new ≡ padded (length blade.old) zero32 (the_float_of
+        (field_at (bits_of s.now) at 11) ∷ the_float_of (field_at (bits_of s.now) (at + 11) 11) ∷ the_float_of (field_at
+        (bits_of s.now) (at + 22) 11) ∷ the_float_of (field_at (bits_of s.now) (at + 33) 11) ∷ []) }
 {
     blade[0] = float_of(bits::field(s, at, 11));
     blade[1] = float_of(bits::field(s, at + 11, 11));
@@ -247,7 +247,7 @@ pub fn refuse(
     blade: &mut [f32],
 )
     ensures { (Filled (record { mesh = record { particles = []; triangles = []; edges = []; boundary = [] }; log = [] })
-        (lentBefore points roots corners volumes ends lengths outline log) points.new roots.new corners.new
+        (lent_before points roots corners volumes ends lengths outline log) points.new roots.new corners.new
         volumes.new ends.new lengths.new outline.new log.new) × (blade.new
         ≡ padded (length blade.old) zero32 []) }
 {

@@ -4,10 +4,10 @@ use Rattle.std.specs.Float.Ieee.{to_signed, ne}
 use Rattle.lists.specs.Lists.{pick, padded}
 use Rattle.float.specs.Numbers.{zero32}
 use Rattle.model.specs.Mesh.{Particle, Edge, Mesh}
-use Rattle.mesh.specs.Filled.{cornerOf}
+use Rattle.mesh.specs.Filled.{corner_of}
 use Rattle.bits.specs.Bits.{bits_of}
-use Rattle.sheet.specs.Sheet.{Sheet, Columns, Wholes, fields_of, sheetFrom, countsIn, evenOf, tooMany, fitOf, namesOK}
-use Rattle.edition.specs.Edition.{sheet2Bits, own_of, bytesIn}
+use Rattle.sheet.specs.Sheet.{Sheet, Columns, Wholes, fields_of, sheet_from, counts_in, even_of, too_many_of, fit_of, names_ok}
+use Rattle.edition.specs.Edition.{sheet2_bits, own_of, bytes_in}
 use Rattle.std.specs.Borrow.{Bor}
 use denote.Triple.Both.{Both}
 
@@ -25,16 +25,16 @@ pub record Handed : Type 0 where
   pub blade : List ℤ
 
 -- what a writer is handed, of columns as a contract names them: in a `requires`, and in an `ensures`
-abbrev pub handedIn : Bor (List ℤ) → Bor (List ℤ) → Bor (List ℕ) → Bor (List ℕ) → Bor (List ℕ) → Bor (List ℕ) → Bor (List ℕ) → Bor (List ℕ) → Bor (List ℕ) → Bor (List ℤ) → Handed
-handedIn x y pinned t0 t1 t2 e0 e1 structural blade = record { x = x.now; y = y.now; pinned = pinned.now; t0 = t0.now; t1 = t1.now; t2 = t2.now; e0 = e0.now; e1 = e1.now; structural = structural.now; blade = blade.now }
+abbrev pub handed_in : Bor (List ℤ) → Bor (List ℤ) → Bor (List ℕ) → Bor (List ℕ) → Bor (List ℕ) → Bor (List ℕ) → Bor (List ℕ) → Bor (List ℕ) → Bor (List ℕ) → Bor (List ℤ) → Handed
+handed_in x y pinned t0 t1 t2 e0 e1 structural blade = record { x = x.now; y = y.now; pinned = pinned.now; t0 = t0.now; t1 = t1.now; t2 = t2.now; e0 = e0.now; e1 = e1.now; structural = structural.now; blade = blade.now }
 
-abbrev pub handedBefore : Both (Bor (List ℤ)) (Bor (List ℤ)) → Both (Bor (List ℤ)) (Bor (List ℤ)) → Both (Bor (List ℕ)) (Bor (List ℕ)) → Both (Bor (List ℕ)) (Bor (List ℕ)) → Both (Bor (List ℕ)) (Bor (List ℕ)) → Both (Bor (List ℕ)) (Bor (List ℕ)) → Both (Bor (List ℕ)) (Bor (List ℕ)) → Both (Bor (List ℕ)) (Bor (List ℕ)) → Both (Bor (List ℕ)) (Bor (List ℕ)) → Both (Bor (List ℤ)) (Bor (List ℤ)) → Handed
-handedBefore x y pinned t0 t1 t2 e0 e1 structural blade =
+abbrev pub handed_before : Both (Bor (List ℤ)) (Bor (List ℤ)) → Both (Bor (List ℤ)) (Bor (List ℤ)) → Both (Bor (List ℕ)) (Bor (List ℕ)) → Both (Bor (List ℕ)) (Bor (List ℕ)) → Both (Bor (List ℕ)) (Bor (List ℕ)) → Both (Bor (List ℕ)) (Bor (List ℕ)) → Both (Bor (List ℕ)) (Bor (List ℕ)) → Both (Bor (List ℕ)) (Bor (List ℕ)) → Both (Bor (List ℕ)) (Bor (List ℕ)) → Both (Bor (List ℤ)) (Bor (List ℤ)) → Handed
+handed_before x y pinned t0 t1 t2 e0 e1 structural blade =
     record { x = x.entry.now; y = y.entry.now; pinned = pinned.entry.now; t0 = t0.entry.now; t1 = t1.entry.now; t2 = t2.entry.now; e0 = e0.entry.now; e1 = e1.entry.now; structural = structural.entry.now; blade = blade.entry.now }
 
 -- the same with an empty boundary
-abbrev pub wholesFrom : Handed → Wholes
-wholesFrom h = record {
+abbrev pub wholes_from : Handed → Wholes
+wholes_from h = record {
   x = h.x;
   y = h.y;
   pinned = h.pinned;
@@ -50,28 +50,28 @@ wholesFrom h = record {
 }
 
 -- its fields
-abbrev pub columnsFrom : Handed → Columns
-columnsFrom h = fields_of (wholesFrom h)
+abbrev pub columns_from : Handed → Columns
+columns_from h = fields_of (wholes_from h)
 
 -- what a writer answers with m bytes lent: 1; 2; 3; then 1 for an outline over 2,048; then 9; else 0
 unfoldable pub answer_of : Columns → ℕ → ℕ
 answer_of k m =
-    cond (evenOf k)
-    (cond (tooMany (countsIn k)) 1
-    (cond (fitOf k)
-    (cond (namesOK (sheetFrom k)) (cond (ltb 2048 (length (own_of (sheetFrom k)))) 1 (cond (leb (bytesIn true (countsIn k)) m) 0 9)) 3)
+    cond (even_of k)
+    (cond (too_many_of (counts_in k)) 1
+    (cond (fit_of k)
+    (cond (names_ok (sheet_from k)) (cond (ltb 2048 (length (own_of (sheet_from k)))) 1 (cond (leb (bytes_in true (counts_in k)) m) 0 9)) 3)
     2))
     1
 
 -- what it leaves: the sheet's bits in the second edition and 0 behind them, or 0 alone
 unfoldable pub put_of : ℕ → Sheet → List ℕ
-put_of zero s = sheet2Bits s
+put_of zero s = sheet2_bits s
 put_of (suc r) s = []
 
 -- what a writer answers, and the bits of every byte it was lent
 pub record WriteDone (h : Handed) (before after : List ℕ) (r : ℕ) : Type 0 where
-  pub answer : r ≡ answer_of (columnsFrom h) (length before)
-  pub bits : bits_of after ≡ padded (8 * length before) 0 (put_of r (sheetFrom (columnsFrom h)))
+  pub answer : r ≡ answer_of (columns_from h) (length before)
+  pub bits : bits_of after ≡ padded (8 * length before) 0 (put_of r (sheet_from (columns_from h)))
 
 -- ---- what a mesh and a blade are to a writer
 
@@ -84,14 +84,14 @@ unfoldable pub pinned_of : Float → ℕ
 pinned_of inv = pick (ne inv zero32) 0 1
 
 -- what a writer is handed of a mesh and a blade
-unfoldable pub handedOf : Mesh → List Float → Handed
-handedOf m blade = record {
+unfoldable pub handed_of : Mesh → List Float → Handed
+handed_of m blade = record {
   x = map (λ (p : Particle). whole_of p.x) m.particles;
   y = map (λ (p : Particle). whole_of p.y) m.particles;
   pinned = map (λ (p : Particle). pinned_of p.inv) m.particles;
-  t0 = map (cornerOf 0) m.triangles;
-  t1 = map (cornerOf 1) m.triangles;
-  t2 = map (cornerOf 2) m.triangles;
+  t0 = map (corner_of 0) m.triangles;
+  t1 = map (corner_of 1) m.triangles;
+  t2 = map (corner_of 2) m.triangles;
   e0 = map (λ (e : Edge). e.a) m.edges;
   e1 = map (λ (e : Edge). e.b) m.edges;
   structural = map (λ (e : Edge). e.structural) m.edges;

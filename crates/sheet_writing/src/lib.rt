@@ -4,11 +4,11 @@
 ghost use Rattle.std.specs.Prelude.{◌≡◌, ℕ, ◌*◌, length, ltb};
 ghost use Rattle.lists.specs.Lists.{padded};
 ghost use Rattle.bits.specs.Bits.{bits_of};
-ghost use Rattle.outline.specs.Outline.{outlineOf};
+ghost use Rattle.outline.specs.Outline.{outline_of};
 ghost use Rattle.outline_tables.specs.Rows.{rows3, Even};
-ghost use Rattle.sheet.specs.Sheet.{sheetFrom};
-ghost use Rattle.edition.specs.Edition.{sheet2Bits};
-ghost use Rattle.sheet_writing.specs.Writing.{columnsFrom, answer_of, WriteDone, handedIn, handedBefore};
+ghost use Rattle.sheet.specs.Sheet.{sheet_from};
+ghost use Rattle.edition.specs.Edition.{sheet2_bits};
+ghost use Rattle.sheet_writing.specs.Writing.{columns_from, answer_of, WriteDone, handed_in, handed_before};
 ghost use Rattle.sheet_writing.specs.Work.{Put2};
 
 use sheet::Counts;
@@ -24,7 +24,7 @@ fn long_own(
 ) -> bool
     requires { Even (length t0.now) (length t1.now) (length t2.now)
         × Even (length e0.now) (length e1.now) (length structural.now) }
-    ensures { result ≡ ltb 2048 (length (outlineOf (rows3 t0.now t1.now t2.now) (rows3 e0.now
+    ensures { result ≡ ltb 2048 (length (outline_of (rows3 t0.now t1.now t2.now) (rows3 e0.now
         e1.now structural.now))) }
 {
     let mut none = [0usize; 1];
@@ -45,7 +45,7 @@ fn refusal(
     structural: &[usize],
     blade: &[i64],
 ) -> usize
-    ensures { result ≡ answer_of (columnsFrom (handedBefore x y pinned t0 t1 t2 e0 e1 structural blade)) m }
+    ensures { result ≡ answer_of (columns_from (handed_before x y pinned t0 t1 t2 e0 e1 structural blade)) m }
 {
     let r = sheet_fields::refusal(
         65536,
@@ -95,9 +95,9 @@ fn put_all(
     structural: &[usize],
     blade: &[i64],
 )
-    requires { Put2 (columnsFrom (handedIn x y pinned t0 t1 t2 e0 e1 structural blade)) s.old }
-    ensures { bits_of s.new ≡ padded (8 * length s.old) 0 (sheet2Bits
-        (sheetFrom (columnsFrom (handedBefore x y pinned t0 t1 t2 e0 e1 structural blade)))) }
+    requires { Put2 (columns_from (handed_in x y pinned t0 t1 t2 e0 e1 structural blade)) s.old }
+    ensures { bits_of s.new ≡ padded (8 * length s.old) 0 (sheet2_bits
+        (sheet_from (columns_from (handed_before x y pinned t0 t1 t2 e0 e1 structural blade)))) }
 {
     let p = x.len();
     let t = t0.len();
@@ -127,7 +127,7 @@ pub fn write(
     structural: &[usize],
     blade: &[i64],
 ) -> usize
-    ensures { WriteDone (handedBefore x y pinned t0 t1 t2 e0 e1 structural blade) out.old out.new result }
+    ensures { WriteDone (handed_before x y pinned t0 t1 t2 e0 e1 structural blade) out.old out.new result }
 {
     bits::blank(out);
     let r = refusal(

@@ -7,48 +7,48 @@ use mathlib.Core.List.{List, ◌++◌}
 use lib.ListN.{length, length-append}
 use Rattle.lists.specs.Lists.{pick}
 use Rattle.bits.specs.Bits.{bits_of}
-use Rattle.sheet.specs.Sheet.{above, tooMany, countsAt, limits}
+use Rattle.sheet.specs.Sheet.{above, too_many_of, counts_at, limits}
 use Rattle.sheet.specs.declared.Counts.{Counts}
-use Rattle.edition.specs.Edition.{second, bitsIn, bytesIn, seenIn}
-use Rattle.edition.proofs.Editions.{counts-second}
-use Rattle.edition.proofs.Starts.{in-second, header-bits}
-use Rattle.edition.proofs.Joins.{edition-join, counts-join}
+use Rattle.edition.specs.Edition.{second, bits_in_of, bytes_in, seen_in}
+use Rattle.edition.proofs.Editions.{counts_second}
+use Rattle.edition.proofs.Starts.{in_second, header_bits}
+use Rattle.edition.proofs.Joins.{edition_join, counts_join}
 use Rattle.edition.proofs.Limited.{Few, above?, TooLong, typed_long, too_long}
-use Rattle.listing.specs.Listing.{refusedBytes}
+use Rattle.listing.specs.Listing.{refused_bytes}
 use Rattle.sheetcut.specs.SheetCut.{listed}
-use Rattle.sheetcut.proofs.Cutting.{listed-refused}
+use Rattle.sheetcut.proofs.Cutting.{listed_refused}
 
 -- ---- bytes that are too many
 
 -- the longest sheet of the second edition, which has no boundary entries
-pub second-bytes : (c : Counts) → Few c → c.boundary ≡ 0 → bytesIn true c ≤ 1532
-second-bytes c F e = omega (arith, F.particles, F.triangles, F.edges)
+pub second_bytes : (c : Counts) → Few c → c.boundary ≡ 0 → bytes_in true c ≤ 1532
+second_bytes c F e = omega (arith, F.particles, F.triangles, F.edges)
 
-no-entries : (s : List ℕ) → 6 ≤ length s → second (bits_of s) ≡ true → (countsAt (bitsIn (bits_of s))).boundary ≡ 0
-no-entries s h two =
-    ap (λ (l : List ℕ). (countsAt l).boundary) (in-second (bits_of s) two) ∙ ap (λ (c : Counts). c.boundary) (counts-second (bits_of s) (header-bits s h))
+no_entries : (s : List ℕ) → 6 ≤ length s → second (bits_of s) ≡ true → (counts_at (bits_in_of (bits_of s))).boundary ≡ 0
+no_entries s h two =
+    ap (λ (l : List ℕ). (counts_at l).boundary) (in_second (bits_of s) two) ∙ ap (λ (c : Counts). c.boundary) (counts_second (bits_of s) (header_bits s h))
 
 -- the listing of too many bytes is the line of a refusal
-long-refused : (s : List ℕ) → 6 ≤ length s → TooLong s → listed s ≡ refusedBytes (pick (above? s) 1 9)
-unfolding seenIn
-long-refused s six h = listed-refused s (pick (above? s) 1 9) (ap (seenIn limits s) (typed_long s six h))
+long_refused : (s : List ℕ) → 6 ≤ length s → TooLong s → listed s ≡ refused_bytes (pick (above? s) 1 9)
+unfolding seen_in
+long_refused s six h = listed_refused s (pick (above? s) 1 9) (ap (seen_in limits s) (typed_long s six h))
 
-second-long : (s : List ℕ) → second (bits_of s) ≡ true → 1533 ≤ length s → TooLong s
-second-long s two h F =
-    let c = countsAt (bitsIn (bits_of s)) in
-    let e = ap (λ (t : Bool). bytesIn t c) two in
-    omega (arith, second-bytes c F (no-entries s (omega arith) two))
+second_long : (s : List ℕ) → second (bits_of s) ≡ true → 1533 ≤ length s → TooLong s
+second_long s two h F =
+    let c = counts_at (bits_in_of (bits_of s)) in
+    let e = ap (λ (t : Bool). bytes_in t c) two in
+    omega (arith, second_bytes c F (no_entries s (omega arith) two))
 
 both_long : (a b : List ℕ) → 6 ≤ length a → TooLong a → TooLong (a ++ b) → listed (a ++ b) ≡ listed a
 both_long a b six h g =
-    long-refused (a ++ b) (omega (arith, length-append a b)) g
-    ∙ (ap (λ (k : Counts). refusedBytes (pick (tooMany k || above limits k) 1 9)) (counts-join a b six) ∙ sym (long-refused a six h))
+    long_refused (a ++ b) (omega (arith, length-append a b)) g
+    ∙ (ap (λ (k : Counts). refused_bytes (pick (too_many_of k || above limits k) 1 9)) (counts_join a b six) ∙ sym (long_refused a six h))
 
 -- a reader may stop behind 2,173 bytes, whatever the edition
-pub long-listed : (a b : List ℕ) → 2173 ≤ length a → listed (a ++ b) ≡ listed a
-long-listed a b h = both_long a b (omega arith) (too_long a h) (too_long (a ++ b) (omega (arith, length-append a b)))
+pub long_listed : (a b : List ℕ) → 2173 ≤ length a → listed (a ++ b) ≡ listed a
+long_listed a b h = both_long a b (omega arith) (too_long a h) (too_long (a ++ b) (omega (arith, length-append a b)))
 
 -- and behind 1,533 bytes of the second
-pub second-listed : (a b : List ℕ) → second (bits_of a) ≡ true → 1533 ≤ length a → listed (a ++ b) ≡ listed a
-second-listed a b two h =
-    both_long a b (omega arith) (second-long a two h) (second-long (a ++ b) (edition-join a b (omega arith) ∙ two) (omega (arith, length-append a b)))
+pub second_listed : (a b : List ℕ) → second (bits_of a) ≡ true → 1533 ≤ length a → listed (a ++ b) ≡ listed a
+second_listed a b two h =
+    both_long a b (omega arith) (second_long a two h) (second_long (a ++ b) (edition_join a b (omega arith) ∙ two) (omega (arith, length-append a b)))

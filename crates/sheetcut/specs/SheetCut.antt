@@ -5,11 +5,11 @@ use Rattle.std.specs.Float.Ieee.{of_bits}
 use Rattle.float.specs.Numbers.{zero32}
 use Rattle.model.specs.Run.{Rooms}
 use Rattle.model.specs.Cut.{Line}
-use Rattle.model.specs.Calls.{Outcome, refused, cutCall}
+use Rattle.model.specs.Calls.{Outcome, refused, cut_call}
 use Rattle.bits.specs.Bits.{bits_of}
 use Rattle.sheet.specs.Sheet.{Sheet, limits}
-use Rattle.sheet.specs.Read.{meshOfSheet, bladeOfSheet}
-use Rattle.edition.specs.Edition.{sheetOf, seenOf}
+use Rattle.sheet.specs.Read.{mesh_of_sheet, blade_of_sheet}
+use Rattle.edition.specs.Edition.{sheet_of, seen_of}
 use Rattle.edition.specs.declared.Seen.{Seen}
 use Rattle.edition.specs.declared.Seen.TheVariants.{Whole, Refused}
 use Rattle.listing.specs.Listing.{printed}
@@ -23,22 +23,22 @@ unfoldable pub fraction : Float
 fraction = of_bits binary32 1036831949
 
 -- the blade of four numbers x0, y0, x1, y1
-abbrev pub bladeOf : List Float → Line
-bladeOf l = record { from = record { x = get_or l 0 zero32; y = get_or l 1 zero32 }; to = record { x = get_or l 2 zero32; y = get_or l 3 zero32 } }
+abbrev pub blade_of : List Float → Line
+blade_of l = record { from = record { x = get_or l 0 zero32; y = get_or l 1 zero32 }; to = record { x = get_or l 2 zero32; y = get_or l 3 zero32 } }
 
 -- the cut of a sheet: its mesh, its blade, the fraction and the rooms
 unfoldable pub cut_of : Sheet → Outcome
-cut_of s = cutCall true (meshOfSheet s) 1 (bladeOf (bladeOfSheet s)) fraction rooms
+cut_of s = cut_call true (mesh_of_sheet s) 1 (blade_of (blade_of_sheet s)) fraction rooms
 
 -- what a look at bytes comes to: the refusal of the sheet, or the cut of it as it is read, with the outline that it has then
-unfoldable pub cutSeen : Seen → List ℕ → Outcome
-cutSeen (Refused n) s = refused n
-cutSeen (Whole c replaced) s = cut_of (sheetOf (bits_of s)).sheet
+unfoldable pub cut_seen : Seen → List ℕ → Outcome
+cut_seen (Refused n) s = refused n
+cut_seen (Whole c replaced) s = cut_of (sheet_of (bits_of s)).sheet
 
 -- the cut of the sheet of either edition that bytes are
-abbrev pub sheetCut : List ℕ → Outcome
-sheetCut s = cutSeen (seenOf limits s) s
+abbrev pub sheet_cut : List ℕ → Outcome
+sheet_cut s = cut_seen (seen_of limits s) s
 
 -- the bytes that the program prints for the bytes that it reads: those of the cut, with the line `outline replaced` where the sheet's typed outline was
 abbrev pub listed : List ℕ → List ℕ
-listed s = printed (sheetOf (bits_of s)).replaced (sheetCut s)
+listed s = printed (sheet_of (bits_of s)).replaced (sheet_cut s)

@@ -9,21 +9,21 @@ use Rattle.sheet_fronts.specs.Fronts.{Ample, fronts}
 
 -- counts within the program's limits, blocks of the sizes that these ask for, and the four numbers of a blade
 pub record Cuttable (c : S.Counts) (L : Lent) (blade : ℕ) : Type 0 where
-  pub few-particles : c.particles ≤ 128
-  pub few-triangles : c.triangles ≤ 128
-  pub few-edges : c.edges ≤ 256
-  pub few-boundary : c.boundary ≤ 256
+  pub few_particles : c.particles ≤ 128
+  pub few_triangles : c.triangles ≤ 128
+  pub few_edges : c.edges ≤ 256
+  pub few_boundary : c.boundary ≤ 256
   pub ample : Ample L
   pub four : blade ≡ 4
 
 -- `fronts` of lent blocks, before a call
-abbrev pub frontsBefore : S.Counts → Numbers → Indices → Indices → Numbers → Indices → Numbers → Indices → Given
-frontsBefore c points roots corners volumes ends lengths outline =
+abbrev pub fronts_before : S.Counts → Numbers → Indices → Indices → Numbers → Indices → Numbers → Indices → Given
+fronts_before c points roots corners volumes ends lengths outline =
     fronts c points.entry.now roots.entry.now corners.entry.now volumes.entry.now ends.entry.now lengths.entry.now outline.entry.now
 
 -- the line from the first two numbers of a blade to the next two
-abbrev pub lineBefore : Numbers → Line
-lineBefore blade =
+abbrev pub line_before : Numbers → Line
+line_before blade =
     record {
       from = record { x = get_or blade.entry.now 0 nan; y = get_or blade.entry.now 1 nan };
       to = record { x = get_or blade.entry.now 2 nan; y = get_or blade.entry.now 3 nan };

@@ -2,17 +2,17 @@
 #![tactic(auto)]
 
 ghost use Rattle.std.specs.Prelude.{◌≡◌, length};
-ghost use Rattle.model.specs.Calls.{cutCall};
-ghost use Rattle.mesh.specs.Given.{meshOf, sizesFit};
+ghost use Rattle.model.specs.Calls.{cut_call};
+ghost use Rattle.mesh.specs.Given.{mesh_of, sizes_fit_of};
 ghost use Rattle.bits.specs.Bits.{bits_of};
-ghost use Rattle.edition.specs.Edition.{sheetOf, seenOf};
+ghost use Rattle.edition.specs.Edition.{sheet_of, seen_of};
 ghost use Rattle.edition.specs.declared.Seen.TheVariants.{Whole};
 ghost use Rattle.listing.specs.Listing.{printed};
 ghost use Rattle.sheet.specs.Sheet.{limits as most};
 ghost use Rattle.listing.specs.Answers.{Told};
 ghost use Rattle.sheetcut.specs.SheetCut.{fraction as tenth, rooms, cut_of, listed};
-ghost use Rattle.sheetcut.specs.Work.{Cuttable, frontsBefore, lineBefore};
-ghost use Rattle.mesh.specs.Blocks.{givenBefore, inputs_in};
+ghost use Rattle.sheetcut.specs.Work.{Cuttable, fronts_before, line_before};
+ghost use Rattle.mesh.specs.Blocks.{given_before, inputs_in};
 
 use blade::Point;
 use call_frame::Answer;
@@ -42,8 +42,8 @@ fn list_blocks(
     outline: &[usize],
     out: &mut [u8],
 ) -> Written
-    ensures { let G = givenBefore points roots corners volumes ends lengths outline in
-        Told (printed replaced (cutCall (sizesFit G) (meshOf G) 1 (record { from = b0; to = b1 }) tenth rooms)) (length out.old)
+    ensures { let G = given_before points roots corners volumes ends lengths outline in
+        Told (printed replaced (cut_call (sizes_fit_of G) (mesh_of G) 1 (record { from = b0; to = b1 }) tenth rooms)) (length out.old)
         out.new result }
 {
     let mut cut_points = [0.0f32; 256 * mesh::POINT_COLUMNS];
@@ -102,8 +102,8 @@ fn list_fronts(
     out: &mut [u8],
 ) -> Written
     requires { Cuttable c (inputs_in points roots corners volumes ends lengths outline) (length blade.now) }
-    ensures { let F = frontsBefore c points roots corners volumes ends lengths outline in
-        Told (printed replaced (cutCall (sizesFit F) (meshOf F) 1 (lineBefore blade) tenth rooms)) (length out.old)
+    ensures { let F = fronts_before c points roots corners volumes ends lengths outline in
+        Told (printed replaced (cut_call (sizes_fit_of F) (mesh_of F) 1 (line_before blade) tenth rooms)) (length out.old)
         out.new result }
 {
     let p = mesh::POINT_COLUMNS * c.particles;
@@ -137,8 +137,8 @@ fn list_fronts(
 
 // Cuts a whole sheet with counts c, whose typed outline was replaced or not, and writes the listing.
 fn list_whole(sheet: &[u8], c: SheetCounts, replaced: bool, out: &mut [u8]) -> Written
-    requires { seenOf most sheet.now ≡ Whole c replaced }
-    ensures { Told (printed replaced (cut_of (sheetOf (bits_of sheet.now)).sheet)) (length out.old)
+    requires { seen_of most sheet.now ≡ Whole c replaced }
+    ensures { Told (printed replaced (cut_of (sheet_of (bits_of sheet.now)).sheet)) (length out.old)
         out.new result }
 {
     let mut points = [0.0f32; 128 * mesh::POINT_COLUMNS];

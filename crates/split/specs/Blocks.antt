@@ -2,16 +2,16 @@
 use Rattle.std.specs.Prelude.{ℕ, ◌≤◌, length}
 use Rattle.model.specs.Mesh.{Mesh}
 use Rattle.model.specs.Elements.{Kind}
-use Rattle.mesh.specs.At.{meshAt}
-use Rattle.mesh.specs.Log.{World, worldAt}
-use Rattle.mesh.specs.Blocks.{NumbersIn, LentNumbersIn, IndicesIn, LentIndicesIn, Numbers, LentNumbers, Indices, LentIndices, worldBefore}
+use Rattle.mesh.specs.At.{mesh_at}
+use Rattle.mesh.specs.Log.{World, world_at}
+use Rattle.mesh.specs.Blocks.{NumbersIn, LentNumbersIn, IndicesIn, LentIndicesIn, Numbers, LentNumbers, Indices, LentIndices, world_before}
 use Rattle.mesh.specs.declared.Counts.{Counts}
 use Rattle.mesh.specs.declared.Rooms.{Rooms}
 use Rattle.links.specs.Linked.{FrontLinked, MeshLinked}
 use Rattle.work.specs.Places.{EndsIn}
 use Rattle.work.specs.declared.Ran.{Ran}
 use Rattle.work.specs.declared.Grown.{Grown}
-use Rattle.edge_drops.specs.Parted.{worldParted, ListingAfter, partedBehind, ListedBehind}
+use Rattle.edge_drops.specs.Parted.{world_parted, ListingAfter, parted_behind, ListedBehind}
 use Rattle.boundary.specs.Faces.{GrownLinked}
 use Rattle.split.specs.declared.Grew.{Grew}
 use Rattle.split.specs.Tables.{FanGrouped, FanSided, TablesFit}
@@ -48,7 +48,7 @@ EdgesBehind K corners ends lengths outline links list r = ListedBehind ends leng
 -- what P says of the mesh and of the world before a call, and of the worlds that the blocks may be read as behind it, without the listed edges
 abbrev pub OverParted : (Mesh → World → (Counts → World) → Type 0) → Counts → LentNumbers → LentIndices → LentIndices → Numbers → LentIndices → LentNumbers → LentIndices → LentIndices → LentIndices → Type 0
 OverParted P k points roots corners volumes ends lengths outline log list =
-    P (meshAt k points.entry.now roots.entry.now corners.entry.now volumes.entry.now ends.entry.now lengths.entry.now outline.entry.now) (worldBefore k points roots corners volumes ends lengths outline log) (λ q. partedBehind q points roots corners volumes ends lengths outline log list)
+    P (mesh_at k points.entry.now roots.entry.now corners.entry.now volumes.entry.now ends.entry.now lengths.entry.now outline.entry.now) (world_before k points roots corners volumes ends lengths outline log) (λ q. parted_behind q points roots corners volumes ends lengths outline log list)
 
 -- the front of the tables of links is that of the blocks; and behind a worker it is that again, and the boundary's part is as it was
 abbrev pub FrontIn : Kind → Counts → IndicesIn → IndicesIn → IndicesIn → Type 0
@@ -84,8 +84,8 @@ GrowIn K L k v n count numbers verts measures groups points roots corners ends l
 abbrev pub GrewIn : Kind → Rooms → Counts → ℕ → ℕ → ℕ → Indices → Indices → Numbers → Indices → LentNumbers → LentIndices → LentIndices → LentIndices → LentNumbers → LentIndices → Grew → Type 0
 GrewIn K L k v n count numbers verts measures groups points roots corners ends lengths links r =
     GrowthTold K L k v n count numbers.entry.now verts.entry.now measures.entry.now groups.entry.now
-    (λ q volumes outline. meshAt q points.entry.now roots.entry.now corners.entry.now volumes ends.entry.now lengths.entry.now outline)
-    (λ q volumes outline. meshAt q points.exit.now roots.exit.now corners.exit.now volumes ends.exit.now lengths.exit.now outline) r
+    (λ q volumes outline. mesh_at q points.entry.now roots.entry.now corners.entry.now volumes ends.entry.now lengths.entry.now outline)
+    (λ q volumes outline. mesh_at q points.exit.now roots.exit.now corners.exit.now volumes ends.exit.now lengths.exit.now outline) r
     × LinkedGrown K k.triangles corners.exit.now ends.exit.now links.entry.now links.exit.now r
 
 -- ---- parts 4 to 6
@@ -114,7 +114,7 @@ SettleIn K L k v before n count extra numbers verts groups points corners volume
 abbrev pub SettledIn : Kind → Rooms → ℕ → ℕ → ℕ → ℕ → ℕ → Counts → Indices → Indices → Indices → Numbers → Indices → Numbers → Indices → Numbers → LentIndices → LentIndices → LentIndices → LentIndices → Ran → Type 0
 SettledIn K L extra v before n count k numbers verts groups points corners volumes ends lengths outline log list links r =
     SettledFor K L extra v before n count numbers.entry.now verts.entry.now groups.entry.now
-    (λ roots. worldAt k points.entry.now roots corners.entry.now volumes.entry.now ends.entry.now lengths.entry.now outline.entry.now log.entry.now)
-    (λ roots q. worldParted q points.exit.now roots corners.exit.now volumes.exit.now ends.exit.now lengths.exit.now outline.exit.now log.exit.now list.exit.now) r
+    (λ roots. world_at k points.entry.now roots corners.entry.now volumes.entry.now ends.entry.now lengths.entry.now outline.entry.now log.entry.now)
+    (λ roots q. world_parted q points.exit.now roots corners.exit.now volumes.exit.now ends.exit.now lengths.exit.now outline.exit.now log.exit.now list.exit.now) r
     × ListingAfter (length ends.exit.now) (length lengths.exit.now) list.exit.now r
     × LinkedListed K corners.exit.now ends.exit.now outline.exit.now links.exit.now list.exit.now r

@@ -2,7 +2,7 @@
 use Rattle.std.specs.Prelude.{ℕ, ◌+◌, ◌/◌, ◌<◌, ◌≤◌, ◌≡◌, List, length, get_or, take, drop}
 use Rattle.columns.specs.Block.{cell}
 use Rattle.model.specs.Elements.{Kind, Triangles}
-use Rattle.model.specs.Split.{copyFor}
+use Rattle.model.specs.Split.{copy_for_of}
 use Rattle.links.specs.Links.{cells_of}
 use Rattle.links.specs.Rooms.{CornersApart}
 use Rattle.links.specs.Linked.{FrontLinked, MeshLinked}
@@ -12,8 +12,8 @@ use Rattle.work.specs.declared.Ran.{Ran}
 use Rattle.work.specs.declared.Ran.TheVariants.{Refused, Done}
 use Rattle.split.specs.declared.Grew.{Grew}
 use Rattle.split.specs.declared.Grew.TheVariants.{Lacking, Longest}
-use Rattle.mesh.specs.Widths.{cornerColumns}
-use Rattle.mesh.specs.Limits.{particleLimit, triangleLimit}
+use Rattle.mesh.specs.Widths.{corner_columns}
+use Rattle.mesh.specs.Limits.{particle_limit, triangle_limit}
 
 -- behind a worker: where it is done, the tables are those of the blocks again
 abbrev pub LinkedAfter : Kind → List ℕ → List ℕ → List ℕ → List ℕ → Ran → Type 0
@@ -47,13 +47,13 @@ pub record FacetsLinked (K : Kind) (n b room : ℕ) (numbers corners outline tab
 
 -- where the elements are triangles: the corners of t triangles are among so many particles, none has one twice, and the first n numbers are of those that hold v
 pub record FanNamed (K : Kind) (v before t n : ℕ) (numbers corners : List ℕ) : Type 0 where
-  pub apart : K ≡ Triangles → CornersApart before 3 t (cell 0 (length corners / cornerColumns) corners)
-  pub fan : K ≡ Triangles → take n numbers ≡ cells_of 3 t (cell 0 (length corners / cornerColumns) corners) v
+  pub apart : K ≡ Triangles → CornersApart before 3 t (cell 0 (length corners / corner_columns) corners)
+  pub fan : K ≡ Triangles → take n numbers ≡ cells_of 3 t (cell 0 (length corners / corner_columns) corners) v
 
 -- the table has room for t triangles in a block of lc places, and a head for v and each copy of a group
 pub record HeadsRoom (v before t n lc : ℕ) (groups : List ℕ) : Type 0 where
-  pub few : t ≤ triangleLimit
-  pub rows : t ≤ lc / cornerColumns
+  pub few : t ≤ triangle_limit
+  pub rows : t ≤ lc / corner_columns
   pub here : v < before
-  pub most : before ≤ particleLimit
-  pub copies : (i : ℕ) → i < n → copyFor v before (get_or groups i 0) < particleLimit
+  pub most : before ≤ particle_limit
+  pub copies : (i : ℕ) → i < n → copy_for_of v before (get_or groups i 0) < particle_limit

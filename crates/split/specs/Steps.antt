@@ -3,14 +3,14 @@ use Rattle.std.specs.Prelude.{ℕ, ◌+◌, ◌-◌, ◌/◌, ◌<◌, ◌≤◌
 use Rattle.model.specs.Mesh.{Mesh}
 use Rattle.model.specs.Elements.{Kind}
 use Rattle.model.specs.Run.{Entry, Need}
-use Rattle.model.specs.Split.{Opening, atLongest, settled, straddles, splitEntries, goneEntries}
-use Rattle.model.specs.Calls.{tooSmall}
+use Rattle.model.specs.Split.{Opening, at_longest, settled, straddles, split_entries, gone_entries}
+use Rattle.model.specs.Calls.{too_small}
 use Rattle.mesh.specs.Log.{World, words_of}
-use Rattle.mesh.specs.Given.{asRooms}
+use Rattle.mesh.specs.Given.{as_rooms}
 use Rattle.mesh.specs.declared.Counts.{Counts}
 use Rattle.mesh.specs.declared.Rooms.{Rooms}
-use Rattle.mesh.specs.Widths.{pointColumns, cornerColumns, endColumns, lengthColumns, rootColumns}
-use Rattle.mesh.specs.Limits.{particleLimit, triangleLimit, edgeLimit}
+use Rattle.mesh.specs.Widths.{point_columns, corner_columns, end_columns, length_columns, root_columns}
+use Rattle.mesh.specs.Limits.{particle_limit, triangle_limit, edge_limit}
 use Rattle.work.specs.Working.{Within}
 use Rattle.split.specs.Tables.{Opens}
 use Rattle.work.specs.declared.Ran.{Ran}
@@ -23,26 +23,26 @@ use Rattle.split.specs.declared.Grew.TheVariants.{Lacking, Longest}
 -- what is asked of the counts, the rooms and the lengths of the blocks that parts 1 to 3 change
 pub record GrowRoom (L : Rooms) (k : Counts) (lp lr lc le ll : ℕ) : Type 0 where
   pub particles : k.particles ≤ L.particles
-  pub few-particles : L.particles ≤ particleLimit
-  pub points : L.particles ≤ lp / pointColumns
-  pub roots : L.particles ≤ lr / rootColumns
-  pub few-triangles : k.triangles ≤ triangleLimit
-  pub corners : k.triangles ≤ lc / cornerColumns
+  pub few_particles : L.particles ≤ particle_limit
+  pub points : L.particles ≤ lp / point_columns
+  pub roots : L.particles ≤ lr / root_columns
+  pub few_triangles : k.triangles ≤ triangle_limit
+  pub corners : k.triangles ≤ lc / corner_columns
   pub edges : k.edges ≤ L.edges
-  pub few-edges : L.edges ≤ edgeLimit
-  pub ends : L.edges ≤ le / endColumns
-  pub lengths : L.edges ≤ ll / lengthColumns
+  pub few_edges : L.edges ≤ edge_limit
+  pub ends : L.edges ≤ le / end_columns
+  pub lengths : L.edges ≤ ll / length_columns
 
 -- the counts with other numbers of particles and edges
-abbrev pub grownCounts : Counts → ℕ → ℕ → Counts
-grownCounts k p e = record { particles = p; triangles = k.triangles; edges = e; boundary = k.boundary; log = k.log }
+abbrev pub grown_counts : Counts → ℕ → ℕ → Counts
+grown_counts k p e = record { particles = p; triangles = k.triangles; edges = e; boundary = k.boundary; log = k.log }
 
 -- what was told after parts 1 to 3 of a split of M: the room that lacks, whatever the rest of the step needs; or how many edges there are at their longest
 abbrev pub GrewTo : Kind → Opening → Rooms → Counts → Mesh → (Counts → Mesh) → Grew → Type 0
 GrewTo K O L k M at (Lacking c) =
-    ((b l : ℕ) → tooSmall (asRooms L) (record { particles = length (atLongest K O M).particles; edges = length (atLongest K O M).edges; boundary = b; log = l }) ≡ c) × (0 < c)
+    ((b l : ℕ) → too_small (as_rooms L) (record { particles = length (at_longest K O M).particles; edges = length (at_longest K O M).edges; boundary = b; log = l }) ≡ c) × (0 < c)
 GrewTo K O L k M at (Longest e) =
-    (k.particles + O.count - 1 ≤ L.particles) × (e ≤ L.edges) × (at (grownCounts k (k.particles + O.count - 1) e) ≡ atLongest K O M)
+    (k.particles + O.count - 1 ≤ L.particles) × (e ≤ L.edges) × (at (grown_counts k (k.particles + O.count - 1) e) ≡ at_longest K O M)
 
 -- for every split that the tables hold, and whatever stands in the other blocks
 pub record GrowthTold (K : Kind) (L : Rooms) (k : Counts) (v n count : ℕ) (numbers verts : List ℕ) (measures : List Float) (groups : List ℕ) (before after : Counts → List Float → List ℕ → Mesh) (r : Grew) : Type 0 where
@@ -52,22 +52,22 @@ pub record GrowthTold (K : Kind) (L : Rooms) (k : Counts) (v n count : ℕ) (num
 -- ---- parts 4 to 6, and the log
 
 -- what is logged of a split whose edges are at their longest in A
-abbrev pub loggedOf : Kind → Opening → Mesh → List Entry
-loggedOf K O A = splitEntries O ++ goneEntries (straddles K A O) A.edges
+abbrev pub logged_of : Kind → Opening → Mesh → List Entry
+logged_of K O A = split_entries O ++ gone_entries (straddles K A O) A.edges
 
 -- the world behind parts 4 to 6
-unfoldable pub settledWorld : Kind → Opening → World → World
-settledWorld K O W = record { mesh = settled K O W.mesh; log = W.log ++ map words_of (loggedOf K O W.mesh) }
+unfoldable pub settled_world : Kind → Opening → World → World
+settled_world K O W = record { mesh = settled K O W.mesh; log = W.log ++ map words_of (logged_of K O W.mesh) }
 
 -- what was told after parts 4 to 6 with `extra` entries to come: the room that lacks, where particles and edges have theirs; or the new counts
 abbrev pub SettledTo : Kind → Opening → Rooms → ℕ → World → (Counts → World) → Ran → Type 0
 SettledTo K O L extra W at (Refused c) =
     ((p e : ℕ) → p ≤ L.particles → e ≤ L.edges
-    → tooSmall (asRooms L) (record { particles = p; edges = e; boundary = length (settled K O W.mesh).boundary; log = length W.log + (length (loggedOf K O W.mesh) + extra) }) ≡ c)
+    → too_small (as_rooms L) (record { particles = p; edges = e; boundary = length (settled K O W.mesh).boundary; log = length W.log + (length (logged_of K O W.mesh) + extra) }) ≡ c)
     × (0 < c)
 SettledTo K O L extra W at (Done k) =
-    (length (settled K O W.mesh).boundary ≤ L.boundary) × (length W.log + (length (loggedOf K O W.mesh) + extra) ≤ L.log) × Within k L
-    × (at k ≡ settledWorld K O W)
+    (length (settled K O W.mesh).boundary ≤ L.boundary) × (length W.log + (length (logged_of K O W.mesh) + extra) ≤ L.log) × Within k L
+    × (at k ≡ settled_world K O W)
 
 -- for every split that the tables hold, and whatever stands in the block of roots
 pub record SettlingTold (K : Kind) (L : Rooms) (extra v before n count : ℕ) (numbers verts : List ℕ) (measures : List Float) (groups : List ℕ) (W : List ℕ → World) (at : List ℕ → Counts → World) (r : Ran) : Type 0 where
@@ -78,15 +78,15 @@ pub record SettlingTold (K : Kind) (L : Rooms) (extra v before n count : ℕ) (n
 -- what the step needs, with `extra` entries behind its own
 unfoldable pub need_of : Kind → Opening → ℕ → World → Need
 need_of K O extra W =
-    let A = atLongest K O W.mesh in
+    let A = at_longest K O W.mesh in
     let S = settled K O A in
-    record { particles = length S.particles; edges = length A.edges; boundary = length S.boundary; log = length W.log + (length (loggedOf K O A) + extra) }
+    record { particles = length S.particles; edges = length A.edges; boundary = length S.boundary; log = length W.log + (length (logged_of K O A) + extra) }
 
 -- the world behind the step
-unfoldable pub splitWorld : Kind → Opening → World → World
-splitWorld K O W = settledWorld K O (record { mesh = atLongest K O W.mesh; log = W.log })
+unfoldable pub split_world : Kind → Opening → World → World
+split_world K O W = settled_world K O (record { mesh = at_longest K O W.mesh; log = W.log })
 
 -- what was told after the step: the room that lacks; or the new counts, with room for `extra` entries
 abbrev pub Stepped : Kind → Opening → Rooms → ℕ → World → (Counts → World) → Ran → Type 0
-Stepped K O L extra W at (Refused c) = (tooSmall (asRooms L) (need_of K O extra W) ≡ c) × (0 < c)
-Stepped K O L extra W at (Done k) = (tooSmall (asRooms L) (need_of K O extra W) ≡ 0) × Within k L × (k.log + extra ≤ L.log) × (at k ≡ splitWorld K O W)
+Stepped K O L extra W at (Refused c) = (too_small (as_rooms L) (need_of K O extra W) ≡ c) × (0 < c)
+Stepped K O L extra W at (Done k) = (too_small (as_rooms L) (need_of K O extra W) ≡ 0) × Within k L × (k.log + extra ≤ L.log) × (at k ≡ split_world K O W)

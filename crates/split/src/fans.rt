@@ -1,10 +1,10 @@
 // The fan of a particle in tables, and its groups by sides.
 ghost use Rattle.std.specs.Prelude.{◌<◌, length};
-ghost use Rattle.elements.specs.Table.{kindIs};
-ghost use Rattle.model.specs.Elements.{cornersPer};
+ghost use Rattle.elements.specs.Table.{kind_is};
+ghost use Rattle.model.specs.Elements.{corners_per_of};
 ghost use Rattle.links.specs.Linked.{FrontLinked};
 ghost use Rattle.split.specs.Tables.{FanLent, FanTables, SidesLent, GroupsFound};
-ghost use Rattle.mesh.specs.Limits.{particleLimit};
+ghost use Rattle.mesh.specs.Limits.{particle_limit};
 
 use elements::Kind;
 
@@ -34,8 +34,8 @@ pub fn fan_tables(
     links: &[u16],
 ) -> usize
     requires { FanLent t e (length corners.now) (length volumes.now) (length ends.now) (length lengths.now)
-        × FrontLinked (kindIs kind) t e corners.now ends.now links.now × (v < particleLimit) }
-    ensures { FanTables (kindIs kind) v t e corners.now volumes.now ends.now
+        × FrontLinked (kind_is kind) t e corners.now ends.now links.now × (v < particle_limit) }
+    ensures { FanTables (kind_is kind) v t e corners.now volumes.now ends.now
         lengths.now result numbers.new verts.new measures.new }
 {
     match kind {
@@ -74,8 +74,8 @@ pub fn group_fan(
     sides: &[usize],
     groups: &mut [usize],
 ) -> usize
-    requires { SidesLent n (cornersPer (kindIs kind)) (length verts.now) (length sides.now) (length groups.old) sides.now }
-    ensures { GroupsFound (kindIs kind) v n verts.now sides.now groups.new result }
+    requires { SidesLent n (corners_per_of (kind_is kind)) (length verts.now) (length sides.now) (length groups.old) sides.now }
+    ensures { GroupsFound (kind_is kind) v n verts.now sides.now groups.new result }
 {
     let k = elements::corners_per(kind);
     let others = elements::facet_others(kind);

@@ -1,14 +1,14 @@
 // The first half of a split: the elements and the other edges of v go to the copies of their groups, and the copies share v's mass.
 ghost use Rattle.std.specs.Prelude.{◌/◌, length, take};
-ghost use Rattle.elements.specs.Table.{kindIs};
+ghost use Rattle.elements.specs.Table.{kind_is};
 ghost use Rattle.links.specs.Linked.{TrianglesLinked};
 ghost use Rattle.link_splits.specs.Splits.{SplitRoom};
 ghost use Rattle.rewire.specs.Stages.{TrianglesRewired};
 ghost use Rattle.rewire.specs.Parts.{PartsRoom};
 ghost use Rattle.split.specs.Growing.{ElementsRewired, ShareRoom, SharedOut};
 ghost use Rattle.split.specs.Blocks.{ElementsIn, FrontBehind, GrowIn, GrewIn};
-ghost use Rattle.mesh.specs.Widths.{cornerColumns};
-ghost use Rattle.mesh.specs.Limits.{particleLimit, triangleLimit};
+ghost use Rattle.mesh.specs.Widths.{corner_columns};
+ghost use Rattle.mesh.specs.Limits.{particle_limit, triangle_limit};
 
 use crate::Grew;
 use elements::Kind;
@@ -26,8 +26,8 @@ fn rewire_linked(
     corners: &mut [usize],
     links: &mut [u16],
 )
-    requires { PartsRoom before n (length corners.old / cornerColumns) numbers.now groups.now × SplitRoom v before particleLimit
-        cornerColumns triangleLimit (length corners.old / cornerColumns) t (take n numbers.now) (take n groups.now) corners.old links.old }
+    requires { PartsRoom before n (length corners.old / corner_columns) numbers.now groups.now × SplitRoom v before particle_limit
+        corner_columns triangle_limit (length corners.old / corner_columns) t (take n numbers.now) (take n groups.now) corners.old links.old }
     ensures { TrianglesRewired v before n numbers.now groups.now corners.old corners.new
         × TrianglesLinked t corners.new links.new }
 {
@@ -62,9 +62,9 @@ fn rewire_elements(
     ends: &mut [usize],
     links: &mut [u16],
 )
-    requires { ElementsIn (kindIs kind) v before t e n numbers groups corners ends links }
-    ensures { ElementsRewired (kindIs kind) v before n numbers.now groups.now corners.old
-        corners.new ends.old ends.new × FrontBehind (kindIs kind) t e corners ends links }
+    requires { ElementsIn (kind_is kind) v before t e n numbers groups corners ends links }
+    ensures { ElementsRewired (kind_is kind) v before n numbers.now groups.now corners.old
+        corners.new ends.old ends.new × FrontBehind (kind_is kind) t e corners ends links }
 {
     match kind {
         Kind::Triangles => {
@@ -134,8 +134,8 @@ pub fn grow(
     list: &mut [usize],
     links: &mut [u16],
 ) -> Grew
-    requires { GrowIn (kindIs kind) room k v n count numbers verts measures groups points roots corners ends lengths list links }
-    ensures { GrewIn (kindIs kind) room k v n count numbers verts measures groups points roots corners ends lengths links result }
+    requires { GrowIn (kind_is kind) room k v n count numbers verts measures groups points roots corners ends lengths list links }
+    ensures { GrewIn (kind_is kind) room k v n count numbers verts measures groups points roots corners ends lengths links result }
 {
     let before = k.particles;
     if room.particles - before < count - 1 {

@@ -1,11 +1,11 @@
 // The second half of a split: straddlers are listed, the boundary follows, crack facets join it, and the log tells of it.
 ghost use Rattle.std.specs.Prelude.{◌≡◌, ◌+◌, ◌/◌, ◌<◌, ◌≤◌, length, leb};
-ghost use Rattle.elements.specs.Table.{kindIs};
+ghost use Rattle.elements.specs.Table.{kind_is};
 ghost use Rattle.boundary.specs.Faces.{GrownLinked};
 ghost use Rattle.split.specs.Settling.{FacetsAsked, FacetsTold, CopiesNoted, SplitAsked, SplitNoted, PartAsked, PartedFor, RowsAfter};
 ghost use Rattle.split.specs.Linking.{FacetsLinked};
 ghost use Rattle.split.specs.Blocks.{ListIn, FrontIn, OpenIn, OpenedIn, SettleIn, SettledIn};
-ghost use Rattle.mesh.specs.Widths.{entryWords};
+ghost use Rattle.mesh.specs.Widths.{entry_words};
 
 use elements::Kind;
 use mesh::{Counts, Rooms};
@@ -27,9 +27,9 @@ fn open_facets(
     outline: &mut [usize],
     table: &mut [u16],
 ) -> Grown
-    requires { let K = kindIs kind in FacetsAsked K before n count b room numbers.now (length verts.now) (length groups.now)
+    requires { let K = kind_is kind in FacetsAsked K before n count b room numbers.now (length verts.now) (length groups.now)
         (length corners.now) (length outline.old) × FacetsLinked K n b room numbers.now corners.now outline.old table.old }
-    ensures { FacetsTold (kindIs kind) v before n count b room numbers.now verts.now groups.now
+    ensures { FacetsTold (kind_is kind) v before n count b room numbers.now verts.now groups.now
         corners.now outline.old outline.new result × GrownLinked result outline.new table.new }
 {
     match kind {
@@ -59,8 +59,8 @@ fn open_boundary(
     table: &mut [u16],
     list: &mut [usize],
 ) -> Grown
-    requires { OpenIn (kindIs kind) v before n count b room numbers verts groups points corners outline table list }
-    ensures { OpenedIn (kindIs kind) v before n count b room numbers verts groups points corners outline table result }
+    requires { OpenIn (kind_is kind) v before n count b room numbers verts groups points corners outline table list }
+    ensures { OpenedIn (kind_is kind) v before n count b room numbers verts groups points corners outline table result }
 {
     let k = elements::corners_per(kind);
     boundary::entries::follow_boundary(
@@ -84,7 +84,7 @@ fn log_fits(free: usize, m: usize, s: usize, extra: usize) -> bool
 
 // Notes m copies of v, which were appended to `before` particles, behind the entries.
 fn note_copies(v: usize, before: usize, m: usize, at: usize, log: &mut [u32])
-    requires { (before + m ≤ 65536) × (at + m ≤ length log.old / entryWords) × (v < before) }
+    requires { (before + m ≤ 65536) × (at + m ≤ length log.old / entry_words) × (v < before) }
     ensures { CopiesNoted v before m at log.old log.new }
 {
     let mut i: usize = 0;
@@ -131,9 +131,9 @@ fn part_straddlers(
     list: &mut [usize],
     links: &[u16],
 ) -> Ran
-    requires { PartAsked (kindIs kind) room k v before n count extra (length verts.now) (length groups.now) (length corners.now)
-        ends.now (length log.old) × ListIn list × FrontIn (kindIs kind) k corners ends links }
-    ensures { PartedFor (kindIs kind) room k v before n count extra rows verts.now groups.now
+    requires { PartAsked (kind_is kind) room k v before n count extra (length verts.now) (length groups.now) (length corners.now)
+        ends.now (length log.old) × ListIn list × FrontIn (kind_is kind) k corners ends links }
+    ensures { PartedFor (kind_is kind) room k v before n count extra rows verts.now groups.now
         corners.now ends.now list.new log.old log.new result
         × RowsAfter k rows (length ends.now) list.new result }
 {
@@ -191,9 +191,9 @@ pub fn settle(
     list: &mut [usize],
     links: &mut [u16],
 ) -> Ran
-    requires { SettleIn (kindIs kind) room k v before n count extra numbers verts groups points corners volumes ends lengths outline log
+    requires { SettleIn (kind_is kind) room k v before n count extra numbers verts groups points corners volumes ends lengths outline log
         list links }
-    ensures { SettledIn (kindIs kind) room extra v before n count k numbers verts groups points corners volumes ends lengths outline
+    ensures { SettledIn (kind_is kind) room extra v before n count k numbers verts groups points corners volumes ends lengths outline
         log list links result }
 {
     let grown = open_boundary(

@@ -3,14 +3,14 @@ ghost use Rattle.std.specs.Prelude.{◌≡◌, ◌+◌, ◌*◌, ◌/◌, ◌<�
 ghost use Rattle.std.specs.Float.{nan};
 ghost use Rattle.std.specs.Float.Ieee.{ne};
 ghost use Rattle.float.specs.Numbers.{zero32};
-ghost use Rattle.elements.specs.Table.{kindIs};
-ghost use Rattle.model.specs.Split.{splitBySides};
+ghost use Rattle.elements.specs.Table.{kind_is};
+ghost use Rattle.model.specs.Split.{split_by_sides_of};
 ghost use Rattle.mesh.specs.Filled.{lent};
-ghost use Rattle.mesh.specs.Widths.{pointColumns};
-ghost use Rattle.split.specs.Tables.{openedBy, SidesGiven};
+ghost use Rattle.mesh.specs.Widths.{point_columns};
+ghost use Rattle.split.specs.Tables.{opened_by, SidesGiven};
 ghost use Rattle.links.specs.Linked.{LinkedIn};
 ghost use Rattle.split.specs.Steps.{Stepped};
-ghost use Rattle.mesh.specs.Blocks.{meshIn};
+ghost use Rattle.mesh.specs.Blocks.{mesh_in};
 ghost use Rattle.work.specs.Blocks.{ReadyIn};
 ghost use Rattle.edge_drops.specs.Parted.{PartsIn};
 ghost use Rattle.split.specs.Blocks.{GroupedIn, SidedIn, ListIn, OverParted, LinkedParted, EdgesBehind};
@@ -45,10 +45,10 @@ pub fn split_opened(
     list: &mut [usize],
     links: &mut [u16],
 ) -> Ran
-    requires { let K = kindIs kind in ReadyIn room k points roots corners volumes ends lengths outline log
-        × GroupedIn K (meshIn k points roots corners volumes ends lengths outline) v n count numbers verts measures groups × (extra ≤ 1)
+    requires { let K = kind_is kind in ReadyIn room k points roots corners volumes ends lengths outline log
+        × GroupedIn K (mesh_in k points roots corners volumes ends lengths outline) v n count numbers verts measures groups × (extra ≤ 1)
         × ListIn list × LinkedIn K k corners ends outline links }
-    ensures { let K = kindIs kind in OverParted (λ M W at. Stepped K (openedBy K M v n count groups.now) room extra
+    ensures { let K = kind_is kind in OverParted (λ M W at. Stepped K (opened_by K M v n count groups.now) room extra
         W at result) k points roots corners volumes ends lengths outline log list × EdgesBehind K corners ends lengths outline links list result }
 {
     let before = k.particles;
@@ -79,8 +79,8 @@ pub fn split_opened(
 
 // Is v free: is its inverse mass not 0?
 pub fn is_free(v: usize, points: &[f32]) -> bool
-    requires { v < length points.now / pointColumns }
-    ensures { result ≡ ne (get_or points.now (5 * (length points.now / pointColumns) + v) nan) zero32 }
+    requires { v < length points.now / point_columns }
+    ensures { result ≡ ne (get_or points.now (5 * (length points.now / point_columns) + v) nan) zero32 }
 {
     let size = points.len() / mesh::POINT_COLUMNS;
     points[5 * size + v] != 0.0
@@ -109,10 +109,10 @@ pub fn split_tabled(
     list: &mut [usize],
     links: &mut [u16],
 ) -> Ran
-    requires { let K = kindIs kind in ReadyIn room k points roots corners volumes ends lengths outline log
-        × SidedIn K (meshIn k points roots corners volumes ends lengths outline) v n numbers verts measures sides
+    requires { let K = kind_is kind in ReadyIn room k points roots corners volumes ends lengths outline log
+        × SidedIn K (mesh_in k points roots corners volumes ends lengths outline) v n numbers verts measures sides
         × (n ≤ length groups.old) × ListIn list × LinkedIn K k corners ends outline links }
-    ensures { let K = kindIs kind in PartsIn (splitBySides K v (take n sides.now)) room k points roots corners volumes
+    ensures { let K = kind_is kind in PartsIn (split_by_sides_of K v (take n sides.now)) room k points roots corners volumes
         ends lengths outline log list result × LinkedParted K corners ends outline links list result }
 {
     list[edge_drops::LISTED] = 0;
@@ -147,10 +147,10 @@ fn split_many(
     list: &mut [usize],
     links: &mut [u16],
 ) -> Ran
-    requires { let K = kindIs kind in ReadyIn room k points roots corners volumes ends lengths outline log
-        × SidesGiven K (meshIn k points roots corners volumes ends lengths outline) v sides.now × ListIn list
+    requires { let K = kind_is kind in ReadyIn room k points roots corners volumes ends lengths outline log
+        × SidesGiven K (mesh_in k points roots corners volumes ends lengths outline) v sides.now × ListIn list
         × LinkedIn K k corners ends outline links }
-    ensures { PartsIn (splitBySides (kindIs kind) v sides.now) room k points roots corners volumes ends lengths outline
+    ensures { PartsIn (split_by_sides_of (kind_is kind) v sides.now) room k points roots corners volumes ends lengths outline
         log list result }
 {
     let mut numbers = [0usize; MANY];
@@ -213,10 +213,10 @@ fn split_few(
     list: &mut [usize],
     links: &mut [u16],
 ) -> Ran
-    requires { let K = kindIs kind in ReadyIn room k points roots corners volumes ends lengths outline log
-        × SidesGiven K (meshIn k points roots corners volumes ends lengths outline) v sides.now × ListIn list
+    requires { let K = kind_is kind in ReadyIn room k points roots corners volumes ends lengths outline log
+        × SidesGiven K (mesh_in k points roots corners volumes ends lengths outline) v sides.now × ListIn list
         × LinkedIn K k corners ends outline links }
-    ensures { PartsIn (splitBySides (kindIs kind) v sides.now) room k points roots corners volumes ends lengths outline
+    ensures { PartsIn (split_by_sides_of (kind_is kind) v sides.now) room k points roots corners volumes ends lengths outline
         log list result }
 {
     let mut numbers = [0usize; FEW];
@@ -285,8 +285,8 @@ fn split_fan(
     list: &mut [usize],
 ) -> Ran
     requires { ReadyIn room k points roots corners volumes ends lengths outline log
-        × SidesGiven (kindIs kind) (meshIn k points roots corners volumes ends lengths outline) v sides.now × ListIn list }
-    ensures { PartsIn (splitBySides (kindIs kind) v sides.now) room k points roots corners volumes ends lengths outline
+        × SidesGiven (kind_is kind) (mesh_in k points roots corners volumes ends lengths outline) v sides.now × ListIn list }
+    ensures { PartsIn (split_by_sides_of (kind_is kind) v sides.now) room k points roots corners volumes ends lengths outline
         log list result }
 {
     list[edge_drops::LISTED] = 0;
@@ -328,8 +328,8 @@ pub fn split_by_sides(
     list: &mut [usize],
 ) -> Ran
     requires { ReadyIn room k points roots corners volumes ends lengths outline log
-        × SidesGiven (kindIs kind) (meshIn k points roots corners volumes ends lengths outline) v sides.now × ListIn list }
-    ensures { PartsIn (splitBySides (kindIs kind) v sides.now) room k points roots corners volumes ends lengths outline
+        × SidesGiven (kind_is kind) (mesh_in k points roots corners volumes ends lengths outline) v sides.now × ListIn list }
+    ensures { PartsIn (split_by_sides_of (kind_is kind) v sides.now) room k points roots corners volumes ends lengths outline
         log list result }
 {
     match kind {

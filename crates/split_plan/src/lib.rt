@@ -3,10 +3,10 @@
 
 ghost use Rattle.std.specs.Prelude.{◌≡◌, ◌+◌, ◌*◌, ◌/◌, ◌<◌, ◌≤◌, length, take, drop};
 ghost use Rattle.lists.specs.Lists.{stands};
-ghost use Rattle.split_plan.specs.Opened.{RingRoom, massBy, place_in, restIn};
-ghost use Rattle.model.specs.Split.{better as betterOf};
-ghost use Rattle.split_plan.specs.Answers.{RingHas, NextGroup, InRing, Meets, Parted, WeightIs, TotalIs, scoreBy, bestIs, RowRoom, BestIn, FanRoom, FanBest, TowardRoom, TowardIs, CopyIs};
-ghost use Rattle.mesh.specs.Widths.{pointColumns};
+ghost use Rattle.split_plan.specs.Opened.{RingRoom, mass_by, place_in, rest_in};
+ghost use Rattle.model.specs.Split.{better as better_of};
+ghost use Rattle.split_plan.specs.Answers.{RingHas, NextGroup, InRing, Meets, Parted, WeightIs, TotalIs, score_by, best_is, RowRoom, BestIn, FanRoom, FanBest, TowardRoom, TowardIs, CopyIs};
+ghost use Rattle.mesh.specs.Widths.{point_columns};
 
 use blade::Point;
 
@@ -154,7 +154,7 @@ pub fn total_weight(n: usize, count: usize, groups: &[usize], measures: &[f32]) 
 // The mass of a group of weight w, of a mass m that `count` groups of weight `total` share.
 pub fn mass_of(m: f32, w: f32, total: f32, count: usize) -> f32
     requires { count ≤ 2048 }
-    ensures { result ≡ massBy m w total count }
+    ensures { result ≡ mass_by m w total count }
 {
     if 0.0 < total {
         return m * w / total;
@@ -164,7 +164,7 @@ pub fn mass_of(m: f32, w: f32, total: f32, count: usize) -> f32
 
 // Where particle w is.
 pub fn place(w: usize, points: &[f32]) -> Point
-    requires { w < length points.now / pointColumns }
+    requires { w < length points.now / point_columns }
     ensures { result ≡ place_in points.now w }
 {
     let size = points.len() / mesh::POINT_COLUMNS;
@@ -177,8 +177,8 @@ pub fn place(w: usize, points: &[f32]) -> Point
 
 // Where it rests.
 pub fn rest_point(w: usize, points: &[f32]) -> Point
-    requires { w < length points.now / pointColumns }
-    ensures { result ≡ restIn points.now w }
+    requires { w < length points.now / point_columns }
+    ensures { result ≡ rest_in points.now w }
 {
     let size = points.len() / mesh::POINT_COLUMNS;
     let at = 2 * size + w;
@@ -191,7 +191,7 @@ pub fn rest_point(w: usize, points: &[f32]) -> Point
 
 // How well d lies in the direction dir.
 fn score(d: Point, dir: Point) -> f32
-    ensures { result ≡ scoreBy d dir }
+    ensures { result ≡ score_by d dir }
 {
     let size = blade::length(d) * blade::length(dir);
     blade::dot(d, dir) / float::larger::larger(size, 1e-12)
@@ -199,7 +199,7 @@ fn score(d: Point, dir: Point) -> f32
 
 // A higher score takes over, an equal one does not.
 fn better(b: Best, s: f32, g: usize) -> Best
-    ensures { bestIs result ≡ betterOf (bestIs b) s g }
+    ensures { best_is result ≡ better_of (best_is b) s g }
 {
     if b.score < s {
         return Best { score: s, group: g };

@@ -1,11 +1,11 @@
 // The straddlers across pieces: edges that are no elements, and boundary entries, that join two pieces go.
 ghost use Rattle.std.specs.Prelude.{◌≡◌, ◌<◌, ◌≤◌, length};
 ghost use Rattle.lists.specs.Lists.{pick};
-ghost use Rattle.model.specs.Pieces.{removeStraddlers};
-ghost use Rattle.mesh.specs.At.{trianglesAt, edges_at};
-ghost use Rattle.elements.specs.Table.{kindIs, elementsIn};
+ghost use Rattle.model.specs.Pieces.{remove_straddlers_of};
+ghost use Rattle.mesh.specs.At.{triangles_at, edges_at};
+ghost use Rattle.elements.specs.Table.{kind_is, elements_in};
 ghost use Rattle.work.specs.Places.{CornersIn, EndsIn, SidesIn};
-ghost use Rattle.straddlers.specs.Straddling.{spansBy, PiecesRoom, PiecesTold, EdgeReads, EdgeTold, EdgeMaskRoom, EdgesMarked, SideMaskRoom, SidesMarked};
+ghost use Rattle.straddlers.specs.Straddling.{spans_by, PiecesRoom, PiecesTold, EdgeReads, EdgeTold, EdgeMaskRoom, EdgesMarked, SideMaskRoom, SidesMarked};
 ghost use Rattle.work.specs.Blocks.{SettleRoomIn, WorksBesideIn};
 
 use elements::Kind;
@@ -26,7 +26,7 @@ fn find_pieces(
 )
     requires { PiecesRoom t e corners.now (length volumes.now) ends.now (length lengths.now) (length parent.old)
         (length used.old) }
-    ensures { PiecesTold (elementsIn (kindIs kind) (trianglesAt t corners.now volumes.now)
+    ensures { PiecesTold (elements_in (kind_is kind) (triangles_at t corners.now volumes.now)
         (edges_at e ends.now lengths.now)) parent.new used.new }
 {
     let mut numbers = [0usize; mesh::ELEMENTS];
@@ -52,7 +52,7 @@ fn find_pieces(
 // Do x and y lie in different pieces? Most have one root: that is asked first.
 fn apart(x: usize, y: usize, parent: &[usize], used: &[usize]) -> bool
     requires { (x < length parent.now) × (y < length parent.now) × (length parent.now ≤ length used.now) }
-    ensures { result ≡ spansBy parent.now used.now x y }
+    ensures { result ≡ spans_by parent.now used.now x y }
 {
     if parent[x] == parent[y] {
         return false;
@@ -73,7 +73,7 @@ fn mark(t: bool) -> usize
 // Is edge i no element, and do its ends lie in different pieces?
 fn edge_crosses(kind: Kind, i: usize, parent: &[usize], used: &[usize], ends: &[usize]) -> bool
     requires { EdgeReads i (length parent.now) (length used.now) ends.now }
-    ensures { EdgeTold (kindIs kind) i parent.now used.now ends.now result }
+    ensures { EdgeTold (kind_is kind) i parent.now used.now ends.now result }
 {
     let c = ends.len() / mesh::END_COLUMNS;
     let a = ends[i];
@@ -94,7 +94,7 @@ fn mark_edges(
     mask: &mut [usize],
 ) -> usize
     requires { EdgeMaskRoom n (length parent.now) (length used.now) ends.now (length mask.old) }
-    ensures { EdgesMarked (kindIs kind) n parent.now used.now ends.now mask.new result }
+    ensures { EdgesMarked (kind_is kind) n parent.now used.now ends.now mask.new result }
 {
     let mut count: usize = 0;
     let mut i: usize = 0;
@@ -134,7 +134,7 @@ pub fn remove_straddlers(
 ) -> Ran
     requires { SettleRoomIn room k corners volumes ends lengths outline log × CornersIn k.particles k.triangles corners.now
         × EndsIn k.particles k.edges ends.old × SidesIn k.particles k.boundary outline.old }
-    ensures { WorksBesideIn (removeStraddlers (kindIs kind)) room k corners volumes ends lengths outline log result }
+    ensures { WorksBesideIn (remove_straddlers_of (kind_is kind)) room k corners volumes ends lengths outline log result }
 {
     if let Kind::Nothing = kind {
         return Ran::Done(k);

@@ -8,7 +8,7 @@ use native.Mathlib.Decide.{ℕ_discrete, dec_lt}
 use lib.ListN.{length, get_or, set, length-set}
 use lib.Seq.{get_or-set_same, get_or-set_other}
 use Rattle.lists.specs.LeftOut.{Rising, Listed}
-use Rattle.lists.proofs.Risen.{rising-room, rising-few}
+use Rattle.lists.proofs.Risen.{rising_room, rising_few}
 use Rattle.straddling.specs.Putting.{PlaceFor, InsertedAt, PutRoom, RisingPut}
 
 -- ---- the place
@@ -32,12 +32,12 @@ pub record Moving (at r : ℕ) (list₀ list : List ℕ) (q : ℕ) : Type 0 wher
   pub long : length list ≡ length list₀
 
 module _ (at r : ℕ) (list₀ : List ℕ) where
-  pub moving-start : at ≤ r → Moving at r list₀ list₀ r
-  moving-start h = record { least = h; most = omega arith; same = λ k l. refl; moved = λ k a b. absurd (omega arith); long = refl }
+  pub moving_start : at ≤ r → Moving at r list₀ list₀ r
+  moving_start h = record { least = h; most = omega arith; same = λ k l. refl; moved = λ k a b. absurd (omega arith); long = refl }
 
   module _ (list : List ℕ) (q : ℕ) (G : Moving at r list₀ list q) (room : r < length list₀) where
-    pub moving-more : at < q → Moving at r list₀ (set list q (get_or list (q - 1) 0)) (q - 1)
-    moving-more h =
+    pub moving_more : at < q → Moving at r list₀ (set list q (get_or list (q - 1) 0)) (q - 1)
+    moving_more h =
         let x = get_or list (q - 1) 0 in
         record {
           least = omega arith;
@@ -56,8 +56,8 @@ module _ (at r : ℕ) (list₀ : List ℕ) where
         }
 
     -- and i goes where room is
-    pub moving-done : (i : ℕ) → q ≤ at → InsertedAt i at r list₀ (set list at i)
-    moving-done i h =
+    pub moving_done : (i : ℕ) → q ≤ at → InsertedAt i at r list₀ (set list at i)
+    moving_done i h =
         record {
           front = λ k l. get_or-set_other list at k i 0 (λ z. omega arith) ∙ G.same k (omega (arith, G.least));
           here = get_or-set_same list at i 0 (omega (arith, G.least, G.most, G.long));
@@ -68,8 +68,8 @@ module _ (at r : ℕ) (list₀ : List ℕ) where
 
 module _ (i r : ℕ) (list : List ℕ) (at : ℕ) (P : PlaceFor i r list at) where
   -- it is there
-  pub put-there : 0 < at → get_or list (at - 1) 0 ≡ i → RisingPut i r list list r
-  put-there h q =
+  pub put_there : 0 < at → get_or list (at - 1) 0 ≡ i → RisingPut i r list list r
+  put_there h q =
       record {
         rising = λ m l R. R;
         here = record { place = at - 1; within = omega (arith, P.within); is = q };
@@ -88,19 +88,19 @@ module _ (i r : ℕ) (list : List ℕ) (at : ℕ) (P : PlaceFor i r list at) whe
         by (no z) (no q) = omega (arith, q, P.least (omega arith), R.rises k (at - 1) (omega (arith, z)) (omega (arith, P.within)))
 
     -- there is room for it
-    pub put-room : PutRoom i r list → r < length list
-    put-room R = by (dec_lt at r)
+    pub put_room : PutRoom i r list → r < length list
+    put_room R = by (dec_lt at r)
       where
         front : at ≤ i
         front =
-            rising-few {list = list}
+            rising_few {list = list}
             (record {
               rises = λ j k l h. R.rising.rises j k l (omega (arith, P.within));
               below = under R.most R.rising;
             })
 
         by : Dec (at < r) → r < length list
-        by (yes h) = omega (arith, front, P.above at (omega arith) h, rising-room R.rising at h, R.long)
+        by (yes h) = omega (arith, front, P.above at (omega arith) h, rising_room R.rising at h, R.long)
         by (no h) = omega (arith, h, front, P.within, R.below, R.long)
 
     module _ (list' : List ℕ) (I : InsertedAt i at r list list') where
@@ -121,8 +121,8 @@ module _ (i r : ℕ) (list : List ℕ) (at : ℕ) (P : PlaceFor i r list at) whe
           by (no g) (no h) = let z : k ≡ at = omega (arith, g, h) in inl (z, ap (λ (w : ℕ). get_or list' w 0) z ∙ I.here)
 
       module _ (m : ℕ) (R : Rising list r m) where
-        rises-in : (a b : ℕ) → a < b → b < r + 1 → get_or list' a 0 < get_or list' b 0
-        rises-in a b h l =
+        rises_in : (a b : ℕ) → a < b → b < r + 1 → get_or list' a 0 < get_or list' b 0
+        rises_in a b h l =
             ⊎_elim
             (λ x. ⊎_elim (λ y. absurd (omega (arith, x.0, y.0)))
             (λ y. ⊎_elim (λ s. absurd (omega (arith, x.0, s.0))) (λ s. omega (arith, x.1, y.1.is, P.above y.0 (omega (arith, s.0, s.1)) y.1.old)) y.1.side)
@@ -141,18 +141,18 @@ module _ (i r : ℕ) (list : List ℕ) (at : ℕ) (P : PlaceFor i r list at) whe
         below_in h k l = ⊎_elim (λ x. omega (arith, x.1)) (λ x. omega (arith, x.1.is, R.below x.0 x.1.old)) (stands_at k l)
 
       -- what was listed is listed still
-      still-in : (x : ℕ) → Listed list r x → Listed list' (r + 1) x
-      still-in x w =
+      still_in : (x : ℕ) → Listed list r x → Listed list' (r + 1) x
+      still_in x w =
           elim (dec_lt w.place at) [
             | yes h ↦ record { place = w.place; within = omega (arith, w.within); is = I.front w.place h ∙ w.is }
             | no h ↦ record { place = w.place + 1; within = omega (arith, w.within); is = I.moved w.place (omega (arith, h)) w.within ∙ w.is }
           ]
 
-      pub put-new : RisingPut i r list list' (r + 1)
-      put-new =
+      pub put_new : RisingPut i r list list' (r + 1)
+      put_new =
           record {
-            rising = λ m h R. record { rises = rises-in m R; below = below_in m R h };
+            rising = λ m h R. record { rises = rises_in m R; below = below_in m R h };
             here = record { place = at; within = omega (arith, P.within); is = I.here };
-            still = still-in;
+            still = still_in;
             only = λ k l. ⊎_elim (λ x. inl x.1) (λ x. inr (record { place = x.0; within = x.1.old; is = sym x.1.is })) (stands_at k l);
           }

@@ -1,16 +1,16 @@
 // Does an element hold two particles: asked of the triangles or the edges that their table has at one of them, and of no table of the elements.
 ghost use Rattle.std.specs.Prelude.{◌≡◌, ◌/◌, ◌<◌, length};
 ghost use Rattle.lists.specs.Lists.{any, up_to};
-ghost use Rattle.elements.specs.Table.{kindIs};
-ghost use Rattle.straddling.specs.Tests.{triangleHolds, strapHolds, WalkRoom, EdgeWalkRoom, HeldRoom, HeldTold};
-ghost use Rattle.mesh.specs.Widths.{endColumns};
+ghost use Rattle.elements.specs.Table.{kind_is};
+ghost use Rattle.straddling.specs.Tests.{triangle_holds, strap_holds_of, WalkRoom, EdgeWalkRoom, HeldRoom, HeldTold};
+ghost use Rattle.mesh.specs.Widths.{end_columns};
 
 use elements::Kind;
 
 // Is edge i structural, and does it hold both x and y?
 fn strap_holds(x: usize, y: usize, i: usize, ends: &[usize]) -> bool
-    requires { i < length ends.now / endColumns }
-    ensures { result ≡ strapHolds x y ends.now i }
+    requires { i < length ends.now / end_columns }
+    ensures { result ≡ strap_holds_of x y ends.now i }
 {
     let n = ends.len() / mesh::END_COLUMNS;
     if ends[2 * n + i] != 1 {
@@ -25,7 +25,7 @@ fn strap_holds(x: usize, y: usize, i: usize, ends: &[usize]) -> bool
 // Does one of the first t triangles hold both x and y? Those that hold x are asked, link by link.
 fn any_triangle(x: usize, y: usize, t: usize, corners: &[usize], links: &[u16]) -> bool
     requires { WalkRoom x t corners.now links.now }
-    ensures { result ≡ any (triangleHolds x y corners.now) (up_to t) }
+    ensures { result ≡ any (triangle_holds x y corners.now) (up_to t) }
 {
     let rows = corners.len() / mesh::CORNER_COLUMNS;
     let mut at = links::first_at(x, links);
@@ -51,7 +51,7 @@ fn any_triangle(x: usize, y: usize, t: usize, corners: &[usize], links: &[u16]) 
 // Does one of the structural edges among the first e hold both x and y? Those that hold x are asked, link by link.
 fn any_strap(x: usize, y: usize, e: usize, ends: &[usize], table: &[u16]) -> bool
     requires { EdgeWalkRoom x e ends.now table.now }
-    ensures { result ≡ any (strapHolds x y ends.now) (up_to e) }
+    ensures { result ≡ any (strap_holds_of x y ends.now) (up_to e) }
 {
     let rows = ends.len() / mesh::END_COLUMNS;
     let mut at = links::first_at(x, table);
@@ -77,8 +77,8 @@ pub fn held(
     links: &[u16],
     table: &[u16],
 ) -> bool
-    requires { HeldRoom (kindIs kind) x t e corners.now ends.now links.now table.now }
-    ensures { HeldTold (kindIs kind) x y t e corners.now ends.now result }
+    requires { HeldRoom (kind_is kind) x t e corners.now ends.now links.now table.now }
+    ensures { HeldTold (kind_is kind) x y t e corners.now ends.now result }
 {
     match kind {
         Kind::Triangles => any_triangle(x, y, t, corners, links),

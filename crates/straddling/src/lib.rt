@@ -3,12 +3,12 @@
 
 ghost use Rattle.std.specs.Prelude.{◌≡◌, ◌<◌, ◌≤◌, length};
 ghost use Rattle.lists.specs.Lists.{stands};
-ghost use Rattle.elements.specs.Table.{kindIs};
+ghost use Rattle.elements.specs.Table.{kind_is};
 ghost use Rattle.links.specs.Linked.{Linked, EdgesLinked};
 ghost use Rattle.work.specs.Places.{EndsIn};
-ghost use Rattle.straddling.specs.Tests.{copiesBy, StraddleRoom, NearMarked, NearRoom, StraddleTold, StraddlersListed};
+ghost use Rattle.straddling.specs.Tests.{copies_by, StraddleRoom, NearMarked, NearRoom, StraddleTold, StraddlersListed};
 ghost use Rattle.straddling.specs.Listing.{ListRoom, EdgeListed, EdgesListed, WalkTold};
-ghost use Rattle.mesh.specs.Limits.{particleLimit};
+ghost use Rattle.mesh.specs.Limits.{particle_limit};
 
 use elements::Kind;
 
@@ -27,7 +27,7 @@ pub struct Split {
 
 // Is w v or one of its copies?
 pub fn is_copy(w: usize, v: usize, before: usize, count: usize) -> bool
-    ensures { result ≡ stands w (copiesBy v before count) }
+    ensures { result ≡ stands w (copies_by v before count) }
 {
     if w == v {
         return true;
@@ -58,10 +58,10 @@ fn straddles(
     links: &[u16],
     table: &[u16],
 ) -> bool
-    requires { let K = kindIs kind in StraddleRoom K n t e (length verts.now) (length groups.now) (length corners.now)
-        (length ends.now) × (i < e) × EndsIn particleLimit e ends.now × Linked K t corners.now links.now
+    requires { let K = kind_is kind in StraddleRoom K n t e (length verts.now) (length groups.now) (length corners.now)
+        (length ends.now) × (i < e) × EndsIn particle_limit e ends.now × Linked K t corners.now links.now
         × EdgesLinked e ends.now table.now }
-    ensures { StraddleTold (kindIs kind) i v before n count t e verts.now groups.now corners.now
+    ensures { StraddleTold (kind_is kind) i v before n count t e verts.now groups.now corners.now
         ends.now result }
 {
     let c = ends.len() / mesh::END_COLUMNS;
@@ -116,10 +116,10 @@ fn near_straddles(
     table: &[u16],
     near: &[u8],
 ) -> bool
-    requires { let K = kindIs kind in StraddleRoom K n t e (length verts.now) (length groups.now) (length corners.now)
+    requires { let K = kind_is kind in StraddleRoom K n t e (length verts.now) (length groups.now) (length corners.now)
         (length ends.now) × (i < e) × NearRoom K n e verts.now ends.now near.now × Linked K t corners.now links.now
         × EdgesLinked e ends.now table.now }
-    ensures { StraddleTold (kindIs kind) i v before n count t e verts.now groups.now corners.now
+    ensures { StraddleTold (kind_is kind) i v before n count t e verts.now groups.now corners.now
         ends.now result }
 {
     let c = ends.len() / mesh::END_COLUMNS;
@@ -153,9 +153,9 @@ fn list_edge(
     near: &[u8],
     list: &mut [usize],
 ) -> usize
-    requires { ListRoom (kindIs of.kind) of.v of.before of.n of.count t e verts.now groups.now corners.now ends.now
+    requires { ListRoom (kind_is of.kind) of.v of.before of.n of.count t e verts.now groups.now corners.now ends.now
         links.now near.now list.old r × (i < e) × EdgesLinked e ends.now table.now }
-    ensures { EdgeListed (kindIs of.kind) of.v of.before of.n of.count t e verts.now groups.now
+    ensures { EdgeListed (kind_is of.kind) of.v of.before of.n of.count t e verts.now groups.now
         corners.now ends.now x i list.old r list.new result }
 {
     if ends[i] != x {
@@ -187,9 +187,9 @@ fn list_edges_at(
     near: &[u8],
     list: &mut [usize],
 ) -> usize
-    requires { ListRoom (kindIs of.kind) of.v of.before of.n of.count t e verts.now groups.now corners.now ends.now
+    requires { ListRoom (kind_is of.kind) of.v of.before of.n of.count t e verts.now groups.now corners.now ends.now
         links.now near.now list.old r × EdgesLinked e ends.now table.now }
-    ensures { EdgesListed (kindIs of.kind) of.v of.before of.n of.count t e verts.now groups.now
+    ensures { EdgesListed (kind_is of.kind) of.v of.before of.n of.count t e verts.now groups.now
         corners.now ends.now x list.old r list.new result }
 {
     if x == of.v {
@@ -243,10 +243,10 @@ pub fn list_straddlers(
     table: &[u16],
     list: &mut [usize],
 ) -> usize
-    requires { let K = kindIs kind in StraddleRoom K n t e (length verts.now) (length groups.now) (length corners.now)
-        (length ends.now) × (e ≤ length list.old) × EndsIn particleLimit e ends.now × Linked K t corners.now links.now
+    requires { let K = kind_is kind in StraddleRoom K n t e (length verts.now) (length groups.now) (length corners.now)
+        (length ends.now) × (e ≤ length list.old) × EndsIn particle_limit e ends.now × Linked K t corners.now links.now
         × EdgesLinked e ends.now table.now }
-    ensures { StraddlersListed (kindIs kind) v before n count t e verts.now groups.now corners.now
+    ensures { StraddlersListed (kind_is kind) v before n count t e verts.now groups.now corners.now
         ends.now list.new result }
 {
     let mut near = [0u8; mesh::PARTICLES];

@@ -1,7 +1,7 @@
 // The cut along a blade, by the kind of a mesh.
-ghost use Rattle.elements.specs.Table.{kindIs};
-ghost use Rattle.model.specs.Cut.{cutFacets, cutSegments, cutAlong};
-ghost use Rattle.marks.specs.Marking.{bladeBy, bladeFrom};
+ghost use Rattle.elements.specs.Table.{kind_is};
+ghost use Rattle.model.specs.Cut.{cut_facets_of, cut_segments_of, cut_along};
+ghost use Rattle.marks.specs.Marking.{blade_by, blade_from};
 ghost use Rattle.work.specs.Working.{Logged};
 ghost use Rattle.work.specs.Blocks.{ReadyIn, WorksIn};
 ghost use Rattle.split.specs.Blocks.{ListIn};
@@ -29,7 +29,7 @@ fn cut_triangles(
     log: &mut [u32],
 ) -> Ran
     requires { ReadyIn room k points roots corners volumes ends lengths outline log × Logged k.log log.old }
-    ensures { WorksIn (cutFacets (bladeBy rule b0 b1)) room k points roots corners volumes ends lengths outline log result }
+    ensures { WorksIn (cut_facets_of (blade_by rule b0 b1)) room k points roots corners volumes ends lengths outline log result }
 {
     let mut marks = [0usize; mesh::PARTICLES];
     let mut list = [0usize; edge_drops::LIST];
@@ -68,7 +68,7 @@ fn cut_straps(
     list: &mut [usize],
 ) -> Ran
     requires { ReadyIn room k points roots corners volumes ends lengths outline log × Logged k.log log.old × ListIn list }
-    ensures { WorksIn (cutSegments (bladeFrom b0 b1) f) room k points roots corners volumes ends lengths outline log result }
+    ensures { WorksIn (cut_segments_of (blade_from b0 b1) f) room k points roots corners volumes ends lengths outline log result }
 {
     let mut marks = [0usize; mesh::PARTICLES];
     crate::segments::cut_segments(
@@ -97,7 +97,7 @@ pub fn run(
     list: &mut [usize],
 ) -> Ran
     requires { ReadyIn room k points roots corners volumes ends lengths outline log × Logged k.log log.old × ListIn list }
-    ensures { WorksIn (cutAlong (kindIs kind) (bladeBy rule b0 b1) f) room k points roots corners volumes ends lengths outline log result }
+    ensures { WorksIn (cut_along (kind_is kind) (blade_by rule b0 b1) f) room k points roots corners volumes ends lengths outline log result }
 {
     match kind {
         Kind::Triangles => cut_triangles(

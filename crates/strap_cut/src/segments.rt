@@ -1,14 +1,14 @@
 // The cut of straps along a blade: insertions at the crossings, bend edges removed, snapped ends split.
 ghost use Rattle.std.specs.Prelude.{◌≤◌, length};
 ghost use Rattle.lists.specs.Lists.{fold};
-ghost use Rattle.model.specs.Cut.{splitSnapped, cutSegments};
+ghost use Rattle.model.specs.Cut.{split_snapped_of, cut_segments_of};
 ghost use Rattle.work.specs.Working.{Logged};
-ghost use Rattle.marks.specs.Marking.{bladeFrom};
+ghost use Rattle.marks.specs.Marking.{blade_from};
 ghost use Rattle.split.specs.Blocks.{ListIn};
 ghost use Rattle.cut.specs.Running.{chosen, Chosen};
 ghost use Rattle.crossing.specs.Crossed.{CrossIn};
 ghost use Rattle.strap_cut.specs.Segments.{MarksLent, AfterTold, BladeCrossedIn};
-ghost use Rattle.mesh.specs.Blocks.{worldBefore, worldBehind};
+ghost use Rattle.mesh.specs.Blocks.{world_before, world_behind};
 ghost use Rattle.work.specs.Blocks.{ReadyIn, WorksIn};
 
 use blade::Point;
@@ -83,7 +83,7 @@ fn split_snapped(
 ) -> Ran
     requires { ReadyIn room k points roots corners volumes ends lengths outline log × Chosen p k log.old (length marks.now)
         × ListIn list }
-    ensures { WorksIn (λ R. fold (splitSnapped (bladeFrom b0 b1)) R (chosen p marks.now)) room k points roots corners
+    ensures { WorksIn (λ R. fold (split_snapped_of (blade_from b0 b1)) R (chosen p marks.now)) room k points roots corners
         volumes ends lengths outline log result }
 {
     if columns::next_marked(marks, 0, p) == p {
@@ -139,8 +139,8 @@ pub fn after_crossings(
 ) -> Ran
     requires { ReadyIn room k points roots corners volumes ends lengths outline log × Logged k.log log.old
         × MarksLent (length bends.old) (length snapped.now) }
-    ensures { AfterTold (bladeFrom b0 b1) room k.edges (worldBefore k points roots corners volumes ends lengths outline log)
-        (λ q. worldBehind q points roots corners volumes ends lengths outline log) bends.old snapped.now result }
+    ensures { AfterTold (blade_from b0 b1) room k.edges (world_before k points roots corners volumes ends lengths outline log)
+        (λ q. world_behind q points roots corners volumes ends lengths outline log) bends.old snapped.now result }
 {
     let p = k.particles;
     let ran = crossing::unbent::remove_bends(bends, k, room, ends, lengths, outline, log);
@@ -173,7 +173,7 @@ pub fn cut_segments(
 ) -> Ran
     requires { ReadyIn room k points roots corners volumes ends lengths outline log × Logged k.log log.old
         × (1024 ≤ length marks.old) × ListIn bends }
-    ensures { WorksIn (cutSegments (bladeFrom b0 b1) f) room k points roots corners volumes ends lengths outline log result }
+    ensures { WorksIn (cut_segments_of (blade_from b0 b1) f) room k points roots corners volumes ends lengths outline log result }
 {
     columns::clear_usize(0, bends);
     columns::clear_usize(0, marks);

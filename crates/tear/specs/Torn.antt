@@ -3,22 +3,22 @@ use Rattle.std.specs.Prelude.{ℕ, ◌+◌, ◌/◌, ◌<◌, ◌≡◌, List, [
 use Rattle.lists.specs.Lists.{pick}
 use Rattle.model.specs.Run.{Run, opened}
 use Rattle.model.specs.Elements.{Kind}
-use Rattle.model.specs.Split.{Opening, splitMade}
+use Rattle.model.specs.Split.{Opening, split_made}
 use Rattle.model.specs.Crack.{torn}
 use Rattle.mesh.specs.Log.{log_at, words_of}
 use Rattle.mesh.specs.Workers.{EdgeRoom}
 use Rattle.mesh.specs.declared.Counts.{Counts}
-use Rattle.mesh.specs.Widths.{entryWords}
-use Rattle.mesh.specs.Limits.{particleLimit}
+use Rattle.mesh.specs.Widths.{entry_words}
+use Rattle.mesh.specs.Limits.{particle_limit}
 use Rattle.work.specs.declared.Ran.{Ran}
 use Rattle.work.specs.declared.Ran.TheVariants.{Done}
 use Rattle.tear.specs.Tears.{Slackened, DamageRoom, Damaged}
 
 -- an entry has room behind l for the numbers a and b, e edges stand in their blocks, and x, y and the copies in theirs
 pub record TearRoom (e l x y a b before count lr le ll lg : ℕ) : Type 0 where
-  pub log : l < lg / entryWords
-  pub a-few : a < particleLimit
-  pub b-few : b < particleLimit
+  pub log : l < lg / entry_words
+  pub a_few : a < particle_limit
+  pub b_few : b < particle_limit
   pub edges : EdgeRoom e le ll
   pub marks : DamageRoom x y before count lr
 
@@ -35,12 +35,12 @@ pub record TearTold (v before count w x y a b : ℕ) (q : Counts) (roots roots' 
 
 -- x and y are there, and w is the one that is not v; a and b are numbers of particles of the input
 pub record TearAsked (v w x y a b p : ℕ) : Type 0 where
-  pub a-few : a < particleLimit
-  pub b-few : b < particleLimit
-  pub x-in : x < p
-  pub y-in : y < p
+  pub a_few : a < particle_limit
+  pub b_few : b < particle_limit
+  pub x_in : x < p
+  pub y_in : y < p
   pub other : w ≡ pick (eqb v x) y x
 
 -- the step that splits O across the pair (x, y), and logs the torn edge (a, b) as opened
-abbrev pub splitAcross : ℕ → ℕ → ℕ → ℕ → Kind → Opening → Run → Run
-splitAcross a b x y K O = splitMade (opened a b ∷ []) (torn O (x, y)) K O
+abbrev pub split_across : ℕ → ℕ → ℕ → ℕ → Kind → Opening → Run → Run
+split_across a b x y K O = split_made (opened a b ∷ []) (torn O (x, y)) K O

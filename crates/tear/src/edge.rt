@@ -1,13 +1,13 @@
 // A torn edge before a way is tried: the pair that stands for it now, and which of its ends goes first.
 ghost use Rattle.std.specs.Prelude.{length};
-ghost use Rattle.elements.specs.Table.{kindIs};
+ghost use Rattle.elements.specs.Table.{kind_is};
 ghost use Rattle.links.specs.Linked.{MeshLinked};
 ghost use Rattle.work.specs.Working.{Logged};
 ghost use Rattle.tear.specs.Tried.{WayReady, LoadsLong};
 ghost use Rattle.tear.specs.Pairs.{PairReady, PairMetNow, PairNow, Turned};
-ghost use Rattle.mesh.specs.Blocks.{meshBefore};
-ghost use Rattle.mesh.specs.At.{meshAt};
-ghost use Rattle.mesh.specs.Log.{worldAt};
+ghost use Rattle.mesh.specs.Blocks.{mesh_before};
+ghost use Rattle.mesh.specs.At.{mesh_at};
+ghost use Rattle.mesh.specs.Log.{world_at};
 
 use crate::families::Pair;
 use elements::Kind;
@@ -30,8 +30,8 @@ fn pair_met(
     log: &[u32],
 ) -> Pair
     requires { PairReady k (length corners.now) (length volumes.now) (length ends.now) (length lengths.now) (length log.now)
-        (meshAt k points.now roots.now corners.now volumes.now ends.now lengths.now outline.now) × Logged k.log log.now }
-    ensures { PairMetNow in_element (kindIs kind) a b (worldAt k points.now roots.now corners.now volumes.now ends.now lengths.now outline.now log.now) result }
+        (mesh_at k points.now roots.now corners.now volumes.now ends.now lengths.now outline.now) × Logged k.log log.now }
+    ensures { PairMetNow in_element (kind_is kind) a b (world_at k points.now roots.now corners.now volumes.now ends.now lengths.now outline.now log.now) result }
 {
     let mut numbers = [0usize; mesh::ELEMENTS];
     let mut verts = [0usize; mesh::ELEMENT_CORNERS];
@@ -68,8 +68,8 @@ pub fn pair_now(
     log: &[u32],
 ) -> Pair
     requires { PairReady k (length corners.now) (length volumes.now) (length ends.now) (length lengths.now) (length log.now)
-        (meshAt k points.now roots.now corners.now volumes.now ends.now lengths.now outline.now) × Logged k.log log.now }
-    ensures { PairNow (kindIs kind) a b k.particles (worldAt k points.now roots.now corners.now volumes.now ends.now lengths.now outline.now log.now) result }
+        (mesh_at k points.now roots.now corners.now volumes.now ends.now lengths.now outline.now) × Logged k.log log.now }
+    ensures { PairNow (kind_is kind) a b k.particles (world_at k points.now roots.now corners.now volumes.now ends.now lengths.now outline.now log.now) result }
 {
     let held = pair_met(
         true, kind, a, b, k, points, roots, corners, volumes, ends, lengths, outline, log,
@@ -98,10 +98,10 @@ pub fn turned(
     outline: &[usize],
     links: &[u16],
 ) -> bool
-    requires { let K = kindIs kind in WayReady x y k (length points.now) (length corners.now) (length volumes.now)
-        (length ends.now) (length lengths.now) (meshAt k points.now roots.now corners.now volumes.now ends.now lengths.now outline.now)
+    requires { let K = kind_is kind in WayReady x y k (length points.now) (length corners.now) (length volumes.now)
+        (length ends.now) (length lengths.now) (mesh_at k points.now roots.now corners.now volumes.now ends.now lengths.now outline.now)
         × LoadsLong K k (length loads.now) × MeshLinked K k.triangles k.edges k.boundary corners.now ends.now outline.now links.now }
-    ensures { Turned (kindIs kind) x y k.triangles loads.now (meshBefore k points roots corners volumes ends lengths
+    ensures { Turned (kind_is kind) x y k.triangles loads.now (mesh_before k points roots corners volumes ends lengths
         outline) result }
 {
     let p = crate::tried::way_load(

@@ -1,8 +1,8 @@
 // Families: a particle and its copies, as the log tells of them; and the pair of one each that now stands for a torn edge.
 ghost use Rattle.std.specs.Prelude.{◌≡◌, ◌/◌, ◌<◌, ◌≤◌, ◌&&◌, eqb, length};
-ghost use Rattle.mesh.specs.Log.{entryRow};
-ghost use Rattle.mesh.specs.Widths.{endColumns, entryWords};
-ghost use Rattle.tear.specs.Families.{joinsBy, sourceIn, FamilyRoom, FamilyFound, JoinTold, MeetRoom, MeetTold, FirstMet, PairMet, CurrentRoom, FamiliesMet};
+ghost use Rattle.mesh.specs.Log.{entry_row};
+ghost use Rattle.mesh.specs.Widths.{end_columns, entry_words};
+ghost use Rattle.tear.specs.Families.{joins_by, source_in, FamilyRoom, FamilyFound, JoinTold, MeetRoom, MeetTold, FirstMet, PairMet, CurrentRoom, FamiliesMet};
 
 // Two particles, or none.
 #[derive(Clone, Copy)]
@@ -13,8 +13,8 @@ pub enum Pair {
 
 // Is entry i a copy whose source stands in a list?
 fn has_source(i: usize, log: &[u32], list: &[usize]) -> bool
-    requires { i < length log.now / entryWords }
-    ensures { result ≡ sourceIn (entryRow log.now i) list.now }
+    requires { i < length log.now / entry_words }
+    ensures { result ≡ source_in (entry_row log.now i) list.now }
 {
     let o = 6 * i;
     if log[o] == 1 {
@@ -53,7 +53,7 @@ fn same_ends(x: usize, y: usize, a: usize, b: usize) -> bool
 
 // Is the edge (a, b) between x and y, either way round?
 fn joins(x: usize, y: usize, a: usize, b: usize) -> bool
-    ensures { result ≡ joinsBy x y a b }
+    ensures { result ≡ joins_by x y a b }
 {
     if same_ends(x, y, a, b) {
         return true;
@@ -63,7 +63,7 @@ fn joins(x: usize, y: usize, a: usize, b: usize) -> bool
 
 // Is one of the first e edges between x and y?
 fn joined(x: usize, y: usize, e: usize, ends: &[usize]) -> bool
-    requires { e ≤ length ends.now / endColumns }
+    requires { e ≤ length ends.now / end_columns }
     ensures { JoinTold x y e ends.now result }
 {
     let c = ends.len() / mesh::END_COLUMNS;

@@ -2,10 +2,10 @@
 ghost use Rattle.std.specs.Prelude.{◌≡◌, ◌&&◌, [], ◌∷◌, ◌/◌, ◌<◌, ◌≤◌, length};
 ghost use Rattle.lists.specs.Lists.{stands};
 ghost use Rattle.model.specs.Trace.{Sound};
-ghost use Rattle.mesh.specs.At.{triangleRow};
+ghost use Rattle.mesh.specs.At.{triangle_row};
 ghost use Rattle.mesh.specs.Workers.{EdgeRoom};
-ghost use Rattle.mesh.specs.Widths.{cornerColumns, volumeColumns};
-ghost use Rattle.mesh.specs.Limits.{particleLimit};
+ghost use Rattle.mesh.specs.Widths.{corner_columns, volume_columns};
+ghost use Rattle.mesh.specs.Limits.{particle_limit};
 ghost use Rattle.tear.specs.Loads.{LinkRoom, Linked, Links, Apart, Numbered, PairLoad, TriangleLoad, LoadRoom, LoadsRead};
 
 // Is x one of the two ends?
@@ -86,9 +86,9 @@ fn triangle_load(
     heads: &[u16],
     nexts: &[u16],
 ) -> f32
-    requires { LoadRoom (i < length corners.now / cornerColumns) (i < length volumes.now / volumeColumns) e (length ends.now)
-        (length lengths.now) × Links e ends.now heads.now nexts.now × Sound particleLimit (triangleRow (length corners.now /
-        cornerColumns) (length volumes.now / volumeColumns) corners.now volumes.now i) }
+    requires { LoadRoom (i < length corners.now / corner_columns) (i < length volumes.now / volume_columns) e (length ends.now)
+        (length lengths.now) × Links e ends.now heads.now nexts.now × Sound particle_limit (triangle_row (length corners.now /
+        corner_columns) (length volumes.now / volume_columns) corners.now volumes.now i) }
     ensures { TriangleLoad i e corners.now volumes.now ends.now lengths.now result }
 {
     let c = corners.len() / mesh::CORNER_COLUMNS;
@@ -114,7 +114,7 @@ fn linked_loads(
     nexts: &[u16],
     loads: &mut [f32],
 )
-    requires { LoadRoom (t ≤ length corners.now / cornerColumns) (t ≤ length volumes.now / volumeColumns) e (length ends.now)
+    requires { LoadRoom (t ≤ length corners.now / corner_columns) (t ≤ length volumes.now / volume_columns) e (length ends.now)
         (length lengths.now) × (t ≤ length loads.old) × Links e ends.now heads.now nexts.now × Numbered t e corners.now volumes.now ends.now }
     ensures { LoadsRead t e corners.now volumes.now ends.now lengths.now
         loads.new }
@@ -138,7 +138,7 @@ pub fn read_loads(
     nexts: &mut [u16],
     loads: &mut [f32],
 )
-    requires { LoadRoom (t ≤ length corners.now / cornerColumns) (t ≤ length volumes.now / volumeColumns) e (length ends.now)
+    requires { LoadRoom (t ≤ length corners.now / corner_columns) (t ≤ length volumes.now / volume_columns) e (length ends.now)
         (length lengths.now) × (t ≤ length loads.old) × Numbered t e corners.now volumes.now ends.now × LinkRoom e ends.now heads.old (length nexts.old) }
     ensures { LoadsRead t e corners.now volumes.now ends.now lengths.now
         loads.new }

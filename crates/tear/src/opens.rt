@@ -1,11 +1,11 @@
 // One end of a torn edge split: the split, the torn edge noted behind it, its bridges slack and its particles damaged.
 ghost use Rattle.std.specs.Prelude.{◌≤◌, length};
-ghost use Rattle.elements.specs.Table.{kindIs};
+ghost use Rattle.elements.specs.Table.{kind_is};
 ghost use Rattle.links.specs.Linked.{LinkedIn};
 ghost use Rattle.model.specs.Crack.{torn};
-ghost use Rattle.split.specs.Tables.{openedBy};
-ghost use Rattle.tear.specs.Torn.{TearRoom, TearTold, TearAsked, splitAcross};
-ghost use Rattle.mesh.specs.Blocks.{meshIn};
+ghost use Rattle.split.specs.Tables.{opened_by};
+ghost use Rattle.tear.specs.Torn.{TearRoom, TearTold, TearAsked, split_across};
+ghost use Rattle.mesh.specs.Blocks.{mesh_in};
 ghost use Rattle.work.specs.Working.{Works};
 ghost use Rattle.work.specs.Blocks.{ReadyIn, OverBlocks};
 ghost use Rattle.split.specs.Blocks.{GroupedIn, ListIn, LinkedBehind};
@@ -77,10 +77,10 @@ pub fn tear_open(
     list: &mut [usize],
     links: &mut [u16],
 ) -> Ran
-    requires { let K = kindIs kind in ReadyIn room k points roots corners volumes ends lengths outline log
-        × GroupedIn K (meshIn k points roots corners volumes ends lengths outline) v n count numbers verts measures groups
+    requires { let K = kind_is kind in ReadyIn room k points roots corners volumes ends lengths outline log
+        × GroupedIn K (mesh_in k points roots corners volumes ends lengths outline) v n count numbers verts measures groups
         × TearAsked v w x y a b k.particles × ListIn list × LinkedIn K k corners ends outline links }
-    ensures { let K = kindIs kind in OverBlocks (λ M W at. Works (splitAcross a b x y K (openedBy K M v n count groups.now)) room W at result) k points roots corners volumes ends lengths outline log × LinkedBehind K corners ends outline links result }
+    ensures { let K = kind_is kind in OverBlocks (λ M W at. Works (split_across a b x y K (opened_by K M v n count groups.now)) room W at result) k points roots corners volumes ends lengths outline log × LinkedBehind K corners ends outline links result }
 {
     let was = k.particles;
     let ran = split::step::split_opened(

@@ -1,11 +1,11 @@
 // Behind a split across a torn edge: the edges that bridge it go slack, and the particles at it are damaged.
 ghost use Rattle.std.specs.Prelude.{◌≡◌, ◌/◌, ◌<◌, length};
 ghost use Rattle.mesh.specs.Workers.{EdgeRoom};
-ghost use Rattle.tear.specs.Tears.{bridgesBy, Slackened, DamageRoom, Damaged};
+ghost use Rattle.tear.specs.Tears.{bridges_by, Slackened, DamageRoom, Damaged};
 
 // Is the edge (a, b) between `other` and v or one of its copies?
 fn bridges(v: usize, before: usize, count: usize, other: usize, a: usize, b: usize) -> bool
-    ensures { result ≡ bridgesBy v before count other a b }
+    ensures { result ≡ bridges_by v before count other a b }
 {
     if crate::loads::is_end(other, a, b) {
         if straddling::is_copy(a, v, before, count) {

@@ -1,13 +1,13 @@
 // One way to open an edge: the fan of one end in tables, with the sides across the edge, and their mean load.
 ghost use Rattle.std.specs.Prelude.{◌≡◌, ◌≤◌, length};
-ghost use Rattle.elements.specs.Table.{kindIs, TableRoom};
+ghost use Rattle.elements.specs.Table.{kind_is, TableRoom};
 ghost use Rattle.links.specs.Linked.{MeshLinked};
-ghost use Rattle.model.specs.Elements.{fanOf};
-ghost use Rattle.model.specs.Pieces.{opensWithoutConfetti};
-ghost use Rattle.split.specs.Tables.{openedBy};
+ghost use Rattle.model.specs.Elements.{fan_of};
+ghost use Rattle.model.specs.Pieces.{opens_without_confetti_of};
+ghost use Rattle.split.specs.Tables.{opened_by};
 ghost use Rattle.tear.specs.Tried.{WayReady, WayTables, WayRead, LoadsLong, WayLoad, OpensRoom};
-ghost use Rattle.mesh.specs.Blocks.{meshBefore};
-ghost use Rattle.mesh.specs.At.{meshAt};
+ghost use Rattle.mesh.specs.Blocks.{mesh_before};
+ghost use Rattle.mesh.specs.At.{mesh_at};
 
 use elements::Kind;
 use mesh::Counts;
@@ -32,9 +32,9 @@ pub fn way_tables(
     links: &[u16],
 ) -> usize
     requires { WayReady v w k (length points.now) (length corners.now) (length volumes.now) (length ends.now)
-        (length lengths.now) (meshAt k points.now roots.now corners.now volumes.now ends.now lengths.now outline.now) × WayTables (length numbers.old)
-        (length verts.old) (length measures.old) (length sides.old) × MeshLinked (kindIs kind) k.triangles k.edges k.boundary corners.now ends.now outline.now links.now }
-    ensures { WayRead (kindIs kind) v w (meshBefore k points roots corners volumes ends lengths outline) result numbers.new
+        (length lengths.now) (mesh_at k points.now roots.now corners.now volumes.now ends.now lengths.now outline.now) × WayTables (length numbers.old)
+        (length verts.old) (length measures.old) (length sides.old) × MeshLinked (kind_is kind) k.triangles k.edges k.boundary corners.now ends.now outline.now links.now }
+    ensures { WayRead (kind_is kind) v w (mesh_before k points roots corners volumes ends lengths outline) result numbers.new
         verts.new measures.new sides.new }
 {
     let n = split::fans::fan_tables(
@@ -72,10 +72,10 @@ pub fn way_load(
     outline: &[usize],
     links: &[u16],
 ) -> f32
-    requires { let K = kindIs kind in WayReady v w k (length points.now) (length corners.now) (length volumes.now)
-        (length ends.now) (length lengths.now) (meshAt k points.now roots.now corners.now volumes.now ends.now lengths.now outline.now)
+    requires { let K = kind_is kind in WayReady v w k (length points.now) (length corners.now) (length volumes.now)
+        (length ends.now) (length lengths.now) (mesh_at k points.now roots.now corners.now volumes.now ends.now lengths.now outline.now)
         × LoadsLong K k (length loads.now) × MeshLinked K k.triangles k.edges k.boundary corners.now ends.now outline.now links.now }
-    ensures { WayLoad (kindIs kind) v w k loads.now (meshBefore k points roots corners volumes ends lengths outline) result }
+    ensures { WayLoad (kind_is kind) v w k loads.now (mesh_before k points roots corners volumes ends lengths outline) result }
 {
     let mut numbers = [0usize; mesh::ELEMENTS];
     let mut verts = [0usize; mesh::ELEMENT_CORNERS];
@@ -121,9 +121,9 @@ pub fn way_opens(
     queue: &mut [usize],
 ) -> bool
     requires { TableRoom k.triangles k.edges (length corners.now) (length volumes.now) (length ends.now)
-        (length lengths.now) 2048 4096 2048 × OpensRoom n (length (fanOf (kindIs kind) (meshAt k points.now roots.now corners.now volumes.now ends.now lengths.now outline.now) v)) (length groups.now) × (2048 ≤ length queue.old) }
-    ensures { let K = kindIs kind in let M = meshBefore k points roots corners volumes ends lengths outline in result
-        ≡ opensWithoutConfetti K M minimum (openedBy K M v n count groups.now) }
+        (length lengths.now) 2048 4096 2048 × OpensRoom n (length (fan_of (kind_is kind) (mesh_at k points.now roots.now corners.now volumes.now ends.now lengths.now outline.now) v)) (length groups.now) × (2048 ≤ length queue.old) }
+    ensures { let K = kind_is kind in let M = mesh_before k points roots corners volumes ends lengths outline in result
+        ≡ opens_without_confetti_of K M minimum (opened_by K M v n count groups.now) }
 {
     let mut numbers = [0usize; mesh::ELEMENTS];
     let mut verts = [0usize; mesh::ELEMENT_CORNERS];

@@ -1,11 +1,11 @@
 // Ways to open an edge: the sides of a fan across it, their mean load, and which way goes first.
 ghost use Rattle.std.specs.Prelude.{◌≡◌, ◌&&◌, ◌/◌, ◌<◌, ◌≤◌, length, take, ltb};
 ghost use Rattle.lists.specs.Lists.{stands};
-ghost use Rattle.float.specs.Order.{totalCmp};
-ghost use Rattle.elements.specs.Table.{kindIs};
+ghost use Rattle.float.specs.Order.{total_cmp_of};
+ghost use Rattle.elements.specs.Table.{kind_is};
 ghost use Rattle.model.specs.Crack.{ahead};
-ghost use Rattle.tear.specs.Ways.{RowIn, offsetsBy, sideBy, SidesRoom, FarSides, LoadHas, LoadIs, MeanRoom, MeanTold, twoBy};
-ghost use Rattle.mesh.specs.Widths.{pointColumns};
+ghost use Rattle.tear.specs.Ways.{RowIn, offsets_by, side_by, SidesRoom, FarSides, LoadHas, LoadIs, MeanRoom, MeanTold, two_by};
+ghost use Rattle.mesh.specs.Widths.{point_columns};
 
 use blade::Point;
 use elements::Kind;
@@ -14,7 +14,7 @@ use float::order::Order;
 // The offsets of a row's corners from home in the rest shape, added.
 fn offsets(home: Point, row: &[usize], points: &[f32]) -> Point
     requires { RowIn row.now (length points.now) }
-    ensures { result ≡ offsetsBy home row.now points.now }
+    ensures { result ≡ offsets_by home row.now points.now }
 {
     let mut s = Point { x: 0.0, y: 0.0 };
     let mut i: usize = 0;
@@ -29,7 +29,7 @@ fn offsets(home: Point, row: &[usize], points: &[f32]) -> Point
 // The side of a row's element: 1 where it lies beyond the line through home across the direction.
 fn side_of(home: Point, dir: Point, row: &[usize], points: &[f32]) -> usize
     requires { RowIn row.now (length points.now) }
-    ensures { result ≡ sideBy home dir row.now points.now }
+    ensures { result ≡ side_by home dir row.now points.now }
 {
     if 0.0 < blade::dot(offsets(home, row, points), dir) {
         return 1;
@@ -64,8 +64,8 @@ pub fn far_sides(
 
 // The load of element number i: a triangle's as it was read, a strap's its stress.
 fn load_of(kind: Kind, i: usize, loads: &[f32], lengths: &[f32]) -> f32
-    requires { LoadHas (kindIs kind) i (length loads.now) (length lengths.now) }
-    ensures { LoadIs (kindIs kind) i loads.now lengths.now result }
+    requires { LoadHas (kind_is kind) i (length loads.now) (length lengths.now) }
+    ensures { LoadIs (kind_is kind) i loads.now lengths.now result }
 {
     match kind {
         Kind::Triangles => loads[i],
@@ -86,8 +86,8 @@ pub fn mean_load(
     loads: &[f32],
     lengths: &[f32],
 ) -> f32
-    requires { MeanRoom (kindIs kind) n numbers.now (length sides.now) (length loads.now) (length lengths.now) }
-    ensures { MeanTold (kindIs kind) n numbers.now sides.now loads.now lengths.now result }
+    requires { MeanRoom (kind_is kind) n numbers.now (length sides.now) (length loads.now) (length lengths.now) }
+    ensures { MeanTold (kind_is kind) n numbers.now sides.now loads.now lengths.now result }
 {
     let mut s: f32 = 0.0;
     let mut far: usize = 0;
@@ -115,8 +115,8 @@ fn both_sides(sides: &[usize]) -> bool
 
 // Is v not pinned, and has its fan of n elements both sides?
 pub fn two_sided(v: usize, n: usize, sides: &[usize], points: &[f32]) -> bool
-    requires { (n ≤ length sides.now) × (v < length points.now / pointColumns) }
-    ensures { result ≡ twoBy v (take n sides.now) points.now }
+    requires { (n ≤ length sides.now) × (v < length points.now / point_columns) }
+    ensures { result ≡ two_by v (take n sides.now) points.now }
 {
     let size = points.len() / mesh::POINT_COLUMNS;
     if points[5 * size + v] != 0.0 {
@@ -127,7 +127,7 @@ pub fn two_sided(v: usize, n: usize, sides: &[usize], points: &[f32]) -> bool
 
 // Does the way of load p at v go before that of load q at w?
 pub fn goes_first(p: f32, v: usize, q: f32, w: usize) -> bool
-    ensures { result ≡ ahead (totalCmp p q) (ltb v w) }
+    ensures { result ≡ ahead (total_cmp_of p q) (ltb v w) }
 {
     let o = float::order::total_cmp(p, q);
     match o {

@@ -7,20 +7,20 @@ use mathlib.Core.List.{List}
 use lib.Dec.{leb}
 use lib.ListN.{length}
 use Rattle.lists.specs.Lists.{pick}
-use Rattle.listing.specs.Answers.{answerFor, Wrote}
+use Rattle.listing.specs.Answers.{answer_for, Wrote}
 use Rattle.listing.specs.declared.Written.{Written}
 use Rattle.listing.specs.declared.Written.TheVariants.{Short, Bytes}
-use Rattle.text_c.specs.Texts.{codeFor, TextReplied}
+use Rattle.text_c.specs.Texts.{code_for, TextReplied}
 
-code_is : (b : Bool) (n : ℕ) → codeFor (pick b (Bytes n) Short) ≡ pick b 0 4
+code_is : (b : Bool) (n : ℕ) → code_for (pick b (Bytes n) Short) ≡ pick b 0 4
 code_is true n = refl
 code_is false n = refl
 
 -- the answer to what was written
-pub text-replied : (text : List ℕ) (lent : ℕ) (s : List ℕ) (w : Written) (r : ℕ) → Wrote text lent s w → r ≡ codeFor w → TextReplied text lent r s
-unfolding answerFor
-text-replied text lent s w r T e =
-    record { code = e ∙ ap codeFor T.answer ∙ code_is (leb (length text) lent) (length text); bytes = T.bytes }
+pub text_replied : (text : List ℕ) (lent : ℕ) (s : List ℕ) (w : Written) (r : ℕ) → Wrote text lent s w → r ≡ code_for w → TextReplied text lent r s
+unfolding answer_for
+text_replied text lent s w r T e =
+    record { code = e ∙ ap code_for T.answer ∙ code_is (leb (length text) lent) (length text); bytes = T.bytes }
 
-pub text-agree : (text : List ℕ) (lent r r' : ℕ) (s s' : List ℕ) → TextReplied text lent r s → TextReplied text lent r' s' → (r ≡ r') × (s ≡ s')
-text-agree text lent r r' s s' A B = (A.code ∙ sym B.code, A.bytes ∙ sym B.bytes)
+pub text_agree : (text : List ℕ) (lent r r' : ℕ) (s s' : List ℕ) → TextReplied text lent r s → TextReplied text lent r' s' → (r ≡ r') × (s ≡ s')
+text_agree text lent r r' s s' A B = (A.code ∙ sym B.code, A.bytes ∙ sym B.bytes)

@@ -4,20 +4,20 @@
 ghost use Rattle.std.specs.Prelude.{◌≡◌, length};
 ghost use Rattle.sheetcut.specs.SheetCut.{listed};
 ghost use Rattle.differing.specs.Differed.{differed};
-ghost use Rattle.text_c.specs.Texts.{layoutNumber, codeFor, TextReplied};
+ghost use Rattle.text_c.specs.Texts.{layout_number, code_for, TextReplied};
 
 use listing::Written;
 
 // The number of the layout.
 pub fn layout() -> u32
-    ensures { result ≡ layoutNumber }
+    ensures { result ≡ layout_number }
 {
     4
 }
 
 // What is answered to a text that was written, or was too long for the lent bytes.
 fn code_of(wrote: Written) -> u32
-    ensures { result ≡ codeFor wrote }
+    ensures { result ≡ code_for wrote }
 {
     match wrote {
         Written::Short => 4,

@@ -2,17 +2,17 @@
 #![tactic(auto)]
 
 ghost use Rattle.std.specs.Prelude.{◌≡◌, ◌<◌, ◌≤◌, true, length};
-ghost use Rattle.elements.specs.Table.{kindIs};
+ghost use Rattle.elements.specs.Table.{kind_is};
 ghost use Rattle.links.specs.Linked.{LinkedIn, MeshLinked};
-ghost use Rattle.model.specs.Crack.{twoSided};
+ghost use Rattle.model.specs.Crack.{two_sided_of};
 ghost use Rattle.work.specs.Working.{Logged, Works};
 ghost use Rattle.tear.specs.Tried.{WayReady, LoadsLong};
-ghost use Rattle.tornedge.specs.Cracks.{sidesAcross, opens_at, Parted, openedAcross, WayAsked, TriedTo, EndsTold, PairTold, CrackTold, TriedBehind};
-ghost use Rattle.mesh.specs.Blocks.{meshIn, meshBefore, worldBefore, worldBehind};
-ghost use Rattle.mesh.specs.Limits.{particleLimit};
+ghost use Rattle.tornedge.specs.Cracks.{sides_across, opens_at, Parted, opened_across, WayAsked, TriedTo, EndsTold, PairTold, CrackTold, TriedBehind};
+ghost use Rattle.mesh.specs.Blocks.{mesh_in, mesh_before, world_before, world_behind};
+ghost use Rattle.mesh.specs.Limits.{particle_limit};
 ghost use Rattle.work.specs.Blocks.{ReadyIn, OverBlocks};
 ghost use Rattle.split.specs.Blocks.{LinkedBehind};
-ghost use Rattle.mesh.specs.At.{meshAt};
+ghost use Rattle.mesh.specs.At.{mesh_at};
 
 use elements::Kind;
 use mesh::{Counts, Rooms};
@@ -51,9 +51,9 @@ fn way_groups(
     links: &[u16],
 ) -> Parts
     requires { WayReady v w k (length points.now) (length corners.now) (length volumes.now) (length ends.now)
-        (length lengths.now) (meshAt k points.now roots.now corners.now volumes.now ends.now lengths.now outline.now) × (2048 ≤ length sides.old)
-        × (2048 ≤ length groups.old) × MeshLinked (kindIs kind) k.triangles k.edges k.boundary corners.now ends.now outline.now links.now }
-    ensures { Parted (kindIs kind) v w (meshBefore k points roots corners volumes ends lengths outline) groups.new result }
+        (length lengths.now) (mesh_at k points.now roots.now corners.now volumes.now ends.now lengths.now outline.now) × (2048 ≤ length sides.old)
+        × (2048 ≤ length groups.old) × MeshLinked (kind_is kind) k.triangles k.edges k.boundary corners.now ends.now outline.now links.now }
+    ensures { Parted (kind_is kind) v w (mesh_before k points roots corners volumes ends lengths outline) groups.new result }
 {
     let mut numbers = [0usize; mesh::ELEMENTS];
     let mut verts = [0usize; mesh::ELEMENT_CORNERS];
@@ -100,9 +100,9 @@ fn way_open(
     links: &[u16],
 ) -> bool
     requires { WayReady v w k (length points.now) (length corners.now) (length volumes.now) (length ends.now)
-        (length lengths.now) (meshAt k points.now roots.now corners.now volumes.now ends.now lengths.now outline.now)
-        × MeshLinked (kindIs kind) k.triangles k.edges k.boundary corners.now ends.now outline.now links.now }
-    ensures { result ≡ opens_at (kindIs kind) minimum (meshBefore k points roots corners volumes ends lengths outline) v w }
+        (length lengths.now) (mesh_at k points.now roots.now corners.now volumes.now ends.now lengths.now outline.now)
+        × MeshLinked (kind_is kind) k.triangles k.edges k.boundary corners.now ends.now outline.now links.now }
+    ensures { result ≡ opens_at (kind_is kind) minimum (mesh_before k points roots corners volumes ends lengths outline) v w }
 {
     let mut sides = [0usize; mesh::ELEMENTS];
     let mut groups = [0usize; mesh::ELEMENTS];
@@ -152,10 +152,10 @@ fn open_way(
     log: &mut [u32],
     links: &mut [u16],
 ) -> Ran
-    requires { let K = kindIs kind in let M = meshIn k points roots corners volumes ends lengths outline in ReadyIn room k points roots
-        corners volumes ends lengths outline log × WayAsked v w x y a b k.particles × (twoSided M v (sidesAcross K M v w) ≡ true)
+    requires { let K = kind_is kind in let M = mesh_in k points roots corners volumes ends lengths outline in ReadyIn room k points roots
+        corners volumes ends lengths outline log × WayAsked v w x y a b k.particles × (two_sided_of M v (sides_across K M v w) ≡ true)
         × LinkedIn K k corners ends outline links }
-    ensures { let K = kindIs kind in OverBlocks (λ M W at. Works (openedAcross K M v w (a, b) (x, y)) room W at result) k points roots
+    ensures { let K = kind_is kind in OverBlocks (λ M W at. Works (opened_across K M v w (a, b) (x, y)) room W at result) k points roots
         corners volumes ends lengths outline log × LinkedBehind K corners ends outline links result }
 {
     let mut numbers = [0usize; mesh::ELEMENTS];
@@ -211,9 +211,9 @@ fn try_way(
     links: &mut [u16],
 ) -> Tried
     requires { ReadyIn room k points roots corners volumes ends lengths outline log × WayAsked v w x y a b k.particles
-        × LinkedIn (kindIs kind) k corners ends outline links }
-    ensures { let K = kindIs kind in TriedTo K minimum v w (a, b) (x, y) room k
-        (worldBefore k points roots corners volumes ends lengths outline log) (λ q. worldBehind q points roots corners volumes ends lengths
+        × LinkedIn (kind_is kind) k corners ends outline links }
+    ensures { let K = kind_is kind in TriedTo K minimum v w (a, b) (x, y) room k
+        (world_before k points roots corners volumes ends lengths outline log) (λ q. world_behind q points roots corners volumes ends lengths
         outline log) result × TriedBehind K k corners ends outline links result }
 {
     if way_open(
@@ -250,9 +250,9 @@ fn crack_ends(
     links: &mut [u16],
 ) -> Ran
     requires { ReadyIn room k points roots corners volumes ends lengths outline log × WayAsked v w x y a b k.particles
-        × WayAsked w v x y a b k.particles × LinkedIn (kindIs kind) k corners ends outline links }
-    ensures { let K = kindIs kind in EndsTold K minimum v w (a, b) (x, y) room
-        (worldBefore k points roots corners volumes ends lengths outline log) (λ q. worldBehind q points roots corners volumes ends lengths
+        × WayAsked w v x y a b k.particles × LinkedIn (kind_is kind) k corners ends outline links }
+    ensures { let K = kind_is kind in EndsTold K minimum v w (a, b) (x, y) room
+        (world_before k points roots corners volumes ends lengths outline log) (λ q. world_behind q points roots corners volumes ends lengths
         outline log) result × LinkedBehind K corners ends outline links result }
 {
     let first = try_way(
@@ -293,10 +293,10 @@ fn crack_pair(
     log: &mut [u32],
     links: &mut [u16],
 ) -> Ran
-    requires { ReadyIn room k points roots corners volumes ends lengths outline log × LoadsLong (kindIs kind) k (length loads.now) × (x
-        < k.particles) × (y < k.particles) × (a < particleLimit) × (b < particleLimit) × LinkedIn (kindIs kind) k corners ends outline
+    requires { ReadyIn room k points roots corners volumes ends lengths outline log × LoadsLong (kind_is kind) k (length loads.now) × (x
+        < k.particles) × (y < k.particles) × (a < particle_limit) × (b < particle_limit) × LinkedIn (kind_is kind) k corners ends outline
         links }
-    ensures { let K = kindIs kind in OverBlocks (λ M W at. PairTold K minimum k.triangles (a, b) (x, y) loads.now room
+    ensures { let K = kind_is kind in OverBlocks (λ M W at. PairTold K minimum k.triangles (a, b) (x, y) loads.now room
         W at result) k points roots corners volumes ends lengths outline log × LinkedBehind K corners ends outline links result }
 {
     let other = tear::edge::turned(
@@ -329,10 +329,10 @@ pub fn crack_edge(
     log: &mut [u32],
     links: &mut [u16],
 ) -> Ran
-    requires { let K = kindIs kind in ReadyIn room k points roots corners volumes ends lengths outline log × Logged k.log log.old
-        × LoadsLong K k (length loads.now) × (a < particleLimit) × (b < particleLimit) × LinkedIn K k corners ends outline links }
-    ensures { let K = kindIs kind in CrackTold K minimum a b k.triangles loads.now room
-        (worldBefore k points roots corners volumes ends lengths outline log) (λ q. worldBehind q points roots corners volumes ends lengths
+    requires { let K = kind_is kind in ReadyIn room k points roots corners volumes ends lengths outline log × Logged k.log log.old
+        × LoadsLong K k (length loads.now) × (a < particle_limit) × (b < particle_limit) × LinkedIn K k corners ends outline links }
+    ensures { let K = kind_is kind in CrackTold K minimum a b k.triangles loads.now room
+        (world_before k points roots corners volumes ends lengths outline log) (λ q. world_behind q points roots corners volumes ends lengths
         outline log) result × LinkedBehind K corners ends outline links result }
 {
     let pair = tear::edge::pair_now(

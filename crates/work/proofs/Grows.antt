@@ -5,24 +5,24 @@ use Prim.Native.Nat.{ℕ, ◌≤◌, ◌<◌}
 use borrow.Author.Tests.{le-leb}
 use lib.ListN.{length, get_or}
 use lib.Ieee.{Float}
-use Rattle.lists.proofs.Stores.{tab-length, tab-at}
-use Rattle.model.specs.Mesh.{blankEdge}
+use Rattle.lists.proofs.Stores.{tab_length, tab_at}
+use Rattle.model.specs.Mesh.{blank_edge}
 use Rattle.mesh.specs.At.{edges_at}
 use Rattle.mesh.specs.Workers.{row_at}
 use Rattle.work.specs.Rows.{GrownTo}
 use Rattle.work.specs.declared.Grown.TheVariants.{Rows}
 
 -- rows that are all there
-pub grown-all : {A : Type 0} (r room : ℕ) (l : List A) (rows : ℕ → List A) → length (rows r) ≡ r → r ≤ room → rows r ≡ l → GrownTo (Rows r) room l rows
-grown-all r room l rows m h e =
+pub grown_all : {A : Type 0} (r room : ℕ) (l : List A) (rows : ℕ → List A) → length (rows r) ≡ r → r ≤ room → rows r ≡ l → GrownTo (Rows r) room l rows
+grown_all r room l rows m h e =
     let many : r ≡ length l = sym m ∙ ap length e in
     (le-leb (length l) room (subst (λ (z : ℕ). z ≤ room) many h), many, e)
 
 -- how many edges, and which at a place
-pub edges-many : (n : ℕ) (A : List ℕ) (B : List Float) → length (edges_at n A B) ≡ n
+pub edges_many : (n : ℕ) (A : List ℕ) (B : List Float) → length (edges_at n A B) ≡ n
 unfolding edges_at
-edges-many n A B = tab-length n (row_at A B)
+edges_many n A B = tab_length n (row_at A B)
 
-pub edges-get : (n : ℕ) (A : List ℕ) (B : List Float) (j : ℕ) → j < n → get_or (edges_at n A B) j blankEdge ≡ row_at A B j
+pub edges_get : (n : ℕ) (A : List ℕ) (B : List Float) (j : ℕ) → j < n → get_or (edges_at n A B) j blank_edge ≡ row_at A B j
 unfolding edges_at
-edges-get n A B j l = tab-at n (row_at A B) j blankEdge l
+edges_get n A B j l = tab_at n (row_at A B) j blank_edge l

@@ -2,7 +2,7 @@
 use Rattle.std.specs.Prelude.{ℕ, ◌/◌, ◌≤◌, ◌≡◌, true, false, List, length, leb}
 use Rattle.work.specs.declared.Grown.{Grown}
 use Rattle.work.specs.declared.Grown.TheVariants.{Lacking, Rows}
-use Rattle.mesh.specs.Widths.{sideColumns}
+use Rattle.mesh.specs.Widths.{side_columns}
 
 -- rows that grew from e to what the list l is, where `room` is enough for it
 abbrev pub GrownTo : {A : Type 0} → Grown → ℕ → List A → (ℕ → List A) → Type 0
@@ -17,4 +17,4 @@ Between m room (Rows r) = (m ≤ r) × (r ≤ room)
 -- what rows of an outline ask
 pub record SideRoom (m room lo : ℕ) : Type 0 where
   pub rows : m ≤ room
-  pub columns : room ≤ lo / sideColumns
+  pub columns : room ≤ lo / side_columns

@@ -3,7 +3,7 @@ ghost use Rattle.std.specs.Prelude.{◌≡◌, ◌+◌, ◌/◌, ◌<◌, [], �
 ghost use Rattle.std.specs.Float.{binary32};
 ghost use Rattle.std.specs.Float.Ieee.{to_bits};
 ghost use Rattle.mesh.specs.Log.{log_at};
-ghost use Rattle.mesh.specs.Widths.{entryWords};
+ghost use Rattle.mesh.specs.Widths.{entry_words};
 
 // The bits of a number.
 pub fn bits_of(x: f32) -> u32
@@ -17,7 +17,7 @@ pub fn bits_of(x: f32) -> u32
 
 // Writes the six words of an entry behind the n that are there.
 pub fn note(n: usize, kind: u32, a: u32, b: u32, p: u32, q: u32, t: u32, log: &mut [u32])
-    requires { n < length log.old / entryWords }
+    requires { n < length log.old / entry_words }
     ensures { log_at (n + 1) log.new ≡ log_at n log.old ++
         (record { kind = kind; a = a; b = b; p = p; q = q; t = t } ∷ []) }
 {

@@ -2,7 +2,7 @@
 ghost use Rattle.std.specs.Prelude.{◌≡◌, length};
 ghost use Rattle.mesh.specs.At.{edges_at};
 ghost use Rattle.mesh.specs.Workers.{Removed};
-ghost use Rattle.work.specs.Removal.{markedOf, NoteRoom, EdgesNoted, ListNoteRoom, ListNoted, MarkedRoom, GoneRoom, GoneTo};
+ghost use Rattle.work.specs.Removal.{marked_of, NoteRoom, EdgesNoted, ListNoteRoom, ListNoted, MarkedRoom, GoneRoom, GoneTo};
 
 use crate::Ran;
 use mesh::{Counts, Rooms};
@@ -34,7 +34,7 @@ pub fn note_marked(
     ends: &[usize],
     log: &mut [u32],
 ) -> usize
-    requires { NoteRoom mask.now n at ends.now (length log.old) × (s ≡ length (markedOf mask.now n)) }
+    requires { NoteRoom mask.now n at ends.now (length log.old) × (s ≡ length (marked_of mask.now n)) }
     ensures { EdgesNoted mask.now n at ends.now log.old log.new result }
 {
     if s == 0 {

@@ -6,7 +6,7 @@ use Prim.Native.Nat.{ℕ}
 use lib.ListN.{length-replicate}
 use lib.Seq.{length-take-le}
 use Rattle.mesh_tables.proofs.Cornering.{blank}
-use Rattle.answer_listing.proofs.Counting.{short-told, lent-told, pieces-told}
+use Rattle.answer_listing.proofs.Counting.{short_told, lent_told, pieces_told}
 use Rattle.answer_listing.proofs.count_pieces.Statement.{statement}
 use Rattle.answer_listing.proofs.count_pieces.Tie as tie
 
@@ -41,23 +41,23 @@ slice-aggregate-count-sides-4 : tie.Need-slice-aggregate-count-sides-4
 slice-aggregate-count-sides-4 c = search rules
 
 array-borrow-prefix-parent : tie.Need-array-borrow-prefix-parent
-array-borrow-prefix-parent c = short-told c.before.before.before.before.before.before.before.before.before.before.before.before.before.before.before.before.before.args.k _ _ _ _ c.before.before.before.before.before.before.before.before.before.before.before.before.before.before.before.before.before.requires c.before.before.before.before.before.before.before.before.before.before.before.before.kind-of.result _ _ _ _ _ c.before.before.before.before.before.before.before.before.element-table.ensures c.before.before.before.before.corners-per.ensures
+array-borrow-prefix-parent c = short_told c.before.before.before.before.before.before.before.before.before.before.before.before.before.before.before.before.before.args.k _ _ _ _ c.before.before.before.before.before.before.before.before.before.before.before.before.before.before.before.before.before.requires c.before.before.before.before.before.before.before.before.before.before.before.before.kind-of.result _ _ _ _ _ c.before.before.before.before.before.before.before.before.element-table.ensures c.before.before.before.before.corners-per.ensures
 
 slice-aggregate-count-sides-5 : tie.Need-slice-aggregate-count-sides-5
-slice-aggregate-count-sides-5 c = sym (length-take-le _ _ (short-told c.before.before.before.before.before.before.before.before.before.before.before.before.before.before.before.before.before.before.args.k _ _ _ _ c.before.before.before.before.before.before.before.before.before.before.before.before.before.before.before.before.before.before.requires c.before.before.before.before.before.before.before.before.before.before.before.before.before.kind-of.result _ _ _ _ _ c.before.before.before.before.before.before.before.before.before.element-table.ensures c.before.before.before.before.before.corners-per.ensures))
+slice-aggregate-count-sides-5 c = sym (length-take-le _ _ (short_told c.before.before.before.before.before.before.before.before.before.before.before.before.before.before.before.before.before.before.args.k _ _ _ _ c.before.before.before.before.before.before.before.before.before.before.before.before.before.before.before.before.before.before.requires c.before.before.before.before.before.before.before.before.before.before.before.before.before.kind-of.result _ _ _ _ _ c.before.before.before.before.before.before.before.before.before.element-table.ensures c.before.before.before.before.before.corners-per.ensures))
 
 count-sides-requires : tie.Need-count-sides-requires
 count-sides-requires c κs =
     let T = c.before.before.before.before.before.before.before.before.before.element-table in
     let h = length-replicate {A = ℕ} 4096 0 in
-    lent-told c.before.before.before.before.before.before.before.before.before.before.before.before.before.before.before.before.before.before.args.k _ _ _ _ c.before.before.before.before.before.before.before.before.before.before.before.before.before.before.before.before.before.before.requires c.before.before.before.before.before.before.before.before.before.before.before.before.before.kind-of.result _ _ _ _ _ c.before.before.before.before.before.before.before.before.before.element-table.ensures c.before.before.before.before.before.corners-per.ensures (omega (arith, T.auto.1.1.1.1.1.1.1.1.0)) h (λ i. blank 4096 i) (omega arith) (omega arith) (length-take-le _ _ (short-told c.before.before.before.before.before.before.before.before.before.before.before.before.before.before.before.before.before.before.args.k _ _ _ _ c.before.before.before.before.before.before.before.before.before.before.before.before.before.before.before.before.before.before.requires c.before.before.before.before.before.before.before.before.before.before.before.before.before.kind-of.result _ _ _ _ _ c.before.before.before.before.before.before.before.before.before.element-table.ensures c.before.before.before.before.before.corners-per.ensures))
+    lent_told c.before.before.before.before.before.before.before.before.before.before.before.before.before.before.before.before.before.before.args.k _ _ _ _ c.before.before.before.before.before.before.before.before.before.before.before.before.before.before.before.before.before.before.requires c.before.before.before.before.before.before.before.before.before.before.before.before.before.kind-of.result _ _ _ _ _ c.before.before.before.before.before.before.before.before.before.element-table.ensures c.before.before.before.before.before.corners-per.ensures (omega (arith, T.auto.1.1.1.1.1.1.1.1.0)) h (λ i. blank 4096 i) (omega arith) (omega arith) (length-take-le _ _ (short_told c.before.before.before.before.before.before.before.before.before.before.before.before.before.before.before.before.before.before.args.k _ _ _ _ c.before.before.before.before.before.before.before.before.before.before.before.before.before.before.before.before.before.before.requires c.before.before.before.before.before.before.before.before.before.before.before.before.before.kind-of.result _ _ _ _ _ c.before.before.before.before.before.before.before.before.before.element-table.ensures c.before.before.before.before.before.corners-per.ensures))
 
 returns : tie.Need-returns
 returns c =
-    pieces-told c.before.before.before.before.before.before.before.before.before.before.before.before.before.before.before.before.before.before.before.before.before.before.before.args.k _ _ _ _ c.before.before.before.before.before.before.before.before.before.before.before.before.before.before.before.before.before.before.before.before.before.before.before.requires _ _ _ _ _ _ c.before.before.before.before.before.before.before.before.before.before.before.before.before.before.element-table.ensures c.before.before.before.before.before.before.before.before.before.before.corners-per.ensures _ c.before.before.before.before.before.before.before.before.before.before.before.before.before.before.before.before.before.before.kind-of.ensures c.before.before.before.before.count-sides.ensures
+    pieces_told c.before.before.before.before.before.before.before.before.before.before.before.before.before.before.before.before.before.before.before.before.before.before.before.args.k _ _ _ _ c.before.before.before.before.before.before.before.before.before.before.before.before.before.before.before.before.before.before.before.before.before.before.before.requires _ _ _ _ _ _ c.before.before.before.before.before.before.before.before.before.before.before.before.before.before.element-table.ensures c.before.before.before.before.before.before.before.before.before.before.corners-per.ensures _ c.before.before.before.before.before.before.before.before.before.before.before.before.before.before.before.before.before.before.kind-of.ensures c.before.before.before.before.count-sides.ensures
 
-pub count-pieces-spec : {M : Type 1} → statement M
-count-pieces-spec =
+pub count_pieces_spec : {M : Type 1} → statement M
+count_pieces_spec =
     tie.close
     (tie.spec
     kind-of-requires

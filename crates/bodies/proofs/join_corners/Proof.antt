@@ -7,8 +7,8 @@ use mathlib.Core.Logic.{⊎_elim}
 use Prim.Native.Nat.{ℕ, ◌+◌, ◌*◌, ◌<◌, ◌≤◌, ◌-◌}
 use lib.ListN.{length, get_or}
 use Rattle.bodies.specs.Tables.{Link, Tied}
-use Rattle.bodies.proofs.Corners.{corners-room, first_below, corner-below}
-use Rattle.bodies.proofs.Trees.{tied-join, tied-one, tied-first, tied_at, link-more, link_here, link-split}
+use Rattle.bodies.proofs.Corners.{corners_room, first_below, corner_below}
+use Rattle.bodies.proofs.Trees.{tied_join, tied_one, tied_first, tied_at, link_more, link_here, link_split}
 use Rattle.bodies.proofs.join_corners.Statement.{statement}
 use Rattle.bodies.proofs.join_corners.Tie as tie
 
@@ -22,43 +22,43 @@ mul_at : tie.Need-overflow-mul-at invariant-loop decreases-loop
 mul_at c =
     let A = c.before.before.args in
     let P = c.before.before.requires in
-    omega (arith, corners-room P.0 A.i P.1.inside)
+    omega (arith, corners_room P.0 A.i P.1.inside)
 
 mul-first : tie.Need-overflow-mul-first invariant-loop decreases-loop
 mul-first c =
     let A = c.before.before.args in
     let P = c.before.before.requires in
-    omega (arith, corners-room P.0 A.i P.1.inside)
+    omega (arith, corners_room P.0 A.i P.1.inside)
 
 shared-slice-read-first : tie.Need-shared-slice-read-first invariant-loop decreases-loop
 shared-slice-read-first c =
     let A = c.before.before.before.args in
     let P = c.before.before.before.requires in
-    omega (arith, corners-room P.0 A.i P.1.inside, P.0.width.0)
+    omega (arith, corners_room P.0 A.i P.1.inside, P.0.width.0)
 
 loop-holds : tie.Need-loop-init invariant-loop decreases-loop
 loop-holds c =
     let A = c.before.before.before.args in
     let P = c.before.before.before.requires in
-    (P.0.width.0, refl, tied-first A.k A.verts.now A.i P.0.width.0 (first_below P.0 A.i P.1.inside) P.1.tied)
+    (P.0.width.0, refl, tied_first A.k A.verts.now A.i P.0.width.0 (first_below P.0 A.i P.1.inside) P.1.tied)
 
 add-place : tie.Need-overflow-add-place invariant-loop decreases-loop
 add-place c =
     let A = c.before.before.before.before.before.args in
     let P = c.before.before.before.before.before.requires in
-    omega (arith, corners-room P.0 A.i P.1.inside)
+    omega (arith, corners_room P.0 A.i P.1.inside)
 
 mul-other : tie.Need-overflow-mul-other invariant-loop decreases-loop
 mul-other c =
     let A = c.before.before.before.before.before.args in
     let P = c.before.before.before.before.before.requires in
-    omega (arith, corners-room P.0 A.i P.1.inside)
+    omega (arith, corners_room P.0 A.i P.1.inside)
 
 shared-slice-read-other : tie.Need-shared-slice-read-other invariant-loop decreases-loop
 shared-slice-read-other c =
     let A = c.before.before.before.before.before.before.args in
     let P = c.before.before.before.before.before.before.requires in
-    omega (arith, corners-room P.0 A.i P.1.inside)
+    omega (arith, corners_room P.0 A.i P.1.inside)
 
 mul-if1 : tie.Need-overflow-mul-if1 invariant-loop decreases-loop
 mul-if1 c =
@@ -66,7 +66,7 @@ mul-if1 c =
     let P = c.before.before.before.before.before.before.requires in
     let L = c.before.before.loop in
     let l : L.j < A.k = omega arith in
-    omega (arith, L.invariant.1, first_below P.0 A.i P.1.inside, corner-below P.0 A.i L.j P.1.inside l)
+    omega (arith, L.invariant.1, first_below P.0 A.i P.1.inside, corner_below P.0 A.i L.j P.1.inside l)
 
 slice-read-if1 : tie.Need-slice-read-if1 invariant-loop decreases-loop
 slice-read-if1 c =
@@ -74,7 +74,7 @@ slice-read-if1 c =
     let P = c.before.before.before.before.before.before.before.requires in
     let L = c.before.before.before.loop in
     let l : L.j < A.k = omega arith in
-    omega (arith, L.invariant.1, first_below P.0 A.i P.1.inside, corner-below P.0 A.i L.j P.1.inside l)
+    omega (arith, L.invariant.1, first_below P.0 A.i P.1.inside, corner_below P.0 A.i L.j P.1.inside l)
 
 mul-if1-2 : tie.Need-overflow-mul-if1-2 invariant-loop decreases-loop
 mul-if1-2 c =
@@ -82,7 +82,7 @@ mul-if1-2 c =
     let P = c.before.before.before.before.before.before.before.requires in
     let L = c.before.before.before.loop in
     let l : L.j < A.k = omega arith in
-    omega (arith, L.invariant.1, first_below P.0 A.i P.1.inside, corner-below P.0 A.i L.j P.1.inside l)
+    omega (arith, L.invariant.1, first_below P.0 A.i P.1.inside, corner_below P.0 A.i L.j P.1.inside l)
 
 slice-read-if1-2 : tie.Need-slice-read-if1-2 invariant-loop decreases-loop
 slice-read-if1-2 c =
@@ -90,7 +90,7 @@ slice-read-if1-2 c =
     let P = c.before.before.before.before.before.before.before.before.requires in
     let L = c.before.before.before.before.loop in
     let l : L.j < A.k = omega arith in
-    omega (arith, L.invariant.1, first_below P.0 A.i P.1.inside, corner-below P.0 A.i L.j P.1.inside l)
+    omega (arith, L.invariant.1, first_below P.0 A.i P.1.inside, corner_below P.0 A.i L.j P.1.inside l)
 
 join-requires : tie.Need-join-requires invariant-loop decreases-loop
 join-requires c κs =
@@ -99,7 +99,7 @@ join-requires c κs =
     let L = c.before.before.before.before.before.before.loop in
     let l : L.j < A.k = omega arith in
     let f = first_below P.0 A.i P.1.inside in
-    let g = corner-below P.0 A.i L.j P.1.inside l in
+    let g = corner_below P.0 A.i L.j P.1.inside l in
     let e = L.invariant.1 in
     (omega arith, omega arith, L.invariant.2.down)
 
@@ -119,18 +119,18 @@ loop-again c =
     let x = get_or verts (A.i * A.k) 0 in
     let y = get_or verts (A.i * A.k + L.j) 0 in
     let f : x < length L.parent = omega (arith, L.invariant.1, first_below P.0 A.i P.1.inside) in
-    let g : y < length L.parent = omega (arith, L.invariant.1, corner-below P.0 A.i L.j P.1.inside l) in
+    let g : y < length L.parent = omega (arith, L.invariant.1, corner_below P.0 A.i L.j P.1.inside l) in
     ⊎_elim
     (λ w. (
       omega arith,
       ap (λ (p : List ℕ). length p) w.5 ∙ w.2.ensures.long ∙ L.invariant.1,
-      tied_at refl w.5 (tied-join x y L.invariant.2 w.2.ensures (link-more A.k verts A.i L.j l) (link_here A.k verts A.i L.j l) (link-split A.k verts A.i L.j l)),
+      tied_at refl w.5 (tied_join x y L.invariant.2 w.2.ensures (link_more A.k verts A.i L.j l) (link_here A.k verts A.i L.j l) (link_split A.k verts A.i L.j l)),
     ))
     (λ w.
     let e : get_or L.parent x 0 ≡ get_or L.parent y 0 = omega (arith, w.0.left) in (
       omega arith,
       ap (λ (p : List ℕ). length p) w.1 ∙ L.invariant.1,
-      tied_at refl w.1 (tied-one x y L.invariant.2 f g e (link-more A.k verts A.i L.j l) (link-split A.k verts A.i L.j l)),
+      tied_at refl w.1 (tied_one x y L.invariant.2 f g e (link_more A.k verts A.i L.j l) (link_split A.k verts A.i L.j l)),
     ))
     c.if1.branch
 
@@ -144,8 +144,8 @@ returns c =
     let e : A.i * A.k + L.j ≡ (A.i + 1) * A.k = omega arith in
     tied_at e refl L.invariant.2
 
-pub join-corners-spec : {M : Type 1} → statement M
-join-corners-spec =
+pub join_corners_spec : {M : Type 1} → statement M
+join_corners_spec =
     tie.close
     (tie.spec
     invariant-loop

@@ -5,8 +5,8 @@ use mathlib.Core.Path.{◌≡◌, refl, sym, ◌∙◌, ap}
 use Prim.Native.Nat.{ℕ, ◌*◌, ◌≤◌, ◌-◌}
 use lib.ListN.{length}
 use Rattle.bodies.specs.Tables.{Link, Tied}
-use Rattle.bodies.proofs.Corners.{corners-for}
-use Rattle.bodies.proofs.Trees.{tied-start, tied_at, link-none}
+use Rattle.bodies.proofs.Corners.{corners_for}
+use Rattle.bodies.proofs.Trees.{tied_start, tied_at, link_none}
 use Rattle.bodies.proofs.join_each.Statement.{statement}
 use Rattle.bodies.proofs.join_each.Tie as tie
 
@@ -24,7 +24,7 @@ loop-holds c =
     let A = c.before.before.before.before.before.before.args in
     let O = c.before.before.own-numbers in
     let z : 0 ≡ 0 * A.k = omega arith in
-    (search rules, refl, tied_at z refl (tied-start {R = Link A.k A.verts.now 0} O.new.0 O.ensures (link-none A.k A.verts.now)))
+    (search rules, refl, tied_at z refl (tied_start {R = Link A.k A.verts.now 0} O.new.0 O.ensures (link_none A.k A.verts.now)))
 
 join-corners-requires : tie.Need-join-corners-requires invariant-loop decreases-loop
 join-corners-requires c κs =
@@ -33,7 +33,7 @@ join-corners-requires c κs =
     let O = c.before.before.before.before.before.own-numbers in
     let L = c.before.before.loop in
     let e = L.invariant.1 ∙ O.auto.0 in
-    (corners-for (sym e) P, record { inside = search rules; tied = L.invariant.2 })
+    (corners_for (sym e) P, record { inside = search rules; tied = L.invariant.2 })
 
 add-i : tie.Need-overflow-add-i invariant-loop decreases-loop
 add-i c = search rules
@@ -60,8 +60,8 @@ returns c =
     let d : L.i ≡ A.n = omega arith in
     tied_at (ap (λ (m : ℕ). m * A.k) d) refl L.invariant.2
 
-pub join-each-spec : {M : Type 1} → statement M
-join-each-spec =
+pub join_each_spec : {M : Type 1} → statement M
+join_each_spec =
     tie.close
     (tie.spec
     invariant-loop

@@ -1,6 +1,6 @@
 -- `bodies::join_elements` meets its contract. Assumes nothing.
 use borrow.Author.Rules.{rules}
-use Rattle.bodies.proofs.Trees.{body-roots}
+use Rattle.bodies.proofs.Trees.{body_roots}
 use Rattle.bodies.proofs.join_elements.Statement.{statement}
 use Rattle.bodies.proofs.join_elements.Tie as tie
 
@@ -17,7 +17,7 @@ returns : tie.Need-returns
 returns c =
     let J = c.before.before.before.before.before.before.join-each.ensures in
     let E = c.before.before.flatten.ensures in
-    body-roots J E.0 E.1
+    body_roots J E.0 E.1
 
-pub join-elements-spec : {M : Type 1} → statement M
-join-elements-spec = tie.close (tie.spec join-each-requires flatten-requires same_length returns)
+pub join_elements_spec : {M : Type 1} → statement M
+join_elements_spec = tie.close (tie.spec join-each-requires flatten-requires same_length returns)

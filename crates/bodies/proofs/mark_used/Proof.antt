@@ -5,7 +5,7 @@ use mathlib.Core.Path.{◌≡◌, refl, ◌∙◌, subst}
 use Prim.Native.Nat.{ℕ, ◌*◌, ◌<◌, ◌≤◌, ◌-◌}
 use lib.ListN.{length, get_or, take, length-set}
 use Rattle.bodies.specs.Tables.{Marked}
-use Rattle.bodies.proofs.Marks.{marked-none, marked-corner, used-marked}
+use Rattle.bodies.proofs.Marks.{marked_none, marked_corner, used_marked}
 use Rattle.bodies.proofs.mark_used.Statement.{statement}
 use Rattle.bodies.proofs.mark_used.Tie as tie
 
@@ -26,7 +26,7 @@ mul-total c =
 loop-holds : tie.Need-loop-init invariant-loop decreases-loop
 loop-holds c =
     let K = c.before.before.clear in
-    (search rules, refl, marked-none K.new.0 K.ensures)
+    (search rules, refl, marked_none K.new.0 K.ensures)
 
 mul-x : tie.Need-overflow-mul-x invariant-loop decreases-loop
 mul-x c =
@@ -71,7 +71,7 @@ loop-again c =
     let h : get_or A.verts.now L.t 0 < length L.used = omega (arith, P.below L.t (search rules), L.invariant.1, K.auto.0) in (
       omega arith,
       length-set L.used (get_or A.verts.now L.t 0) 1 ∙ L.invariant.1,
-      marked-corner L.t A.verts.now L.used (omega (arith, P.room)) h L.invariant.2,
+      marked_corner L.t A.verts.now L.used (omega (arith, P.room)) h L.invariant.2,
     )
 
 same_length : tie.Need-same-length invariant-loop decreases-loop
@@ -85,10 +85,10 @@ returns c =
     let A = c.before.before.before.before.before.before.before.before.args in
     let L = c.before.loop in
     let d : L.t ≡ A.n * A.k = omega arith in
-    used-marked (subst (λ (m : ℕ). Marked (take m A.verts.now) L.used) d L.invariant.2)
+    used_marked (subst (λ (m : ℕ). Marked (take m A.verts.now) L.used) d L.invariant.2)
 
-pub mark-used-spec : {M : Type 1} → statement M
-mark-used-spec =
+pub mark_used_spec : {M : Type 1} → statement M
+mark_used_spec =
     tie.close
     (tie.spec
     invariant-loop

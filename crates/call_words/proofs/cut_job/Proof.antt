@@ -1,7 +1,7 @@
 -- `call_words::cut_job` meets its contract: two points and a fraction are read. Assumes nothing.
 use native.Mathlib.Omega.{arith}
 use borrow.Author.Rules.{rules}
-use Rattle.call_words.proofs.CutLaws.{cut-same}
+use Rattle.call_words.proofs.CutLaws.{cut_same}
 use Rattle.call_words.proofs.cut_job.Statement.{statement}
 use Rattle.call_words.proofs.cut_job.Tie as tie
 
@@ -15,7 +15,7 @@ number-of-requires : tie.Need-number-of-requires
 number-of-requires c κs = search rules
 
 returns : tie.Need-returns
-returns c = cut-same _ _ _ _ _ _ _ c.before.before.point_at.ensures c.before.point-at2.ensures c.number_of_lem.ensures
+returns c = cut_same _ _ _ _ _ _ _ c.before.before.point_at.ensures c.before.point-at2.ensures c.number_of_lem.ensures
 
-pub cut-job-spec : {M : Type 1} → statement M
-cut-job-spec = tie.close (tie.spec point-at-requires point-at-requires-2 number-of-requires returns)
+pub cut_job_spec : {M : Type 1} → statement M
+cut_job_spec = tie.close (tie.spec point-at-requires point-at-requires-2 number-of-requires returns)

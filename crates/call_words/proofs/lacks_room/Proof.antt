@@ -9,5 +9,5 @@ both-requires c κs = search rules
 returns : tie.Need-returns
 returns c = c.both.ensures
 
-pub lacks-room-spec : {M : Type 1} → statement M
-lacks-room-spec = tie.close (tie.spec both-requires returns)
+pub lacks_room_spec : {M : Type 1} → statement M
+lacks_room_spec = tie.close (tie.spec both-requires returns)

@@ -1,5 +1,5 @@
 -- `crossmarks::note_across` meets its contract. Assumes nothing.
-use Rattle.crossmarks.proofs.NotingLaws.{pair-beside}
+use Rattle.crossmarks.proofs.NotingLaws.{pair_beside}
 use native.Mathlib.Omega.{arith}
 use borrow.Author.Rules.{rules}
 use Rattle.crossmarks.proofs.note_across.Statement.{statement}
@@ -21,7 +21,7 @@ beside-requires : tie.Need-beside-requires
 beside-requires c κs = search rules
 
 returns : tie.Need-returns
-returns c = let P = c.before.before.before.before.before.before.before.requires in let A = c.before.before.before.before.before.before.before.args in pair-beside A.rule A.b0 A.b1 A.points.now A.offsets.now A.x A.y _ _ _ P.1 P.2 c.before.beside.ensures c.if1.true
+returns c = let P = c.before.before.before.before.before.before.before.requires in let A = c.before.before.before.before.before.before.before.args in pair_beside A.rule A.b0 A.b1 A.points.now A.offsets.now A.x A.y _ _ _ P.1 P.2 c.before.beside.ensures c.if1.true
 
 note-pair-requires : tie.Need-note-pair-requires
 note-pair-requires c κs = c.before.before.before.before.before.before.before.before.requires.0
@@ -32,8 +32,8 @@ same_length c = c.before.before.note-pair.auto.1.1.1.1.1.1.1.0
 returns-2 : tie.Need-returns-2
 returns-2 c = c.before.before.note-pair.ensures
 
-pub note-across-spec : {M : Type 1} → statement M
-note-across-spec =
+pub note_across_spec : {M : Type 1} → statement M
+note_across_spec =
     tie.close
     (tie.spec
     mul-beside

@@ -10,7 +10,7 @@ slice-aggregate-read-offsets c = search rules
 read-offsets-requires : tie.Need-read-offsets-requires
 read-offsets-requires c κs =
     let Y = c.before.before.before.before.before.before.before.before.before.requires in
-    (omega (arith, Y.rooms.points, Y.counts.particles), omega (arith, Y.rooms.few-particles, Y.counts.particles))
+    (omega (arith, Y.rooms.points, Y.counts.particles), omega (arith, Y.rooms.few_particles, Y.counts.particles))
 
 slice-aggregate-note-elements : tie.Need-slice-aggregate-note-elements
 slice-aggregate-note-elements c = search rules
@@ -24,7 +24,7 @@ same_length c = c.before.before.note-elements.auto.1.1.1.1.1.1.1.1.1.1.1.1.1.1.0
 returns : tie.Need-returns
 returns c = c.before.before.note-elements.ensures
 
-pub note-crossings-spec : {M : Type 1} → statement M
-note-crossings-spec =
+pub note_crossings_spec : {M : Type 1} → statement M
+note_crossings_spec =
     tie.close
     (tie.spec slice-aggregate-read-offsets read-offsets-requires slice-aggregate-note-elements note-elements-requires same_length returns)

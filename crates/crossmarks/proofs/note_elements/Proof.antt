@@ -1,6 +1,6 @@
 -- `crossmarks::note_elements` meets its contract: by the kind of the mesh, and then by the room of the log. Assumes nothing.
-use Rattle.crossmarks.proofs.NotingLaws.{triangle-room, strap-room, of-triangles, of-straps, of-nothing, marked-as, marked_refused, marked-done}
-use Rattle.marks.specs.Marking.{bladeBy}
+use Rattle.crossmarks.proofs.NotingLaws.{triangle_room, strap_room, of_triangles, of_straps, of_nothing, marked_as, marked_refused, marked_done}
+use Rattle.marks.specs.Marking.{blade_by}
 use mathlib.Core.Path.{ap, ◌∙◌}
 use mathlib.Core.Logic.{⊎_elim}
 use native.Mathlib.Omega.{arith}
@@ -10,8 +10,8 @@ use Rattle.crossmarks.proofs.note_elements.Statement.{statement}
 use Rattle.crossmarks.proofs.note_elements.Tie as tie
 use Rattle.crossmarks.proofs.note_elements.Reads as reads
 use Rattle.crossmarks.proofs.note_elements.Lts as lts
-use Rattle.crossmarks.proofs.note_straps.Reads as note-straps-reads
-use Rattle.crossmarks.proofs.note_triangles.Reads as note-triangles-reads
+use Rattle.crossmarks.proofs.note_straps.Reads as note_straps_reads
+use Rattle.crossmarks.proofs.note_triangles.Reads as note_triangles_reads
 
 enum_told : tie.Need-enum-told
 enum_told c = search rules
@@ -20,7 +20,7 @@ note-triangles-requires : tie.Need-note-triangles-requires
 note-triangles-requires c κs =
     let A = c.before.before.before.before.before.before.before.before.before.before.before.before.args in
     let Y = c.before.before.before.before.before.before.before.before.before.before.before.before.requires.0 in
-    triangle-room A.kind (bladeBy A.rule A.b0 A.b1) A.room A.k A.points.now A.roots.now A.corners.now A.volumes.now A.ends.now A.lengths.now A.outline.now A.log.now Y A.offsets.now c.before.before.before.before.before.before.before.before.before.before.before.before.requires.1
+    triangle_room A.kind (blade_by A.rule A.b0 A.b1) A.room A.k A.points.now A.roots.now A.corners.now A.volumes.now A.ends.now A.lengths.now A.outline.now A.log.now Y A.offsets.now c.before.before.before.before.before.before.before.before.before.before.before.before.requires.1
 
 enum-told-2 : tie.Need-enum-told-2
 enum-told-2 c = search rules
@@ -29,7 +29,7 @@ note-straps-requires : tie.Need-note-straps-requires
 note-straps-requires c κs =
     let A = c.before.before.before.before.before.before.before.before.before.before.before.before.args in
     let Y = c.before.before.before.before.before.before.before.before.before.before.before.before.requires.0 in
-    strap-room A.kind (bladeBy A.rule A.b0 A.b1) A.room A.k A.points.now A.roots.now A.corners.now A.volumes.now A.ends.now A.lengths.now A.outline.now A.log.now Y A.offsets.now c.before.before.before.before.before.before.before.before.before.before.before.before.requires.1
+    strap_room A.kind (blade_by A.rule A.b0 A.b1) A.room A.k A.points.now A.roots.now A.corners.now A.volumes.now A.ends.now A.lengths.now A.outline.now A.log.now Y A.offsets.now c.before.before.before.before.before.before.before.before.before.before.before.before.requires.1
 
 enum-told-3 : tie.Need-enum-told-3
 enum-told-3 c = search rules
@@ -44,13 +44,13 @@ returns c =
     let log = c.before.before.match.log in
     let n = c.before.before.match.n in
     let found = ⊎_elim
-    (λ w. marked-as A.kind (bladeBy A.rule A.b0 A.b1) A.room A.k A.points.now A.roots.now A.corners.now A.volumes.now A.ends.now A.lengths.now A.outline.now A.log.now Y log _ n _ w.6 w.7 (of-triangles A.kind (bladeBy A.rule A.b0 A.b1) A.room A.k A.points.now A.roots.now A.corners.now A.volumes.now A.ends.now A.lengths.now A.outline.now A.log.now Y _ _ w.1.given.1 w.3.ensures))
+    (λ w. marked_as A.kind (blade_by A.rule A.b0 A.b1) A.room A.k A.points.now A.roots.now A.corners.now A.volumes.now A.ends.now A.lengths.now A.outline.now A.log.now Y log _ n _ w.6 w.7 (of_triangles A.kind (blade_by A.rule A.b0 A.b1) A.room A.k A.points.now A.roots.now A.corners.now A.volumes.now A.ends.now A.lengths.now A.outline.now A.log.now Y _ _ w.1.given.1 w.3.ensures))
     (λ v. ⊎_elim
-    (λ w. marked-as A.kind (bladeBy A.rule A.b0 A.b1) A.room A.k A.points.now A.roots.now A.corners.now A.volumes.now A.ends.now A.lengths.now A.outline.now A.log.now Y log _ n _ w.6 w.7 (of-straps A.kind (bladeBy A.rule A.b0 A.b1) A.room A.k A.points.now A.roots.now A.corners.now A.volumes.now A.ends.now A.lengths.now A.outline.now A.log.now Y _ _ w.1.given.1 w.3.ensures))
-    (λ w. marked-as A.kind (bladeBy A.rule A.b0 A.b1) A.room A.k A.points.now A.roots.now A.corners.now A.volumes.now A.ends.now A.lengths.now A.outline.now A.log.now Y log _ n _ w.2 w.3 (of-nothing A.kind (bladeBy A.rule A.b0 A.b1) A.room A.k A.points.now A.roots.now A.corners.now A.volumes.now A.ends.now A.lengths.now A.outline.now A.log.now Y w.1.given.1))
+    (λ w. marked_as A.kind (blade_by A.rule A.b0 A.b1) A.room A.k A.points.now A.roots.now A.corners.now A.volumes.now A.ends.now A.lengths.now A.outline.now A.log.now Y log _ n _ w.6 w.7 (of_straps A.kind (blade_by A.rule A.b0 A.b1) A.room A.k A.points.now A.roots.now A.corners.now A.volumes.now A.ends.now A.lengths.now A.outline.now A.log.now Y _ _ w.1.given.1 w.3.ensures))
+    (λ w. marked_as A.kind (blade_by A.rule A.b0 A.b1) A.room A.k A.points.now A.roots.now A.corners.now A.volumes.now A.ends.now A.lengths.now A.outline.now A.log.now Y log _ n _ w.2 w.3 (of_nothing A.kind (blade_by A.rule A.b0 A.b1) A.room A.k A.points.now A.roots.now A.corners.now A.volumes.now A.ends.now A.lengths.now A.outline.now A.log.now Y w.1.given.1))
     v)
     c.before.before.match.branch in
-    marked_refused A.kind (bladeBy A.rule A.b0 A.b1) A.room A.k A.points.now A.roots.now A.corners.now A.volumes.now A.ends.now A.lengths.now A.outline.now A.log.now Y log n _ found (omega (arith, c.if1.true))
+    marked_refused A.kind (blade_by A.rule A.b0 A.b1) A.room A.k A.points.now A.roots.now A.corners.now A.volumes.now A.ends.now A.lengths.now A.outline.now A.log.now Y log n _ found (omega (arith, c.if1.true))
 
 same-length-2 : tie.Need-same-length-2
 same-length-2 c = ⊎_elim (λ w. ap length w.6 ∙ w.3.kept.1.1.1.1.1.1.1.1.0) (λ v. ⊎_elim (λ w. ap length w.6 ∙ w.3.kept.1.1.1.1.1.1.1.1.0) (λ w. ap length w.2) v) c.before.before.match.branch
@@ -62,16 +62,16 @@ returns-2 c =
     let log = c.before.before.match.log in
     let n = c.before.before.match.n in
     let found = ⊎_elim
-    (λ w. marked-as A.kind (bladeBy A.rule A.b0 A.b1) A.room A.k A.points.now A.roots.now A.corners.now A.volumes.now A.ends.now A.lengths.now A.outline.now A.log.now Y log _ n _ w.6 w.7 (of-triangles A.kind (bladeBy A.rule A.b0 A.b1) A.room A.k A.points.now A.roots.now A.corners.now A.volumes.now A.ends.now A.lengths.now A.outline.now A.log.now Y _ _ w.1.given.1 w.3.ensures))
+    (λ w. marked_as A.kind (blade_by A.rule A.b0 A.b1) A.room A.k A.points.now A.roots.now A.corners.now A.volumes.now A.ends.now A.lengths.now A.outline.now A.log.now Y log _ n _ w.6 w.7 (of_triangles A.kind (blade_by A.rule A.b0 A.b1) A.room A.k A.points.now A.roots.now A.corners.now A.volumes.now A.ends.now A.lengths.now A.outline.now A.log.now Y _ _ w.1.given.1 w.3.ensures))
     (λ v. ⊎_elim
-    (λ w. marked-as A.kind (bladeBy A.rule A.b0 A.b1) A.room A.k A.points.now A.roots.now A.corners.now A.volumes.now A.ends.now A.lengths.now A.outline.now A.log.now Y log _ n _ w.6 w.7 (of-straps A.kind (bladeBy A.rule A.b0 A.b1) A.room A.k A.points.now A.roots.now A.corners.now A.volumes.now A.ends.now A.lengths.now A.outline.now A.log.now Y _ _ w.1.given.1 w.3.ensures))
-    (λ w. marked-as A.kind (bladeBy A.rule A.b0 A.b1) A.room A.k A.points.now A.roots.now A.corners.now A.volumes.now A.ends.now A.lengths.now A.outline.now A.log.now Y log _ n _ w.2 w.3 (of-nothing A.kind (bladeBy A.rule A.b0 A.b1) A.room A.k A.points.now A.roots.now A.corners.now A.volumes.now A.ends.now A.lengths.now A.outline.now A.log.now Y w.1.given.1))
+    (λ w. marked_as A.kind (blade_by A.rule A.b0 A.b1) A.room A.k A.points.now A.roots.now A.corners.now A.volumes.now A.ends.now A.lengths.now A.outline.now A.log.now Y log _ n _ w.6 w.7 (of_straps A.kind (blade_by A.rule A.b0 A.b1) A.room A.k A.points.now A.roots.now A.corners.now A.volumes.now A.ends.now A.lengths.now A.outline.now A.log.now Y _ _ w.1.given.1 w.3.ensures))
+    (λ w. marked_as A.kind (blade_by A.rule A.b0 A.b1) A.room A.k A.points.now A.roots.now A.corners.now A.volumes.now A.ends.now A.lengths.now A.outline.now A.log.now Y log _ n _ w.2 w.3 (of_nothing A.kind (blade_by A.rule A.b0 A.b1) A.room A.k A.points.now A.roots.now A.corners.now A.volumes.now A.ends.now A.lengths.now A.outline.now A.log.now Y w.1.given.1))
     v)
     c.before.before.match.branch in
-    marked-done A.kind (bladeBy A.rule A.b0 A.b1) A.room A.k A.points.now A.roots.now A.corners.now A.volumes.now A.ends.now A.lengths.now A.outline.now A.log.now Y log n found (omega (arith, c.if1.false))
+    marked_done A.kind (blade_by A.rule A.b0 A.b1) A.room A.k A.points.now A.roots.now A.corners.now A.volumes.now A.ends.now A.lengths.now A.outline.now A.log.now Y log n found (omega (arith, c.if1.false))
 
-pub note-elements-spec : {M : Type 1} → statement M
-note-elements-spec =
+pub note_elements_spec : {M : Type 1} → statement M
+note_elements_spec =
     tie.close
     (tie.spec
     enum_told

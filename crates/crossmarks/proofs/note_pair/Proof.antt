@@ -1,6 +1,6 @@
 -- `crossmarks::note_pair` meets its contract. Assumes nothing.
-use Rattle.crossmarks.proofs.NotingLaws.{pair-miss, pair-written, pair-counted}
-use Rattle.marks.specs.Marking.{bladeBy}
+use Rattle.crossmarks.proofs.NotingLaws.{pair_miss, pair_written, pair_counted}
+use Rattle.marks.specs.Marking.{blade_by}
 use mathlib.Core.Path.{ap, ◌∙◌}
 use mathlib.Core.Logic.{⊎_elim}
 use lib.ListN.{length}
@@ -11,9 +11,9 @@ use Rattle.crossmarks.proofs.note_pair.Tie as tie
 use Rattle.crossmarks.proofs.note_pair.Reads as reads
 use Rattle.crossmarks.proofs.note_pair.Lts as lts
 use Rattle.marks.proofs.particles.tested.Reads as tested_reads
-use Rattle.split_plan.proofs.place.Reads as place-reads
-use Rattle.work.proofs.notes.bits_of.Reads as bits-of-reads
-use Rattle.work.proofs.notes.note.Reads as note-reads
+use Rattle.split_plan.proofs.place.Reads as place_reads
+use Rattle.work.proofs.notes.bits_of.Reads as bits_of_reads
+use Rattle.work.proofs.notes.note.Reads as note_reads
 
 place-requires : tie.Need-place-requires
 place-requires c κs = search rules
@@ -33,7 +33,7 @@ enum_told c = search rules
 returns : tie.Need-returns
 returns c =
     let A = c.before.before.before.before.before.before.before.args in
-    pair-miss (bladeBy A.rule A.b0 A.b1) A.points.now A.x A.y _ _ _ A.n _ c.before.before.before.before.place.ensures c.before.before.before.place2.ensures c.before.before.tested.ensures c.enum_told.given.1
+    pair_miss (blade_by A.rule A.b0 A.b1) A.points.now A.x A.y _ _ _ A.n _ c.before.before.before.before.place.ensures c.before.before.before.place2.ensures c.before.before.tested.ensures c.enum_told.given.1
 
 bits-of-requires : tie.Need-bits-of-requires
 bits-of-requires c κs = search rules
@@ -67,12 +67,12 @@ returns-2 c =
     let H = c.before.before.before.before.tested.ensures in
     let G = c.before.before.hit.given in
     ⊎_elim
-    (λ w. pair-written (bladeBy A.rule A.b0 A.b1) A.points.now A.x A.y _ _ _ _ _ A.n _ _ _ _ _ _ P Q H G.1 w.1.ensures w.2.ensures w.3.ensures w.5.ensures w.8)
-    (λ w. pair-counted (bladeBy A.rule A.b0 A.b1) A.points.now A.x A.y _ _ _ _ _ A.n _ _ P Q H G.1 (omega (arith, w.0.left)))
+    (λ w. pair_written (blade_by A.rule A.b0 A.b1) A.points.now A.x A.y _ _ _ _ _ A.n _ _ _ _ _ _ P Q H G.1 w.1.ensures w.2.ensures w.3.ensures w.5.ensures w.8)
+    (λ w. pair_counted (blade_by A.rule A.b0 A.b1) A.points.now A.x A.y _ _ _ _ _ A.n _ _ P Q H G.1 (omega (arith, w.0.left)))
     c.if1.branch
 
-pub note-pair-spec : {M : Type 1} → statement M
-note-pair-spec =
+pub note_pair_spec : {M : Type 1} → statement M
+note_pair_spec =
     tie.close
     (tie.spec
     place-requires

@@ -1,7 +1,7 @@
 -- `crossmarks::note_straps` meets its contract. The invariant: the crossings so far are noted. Assumes nothing.
-use Rattle.crossmarks.specs.Noting.{Noted, strapMarks}
-use Rattle.crossmarks.proofs.NotingLaws.{straps-none, straps-turn, straps-done, strap-noted, strap-passed, few-of-pair, room-of-strap}
-use Rattle.marks.specs.Marking.{bladeBy}
+use Rattle.crossmarks.specs.Noting.{Noted, strap_marks}
+use Rattle.crossmarks.proofs.NotingLaws.{straps_none, straps_turn, straps_done, strap_noted, strap_passed, few_of_pair, room_of_strap}
+use Rattle.marks.specs.Marking.{blade_by}
 use mathlib.Core.Path.{◌≡◌, refl}
 use mathlib.Core.Logic.{⊎_elim}
 use Prim.Native.Nat.{◌+◌, ◌-◌, ◌≤◌}
@@ -11,17 +11,17 @@ use Rattle.crossmarks.proofs.note_straps.Statement.{statement}
 use Rattle.crossmarks.proofs.note_straps.Tie as tie
 use Rattle.crossmarks.proofs.note_straps.Reads as reads
 use Rattle.crossmarks.proofs.note_straps.Lts as lts
-use Rattle.crossmarks.proofs.note_across.Reads as note-across-reads
+use Rattle.crossmarks.proofs.note_across.Reads as note_across_reads
 
 abbrev invariant-loop : tie.invariant-loop
 invariant-loop rule b0 b1 e n points ends offsets log₀ size m₀ i₀ log m i =
-    (i ≤ e) × (length log ≡ length log₀) × Noted (strapMarks (bladeBy rule b0 b1) points i ends) n log₀ log m × (m ≤ n + i)
+    (i ≤ e) × (length log ≡ length log₀) × Noted (strap_marks (blade_by rule b0 b1) points i ends) n log₀ log m × (m ≤ n + i)
 
 abbrev decreases-loop : tie.decreases-loop
 decreases-loop rule b0 b1 e n points ends offsets log₀ size m₀ i₀ log m i = e - i
 
 loop-holds : tie.Need-loop-init invariant-loop decreases-loop
-loop-holds c = (omega arith, refl, straps-none _ _ _ _ _, omega arith)
+loop-holds c = (omega arith, refl, straps_none _ _ _ _ _, omega arith)
 
 mul-if1 : tie.Need-overflow-mul-if1 invariant-loop decreases-loop
 mul-if1 c = omega (arith, c.before.before.before.before.before.before.requires.columns)
@@ -51,7 +51,7 @@ shared-slice-read-note-across-2 : tie.Need-shared-slice-read-note-across-2 invar
 shared-slice-read-note-across-2 c = omega (arith, c.before.before.before.before.before.before.before.before.before.before.requires.columns)
 
 note-across-requires : tie.Need-note-across-requires invariant-loop decreases-loop
-note-across-requires c κs = room-of-strap _ _ _ _ _ c.before.before.before.before.before.before.loop.i _ c.before.before.before.before.before.before.before.before.before.before.before.requires c.before.before.before.before.before.loop-test.true c.before.before.before.before.before.before.loop.invariant.3
+note-across-requires c κs = room_of_strap _ _ _ _ _ c.before.before.before.before.before.before.loop.i _ c.before.before.before.before.before.before.before.before.before.before.before.requires c.before.before.before.before.before.loop-test.true c.before.before.before.before.before.before.loop.invariant.3
 
 add-i : tie.Need-overflow-add-i invariant-loop decreases-loop
 add-i c = omega arith
@@ -63,18 +63,18 @@ loop-again : tie.Need-loop-preserved invariant-loop decreases-loop
 loop-again c =
     let L = c.before.before.before.loop in
     ⊎_elim
-    (λ w. let T = straps-turn _ _ _ _ L.i _ _ _ _ _ _ _ L.invariant.1 w.4.kept.1.1.1.1.1.1.1.1.0 L.invariant.2 L.invariant.3 (strap-noted _ _ _ L.i _ _ _ _ w.0.taken w.4.ensures) (few-of-pair _ _ _ _ _ _ _ _ w.4.ensures) w.7 w.8 in (omega arith, T.0, T.1, T.2))
-    (λ w. let T = straps-turn _ _ _ _ L.i _ _ _ _ _ _ _ L.invariant.1 refl L.invariant.2 L.invariant.3 (strap-passed _ _ _ L.i _ _ w.0.left) (omega arith) w.1 w.2 in (omega arith, T.0, T.1, T.2))
+    (λ w. let T = straps_turn _ _ _ _ L.i _ _ _ _ _ _ _ L.invariant.1 w.4.kept.1.1.1.1.1.1.1.1.0 L.invariant.2 L.invariant.3 (strap_noted _ _ _ L.i _ _ _ _ w.0.taken w.4.ensures) (few_of_pair _ _ _ _ _ _ _ _ w.4.ensures) w.7 w.8 in (omega arith, T.0, T.1, T.2))
+    (λ w. let T = straps_turn _ _ _ _ L.i _ _ _ _ _ _ _ L.invariant.1 refl L.invariant.2 L.invariant.3 (strap_passed _ _ _ L.i _ _ w.0.left) (omega arith) w.1 w.2 in (omega arith, T.0, T.1, T.2))
     c.if1.branch
 
 same_length : tie.Need-same-length invariant-loop decreases-loop
 same_length c = c.before.loop.invariant.1
 
 returns : tie.Need-returns invariant-loop decreases-loop
-returns c = straps-done _ _ _ _ _ _ _ _ _ (omega arith) c.before.loop.invariant.2
+returns c = straps_done _ _ _ _ _ _ _ _ _ (omega arith) c.before.loop.invariant.2
 
-pub note-straps-spec : {M : Type 1} → statement M
-note-straps-spec =
+pub note_straps_spec : {M : Type 1} → statement M
+note_straps_spec =
     tie.close
     (tie.spec
     invariant-loop

@@ -1,6 +1,6 @@
 -- `crossmarks::read_offsets` meets its contract. The invariant: the offsets so far stand in the table. Assumes nothing.
 use Rattle.crossmarks.specs.Noting.{OffsetsAre}
-use Rattle.crossmarks.proofs.NotingLaws.{offsets-none, offsets-more, offsets-done}
+use Rattle.crossmarks.proofs.NotingLaws.{offsets_none, offsets_more, offsets_done}
 use mathlib.Core.Path.{◌≡◌, refl, ◌∙◌}
 use Prim.Native.Nat.{◌-◌, ◌≤◌}
 use native.Mathlib.Omega.{arith}
@@ -16,7 +16,7 @@ abbrev decreases-loop : tie.decreases-loop
 decreases-loop b0 b1 p points offsets₀ w₀ offsets w = p - w
 
 loop-holds : tie.Need-loop-init invariant-loop decreases-loop
-loop-holds c = (omega arith, refl, offsets-none _ _ _ _)
+loop-holds c = (omega arith, refl, offsets_none _ _ _ _)
 
 place-requires : tie.Need-place-requires invariant-loop decreases-loop
 place-requires c κs = omega (arith, c.before.before.before.before.requires.0)
@@ -40,16 +40,16 @@ loop-again : tie.Need-loop-preserved invariant-loop decreases-loop
 loop-again c =
     let L = c.before.before.before.loop in
     let A = c.before.before.before.before.before.before.args in
-    (omega arith, length-set L.offsets L.w _ ∙ L.invariant.1, offsets-more A.b0 A.b1 A.points.now L.offsets L.w _ _ L.invariant.2 (omega (arith, c.before.before.before.before.before.before.requires.1, L.invariant.1)) c.before.place.ensures c.offset.ensures)
+    (omega arith, length-set L.offsets L.w _ ∙ L.invariant.1, offsets_more A.b0 A.b1 A.points.now L.offsets L.w _ _ L.invariant.2 (omega (arith, c.before.before.before.before.before.before.requires.1, L.invariant.1)) c.before.place.ensures c.offset.ensures)
 
 same_length : tie.Need-same-length invariant-loop decreases-loop
 same_length c = c.before.loop.invariant.1
 
 returns : tie.Need-returns invariant-loop decreases-loop
-returns c = offsets-done _ _ _ _ _ _ (omega arith) c.before.loop.invariant.2
+returns c = offsets_done _ _ _ _ _ _ (omega arith) c.before.loop.invariant.2
 
-pub read-offsets-spec : {M : Type 1} → statement M
-read-offsets-spec =
+pub read_offsets_spec : {M : Type 1} → statement M
+read_offsets_spec =
     tie.close
     (tie.spec
     invariant-loop

@@ -1,6 +1,6 @@
 -- `differing::list_differences` meets its contract: the refusal of the first sheet, or what the second brings. Assumes nothing.
-use Rattle.differing.proofs.Wholes.{first-in, first-whole, first-refused}
-use Rattle.edition.proofs.Meshes.{outlined-sides}
+use Rattle.differing.proofs.Wholes.{first_in, first_whole, first_refused}
+use Rattle.edition.proofs.Meshes.{outlined_sides}
 use mathlib.Core.Path.{sym, ◌∙◌}
 use Prim.Native.Nat.{◌≤◌}
 use native.Mathlib.Omega.{arith}
@@ -21,7 +21,7 @@ slice-aggregate-list-second : tie.Need-slice-aggregate-list-second
 slice-aggregate-list-second c = search rules
 
 list-second-requires : tie.Need-list-second-requires
-list-second-requires c κs = let a = c.before.before.before.before.before.before.before.before.before.before.before.args in (first-in a.first.now _ _ _ (sym c.before.before.before.before.before.before.look-into.ensures.answer ∙ c.before.before.before.seen.given.1) (outlined-sides c.before.before.before.before.before.before.look-into.result a.first.now _ _ _ c.before.before.before.seen.given.1 c.before.before.before.before.before.before.look-into.ensures.outlined) c.before.before.before.before.before.before.look-into.auto.1.1.0)
+list-second-requires c κs = let a = c.before.before.before.before.before.before.before.before.before.before.before.args in (first_in a.first.now _ _ _ (sym c.before.before.before.before.before.before.look-into.ensures.answer ∙ c.before.before.before.seen.given.1) (outlined_sides c.before.before.before.before.before.before.look-into.result a.first.now _ _ _ c.before.before.before.seen.given.1 c.before.before.before.before.before.before.look-into.ensures.outlined) c.before.before.before.before.before.before.look-into.auto.1.1.0)
 
 enum-known-seen-2 : tie.Need-enum-known-seen-2
 enum-known-seen-2 c = search rules
@@ -33,16 +33,16 @@ same_length : tie.Need-same-length
 same_length c = c.before.before.list-second.auto.1.1.1.1.0
 
 returns : tie.Need-returns
-returns c = let a = c.before.before.before.before.before.before.before.before.before.before.before.before.before.before.args in first-whole a.first.now a.second.now _ _ _ _ _ (sym c.before.before.before.before.before.before.before.before.before.look-into.ensures.answer ∙ c.before.before.before.before.before.before.seen.given.1) c.before.before.list-second.ensures
+returns c = let a = c.before.before.before.before.before.before.before.before.before.before.before.before.before.before.args in first_whole a.first.now a.second.now _ _ _ _ _ (sym c.before.before.before.before.before.before.before.before.before.look-into.ensures.answer ∙ c.before.before.before.before.before.before.seen.given.1) c.before.before.list-second.ensures
 
 same-length-2 : tie.Need-same-length-2
 same-length-2 c = c.before.before.write-refused.auto.1.0
 
 returns-2 : tie.Need-returns-2
-returns-2 c = let a = c.before.before.before.before.before.before.before.before.before.before.before.before.before.args in first-refused a.first.now a.second.now _ _ _ _ (sym c.before.before.before.before.before.before.before.before.look-into.ensures.answer ∙ c.before.before.before.before.before.seen2.given.1) (search rules) c.before.before.write-refused.ensures
+returns-2 c = let a = c.before.before.before.before.before.before.before.before.before.before.before.before.before.args in first_refused a.first.now a.second.now _ _ _ _ (sym c.before.before.before.before.before.before.before.before.look-into.ensures.answer ∙ c.before.before.before.before.before.seen2.given.1) (search rules) c.before.before.write-refused.ensures
 
-pub list-differences-spec : {M : Type 1} → statement M
-list-differences-spec =
+pub list_differences_spec : {M : Type 1} → statement M
+list_differences_spec =
     tie.close
     (tie.spec
     slice-aggregate-look-into

@@ -1,6 +1,6 @@
 -- `differing::list_second` meets its contract: the refusal of the second sheet, or the differences. Assumes nothing.
-use Rattle.differing.proofs.Wholes.{first-in, second-told, second-refused}
-use Rattle.edition.proofs.Meshes.{outlined-sides}
+use Rattle.differing.proofs.Wholes.{first_in, second_told, second_refused}
+use Rattle.edition.proofs.Meshes.{outlined_sides}
 use mathlib.Core.Path.{sym, ◌∙◌}
 use Prim.Native.Nat.{◌≤◌}
 use native.Mathlib.Omega.{arith}
@@ -21,7 +21,7 @@ slice-aggregate-write-differences : tie.Need-slice-aggregate-write-differences
 slice-aggregate-write-differences c = search rules
 
 write-differences-requires : tie.Need-write-differences-requires
-write-differences-requires c κs = let a = c.before.before.before.before.before.before.before.before.before.before.before.before.args in record { first = c.before.before.before.before.before.before.before.before.before.before.before.before.requires; second = (first-in a.second.now _ _ _ (sym c.before.before.before.before.before.before.look-into.ensures.answer ∙ c.before.before.before.seen.given.1) (outlined-sides c.before.before.before.before.before.before.look-into.result a.second.now _ _ _ c.before.before.before.seen.given.1 c.before.before.before.before.before.before.look-into.ensures.outlined) c.before.before.before.before.before.before.look-into.auto.1.1.0); few = omega arith }
+write-differences-requires c κs = let a = c.before.before.before.before.before.before.before.before.before.before.before.before.args in record { first = c.before.before.before.before.before.before.before.before.before.before.before.before.requires; second = (first_in a.second.now _ _ _ (sym c.before.before.before.before.before.before.look-into.ensures.answer ∙ c.before.before.before.seen.given.1) (outlined_sides c.before.before.before.before.before.before.look-into.result a.second.now _ _ _ c.before.before.before.seen.given.1 c.before.before.before.before.before.before.look-into.ensures.outlined) c.before.before.before.before.before.before.look-into.auto.1.1.0); few = omega arith }
 
 enum-known-seen-2 : tie.Need-enum-known-seen-2
 enum-known-seen-2 c = search rules
@@ -33,16 +33,16 @@ same_length : tie.Need-same-length
 same_length c = c.before.before.write-differences.auto.1.1.1.1.1.1.0
 
 returns : tie.Need-returns
-returns c = let a = c.before.before.before.before.before.before.before.before.before.before.before.before.before.before.before.args in second-told a.first.now a.second.now _ _ _ _ _ (sym c.before.before.before.before.before.before.before.before.before.look-into.ensures.answer ∙ c.before.before.before.before.before.before.seen.given.1) c.before.before.before.before.before.before.before.before.before.before.before.before.before.before.before.requires.within (first-in a.second.now _ _ _ (sym c.before.before.before.before.before.before.before.before.before.look-into.ensures.answer ∙ c.before.before.before.before.before.before.seen.given.1) (outlined-sides c.before.before.before.before.before.before.before.before.before.look-into.result a.second.now _ _ _ c.before.before.before.before.before.before.seen.given.1 c.before.before.before.before.before.before.before.before.before.look-into.ensures.outlined) c.before.before.before.before.before.before.before.before.before.look-into.auto.1.1.0).within c.before.before.write-differences.ensures
+returns c = let a = c.before.before.before.before.before.before.before.before.before.before.before.before.before.before.before.args in second_told a.first.now a.second.now _ _ _ _ _ (sym c.before.before.before.before.before.before.before.before.before.look-into.ensures.answer ∙ c.before.before.before.before.before.before.seen.given.1) c.before.before.before.before.before.before.before.before.before.before.before.before.before.before.before.requires.within (first_in a.second.now _ _ _ (sym c.before.before.before.before.before.before.before.before.before.look-into.ensures.answer ∙ c.before.before.before.before.before.before.seen.given.1) (outlined_sides c.before.before.before.before.before.before.before.before.before.look-into.result a.second.now _ _ _ c.before.before.before.before.before.before.seen.given.1 c.before.before.before.before.before.before.before.before.before.look-into.ensures.outlined) c.before.before.before.before.before.before.before.before.before.look-into.auto.1.1.0).within c.before.before.write-differences.ensures
 
 same-length-2 : tie.Need-same-length-2
 same-length-2 c = c.before.before.write-refused.auto.1.0
 
 returns-2 : tie.Need-returns-2
-returns-2 c = let a = c.before.before.before.before.before.before.before.before.before.before.before.before.before.before.args in second-refused a.first.now a.second.now _ _ _ _ (sym c.before.before.before.before.before.before.before.before.look-into.ensures.answer ∙ c.before.before.before.before.before.seen2.given.1) (search rules) c.before.before.write-refused.ensures
+returns-2 c = let a = c.before.before.before.before.before.before.before.before.before.before.before.before.before.before.args in second_refused a.first.now a.second.now _ _ _ _ (sym c.before.before.before.before.before.before.before.before.look-into.ensures.answer ∙ c.before.before.before.before.before.seen2.given.1) (search rules) c.before.before.write-refused.ensures
 
-pub list-second-spec : {M : Type 1} → statement M
-list-second-spec =
+pub list_second_spec : {M : Type 1} → statement M
+list_second_spec =
     tie.close
     (tie.spec
     slice-aggregate-look-into

@@ -1,5 +1,5 @@
 -- `differing::write_differences` meets its contract: the lines, their number, the end. Assumes nothing.
-use Rattle.differing.proofs.Wholes.{text-written}
+use Rattle.differing.proofs.Wholes.{text_written}
 use mathlib.Core.Path.{◌∙◌}
 use Rattle.differing.proofs.write_differences.Statement.{statement}
 use Rattle.differing.proofs.write_differences.Tie as tie
@@ -20,10 +20,10 @@ same_length : tie.Need-same-length
 same_length c = c.before.before.finish.auto.0 ∙ (c.before.before.before.before.before.before.put_byte.auto.0 ∙ (c.before.before.before.before.before.before.before.before.before.before.put-number.auto.0 ∙ c.before.before.before.before.before.before.before.before.before.before.before.before.before.before.put_all_lem.auto.0))
 
 returns : tie.Need-returns
-returns c = text-written _ c.before.before.before.before.before.before.before.before.before.before.before.before.before.before.put_all_lem.ensures c.before.before.before.before.before.before.before.before.before.before.put-number.ensures c.before.before.before.before.before.before.put_byte.ensures c.before.before.finish.ensures (c.before.before.before.before.before.before.put_byte.auto.0 ∙ (c.before.before.before.before.before.before.before.before.before.before.put-number.auto.0 ∙ c.before.before.before.before.before.before.before.before.before.before.before.before.before.before.put_all_lem.auto.0))
+returns c = text_written _ c.before.before.before.before.before.before.before.before.before.before.before.before.before.before.put_all_lem.ensures c.before.before.before.before.before.before.before.before.before.before.put-number.ensures c.before.before.before.before.before.before.put_byte.ensures c.before.before.finish.ensures (c.before.before.before.before.before.before.put_byte.auto.0 ∙ (c.before.before.before.before.before.before.before.before.before.before.put-number.auto.0 ∙ c.before.before.before.before.before.before.before.before.before.before.before.before.before.before.put_all_lem.auto.0))
 
-pub write-differences-spec : {M : Type 1} → statement M
-write-differences-spec =
+pub write_differences_spec : {M : Type 1} → statement M
+write_differences_spec =
     tie.close
     (tie.spec
     put-all-requires

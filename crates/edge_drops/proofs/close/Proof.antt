@@ -1,5 +1,5 @@
 -- `edge_drops::close` meets its contract: the listed edges go as `drop_listed` has them go (proofs/PartedLaws.antt). Assumes nothing.
-use Rattle.edge_drops.proofs.PartedLaws.{listing-room, closed_all, closed_none}
+use Rattle.edge_drops.proofs.PartedLaws.{listing_room, closed_all, closed_none}
 use native.Mathlib.Omega.{arith}
 use Rattle.edge_drops.proofs.close.Statement.{statement}
 use Rattle.edge_drops.proofs.close.Tie as tie
@@ -14,7 +14,7 @@ add-drop-listed : tie.Need-overflow-add-drop-listed
 add-drop-listed c = omega (arith, c.before.before.before.before.before.before.requires.0.few)
 
 drop-listed-requires : tie.Need-drop-listed-requires
-drop-listed-requires c κs = (listing-room c.before.before.before.before.before.before.before.before.before.requires.0, c.before.before.before.before.before.before.before.before.before.requires.1)
+drop-listed-requires c κs = (listing_room c.before.before.before.before.before.before.before.before.before.requires.0, c.before.before.before.before.before.before.before.before.before.requires.1)
 
 same_length : tie.Need-same-length
 same_length c = c.before.before.before.before.before.before.drop-listed.auto.1.1.1.0

@@ -1,5 +1,5 @@
 -- `edge_drops::close_row` meets its contract: one row gone from the blocks (proofs/DropLaws.antt). Assumes nothing.
-use Rattle.edge_drops.proofs.DropLaws.{gone-row}
+use Rattle.edge_drops.proofs.DropLaws.{gone_row}
 use mathlib.Core.Path.{refl}
 use borrow.Author.Rules.{rules}
 use Rattle.edge_drops.proofs.close_row.Statement.{statement}
@@ -30,10 +30,10 @@ same-length-2 : tie.Need-same-length-2
 same-length-2 c = search rules
 
 returns : tie.Need-returns
-returns c = gone-row c.before.before.before.before.before.before.before.before.before.before.requires _ c.before.before.before.before.before.before.shift-block-usize.auto.1.1.1.1.1.0 c.before.before.before.before.before.before.shift-block-usize.ensures _ _ refl c.before.before.shift-block-f32.auto.1.1.1.1.1.0 c.before.before.shift-block-f32.ensures
+returns c = gone_row c.before.before.before.before.before.before.before.before.before.before.requires _ c.before.before.before.before.before.before.shift-block-usize.auto.1.1.1.1.1.0 c.before.before.before.before.before.before.shift-block-usize.ensures _ _ refl c.before.before.shift-block-f32.auto.1.1.1.1.1.0 c.before.before.shift-block-f32.ensures
 
-pub close-row-spec : {M : Type 1} → statement M
-close-row-spec =
+pub close_row_spec : {M : Type 1} → statement M
+close_row_spec =
     tie.close
     (tie.spec
     sub-behind

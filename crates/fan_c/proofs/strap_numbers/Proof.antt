@@ -6,17 +6,17 @@ use mathlib.Core.List.{List}
 use mathlib.Core.Logic.{⊎_elim}
 use lib.Ieee.{Float}
 use lib.ListN.{length, length-set}
-use Rattle.elements.proofs.Filling.{strapAt}
-use Rattle.mesh_tables.specs.Fans.{NumbersRead, strapsWith}
-use Rattle.mesh_tables.proofs.FanLaws.{numbers-none, numbers-skip, numbers-take, straps-held, no-straps}
-use Rattle.image.specs.Words.{wordsFrom}
-use Rattle.fan_c.proofs.Fanning.{strap-words}
+use Rattle.elements.proofs.Filling.{strap_at}
+use Rattle.mesh_tables.specs.Fans.{NumbersRead, straps_with}
+use Rattle.mesh_tables.proofs.FanLaws.{numbers_none, numbers_skip, numbers_take, straps_held, no_straps}
+use Rattle.image.specs.Words.{words_from}
+use Rattle.fan_c.proofs.Fanning.{strap_words}
 use borrow.Author.Rules.{rules}
 use Rattle.fan_c.proofs.strap_numbers.Statement.{statement}
 use Rattle.fan_c.proofs.strap_numbers.Tie as tie
 
 abbrev invariant-loop : tie.invariant-loop
-invariant-loop bytes at e v numbers₀ second third r₀ i₀ numbers r i = ((M : List Float) → NumbersRead (strapsWith v i (wordsFrom bytes at (4 * e)) M) r numbers) × (length numbers ≡ length numbers₀) × (r ≤ i) × (i ≤ e)
+invariant-loop bytes at e v numbers₀ second third r₀ i₀ numbers r i = ((M : List Float) → NumbersRead (straps_with v i (words_from bytes at (4 * e)) M) r numbers) × (length numbers ≡ length numbers₀) × (r ≤ i) × (i ≤ e)
 
 abbrev decreases-loop : tie.decreases-loop
 decreases-loop bytes at e v numbers₀ second third r₀ i₀ numbers r i = e - i
@@ -28,7 +28,7 @@ add-third : tie.Need-overflow-add-third invariant-loop decreases-loop
 add-third c = omega arith
 
 loop-holds : tie.Need-loop-init invariant-loop decreases-loop
-loop-holds c = let A = c.before.before.args in (λ M. rw (no-straps A.v (wordsFrom A.bytes.now A.at (4 * A.e)) M) (numbers-none _), refl, omega arith, omega arith)
+loop-holds c = let A = c.before.before.args in (λ M. rw (no_straps A.v (words_from A.bytes.now A.at (4 * A.e)) M) (numbers_none _), refl, omega arith, omega arith)
 
 add-word-at : tie.Need-overflow-add-word-at invariant-loop decreases-loop
 add-word-at c = omega arith
@@ -69,13 +69,13 @@ loop-less c = omega arith
 loop-again : tie.Need-loop-preserved invariant-loop decreases-loop
 loop-again c = let A = c.before.before.before.before.before.before.before.before.before.args in
     let L = c.before.before.before.before.before.before.loop in
-    let said = sym (c.before.strap-holds.ensures ∙ strap-words A.v A.bytes.now A.at A.e L.i c.before.before.before.before.before.loop-test.true _ _ _ c.before.before.before.before.word_at.ensures.0 c.before.before.before.word-at2.ensures.0 c.before.before.word-at3.ensures.0) in
-    let C = (wordsFrom A.bytes.now A.at (4 * A.e)) in
+    let said = sym (c.before.strap-holds.ensures ∙ strap_words A.v A.bytes.now A.at A.e L.i c.before.before.before.before.before.loop-test.true _ _ _ c.before.before.before.before.word_at.ensures.0 c.before.before.before.word-at2.ensures.0 c.before.before.word-at3.ensures.0) in
+    let C = (words_from A.bytes.now A.at (4 * A.e)) in
     ⊎_elim
     (λ w.
     rw (w.1, w.2)
-    ((λ M. numbers-take _ _ (strapAt C M L.i) _ (straps-held A.v C M L.i) L.r L.numbers (L.invariant.0 M) (said ∙ w.0.taken) (omega arith)), length-set L.numbers L.r L.i ∙ L.invariant.1, omega arith, omega arith))
-    (λ w. rw (w.1, w.2) ((λ M. numbers-skip _ _ (strapAt C M L.i) _ (straps-held A.v C M L.i) L.r L.numbers (L.invariant.0 M) (said ∙ w.0.left)), L.invariant.1, omega arith, omega arith))
+    ((λ M. numbers_take _ _ (strap_at C M L.i) _ (straps_held A.v C M L.i) L.r L.numbers (L.invariant.0 M) (said ∙ w.0.taken) (omega arith)), length-set L.numbers L.r L.i ∙ L.invariant.1, omega arith, omega arith))
+    (λ w. rw (w.1, w.2) ((λ M. numbers_skip _ _ (strap_at C M L.i) _ (straps_held A.v C M L.i) L.r L.numbers (L.invariant.0 M) (said ∙ w.0.left)), L.invariant.1, omega arith, omega arith))
     c.if1.branch
 
 same_length : tie.Need-same-length invariant-loop decreases-loop
@@ -85,10 +85,10 @@ returns : tie.Need-returns invariant-loop decreases-loop
 returns c = let A = c.before.before.before.before.args in
     let L = c.before.loop in
     let q : L.i ≡ A.e = omega (arith, L.invariant.3) in
-    (omega (arith, L.invariant.2, L.invariant.3), λ M. subst (λ (j : ℕ). NumbersRead (strapsWith A.v j (wordsFrom A.bytes.now A.at (4 * A.e)) M) L.r L.numbers) q (L.invariant.0 M))
+    (omega (arith, L.invariant.2, L.invariant.3), λ M. subst (λ (j : ℕ). NumbersRead (straps_with A.v j (words_from A.bytes.now A.at (4 * A.e)) M) L.r L.numbers) q (L.invariant.0 M))
 
-pub strap-numbers-spec : {M : Type 1} → statement M
-strap-numbers-spec =
+pub strap_numbers_spec : {M : Type 1} → statement M
+strap_numbers_spec =
     tie.close
     (tie.spec
     invariant-loop

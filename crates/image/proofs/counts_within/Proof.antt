@@ -1,5 +1,5 @@
 -- `image::counts_within` meets its contract: the four counts. Assumes nothing.
-use Rattle.image.specs.Image.{countsWithin}
+use Rattle.image.specs.Image.{counts_within_of}
 use borrow.Author.Rules.{rules}
 use Rattle.image.proofs.counts_within.Statement.{statement}
 use Rattle.image.proofs.counts_within.Tie as tie
@@ -26,11 +26,11 @@ both-requires-3 : tie.Need-both-requires-3
 both-requires-3 c κs = search rules
 
 returns : tie.Need-returns
-unfolding countsWithin
+unfolding counts_within_of
 returns c = cc
 
-pub counts-within-spec : {M : Type 1} → statement M
-counts-within-spec =
+pub counts_within_spec : {M : Type 1} → statement M
+counts_within_spec =
     tie.close
     (tie.spec
     word-at-requires

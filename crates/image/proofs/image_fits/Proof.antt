@@ -1,11 +1,11 @@
 -- `image::image_fits` meets its contract: the counts against the bytes. Assumes nothing.
-use Rattle.image.proofs.Sizes.{fits-short, fits-as}
+use Rattle.image.proofs.Sizes.{fits_short, fits_as}
 use borrow.Author.Rules.{rules}
 use Rattle.image.proofs.image_fits.Statement.{statement}
 use Rattle.image.proofs.image_fits.Tie as tie
 
 returns : tie.Need-returns
-returns c = fits-short _ c.if1.true
+returns c = fits_short _ c.if1.true
 
 word-at-requires : tie.Need-word-at-requires
 word-at-requires c κs = search rules
@@ -47,10 +47,10 @@ mul-result-5 : tie.Need-overflow-mul-result-5
 mul-result-5 c = search rules
 
 returns-2 : tie.Need-returns-2
-returns-2 c = fits-as _ _ _ _ _ c.before.before.before.word_at.ensures.0 c.before.before.word-at2.ensures.0 c.before.word-at3.ensures.0 c.word-at4.ensures.0 c.before.before.before.before.if1.false
+returns-2 c = fits_as _ _ _ _ _ c.before.before.before.word_at.ensures.0 c.before.before.word-at2.ensures.0 c.before.word-at3.ensures.0 c.word-at4.ensures.0 c.before.before.before.before.if1.false
 
-pub image-fits-spec : {M : Type 1} → statement M
-image-fits-spec =
+pub image_fits_spec : {M : Type 1} → statement M
+image_fits_spec =
     tie.close
     (tie.spec
     returns

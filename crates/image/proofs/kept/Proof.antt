@@ -10,5 +10,5 @@ returns c = rw (lt-ltb 2139095040 _ c.if1.true) refl
 returns-2 : tie.Need-returns-2
 returns-2 c = rw (le-ltb 2139095040 _ c.if1.false) refl
 
-pub kept-spec : {M : Type 1} → statement M
-kept-spec = tie.close (tie.spec returns returns-2)
+pub kept_spec : {M : Type 1} → statement M
+kept_spec = tie.close (tie.spec returns returns-2)

@@ -2,7 +2,7 @@
 use mathlib.Core.Path.{sym, subst}
 use mathlib.Core.Bool.{Bool, not}
 use lib.Dec.{T}
-use Rattle.image.proofs.Words.{kept-bits}
+use Rattle.image.proofs.Words.{kept_bits}
 use borrow.Author.Rules.{rules}
 use Rattle.image.proofs.number_of.Statement.{statement}
 use Rattle.image.proofs.number_of.Tie as tie
@@ -14,10 +14,10 @@ kept-requires : tie.Need-kept-requires
 kept-requires c κs = search rules
 
 float-from-bits-result : tie.Need-float-from-bits-result
-float-from-bits-result c = subst (λ (z : Bool). T (not z)) (sym (kept-bits _ _ c.before.requires c.kept.ensures).0) tt
+float-from-bits-result c = subst (λ (z : Bool). T (not z)) (sym (kept_bits _ _ c.before.requires c.kept.ensures).0) tt
 
 returns : tie.Need-returns
-returns c = (kept-bits _ _ c.before.requires c.kept.ensures).1
+returns c = (kept_bits _ _ c.before.requires c.kept.ensures).1
 
-pub number-of-spec : {M : Type 1} → statement M
-number-of-spec = tie.close (tie.spec cast-result kept-requires float-from-bits-result returns)
+pub number_of_spec : {M : Type 1} → statement M
+number_of_spec = tie.close (tie.spec cast-result kept-requires float-from-bits-result returns)

@@ -3,13 +3,13 @@ use Prim.Native.Nat.{◌+◌, ◌-◌}
 use native.Mathlib.Omega.{arith}
 use lib.ListN.{length}
 use mathlib.Core.Path.{◌∙◌, ap}
-use Rattle.image.specs.Words.{wordAt, number_of, numbersFrom}
+use Rattle.image.specs.Words.{word_at_of, number_of, numbers_from}
 use Rattle.image.proofs.Words.{Filling, fill_start, fill_more, fill_done}
 use Rattle.image.proofs.numbers_into.Statement.{statement}
 use Rattle.image.proofs.numbers_into.Tie as tie
 
 abbrev invariant-loop : tie.invariant-loop
-invariant-loop bytes at n out₀ i₀ out i = Filling (λ k. number_of (wordAt bytes (at + k))) n out₀ out i
+invariant-loop bytes at n out₀ i₀ out i = Filling (λ k. number_of (word_at_of bytes (at + k))) n out₀ out i
 
 abbrev decreases-loop : tie.decreases-loop
 decreases-loop bytes at n out₀ i₀ out i = n - i
@@ -45,11 +45,11 @@ same_length : tie.Need-same-length invariant-loop decreases-loop
 same_length c = c.before.loop.invariant.long
 
 returns : tie.Need-returns invariant-loop decreases-loop
-unfolding numbersFrom
+unfolding numbers_from
 returns c = fill_done _ _ _ _ _ c.before.loop.invariant c.loop-test.false
 
-pub numbers-into-spec : {M : Type 1} → statement M
-numbers-into-spec =
+pub numbers_into_spec : {M : Type 1} → statement M
+numbers_into_spec =
     tie.close
     (tie.spec
     invariant-loop

@@ -1,6 +1,6 @@
 -- `image::word_at` meets its contract: four bytes are one word. Assumes nothing.
 use native.Mathlib.Omega.{arith}
-use Rattle.image.specs.Words.{wordAt}
+use Rattle.image.specs.Words.{word_at_of}
 use borrow.Author.Rules.{rules}
 use Rattle.image.proofs.word_at.Statement.{statement}
 use Rattle.image.proofs.word_at.Tie as tie
@@ -60,11 +60,11 @@ add-result-3 : tie.Need-overflow-add-result-3
 add-result-3 c = search rules
 
 returns : tie.Need-returns
-unfolding wordAt
+unfolding word_at_of
 returns c = (cc, omega arith)
 
-pub word-at-spec : {M : Type 1} → statement M
-word-at-spec =
+pub word_at_spec : {M : Type 1} → statement M
+word_at_spec =
     tie.close
     (tie.spec
     mul_at

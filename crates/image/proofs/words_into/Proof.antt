@@ -2,13 +2,13 @@
 use Prim.Native.Nat.{◌+◌, ◌-◌}
 use native.Mathlib.Omega.{arith}
 use lib.ListN.{length}
-use Rattle.image.specs.Words.{wordAt, wordsFrom}
+use Rattle.image.specs.Words.{word_at_of, words_from}
 use Rattle.image.proofs.Words.{Filling, fill_start, fill_more, fill_done}
 use Rattle.image.proofs.words_into.Statement.{statement}
 use Rattle.image.proofs.words_into.Tie as tie
 
 abbrev invariant-loop : tie.invariant-loop
-invariant-loop bytes at n out₀ i₀ out i = Filling (λ k. wordAt bytes (at + k)) n out₀ out i
+invariant-loop bytes at n out₀ i₀ out i = Filling (λ k. word_at_of bytes (at + k)) n out₀ out i
 
 abbrev decreases-loop : tie.decreases-loop
 decreases-loop bytes at n out₀ i₀ out i = n - i
@@ -41,11 +41,11 @@ same_length : tie.Need-same-length invariant-loop decreases-loop
 same_length c = c.before.loop.invariant.long
 
 returns : tie.Need-returns invariant-loop decreases-loop
-unfolding wordsFrom
+unfolding words_from
 returns c = fill_done _ _ _ _ _ c.before.loop.invariant c.loop-test.false
 
-pub words-into-spec : {M : Type 1} → statement M
-words-into-spec =
+pub words_into_spec : {M : Type 1} → statement M
+words_into_spec =
     tie.close
     (tie.spec
     invariant-loop

@@ -1,21 +1,21 @@
 -- `image_checks::numbers_fit` meets its contract: the numbers of three lists. Assumes nothing.
 use native.Mathlib.Omega.{arith}
 use mathlib.Core.Path.{refl, ◌∙◌}
-use Rattle.judge.proofs.Joined.{and-next}
-use Rattle.image.proofs.Loading.{sized-counts, sized-loadable}
-use Rattle.image_checks.proofs.Whole.{image-numbers}
+use Rattle.judge.proofs.Joined.{and_next}
+use Rattle.image.proofs.Loading.{sized_counts, sized_loadable}
+use Rattle.image_checks.proofs.Whole.{image_numbers}
 use borrow.Author.Rules.{rules}
 use Rattle.image_checks.proofs.numbers_fit.Statement.{statement}
 use Rattle.image_checks.proofs.numbers_fit.Tie as tie
 
 word-at-requires : tie.Need-word-at-requires
-word-at-requires c κs = omega (arith, sized-counts _ c.before.requires)
+word-at-requires c κs = omega (arith, sized_counts _ c.before.requires)
 
 word-at-requires-2 : tie.Need-word-at-requires-2
-word-at-requires-2 c κs = omega (arith, sized-counts _ c.before.before.requires)
+word-at-requires-2 c κs = omega (arith, sized_counts _ c.before.before.requires)
 
 word-at-requires-3 : tie.Need-word-at-requires-3
-word-at-requires-3 c κs = omega (arith, sized-counts _ c.before.before.before.requires)
+word-at-requires-3 c κs = omega (arith, sized_counts _ c.before.before.before.requires)
 
 mul-triangles : tie.Need-overflow-mul-triangles
 mul-triangles c = search rules
@@ -24,7 +24,7 @@ add-triangles : tie.Need-overflow-add-triangles
 add-triangles c = search rules
 
 particles-fit-requires : tie.Need-particles-fit-requires
-particles-fit-requires c κs = omega (arith, (sized-loadable _ c.before.before.before.before.requires).long, c.before.before.word_at.ensures.0, c.before.word-at2.ensures.0, c.word-at3.ensures.0)
+particles-fit-requires c κs = omega (arith, (sized_loadable _ c.before.before.before.before.requires).long, c.before.before.word_at.ensures.0, c.before.word-at2.ensures.0, c.word-at3.ensures.0)
 
 mul-triangles-fit : tie.Need-overflow-mul-triangles-fit
 mul-triangles-fit c = search rules
@@ -33,7 +33,7 @@ add-triangles-fit : tie.Need-overflow-add-triangles-fit
 add-triangles-fit c = search rules
 
 triangles-fit-requires : tie.Need-triangles-fit-requires
-triangles-fit-requires c κs = omega (arith, (sized-loadable _ c.before.before.before.before.before.requires).long, c.before.before.before.word_at.ensures.0, c.before.before.word-at2.ensures.0, c.before.word-at3.ensures.0)
+triangles-fit-requires c κs = omega (arith, (sized_loadable _ c.before.before.before.before.before.requires).long, c.before.before.before.word_at.ensures.0, c.before.before.word-at2.ensures.0, c.before.word-at3.ensures.0)
 
 both-requires : tie.Need-both-requires
 both-requires c κs = search rules
@@ -45,16 +45,16 @@ add-edges-fit : tie.Need-overflow-add-edges-fit
 add-edges-fit c = search rules
 
 edges-fit-requires : tie.Need-edges-fit-requires
-edges-fit-requires c κs = omega (arith, (sized-loadable _ c.before.before.before.before.before.before.before.requires).long, c.before.before.before.before.before.word_at.ensures.0, c.before.before.before.before.word-at2.ensures.0, c.before.before.before.word-at3.ensures.0)
+edges-fit-requires c κs = omega (arith, (sized_loadable _ c.before.before.before.before.before.before.before.requires).long, c.before.before.before.before.before.word_at.ensures.0, c.before.before.before.before.word-at2.ensures.0, c.before.before.before.word-at3.ensures.0)
 
 both-requires-2 : tie.Need-both-requires-2
 both-requires-2 c κs = search rules
 
 returns : tie.Need-returns
-returns c = and-next _ _ _ _ _ c.both2.ensures c.before.before.both.ensures refl ∙ image-numbers c.before.before.before.before.before.before.before.before.before.args.bytes.now _ _ _ c.before.before.before.before.before.before.before.word_at.ensures.0 c.before.before.before.before.before.before.word-at2.ensures.0 c.before.before.before.before.before.word-at3.ensures.0 _ _ _ c.before.before.before.before.particles-fit.ensures c.before.before.before.triangles-fit.ensures c.before.edges_fit.ensures
+returns c = and_next _ _ _ _ _ c.both2.ensures c.before.before.both.ensures refl ∙ image_numbers c.before.before.before.before.before.before.before.before.before.args.bytes.now _ _ _ c.before.before.before.before.before.before.before.word_at.ensures.0 c.before.before.before.before.before.before.word-at2.ensures.0 c.before.before.before.before.before.word-at3.ensures.0 _ _ _ c.before.before.before.before.particles-fit.ensures c.before.before.before.triangles-fit.ensures c.before.edges_fit.ensures
 
-pub numbers-fit-spec : {M : Type 1} → statement M
-numbers-fit-spec =
+pub numbers_fit_spec : {M : Type 1} → statement M
+numbers_fit_spec =
     tie.close
     (tie.spec
     word-at-requires

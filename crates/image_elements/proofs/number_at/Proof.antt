@@ -14,8 +14,8 @@ number-of-requires c κs = c.word_at.ensures.1
 returns : tie.Need-returns
 returns c = c.number_of_lem.ensures ∙ ap number_of c.before.word_at.ensures.0
 
-pub number-at-spec : {M : Type 1} → statement M
-number-at-spec =
+pub number_at_spec : {M : Type 1} → statement M
+number_at_spec =
     tie.close
     (tie.spec
     word-at-requires

@@ -3,8 +3,8 @@ use Prim.Native.Nat.{◌-◌, ◌≤◌}
 use native.Mathlib.Omega.{arith}
 use mathlib.Core.Logic.{⊎_elim}
 use lib.ListN.{length-set}
-use Rattle.elements.proofs.Filling.{strapping-start, strapping-done}
-use Rattle.image_elements.proofs.Rows.{StrapRows, strap-skipped, strap-row}
+use Rattle.elements.proofs.Filling.{strapping_start, strapping_done}
+use Rattle.image_elements.proofs.Rows.{StrapRows, strap_skipped, strap_row}
 use Rattle.image_elements.proofs.strap_rows.Statement.{statement}
 use Rattle.image_elements.proofs.strap_rows.Tie as tie
 
@@ -15,7 +15,7 @@ abbrev decreases-loop : tie.decreases-loop
 decreases-loop at e bytes numbers₀ verts₀ measures₀ i₀ n₀ o₀ numbers verts measures i n o = e - i
 
 loop-holds : tie.Need-loop-init invariant-loop decreases-loop
-loop-holds c = (strapping-start _ _ _ _ _, omega arith)
+loop-holds c = (strapping_start _ _ _ _ _, omega arith)
 
 mul-word-at : tie.Need-overflow-mul-word-at invariant-loop decreases-loop
 mul-word-at c = omega arith
@@ -99,24 +99,24 @@ loop-again : tie.Need-loop-preserved invariant-loop decreases-loop
 loop-again c = let inv = c.before.before.before.loop.invariant in
     let test = c.before.before.loop-test.true in
     ⊎_elim
-    (λ w. rw (w.4, w.5, w.6, w.7, w.8) (strap-row _ _ _ _ _ _ _ _ _ _ _ _ inv.0 test _ c.before.word_at.ensures.0 _ _ _ w.0.taken (omega arith) (omega arith) (omega arith) w.1.ensures.0 w.2.ensures.0 w.3.ensures, omega arith))
-    (λ w. rw (w.1, w.2, w.3, w.4, w.5) (strap-skipped _ _ _ _ _ _ _ _ _ _ _ _ inv.0 test _ c.before.word_at.ensures.0 w.0.left, omega arith))
+    (λ w. rw (w.4, w.5, w.6, w.7, w.8) (strap_row _ _ _ _ _ _ _ _ _ _ _ _ inv.0 test _ c.before.word_at.ensures.0 _ _ _ w.0.taken (omega arith) (omega arith) (omega arith) w.1.ensures.0 w.2.ensures.0 w.3.ensures, omega arith))
+    (λ w. rw (w.1, w.2, w.3, w.4, w.5) (strap_skipped _ _ _ _ _ _ _ _ _ _ _ _ inv.0 test _ c.before.word_at.ensures.0 w.0.left, omega arith))
     c.if1.branch
 
 same_length : tie.Need-same-length invariant-loop decreases-loop
-same_length c = c.before.loop.invariant.0.filling.numbers-long
+same_length c = c.before.loop.invariant.0.filling.numbers_long
 
 same-length-2 : tie.Need-same-length-2 invariant-loop decreases-loop
-same-length-2 c = c.before.loop.invariant.0.filling.verts-long
+same-length-2 c = c.before.loop.invariant.0.filling.verts_long
 
 same-length-3 : tie.Need-same-length-3 invariant-loop decreases-loop
-same-length-3 c = c.before.loop.invariant.0.filling.measures-long
+same-length-3 c = c.before.loop.invariant.0.filling.measures_long
 
 returns : tie.Need-returns invariant-loop decreases-loop
-returns c = strapping-done _ _ _ _ _ _ _ _ _ _ _ c.before.loop.invariant.0 _ c.before.loop.invariant.1 (omega arith)
+returns c = strapping_done _ _ _ _ _ _ _ _ _ _ _ c.before.loop.invariant.0 _ c.before.loop.invariant.1 (omega arith)
 
-pub strap-rows-spec : {M : Type 1} → statement M
-strap-rows-spec =
+pub strap_rows_spec : {M : Type 1} → statement M
+strap_rows_spec =
     tie.close
     (tie.spec
     invariant-loop

@@ -2,8 +2,8 @@
 use Prim.Native.Nat.{◌-◌, ◌≤◌}
 use native.Mathlib.Omega.{arith}
 use lib.ListN.{length-set}
-use Rattle.elements.proofs.Filling.{triangling-start, triangling-done}
-use Rattle.image_elements.proofs.Rows.{TriangleRows, triangle-row}
+use Rattle.elements.proofs.Filling.{triangling_start, triangling_done}
+use Rattle.image_elements.proofs.Rows.{TriangleRows, triangle_row}
 use Rattle.image_elements.proofs.triangle_rows.Statement.{statement}
 use Rattle.image_elements.proofs.triangle_rows.Tie as tie
 
@@ -14,7 +14,7 @@ abbrev decreases-loop : tie.decreases-loop
 decreases-loop at t bytes numbers₀ verts₀ measures₀ i₀ o₀ numbers verts measures i o = t - i
 
 loop-holds : tie.Need-loop-init invariant-loop decreases-loop
-loop-holds c = (triangling-start _ _ _ _ _, omega arith)
+loop-holds c = (triangling_start _ _ _ _ _, omega arith)
 
 mul-numbers : tie.Need-overflow-mul-numbers invariant-loop decreases-loop
 mul-numbers c = omega arith
@@ -104,22 +104,22 @@ loop-less : tie.Need-loop-smaller invariant-loop decreases-loop
 loop-less c = omega arith
 
 loop-again : tie.Need-loop-preserved invariant-loop decreases-loop
-loop-again c = (triangle-row _ _ _ _ _ _ _ _ _ _ _ _ _ _ _ _ c.before.before.before.before.before.before.loop.invariant.0 c.before.before.before.before.before.loop-test.true (omega arith) (omega arith) (omega arith) c.before.before.before.before.word_at.ensures.0 c.before.before.before.word-at2.ensures.0 c.before.before.word-at3.ensures.0 c.before.number_at.ensures c.abs.ensures, omega arith)
+loop-again c = (triangle_row _ _ _ _ _ _ _ _ _ _ _ _ _ _ _ _ c.before.before.before.before.before.before.loop.invariant.0 c.before.before.before.before.before.loop-test.true (omega arith) (omega arith) (omega arith) c.before.before.before.before.word_at.ensures.0 c.before.before.before.word-at2.ensures.0 c.before.before.word-at3.ensures.0 c.before.number_at.ensures c.abs.ensures, omega arith)
 
 same_length : tie.Need-same-length invariant-loop decreases-loop
-same_length c = c.before.loop.invariant.0.numbers-long
+same_length c = c.before.loop.invariant.0.numbers_long
 
 same-length-2 : tie.Need-same-length-2 invariant-loop decreases-loop
-same-length-2 c = c.before.loop.invariant.0.verts-long
+same-length-2 c = c.before.loop.invariant.0.verts_long
 
 same-length-3 : tie.Need-same-length-3 invariant-loop decreases-loop
-same-length-3 c = c.before.loop.invariant.0.measures-long
+same-length-3 c = c.before.loop.invariant.0.measures_long
 
 returns : tie.Need-returns invariant-loop decreases-loop
-returns c = triangling-done _ _ _ _ _ _ _ _ _ _ _ c.before.loop.invariant.0 c.before.loop.invariant.1 (omega arith)
+returns c = triangling_done _ _ _ _ _ _ _ _ _ _ _ c.before.loop.invariant.0 c.before.loop.invariant.1 (omega arith)
 
-pub triangle-rows-spec : {M : Type 1} → statement M
-triangle-rows-spec =
+pub triangle_rows_spec : {M : Type 1} → statement M
+triangle_rows_spec =
     tie.close
     (tie.spec
     invariant-loop

@@ -1,5 +1,5 @@
 -- `image_writing::put_word` meets its contract: four stores are one word. Assumes nothing.
-use Rattle.image.proofs.Words.{four-stored}
+use Rattle.image.proofs.Words.{four_stored}
 use native.Mathlib.Omega.{arith}
 use lib.ListN.{length-set}
 use borrow.Author.Rules.{rules}
@@ -46,10 +46,10 @@ same_length : tie.Need-same-length
 same_length c = search rules
 
 returns : tie.Need-returns
-returns c = four-stored _ _ _ _ _ _ _ c.before.before.before.low.ensures c.before.before.low2.ensures c.before.low3.ensures c.low4.ensures c.before.before.before.before.before.requires
+returns c = four_stored _ _ _ _ _ _ _ c.before.before.before.low.ensures c.before.before.low2.ensures c.before.low3.ensures c.low4.ensures c.before.before.before.before.before.requires
 
-pub put-word-spec : {M : Type 1} → statement M
-put-word-spec =
+pub put_word_spec : {M : Type 1} → statement M
+put_word_spec =
     tie.close
     (tie.spec
     mul_at

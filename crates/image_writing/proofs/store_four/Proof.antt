@@ -1,6 +1,6 @@
 -- `image_writing::store_four` meets its contract: four words, one behind the other. Assumes nothing.
 use native.Mathlib.Omega.{arith}
-use Rattle.image_writing.proofs.Puts.{four-put}
+use Rattle.image_writing.proofs.Puts.{four_put}
 use borrow.Author.Rules.{rules}
 use Rattle.image_writing.proofs.store_four.Statement.{statement}
 use Rattle.image_writing.proofs.store_four.Tie as tie
@@ -30,10 +30,10 @@ same_length : tie.Need-same-length
 same_length c = search rules
 
 returns : tie.Need-returns
-returns c = four-put _ _ _ _ _ _ _ _ _ _ c.before.before.before.before.before.before.before.before.before.before.before.before.before.before.before.before.before.requires c.before.before.before.before.before.before.before.before.before.before.before.before.before.before.put_word.ensures c.before.before.before.before.before.before.before.before.before.before.put-word2.ensures c.before.before.before.before.before.before.put-word3.ensures c.before.before.put-word4.ensures
+returns c = four_put _ _ _ _ _ _ _ _ _ _ c.before.before.before.before.before.before.before.before.before.before.before.before.before.before.before.before.before.requires c.before.before.before.before.before.before.before.before.before.before.before.before.before.before.put_word.ensures c.before.before.before.before.before.before.before.before.before.before.put-word2.ensures c.before.before.before.before.before.before.put-word3.ensures c.before.before.put-word4.ensures
 
-pub store-four-spec : {M : Type 1} → statement M
-store-four-spec =
+pub store_four_spec : {M : Type 1} → statement M
+store_four_spec =
     tie.close
     (tie.spec
     put-word-requires

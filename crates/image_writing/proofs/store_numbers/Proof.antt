@@ -4,19 +4,19 @@ use native.Mathlib.Omega.{arith}
 use mathlib.Core.Path.{refl}
 use lib.ListN.{length}
 use lib.Ieee.{binary32, to_bits, nan}
-use Rattle.image.specs.Words.{bitsIn}
-use Rattle.image_writing.proofs.Puts.{Putting, put-start, put-more, put-done, bits-append, bits-length}
+use Rattle.image.specs.Words.{bits_in_of}
+use Rattle.image_writing.proofs.Puts.{Putting, put_start, put_more, put_done, bits_append, bits_length}
 use Rattle.image_writing.proofs.store_numbers.Statement.{statement}
 use Rattle.image_writing.proofs.store_numbers.Tie as tie
 
 abbrev invariant-loop : tie.invariant-loop
-invariant-loop numbers at out₀ i₀ out i = Putting bitsIn at numbers out₀ out i
+invariant-loop numbers at out₀ i₀ out i = Putting bits_in_of at numbers out₀ out i
 
 abbrev decreases-loop : tie.decreases-loop
 decreases-loop numbers at out₀ i₀ out i = length numbers - i
 
 loop-holds : tie.Need-loop-init invariant-loop decreases-loop
-loop-holds c = put-start bitsIn (to_bits binary32) refl (λ a. refl) bits-append bits-length _ _ _
+loop-holds c = put_start bits_in_of (to_bits binary32) refl (λ a. refl) bits_append bits_length _ _ _
 
 add-put-word : tie.Need-overflow-add-put-word invariant-loop decreases-loop
 add-put-word c = omega arith
@@ -40,16 +40,16 @@ loop-less : tie.Need-loop-smaller invariant-loop decreases-loop
 loop-less c = omega arith
 
 loop-again : tie.Need-loop-preserved invariant-loop decreases-loop
-loop-again c = put-more bitsIn (to_bits binary32) refl (λ a. refl) bits-append bits-length _ _ _ _ _ _ nan _ c.before.before.before.before.before.before.before.loop.invariant c.before.before.before.before.before.before.loop-test.true c.before.before.before.before.before.before.before.before.before.before.requires c.before.before.put_word.ensures c.before.before.before.bits_of.ensures c.before.before.put_word.auto.0
+loop-again c = put_more bits_in_of (to_bits binary32) refl (λ a. refl) bits_append bits_length _ _ _ _ _ _ nan _ c.before.before.before.before.before.before.before.loop.invariant c.before.before.before.before.before.before.loop-test.true c.before.before.before.before.before.before.before.before.before.before.requires c.before.before.put_word.ensures c.before.before.before.bits_of.ensures c.before.before.put_word.auto.0
 
 same_length : tie.Need-same-length invariant-loop decreases-loop
 same_length c = c.before.loop.invariant.long
 
 returns : tie.Need-returns invariant-loop decreases-loop
-returns c = put-done bitsIn (to_bits binary32) refl (λ a. refl) bits-append bits-length _ _ _ _ _ c.before.loop.invariant c.loop-test.false
+returns c = put_done bits_in_of (to_bits binary32) refl (λ a. refl) bits_append bits_length _ _ _ _ _ c.before.loop.invariant c.loop-test.false
 
-pub store-numbers-spec : {M : Type 1} → statement M
-store-numbers-spec =
+pub store_numbers_spec : {M : Type 1} → statement M
+store_numbers_spec =
     tie.close
     (tie.spec
     invariant-loop

@@ -2,7 +2,7 @@
 use Prim.Native.Nat.{◌-◌}
 use native.Mathlib.Omega.{arith}
 use mathlib.Core.Path.{refl}
-use Rattle.image_writing.proofs.Puts.{PuttingBlock, block_start, column-in, front-in, listed-few, front-room, column-placed, block_more, block-done}
+use Rattle.image_writing.proofs.Puts.{PuttingBlock, block_start, column_in, front_in, listed_few, front_room, column_placed, block_more, block_done}
 use Rattle.image_writing.proofs.store_words_block.Statement.{statement}
 use Rattle.image_writing.proofs.store_words_block.Tie as tie
 
@@ -19,10 +19,10 @@ loop-holds : tie.Need-loop-init invariant-loop decreases-loop
 loop-holds c = block_start (λ l. l) (λ x. x) refl (λ a. refl) (λ x y. refl) (λ x. refl) _ _ _ _ _ _ _
 
 add-end : tie.Need-overflow-add-end invariant-loop decreases-loop
-add-end c = omega (arith, (front-in (λ l. l) (λ x. x) refl (λ a. refl) (λ x y. refl) (λ x. refl) _ _ _ _ _ _ _ _ _ _ _ c.before.loop.invariant c.loop-test.true c.before.before.before.before.before.requires))
+add-end c = omega (arith, (front_in (λ l. l) (λ x. x) refl (λ a. refl) (λ x y. refl) (λ x. refl) _ _ _ _ _ _ _ _ _ _ _ c.before.loop.invariant c.loop-test.true c.before.before.before.before.before.requires))
 
 mul-store-words-left : tie.Need-overflow-mul-store-words-left invariant-loop decreases-loop
-mul-store-words-left c = omega (arith, (front-in (λ l. l) (λ x. x) refl (λ a. refl) (λ x y. refl) (λ x. refl) _ _ _ _ _ _ _ _ _ _ _ c.before.loop.invariant c.loop-test.true c.before.before.before.before.before.requires))
+mul-store-words-left c = omega (arith, (front_in (λ l. l) (λ x. x) refl (λ a. refl) (λ x y. refl) (λ x. refl) _ _ _ _ _ _ _ _ _ _ _ c.before.loop.invariant c.loop-test.true c.before.before.before.before.before.requires))
 
 sub-store-words-left : tie.Need-overflow-sub-store-words-left invariant-loop decreases-loop
 sub-store-words-left c = omega arith
@@ -31,19 +31,19 @@ part-store-words-left-start : tie.Need-slice-bounds-store-words-left-start invar
 part-store-words-left-start c = omega arith
 
 part-store-words-left-end : tie.Need-slice-bounds-store-words-left-end invariant-loop decreases-loop
-part-store-words-left-end c = front-in (λ l. l) (λ x. x) refl (λ a. refl) (λ x y. refl) (λ x. refl) _ _ _ _ _ _ _ _ _ _ _ c.before.loop.invariant c.loop-test.true c.before.before.before.before.before.requires
+part-store-words-left-end c = front_in (λ l. l) (λ x. x) refl (λ a. refl) (λ x y. refl) (λ x. refl) _ _ _ _ _ _ _ _ _ _ _ c.before.loop.invariant c.loop-test.true c.before.before.before.before.before.requires
 
 store-words-left-requires : tie.Need-store-words-left-requires invariant-loop decreases-loop
-store-words-left-requires c κs = column-placed (λ l. l) (λ x. x) refl (λ a. refl) (λ x y. refl) (λ x. refl) _ _ _ _ _ _ _ _ _ _ _ c.before.before.before.loop.invariant c.before.before.loop-test.true c.before.before.before.before.before.before.before.requires _ c.before.store-words-left-arg.given.1
+store-words-left-requires c κs = column_placed (λ l. l) (λ x. x) refl (λ a. refl) (λ x y. refl) (λ x. refl) _ _ _ _ _ _ _ _ _ _ _ c.before.before.before.loop.invariant c.before.before.loop-test.true c.before.before.before.before.before.before.before.requires _ c.before.store-words-left-arg.given.1
 
 add-o : tie.Need-overflow-add-o invariant-loop decreases-loop
-add-o c = omega (arith, (column-in (λ l. l) (λ x. x) refl (λ a. refl) (λ x y. refl) (λ x. refl) _ _ _ _ _ _ _ _ _ _ _ c.before.before.before.before.before.before.loop.invariant c.before.before.before.before.before.loop-test.true c.before.before.before.before.before.before.before.before.before.before.requires))
+add-o c = omega (arith, (column_in (λ l. l) (λ x. x) refl (λ a. refl) (λ x y. refl) (λ x. refl) _ _ _ _ _ _ _ _ _ _ _ c.before.before.before.before.before.before.loop.invariant c.before.before.before.before.before.loop-test.true c.before.before.before.before.before.before.before.before.before.before.requires))
 
 sub-to : tie.Need-overflow-sub-to invariant-loop decreases-loop
-sub-to c = listed-few (λ l. l) (λ x. x) refl (λ a. refl) (λ x y. refl) (λ x. refl) _ _ _ _ _ _ _ _ _ _ _ c.before.before.before.before.before.before.loop.invariant c.before.before.before.before.before.loop-test.true c.before.before.before.before.before.before.before.before.before.before.requires
+sub-to c = listed_few (λ l. l) (λ x. x) refl (λ a. refl) (λ x y. refl) (λ x. refl) _ _ _ _ _ _ _ _ _ _ _ c.before.before.before.before.before.before.loop.invariant c.before.before.before.before.before.loop-test.true c.before.before.before.before.before.before.before.before.before.before.requires
 
 add-to : tie.Need-overflow-add-to invariant-loop decreases-loop
-add-to c = omega (arith, (front-room (λ l. l) (λ x. x) refl (λ a. refl) (λ x y. refl) (λ x. refl) _ _ _ _ _ _ _ _ _ _ _ c.before.before.before.before.before.before.loop.invariant c.before.before.before.before.before.loop-test.true c.before.before.before.before.before.before.before.before.before.before.requires))
+add-to c = omega (arith, (front_room (λ l. l) (λ x. x) refl (λ a. refl) (λ x y. refl) (λ x. refl) _ _ _ _ _ _ _ _ _ _ _ c.before.before.before.before.before.before.loop.invariant c.before.before.before.before.before.loop-test.true c.before.before.before.before.before.before.before.before.before.before.requires))
 
 add-c : tie.Need-overflow-add-c invariant-loop decreases-loop
 add-c c = omega arith
@@ -58,10 +58,10 @@ same_length : tie.Need-same-length invariant-loop decreases-loop
 same_length c = c.before.loop.invariant.long
 
 returns : tie.Need-returns invariant-loop decreases-loop
-returns c = block-done (λ l. l) (λ x. x) refl (λ a. refl) (λ x y. refl) (λ x. refl) _ _ _ _ _ _ _ _ _ _ _ c.before.loop.invariant c.loop-test.false
+returns c = block_done (λ l. l) (λ x. x) refl (λ a. refl) (λ x y. refl) (λ x. refl) _ _ _ _ _ _ _ _ _ _ _ c.before.loop.invariant c.loop-test.false
 
-pub store-words-block-spec : {M : Type 1} → statement M
-store-words-block-spec =
+pub store_words_block_spec : {M : Type 1} → statement M
+store_words_block_spec =
     tie.close
     (tie.spec
     invariant-loop

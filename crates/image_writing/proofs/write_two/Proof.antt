@@ -2,7 +2,7 @@
 use native.Mathlib.Omega.{arith}
 use mathlib.Core.Path.{refl}
 use mathlib.Core.List.{[], ◌∷◌}
-use Rattle.image.proofs.Words.{put-more}
+use Rattle.image.proofs.Words.{put_more}
 use borrow.Author.Rules.{rules}
 use Rattle.image_writing.proofs.write_two.Statement.{statement}
 use Rattle.image_writing.proofs.write_two.Tie as tie
@@ -17,7 +17,7 @@ same_length : tie.Need-same-length
 same_length c = search rules
 
 returns : tie.Need-returns
-returns c = put-more _ (_ ∷ []) _ _ 1 _ c.before.before.before.before.before.before.write-one.ensures c.before.before.put_word.ensures refl (omega arith)
+returns c = put_more _ (_ ∷ []) _ _ 1 _ c.before.before.before.before.before.before.write-one.ensures c.before.before.put_word.ensures refl (omega arith)
 
-pub write-two-spec : {M : Type 1} → statement M
-write-two-spec = tie.close (tie.spec write-one-requires put-word-requires same_length returns)
+pub write_two_spec : {M : Type 1} → statement M
+write_two_spec = tie.close (tie.spec write-one-requires put-word-requires same_length returns)

@@ -1,5 +1,5 @@
 -- `mend::mend_all` meets its contract. Assumes nothing.
-use Rattle.mend.proofs.Ending.{whole-end, short-never, refused_end, refused-fits, wrote_as}
+use Rattle.mend.proofs.Ending.{whole_end, short_never, refused_end, refused_fits, wrote_as}
 use mathlib.Core.Path.{◌∙◌}
 use borrow.Author.Rules.{rules}
 use Rattle.mend.proofs.mend_all.Statement.{statement}
@@ -33,7 +33,7 @@ same-length-2 : tie.Need-same-length-2
 same-length-2 c = c.before.before.before.before.before.before.before.mend-sheet.auto.1.1.0
 
 returns : tie.Need-returns
-returns c = whole-end _ _ _ _ _ _ _ _ c.before.before.before.before.before.before.before.mend-sheet.ensures c.before.told.given.1 c.before.before.before.before.before.before.before.mend-sheet.auto.1.0 c.before.before.before.before.before.before.before.mend-sheet.auto.1.1.0
+returns c = whole_end _ _ _ _ _ _ _ _ c.before.before.before.before.before.before.before.mend-sheet.ensures c.before.told.given.1 c.before.before.before.before.before.before.before.mend-sheet.auto.1.0 c.before.before.before.before.before.before.before.mend-sheet.auto.1.1.0
 
 same-length-3 : tie.Need-same-length-3
 same-length-3 c = c.before.before.before.before.before.before.mend-sheet.auto.1.0
@@ -42,7 +42,7 @@ same-length-4 : tie.Need-same-length-4
 same-length-4 c = c.before.before.before.before.before.before.mend-sheet.auto.1.1.0
 
 returns-2 : tie.Need-returns-2
-returns-2 c = absurd (short-never _ _ _ _ _ _ c.before.before.before.before.before.before.mend-sheet.ensures c.enum_told.given.1 c.before.before.before.before.before.before.before.before.before.before.before.before.requires.0 c.before.before.before.before.before.before.before.before.before.before.before.before.requires.1)
+returns-2 c = absurd (short_never _ _ _ _ _ _ c.before.before.before.before.before.before.mend-sheet.ensures c.enum_told.given.1 c.before.before.before.before.before.before.before.before.before.before.before.before.requires.0 c.before.before.before.before.before.before.before.before.before.before.before.before.requires.1)
 
 same-length-5 : tie.Need-same-length-5
 same-length-5 c = c.before.before.before.before.before.before.before.before.before.before.before.before.before.before.mend-sheet.auto.1.0
@@ -60,10 +60,10 @@ same-length-8 : tie.Need-same-length-8
 same-length-8 c = c.before.before.before.before.write-refused.auto.1.0 ∙ c.before.before.before.before.before.before.before.before.before.before.before.before.before.mend-sheet.auto.1.1.0
 
 returns-4 : tie.Need-returns-4
-returns-4 c = absurd (refused-fits _ _ _ _ _ _ _ _ _ c.before.before.before.before.before.before.before.before.before.before.before.before.before.mend-sheet.ensures c.before.before.before.before.before.before.before.told2.given.1 (wrote_as _ _ _ _ _ c.before.before.before.before.write-refused.ensures c.before.before.before.before.before.before.before.before.before.before.before.before.before.mend-sheet.auto.1.1.0) c.enum-told2.given.1 c.before.before.before.before.before.before.before.before.before.before.before.before.before.before.before.before.before.before.before.requires.1)
+returns-4 c = absurd (refused_fits _ _ _ _ _ _ _ _ _ c.before.before.before.before.before.before.before.before.before.before.before.before.before.mend-sheet.ensures c.before.before.before.before.before.before.before.told2.given.1 (wrote_as _ _ _ _ _ c.before.before.before.before.write-refused.ensures c.before.before.before.before.before.before.before.before.before.before.before.before.before.mend-sheet.auto.1.1.0) c.enum-told2.given.1 c.before.before.before.before.before.before.before.before.before.before.before.before.before.before.before.before.before.before.before.requires.1)
 
-pub mend-all-spec : {M : Type 1} → statement M
-mend-all-spec =
+pub mend_all_spec : {M : Type 1} → statement M
+mend_all_spec =
     tie.close
     (tie.spec
     mend-sheet-requires

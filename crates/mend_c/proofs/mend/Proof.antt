@@ -1,5 +1,5 @@
 -- `mend_c::mend` meets its contract. Assumes nothing.
-use Rattle.mend_c.proofs.Replying.{few-counts, all_told, few_bytes, refused-small, refused-told, zeros-as, zeros-bits}
+use Rattle.mend_c.proofs.Replying.{few_counts, all_told, few_bytes, refused_small, refused_told, zeros_as, zeros_bits}
 use Rattle.mender.proofs.Done.{cleared}
 use mathlib.Core.Path.{◌∙◌}
 use borrow.Author.Rules.{rules}
@@ -31,7 +31,7 @@ same-length-3 : tie.Need-same-length-3
 same-length-3 c = c.before.before.clear-bytes.auto.0
 
 returns : tie.Need-returns
-returns c = few-counts _ _ _ _ _ _ _ _ _ _ _ _ c.before.before.before.before.before.before.before.before.before.before.before.before.before.before.before.before.before.before.before.before.mend-sheet.ensures c.before.before.before.before.before.before.before.before.before.before.before.before.before.before.told.given.1 c.before.before.before.before.before.before.before.before.before.before.before.before.if1.true (zeros-bits _ _ _ c.before.before.before.before.before.before.before.before.before.before.blank.ensures c.before.before.before.before.before.before.before.before.before.before.before.before.before.before.before.before.before.before.before.before.mend-sheet.auto.1.0) (zeros-as _ _ _ (cleared _ _ _ c.before.before.before.before.before.before.finish.ensures) c.before.before.before.before.before.before.before.before.before.before.before.before.before.before.before.before.before.before.before.before.mend-sheet.auto.1.1.0) c.before.before.clear-bytes.ensures
+returns c = few_counts _ _ _ _ _ _ _ _ _ _ _ _ c.before.before.before.before.before.before.before.before.before.before.before.before.before.before.before.before.before.before.before.before.mend-sheet.ensures c.before.before.before.before.before.before.before.before.before.before.before.before.before.before.told.given.1 c.before.before.before.before.before.before.before.before.before.before.before.before.if1.true (zeros_bits _ _ _ c.before.before.before.before.before.before.before.before.before.before.blank.ensures c.before.before.before.before.before.before.before.before.before.before.before.before.before.before.before.before.before.before.before.before.mend-sheet.auto.1.0) (zeros_as _ _ _ (cleared _ _ _ c.before.before.before.before.before.before.finish.ensures) c.before.before.before.before.before.before.before.before.before.before.before.before.before.before.before.before.before.before.before.before.mend-sheet.auto.1.1.0) c.before.before.clear-bytes.ensures
 
 write-two-requires : tie.Need-write-two-requires
 write-two-requires c κs = search rules
@@ -46,7 +46,7 @@ enum-known-told-2 : tie.Need-enum-known-told-2
 enum-known-told-2 c = search rules
 
 reply-refused-requires : tie.Need-reply-refused-requires
-reply-refused-requires c κs = refused-small _ _ _ _ _ _ _ c.before.before.before.before.before.before.before.before.mend-sheet.ensures c.before.before.told2.given.1
+reply-refused-requires c κs = refused_small _ _ _ _ _ _ _ c.before.before.before.before.before.before.before.before.mend-sheet.ensures c.before.before.told2.given.1
 
 same-length-4 : tie.Need-same-length-4
 same-length-4 c = c.before.before.before.before.before.before.before.before.before.before.before.before.mend-sheet.auto.1.0
@@ -82,10 +82,10 @@ same-length-12 : tie.Need-same-length-12
 same-length-12 c = c.before.before.reply-refused.auto.1.0
 
 returns-4 : tie.Need-returns-4
-returns-4 c = refused-told _ _ _ _ _ _ _ _ _ _ c.before.before.before.before.before.before.before.before.before.before.before.mend-sheet.ensures c.before.before.before.before.before.told2.given.1 c.before.before.reply-refused.ensures
+returns-4 c = refused_told _ _ _ _ _ _ _ _ _ _ c.before.before.before.before.before.before.before.before.before.before.before.mend-sheet.ensures c.before.before.before.before.before.told2.given.1 c.before.before.reply-refused.ensures
 
-pub mend-spec : {M : Type 1} → statement M
-mend-spec =
+pub mend_spec : {M : Type 1} → statement M
+mend_spec =
     tie.close
     (tie.spec
     mend-sheet-requires

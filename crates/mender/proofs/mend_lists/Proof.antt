@@ -27,5 +27,5 @@ same-length-5 c = c.before.before.before.before.mend-marked.auto.1.1.1.1.1.0
 returns : tie.Need-returns
 returns c = c.before.before.before.before.mend-marked.ensures
 
-pub mend-lists-spec : {M : Type 1} → statement M
-mend-lists-spec = tie.close (tie.spec mark-all-requires mend-marked-requires same_length same-length-2 same-length-3 same-length-4 same-length-5 returns)
+pub mend_lists_spec : {M : Type 1} → statement M
+mend_lists_spec = tie.close (tie.spec mark-all-requires mend-marked-requires same_length same-length-2 same-length-3 same-length-4 same-length-5 returns)

@@ -1,5 +1,5 @@
 -- `mender::mend_sheet` meets its contract. Assumes nothing.
-use Rattle.mender.proofs.Done.{cleared, done_refused, done-as}
+use Rattle.mender.proofs.Done.{cleared, done_refused, done_as}
 use lib.ListN.{length, replicate}
 use mathlib.Core.Path.{◌≡◌, sym, ap, ◌∙◌}
 use Prim.Native.Nat.{ℕ, ◌*◌}
@@ -35,10 +35,10 @@ same-length-4 : tie.Need-same-length-4
 same-length-4 c = search rules
 
 returns-2 : tie.Need-returns-2
-returns-2 c = done-as _ _ _ _ _ _ _ c.before.before.before.before.before.before.before.before.before.before.before.blank.auto.0 c.before.before.before.before.mend-held.ensures
+returns-2 c = done_as _ _ _ _ _ _ _ c.before.before.before.before.before.before.before.before.before.before.before.blank.auto.0 c.before.before.before.before.mend-held.ensures
 
-pub mend-sheet-spec : {M : Type 1} → statement M
-mend-sheet-spec =
+pub mend_sheet_spec : {M : Type 1} → statement M
+mend_sheet_spec =
     tie.close
     (tie.spec
     blank-requires

@@ -2,7 +2,7 @@
 use native.Mathlib.Omega.{arith}
 use mathlib.Core.Path.{◌≡◌, refl, sym, subst, ◌∙◌, ap}
 use mathlib.Core.List.{[], ◌∷◌}
-use Rattle.replies.proofs.Saying.{says, says-short}
+use Rattle.replies.proofs.Saying.{says, says_short}
 use borrow.Author.Rules.{rules}
 use Rattle.replies.proofs.reply_one.Statement.{statement}
 use Rattle.replies.proofs.reply_one.Tie as tie
@@ -14,7 +14,7 @@ same_length : tie.Need-same-length
 same_length c = search rules
 
 returns : tie.Need-returns
-returns c = says-short (_ ∷ []) _ _ _ c.before.before.before.before.if1.true refl c.before.before.clear-bytes.ensures
+returns c = says_short (_ ∷ []) _ _ _ c.before.before.before.before.if1.true refl c.before.before.clear-bytes.ensures
 
 write-one-requires : tie.Need-write-one-requires
 write-one-requires c κs = search rules
@@ -25,7 +25,7 @@ same-length-2 c = search rules
 returns-2 : tie.Need-returns-2
 returns-2 c = says (_ ∷ []) _ _ _ c.before.before.before.before.if1.false refl c.before.before.write-one.ensures
 
-pub reply-one-spec : {M : Type 1} → statement M
-reply-one-spec =
+pub reply_one_spec : {M : Type 1} → statement M
+reply_one_spec =
     tie.close
     (tie.spec clear-bytes-requires same_length returns write-one-requires same-length-2 returns-2)

@@ -9,8 +9,8 @@ returns c = record { first = omega (arith, c.if1.true); second = omega arith; fe
 returns-2 : tie.Need-returns-2
 returns-2 c = record { first = omega arith; second = omega (arith, c.if1.false); few = omega arith }
 
-pub longer-spec : {M : Type 1} → statement M
-longer-spec =
+pub longer_spec : {M : Type 1} → statement M
+longer_spec =
     tie.close
     (tie.spec
     returns

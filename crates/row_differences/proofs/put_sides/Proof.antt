@@ -1,10 +1,10 @@
 -- `row_differences::put_sides` meets its contract: the columns of the blocks are those of the outlines. Assumes nothing.
 use lib.Seq.{length-take-le}
 use mathlib.Core.Path.{sym}
-use Rattle.row_differences.proofs.Walking.{sides-asked, side-rows, part-is}
-use Rattle.differences.proofs.Writing.{lists-as}
+use Rattle.row_differences.proofs.Walking.{sides_asked, side_rows, part_is}
+use Rattle.differences.proofs.Writing.{lists_as}
 use Rattle.differences.specs.declared.Part.TheVariants.{Boundary}
-use Rattle.differences.specs.Differences.{rowsDiffer}
+use Rattle.differences.specs.Differences.{rows_differ}
 use Prim.Native.Nat.{ℕ}
 use mathlib.Core.List.{List}
 use mathlib.Core.Path.{refl, ap₂}
@@ -56,16 +56,16 @@ slice-aggregate-put-rows-4 : tie.Need-slice-aggregate-put-rows-4
 slice-aggregate-put-rows-4 c = sym (length-take-le _ _ (omega (arith, c.before.before.before.before.before.before.before.before.before.before.requires.second)))
 
 put-rows-requires : tie.Need-put-rows-requires
-put-rows-requires c κs = let a = c.before.before.before.before.before.before.before.before.before.before.args in let p = c.before.before.before.before.before.before.before.before.before.before.requires in sides-asked a.n a.m _ a.left.now a.right.now _ _ _ _ p refl (part-is _ a.n a.left.now) refl (part-is _ a.m a.right.now)
+put-rows-requires c κs = let a = c.before.before.before.before.before.before.before.before.before.before.args in let p = c.before.before.before.before.before.before.before.before.before.before.requires in sides_asked a.n a.m _ a.left.now a.right.now _ _ _ _ p refl (part_is _ a.n a.left.now) refl (part_is _ a.m a.right.now)
 
 same_length : tie.Need-same-length
 same_length c = c.before.before.put-rows.auto.0
 
 returns : tie.Need-returns
-returns c = let a = c.before.before.before.before.before.before.before.before.before.before.before.before.before.args in let p = c.before.before.before.before.before.before.before.before.before.before.before.before.before.requires in lists-as c.before.before.put-rows.ensures (ap₂ (λ (f g : List (List ℕ)). rowsDiffer Boundary 0 f g) (side-rows a.n a.left.now _ _ _ p.first refl (part-is _ a.n a.left.now)) (side-rows a.m a.right.now _ _ _ p.second refl (part-is _ a.m a.right.now)))
+returns c = let a = c.before.before.before.before.before.before.before.before.before.before.before.before.before.args in let p = c.before.before.before.before.before.before.before.before.before.before.before.before.before.requires in lists_as c.before.before.put-rows.ensures (ap₂ (λ (f g : List (List ℕ)). rows_differ Boundary 0 f g) (side_rows a.n a.left.now _ _ _ p.first refl (part_is _ a.n a.left.now)) (side_rows a.m a.right.now _ _ _ p.second refl (part_is _ a.m a.right.now)))
 
-pub put-sides-spec : {M : Type 1} → statement M
-put-sides-spec =
+pub put_sides_spec : {M : Type 1} → statement M
+put_sides_spec =
     tie.close
     (tie.spec
     add-e

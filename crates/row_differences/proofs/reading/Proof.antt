@@ -29,8 +29,8 @@ returns c = rw (lt-ltb _ _ c.before.before.before.if1.true)
 returns-2 : tie.Need-returns-2
 returns-2 c = rw (le-ltb _ _ c.if1.false)
 
-pub reading-spec : {M : Type 1} → statement M
-reading-spec =
+pub reading_spec : {M : Type 1} → statement M
+reading_spec =
     tie.close
     (tie.spec
     mul-t7

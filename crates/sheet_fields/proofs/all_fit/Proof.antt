@@ -34,8 +34,8 @@ returns-4 c = let e1 = sym c.before.before.before.particles-fit.ensures ∙ c.be
 returns-5 : tie.Need-returns-5
 returns-5 c = let e1 = sym c.before.particles-fit.ensures ∙ c.if1.false in rw (e1)
 
-pub all-fit-spec : {M : Type 1} → statement M
-all-fit-spec =
+pub all_fit_spec : {M : Type 1} → statement M
+all_fit_spec =
     tie.close
     (tie.spec
     particles-fit-requires

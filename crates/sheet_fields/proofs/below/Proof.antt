@@ -8,7 +8,7 @@ use lib.ListN.{length, take, drop, get_or, set, replicate, length-set, length-ta
 use Rattle.bits.specs.Bits.{bits_of}
 use borrow.Author.Tests.{lt-ltb, le-ltb}
 use Rattle.sheet.specs.Sheet.{all_below}
-use Rattle.sheet.proofs.SeenLaws.{below-turn, below_end}
+use Rattle.sheet.proofs.SeenLaws.{below_turn, below_end}
 use Rattle.sheet_fields.proofs.below.Statement.{statement}
 use Rattle.sheet_fields.proofs.below.Tie as tie
 
@@ -34,16 +34,16 @@ loop-less : tie.Need-loop-smaller invariant-loop decreases-loop
 loop-less c = omega arith
 
 loop-again : tie.Need-loop-preserved invariant-loop decreases-loop
-loop-again c = (omega arith, sym (below-turn c.before.before.before.before.args.bound c.before.before.before.before.args.a.now c.before.before.before.loop.i (omega arith) ∙ rw (lt-ltb _ _ c.if1.true)) ∙ c.before.before.before.loop.invariant.1)
+loop-again c = (omega arith, sym (below_turn c.before.before.before.before.args.bound c.before.before.before.before.args.a.now c.before.before.before.loop.i (omega arith) ∙ rw (lt-ltb _ _ c.if1.true)) ∙ c.before.before.before.loop.invariant.1)
 
 returns : tie.Need-returns invariant-loop decreases-loop
-returns c = sym (sym c.before.before.before.loop.invariant.1 ∙ (below-turn c.before.before.before.before.args.bound c.before.before.before.before.args.a.now c.before.before.before.loop.i (omega arith) ∙ rw (le-ltb _ _ c.if1.false)))
+returns c = sym (sym c.before.before.before.loop.invariant.1 ∙ (below_turn c.before.before.before.before.args.bound c.before.before.before.before.args.a.now c.before.before.before.loop.i (omega arith) ∙ rw (le-ltb _ _ c.if1.false)))
 
 returns-2 : tie.Need-returns-2 invariant-loop decreases-loop
 returns-2 c = sym (below_end c.before.before.args.bound c.before.before.args.a.now c.before.loop.i (omega arith)) ∙ c.before.loop.invariant.1
 
-pub below-spec : {M : Type 1} → statement M
-below-spec =
+pub below_spec : {M : Type 1} → statement M
+below_spec =
     tie.close
     (tie.spec
     invariant-loop

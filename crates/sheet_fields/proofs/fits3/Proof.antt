@@ -26,7 +26,7 @@ returns-3 : tie.Need-returns-3
 unfolding fit3
 returns-3 c = let e1 = sym c.before.below.ensures ∙ c.if1.false in rw e1
 
-pub fits3-spec : {M : Type 1} → statement M
-fits3-spec =
+pub fits3_spec : {M : Type 1} → statement M
+fits3_spec =
     tie.close
     (tie.spec below-requires below-requires-2 below-requires-3 returns returns-2 returns-3)

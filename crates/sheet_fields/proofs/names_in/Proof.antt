@@ -6,14 +6,14 @@ use mathlib.Core.Path.{◌≡◌, ◌∙◌, sym, refl, ap}
 use mathlib.Core.List.{List, [], ◌∷◌, ◌++◌, append_assoc, append-nil}
 use lib.ListN.{length, take, drop, get_or, set, replicate, length-set, length-take, drop_of_length-le}
 use Rattle.bits.specs.Bits.{bits_of}
-use Rattle.sheet.specs.Sheet.{allOK}
+use Rattle.sheet.specs.Sheet.{all_ok}
 use Rattle.bits.specs.Rows.{rows_of}
-use Rattle.sheet.proofs.SeenLaws.{names-turn, names-none}
+use Rattle.sheet.proofs.SeenLaws.{names_turn, names_none}
 use Rattle.sheet_fields.proofs.names_in.Statement.{statement}
 use Rattle.sheet_fields.proofs.names_in.Tie as tie
 
 abbrev invariant-loop : tie.invariant-loop
-invariant-loop three p a b c n i₀ i = (i ≤ n) × (allOK three p (rows_of (a ∷ b ∷ c ∷ []) i (n - i)) ≡ allOK three p (rows_of (a ∷ b ∷ c ∷ []) 0 n))
+invariant-loop three p a b c n i₀ i = (i ≤ n) × (all_ok three p (rows_of (a ∷ b ∷ c ∷ []) i (n - i)) ≡ all_ok three p (rows_of (a ∷ b ∷ c ∷ []) 0 n))
 
 abbrev decreases-loop : tie.decreases-loop
 decreases-loop three p a b c n i₀ i = n - i
@@ -49,16 +49,16 @@ loop-less : tie.Need-loop-smaller invariant-loop decreases-loop
 loop-less c = omega arith
 
 loop-again : tie.Need-loop-preserved invariant-loop decreases-loop
-loop-again c = let r = sym c.before.names-row.ensures ∙ c.if1.true in (omega arith, sym (names-turn c.before.before.before.before.before.before.before.before.before.before.args.three c.before.before.before.before.before.before.before.before.before.before.args.p c.before.before.before.before.before.before.before.before.before.before.args.a.now c.before.before.before.before.before.before.before.before.before.before.args.b.now c.before.before.before.before.before.before.before.before.before.before.args.c.now (length c.before.before.before.before.before.before.before.before.before.before.args.a.now) c.before.before.before.before.before.before.loop.i (omega arith) ∙ rw r) ∙ c.before.before.before.before.before.before.loop.invariant.1)
+loop-again c = let r = sym c.before.names-row.ensures ∙ c.if1.true in (omega arith, sym (names_turn c.before.before.before.before.before.before.before.before.before.before.args.three c.before.before.before.before.before.before.before.before.before.before.args.p c.before.before.before.before.before.before.before.before.before.before.args.a.now c.before.before.before.before.before.before.before.before.before.before.args.b.now c.before.before.before.before.before.before.before.before.before.before.args.c.now (length c.before.before.before.before.before.before.before.before.before.before.args.a.now) c.before.before.before.before.before.before.loop.i (omega arith) ∙ rw r) ∙ c.before.before.before.before.before.before.loop.invariant.1)
 
 returns : tie.Need-returns invariant-loop decreases-loop
-returns c = let r = sym c.before.names-row.ensures ∙ c.if1.false in sym (sym c.before.before.before.before.before.before.loop.invariant.1 ∙ (names-turn c.before.before.before.before.before.before.before.before.before.before.args.three c.before.before.before.before.before.before.before.before.before.before.args.p c.before.before.before.before.before.before.before.before.before.before.args.a.now c.before.before.before.before.before.before.before.before.before.before.args.b.now c.before.before.before.before.before.before.before.before.before.before.args.c.now (length c.before.before.before.before.before.before.before.before.before.before.args.a.now) c.before.before.before.before.before.before.loop.i (omega arith) ∙ rw r))
+returns c = let r = sym c.before.names-row.ensures ∙ c.if1.false in sym (sym c.before.before.before.before.before.before.loop.invariant.1 ∙ (names_turn c.before.before.before.before.before.before.before.before.before.before.args.three c.before.before.before.before.before.before.before.before.before.before.args.p c.before.before.before.before.before.before.before.before.before.before.args.a.now c.before.before.before.before.before.before.before.before.before.before.args.b.now c.before.before.before.before.before.before.before.before.before.before.args.c.now (length c.before.before.before.before.before.before.before.before.before.before.args.a.now) c.before.before.before.before.before.before.loop.i (omega arith) ∙ rw r))
 
 returns-2 : tie.Need-returns-2 invariant-loop decreases-loop
-returns-2 c = sym (names-none c.before.before.before.before.before.args.three c.before.before.before.before.before.args.p c.before.before.before.before.before.args.a.now c.before.before.before.before.before.args.b.now c.before.before.before.before.before.args.c.now (length c.before.before.before.before.before.args.a.now) c.before.loop.i (omega arith)) ∙ c.before.loop.invariant.1
+returns-2 c = sym (names_none c.before.before.before.before.before.args.three c.before.before.before.before.before.args.p c.before.before.before.before.before.args.a.now c.before.before.before.before.before.args.b.now c.before.before.before.before.before.args.c.now (length c.before.before.before.before.before.args.a.now) c.before.loop.i (omega arith)) ∙ c.before.loop.invariant.1
 
-pub names-in-spec : {M : Type 1} → statement M
-names-in-spec =
+pub names_in_spec : {M : Type 1} → statement M
+names_in_spec =
     tie.close
     (tie.spec
     invariant-loop

@@ -26,7 +26,7 @@ returns-3 : tie.Need-returns-3
 unfolding fit3
 returns-3 c = let e1 = sym c.before.whole-fit.ensures ∙ c.if1.false in rw e1
 
-pub particles-fit-spec : {M : Type 1} → statement M
-particles-fit-spec =
+pub particles_fit_spec : {M : Type 1} → statement M
+particles_fit_spec =
     tie.close
     (tie.spec whole-fit-requires whole-fit-requires-2 below-requires returns returns-2 returns-3)

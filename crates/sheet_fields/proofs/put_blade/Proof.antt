@@ -5,7 +5,7 @@ use mathlib.Core.Path.{◌≡◌, ◌∙◌}
 use lib.IntN.{pos}
 use lib.ListN.{get_or}
 use Rattle.bits.specs.Bits.{bits_of}
-use Rattle.sheet_fields.proofs.WholeLaws.{read-field, blade-fields}
+use Rattle.sheet_fields.proofs.WholeLaws.{read_field, blade_fields}
 use Rattle.sheet_fields.proofs.put_blade.Statement.{statement}
 use Rattle.sheet_fields.proofs.put_blade.Tie as tie
 
@@ -42,14 +42,14 @@ same_length c = search rules
 returns : tie.Need-returns
 returns c =
     let d = c.before.before.before.before.before.before.before.before.before.before.before.before.before.args.blade.now in
-    c.before.before.put_four.ensures ∙ rw (blade-fields d _ _ _ _
-    (read-field _ (get_or d 0 (pos 0)) c.before.before.before.before.before.before.before.before.before.before.before.field-of-arg.given c.before.before.before.before.before.before.before.before.before.before.field_of.ensures)
-    (read-field _ (get_or d 1 (pos 0)) c.before.before.before.before.before.before.before.before.before.field-of-arg2.given c.before.before.before.before.before.before.before.before.field-of2.ensures)
-    (read-field _ (get_or d 2 (pos 0)) c.before.before.before.before.before.before.before.field-of-arg3.given c.before.before.before.before.before.before.field-of3.ensures)
-    (read-field _ (get_or d 3 (pos 0)) c.before.before.before.before.before.field-of-arg4.given c.before.before.before.before.field-of4.ensures))
+    c.before.before.put_four.ensures ∙ rw (blade_fields d _ _ _ _
+    (read_field _ (get_or d 0 (pos 0)) c.before.before.before.before.before.before.before.before.before.before.before.field-of-arg.given c.before.before.before.before.before.before.before.before.before.before.field_of.ensures)
+    (read_field _ (get_or d 1 (pos 0)) c.before.before.before.before.before.before.before.before.before.field-of-arg2.given c.before.before.before.before.before.before.before.before.field-of2.ensures)
+    (read_field _ (get_or d 2 (pos 0)) c.before.before.before.before.before.before.before.field-of-arg3.given c.before.before.before.before.before.before.field-of3.ensures)
+    (read_field _ (get_or d 3 (pos 0)) c.before.before.before.before.before.field-of-arg4.given c.before.before.before.before.field-of4.ensures))
 
-pub put-blade-spec : {M : Type 1} → statement M
-put-blade-spec =
+pub put_blade_spec : {M : Type 1} → statement M
+put_blade_spec =
     tie.close
     (tie.spec
     shared-slice-copy-out-field-of

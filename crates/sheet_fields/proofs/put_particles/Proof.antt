@@ -8,17 +8,17 @@ use lib.IntN.{pos}
 use lib.ListN.{length, get_or}
 use lib.Seq.{sets}
 use Rattle.bits.specs.Bits.{bits_of}
-use Rattle.bits.specs.Rows.{writeRows, rows_of}
+use Rattle.bits.specs.Rows.{write_rows, rows_of}
 use Rattle.bits.proofs.RowLaws.{fewer, rows_none}
-use Rattle.sheet.specs.Sheet.{fieldOf, particleW}
-use Rattle.sheet_fields.proofs.WholeLaws.{fields-long, read-field, row-turn}
+use Rattle.sheet.specs.Sheet.{the_field_of, particle_w}
+use Rattle.sheet_fields.proofs.WholeLaws.{fields_long, read_field, row_turn}
 use Rattle.sheet_fields.proofs.put_particles.Statement.{statement}
 use Rattle.sheet_fields.proofs.put_particles.Tie as tie
 
 abbrev invariant-loop : tie.invariant-loop
 invariant-loop s₀ from x y pinned n i₀ pos₀ s i at =
     (i ≤ n) × (length s ≡ length s₀) × (at + (n - i) * 23 ≤ 8 * length s₀) × (at + (n - i) * 23 < 2 ^ 32)
-    × (sets (bits_of s) at (writeRows particleW (rows_of (map fieldOf x ∷ map fieldOf y ∷ pinned ∷ []) i (n - i))) ≡ sets (bits_of s₀) from (writeRows particleW (rows_of (map fieldOf x ∷ map fieldOf y ∷ pinned ∷ []) 0 n)))
+    × (sets (bits_of s) at (write_rows particle_w (rows_of (map the_field_of x ∷ map the_field_of y ∷ pinned ∷ []) i (n - i))) ≡ sets (bits_of s₀) from (write_rows particle_w (rows_of (map the_field_of x ∷ map the_field_of y ∷ pinned ∷ []) 0 n)))
 
 abbrev decreases-loop : tie.decreases-loop
 decreases-loop s₀ from x y pinned n i₀ pos₀ s i at = n - i
@@ -27,7 +27,7 @@ loop-holds : tie.Need-loop-init invariant-loop decreases-loop
 loop-holds c =
     let n = length c.before.before.args.x.now in
     let e : n - 0 ≡ n = omega arith in
-    let f = fields-long c.before.before.args.x.now in
+    let f = fields_long c.before.before.args.x.now in
     rw e (omega arith, refl, omega (arith, c.before.before.requires.room), omega (arith, c.before.before.requires.small), refl)
 
 mul-field-of : tie.Need-overflow-mul-field-of invariant-loop decreases-loop
@@ -43,7 +43,7 @@ mul-field-of-2 : tie.Need-overflow-mul-field-of-2 invariant-loop decreases-loop
 mul-field-of-2 c = omega arith
 
 shared-slice-copy-out-field-of-2 : tie.Need-shared-slice-copy-out-field-of-2 invariant-loop decreases-loop
-shared-slice-copy-out-field-of-2 c = omega (arith, c.before.before.before.before.before.before.requires.second, fields-long c.before.before.before.before.before.before.args.x.now, fields-long c.before.before.before.before.before.before.args.y.now)
+shared-slice-copy-out-field-of-2 c = omega (arith, c.before.before.before.before.before.before.requires.second, fields_long c.before.before.before.before.before.before.args.x.now, fields_long c.before.before.before.before.before.before.args.y.now)
 
 field-of-requires-2 : tie.Need-field-of-requires-2 invariant-loop decreases-loop
 field-of-requires-2 c κs = search rules
@@ -52,7 +52,7 @@ mul-put-row : tie.Need-overflow-mul-put-row invariant-loop decreases-loop
 mul-put-row c = omega arith
 
 shared-slice-read-put-row : tie.Need-shared-slice-read-put-row invariant-loop decreases-loop
-shared-slice-read-put-row c = omega (arith, c.before.before.before.before.before.before.before.before.before.before.requires.third, fields-long c.before.before.before.before.before.before.before.before.before.before.args.x.now)
+shared-slice-read-put-row c = omega (arith, c.before.before.before.before.before.before.before.before.before.before.requires.third, fields_long c.before.before.before.before.before.before.before.before.before.before.args.x.now)
 
 put-row-requires : tie.Need-put-row-requires invariant-loop decreases-loop
 put-row-requires c κs =
@@ -74,8 +74,8 @@ loop-again c =
     let l = c.before.before.before.before.before.before.before.before.before.before.loop in
     let n = length a.x.now in
     let f = fewer n l.i 23 (omega arith) in
-    let t = row-turn a.x.now a.y.now a.pinned.now (bits_of l.s) n l.i l.pos c.before.before.before.before.before.before.before.field_of.result c.before.before.before.before.before.field-of2.result (omega arith)
-    (read-field _ (get_or a.x.now l.i (pos 0)) c.before.before.before.before.before.before.before.before.field-of-arg.given c.before.before.before.before.before.before.before.field_of.ensures) (read-field _ (get_or a.y.now l.i (pos 0)) c.before.before.before.before.before.before.field-of-arg2.given c.before.before.before.before.before.field-of2.ensures) in
+    let t = row_turn a.x.now a.y.now a.pinned.now (bits_of l.s) n l.i l.pos c.before.before.before.before.before.before.before.field_of.result c.before.before.before.before.before.field-of2.result (omega arith)
+    (read_field _ (get_or a.x.now l.i (pos 0)) c.before.before.before.before.before.before.before.before.field-of-arg.given c.before.before.before.before.before.before.before.field_of.ensures) (read_field _ (get_or a.y.now l.i (pos 0)) c.before.before.before.before.before.before.field-of-arg2.given c.before.before.before.before.before.field-of2.ensures) in
     (omega arith, c.before.before.put-row.auto.0 ∙ l.invariant.1, omega arith, omega arith, rw c.before.before.put-row.ensures (t ∙ l.invariant.4))
 
 same_length : tie.Need-same-length invariant-loop decreases-loop
@@ -85,11 +85,11 @@ returns : tie.Need-returns invariant-loop decreases-loop
 returns c =
     let a = c.before.before.before.before.args in
     let l = c.before.loop in
-    let z = rows_none particleW (map fieldOf a.x.now ∷ map fieldOf a.y.now ∷ a.pinned.now ∷ []) (length a.x.now) l.i (omega arith) in
-    rw (fields-long a.x.now) (rw z at l.invariant.4)
+    let z = rows_none particle_w (map the_field_of a.x.now ∷ map the_field_of a.y.now ∷ a.pinned.now ∷ []) (length a.x.now) l.i (omega arith) in
+    rw (fields_long a.x.now) (rw z at l.invariant.4)
 
-pub put-particles-spec : {M : Type 1} → statement M
-put-particles-spec =
+pub put_particles_spec : {M : Type 1} → statement M
+put_particles_spec =
     tie.close
     (tie.spec
     invariant-loop

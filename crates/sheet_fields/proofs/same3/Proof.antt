@@ -12,5 +12,5 @@ returns-2 : tie.Need-returns-2
 unfolding even3
 returns-2 c = rw (ne_eqb _ _ c.if1.false)
 
-pub same3-spec : {M : Type 1} → statement M
-same3-spec = tie.close (tie.spec returns returns-2)
+pub same3_spec : {M : Type 1} → statement M
+same3_spec = tie.close (tie.spec returns returns-2)

@@ -5,8 +5,8 @@ use mathlib.Core.Path.{sym, ◌∙◌, ap}
 use lib.ListN.{drop, replicate}
 use Prim.Native.Nat.{◌*◌}
 use lib.Seq.{length-take-le}
-use Rattle.mesh.specs.Widths.{pointColumns}
-use Rattle.sheet_fronts.proofs.Reading.{seen_few, front_long, exact-fronts, fronts-read}
+use Rattle.mesh.specs.Widths.{point_columns}
+use Rattle.sheet_fronts.proofs.Reading.{seen_few, front_long, exact_fronts, fronts_read}
 use Rattle.sheet_fronts.proofs.read_fronts.Statement.{statement}
 use Rattle.sheet_fronts.proofs.read_fronts.Tie as tie
 
@@ -77,7 +77,7 @@ read-requires : tie.Need-read-requires
 read-requires c κs = search rules
 
 same_length : tie.Need-same-length
-same_length c = let A = c.before.before.before.before.before.before.before.before.before.before.before.before.before.before.before.before.before.before.before.before.before.before.before.before.before.before.before.before.before.before.before.before.before.before.before.before.before.before.before.before.before.before.args in front_long (pointColumns * A.c.particles) A.points.now c.before.before.before.before.before.before.before.before.before.before.before.before.before.before.before.before.before.read.new.1.1.0 c.before.before.before.before.before.before.before.before.before.before.before.before.before.before.before.before.before.read.auto.1.1.0
+same_length c = let A = c.before.before.before.before.before.before.before.before.before.before.before.before.before.before.before.before.before.before.before.before.before.before.before.before.before.before.before.before.before.before.before.before.before.before.before.before.before.before.before.before.before.before.args in front_long (point_columns * A.c.particles) A.points.now c.before.before.before.before.before.before.before.before.before.before.before.before.before.before.before.before.before.read.new.1.1.0 c.before.before.before.before.before.before.before.before.before.before.before.before.before.before.before.before.before.read.auto.1.1.0
 
 same-length-2 : tie.Need-same-length-2
 same-length-2 c = let A = c.before.before.before.before.before.before.before.before.before.before.before.before.before.before.before.before.before.before.before.before.before.before.before.before.before.before.before.before.before.before.before.before.before.before.before.before.before.before.before.before.before.before.args in front_long (2 * A.c.particles) A.roots.now c.before.before.before.before.before.before.before.before.before.before.before.before.before.before.before.before.before.read.new.1.1.1.0 c.before.before.before.before.before.before.before.before.before.before.before.before.before.before.before.before.before.read.auto.1.1.1.0
@@ -105,11 +105,11 @@ returns c =
     let H = c.before.before.before.before.before.before.before.before.before.before.before.before.before.before.before.before.before.before.before.before.before.before.before.before.before.before.before.before.before.before.before.before.before.before.before.before.before.before.before.before.before.before.requires in
     let A = c.before.before.before.before.before.before.before.before.before.before.before.before.before.before.before.before.before.before.before.before.before.before.before.before.before.before.before.before.before.before.before.before.before.before.before.before.before.before.before.before.before.before.args in
     let Q = c.before.before.before.before.before.before.before.before.before.before.before.before.before.before.before.before.before.read in
-    fronts-read A.sheet.now A.c _ Q.result Q.new.1.1.0 Q.new.1.1.1.0 Q.new.1.1.1.1.0 Q.new.1.1.1.1.1.0 Q.new.1.1.1.1.1.1.0 Q.new.1.1.1.1.1.1.1.0 Q.new.1.1.1.1.1.1.1.1.0 Q.new.1.1.1.1.1.1.1.1.1.0 A.blade.now Q.new.1.1.1.1.1.1.1.1.1.1.0 Q.ensures H.seen
-    (exact-fronts A.c A.points.now A.roots.now A.corners.now A.volumes.now A.ends.now A.lengths.now A.outline.now (replicate 6 0) (seen_few _ _ _ H.seen) H.ample) H.four (drop (pointColumns * A.c.particles) A.points.now) (drop (2 * A.c.particles) A.roots.now) (drop (3 * A.c.triangles) A.corners.now) (drop (2 * A.c.triangles) A.volumes.now) (drop (4 * A.c.edges) A.ends.now) (drop (4 * A.c.edges) A.lengths.now) (drop (2 * A.c.boundary) A.outline.now)
+    fronts_read A.sheet.now A.c _ Q.result Q.new.1.1.0 Q.new.1.1.1.0 Q.new.1.1.1.1.0 Q.new.1.1.1.1.1.0 Q.new.1.1.1.1.1.1.0 Q.new.1.1.1.1.1.1.1.0 Q.new.1.1.1.1.1.1.1.1.0 Q.new.1.1.1.1.1.1.1.1.1.0 A.blade.now Q.new.1.1.1.1.1.1.1.1.1.1.0 Q.ensures H.seen
+    (exact_fronts A.c A.points.now A.roots.now A.corners.now A.volumes.now A.ends.now A.lengths.now A.outline.now (replicate 6 0) (seen_few _ _ _ H.seen) H.ample) H.four (drop (point_columns * A.c.particles) A.points.now) (drop (2 * A.c.particles) A.roots.now) (drop (3 * A.c.triangles) A.corners.now) (drop (2 * A.c.triangles) A.volumes.now) (drop (4 * A.c.edges) A.ends.now) (drop (4 * A.c.edges) A.lengths.now) (drop (2 * A.c.boundary) A.outline.now)
 
-pub read-fronts-spec : {M : Type 1} → statement M
-read-fronts-spec =
+pub read_fronts_spec : {M : Type 1} → statement M
+read_fronts_spec =
     tie.close
     (tie.spec
     mul-p

@@ -3,7 +3,7 @@ use mathlib.Core.Path.{ap}
 use lib.Ieee.{Float}
 use Rattle.float.specs.Numbers.{times, half}
 use lib.Ieee.{of_bits}
-use Rattle.sheet.specs.Read.{areaOf}
+use Rattle.sheet.specs.Read.{area_of}
 use borrow.Author.Rules.{rules}
 use Rattle.sheet_rows.proofs.area.Statement.{statement}
 use Rattle.sheet_rows.proofs.area.Tie as tie
@@ -12,8 +12,8 @@ abs-requires : tie.Need-abs-requires
 abs-requires c κs = search rules
 
 returns : tie.Need-returns
-unfolding of_bits areaOf
+unfolding of_bits area_of
 returns c = ap (λ (x : Float). times x half) c.abs.ensures
 
-pub area-spec : {M : Type 1} → statement M
-area-spec = tie.close (tie.spec abs-requires returns)
+pub area_spec : {M : Type 1} → statement M
+area_spec = tie.close (tie.spec abs-requires returns)

@@ -1,5 +1,5 @@
 -- `sheet_rows::put_particle` meets its contract. Assumes nothing.
-use Rattle.sheet_rows.proofs.RowPuts.{particle-put}
+use Rattle.sheet_rows.proofs.RowPuts.{particle_put}
 use native.Mathlib.Omega.{arith}
 use mathlib.Core.Path.{◌∙◌}
 use lib.Ieee.{of_bits}
@@ -127,10 +127,10 @@ same-length-2 c = search rules
 
 returns : tie.Need-returns
 unfolding of_bits
-returns c = particle-put _ _ _ _ _ _ _ _ _ c.before.before.float_of.ensures c.before.float-of2.ensures c.inverse-of.ensures c.before.before.before.before.before.requires.room.points c.before.before.before.before.before.requires.room.roots
+returns c = particle_put _ _ _ _ _ _ _ _ _ c.before.before.float_of.ensures c.before.float-of2.ensures c.inverse-of.ensures c.before.before.before.before.before.requires.room.points c.before.before.before.before.before.requires.room.roots
 
-pub put-particle-spec : {M : Type 1} → statement M
-put-particle-spec =
+pub put_particle_spec : {M : Type 1} → statement M
+put_particle_spec =
     tie.close
     (tie.spec
     float-of-requires

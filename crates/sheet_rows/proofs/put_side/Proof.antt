@@ -3,8 +3,8 @@ use Prim.Native.Nat.{◌/◌}
 use lib.ListN.{length}
 use lib.ListN.{length-set}
 use native.Mathlib.Omega.{arith}
-use Rattle.outline_tables.proofs.Adding.{first-place, second-place}
-use Rattle.sheet_rows.proofs.RowPuts.{putCols, side-pushed}
+use Rattle.outline_tables.proofs.Adding.{first_place, second_place}
+use Rattle.sheet_rows.proofs.RowPuts.{put_cols, side_pushed}
 use borrow.Author.Rules.{rules}
 use Rattle.sheet_rows.proofs.put_side.Statement.{statement}
 use Rattle.sheet_rows.proofs.put_side.Tie as tie
@@ -28,11 +28,11 @@ same_length : tie.Need-same-length
 same_length c = search rules
 
 returns : tie.Need-returns
-unfolding putCols
-returns c = let a = c.args in let R = length a.outline.now / 2 in simp (first-place R a.n, second-place R a.n) at (side-pushed a.n a.a a.b a.outline.now c.requires)
+unfolding put_cols
+returns c = let a = c.args in let R = length a.outline.now / 2 in simp (first_place R a.n, second_place R a.n) at (side_pushed a.n a.a a.b a.outline.now c.requires)
 
-pub put-side-spec : {M : Type 1} → statement M
-put-side-spec =
+pub put_side_spec : {M : Type 1} → statement M
+put_side_spec =
     tie.close
     (tie.spec
     mul-outline

@@ -1,7 +1,7 @@
 -- `sheet_rows::put_triangle` meets its contract. Assumes nothing.
-use Rattle.sheet_rows.proofs.RowPuts.{triangle-put}
+use Rattle.sheet_rows.proofs.RowPuts.{triangle_put}
 use Rattle.split_plan.specs.Opened.{place_in}
-use Rattle.sheet.specs.Read.{areaOf}
+use Rattle.sheet.specs.Read.{area_of}
 use native.Mathlib.Omega.{arith}
 use mathlib.Core.Path.{◌∙◌}
 use lib.Ieee.{of_bits}
@@ -72,10 +72,10 @@ same-length-2 c = search rules
 
 returns : tie.Need-returns
 unfolding of_bits
-returns c = triangle-put (place_in c.before.before.before.before.before.before.before.args.points.now) _ _ _ _ _ _ _ (c.area.ensures ∙ (λ i. areaOf (c.before.before.before.place.ensures i) (c.before.before.place2.ensures i) (c.before.place3.ensures i))) c.before.before.before.before.before.before.before.requires.corners c.before.before.before.before.before.before.before.requires.volumes
+returns c = triangle_put (place_in c.before.before.before.before.before.before.before.args.points.now) _ _ _ _ _ _ _ (c.area.ensures ∙ (λ i. area_of (c.before.before.before.place.ensures i) (c.before.before.place2.ensures i) (c.before.place3.ensures i))) c.before.before.before.before.before.before.before.requires.corners c.before.before.before.before.before.before.before.requires.volumes
 
-pub put-triangle-spec : {M : Type 1} → statement M
-put-triangle-spec =
+pub put_triangle_spec : {M : Type 1} → statement M
+put_triangle_spec =
     tie.close
     (tie.spec
     mul-corners

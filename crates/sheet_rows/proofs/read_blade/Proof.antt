@@ -5,8 +5,8 @@ use mathlib.Core.List.{[], ◌∷◌}
 use lib.ListN.{length, length-set}
 use Rattle.lists.specs.Lists.{padded}
 use Rattle.float.specs.Numbers.{zero32}
-use Rattle.sheet.specs.Read.{floatOf}
-use Rattle.sheet_rows.proofs.MeshReads.{four-long, four-put}
+use Rattle.sheet.specs.Read.{the_float_of}
+use Rattle.sheet_rows.proofs.MeshReads.{four_long, four_put}
 use borrow.Author.Rules.{rules}
 use Rattle.sheet_rows.proofs.read_blade.Statement.{statement}
 use Rattle.sheet_rows.proofs.read_blade.Tie as tie
@@ -60,10 +60,10 @@ clear-f32-requires : tie.Need-clear-f32-requires
 clear-f32-requires c κs = simp length-set (omega (arith, c.before.before.before.before.before.before.before.before.before.before.before.requires.room))
 
 same_length : tie.Need-same-length
-same_length c = c.before.before.clear-f32.auto.1.0 ∙ four-long c.before.before.before.before.before.before.before.before.before.before.before.before.before.before.args.blade.now c.before.before.before.before.before.before.before.before.before.before.float_of.result c.before.before.before.before.before.before.before.before.float-of2.result c.before.before.before.before.before.before.float-of3.result c.before.before.before.before.float-of4.result c.before.before.before.before.before.before.before.before.before.before.before.before.before.before.requires.room
+same_length c = c.before.before.clear-f32.auto.1.0 ∙ four_long c.before.before.before.before.before.before.before.before.before.before.before.before.before.before.args.blade.now c.before.before.before.before.before.before.before.before.before.before.float_of.result c.before.before.before.before.before.before.before.before.float-of2.result c.before.before.before.before.before.before.float-of3.result c.before.before.before.before.float-of4.result c.before.before.before.before.before.before.before.before.before.before.before.before.before.before.requires.room
 
 returns : tie.Need-returns
-returns c = c.before.before.clear-f32.ensures ∙ (four-put c.before.before.before.before.before.before.before.before.before.before.before.before.before.before.args.blade.now c.before.before.before.before.before.before.before.before.before.before.float_of.result c.before.before.before.before.before.before.before.before.float-of2.result c.before.before.before.before.before.before.float-of3.result c.before.before.before.before.float-of4.result c.before.before.before.before.before.before.before.before.before.before.before.before.before.before.requires.room ∙ (λ i. padded (length c.before.before.before.before.before.before.before.before.before.before.before.before.before.before.args.blade.now) zero32 ((c.before.before.before.before.before.before.before.before.before.before.float_of.ensures ∙ ap floatOf c.before.before.before.before.before.before.before.before.before.before.before.field.ensures.0) i ∷ (c.before.before.before.before.before.before.before.before.float-of2.ensures ∙ ap floatOf c.before.before.before.before.before.before.before.before.before.field2.ensures.0) i ∷ (c.before.before.before.before.before.before.float-of3.ensures ∙ ap floatOf c.before.before.before.before.before.before.before.field3.ensures.0) i ∷ (c.before.before.before.before.float-of4.ensures ∙ ap floatOf c.before.before.before.before.before.field4.ensures.0) i ∷ [])))
+returns c = c.before.before.clear-f32.ensures ∙ (four_put c.before.before.before.before.before.before.before.before.before.before.before.before.before.before.args.blade.now c.before.before.before.before.before.before.before.before.before.before.float_of.result c.before.before.before.before.before.before.before.before.float-of2.result c.before.before.before.before.before.before.float-of3.result c.before.before.before.before.float-of4.result c.before.before.before.before.before.before.before.before.before.before.before.before.before.before.requires.room ∙ (λ i. padded (length c.before.before.before.before.before.before.before.before.before.before.before.before.before.before.args.blade.now) zero32 ((c.before.before.before.before.before.before.before.before.before.before.float_of.ensures ∙ ap the_float_of c.before.before.before.before.before.before.before.before.before.before.before.field.ensures.0) i ∷ (c.before.before.before.before.before.before.before.before.float-of2.ensures ∙ ap the_float_of c.before.before.before.before.before.before.before.before.before.field2.ensures.0) i ∷ (c.before.before.before.before.before.before.float-of3.ensures ∙ ap the_float_of c.before.before.before.before.before.before.before.field3.ensures.0) i ∷ (c.before.before.before.before.float-of4.ensures ∙ ap the_float_of c.before.before.before.before.before.field4.ensures.0) i ∷ [])))
 
-pub read-blade-spec : {M : Type 1} → statement M
-read-blade-spec = tie.close (tie.spec field-requires float-of-requires slice-write-blade add-field field-requires-2 float-of-requires-2 slice-write-blade-2 add-field-2 field-requires-3 float-of-requires-3 slice-write-blade-3 add-field-3 field-requires-4 float-of-requires-4 slice-write-blade-4 clear-f32-requires same_length returns)
+pub read_blade_spec : {M : Type 1} → statement M
+read_blade_spec = tie.close (tie.spec field-requires float-of-requires slice-write-blade add-field field-requires-2 float-of-requires-2 slice-write-blade-2 add-field-2 field-requires-3 float-of-requires-3 slice-write-blade-3 add-field-3 field-requires-4 float-of-requires-4 slice-write-blade-4 clear-f32-requires same_length returns)

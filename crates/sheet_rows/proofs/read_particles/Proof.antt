@@ -1,8 +1,8 @@
 -- `sheet_rows::read_particles` meets its contract. Assumes nothing.
-use Rattle.sheet_rows.proofs.RowReads.{no-particles, tab-more, particle-same}
-use Rattle.sheet_rows.specs.Work.{particleBits}
+use Rattle.sheet_rows.proofs.RowReads.{no_particles, tab_more, particle_same}
+use Rattle.sheet_rows.specs.Work.{particle_bits}
 use Rattle.bits.specs.Bits.{bits_of}
-use Rattle.mesh.specs.At.{particlesAt}
+use Rattle.mesh.specs.At.{particles_at}
 use Rattle.lists.specs.Lists.{tab}
 use lib.ListN.{length}
 use Prim.Native.Nat.{ℕ, ◌+◌, ◌*◌, ◌-◌, ◌≤◌}
@@ -12,13 +12,13 @@ use Rattle.sheet_rows.proofs.read_particles.Statement.{statement}
 use Rattle.sheet_rows.proofs.read_particles.Tie as tie
 
 abbrev invariant-loop : tie.invariant-loop
-invariant-loop s at n points₀ roots₀ i₀ pos₀ points roots i pos = (i ≤ n) × (length points ≡ length points₀) × (length roots ≡ length roots₀) × (pos ≡ at + i * 23) × (particlesAt i points roots ≡ tab i (particleBits (bits_of s) at))
+invariant-loop s at n points₀ roots₀ i₀ pos₀ points roots i pos = (i ≤ n) × (length points ≡ length points₀) × (length roots ≡ length roots₀) × (pos ≡ at + i * 23) × (particles_at i points roots ≡ tab i (particle_bits (bits_of s) at))
 
 abbrev decreases-loop : tie.decreases-loop
 decreases-loop s at n points₀ roots₀ i₀ pos₀ points roots i pos = n - i
 
 loop-holds : tie.Need-loop-init invariant-loop decreases-loop
-loop-holds c = (omega arith, refl, refl, omega arith, no-particles _ _ _)
+loop-holds c = (omega arith, refl, refl, omega arith, no_particles _ _ _)
 
 field-requires : tie.Need-field-requires invariant-loop decreases-loop
 field-requires c κs = let p = c.before.before.before.before.before.requires.rows in record { room = omega (arith, p.room, c.before.loop.invariant.3); narrow = omega arith; small = omega (arith, p.small, c.before.loop.invariant.3) }
@@ -49,7 +49,7 @@ loop-less c = omega arith
 
 loop-again : tie.Need-loop-preserved invariant-loop decreases-loop
 loop-again c = let a = c.before.before.before.before.before.before.before.before.before.before.before.before.before.before.before.args in let l = c.before.before.before.before.before.before.before.before.before.before.before.loop in
-    (omega arith, c.before.before.before.before.put-particle.auto.1.1.1.1.0 ∙ l.invariant.1, c.before.before.before.before.put-particle.auto.1.1.1.1.1.0 ∙ l.invariant.2, omega (arith, l.invariant.3), tab-more (particleBits (bits_of a.s.now) a.at) l.i _ _ _ c.before.before.before.before.put-particle.ensures l.invariant.4 (particle-same _ _ _ _ _ _ _ l.invariant.3 c.before.before.before.before.before.before.before.before.before.field.ensures.0 c.before.before.before.before.before.before.before.before.field2.ensures.0 c.before.before.before.before.before.before.before.field3.ensures.0))
+    (omega arith, c.before.before.before.before.put-particle.auto.1.1.1.1.0 ∙ l.invariant.1, c.before.before.before.before.put-particle.auto.1.1.1.1.1.0 ∙ l.invariant.2, omega (arith, l.invariant.3), tab_more (particle_bits (bits_of a.s.now) a.at) l.i _ _ _ c.before.before.before.before.put-particle.ensures l.invariant.4 (particle_same _ _ _ _ _ _ _ l.invariant.3 c.before.before.before.before.before.before.before.before.before.field.ensures.0 c.before.before.before.before.before.before.before.before.field2.ensures.0 c.before.before.before.before.before.before.before.field3.ensures.0))
 
 same_length : tie.Need-same-length invariant-loop decreases-loop
 same_length c = c.before.loop.invariant.1
@@ -59,10 +59,10 @@ same-length-2 c = c.before.loop.invariant.2
 
 returns : tie.Need-returns invariant-loop decreases-loop
 returns c = let a = c.before.before.before.before.before.args in let l = c.before.loop in let e : l.i ≡ a.n = omega arith in
-    subst (λ (m : ℕ). particlesAt m l.points l.roots ≡ tab m (particleBits (bits_of a.s.now) a.at)) e l.invariant.4
+    subst (λ (m : ℕ). particles_at m l.points l.roots ≡ tab m (particle_bits (bits_of a.s.now) a.at)) e l.invariant.4
 
-pub read-particles-spec : {M : Type 1} → statement M
-read-particles-spec =
+pub read_particles_spec : {M : Type 1} → statement M
+read_particles_spec =
     tie.close
     (tie.spec
     invariant-loop

@@ -1,8 +1,8 @@
 -- `sheet_rows::read_sides` meets its contract. Assumes nothing.
-use Rattle.sheet_rows.proofs.RowReads.{no_sides, tab-more, side_same}
-use Rattle.sheet_rows.specs.Work.{sideBits}
+use Rattle.sheet_rows.proofs.RowReads.{no_sides, tab_more, side_same}
+use Rattle.sheet_rows.specs.Work.{side_bits}
 use Rattle.bits.specs.Bits.{bits_of}
-use Rattle.mesh.specs.At.{boundaryAt}
+use Rattle.mesh.specs.At.{boundary_at}
 use Rattle.lists.specs.Lists.{tab}
 use lib.ListN.{length}
 use Prim.Native.Nat.{ℕ, ◌+◌, ◌*◌, ◌-◌, ◌≤◌}
@@ -12,7 +12,7 @@ use Rattle.sheet_rows.proofs.read_sides.Statement.{statement}
 use Rattle.sheet_rows.proofs.read_sides.Tie as tie
 
 abbrev invariant-loop : tie.invariant-loop
-invariant-loop s at n outline₀ i₀ pos₀ outline i pos = (i ≤ n) × (length outline ≡ length outline₀) × (pos ≡ at + i * 20) × (boundaryAt i outline ≡ tab i (sideBits (bits_of s) at))
+invariant-loop s at n outline₀ i₀ pos₀ outline i pos = (i ≤ n) × (length outline ≡ length outline₀) × (pos ≡ at + i * 20) × (boundary_at i outline ≡ tab i (side_bits (bits_of s) at))
 
 abbrev decreases-loop : tie.decreases-loop
 decreases-loop s at n outline₀ i₀ pos₀ outline i pos = n - i
@@ -43,17 +43,17 @@ loop-less c = omega arith
 
 loop-again : tie.Need-loop-preserved invariant-loop decreases-loop
 loop-again c = let a = c.before.before.before.before.before.before.before.before.before.before.args in let l = c.before.before.before.before.before.before.before.loop in
-    (omega arith, c.before.before.put-side.auto.1.1.1.0 ∙ l.invariant.1, omega (arith, l.invariant.2), tab-more (sideBits (bits_of a.s.now) a.at) l.i _ _ _ c.before.before.put-side.ensures l.invariant.3 (side_same _ _ _ _ _ _ l.invariant.2 c.before.before.before.before.before.field.ensures.0 c.before.before.before.before.field2.ensures.0))
+    (omega arith, c.before.before.put-side.auto.1.1.1.0 ∙ l.invariant.1, omega (arith, l.invariant.2), tab_more (side_bits (bits_of a.s.now) a.at) l.i _ _ _ c.before.before.put-side.ensures l.invariant.3 (side_same _ _ _ _ _ _ l.invariant.2 c.before.before.before.before.before.field.ensures.0 c.before.before.before.before.field2.ensures.0))
 
 same_length : tie.Need-same-length invariant-loop decreases-loop
 same_length c = c.before.loop.invariant.1
 
 returns : tie.Need-returns invariant-loop decreases-loop
 returns c = let a = c.before.before.before.before.args in let l = c.before.loop in let e : l.i ≡ a.n = omega arith in
-    subst (λ (m : ℕ). boundaryAt m l.outline ≡ tab m (sideBits (bits_of a.s.now) a.at)) e l.invariant.3
+    subst (λ (m : ℕ). boundary_at m l.outline ≡ tab m (side_bits (bits_of a.s.now) a.at)) e l.invariant.3
 
-pub read-sides-spec : {M : Type 1} → statement M
-read-sides-spec =
+pub read_sides_spec : {M : Type 1} → statement M
+read_sides_spec =
     tie.close
     (tie.spec
     invariant-loop

@@ -1,10 +1,10 @@
 -- `sheet_rows::read_triangles` meets its contract. Assumes nothing.
-use Rattle.sheet_rows.proofs.RowReads.{no-triangles, tab-more, triangle-same, edge-made, first-right, two-named, three-named}
-use Rattle.sheet.specs.Work.{okAt}
+use Rattle.sheet_rows.proofs.RowReads.{no_triangles, tab_more, triangle_same, edge_made, first_right, two_named, three_named}
+use Rattle.sheet.specs.Work.{ok_at_of}
 use Rattle.split_plan.specs.Opened.{place_in}
-use Rattle.sheet_rows.specs.Work.{triangleBits}
+use Rattle.sheet_rows.specs.Work.{triangle_bits}
 use Rattle.bits.specs.Bits.{num, bits_of, field_at}
-use Rattle.mesh.specs.At.{trianglesAt}
+use Rattle.mesh.specs.At.{triangles_at}
 use Rattle.lists.specs.Lists.{tab}
 use lib.Ieee.{of_bits}
 use lib.ListN.{length}
@@ -16,13 +16,13 @@ use Rattle.sheet_rows.proofs.read_triangles.Statement.{statement}
 use Rattle.sheet_rows.proofs.read_triangles.Tie as tie
 
 abbrev invariant-loop : tie.invariant-loop
-invariant-loop s at n p points corners₀ volumes₀ i₀ pos₀ corners volumes i pos = (i ≤ n) × (length corners ≡ length corners₀) × (length volumes ≡ length volumes₀) × (pos ≡ at + i * 30) × (okAt true p (bits_of s) pos 30 (n - i) ≡ true) × (trianglesAt i corners volumes ≡ tab i (triangleBits (place_in points) (bits_of s) at))
+invariant-loop s at n p points corners₀ volumes₀ i₀ pos₀ corners volumes i pos = (i ≤ n) × (length corners ≡ length corners₀) × (length volumes ≡ length volumes₀) × (pos ≡ at + i * 30) × (ok_at_of true p (bits_of s) pos 30 (n - i) ≡ true) × (triangles_at i corners volumes ≡ tab i (triangle_bits (place_in points) (bits_of s) at))
 
 abbrev decreases-loop : tie.decreases-loop
 decreases-loop s at n p points corners₀ volumes₀ i₀ pos₀ corners volumes i pos = n - i
 
 loop-holds : tie.Need-loop-init invariant-loop decreases-loop
-loop-holds c = let e : c.before.before.before.before.args.n - 0 ≡ c.before.before.before.before.args.n = omega arith in (omega arith, refl, refl, omega arith, rw e c.before.before.before.before.requires.names, no-triangles _ _ _)
+loop-holds c = let e : c.before.before.before.before.args.n - 0 ≡ c.before.before.before.before.args.n = omega arith in (omega arith, refl, refl, omega arith, rw e c.before.before.before.before.requires.names, no_triangles _ _ _)
 
 field-requires : tie.Need-field-requires invariant-loop decreases-loop
 field-requires c κs = let p = c.before.before.before.before.before.before.requires.rows in record { room = omega (arith, p.room, c.before.loop.invariant.3); narrow = omega arith; small = omega (arith, p.small, c.before.loop.invariant.3) }
@@ -40,8 +40,8 @@ field-requires-3 : tie.Need-field-requires-3 invariant-loop decreases-loop
 field-requires-3 c κs = let p = c.before.before.before.before.before.before.before.before.requires.rows in record { room = omega (arith, p.room, c.before.before.before.loop.invariant.3); narrow = omega arith; small = omega (arith, p.small, c.before.before.before.loop.invariant.3) }
 
 put-triangle-requires : tie.Need-put-triangle-requires invariant-loop decreases-loop
-put-triangle-requires c κs = let a = c.before.before.before.before.before.before.before.before.before.before.before.args in let l = c.before.before.before.before.before.before.loop in let w = first-right true a.p (bits_of a.s.now) l.pos 30 a.n l.i (omega arith) l.invariant.4 in
-    let r = three-named a.p (field_at (bits_of a.s.now) l.pos 10) (field_at (bits_of a.s.now) (l.pos + 10) 10) (field_at (bits_of a.s.now) (l.pos + 20) 10) w.0 in
+put-triangle-requires c κs = let a = c.before.before.before.before.before.before.before.before.before.before.before.args in let l = c.before.before.before.before.before.before.loop in let w = first_right true a.p (bits_of a.s.now) l.pos 30 a.n l.i (omega arith) l.invariant.4 in
+    let r = three_named a.p (field_at (bits_of a.s.now) l.pos 10) (field_at (bits_of a.s.now) (l.pos + 10) 10) (field_at (bits_of a.s.now) (l.pos + 20) 10) w.0 in
     let q = c.before.before.before.before.before.before.before.before.before.before.before.requires in
     record { first = omega (arith, r.0, c.before.before.before.before.field.ensures.0, q.points); second = omega (arith, r.1, c.before.before.before.field2.ensures.0, q.points); third = omega (arith, r.2, c.before.before.field3.ensures.0, q.points); corners = omega (arith, q.corners, l.invariant.1); volumes = omega (arith, q.volumes, l.invariant.2) }
 
@@ -55,8 +55,8 @@ loop-less : tie.Need-loop-smaller invariant-loop decreases-loop
 loop-less c = omega arith
 
 loop-again : tie.Need-loop-preserved invariant-loop decreases-loop
-loop-again c = let a = c.before.before.before.before.before.before.before.before.before.before.before.before.before.before.before.before.args in let l = c.before.before.before.before.before.before.before.before.before.before.before.loop in let w = first-right true a.p (bits_of a.s.now) l.pos 30 a.n l.i (omega arith) l.invariant.4 in
-    (omega arith, c.before.before.before.before.put-triangle.auto.1.1.1.1.1.0 ∙ l.invariant.1, c.before.before.before.before.put-triangle.auto.1.1.1.1.1.1.0 ∙ l.invariant.2, omega (arith, l.invariant.3), w.1, tab-more (triangleBits (place_in a.points.now) (bits_of a.s.now) a.at) l.i _ _ _ c.before.before.before.before.put-triangle.ensures l.invariant.5 (triangle-same _ _ _ _ _ _ _ _ l.invariant.3 c.before.before.before.before.before.before.before.before.before.field.ensures.0 c.before.before.before.before.before.before.before.before.field2.ensures.0 c.before.before.before.before.before.before.before.field3.ensures.0))
+loop-again c = let a = c.before.before.before.before.before.before.before.before.before.before.before.before.before.before.before.before.args in let l = c.before.before.before.before.before.before.before.before.before.before.before.loop in let w = first_right true a.p (bits_of a.s.now) l.pos 30 a.n l.i (omega arith) l.invariant.4 in
+    (omega arith, c.before.before.before.before.put-triangle.auto.1.1.1.1.1.0 ∙ l.invariant.1, c.before.before.before.before.put-triangle.auto.1.1.1.1.1.1.0 ∙ l.invariant.2, omega (arith, l.invariant.3), w.1, tab_more (triangle_bits (place_in a.points.now) (bits_of a.s.now) a.at) l.i _ _ _ c.before.before.before.before.put-triangle.ensures l.invariant.5 (triangle_same _ _ _ _ _ _ _ _ l.invariant.3 c.before.before.before.before.before.before.before.before.before.field.ensures.0 c.before.before.before.before.before.before.before.before.field2.ensures.0 c.before.before.before.before.before.before.before.field3.ensures.0))
 
 same_length : tie.Need-same-length invariant-loop decreases-loop
 same_length c = c.before.loop.invariant.1
@@ -66,10 +66,10 @@ same-length-2 c = c.before.loop.invariant.2
 
 returns : tie.Need-returns invariant-loop decreases-loop
 returns c = let a = c.before.before.before.before.before.before.args in let l = c.before.loop in let e : l.i ≡ a.n = omega arith in
-    subst (λ (m : ℕ). trianglesAt m l.corners l.volumes ≡ tab m (triangleBits (place_in a.points.now) (bits_of a.s.now) a.at)) e l.invariant.5
+    subst (λ (m : ℕ). triangles_at m l.corners l.volumes ≡ tab m (triangle_bits (place_in a.points.now) (bits_of a.s.now) a.at)) e l.invariant.5
 
-pub read-triangles-spec : {M : Type 1} → statement M
-read-triangles-spec =
+pub read_triangles_spec : {M : Type 1} → statement M
+read_triangles_spec =
     tie.close
     (tie.spec
     invariant-loop

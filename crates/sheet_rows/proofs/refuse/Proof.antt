@@ -1,7 +1,7 @@
 -- `sheet_rows::refuse` meets its contract. Assumes nothing.
 use native.Mathlib.Omega.{arith}
 use mathlib.Core.Path.{◌≡◌, refl, ◌∙◌}
-use Rattle.sheet_rows.proofs.MeshReads.{filled-same, empty-world}
+use Rattle.sheet_rows.proofs.MeshReads.{filled_same, empty_world}
 use borrow.Author.Rules.{rules}
 use Rattle.sheet_rows.proofs.refuse.Statement.{statement}
 use Rattle.sheet_rows.proofs.refuse.Tie as tie
@@ -40,7 +40,7 @@ same-length-9 : tie.Need-same-length-9
 same-length-9 c = c.before.before.before.before.before.before.before.before.before.before.before.before.before.before.before.before.before.before.before.before.before.before.before.before.before.before.before.clear-f32.auto.1.0
 
 returns : tie.Need-returns
-returns c = (filled-same _ _ _ _ _ _ _ _ (empty-world _ _ _ _ _ _ _ _) refl c.before.before.before.before.before.before.before.before.before.before.before.before.before.before.before.before.finish-all.ensures, c.before.before.before.before.before.before.before.before.before.before.before.before.before.before.before.before.before.before.before.before.before.before.before.before.before.before.before.clear-f32.ensures)
+returns c = (filled_same _ _ _ _ _ _ _ _ (empty_world _ _ _ _ _ _ _ _) refl c.before.before.before.before.before.before.before.before.before.before.before.before.before.before.before.before.finish-all.ensures, c.before.before.before.before.before.before.before.before.before.before.before.before.before.before.before.before.before.before.before.before.before.before.before.before.before.before.before.clear-f32.ensures)
 
-pub refuse-spec : {M : Type 1} → statement M
-refuse-spec = tie.close (tie.spec clear-f32-requires finish-all-requires same_length same-length-2 same-length-3 same-length-4 same-length-5 same-length-6 same-length-7 same-length-8 same-length-9 returns)
+pub refuse_spec : {M : Type 1} → statement M
+refuse_spec = tie.close (tie.spec clear-f32-requires finish-all-requires same_length same-length-2 same-length-3 same-length-4 same-length-5 same-length-6 same-length-7 same-length-8 same-length-9 returns)

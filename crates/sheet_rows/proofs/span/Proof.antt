@@ -1,7 +1,7 @@
 -- `sheet_rows::span` meets its contract. Assumes nothing.
 use mathlib.Core.Path.{ap, ap₂, ◌∙◌}
 use Rattle.blade.specs.declared.Point.{Point}
-use Rattle.blade.specs.Points.{minusOf, length_of}
+use Rattle.blade.specs.Points.{minus_of, length_of}
 use borrow.Author.Rules.{rules}
 use Rattle.sheet_rows.proofs.span.Statement.{statement}
 use Rattle.sheet_rows.proofs.span.Tie as tie
@@ -19,8 +19,8 @@ length-requires : tie.Need-length-requires
 length-requires c κs = search rules
 
 returns : tie.Need-returns
-returns c = c.length.ensures ∙ ap length_of (c.before.minus.ensures ∙ ap₂ (λ (p q : Point). minusOf p q) c.before.before.before.place.ensures c.before.before.place2.ensures)
+returns c = c.length.ensures ∙ ap length_of (c.before.minus.ensures ∙ ap₂ (λ (p q : Point). minus_of p q) c.before.before.before.place.ensures c.before.before.place2.ensures)
 
-pub span-spec : {M : Type 1} → statement M
-span-spec =
+pub span_spec : {M : Type 1} → statement M
+span_spec =
     tie.close (tie.spec place-requires place-requires-2 minus-requires length-requires returns)

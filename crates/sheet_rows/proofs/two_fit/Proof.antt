@@ -10,5 +10,5 @@ returns c = sym (rw (le-leb _ _ c.if1.true))
 returns-2 : tie.Need-returns-2
 returns-2 c = sym (rw (lt-leb _ _ c.if1.false))
 
-pub two-fit-spec : {M : Type 1} → statement M
-two-fit-spec = tie.close (tie.spec returns returns-2)
+pub two_fit_spec : {M : Type 1} → statement M
+two_fit_spec = tie.close (tie.spec returns returns-2)

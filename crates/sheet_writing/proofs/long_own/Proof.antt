@@ -14,8 +14,8 @@ list-outline-requires c κs = c.before.before.before.before.before.before.before
 returns : tie.Need-returns
 returns c = ap (ltb 2048) c.before.list-outline.ensures.count
 
-pub long-own-spec : {M : Type 1} → statement M
-long-own-spec =
+pub long_own_spec : {M : Type 1} → statement M
+long_own_spec =
     tie.close
     (tie.spec
     slice-aggregate-list-outline

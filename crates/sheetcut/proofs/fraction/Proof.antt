@@ -9,5 +9,5 @@ returns : tie.Need-returns
 unfolding of_bits fraction
 returns c = refl
 
-pub fraction-spec : {M : Type 1} → statement M
-fraction-spec = tie.close (tie.spec returns)
+pub fraction_spec : {M : Type 1} → statement M
+fraction_spec = tie.close (tie.spec returns)

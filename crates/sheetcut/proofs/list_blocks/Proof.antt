@@ -1,9 +1,9 @@
 -- `sheetcut::list_blocks` meets its contract: the answer of the cut is listed. Assumes nothing.
 use borrow.Author.Rules.{rules}
 use mathlib.Core.Path.{refl}
-use Rattle.mesh.specs.Given.{given, meshOf, sizesFit}
-use Rattle.mesh.proofs.Agree.{lent-path}
-use Rattle.sheetcut.proofs.Cutting.{lent-listable, lent-listed}
+use Rattle.mesh.specs.Given.{given, mesh_of, sizes_fit_of}
+use Rattle.mesh.proofs.Agree.{lent_path}
+use Rattle.sheetcut.proofs.Cutting.{lent_listable, lent_listed}
 use Rattle.sheetcut.proofs.list_blocks.Statement.{statement}
 use Rattle.sheetcut.proofs.list_blocks.Tie as tie
 
@@ -57,8 +57,8 @@ list-answer-requires c κs =
     let A = c.before.before.before.before.before.before.before.before.before.before.before.before.before.before.before.before.before.before.before.before.before.before.before.before.before.before.before.before.before.before.before.before.args in
     let G = given A.points.now A.roots.now A.corners.now A.volumes.now A.ends.now A.lengths.now A.outline.now in
     let W = c.before.before.before.before.before.before.before.before.before.before.before.before.before.before.cut in
-    lent-listable (sizesFit G) (meshOf G) (record { from = A.b0; to = A.b1 }) _ W.result _ W.new.1.1.1.1.1.1.1.1.1.1.1.0 W.new.1.1.1.1.1.1.1.1.1.1.1.1.0 W.new.1.1.1.1.1.1.1.1.1.1.1.1.1.0 W.new.1.1.1.1.1.1.1.1.1.1.1.1.1.1.0 W.new.1.1.1.1.1.1.1.1.1.1.1.1.1.1.1.0 W.new.1.1.1.1.1.1.1.1.1.1.1.1.1.1.1.1.0 W.new.1.1.1.1.1.1.1.1.1.1.1.1.1.1.1.1.1.0 W.new.1.1.1.1.1.1.1.1.1.1.1.1.1.1.1.1.1.1.0 W.ensures refl
-    (lent-path _ _ W.auto.1.1.1.1.1.1.1.1.1.1.1.0 W.auto.1.1.1.1.1.1.1.1.1.1.1.1.0 W.auto.1.1.1.1.1.1.1.1.1.1.1.1.1.0 W.auto.1.1.1.1.1.1.1.1.1.1.1.1.1.1.0 W.auto.1.1.1.1.1.1.1.1.1.1.1.1.1.1.1.0 W.auto.1.1.1.1.1.1.1.1.1.1.1.1.1.1.1.1.0 W.auto.1.1.1.1.1.1.1.1.1.1.1.1.1.1.1.1.1.0 W.auto.1.1.1.1.1.1.1.1.1.1.1.1.1.1.1.1.1.1.0)
+    lent_listable (sizes_fit_of G) (mesh_of G) (record { from = A.b0; to = A.b1 }) _ W.result _ W.new.1.1.1.1.1.1.1.1.1.1.1.0 W.new.1.1.1.1.1.1.1.1.1.1.1.1.0 W.new.1.1.1.1.1.1.1.1.1.1.1.1.1.0 W.new.1.1.1.1.1.1.1.1.1.1.1.1.1.1.0 W.new.1.1.1.1.1.1.1.1.1.1.1.1.1.1.1.0 W.new.1.1.1.1.1.1.1.1.1.1.1.1.1.1.1.1.0 W.new.1.1.1.1.1.1.1.1.1.1.1.1.1.1.1.1.1.0 W.new.1.1.1.1.1.1.1.1.1.1.1.1.1.1.1.1.1.1.0 W.ensures refl
+    (lent_path _ _ W.auto.1.1.1.1.1.1.1.1.1.1.1.0 W.auto.1.1.1.1.1.1.1.1.1.1.1.1.0 W.auto.1.1.1.1.1.1.1.1.1.1.1.1.1.0 W.auto.1.1.1.1.1.1.1.1.1.1.1.1.1.1.0 W.auto.1.1.1.1.1.1.1.1.1.1.1.1.1.1.1.0 W.auto.1.1.1.1.1.1.1.1.1.1.1.1.1.1.1.1.0 W.auto.1.1.1.1.1.1.1.1.1.1.1.1.1.1.1.1.1.0 W.auto.1.1.1.1.1.1.1.1.1.1.1.1.1.1.1.1.1.1.0)
 
 same_length : tie.Need-same-length
 same_length c = search rules
@@ -68,11 +68,11 @@ returns c =
     let A = c.before.before.before.before.before.before.before.before.before.before.before.before.before.before.before.before.before.before.before.before.before.before.before.before.before.before.before.before.before.before.before.before.before.before.before.args in
     let G = given A.points.now A.roots.now A.corners.now A.volumes.now A.ends.now A.lengths.now A.outline.now in
     let W = c.before.before.before.before.before.before.before.before.before.before.before.before.before.before.before.before.before.cut in
-    lent-listed (sizesFit G) (meshOf G) (record { from = A.b0; to = A.b1 }) _ W.result _ W.new.1.1.1.1.1.1.1.1.1.1.1.0 W.new.1.1.1.1.1.1.1.1.1.1.1.1.0 W.new.1.1.1.1.1.1.1.1.1.1.1.1.1.0 W.new.1.1.1.1.1.1.1.1.1.1.1.1.1.1.0 W.new.1.1.1.1.1.1.1.1.1.1.1.1.1.1.1.0 W.new.1.1.1.1.1.1.1.1.1.1.1.1.1.1.1.1.0 W.new.1.1.1.1.1.1.1.1.1.1.1.1.1.1.1.1.1.0 W.new.1.1.1.1.1.1.1.1.1.1.1.1.1.1.1.1.1.1.0 W.ensures refl
-    (lent-path _ _ W.auto.1.1.1.1.1.1.1.1.1.1.1.0 W.auto.1.1.1.1.1.1.1.1.1.1.1.1.0 W.auto.1.1.1.1.1.1.1.1.1.1.1.1.1.0 W.auto.1.1.1.1.1.1.1.1.1.1.1.1.1.1.0 W.auto.1.1.1.1.1.1.1.1.1.1.1.1.1.1.1.0 W.auto.1.1.1.1.1.1.1.1.1.1.1.1.1.1.1.1.0 W.auto.1.1.1.1.1.1.1.1.1.1.1.1.1.1.1.1.1.0 W.auto.1.1.1.1.1.1.1.1.1.1.1.1.1.1.1.1.1.1.0) _ _ _ _ c.before.before.before.before.before.before.before.before.before.before.before.before.before.before.before.before.before.before.before.before.before.before.before.before.before.before.fraction.ensures c.before.before.list-answer.ensures
+    lent_listed (sizes_fit_of G) (mesh_of G) (record { from = A.b0; to = A.b1 }) _ W.result _ W.new.1.1.1.1.1.1.1.1.1.1.1.0 W.new.1.1.1.1.1.1.1.1.1.1.1.1.0 W.new.1.1.1.1.1.1.1.1.1.1.1.1.1.0 W.new.1.1.1.1.1.1.1.1.1.1.1.1.1.1.0 W.new.1.1.1.1.1.1.1.1.1.1.1.1.1.1.1.0 W.new.1.1.1.1.1.1.1.1.1.1.1.1.1.1.1.1.0 W.new.1.1.1.1.1.1.1.1.1.1.1.1.1.1.1.1.1.0 W.new.1.1.1.1.1.1.1.1.1.1.1.1.1.1.1.1.1.1.0 W.ensures refl
+    (lent_path _ _ W.auto.1.1.1.1.1.1.1.1.1.1.1.0 W.auto.1.1.1.1.1.1.1.1.1.1.1.1.0 W.auto.1.1.1.1.1.1.1.1.1.1.1.1.1.0 W.auto.1.1.1.1.1.1.1.1.1.1.1.1.1.1.0 W.auto.1.1.1.1.1.1.1.1.1.1.1.1.1.1.1.0 W.auto.1.1.1.1.1.1.1.1.1.1.1.1.1.1.1.1.0 W.auto.1.1.1.1.1.1.1.1.1.1.1.1.1.1.1.1.1.0 W.auto.1.1.1.1.1.1.1.1.1.1.1.1.1.1.1.1.1.1.0) _ _ _ _ c.before.before.before.before.before.before.before.before.before.before.before.before.before.before.before.before.before.before.before.before.before.before.before.before.before.before.fraction.ensures c.before.before.list-answer.ensures
 
-pub list-blocks-spec : {M : Type 1} → statement M
-list-blocks-spec =
+pub list_blocks_spec : {M : Type 1} → statement M
+list_blocks_spec =
     tie.close
     (tie.spec
     fraction-requires

@@ -1,9 +1,9 @@
 -- `sheetcut::list_cut` meets its contract: the refusal of the sheet, or the listing of a whole one. Assumes nothing.
 use native.Mathlib.Omega.{arith}
 use borrow.Author.Rules.{rules}
-use Rattle.listing.proofs.Lengths.{refused-few}
+use Rattle.listing.proofs.Lengths.{refused_few}
 use mathlib.Core.Path.{sym, ◌∙◌}
-use Rattle.sheetcut.proofs.Cutting.{whole-listed, refused-listed}
+use Rattle.sheetcut.proofs.Cutting.{whole_listed, refused_listed}
 use Rattle.sheetcut.proofs.list_cut.Statement.{statement}
 use Rattle.sheetcut.proofs.list_cut.Tie as tie
 
@@ -26,16 +26,16 @@ same_length : tie.Need-same-length
 same_length c = search rules
 
 returns : tie.Need-returns
-returns c = whole-listed c.before.before.before.before.before.before.before.before.before.before.args.bytes.now _ _ _ _ _ (sym c.before.before.before.before.before.before.before.look.ensures ∙ c.before.before.before.before.before.seen.given.1) c.before.before.list-whole.ensures
+returns c = whole_listed c.before.before.before.before.before.before.before.before.before.before.args.bytes.now _ _ _ _ _ (sym c.before.before.before.before.before.before.before.look.ensures ∙ c.before.before.before.before.before.seen.given.1) c.before.before.list-whole.ensures
 
 same-length-2 : tie.Need-same-length-2
 same-length-2 c = search rules
 
 returns-2 : tie.Need-returns-2
-returns-2 c = refused-listed c.before.before.before.before.before.before.before.before.before.before.args.bytes.now _ _ _ _ (sym c.before.before.before.before.before.before.before.look.ensures ∙ c.before.before.before.before.before.seen2.given.1) (record { wrote = c.before.before.write-refused.ensures; enough = refused-few _ (search rules) })
+returns-2 c = refused_listed c.before.before.before.before.before.before.before.before.before.before.args.bytes.now _ _ _ _ (sym c.before.before.before.before.before.before.before.look.ensures ∙ c.before.before.before.before.before.seen2.given.1) (record { wrote = c.before.before.write-refused.ensures; enough = refused_few _ (search rules) })
 
-pub list-cut-spec : {M : Type 1} → statement M
-list-cut-spec =
+pub list_cut_spec : {M : Type 1} → statement M
+list_cut_spec =
     tie.close
     (tie.spec
     look-requires

@@ -37,25 +37,25 @@ shared-slice-read-t23-2 : tie.Need-shared-slice-read-t23-2
 shared-slice-read-t23-2 c = search rules
 
 slice-aggregate-list-blocks : tie.Need-slice-aggregate-list-blocks
-slice-aggregate-list-blocks c = let H = c.before.before.before.before.before.before.before.before.before.before.before.before.before.before.before.before.before.before.before.before.requires in sym (length-take-le _ _ (omega (arith, H.few-particles, H.ample.points)))
+slice-aggregate-list-blocks c = let H = c.before.before.before.before.before.before.before.before.before.before.before.before.before.before.before.before.before.before.before.before.requires in sym (length-take-le _ _ (omega (arith, H.few_particles, H.ample.points)))
 
 slice-aggregate-list-blocks-2 : tie.Need-slice-aggregate-list-blocks-2
-slice-aggregate-list-blocks-2 c = let H = c.before.before.before.before.before.before.before.before.before.before.before.before.before.before.before.before.before.before.before.before.before.requires in sym (length-take-le _ _ (omega (arith, H.few-particles, H.ample.roots)))
+slice-aggregate-list-blocks-2 c = let H = c.before.before.before.before.before.before.before.before.before.before.before.before.before.before.before.before.before.before.before.before.before.requires in sym (length-take-le _ _ (omega (arith, H.few_particles, H.ample.roots)))
 
 slice-aggregate-list-blocks-3 : tie.Need-slice-aggregate-list-blocks-3
-slice-aggregate-list-blocks-3 c = let H = c.before.before.before.before.before.before.before.before.before.before.before.before.before.before.before.before.before.before.before.before.before.before.requires in sym (length-take-le _ _ (omega (arith, H.few-triangles, H.ample.corners)))
+slice-aggregate-list-blocks-3 c = let H = c.before.before.before.before.before.before.before.before.before.before.before.before.before.before.before.before.before.before.before.before.before.before.requires in sym (length-take-le _ _ (omega (arith, H.few_triangles, H.ample.corners)))
 
 slice-aggregate-list-blocks-4 : tie.Need-slice-aggregate-list-blocks-4
-slice-aggregate-list-blocks-4 c = let H = c.before.before.before.before.before.before.before.before.before.before.before.before.before.before.before.before.before.before.before.before.before.before.before.requires in sym (length-take-le _ _ (omega (arith, H.few-triangles, H.ample.volumes)))
+slice-aggregate-list-blocks-4 c = let H = c.before.before.before.before.before.before.before.before.before.before.before.before.before.before.before.before.before.before.before.before.before.before.before.requires in sym (length-take-le _ _ (omega (arith, H.few_triangles, H.ample.volumes)))
 
 slice-aggregate-list-blocks-5 : tie.Need-slice-aggregate-list-blocks-5
-slice-aggregate-list-blocks-5 c = let H = c.before.before.before.before.before.before.before.before.before.before.before.before.before.before.before.before.before.before.before.before.before.before.before.before.requires in sym (length-take-le _ _ (omega (arith, H.few-edges, H.ample.ends)))
+slice-aggregate-list-blocks-5 c = let H = c.before.before.before.before.before.before.before.before.before.before.before.before.before.before.before.before.before.before.before.before.before.before.before.before.requires in sym (length-take-le _ _ (omega (arith, H.few_edges, H.ample.ends)))
 
 slice-aggregate-list-blocks-6 : tie.Need-slice-aggregate-list-blocks-6
-slice-aggregate-list-blocks-6 c = let H = c.before.before.before.before.before.before.before.before.before.before.before.before.before.before.before.before.before.before.before.before.before.before.before.before.before.requires in sym (length-take-le _ _ (omega (arith, H.few-edges, H.ample.lengths)))
+slice-aggregate-list-blocks-6 c = let H = c.before.before.before.before.before.before.before.before.before.before.before.before.before.before.before.before.before.before.before.before.before.before.before.before.before.requires in sym (length-take-le _ _ (omega (arith, H.few_edges, H.ample.lengths)))
 
 slice-aggregate-list-blocks-7 : tie.Need-slice-aggregate-list-blocks-7
-slice-aggregate-list-blocks-7 c = let H = c.before.before.before.before.before.before.before.before.before.before.before.before.before.before.before.before.before.before.before.before.before.before.before.before.before.before.requires in sym (length-take-le _ _ (omega (arith, H.few-boundary, H.ample.outline)))
+slice-aggregate-list-blocks-7 c = let H = c.before.before.before.before.before.before.before.before.before.before.before.before.before.before.before.before.before.before.before.before.before.before.before.before.before.before.requires in sym (length-take-le _ _ (omega (arith, H.few_boundary, H.ample.outline)))
 
 list-blocks-requires : tie.Need-list-blocks-requires
 list-blocks-requires c κs = search rules
@@ -66,8 +66,8 @@ same_length c = search rules
 returns : tie.Need-returns
 returns c = search rules
 
-pub list-fronts-spec : {M : Type 1} → statement M
-list-fronts-spec =
+pub list_fronts_spec : {M : Type 1} → statement M
+list_fronts_spec =
     tie.close
     (tie.spec
     mul-p

@@ -25,6 +25,6 @@ same_length c = search rules
 returns-3 : tie.Need-returns-3
 returns-3 c = λ y h. let A = c.before.before.before.args in ⊎_elim (λ w. inl w.0) (λ w. inr (sym w.1 ∙ h)) (stored A.walked.now A.x 1 y (omega (arith, c.before.before.if1.false)))
 
-pub is-walked-spec : {M : Type 1} → statement M
-is-walked-spec =
+pub is_walked_spec : {M : Type 1} → statement M
+is_walked_spec =
     tie.close (tie.spec returns slice-read-if2 returns-2 slice-write-walked same_length returns-3)

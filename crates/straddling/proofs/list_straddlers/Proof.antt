@@ -6,20 +6,20 @@ use Prim.Native.Nat.{◌-◌}
 use native.Mathlib.Omega.{arith}
 use lib.ListN.{length-replicate}
 use Prim.Native.Nat.{ℕ}
-use Rattle.elements.specs.Table.{kindIs}
-use Rattle.straddling.proofs.StraddlerLaws.{corners-fit, near-room}
-use Rattle.straddling.proofs.ListLaws.{none-walked, Rounding, rounding-start, rounding-room, rounding-passed, rounding-more, rounding-done}
+use Rattle.elements.specs.Table.{kind_is}
+use Rattle.straddling.proofs.StraddlerLaws.{corners_fit, near_room}
+use Rattle.straddling.proofs.ListLaws.{none_walked, Rounding, rounding_start, rounding_room, rounding_passed, rounding_more, rounding_done}
 use Rattle.straddling.proofs.list_straddlers.Statement.{statement}
 use Rattle.straddling.proofs.list_straddlers.Tie as tie
 use Rattle.straddling.proofs.list_straddlers.Reads as reads
 use Rattle.straddling.proofs.list_straddlers.Lts as lts
-use Rattle.elements.proofs.corners_per.Reads as corners-per-reads
-use Rattle.straddling.proofs.is_walked.Reads as is-walked-reads
-use Rattle.straddling.proofs.list_edges_at.Reads as list-edges-at-reads
-use Rattle.straddling.proofs.mark_corners.Reads as mark-corners-reads
+use Rattle.elements.proofs.corners_per.Reads as corners_per_reads
+use Rattle.straddling.proofs.is_walked.Reads as is_walked_reads
+use Rattle.straddling.proofs.list_edges_at.Reads as list_edges_at_reads
+use Rattle.straddling.proofs.mark_corners.Reads as mark_corners_reads
 
 abbrev invariant-loop : tie.invariant-loop
-invariant-loop v before n count t e verts groups corners ends links table list₀ near m of walked₀ listed₀ q₀ list walked listed q = Rounding (kindIs of.kind) of.v of.before of.n of.count t e verts groups corners ends list₀ list listed q walked
+invariant-loop v before n count t e verts groups corners ends links table list₀ near m of walked₀ listed₀ q₀ list walked listed q = Rounding (kind_is of.kind) of.v of.before of.n of.count t e verts groups corners ends list₀ list listed q walked
 
 abbrev decreases-loop : tie.decreases-loop
 decreases-loop v before n count t e verts groups corners ends links table list₀ near m of walked₀ listed₀ q₀ list walked listed q = m - q
@@ -28,22 +28,22 @@ corners-per-requires : tie.Need-corners-per-requires invariant-loop decreases-lo
 corners-per-requires c κs = search rules
 
 mul-m : tie.Need-overflow-mul-m invariant-loop decreases-loop
-mul-m c = omega (arith, corners-fit (kindIs c.before.before.before.before.before.before.before.before.args.kind) c.before.before.before.before.before.before.before.before.args.n c.corners-per.ensures c.before.before.before.before.before.before.before.before.requires.0.ring)
+mul-m c = omega (arith, corners_fit (kind_is c.before.before.before.before.before.before.before.before.args.kind) c.before.before.before.before.before.before.before.before.args.n c.corners-per.ensures c.before.before.before.before.before.before.before.before.requires.0.ring)
 
 slice-aggregate-mark-corners : tie.Need-slice-aggregate-mark-corners invariant-loop decreases-loop
 slice-aggregate-mark-corners c = search rules
 
 mark-corners-requires : tie.Need-mark-corners-requires invariant-loop decreases-loop
-mark-corners-requires c κs = corners-fit (kindIs c.before.before.before.before.before.before.before.before.before.args.kind) c.before.before.before.before.before.before.before.before.before.args.n c.before.corners-per.ensures c.before.before.before.before.before.before.before.before.before.requires.0.ring
+mark-corners-requires c κs = corners_fit (kind_is c.before.before.before.before.before.before.before.before.before.args.kind) c.before.before.before.before.before.before.before.before.before.args.n c.before.corners-per.ensures c.before.before.before.before.before.before.before.before.before.requires.0.ring
 
 loop-holds : tie.Need-loop-init invariant-loop decreases-loop
-loop-holds c = rounding-start _ _ _ _ _ _ _ _ _ _ _ _ _ none-walked (length-replicate {A = ℕ} 1024 0)
+loop-holds c = rounding_start _ _ _ _ _ _ _ _ _ _ _ _ _ none_walked (length-replicate {A = ℕ} 1024 0)
 
 mul-is-walked : tie.Need-overflow-mul-is-walked invariant-loop decreases-loop
-mul-is-walked c = let f = corners-fit (kindIs c.before.before.before.before.before.before.before.before.before.before.before.before.before.args.kind) c.before.before.before.before.before.before.before.before.before.before.before.before.before.args.n c.before.before.before.before.before.corners-per.ensures c.before.before.before.before.before.before.before.before.before.before.before.before.before.requires.0.ring in omega (arith, f, c.loop-test.true)
+mul-is-walked c = let f = corners_fit (kind_is c.before.before.before.before.before.before.before.before.before.before.before.before.before.args.kind) c.before.before.before.before.before.before.before.before.before.before.before.before.before.args.n c.before.before.before.before.before.corners-per.ensures c.before.before.before.before.before.before.before.before.before.before.before.before.before.requires.0.ring in omega (arith, f, c.loop-test.true)
 
 shared-slice-read-is-walked : tie.Need-shared-slice-read-is-walked invariant-loop decreases-loop
-shared-slice-read-is-walked c = let f = corners-fit (kindIs c.before.before.before.before.before.before.before.before.before.before.before.before.before.before.args.kind) c.before.before.before.before.before.before.before.before.before.before.before.before.before.before.args.n c.before.before.before.before.before.before.corners-per.ensures c.before.before.before.before.before.before.before.before.before.before.before.before.before.before.requires.0.ring in omega (arith, f, c.before.loop-test.true)
+shared-slice-read-is-walked c = let f = corners_fit (kind_is c.before.before.before.before.before.before.before.before.before.before.before.before.before.before.args.kind) c.before.before.before.before.before.before.before.before.before.before.before.before.before.before.args.n c.before.before.before.before.before.before.corners-per.ensures c.before.before.before.before.before.before.before.before.before.before.before.before.before.before.requires.0.ring in omega (arith, f, c.before.loop-test.true)
 
 slice-aggregate-is-walked : tie.Need-slice-aggregate-is-walked invariant-loop decreases-loop
 slice-aggregate-is-walked c = search rules
@@ -52,43 +52,43 @@ is-walked-requires : tie.Need-is-walked-requires invariant-loop decreases-loop
 is-walked-requires c κs = search rules
 
 add-q : tie.Need-overflow-add-q invariant-loop decreases-loop
-add-q c = let f = corners-fit (kindIs c.before.before.before.before.before.before.before.before.before.before.before.before.before.before.before.before.before.before.args.kind) c.before.before.before.before.before.before.before.before.before.before.before.before.before.before.before.before.before.before.args.n c.before.before.before.before.before.before.before.before.before.before.corners-per.ensures c.before.before.before.before.before.before.before.before.before.before.before.before.before.before.before.before.before.before.requires.0.ring in omega (arith, f, c.before.before.before.before.before.loop-test.true, c.before.before.before.before.before.before.before.before.before.before.before.before.before.before.before.before.before.before.well-formed.1.1.1.1.1.1.1.0)
+add-q c = let f = corners_fit (kind_is c.before.before.before.before.before.before.before.before.before.before.before.before.before.before.before.before.before.before.args.kind) c.before.before.before.before.before.before.before.before.before.before.before.before.before.before.before.before.before.before.args.n c.before.before.before.before.before.before.before.before.before.before.corners-per.ensures c.before.before.before.before.before.before.before.before.before.before.before.before.before.before.before.before.before.before.requires.0.ring in omega (arith, f, c.before.before.before.before.before.loop-test.true, c.before.before.before.before.before.before.before.before.before.before.before.before.before.before.before.before.before.before.well-formed.1.1.1.1.1.1.1.0)
 
 loop-less : tie.Need-loop-smaller invariant-loop decreases-loop
 loop-less c = omega (arith, c.before.before.before.before.before.loop-test.true)
 
 loop-again : tie.Need-loop-preserved invariant-loop decreases-loop
-loop-again c = rounding-passed _ _ _ _ _ _ _ _ _ _ _ _ _ _ _ _ c.before.before.before.before.before.before.loop.invariant c.before.before.before.before.before.before.before.before.before.before.before.before.before.before.before.before.before.before.requires.2 _ (subst (WalkTold _ _ _) c.if1.true c.before.before.is-walked.ensures)
+loop-again c = rounding_passed _ _ _ _ _ _ _ _ _ _ _ _ _ _ _ _ c.before.before.before.before.before.before.loop.invariant c.before.before.before.before.before.before.before.before.before.before.before.before.before.before.before.before.before.before.requires.2 _ (subst (WalkTold _ _ _) c.if1.true c.before.before.is-walked.ensures)
 
 mul-list-edges-at : tie.Need-overflow-mul-list-edges-at invariant-loop decreases-loop
-mul-list-edges-at c = let f = corners-fit (kindIs c.before.before.before.before.before.before.before.before.before.before.before.before.before.before.before.before.before.before.args.kind) c.before.before.before.before.before.before.before.before.before.before.before.before.before.before.before.before.before.before.args.n c.before.before.before.before.before.before.before.before.before.before.corners-per.ensures c.before.before.before.before.before.before.before.before.before.before.before.before.before.before.before.before.before.before.requires.0.ring in omega (arith, f, c.before.before.before.before.before.loop-test.true)
+mul-list-edges-at c = let f = corners_fit (kind_is c.before.before.before.before.before.before.before.before.before.before.before.before.before.before.before.before.before.before.args.kind) c.before.before.before.before.before.before.before.before.before.before.before.before.before.before.before.before.before.before.args.n c.before.before.before.before.before.before.before.before.before.before.corners-per.ensures c.before.before.before.before.before.before.before.before.before.before.before.before.before.before.before.before.before.before.requires.0.ring in omega (arith, f, c.before.before.before.before.before.loop-test.true)
 
 shared-slice-read-list-edges-at : tie.Need-shared-slice-read-list-edges-at invariant-loop decreases-loop
-shared-slice-read-list-edges-at c = let f = corners-fit (kindIs c.before.before.before.before.before.before.before.before.before.before.before.before.before.before.before.before.before.before.before.args.kind) c.before.before.before.before.before.before.before.before.before.before.before.before.before.before.before.before.before.before.before.args.n c.before.before.before.before.before.before.before.before.before.before.before.corners-per.ensures c.before.before.before.before.before.before.before.before.before.before.before.before.before.before.before.before.before.before.before.requires.0.ring in omega (arith, f, c.before.before.before.before.before.before.loop-test.true)
+shared-slice-read-list-edges-at c = let f = corners_fit (kind_is c.before.before.before.before.before.before.before.before.before.before.before.before.before.before.before.before.before.before.before.args.kind) c.before.before.before.before.before.before.before.before.before.before.before.before.before.before.before.before.before.before.before.args.n c.before.before.before.before.before.before.before.before.before.before.before.corners-per.ensures c.before.before.before.before.before.before.before.before.before.before.before.before.before.before.before.before.before.before.before.requires.0.ring in omega (arith, f, c.before.before.before.before.before.before.loop-test.true)
 
 slice-aggregate-list-edges-at : tie.Need-slice-aggregate-list-edges-at invariant-loop decreases-loop
 slice-aggregate-list-edges-at c = search rules
 
 list-edges-at-requires : tie.Need-list-edges-at-requires invariant-loop decreases-loop
-list-edges-at-requires c κs = let P = c.before.before.before.before.before.before.before.before.before.before.before.before.before.before.before.before.before.before.before.before.before.requires in (rounding-room _ _ _ _ _ _ _ _ _ _ _ _ _ _ _ _ c.before.before.before.before.before.before.before.before.before.loop.invariant P.0 (near-room (kindIs c.before.before.before.before.before.before.before.before.before.before.before.before.before.before.before.before.before.before.before.before.before.args.kind) c.before.before.before.before.before.before.before.before.before.before.before.before.before.before.before.before.before.before.before.before.before.args.n c.before.before.before.before.before.before.before.before.before.before.before.before.before.corners-per.ensures c.before.before.before.before.before.before.before.before.before.before.before.mark-corners.ensures P.2 (omega (arith, c.before.before.before.before.before.before.before.before.before.before.before.mark-corners.auto.1.1.0))) P.3 P.1, P.4)
+list-edges-at-requires c κs = let P = c.before.before.before.before.before.before.before.before.before.before.before.before.before.before.before.before.before.before.before.before.before.requires in (rounding_room _ _ _ _ _ _ _ _ _ _ _ _ _ _ _ _ c.before.before.before.before.before.before.before.before.before.loop.invariant P.0 (near_room (kind_is c.before.before.before.before.before.before.before.before.before.before.before.before.before.before.before.before.before.before.before.before.before.args.kind) c.before.before.before.before.before.before.before.before.before.before.before.before.before.before.before.before.before.before.before.before.before.args.n c.before.before.before.before.before.before.before.before.before.before.before.before.before.corners-per.ensures c.before.before.before.before.before.before.before.before.before.before.before.mark-corners.ensures P.2 (omega (arith, c.before.before.before.before.before.before.before.before.before.before.before.mark-corners.auto.1.1.0))) P.3 P.1, P.4)
 
 add-q-2 : tie.Need-overflow-add-q-2 invariant-loop decreases-loop
-add-q-2 c = let f = corners-fit (kindIs c.before.before.before.before.before.before.before.before.before.before.before.before.before.before.before.before.before.before.before.before.before.before.before.before.args.kind) c.before.before.before.before.before.before.before.before.before.before.before.before.before.before.before.before.before.before.before.before.before.before.before.before.args.n c.before.before.before.before.before.before.before.before.before.before.before.before.before.before.before.before.corners-per.ensures c.before.before.before.before.before.before.before.before.before.before.before.before.before.before.before.before.before.before.before.before.before.before.before.before.requires.0.ring in omega (arith, f, c.before.before.before.before.before.before.before.before.before.before.before.loop-test.true, c.before.before.before.before.before.before.before.before.before.before.before.before.before.before.before.before.before.before.before.before.before.before.before.before.well-formed.1.1.1.1.1.1.1.0)
+add-q-2 c = let f = corners_fit (kind_is c.before.before.before.before.before.before.before.before.before.before.before.before.before.before.before.before.before.before.before.before.before.before.before.before.args.kind) c.before.before.before.before.before.before.before.before.before.before.before.before.before.before.before.before.before.before.before.before.before.before.before.before.args.n c.before.before.before.before.before.before.before.before.before.before.before.before.before.before.before.before.corners-per.ensures c.before.before.before.before.before.before.before.before.before.before.before.before.before.before.before.before.before.before.before.before.before.before.before.before.requires.0.ring in omega (arith, f, c.before.before.before.before.before.before.before.before.before.before.before.loop-test.true, c.before.before.before.before.before.before.before.before.before.before.before.before.before.before.before.before.before.before.before.before.before.before.before.before.well-formed.1.1.1.1.1.1.1.0)
 
 loop-less-2 : tie.Need-loop-smaller-2 invariant-loop decreases-loop
 loop-less-2 c = omega (arith, c.before.before.before.before.before.before.before.before.before.before.before.loop-test.true)
 
 loop-again-2 : tie.Need-loop-preserved-2 invariant-loop decreases-loop
-loop-again-2 c = rounding-more _ _ _ _ _ _ _ _ _ _ _ _ _ _ _ _ c.before.before.before.before.before.before.before.before.before.before.before.before.loop.invariant _ (subst (WalkTold _ _ _) c.before.before.before.before.before.before.if1.false c.before.before.before.before.before.before.before.before.is-walked.ensures) c.before.before.before.before.before.before.before.before.is-walked.auto.1.0 _ _ c.before.before.list-edges-at.ensures c.before.before.list-edges-at.auto.1.1.1.1.1.1.1.1.1.1.1.1.0
+loop-again-2 c = rounding_more _ _ _ _ _ _ _ _ _ _ _ _ _ _ _ _ c.before.before.before.before.before.before.before.before.before.before.before.before.loop.invariant _ (subst (WalkTold _ _ _) c.before.before.before.before.before.before.if1.false c.before.before.before.before.before.before.before.before.is-walked.ensures) c.before.before.before.before.before.before.before.before.is-walked.auto.1.0 _ _ c.before.before.list-edges-at.ensures c.before.before.list-edges-at.auto.1.1.1.1.1.1.1.1.1.1.1.1.0
 
 same_length : tie.Need-same-length invariant-loop decreases-loop
 same_length c = c.before.loop.invariant.long
 
 returns : tie.Need-returns invariant-loop decreases-loop
-returns c = rounding-done _ _ _ _ _ _ _ _ _ _ _ _ _ _ _ _ c.before.loop.invariant c.before.before.before.before.before.before.before.before.before.before.before.before.before.requires.0.ring c.before.before.before.before.before.corners-per.ensures c.loop-test.false c.before.before.before.before.before.before.before.before.before.before.before.before.before.requires.1
+returns c = rounding_done _ _ _ _ _ _ _ _ _ _ _ _ _ _ _ _ c.before.loop.invariant c.before.before.before.before.before.before.before.before.before.before.before.before.before.requires.0.ring c.before.before.before.before.before.corners-per.ensures c.loop-test.false c.before.before.before.before.before.before.before.before.before.before.before.before.before.requires.1
 
-pub list-straddlers-spec : {M : Type 1} → statement M
-list-straddlers-spec =
+pub list_straddlers_spec : {M : Type 1} → statement M
+list_straddlers_spec =
     tie.close
     (tie.spec
     invariant-loop

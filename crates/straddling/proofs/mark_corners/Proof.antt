@@ -1,5 +1,5 @@
 -- `straddling::mark_corners` meets its contract: the loop over the corners is `Nearing` of proofs/StraddlerLaws.antt. Assumes nothing.
-use Rattle.straddling.proofs.StraddlerLaws.{Nearing, nearing-start, nearing-stored, nearing-passed, nearing-done}
+use Rattle.straddling.proofs.StraddlerLaws.{Nearing, nearing_start, nearing_stored, nearing_passed, nearing_done}
 use mathlib.Core.Logic.{⊎_elim}
 use native.Mathlib.Omega.{arith}
 use Prim.Native.Nat.{◌-◌}
@@ -13,7 +13,7 @@ abbrev decreases-loop : tie.decreases-loop
 decreases-loop m verts near₀ i₀ near i = m - i
 
 loop-holds : tie.Need-loop-init invariant-loop decreases-loop
-loop-holds c = nearing-start _ _ _
+loop-holds c = nearing_start _ _ _
 
 mul-x : tie.Need-overflow-mul-x invariant-loop decreases-loop
 mul-x c = omega (arith, c.loop-test.true, c.before.before.requires)
@@ -31,16 +31,16 @@ loop-less : tie.Need-loop-smaller invariant-loop decreases-loop
 loop-less c = omega (arith, c.before.before.loop-test.true)
 
 loop-again : tie.Need-loop-preserved invariant-loop decreases-loop
-loop-again c = ⊎_elim (λ w. nearing-stored _ _ _ _ _ c.before.before.before.loop.invariant c.before.before.loop-test.true _ w.0.taken w.1) (λ w. nearing-passed _ _ _ _ _ c.before.before.before.loop.invariant c.before.before.loop-test.true _ w.0.left w.1) c.if1.branch
+loop-again c = ⊎_elim (λ w. nearing_stored _ _ _ _ _ c.before.before.before.loop.invariant c.before.before.loop-test.true _ w.0.taken w.1) (λ w. nearing_passed _ _ _ _ _ c.before.before.before.loop.invariant c.before.before.loop-test.true _ w.0.left w.1) c.if1.branch
 
 same_length : tie.Need-same-length invariant-loop decreases-loop
 same_length c = c.before.loop.invariant.long
 
 returns : tie.Need-returns invariant-loop decreases-loop
-returns c = nearing-done _ _ _ _ _ c.before.loop.invariant c.loop-test.false
+returns c = nearing_done _ _ _ _ _ c.before.loop.invariant c.loop-test.false
 
-pub mark-corners-spec : {M : Type 1} → statement M
-mark-corners-spec =
+pub mark_corners_spec : {M : Type 1} → statement M
+mark_corners_spec =
     tie.close
     (tie.spec
     invariant-loop

@@ -1,5 +1,5 @@
 -- `straddling::straddles` meets its contract: one test behind the other, in the order of the definition. Assumes nothing.
-use Rattle.straddling.proofs.StraddlerLaws.{told-element, told-first, told-second, told-joined, told-held, held-room}
+use Rattle.straddling.proofs.StraddlerLaws.{told_element, told_first, told_second, told_joined, told_held, held_room}
 use borrow.Author.Tests.{not-true, not-false}
 use mathlib.Core.Path.{sym, subst}
 use Prim.Native.Nat.{ℕ}
@@ -40,19 +40,19 @@ is-element-requires : tie.Need-is-element-requires
 is-element-requires c κs = search rules
 
 returns : tie.Need-returns
-returns c = told-element _ _ _ _ _ _ _ _ _ _ _ _ c.before.is-element.result c.before.is-element.ensures c.if1.true
+returns c = told_element _ _ _ _ _ _ _ _ _ _ _ _ c.before.is-element.result c.before.is-element.ensures c.if1.true
 
 is-copy-requires : tie.Need-is-copy-requires
 is-copy-requires c κs = search rules
 
 returns-2 : tie.Need-returns-2
-returns-2 c = told-first _ _ _ _ _ _ _ _ _ _ _ _ c.before.before.before.is-element.result c.before.before.before.is-element.ensures c.before.before.if1.false c.before.is-copy.result c.before.is-copy.ensures c.if2.true
+returns-2 c = told_first _ _ _ _ _ _ _ _ _ _ _ _ c.before.before.before.is-element.result c.before.before.before.is-element.ensures c.before.before.if1.false c.before.is-copy.result c.before.is-copy.ensures c.if2.true
 
 is-copy-requires-2 : tie.Need-is-copy-requires-2
 is-copy-requires-2 c κs = search rules
 
 returns-3 : tie.Need-returns-3
-returns-3 c = told-second _ _ _ _ _ _ _ _ _ _ _ _ c.before.before.before.before.before.is-element.result c.before.before.before.before.before.is-element.ensures c.before.before.before.before.if1.false c.before.before.before.is-copy.result c.before.before.before.is-copy.ensures c.before.before.if2.false c.before.is-copy2.result c.before.is-copy2.ensures c.if3.true
+returns-3 c = told_second _ _ _ _ _ _ _ _ _ _ _ _ c.before.before.before.before.before.is-element.result c.before.before.before.before.before.is-element.ensures c.before.before.before.before.if1.false c.before.before.before.is-copy.result c.before.before.before.is-copy.ensures c.before.before.if2.false c.before.is-copy2.result c.before.is-copy2.ensures c.if3.true
 
 corners-per-requires : tie.Need-corners-per-requires
 corners-per-requires c κs = search rules
@@ -61,16 +61,16 @@ parted-requires : tie.Need-parted-requires
 parted-requires c κs = let A = c.before.before.before.before.before.before.before.before.before.before.before.before.before.before.before.before.args in subst (λ (k : ℕ). RingRoom A.n k (length A.verts.now) (length A.groups.now)) (sym c.corners-per.ensures) c.before.before.before.before.before.before.before.before.before.before.before.before.before.before.before.before.requires.0.ring
 
 returns-4 : tie.Need-returns-4
-returns-4 c = told-joined _ _ _ _ _ _ _ _ _ _ _ _ c.before.before.before.before.before.before.before.before.is-element.result c.before.before.before.before.before.before.before.before.is-element.ensures c.before.before.before.before.before.before.before.if1.false c.before.before.before.before.before.before.is-copy.result c.before.before.before.before.before.before.is-copy.ensures c.before.before.before.before.before.if2.false c.before.before.before.before.is-copy2.result c.before.before.before.before.is-copy2.ensures c.before.before.before.if3.false c.before.before.corners-per.result c.before.before.corners-per.ensures c.before.parted.result c.before.parted.ensures (not-true _ c.if4.true)
+returns-4 c = told_joined _ _ _ _ _ _ _ _ _ _ _ _ c.before.before.before.before.before.before.before.before.is-element.result c.before.before.before.before.before.before.before.before.is-element.ensures c.before.before.before.before.before.before.before.if1.false c.before.before.before.before.before.before.is-copy.result c.before.before.before.before.before.before.is-copy.ensures c.before.before.before.before.before.if2.false c.before.before.before.before.is-copy2.result c.before.before.before.before.is-copy2.ensures c.before.before.before.if3.false c.before.before.corners-per.result c.before.before.corners-per.ensures c.before.parted.result c.before.parted.ensures (not-true _ c.if4.true)
 
 held-requires : tie.Need-held-requires
-held-requires c κs = held-room _ _ _ _ _ _ _ _ _ _ _ c.before.before.before.before.before.before.before.before.before.before.before.before.before.before.before.before.before.before.requires.0 c.before.before.before.before.before.before.before.before.before.before.before.before.before.before.before.before.before.before.requires.1 c.before.before.before.before.before.before.before.before.before.before.before.before.before.before.before.before.before.before.requires.2 c.before.before.before.before.before.before.before.before.before.before.before.before.before.before.before.before.before.before.requires.3 c.before.before.before.before.before.before.before.before.before.before.before.before.before.before.before.before.before.before.requires.4
+held-requires c κs = held_room _ _ _ _ _ _ _ _ _ _ _ c.before.before.before.before.before.before.before.before.before.before.before.before.before.before.before.before.before.before.requires.0 c.before.before.before.before.before.before.before.before.before.before.before.before.before.before.before.before.before.before.requires.1 c.before.before.before.before.before.before.before.before.before.before.before.before.before.before.before.before.before.before.requires.2 c.before.before.before.before.before.before.before.before.before.before.before.before.before.before.before.before.before.before.requires.3 c.before.before.before.before.before.before.before.before.before.before.before.before.before.before.before.before.before.before.requires.4
 
 returns-5 : tie.Need-returns-5
-returns-5 c = told-held _ _ _ _ _ _ _ _ _ _ _ _ c.before.before.before.before.before.before.before.before.before.is-element.result c.before.before.before.before.before.before.before.before.before.is-element.ensures c.before.before.before.before.before.before.before.before.if1.false c.before.before.before.before.before.before.before.is-copy.result c.before.before.before.before.before.before.before.is-copy.ensures c.before.before.before.before.before.before.if2.false c.before.before.before.before.before.is-copy2.result c.before.before.before.before.before.is-copy2.ensures c.before.before.before.before.if3.false c.before.before.before.corners-per.result c.before.before.before.corners-per.ensures c.before.before.parted.result c.before.before.parted.ensures (not-false _ c.before.if4.false) c.held.result c.held.ensures
+returns-5 c = told_held _ _ _ _ _ _ _ _ _ _ _ _ c.before.before.before.before.before.before.before.before.before.is-element.result c.before.before.before.before.before.before.before.before.before.is-element.ensures c.before.before.before.before.before.before.before.before.if1.false c.before.before.before.before.before.before.before.is-copy.result c.before.before.before.before.before.before.before.is-copy.ensures c.before.before.before.before.before.before.if2.false c.before.before.before.before.before.is-copy2.result c.before.before.before.before.before.is-copy2.ensures c.before.before.before.before.if3.false c.before.before.before.corners-per.result c.before.before.before.corners-per.ensures c.before.before.parted.result c.before.before.parted.ensures (not-false _ c.before.if4.false) c.held.result c.held.ensures
 
-pub straddles-spec : {M : Type 1} → statement M
-straddles-spec =
+pub straddles_spec : {M : Type 1} → statement M
+straddles_spec =
     tie.close
     (tie.spec
     mul-a

@@ -1,12 +1,12 @@
 -- `text_c::list_cut` meets its contract: the listing is written, or there are too few bytes. Assumes nothing.
-use Rattle.text_c.proofs.Texting.{text-replied}
+use Rattle.text_c.proofs.Texting.{text_replied}
 use borrow.Author.Rules.{rules}
 use Rattle.text_c.proofs.list_cut.Statement.{statement}
 use Rattle.text_c.proofs.list_cut.Tie as tie
 use Rattle.text_c.proofs.list_cut.Reads as reads
 use Rattle.text_c.proofs.list_cut.Lts as lts
-use Rattle.sheetcut.proofs.list_cut.Reads as list-cut-reads
-use Rattle.text_c.proofs.code_of.Reads as code-of-reads
+use Rattle.sheetcut.proofs.list_cut.Reads as list_cut_reads
+use Rattle.text_c.proofs.code_of.Reads as code_of_reads
 
 list-cut-requires : tie.Need-list-cut-requires
 list-cut-requires c κs = search rules
@@ -18,7 +18,7 @@ same_length : tie.Need-same-length
 same_length c = search rules
 
 returns : tie.Need-returns
-returns c = text-replied _ _ _ _ _ c.before.before.before.list-cut.ensures.wrote c.code_of_lem.ensures
+returns c = text_replied _ _ _ _ _ c.before.before.before.list-cut.ensures.wrote c.code_of_lem.ensures
 
-pub list-cut-spec : {M : Type 1} → statement M
-list-cut-spec = tie.close (tie.spec list-cut-requires code-of-requires same_length returns)
+pub list_cut_spec : {M : Type 1} → statement M
+list_cut_spec = tie.close (tie.spec list-cut-requires code-of-requires same_length returns)

@@ -1,10 +1,10 @@
 -- `tornedge::crack_ends` meets its contract: the way at v opens, or the way at w does, or neither. Assumes nothing.
 use borrow.Author.Rules.{rules}
 use mathlib.Core.Path.{refl, ◌∙◌}
-use Rattle.elements.specs.Table.{kindIs}
-use Rattle.mesh.specs.Log.{worldAt}
-use Rattle.mesh.proofs.Agree.{lent-path}
-use Rattle.tornedge.proofs.OpenLaws.{still-ready, first_taken, second-taken, none-taken, linked-torn, linked-shut}
+use Rattle.elements.specs.Table.{kind_is}
+use Rattle.mesh.specs.Log.{world_at}
+use Rattle.mesh.proofs.Agree.{lent_path}
+use Rattle.tornedge.proofs.OpenLaws.{still_ready, first_taken, second_taken, none_taken, linked_torn, linked_shut}
 use Rattle.tornedge.proofs.crack_ends.Statement.{statement}
 use Rattle.tornedge.proofs.crack_ends.Tie as tie
 
@@ -40,15 +40,15 @@ same-length-8 c = c.before.before.before.before.before.before.before.before.befo
 
 returns : tie.Need-returns
 returns c = let P = c.before.before.before.before.before.before.before.before.before.before.before.before.before.before.before.before.before.before.before.before.before.before.before.before.before.before.before.before.before.before.before.before.before.before.before.before.before.requires in let A = c.before.before.before.before.before.before.before.before.before.before.before.before.before.before.before.before.before.before.before.before.before.before.before.before.before.before.before.before.before.before.before.before.before.before.before.before.before.args in
-    (first_taken (kindIs A.kind) A.minimum A.v A.w (A.a, A.b) (A.x, A.y) A.room (worldAt A.k A.points.now A.roots.now A.corners.now A.volumes.now A.ends.now A.lengths.now A.outline.now A.log.now) A.k _ _ _ c.before.first.given.1 c.before.before.before.before.before.before.before.before.before.before.before.before.before.before.before.before.before.before.before.try-way.ensures.0, linked-torn (kindIs A.kind) A.k.triangles A.k.edges A.k.boundary _ _ _ _ _ _ c.before.first.given.1 c.before.before.before.before.before.before.before.before.before.before.before.before.before.before.before.before.before.before.before.try-way.ensures.1)
+    (first_taken (kind_is A.kind) A.minimum A.v A.w (A.a, A.b) (A.x, A.y) A.room (world_at A.k A.points.now A.roots.now A.corners.now A.volumes.now A.ends.now A.lengths.now A.outline.now A.log.now) A.k _ _ _ c.before.first.given.1 c.before.before.before.before.before.before.before.before.before.before.before.before.before.before.before.before.before.before.before.try-way.ensures.0, linked_torn (kind_is A.kind) A.k.triangles A.k.edges A.k.boundary _ _ _ _ _ _ c.before.first.given.1 c.before.before.before.before.before.before.before.before.before.before.before.before.before.before.before.before.before.before.before.try-way.ensures.1)
 
 enum_told : tie.Need-enum-told
 enum_told c = search rules
 
 try-way-requires-2 : tie.Need-try-way-requires-2
-unfolding worldAt
+unfolding world_at
 try-way-requires-2 c κs = let P = c.before.before.before.before.before.before.before.before.before.before.before.before.before.before.before.before.before.before.before.before.before.before.before.before.before.before.before.before.before.before.before.before.before.before.before.before.before.before.before.before.before.before.before.before.requires in let A = c.before.before.before.before.before.before.before.before.before.before.before.before.before.before.before.before.before.before.before.before.before.before.before.before.before.before.before.before.before.before.before.before.before.before.before.before.before.before.before.before.before.before.before.before.args in
-    (still-ready (kindIs A.kind) A.minimum A.v A.w (A.a, A.b) (A.x, A.y) A.room (worldAt A.k A.points.now A.roots.now A.corners.now A.volumes.now A.ends.now A.lengths.now A.outline.now A.log.now) A.k _ _ c.before.before.before.before.before.before.before.before.enum_told.given.1 c.before.before.before.before.before.before.before.before.before.before.before.before.before.before.before.before.before.before.before.before.before.before.before.before.before.before.try-way.ensures.0 _ _ P.0 (lent-path _ _ c.before.before.before.before.before.before.before.before.before.before.before.before.before.before.before.before.before.before.before.before.before.before.before.before.before.before.try-way.auto.1.1.1.1.1.1.1.1.1.1.0 c.before.before.before.before.before.before.before.before.before.before.before.before.before.before.before.before.before.before.before.before.before.before.before.before.before.before.try-way.auto.1.1.1.1.1.1.1.1.1.1.1.0 c.before.before.before.before.before.before.before.before.before.before.before.before.before.before.before.before.before.before.before.before.before.before.before.before.before.before.try-way.auto.1.1.1.1.1.1.1.1.1.1.1.1.0 refl c.before.before.before.before.before.before.before.before.before.before.before.before.before.before.before.before.before.before.before.before.before.before.before.before.before.before.try-way.auto.1.1.1.1.1.1.1.1.1.1.1.1.1.1.0 c.before.before.before.before.before.before.before.before.before.before.before.before.before.before.before.before.before.before.before.before.before.before.before.before.before.before.try-way.auto.1.1.1.1.1.1.1.1.1.1.1.1.1.1.1.0 c.before.before.before.before.before.before.before.before.before.before.before.before.before.before.before.before.before.before.before.before.before.before.before.before.before.before.try-way.auto.1.1.1.1.1.1.1.1.1.1.1.1.1.1.1.1.0 c.before.before.before.before.before.before.before.before.before.before.before.before.before.before.before.before.before.before.before.before.before.before.before.before.before.before.try-way.auto.1.1.1.1.1.1.1.1.1.1.1.1.1.1.1.1.1.0), P.2, linked-shut (kindIs A.kind) A.k.triangles A.k.edges A.k.boundary _ _ _ _ _ c.before.before.before.before.before.before.before.before.enum_told.given.1 c.before.before.before.before.before.before.before.before.before.before.before.before.before.before.before.before.before.before.before.before.before.before.before.before.before.before.try-way.ensures.1)
+    (still_ready (kind_is A.kind) A.minimum A.v A.w (A.a, A.b) (A.x, A.y) A.room (world_at A.k A.points.now A.roots.now A.corners.now A.volumes.now A.ends.now A.lengths.now A.outline.now A.log.now) A.k _ _ c.before.before.before.before.before.before.before.before.enum_told.given.1 c.before.before.before.before.before.before.before.before.before.before.before.before.before.before.before.before.before.before.before.before.before.before.before.before.before.before.try-way.ensures.0 _ _ P.0 (lent_path _ _ c.before.before.before.before.before.before.before.before.before.before.before.before.before.before.before.before.before.before.before.before.before.before.before.before.before.before.try-way.auto.1.1.1.1.1.1.1.1.1.1.0 c.before.before.before.before.before.before.before.before.before.before.before.before.before.before.before.before.before.before.before.before.before.before.before.before.before.before.try-way.auto.1.1.1.1.1.1.1.1.1.1.1.0 c.before.before.before.before.before.before.before.before.before.before.before.before.before.before.before.before.before.before.before.before.before.before.before.before.before.before.try-way.auto.1.1.1.1.1.1.1.1.1.1.1.1.0 refl c.before.before.before.before.before.before.before.before.before.before.before.before.before.before.before.before.before.before.before.before.before.before.before.before.before.before.try-way.auto.1.1.1.1.1.1.1.1.1.1.1.1.1.1.0 c.before.before.before.before.before.before.before.before.before.before.before.before.before.before.before.before.before.before.before.before.before.before.before.before.before.before.try-way.auto.1.1.1.1.1.1.1.1.1.1.1.1.1.1.1.0 c.before.before.before.before.before.before.before.before.before.before.before.before.before.before.before.before.before.before.before.before.before.before.before.before.before.before.try-way.auto.1.1.1.1.1.1.1.1.1.1.1.1.1.1.1.1.0 c.before.before.before.before.before.before.before.before.before.before.before.before.before.before.before.before.before.before.before.before.before.before.before.before.before.before.try-way.auto.1.1.1.1.1.1.1.1.1.1.1.1.1.1.1.1.1.0), P.2, linked_shut (kind_is A.kind) A.k.triangles A.k.edges A.k.boundary _ _ _ _ _ c.before.before.before.before.before.before.before.before.enum_told.given.1 c.before.before.before.before.before.before.before.before.before.before.before.before.before.before.before.before.before.before.before.before.before.before.before.before.before.before.try-way.ensures.1)
 
 enum-known-second : tie.Need-enum-known-second
 enum-known-second c = search rules
@@ -82,7 +82,7 @@ same-length-16 c = c.before.before.before.before.before.before.before.before.bef
 
 returns-2 : tie.Need-returns-2
 returns-2 c = let P = c.before.before.before.before.before.before.before.before.before.before.before.before.before.before.before.before.before.before.before.before.before.before.before.before.before.before.before.before.before.before.before.before.before.before.before.before.before.before.before.before.before.before.before.before.before.before.before.before.before.before.before.before.before.before.before.before.before.before.before.before.before.before.before.before.requires in let A = c.before.before.before.before.before.before.before.before.before.before.before.before.before.before.before.before.before.before.before.before.before.before.before.before.before.before.before.before.before.before.before.before.before.before.before.before.before.before.before.before.before.before.before.before.before.before.before.before.before.before.before.before.before.before.before.before.before.before.before.before.before.before.before.before.args in
-    (second-taken (kindIs A.kind) A.minimum A.v A.w (A.a, A.b) (A.x, A.y) A.room (worldAt A.k A.points.now A.roots.now A.corners.now A.volumes.now A.ends.now A.lengths.now A.outline.now A.log.now) A.k _ _ c.before.before.before.before.before.before.before.before.before.before.before.before.before.before.before.before.before.before.before.before.before.before.before.before.before.before.before.before.enum_told.given.1 c.before.before.before.before.before.before.before.before.before.before.before.before.before.before.before.before.before.before.before.before.before.before.before.before.before.before.before.before.before.before.before.before.before.before.before.before.before.before.before.before.before.before.before.before.before.before.try-way.ensures.0 _ _ _ c.before.second.given.1 c.before.before.before.before.before.before.before.before.before.before.before.before.before.before.before.before.before.before.before.try-way2.ensures.0, linked-torn (kindIs A.kind) A.k.triangles A.k.edges A.k.boundary _ _ _ _ _ _ c.before.second.given.1 c.before.before.before.before.before.before.before.before.before.before.before.before.before.before.before.before.before.before.before.try-way2.ensures.1)
+    (second_taken (kind_is A.kind) A.minimum A.v A.w (A.a, A.b) (A.x, A.y) A.room (world_at A.k A.points.now A.roots.now A.corners.now A.volumes.now A.ends.now A.lengths.now A.outline.now A.log.now) A.k _ _ c.before.before.before.before.before.before.before.before.before.before.before.before.before.before.before.before.before.before.before.before.before.before.before.before.before.before.before.before.enum_told.given.1 c.before.before.before.before.before.before.before.before.before.before.before.before.before.before.before.before.before.before.before.before.before.before.before.before.before.before.before.before.before.before.before.before.before.before.before.before.before.before.before.before.before.before.before.before.before.before.try-way.ensures.0 _ _ _ c.before.second.given.1 c.before.before.before.before.before.before.before.before.before.before.before.before.before.before.before.before.before.before.before.try-way2.ensures.0, linked_torn (kind_is A.kind) A.k.triangles A.k.edges A.k.boundary _ _ _ _ _ _ c.before.second.given.1 c.before.before.before.before.before.before.before.before.before.before.before.before.before.before.before.before.before.before.before.try-way2.ensures.1)
 
 same-length-17 : tie.Need-same-length-17
 same-length-17 c = c.before.before.before.before.before.before.before.before.before.before.before.before.before.before.before.before.before.before.try-way2.auto.1.1.1.1.1.1.1.1.1.1.0 ∙ c.before.before.before.before.before.before.before.before.before.before.before.before.before.before.before.before.before.before.before.before.before.before.before.before.before.before.before.before.before.before.before.before.before.before.before.before.before.before.before.before.before.before.before.before.before.try-way.auto.1.1.1.1.1.1.1.1.1.1.0
@@ -110,10 +110,10 @@ same-length-24 c = c.before.before.before.before.before.before.before.before.bef
 
 returns-3 : tie.Need-returns-3
 returns-3 c = let P = c.before.before.before.before.before.before.before.before.before.before.before.before.before.before.before.before.before.before.before.before.before.before.before.before.before.before.before.before.before.before.before.before.before.before.before.before.before.before.before.before.before.before.before.before.before.before.before.before.before.before.before.before.before.before.before.before.before.before.before.before.before.before.before.requires in let A = c.before.before.before.before.before.before.before.before.before.before.before.before.before.before.before.before.before.before.before.before.before.before.before.before.before.before.before.before.before.before.before.before.before.before.before.before.before.before.before.before.before.before.before.before.before.before.before.before.before.before.before.before.before.before.before.before.before.before.before.before.before.before.before.args in
-    (none-taken (kindIs A.kind) A.minimum A.v A.w (A.a, A.b) (A.x, A.y) A.room (worldAt A.k A.points.now A.roots.now A.corners.now A.volumes.now A.ends.now A.lengths.now A.outline.now A.log.now) A.k _ _ c.before.before.before.before.before.before.before.before.before.before.before.before.before.before.before.before.before.before.before.before.before.before.before.before.before.before.before.enum_told.given.1 c.before.before.before.before.before.before.before.before.before.before.before.before.before.before.before.before.before.before.before.before.before.before.before.before.before.before.before.before.before.before.before.before.before.before.before.before.before.before.before.before.before.before.before.before.before.try-way.ensures.0 _ _ c.enum-told2.given.1 c.before.before.before.before.before.before.before.before.before.before.before.before.before.before.before.before.before.before.try-way2.ensures.0 P.0.counts, linked-shut (kindIs A.kind) A.k.triangles A.k.edges A.k.boundary _ _ _ _ _ c.enum-told2.given.1 c.before.before.before.before.before.before.before.before.before.before.before.before.before.before.before.before.before.before.try-way2.ensures.1)
+    (none_taken (kind_is A.kind) A.minimum A.v A.w (A.a, A.b) (A.x, A.y) A.room (world_at A.k A.points.now A.roots.now A.corners.now A.volumes.now A.ends.now A.lengths.now A.outline.now A.log.now) A.k _ _ c.before.before.before.before.before.before.before.before.before.before.before.before.before.before.before.before.before.before.before.before.before.before.before.before.before.before.before.enum_told.given.1 c.before.before.before.before.before.before.before.before.before.before.before.before.before.before.before.before.before.before.before.before.before.before.before.before.before.before.before.before.before.before.before.before.before.before.before.before.before.before.before.before.before.before.before.before.before.try-way.ensures.0 _ _ c.enum-told2.given.1 c.before.before.before.before.before.before.before.before.before.before.before.before.before.before.before.before.before.before.try-way2.ensures.0 P.0.counts, linked_shut (kind_is A.kind) A.k.triangles A.k.edges A.k.boundary _ _ _ _ _ c.enum-told2.given.1 c.before.before.before.before.before.before.before.before.before.before.before.before.before.before.before.before.before.before.try-way2.ensures.1)
 
-pub crack-ends-spec : {M : Type 1} → statement M
-crack-ends-spec =
+pub crack_ends_spec : {M : Type 1} → statement M
+crack_ends_spec =
     tie.close
     (tie.spec
     try-way-requires

@@ -1,10 +1,10 @@
 -- `tornedge::way_groups` meets its contract: the fan and its sides in tables, and its groups where both sides are there. Assumes nothing.
 use native.Mathlib.Omega.{arith}
 use mathlib.Core.Path.{sym, ◌∙◌}
-use Rattle.elements.specs.Table.{kindIs}
-use Rattle.mesh.specs.At.{meshAt}
-use Rattle.split.proofs.TabledLaws.{sides-asked}
-use Rattle.tornedge.proofs.OpenLaws.{place_in, two-told, way-sided, way-parted, way-whole}
+use Rattle.elements.specs.Table.{kind_is}
+use Rattle.mesh.specs.At.{mesh_at}
+use Rattle.split.proofs.TabledLaws.{sides_asked}
+use Rattle.tornedge.proofs.OpenLaws.{place_in, two_told, way_sided, way_parted, way_whole}
 use borrow.Author.Rules.{rules}
 use Rattle.tornedge.proofs.way_groups.Statement.{statement}
 use Rattle.tornedge.proofs.way_groups.Tie as tie
@@ -29,7 +29,7 @@ slice-aggregate-group-fan c = search rules
 
 group-fan-requires : tie.Need-group-fan-requires
 group-fan-requires c κs = let A = c.before.before.before.before.before.before.before.before.before.before.before.before.before.before.before.before.before.before.before.before.before.before.before.before.before.before.args in let P = c.before.before.before.before.before.before.before.before.before.before.before.before.before.before.before.before.before.before.before.before.before.before.before.before.before.before.requires in let F = c.before.before.before.before.before.before.before.before.before.before.before.way-tables in
-    sides-asked (way-sided A.k A.points.now A.roots.now A.corners.now A.volumes.now A.ends.now A.lengths.now A.outline.now P.0 F.ensures (omega (arith, c.before.before.before.before.before.before.before.before.before.before.before.way-tables.auto.1.1.1.1.1.1.1.1.1.1.1.0)) (omega (arith, c.before.before.before.before.before.before.before.before.before.before.before.way-tables.auto.1.1.1.1.1.1.1.1.1.1.1.1.0)) (omega (arith, c.before.before.before.before.before.before.before.before.before.before.before.way-tables.auto.1.1.1.1.1.1.1.1.1.1.1.1.1.0)) (omega (arith, P.1, c.before.before.before.before.before.before.before.before.before.before.before.way-tables.auto.1.1.1.1.1.1.1.1.1.1.1.1.1.1.0))) _ (omega (arith, F.ensures.few, P.2))
+    sides_asked (way_sided A.k A.points.now A.roots.now A.corners.now A.volumes.now A.ends.now A.lengths.now A.outline.now P.0 F.ensures (omega (arith, c.before.before.before.before.before.before.before.before.before.before.before.way-tables.auto.1.1.1.1.1.1.1.1.1.1.1.0)) (omega (arith, c.before.before.before.before.before.before.before.before.before.before.before.way-tables.auto.1.1.1.1.1.1.1.1.1.1.1.1.0)) (omega (arith, c.before.before.before.before.before.before.before.before.before.before.before.way-tables.auto.1.1.1.1.1.1.1.1.1.1.1.1.1.0)) (omega (arith, P.1, c.before.before.before.before.before.before.before.before.before.before.before.way-tables.auto.1.1.1.1.1.1.1.1.1.1.1.1.1.1.0))) _ (omega (arith, F.ensures.few, P.2))
 
 same_length : tie.Need-same-length
 same_length c = c.before.before.before.before.before.before.before.before.before.before.before.before.before.before.way-tables.auto.1.1.1.1.1.1.1.1.1.1.1.1.1.1.0
@@ -39,17 +39,17 @@ same-length-2 c = c.before.before.group-fan.auto.1.1.1.1.1.0
 
 returns : tie.Need-returns
 returns c = let A = c.before.before.before.before.before.before.before.before.before.before.before.before.before.before.before.before.before.before.before.before.before.before.before.before.before.before.before.before.before.args in let P = c.before.before.before.before.before.before.before.before.before.before.before.before.before.before.before.before.before.before.before.before.before.before.before.before.before.before.before.before.before.requires in let F = c.before.before.before.before.before.before.before.before.before.before.before.before.before.before.way-tables in
-    way-parted (way-sided A.k A.points.now A.roots.now A.corners.now A.volumes.now A.ends.now A.lengths.now A.outline.now P.0 F.ensures (omega (arith, c.before.before.before.before.before.before.before.before.before.before.before.before.before.before.way-tables.auto.1.1.1.1.1.1.1.1.1.1.1.0)) (omega (arith, c.before.before.before.before.before.before.before.before.before.before.before.before.before.before.way-tables.auto.1.1.1.1.1.1.1.1.1.1.1.1.0)) (omega (arith, c.before.before.before.before.before.before.before.before.before.before.before.before.before.before.way-tables.auto.1.1.1.1.1.1.1.1.1.1.1.1.1.0)) (omega (arith, P.1, c.before.before.before.before.before.before.before.before.before.before.before.before.before.before.way-tables.auto.1.1.1.1.1.1.1.1.1.1.1.1.1.1.0))) A.w F.ensures.sides-are (two-told A.k A.points.now A.roots.now A.corners.now A.volumes.now A.ends.now A.lengths.now A.outline.now P.0 _ ∙ sym c.before.before.before.before.before.before.before.two-sided.ensures ∙ c.before.before.before.before.before.before.if1.true) c.before.before.group-fan.ensures (omega (arith, P.2, c.before.before.group-fan.auto.1.1.1.1.1.0))
+    way_parted (way_sided A.k A.points.now A.roots.now A.corners.now A.volumes.now A.ends.now A.lengths.now A.outline.now P.0 F.ensures (omega (arith, c.before.before.before.before.before.before.before.before.before.before.before.before.before.before.way-tables.auto.1.1.1.1.1.1.1.1.1.1.1.0)) (omega (arith, c.before.before.before.before.before.before.before.before.before.before.before.before.before.before.way-tables.auto.1.1.1.1.1.1.1.1.1.1.1.1.0)) (omega (arith, c.before.before.before.before.before.before.before.before.before.before.before.before.before.before.way-tables.auto.1.1.1.1.1.1.1.1.1.1.1.1.1.0)) (omega (arith, P.1, c.before.before.before.before.before.before.before.before.before.before.before.before.before.before.way-tables.auto.1.1.1.1.1.1.1.1.1.1.1.1.1.1.0))) A.w F.ensures.sides_are (two_told A.k A.points.now A.roots.now A.corners.now A.volumes.now A.ends.now A.lengths.now A.outline.now P.0 _ ∙ sym c.before.before.before.before.before.before.before.two-sided.ensures ∙ c.before.before.before.before.before.before.if1.true) c.before.before.group-fan.ensures (omega (arith, P.2, c.before.before.group-fan.auto.1.1.1.1.1.0))
 
 same-length-3 : tie.Need-same-length-3
 same-length-3 c = c.before.before.before.before.before.before.before.before.way-tables.auto.1.1.1.1.1.1.1.1.1.1.1.1.1.1.0
 
 returns-2 : tie.Need-returns-2
 returns-2 c = let A = c.before.before.before.before.before.before.before.before.before.before.before.before.before.before.before.before.before.before.before.before.before.before.before.args in let P = c.before.before.before.before.before.before.before.before.before.before.before.before.before.before.before.before.before.before.before.before.before.before.before.requires in let F = c.before.before.before.before.before.before.before.before.way-tables in
-    way-whole (kindIs A.kind) (meshAt A.k A.points.now A.roots.now A.corners.now A.volumes.now A.ends.now A.lengths.now A.outline.now) A.v A.w A.groups.now F.ensures.sides-are (two-told A.k A.points.now A.roots.now A.corners.now A.volumes.now A.ends.now A.lengths.now A.outline.now P.0 _ ∙ sym c.before.two-sided.ensures ∙ c.if1.false)
+    way_whole (kind_is A.kind) (mesh_at A.k A.points.now A.roots.now A.corners.now A.volumes.now A.ends.now A.lengths.now A.outline.now) A.v A.w A.groups.now F.ensures.sides_are (two_told A.k A.points.now A.roots.now A.corners.now A.volumes.now A.ends.now A.lengths.now A.outline.now P.0 _ ∙ sym c.before.two-sided.ensures ∙ c.if1.false)
 
-pub way-groups-spec : {M : Type 1} → statement M
-way-groups-spec =
+pub way_groups_spec : {M : Type 1} → statement M
+way_groups_spec =
     tie.close
     (tie.spec
     slice-aggregate-way-tables

@@ -6,7 +6,7 @@ use lib.Dec.{ltb}
 use lib.ListN.{length, drop}
 use borrow.Author.Tests.{lt-ltb, le-ltb}
 use Rattle.lists.specs.Lists.{all}
-use Rattle.elements.proofs.Measures.{all-on, all-stop, all_end}
+use Rattle.elements.proofs.Measures.{all_on, all_stop, all_end}
 use Rattle.arguments.proofs.tests.all_below.Statement.{statement}
 use Rattle.arguments.proofs.tests.all_below.Tie as tie
 
@@ -29,7 +29,7 @@ returns : tie.Need-returns invariant-loop decreases-loop
 returns c =
     let L = c.before.before.before.loop in
     let A = c.before.before.before.before.args in
-    sym (all-stop (λ x. ltb x A.n) A.list.now L.i (omega arith) (le-ltb _ _ c.if1.true)) ∙ L.invariant.1
+    sym (all_stop (λ x. ltb x A.n) A.list.now L.i (omega arith) (le-ltb _ _ c.if1.true)) ∙ L.invariant.1
 
 add-i : tie.Need-overflow-add-i invariant-loop decreases-loop
 add-i c = omega arith
@@ -41,7 +41,7 @@ loop-again : tie.Need-loop-preserved invariant-loop decreases-loop
 loop-again c =
     let L = c.before.before.before.loop in
     let A = c.before.before.before.before.args in
-    (omega arith, all-on (λ x. ltb x A.n) A.list.now L.i (omega arith) (lt-ltb _ _ c.if1.false) ∙ L.invariant.1)
+    (omega arith, all_on (λ x. ltb x A.n) A.list.now L.i (omega arith) (lt-ltb _ _ c.if1.false) ∙ L.invariant.1)
 
 returns-2 : tie.Need-returns-2 invariant-loop decreases-loop
 returns-2 c =
@@ -49,8 +49,8 @@ returns-2 c =
     let A = c.before.before.args in
     sym (all_end (λ x. ltb x A.n) A.list.now L.i (omega arith)) ∙ L.invariant.1
 
-pub all-below-spec : {M : Type 1} → statement M
-all-below-spec =
+pub all_below_spec : {M : Type 1} → statement M
+all_below_spec =
     tie.close
     (tie.spec
     invariant-loop

@@ -11,5 +11,5 @@ returns : tie.Need-returns
 unfolding of_bits
 returns c = c.both.ensures
 
-pub fraction-fits-spec : {M : Type 1} → statement M
-fraction-fits-spec = tie.close (tie.spec both-requires returns)
+pub fraction_fits_spec : {M : Type 1} → statement M
+fraction_fits_spec = tie.close (tie.spec both-requires returns)

@@ -4,7 +4,7 @@ use native.Mathlib.Omega.{arith}
 use mathlib.Core.Path.{◌≡◌, refl, sym, ◌∙◌}
 use lib.ListN.{length, drop}
 use Rattle.model.specs.Calls.{strictly}
-use Rattle.arguments.proofs.Rising.{strictly-on, strictly-stop, strictly-end}
+use Rattle.arguments.proofs.Rising.{strictly_on, strictly_stop, strictly_end}
 use Rattle.arguments.proofs.tests.rising.Statement.{statement}
 use Rattle.arguments.proofs.tests.rising.Tie as tie
 
@@ -37,7 +37,7 @@ shared-slice-read-if1-2 c = omega arith
 
 returns : tie.Need-returns invariant-loop decreases-loop
 returns c = let L = c.before.before.before.before.loop in
-    sym (strictly-stop c.before.before.before.before.before.args.list.now L.i (omega arith) c.if1.true) ∙ L.invariant.1
+    sym (strictly_stop c.before.before.before.before.before.args.list.now L.i (omega arith) c.if1.true) ∙ L.invariant.1
 
 add-i : tie.Need-overflow-add-i invariant-loop decreases-loop
 add-i c = omega arith
@@ -47,14 +47,14 @@ loop-less c = omega arith
 
 loop-again : tie.Need-loop-preserved invariant-loop decreases-loop
 loop-again c = let L = c.before.before.before.before.loop in
-    (omega arith, strictly-on c.before.before.before.before.before.args.list.now L.i (omega arith) c.if1.false ∙ L.invariant.1)
+    (omega arith, strictly_on c.before.before.before.before.before.args.list.now L.i (omega arith) c.if1.false ∙ L.invariant.1)
 
 returns-2 : tie.Need-returns-2 invariant-loop decreases-loop
 returns-2 c = let L = c.before.loop in
-    sym (strictly-end c.before.before.args.list.now L.i (omega arith)) ∙ L.invariant.1
+    sym (strictly_end c.before.before.args.list.now L.i (omega arith)) ∙ L.invariant.1
 
-pub rising-spec : {M : Type 1} → statement M
-rising-spec =
+pub rising_spec : {M : Type 1} → statement M
+rising_spec =
     tie.close
     (tie.spec
     invariant-loop

@@ -12,5 +12,5 @@ returns-2 c = rw (c.before.if1.false, eq-eqb _ _ c.if2.true)
 returns-3 : tie.Need-returns-3
 returns-3 c = rw (c.before.if1.false, ne_eqb _ _ c.if2.false)
 
-pub with-numbers-spec : {M : Type 1} → statement M
-with-numbers-spec = tie.close (tie.spec returns returns-2 returns-3)
+pub with_numbers_spec : {M : Type 1} → statement M
+with_numbers_spec = tie.close (tie.spec returns returns-2 returns-3)

@@ -1,8 +1,8 @@
 -- `bench::tearing::split` meets its contract: the answer to its job. Assumes nothing.
 use borrow.Author.Rules.{rules}
-use Rattle.mesh.specs.Given.{given, meshOf, sizesFit}
-use Rattle.mesh_calls.proofs.Jobs.{split-is}
-use Rattle.bench.proofs.Coming.{answered-as}
+use Rattle.mesh.specs.Given.{given, mesh_of, sizes_fit_of}
+use Rattle.mesh_calls.proofs.Jobs.{split_is}
+use Rattle.bench.proofs.Coming.{answered_as}
 use Rattle.bench.proofs.tearing.split.Statement.{statement}
 use Rattle.bench.proofs.tearing.split.Tie as tie
 
@@ -36,8 +36,8 @@ same-length-8 c = c.before.before.before.before.before.before.before.before.befo
 returns : tie.Need-returns
 returns c =
     let A = c.before.before.before.before.before.before.before.before.before.before.before.before.before.before.before.before.before.before.before.before.before.before.before.before.before.before.before.before.before.before.before.before.before.before.before.before.before.before.before.before.before.args in
-    let G = given A.in-points.now A.in-roots.now A.in-corners.now A.in-volumes.now A.in-ends.now A.in-lengths.now A.in-outline.now in
-    answered-as (split-is A.v A.sides.now (sizesFit G) (meshOf G) _) c.before.before.before.before.before.before.before.before.before.before.before.before.before.before.before.before.answer-job.ensures
+    let G = given A.in-points.now A.in-roots.now A.in_corners.now A.in-volumes.now A.in-ends.now A.in-lengths.now A.in-outline.now in
+    answered_as (split_is A.v A.sides.now (sizes_fit_of G) (mesh_of G) _) c.before.before.before.before.before.before.before.before.before.before.before.before.before.before.before.before.answer-job.ensures
 
-pub split-spec : {M : Type 1} → statement M
-split-spec = tie.close (tie.spec answer-job-requires same_length same-length-2 same-length-3 same-length-4 same-length-5 same-length-6 same-length-7 same-length-8 returns)
+pub split_spec : {M : Type 1} → statement M
+split_spec = tie.close (tie.spec answer-job-requires same_length same-length-2 same-length-3 same-length-4 same-length-5 same-length-6 same-length-7 same-length-8 returns)

@@ -4,8 +4,8 @@ use mathlib.Core.Path.{sym}
 use lib.ListN.{length}
 use lib.Seq.{length-take-le}
 use borrow.Author.Rules.{rules}
-use Rattle.reading_c.proofs.Asking.{unread-small}
-use Rattle.bench_c.proofs.Cuttings.{few_words, crack-misread, crack-replied}
+use Rattle.reading_c.proofs.Asking.{unread_small}
+use Rattle.bench_c.proofs.Cuttings.{few_words, crack_misread, crack_replied}
 use Rattle.bench_c.proofs.cutting.bench_crack.Statement.{statement}
 use Rattle.bench_c.proofs.cutting.bench_crack.Tie as tie
 
@@ -34,13 +34,13 @@ same-length-2 : tie.Need-same-length-2
 same-length-2 c = c.before.before.before.before.reply-job.auto.1.1.1.1.1.0
 
 returns : tie.Need-returns
-returns c = let A = c.before.before.before.before.before.before.before.before.before.before.before.before.before.before.before.before.before.before.args in crack-replied A.bytes.now A.rooms.now _ _ _ _ _ A.torn.now A.minimum _ _ c.before.before.before.before.before.before.before.before.before.before.before.before.words-few.ensures c.before.before.before.before.before.before.before.before.before.before.before.if1.true c.before.before.before.before.before.before.before.before.before.words-into.ensures c.before.before.before.before.reply-job.ensures
+returns c = let A = c.before.before.before.before.before.before.before.before.before.before.before.before.before.before.before.before.before.before.args in crack_replied A.bytes.now A.rooms.now _ _ _ _ _ A.torn.now A.minimum _ _ c.before.before.before.before.before.before.before.before.before.before.before.before.words-few.ensures c.before.before.before.before.before.before.before.before.before.before.before.if1.true c.before.before.before.before.before.before.before.before.before.words-into.ensures c.before.before.before.before.reply-job.ensures
 
 unread-requires : tie.Need-unread-requires
 unread-requires c κs = search rules
 
 refuse-requires : tie.Need-refuse-requires
-refuse-requires c κs = unread-small _ _ _ c.before.before.unread.ensures
+refuse-requires c κs = unread_small _ _ _ c.before.before.unread.ensures
 
 same-length-3 : tie.Need-same-length-3
 same-length-3 c = c.before.before.before.before.refuse.auto.1.0
@@ -49,10 +49,10 @@ same-length-4 : tie.Need-same-length-4
 same-length-4 c = c.before.before.before.before.refuse.auto.1.1.0
 
 returns-2 : tie.Need-returns-2
-returns-2 c = let A = c.before.before.before.before.before.before.before.before.before.before.before.before.before.before.before.args in crack-misread A.bytes.now A.rooms.now _ _ _ _ _ A.torn.now A.minimum _ _ c.before.before.before.before.before.before.before.before.before.words-few.ensures c.before.before.before.before.before.before.before.before.if1.false c.before.before.before.before.before.before.before.unread.ensures c.before.before.before.before.refuse.ensures
+returns-2 c = let A = c.before.before.before.before.before.before.before.before.before.before.before.before.before.before.before.args in crack_misread A.bytes.now A.rooms.now _ _ _ _ _ A.torn.now A.minimum _ _ c.before.before.before.before.before.before.before.before.before.words-few.ensures c.before.before.before.before.before.before.before.before.if1.false c.before.before.before.before.before.before.before.unread.ensures c.before.before.before.before.refuse.ensures
 
-pub bench-crack-spec : {M : Type 1} → statement M
-bench-crack-spec =
+pub bench_crack_spec : {M : Type 1} → statement M
+bench_crack_spec =
     tie.close
     (tie.spec
     words-few-requires

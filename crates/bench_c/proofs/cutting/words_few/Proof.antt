@@ -9,5 +9,5 @@ both-requires c κs = search rules
 returns : tie.Need-returns
 returns c = c.both.ensures
 
-pub words-few-spec : {M : Type 1} → statement M
-words-few-spec = tie.close (tie.spec both-requires returns)
+pub words_few_spec : {M : Type 1} → statement M
+words_few_spec = tie.close (tie.spec both-requires returns)

@@ -12,5 +12,5 @@ same_length c = search rules
 returns : tie.Need-returns
 returns c = c.before.before.fan.ensures
 
-pub bench-fan-spec : {M : Type 1} → statement M
-bench-fan-spec = tie.close (tie.spec fan-requires same_length returns)
+pub bench_fan_spec : {M : Type 1} → statement M
+bench_fan_spec = tie.close (tie.spec fan-requires same_length returns)

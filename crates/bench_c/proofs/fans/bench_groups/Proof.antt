@@ -12,5 +12,5 @@ same_length c = search rules
 returns : tie.Need-returns
 returns c = c.before.before.groups.ensures
 
-pub bench-groups-spec : {M : Type 1} → statement M
-bench-groups-spec = tie.close (tie.spec groups-requires same_length returns)
+pub bench_groups_spec : {M : Type 1} → statement M
+bench_groups_spec = tie.close (tie.spec groups-requires same_length returns)

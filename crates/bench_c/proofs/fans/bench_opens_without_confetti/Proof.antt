@@ -12,5 +12,5 @@ same_length c = search rules
 returns : tie.Need-returns
 returns c = c.before.before.opens-without-confetti.ensures
 
-pub bench-opens-without-confetti-spec : {M : Type 1} → statement M
-bench-opens-without-confetti-spec = tie.close (tie.spec opens-without-confetti-requires same_length returns)
+pub bench_opens_without_confetti_spec : {M : Type 1} → statement M
+bench_opens_without_confetti_spec = tie.close (tie.spec opens-without-confetti-requires same_length returns)

@@ -12,5 +12,5 @@ same_length c = search rules
 returns : tie.Need-returns
 returns c = c.before.before.blade-hit.ensures
 
-pub bench-blade-hit-spec : {M : Type 1} → statement M
-bench-blade-hit-spec = tie.close (tie.spec blade-hit-requires same_length returns)
+pub bench_blade_hit_spec : {M : Type 1} → statement M
+bench_blade_hit_spec = tie.close (tie.spec blade-hit-requires same_length returns)

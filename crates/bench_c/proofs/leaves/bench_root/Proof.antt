@@ -12,5 +12,5 @@ same_length c = search rules
 returns : tie.Need-returns
 returns c = c.before.before.root.ensures
 
-pub bench-root-spec : {M : Type 1} → statement M
-bench-root-spec = tie.close (tie.spec root-requires same_length returns)
+pub bench_root_spec : {M : Type 1} → statement M
+bench_root_spec = tie.close (tie.spec root-requires same_length returns)

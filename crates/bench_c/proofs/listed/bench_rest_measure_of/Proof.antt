@@ -12,5 +12,5 @@ same_length c = search rules
 returns : tie.Need-returns
 returns c = c.before.before.rest-measure-of.ensures
 
-pub bench-rest-measure-of-spec : {M : Type 1} → statement M
-bench-rest-measure-of-spec = tie.close (tie.spec rest-measure-of-requires same_length returns)
+pub bench_rest_measure_of_spec : {M : Type 1} → statement M
+bench_rest_measure_of_spec = tie.close (tie.spec rest-measure-of-requires same_length returns)

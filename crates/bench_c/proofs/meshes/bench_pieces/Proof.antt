@@ -12,5 +12,5 @@ same_length c = search rules
 returns : tie.Need-returns
 returns c = c.before.before.pieces.ensures
 
-pub bench-pieces-spec : {M : Type 1} → statement M
-bench-pieces-spec = tie.close (tie.spec pieces-requires same_length returns)
+pub bench_pieces_spec : {M : Type 1} → statement M
+bench_pieces_spec = tie.close (tie.spec pieces-requires same_length returns)

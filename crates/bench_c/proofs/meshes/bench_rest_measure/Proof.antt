@@ -12,5 +12,5 @@ same_length c = search rules
 returns : tie.Need-returns
 returns c = c.before.before.rest-measure.ensures
 
-pub bench-rest-measure-spec : {M : Type 1} → statement M
-bench-rest-measure-spec = tie.close (tie.spec rest-measure-requires same_length returns)
+pub bench_rest_measure_spec : {M : Type 1} → statement M
+bench_rest_measure_spec = tie.close (tie.spec rest-measure-requires same_length returns)

@@ -12,5 +12,5 @@ same_length c = search rules
 returns : tie.Need-returns
 returns c = c.before.before.difference.ensures
 
-pub bench-difference-spec : {M : Type 1} → statement M
-bench-difference-spec = tie.close (tie.spec difference-requires same_length returns)
+pub bench_difference_spec : {M : Type 1} → statement M
+bench_difference_spec = tie.close (tie.spec difference-requires same_length returns)

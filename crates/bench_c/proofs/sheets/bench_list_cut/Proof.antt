@@ -12,5 +12,5 @@ same_length c = search rules
 returns : tie.Need-returns
 returns c = c.before.before.list-cut.ensures
 
-pub bench-list-cut-spec : {M : Type 1} → statement M
-bench-list-cut-spec = tie.close (tie.spec list-cut-requires same_length returns)
+pub bench_list_cut_spec : {M : Type 1} → statement M
+bench_list_cut_spec = tie.close (tie.spec list-cut-requires same_length returns)

@@ -18,5 +18,5 @@ same-length-3 c = c.before.before.before.before.before.before.mend.auto.1.1.1.0
 returns : tie.Need-returns
 returns c = c.before.before.before.before.before.before.mend.ensures
 
-pub bench-mend-spec : {M : Type 1} → statement M
-bench-mend-spec = tie.close (tie.spec mend-requires same_length same-length-2 same-length-3 returns)
+pub bench_mend_spec : {M : Type 1} → statement M
+bench_mend_spec = tie.close (tie.spec mend-requires same_length same-length-2 same-length-3 returns)

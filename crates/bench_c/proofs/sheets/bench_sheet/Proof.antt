@@ -12,5 +12,5 @@ same_length c = search rules
 returns : tie.Need-returns
 returns c = c.before.before.read-sheet.ensures
 
-pub bench-sheet-spec : {M : Type 1} → statement M
-bench-sheet-spec = tie.close (tie.spec read-sheet-requires same_length returns)
+pub bench_sheet_spec : {M : Type 1} → statement M
+bench_sheet_spec = tie.close (tie.spec read-sheet-requires same_length returns)

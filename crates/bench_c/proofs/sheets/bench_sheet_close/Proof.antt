@@ -15,5 +15,5 @@ same-length-2 c = search rules
 returns : tie.Need-returns
 returns c = c.before.before.before.before.close-sheet.ensures
 
-pub bench-sheet-close-spec : {M : Type 1} → statement M
-bench-sheet-close-spec = tie.close (tie.spec close-sheet-requires same_length same-length-2 returns)
+pub bench_sheet_close_spec : {M : Type 1} → statement M
+bench_sheet_close_spec = tie.close (tie.spec close-sheet-requires same_length same-length-2 returns)

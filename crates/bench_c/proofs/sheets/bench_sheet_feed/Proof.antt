@@ -12,5 +12,5 @@ same_length c = search rules
 returns : tie.Need-returns
 returns c = c.before.before.feed-bytes.ensures
 
-pub bench-sheet-feed-spec : {M : Type 1} → statement M
-bench-sheet-feed-spec = tie.close (tie.spec feed-bytes-requires same_length returns)
+pub bench_sheet_feed_spec : {M : Type 1} → statement M
+bench_sheet_feed_spec = tie.close (tie.spec feed-bytes-requires same_length returns)

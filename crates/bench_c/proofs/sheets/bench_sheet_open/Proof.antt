@@ -12,5 +12,5 @@ same_length c = search rules
 returns : tie.Need-returns
 returns c = c.before.before.open-reader.ensures
 
-pub bench-sheet-open-spec : {M : Type 1} → statement M
-bench-sheet-open-spec = tie.close (tie.spec open-reader-requires same_length returns)
+pub bench_sheet_open_spec : {M : Type 1} → statement M
+bench_sheet_open_spec = tie.close (tie.spec open-reader-requires same_length returns)

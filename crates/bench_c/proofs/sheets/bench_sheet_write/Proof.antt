@@ -12,5 +12,5 @@ same_length c = search rules
 returns : tie.Need-returns
 returns c = c.before.before.write-sheet.ensures
 
-pub bench-sheet-write-spec : {M : Type 1} → statement M
-bench-sheet-write-spec = tie.close (tie.spec write-sheet-requires same_length returns)
+pub bench_sheet_write_spec : {M : Type 1} → statement M
+bench_sheet_write_spec = tie.close (tie.spec write-sheet-requires same_length returns)

@@ -1,7 +1,7 @@
 -- `bench_c::tearing::reply_job` meets its contract: 1 for the sizes, or the reply to the job. Assumes nothing.
 use mathlib.Core.Path.{sym, ◌∙◌}
 use native.Mathlib.Omega.{arith}
-use Rattle.bench_c.proofs.Entries.{made-replied, job-unsized}
+use Rattle.bench_c.proofs.Entries.{made_replied, job_unsized}
 use borrow.Author.Rules.{rules}
 use Rattle.bench_c.proofs.tearing.reply_job.Statement.{statement}
 use Rattle.bench_c.proofs.tearing.reply_job.Tie as tie
@@ -22,7 +22,7 @@ same-length-2 : tie.Need-same-length-2
 same-length-2 c = c.before.before.before.before.reply-sized.auto.1.1.1.1.1.1.0
 
 returns : tie.Need-returns
-returns c = let A = c.before.before.before.before.before.before.before.before.before.before.before.before.before.before.before.args in made-replied A.job A.list.now A.bytes.now A.rooms.now _ _ _ _ _ _ c.before.before.before.before.before.before.before.rooms_in.ensures.1 c.before.before.before.before.reply-sized.ensures
+returns c = let A = c.before.before.before.before.before.before.before.before.before.before.before.before.before.before.before.args in made_replied A.job A.list.now A.bytes.now A.rooms.now _ _ _ _ _ _ c.before.before.before.before.before.before.before.rooms_in.ensures.1 c.before.before.before.before.reply-sized.ensures
 
 refuse-requires : tie.Need-refuse-requires
 refuse-requires c κs = omega arith
@@ -34,10 +34,10 @@ same-length-4 : tie.Need-same-length-4
 same-length-4 c = c.before.before.before.before.refuse.auto.1.1.0
 
 returns-2 : tie.Need-returns-2
-returns-2 c = let A = c.before.before.before.before.before.before.before.before.before.before.before.before.before.before.args in job-unsized A.job A.list.now A.bytes.now A.rooms.now _ _ _ _ _ _ c.before.before.before.before.before.before.before.before.image-sized.ensures c.before.before.before.before.before.before.before.if1.false c.before.before.before.before.refuse.ensures
+returns-2 c = let A = c.before.before.before.before.before.before.before.before.before.before.before.before.before.before.args in job_unsized A.job A.list.now A.bytes.now A.rooms.now _ _ _ _ _ _ c.before.before.before.before.before.before.before.before.image-sized.ensures c.before.before.before.before.before.before.before.if1.false c.before.before.before.before.refuse.ensures
 
-pub reply-job-spec : {M : Type 1} → statement M
-reply-job-spec =
+pub reply_job_spec : {M : Type 1} → statement M
+reply_job_spec =
     tie.close
     (tie.spec
     image-sized-requires

@@ -6,7 +6,7 @@ use lib.ListN.{length, get_or}
 use lib.Seq.{get_or-set_same}
 use Rattle.lists.specs.Chain.{Chain, stay, ahead}
 use Rattle.bodies.specs.Forest.{Kept, Up}
-use Rattle.lists.proofs.Chains.{chain-map, chain-trans}
+use Rattle.lists.proofs.Chains.{chain_map, chain_trans}
 use Rattle.bodies.proofs.Parents.{kept_refl, kept_trans, raised}
 use Rattle.bodies.proofs.forest.find.Statement.{statement}
 use Rattle.bodies.proofs.forest.find.Tie as tie
@@ -73,7 +73,7 @@ loop-again c =
     let h = R.long in (
       omega arith,
       kept_trans K R,
-      chain-trans (chain-map R.more L.invariant.2) (ahead (omega arith, get_or-set_same p i _ 0 L.invariant.0) stay),
+      chain_trans (chain_map R.more L.invariant.2) (ahead (omega arith, get_or-set_same p i _ 0 L.invariant.0) stay),
     )
 
 pub find_spec : {M : Type 1} → statement M

@@ -6,7 +6,7 @@ use Prim.Native.Nat.{ℕ, ◌<◌, ◌≤◌, ◌-◌}
 use native.Mathlib.Nat.{not-suc-le-zero}
 use lib.ListN.{length, get_or, length-set}
 use Rattle.bodies.specs.Forest.{Kept}
-use Rattle.bodies.proofs.Parents.{kept_refl, kept_trans, raised, raised-flat}
+use Rattle.bodies.proofs.Parents.{kept_refl, kept_trans, raised, raised_flat}
 use Rattle.bodies.proofs.forest.flatten.Statement.{statement}
 use Rattle.bodies.proofs.forest.flatten.Tie as tie
 use Rattle.bodies.proofs.forest.flatten.Reads as reads
@@ -57,7 +57,7 @@ loop-again c =
     let K = L.invariant.1 in (
       simp length-set (omega arith),
       kept_trans K (raised L.parent L.i K.down (search rules)),
-      raised-flat L.parent L.i K.down (search rules) L.invariant.2,
+      raised_flat L.parent L.i K.down (search rules) L.invariant.2,
     )
 
 same_length : tie.Need-same-length invariant-loop decreases-loop
@@ -68,8 +68,8 @@ returns c =
     let L = c.before.loop in
     (L.invariant.1, λ a l. L.invariant.2 a (let e = L.invariant.1.long in omega arith))
 
-pub flatten-spec : {M : Type 1} → statement M
-flatten-spec =
+pub flatten_spec : {M : Type 1} → statement M
+flatten_spec =
     tie.close
     (tie.spec
     invariant-loop

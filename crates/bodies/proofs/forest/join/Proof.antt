@@ -5,8 +5,8 @@ use mathlib.Core.Path.{refl}
 use mathlib.Core.Logic.{inr}
 use lib.ListN.{length-set}
 use Rattle.lists.specs.Chain.{stay, ahead, back}
-use Rattle.lists.proofs.Chains.{chain-sym, chain-map}
-use Rattle.bodies.proofs.Parents.{kept_trans, linked, joined-one, joined-root}
+use Rattle.lists.proofs.Chains.{chain_sym, chain_map}
+use Rattle.bodies.proofs.Parents.{kept_trans, linked, joined_one, joined_root}
 use Rattle.bodies.proofs.forest.join.Statement.{statement}
 use Rattle.bodies.proofs.forest.join.Tie as tie
 
@@ -25,7 +25,7 @@ slice-read-other c = search rules
 returns : tie.Need-returns
 returns c =
     let P = c.before.before.before.before.requires in
-    joined-one _ _ _ P.2 P.0 P.1 c.if1.true
+    joined_one _ _ _ P.2 P.0 P.1 c.if1.true
 
 mul-parent : tie.Need-overflow-mul-parent
 mul-parent c = search rules
@@ -39,7 +39,7 @@ same_length c = search rules
 returns-2 : tie.Need-returns-2
 returns-2 c =
     let P = c.before.before.before.before.before.before.requires in
-    joined-root _ _ _ P.2 P.0 P.1 c.before.if2.true (search rules)
+    joined_root _ _ _ P.2 P.0 P.1 c.before.if2.true (search rules)
 
 find-requires : tie.Need-find-requires
 find-requires c κs = search rules
@@ -71,7 +71,7 @@ returns-3 c =
     let f = c.before.before.before.before.before.before.before.find.ensures in
     let g = c.before.before.before.find2.ensures in
     linked _ _ _ _ _ _ _ _ (kept_trans f.kept g.kept) g.within g.top (search rules)
-    g.way (chain-map g.kept.more f.way) (back (inr (refl, refl)) stay) (λ w. chain-sym w)
+    g.way (chain_map g.kept.more f.way) (back (inr (refl, refl)) stay) (λ w. chain_sym w)
 
 same-length-3 : tie.Need-same-length-3
 same-length-3 c =
@@ -86,10 +86,10 @@ returns-4 c =
     let g = c.before.before.before.find2.ensures in
     linked _ _ _ _ _ _ _ _ (kept_trans f.kept g.kept) (let a = f.within in let b = g.kept.long in omega arith)
     (g.kept.tops _ f.top) (search rules)
-    (chain-map g.kept.more f.way) g.way (ahead (inr (refl, refl)) stay) (λ w. w)
+    (chain_map g.kept.more f.way) g.way (ahead (inr (refl, refl)) stay) (λ w. w)
 
-pub join-spec : {M : Type 1} → statement M
-join-spec =
+pub join_spec : {M : Type 1} → statement M
+join_spec =
     tie.close
     (tie.spec
     mul-up

@@ -2,7 +2,7 @@
 use Prim.Native.Nat.{◌-◌}
 use native.Mathlib.Omega.{arith}
 use lib.ListN.{length}
-use Rattle.columns.proofs.Sweep.{Clearing, clear-start, clear-more, clear-done}
+use Rattle.columns.proofs.Sweep.{Clearing, clear_start, clear_more, clear_done}
 use Rattle.call_frame.proofs.closing.clear_words.Statement.{statement}
 use Rattle.call_frame.proofs.closing.clear_words.Tie as tie
 
@@ -13,7 +13,7 @@ abbrev decreases-loop : tie.decreases-loop
 decreases-loop n log₀ i₀ log i = length log₀ - i
 
 loop-holds : tie.Need-loop-init invariant-loop decreases-loop
-loop-holds c = clear-start _ _ _ c.requires
+loop-holds c = clear_start _ _ _ c.requires
 
 mul-log : tie.Need-overflow-mul-log invariant-loop decreases-loop
 mul-log c = omega arith
@@ -28,16 +28,16 @@ loop-less : tie.Need-loop-smaller invariant-loop decreases-loop
 loop-less c = omega arith
 
 loop-again : tie.Need-loop-preserved invariant-loop decreases-loop
-loop-again c = clear-more _ _ _ _ _ c.before.loop.invariant c.loop-test.true
+loop-again c = clear_more _ _ _ _ _ c.before.loop.invariant c.loop-test.true
 
 same_length : tie.Need-same-length invariant-loop decreases-loop
 same_length c = c.before.loop.invariant.long
 
 returns : tie.Need-returns invariant-loop decreases-loop
-returns c = clear-done _ _ _ _ _ c.before.loop.invariant c.loop-test.false c.before.before.requires
+returns c = clear_done _ _ _ _ _ c.before.loop.invariant c.loop-test.false c.before.before.requires
 
-pub clear-words-spec : {M : Type 1} → statement M
-clear-words-spec =
+pub clear_words_spec : {M : Type 1} → statement M
+clear_words_spec =
     tie.close
     (tie.spec
     invariant-loop

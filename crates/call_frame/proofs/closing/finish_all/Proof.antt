@@ -1,8 +1,8 @@
 -- `call_frame::closing::finish_all` meets its contract: the blocks are finished beside a log of no entries, and then the log is. Assumes nothing.
 use Rattle.lists.specs.Lists.{padded}
-use Rattle.mesh.specs.Log.{worldAt, log_at}
-use Rattle.mesh.specs.At.{meshAt}
-use Rattle.mesh.proofs.Blocks.{words-of}
+use Rattle.mesh.specs.Log.{world_at, log_at}
+use Rattle.mesh.specs.At.{mesh_at}
+use Rattle.mesh.proofs.Blocks.{words_of_lem}
 use mathlib.Core.Path.{ap, ◌∙◌}
 use native.Mathlib.Omega.{arith}
 use borrow.Author.Rules.{rules}
@@ -47,7 +47,7 @@ same-length-8 : tie.Need-same-length-8
 same-length-8 c = c.before.before.clear-words.auto.1.0
 
 returns : tie.Need-returns
-unfolding worldAt meshAt log_at
+unfolding world_at mesh_at log_at
 returns c =
     let F = c.before.before.before.before.before.before.before.before.before.before.before.before.before.before.before.before.before.before.before.before.finish-all.ensures in
     record {
@@ -58,11 +58,11 @@ returns c =
       ends = F.ends;
       lengths = F.lengths;
       outline = F.outline;
-      log = c.before.before.clear-words.ensures ∙ ap (padded _ 0) (words-of _ _ (omega (arith, c.before.before.before.before.before.before.before.before.before.before.before.before.before.before.before.before.before.before.before.before.before.before.before.before.before.before.before.before.before.before.before.before.before.before.before.before.before.requires.log)));
+      log = c.before.before.clear-words.ensures ∙ ap (padded _ 0) (words_of_lem _ _ (omega (arith, c.before.before.before.before.before.before.before.before.before.before.before.before.before.before.before.before.before.before.before.before.before.before.before.before.before.before.before.before.before.before.before.before.before.before.before.before.before.requires.log)));
     }
 
-pub finish-all-spec : {M : Type 1} → statement M
-finish-all-spec =
+pub finish_all_spec : {M : Type 1} → statement M
+finish_all_spec =
     tie.close
     (tie.spec
     slice-aggregate-finish-all

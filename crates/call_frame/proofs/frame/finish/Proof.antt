@@ -1,6 +1,6 @@
 -- `call_frame::frame::finish` meets its contract: all 0 after a refusal, else 0 behind the rows. Assumes nothing.
-use Rattle.mesh.proofs.Agree.{none-fits}
-use Rattle.call_frame.proofs.Ended.{ended-fits, finished-refused, finished-done}
+use Rattle.mesh.proofs.Agree.{none_fits}
+use Rattle.call_frame.proofs.Ended.{ended_fits, finished_refused, finished_done}
 use borrow.Author.Rules.{rules}
 use Rattle.call_frame.proofs.frame.finish.Statement.{statement}
 use Rattle.call_frame.proofs.frame.finish.Tie as tie
@@ -9,16 +9,16 @@ enum-known-ran : tie.Need-enum-known-ran
 enum-known-ran c = search rules
 
 finish-all-requires : tie.Need-finish-all-requires
-finish-all-requires c κs = none-fits _
+finish-all-requires c κs = none_fits _
 
 enum-known-ran-2 : tie.Need-enum-known-ran-2
 enum-known-ran-2 c = search rules
 
 changed-requires : tie.Need-changed-requires
-changed-requires c κs = (ended-fits _ _ _ c.before.before.before.before.before.before.before.before.before.before.before.before.requires c.before.before.ran2.given.1).log
+changed-requires c κs = (ended_fits _ _ _ c.before.before.before.before.before.before.before.before.before.before.before.before.requires c.before.before.ran2.given.1).log
 
 finish-all-requires-2 : tie.Need-finish-all-requires-2
-finish-all-requires-2 c κs = ended-fits _ _ _ c.before.before.before.before.before.before.before.before.before.before.before.before.before.before.before.before.before.before.before.before.before.requires c.before.before.before.before.before.before.before.before.before.before.before.ran2.given.1
+finish-all-requires-2 c κs = ended_fits _ _ _ c.before.before.before.before.before.before.before.before.before.before.before.before.before.before.before.before.before.before.before.before.before.requires c.before.before.before.before.before.before.before.before.before.before.before.ran2.given.1
 
 same_length : tie.Need-same-length
 same_length c = c.before.before.before.before.before.before.before.before.before.before.before.before.before.before.before.before.finish-all.auto.1.0
@@ -47,7 +47,7 @@ same-length-8 c = c.before.before.before.before.before.before.before.before.befo
 returns : tie.Need-returns
 returns c =
     let A = c.before.before.before.before.before.before.before.before.before.before.before.before.before.before.before.before.before.before.before.before.before.before.before.before.before.before.before.before.before.before.before.before.before.before.before.before.args in
-    finished-refused A.points.now A.roots.now A.corners.now A.volumes.now A.ends.now A.lengths.now A.outline.now A.log.now _ _ _ _ _ _ _ _ _ _ _ c.before.before.before.before.before.before.before.before.before.before.before.before.before.before.before.before.before.before.before.before.before.before.before.before.before.before.ran.given.1 c.before.before.before.before.before.before.before.before.before.before.before.before.before.before.before.before.finish-all.ensures
+    finished_refused A.points.now A.roots.now A.corners.now A.volumes.now A.ends.now A.lengths.now A.outline.now A.log.now _ _ _ _ _ _ _ _ _ _ _ c.before.before.before.before.before.before.before.before.before.before.before.before.before.before.before.before.before.before.before.before.before.before.before.before.before.before.ran.given.1 c.before.before.before.before.before.before.before.before.before.before.before.before.before.before.before.before.finish-all.ensures
 
 same-length-9 : tie.Need-same-length-9
 same-length-9 c = c.before.before.before.before.before.before.before.before.before.before.before.before.before.before.before.before.finish-all2.auto.1.0
@@ -76,7 +76,7 @@ same-length-16 c = c.before.before.before.before.before.before.before.before.bef
 returns-2 : tie.Need-returns-2
 returns-2 c =
     let A = c.before.before.before.before.before.before.before.before.before.before.before.before.before.before.before.before.before.before.before.before.before.before.before.before.before.before.before.before.before.before.before.before.before.before.before.before.before.before.args in
-    finished-done A.points.now A.roots.now A.corners.now A.volumes.now A.ends.now A.lengths.now A.outline.now A.log.now _ _ _ _ _ _ _ _ _ _ _ _ c.before.before.before.before.before.before.before.before.before.before.before.before.before.before.before.before.before.before.before.before.before.before.before.before.before.before.before.before.ran2.given.1 c.before.before.before.before.before.before.before.before.before.before.before.before.before.before.before.before.before.before.before.before.before.before.before.before.before.changed.ensures c.before.before.before.before.before.before.before.before.before.before.before.before.before.before.before.before.finish-all2.ensures
+    finished_done A.points.now A.roots.now A.corners.now A.volumes.now A.ends.now A.lengths.now A.outline.now A.log.now _ _ _ _ _ _ _ _ _ _ _ _ c.before.before.before.before.before.before.before.before.before.before.before.before.before.before.before.before.before.before.before.before.before.before.before.before.before.before.before.before.ran2.given.1 c.before.before.before.before.before.before.before.before.before.before.before.before.before.before.before.before.before.before.before.before.before.before.before.before.before.changed.ensures c.before.before.before.before.before.before.before.before.before.before.before.before.before.before.before.before.finish-all2.ensures
 
 pub finish_spec : {M : Type 1} → statement M
 finish_spec =

@@ -5,14 +5,14 @@ use mathlib.Core.Path.{◌≡◌, sym, ◌∙◌}
 use mathlib.Core.Bool.{false}
 use borrow.Author.Rules.{rules}
 use Rattle.lists.specs.Lists.{any, tab}
-use Rattle.columns.proofs.Rows.{any_none, any-more, any-stops, any-end}
-use Rattle.mesh.specs.Log.{Words, entryRow, log_at}
-use Rattle.call_frame.specs.Framed.{kindChanges}
+use Rattle.columns.proofs.Rows.{any_none, any_more, any_stops, any_end}
+use Rattle.mesh.specs.Log.{Words, entry_row, log_at}
+use Rattle.call_frame.specs.Framed.{kind_changes_of}
 use Rattle.call_frame.proofs.logged.changed.Statement.{statement}
 use Rattle.call_frame.proofs.logged.changed.Tie as tie
 
 abbrev invariant-loop : tie.invariant-loop
-invariant-loop n log i₀ i = (any (λ (e : Words). kindChanges e.kind) (tab i (entryRow log)) ≡ false) × (i ≤ n)
+invariant-loop n log i₀ i = (any (λ (e : Words). kind_changes_of e.kind) (tab i (entry_row log)) ≡ false) × (i ≤ n)
 
 abbrev decreases-loop : tie.decreases-loop
 decreases-loop n log i₀ i = n - i
@@ -34,7 +34,7 @@ kind-changes-requires c κs = search rules
 
 returns : tie.Need-returns invariant-loop decreases-loop
 unfolding log_at
-returns c = sym (any-stops _ _ _ _ c.before.before.before.loop-test.true (sym c.before.kind-changes.ensures ∙ c.if1.true))
+returns c = sym (any_stops _ _ _ _ c.before.before.before.loop-test.true (sym c.before.kind-changes.ensures ∙ c.if1.true))
 
 add-i : tie.Need-overflow-add-i invariant-loop decreases-loop
 add-i c = omega arith
@@ -43,14 +43,14 @@ loop-less : tie.Need-loop-smaller invariant-loop decreases-loop
 loop-less c = omega arith
 
 loop-again : tie.Need-loop-preserved invariant-loop decreases-loop
-loop-again c = (any-more _ _ _ c.before.before.before.before.loop.invariant.0 (sym c.before.kind-changes.ensures ∙ c.if1.false), omega arith)
+loop-again c = (any_more _ _ _ c.before.before.before.before.loop.invariant.0 (sym c.before.kind-changes.ensures ∙ c.if1.false), omega arith)
 
 returns-2 : tie.Need-returns-2 invariant-loop decreases-loop
 unfolding log_at
-returns-2 c = any-end _ _ _ _ c.before.loop.invariant.0 c.before.loop.invariant.1 c.loop-test.false
+returns-2 c = any_end _ _ _ _ c.before.loop.invariant.0 c.before.loop.invariant.1 c.loop-test.false
 
-pub changed-spec : {M : Type 1} → statement M
-changed-spec =
+pub changed_spec : {M : Type 1} → statement M
+changed_spec =
     tie.close
     (tie.spec
     invariant-loop

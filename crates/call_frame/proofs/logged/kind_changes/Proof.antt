@@ -10,5 +10,5 @@ returns c = sym (rw (eq-eqb _ 1 c.if1.true) refl)
 returns-2 : tie.Need-returns-2
 returns-2 c = sym (rw (ne_eqb _ 1 c.if1.false) refl)
 
-pub kind-changes-spec : {M : Type 1} → statement M
-kind-changes-spec = tie.close (tie.spec returns returns-2)
+pub kind_changes_spec : {M : Type 1} → statement M
+kind_changes_spec = tie.close (tie.spec returns returns-2)

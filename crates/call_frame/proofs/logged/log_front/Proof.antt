@@ -20,5 +20,5 @@ slice-aggregate-result c = sym (length-take-le _ _ (omega (arith, c.before.least
 returns : tie.Need-returns
 returns c = ap (λ (m : ℕ). take (6 * m) c.before.before.before.args.log.now) c.before.least.ensures
 
-pub log-front-spec : {M : Type 1} → statement M
-log-front-spec = tie.close (tie.spec least-requires mul-end slice-aggregate-result returns)
+pub log_front_spec : {M : Type 1} → statement M
+log_front_spec = tie.close (tie.spec least-requires mul-end slice-aggregate-result returns)

@@ -1,11 +1,11 @@
 -- `crack::body::crack_linked` meets its contract: the end comes behind the torn edges, on the tables that they left. Assumes nothing.
 use mathlib.Core.Path.{refl, ◌∙◌}
-use Rattle.work.proofs.Runs.{works-known}
-use Rattle.elements.specs.Table.{kindIs}
-use Rattle.mesh.specs.Log.{worldAt}
-use Rattle.mesh.proofs.Agree.{lent-path}
-use Rattle.split.proofs.LinkLaws.{linked-done}
-use Rattle.crack.proofs.BodyLaws.{left-ready, left-entries, left-words, turns-indexed, body_refused, body-done}
+use Rattle.work.proofs.Runs.{works_known}
+use Rattle.elements.specs.Table.{kind_is}
+use Rattle.mesh.specs.Log.{world_at}
+use Rattle.mesh.proofs.Agree.{lent_path}
+use Rattle.split.proofs.LinkLaws.{linked_done}
+use Rattle.crack.proofs.BodyLaws.{left_ready, left_entries, left_words, turns_indexed, body_refused, body_done}
 use borrow.Author.Rules.{rules}
 use Rattle.crack.proofs.body.crack_linked.Statement.{statement}
 use Rattle.crack.proofs.body.crack_linked.Tie as tie
@@ -45,15 +45,15 @@ same-length-8 c = c.before.before.before.before.before.before.before.before.befo
 
 returns : tie.Need-returns
 returns c = let A = c.before.before.before.before.before.before.before.before.before.before.before.before.before.before.before.before.before.before.before.before.before.before.before.before.before.before.before.before.before.before.before.before.before.before.before.before.before.args in
-    body_refused (kindIs A.kind) A.minimum A.torn.now _ c.before.before.before.before.before.before.before.before.before.before.before.before.before.before.before.before.before.before.crack-torn.ensures.0 _ c.enum_told.given.1
+    body_refused (kind_is A.kind) A.minimum A.torn.now _ c.before.before.before.before.before.before.before.before.before.before.before.before.before.before.before.before.before.before.crack-torn.ensures.0 _ c.enum_told.given.1
 
 finish-requires : tie.Need-finish-requires
-unfolding worldAt
+unfolding world_at
 finish-requires c κs = let A = c.before.before.before.before.before.before.before.before.before.before.before.before.before.before.before.before.before.before.before.before.before.before.before.before.before.before.before.before.before.before.before.before.before.before.before.before.before.before.before.before.before.before.before.before.before.before.args in let P = c.before.before.before.before.before.before.before.before.before.before.before.before.before.before.before.before.before.before.before.before.before.before.before.before.before.before.before.before.before.before.before.before.before.before.before.before.before.before.before.before.before.before.before.before.before.before.requires in
-    let F = works-known _ _ c.before.before.before.before.before.before.before.before.before.ran.given.1 c.before.before.before.before.before.before.before.before.before.before.before.before.before.before.before.before.before.before.before.before.before.before.before.before.before.before.before.crack-torn.ensures.0 in (
-      left-ready F P.1.entries P.1.words (turns-indexed (kindIs A.kind) A.minimum A.torn.now) A.k _ _ P.0 (lent-path _ _ c.before.before.before.before.before.before.before.before.before.before.before.before.before.before.before.before.before.before.before.before.before.before.before.before.before.before.before.crack-torn.auto.1.1.1.1.1.0 c.before.before.before.before.before.before.before.before.before.before.before.before.before.before.before.before.before.before.before.before.before.before.before.before.before.before.before.crack-torn.auto.1.1.1.1.1.1.0 c.before.before.before.before.before.before.before.before.before.before.before.before.before.before.before.before.before.before.before.before.before.before.before.before.before.before.before.crack-torn.auto.1.1.1.1.1.1.1.0 refl c.before.before.before.before.before.before.before.before.before.before.before.before.before.before.before.before.before.before.before.before.before.before.before.before.before.before.before.crack-torn.auto.1.1.1.1.1.1.1.1.1.0 c.before.before.before.before.before.before.before.before.before.before.before.before.before.before.before.before.before.before.before.before.before.before.before.before.before.before.before.crack-torn.auto.1.1.1.1.1.1.1.1.1.1.0 c.before.before.before.before.before.before.before.before.before.before.before.before.before.before.before.before.before.before.before.before.before.before.before.before.before.before.before.crack-torn.auto.1.1.1.1.1.1.1.1.1.1.1.0 c.before.before.before.before.before.before.before.before.before.before.before.before.before.before.before.before.before.before.before.before.before.before.before.before.before.before.before.crack-torn.auto.1.1.1.1.1.1.1.1.1.1.1.1.0),
-      record { entries = left-entries F P.1.entries P.1.words; words = left-words F P.1.entries P.1.words },
-      linked-done _ _ c.before.before.before.before.before.before.before.before.before.ran.given.1 c.before.before.before.before.before.before.before.before.before.before.before.before.before.before.before.before.before.before.before.before.before.before.before.before.before.before.before.crack-torn.ensures.1,
+    let F = works_known _ _ c.before.before.before.before.before.before.before.before.before.ran.given.1 c.before.before.before.before.before.before.before.before.before.before.before.before.before.before.before.before.before.before.before.before.before.before.before.before.before.before.before.crack-torn.ensures.0 in (
+      left_ready F P.1.entries P.1.words (turns_indexed (kind_is A.kind) A.minimum A.torn.now) A.k _ _ P.0 (lent_path _ _ c.before.before.before.before.before.before.before.before.before.before.before.before.before.before.before.before.before.before.before.before.before.before.before.before.before.before.before.crack-torn.auto.1.1.1.1.1.0 c.before.before.before.before.before.before.before.before.before.before.before.before.before.before.before.before.before.before.before.before.before.before.before.before.before.before.before.crack-torn.auto.1.1.1.1.1.1.0 c.before.before.before.before.before.before.before.before.before.before.before.before.before.before.before.before.before.before.before.before.before.before.before.before.before.before.before.crack-torn.auto.1.1.1.1.1.1.1.0 refl c.before.before.before.before.before.before.before.before.before.before.before.before.before.before.before.before.before.before.before.before.before.before.before.before.before.before.before.crack-torn.auto.1.1.1.1.1.1.1.1.1.0 c.before.before.before.before.before.before.before.before.before.before.before.before.before.before.before.before.before.before.before.before.before.before.before.before.before.before.before.crack-torn.auto.1.1.1.1.1.1.1.1.1.1.0 c.before.before.before.before.before.before.before.before.before.before.before.before.before.before.before.before.before.before.before.before.before.before.before.before.before.before.before.crack-torn.auto.1.1.1.1.1.1.1.1.1.1.1.0 c.before.before.before.before.before.before.before.before.before.before.before.before.before.before.before.before.before.before.before.before.before.before.before.before.before.before.before.crack-torn.auto.1.1.1.1.1.1.1.1.1.1.1.1.0),
+      record { entries = left_entries F P.1.entries P.1.words; words = left_words F P.1.entries P.1.words },
+      linked_done _ _ c.before.before.before.before.before.before.before.before.before.ran.given.1 c.before.before.before.before.before.before.before.before.before.before.before.before.before.before.before.before.before.before.before.before.before.before.before.before.before.before.before.crack-torn.ensures.1,
     )
 
 same-length-9 : tie.Need-same-length-9
@@ -82,10 +82,10 @@ same-length-16 c = c.before.before.before.before.before.before.before.before.bef
 
 returns-2 : tie.Need-returns-2
 returns-2 c = let A = c.before.before.before.before.before.before.before.before.before.before.before.before.before.before.before.before.before.before.before.before.before.before.before.before.before.before.before.before.before.before.before.before.before.before.before.before.before.before.before.before.before.before.before.before.before.before.before.before.before.before.before.before.before.before.before.before.before.before.before.before.before.before.before.args in
-    body-done (kindIs A.kind) A.minimum A.torn.now _ c.before.before.before.before.before.before.before.before.before.before.before.before.before.before.before.before.before.before.before.before.before.before.before.before.before.before.before.before.before.before.before.before.before.before.before.before.before.before.before.before.before.before.before.before.crack-torn.ensures.0 _ c.before.before.before.before.before.before.before.before.before.before.before.before.before.before.before.before.before.before.before.before.before.before.before.before.before.before.ran.given.1 c.before.before.before.before.before.before.before.before.before.before.before.before.before.before.before.before.finish.ensures
+    body_done (kind_is A.kind) A.minimum A.torn.now _ c.before.before.before.before.before.before.before.before.before.before.before.before.before.before.before.before.before.before.before.before.before.before.before.before.before.before.before.before.before.before.before.before.before.before.before.before.before.before.before.before.before.before.before.before.crack-torn.ensures.0 _ c.before.before.before.before.before.before.before.before.before.before.before.before.before.before.before.before.before.before.before.before.before.before.before.before.before.before.ran.given.1 c.before.before.before.before.before.before.before.before.before.before.before.before.before.before.before.before.finish.ensures
 
-pub crack-linked-spec : {M : Type 1} → statement M
-crack-linked-spec =
+pub crack_linked_spec : {M : Type 1} → statement M
+crack_linked_spec =
     tie.close
     (tie.spec
     crack-torn-requires

@@ -3,18 +3,18 @@ use Prim.Native.Nat.{◌-◌}
 use native.Mathlib.Omega.{arith}
 use mathlib.Core.Path.{◌≡◌, refl, ◌∙◌, ap}
 use lib.ListN.{length, get_or}
-use Rattle.elements.specs.Table.{kindIs}
+use Rattle.elements.specs.Table.{kind_is}
 use Rattle.links.specs.Linked.{MeshLinked}
 use Rattle.mesh.specs.Given.{Lent}
-use Rattle.mesh.proofs.Agree.{lent-path}
-use Rattle.split.proofs.LinkLaws.{linked-done}
-use Rattle.crack.proofs.ListedLaws.{ListedTo, to_start, to-ready, to_room, to-skip, to_step, to-stop, to-done}
+use Rattle.mesh.proofs.Agree.{lent_path}
+use Rattle.split.proofs.LinkLaws.{linked_done}
+use Rattle.crack.proofs.ListedLaws.{ListedTo, to_start, to_ready, to_room, to_skip, to_step, to_stop, to_done}
 use borrow.Author.Rules.{rules}
 use Rattle.crack.proofs.body.crack_listed.Statement.{statement}
 use Rattle.crack.proofs.body.crack_listed.Tie as tie
 
 abbrev invariant-loop : tie.invariant-loop
-invariant-loop kind minimum torn e from to loads room points₀ roots₀ corners₀ volumes ends₀ lengths₀ outline₀ log₀ links₀ counts₀ i₀ points roots corners ends lengths outline log links counts i = ListedTo (kindIs kind) minimum torn e from to loads room counts₀ points₀ roots₀ corners₀ volumes ends₀ lengths₀ outline₀ log₀ points roots corners ends lengths outline log counts i × MeshLinked (kindIs kind) counts.triangles counts.edges counts.boundary corners ends outline links × (length links ≡ length links₀)
+invariant-loop kind minimum torn e from to loads room points₀ roots₀ corners₀ volumes ends₀ lengths₀ outline₀ log₀ links₀ counts₀ i₀ points roots corners ends lengths outline log links counts i = ListedTo (kind_is kind) minimum torn e from to loads room counts₀ points₀ roots₀ corners₀ volumes ends₀ lengths₀ outline₀ log₀ points roots corners ends lengths outline log counts i × MeshLinked (kind_is kind) counts.triangles counts.edges counts.boundary corners ends outline links × (length links ≡ length links₀)
 
 abbrev decreases-loop : tie.decreases-loop
 decreases-loop kind minimum torn e from to loads room points₀ roots₀ corners₀ volumes ends₀ lengths₀ outline₀ log₀ links₀ counts₀ i₀ points roots corners ends lengths outline log links counts i = length torn - i
@@ -22,7 +22,7 @@ decreases-loop kind minimum torn e from to loads room points₀ roots₀ corners
 loop-holds : tie.Need-loop-init invariant-loop decreases-loop
 loop-holds c = let A = c.before.before.before.before.before.before.before.before.before.before.before.before.before.args in
     let P = c.before.before.before.before.before.before.before.before.before.before.before.before.before.requires in
-    (to_start (kindIs A.kind) A.minimum A.torn.now A.e A.from.now A.to.now A.loads.now A.room A.k A.points.now A.roots.now A.corners.now A.volumes.now A.ends.now A.lengths.now A.outline.now A.log.now P.0 P.1, P.2, refl)
+    (to_start (kind_is A.kind) A.minimum A.torn.now A.e A.from.now A.to.now A.loads.now A.room A.k A.points.now A.roots.now A.corners.now A.volumes.now A.ends.now A.lengths.now A.outline.now A.log.now P.0 P.1, P.2, refl)
 
 mul-number : tie.Need-overflow-mul-number invariant-loop decreases-loop
 mul-number c = search rules
@@ -38,7 +38,7 @@ loop-less c = search rules
 
 loop-again : tie.Need-loop-preserved invariant-loop decreases-loop
 loop-again c = let A = c.before.before.before.before.before.before.before.before.before.before.before.before.before.before.before.before.before.args in let P = c.before.before.before.before.before.before.before.before.before.before.before.before.before.before.before.before.before.requires in let L = c.before.before.before.loop in
-    (to-skip (kindIs A.kind) A.minimum A.torn.now A.e A.from.now A.to.now A.loads.now A.room A.k A.points.now A.roots.now A.corners.now A.volumes.now A.ends.now A.lengths.now A.outline.now A.log.now P.0 P.1 L.points L.roots L.corners L.ends L.lengths L.outline L.log L.counts L.i L.invariant.0 (omega (arith, c.if1.true)) c.before.before.loop-test.true, L.invariant.1, L.invariant.2)
+    (to_skip (kind_is A.kind) A.minimum A.torn.now A.e A.from.now A.to.now A.loads.now A.room A.k A.points.now A.roots.now A.corners.now A.volumes.now A.ends.now A.lengths.now A.outline.now A.log.now P.0 P.1 L.points L.roots L.corners L.ends L.lengths L.outline L.log L.counts L.i L.invariant.0 (omega (arith, c.if1.true)) c.before.before.loop-test.true, L.invariant.1, L.invariant.2)
 
 mul-crack-edge : tie.Need-overflow-mul-crack-edge invariant-loop decreases-loop
 mul-crack-edge c = omega (arith, c.if1.false, c.before.before.before.before.before.before.before.before.before.before.before.before.before.before.before.before.before.requires.1.first)
@@ -60,8 +60,8 @@ cast-crack-edge-2 c = let A = c.before.before.before.before.before.before.before
 
 crack-edge-requires : tie.Need-crack-edge-requires invariant-loop decreases-loop
 crack-edge-requires c κs = let A = c.before.before.before.before.before.before.before.before.before.before.before.before.before.before.before.before.before.before.before.before.before.before.before.before.before.before.before.args in let P = c.before.before.before.before.before.before.before.before.before.before.before.before.before.before.before.before.before.before.before.before.before.before.before.before.before.before.before.requires in let L = c.before.before.before.before.before.before.before.before.before.before.before.before.before.loop in
-    let X = to_room (kindIs A.kind) A.minimum A.torn.now A.e A.from.now A.to.now A.loads.now A.room A.k A.points.now A.roots.now A.corners.now A.volumes.now A.ends.now A.lengths.now A.outline.now A.log.now P.0 P.1 L.points L.roots L.corners L.ends L.lengths L.outline L.log L.counts L.i L.invariant.0 in
-    (to-ready (kindIs A.kind) A.minimum A.torn.now A.e A.from.now A.to.now A.loads.now A.room A.k A.points.now A.roots.now A.corners.now A.volumes.now A.ends.now A.lengths.now A.outline.now A.log.now P.0 P.1 L.points L.roots L.corners L.ends L.lengths L.outline L.log L.counts L.i L.invariant.0, X.logged, X.loads, P.1.first-few (get_or A.torn.now L.i 0) (omega (arith, c.before.before.before.before.before.before.before.before.before.before.if1.false)), P.1.second-few (get_or A.torn.now L.i 0) (omega (arith, c.before.before.before.before.before.before.before.before.before.before.if1.false)), L.invariant.1)
+    let X = to_room (kind_is A.kind) A.minimum A.torn.now A.e A.from.now A.to.now A.loads.now A.room A.k A.points.now A.roots.now A.corners.now A.volumes.now A.ends.now A.lengths.now A.outline.now A.log.now P.0 P.1 L.points L.roots L.corners L.ends L.lengths L.outline L.log L.counts L.i L.invariant.0 in
+    (to_ready (kind_is A.kind) A.minimum A.torn.now A.e A.from.now A.to.now A.loads.now A.room A.k A.points.now A.roots.now A.corners.now A.volumes.now A.ends.now A.lengths.now A.outline.now A.log.now P.0 P.1 L.points L.roots L.corners L.ends L.lengths L.outline L.log L.counts L.i L.invariant.0, X.logged, X.loads, P.1.first_few (get_or A.torn.now L.i 0) (omega (arith, c.before.before.before.before.before.before.before.before.before.before.if1.false)), P.1.second_few (get_or A.torn.now L.i 0) (omega (arith, c.before.before.before.before.before.before.before.before.before.before.if1.false)), L.invariant.1)
 
 enum-known-ran : tie.Need-enum-known-ran invariant-loop decreases-loop
 enum-known-ran c = search rules
@@ -95,7 +95,7 @@ same-length-8 c = c.before.before.before.before.before.before.before.before.befo
 
 returns : tie.Need-returns invariant-loop decreases-loop
 returns c = let A = c.before.before.before.before.before.before.before.before.before.before.before.before.before.before.before.before.before.before.before.before.before.before.before.before.before.before.before.before.before.before.before.before.before.before.before.before.before.before.before.before.before.before.before.before.before.before.args in let P = c.before.before.before.before.before.before.before.before.before.before.before.before.before.before.before.before.before.before.before.before.before.before.before.before.before.before.before.before.before.before.before.before.before.before.before.before.before.before.before.before.before.before.before.before.before.before.requires in let L = c.before.before.before.before.before.before.before.before.before.before.before.before.before.before.before.before.before.before.before.before.before.before.before.before.before.before.before.before.before.before.before.before.loop in
-    (to-stop (kindIs A.kind) A.minimum A.torn.now A.e A.from.now A.to.now A.loads.now A.room A.k A.points.now A.roots.now A.corners.now A.volumes.now A.ends.now A.lengths.now A.outline.now A.log.now P.0 P.1 L.points L.roots L.corners L.ends L.lengths L.outline L.log L.counts L.i L.invariant.0 _ _ _ _ _ _ _ _ (omega (arith, c.before.before.before.before.before.before.before.before.before.before.before.before.before.before.before.before.before.before.before.before.before.before.before.before.before.before.before.before.before.if1.false)) c.before.before.before.before.before.before.before.before.before.before.before.before.before.before.before.before.before.before.crack-edge.ensures.0 c.before.before.before.before.before.before.before.before.before.before.before.before.before.before.before.before.before.before.before.before.before.before.before.before.before.before.before.before.before.before.before.loop-test.true _ c.enum_told.given.1, c.before.before.before.before.before.before.before.before.before.before.before.before.before.before.before.before.before.before.crack-edge.ensures.1)
+    (to_stop (kind_is A.kind) A.minimum A.torn.now A.e A.from.now A.to.now A.loads.now A.room A.k A.points.now A.roots.now A.corners.now A.volumes.now A.ends.now A.lengths.now A.outline.now A.log.now P.0 P.1 L.points L.roots L.corners L.ends L.lengths L.outline L.log L.counts L.i L.invariant.0 _ _ _ _ _ _ _ _ (omega (arith, c.before.before.before.before.before.before.before.before.before.before.before.before.before.before.before.before.before.before.before.before.before.before.before.before.before.before.before.before.before.if1.false)) c.before.before.before.before.before.before.before.before.before.before.before.before.before.before.before.before.before.before.crack-edge.ensures.0 c.before.before.before.before.before.before.before.before.before.before.before.before.before.before.before.before.before.before.before.before.before.before.before.before.before.before.before.before.before.before.before.loop-test.true _ c.enum_told.given.1, c.before.before.before.before.before.before.before.before.before.before.before.before.before.before.before.before.before.before.crack-edge.ensures.1)
 
 add-i-2 : tie.Need-overflow-add-i-2 invariant-loop decreases-loop
 add-i-2 c = omega (arith, c.before.before.before.before.before.before.before.before.before.before.before.before.before.before.before.before.before.before.before.before.before.before.before.before.before.before.before.before.before.before.before.before.loop-test.true, c.before.before.before.before.before.before.before.before.before.before.before.before.before.before.before.before.before.before.before.before.before.before.before.before.before.before.before.before.before.before.before.before.before.before.before.before.before.before.before.before.before.before.before.before.before.before.before.well-formed.1.1.0)
@@ -105,7 +105,7 @@ loop-less-2 c = search rules
 
 loop-again-2 : tie.Need-loop-preserved-2 invariant-loop decreases-loop
 loop-again-2 c = let A = c.before.before.before.before.before.before.before.before.before.before.before.before.before.before.before.before.before.before.before.before.before.before.before.before.before.before.before.before.before.before.before.before.before.before.before.before.before.before.before.before.before.before.before.before.before.before.before.args in let P = c.before.before.before.before.before.before.before.before.before.before.before.before.before.before.before.before.before.before.before.before.before.before.before.before.before.before.before.before.before.before.before.before.before.before.before.before.before.before.before.before.before.before.before.before.before.before.before.requires in let L = c.before.before.before.before.before.before.before.before.before.before.before.before.before.before.before.before.before.before.before.before.before.before.before.before.before.before.before.before.before.before.before.before.before.loop in
-    (to_step (kindIs A.kind) A.minimum A.torn.now A.e A.from.now A.to.now A.loads.now A.room A.k A.points.now A.roots.now A.corners.now A.volumes.now A.ends.now A.lengths.now A.outline.now A.log.now P.0 P.1 L.points L.roots L.corners L.ends L.lengths L.outline L.log L.counts L.i L.invariant.0 _ _ _ _ _ _ _ _ (omega (arith, c.before.before.before.before.before.before.before.before.before.before.before.before.before.before.before.before.before.before.before.before.before.before.before.before.before.before.before.before.before.before.if1.false)) c.before.before.before.before.before.before.before.before.before.before.before.before.before.before.before.before.before.before.before.crack-edge.ensures.0 c.before.before.before.before.before.before.before.before.before.before.before.before.before.before.before.before.before.before.before.before.before.before.before.before.before.before.before.before.before.before.before.before.loop-test.true _ c.before.ran.given.1 (lent-path _ _ c.before.before.before.before.before.before.before.before.before.before.before.before.before.before.before.before.before.before.before.crack-edge.auto.1.1.1.1.1.1.1.0 c.before.before.before.before.before.before.before.before.before.before.before.before.before.before.before.before.before.before.before.crack-edge.auto.1.1.1.1.1.1.1.1.0 c.before.before.before.before.before.before.before.before.before.before.before.before.before.before.before.before.before.before.before.crack-edge.auto.1.1.1.1.1.1.1.1.1.0 refl c.before.before.before.before.before.before.before.before.before.before.before.before.before.before.before.before.before.before.before.crack-edge.auto.1.1.1.1.1.1.1.1.1.1.1.0 c.before.before.before.before.before.before.before.before.before.before.before.before.before.before.before.before.before.before.before.crack-edge.auto.1.1.1.1.1.1.1.1.1.1.1.1.0 c.before.before.before.before.before.before.before.before.before.before.before.before.before.before.before.before.before.before.before.crack-edge.auto.1.1.1.1.1.1.1.1.1.1.1.1.1.0 c.before.before.before.before.before.before.before.before.before.before.before.before.before.before.before.before.before.before.before.crack-edge.auto.1.1.1.1.1.1.1.1.1.1.1.1.1.1.0), linked-done _ _ c.before.ran.given.1 c.before.before.before.before.before.before.before.before.before.before.before.before.before.before.before.before.before.before.before.crack-edge.ensures.1, c.before.before.before.before.before.before.before.before.before.before.before.before.before.before.before.before.before.before.before.crack-edge.auto.1.1.1.1.1.1.1.1.1.1.1.1.1.1.1.0 ∙ L.invariant.2)
+    (to_step (kind_is A.kind) A.minimum A.torn.now A.e A.from.now A.to.now A.loads.now A.room A.k A.points.now A.roots.now A.corners.now A.volumes.now A.ends.now A.lengths.now A.outline.now A.log.now P.0 P.1 L.points L.roots L.corners L.ends L.lengths L.outline L.log L.counts L.i L.invariant.0 _ _ _ _ _ _ _ _ (omega (arith, c.before.before.before.before.before.before.before.before.before.before.before.before.before.before.before.before.before.before.before.before.before.before.before.before.before.before.before.before.before.before.if1.false)) c.before.before.before.before.before.before.before.before.before.before.before.before.before.before.before.before.before.before.before.crack-edge.ensures.0 c.before.before.before.before.before.before.before.before.before.before.before.before.before.before.before.before.before.before.before.before.before.before.before.before.before.before.before.before.before.before.before.before.loop-test.true _ c.before.ran.given.1 (lent_path _ _ c.before.before.before.before.before.before.before.before.before.before.before.before.before.before.before.before.before.before.before.crack-edge.auto.1.1.1.1.1.1.1.0 c.before.before.before.before.before.before.before.before.before.before.before.before.before.before.before.before.before.before.before.crack-edge.auto.1.1.1.1.1.1.1.1.0 c.before.before.before.before.before.before.before.before.before.before.before.before.before.before.before.before.before.before.before.crack-edge.auto.1.1.1.1.1.1.1.1.1.0 refl c.before.before.before.before.before.before.before.before.before.before.before.before.before.before.before.before.before.before.before.crack-edge.auto.1.1.1.1.1.1.1.1.1.1.1.0 c.before.before.before.before.before.before.before.before.before.before.before.before.before.before.before.before.before.before.before.crack-edge.auto.1.1.1.1.1.1.1.1.1.1.1.1.0 c.before.before.before.before.before.before.before.before.before.before.before.before.before.before.before.before.before.before.before.crack-edge.auto.1.1.1.1.1.1.1.1.1.1.1.1.1.0 c.before.before.before.before.before.before.before.before.before.before.before.before.before.before.before.before.before.before.before.crack-edge.auto.1.1.1.1.1.1.1.1.1.1.1.1.1.1.0), linked_done _ _ c.before.ran.given.1 c.before.before.before.before.before.before.before.before.before.before.before.before.before.before.before.before.before.before.before.crack-edge.ensures.1, c.before.before.before.before.before.before.before.before.before.before.before.before.before.before.before.before.before.before.before.crack-edge.auto.1.1.1.1.1.1.1.1.1.1.1.1.1.1.1.0 ∙ L.invariant.2)
 
 same-length-9 : tie.Need-same-length-9 invariant-loop decreases-loop
 same-length-9 c = ap (λ (I : Lent). I.points) c.before.loop.invariant.0.same
@@ -135,10 +135,10 @@ returns-2 : tie.Need-returns-2 invariant-loop decreases-loop
 returns-2 c = let A = c.before.before.before.before.before.before.before.before.before.before.before.before.before.before.before.args in
     let P = c.before.before.before.before.before.before.before.before.before.before.before.before.before.before.before.requires in
     let L = c.before.loop in
-    (to-done (kindIs A.kind) A.minimum A.torn.now A.e A.from.now A.to.now A.loads.now A.room A.k A.points.now A.roots.now A.corners.now A.volumes.now A.ends.now A.lengths.now A.outline.now A.log.now P.0 P.1 L.points L.roots L.corners L.ends L.lengths L.outline L.log L.counts L.i L.invariant.0 (omega (arith, c.loop-test.false)), L.invariant.1)
+    (to_done (kind_is A.kind) A.minimum A.torn.now A.e A.from.now A.to.now A.loads.now A.room A.k A.points.now A.roots.now A.corners.now A.volumes.now A.ends.now A.lengths.now A.outline.now A.log.now P.0 P.1 L.points L.roots L.corners L.ends L.lengths L.outline L.log L.counts L.i L.invariant.0 (omega (arith, c.loop-test.false)), L.invariant.1)
 
-pub crack-listed-spec : {M : Type 1} → statement M
-crack-listed-spec =
+pub crack_listed_spec : {M : Type 1} → statement M
+crack_listed_spec =
     tie.close
     (tie.spec
     invariant-loop

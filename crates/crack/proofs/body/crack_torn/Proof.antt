@@ -1,15 +1,15 @@
 -- `crack::body::crack_torn` meets its contract: the tables hold the ends and the loads of the input, and the edges are cracked by them. Assumes nothing.
 use native.Mathlib.Omega.{arith}
 use lib.ListN.{get_or-replicate}
-use Rattle.elements.specs.Table.{kindIs}
+use Rattle.elements.specs.Table.{kind_is}
 use Rattle.tear.proofs.LinkLaws.{numbered}
-use Rattle.crack.proofs.BodyLaws.{turns-work}
+use Rattle.crack.proofs.BodyLaws.{turns_work}
 use borrow.Author.Rules.{rules}
 use Rattle.crack.proofs.body.crack_torn.Statement.{statement}
 use Rattle.crack.proofs.body.crack_torn.Tie as tie
 
 cast-none : tie.Need-overflow-cast-none
-cast-none c = let P = c.before.before.before.before.before.before.before.before.before.before.before.requires.0 in omega (arith, P.counts.edges, P.rooms.few-edges)
+cast-none c = let P = c.before.before.before.before.before.before.before.before.before.before.before.requires.0 in omega (arith, P.counts.edges, P.rooms.few_edges)
 
 slice-aggregate-read-loads : tie.Need-slice-aggregate-read-loads
 slice-aggregate-read-loads c = search rules
@@ -28,14 +28,14 @@ read-loads-requires c κs = let P = c.before.before.before.before.before.before.
         volumes = omega (arith, P.counts.triangles, P.rooms.volumes);
         edges = record { ends = omega (arith, P.counts.edges, P.rooms.ends); lengths = omega (arith, P.counts.edges, P.rooms.lengths) };
       },
-      omega (arith, P.counts.triangles, P.rooms.few-triangles),
+      omega (arith, P.counts.triangles, P.rooms.few_triangles),
       N,
       record {
         inside = omega (arith, P.counts.edges, P.rooms.ends);
-        below = N.ends-in;
+        below = N.ends_in;
         long = omega arith;
         empty = λ s h. get_or-replicate 2048 s A.k.edges 0 h;
-        nexts = omega (arith, P.counts.edges, P.rooms.few-edges);
+        nexts = omega (arith, P.counts.edges, P.rooms.few_edges);
       },
     )
 
@@ -49,9 +49,9 @@ keep-ends-requires : tie.Need-keep-ends-requires
 keep-ends-requires c κs = let P = c.before.before.before.before.before.before.before.before.before.before.before.before.before.before.before.before.before.before.before.before.before.before.before.before.requires.0 in let A = c.before.before.before.before.before.before.before.before.before.before.before.before.before.before.before.before.before.before.before.before.before.before.before.before.args in
     record {
       inside = omega (arith, P.counts.edges, P.rooms.ends);
-      below = (numbered A.room A.k A.points.now A.roots.now A.corners.now A.volumes.now A.ends.now A.lengths.now A.outline.now _ P).ends-in;
-      first = omega (arith, P.counts.edges, P.rooms.few-edges, c.before.before.before.before.before.before.read-loads.auto.1.1.1.1.1.1.0);
-      second = omega (arith, P.counts.edges, P.rooms.few-edges, c.before.before.before.before.before.before.read-loads.auto.1.1.1.1.1.1.1.0);
+      below = (numbered A.room A.k A.points.now A.roots.now A.corners.now A.volumes.now A.ends.now A.lengths.now A.outline.now _ P).ends_in;
+      first = omega (arith, P.counts.edges, P.rooms.few_edges, c.before.before.before.before.before.before.read-loads.auto.1.1.1.1.1.1.0);
+      second = omega (arith, P.counts.edges, P.rooms.few_edges, c.before.before.before.before.before.before.read-loads.auto.1.1.1.1.1.1.1.0);
     }
 
 slice-aggregate-crack-listed : tie.Need-slice-aggregate-crack-listed
@@ -68,11 +68,11 @@ crack-listed-requires c κs = let P = c.before.before.before.before.before.befor
     let N = numbered A.room A.k A.points.now A.roots.now A.corners.now A.volumes.now A.ends.now A.lengths.now A.outline.now _ P.0 in (
       P.0,
       record {
-        first = omega (arith, P.0.counts.edges, P.0.rooms.few-edges, c.before.before.before.before.before.before.before.before.before.before.before.before.before.keep-ends.auto.1.1.0, c.before.before.before.before.before.before.before.before.before.before.before.before.before.before.before.before.before.before.before.before.read-loads.auto.1.1.1.1.1.1.0);
-        second = omega (arith, P.0.counts.edges, P.0.rooms.few-edges, c.before.before.before.before.before.before.before.before.before.before.before.before.before.keep-ends.auto.1.1.1.0, c.before.before.before.before.before.before.before.before.before.before.before.before.before.before.before.before.before.before.before.before.read-loads.auto.1.1.1.1.1.1.1.0);
-        first-few = λ i l. omega (arith, K.ensures.first i l, N.ends-in.first i l);
-        second-few = λ i l. omega (arith, K.ensures.second i l, N.ends-in.second i l);
-        loads = record { long = λ q. omega (arith, P.0.counts.triangles, P.0.rooms.few-triangles, c.before.before.before.before.before.before.before.before.before.before.before.before.before.before.before.before.before.before.before.before.read-loads.auto.1.1.1.1.1.1.1.1.0) };
+        first = omega (arith, P.0.counts.edges, P.0.rooms.few_edges, c.before.before.before.before.before.before.before.before.before.before.before.before.before.keep-ends.auto.1.1.0, c.before.before.before.before.before.before.before.before.before.before.before.before.before.before.before.before.before.before.before.before.read-loads.auto.1.1.1.1.1.1.0);
+        second = omega (arith, P.0.counts.edges, P.0.rooms.few_edges, c.before.before.before.before.before.before.before.before.before.before.before.before.before.keep-ends.auto.1.1.1.0, c.before.before.before.before.before.before.before.before.before.before.before.before.before.before.before.before.before.before.before.before.read-loads.auto.1.1.1.1.1.1.1.0);
+        first_few = λ i l. omega (arith, K.ensures.first i l, N.ends_in.first i l);
+        second_few = λ i l. omega (arith, K.ensures.second i l, N.ends_in.second i l);
+        loads = record { long = λ q. omega (arith, P.0.counts.triangles, P.0.rooms.few_triangles, c.before.before.before.before.before.before.before.before.before.before.before.before.before.before.before.before.before.before.before.before.read-loads.auto.1.1.1.1.1.1.1.1.0) };
         logged = P.1;
       },
       P.2,
@@ -104,10 +104,10 @@ same-length-8 c = c.before.before.before.before.before.before.before.before.befo
 
 returns : tie.Need-returns
 returns c = let A = c.before.before.before.before.before.before.before.before.before.before.before.before.before.before.before.before.before.before.before.before.before.before.before.before.before.before.before.before.before.before.before.before.before.before.before.before.before.before.before.before.before.before.before.before.before.before.before.before.before.before.before.before.before.before.before.args in
-    (turns-work (kindIs A.kind) A.minimum A.torn.now A.k A.points.now A.roots.now A.corners.now A.volumes.now A.ends.now A.lengths.now A.outline.now A.log.now _ _ _ c.before.before.before.before.before.before.before.before.before.before.before.before.before.before.before.before.before.before.before.before.before.before.before.before.before.before.before.before.before.before.keep-ends.ensures c.before.before.before.before.before.before.before.before.before.before.before.before.before.before.before.before.before.before.before.before.before.before.before.before.before.before.before.before.before.before.before.before.before.before.before.before.before.read-loads.ensures c.before.before.before.before.before.before.before.before.before.before.before.before.before.before.before.before.crack-listed.ensures.0, c.before.before.before.before.before.before.before.before.before.before.before.before.before.before.before.before.crack-listed.ensures.1)
+    (turns_work (kind_is A.kind) A.minimum A.torn.now A.k A.points.now A.roots.now A.corners.now A.volumes.now A.ends.now A.lengths.now A.outline.now A.log.now _ _ _ c.before.before.before.before.before.before.before.before.before.before.before.before.before.before.before.before.before.before.before.before.before.before.before.before.before.before.before.before.before.before.keep-ends.ensures c.before.before.before.before.before.before.before.before.before.before.before.before.before.before.before.before.before.before.before.before.before.before.before.before.before.before.before.before.before.before.before.before.before.before.before.before.before.read-loads.ensures c.before.before.before.before.before.before.before.before.before.before.before.before.before.before.before.before.crack-listed.ensures.0, c.before.before.before.before.before.before.before.before.before.before.before.before.before.before.before.before.crack-listed.ensures.1)
 
-pub crack-torn-spec : {M : Type 1} → statement M
-crack-torn-spec =
+pub crack_torn_spec : {M : Type 1} → statement M
+crack_torn_spec =
     tie.close
     (tie.spec
     cast-none

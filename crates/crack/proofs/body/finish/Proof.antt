@@ -1,26 +1,26 @@
 -- `crack::body::finish` meets its contract: one part of the end comes behind the other, if the log tells of a split. Assumes nothing.
 use mathlib.Core.Path.{refl, sym, ◌∙◌}
-use Rattle.lists.proofs.Truths.{of-not, of-not-false}
-use Rattle.elements.specs.Table.{kindIs}
-use Rattle.model_laws.proofs.Indexed.{pinched-indexed}
-use Rattle.mesh.specs.Log.{worldAt}
-use Rattle.mesh.proofs.Agree.{lent-path}
-use Rattle.work.proofs.Runs.{beside, works-stay, works-known}
-use Rattle.cut.proofs.CutLaws.{near-room}
-use Rattle.crack.proofs.BodyLaws.{left-ready, straddlers-room, end_refused, end-done, end-unsplit}
+use Rattle.lists.proofs.Truths.{of_not, of_not_false}
+use Rattle.elements.specs.Table.{kind_is}
+use Rattle.model_laws.proofs.Indexed.{pinched_indexed}
+use Rattle.mesh.specs.Log.{world_at}
+use Rattle.mesh.proofs.Agree.{lent_path}
+use Rattle.work.proofs.Runs.{beside, works_stay, works_known}
+use Rattle.cut.proofs.CutLaws.{near_room}
+use Rattle.crack.proofs.BodyLaws.{left_ready, straddlers_room, end_refused, end_done, end_unsplit}
 use borrow.Author.Rules.{rules}
 use Rattle.crack.proofs.body.finish.Statement.{statement}
 use Rattle.crack.proofs.body.finish.Tie as tie
 
 any-split-requires : tie.Need-any-split-requires
-any-split-requires c κs = let A = c.before.before.before.before.before.before.before.before.before.before.args in let P = c.before.before.before.before.before.before.before.before.before.before.requires in near-room A.k A.points.now A.roots.now A.corners.now A.volumes.now A.ends.now A.lengths.now A.outline.now A.log.now A.room _ P.0 refl refl refl
+any-split-requires c κs = let A = c.before.before.before.before.before.before.before.before.before.before.args in let P = c.before.before.before.before.before.before.before.before.before.before.requires in near_room A.k A.points.now A.roots.now A.corners.now A.volumes.now A.ends.now A.lengths.now A.outline.now A.log.now A.room _ P.0 refl refl refl
 
 same_length : tie.Need-same-length
 same_length c = search rules
 
 returns : tie.Need-returns
-unfolding worldAt
-returns c = let A = c.before.before.before.before.before.before.before.before.before.before.before.before.args in let P = c.before.before.before.before.before.before.before.before.before.before.before.before.requires in end-unsplit (kindIs A.kind) c.before.any-split.result c.before.any-split.ensures.is (of-not _ (sym c.if1.true)) (works-stay A.k P.0.counts)
+unfolding world_at
+returns c = let A = c.before.before.before.before.before.before.before.before.before.before.before.before.args in let P = c.before.before.before.before.before.before.before.before.before.before.before.before.requires in end_unsplit (kind_is A.kind) c.before.any-split.result c.before.any-split.ensures.is (of_not _ (sym c.if1.true)) (works_stay A.k P.0.counts)
 
 split-pinched-requires : tie.Need-split-pinched-requires
 split-pinched-requires c κs = c.before.before.before.before.before.before.before.before.before.before.before.before.before.before.before.before.before.before.before.before.requires
@@ -56,16 +56,16 @@ same-length-9 : tie.Need-same-length-9
 same-length-9 c = c.before.before.before.before.before.before.before.before.before.before.before.before.before.before.before.before.before.before.split-pinched.auto.1.1.1.1.1.1.1.1.1.1.1.0
 
 returns-2 : tie.Need-returns-2
-unfolding worldAt
+unfolding world_at
 returns-2 c = let A = c.before.before.before.before.before.before.before.before.before.before.before.before.before.before.before.before.before.before.before.before.before.before.before.before.before.before.before.before.before.before.before.before.before.before.before.before.before.before.before.args in
-    end_refused (kindIs A.kind) c.before.before.before.before.before.before.before.before.before.before.before.before.before.before.before.before.before.before.before.before.before.before.before.before.before.before.before.before.any-split.result c.before.before.before.before.before.before.before.before.before.before.before.before.before.before.before.before.before.before.before.before.before.before.before.before.before.before.before.before.any-split.ensures.is _ _ c.enum_told.given.1 (of-not-false _ (sym c.before.before.before.before.before.before.before.before.before.before.before.before.before.before.before.before.before.before.before.before.before.before.before.before.before.before.before.if1.false)) c.before.before.before.before.before.before.before.before.before.before.before.before.before.before.before.before.before.before.split-pinched.ensures
+    end_refused (kind_is A.kind) c.before.before.before.before.before.before.before.before.before.before.before.before.before.before.before.before.before.before.before.before.before.before.before.before.before.before.before.before.any-split.result c.before.before.before.before.before.before.before.before.before.before.before.before.before.before.before.before.before.before.before.before.before.before.before.before.before.before.before.before.any-split.ensures.is _ _ c.enum_told.given.1 (of_not_false _ (sym c.before.before.before.before.before.before.before.before.before.before.before.before.before.before.before.before.before.before.before.before.before.before.before.before.before.before.before.if1.false)) c.before.before.before.before.before.before.before.before.before.before.before.before.before.before.before.before.before.before.split-pinched.ensures
 
 remove-straddlers-requires : tie.Need-remove-straddlers-requires
-unfolding worldAt
+unfolding world_at
 remove-straddlers-requires c κs = let A = c.before.before.before.before.before.before.before.before.before.before.before.before.before.before.before.before.before.before.before.before.before.before.before.before.before.before.before.before.before.before.before.before.before.before.before.before.before.before.before.before.before.before.before.before.before.args in let P = c.before.before.before.before.before.before.before.before.before.before.before.before.before.before.before.before.before.before.before.before.before.before.before.before.before.before.before.before.before.before.before.before.before.before.before.before.before.before.before.before.before.before.before.before.before.requires in
-    straddlers-room _ A.room _ _ _ A.volumes.now _ _ _ c.before.before.before.before.before.before.before.before.before.before.before.before.before.before.before.before.before.before.before.before.before.before.before.before.split-pinched.new.1.1.1.1.1.1.1.1.1.1.0
-    (left-ready (works-known _ _ c.before.before.before.before.before.before.ran.given.1 c.before.before.before.before.before.before.before.before.before.before.before.before.before.before.before.before.before.before.before.before.before.before.before.before.split-pinched.ensures) P.1.entries P.1.words (pinched-indexed (kindIs A.kind)) A.k _ _ P.0
-    (lent-path _ _ c.before.before.before.before.before.before.before.before.before.before.before.before.before.before.before.before.before.before.before.before.before.before.before.before.split-pinched.auto.1.1.1.0 c.before.before.before.before.before.before.before.before.before.before.before.before.before.before.before.before.before.before.before.before.before.before.before.before.split-pinched.auto.1.1.1.1.0 c.before.before.before.before.before.before.before.before.before.before.before.before.before.before.before.before.before.before.before.before.before.before.before.before.split-pinched.auto.1.1.1.1.1.0 refl c.before.before.before.before.before.before.before.before.before.before.before.before.before.before.before.before.before.before.before.before.before.before.before.before.split-pinched.auto.1.1.1.1.1.1.1.0 c.before.before.before.before.before.before.before.before.before.before.before.before.before.before.before.before.before.before.before.before.before.before.before.before.split-pinched.auto.1.1.1.1.1.1.1.1.0 c.before.before.before.before.before.before.before.before.before.before.before.before.before.before.before.before.before.before.before.before.before.before.before.before.split-pinched.auto.1.1.1.1.1.1.1.1.1.0 c.before.before.before.before.before.before.before.before.before.before.before.before.before.before.before.before.before.before.before.before.before.before.before.before.split-pinched.auto.1.1.1.1.1.1.1.1.1.1.0))
+    straddlers_room _ A.room _ _ _ A.volumes.now _ _ _ c.before.before.before.before.before.before.before.before.before.before.before.before.before.before.before.before.before.before.before.before.before.before.before.before.split-pinched.new.1.1.1.1.1.1.1.1.1.1.0
+    (left_ready (works_known _ _ c.before.before.before.before.before.before.ran.given.1 c.before.before.before.before.before.before.before.before.before.before.before.before.before.before.before.before.before.before.before.before.before.before.before.before.split-pinched.ensures) P.1.entries P.1.words (pinched_indexed (kind_is A.kind)) A.k _ _ P.0
+    (lent_path _ _ c.before.before.before.before.before.before.before.before.before.before.before.before.before.before.before.before.before.before.before.before.before.before.before.before.split-pinched.auto.1.1.1.0 c.before.before.before.before.before.before.before.before.before.before.before.before.before.before.before.before.before.before.before.before.before.before.before.before.split-pinched.auto.1.1.1.1.0 c.before.before.before.before.before.before.before.before.before.before.before.before.before.before.before.before.before.before.before.before.before.before.before.before.split-pinched.auto.1.1.1.1.1.0 refl c.before.before.before.before.before.before.before.before.before.before.before.before.before.before.before.before.before.before.before.before.before.before.before.before.split-pinched.auto.1.1.1.1.1.1.1.0 c.before.before.before.before.before.before.before.before.before.before.before.before.before.before.before.before.before.before.before.before.before.before.before.before.split-pinched.auto.1.1.1.1.1.1.1.1.0 c.before.before.before.before.before.before.before.before.before.before.before.before.before.before.before.before.before.before.before.before.before.before.before.before.split-pinched.auto.1.1.1.1.1.1.1.1.1.0 c.before.before.before.before.before.before.before.before.before.before.before.before.before.before.before.before.before.before.before.before.before.before.before.before.split-pinched.auto.1.1.1.1.1.1.1.1.1.1.0))
 
 same-length-10 : tie.Need-same-length-10
 same-length-10 c = c.before.before.before.before.before.before.before.before.before.before.before.before.before.before.before.before.before.before.before.before.before.before.before.before.before.before.before.before.before.before.before.before.before.split-pinched.auto.1.1.1.0
@@ -92,9 +92,9 @@ same-length-17 : tie.Need-same-length-17
 same-length-17 c = c.before.before.before.before.before.before.before.before.before.before.before.before.before.before.before.before.before.before.before.before.before.before.before.before.before.before.before.before.before.before.before.before.before.split-pinched.auto.1.1.1.1.1.1.1.1.1.1.1.0
 
 returns-3 : tie.Need-returns-3
-unfolding worldAt
+unfolding world_at
 returns-3 c = let A = c.before.before.before.before.before.before.before.before.before.before.before.before.before.before.before.before.before.before.before.before.before.before.before.before.before.before.before.before.before.before.before.before.before.before.before.before.before.before.before.before.before.before.before.before.before.before.before.before.before.before.before.before.before.before.args in
-    end-done (kindIs A.kind) c.before.before.before.before.before.before.before.before.before.before.before.before.before.before.before.before.before.before.before.before.before.before.before.before.before.before.before.before.before.before.before.before.before.before.before.before.before.before.before.before.before.before.before.any-split.result c.before.before.before.before.before.before.before.before.before.before.before.before.before.before.before.before.before.before.before.before.before.before.before.before.before.before.before.before.before.before.before.before.before.before.before.before.before.before.before.before.before.before.before.any-split.ensures.is _ _ c.before.before.before.before.before.before.before.before.before.before.before.before.before.before.before.ran.given.1 (of-not-false _ (sym c.before.before.before.before.before.before.before.before.before.before.before.before.before.before.before.before.before.before.before.before.before.before.before.before.before.before.before.before.before.before.before.before.before.before.before.before.before.before.before.before.before.before.if1.false)) c.before.before.before.before.before.before.before.before.before.before.before.before.before.before.before.before.before.before.before.before.before.before.before.before.before.before.before.before.before.before.before.before.before.split-pinched.ensures (beside c.before.before.before.before.before.before.before.before.remove-straddlers.ensures _ _)
+    end_done (kind_is A.kind) c.before.before.before.before.before.before.before.before.before.before.before.before.before.before.before.before.before.before.before.before.before.before.before.before.before.before.before.before.before.before.before.before.before.before.before.before.before.before.before.before.before.before.before.any-split.result c.before.before.before.before.before.before.before.before.before.before.before.before.before.before.before.before.before.before.before.before.before.before.before.before.before.before.before.before.before.before.before.before.before.before.before.before.before.before.before.before.before.before.before.any-split.ensures.is _ _ c.before.before.before.before.before.before.before.before.before.before.before.before.before.before.before.ran.given.1 (of_not_false _ (sym c.before.before.before.before.before.before.before.before.before.before.before.before.before.before.before.before.before.before.before.before.before.before.before.before.before.before.before.before.before.before.before.before.before.before.before.before.before.before.before.before.before.before.if1.false)) c.before.before.before.before.before.before.before.before.before.before.before.before.before.before.before.before.before.before.before.before.before.before.before.before.before.before.before.before.before.before.before.before.before.split-pinched.ensures (beside c.before.before.before.before.before.before.before.before.remove-straddlers.ensures _ _)
 
 pub finish_spec : {M : Type 1} → statement M
 finish_spec =

@@ -4,7 +4,7 @@ use mathlib.Core.Path.{sym}
 use lib.ListN.{length}
 use native.Mathlib.Omega.{arith}
 use lib.Seq.{length-take-le}
-use Rattle.crack.proofs.BodyLaws.{first-narrow, second-narrow, columns-kept}
+use Rattle.crack.proofs.BodyLaws.{first_narrow, second_narrow, columns_kept}
 use borrow.Author.Rules.{rules}
 use Rattle.crack.proofs.body.keep_ends.Statement.{statement}
 use Rattle.crack.proofs.body.keep_ends.Tie as tie
@@ -16,7 +16,7 @@ slice-aggregate-narrow : tie.Need-slice-aggregate-narrow
 slice-aggregate-narrow c = sym (length-take-le _ _ (omega (arith, c.before.before.before.before.requires.inside)))
 
 narrow-requires : tie.Need-narrow-requires
-narrow-requires c κs = let A = c.before.before.before.before.before.args in first-narrow A.e A.ends.now _ _ c.before.before.before.before.before.requires
+narrow-requires c κs = let A = c.before.before.before.before.before.args in first_narrow A.e A.ends.now _ _ c.before.before.before.before.before.requires
 
 mul-narrow : tie.Need-overflow-mul-narrow
 mul-narrow c = search rules
@@ -31,7 +31,7 @@ part-narrow-end : tie.Need-slice-bounds-narrow-end
 part-narrow-end c = search rules
 
 narrow-requires-2 : tie.Need-narrow-requires-2
-narrow-requires-2 c κs = let A = c.before.before.before.before.before.before.before.before.before.before.args in second-narrow A.e A.ends.now _ _ c.before.before.before.before.before.before.before.before.before.before.requires
+narrow-requires-2 c κs = let A = c.before.before.before.before.before.before.before.before.before.before.args in second_narrow A.e A.ends.now _ _ c.before.before.before.before.before.before.before.before.before.before.requires
 
 same_length : tie.Need-same-length
 same_length c = search rules
@@ -41,10 +41,10 @@ same-length-2 c = search rules
 
 returns : tie.Need-returns
 returns c = let A = c.before.before.before.before.before.before.before.before.before.before.before.before.before.args in
-    columns-kept A.e (length A.ends.now / 4 + A.e - length A.ends.now / 4) A.ends.now _ _ c.before.before.before.before.before.before.before.before.before.before.before.before.before.requires.inside (omega arith) c.before.before.before.before.before.before.before.narrow.ensures c.before.before.narrow2.ensures
+    columns_kept A.e (length A.ends.now / 4 + A.e - length A.ends.now / 4) A.ends.now _ _ c.before.before.before.before.before.before.before.before.before.before.before.before.before.requires.inside (omega arith) c.before.before.before.before.before.before.before.narrow.ensures c.before.before.narrow2.ensures
 
-pub keep-ends-spec : {M : Type 1} → statement M
-keep-ends-spec =
+pub keep_ends_spec : {M : Type 1} → statement M
+keep_ends_spec =
     tie.close
     (tie.spec
     add-last

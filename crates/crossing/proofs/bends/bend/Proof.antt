@@ -1,11 +1,11 @@
 use native.Mathlib.Omega.{arith}
-use Rattle.crossing.proofs.BendLaws.{bend-strap, bend-along, bend-against, bend-not}
+use Rattle.crossing.proofs.BendLaws.{bend_strap, bend_along, bend_against, bend_not}
 use borrow.Author.Rules.{rules}
 use Rattle.crossing.proofs.bends.bend.Statement.{statement}
 use Rattle.crossing.proofs.bends.bend.Tie as tie
 use Rattle.crossing.proofs.bends.bend.Reads as reads
 use Rattle.crossing.proofs.bends.bend.Lts as lts
-use Rattle.crossing.proofs.bends.only.Reads as only-reads
+use Rattle.crossing.proofs.bends.only.Reads as only_reads
 
 -- src/bends.rt:66:13
 mul-if1 : tie.Need-overflow-mul-if1
@@ -25,7 +25,7 @@ shared-slice-read-if1 c = search rules
 
 -- src/bends.rt:67:9
 returns : tie.Need-returns
-returns c = bend-strap _ _ _ _ c.if1.true
+returns c = bend_strap _ _ _ _ c.if1.true
 
 -- src/bends.rt:69:13
 mul-a : tie.Need-overflow-mul-a
@@ -57,7 +57,7 @@ only-requires-2 c κs = search rules
 
 -- src/bends.rt:72:9
 returns-2 : tie.Need-returns-2
-returns-2 c = bend-along _ _ _ _ c.before.before.before.before.before.if1.false _ _ c.before.before.only.ensures c.before.if2.true c.only2.ensures
+returns-2 c = bend_along _ _ _ _ c.before.before.before.before.before.if1.false _ _ c.before.before.only.ensures c.before.if2.true c.only2.ensures
 
 -- src/bends.rt:74:8
 only-requires-3 : tie.Need-only-requires-3
@@ -69,14 +69,14 @@ only-requires-4 c κs = search rules
 
 -- src/bends.rt:75:9
 returns-3 : tie.Need-returns-3
-returns-3 c = bend-against _ _ _ _ c.before.before.before.before.before.before.before.if1.false _ _ _ c.before.before.before.before.only.ensures c.before.before.before.if2.false c.before.before.only3.ensures c.before.if3.true c.only4.ensures
+returns-3 c = bend_against _ _ _ _ c.before.before.before.before.before.before.before.if1.false _ _ _ c.before.before.before.before.only.ensures c.before.before.before.if2.false c.before.before.only3.ensures c.before.if3.true c.only4.ensures
 
 -- src/bends.rt:61:1
 returns-4 : tie.Need-returns-4
-returns-4 c = bend-not _ _ _ _ c.before.before.before.before.before.before.if1.false _ _ c.before.before.before.only.ensures c.before.before.if2.false c.before.only3.ensures c.if3.false
+returns-4 c = bend_not _ _ _ _ c.before.before.before.before.before.before.if1.false _ _ c.before.before.before.only.ensures c.before.before.if2.false c.before.only3.ensures c.if3.false
 
-pub bend-spec : {M : Type 1} → statement M
-bend-spec =
+pub bend_spec : {M : Type 1} → statement M
+bend_spec =
     tie.close
     (tie.spec
     mul-if1

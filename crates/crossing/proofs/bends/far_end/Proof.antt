@@ -1,4 +1,4 @@
-use Rattle.crossing.proofs.BendLaws.{far-first, far-second}
+use Rattle.crossing.proofs.BendLaws.{far_first, far_second}
 use borrow.Author.Rules.{rules}
 use Rattle.crossing.proofs.bends.far_end.Statement.{statement}
 use Rattle.crossing.proofs.bends.far_end.Tie as tie
@@ -27,7 +27,7 @@ shared-slice-read-result c = search rules
 
 -- src/bends.rt:16:9
 returns : tie.Need-returns
-returns c = far-second _ _ _ c.before.if1.true
+returns c = far_second _ _ _ c.before.if1.true
 
 -- src/bends.rt:18:5
 mul-result-2 : tie.Need-overflow-mul-result-2
@@ -39,10 +39,10 @@ shared-slice-read-result-2 c = search rules
 
 -- src/bends.rt:10:1
 returns-2 : tie.Need-returns-2
-returns-2 c = far-first _ _ _ c.before.if1.false
+returns-2 c = far_first _ _ _ c.before.if1.false
 
-pub far-end-spec : {M : Type 1} → statement M
-far-end-spec =
+pub far_end_spec : {M : Type 1} → statement M
+far_end_spec =
     tie.close
     (tie.spec
     mul-if1

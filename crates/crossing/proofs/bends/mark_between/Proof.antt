@@ -3,9 +3,9 @@ use native.Mathlib.Omega.{arith}
 use borrow.Author.Rules.{rules}
 use mathlib.Core.Path.{◌∙◌}
 use mathlib.Core.Logic.{⊎_elim}
-use Rattle.links.proofs.Walked.{stillLeft}
-use Rattle.insert.proofs.Walks.{Walk, walk-head, walk_start, walk-within, walk-row, walk-link, walk_here, walk_more, walk-less, walk-done}
-use Rattle.crossing.proofs.BendLaws.{linked-below, SideSeen, side-start, side-skip, side-passed, side-more, side-done}
+use Rattle.links.proofs.Walked.{still_left}
+use Rattle.insert.proofs.Walks.{Walk, walk_head, walk_start, walk_within, walk_row, walk_link, walk_here, walk_more, walk_less, walk_done}
+use Rattle.crossing.proofs.BendLaws.{linked_below, SideSeen, side_start, side_skip, side_passed, side_more, side_done}
 use Rattle.crossing.proofs.bends.mark_between.Statement.{statement}
 use Rattle.crossing.proofs.bends.mark_between.Tie as tie
 
@@ -13,7 +13,7 @@ abbrev invariant-loop : tie.invariant-loop
 invariant-loop v w e ends first second marks₀ table rows walked₀ at₀ marks walked at = Walk e ends v (SideSeen v w e ends first second marks₀ marks walked) at
 
 abbrev decreases-loop : tie.decreases-loop
-decreases-loop v w e ends first second marks₀ table rows walked₀ at₀ marks walked at = stillLeft e at
+decreases-loop v w e ends first second marks₀ table rows walked₀ at₀ marks walked at = still_left e at
 
 array-write-walked : tie.Need-array-write-walked invariant-loop decreases-loop
 array-write-walked c = c.before.before.before.before.before.requires.0.here
@@ -22,16 +22,16 @@ mark-at-requires : tie.Need-mark-at-requires invariant-loop decreases-loop
 mark-at-requires c κs = c.before.before.before.before.before.before.requires.0
 
 first-at-requires : tie.Need-first-at-requires invariant-loop decreases-loop
-first-at-requires c κs = walk-head c.before.before.before.before.before.before.before.before.before.requires.0.linked c.before.before.before.before.before.before.before.before.before.requires.0.here
+first-at-requires c κs = walk_head c.before.before.before.before.before.before.before.before.before.requires.0.linked c.before.before.before.before.before.before.before.before.before.requires.0.here
 
 loop-holds : tie.Need-loop-init invariant-loop decreases-loop
-loop-holds c = walk_start c.before.before.before.before.before.before.before.before.before.before.requires.0.linked c.first-at.ensures c.before.before.before.before.before.before.before.before.before.before.requires.0.here (side-start _ _ _ _ _ _ _ c.before.before.before.before.before.before.before.before.before.before.requires.0.here)
+loop-holds c = walk_start c.before.before.before.before.before.before.before.before.before.before.requires.0.linked c.first-at.ensures c.before.before.before.before.before.before.before.before.before.before.requires.0.here (side_start _ _ _ _ _ _ _ c.before.before.before.before.before.before.before.before.before.before.requires.0.here)
 
 sub-i : tie.Need-overflow-sub-i invariant-loop decreases-loop
 sub-i c = c.loop-test.true
 
 neighbour-requires : tie.Need-neighbour-requires invariant-loop decreases-loop
-neighbour-requires c κs = walk-row c.before.before.before.before.before.before.before.before.before.before.before.before.requires.0.linked c.before.loop.invariant c.loop-test.true
+neighbour-requires c κs = walk_row c.before.before.before.before.before.before.before.before.before.before.before.before.requires.0.linked c.before.loop.invariant c.loop-test.true
 
 slice-aggregate-is-walked : tie.Need-slice-aggregate-is-walked invariant-loop decreases-loop
 slice-aggregate-is-walked c = search rules
@@ -40,35 +40,35 @@ is-walked-requires : tie.Need-is-walked-requires invariant-loop decreases-loop
 is-walked-requires c κs = search rules
 
 mark-at-requires-2 : tie.Need-mark-at-requires-2 invariant-loop decreases-loop
-mark-at-requires-2 c κs = let P = c.before.before.before.before.before.before.before.before.before.before.before.before.before.before.before.before.before.before.requires.0 in let h = walk-within P.linked c.before.before.before.before.before.before.before.loop.invariant c.before.before.before.before.before.before.loop-test.true in let E = linked-below P.linked in
-    record { linked = P.linked; here = c.before.before.before.before.before.neighbour.ensures.below _ P.here (E.first _ h) (E.second _ h); first-long = P.first-long; second-long = P.second-long; marks-long = omega (arith, P.marks-long, c.before.before.before.before.before.before.before.loop.invariant.so_far.long, c.before.before.before.before.before.before.before.before.before.before.before.mark-at.auto.1.1.1.1.1.0) }
+mark-at-requires-2 c κs = let P = c.before.before.before.before.before.before.before.before.before.before.before.before.before.before.before.before.before.before.requires.0 in let h = walk_within P.linked c.before.before.before.before.before.before.before.loop.invariant c.before.before.before.before.before.before.loop-test.true in let E = linked_below P.linked in
+    record { linked = P.linked; here = c.before.before.before.before.before.neighbour.ensures.below _ P.here (E.first _ h) (E.second _ h); first_long = P.first_long; second_long = P.second_long; marks_long = omega (arith, P.marks_long, c.before.before.before.before.before.before.before.loop.invariant.so_far.long, c.before.before.before.before.before.before.before.before.before.before.before.mark-at.auto.1.1.1.1.1.0) }
 
 next-at-requires : tie.Need-next-at-requires invariant-loop decreases-loop
-next-at-requires c κs = walk-link c.before.before.before.before.before.before.before.before.before.before.before.before.before.before.before.before.before.requires.0.linked c.before.before.before.before.before.before.loop.invariant c.before.before.before.before.before.loop-test.true
+next-at-requires c κs = walk_link c.before.before.before.before.before.before.before.before.before.before.before.before.before.before.before.before.before.requires.0.linked c.before.before.before.before.before.before.loop.invariant c.before.before.before.before.before.loop-test.true
 
 loop-less : tie.Need-loop-smaller invariant-loop decreases-loop
-loop-less c = walk-less c.before.before.before.before.before.before.before.before.before.before.before.before.before.before.before.before.before.before.requires.0.linked c.before.before.before.before.before.before.before.loop.invariant c.before.before.before.before.before.before.loop-test.true c.next-at.ensures
+loop-less c = walk_less c.before.before.before.before.before.before.before.before.before.before.before.before.before.before.before.before.before.before.requires.0.linked c.before.before.before.before.before.before.before.loop.invariant c.before.before.before.before.before.before.loop-test.true c.next-at.ensures
 
 loop-again : tie.Need-loop-preserved invariant-loop decreases-loop
 loop-again c = let P = c.before.before.before.before.before.before.before.before.before.before.before.before.before.before.before.before.before.before.requires.0 in
     let T = c.before.before.before.is-walked in
     let N = c.before.before.before.before.before.neighbour.ensures in
-    let E = linked-below P.linked in
-    let h = walk-within P.linked c.before.before.before.before.before.before.before.loop.invariant c.before.before.before.before.before.before.loop-test.true in
-    let S = walk_here P.linked c.before.before.before.before.before.before.before.loop.invariant c.before.before.before.before.before.before.loop-test.true (λ j l n s. side-skip _ _ _ _ _ _ _ _ _ j s n) in
+    let E = linked_below P.linked in
+    let h = walk_within P.linked c.before.before.before.before.before.before.before.loop.invariant c.before.before.before.before.before.before.loop-test.true in
+    let S = walk_here P.linked c.before.before.before.before.before.before.before.loop.invariant c.before.before.before.before.before.before.loop-test.true (λ j l n s. side_skip _ _ _ _ _ _ _ _ _ j s n) in
     walk_more P.linked c.before.before.before.before.before.before.before.loop.invariant c.before.before.before.before.before.before.loop-test.true c.next-at.ensures
-    (⊎_elim (λ w. side-more _ _ _ _ _ _ _ _ _ _ S _ N _ T.result T.ensures _ w.0.taken T.auto.1.0 _ w.2.kept.1.1.1.1.1.0 w.2.ensures w.5)
-    (λ w. side-passed _ _ _ _ _ _ _ _ _ _ S _ N _ T.result T.ensures _ (N.below _ P.here (E.first _ h) (E.second _ h)) w.0.left w.1) c.before.if1.branch)
+    (⊎_elim (λ w. side_more _ _ _ _ _ _ _ _ _ _ S _ N _ T.result T.ensures _ w.0.taken T.auto.1.0 _ w.2.kept.1.1.1.1.1.0 w.2.ensures w.5)
+    (λ w. side_passed _ _ _ _ _ _ _ _ _ _ S _ N _ T.result T.ensures _ (N.below _ P.here (E.first _ h) (E.second _ h)) w.0.left w.1) c.before.if1.branch)
 
 same_length : tie.Need-same-length invariant-loop decreases-loop
 same_length c = c.before.loop.invariant.so_far.long ∙ c.before.before.before.before.before.mark-at.auto.1.1.1.1.1.0
 
 returns : tie.Need-returns invariant-loop decreases-loop
 returns c = let P = c.before.before.before.before.before.before.before.before.before.before.before.before.requires.0 in
-    side-done _ _ _ _ _ _ _ _ _ _ (linked-below P.linked) P.first-long c.before.before.before.before.before.before.before.before.before.before.before.before.requires.1 c.before.before.before.before.before.mark-at.ensures (walk-done P.linked c.before.loop.invariant (λ j l n s. side-skip _ _ _ _ _ _ _ _ _ j s n) (omega arith))
+    side_done _ _ _ _ _ _ _ _ _ _ (linked_below P.linked) P.first_long c.before.before.before.before.before.before.before.before.before.before.before.before.requires.1 c.before.before.before.before.before.mark-at.ensures (walk_done P.linked c.before.loop.invariant (λ j l n s. side_skip _ _ _ _ _ _ _ _ _ j s n) (omega arith))
 
-pub mark-between-spec : {M : Type 1} → statement M
-mark-between-spec =
+pub mark_between_spec : {M : Type 1} → statement M
+mark_between_spec =
     tie.close
     (tie.spec
     invariant-loop

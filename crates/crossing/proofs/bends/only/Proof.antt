@@ -23,7 +23,7 @@ returns c = only_yes _ (marked c.before.before.before.args.second.now c.before.b
 returns-2 : tie.Need-returns-2
 returns-2 c = only_no _ (marked c.before.before.args.second.now c.before.before.args.w) (ne_eqb _ 1 c.if1.false)
 
-pub only-spec : {M : Type 1} → statement M
-only-spec =
+pub only_spec : {M : Type 1} → statement M
+only_spec =
     tie.close
     (tie.spec shared-slice-read-if1 shared-slice-read-result returns returns-2)

@@ -1,22 +1,22 @@
 -- `crossing::crossed::cross` meets its contract: the crossing is inserted behind its marks, or its near end is marked. Assumes nothing.
 use native.Mathlib.Omega.{arith}
-use Rattle.crossing.proofs.CrossedLaws.{plan-room, insertable-room, bends-room, step_room, plan-linked, near-few, near-room, cross-inserts, cross-snaps}
+use Rattle.crossing.proofs.CrossedLaws.{plan_room, insertable_room, bends_room, step_room, plan_linked, near_few, near_room, cross_inserts, cross_snaps}
 use mathlib.Core.Path.{◌∙◌}
 use borrow.Author.Rules.{rules}
 use Rattle.crossing.proofs.crossed.cross.Statement.{statement}
 use Rattle.crossing.proofs.crossed.cross.Tie as tie
 
 plan-at-requires : tie.Need-plan-at-requires
-plan-at-requires c κs = (plan-room _ _ _ _ _ _ _ _ _ _ c.before.before.before.before.before.before.before.before.before.before.before.before.before.requires.0 _ c.before.before.before.before.before.before.before.before.before.before.before.before.before.requires.1, c.before.before.before.before.before.before.before.before.before.before.before.before.before.requires.2)
+plan-at-requires c κs = (plan_room _ _ _ _ _ _ _ _ _ _ c.before.before.before.before.before.before.before.before.before.before.before.before.before.requires.0 _ c.before.before.before.before.before.before.before.before.before.before.before.before.before.requires.1, c.before.before.before.before.before.before.before.before.before.before.before.before.before.requires.2)
 
 insertable-requires : tie.Need-insertable-requires
-insertable-requires c κs = insertable-room _ _ _ _ _ _ _ _ _ _ c.before.before.before.before.before.before.before.before.before.before.before.before.before.before.before.before.requires.0 c.before.before.plan-at.result c.before.before.plan-at.ensures.a_in c.before.before.plan-at.ensures.b-in
+insertable-requires c κs = insertable_room _ _ _ _ _ _ _ _ _ _ c.before.before.before.before.before.before.before.before.before.before.before.before.before.before.before.before.requires.0 c.before.before.plan-at.result c.before.before.plan-at.ensures.a_in c.before.before.plan-at.ensures.b_in
 
 mark-bends-requires : tie.Need-mark-bends-requires
-mark-bends-requires c κs = (bends-room _ _ _ _ _ _ _ _ _ _ c.before.before.before.before.before.before.before.before.before.before.before.before.before.before.before.before.before.before.before.before.before.requires.0 c.before.before.before.before.before.before.before.plan-at.result c.before.before.before.before.before.before.before.plan-at.ensures.a_in c.before.before.before.before.before.before.before.plan-at.ensures.b-in, c.before.before.before.before.before.before.before.before.before.before.before.before.before.before.before.before.before.before.before.before.before.requires.2)
+mark-bends-requires c κs = (bends_room _ _ _ _ _ _ _ _ _ _ c.before.before.before.before.before.before.before.before.before.before.before.before.before.before.before.before.before.before.before.before.before.requires.0 c.before.before.before.before.before.before.before.plan-at.result c.before.before.before.before.before.before.before.plan-at.ensures.a_in c.before.before.before.before.before.before.before.plan-at.ensures.b_in, c.before.before.before.before.before.before.before.before.before.before.before.before.before.before.before.before.before.before.before.before.before.requires.2)
 
 insert-requires : tie.Need-insert-requires
-insert-requires c κs = (step_room _ _ _ _ _ _ _ _ _ _ c.before.before.before.before.before.before.before.before.before.before.before.before.before.before.before.before.before.before.before.before.before.before.before.before.before.before.before.before.before.before.before.requires.0 c.before.before.before.before.before.before.before.before.before.before.before.before.before.before.before.before.before.plan-at.result c.before.before.before.before.before.before.before.before.before.before.before.before.before.before.before.before.before.plan-at.ensures.a_in c.before.before.before.before.before.before.before.before.before.before.before.before.before.before.before.before.before.plan-at.ensures.b-in c.before.before.before.before.before.before.before.before.before.before.before.before.before.before.before.before.before.plan-at.ensures.before-is (omega (arith, c.before.before.before.before.before.before.before.before.before.before.before.before.before.before.before.before.before.plan-at.ensures.number_is, c.before.before.before.before.before.before.before.before.before.before.before.before.before.before.before.before.before.before.before.before.before.before.before.before.before.before.before.before.before.before.before.requires.1)), plan-linked _ _ _ _ _ _ _ _ _ c.before.before.before.before.before.before.before.before.before.before.before.before.before.before.before.before.before.plan-at.result c.before.before.before.before.before.before.before.before.before.before.before.before.before.before.before.before.before.before.before.before.before.before.before.before.before.before.before.before.before.before.before.requires.1 c.before.before.before.before.before.before.before.before.before.before.before.before.before.before.before.before.before.plan-at.ensures c.before.before.before.before.before.before.before.before.before.before.before.before.before.before.before.before.before.before.before.before.before.before.before.before.before.before.before.before.before.before.before.requires.2)
+insert-requires c κs = (step_room _ _ _ _ _ _ _ _ _ _ c.before.before.before.before.before.before.before.before.before.before.before.before.before.before.before.before.before.before.before.before.before.before.before.before.before.before.before.before.before.before.before.requires.0 c.before.before.before.before.before.before.before.before.before.before.before.before.before.before.before.before.before.plan-at.result c.before.before.before.before.before.before.before.before.before.before.before.before.before.before.before.before.before.plan-at.ensures.a_in c.before.before.before.before.before.before.before.before.before.before.before.before.before.before.before.before.before.plan-at.ensures.b_in c.before.before.before.before.before.before.before.before.before.before.before.before.before.before.before.before.before.plan-at.ensures.before_is (omega (arith, c.before.before.before.before.before.before.before.before.before.before.before.before.before.before.before.before.before.plan-at.ensures.number_is, c.before.before.before.before.before.before.before.before.before.before.before.before.before.before.before.before.before.before.before.before.before.before.before.before.before.before.before.before.before.before.before.requires.1)), plan_linked _ _ _ _ _ _ _ _ _ c.before.before.before.before.before.before.before.before.before.before.before.before.before.before.before.before.before.plan-at.result c.before.before.before.before.before.before.before.before.before.before.before.before.before.before.before.before.before.before.before.before.before.before.before.before.before.before.before.before.before.before.before.requires.1 c.before.before.before.before.before.before.before.before.before.before.before.before.before.before.before.before.before.plan-at.ensures c.before.before.before.before.before.before.before.before.before.before.before.before.before.before.before.before.before.before.before.before.before.before.before.before.before.before.before.before.before.before.before.requires.2)
 
 same_length : tie.Need-same-length
 same_length c = c.before.before.before.before.before.before.before.before.before.before.before.before.before.before.insert.auto.1.1.1.0
@@ -43,16 +43,16 @@ same-length-8 : tie.Need-same-length-8
 same-length-8 c = c.before.before.before.before.before.before.before.before.before.before.before.before.before.before.insert.auto.1.1.1.1.1.1.1.1.1.0
 
 returns : tie.Need-returns
-returns c = (cross-inserts _ _ _ _ _ _ _ _ _ _ _ _ _ c.before.before.before.before.before.before.before.before.before.before.before.before.before.before.before.before.before.before.before.before.before.before.before.before.before.before.before.before.before.before.before.before.plan-at.result c.before.before.before.before.before.before.before.before.before.before.before.before.before.before.before.before.before.before.before.before.before.before.before.before.before.before.before.before.before.insertable.result c.before.before.before.before.before.before.before.before.before.before.before.before.before.before.before.before.before.before.before.before.before.before.before.before.before.before.before.before.before.before.before.before.plan-at.ensures c.before.before.before.before.before.before.before.before.before.before.before.before.before.before.before.before.before.before.before.before.before.before.before.before.before.before.before.before.before.insertable.ensures _ _ _ _ _ _ _ _ c.before.before.before.before.before.before.before.before.before.before.before.before.before.before.before.before.before.before.before.before.before.before.before.before.before.before.before.before.if1.true c.before.before.before.before.before.before.before.before.before.before.before.before.before.before.before.before.before.before.before.before.before.before.before.before.mark-bends.ensures c.before.before.before.before.before.before.before.before.before.before.before.before.before.before.insert.ensures.0, c.before.before.before.before.before.before.before.before.before.before.before.before.before.before.insert.ensures.1)
+returns c = (cross_inserts _ _ _ _ _ _ _ _ _ _ _ _ _ c.before.before.before.before.before.before.before.before.before.before.before.before.before.before.before.before.before.before.before.before.before.before.before.before.before.before.before.before.before.before.before.before.plan-at.result c.before.before.before.before.before.before.before.before.before.before.before.before.before.before.before.before.before.before.before.before.before.before.before.before.before.before.before.before.before.insertable.result c.before.before.before.before.before.before.before.before.before.before.before.before.before.before.before.before.before.before.before.before.before.before.before.before.before.before.before.before.before.before.before.before.plan-at.ensures c.before.before.before.before.before.before.before.before.before.before.before.before.before.before.before.before.before.before.before.before.before.before.before.before.before.before.before.before.before.insertable.ensures _ _ _ _ _ _ _ _ c.before.before.before.before.before.before.before.before.before.before.before.before.before.before.before.before.before.before.before.before.before.before.before.before.before.before.before.before.if1.true c.before.before.before.before.before.before.before.before.before.before.before.before.before.before.before.before.before.before.before.before.before.before.before.before.mark-bends.ensures c.before.before.before.before.before.before.before.before.before.before.before.before.before.before.insert.ensures.0, c.before.before.before.before.before.before.before.before.before.before.before.before.before.before.insert.ensures.1)
 
 near-end-requires : tie.Need-near-end-requires
 near-end-requires c κs = search rules
 
 mul-snapped : tie.Need-overflow-mul-snapped
-mul-snapped c = omega (arith, near-few _ _ _ _ _ _ _ _ _ _ c.before.before.before.before.before.before.before.before.before.before.before.before.before.before.before.before.before.before.before.requires.0 c.before.before.before.before.before.plan-at.result c.before.before.before.before.before.plan-at.ensures.a_in c.before.before.before.before.before.plan-at.ensures.b-in c.before.before.before.before.before.before.before.before.before.before.before.before.before.before.before.before.before.before.before.args.t _ c.near-end.ensures)
+mul-snapped c = omega (arith, near_few _ _ _ _ _ _ _ _ _ _ c.before.before.before.before.before.before.before.before.before.before.before.before.before.before.before.before.before.before.before.requires.0 c.before.before.before.before.before.plan-at.result c.before.before.before.before.before.plan-at.ensures.a_in c.before.before.before.before.before.plan-at.ensures.b_in c.before.before.before.before.before.before.before.before.before.before.before.before.before.before.before.before.before.before.before.args.t _ c.near-end.ensures)
 
 slice-write-snapped : tie.Need-slice-write-snapped
-slice-write-snapped c = near-room _ _ _ _ _ _ _ _ _ _ c.before.before.before.before.before.before.before.before.before.before.before.before.before.before.before.before.before.before.before.requires.0 c.before.before.before.before.before.plan-at.result c.before.before.before.before.before.plan-at.ensures.a_in c.before.before.before.before.before.plan-at.ensures.b-in c.before.before.before.before.before.before.before.before.before.before.before.before.before.before.before.before.before.before.before.args.t _ c.near-end.ensures
+slice-write-snapped c = near_room _ _ _ _ _ _ _ _ _ _ c.before.before.before.before.before.before.before.before.before.before.before.before.before.before.before.before.before.before.before.requires.0 c.before.before.before.before.before.plan-at.result c.before.before.before.before.before.plan-at.ensures.a_in c.before.before.before.before.before.plan-at.ensures.b_in c.before.before.before.before.before.before.before.before.before.before.before.before.before.before.before.before.before.before.before.args.t _ c.near-end.ensures
 
 same-length-9 : tie.Need-same-length-9
 same-length-9 c = search rules
@@ -70,10 +70,10 @@ same-length-13 : tie.Need-same-length-13
 same-length-13 c = search rules
 
 returns-2 : tie.Need-returns-2
-returns-2 c = (cross-snaps _ _ _ _ _ _ _ _ _ _ _ _ _ c.before.before.before.before.before.plan-at.result c.before.before.insertable.result c.before.before.before.before.before.plan-at.ensures c.before.before.insertable.ensures c.before.if1.false _ c.near-end.ensures (near-room _ _ _ _ _ _ _ _ _ _ c.before.before.before.before.before.before.before.before.before.before.before.before.before.before.before.before.before.before.before.requires.0 c.before.before.before.before.before.plan-at.result c.before.before.before.before.before.plan-at.ensures.a_in c.before.before.before.before.before.plan-at.ensures.b-in c.before.before.before.before.before.before.before.before.before.before.before.before.before.before.before.before.before.before.before.args.t _ c.near-end.ensures) c.before.before.before.before.before.before.before.before.before.before.before.before.before.before.before.before.before.before.before.requires.0.ready.counts, c.before.before.before.before.before.before.before.before.before.before.before.before.before.before.before.before.before.before.before.requires.2)
+returns-2 c = (cross_snaps _ _ _ _ _ _ _ _ _ _ _ _ _ c.before.before.before.before.before.plan-at.result c.before.before.insertable.result c.before.before.before.before.before.plan-at.ensures c.before.before.insertable.ensures c.before.if1.false _ c.near-end.ensures (near_room _ _ _ _ _ _ _ _ _ _ c.before.before.before.before.before.before.before.before.before.before.before.before.before.before.before.before.before.before.before.requires.0 c.before.before.before.before.before.plan-at.result c.before.before.before.before.before.plan-at.ensures.a_in c.before.before.before.before.before.plan-at.ensures.b_in c.before.before.before.before.before.before.before.before.before.before.before.before.before.before.before.before.before.before.before.args.t _ c.near-end.ensures) c.before.before.before.before.before.before.before.before.before.before.before.before.before.before.before.before.before.before.before.requires.0.ready.counts, c.before.before.before.before.before.before.before.before.before.before.before.before.before.before.before.before.before.before.before.requires.2)
 
-pub cross-spec : {M : Type 1} → statement M
-cross-spec =
+pub cross_spec : {M : Type 1} → statement M
+cross_spec =
     tie.close
     (tie.spec
     plan-at-requires

@@ -1,6 +1,6 @@
 -- `crossing::crossed::cross_all` meets its contract. The invariant: the crossings so far are done, no room lacked, the table is that of the edges, and the lent blocks are as long as they were. Assumes nothing.
-use Rattle.crossing.proofs.CrossedRuns.{CrossedTo, on-start, on_room, on-number, on_step, on-stop, on-done}
-use Rattle.mesh.proofs.Agree.{lent-path}
+use Rattle.crossing.proofs.CrossedRuns.{CrossedTo, on_start, on_room, on_number, on_step, on_stop, on_done}
+use Rattle.mesh.proofs.Agree.{lent_path}
 use Rattle.mesh.specs.Given.{Lent}
 use Prim.Native.Nat.{◌-◌}
 use mathlib.Core.Path.{◌≡◌, refl, ap, subst, ◌∙◌}
@@ -22,26 +22,26 @@ decreases-loop f m numbers ts room points₀ roots₀ ends₀ lengths₀ outline
     m - i
 
 loop-holds : tie.Need-loop-init invariant-loop decreases-loop
-loop-holds c = (on-start _ _ _ _ _ _ _ _ _ _ _ _ _ _ c.before.before.before.before.before.before.before.before.before.before.before.requires.0 c.before.before.before.before.before.before.before.before.before.before.before.requires.1, c.before.before.before.before.before.before.before.before.before.before.before.requires.2, refl)
+loop-holds c = (on_start _ _ _ _ _ _ _ _ _ _ _ _ _ _ c.before.before.before.before.before.before.before.before.before.before.before.requires.0 c.before.before.before.before.before.before.before.before.before.before.before.requires.1, c.before.before.before.before.before.before.before.before.before.before.before.requires.2, refl)
 
 mul-cross : tie.Need-overflow-mul-cross invariant-loop decreases-loop
-mul-cross c = omega (arith, c.before.before.before.before.before.before.before.before.before.before.before.before.before.requires.1.numbers-long)
+mul-cross c = omega (arith, c.before.before.before.before.before.before.before.before.before.before.before.before.before.requires.1.numbers_long)
 
 shared-slice-read-cross : tie.Need-shared-slice-read-cross invariant-loop decreases-loop
-shared-slice-read-cross c = omega (arith, c.before.before.before.before.before.before.before.before.before.before.before.before.before.before.requires.1.numbers-long)
+shared-slice-read-cross c = omega (arith, c.before.before.before.before.before.before.before.before.before.before.before.before.before.before.requires.1.numbers_long)
 
 cast-cross : tie.Need-overflow-cast-cross invariant-loop decreases-loop
 cast-cross c = omega (arith, c.shared-slice-known3.given c.before.before.loop.i)
 
 mul-cross-2 : tie.Need-overflow-mul-cross-2 invariant-loop decreases-loop
-mul-cross-2 c = omega (arith, c.before.before.before.before.before.before.before.before.before.before.before.before.before.before.requires.1.ts-long)
+mul-cross-2 c = omega (arith, c.before.before.before.before.before.before.before.before.before.before.before.before.before.before.requires.1.ts_long)
 
 shared-slice-read-cross-2 : tie.Need-shared-slice-read-cross-2 invariant-loop decreases-loop
-shared-slice-read-cross-2 c = omega (arith, c.before.before.before.before.before.before.before.before.before.before.before.before.before.before.before.requires.1.ts-long)
+shared-slice-read-cross-2 c = omega (arith, c.before.before.before.before.before.before.before.before.before.before.before.before.before.before.before.requires.1.ts_long)
 
 cross-requires : tie.Need-cross-requires invariant-loop decreases-loop
 cross-requires c κs = let P = c.before.before.before.before.before.before.before.before.before.before.before.before.before.before.before.before.before.before.before.before.before.before.before.before.requires in let L = c.before.before.before.before.before.before.before.before.before.before.before.before.loop.invariant.0 in
-    (on_room _ _ _ _ _ _ _ _ _ _ _ _ _ _ P.0 P.1 _ _ _ _ _ _ _ _ _ _ L, on-number _ _ _ _ _ _ _ _ _ _ _ _ _ _ P.0 P.1 _ _ _ _ _ _ _ _ _ _ L c.before.before.before.before.before.before.before.before.before.before.before.loop-test.true, c.before.before.before.before.before.before.before.before.before.before.before.before.loop.invariant.1)
+    (on_room _ _ _ _ _ _ _ _ _ _ _ _ _ _ P.0 P.1 _ _ _ _ _ _ _ _ _ _ L, on_number _ _ _ _ _ _ _ _ _ _ _ _ _ _ P.0 P.1 _ _ _ _ _ _ _ _ _ _ L c.before.before.before.before.before.before.before.before.before.before.before.loop-test.true, c.before.before.before.before.before.before.before.before.before.before.before.before.loop.invariant.1)
 
 enum-known-ran : tie.Need-enum-known-ran invariant-loop decreases-loop
 enum-known-ran c = search rules
@@ -68,16 +68,16 @@ same-length-6 : tie.Need-same-length-6 invariant-loop decreases-loop
 same-length-6 c = c.before.before.before.before.before.before.before.before.before.before.before.before.before.before.before.before.before.before.before.before.cross.auto.1.1.1.1.1.1.1.1.1.1.0 ∙ ap (λ (I : Lent). I.log) c.before.before.before.before.before.before.before.before.before.before.before.before.before.before.before.before.before.before.before.before.before.before.before.before.before.before.before.before.before.before.before.before.before.loop.invariant.0.same
 
 same-length-7 : tie.Need-same-length-7 invariant-loop decreases-loop
-same-length-7 c = c.before.before.before.before.before.before.before.before.before.before.before.before.before.before.before.before.before.before.before.before.cross.auto.1.1.1.1.1.1.1.1.1.1.1.0 ∙ c.before.before.before.before.before.before.before.before.before.before.before.before.before.before.before.before.before.before.before.before.before.before.before.before.before.before.before.before.before.before.before.before.before.loop.invariant.0.same-bends
+same-length-7 c = c.before.before.before.before.before.before.before.before.before.before.before.before.before.before.before.before.before.before.before.before.cross.auto.1.1.1.1.1.1.1.1.1.1.1.0 ∙ c.before.before.before.before.before.before.before.before.before.before.before.before.before.before.before.before.before.before.before.before.before.before.before.before.before.before.before.before.before.before.before.before.before.loop.invariant.0.same_bends
 
 same-length-8 : tie.Need-same-length-8 invariant-loop decreases-loop
-same-length-8 c = c.before.before.before.before.before.before.before.before.before.before.before.before.before.before.before.before.before.before.before.before.cross.auto.1.1.1.1.1.1.1.1.1.1.1.1.0 ∙ c.before.before.before.before.before.before.before.before.before.before.before.before.before.before.before.before.before.before.before.before.before.before.before.before.before.before.before.before.before.before.before.before.before.loop.invariant.0.same-snapped
+same-length-8 c = c.before.before.before.before.before.before.before.before.before.before.before.before.before.before.before.before.before.before.before.before.cross.auto.1.1.1.1.1.1.1.1.1.1.1.1.0 ∙ c.before.before.before.before.before.before.before.before.before.before.before.before.before.before.before.before.before.before.before.before.before.before.before.before.before.before.before.before.before.before.before.before.before.loop.invariant.0.same_snapped
 
 same-length-9 : tie.Need-same-length-9 invariant-loop decreases-loop
 same-length-9 c = c.before.before.before.before.before.before.before.before.before.before.before.before.before.before.before.before.before.before.before.before.cross.auto.1.1.1.1.1.1.1.1.1.1.1.1.1.0 ∙ c.before.before.before.before.before.before.before.before.before.before.before.before.before.before.before.before.before.before.before.before.before.before.before.before.before.before.before.before.before.before.before.before.before.loop.invariant.2
 
 returns : tie.Need-returns invariant-loop decreases-loop
-returns c = (on-stop _ _ _ _ _ _ _ _ _ _ _ _ _ _ c.before.before.before.before.before.before.before.before.before.before.before.before.before.before.before.before.before.before.before.before.before.before.before.before.before.before.before.before.before.before.before.before.before.before.before.before.before.before.before.before.before.before.before.before.before.requires.0 c.before.before.before.before.before.before.before.before.before.before.before.before.before.before.before.before.before.before.before.before.before.before.before.before.before.before.before.before.before.before.before.before.before.before.before.before.before.before.before.before.before.before.before.before.before.requires.1 _ _ _ _ _ _ _ _ _ _ c.before.before.before.before.before.before.before.before.before.before.before.before.before.before.before.before.before.before.before.before.before.before.before.before.before.before.before.before.before.before.before.before.before.loop.invariant.0 _ _ _ _ _ _ _ _ _ c.before.before.before.before.before.before.before.before.before.before.before.before.before.before.before.before.before.before.before.before.cross.ensures.0 _ c.enum_told.given.1 c.before.before.before.before.before.before.before.before.before.before.before.before.before.before.before.before.before.before.before.before.before.before.before.before.before.before.before.before.before.before.before.before.loop-test.true, c.before.before.before.before.before.before.before.before.before.before.before.before.before.before.before.before.before.before.before.before.cross.ensures.1)
+returns c = (on_stop _ _ _ _ _ _ _ _ _ _ _ _ _ _ c.before.before.before.before.before.before.before.before.before.before.before.before.before.before.before.before.before.before.before.before.before.before.before.before.before.before.before.before.before.before.before.before.before.before.before.before.before.before.before.before.before.before.before.before.before.requires.0 c.before.before.before.before.before.before.before.before.before.before.before.before.before.before.before.before.before.before.before.before.before.before.before.before.before.before.before.before.before.before.before.before.before.before.before.before.before.before.before.before.before.before.before.before.before.requires.1 _ _ _ _ _ _ _ _ _ _ c.before.before.before.before.before.before.before.before.before.before.before.before.before.before.before.before.before.before.before.before.before.before.before.before.before.before.before.before.before.before.before.before.before.loop.invariant.0 _ _ _ _ _ _ _ _ _ c.before.before.before.before.before.before.before.before.before.before.before.before.before.before.before.before.before.before.before.before.cross.ensures.0 _ c.enum_told.given.1 c.before.before.before.before.before.before.before.before.before.before.before.before.before.before.before.before.before.before.before.before.before.before.before.before.before.before.before.before.before.before.before.before.loop-test.true, c.before.before.before.before.before.before.before.before.before.before.before.before.before.before.before.before.before.before.before.before.cross.ensures.1)
 
 add-i : tie.Need-overflow-add-i invariant-loop decreases-loop
 add-i c = omega (arith, c.before.before.before.before.before.before.before.before.before.before.before.before.before.before.before.before.before.before.before.before.before.before.before.before.before.before.before.before.before.before.before.before.before.before.before.before.before.before.before.before.before.before.before.before.before.before.ranges.m, c.before.before.before.before.before.before.before.before.before.before.before.before.before.before.before.before.before.before.before.before.before.before.before.before.before.before.before.before.before.before.before.before.before.loop-test.true)
@@ -86,7 +86,7 @@ loop-less : tie.Need-loop-smaller invariant-loop decreases-loop
 loop-less c = omega (arith, c.before.before.before.before.before.before.before.before.before.before.before.before.before.before.before.before.before.before.before.before.before.before.before.before.before.before.before.before.before.before.before.before.before.loop-test.true)
 
 loop-again : tie.Need-loop-preserved invariant-loop decreases-loop
-loop-again c = (on_step _ _ _ _ _ _ _ _ _ _ _ _ _ _ c.before.before.before.before.before.before.before.before.before.before.before.before.before.before.before.before.before.before.before.before.before.before.before.before.before.before.before.before.before.before.before.before.before.before.before.before.before.before.before.before.before.before.before.before.before.before.requires.0 c.before.before.before.before.before.before.before.before.before.before.before.before.before.before.before.before.before.before.before.before.before.before.before.before.before.before.before.before.before.before.before.before.before.before.before.before.before.before.before.before.before.before.before.before.before.before.requires.1 _ _ _ _ _ _ _ _ _ _ c.before.before.before.before.before.before.before.before.before.before.before.before.before.before.before.before.before.before.before.before.before.before.before.before.before.before.before.before.before.before.before.before.before.before.loop.invariant.0 _ _ _ _ _ _ _ _ _ c.before.before.before.before.before.before.before.before.before.before.before.before.before.before.before.before.before.before.before.before.before.cross.ensures.0 _ c.before.ran.given.1 c.before.before.before.before.before.before.before.before.before.before.before.before.before.before.before.before.before.before.before.before.before.before.before.before.before.before.before.before.before.before.before.before.before.loop-test.true (lent-path _ _ c.before.before.before.before.before.before.before.before.before.before.before.before.before.before.before.before.before.before.before.before.before.cross.auto.1.1.1.1.1.0 c.before.before.before.before.before.before.before.before.before.before.before.before.before.before.before.before.before.before.before.before.before.cross.auto.1.1.1.1.1.1.0 refl refl c.before.before.before.before.before.before.before.before.before.before.before.before.before.before.before.before.before.before.before.before.before.cross.auto.1.1.1.1.1.1.1.0 c.before.before.before.before.before.before.before.before.before.before.before.before.before.before.before.before.before.before.before.before.before.cross.auto.1.1.1.1.1.1.1.1.0 c.before.before.before.before.before.before.before.before.before.before.before.before.before.before.before.before.before.before.before.before.before.cross.auto.1.1.1.1.1.1.1.1.1.0 c.before.before.before.before.before.before.before.before.before.before.before.before.before.before.before.before.before.before.before.before.before.cross.auto.1.1.1.1.1.1.1.1.1.1.0) c.before.before.before.before.before.before.before.before.before.before.before.before.before.before.before.before.before.before.before.before.before.cross.auto.1.1.1.1.1.1.1.1.1.1.1.0 c.before.before.before.before.before.before.before.before.before.before.before.before.before.before.before.before.before.before.before.before.before.cross.auto.1.1.1.1.1.1.1.1.1.1.1.1.0, subst (EdgesAfter _ _) c.before.ran.given.1 c.before.before.before.before.before.before.before.before.before.before.before.before.before.before.before.before.before.before.before.before.before.cross.ensures.1, c.before.before.before.before.before.before.before.before.before.before.before.before.before.before.before.before.before.before.before.before.before.cross.auto.1.1.1.1.1.1.1.1.1.1.1.1.1.0 ∙ c.before.before.before.before.before.before.before.before.before.before.before.before.before.before.before.before.before.before.before.before.before.before.before.before.before.before.before.before.before.before.before.before.before.before.loop.invariant.2)
+loop-again c = (on_step _ _ _ _ _ _ _ _ _ _ _ _ _ _ c.before.before.before.before.before.before.before.before.before.before.before.before.before.before.before.before.before.before.before.before.before.before.before.before.before.before.before.before.before.before.before.before.before.before.before.before.before.before.before.before.before.before.before.before.before.before.requires.0 c.before.before.before.before.before.before.before.before.before.before.before.before.before.before.before.before.before.before.before.before.before.before.before.before.before.before.before.before.before.before.before.before.before.before.before.before.before.before.before.before.before.before.before.before.before.before.requires.1 _ _ _ _ _ _ _ _ _ _ c.before.before.before.before.before.before.before.before.before.before.before.before.before.before.before.before.before.before.before.before.before.before.before.before.before.before.before.before.before.before.before.before.before.before.loop.invariant.0 _ _ _ _ _ _ _ _ _ c.before.before.before.before.before.before.before.before.before.before.before.before.before.before.before.before.before.before.before.before.before.cross.ensures.0 _ c.before.ran.given.1 c.before.before.before.before.before.before.before.before.before.before.before.before.before.before.before.before.before.before.before.before.before.before.before.before.before.before.before.before.before.before.before.before.before.loop-test.true (lent_path _ _ c.before.before.before.before.before.before.before.before.before.before.before.before.before.before.before.before.before.before.before.before.before.cross.auto.1.1.1.1.1.0 c.before.before.before.before.before.before.before.before.before.before.before.before.before.before.before.before.before.before.before.before.before.cross.auto.1.1.1.1.1.1.0 refl refl c.before.before.before.before.before.before.before.before.before.before.before.before.before.before.before.before.before.before.before.before.before.cross.auto.1.1.1.1.1.1.1.0 c.before.before.before.before.before.before.before.before.before.before.before.before.before.before.before.before.before.before.before.before.before.cross.auto.1.1.1.1.1.1.1.1.0 c.before.before.before.before.before.before.before.before.before.before.before.before.before.before.before.before.before.before.before.before.before.cross.auto.1.1.1.1.1.1.1.1.1.0 c.before.before.before.before.before.before.before.before.before.before.before.before.before.before.before.before.before.before.before.before.before.cross.auto.1.1.1.1.1.1.1.1.1.1.0) c.before.before.before.before.before.before.before.before.before.before.before.before.before.before.before.before.before.before.before.before.before.cross.auto.1.1.1.1.1.1.1.1.1.1.1.0 c.before.before.before.before.before.before.before.before.before.before.before.before.before.before.before.before.before.before.before.before.before.cross.auto.1.1.1.1.1.1.1.1.1.1.1.1.0, subst (EdgesAfter _ _) c.before.ran.given.1 c.before.before.before.before.before.before.before.before.before.before.before.before.before.before.before.before.before.before.before.before.before.cross.ensures.1, c.before.before.before.before.before.before.before.before.before.before.before.before.before.before.before.before.before.before.before.before.before.cross.auto.1.1.1.1.1.1.1.1.1.1.1.1.1.0 ∙ c.before.before.before.before.before.before.before.before.before.before.before.before.before.before.before.before.before.before.before.before.before.before.before.before.before.before.before.before.before.before.before.before.before.before.loop.invariant.2)
 
 same-length-10 : tie.Need-same-length-10 invariant-loop decreases-loop
 same-length-10 c = ap (λ (I : Lent). I.points) c.before.loop.invariant.0.same
@@ -107,19 +107,19 @@ same-length-15 : tie.Need-same-length-15 invariant-loop decreases-loop
 same-length-15 c = ap (λ (I : Lent). I.log) c.before.loop.invariant.0.same
 
 same-length-16 : tie.Need-same-length-16 invariant-loop decreases-loop
-same-length-16 c = c.before.loop.invariant.0.same-bends
+same-length-16 c = c.before.loop.invariant.0.same_bends
 
 same-length-17 : tie.Need-same-length-17 invariant-loop decreases-loop
-same-length-17 c = c.before.loop.invariant.0.same-snapped
+same-length-17 c = c.before.loop.invariant.0.same_snapped
 
 same-length-18 : tie.Need-same-length-18 invariant-loop decreases-loop
 same-length-18 c = c.before.loop.invariant.2
 
 returns-2 : tie.Need-returns-2 invariant-loop decreases-loop
-returns-2 c = (on-done _ _ _ _ _ _ _ _ _ _ _ _ _ _ c.before.before.before.before.before.before.before.before.before.before.before.before.before.requires.0 c.before.before.before.before.before.before.before.before.before.before.before.before.before.requires.1 _ _ _ _ _ _ _ _ _ _ c.before.loop.invariant.0 (omega arith), c.before.loop.invariant.1)
+returns-2 c = (on_done _ _ _ _ _ _ _ _ _ _ _ _ _ _ c.before.before.before.before.before.before.before.before.before.before.before.before.before.requires.0 c.before.before.before.before.before.before.before.before.before.before.before.before.before.requires.1 _ _ _ _ _ _ _ _ _ _ c.before.loop.invariant.0 (omega arith), c.before.loop.invariant.1)
 
-pub cross-all-spec : {M : Type 1} → statement M
-cross-all-spec =
+pub cross_all_spec : {M : Type 1} → statement M
+cross_all_spec =
     tie.close
     (tie.spec
     invariant-loop

@@ -1,11 +1,11 @@
-use Rattle.crossing.proofs.CrossingLaws.{hit-none, hit-strap}
+use Rattle.crossing.proofs.CrossingLaws.{hit_none, hit_strap}
 use borrow.Author.Rules.{rules}
 use Rattle.crossing.proofs.crossings.hit_of.Statement.{statement}
 use Rattle.crossing.proofs.crossings.hit_of.Tie as tie
 use Rattle.crossing.proofs.crossings.hit_of.Reads as reads
 use Rattle.crossing.proofs.crossings.hit_of.Lts as lts
-use Rattle.blade.proofs.blade_hit.Reads as blade-hit-reads
-use Rattle.split_plan.proofs.place.Reads as place-reads
+use Rattle.blade.proofs.blade_hit.Reads as blade_hit_reads
+use Rattle.split_plan.proofs.place.Reads as place_reads
 
 -- src/crossings.rt:15:13
 mul-if1 : tie.Need-overflow-mul-if1
@@ -25,7 +25,7 @@ shared-slice-read-if1 c = search rules
 
 -- src/crossings.rt:16:9
 returns : tie.Need-returns
-returns c = hit-none _ _ _ _ _ c.if1.true
+returns c = hit_none _ _ _ _ _ c.if1.true
 
 -- src/crossings.rt:18:37
 mul-place : tie.Need-overflow-mul-place
@@ -61,10 +61,10 @@ blade-hit-requires c κs = search rules
 
 -- src/crossings.rt:10:1
 returns-2 : tie.Need-returns-2
-returns-2 c = hit-strap _ _ _ _ _ _ _ _ c.before.before.before.before.before.if1.false c.before.before.before.place.ensures c.before.place2.ensures c.blade-hit.ensures
+returns-2 c = hit_strap _ _ _ _ _ _ _ _ c.before.before.before.before.before.if1.false c.before.before.before.place.ensures c.before.place2.ensures c.blade-hit.ensures
 
-pub hit-of-spec : {M : Type 1} → statement M
-hit-of-spec =
+pub hit_of_spec : {M : Type 1} → statement M
+hit_of_spec =
     tie.close
     (tie.spec
     mul-if1

@@ -1,4 +1,4 @@
-use Rattle.crossing.proofs.CrossingLaws.{noted-miss, noted-hit}
+use Rattle.crossing.proofs.CrossingLaws.{noted_miss, noted_hit}
 use borrow.Author.Rules.{rules}
 use Rattle.crossing.proofs.crossings.note_hit.Statement.{statement}
 use Rattle.crossing.proofs.crossings.note_hit.Tie as tie
@@ -15,7 +15,7 @@ enum_told c = search rules
 
 -- src/crossings.rt:29:9
 returns : tie.Need-returns
-returns c = noted-miss _ _ _ _ _ c.enum_told.given.1
+returns c = noted_miss _ _ _ _ _ c.enum_told.given.1
 
 -- src/crossings.rt:31:18
 cast-numbers : tie.Need-overflow-cast-numbers
@@ -51,10 +51,10 @@ same-length-2 c = search rules
 
 -- src/crossings.rt:24:1
 returns-2 : tie.Need-returns-2
-returns-2 c = noted-hit _ _ _ _ _ _ _ c.before.hit.given.1 c.before.before.before.requires.0 c.before.before.before.requires.1
+returns-2 c = noted_hit _ _ _ _ _ _ _ c.before.hit.given.1 c.before.before.before.requires.0 c.before.before.before.requires.1
 
-pub note-hit-spec : {M : Type 1} → statement M
-note-hit-spec =
+pub note_hit_spec : {M : Type 1} → statement M
+note_hit_spec =
     tie.close
     (tie.spec
     enum-known-hit

@@ -1,13 +1,13 @@
 -- `cut::facets::cut_facets` meets its contract. The candidates lack room; or nothing split; or the pinched are split behind them. Assumes nothing.
-use Rattle.work.proofs.Runs.{works-known}
-use Rattle.cut.proofs.CutLaws.{candidate-room, chosen-room, candidates-work, facets-refused, facets-unsplit, facets-split}
-use Rattle.cut.proofs.RunLaws.{within-at, ready_at, entries_at, words-at}
-use Rattle.split.proofs.LinkLaws.{linked-done}
-use Rattle.marks.specs.Marking.{bladeBy}
+use Rattle.work.proofs.Runs.{works_known}
+use Rattle.cut.proofs.CutLaws.{candidate_room, chosen_room, candidates_work, facets_refused, facets_unsplit, facets_split}
+use Rattle.cut.proofs.RunLaws.{within_at, ready_at, entries_at, words_at}
+use Rattle.split.proofs.LinkLaws.{linked_done}
+use Rattle.marks.specs.Marking.{blade_by}
 use Rattle.cut.specs.declared.facets.Parting.TheVariants.{Blade as BladeFrom}
 use Rattle.model.specs.Elements.{Triangles}
-use Rattle.mesh.proofs.Agree.{lent-path}
-use Rattle.mesh.specs.Log.{worldAt}
+use Rattle.mesh.proofs.Agree.{lent_path}
+use Rattle.mesh.specs.Log.{world_at}
 use mathlib.Core.Path.{refl, ◌∙◌}
 use borrow.Author.Rules.{rules}
 use native.Mathlib.Omega.{arith}
@@ -17,12 +17,12 @@ use Rattle.cut.proofs.facets.cut_facets.Tie as tie
 mark-candidates-requires : tie.Need-mark-candidates-requires
 mark-candidates-requires c κs = let A = c.before.before.before.before.before.before.before.before.before.before.before.before.before.before.args in
     let P = c.before.before.before.before.before.before.before.before.before.before.before.before.before.before.requires in
-    candidate-room A.k A.points.now A.roots.now A.corners.now A.volumes.now A.ends.now A.lengths.now A.outline.now A.log.now A.room _ P.0 refl refl refl
+    candidate_room A.k A.points.now A.roots.now A.corners.now A.volumes.now A.ends.now A.lengths.now A.outline.now A.log.now A.room _ P.0 refl refl refl
 
 split-marked-requires : tie.Need-split-marked-requires
 split-marked-requires c κs = let A = c.before.before.before.before.before.before.before.before.before.before.before.before.before.before.before.before.before.before.before.before.before.before.before.before.before.before.before.args in
     let P = c.before.before.before.before.before.before.before.before.before.before.before.before.before.before.before.before.before.before.before.before.before.before.before.before.before.before.before.requires in
-    (P.0, chosen-room A.k A.points.now A.roots.now A.corners.now A.volumes.now A.ends.now A.lengths.now A.outline.now A.log.now A.room _ P.0 refl refl refl _ (omega (arith, P.2, c.before.before.before.before.before.before.before.before.before.before.before.before.mark-candidates.auto.1.1.1.1.1.1.0)) P.1, P.3, P.4)
+    (P.0, chosen_room A.k A.points.now A.roots.now A.corners.now A.volumes.now A.ends.now A.lengths.now A.outline.now A.log.now A.room _ P.0 refl refl refl _ (omega (arith, P.2, c.before.before.before.before.before.before.before.before.before.before.before.before.mark-candidates.auto.1.1.1.1.1.1.0)) P.1, P.3, P.4)
 
 enum-known-ran : tie.Need-enum-known-ran
 enum-known-ran c = search rules
@@ -63,20 +63,20 @@ same-length-10 c = c.before.before.before.before.before.before.before.before.bef
 returns : tie.Need-returns
 returns c = let A = c.before.before.before.before.before.before.before.before.before.before.before.before.before.before.before.before.before.before.before.before.before.before.before.before.before.before.before.before.before.before.before.before.before.before.before.before.before.before.before.before.before.before.before.before.before.before.before.before.args in
     let P = c.before.before.before.before.before.before.before.before.before.before.before.before.before.before.before.before.before.before.before.before.before.before.before.before.before.before.before.before.before.before.before.before.before.before.before.before.before.before.before.before.before.before.before.before.before.before.before.before.requires in
-    (facets-refused (bladeBy A.rule A.b0 A.b1) _ _ c.enum_told.given.1 (candidates-work A.k A.points.now A.roots.now A.corners.now A.volumes.now A.ends.now A.lengths.now A.outline.now A.log.now A.room _ P.0 refl refl refl A.rule A.b0 A.b1 _ (omega (arith, P.2, c.before.before.before.before.before.before.before.before.before.before.before.before.before.before.before.before.before.before.before.before.before.before.before.before.before.before.before.before.before.before.before.before.before.mark-candidates.auto.1.1.1.1.1.1.0)) c.before.before.before.before.before.before.before.before.before.before.before.before.before.before.before.before.before.before.before.before.before.before.before.before.before.before.before.before.before.before.before.before.before.mark-candidates.ensures c.before.before.before.before.before.before.before.before.before.before.before.before.before.before.before.before.before.before.before.before.split-marked.ensures.0), c.before.before.before.before.before.before.before.before.before.before.before.before.before.before.before.before.before.before.before.before.split-marked.ensures.1)
+    (facets_refused (blade_by A.rule A.b0 A.b1) _ _ c.enum_told.given.1 (candidates_work A.k A.points.now A.roots.now A.corners.now A.volumes.now A.ends.now A.lengths.now A.outline.now A.log.now A.room _ P.0 refl refl refl A.rule A.b0 A.b1 _ (omega (arith, P.2, c.before.before.before.before.before.before.before.before.before.before.before.before.before.before.before.before.before.before.before.before.before.before.before.before.before.before.before.before.before.before.before.before.before.mark-candidates.auto.1.1.1.1.1.1.0)) c.before.before.before.before.before.before.before.before.before.before.before.before.before.before.before.before.before.before.before.before.before.before.before.before.before.before.before.before.before.before.before.before.before.mark-candidates.ensures c.before.before.before.before.before.before.before.before.before.before.before.before.before.before.before.before.before.before.before.before.split-marked.ensures.0), c.before.before.before.before.before.before.before.before.before.before.before.before.before.before.before.before.before.before.before.before.split-marked.ensures.1)
 
 any-split-requires : tie.Need-any-split-requires
-unfolding worldAt
+unfolding world_at
 any-split-requires c κs = let A = c.before.before.before.before.before.before.before.before.before.before.before.before.before.before.before.before.before.before.before.before.before.before.before.before.before.before.before.before.before.before.before.before.before.before.before.before.before.before.before.before.before.before.before.before.before.before.before.before.before.before.args in
     let P = c.before.before.before.before.before.before.before.before.before.before.before.before.before.before.before.before.before.before.before.before.before.before.before.before.before.before.before.before.before.before.before.before.before.before.before.before.before.before.before.before.before.before.before.before.before.before.before.before.before.before.requires in
-    let b = within-at (BladeFrom A.rule A.b0 A.b1) Triangles A.room _ A.k.particles (works-known _ _ c.before.before.ran.given.1 c.before.before.before.before.before.before.before.before.before.before.before.before.before.before.before.before.before.before.before.before.before.before.split-marked.ensures.0) P.1.entries P.1.words in
+    let b = within_at (BladeFrom A.rule A.b0 A.b1) Triangles A.room _ A.k.particles (works_known _ _ c.before.before.ran.given.1 c.before.before.before.before.before.before.before.before.before.before.before.before.before.before.before.before.before.before.before.before.before.before.split-marked.ensures.0) P.1.entries P.1.words in
     omega (arith, b.log, P.0.rooms.log, c.before.before.before.before.before.before.before.before.before.before.before.before.before.before.before.before.before.before.before.before.before.before.split-marked.auto.1.1.1.1.1.1.1.1.1.1.1.1.1.0)
 
 split-pinched-requires : tie.Need-split-pinched-requires
-unfolding worldAt
+unfolding world_at
 split-pinched-requires c κs = let A = c.before.before.before.before.before.before.before.before.before.before.before.before.before.before.before.before.before.before.before.before.before.before.before.before.before.before.before.before.before.before.before.before.before.before.before.before.before.before.before.before.before.before.before.before.before.before.before.before.before.before.before.before.before.before.before.before.before.before.before.before.before.before.args in
     let P = c.before.before.before.before.before.before.before.before.before.before.before.before.before.before.before.before.before.before.before.before.before.before.before.before.before.before.before.before.before.before.before.before.before.before.before.before.before.before.before.before.before.before.before.before.before.before.before.before.before.before.before.before.before.before.before.before.before.before.before.before.before.before.requires in
-    (ready_at (BladeFrom A.rule A.b0 A.b1) Triangles A.room _ A.k.particles (works-known _ _ c.before.before.before.before.before.before.before.before.before.before.before.before.before.before.ran.given.1 c.before.before.before.before.before.before.before.before.before.before.before.before.before.before.before.before.before.before.before.before.before.before.before.before.before.before.before.before.before.before.before.before.before.before.split-marked.ensures.0) P.1.entries P.1.words A.k _ _ P.0 (lent-path _ _ c.before.before.before.before.before.before.before.before.before.before.before.before.before.before.before.before.before.before.before.before.before.before.before.before.before.before.before.before.before.before.before.before.before.before.split-marked.auto.1.1.1.1.1.1.0 c.before.before.before.before.before.before.before.before.before.before.before.before.before.before.before.before.before.before.before.before.before.before.before.before.before.before.before.before.before.before.before.before.before.before.split-marked.auto.1.1.1.1.1.1.1.0 c.before.before.before.before.before.before.before.before.before.before.before.before.before.before.before.before.before.before.before.before.before.before.before.before.before.before.before.before.before.before.before.before.before.before.split-marked.auto.1.1.1.1.1.1.1.1.0 refl c.before.before.before.before.before.before.before.before.before.before.before.before.before.before.before.before.before.before.before.before.before.before.before.before.before.before.before.before.before.before.before.before.before.before.split-marked.auto.1.1.1.1.1.1.1.1.1.1.0 c.before.before.before.before.before.before.before.before.before.before.before.before.before.before.before.before.before.before.before.before.before.before.before.before.before.before.before.before.before.before.before.before.before.before.split-marked.auto.1.1.1.1.1.1.1.1.1.1.1.0 c.before.before.before.before.before.before.before.before.before.before.before.before.before.before.before.before.before.before.before.before.before.before.before.before.before.before.before.before.before.before.before.before.before.before.split-marked.auto.1.1.1.1.1.1.1.1.1.1.1.1.0 c.before.before.before.before.before.before.before.before.before.before.before.before.before.before.before.before.before.before.before.before.before.before.before.before.before.before.before.before.before.before.before.before.before.before.split-marked.auto.1.1.1.1.1.1.1.1.1.1.1.1.1.0), record { entries = entries_at (BladeFrom A.rule A.b0 A.b1) Triangles A.room _ A.k.particles (works-known _ _ c.before.before.before.before.before.before.before.before.before.before.before.before.before.before.ran.given.1 c.before.before.before.before.before.before.before.before.before.before.before.before.before.before.before.before.before.before.before.before.before.before.before.before.before.before.before.before.before.before.before.before.before.before.split-marked.ensures.0) P.1.entries P.1.words; words = words-at (BladeFrom A.rule A.b0 A.b1) Triangles A.room _ A.k.particles (works-known _ _ c.before.before.before.before.before.before.before.before.before.before.before.before.before.before.ran.given.1 c.before.before.before.before.before.before.before.before.before.before.before.before.before.before.before.before.before.before.before.before.before.before.before.before.before.before.before.before.before.before.before.before.before.before.split-marked.ensures.0) P.1.entries P.1.words }, omega (arith, P.2, c.before.before.before.before.before.before.before.before.before.before.before.before.before.before.before.before.before.before.before.before.before.before.before.before.before.before.before.before.before.before.before.before.before.before.before.before.before.before.before.before.before.before.before.before.before.before.before.mark-candidates.auto.1.1.1.1.1.1.0), omega (arith, P.3, c.before.before.before.before.before.before.before.before.before.before.before.before.before.before.before.before.before.before.before.before.before.before.before.before.before.before.before.before.before.before.before.before.before.before.split-marked.auto.1.1.1.1.1.1.1.1.1.1.1.1.1.1.0), linked-done _ _ c.before.before.before.before.before.before.before.before.before.before.before.before.before.before.ran.given.1 c.before.before.before.before.before.before.before.before.before.before.before.before.before.before.before.before.before.before.before.before.before.before.before.before.before.before.before.before.before.before.before.before.before.before.split-marked.ensures.1)
+    (ready_at (BladeFrom A.rule A.b0 A.b1) Triangles A.room _ A.k.particles (works_known _ _ c.before.before.before.before.before.before.before.before.before.before.before.before.before.before.ran.given.1 c.before.before.before.before.before.before.before.before.before.before.before.before.before.before.before.before.before.before.before.before.before.before.before.before.before.before.before.before.before.before.before.before.before.before.split-marked.ensures.0) P.1.entries P.1.words A.k _ _ P.0 (lent_path _ _ c.before.before.before.before.before.before.before.before.before.before.before.before.before.before.before.before.before.before.before.before.before.before.before.before.before.before.before.before.before.before.before.before.before.before.split-marked.auto.1.1.1.1.1.1.0 c.before.before.before.before.before.before.before.before.before.before.before.before.before.before.before.before.before.before.before.before.before.before.before.before.before.before.before.before.before.before.before.before.before.before.split-marked.auto.1.1.1.1.1.1.1.0 c.before.before.before.before.before.before.before.before.before.before.before.before.before.before.before.before.before.before.before.before.before.before.before.before.before.before.before.before.before.before.before.before.before.before.split-marked.auto.1.1.1.1.1.1.1.1.0 refl c.before.before.before.before.before.before.before.before.before.before.before.before.before.before.before.before.before.before.before.before.before.before.before.before.before.before.before.before.before.before.before.before.before.before.split-marked.auto.1.1.1.1.1.1.1.1.1.1.0 c.before.before.before.before.before.before.before.before.before.before.before.before.before.before.before.before.before.before.before.before.before.before.before.before.before.before.before.before.before.before.before.before.before.before.split-marked.auto.1.1.1.1.1.1.1.1.1.1.1.0 c.before.before.before.before.before.before.before.before.before.before.before.before.before.before.before.before.before.before.before.before.before.before.before.before.before.before.before.before.before.before.before.before.before.before.split-marked.auto.1.1.1.1.1.1.1.1.1.1.1.1.0 c.before.before.before.before.before.before.before.before.before.before.before.before.before.before.before.before.before.before.before.before.before.before.before.before.before.before.before.before.before.before.before.before.before.before.split-marked.auto.1.1.1.1.1.1.1.1.1.1.1.1.1.0), record { entries = entries_at (BladeFrom A.rule A.b0 A.b1) Triangles A.room _ A.k.particles (works_known _ _ c.before.before.before.before.before.before.before.before.before.before.before.before.before.before.ran.given.1 c.before.before.before.before.before.before.before.before.before.before.before.before.before.before.before.before.before.before.before.before.before.before.before.before.before.before.before.before.before.before.before.before.before.before.split-marked.ensures.0) P.1.entries P.1.words; words = words_at (BladeFrom A.rule A.b0 A.b1) Triangles A.room _ A.k.particles (works_known _ _ c.before.before.before.before.before.before.before.before.before.before.before.before.before.before.ran.given.1 c.before.before.before.before.before.before.before.before.before.before.before.before.before.before.before.before.before.before.before.before.before.before.before.before.before.before.before.before.before.before.before.before.before.before.split-marked.ensures.0) P.1.entries P.1.words }, omega (arith, P.2, c.before.before.before.before.before.before.before.before.before.before.before.before.before.before.before.before.before.before.before.before.before.before.before.before.before.before.before.before.before.before.before.before.before.before.before.before.before.before.before.before.before.before.before.before.before.before.before.mark-candidates.auto.1.1.1.1.1.1.0), omega (arith, P.3, c.before.before.before.before.before.before.before.before.before.before.before.before.before.before.before.before.before.before.before.before.before.before.before.before.before.before.before.before.before.before.before.before.before.before.split-marked.auto.1.1.1.1.1.1.1.1.1.1.1.1.1.1.0), linked_done _ _ c.before.before.before.before.before.before.before.before.before.before.before.before.before.before.ran.given.1 c.before.before.before.before.before.before.before.before.before.before.before.before.before.before.before.before.before.before.before.before.before.before.before.before.before.before.before.before.before.before.before.before.before.before.split-marked.ensures.1)
 
 same-length-11 : tie.Need-same-length-11
 same-length-11 c = c.before.before.before.before.before.before.before.before.before.before.before.before.before.before.before.before.before.before.before.before.split-pinched.auto.1.1.0 ∙ c.before.before.before.before.before.before.before.before.before.before.before.before.before.before.before.before.before.before.before.before.before.before.before.before.before.before.before.before.before.before.before.before.before.before.before.before.before.before.before.before.before.before.before.before.before.before.before.before.before.before.before.before.before.before.before.split-marked.auto.1.1.1.1.1.1.0
@@ -109,10 +109,10 @@ same-length-20 : tie.Need-same-length-20
 same-length-20 c = c.before.before.before.before.before.before.before.before.before.before.before.before.before.before.before.before.before.before.before.before.split-pinched.auto.1.1.1.1.1.1.1.1.1.1.1.1.0 ∙ c.before.before.before.before.before.before.before.before.before.before.before.before.before.before.before.before.before.before.before.before.before.before.before.before.before.before.before.before.before.before.before.before.before.before.before.before.before.before.before.before.before.before.before.before.before.before.before.before.before.before.before.before.before.before.before.split-marked.auto.1.1.1.1.1.1.1.1.1.1.1.1.1.1.1.0
 
 returns-2 : tie.Need-returns-2
-unfolding worldAt
+unfolding world_at
 returns-2 c = let A = c.before.before.before.before.before.before.before.before.before.before.before.before.before.before.before.before.before.before.before.before.before.before.before.before.before.before.before.before.before.before.before.before.before.before.before.before.before.before.before.before.before.before.before.before.before.before.before.before.before.before.before.before.before.before.before.before.before.before.before.before.before.before.before.before.before.before.before.before.before.before.before.before.before.before.before.before.before.before.before.before.before.before.before.args in
     let P = c.before.before.before.before.before.before.before.before.before.before.before.before.before.before.before.before.before.before.before.before.before.before.before.before.before.before.before.before.before.before.before.before.before.before.before.before.before.before.before.before.before.before.before.before.before.before.before.before.before.before.before.before.before.before.before.before.before.before.before.before.before.before.before.before.before.before.before.before.before.before.before.before.before.before.before.before.before.before.before.before.before.before.before.requires in
-    (facets-split (bladeBy A.rule A.b0 A.b1) _ _ c.before.before.before.before.before.before.before.before.before.before.before.before.before.before.before.before.before.before.before.before.before.before.before.before.before.before.before.before.before.before.before.before.before.before.before.ran.given.1 (candidates-work A.k A.points.now A.roots.now A.corners.now A.volumes.now A.ends.now A.lengths.now A.outline.now A.log.now A.room _ P.0 refl refl refl A.rule A.b0 A.b1 _ (omega (arith, P.2, c.before.before.before.before.before.before.before.before.before.before.before.before.before.before.before.before.before.before.before.before.before.before.before.before.before.before.before.before.before.before.before.before.before.before.before.before.before.before.before.before.before.before.before.before.before.before.before.before.before.before.before.before.before.before.before.before.before.before.before.before.before.before.before.before.before.before.before.before.mark-candidates.auto.1.1.1.1.1.1.0)) c.before.before.before.before.before.before.before.before.before.before.before.before.before.before.before.before.before.before.before.before.before.before.before.before.before.before.before.before.before.before.before.before.before.before.before.before.before.before.before.before.before.before.before.before.before.before.before.before.before.before.before.before.before.before.before.before.before.before.before.before.before.before.before.before.before.before.before.before.mark-candidates.ensures c.before.before.before.before.before.before.before.before.before.before.before.before.before.before.before.before.before.before.before.before.before.before.before.before.before.before.before.before.before.before.before.before.before.before.before.before.before.before.before.before.before.before.before.before.before.before.before.before.before.before.before.before.before.before.before.split-marked.ensures.0) _ c.before.before.before.before.before.before.before.before.before.before.before.before.before.before.before.before.before.before.before.before.before.before.before.before.before.before.before.before.before.before.before.before.any-split.ensures.is c.before.before.before.before.before.before.before.before.before.before.before.before.before.before.before.before.before.before.before.before.before.before.before.before.before.before.before.before.before.before.before.if1.true c.before.before.before.before.before.before.before.before.before.before.before.before.before.before.before.before.before.before.before.before.split-pinched.ensures.0, c.before.before.before.before.before.before.before.before.before.before.before.before.before.before.before.before.before.before.before.before.split-pinched.ensures.1)
+    (facets_split (blade_by A.rule A.b0 A.b1) _ _ c.before.before.before.before.before.before.before.before.before.before.before.before.before.before.before.before.before.before.before.before.before.before.before.before.before.before.before.before.before.before.before.before.before.before.before.ran.given.1 (candidates_work A.k A.points.now A.roots.now A.corners.now A.volumes.now A.ends.now A.lengths.now A.outline.now A.log.now A.room _ P.0 refl refl refl A.rule A.b0 A.b1 _ (omega (arith, P.2, c.before.before.before.before.before.before.before.before.before.before.before.before.before.before.before.before.before.before.before.before.before.before.before.before.before.before.before.before.before.before.before.before.before.before.before.before.before.before.before.before.before.before.before.before.before.before.before.before.before.before.before.before.before.before.before.before.before.before.before.before.before.before.before.before.before.before.before.before.mark-candidates.auto.1.1.1.1.1.1.0)) c.before.before.before.before.before.before.before.before.before.before.before.before.before.before.before.before.before.before.before.before.before.before.before.before.before.before.before.before.before.before.before.before.before.before.before.before.before.before.before.before.before.before.before.before.before.before.before.before.before.before.before.before.before.before.before.before.before.before.before.before.before.before.before.before.before.before.before.before.mark-candidates.ensures c.before.before.before.before.before.before.before.before.before.before.before.before.before.before.before.before.before.before.before.before.before.before.before.before.before.before.before.before.before.before.before.before.before.before.before.before.before.before.before.before.before.before.before.before.before.before.before.before.before.before.before.before.before.before.before.split-marked.ensures.0) _ c.before.before.before.before.before.before.before.before.before.before.before.before.before.before.before.before.before.before.before.before.before.before.before.before.before.before.before.before.before.before.before.before.any-split.ensures.is c.before.before.before.before.before.before.before.before.before.before.before.before.before.before.before.before.before.before.before.before.before.before.before.before.before.before.before.before.before.before.before.if1.true c.before.before.before.before.before.before.before.before.before.before.before.before.before.before.before.before.before.before.before.before.split-pinched.ensures.0, c.before.before.before.before.before.before.before.before.before.before.before.before.before.before.before.before.before.before.before.before.split-pinched.ensures.1)
 
 same-length-21 : tie.Need-same-length-21
 same-length-21 c = c.before.before.before.before.before.before.before.before.before.before.before.before.before.before.before.before.before.before.before.before.before.before.before.before.split-marked.auto.1.1.1.1.1.1.0
@@ -145,13 +145,13 @@ same-length-30 : tie.Need-same-length-30
 same-length-30 c = c.before.before.before.before.before.before.before.before.before.before.before.before.before.before.before.before.before.before.before.before.before.before.before.before.split-marked.auto.1.1.1.1.1.1.1.1.1.1.1.1.1.1.1.0
 
 returns-3 : tie.Need-returns-3
-unfolding worldAt
+unfolding world_at
 returns-3 c = let A = c.before.before.before.before.before.before.before.before.before.before.before.before.before.before.before.before.before.before.before.before.before.before.before.before.before.before.before.before.before.before.before.before.before.before.before.before.before.before.before.before.before.before.before.before.before.before.before.before.before.before.before.before.args in
     let P = c.before.before.before.before.before.before.before.before.before.before.before.before.before.before.before.before.before.before.before.before.before.before.before.before.before.before.before.before.before.before.before.before.before.before.before.before.before.before.before.before.before.before.before.before.before.before.before.before.before.before.before.before.requires in
-    (facets-unsplit (bladeBy A.rule A.b0 A.b1) _ _ c.before.before.before.before.ran.given.1 (candidates-work A.k A.points.now A.roots.now A.corners.now A.volumes.now A.ends.now A.lengths.now A.outline.now A.log.now A.room _ P.0 refl refl refl A.rule A.b0 A.b1 _ (omega (arith, P.2, c.before.before.before.before.before.before.before.before.before.before.before.before.before.before.before.before.before.before.before.before.before.before.before.before.before.before.before.before.before.before.before.before.before.before.before.before.before.mark-candidates.auto.1.1.1.1.1.1.0)) c.before.before.before.before.before.before.before.before.before.before.before.before.before.before.before.before.before.before.before.before.before.before.before.before.before.before.before.before.before.before.before.before.before.before.before.before.before.mark-candidates.ensures c.before.before.before.before.before.before.before.before.before.before.before.before.before.before.before.before.before.before.before.before.before.before.before.before.split-marked.ensures.0) _ c.before.any-split.ensures.is (within-at (BladeFrom A.rule A.b0 A.b1) Triangles A.room _ A.k.particles (works-known _ _ c.before.before.before.before.ran.given.1 c.before.before.before.before.before.before.before.before.before.before.before.before.before.before.before.before.before.before.before.before.before.before.before.before.split-marked.ensures.0) P.1.entries P.1.words) c.if1.false, linked-done _ _ c.before.before.before.before.ran.given.1 c.before.before.before.before.before.before.before.before.before.before.before.before.before.before.before.before.before.before.before.before.before.before.before.before.split-marked.ensures.1)
+    (facets_unsplit (blade_by A.rule A.b0 A.b1) _ _ c.before.before.before.before.ran.given.1 (candidates_work A.k A.points.now A.roots.now A.corners.now A.volumes.now A.ends.now A.lengths.now A.outline.now A.log.now A.room _ P.0 refl refl refl A.rule A.b0 A.b1 _ (omega (arith, P.2, c.before.before.before.before.before.before.before.before.before.before.before.before.before.before.before.before.before.before.before.before.before.before.before.before.before.before.before.before.before.before.before.before.before.before.before.before.before.mark-candidates.auto.1.1.1.1.1.1.0)) c.before.before.before.before.before.before.before.before.before.before.before.before.before.before.before.before.before.before.before.before.before.before.before.before.before.before.before.before.before.before.before.before.before.before.before.before.before.mark-candidates.ensures c.before.before.before.before.before.before.before.before.before.before.before.before.before.before.before.before.before.before.before.before.before.before.before.before.split-marked.ensures.0) _ c.before.any-split.ensures.is (within_at (BladeFrom A.rule A.b0 A.b1) Triangles A.room _ A.k.particles (works_known _ _ c.before.before.before.before.ran.given.1 c.before.before.before.before.before.before.before.before.before.before.before.before.before.before.before.before.before.before.before.before.before.before.before.before.split-marked.ensures.0) P.1.entries P.1.words) c.if1.false, linked_done _ _ c.before.before.before.before.ran.given.1 c.before.before.before.before.before.before.before.before.before.before.before.before.before.before.before.before.before.before.before.before.before.before.before.before.split-marked.ensures.1)
 
-pub cut-facets-spec : {M : Type 1} → statement M
-cut-facets-spec =
+pub cut_facets_spec : {M : Type 1} → statement M
+cut_facets_spec =
     tie.close
     (tie.spec
     mark-candidates-requires

@@ -1,6 +1,6 @@
 -- `cut::facets::part_fan` meets its contract. All sides 0, or the sides by the blade. Assumes nothing.
-use Rattle.cut.proofs.FanSides.{free-sides, blade-parts, snapped-parts}
-use Rattle.elements.specs.Table.{kindIs}
+use Rattle.cut.proofs.FanSides.{free_sides, blade_parts, snapped_parts}
+use Rattle.elements.specs.Table.{kind_is}
 use borrow.Author.Rules.{rules}
 use Rattle.cut.proofs.facets.part_fan.Statement.{statement}
 use Rattle.cut.proofs.facets.part_fan.Tie as tie
@@ -28,24 +28,24 @@ same_length c = search rules
 
 returns : tie.Need-returns
 returns c = let A = c.before.before.before.before.before.before.before.before.before.args in
-    free-sides A.way (kindIs A.kind) A.v A.n A.verts.now A.points.now _ _ c.before.before.before.before.enum_told.given.1 c.before.before.before.before.before.before.before.before.before.requires.sides-long c.before.before.clear-usize.ensures
+    free_sides A.way (kind_is A.kind) A.v A.n A.verts.now A.points.now _ _ c.before.before.before.before.enum_told.given.1 c.before.before.before.before.before.before.before.before.before.requires.sides_long c.before.before.clear-usize.ensures
 
 same-length-2 : tie.Need-same-length-2
 same-length-2 c = search rules
 
 returns-2 : tie.Need-returns-2
 returns-2 c = let A = c.before.before.before.before.before.before.before.before.before.before.args in
-    blade-parts A.way (kindIs A.kind) A.v A.n A.verts.now A.points.now _ _ _ _ c.before.before.before.before.before.way.given.1 c.before.before.blade-sides.ensures
+    blade_parts A.way (kind_is A.kind) A.v A.n A.verts.now A.points.now _ _ _ _ c.before.before.before.before.before.way.given.1 c.before.before.blade-sides.ensures
 
 same-length-3 : tie.Need-same-length-3
 same-length-3 c = search rules
 
 returns-3 : tie.Need-returns-3
 returns-3 c = let A = c.before.before.before.before.before.before.before.before.before.before.args in
-    snapped-parts A.way (kindIs A.kind) A.v A.n A.verts.now A.points.now _ _ _ c.before.before.before.before.before.way2.given.1 c.before.before.blade-sides2.ensures
+    snapped_parts A.way (kind_is A.kind) A.v A.n A.verts.now A.points.now _ _ _ c.before.before.before.before.before.way2.given.1 c.before.before.blade-sides2.ensures
 
-pub part-fan-spec : {M : Type 1} → statement M
-part-fan-spec =
+pub part_fan_spec : {M : Type 1} → statement M
+part_fan_spec =
     tie.close
     (tie.spec
     enum_told

@@ -24,8 +24,8 @@ returns-2 c = let A = c.before.before.before.args in ap (λ (w : Parting). slack
 returns-3 : tie.Need-returns-3
 returns-3 c = let A = c.before.before.before.args in ap (λ (w : Parting). slackens? w A.before A.after) (sym c.before.way2.given.1)
 
-pub slackens-spec : {M : Type 1} → statement M
-slackens-spec =
+pub slackens_spec : {M : Type 1} → statement M
+slackens_spec =
     tie.close
     (tie.spec
     enum_told

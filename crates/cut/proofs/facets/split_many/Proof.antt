@@ -1,9 +1,9 @@
 -- `cut::facets::split_many` meets its contract. The fan is read into tables with room for any fan, parted and split. Assumes nothing.
-use Rattle.cut.proofs.FanSides.{fan-room, fan-sided, fan-sides}
-use Rattle.cut.proofs.RunLaws.{one-works}
-use Rattle.split.proofs.LinkLaws.{fan-ready}
-use Rattle.mesh.specs.Log.{worldAt}
-use Rattle.elements.specs.Table.{kindIs}
+use Rattle.cut.proofs.FanSides.{fan_room, fan_sided, fan_sides}
+use Rattle.cut.proofs.RunLaws.{one_works}
+use Rattle.split.proofs.LinkLaws.{fan_ready}
+use Rattle.mesh.specs.Log.{world_at}
+use Rattle.elements.specs.Table.{kind_is}
 use mathlib.Core.Path.{refl}
 use native.Mathlib.Omega.{arith}
 use borrow.Author.Rules.{rules}
@@ -20,7 +20,7 @@ slice-aggregate-fan-tables-3 : tie.Need-slice-aggregate-fan-tables-3
 slice-aggregate-fan-tables-3 c = search rules
 
 fan-tables-requires : tie.Need-fan-tables-requires
-fan-tables-requires c κs = let P = c.before.before.before.before.before.before.before.before.before.before.before.before.before.before.before.before.before.requires in let A = c.before.before.before.before.before.before.before.before.before.before.before.before.before.before.before.before.before.args in fan-ready (kindIs A.kind) A.room A.k A.points.now A.roots.now A.corners.now A.volumes.now A.ends.now A.lengths.now A.outline.now A.log.now P.0 P.1 P.3
+fan-tables-requires c κs = let P = c.before.before.before.before.before.before.before.before.before.before.before.before.before.before.before.before.before.requires in let A = c.before.before.before.before.before.before.before.before.before.before.before.before.before.before.before.before.before.args in fan_ready (kind_is A.kind) A.room A.k A.points.now A.roots.now A.corners.now A.volumes.now A.ends.now A.lengths.now A.outline.now A.log.now P.0 P.1 P.3
 
 slice-aggregate-part-fan : tie.Need-slice-aggregate-part-fan
 slice-aggregate-part-fan c = search rules
@@ -30,7 +30,7 @@ slice-aggregate-part-fan-2 c = search rules
 
 part-fan-requires : tie.Need-part-fan-requires
 part-fan-requires c κs = let P = c.before.before.before.before.before.before.before.before.before.before.before.before.before.before.before.before.before.before.before.before.before.before.before.before.requires in let A = c.before.before.before.before.before.before.before.before.before.before.before.before.before.before.before.before.before.before.before.before.before.before.before.before.args in let F = c.before.before.before.before.before.before.fan-tables.ensures in
-    fan-room (kindIs A.kind) A.k A.points.now A.roots.now A.corners.now A.volumes.now A.ends.now A.lengths.now A.outline.now A.room _ P.0 refl A.v P.1 _ _ _ _ F (omega (arith, F.few, c.before.before.before.before.before.before.fan-tables.auto.1.1.1.1.1.1.1.1.0)) (omega (arith, F.narrow, c.before.before.before.before.before.before.fan-tables.auto.1.1.1.1.1.1.1.1.1.0)) (omega (arith, F.few, c.before.before.before.before.before.before.fan-tables.auto.1.1.1.1.1.1.1.1.1.1.0)) _ (omega (arith, F.few))
+    fan_room (kind_is A.kind) A.k A.points.now A.roots.now A.corners.now A.volumes.now A.ends.now A.lengths.now A.outline.now A.room _ P.0 refl A.v P.1 _ _ _ _ F (omega (arith, F.few, c.before.before.before.before.before.before.fan-tables.auto.1.1.1.1.1.1.1.1.0)) (omega (arith, F.narrow, c.before.before.before.before.before.before.fan-tables.auto.1.1.1.1.1.1.1.1.1.0)) (omega (arith, F.few, c.before.before.before.before.before.before.fan-tables.auto.1.1.1.1.1.1.1.1.1.1.0)) _ (omega (arith, F.few))
 
 slice-aggregate-split-tabled : tie.Need-slice-aggregate-split-tabled
 slice-aggregate-split-tabled c = search rules
@@ -49,7 +49,7 @@ slice-aggregate-split-tabled-5 c = search rules
 
 split-tabled-requires : tie.Need-split-tabled-requires
 split-tabled-requires c κs = let P = c.before.before.before.before.before.before.before.before.before.before.before.before.before.before.before.before.before.before.before.before.before.before.before.before.before.before.before.before.before.before.before.before.before.before.before.before.before.before.before.before.requires in let A = c.before.before.before.before.before.before.before.before.before.before.before.before.before.before.before.before.before.before.before.before.before.before.before.before.before.before.before.before.before.before.before.before.before.before.before.before.before.before.before.before.args in let F = c.before.before.before.before.before.before.before.before.before.before.before.before.before.before.before.before.before.before.before.before.before.before.fan-tables.ensures in
-    (P.0, fan-sided (kindIs A.kind) A.k A.points.now A.roots.now A.corners.now A.volumes.now A.ends.now A.lengths.now A.outline.now A.room _ P.0 refl A.v P.1 _ _ _ _ F (omega (arith, F.few, c.before.before.before.before.before.before.before.before.before.before.before.before.before.before.before.before.before.before.before.before.before.before.fan-tables.auto.1.1.1.1.1.1.1.1.0)) (omega (arith, F.narrow, c.before.before.before.before.before.before.before.before.before.before.before.before.before.before.before.before.before.before.before.before.before.before.fan-tables.auto.1.1.1.1.1.1.1.1.1.0)) (omega (arith, F.few, c.before.before.before.before.before.before.before.before.before.before.before.before.before.before.before.before.before.before.before.before.before.before.fan-tables.auto.1.1.1.1.1.1.1.1.1.1.0)) A.way _ c.before.before.before.before.before.before.before.before.before.before.before.before.before.before.before.part-fan.ensures (omega (arith, c.before.before.before.before.before.before.before.before.before.before.before.before.before.before.before.part-fan.auto.1.1.1.1.1.1.0, F.few)), omega (arith, F.few), P.2, P.3)
+    (P.0, fan_sided (kind_is A.kind) A.k A.points.now A.roots.now A.corners.now A.volumes.now A.ends.now A.lengths.now A.outline.now A.room _ P.0 refl A.v P.1 _ _ _ _ F (omega (arith, F.few, c.before.before.before.before.before.before.before.before.before.before.before.before.before.before.before.before.before.before.before.before.before.before.fan-tables.auto.1.1.1.1.1.1.1.1.0)) (omega (arith, F.narrow, c.before.before.before.before.before.before.before.before.before.before.before.before.before.before.before.before.before.before.before.before.before.before.fan-tables.auto.1.1.1.1.1.1.1.1.1.0)) (omega (arith, F.few, c.before.before.before.before.before.before.before.before.before.before.before.before.before.before.before.before.before.before.before.before.before.before.fan-tables.auto.1.1.1.1.1.1.1.1.1.1.0)) A.way _ c.before.before.before.before.before.before.before.before.before.before.before.before.before.before.before.part-fan.ensures (omega (arith, c.before.before.before.before.before.before.before.before.before.before.before.before.before.before.before.part-fan.auto.1.1.1.1.1.1.0, F.few)), omega (arith, F.few), P.2, P.3)
 
 same_length : tie.Need-same-length
 same_length c = c.before.before.before.before.before.before.before.before.before.before.before.before.before.before.before.before.before.before.before.split-tabled.auto.1.1.1.1.1.1.1.1.1.1.0
@@ -79,12 +79,12 @@ same-length-9 : tie.Need-same-length-9
 same-length-9 c = c.before.before.before.before.before.before.before.before.before.before.before.before.before.before.before.before.before.before.before.split-tabled.auto.1.1.1.1.1.1.1.1.1.1.1.1.1.1.1.1.1.1.1.0
 
 returns : tie.Need-returns
-unfolding worldAt
+unfolding world_at
 returns c = let P = c.before.before.before.before.before.before.before.before.before.before.before.before.before.before.before.before.before.before.before.before.before.before.before.before.before.before.before.before.before.before.before.before.before.before.before.before.before.before.before.before.before.before.before.before.before.before.before.before.before.before.before.before.before.before.before.before.before.before.before.before.requires in let A = c.before.before.before.before.before.before.before.before.before.before.before.before.before.before.before.before.before.before.before.before.before.before.before.before.before.before.before.before.before.before.before.before.before.before.before.before.before.before.before.before.before.before.before.before.before.before.before.before.before.before.before.before.before.before.before.before.before.before.before.before.args in let F = c.before.before.before.before.before.before.before.before.before.before.before.before.before.before.before.before.before.before.before.before.before.before.before.before.before.before.before.before.before.before.before.before.before.before.before.before.before.before.before.before.before.before.fan-tables.ensures in
-    ((one-works A.way (kindIs A.kind) A.v _ A.room _ _ _ (fan-sides (kindIs A.kind) A.k A.points.now A.roots.now A.corners.now A.volumes.now A.ends.now A.lengths.now A.outline.now A.room _ P.0 refl A.v P.1 _ _ _ _ F (omega (arith, F.few, c.before.before.before.before.before.before.before.before.before.before.before.before.before.before.before.before.before.before.before.before.before.before.before.before.before.before.before.before.before.before.before.before.before.before.before.before.before.before.before.before.before.before.fan-tables.auto.1.1.1.1.1.1.1.1.0)) (omega (arith, F.narrow, c.before.before.before.before.before.before.before.before.before.before.before.before.before.before.before.before.before.before.before.before.before.before.before.before.before.before.before.before.before.before.before.before.before.before.before.before.before.before.before.before.before.before.fan-tables.auto.1.1.1.1.1.1.1.1.1.0)) (omega (arith, F.few, c.before.before.before.before.before.before.before.before.before.before.before.before.before.before.before.before.before.before.before.before.before.before.before.before.before.before.before.before.before.before.before.before.before.before.before.before.before.before.before.before.before.before.fan-tables.auto.1.1.1.1.1.1.1.1.1.1.0)) A.way _ c.before.before.before.before.before.before.before.before.before.before.before.before.before.before.before.before.before.before.before.before.before.before.before.before.before.before.before.before.before.before.before.before.before.before.before.part-fan.ensures) c.before.before.before.before.before.before.before.before.before.before.before.before.before.before.before.before.before.before.before.split-tabled.ensures.0.0, c.before.before.before.before.before.before.before.before.before.before.before.before.before.before.before.before.before.before.before.split-tabled.ensures.0.1), c.before.before.before.before.before.before.before.before.before.before.before.before.before.before.before.before.before.before.before.split-tabled.ensures.1)
+    ((one_works A.way (kind_is A.kind) A.v _ A.room _ _ _ (fan_sides (kind_is A.kind) A.k A.points.now A.roots.now A.corners.now A.volumes.now A.ends.now A.lengths.now A.outline.now A.room _ P.0 refl A.v P.1 _ _ _ _ F (omega (arith, F.few, c.before.before.before.before.before.before.before.before.before.before.before.before.before.before.before.before.before.before.before.before.before.before.before.before.before.before.before.before.before.before.before.before.before.before.before.before.before.before.before.before.before.before.fan-tables.auto.1.1.1.1.1.1.1.1.0)) (omega (arith, F.narrow, c.before.before.before.before.before.before.before.before.before.before.before.before.before.before.before.before.before.before.before.before.before.before.before.before.before.before.before.before.before.before.before.before.before.before.before.before.before.before.before.before.before.before.fan-tables.auto.1.1.1.1.1.1.1.1.1.0)) (omega (arith, F.few, c.before.before.before.before.before.before.before.before.before.before.before.before.before.before.before.before.before.before.before.before.before.before.before.before.before.before.before.before.before.before.before.before.before.before.before.before.before.before.before.before.before.before.fan-tables.auto.1.1.1.1.1.1.1.1.1.1.0)) A.way _ c.before.before.before.before.before.before.before.before.before.before.before.before.before.before.before.before.before.before.before.before.before.before.before.before.before.before.before.before.before.before.before.before.before.before.before.part-fan.ensures) c.before.before.before.before.before.before.before.before.before.before.before.before.before.before.before.before.before.before.before.split-tabled.ensures.0.0, c.before.before.before.before.before.before.before.before.before.before.before.before.before.before.before.before.before.before.before.split-tabled.ensures.0.1), c.before.before.before.before.before.before.before.before.before.before.before.before.before.before.before.before.before.before.before.split-tabled.ensures.1)
 
-pub split-many-spec : {M : Type 1} → statement M
-split-many-spec =
+pub split_many_spec : {M : Type 1} → statement M
+split_many_spec =
     tie.close
     (tie.spec
     slice-aggregate-fan-tables

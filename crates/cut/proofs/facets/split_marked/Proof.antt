@@ -1,13 +1,13 @@
 -- `cut::facets::split_marked` meets its contract. The invariant: the marked particles so far are split, no step lacked room, the tables of links are those of the blocks, and the list is as long as ever. Assumes nothing.
-use Rattle.cut.proofs.RunLaws.{splitTo, run_none, run-skip, run-next, run_end, run-all, ready_at, grown-at, entries_at, words-at}
-use Rattle.split.proofs.LinkLaws.{linked-done}
+use Rattle.cut.proofs.RunLaws.{split_to, run_none, run_skip, run_next, run_end, run_all, ready_at, grown_at, entries_at, words_at}
+use Rattle.split.proofs.LinkLaws.{linked_done}
 use Rattle.links.specs.Linked.{MeshLinked}
-use Rattle.work.proofs.Placed.{particles-count}
+use Rattle.work.proofs.Placed.{particles_count}
 use Rattle.work.specs.declared.Ran.TheVariants.{Done}
 use Rattle.work.specs.Working.{Works}
-use Rattle.elements.specs.Table.{kindIs}
-use Rattle.mesh.proofs.Agree.{lent-path}
-use Rattle.mesh.specs.Log.{worldAt}
+use Rattle.elements.specs.Table.{kind_is}
+use Rattle.mesh.proofs.Agree.{lent_path}
+use Rattle.mesh.specs.Log.{world_at}
 use Rattle.mesh.specs.Filled.{lent}
 use Rattle.mesh.specs.Given.{Lent}
 use Prim.Native.Nat.{◌≤◌, ◌-◌}
@@ -19,14 +19,14 @@ use Rattle.cut.proofs.facets.split_marked.Statement.{statement}
 use Rattle.cut.proofs.facets.split_marked.Tie as tie
 
 abbrev invariant-loop : tie.invariant-loop
-invariant-loop way kind p marks room points₀ roots₀ corners₀ volumes ends₀ lengths₀ outline₀ log₀ list₀ links₀ counts₀ v₀ points roots corners ends lengths outline log list links counts v = (v ≤ p) × (lent points roots corners volumes ends lengths outline log ≡ lent points₀ roots₀ corners₀ volumes ends₀ lengths₀ outline₀ log₀) × Works (splitTo way (kindIs kind) room marks v) room (worldAt counts₀ points₀ roots₀ corners₀ volumes ends₀ lengths₀ outline₀ log₀) (λ q. worldAt q points roots corners volumes ends lengths outline log) (Done counts) × (length list ≡ length list₀) × (length links ≡ length links₀) × MeshLinked (kindIs kind) counts.triangles counts.edges counts.boundary corners ends outline links
+invariant-loop way kind p marks room points₀ roots₀ corners₀ volumes ends₀ lengths₀ outline₀ log₀ list₀ links₀ counts₀ v₀ points roots corners ends lengths outline log list links counts v = (v ≤ p) × (lent points roots corners volumes ends lengths outline log ≡ lent points₀ roots₀ corners₀ volumes ends₀ lengths₀ outline₀ log₀) × Works (split_to way (kind_is kind) room marks v) room (world_at counts₀ points₀ roots₀ corners₀ volumes ends₀ lengths₀ outline₀ log₀) (λ q. world_at q points roots corners volumes ends lengths outline log) (Done counts) × (length list ≡ length list₀) × (length links ≡ length links₀) × MeshLinked (kind_is kind) counts.triangles counts.edges counts.boundary corners ends outline links
 
 abbrev decreases-loop : tie.decreases-loop
 decreases-loop way kind p marks room points₀ roots₀ corners₀ volumes ends₀ lengths₀ outline₀ log₀ list₀ links₀ counts₀ v₀ points roots corners ends lengths outline log list links counts v = p - v
 
 loop-holds : tie.Need-loop-init invariant-loop decreases-loop
 loop-holds c = let A = c.before.before.before.before.before.before.before.before.before.before.before.args in
-    (omega arith, refl, run_none A.way (kindIs A.kind) A.room A.marks.now {at = λ q. worldAt q A.points.now A.roots.now A.corners.now A.volumes.now A.ends.now A.lengths.now A.outline.now A.log.now} A.k c.before.before.before.before.before.before.before.before.before.before.before.requires.0.counts, refl, refl, c.before.before.before.before.before.before.before.before.before.before.before.requires.3)
+    (omega arith, refl, run_none A.way (kind_is A.kind) A.room A.marks.now {at = λ q. world_at q A.points.now A.roots.now A.corners.now A.volumes.now A.ends.now A.lengths.now A.outline.now A.log.now} A.k c.before.before.before.before.before.before.before.before.before.before.before.requires.0.counts, refl, refl, c.before.before.before.before.before.before.before.before.before.before.before.requires.3)
 
 mul-if1 : tie.Need-overflow-mul-if1 invariant-loop decreases-loop
 mul-if1 c = omega (arith, c.before.before.before.before.before.before.before.before.before.before.before.before.before.requires.1.long)
@@ -36,7 +36,7 @@ shared-slice-read-if1 c = omega (arith, c.before.before.before.before.before.bef
 
 add-v : tie.Need-overflow-add-v invariant-loop decreases-loop
 add-v c = let P = c.before.before.before.before.before.before.before.before.before.before.before.before.before.before.before.requires in
-    omega (arith, P.1.inside, P.0.counts.particles, P.0.rooms.few-particles, c.before.before.loop-test.true)
+    omega (arith, P.1.inside, P.0.counts.particles, P.0.rooms.few_particles, c.before.before.loop-test.true)
 
 loop-less : tie.Need-loop-smaller invariant-loop decreases-loop
 loop-less c = omega (arith, c.before.before.loop-test.true)
@@ -44,16 +44,16 @@ loop-less c = omega (arith, c.before.before.loop-test.true)
 loop-again : tie.Need-loop-preserved invariant-loop decreases-loop
 loop-again c = let A = c.before.before.before.before.before.before.before.before.before.before.before.before.before.before.before.args in
     let L = c.before.before.before.loop in
-    (omega (arith, c.before.before.loop-test.true), L.invariant.1, run-skip A.way (kindIs A.kind) A.room A.marks.now L.v L.invariant.2 c.if1.true, L.invariant.3, L.invariant.4, L.invariant.5)
+    (omega (arith, c.before.before.loop-test.true), L.invariant.1, run_skip A.way (kind_is A.kind) A.room A.marks.now L.v L.invariant.2 c.if1.true, L.invariant.3, L.invariant.4, L.invariant.5)
 
 split-next-requires : tie.Need-split-next-requires invariant-loop decreases-loop
-unfolding worldAt
+unfolding world_at
 split-next-requires c κs = let A = c.before.before.before.before.before.before.before.before.before.before.before.before.before.before.before.before.before.before.before.before.before.before.before.before.args in
     let P = c.before.before.before.before.before.before.before.before.before.before.before.before.before.before.before.before.before.before.before.before.before.before.before.before.requires in
     let L = c.before.before.before.before.before.before.before.before.before.before.before.before.loop in
     let G = P.1.logged in (
-      ready_at A.way (kindIs A.kind) A.room A.marks.now L.v L.invariant.2 G.entries G.words A.k _ _ P.0 L.invariant.1,
-      record { logged = record { entries = entries_at A.way (kindIs A.kind) A.room A.marks.now L.v L.invariant.2 G.entries G.words; words = words-at A.way (kindIs A.kind) A.room A.marks.now L.v L.invariant.2 G.entries G.words }; here = omega (arith, P.1.inside, grown-at A.way (kindIs A.kind) A.room A.marks.now L.v L.invariant.2 G.entries G.words, particles-count A.k A.points.now A.roots.now A.corners.now A.volumes.now A.ends.now A.lengths.now A.outline.now, particles-count L.counts L.points L.roots L.corners A.volumes.now L.ends L.lengths L.outline) },
+      ready_at A.way (kind_is A.kind) A.room A.marks.now L.v L.invariant.2 G.entries G.words A.k _ _ P.0 L.invariant.1,
+      record { logged = record { entries = entries_at A.way (kind_is A.kind) A.room A.marks.now L.v L.invariant.2 G.entries G.words; words = words_at A.way (kind_is A.kind) A.room A.marks.now L.v L.invariant.2 G.entries G.words }; here = omega (arith, P.1.inside, grown_at A.way (kind_is A.kind) A.room A.marks.now L.v L.invariant.2 G.entries G.words, particles_count A.k A.points.now A.roots.now A.corners.now A.volumes.now A.ends.now A.lengths.now A.outline.now, particles_count L.counts L.points L.roots L.corners A.volumes.now L.ends L.lengths L.outline) },
       omega (arith, P.2, L.invariant.3),
       L.invariant.5,
     )
@@ -94,10 +94,10 @@ same-length-9 c = c.before.before.before.before.before.before.before.before.befo
 returns : tie.Need-returns invariant-loop decreases-loop
 returns c = let A = c.before.before.before.before.before.before.before.before.before.before.before.before.before.before.before.before.before.before.before.before.before.before.before.before.before.before.before.before.before.before.before.before.before.before.before.before.before.before.before.before.before.before.before.before.before.args in
     let L = c.before.before.before.before.before.before.before.before.before.before.before.before.before.before.before.before.before.before.before.before.before.before.before.before.before.before.before.before.before.before.before.before.before.loop in
-    (run_end A.way (kindIs A.kind) A.room A.marks.now L.v L.invariant.2 c.before.before.before.before.before.before.before.before.before.before.before.before.before.before.before.before.before.before.before.before.before.before.before.before.before.before.before.before.before.before.if1.false _ _ c.enum_told.given.1 A.p c.before.before.before.before.before.before.before.before.before.before.before.before.before.before.before.before.before.before.before.before.before.before.before.before.before.before.before.before.before.before.before.before.loop-test.true c.before.before.before.before.before.before.before.before.before.before.before.before.before.before.before.before.before.before.before.before.split-next.ensures.0, c.before.before.before.before.before.before.before.before.before.before.before.before.before.before.before.before.before.before.before.before.split-next.ensures.1)
+    (run_end A.way (kind_is A.kind) A.room A.marks.now L.v L.invariant.2 c.before.before.before.before.before.before.before.before.before.before.before.before.before.before.before.before.before.before.before.before.before.before.before.before.before.before.before.before.before.before.if1.false _ _ c.enum_told.given.1 A.p c.before.before.before.before.before.before.before.before.before.before.before.before.before.before.before.before.before.before.before.before.before.before.before.before.before.before.before.before.before.before.before.before.loop-test.true c.before.before.before.before.before.before.before.before.before.before.before.before.before.before.before.before.before.before.before.before.split-next.ensures.0, c.before.before.before.before.before.before.before.before.before.before.before.before.before.before.before.before.before.before.before.before.split-next.ensures.1)
 
 add-v-2 : tie.Need-overflow-add-v-2 invariant-loop decreases-loop
-add-v-2 c = omega (arith, c.before.before.before.before.before.before.before.before.before.before.before.before.before.before.before.before.before.before.before.before.before.before.before.before.before.before.before.before.before.before.before.before.before.before.before.before.before.before.before.before.before.before.before.before.before.before.requires.1.inside, c.before.before.before.before.before.before.before.before.before.before.before.before.before.before.before.before.before.before.before.before.before.before.before.before.before.before.before.before.before.before.before.before.before.before.before.before.before.before.before.before.before.before.before.before.before.before.requires.0.counts.particles, c.before.before.before.before.before.before.before.before.before.before.before.before.before.before.before.before.before.before.before.before.before.before.before.before.before.before.before.before.before.before.before.before.before.before.before.before.before.before.before.before.before.before.before.before.before.before.requires.0.rooms.few-particles, c.before.before.before.before.before.before.before.before.before.before.before.before.before.before.before.before.before.before.before.before.before.before.before.before.before.before.before.before.before.before.before.before.before.loop-test.true)
+add-v-2 c = omega (arith, c.before.before.before.before.before.before.before.before.before.before.before.before.before.before.before.before.before.before.before.before.before.before.before.before.before.before.before.before.before.before.before.before.before.before.before.before.before.before.before.before.before.before.before.before.before.before.requires.1.inside, c.before.before.before.before.before.before.before.before.before.before.before.before.before.before.before.before.before.before.before.before.before.before.before.before.before.before.before.before.before.before.before.before.before.before.before.before.before.before.before.before.before.before.before.before.before.before.requires.0.counts.particles, c.before.before.before.before.before.before.before.before.before.before.before.before.before.before.before.before.before.before.before.before.before.before.before.before.before.before.before.before.before.before.before.before.before.before.before.before.before.before.before.before.before.before.before.before.before.before.requires.0.rooms.few_particles, c.before.before.before.before.before.before.before.before.before.before.before.before.before.before.before.before.before.before.before.before.before.before.before.before.before.before.before.before.before.before.before.before.before.loop-test.true)
 
 loop-less-2 : tie.Need-loop-smaller-2 invariant-loop decreases-loop
 loop-less-2 c = omega (arith, c.before.before.before.before.before.before.before.before.before.before.before.before.before.before.before.before.before.before.before.before.before.before.before.before.before.before.before.before.before.before.before.before.before.loop-test.true)
@@ -106,11 +106,11 @@ loop-again-2 : tie.Need-loop-preserved-2 invariant-loop decreases-loop
 loop-again-2 c = let A = c.before.before.before.before.before.before.before.before.before.before.before.before.before.before.before.before.before.before.before.before.before.before.before.before.before.before.before.before.before.before.before.before.before.before.before.before.before.before.before.before.before.before.before.before.before.before.args in
     let L = c.before.before.before.before.before.before.before.before.before.before.before.before.before.before.before.before.before.before.before.before.before.before.before.before.before.before.before.before.before.before.before.before.before.before.loop in (
       omega (arith, c.before.before.before.before.before.before.before.before.before.before.before.before.before.before.before.before.before.before.before.before.before.before.before.before.before.before.before.before.before.before.before.before.before.loop-test.true),
-      lent-path _ _ c.before.before.before.before.before.before.before.before.before.before.before.before.before.before.before.before.before.before.before.before.before.split-next.auto.1.1.1.1.1.0 c.before.before.before.before.before.before.before.before.before.before.before.before.before.before.before.before.before.before.before.before.before.split-next.auto.1.1.1.1.1.1.0 c.before.before.before.before.before.before.before.before.before.before.before.before.before.before.before.before.before.before.before.before.before.split-next.auto.1.1.1.1.1.1.1.0 refl c.before.before.before.before.before.before.before.before.before.before.before.before.before.before.before.before.before.before.before.before.before.split-next.auto.1.1.1.1.1.1.1.1.1.0 c.before.before.before.before.before.before.before.before.before.before.before.before.before.before.before.before.before.before.before.before.before.split-next.auto.1.1.1.1.1.1.1.1.1.1.0 c.before.before.before.before.before.before.before.before.before.before.before.before.before.before.before.before.before.before.before.before.before.split-next.auto.1.1.1.1.1.1.1.1.1.1.1.0 c.before.before.before.before.before.before.before.before.before.before.before.before.before.before.before.before.before.before.before.before.before.split-next.auto.1.1.1.1.1.1.1.1.1.1.1.1.0 ∙ L.invariant.1,
-      run-next A.way (kindIs A.kind) A.room A.marks.now L.v L.invariant.2 c.before.before.before.before.before.before.before.before.before.before.before.before.before.before.before.before.before.before.before.before.before.before.before.before.before.before.before.before.before.before.before.if1.false _ _ c.before.ran.given.1 c.before.before.before.before.before.before.before.before.before.before.before.before.before.before.before.before.before.before.before.before.before.split-next.ensures.0,
+      lent_path _ _ c.before.before.before.before.before.before.before.before.before.before.before.before.before.before.before.before.before.before.before.before.before.split-next.auto.1.1.1.1.1.0 c.before.before.before.before.before.before.before.before.before.before.before.before.before.before.before.before.before.before.before.before.before.split-next.auto.1.1.1.1.1.1.0 c.before.before.before.before.before.before.before.before.before.before.before.before.before.before.before.before.before.before.before.before.before.split-next.auto.1.1.1.1.1.1.1.0 refl c.before.before.before.before.before.before.before.before.before.before.before.before.before.before.before.before.before.before.before.before.before.split-next.auto.1.1.1.1.1.1.1.1.1.0 c.before.before.before.before.before.before.before.before.before.before.before.before.before.before.before.before.before.before.before.before.before.split-next.auto.1.1.1.1.1.1.1.1.1.1.0 c.before.before.before.before.before.before.before.before.before.before.before.before.before.before.before.before.before.before.before.before.before.split-next.auto.1.1.1.1.1.1.1.1.1.1.1.0 c.before.before.before.before.before.before.before.before.before.before.before.before.before.before.before.before.before.before.before.before.before.split-next.auto.1.1.1.1.1.1.1.1.1.1.1.1.0 ∙ L.invariant.1,
+      run_next A.way (kind_is A.kind) A.room A.marks.now L.v L.invariant.2 c.before.before.before.before.before.before.before.before.before.before.before.before.before.before.before.before.before.before.before.before.before.before.before.before.before.before.before.before.before.before.before.if1.false _ _ c.before.ran.given.1 c.before.before.before.before.before.before.before.before.before.before.before.before.before.before.before.before.before.before.before.before.before.split-next.ensures.0,
       c.before.before.before.before.before.before.before.before.before.before.before.before.before.before.before.before.before.before.before.before.before.split-next.auto.1.1.1.1.1.1.1.1.1.1.1.1.1.0 ∙ L.invariant.3,
       c.before.before.before.before.before.before.before.before.before.before.before.before.before.before.before.before.before.before.before.before.before.split-next.auto.1.1.1.1.1.1.1.1.1.1.1.1.1.1.0 ∙ L.invariant.4,
-      linked-done _ _ c.before.ran.given.1 c.before.before.before.before.before.before.before.before.before.before.before.before.before.before.before.before.before.before.before.before.before.split-next.ensures.1,
+      linked_done _ _ c.before.ran.given.1 c.before.before.before.before.before.before.before.before.before.before.before.before.before.before.before.before.before.before.before.before.before.split-next.ensures.1,
     )
 
 same-length-10 : tie.Need-same-length-10 invariant-loop decreases-loop
@@ -143,10 +143,10 @@ same-length-18 c = c.before.loop.invariant.4
 returns-2 : tie.Need-returns-2 invariant-loop decreases-loop
 returns-2 c = let A = c.before.before.before.before.before.before.before.before.before.before.before.before.before.args in
     let L = c.before.loop in
-    (run-all A.way (kindIs A.kind) A.room A.marks.now L.v A.p (omega arith) L.invariant.2, L.invariant.5)
+    (run_all A.way (kind_is A.kind) A.room A.marks.now L.v A.p (omega arith) L.invariant.2, L.invariant.5)
 
-pub split-marked-spec : {M : Type 1} → statement M
-split-marked-spec =
+pub split_marked_spec : {M : Type 1} → statement M
+split_marked_spec =
     tie.close
     (tie.spec
     invariant-loop

@@ -2,12 +2,12 @@
 use mathlib.Core.Path.{refl, sym, ◌∙◌}
 use native.Mathlib.Omega.{arith}
 use borrow.Rule.Slice.PartMut.{same_len_mid}
-use Rattle.lists.proofs.Truths.{of-not, of-not-false}
-use Rattle.elements.specs.Table.{kindIs}
-use Rattle.work.proofs.Runs.{works-known}
-use Rattle.edge_drops.proofs.PartedLaws.{listing-done, works-closed}
-use Rattle.split.proofs.LinkLaws.{linked-refused, parted-done, close-lent, close-back}
-use Rattle.cut.proofs.SnapLaws.{blocks-refused, blocks-plain, blocks-edges, blocks-slack}
+use Rattle.lists.proofs.Truths.{of_not, of_not_false}
+use Rattle.elements.specs.Table.{kind_is}
+use Rattle.work.proofs.Runs.{works_known}
+use Rattle.edge_drops.proofs.PartedLaws.{listing_done, works_closed}
+use Rattle.split.proofs.LinkLaws.{linked_refused, parted_done, close_lent, close_back}
+use Rattle.cut.proofs.SnapLaws.{blocks_refused, blocks_plain, blocks_edges, blocks_slack}
 use borrow.Author.Rules.{rules}
 use Rattle.cut.proofs.facets.split_next.Statement.{statement}
 use Rattle.cut.proofs.facets.split_next.Tie as tie
@@ -49,7 +49,7 @@ same-length-9 : tie.Need-same-length-9
 same-length-9 c = c.before.before.before.before.before.before.before.before.before.before.before.before.before.before.before.before.before.before.before.before.split_one.auto.1.1.1.1.1.1.1.1.1.1.1.1.1.1.0
 
 returns : tie.Need-returns
-returns c = let A = c.before.before.before.before.before.before.before.before.before.before.before.before.before.before.before.before.before.before.before.before.before.before.before.before.before.before.before.before.before.before.before.before.before.before.before.before.before.before.before.before.args in let P = c.before.before.before.before.before.before.before.before.before.before.before.before.before.before.before.before.before.before.before.before.before.before.before.before.before.before.before.before.before.before.before.before.before.before.before.before.before.before.before.before.requires in let S = c.before.before.before.before.before.before.before.before.before.before.before.before.before.before.before.before.before.before.before.before.split_one in (blocks-refused A.way (kindIs A.kind) A.v A.k A.points.now A.roots.now A.corners.now A.volumes.now A.ends.now A.lengths.now A.outline.now A.log.now A.room _ P.0 _ _ c.enum_told.given.1 S.ensures.0.0, linked-refused (kindIs A.kind) S.new.1.1.1.1.1.1.1.0 S.new.1.1.1.1.1.1.1.1.1.0 S.new.1.1.1.1.1.1.1.1.1.1.1.0 S.new.1.1.1.1.1.1.1.1.1.1.1.1.1.1.0 _ _ c.enum_told.given.1)
+returns c = let A = c.before.before.before.before.before.before.before.before.before.before.before.before.before.before.before.before.before.before.before.before.before.before.before.before.before.before.before.before.before.before.before.before.before.before.before.before.before.before.before.before.args in let P = c.before.before.before.before.before.before.before.before.before.before.before.before.before.before.before.before.before.before.before.before.before.before.before.before.before.before.before.before.before.before.before.before.before.before.before.before.before.before.before.before.requires in let S = c.before.before.before.before.before.before.before.before.before.before.before.before.before.before.before.before.before.before.before.before.split_one in (blocks_refused A.way (kind_is A.kind) A.v A.k A.points.now A.roots.now A.corners.now A.volumes.now A.ends.now A.lengths.now A.outline.now A.log.now A.room _ P.0 _ _ c.enum_told.given.1 S.ensures.0.0, linked_refused (kind_is A.kind) S.new.1.1.1.1.1.1.1.0 S.new.1.1.1.1.1.1.1.1.1.0 S.new.1.1.1.1.1.1.1.1.1.1.1.0 S.new.1.1.1.1.1.1.1.1.1.1.1.1.1.1.0 _ _ c.enum_told.given.1)
 
 sub-close : tie.Need-overflow-sub-close
 sub-close c = omega (arith, c.before.before.before.before.before.before.before.before.before.before.before.before.before.before.before.before.before.before.before.before.before.before.before.before.before.before.before.before.before.before.before.before.before.before.before.before.before.before.before.before.before.before.before.before.requires.3.long, c.before.before.before.before.before.before.before.before.before.before.before.before.before.before.before.before.before.before.before.before.before.before.before.before.split_one.auto.1.1.1.1.1.1.1.1.1.1.1.1.1.1.0)
@@ -61,7 +61,7 @@ part-close-end : tie.Need-slice-bounds-close-end
 part-close-end c = omega (arith, c.before.before.before.before.before.before.before.before.before.before.before.before.before.before.before.before.before.before.before.before.before.before.before.before.before.before.before.before.before.before.before.before.before.before.before.before.before.before.before.before.before.before.before.before.requires.3.long, c.before.before.before.before.before.before.before.before.before.before.before.before.before.before.before.before.before.before.before.before.before.before.before.before.split_one.auto.1.1.1.1.1.1.1.1.1.1.1.1.1.1.0)
 
 close-requires : tie.Need-close-requires
-close-requires c κs = let S = c.before.before.before.before.before.before.before.before.before.before.before.before.before.before.before.before.before.before.before.before.before.before.before.before.before.split_one in (listing-done _ _ _ _ _ c.before.before.before.before.before.ran.given.1 S.ensures.0.1, close-lent (parted-done S.new.1.1.1.1.1.1.1.1.1.1.1.1.1.0 _ _ c.before.before.before.before.before.ran.given.1 S.ensures.1))
+close-requires c κs = let S = c.before.before.before.before.before.before.before.before.before.before.before.before.before.before.before.before.before.before.before.before.before.before.before.before.before.split_one in (listing_done _ _ _ _ _ c.before.before.before.before.before.ran.given.1 S.ensures.0.1, close_lent (parted_done S.new.1.1.1.1.1.1.1.1.1.1.1.1.1.0 _ _ c.before.before.before.before.before.ran.given.1 S.ensures.1))
 
 slackens-requires : tie.Need-slackens-requires
 slackens-requires c κs = search rules
@@ -94,12 +94,12 @@ same-length-18 : tie.Need-same-length-18
 same-length-18 c = same_len_mid 4096 5120 c.before.before.before.before.before.before.before.before.before.before.before.before.before.before.before.before.before.before.before.before.before.before.before.before.before.before.before.before.before.before.before.before.before.before.split_one.new.1.1.1.1.1.1.1.1.1.1.1.1.1.1.0 c.before.before.before.before.before.before.before.before.close.new.1.1.1.1.0 c.before.before.before.before.before.before.before.before.close.auto.1.1.1.1.0 ∙ c.before.before.before.before.before.before.before.before.before.before.before.before.before.before.before.before.before.before.before.before.before.before.before.before.before.before.before.before.before.before.before.before.before.before.split_one.auto.1.1.1.1.1.1.1.1.1.1.1.1.1.1.0
 
 returns-2 : tie.Need-returns-2
-returns-2 c = let A = c.before.before.before.before.before.before.before.before.before.before.before.before.before.before.before.before.before.before.before.before.before.before.before.before.before.before.before.before.before.before.before.before.before.before.before.before.before.before.before.before.before.before.before.before.before.before.before.before.before.before.before.before.before.before.args in let P = c.before.before.before.before.before.before.before.before.before.before.before.before.before.before.before.before.before.before.before.before.before.before.before.before.before.before.before.before.before.before.before.before.before.before.before.before.before.before.before.before.before.before.before.before.before.before.before.before.before.before.before.before.before.before.requires in let S = c.before.before.before.before.before.before.before.before.before.before.before.before.before.before.before.before.before.before.before.before.before.before.before.before.before.before.before.before.before.before.before.before.before.before.split_one in let F = works-closed _ _ _ _ _ _ _ _ _ _ _ _ c.before.before.before.before.before.before.before.before.close.ensures.0 (works-known _ _ c.before.before.before.before.before.before.before.before.before.before.before.before.before.before.ran.given.1 S.ensures.0.0) in
-    (blocks-plain A.way (kindIs A.kind) A.v A.k A.points.now A.roots.now A.corners.now A.volumes.now A.ends.now A.lengths.now A.outline.now A.log.now A.room _ P.0 _ _ _ _ _ _ _ _ _ refl (sym c.before.slackens.ensures ∙ of-not _ (sym c.if1.true)) F, close-back _ (parted-done S.new.1.1.1.1.1.1.1.1.1.1.1.1.1.0 _ _ c.before.before.before.before.before.before.before.before.before.before.before.before.before.before.ran.given.1 S.ensures.1) c.before.before.before.before.before.before.before.before.close.auto.1.1.1.1.0 c.before.before.before.before.before.before.before.before.close.ensures.1)
+returns-2 c = let A = c.before.before.before.before.before.before.before.before.before.before.before.before.before.before.before.before.before.before.before.before.before.before.before.before.before.before.before.before.before.before.before.before.before.before.before.before.before.before.before.before.before.before.before.before.before.before.before.before.before.before.before.before.before.before.args in let P = c.before.before.before.before.before.before.before.before.before.before.before.before.before.before.before.before.before.before.before.before.before.before.before.before.before.before.before.before.before.before.before.before.before.before.before.before.before.before.before.before.before.before.before.before.before.before.before.before.before.before.before.before.before.before.requires in let S = c.before.before.before.before.before.before.before.before.before.before.before.before.before.before.before.before.before.before.before.before.before.before.before.before.before.before.before.before.before.before.before.before.before.before.split_one in let F = works_closed _ _ _ _ _ _ _ _ _ _ _ _ c.before.before.before.before.before.before.before.before.close.ensures.0 (works_known _ _ c.before.before.before.before.before.before.before.before.before.before.before.before.before.before.ran.given.1 S.ensures.0.0) in
+    (blocks_plain A.way (kind_is A.kind) A.v A.k A.points.now A.roots.now A.corners.now A.volumes.now A.ends.now A.lengths.now A.outline.now A.log.now A.room _ P.0 _ _ _ _ _ _ _ _ _ refl (sym c.before.slackens.ensures ∙ of_not _ (sym c.if1.true)) F, close_back _ (parted_done S.new.1.1.1.1.1.1.1.1.1.1.1.1.1.0 _ _ c.before.before.before.before.before.before.before.before.before.before.before.before.before.before.ran.given.1 S.ensures.1) c.before.before.before.before.before.before.before.before.close.auto.1.1.1.1.0 c.before.before.before.before.before.before.before.before.close.ensures.1)
 
 slacken-from-requires : tie.Need-slacken-from-requires
 slacken-from-requires c κs = let A = c.before.before.before.before.before.before.before.before.before.before.before.before.before.before.before.before.before.before.before.before.before.before.before.before.before.before.before.before.before.before.before.before.before.before.before.before.before.before.before.before.before.before.before.before.before.before.before.before.before.before.before.before.before.before.before.before.args in let P = c.before.before.before.before.before.before.before.before.before.before.before.before.before.before.before.before.before.before.before.before.before.before.before.before.before.before.before.before.before.before.before.before.before.before.before.before.before.before.before.before.before.before.before.before.before.before.before.before.before.before.before.before.before.before.before.before.requires in let S = c.before.before.before.before.before.before.before.before.before.before.before.before.before.before.before.before.before.before.before.before.before.before.before.before.before.before.before.before.before.before.before.before.before.before.before.before.split_one in
-    blocks-edges A.way (kindIs A.kind) A.v A.k A.points.now A.roots.now A.corners.now A.volumes.now A.ends.now A.lengths.now A.outline.now A.log.now A.room _ P.0 _ _ c.before.before.before.before.before.before.before.before.before.before.before.before.before.before.before.before.ran.given.1 S.ensures.0.0 P.1.logged _ _ (c.before.before.before.before.before.before.before.before.before.before.close.auto.1.1.0 ∙ S.auto.1.1.1.1.1.1.1.1.1.0) (c.before.before.before.before.before.before.before.before.before.before.close.auto.1.1.1.0 ∙ S.auto.1.1.1.1.1.1.1.1.1.1.0)
+    blocks_edges A.way (kind_is A.kind) A.v A.k A.points.now A.roots.now A.corners.now A.volumes.now A.ends.now A.lengths.now A.outline.now A.log.now A.room _ P.0 _ _ c.before.before.before.before.before.before.before.before.before.before.before.before.before.before.before.before.ran.given.1 S.ensures.0.0 P.1.logged _ _ (c.before.before.before.before.before.before.before.before.before.before.close.auto.1.1.0 ∙ S.auto.1.1.1.1.1.1.1.1.1.0) (c.before.before.before.before.before.before.before.before.before.before.close.auto.1.1.1.0 ∙ S.auto.1.1.1.1.1.1.1.1.1.1.0)
 
 same-length-19 : tie.Need-same-length-19
 same-length-19 c = c.before.before.before.before.before.before.before.before.before.before.before.before.before.before.before.before.before.before.before.before.before.before.before.before.before.before.before.before.before.before.before.before.before.before.before.before.before.before.before.split_one.auto.1.1.1.1.1.0
@@ -129,11 +129,11 @@ same-length-27 : tie.Need-same-length-27
 same-length-27 c = same_len_mid 4096 5120 c.before.before.before.before.before.before.before.before.before.before.before.before.before.before.before.before.before.before.before.before.before.before.before.before.before.before.before.before.before.before.before.before.before.before.before.before.before.before.before.split_one.new.1.1.1.1.1.1.1.1.1.1.1.1.1.1.0 c.before.before.before.before.before.before.before.before.before.before.before.before.before.close.new.1.1.1.1.0 c.before.before.before.before.before.before.before.before.before.before.before.before.before.close.auto.1.1.1.1.0 ∙ c.before.before.before.before.before.before.before.before.before.before.before.before.before.before.before.before.before.before.before.before.before.before.before.before.before.before.before.before.before.before.before.before.before.before.before.before.before.before.before.split_one.auto.1.1.1.1.1.1.1.1.1.1.1.1.1.1.0
 
 returns-3 : tie.Need-returns-3
-returns-3 c = let A = c.before.before.before.before.before.before.before.before.before.before.before.before.before.before.before.before.before.before.before.before.before.before.before.before.before.before.before.before.before.before.before.before.before.before.before.before.before.before.before.before.before.before.before.before.before.before.before.before.before.before.before.before.before.before.before.before.before.before.before.args in let P = c.before.before.before.before.before.before.before.before.before.before.before.before.before.before.before.before.before.before.before.before.before.before.before.before.before.before.before.before.before.before.before.before.before.before.before.before.before.before.before.before.before.before.before.before.before.before.before.before.before.before.before.before.before.before.before.before.before.before.before.requires in let S = c.before.before.before.before.before.before.before.before.before.before.before.before.before.before.before.before.before.before.before.before.before.before.before.before.before.before.before.before.before.before.before.before.before.before.before.before.before.before.before.split_one in let F = works-closed _ _ _ _ _ _ _ _ _ _ _ _ c.before.before.before.before.before.before.before.before.before.before.before.before.before.close.ensures.0 (works-known _ _ c.before.before.before.before.before.before.before.before.before.before.before.before.before.before.before.before.before.before.before.ran.given.1 S.ensures.0.0) in
-    (blocks-slack A.way (kindIs A.kind) A.v A.k A.points.now A.roots.now A.corners.now A.volumes.now A.ends.now A.lengths.now A.outline.now A.log.now A.room _ P.0 _ _ _ _ _ _ _ _ _ _ refl (sym c.before.before.before.before.before.before.slackens.ensures ∙ of-not-false _ (sym c.before.before.before.before.before.if1.false)) F c.before.before.slacken-from.ensures, close-back _ (parted-done S.new.1.1.1.1.1.1.1.1.1.1.1.1.1.0 _ _ c.before.before.before.before.before.before.before.before.before.before.before.before.before.before.before.before.before.before.before.ran.given.1 S.ensures.1) c.before.before.before.before.before.before.before.before.before.before.before.before.before.close.auto.1.1.1.1.0 c.before.before.before.before.before.before.before.before.before.before.before.before.before.close.ensures.1)
+returns-3 c = let A = c.before.before.before.before.before.before.before.before.before.before.before.before.before.before.before.before.before.before.before.before.before.before.before.before.before.before.before.before.before.before.before.before.before.before.before.before.before.before.before.before.before.before.before.before.before.before.before.before.before.before.before.before.before.before.before.before.before.before.before.args in let P = c.before.before.before.before.before.before.before.before.before.before.before.before.before.before.before.before.before.before.before.before.before.before.before.before.before.before.before.before.before.before.before.before.before.before.before.before.before.before.before.before.before.before.before.before.before.before.before.before.before.before.before.before.before.before.before.before.before.before.before.requires in let S = c.before.before.before.before.before.before.before.before.before.before.before.before.before.before.before.before.before.before.before.before.before.before.before.before.before.before.before.before.before.before.before.before.before.before.before.before.before.before.before.split_one in let F = works_closed _ _ _ _ _ _ _ _ _ _ _ _ c.before.before.before.before.before.before.before.before.before.before.before.before.before.close.ensures.0 (works_known _ _ c.before.before.before.before.before.before.before.before.before.before.before.before.before.before.before.before.before.before.before.ran.given.1 S.ensures.0.0) in
+    (blocks_slack A.way (kind_is A.kind) A.v A.k A.points.now A.roots.now A.corners.now A.volumes.now A.ends.now A.lengths.now A.outline.now A.log.now A.room _ P.0 _ _ _ _ _ _ _ _ _ _ refl (sym c.before.before.before.before.before.before.slackens.ensures ∙ of_not_false _ (sym c.before.before.before.before.before.if1.false)) F c.before.before.slacken-from.ensures, close_back _ (parted_done S.new.1.1.1.1.1.1.1.1.1.1.1.1.1.0 _ _ c.before.before.before.before.before.before.before.before.before.before.before.before.before.before.before.before.before.before.before.ran.given.1 S.ensures.1) c.before.before.before.before.before.before.before.before.before.before.before.before.before.close.auto.1.1.1.1.0 c.before.before.before.before.before.before.before.before.before.before.before.before.before.close.ensures.1)
 
-pub split-next-spec : {M : Type 1} → statement M
-split-next-spec =
+pub split_next_spec : {M : Type 1} → statement M
+split_next_spec =
     tie.close
     (tie.spec
     split-one-requires

@@ -1,10 +1,10 @@
 -- `cut::facets::split_one` meets its contract. The fan is read into small tables, parted and split; or a larger one is read anew. Assumes nothing.
-use Rattle.cut.proofs.FanSides.{fan-room, fan-sided, fan-sides}
-use Rattle.cut.proofs.RunLaws.{one-works}
-use Rattle.split.proofs.Fitted.{few-corners}
-use Rattle.split.proofs.LinkLaws.{fan-ready}
-use Rattle.mesh.specs.Log.{worldAt}
-use Rattle.elements.specs.Table.{kindIs}
+use Rattle.cut.proofs.FanSides.{fan_room, fan_sided, fan_sides}
+use Rattle.cut.proofs.RunLaws.{one_works}
+use Rattle.split.proofs.Fitted.{few_corners}
+use Rattle.split.proofs.LinkLaws.{fan_ready}
+use Rattle.mesh.specs.Log.{world_at}
+use Rattle.elements.specs.Table.{kind_is}
 use mathlib.Core.Path.{refl}
 use native.Mathlib.Omega.{arith}
 use borrow.Author.Rules.{rules}
@@ -21,7 +21,7 @@ slice-aggregate-fan-tables-3 : tie.Need-slice-aggregate-fan-tables-3
 slice-aggregate-fan-tables-3 c = search rules
 
 fan-tables-requires : tie.Need-fan-tables-requires
-fan-tables-requires c κs = let P = c.before.before.before.before.before.before.before.before.before.before.before.before.before.before.before.before.before.requires in let A = c.before.before.before.before.before.before.before.before.before.before.before.before.before.before.before.before.before.args in fan-ready (kindIs A.kind) A.room A.k A.points.now A.roots.now A.corners.now A.volumes.now A.ends.now A.lengths.now A.outline.now A.log.now P.0 P.1 P.3
+fan-tables-requires c κs = let P = c.before.before.before.before.before.before.before.before.before.before.before.before.before.before.before.before.before.requires in let A = c.before.before.before.before.before.before.before.before.before.before.before.before.before.before.before.before.before.args in fan_ready (kind_is A.kind) A.room A.k A.points.now A.roots.now A.corners.now A.volumes.now A.ends.now A.lengths.now A.outline.now A.log.now P.0 P.1 P.3
 
 split-many-requires : tie.Need-split-many-requires
 split-many-requires c κs = let P = c.before.before.before.before.before.before.before.before.before.before.before.before.before.before.before.before.before.before.before.before.before.before.before.before.before.before.before.before.before.before.before.requires in (P.0, P.1, P.2, P.3)
@@ -64,7 +64,7 @@ slice-aggregate-part-fan-2 c = search rules
 
 part-fan-requires : tie.Need-part-fan-requires
 part-fan-requires c κs = let P = c.before.before.before.before.before.before.before.before.before.before.before.before.before.before.before.before.before.before.before.before.before.before.before.before.before.requires in let A = c.before.before.before.before.before.before.before.before.before.before.before.before.before.before.before.before.before.before.before.before.before.before.before.before.before.args in let F = c.before.before.before.before.before.before.before.fan-tables.ensures in
-    fan-room (kindIs A.kind) A.k A.points.now A.roots.now A.corners.now A.volumes.now A.ends.now A.lengths.now A.outline.now A.room _ P.0 refl A.v P.1 _ _ _ _ F (omega (arith, c.before.before.before.if1.false, c.before.before.before.before.before.before.before.fan-tables.auto.1.1.1.1.1.1.1.1.0)) (omega (arith, few-corners F (omega (arith, c.before.before.before.if1.false)), c.before.before.before.before.before.before.before.fan-tables.auto.1.1.1.1.1.1.1.1.1.0)) (omega (arith, c.before.before.before.if1.false, c.before.before.before.before.before.before.before.fan-tables.auto.1.1.1.1.1.1.1.1.1.1.0)) _ (omega (arith, c.before.before.before.if1.false))
+    fan_room (kind_is A.kind) A.k A.points.now A.roots.now A.corners.now A.volumes.now A.ends.now A.lengths.now A.outline.now A.room _ P.0 refl A.v P.1 _ _ _ _ F (omega (arith, c.before.before.before.if1.false, c.before.before.before.before.before.before.before.fan-tables.auto.1.1.1.1.1.1.1.1.0)) (omega (arith, few_corners F (omega (arith, c.before.before.before.if1.false)), c.before.before.before.before.before.before.before.fan-tables.auto.1.1.1.1.1.1.1.1.1.0)) (omega (arith, c.before.before.before.if1.false, c.before.before.before.before.before.before.before.fan-tables.auto.1.1.1.1.1.1.1.1.1.1.0)) _ (omega (arith, c.before.before.before.if1.false))
 
 slice-aggregate-split-tabled : tie.Need-slice-aggregate-split-tabled
 slice-aggregate-split-tabled c = search rules
@@ -83,7 +83,7 @@ slice-aggregate-split-tabled-5 c = search rules
 
 split-tabled-requires : tie.Need-split-tabled-requires
 split-tabled-requires c κs = let P = c.before.before.before.before.before.before.before.before.before.before.before.before.before.before.before.before.before.before.before.before.before.before.before.before.before.before.before.before.before.before.before.before.before.before.before.before.before.before.before.before.before.requires in let A = c.before.before.before.before.before.before.before.before.before.before.before.before.before.before.before.before.before.before.before.before.before.before.before.before.before.before.before.before.before.before.before.before.before.before.before.before.before.before.before.before.before.args in let F = c.before.before.before.before.before.before.before.before.before.before.before.before.before.before.before.before.before.before.before.before.before.before.before.fan-tables.ensures in
-    (P.0, fan-sided (kindIs A.kind) A.k A.points.now A.roots.now A.corners.now A.volumes.now A.ends.now A.lengths.now A.outline.now A.room _ P.0 refl A.v P.1 _ _ _ _ F (omega (arith, c.before.before.before.before.before.before.before.before.before.before.before.before.before.before.before.before.before.before.before.if1.false, c.before.before.before.before.before.before.before.before.before.before.before.before.before.before.before.before.before.before.before.before.before.before.before.fan-tables.auto.1.1.1.1.1.1.1.1.0)) (omega (arith, few-corners F (omega (arith, c.before.before.before.before.before.before.before.before.before.before.before.before.before.before.before.before.before.before.before.if1.false)), c.before.before.before.before.before.before.before.before.before.before.before.before.before.before.before.before.before.before.before.before.before.before.before.fan-tables.auto.1.1.1.1.1.1.1.1.1.0)) (omega (arith, c.before.before.before.before.before.before.before.before.before.before.before.before.before.before.before.before.before.before.before.if1.false, c.before.before.before.before.before.before.before.before.before.before.before.before.before.before.before.before.before.before.before.before.before.before.before.fan-tables.auto.1.1.1.1.1.1.1.1.1.1.0)) A.way _ c.before.before.before.before.before.before.before.before.before.before.before.before.before.before.before.part-fan.ensures (omega (arith, c.before.before.before.before.before.before.before.before.before.before.before.before.before.before.before.part-fan.auto.1.1.1.1.1.1.0, c.before.before.before.before.before.before.before.before.before.before.before.before.before.before.before.before.before.before.before.if1.false)), omega (arith, c.before.before.before.before.before.before.before.before.before.before.before.before.before.before.before.before.before.before.before.if1.false), P.2, P.3)
+    (P.0, fan_sided (kind_is A.kind) A.k A.points.now A.roots.now A.corners.now A.volumes.now A.ends.now A.lengths.now A.outline.now A.room _ P.0 refl A.v P.1 _ _ _ _ F (omega (arith, c.before.before.before.before.before.before.before.before.before.before.before.before.before.before.before.before.before.before.before.if1.false, c.before.before.before.before.before.before.before.before.before.before.before.before.before.before.before.before.before.before.before.before.before.before.before.fan-tables.auto.1.1.1.1.1.1.1.1.0)) (omega (arith, few_corners F (omega (arith, c.before.before.before.before.before.before.before.before.before.before.before.before.before.before.before.before.before.before.before.if1.false)), c.before.before.before.before.before.before.before.before.before.before.before.before.before.before.before.before.before.before.before.before.before.before.before.fan-tables.auto.1.1.1.1.1.1.1.1.1.0)) (omega (arith, c.before.before.before.before.before.before.before.before.before.before.before.before.before.before.before.before.before.before.before.if1.false, c.before.before.before.before.before.before.before.before.before.before.before.before.before.before.before.before.before.before.before.before.before.before.before.fan-tables.auto.1.1.1.1.1.1.1.1.1.1.0)) A.way _ c.before.before.before.before.before.before.before.before.before.before.before.before.before.before.before.part-fan.ensures (omega (arith, c.before.before.before.before.before.before.before.before.before.before.before.before.before.before.before.part-fan.auto.1.1.1.1.1.1.0, c.before.before.before.before.before.before.before.before.before.before.before.before.before.before.before.before.before.before.before.if1.false)), omega (arith, c.before.before.before.before.before.before.before.before.before.before.before.before.before.before.before.before.before.before.before.if1.false), P.2, P.3)
 
 same-length-10 : tie.Need-same-length-10
 same-length-10 c = c.before.before.before.before.before.before.before.before.before.before.before.before.before.before.before.before.before.before.before.split-tabled.auto.1.1.1.1.1.1.1.1.1.1.0
@@ -113,12 +113,12 @@ same-length-18 : tie.Need-same-length-18
 same-length-18 c = c.before.before.before.before.before.before.before.before.before.before.before.before.before.before.before.before.before.before.before.split-tabled.auto.1.1.1.1.1.1.1.1.1.1.1.1.1.1.1.1.1.1.1.0
 
 returns-2 : tie.Need-returns-2
-unfolding worldAt
+unfolding world_at
 returns-2 c = let P = c.before.before.before.before.before.before.before.before.before.before.before.before.before.before.before.before.before.before.before.before.before.before.before.before.before.before.before.before.before.before.before.before.before.before.before.before.before.before.before.before.before.before.before.before.before.before.before.before.before.before.before.before.before.before.before.before.before.before.before.before.before.requires in let A = c.before.before.before.before.before.before.before.before.before.before.before.before.before.before.before.before.before.before.before.before.before.before.before.before.before.before.before.before.before.before.before.before.before.before.before.before.before.before.before.before.before.before.before.before.before.before.before.before.before.before.before.before.before.before.before.before.before.before.before.before.before.args in let F = c.before.before.before.before.before.before.before.before.before.before.before.before.before.before.before.before.before.before.before.before.before.before.before.before.before.before.before.before.before.before.before.before.before.before.before.before.before.before.before.before.before.before.before.fan-tables.ensures in
-    ((one-works A.way (kindIs A.kind) A.v _ A.room _ _ _ (fan-sides (kindIs A.kind) A.k A.points.now A.roots.now A.corners.now A.volumes.now A.ends.now A.lengths.now A.outline.now A.room _ P.0 refl A.v P.1 _ _ _ _ F (omega (arith, c.before.before.before.before.before.before.before.before.before.before.before.before.before.before.before.before.before.before.before.before.before.before.before.before.before.before.before.before.before.before.before.before.before.before.before.before.before.before.before.if1.false, c.before.before.before.before.before.before.before.before.before.before.before.before.before.before.before.before.before.before.before.before.before.before.before.before.before.before.before.before.before.before.before.before.before.before.before.before.before.before.before.before.before.before.before.fan-tables.auto.1.1.1.1.1.1.1.1.0)) (omega (arith, few-corners F (omega (arith, c.before.before.before.before.before.before.before.before.before.before.before.before.before.before.before.before.before.before.before.before.before.before.before.before.before.before.before.before.before.before.before.before.before.before.before.before.before.before.before.if1.false)), c.before.before.before.before.before.before.before.before.before.before.before.before.before.before.before.before.before.before.before.before.before.before.before.before.before.before.before.before.before.before.before.before.before.before.before.before.before.before.before.before.before.before.before.fan-tables.auto.1.1.1.1.1.1.1.1.1.0)) (omega (arith, c.before.before.before.before.before.before.before.before.before.before.before.before.before.before.before.before.before.before.before.before.before.before.before.before.before.before.before.before.before.before.before.before.before.before.before.before.before.before.before.if1.false, c.before.before.before.before.before.before.before.before.before.before.before.before.before.before.before.before.before.before.before.before.before.before.before.before.before.before.before.before.before.before.before.before.before.before.before.before.before.before.before.before.before.before.before.fan-tables.auto.1.1.1.1.1.1.1.1.1.1.0)) A.way _ c.before.before.before.before.before.before.before.before.before.before.before.before.before.before.before.before.before.before.before.before.before.before.before.before.before.before.before.before.before.before.before.before.before.before.before.part-fan.ensures) c.before.before.before.before.before.before.before.before.before.before.before.before.before.before.before.before.before.before.before.split-tabled.ensures.0.0, c.before.before.before.before.before.before.before.before.before.before.before.before.before.before.before.before.before.before.before.split-tabled.ensures.0.1), c.before.before.before.before.before.before.before.before.before.before.before.before.before.before.before.before.before.before.before.split-tabled.ensures.1)
+    ((one_works A.way (kind_is A.kind) A.v _ A.room _ _ _ (fan_sides (kind_is A.kind) A.k A.points.now A.roots.now A.corners.now A.volumes.now A.ends.now A.lengths.now A.outline.now A.room _ P.0 refl A.v P.1 _ _ _ _ F (omega (arith, c.before.before.before.before.before.before.before.before.before.before.before.before.before.before.before.before.before.before.before.before.before.before.before.before.before.before.before.before.before.before.before.before.before.before.before.before.before.before.before.if1.false, c.before.before.before.before.before.before.before.before.before.before.before.before.before.before.before.before.before.before.before.before.before.before.before.before.before.before.before.before.before.before.before.before.before.before.before.before.before.before.before.before.before.before.before.fan-tables.auto.1.1.1.1.1.1.1.1.0)) (omega (arith, few_corners F (omega (arith, c.before.before.before.before.before.before.before.before.before.before.before.before.before.before.before.before.before.before.before.before.before.before.before.before.before.before.before.before.before.before.before.before.before.before.before.before.before.before.before.if1.false)), c.before.before.before.before.before.before.before.before.before.before.before.before.before.before.before.before.before.before.before.before.before.before.before.before.before.before.before.before.before.before.before.before.before.before.before.before.before.before.before.before.before.before.before.fan-tables.auto.1.1.1.1.1.1.1.1.1.0)) (omega (arith, c.before.before.before.before.before.before.before.before.before.before.before.before.before.before.before.before.before.before.before.before.before.before.before.before.before.before.before.before.before.before.before.before.before.before.before.before.before.before.before.if1.false, c.before.before.before.before.before.before.before.before.before.before.before.before.before.before.before.before.before.before.before.before.before.before.before.before.before.before.before.before.before.before.before.before.before.before.before.before.before.before.before.before.before.before.before.fan-tables.auto.1.1.1.1.1.1.1.1.1.1.0)) A.way _ c.before.before.before.before.before.before.before.before.before.before.before.before.before.before.before.before.before.before.before.before.before.before.before.before.before.before.before.before.before.before.before.before.before.before.before.part-fan.ensures) c.before.before.before.before.before.before.before.before.before.before.before.before.before.before.before.before.before.before.before.split-tabled.ensures.0.0, c.before.before.before.before.before.before.before.before.before.before.before.before.before.before.before.before.before.before.before.split-tabled.ensures.0.1), c.before.before.before.before.before.before.before.before.before.before.before.before.before.before.before.before.before.before.before.split-tabled.ensures.1)
 
-pub split-one-spec : {M : Type 1} → statement M
-split-one-spec =
+pub split_one_spec : {M : Type 1} → statement M
+split_one_spec =
     tie.close
     (tie.spec
     slice-aggregate-fan-tables

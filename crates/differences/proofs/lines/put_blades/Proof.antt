@@ -1,6 +1,6 @@
 -- `differences::lines::put_blades` meets its contract: no line where the blades are the same, else one with both. Assumes nothing.
-use Rattle.differences.proofs.Writing.{lists-none, lists-line, line-without, blade-line}
-use Rattle.listing.proofs.Appending.{appends-as}
+use Rattle.differences.proofs.Writing.{lists_none, lists_line, line_without, blade_line}
+use Rattle.listing.proofs.Appending.{appends_as}
 use mathlib.Core.Path.{refl, sym, ◌∙◌}
 use borrow.Author.Rules.{rules}
 use Rattle.differences.proofs.lines.put_blades.Statement.{statement}
@@ -10,7 +10,7 @@ same-four-requires : tie.Need-same-four-requires
 same-four-requires c κs = search rules
 
 returns : tie.Need-returns
-returns c = lists-none _ _ _ _ (sym c.before.same-four.ensures ∙ c.if1.true)
+returns c = lists_none _ _ _ _ (sym c.before.same-four.ensures ∙ c.if1.true)
 
 slice-aggregate-put-text : tie.Need-slice-aggregate-put-text
 slice-aggregate-put-text c = search rules
@@ -40,10 +40,10 @@ same_length : tie.Need-same-length
 same_length c = search rules
 
 returns-2 : tie.Need-returns-2
-returns-2 c = lists-line _ _ _ _ _ _ (sym c.before.before.before.before.before.before.before.before.before.before.before.before.before.before.before.before.before.before.before.before.before.before.before.before.same-four.ensures ∙ c.before.before.before.before.before.before.before.before.before.before.before.before.before.before.before.before.before.before.before.before.before.before.before.if1.false) (appends-as (line-without c.before.before.before.before.before.before.before.before.before.before.before.before.before.before.before.before.before.before.before.before.put-text.ensures c.before.before.before.before.before.before.before.before.before.before.before.before.before.before.before.before.put_four.ensures c.before.before.before.before.before.before.before.before.before.before.before.put-text2.ensures c.before.before.before.before.before.before.before.put-four2.ensures c.before.before.before.put_byte.ensures) (blade-line _ _)) refl
+returns-2 c = lists_line _ _ _ _ _ _ (sym c.before.before.before.before.before.before.before.before.before.before.before.before.before.before.before.before.before.before.before.before.before.before.before.before.same-four.ensures ∙ c.before.before.before.before.before.before.before.before.before.before.before.before.before.before.before.before.before.before.before.before.before.before.before.if1.false) (appends_as (line_without c.before.before.before.before.before.before.before.before.before.before.before.before.before.before.before.before.before.before.before.before.put-text.ensures c.before.before.before.before.before.before.before.before.before.before.before.before.before.before.before.before.put_four.ensures c.before.before.before.before.before.before.before.before.before.before.before.put-text2.ensures c.before.before.before.before.before.before.before.put-four2.ensures c.before.before.before.put_byte.ensures) (blade_line _ _)) refl
 
-pub put-blades-spec : {M : Type 1} → statement M
-put-blades-spec =
+pub put_blades_spec : {M : Type 1} → statement M
+put_blades_spec =
     tie.close
     (tie.spec
     same-four-requires

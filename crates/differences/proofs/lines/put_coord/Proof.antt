@@ -1,5 +1,5 @@
 -- `differences::lines::put_coord` meets its contract: the number, or a dash and its size. Assumes nothing.
-use Rattle.differences.proofs.Writing.{coord-plain, coord-minus}
+use Rattle.differences.proofs.Writing.{coord_plain, coord_minus}
 use mathlib.Core.Path.{refl}
 use borrow.Author.Rules.{rules}
 use Rattle.differences.proofs.lines.put_coord.Statement.{statement}
@@ -12,7 +12,7 @@ same_length : tie.Need-same-length
 same_length c = search rules
 
 returns : tie.Need-returns
-returns c = coord-plain _ c.before.before.before.before.if1.true c.before.before.put-plain.ensures
+returns c = coord_plain _ c.before.before.before.before.if1.true c.before.before.put-plain.ensures
 
 slice-aggregate-put-text : tie.Need-slice-aggregate-put-text
 slice-aggregate-put-text c = search rules
@@ -30,10 +30,10 @@ same-length-2 : tie.Need-same-length-2
 same-length-2 c = search rules
 
 returns-2 : tie.Need-returns-2
-returns-2 c = coord-minus _ _ c.before.before.before.before.before.before.before.before.before.if1.false c.before.before.before.before.before.before.before.before.before.before.before.requires refl c.before.before.before.before.before.before.put-text.ensures c.before.before.put-number.ensures
+returns-2 c = coord_minus _ _ c.before.before.before.before.before.before.before.before.before.if1.false c.before.before.before.before.before.before.before.before.before.before.before.requires refl c.before.before.before.before.before.before.put-text.ensures c.before.before.put-number.ensures
 
-pub put-coord-spec : {M : Type 1} → statement M
-put-coord-spec =
+pub put_coord_spec : {M : Type 1} → statement M
+put_coord_spec =
     tie.close
     (tie.spec
     put-plain-requires

@@ -1,6 +1,6 @@
 -- `differences::lines::put_count` meets its contract: no line where the counts are equal, else one with both. Assumes nothing.
-use Rattle.differences.proofs.Writing.{lists-none, lists-line, line-of, count-line}
-use Rattle.listing.proofs.Appending.{appends-as}
+use Rattle.differences.proofs.Writing.{lists_none, lists_line, line_of_lem, count_line}
+use Rattle.listing.proofs.Appending.{appends_as}
 use borrow.Author.Tests.{eq-eqb, ne_eqb}
 use mathlib.Core.Path.{refl}
 use borrow.Author.Rules.{rules}
@@ -8,7 +8,7 @@ use Rattle.differences.proofs.lines.put_count.Statement.{statement}
 use Rattle.differences.proofs.lines.put_count.Tie as tie
 
 returns : tie.Need-returns
-returns c = lists-none _ _ _ _ (eq-eqb _ _ c.if1.true)
+returns c = lists_none _ _ _ _ (eq-eqb _ _ c.if1.true)
 
 slice-aggregate-put-text : tie.Need-slice-aggregate-put-text
 slice-aggregate-put-text c = search rules
@@ -41,10 +41,10 @@ same_length : tie.Need-same-length
 same_length c = search rules
 
 returns-2 : tie.Need-returns-2
-returns-2 c = lists-line _ _ _ _ _ _ (ne_eqb _ _ c.before.before.before.before.before.before.before.before.before.before.before.before.before.before.before.before.before.before.before.before.before.before.before.before.before.before.before.if1.false) (appends-as (line-of c.before.before.before.before.before.before.before.before.before.before.before.before.before.before.before.before.before.before.before.before.before.before.before.before.put-text.ensures c.before.before.before.before.before.before.before.before.before.before.before.before.before.before.before.before.before.before.before.before.put-name.ensures c.before.before.before.before.before.before.before.before.before.before.before.before.before.before.before.before.put-plain.ensures c.before.before.before.before.before.before.before.before.before.before.before.put-text2.ensures c.before.before.before.before.before.before.before.put-plain2.ensures c.before.before.before.put_byte.ensures) (count-line _ _ _)) refl
+returns-2 c = lists_line _ _ _ _ _ _ (ne_eqb _ _ c.before.before.before.before.before.before.before.before.before.before.before.before.before.before.before.before.before.before.before.before.before.before.before.before.before.before.before.if1.false) (appends_as (line_of_lem c.before.before.before.before.before.before.before.before.before.before.before.before.before.before.before.before.before.before.before.before.before.before.before.before.put-text.ensures c.before.before.before.before.before.before.before.before.before.before.before.before.before.before.before.before.before.before.before.before.put-name.ensures c.before.before.before.before.before.before.before.before.before.before.before.before.before.before.before.before.put-plain.ensures c.before.before.before.before.before.before.before.before.before.before.before.put-text2.ensures c.before.before.before.before.before.before.before.put-plain2.ensures c.before.before.before.put_byte.ensures) (count_line _ _ _)) refl
 
-pub put-count-spec : {M : Type 1} → statement M
-put-count-spec =
+pub put_count_spec : {M : Type 1} → statement M
+put_count_spec =
     tie.close
     (tie.spec
     returns

@@ -1,5 +1,5 @@
 -- `differences::lines::put_four` meets its contract: one coordinate behind the other. Assumes nothing.
-use Rattle.differences.proofs.Writing.{two_fields, third-field, fourth-field}
+use Rattle.differences.proofs.Writing.{two_fields, third_field, fourth_field}
 use borrow.Author.Rules.{rules}
 use Rattle.differences.proofs.lines.put_four.Statement.{statement}
 use Rattle.differences.proofs.lines.put_four.Tie as tie
@@ -20,10 +20,10 @@ same_length : tie.Need-same-length
 same_length c = search rules
 
 returns : tie.Need-returns
-returns c = fourth-field _ _ _ _ (third-field _ _ _ (two_fields _ _ c.before.before.before.before.before.before.before.before.before.before.before.before.before.before.put-coord.ensures c.before.before.before.before.before.before.before.before.before.before.put-coord2.ensures) c.before.before.before.before.before.before.put-coord3.ensures) c.before.before.put-coord4.ensures
+returns c = fourth_field _ _ _ _ (third_field _ _ _ (two_fields _ _ c.before.before.before.before.before.before.before.before.before.before.before.before.before.before.put-coord.ensures c.before.before.before.before.before.before.before.before.before.before.put-coord2.ensures) c.before.before.before.before.before.before.put-coord3.ensures) c.before.before.put-coord4.ensures
 
-pub put-four-spec : {M : Type 1} → statement M
-put-four-spec =
+pub put_four_spec : {M : Type 1} → statement M
+put_four_spec =
     tie.close
     (tie.spec
     put-coord-requires

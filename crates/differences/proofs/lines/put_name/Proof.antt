@@ -1,5 +1,5 @@
 -- `differences::lines::put_name` meets its contract: the name by the list. Assumes nothing.
-use Rattle.differences.proofs.Writing.{as-name}
+use Rattle.differences.proofs.Writing.{as_name}
 use borrow.Author.Rules.{rules}
 use Rattle.differences.proofs.lines.put_name.Statement.{statement}
 use Rattle.differences.proofs.lines.put_name.Tie as tie
@@ -44,28 +44,28 @@ same_length : tie.Need-same-length
 same_length c = search rules
 
 returns : tie.Need-returns
-returns c = as-name _ _ c.before.before.before.before.before.enum_told.given.1 c.before.before.put-text.ensures
+returns c = as_name _ _ c.before.before.before.before.before.enum_told.given.1 c.before.before.put-text.ensures
 
 same-length-2 : tie.Need-same-length-2
 same-length-2 c = search rules
 
 returns-2 : tie.Need-returns-2
-returns-2 c = as-name _ _ c.before.before.before.before.before.enum-told2.given.1 c.before.before.put-text2.ensures
+returns-2 c = as_name _ _ c.before.before.before.before.before.enum-told2.given.1 c.before.before.put-text2.ensures
 
 same-length-3 : tie.Need-same-length-3
 same-length-3 c = search rules
 
 returns-3 : tie.Need-returns-3
-returns-3 c = as-name _ _ c.before.before.before.before.before.enum-told3.given.1 c.before.before.put-text3.ensures
+returns-3 c = as_name _ _ c.before.before.before.before.before.enum-told3.given.1 c.before.before.put-text3.ensures
 
 same-length-4 : tie.Need-same-length-4
 same-length-4 c = search rules
 
 returns-4 : tie.Need-returns-4
-returns-4 c = as-name _ _ c.before.before.before.before.before.enum-told4.given.1 c.before.before.put-text4.ensures
+returns-4 c = as_name _ _ c.before.before.before.before.before.enum-told4.given.1 c.before.before.put-text4.ensures
 
-pub put-name-spec : {M : Type 1} → statement M
-put-name-spec =
+pub put_name_spec : {M : Type 1} → statement M
+put_name_spec =
     tie.close
     (tie.spec
     enum_told

@@ -1,7 +1,7 @@
 -- `differences::lines::put_place` meets its contract: no line where the readings are the same, else one with both. Assumes nothing.
-use Rattle.differences.proofs.Writing.{lists-none, lists-line, line-of, place-line}
-use Rattle.differences.specs.Work.{placeDiffers}
-use Rattle.listing.proofs.Appending.{appends-as}
+use Rattle.differences.proofs.Writing.{lists_none, lists_line, line_of_lem, place_line}
+use Rattle.differences.specs.Work.{place_differs}
+use Rattle.listing.proofs.Appending.{appends_as}
 use mathlib.Core.Path.{refl, sym, ◌∙◌}
 use native.Mathlib.Omega.{arith}
 use borrow.Author.Rules.{rules}
@@ -12,8 +12,8 @@ same-reading-requires : tie.Need-same-reading-requires
 same-reading-requires c κs = search rules
 
 returns : tie.Need-returns
-unfolding placeDiffers
-returns c = lists-none _ _ _ _ (sym c.before.same-reading.ensures ∙ c.if1.true)
+unfolding place_differs
+returns c = lists_none _ _ _ _ (sym c.before.same-reading.ensures ∙ c.if1.true)
 
 put-word-requires : tie.Need-put-word-requires
 put-word-requires c κs = search rules
@@ -43,11 +43,11 @@ same_length : tie.Need-same-length
 same_length c = search rules
 
 returns-2 : tie.Need-returns-2
-unfolding placeDiffers
-returns-2 c = lists-line _ _ _ _ _ _ (sym c.before.before.before.before.before.before.before.before.before.before.before.before.before.before.before.before.before.before.before.before.before.before.before.before.before.before.before.same-reading.ensures ∙ c.before.before.before.before.before.before.before.before.before.before.before.before.before.before.before.before.before.before.before.before.before.before.before.before.before.before.if1.false) (appends-as (line-of c.before.before.before.before.before.before.before.before.before.before.before.before.before.before.before.before.before.before.before.before.before.before.before.before.put_word.ensures c.before.before.before.before.before.before.before.before.before.before.before.before.before.before.before.before.before.before.before.before.put-plain.ensures c.before.before.before.before.before.before.before.before.before.before.before.before.before.before.before.before.put-reading.ensures c.before.before.before.before.before.before.before.before.before.before.before.put-text.ensures c.before.before.before.before.before.before.before.put-reading2.ensures c.before.before.before.put_byte.ensures) (place-line _ _ _ _)) refl
+unfolding place_differs
+returns-2 c = lists_line _ _ _ _ _ _ (sym c.before.before.before.before.before.before.before.before.before.before.before.before.before.before.before.before.before.before.before.before.before.before.before.before.before.before.before.same-reading.ensures ∙ c.before.before.before.before.before.before.before.before.before.before.before.before.before.before.before.before.before.before.before.before.before.before.before.before.before.before.if1.false) (appends_as (line_of_lem c.before.before.before.before.before.before.before.before.before.before.before.before.before.before.before.before.before.before.before.before.before.before.before.before.put_word.ensures c.before.before.before.before.before.before.before.before.before.before.before.before.before.before.before.before.before.before.before.before.put-plain.ensures c.before.before.before.before.before.before.before.before.before.before.before.before.before.before.before.before.put-reading.ensures c.before.before.before.before.before.before.before.before.before.before.before.put-text.ensures c.before.before.before.before.before.before.before.put-reading2.ensures c.before.before.before.put_byte.ensures) (place_line _ _ _ _)) refl
 
-pub put-place-spec : {M : Type 1} → statement M
-put-place-spec =
+pub put_place_spec : {M : Type 1} → statement M
+put_place_spec =
     tie.close
     (tie.spec
     same-reading-requires

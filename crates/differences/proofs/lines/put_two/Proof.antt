@@ -16,5 +16,5 @@ same_length c = search rules
 returns : tie.Need-returns
 returns c = two_fields _ _ c.before.before.before.before.before.before.put-plain.ensures c.before.before.put-plain2.ensures
 
-pub put-two-spec : {M : Type 1} → statement M
-put-two-spec = tie.close (tie.spec put-plain-requires put-plain-requires-2 same_length returns)
+pub put_two_spec : {M : Type 1} → statement M
+put_two_spec = tie.close (tie.spec put-plain-requires put-plain-requires-2 same_length returns)

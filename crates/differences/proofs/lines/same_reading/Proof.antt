@@ -1,5 +1,5 @@
 -- `differences::lines::same_reading` meets its contract: both rows are the same, or both are missing. Assumes nothing.
-use Rattle.differences.proofs.Writing.{both-rows}
+use Rattle.differences.proofs.Writing.{both_rows}
 use borrow.Author.Rules.{rules}
 use Rattle.differences.proofs.lines.same_reading.Statement.{statement}
 use Rattle.differences.proofs.lines.same_reading.Tie as tie
@@ -35,10 +35,10 @@ returns-3 : tie.Need-returns-3
 returns-3 c = search rules
 
 returns-4 : tie.Need-returns-4
-returns-4 c = both-rows _ _ _ _ _ _ _ _ _ _ c.before.before.before.before.before.r.given.1 c.before.before.s2.given.1 c.same_row.ensures
+returns-4 c = both_rows _ _ _ _ _ _ _ _ _ _ c.before.before.before.before.before.r.given.1 c.before.before.s2.given.1 c.same_row.ensures
 
-pub same-reading-spec : {M : Type 1} → statement M
-same-reading-spec =
+pub same_reading_spec : {M : Type 1} → statement M
+same_reading_spec =
     tie.close
     (tie.spec
     enum_told

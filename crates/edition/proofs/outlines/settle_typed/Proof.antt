@@ -4,8 +4,8 @@ use mathlib.Core.Path.{refl, ◌∙◌}
 use native.Mathlib.Omega.{arith}
 use Rattle.bits.specs.Bits.{bits_of}
 use Rattle.sheet.proofs.There.{limits}
-use Rattle.edition.proofs.Sides.{typed-sides}
-use Rattle.edition.proofs.Found.{start_first, reach-first, own-bound, found_first}
+use Rattle.edition.proofs.Sides.{typed_sides}
+use Rattle.edition.proofs.Found.{start_first, reach_first, own_bound, found_first}
 use Rattle.edition.proofs.outlines.settle_typed.Statement.{statement}
 use Rattle.edition.proofs.outlines.settle_typed.Tie as tie
 
@@ -35,7 +35,7 @@ read-sides-requires c κs =
     let a = c.before.before.before.before.before.before.before.before.before.before.before.args in
     let p = c.before.before.before.before.before.before.before.before.before.before.before.requires in
     let f = limits a.c p.typed.few in
-    let r = reach-first a.s.now a.c p.typed p.first in
+    let r = reach_first a.s.now a.c p.typed p.first in
     record { rows = record { room = omega arith; small = omega arith }; outline = omega (arith, p.places) }
 
 settle-requires : tie.Need-settle-requires
@@ -43,11 +43,11 @@ settle-requires c κs =
     let a = c.before.before.before.before.before.before.before.before.before.before.before.before.before.before.before.before.args in
     let p = c.before.before.before.before.before.before.before.before.before.before.before.before.before.before.before.before.requires in
     let f = limits a.c p.typed.few in
-    let b = own-bound a.s.now a.c p.typed in
+    let b = own_bound a.s.now a.c p.typed in
     let n = c.before.before.before.before.before.before.before.before.before.before.before.own-sides.ensures.count in
     let k = c.before.before.before.before.read-sides.auto.1.1.1.0 in
     let j = c.before.before.before.before.before.before.before.before.before.before.before.own-sides.auto.1.1.1.0 in
-    (record { first = omega (arith, p.places); second = omega (arith, p.own-places) }, omega (arith, p.places), omega arith)
+    (record { first = omega (arith, p.places); second = omega (arith, p.own_places) }, omega (arith, p.places), omega arith)
 
 same_length : tie.Need-same-length
 same_length c = c.before.before.before.before.before.before.before.before.before.before.before.before.before.before.own-sides.auto.1.1.1.0
@@ -59,14 +59,14 @@ returns : tie.Need-returns
 returns c =
     let a = c.before.before.before.before.before.before.before.before.before.before.before.before.before.before.before.before.before.before.before.args in
     let p = c.before.before.before.before.before.before.before.before.before.before.before.before.before.before.before.before.before.before.before.requires in
-    let b = own-bound a.s.now a.c p.typed in
+    let b = own_bound a.s.now a.c p.typed in
     let n = c.before.before.before.before.before.before.before.before.before.before.before.before.before.before.own-sides.ensures.count in
     let j = c.before.before.before.before.before.before.before.before.before.before.before.before.before.before.own-sides.auto.1.1.1.0 in
     found_first a.s.now a.c p.typed (46 + a.c.particles * 23 + a.c.triangles * 30 + a.c.edges * 21) _ _ _ c.before.before.settle.result p.first refl
-    (typed-sides a.c.boundary _ (bits_of a.s.now) (46 + a.c.particles * 23 + a.c.triangles * 30 + a.c.edges * 21) c.before.before.before.before.before.before.before.read-sides.ensures) (c.before.before.before.before.before.before.before.before.before.before.before.before.before.before.own-sides.ensures.sides (omega (arith, p.own-places))) c.before.before.settle.ensures
+    (typed_sides a.c.boundary _ (bits_of a.s.now) (46 + a.c.particles * 23 + a.c.triangles * 30 + a.c.edges * 21) c.before.before.before.before.before.before.before.read-sides.ensures) (c.before.before.before.before.before.before.before.before.before.before.before.before.before.before.own-sides.ensures.sides (omega (arith, p.own_places))) c.before.before.settle.ensures
 
-pub settle-typed-spec : {M : Type 1} → statement M
-settle-typed-spec =
+pub settle_typed_spec : {M : Type 1} → statement M
+settle_typed_spec =
     tie.close
     (tie.spec
     own-sides-requires

@@ -3,9 +3,9 @@ use mathlib.Core.Path.{refl, sym, ap}
 use native.Mathlib.Omega.{arith}
 use lib.Seq.{length-take-le}
 use Rattle.bits.specs.Bits.{bits_of}
-use Rattle.outline.specs.Outline.{outlineOfStraps}
-use Rattle.edition.proofs.Sides.{read-rows}
-use Rattle.edition.proofs.Found.{even-taken, listed_same}
+use Rattle.outline.specs.Outline.{outline_of_straps}
+use Rattle.edition.proofs.Sides.{read_rows_lem}
+use Rattle.edition.proofs.Found.{even_taken, listed_same}
 use Rattle.edition.proofs.outlines.strap_sides.Statement.{statement}
 use Rattle.edition.proofs.outlines.strap_sides.Tie as tie
 
@@ -45,7 +45,7 @@ slice-aggregate-outline-straps-3 c = sym (length-take-le _ _ (omega (arith, c.be
 outline-straps-requires : tie.Need-outline-straps-requires
 outline-straps-requires c κs =
     let p = c.before.before.before.before.before.before.before.before.before.before.before.before.before.before.before.before.before.before.before.before.before.requires in
-    even-taken c.before.before.before.before.before.before.before.before.before.before.before.before.before.before.before.before.before.before.before.before.before.args.n _ _ _ p.few (omega (arith, p.first, c.before.before.before.before.before.before.before.before.before.before.before.before.before.before.read-column.auto.1.1.1.1.1.0)) (omega (arith, p.second, c.before.before.before.before.before.before.before.before.before.before.read-column2.auto.1.1.1.1.1.0)) (omega (arith, p.third, c.before.before.before.before.before.before.read-column3.auto.1.1.1.1.1.0))
+    even_taken c.before.before.before.before.before.before.before.before.before.before.before.before.before.before.before.before.before.before.before.before.before.args.n _ _ _ p.few (omega (arith, p.first, c.before.before.before.before.before.before.before.before.before.before.before.before.before.before.read-column.auto.1.1.1.1.1.0)) (omega (arith, p.second, c.before.before.before.before.before.before.before.before.before.before.read-column2.auto.1.1.1.1.1.0)) (omega (arith, p.third, c.before.before.before.before.before.before.read-column3.auto.1.1.1.1.1.0))
 
 same_length : tie.Need-same-length
 same_length c = c.before.before.before.before.before.before.before.before.before.before.before.before.before.before.before.before.before.read-column.auto.1.1.1.1.1.0
@@ -62,10 +62,10 @@ same-length-4 c = c.before.before.outline-straps.auto.1.1.1.0
 returns : tie.Need-returns
 returns c =
     let a = c.before.before.before.before.before.before.before.before.before.before.before.before.before.before.before.before.before.before.before.before.before.before.before.before.args in
-    listed_same _ _ (ap outlineOfStraps (read-rows 1 (bits_of a.s.now) a.n a.at 21 _ _ _ _ _ _ refl c.before.before.before.before.before.before.before.before.before.before.before.before.before.before.before.before.before.read-column.ensures c.before.before.before.before.before.before.before.before.before.before.before.before.before.read-column2.ensures c.before.before.before.before.before.before.before.before.before.read-column3.ensures)) c.before.before.outline-straps.ensures
+    listed_same _ _ (ap outline_of_straps (read_rows_lem 1 (bits_of a.s.now) a.n a.at 21 _ _ _ _ _ _ refl c.before.before.before.before.before.before.before.before.before.before.before.before.before.before.before.before.before.read-column.ensures c.before.before.before.before.before.before.before.before.before.before.before.before.before.read-column2.ensures c.before.before.before.before.before.before.before.before.before.read-column3.ensures)) c.before.before.outline-straps.ensures
 
-pub strap-sides-spec : {M : Type 1} → statement M
-strap-sides-spec =
+pub strap_sides_spec : {M : Type 1} → statement M
+strap_sides_spec =
     tie.close
     (tie.spec
     read-column-requires

@@ -9,5 +9,5 @@ returns c = rw (lt-ltb _ _ c.if1.true)
 returns-2 : tie.Need-returns-2
 returns-2 c = rw (le-ltb _ _ c.before.if1.false)
 
-pub too-long-spec : {M : Type 1} → statement M
-too-long-spec = tie.close (tie.spec returns returns-2)
+pub too_long_spec : {M : Type 1} → statement M
+too_long_spec = tie.close (tie.spec returns returns-2)

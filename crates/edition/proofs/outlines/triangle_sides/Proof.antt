@@ -3,9 +3,9 @@ use mathlib.Core.Path.{refl, sym, ap}
 use native.Mathlib.Omega.{arith}
 use lib.Seq.{length-take-le}
 use Rattle.bits.specs.Bits.{bits_of}
-use Rattle.outline.specs.Outline.{outlineOfTriangles}
-use Rattle.edition.proofs.Sides.{read-rows}
-use Rattle.edition.proofs.Found.{even-taken, listed_same}
+use Rattle.outline.specs.Outline.{outline_of_triangles}
+use Rattle.edition.proofs.Sides.{read_rows_lem}
+use Rattle.edition.proofs.Found.{even_taken, listed_same}
 use Rattle.edition.proofs.outlines.triangle_sides.Statement.{statement}
 use Rattle.edition.proofs.outlines.triangle_sides.Tie as tie
 
@@ -45,7 +45,7 @@ slice-aggregate-outline-triangles-3 c = sym (length-take-le _ _ (omega (arith, c
 outline-triangles-requires : tie.Need-outline-triangles-requires
 outline-triangles-requires c κs =
     let p = c.before.before.before.before.before.before.before.before.before.before.before.before.before.before.before.before.before.before.before.before.before.requires in
-    even-taken c.before.before.before.before.before.before.before.before.before.before.before.before.before.before.before.before.before.before.before.before.before.args.n _ _ _ p.few (omega (arith, p.first, c.before.before.before.before.before.before.before.before.before.before.before.before.before.before.read-column.auto.1.1.1.1.1.0)) (omega (arith, p.second, c.before.before.before.before.before.before.before.before.before.before.read-column2.auto.1.1.1.1.1.0)) (omega (arith, p.third, c.before.before.before.before.before.before.read-column3.auto.1.1.1.1.1.0))
+    even_taken c.before.before.before.before.before.before.before.before.before.before.before.before.before.before.before.before.before.before.before.before.before.args.n _ _ _ p.few (omega (arith, p.first, c.before.before.before.before.before.before.before.before.before.before.before.before.before.before.read-column.auto.1.1.1.1.1.0)) (omega (arith, p.second, c.before.before.before.before.before.before.before.before.before.before.read-column2.auto.1.1.1.1.1.0)) (omega (arith, p.third, c.before.before.before.before.before.before.read-column3.auto.1.1.1.1.1.0))
 
 same_length : tie.Need-same-length
 same_length c = c.before.before.before.before.before.before.before.before.before.before.before.before.before.before.before.before.before.read-column.auto.1.1.1.1.1.0
@@ -62,10 +62,10 @@ same-length-4 c = c.before.before.outline-triangles.auto.1.1.1.0
 returns : tie.Need-returns
 returns c =
     let a = c.before.before.before.before.before.before.before.before.before.before.before.before.before.before.before.before.before.before.before.before.before.before.before.before.args in
-    listed_same _ _ (ap outlineOfTriangles (read-rows 10 (bits_of a.s.now) a.n a.at 30 _ _ _ _ _ _ refl c.before.before.before.before.before.before.before.before.before.before.before.before.before.before.before.before.before.read-column.ensures c.before.before.before.before.before.before.before.before.before.before.before.before.before.read-column2.ensures c.before.before.before.before.before.before.before.before.before.read-column3.ensures)) c.before.before.outline-triangles.ensures
+    listed_same _ _ (ap outline_of_triangles (read_rows_lem 10 (bits_of a.s.now) a.n a.at 30 _ _ _ _ _ _ refl c.before.before.before.before.before.before.before.before.before.before.before.before.before.before.before.before.before.read-column.ensures c.before.before.before.before.before.before.before.before.before.before.before.before.before.read-column2.ensures c.before.before.before.before.before.before.before.before.before.read-column3.ensures)) c.before.before.outline-triangles.ensures
 
-pub triangle-sides-spec : {M : Type 1} → statement M
-triangle-sides-spec =
+pub triangle_sides_spec : {M : Type 1} → statement M
+triangle_sides_spec =
     tie.close
     (tie.spec
     read-column-requires

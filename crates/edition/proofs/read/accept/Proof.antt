@@ -2,8 +2,8 @@
 use native.Mathlib.Omega.{arith}
 use mathlib.Core.Path.{refl, ◌∙◌}
 use lib.ListN.{length}
-use Rattle.sheet_rows.proofs.MeshReads.{filled-same, world_same}
-use Rattle.edition.proofs.Meshes.{blade-here, blade-in}
+use Rattle.sheet_rows.proofs.MeshReads.{filled_same, world_same}
+use Rattle.edition.proofs.Meshes.{blade_here, blade_in}
 use Rattle.edition.proofs.read.accept.Statement.{statement}
 use Rattle.edition.proofs.read.accept.Tie as tie
 
@@ -11,7 +11,7 @@ blade-bit-requires : tie.Need-blade-bit-requires
 blade-bit-requires c κs = c.before.before.before.before.before.before.before.before.before.before.before.requires.mesh.typed.six
 
 read-blade-requires : tie.Need-read-blade-requires
-read-blade-requires c κs = record { rows = blade-in c.before.before.before.before.before.before.before.before.before.before.before.before.before.args.s.now c.before.blade-bit.result c.before.before.before.before.before.before.before.before.before.before.before.before.before.requires.mesh.typed c.before.blade-bit.ensures; room = c.before.before.before.before.before.before.before.before.before.before.before.before.before.requires.blade }
+read-blade-requires c κs = record { rows = blade_in c.before.before.before.before.before.before.before.before.before.before.before.before.before.args.s.now c.before.blade-bit.result c.before.before.before.before.before.before.before.before.before.before.before.before.before.requires.mesh.typed c.before.blade-bit.ensures; room = c.before.before.before.before.before.before.before.before.before.before.before.before.before.requires.blade }
 
 read-mesh-requires : tie.Need-read-mesh-requires
 read-mesh-requires c κs = c.before.before.before.before.before.before.before.before.before.before.before.before.before.before.before.before.before.before.before.before.before.before.before.requires.mesh
@@ -52,12 +52,12 @@ same-length-9 c = c.before.before.before.before.before.before.before.before.befo
 returns : tie.Need-returns
 returns c =
     let m = c.before.before.before.before.before.before.before.before.before.before.before.before.before.before.before.before.before.before.before.before.before.before.before.before.before.before.before.before.before.before.before.before.before.before.before.before.before.before.before.read-mesh in (
-      filled-same _ _ _ _ _ _ _ _ (world_same _ _ _ _ _ _ _ _ _ _ refl m.ensures) (λ i. record { points = m.auto.1.1.1.0 i; roots = m.auto.1.1.1.1.0 i; corners = m.auto.1.1.1.1.1.0 i; volumes = m.auto.1.1.1.1.1.1.0 i; ends = m.auto.1.1.1.1.1.1.1.0 i; lengths = m.auto.1.1.1.1.1.1.1.1.0 i; outline = m.auto.1.1.1.1.1.1.1.1.1.0 i; log = length c.before.before.before.before.before.before.before.before.before.before.before.before.before.before.before.before.before.before.before.before.before.before.before.before.before.before.before.before.before.before.before.before.before.before.before.before.before.before.before.before.before.before.before.before.before.before.before.before.before.before.before.before.before.before.before.before.before.before.before.before.before.before.before.args.log.now }) c.before.before.before.before.before.before.before.before.before.before.before.before.before.before.before.before.finish-all.ensures,
-      blade-here c.before.before.before.before.before.before.before.before.before.before.before.before.before.before.before.before.before.before.before.before.before.before.before.before.before.before.before.before.before.before.before.before.before.before.before.before.before.before.before.before.before.before.before.before.before.before.before.before.before.before.before.before.before.before.before.before.before.before.before.before.before.before.before.args.s.now c.before.before.before.before.before.before.before.before.before.before.before.before.before.before.before.before.before.before.before.before.before.before.before.before.before.before.before.before.before.before.before.before.before.before.before.before.before.before.before.before.before.before.before.before.before.before.before.before.before.before.before.before.before.before.before.before.before.before.before.before.before.before.before.requires.mesh.typed _ _ _ c.before.before.before.before.before.before.before.before.before.before.before.before.before.before.before.before.before.before.before.before.before.before.before.before.before.before.before.before.before.before.before.before.before.before.before.before.before.before.before.before.before.before.before.before.before.before.before.before.before.before.before.blade-bit.ensures.is c.before.before.before.before.before.before.before.before.before.before.before.before.before.before.before.before.before.before.before.before.before.before.before.before.before.before.before.before.before.before.before.before.before.before.before.before.before.before.before.before.before.before.before.before.before.before.before.before.before.read-blade.ensures,
+      filled_same _ _ _ _ _ _ _ _ (world_same _ _ _ _ _ _ _ _ _ _ refl m.ensures) (λ i. record { points = m.auto.1.1.1.0 i; roots = m.auto.1.1.1.1.0 i; corners = m.auto.1.1.1.1.1.0 i; volumes = m.auto.1.1.1.1.1.1.0 i; ends = m.auto.1.1.1.1.1.1.1.0 i; lengths = m.auto.1.1.1.1.1.1.1.1.0 i; outline = m.auto.1.1.1.1.1.1.1.1.1.0 i; log = length c.before.before.before.before.before.before.before.before.before.before.before.before.before.before.before.before.before.before.before.before.before.before.before.before.before.before.before.before.before.before.before.before.before.before.before.before.before.before.before.before.before.before.before.before.before.before.before.before.before.before.before.before.before.before.before.before.before.before.before.before.before.before.before.args.log.now }) c.before.before.before.before.before.before.before.before.before.before.before.before.before.before.before.before.finish-all.ensures,
+      blade_here c.before.before.before.before.before.before.before.before.before.before.before.before.before.before.before.before.before.before.before.before.before.before.before.before.before.before.before.before.before.before.before.before.before.before.before.before.before.before.before.before.before.before.before.before.before.before.before.before.before.before.before.before.before.before.before.before.before.before.before.before.before.before.before.args.s.now c.before.before.before.before.before.before.before.before.before.before.before.before.before.before.before.before.before.before.before.before.before.before.before.before.before.before.before.before.before.before.before.before.before.before.before.before.before.before.before.before.before.before.before.before.before.before.before.before.before.before.before.before.before.before.before.before.before.before.before.before.before.before.before.requires.mesh.typed _ _ _ c.before.before.before.before.before.before.before.before.before.before.before.before.before.before.before.before.before.before.before.before.before.before.before.before.before.before.before.before.before.before.before.before.before.before.before.before.before.before.before.before.before.before.before.before.before.before.before.before.before.before.before.blade-bit.ensures.is c.before.before.before.before.before.before.before.before.before.before.before.before.before.before.before.before.before.before.before.before.before.before.before.before.before.before.before.before.before.before.before.before.before.before.before.before.before.before.before.before.before.before.before.before.before.before.before.before.before.read-blade.ensures,
     )
 
-pub accept-spec : {M : Type 1} → statement M
-accept-spec =
+pub accept_spec : {M : Type 1} → statement M
+accept_spec =
     tie.close
     (tie.spec
     blade-bit-requires

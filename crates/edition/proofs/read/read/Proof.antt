@@ -5,8 +5,8 @@ use mathlib.Core.Path.{sym, ◌∙◌}
 use mathlib.Core.List.{[]}
 use lib.ListN.{length}
 use Rattle.mesh.specs.Filled.{lent}
-use Rattle.edition.specs.Reading.{worldOf, bladeLeft}
-use Rattle.edition.proofs.Entering.{held, lent-log}
+use Rattle.edition.specs.Reading.{world_of, blade_left}
+use Rattle.edition.proofs.Entering.{held, lent_log}
 use borrow.Author.Rules.{rules}
 use Rattle.edition.proofs.read.read.Statement.{statement}
 use Rattle.edition.proofs.read.read.Tie as tie
@@ -66,11 +66,11 @@ same-length-9 : tie.Need-same-length-9
 same-length-9 c = c.before.before.before.before.before.before.before.before.before.before.before.before.before.before.before.before.before.before.accept.auto.1.1.1.1.1.1.1.1.1.1.1.0
 
 returns : tie.Need-returns
-unfolding worldOf bladeLeft
+unfolding world_of blade_left
 returns c =
     let a = c.before.before.before.before.before.before.before.before.before.before.before.before.before.before.before.before.before.before.before.before.before.before.before.before.before.before.before.before.before.before.before.before.before.before.before.before.before.before.before.before.before.before.before.before.before.before.args in
     record {
-      answer = sym c.before.before.before.before.before.before.before.before.before.before.before.before.before.before.before.before.before.before.before.before.before.before.before.before.before.before.before.before.before.before.seen.given.1 ∙ c.before.before.before.before.before.before.before.before.before.before.before.before.before.before.before.before.before.before.before.before.before.before.before.before.before.before.before.before.before.before.before.before.lent.ensures ∙ lent-log a.limits a.s.now _ (lent a.points.now a.roots.now a.corners.now a.volumes.now a.ends.now a.lengths.now a.outline.now a.log.now) (length a.blade.now) c.before.before.before.before.before.before.before.before.before.before.before.before.before.before.before.before.before.before.before.before.before.before.before.before.before.before.before.before.before.before.before.before.before.before.look-into.ensures.answer;
+      answer = sym c.before.before.before.before.before.before.before.before.before.before.before.before.before.before.before.before.before.before.before.before.before.before.before.before.before.before.before.before.before.before.seen.given.1 ∙ c.before.before.before.before.before.before.before.before.before.before.before.before.before.before.before.before.before.before.before.before.before.before.before.before.before.before.before.before.before.before.before.before.lent.ensures ∙ lent_log a.limits a.s.now _ (lent a.points.now a.roots.now a.corners.now a.volumes.now a.ends.now a.lengths.now a.outline.now a.log.now) (length a.blade.now) c.before.before.before.before.before.before.before.before.before.before.before.before.before.before.before.before.before.before.before.before.before.before.before.before.before.before.before.before.before.before.before.before.before.before.look-into.ensures.answer;
       blocks = c.before.before.before.before.before.before.before.before.before.before.before.before.before.before.before.before.before.before.accept.ensures.0;
       blade = c.before.before.before.before.before.before.before.before.before.before.before.before.before.before.before.before.before.before.accept.ensures.1;
     }
@@ -103,12 +103,12 @@ same-length-18 : tie.Need-same-length-18
 same-length-18 c = c.before.before.before.before.before.before.before.before.before.before.before.before.before.before.before.before.before.before.refuse.auto.1.1.1.1.1.1.1.1.0
 
 returns-2 : tie.Need-returns-2
-unfolding worldOf bladeLeft
+unfolding world_of blade_left
 returns-2 c =
     let a = c.before.before.before.before.before.before.before.before.before.before.before.before.before.before.before.before.before.before.before.before.before.before.before.before.before.before.before.before.before.before.before.before.before.before.before.before.before.before.before.before.before.before.before.before.args in
     rw c.before.before.before.before.before.before.before.before.before.before.before.before.before.before.before.before.before.before.before.before.before.before.before.before.before.before.before.before.enum_told.given.1
     (record {
-      answer = sym c.before.before.before.before.before.before.before.before.before.before.before.before.before.before.before.before.before.before.before.before.before.before.before.before.before.before.before.before.enum_told.given.1 ∙ c.before.before.before.before.before.before.before.before.before.before.before.before.before.before.before.before.before.before.before.before.before.before.before.before.before.before.before.before.before.before.lent.ensures ∙ lent-log a.limits a.s.now _ (lent a.points.now a.roots.now a.corners.now a.volumes.now a.ends.now a.lengths.now a.outline.now a.log.now) (length a.blade.now) c.before.before.before.before.before.before.before.before.before.before.before.before.before.before.before.before.before.before.before.before.before.before.before.before.before.before.before.before.before.before.before.before.look-into.ensures.answer;
+      answer = sym c.before.before.before.before.before.before.before.before.before.before.before.before.before.before.before.before.before.before.before.before.before.before.before.before.before.before.before.before.enum_told.given.1 ∙ c.before.before.before.before.before.before.before.before.before.before.before.before.before.before.before.before.before.before.before.before.before.before.before.before.before.before.before.before.before.before.lent.ensures ∙ lent_log a.limits a.s.now _ (lent a.points.now a.roots.now a.corners.now a.volumes.now a.ends.now a.lengths.now a.outline.now a.log.now) (length a.blade.now) c.before.before.before.before.before.before.before.before.before.before.before.before.before.before.before.before.before.before.before.before.before.before.before.before.before.before.before.before.before.before.before.before.look-into.ensures.answer;
       blocks = c.before.before.before.before.before.before.before.before.before.before.before.before.before.before.before.before.before.before.refuse.ensures.0;
       blade = c.before.before.before.before.before.before.before.before.before.before.before.before.before.before.before.before.before.before.refuse.ensures.1;
     })

@@ -39,8 +39,8 @@ returns-6 : tie.Need-returns-6
 unfolding room_for
 returns-6 c = let h1 = sym c.before.two-fit.ensures ∙ c.if1.false in sym (rw h1)
 
-pub room-spec : {M : Type 1} → statement M
-room-spec =
+pub room_spec : {M : Type 1} → statement M
+room_spec =
     tie.close
     (tie.spec
     two-fit-requires

@@ -9,5 +9,5 @@ field-requires c κs = search rules
 returns : tie.Need-returns
 returns c = rw c.field.ensures.0
 
-pub is-second-spec : {M : Type 1} → statement M
-is-second-spec = tie.close (tie.spec field-requires returns)
+pub is_second_spec : {M : Type 1} → statement M
+is_second_spec = tie.close (tie.spec field-requires returns)

@@ -1,7 +1,7 @@
 -- `edition::typed::look_typed` meets its contract. Assumes nothing.
-use Rattle.edition.specs.Edition.{typedSeen}
+use Rattle.edition.specs.Edition.{typed_seen}
 use borrow.Author.Tests.{lt-ltb}
-use Rattle.edition.proofs.Editions.{first-seen}
+use Rattle.edition.proofs.Editions.{first_seen}
 use native.Mathlib.Omega.{arith}
 use mathlib.Core.Path.{sym, ◌∙◌}
 use borrow.Author.Rules.{rules}
@@ -9,7 +9,7 @@ use Rattle.edition.proofs.typed.look_typed.Statement.{statement}
 use Rattle.edition.proofs.typed.look_typed.Tie as tie
 
 returns : tie.Need-returns
-unfolding typedSeen
+unfolding typed_seen
 returns c = rw (lt-ltb _ _ c.if1.true)
 
 is-second-requires : tie.Need-is-second-requires
@@ -25,9 +25,9 @@ look-requires : tie.Need-look-requires
 look-requires c κs = search rules
 
 returns-3 : tie.Need-returns-3
-returns-3 c = c.look.ensures ∙ sym (first-seen c.before.before.before.before.before.args.limits c.before.before.before.before.before.args.s.now (sym c.before.before.is-second.ensures ∙ c.before.if2.false))
+returns-3 c = c.look.ensures ∙ sym (first_seen c.before.before.before.before.before.args.limits c.before.before.before.before.before.args.s.now (sym c.before.before.is-second.ensures ∙ c.before.if2.false))
 
-pub look-typed-spec : {M : Type 1} → statement M
-look-typed-spec =
+pub look_typed_spec : {M : Type 1} → statement M
+look_typed_spec =
     tie.close
     (tie.spec returns is-second-requires look-second-requires returns-2 look-requires returns-3)

@@ -1,6 +1,6 @@
 -- `edition::typed::names_second` meets its contract. Assumes nothing.
-use Rattle.edition.proofs.Editions.{names-second}
-use Rattle.bits.proofs.Laws.{length-bitsOf}
+use Rattle.edition.proofs.Editions.{names_second}
+use Rattle.bits.proofs.Laws.{length_bits_of}
 use Rattle.bits.specs.Bits.{bits_of}
 use native.Mathlib.Omega.{arith}
 use mathlib.Core.Path.{sym, ◌∙◌}
@@ -30,16 +30,16 @@ returns : tie.Need-returns
 returns c = let a = c.before.before.before.before.before.args in
     let p = c.before.before.before.before.before.requires in
     let e = sym c.before.before.rows_ok.ensures ∙ c.before.if1.true in
-    c.rows-ok2.ensures ∙ sym (names-second (bits_of a.s.now) (omega (arith, p.room, length-bitsOf a.s.now)) a.c p.none ∙ rw e)
+    c.rows-ok2.ensures ∙ sym (names_second (bits_of a.s.now) (omega (arith, p.room, length_bits_of a.s.now)) a.c p.none ∙ rw e)
 
 returns-2 : tie.Need-returns-2
 returns-2 c = let a = c.before.before.before.before.args in
     let p = c.before.before.before.before.requires in
     let e = sym c.before.rows_ok.ensures ∙ c.if1.false in
-    sym (names-second (bits_of a.s.now) (omega (arith, p.room, length-bitsOf a.s.now)) a.c p.none ∙ rw e)
+    sym (names_second (bits_of a.s.now) (omega (arith, p.room, length_bits_of a.s.now)) a.c p.none ∙ rw e)
 
-pub names-second-spec : {M : Type 1} → statement M
-names-second-spec =
+pub names_second_spec : {M : Type 1} → statement M
+names_second_spec =
     tie.close
     (tie.spec
     mul-at-t

@@ -13,5 +13,5 @@ returns c = let e = sym c.before.is-second.ensures ∙ c.if1.true in rw e
 returns-2 : tie.Need-returns-2
 returns-2 c = let e = sym c.before.is-second.ensures ∙ c.if1.false in rw e
 
-pub start-bit-spec : {M : Type 1} → statement M
-start-bit-spec = tie.close (tie.spec is-second-requires returns returns-2)
+pub start_bit_spec : {M : Type 1} → statement M
+start_bit_spec = tie.close (tie.spec is-second-requires returns returns-2)

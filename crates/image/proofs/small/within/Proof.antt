@@ -1,5 +1,5 @@
 -- `image::small::within` meets its contract: the four counts. Assumes nothing.
-use Rattle.image.specs.Small.{countsIn}
+use Rattle.image.specs.Small.{counts_in}
 use borrow.Author.Rules.{rules}
 use Rattle.image.proofs.small.within.Statement.{statement}
 use Rattle.image.proofs.small.within.Tie as tie
@@ -26,11 +26,11 @@ both-requires-3 : tie.Need-both-requires-3
 both-requires-3 c κs = search rules
 
 returns : tie.Need-returns
-unfolding countsIn
+unfolding counts_in
 returns c = cc
 
-pub within-spec : {M : Type 1} → statement M
-within-spec =
+pub within_spec : {M : Type 1} → statement M
+within_spec =
     tie.close
     (tie.spec
     word-at-requires

@@ -1,5 +1,5 @@
 -- `image_checks::places::two` meets its contract: an index, and another one. Assumes nothing.
-use Rattle.judge.proofs.Fine.{two-fine}
+use Rattle.judge.proofs.Fine.{two_fine}
 use borrow.Author.Rules.{rules}
 use Rattle.image_checks.proofs.places.two.Statement.{statement}
 use Rattle.image_checks.proofs.places.two.Tie as tie
@@ -11,7 +11,7 @@ other-requires : tie.Need-other-requires
 other-requires c κs = search rules
 
 returns : tie.Need-returns
-returns c = two-fine _ _ _ _ _ c.before.one.ensures c.other.ensures
+returns c = two_fine _ _ _ _ _ c.before.one.ensures c.other.ensures
 
-pub two-spec : {M : Type 1} → statement M
-two-spec = tie.close (tie.spec one-requires other-requires returns)
+pub two_spec : {M : Type 1} → statement M
+two_spec = tie.close (tie.spec one-requires other-requires returns)

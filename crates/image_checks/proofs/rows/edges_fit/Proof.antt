@@ -1,7 +1,7 @@
 -- `image_checks::rows::edges_fit` meets its contract: it asks the edges run by run. Assumes nothing.
 use mathlib.Core.Path.{◌∙◌}
-use Rattle.judge.proofs.Joined.{and-next}
-use Rattle.image_checks.proofs.Lists.{edges-told}
+use Rattle.judge.proofs.Joined.{and_next}
+use Rattle.image_checks.proofs.Lists.{edges_told}
 use borrow.Author.Rules.{rules}
 use Rattle.image_checks.proofs.rows.edges_fit.Statement.{statement}
 use Rattle.image_checks.proofs.rows.edges_fit.Tie as tie
@@ -49,10 +49,10 @@ both-requires-2 : tie.Need-both-requires-2
 both-requires-2 c κs = search rules
 
 returns : tie.Need-returns
-returns c = and-next _ _ _ _ _ c.both2.ensures (and-next _ _ _ _ _ c.before.before.both.ensures c.before.before.before.before.flags.ensures c.before.before.before.lengths.ensures) c.before.in-range.ensures ∙ edges-told c.before.before.before.before.before.before.args.bytes.now c.before.before.before.before.before.before.args.at c.before.before.before.before.before.before.args.n
+returns c = and_next _ _ _ _ _ c.both2.ensures (and_next _ _ _ _ _ c.before.before.both.ensures c.before.before.before.before.flags.ensures c.before.before.before.lengths.ensures) c.before.in-range.ensures ∙ edges_told c.before.before.before.before.before.before.args.bytes.now c.before.before.before.before.before.before.args.at c.before.before.before.before.before.before.args.n
 
-pub edges-fit-spec : {M : Type 1} → statement M
-edges-fit-spec =
+pub edges_fit_spec : {M : Type 1} → statement M
+edges_fit_spec =
     tie.close
     (tie.spec
     mul-flags

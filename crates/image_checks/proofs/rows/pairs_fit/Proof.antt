@@ -6,15 +6,15 @@ use mathlib.Core.List.{[], ◌∷◌}
 use Rattle.lists.specs.Lists.{all, up_to}
 use Rattle.model.specs.Valid.{named}
 use Rattle.judge.specs.Told.{fine}
-use Rattle.judge.proofs.Wide.{none_told, more-told, end-told}
-use Rattle.judge.proofs.Fine.{or-fine}
-use Rattle.image.specs.Words.{wordAt}
-use Rattle.image_checks.proofs.Lists.{two-path}
+use Rattle.judge.proofs.Wide.{none_told, more_told, end_told}
+use Rattle.judge.proofs.Fine.{or_fine}
+use Rattle.image.specs.Words.{word_at_of}
+use Rattle.image_checks.proofs.Lists.{two_path}
 use Rattle.image_checks.proofs.rows.pairs_fit.Statement.{statement}
 use Rattle.image_checks.proofs.rows.pairs_fit.Tie as tie
 
 abbrev invariant-loop : tie.invariant-loop
-invariant-loop bytes at n t second room fault₀ i₀ fault i = (fine fault ≡ all (λ (k : ℕ). named n (wordAt bytes (at + k) ∷ wordAt bytes (at + t + k) ∷ [])) (up_to i)) × (i ≤ t)
+invariant-loop bytes at n t second room fault₀ i₀ fault i = (fine fault ≡ all (λ (k : ℕ). named n (word_at_of bytes (at + k) ∷ word_at_of bytes (at + t + k) ∷ [])) (up_to i)) × (i ≤ t)
 
 abbrev decreases-loop : tie.decreases-loop
 decreases-loop bytes at n t second room fault₀ i₀ fault i = t - i
@@ -51,14 +51,14 @@ loop-less : tie.Need-loop-smaller invariant-loop decreases-loop
 loop-less c = omega arith
 
 loop-again : tie.Need-loop-preserved invariant-loop decreases-loop
-loop-again c = (more-told _ _ _ _ _ (or-fine _ _) c.before.before.before.before.loop.invariant.0 (c.two.ensures ∙ ap (named _) (two-path c.before.before.word_at.ensures.0 c.before.word-at2.ensures.0)), omega arith)
+loop-again c = (more_told _ _ _ _ _ (or_fine _ _) c.before.before.before.before.loop.invariant.0 (c.two.ensures ∙ ap (named _) (two_path c.before.before.word_at.ensures.0 c.before.word-at2.ensures.0)), omega arith)
 
 returns : tie.Need-returns invariant-loop decreases-loop
 unfolding fine
-returns c = end-told _ _ _ _ c.before.loop.invariant.0 c.before.loop.invariant.1 c.loop-test.false
+returns c = end_told _ _ _ _ c.before.loop.invariant.0 c.before.loop.invariant.1 c.loop-test.false
 
-pub pairs-fit-spec : {M : Type 1} → statement M
-pairs-fit-spec =
+pub pairs_fit_spec : {M : Type 1} → statement M
+pairs_fit_spec =
     tie.close
     (tie.spec
     invariant-loop

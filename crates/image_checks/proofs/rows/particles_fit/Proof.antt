@@ -1,7 +1,7 @@
 -- `image_checks::rows::particles_fit` meets its contract: it asks the particles run by run. Assumes nothing.
 use mathlib.Core.Path.{◌∙◌}
-use Rattle.judge.proofs.Joined.{and-next}
-use Rattle.image_checks.proofs.Lists.{particles-told}
+use Rattle.judge.proofs.Joined.{and_next}
+use Rattle.image_checks.proofs.Lists.{particles_told}
 use borrow.Author.Rules.{rules}
 use Rattle.image_checks.proofs.rows.particles_fit.Statement.{statement}
 use Rattle.image_checks.proofs.rows.particles_fit.Tie as tie
@@ -52,10 +52,10 @@ both-requires-3 : tie.Need-both-requires-3
 both-requires-3 c κs = search rules
 
 returns : tie.Need-returns
-returns c = and-next _ _ _ _ _ c.both3.ensures (and-next _ _ _ _ _ c.before.before.both2.ensures (and-next _ _ _ _ _ c.before.before.before.before.both.ensures c.before.before.before.before.before.before.in-range.ensures c.before.before.before.before.before.finite.ensures) c.before.before.before.in-range2.ensures) c.before.flags.ensures ∙ particles-told c.before.before.before.before.before.before.before.before.args.bytes.now c.before.before.before.before.before.before.before.before.args.n
+returns c = and_next _ _ _ _ _ c.both3.ensures (and_next _ _ _ _ _ c.before.before.both2.ensures (and_next _ _ _ _ _ c.before.before.before.before.both.ensures c.before.before.before.before.before.before.in-range.ensures c.before.before.before.before.before.finite.ensures) c.before.before.before.in-range2.ensures) c.before.flags.ensures ∙ particles_told c.before.before.before.before.before.before.before.before.args.bytes.now c.before.before.before.before.before.before.before.before.args.n
 
-pub particles-fit-spec : {M : Type 1} → statement M
-particles-fit-spec =
+pub particles_fit_spec : {M : Type 1} → statement M
+particles_fit_spec =
     tie.close
     (tie.spec
     mul-in-range

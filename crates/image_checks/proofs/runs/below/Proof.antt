@@ -4,14 +4,14 @@ use Prim.Native.Nat.{ℕ, ◌≤◌, ◌-◌}
 use mathlib.Core.Path.{◌≡◌, ap, ◌∙◌}
 use lib.Dec.{ltb}
 use Rattle.judge.specs.Told.{fine}
-use Rattle.judge.proofs.Wide.{none_told, more-told, end-told}
-use Rattle.judge.proofs.Fine.{or-fine}
-use Rattle.image_checks.specs.Runs.{wordsOk}
+use Rattle.judge.proofs.Wide.{none_told, more_told, end_told}
+use Rattle.judge.proofs.Fine.{or_fine}
+use Rattle.image_checks.specs.Runs.{words_ok}
 use Rattle.image_checks.proofs.runs.below.Statement.{statement}
 use Rattle.image_checks.proofs.runs.below.Tie as tie
 
 abbrev invariant-loop : tie.invariant-loop
-invariant-loop bytes at bound n room fault₀ i₀ fault i = (fine fault ≡ wordsOk (λ (w : ℕ). ltb w bound) bytes at i) × (i ≤ n)
+invariant-loop bytes at bound n room fault₀ i₀ fault i = (fine fault ≡ words_ok (λ (w : ℕ). ltb w bound) bytes at i) × (i ≤ n)
 
 abbrev decreases-loop : tie.decreases-loop
 decreases-loop bytes at bound n room fault₀ i₀ fault i = n - i
@@ -39,14 +39,14 @@ loop-less : tie.Need-loop-smaller invariant-loop decreases-loop
 loop-less c = omega arith
 
 loop-again : tie.Need-loop-preserved invariant-loop decreases-loop
-loop-again c = (more-told _ _ _ _ _ (or-fine _ _) c.before.before.before.loop.invariant.0 (c.one.ensures ∙ ap (λ (w : ℕ). ltb w c.before.before.before.before.before.args.bound) c.before.word_at.ensures.0), omega arith)
+loop-again c = (more_told _ _ _ _ _ (or_fine _ _) c.before.before.before.loop.invariant.0 (c.one.ensures ∙ ap (λ (w : ℕ). ltb w c.before.before.before.before.before.args.bound) c.before.word_at.ensures.0), omega arith)
 
 returns : tie.Need-returns invariant-loop decreases-loop
 unfolding fine
-returns c = end-told _ _ _ _ c.before.loop.invariant.0 c.before.loop.invariant.1 c.loop-test.false
+returns c = end_told _ _ _ _ c.before.loop.invariant.0 c.before.loop.invariant.1 c.loop-test.false
 
-pub below-spec : {M : Type 1} → statement M
-below-spec =
+pub below_spec : {M : Type 1} → statement M
+below_spec =
     tie.close
     (tie.spec
     invariant-loop

@@ -2,16 +2,16 @@
 use native.Mathlib.Omega.{arith}
 use Prim.Native.Nat.{◌≤◌, ◌-◌}
 use mathlib.Core.Path.{◌≡◌, ap, ◌∙◌}
-use Rattle.judge.proofs.Wide.{none_told, more-told, end-told}
+use Rattle.judge.proofs.Wide.{none_told, more_told, end_told}
 use Rattle.float.specs.Ranges.{number?}
 use Rattle.image.specs.Words.{number_of}
-use Rattle.image_checks.specs.Runs.{numbersOk}
+use Rattle.image_checks.specs.Runs.{numbers_ok}
 use borrow.Author.Rules.{rules}
 use Rattle.image_checks.proofs.runs.in_range.Statement.{statement}
 use Rattle.image_checks.proofs.runs.in_range.Tie as tie
 
 abbrev invariant-loop : tie.invariant-loop
-invariant-loop bytes at n ok₀ i₀ ok i = (ok ≡ numbersOk number? bytes at i) × (i ≤ n)
+invariant-loop bytes at n ok₀ i₀ ok i = (ok ≡ numbers_ok number? bytes at i) × (i ≤ n)
 
 abbrev decreases-loop : tie.decreases-loop
 decreases-loop bytes at n ok₀ i₀ ok i = n - i
@@ -41,13 +41,13 @@ loop-less : tie.Need-loop-smaller invariant-loop decreases-loop
 loop-less c = omega arith
 
 loop-again : tie.Need-loop-preserved invariant-loop decreases-loop
-loop-again c = (more-told _ _ _ _ _ c.both.ensures c.before.before.before.before.before.loop.invariant.0 (c.before.in-range.ensures ∙ ap number? (c.before.before.number_of_lem.ensures ∙ ap number_of c.before.before.before.word_at.ensures.0)), omega arith)
+loop-again c = (more_told _ _ _ _ _ c.both.ensures c.before.before.before.before.before.loop.invariant.0 (c.before.in-range.ensures ∙ ap number? (c.before.before.number_of_lem.ensures ∙ ap number_of c.before.before.before.word_at.ensures.0)), omega arith)
 
 returns : tie.Need-returns invariant-loop decreases-loop
-returns c = end-told _ _ _ _ c.before.loop.invariant.0 c.before.loop.invariant.1 c.loop-test.false
+returns c = end_told _ _ _ _ c.before.loop.invariant.0 c.before.loop.invariant.1 c.loop-test.false
 
-pub in-range-spec : {M : Type 1} → statement M
-in-range-spec =
+pub in_range_spec : {M : Type 1} → statement M
+in_range_spec =
     tie.close
     (tie.spec
     invariant-loop

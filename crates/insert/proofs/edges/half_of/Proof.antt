@@ -11,5 +11,5 @@ returns : tie.Need-returns
 unfolding of_bits half_of
 returns c = refl
 
-pub half-of-spec : {M : Type 1} → statement M
-half-of-spec = tie.close (tie.spec returns)
+pub half_of_spec : {M : Type 1} → statement M
+half_of_spec = tie.close (tie.spec returns)

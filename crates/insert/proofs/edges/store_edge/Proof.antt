@@ -1,7 +1,7 @@
 use native.Mathlib.Omega.{arith}
 use lib.Ieee.{nan}
 use lib.ListN.{length-set}
-use Rattle.insert.proofs.StoreLaws.{put_four, stored-edge}
+use Rattle.insert.proofs.StoreLaws.{put_four, stored_edge}
 use borrow.Author.Rules.{rules}
 use Rattle.insert.proofs.edges.store_edge.Statement.{statement}
 use Rattle.insert.proofs.edges.store_edge.Tie as tie
@@ -123,10 +123,10 @@ same-length-2 c = search rules
 -- src/edges.rt:28:1
 returns : tie.Need-returns
 returns c = let A = c.args in
-    stored-edge A.i A.row _ _ _ _ (put_four 0 _ _ (omega (arith, c.requires.ends)) A.ends.now _ _ _ _ (omega arith)) (put_four nan _ _ (omega (arith, c.requires.lengths)) A.lengths.now _ _ _ _ (omega arith))
+    stored_edge A.i A.row _ _ _ _ (put_four 0 _ _ (omega (arith, c.requires.ends)) A.ends.now _ _ _ _ (omega arith)) (put_four nan _ _ (omega (arith, c.requires.lengths)) A.lengths.now _ _ _ _ (omega arith))
 
-pub store-edge-spec : {M : Type 1} → statement M
-store-edge-spec =
+pub store_edge_spec : {M : Type 1} → statement M
+store_edge_spec =
     tie.close
     (tie.spec
     mul-ends

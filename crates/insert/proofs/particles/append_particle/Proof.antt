@@ -1,7 +1,7 @@
 use native.Mathlib.Omega.{arith}
 use lib.Ieee.{nan}
 use lib.ListN.{length-set}
-use Rattle.insert.proofs.StoreLaws.{put-eight, put_two, pushed-particle}
+use Rattle.insert.proofs.StoreLaws.{put_eight, put_two, pushed_particle}
 use borrow.Author.Rules.{rules}
 use Rattle.insert.proofs.particles.append_particle.Statement.{statement}
 use Rattle.insert.proofs.particles.append_particle.Tie as tie
@@ -147,10 +147,10 @@ same-length-2 c = search rules
 -- src/particles.rt:100:1
 returns : tie.Need-returns
 returns c = let A = c.before.before.before.args in
-    pushed-particle A.n A.row _ _ _ _ c.before.before.before.requires.points c.before.before.before.requires.roots (put-eight nan _ _ (omega (arith, c.before.before.before.requires.points)) A.points.now _ _ _ _ _ _ _ _ (omega arith)) (put_two 0 _ _ (omega (arith, c.before.before.before.requires.roots)) A.roots.now _ _ (omega arith))
+    pushed_particle A.n A.row _ _ _ _ c.before.before.before.requires.points c.before.before.before.requires.roots (put_eight nan _ _ (omega (arith, c.before.before.before.requires.points)) A.points.now _ _ _ _ _ _ _ _ (omega arith)) (put_two 0 _ _ (omega (arith, c.before.before.before.requires.roots)) A.roots.now _ _ (omega arith))
 
-pub append-particle-spec : {M : Type 1} → statement M
-append-particle-spec =
+pub append_particle_spec : {M : Type 1} → statement M
+append_particle_spec =
     tie.close
     (tie.spec
     mul-points

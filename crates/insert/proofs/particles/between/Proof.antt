@@ -1,4 +1,4 @@
-use Rattle.blade.specs.Points.{lerpOf}
+use Rattle.blade.specs.Points.{lerp_of}
 use Rattle.blade.specs.declared.Point.{Point}
 use mathlib.Core.Path.{◌∙◌, ap₂}
 use Rattle.insert.proofs.InsertLaws.{between_is}
@@ -7,10 +7,10 @@ use Rattle.insert.proofs.particles.between.Statement.{statement}
 use Rattle.insert.proofs.particles.between.Tie as tie
 use Rattle.insert.proofs.particles.between.Reads as reads
 use Rattle.insert.proofs.particles.between.Lts as lts
-use Rattle.blade.proofs.lerp.Reads as lerp-reads
-use Rattle.float.proofs.inverse.inv.Reads as inv-reads
-use Rattle.split_plan.proofs.rest_point.Reads as rest-point-reads
-use Rattle.split_plan.proofs.place.Reads as place-reads
+use Rattle.blade.proofs.lerp.Reads as lerp_reads
+use Rattle.float.proofs.inverse.inv.Reads as inv_reads
+use Rattle.split_plan.proofs.rest_point.Reads as rest_point_reads
+use Rattle.split_plan.proofs.place.Reads as place_reads
 
 -- src/particles.rt:83:26
 place-requires : tie.Need-place-requires
@@ -52,15 +52,15 @@ inv-requires c κs = search rules
 -- src/particles.rt:76:1
 returns : tie.Need-returns
 returns c = let A = c.before.before.before.before.before.before.before.before.before.before.before.before.args in
-    let mixed : Point → Point → Point = λ f g. lerpOf f g A.plan.at in
+    let mixed : Point → Point → Point = λ f g. lerp_of f g A.plan.at in
     between_is A.plan A.m A.n A.damaged A.points.now _ _ _ _
     (c.before.before.before.before.before.before.before.lerp.ensures ∙ ap₂ mixed c.before.before.before.before.before.before.before.before.before.place.ensures c.before.before.before.before.before.before.before.before.place2.ensures)
     (c.before.before.before.before.lerp2.ensures ∙ ap₂ mixed c.before.before.before.before.before.before.rest-point.ensures c.before.before.before.before.before.rest-point2.ensures)
     (c.before.lerp3.ensures ∙ ap₂ mixed c.before.before.before.velocity-of.ensures c.before.before.velocity-of2.ensures)
     c.inv.ensures
 
-pub between-spec : {M : Type 1} → statement M
-between-spec =
+pub between_spec : {M : Type 1} → statement M
+between_spec =
     tie.close
     (tie.spec
     place-requires

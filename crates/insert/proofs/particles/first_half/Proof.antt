@@ -10,5 +10,5 @@ returns : tie.Need-returns
 unfolding of_bits
 returns c = refl
 
-pub first-half-spec : {M : Type 1} → statement M
-first-half-spec = tie.close (tie.spec returns)
+pub first_half_spec : {M : Type 1} → statement M
+first_half_spec = tie.close (tie.spec returns)

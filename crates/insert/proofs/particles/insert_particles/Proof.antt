@@ -1,16 +1,16 @@
 use native.Mathlib.Omega.{arith}
 use mathlib.Core.Path.{refl, ◌∙◌}
-use Rattle.insert.proofs.InsertLaws.{particles-inserted}
+use Rattle.insert.proofs.InsertLaws.{particles_inserted}
 use borrow.Author.Rules.{rules}
 use Rattle.insert.proofs.particles.insert_particles.Statement.{statement}
 use Rattle.insert.proofs.particles.insert_particles.Tie as tie
 use Rattle.insert.proofs.particles.insert_particles.Reads as reads
 use Rattle.insert.proofs.particles.insert_particles.Lts as lts
-use Rattle.insert.proofs.particles.append_particle.Reads as append-particle-reads
-use Rattle.insert.proofs.particles.between.Reads as between-reads
-use Rattle.insert.proofs.particles.first_half.Reads as first-half-reads
-use Rattle.insert.proofs.particles.lighten.Reads as lighten-reads
-use Rattle.insert.proofs.particles.second_half.Reads as second-half-reads
+use Rattle.insert.proofs.particles.append_particle.Reads as append_particle_reads
+use Rattle.insert.proofs.particles.between.Reads as between_reads
+use Rattle.insert.proofs.particles.first_half.Reads as first_half_reads
+use Rattle.insert.proofs.particles.lighten.Reads as lighten_reads
+use Rattle.insert.proofs.particles.second_half.Reads as second_half_reads
 
 -- src/particles.rt:128:9
 first-half-requires : tie.Need-first-half-requires
@@ -38,7 +38,7 @@ slice-read-between c = let R = c.before.before.before.before.before.before.requi
 -- src/particles.rt:130:9
 between-requires : tie.Need-between-requires
 between-requires c κs = let R = c.before.before.before.before.before.before.before.requires in
-    record { a_in = omega (arith, R.room.points, R.a_in); b-in = omega (arith, R.room.points, R.b-in) }
+    record { a_in = omega (arith, R.room.points, R.a_in); b_in = omega (arith, R.room.points, R.b_in) }
 
 -- src/particles.rt:131:35
 add-between-2 : tie.Need-overflow-add-between-2
@@ -47,22 +47,22 @@ add-between-2 c = omega (arith, c.before.before.before.before.before.before.befo
 -- src/particles.rt:131:48
 add-between-3 : tie.Need-overflow-add-between-3
 add-between-3 c = let R = c.before.before.before.before.before.before.before.before.requires in
-    omega (arith, R.room.roots, R.b-in)
+    omega (arith, R.room.roots, R.b_in)
 
 -- src/particles.rt:131:42
 mul-between-2 : tie.Need-overflow-mul-between-2
 mul-between-2 c = let R = c.before.before.before.before.before.before.before.before.requires in
-    omega (arith, R.room.roots, R.b-in)
+    omega (arith, R.room.roots, R.b_in)
 
 -- src/particles.rt:131:42
 slice-read-between-2 : tie.Need-slice-read-between-2
 slice-read-between-2 c = let R = c.before.before.before.before.before.before.before.before.before.requires in
-    omega (arith, R.room.roots, R.b-in)
+    omega (arith, R.room.roots, R.b_in)
 
 -- src/particles.rt:131:9
 between-requires-2 : tie.Need-between-requires-2
 between-requires-2 c κs = let R = c.before.before.before.before.before.before.before.before.before.before.requires in
-    record { a_in = omega (arith, R.room.points, R.a_in); b-in = omega (arith, R.room.points, R.b-in) }
+    record { a_in = omega (arith, R.room.points, R.a_in); b_in = omega (arith, R.room.points, R.b_in) }
 
 -- src/particles.rt:132:5
 lighten-requires : tie.Need-lighten-requires
@@ -72,7 +72,7 @@ lighten-requires c κs = let R = c.before.before.before.before.before.before.bef
 -- src/particles.rt:133:5
 lighten-requires-2 : tie.Need-lighten-requires-2
 lighten-requires-2 c κs = let R = c.before.before.before.before.before.before.before.before.before.before.before.before.before.before.before.before.requires in
-    omega (arith, R.room.points, R.b-in, c.before.before.before.lighten.auto.1.1.1.0)
+    omega (arith, R.room.points, R.b_in, c.before.before.before.lighten.auto.1.1.1.0)
 
 -- src/particles.rt:134:5
 append-particle-requires : tie.Need-append-particle-requires
@@ -98,10 +98,10 @@ same-length-2 c = c.before.before.before.before.append-particle2.auto.1.1.1.0 �
 
 -- src/particles.rt:119:1
 returns : tie.Need-returns
-returns c = particles-inserted c.before.before.before.before.before.before.before.before.before.before.before.before.before.before.before.before.before.before.before.before.before.before.before.before.before.before.before.before.before.before.before.before.before.args.plan _ _ _ _ _ _ _ _ _ _ _ _ _ _ c.before.before.before.before.before.before.before.before.before.before.before.before.before.before.before.before.before.before.before.before.before.before.before.before.before.before.before.before.before.before.before.before.before.requires c.before.before.before.before.before.before.before.before.before.before.before.before.before.before.before.before.before.before.before.before.before.before.before.before.before.before.before.before.before.first-half.ensures c.before.before.before.before.before.before.before.before.before.before.before.before.before.before.before.before.before.before.before.before.before.before.before.before.before.before.before.before.second-half.ensures refl refl c.before.before.before.before.before.before.before.before.before.before.before.before.before.before.before.before.before.before.before.before.before.before.before.before.before.between.ensures c.before.before.before.before.before.before.before.before.before.before.before.before.before.before.before.before.before.before.before.before.before.before.between2.ensures c.before.before.before.before.before.before.before.before.before.before.before.before.before.before.before.before.before.before.before.before.lighten.ensures c.before.before.before.before.before.before.before.before.before.before.before.before.before.before.before.before.lighten2.ensures c.before.before.before.before.before.before.before.before.before.before.before.before.before.before.before.before.before.before.before.before.lighten.auto.1.1.1.0 c.before.before.before.before.before.before.before.before.before.before.before.append-particle.ensures c.before.before.before.before.append-particle2.ensures
+returns c = particles_inserted c.before.before.before.before.before.before.before.before.before.before.before.before.before.before.before.before.before.before.before.before.before.before.before.before.before.before.before.before.before.before.before.before.before.args.plan _ _ _ _ _ _ _ _ _ _ _ _ _ _ c.before.before.before.before.before.before.before.before.before.before.before.before.before.before.before.before.before.before.before.before.before.before.before.before.before.before.before.before.before.before.before.before.before.requires c.before.before.before.before.before.before.before.before.before.before.before.before.before.before.before.before.before.before.before.before.before.before.before.before.before.before.before.before.before.first-half.ensures c.before.before.before.before.before.before.before.before.before.before.before.before.before.before.before.before.before.before.before.before.before.before.before.before.before.before.before.before.second-half.ensures refl refl c.before.before.before.before.before.before.before.before.before.before.before.before.before.before.before.before.before.before.before.before.before.before.before.before.before.between.ensures c.before.before.before.before.before.before.before.before.before.before.before.before.before.before.before.before.before.before.before.before.before.before.between2.ensures c.before.before.before.before.before.before.before.before.before.before.before.before.before.before.before.before.before.before.before.before.lighten.ensures c.before.before.before.before.before.before.before.before.before.before.before.before.before.before.before.before.lighten2.ensures c.before.before.before.before.before.before.before.before.before.before.before.before.before.before.before.before.before.before.before.before.lighten.auto.1.1.1.0 c.before.before.before.before.before.before.before.before.before.before.before.append-particle.ensures c.before.before.before.before.append-particle2.ensures
 
-pub insert-particles-spec : {M : Type 1} → statement M
-insert-particles-spec =
+pub insert_particles_spec : {M : Type 1} → statement M
+insert_particles_spec =
     tie.close
     (tie.spec
     first-half-requires

@@ -1,13 +1,13 @@
 use native.Mathlib.Omega.{arith}
 use lib.ListN.{length-set}
 use mathlib.Core.Path.{refl}
-use Rattle.insert.proofs.InsertLaws.{lighten-is}
+use Rattle.insert.proofs.InsertLaws.{lighten_is}
 use borrow.Author.Rules.{rules}
 use Rattle.insert.proofs.particles.lighten.Statement.{statement}
 use Rattle.insert.proofs.particles.lighten.Tie as tie
 use Rattle.insert.proofs.particles.lighten.Reads as reads
 use Rattle.insert.proofs.particles.lighten.Lts as lts
-use Rattle.insert.proofs.particles.kept_inverse.Reads as kept-inverse-reads
+use Rattle.insert.proofs.particles.kept_inverse.Reads as kept_inverse_reads
 
 -- src/particles.rt:55:20
 mul-m : tie.Need-overflow-mul-m
@@ -83,10 +83,10 @@ same_length c = search rules
 
 -- src/particles.rt:50:1
 returns : tie.Need-returns
-returns c = lighten-is _ _ _ _ _ _ c.before.before.before.before.requires refl c.kept-inverse.ensures
+returns c = lighten_is _ _ _ _ _ _ c.before.before.before.before.requires refl c.kept-inverse.ensures
 
-pub lighten-spec : {M : Type 1} → statement M
-lighten-spec =
+pub lighten_spec : {M : Type 1} → statement M
+lighten_spec =
     tie.close
     (tie.spec
     mul-m

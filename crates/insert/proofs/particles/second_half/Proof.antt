@@ -10,5 +10,5 @@ returns : tie.Need-returns
 unfolding of_bits
 returns c = refl
 
-pub second-half-spec : {M : Type 1} → statement M
-second-half-spec = tie.close (tie.spec returns)
+pub second_half_spec : {M : Type 1} → statement M
+second_half_spec = tie.close (tie.spec returns)

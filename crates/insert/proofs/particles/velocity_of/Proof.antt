@@ -34,5 +34,5 @@ returns : tie.Need-returns
 unfolding cell
 returns c = refl
 
-pub velocity-of-spec : {M : Type 1} → statement M
-velocity-of-spec = tie.close (tie.spec mul-t4 add-t5 mul-t6 shared-slice-read-t8 mul-t9 add-t10 mul-t11 shared-slice-read-t13 returns)
+pub velocity_of_spec : {M : Type 1} → statement M
+velocity_of_spec = tie.close (tie.spec mul-t4 add-t5 mul-t6 shared-slice-read-t8 mul-t9 add-t10 mul-t11 shared-slice-read-t13 returns)

@@ -1,6 +1,6 @@
 use lib.Ieee.{of_bits, le}
 use Rattle.float.specs.Numbers.{minus, one}
-use Rattle.insert.proofs.PlanLaws.{either_first, either-both, either-none}
+use Rattle.insert.proofs.PlanLaws.{either_first, either_both, either_none}
 use Rattle.insert.proofs.plan.wanted.Statement.{statement}
 use Rattle.insert.proofs.plan.wanted.Tie as tie
 use Rattle.insert.proofs.plan.wanted.Reads as reads
@@ -14,12 +14,12 @@ returns c = either_first _ (le c.before.args.f c.before.args.t) (le c.before.arg
 -- src/plan.rt:50:9
 returns-2 : tie.Need-returns-2
 unfolding of_bits
-returns-2 c = either-both _ _ _ c.before.if1.false c.if2.true
+returns-2 c = either_both _ _ _ c.before.if1.false c.if2.true
 
 -- src/plan.rt:43:1
 returns-3 : tie.Need-returns-3
 unfolding of_bits
-returns-3 c = either-none _ _ (le c.before.before.args.t (minus one c.before.before.args.f)) c.before.if1.false c.if2.false
+returns-3 c = either_none _ _ (le c.before.before.args.t (minus one c.before.before.args.f)) c.before.if1.false c.if2.false
 
-pub wanted-spec : {M : Type 1} → statement M
-wanted-spec = tie.close (tie.spec returns returns-2 returns-3)
+pub wanted_spec : {M : Type 1} → statement M
+wanted_spec = tie.close (tie.spec returns returns-2 returns-3)

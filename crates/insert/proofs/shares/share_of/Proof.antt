@@ -1,6 +1,6 @@
 use lib.Ieee.{of_bits}
 use mathlib.Core.Bool.{true, false}
-use Rattle.insert.proofs.ShareLaws.{share-taken}
+use Rattle.insert.proofs.ShareLaws.{share_taken}
 use borrow.Author.Rules.{rules}
 use Rattle.insert.proofs.shares.share_of.Statement.{statement}
 use Rattle.insert.proofs.shares.share_of.Tie as tie
@@ -26,14 +26,14 @@ shared-slice-read-result c = search rules
 -- src/shares.rt:63:9
 returns : tie.Need-returns
 unfolding of_bits
-returns c = let A = c.before.before.args in share-taken A.v A.len A.total A.points.now true c.before.if1.true
+returns c = let A = c.before.before.args in share_taken A.v A.len A.total A.points.now true c.before.if1.true
 
 -- src/shares.rt:57:1
 returns-2 : tie.Need-returns-2
 unfolding of_bits
-returns-2 c = let A = c.before.args in share-taken A.v A.len A.total A.points.now false c.if1.false
+returns-2 c = let A = c.before.args in share_taken A.v A.len A.total A.points.now false c.if1.false
 
-pub share-of-spec : {M : Type 1} → statement M
-share-of-spec =
+pub share_of_spec : {M : Type 1} → statement M
+share_of_spec =
     tie.close
     (tie.spec mul-result add-result mul-result-2 shared-slice-read-result returns returns-2)

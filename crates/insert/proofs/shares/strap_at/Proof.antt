@@ -1,4 +1,4 @@
-use Rattle.insert.proofs.ShareLaws.{told_none, told-first, told-second}
+use Rattle.insert.proofs.ShareLaws.{told_none, told_first, told_second}
 use borrow.Author.Rules.{rules}
 use Rattle.insert.proofs.shares.strap_at.Statement.{statement}
 use Rattle.insert.proofs.shares.strap_at.Tie as tie
@@ -35,7 +35,7 @@ shared-slice-read-if2 c = search rules
 
 -- src/shares.rt:19:9
 returns-2 : tie.Need-returns-2
-returns-2 c = told-first _ _ _ c.before.before.if1.false c.if2.true
+returns-2 c = told_first _ _ _ c.before.before.if1.false c.if2.true
 
 -- src/shares.rt:21:10
 add-result : tie.Need-overflow-add-result
@@ -51,10 +51,10 @@ shared-slice-read-result c = search rules
 
 -- src/shares.rt:10:1
 returns-3 : tie.Need-returns-3
-returns-3 c = told-second _ _ _ c.before.before.before.if1.false c.before.if2.false
+returns-3 c = told_second _ _ _ c.before.before.before.if1.false c.before.if2.false
 
-pub strap-at-spec : {M : Type 1} → statement M
-strap-at-spec =
+pub strap_at_spec : {M : Type 1} → statement M
+strap_at_spec =
     tie.close
     (tie.spec
     mul-if1

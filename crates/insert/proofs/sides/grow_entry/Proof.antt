@@ -1,6 +1,6 @@
 use native.Mathlib.Omega.{arith}
 use lib.ListN.{length-set}
-use Rattle.insert.proofs.SideLaws.{grew_none, grew-one}
+use Rattle.insert.proofs.SideLaws.{grew_none, grew_one}
 use borrow.Author.Rules.{rules}
 use Rattle.insert.proofs.sides.grow_entry.Statement.{statement}
 use Rattle.insert.proofs.sides.grow_entry.Tie as tie
@@ -53,10 +53,10 @@ same_length c = search rules
 
 -- src/sides.rt:13:1
 returns-2 : tie.Need-returns-2
-returns-2 c = grew-one _ _ _ _ _ _ c.before.requires.1 (omega (arith, c.before.requires.0.rows, c.before.requires.0.columns, c.if1.false)) _ (omega (arith, c.before.requires.0.rows, c.if1.false))
+returns-2 c = grew_one _ _ _ _ _ _ c.before.requires.1 (omega (arith, c.before.requires.0.rows, c.before.requires.0.columns, c.if1.false)) _ (omega (arith, c.before.requires.0.rows, c.if1.false))
 
-pub grow-entry-spec : {M : Type 1} → statement M
-grow-entry-spec =
+pub grow_entry_spec : {M : Type 1} → statement M
+grow_entry_spec =
     tie.close
     (tie.spec
     returns

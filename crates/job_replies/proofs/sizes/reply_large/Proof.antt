@@ -1,7 +1,7 @@
 -- `job_replies::sizes::reply_large` meets its contract: the blocks have room. Assumes nothing.
 use mathlib.Core.Path.{refl}
 use Rattle.mesh_replies.proofs.Places.{local_fits}
-use Rattle.job_replies.proofs.CutDown.{large-roomed}
+use Rattle.job_replies.proofs.CutDown.{large_roomed}
 use borrow.Author.Rules.{rules}
 use Rattle.job_replies.proofs.sizes.reply_large.Statement.{statement}
 use Rattle.job_replies.proofs.sizes.reply_large.Tie as tie
@@ -31,7 +31,7 @@ slice-aggregate-reply-lent-8 : tie.Need-slice-aggregate-reply-lent-8
 slice-aggregate-reply-lent-8 c = search rules
 
 reply-lent-requires : tie.Need-reply-lent-requires
-reply-lent-requires c κs = let P = c.before.before.before.before.before.before.before.before.before.before.before.before.before.before.before.requires in (P.0, P.1, local_fits _ _ P.0 refl, large-roomed P.1)
+reply-lent-requires c κs = let P = c.before.before.before.before.before.before.before.before.before.before.before.before.before.before.before.requires in (P.0, P.1, local_fits _ _ P.0 refl, large_roomed P.1)
 
 same_length : tie.Need-same-length
 same_length c = c.before.before.before.before.before.before.before.before.before.before.before.before.reply-lent.auto.1.1.1.1.1.1.1.1.1.1.1.1.1.0
@@ -42,8 +42,8 @@ same-length-2 c = c.before.before.before.before.before.before.before.before.befo
 returns : tie.Need-returns
 returns c = c.before.before.before.before.before.before.before.before.before.before.before.before.reply-lent.ensures
 
-pub reply-large-spec : {M : Type 1} → statement M
-reply-large-spec =
+pub reply_large_spec : {M : Type 1} → statement M
+reply_large_spec =
     tie.close
     (tie.spec
     slice-aggregate-reply-lent

@@ -1,5 +1,5 @@
 -- `job_replies::sizes::reply_middling` meets its contract: the blocks have room. Assumes nothing.
-use Rattle.job_replies.proofs.CutDown.{middling-fits, middling-roomed}
+use Rattle.job_replies.proofs.CutDown.{middling_fits, middling_roomed}
 use borrow.Author.Rules.{rules}
 use Rattle.job_replies.proofs.sizes.reply_middling.Statement.{statement}
 use Rattle.job_replies.proofs.sizes.reply_middling.Tie as tie
@@ -29,7 +29,7 @@ slice-aggregate-reply-lent-8 : tie.Need-slice-aggregate-reply-lent-8
 slice-aggregate-reply-lent-8 c = search rules
 
 reply-lent-requires : tie.Need-reply-lent-requires
-reply-lent-requires c κs = let P = c.before.before.before.before.before.before.before.before.before.before.before.before.before.before.before.requires in (P.0, P.2, middling-fits _ P.0 P.1, middling-roomed P.3)
+reply-lent-requires c κs = let P = c.before.before.before.before.before.before.before.before.before.before.before.before.before.before.before.requires in (P.0, P.2, middling_fits _ P.0 P.1, middling_roomed P.3)
 
 same_length : tie.Need-same-length
 same_length c = c.before.before.before.before.before.before.before.before.before.before.before.before.reply-lent.auto.1.1.1.1.1.1.1.1.1.1.1.1.1.0
@@ -40,8 +40,8 @@ same-length-2 c = c.before.before.before.before.before.before.before.before.befo
 returns : tie.Need-returns
 returns c = c.before.before.before.before.before.before.before.before.before.before.before.before.reply-lent.ensures
 
-pub reply-middling-spec : {M : Type 1} → statement M
-reply-middling-spec =
+pub reply_middling_spec : {M : Type 1} → statement M
+reply_middling_spec =
     tie.close
     (tie.spec
     slice-aggregate-reply-lent

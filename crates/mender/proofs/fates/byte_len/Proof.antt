@@ -1,5 +1,5 @@
 -- `mender::fates::byte_len` meets its contract. Assumes nothing.
-use Rattle.mender.proofs.Puts.{bytes-by}
+use Rattle.mender.proofs.Puts.{bytes_by}
 use borrow.Author.Rules.{rules}
 use Rattle.mender.proofs.fates.byte_len.Statement.{statement}
 use Rattle.mender.proofs.fates.byte_len.Tie as tie
@@ -17,11 +17,11 @@ add-result-2 : tie.Need-overflow-add-result-2
 add-result-2 c = search rules
 
 returns : tie.Need-returns
-returns c = (bytes-by c.before.before.args.second c.before.before.args.c _ c.before.end-bit.ensures).0 c.if1.true
+returns c = (bytes_by c.before.before.args.second c.before.before.args.c _ c.before.end-bit.ensures).0 c.if1.true
 
 returns-2 : tie.Need-returns-2
-returns-2 c = (bytes-by c.before.before.args.second c.before.before.args.c _ c.before.end-bit.ensures).1 c.if1.false
+returns-2 c = (bytes_by c.before.before.args.second c.before.before.args.c _ c.before.end-bit.ensures).1 c.if1.false
 
-pub byte-len-spec : {M : Type 1} → statement M
-byte-len-spec =
+pub byte_len_spec : {M : Type 1} → statement M
+byte_len_spec =
     tie.close (tie.spec end-bit-requires sub-result add-result add-result-2 returns returns-2)

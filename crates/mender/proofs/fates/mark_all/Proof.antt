@@ -1,6 +1,6 @@
 -- `mender::fates::mark_all` meets its contract. Assumes nothing.
 use Rattle.mender.proofs.Whole.{sizes, marked}
-use Rattle.mending.proofs.Bytes.{held-six}
+use Rattle.mending.proofs.Bytes.{held_six}
 use Rattle.sheet.specs.declared.Counts.{Counts}
 use native.Mathlib.Omega.{arith}
 use mathlib.Core.Path.{refl, ap}
@@ -9,10 +9,10 @@ use Rattle.mender.proofs.fates.mark_all.Statement.{statement}
 use Rattle.mender.proofs.fates.mark_all.Tie as tie
 
 counts-in-requires : tie.Need-counts-in-requires
-counts-in-requires c κs = held-six c.before.before.before.before.args.s.now c.before.before.before.before.requires.held
+counts-in-requires c κs = held_six c.before.before.before.before.args.s.now c.before.before.before.before.requires.held
 
 start-bit-requires : tie.Need-start-bit-requires
-start-bit-requires c κs = held-six c.before.before.before.before.before.args.s.now c.before.before.before.before.before.requires.held
+start-bit-requires c κs = held_six c.before.before.before.before.before.args.s.now c.before.before.before.before.before.requires.held
 
 mul-at-t : tie.Need-overflow-mul-at-t
 mul-at-t c = search rules
@@ -59,8 +59,8 @@ same-length-3 c = search rules
 returns : tie.Need-returns
 returns c = let a = c.before.before.before.before.before.before.before.before.before.before.before.before.before.before.before.before.before.before.before.before.before.before.before.before.args in let p = c.before.before.before.before.before.before.before.before.before.before.before.before.before.before.before.before.before.before.before.before.before.before.before.before.requires in marked a.s.now p.held c.before.before.before.before.before.before.before.before.before.before.before.before.before.before.before.before.before.before.before.counts-in.result c.before.before.before.before.before.before.before.before.before.before.before.before.before.before.before.before.before.before.start-bit.result _ _ _ _ _ _ _ _ _ c.before.before.before.before.before.before.before.before.before.before.before.before.before.before.before.before.before.before.before.counts-in.ensures.is c.before.before.before.before.before.before.before.before.before.before.before.before.before.before.before.before.before.before.start-bit.ensures p.triangles p.edges p.boundary refl refl refl c.before.before.before.before.before.before.before.before.before.before.before.before.before.before.mark-list.ensures c.before.before.before.before.before.before.before.before.before.before.mark-list2.ensures c.before.before.before.before.mark-boundary.ensures
 
-pub mark-all-spec : {M : Type 1} → statement M
-mark-all-spec =
+pub mark_all_spec : {M : Type 1} → statement M
+mark_all_spec =
     tie.close
     (tie.spec
     counts-in-requires

@@ -1,6 +1,6 @@
 -- `mender::fates::mark_boundary` meets its contract. Assumes nothing.
-use Rattle.mender.proofs.Whole.{boundary-marked, front}
-use Rattle.bits.proofs.RowLaws.{length-column}
+use Rattle.mender.proofs.Whole.{boundary_marked, front}
+use Rattle.bits.proofs.RowLaws.{length_column}
 use lib.Seq.{length-take-le}
 use lib.ListN.{length}
 use native.Mathlib.Omega.{arith}
@@ -46,10 +46,10 @@ same-length-3 : tie.Need-same-length-3
 same-length-3 c = search rules
 
 returns : tie.Need-returns
-returns c = let a = c.before.before.before.before.before.before.before.before.before.before.before.before.before.before.before.before.before.before.before.before.before.before.args in c.before.before.mark-doubles.ensures ∙ boundary-marked a.s.now _ _ _ a.at a.p (length a.mask.now) (front _ _ _ _ c.before.before.before.before.before.before.before.before.before.before.before.before.read-column.ensures (length-column _ _ _ _ _)) (front _ _ _ _ c.before.before.before.before.before.before.before.before.read-column2.ensures (length-column _ _ _ _ _)) c.before.before.before.before.before.before.before.before.before.before.before.before.before.before.before.before.mark-list.ensures
+returns c = let a = c.before.before.before.before.before.before.before.before.before.before.before.before.before.before.before.before.before.before.before.before.before.before.args in c.before.before.mark-doubles.ensures ∙ boundary_marked a.s.now _ _ _ a.at a.p (length a.mask.now) (front _ _ _ _ c.before.before.before.before.before.before.before.before.before.before.before.before.read-column.ensures (length_column _ _ _ _ _)) (front _ _ _ _ c.before.before.before.before.before.before.before.before.read-column2.ensures (length_column _ _ _ _ _)) c.before.before.before.before.before.before.before.before.before.before.before.before.before.before.before.before.mark-list.ensures
 
-pub mark-boundary-spec : {M : Type 1} → statement M
-mark-boundary-spec =
+pub mark_boundary_spec : {M : Type 1} → statement M
+mark_boundary_spec =
     tie.close
     (tie.spec
     mark-list-requires

@@ -1,6 +1,6 @@
 -- `mender::fates::mark_list` meets its contract. Assumes nothing.
-use Rattle.mender.proofs.Puts.{mark-next, mark-end}
-use Rattle.mender.specs.Work.{codesAt}
+use Rattle.mender.proofs.Puts.{mark_next, mark_end}
+use Rattle.mender.specs.Work.{codes_at}
 use Rattle.bits.proofs.RowLaws.{fewer}
 use Rattle.bits.specs.Bits.{bits_of}
 use lib.ListN.{length, take, length-set}
@@ -14,7 +14,7 @@ use Rattle.mender.proofs.fates.mark_list.Tie as tie
 
 abbrev invariant-loop : tie.invariant-loop
 invariant-loop s at step three p mask₀ n i₀ pos₀ mask i pos = (i ≤ n) × (length mask ≡ n) × (pos + 44 + (n - i) * step ≤ 8 * length s) × (pos + 44 + (n - i) * step < 2 ^ 32)
-    × (take i mask ++ codesAt three p (bits_of s) pos step (n - i) ≡ codesAt three p (bits_of s) at step n)
+    × (take i mask ++ codes_at three p (bits_of s) pos step (n - i) ≡ codes_at three p (bits_of s) at step n)
 
 abbrev decreases-loop : tie.decreases-loop
 decreases-loop s at step three p mask₀ n i₀ pos₀ mask i pos = n - i
@@ -63,7 +63,7 @@ loop-again c = let a = c.before.before.before.before.before.before.before.before
     let n = length a.mask.now in
     let f = fewer n l.i a.step (omega arith) in
     let i1 = l.invariant.1 in
-    (omega arith, length-set l.mask l.i c.fate.result ∙ l.invariant.1, omega arith, omega arith, mark-next a.three a.p (bits_of a.s.now) l.pos a.step n l.i c.fate.result _ _ _ l.mask _ (omega arith) (omega arith) c.fate.ensures c.before.before.before.field.ensures.0 c.before.before.field2.ensures.0 c.before.field3.ensures.0 l.invariant.4)
+    (omega arith, length-set l.mask l.i c.fate.result ∙ l.invariant.1, omega arith, omega arith, mark_next a.three a.p (bits_of a.s.now) l.pos a.step n l.i c.fate.result _ _ _ l.mask _ (omega arith) (omega arith) c.fate.ensures c.before.before.before.field.ensures.0 c.before.before.field2.ensures.0 c.before.field3.ensures.0 l.invariant.4)
 
 same_length : tie.Need-same-length invariant-loop decreases-loop
 same_length c = c.before.loop.invariant.1
@@ -72,10 +72,10 @@ returns : tie.Need-returns invariant-loop decreases-loop
 returns c = let a = c.before.before.before.before.args in
     let l = c.before.loop in
     let i1 = l.invariant.1 in
-    mark-end a.three a.p (bits_of a.s.now) l.pos a.step (length a.mask.now) l.i l.mask _ (omega arith) (omega arith) l.invariant.4
+    mark_end a.three a.p (bits_of a.s.now) l.pos a.step (length a.mask.now) l.i l.mask _ (omega arith) (omega arith) l.invariant.4
 
-pub mark-list-spec : {M : Type 1} → statement M
-mark-list-spec =
+pub mark_list_spec : {M : Type 1} → statement M
+mark_list_spec =
     tie.close
     (tie.spec
     invariant-loop

@@ -1,5 +1,5 @@
 -- `mender::write::put_blade` meets its contract. Assumes nothing.
-use Rattle.mender.proofs.Puts.{blade-put}
+use Rattle.mender.proofs.Puts.{blade_put}
 use Rattle.bits.specs.Bits.{bits_of}
 use borrow.Author.Rules.{rules}
 use Rattle.mender.proofs.write.put_blade.Statement.{statement}
@@ -33,10 +33,10 @@ same_length : tie.Need-same-length
 same_length c = search rules
 
 returns : tie.Need-returns
-returns c = let a = c.before.before.before.before.before.before.before.before.before.before.args in blade-put (bits_of a.s.now) _ _ a.at a.to _ _ _ _ c.before.before.before.before.before.before.before.field.ensures.0 c.before.before.before.before.before.before.field2.ensures.0 c.before.before.before.before.before.field3.ensures.0 c.before.before.before.before.field4.ensures.0 c.before.before.put_four.ensures
+returns c = let a = c.before.before.before.before.before.before.before.before.before.before.args in blade_put (bits_of a.s.now) _ _ a.at a.to _ _ _ _ c.before.before.before.before.before.before.before.field.ensures.0 c.before.before.before.before.before.before.field2.ensures.0 c.before.before.before.before.before.field3.ensures.0 c.before.before.before.before.field4.ensures.0 c.before.before.put_four.ensures
 
-pub put-blade-spec : {M : Type 1} → statement M
-put-blade-spec =
+pub put_blade_spec : {M : Type 1} → statement M
+put_blade_spec =
     tie.close
     (tie.spec
     field-requires

@@ -1,8 +1,8 @@
 -- `mender::write::put_kept` meets its contract. Assumes nothing.
-use Rattle.mender.proofs.Puts.{zeros-step, kept_next, kept-end, zeros-over}
-use Rattle.mending.specs.Work.{keptBy, zerosOf}
+use Rattle.mender.proofs.Puts.{zeros_step, kept_next, kept_end, zeros_over}
+use Rattle.mending.specs.Work.{kept_by_of, zeros_of}
 use Rattle.bits.proofs.RowLaws.{fewer}
-use Rattle.bits.specs.Rows.{readRows, writeRows}
+use Rattle.bits.specs.Rows.{read_rows, write_rows}
 use Rattle.bits.specs.Bits.{bits_of}
 use lib.Seq.{sets}
 use lib.ListN.{length, drop, get_or}
@@ -15,9 +15,9 @@ use Rattle.mender.proofs.write.put_kept.Tie as tie
 
 abbrev invariant-loop : tie.invariant-loop
 invariant-loop s at w0 w1 w2 mask out₀ to n step i₀ from₀ end₀ out i from end = (i ≤ n) × (length out ≡ length out₀) × (from + (n - i) * step ≤ 8 * length s) × (from + (n - i) * step < 2 ^ 32)
-    × (end + zerosOf (drop i mask) * step ≡ to + zerosOf mask * step)
-    × (sets (bits_of out) end (writeRows (w0 ∷ w1 ∷ w2 ∷ []) (keptBy (drop i mask) (readRows (w0 ∷ w1 ∷ w2 ∷ []) (n - i) (drop from (bits_of s)))))
-    ≡ sets (bits_of out₀) to (writeRows (w0 ∷ w1 ∷ w2 ∷ []) (keptBy mask (readRows (w0 ∷ w1 ∷ w2 ∷ []) n (drop at (bits_of s))))))
+    × (end + zeros_of (drop i mask) * step ≡ to + zeros_of mask * step)
+    × (sets (bits_of out) end (write_rows (w0 ∷ w1 ∷ w2 ∷ []) (kept_by_of (drop i mask) (read_rows (w0 ∷ w1 ∷ w2 ∷ []) (n - i) (drop from (bits_of s)))))
+    ≡ sets (bits_of out₀) to (write_rows (w0 ∷ w1 ∷ w2 ∷ []) (kept_by_of mask (read_rows (w0 ∷ w1 ∷ w2 ∷ []) n (drop at (bits_of s))))))
 
 abbrev decreases-loop : tie.decreases-loop
 decreases-loop s at w0 w1 w2 mask out₀ to n step i₀ from₀ end₀ out i from end = n - i
@@ -45,7 +45,7 @@ put-one-requires c κs = let a = c.before.before.before.before.before.before.bef
     let l = c.before.before.before.loop in
     let w = a.w0 + a.w1 + a.w2 in
     let f = fewer (length a.mask.now) l.i w (omega arith) in
-    let z = zeros-step a.mask.now l.i w (omega arith) in
+    let z = zeros_step a.mask.now l.i w (omega arith) in
     let i4 = l.invariant.4 in
     let i1 = l.invariant.1 in
     record { room = omega arith; small = omega arith; narrow0 = p.narrow0; narrow1 = p.narrow1; narrow2 = p.narrow2; lent = omega (arith, p.lent); short = omega (arith, p.short) }
@@ -64,7 +64,7 @@ loop-again c = let a = c.before.before.before.before.before.before.before.before
     let l = c.before.before.before.before.before.before.loop in
     let w = a.w0 + a.w1 + a.w2 in
     let f = fewer (length a.mask.now) l.i w (omega arith) in
-    let z = zeros-step a.mask.now l.i w (omega arith) in
+    let z = zeros_step a.mask.now l.i w (omega arith) in
     let i4 = l.invariant.4 in
     let k = c.before.before.put_one.ensures in
     let x = k.next in
@@ -77,10 +77,10 @@ returns : tie.Need-returns invariant-loop decreases-loop
 returns c = let a = c.before.before.before.before.before.args in
     let l = c.before.loop in
     let w = a.w0 + a.w1 + a.w2 in
-    record { bits = kept-end (a.w0 ∷ a.w1 ∷ a.w2 ∷ []) a.mask.now (bits_of l.out) _ l.end l.i (readRows (a.w0 ∷ a.w1 ∷ a.w2 ∷ []) (length a.mask.now - l.i) (drop l.from (bits_of a.s.now))) (omega arith) l.invariant.5; next = zeros-over a.mask.now l.i w l.end _ (omega arith) l.invariant.4 }
+    record { bits = kept_end (a.w0 ∷ a.w1 ∷ a.w2 ∷ []) a.mask.now (bits_of l.out) _ l.end l.i (read_rows (a.w0 ∷ a.w1 ∷ a.w2 ∷ []) (length a.mask.now - l.i) (drop l.from (bits_of a.s.now))) (omega arith) l.invariant.5; next = zeros_over a.mask.now l.i w l.end _ (omega arith) l.invariant.4 }
 
-pub put-kept-spec : {M : Type 1} → statement M
-put-kept-spec =
+pub put_kept_spec : {M : Type 1} → statement M
+put_kept_spec =
     tie.close
     (tie.spec
     invariant-loop

@@ -1,10 +1,10 @@
 -- `mesh_calls::checks::arguments_fit` meets its contract: the test of each job. Assumes nothing.
 use mathlib.Core.Path.{refl}
 use mathlib.Core.Logic.{⊎_elim}
-use Rattle.mesh.specs.At.{meshAt}
-use Rattle.judge.proofs.Joined.{and-next}
+use Rattle.mesh.specs.At.{mesh_at}
+use Rattle.judge.proofs.Joined.{and_next}
 use Rattle.mesh_calls.specs.declared.Job.TheVariants.{Straddlers, Split, Cut, Crack}
-use Rattle.mesh_calls.proofs.Asked.{known-first, known-second, room-test, job-fits}
+use Rattle.mesh_calls.proofs.Asked.{known_first, known_second, room_test, job_fits}
 use native.Mathlib.Omega.{arith}
 use borrow.Author.Rules.{rules}
 use Rattle.mesh_calls.proofs.checks.arguments_fit.Statement.{statement}
@@ -38,19 +38,19 @@ enum-told-2 : tie.Need-enum-told-2
 enum-told-2 c = omega arith
 
 returns : tie.Need-returns
-returns c = let A = c.before.before.before.before.before.before.before.before.before.before.before.before.args in job-fits (meshAt A.k A.in-points.now A.in-roots.now A.in-corners.now A.in-volumes.now A.in-ends.now A.in-lengths.now A.in-outline.now) A.room A.job Straddlers A.list.now c.enum_told.given.1 (room-test A.k A.in-points.now A.in-roots.now A.in-corners.now A.in-volumes.now A.in-ends.now A.in-lengths.now A.in-outline.now A.room refl)
+returns c = let A = c.before.before.before.before.before.before.before.before.before.before.before.before.args in job_fits (mesh_at A.k A.in-points.now A.in-roots.now A.in_corners.now A.in-volumes.now A.in-ends.now A.in-lengths.now A.in-outline.now) A.room A.job Straddlers A.list.now c.enum_told.given.1 (room_test A.k A.in-points.now A.in-roots.now A.in_corners.now A.in-volumes.now A.in-ends.now A.in-lengths.now A.in-outline.now A.room refl)
 
 returns-2 : tie.Need-returns-2
-returns-2 c = let A = c.before.before.before.before.before.before.before.before.before.before.before.before.before.before.before.args in job-fits (meshAt A.k A.in-points.now A.in-roots.now A.in-corners.now A.in-volumes.now A.in-ends.now A.in-lengths.now A.in-outline.now) A.room A.job (Split _) A.list.now c.before.before.before.job.given.1 (and-next _ _ _ _ _ c.both.ensures c.before.sides-given.ensures (room-test A.k A.in-points.now A.in-roots.now A.in-corners.now A.in-volumes.now A.in-ends.now A.in-lengths.now A.in-outline.now A.room refl))
+returns-2 c = let A = c.before.before.before.before.before.before.before.before.before.before.before.before.before.before.before.args in job_fits (mesh_at A.k A.in-points.now A.in-roots.now A.in_corners.now A.in-volumes.now A.in-ends.now A.in-lengths.now A.in-outline.now) A.room A.job (Split _) A.list.now c.before.before.before.job.given.1 (and_next _ _ _ _ _ c.both.ensures c.before.sides-given.ensures (room_test A.k A.in-points.now A.in-roots.now A.in_corners.now A.in-volumes.now A.in-ends.now A.in-lengths.now A.in-outline.now A.room refl))
 
 returns-3 : tie.Need-returns-3
-returns-3 c = let A = c.before.before.before.before.before.before.before.before.before.before.before.before.before.before.before.before.before.args in let told = ⊎_elim (λ w. known-first _ _ w.0.taken w.1) (λ w. known-second _ _ w.0.left w.1) c.before.before.before.if1.branch in job-fits (meshAt A.k A.in-points.now A.in-roots.now A.in-corners.now A.in-volumes.now A.in-ends.now A.in-lengths.now A.in-outline.now) A.room A.job (Cut _ _ _ _) A.list.now c.before.before.before.before.before.job2.given.1 (and-next _ _ _ _ _ c.both3.ensures (and-next _ _ _ _ _ c.before.both2.ensures told c.before.before.fraction-fits.ensures) (room-test A.k A.in-points.now A.in-roots.now A.in-corners.now A.in-volumes.now A.in-ends.now A.in-lengths.now A.in-outline.now A.room refl))
+returns-3 c = let A = c.before.before.before.before.before.before.before.before.before.before.before.before.before.before.before.before.before.args in let told = ⊎_elim (λ w. known_first _ _ w.0.taken w.1) (λ w. known_second _ _ w.0.left w.1) c.before.before.before.if1.branch in job_fits (mesh_at A.k A.in-points.now A.in-roots.now A.in_corners.now A.in-volumes.now A.in-ends.now A.in-lengths.now A.in-outline.now) A.room A.job (Cut _ _ _ _) A.list.now c.before.before.before.before.before.job2.given.1 (and_next _ _ _ _ _ c.both3.ensures (and_next _ _ _ _ _ c.before.both2.ensures told c.before.before.fraction-fits.ensures) (room_test A.k A.in-points.now A.in-roots.now A.in_corners.now A.in-volumes.now A.in-ends.now A.in-lengths.now A.in-outline.now A.room refl))
 
 returns-4 : tie.Need-returns-4
-returns-4 c = let A = c.before.before.before.before.before.before.before.before.before.before.before.before.args in job-fits (meshAt A.k A.in-points.now A.in-roots.now A.in-corners.now A.in-volumes.now A.in-ends.now A.in-lengths.now A.in-outline.now) A.room A.job (Crack _) A.list.now c.enum-told2.given.1 (room-test A.k A.in-points.now A.in-roots.now A.in-corners.now A.in-volumes.now A.in-ends.now A.in-lengths.now A.in-outline.now A.room refl)
+returns-4 c = let A = c.before.before.before.before.before.before.before.before.before.before.before.before.args in job_fits (mesh_at A.k A.in-points.now A.in-roots.now A.in_corners.now A.in-volumes.now A.in-ends.now A.in-lengths.now A.in-outline.now) A.room A.job (Crack _) A.list.now c.enum-told2.given.1 (room_test A.k A.in-points.now A.in-roots.now A.in_corners.now A.in-volumes.now A.in-ends.now A.in-lengths.now A.in-outline.now A.room refl)
 
-pub arguments-fit-spec : {M : Type 1} → statement M
-arguments-fit-spec =
+pub arguments_fit_spec : {M : Type 1} → statement M
+arguments_fit_spec =
     tie.close
     (tie.spec
     enum_told

@@ -1,6 +1,6 @@
 -- `mesh_calls::checks::judge_arguments` meets its contract: the fault of the mesh, the numbers beside it, and its arguments. Assumes nothing.
-use Rattle.mesh.specs.At.{meshAt}
-use Rattle.arguments.proofs.Judged.{beside-stays, beside-judged}
+use Rattle.mesh.specs.At.{mesh_at}
+use Rattle.arguments.proofs.Judged.{beside_stays, beside_judged}
 use borrow.Author.Rules.{rules}
 use Rattle.mesh_calls.proofs.checks.judge_arguments.Statement.{statement}
 use Rattle.mesh_calls.proofs.checks.judge_arguments.Tie as tie
@@ -15,7 +15,7 @@ with-numbers-requires : tie.Need-with-numbers-requires
 with-numbers-requires c κs = search rules
 
 returns : tie.Need-returns
-returns c = let A = c.before.before.before.before.before.before.before.before.before.before.before.before.args in beside-stays (meshAt A.k A.in-points.now A.in-roots.now A.in-corners.now A.in-volumes.now A.in-ends.now A.in-lengths.now A.in-outline.now) _ _ _ _ c.before.with-numbers.ensures c.before.before.before.judge-sized.ensures c.before.before.numbers_fit.ensures _ c.if1.true
+returns c = let A = c.before.before.before.before.before.before.before.before.before.before.before.before.args in beside_stays (mesh_at A.k A.in-points.now A.in-roots.now A.in_corners.now A.in-volumes.now A.in-ends.now A.in-lengths.now A.in-outline.now) _ _ _ _ c.before.with-numbers.ensures c.before.before.before.judge-sized.ensures c.before.before.numbers_fit.ensures _ c.if1.true
 
 arguments-fit-requires : tie.Need-arguments-fit-requires
 arguments-fit-requires c κs = search rules
@@ -24,10 +24,10 @@ first-requires : tie.Need-first-requires
 first-requires c κs = search rules
 
 returns-2 : tie.Need-returns-2
-returns-2 c = let A = c.before.before.before.before.before.before.before.before.before.before.before.before.before.before.args in beside-judged (meshAt A.k A.in-points.now A.in-roots.now A.in-corners.now A.in-volumes.now A.in-ends.now A.in-lengths.now A.in-outline.now) _ _ _ _ c.before.before.before.with-numbers.ensures c.before.before.before.before.before.judge-sized.ensures c.before.before.before.before.numbers_fit.ensures _ _ _ c.first.ensures c.before.arguments-fit.ensures
+returns-2 c = let A = c.before.before.before.before.before.before.before.before.before.before.before.before.before.before.args in beside_judged (mesh_at A.k A.in-points.now A.in-roots.now A.in_corners.now A.in-volumes.now A.in-ends.now A.in-lengths.now A.in-outline.now) _ _ _ _ c.before.before.before.with-numbers.ensures c.before.before.before.before.before.judge-sized.ensures c.before.before.before.before.numbers_fit.ensures _ _ _ c.first.ensures c.before.arguments-fit.ensures
 
-pub judge-arguments-spec : {M : Type 1} → statement M
-judge-arguments-spec =
+pub judge_arguments_spec : {M : Type 1} → statement M
+judge_arguments_spec =
     tie.close
     (tie.spec
     judge-sized-requires

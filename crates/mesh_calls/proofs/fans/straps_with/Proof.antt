@@ -5,16 +5,16 @@ use mathlib.Core.Path.{◌≡◌}
 use mathlib.Core.List.{List}
 use lib.ListN.{length}
 use lib.Ieee.{Float}
-use Rattle.model.specs.Elements.{strapsFrom}
+use Rattle.model.specs.Elements.{straps_from}
 use Rattle.mesh.specs.At.{edges_at}
 use Rattle.elements.specs.Table.{holding}
-use Rattle.mesh_calls.proofs.Fanned.{no_edges, strap-counts, count-ends}
+use Rattle.mesh_calls.proofs.Fanned.{no_edges, strap_counts, count_ends}
 use borrow.Author.Rules.{rules}
 use Rattle.mesh_calls.proofs.fans.straps_with.Statement.{statement}
 use Rattle.mesh_calls.proofs.fans.straps_with.Tie as tie
 
 abbrev invariant-loop : tie.invariant-loop
-invariant-loop v e ends c n₀ i₀ n i = ((lengths : List Float) → n ≡ length (holding v (strapsFrom 0 (edges_at i ends lengths)))) × (n ≤ i) × (i ≤ e)
+invariant-loop v e ends c n₀ i₀ n i = ((lengths : List Float) → n ≡ length (holding v (straps_from 0 (edges_at i ends lengths)))) × (n ≤ i) × (i ≤ e)
 
 abbrev decreases-loop : tie.decreases-loop
 decreases-loop v e ends c n₀ i₀ n i = e - i
@@ -62,13 +62,13 @@ loop-less : tie.Need-loop-smaller invariant-loop decreases-loop
 loop-less c = omega arith
 
 loop-again : tie.Need-loop-preserved invariant-loop decreases-loop
-loop-again c = (λ lengths. strap-counts _ _ _ _ _ lengths (c.before.before.before.before.before.loop.invariant.0 lengths) c.strap-holds.ensures.0, omega (arith, c.strap-holds.ensures.1), omega arith)
+loop-again c = (λ lengths. strap_counts _ _ _ _ _ lengths (c.before.before.before.before.before.loop.invariant.0 lengths) c.strap-holds.ensures.0, omega (arith, c.strap-holds.ensures.1), omega arith)
 
 returns : tie.Need-returns invariant-loop decreases-loop
-returns c = λ lengths. count-ends (λ (j : ℕ). length (holding c.before.before.before.args.v (strapsFrom 0 (edges_at j c.before.before.before.args.ends.now lengths)))) _ _ _ (c.before.loop.invariant.0 lengths) c.before.loop.invariant.2 c.loop-test.false
+returns c = λ lengths. count_ends (λ (j : ℕ). length (holding c.before.before.before.args.v (straps_from 0 (edges_at j c.before.before.before.args.ends.now lengths)))) _ _ _ (c.before.loop.invariant.0 lengths) c.before.loop.invariant.2 c.loop-test.false
 
-pub straps-with-spec : {M : Type 1} → statement M
-straps-with-spec =
+pub straps_with_spec : {M : Type 1} → statement M
+straps_with_spec =
     tie.close
     (tie.spec
     invariant-loop

@@ -5,22 +5,22 @@ use mathlib.Core.Path.{◌≡◌}
 use mathlib.Core.List.{List}
 use lib.ListN.{length}
 use lib.Ieee.{Float}
-use Rattle.model.specs.Elements.{trianglesFrom}
-use Rattle.mesh.specs.At.{trianglesAt}
+use Rattle.model.specs.Elements.{triangles_from}
+use Rattle.mesh.specs.At.{triangles_at}
 use Rattle.elements.specs.Table.{holding}
-use Rattle.mesh_calls.proofs.Fanned.{no-triangles, triangle-counts, count-ends}
+use Rattle.mesh_calls.proofs.Fanned.{no_triangles, triangle_counts, count_ends}
 use borrow.Author.Rules.{rules}
 use Rattle.mesh_calls.proofs.fans.triangles_with.Statement.{statement}
 use Rattle.mesh_calls.proofs.fans.triangles_with.Tie as tie
 
 abbrev invariant-loop : tie.invariant-loop
-invariant-loop v t corners c n₀ i₀ n i = ((volumes : List Float) → n ≡ length (holding v (trianglesFrom 0 (trianglesAt i corners volumes)))) × (n ≤ i) × (i ≤ t)
+invariant-loop v t corners c n₀ i₀ n i = ((volumes : List Float) → n ≡ length (holding v (triangles_from 0 (triangles_at i corners volumes)))) × (n ≤ i) × (i ≤ t)
 
 abbrev decreases-loop : tie.decreases-loop
 decreases-loop v t corners c n₀ i₀ n i = t - i
 
 loop-holds : tie.Need-loop-init invariant-loop decreases-loop
-loop-holds c = (λ volumes. no-triangles _ _ volumes, omega arith, omega arith)
+loop-holds c = (λ volumes. no_triangles _ _ volumes, omega arith, omega arith)
 
 mul-triangle-holds : tie.Need-overflow-mul-triangle-holds invariant-loop decreases-loop
 mul-triangle-holds c = omega arith
@@ -62,13 +62,13 @@ loop-less : tie.Need-loop-smaller invariant-loop decreases-loop
 loop-less c = omega arith
 
 loop-again : tie.Need-loop-preserved invariant-loop decreases-loop
-loop-again c = (λ volumes. triangle-counts _ _ _ _ _ volumes (c.before.before.before.before.before.loop.invariant.0 volumes) c.triangle-holds.ensures.0, omega (arith, c.triangle-holds.ensures.1), omega arith)
+loop-again c = (λ volumes. triangle_counts _ _ _ _ _ volumes (c.before.before.before.before.before.loop.invariant.0 volumes) c.triangle-holds.ensures.0, omega (arith, c.triangle-holds.ensures.1), omega arith)
 
 returns : tie.Need-returns invariant-loop decreases-loop
-returns c = λ volumes. count-ends (λ (j : ℕ). length (holding c.before.before.before.args.v (trianglesFrom 0 (trianglesAt j c.before.before.before.args.corners.now volumes)))) _ _ _ (c.before.loop.invariant.0 volumes) c.before.loop.invariant.2 c.loop-test.false
+returns c = λ volumes. count_ends (λ (j : ℕ). length (holding c.before.before.before.args.v (triangles_from 0 (triangles_at j c.before.before.before.args.corners.now volumes)))) _ _ _ (c.before.loop.invariant.0 volumes) c.before.loop.invariant.2 c.loop-test.false
 
-pub triangles-with-spec : {M : Type 1} → statement M
-triangles-with-spec =
+pub triangles_with_spec : {M : Type 1} → statement M
+triangles_with_spec =
     tie.close
     (tie.spec
     invariant-loop

@@ -3,7 +3,7 @@ use Prim.Native.Nat.{◌*◌}
 use native.Mathlib.Omega.{arith}
 use mathlib.Core.Path.{sym}
 use lib.Seq.{length-take-le}
-use Rattle.mesh_replies.proofs.Tellings.{log-written}
+use Rattle.mesh_replies.proofs.Tellings.{log_written}
 use borrow.Author.Rules.{rules}
 use Rattle.mesh_replies.proofs.outcome.log_out.Statement.{statement}
 use Rattle.mesh_replies.proofs.outcome.log_out.Tie as tie
@@ -24,10 +24,10 @@ same_length : tie.Need-same-length
 same_length c = search rules
 
 returns : tie.Need-returns
-returns c = log-written _ _ _ _ (omega (arith, c.before.before.before.before.before.before.before.before.before.before.before.requires.1, length-take-le (6 * c.before.before.before.before.before.before.before.before.before.before.before.args.n) c.before.before.before.before.before.before.before.before.before.before.before.args.words.now c.before.before.before.before.before.before.before.before.before.before.before.requires.0)) c.before.before.before.before.before.before.before.clear-bytes.ensures c.before.before.store-log.ensures
+returns c = log_written _ _ _ _ (omega (arith, c.before.before.before.before.before.before.before.before.before.before.before.requires.1, length-take-le (6 * c.before.before.before.before.before.before.before.before.before.before.before.args.n) c.before.before.before.before.before.before.before.before.before.before.before.args.words.now c.before.before.before.before.before.before.before.before.before.before.before.requires.0)) c.before.before.before.before.before.before.before.clear-bytes.ensures c.before.before.store-log.ensures
 
-pub log-out-spec : {M : Type 1} → statement M
-log-out-spec =
+pub log_out_spec : {M : Type 1} → statement M
+log_out_spec =
     tie.close
     (tie.spec
     clear-bytes-requires

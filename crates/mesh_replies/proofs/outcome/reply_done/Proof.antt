@@ -1,7 +1,7 @@
 -- `mesh_replies::outcome::reply_done` meets its contract: the answer and the log, where the bytes have room for them. Assumes nothing.
 use mathlib.Core.Path.{refl, ◌∙◌}
 use native.Mathlib.Omega.{arith}
-use Rattle.mesh_replies.proofs.Tellings.{done-storable, done-short, done-replied}
+use Rattle.mesh_replies.proofs.Tellings.{done_storable, done_short, done_replied}
 use borrow.Author.Rules.{rules}
 use Rattle.mesh_replies.proofs.outcome.reply_done.Statement.{statement}
 use Rattle.mesh_replies.proofs.outcome.reply_done.Tie as tie
@@ -46,7 +46,7 @@ same-length-2 : tie.Need-same-length-2
 same-length-2 c = search rules
 
 returns : tie.Need-returns
-returns c = let A = c.before.before.before.before.before.before.before.before.before.before.before.before.before.before.before.before.before.before.before.before.args in done-short A.k A.gone.now A.points.now A.roots.now A.corners.now A.volumes.now A.ends.now A.lengths.now A.outline.now _ _ c.before.before.before.before.before.before.before.before.before.before.before.before.before.before.before.before.before.before.before.before.requires A.any _ _ _ _ _ c.before.before.before.before.before.before.before.if1.true c.before.before.before.before.refuse.ensures
+returns c = let A = c.before.before.before.before.before.before.before.before.before.before.before.before.before.before.before.before.before.before.before.before.args in done_short A.k A.gone.now A.points.now A.roots.now A.corners.now A.volumes.now A.ends.now A.lengths.now A.outline.now _ _ c.before.before.before.before.before.before.before.before.before.before.before.before.before.before.before.before.before.before.before.before.requires A.any _ _ _ _ _ c.before.before.before.before.before.before.before.if1.true c.before.before.before.before.refuse.ensures
 
 one-if-requires : tie.Need-one-if-requires
 one-if-requires c κs = search rules
@@ -58,7 +58,7 @@ put-word-requires-2 : tie.Need-put-word-requires-2
 put-word-requires-2 c κs = omega (arith, c.before.before.before.before.before.before.if1.false, c.before.before.before.put_word.auto.0)
 
 store-without-requires : tie.Need-store-without-requires
-store-without-requires c κs = let A = c.before.before.before.before.before.before.before.before.before.before.before.before.before.before.before.before.before.before.before.before.before.before.before.args in done-storable A.k A.gone.now A.points.now A.roots.now A.corners.now A.volumes.now A.ends.now A.lengths.now A.outline.now _ _ c.before.before.before.before.before.before.before.before.before.before.before.before.before.before.before.before.before.before.before.before.before.before.before.requires _ _ (c.before.before.before.put-word2.auto.0 ∙ c.before.before.before.before.before.before.before.put_word.auto.0) c.before.before.before.before.before.before.before.before.before.before.if1.false
+store-without-requires c κs = let A = c.before.before.before.before.before.before.before.before.before.before.before.before.before.before.before.before.before.before.before.before.before.before.before.args in done_storable A.k A.gone.now A.points.now A.roots.now A.corners.now A.volumes.now A.ends.now A.lengths.now A.outline.now _ _ c.before.before.before.before.before.before.before.before.before.before.before.before.before.before.before.before.before.before.before.before.before.before.before.requires _ _ (c.before.before.before.put-word2.auto.0 ∙ c.before.before.before.before.before.before.before.put_word.auto.0) c.before.before.before.before.before.before.before.before.before.before.if1.false
 
 clear-bytes-from-requires : tie.Need-clear-bytes-from-requires
 clear-bytes-from-requires c κs = omega (arith, c.before.before.before.before.before.before.before.before.before.before.before.before.before.before.if1.false, c.before.before.before.before.before.before.before.before.before.before.before.put_word.auto.0, c.before.before.before.before.before.before.before.put-word2.auto.0, c.before.before.before.store-without.auto.1.1.1.1.1.1.1.1.1.1.1.0)
@@ -73,10 +73,10 @@ same-length-4 : tie.Need-same-length-4
 same-length-4 c = search rules
 
 returns-2 : tie.Need-returns-2
-returns-2 c = let A = c.before.before.before.before.before.before.before.before.before.before.before.before.before.before.before.before.before.before.before.before.before.before.before.before.before.before.before.before.before.before.before.before.before.before.args in done-replied A.k A.gone.now A.points.now A.roots.now A.corners.now A.volumes.now A.ends.now A.lengths.now A.outline.now _ _ c.before.before.before.before.before.before.before.before.before.before.before.before.before.before.before.before.before.before.before.before.before.before.before.before.before.before.before.before.before.before.before.before.before.before.requires A.any _ _ _ _ A.out.now _ _ _ _ _ refl c.before.before.before.before.before.before.before.before.before.before.before.before.before.before.before.before.before.before.before.before.before.if1.false c.before.before.before.before.before.before.before.before.before.before.before.before.before.before.before.before.before.before.before.one-if.ensures c.before.before.before.before.before.before.before.before.before.before.before.before.before.before.before.before.before.before.put_word.ensures c.before.before.before.before.before.before.before.before.before.before.before.before.before.before.put-word2.ensures c.before.before.before.before.before.before.before.before.before.before.store-without.ensures (c.before.before.before.before.before.before.before.before.before.before.store-without.auto.1.1.1.1.1.1.1.1.1.1.1.0 ∙ c.before.before.before.before.before.before.before.before.before.before.before.before.before.before.put-word2.auto.0 ∙ c.before.before.before.before.before.before.before.before.before.before.before.before.before.before.before.before.before.before.put_word.auto.0) c.before.before.before.before.before.before.clear-bytes-from.ensures c.before.before.log-out.ensures refl
+returns-2 c = let A = c.before.before.before.before.before.before.before.before.before.before.before.before.before.before.before.before.before.before.before.before.before.before.before.before.before.before.before.before.before.before.before.before.before.before.args in done_replied A.k A.gone.now A.points.now A.roots.now A.corners.now A.volumes.now A.ends.now A.lengths.now A.outline.now _ _ c.before.before.before.before.before.before.before.before.before.before.before.before.before.before.before.before.before.before.before.before.before.before.before.before.before.before.before.before.before.before.before.before.before.before.requires A.any _ _ _ _ A.out.now _ _ _ _ _ refl c.before.before.before.before.before.before.before.before.before.before.before.before.before.before.before.before.before.before.before.before.before.if1.false c.before.before.before.before.before.before.before.before.before.before.before.before.before.before.before.before.before.before.before.one-if.ensures c.before.before.before.before.before.before.before.before.before.before.before.before.before.before.before.before.before.before.put_word.ensures c.before.before.before.before.before.before.before.before.before.before.before.before.before.before.put-word2.ensures c.before.before.before.before.before.before.before.before.before.before.store-without.ensures (c.before.before.before.before.before.before.before.before.before.before.store-without.auto.1.1.1.1.1.1.1.1.1.1.1.0 ∙ c.before.before.before.before.before.before.before.before.before.before.before.before.before.before.put-word2.auto.0 ∙ c.before.before.before.before.before.before.before.before.before.before.before.before.before.before.before.before.before.before.put_word.auto.0) c.before.before.before.before.before.before.clear-bytes-from.ensures c.before.before.log-out.ensures refl
 
-pub reply-done-spec : {M : Type 1} → statement M
-reply-done-spec =
+pub reply_done_spec : {M : Type 1} → statement M
+reply_done_spec =
     tie.close
     (tie.spec
     shared-slice-read-s

@@ -3,7 +3,7 @@ use Prim.Native.Nat.{◌-◌}
 use native.Mathlib.Omega.{arith}
 use mathlib.Core.Path.{refl}
 use lib.ListN.{length}
-use Rattle.image_writing.proofs.Puts.{Putting, put-start, put-more, put-done}
+use Rattle.image_writing.proofs.Puts.{Putting, put_start, put_more, put_done}
 use Rattle.mesh_replies.proofs.outcome.store_log.Statement.{statement}
 use Rattle.mesh_replies.proofs.outcome.store_log.Tie as tie
 
@@ -14,7 +14,7 @@ abbrev decreases-loop : tie.decreases-loop
 decreases-loop words at log₀ i₀ log i = length words - i
 
 loop-holds : tie.Need-loop-init invariant-loop decreases-loop
-loop-holds c = put-start (λ l. l) (λ x. x) refl (λ a. refl) (λ x y. refl) (λ x. refl) _ _ _
+loop-holds c = put_start (λ l. l) (λ x. x) refl (λ a. refl) (λ x y. refl) (λ x. refl) _ _ _
 
 add-put-word : tie.Need-overflow-add-put-word invariant-loop decreases-loop
 add-put-word c = omega arith
@@ -38,16 +38,16 @@ loop-less : tie.Need-loop-smaller invariant-loop decreases-loop
 loop-less c = omega arith
 
 loop-again : tie.Need-loop-preserved invariant-loop decreases-loop
-loop-again c = put-more (λ l. l) (λ x. x) refl (λ a. refl) (λ x y. refl) (λ x. refl) _ _ _ _ _ _ 0 _ c.before.before.before.before.before.before.loop.invariant c.before.before.before.before.before.loop-test.true c.before.before.before.before.before.before.before.before.before.requires c.before.before.put_word.ensures refl c.before.before.put_word.auto.0
+loop-again c = put_more (λ l. l) (λ x. x) refl (λ a. refl) (λ x y. refl) (λ x. refl) _ _ _ _ _ _ 0 _ c.before.before.before.before.before.before.loop.invariant c.before.before.before.before.before.loop-test.true c.before.before.before.before.before.before.before.before.before.requires c.before.before.put_word.ensures refl c.before.before.put_word.auto.0
 
 same_length : tie.Need-same-length invariant-loop decreases-loop
 same_length c = c.before.loop.invariant.long
 
 returns : tie.Need-returns invariant-loop decreases-loop
-returns c = put-done (λ l. l) (λ x. x) refl (λ a. refl) (λ x y. refl) (λ x. refl) _ _ _ _ _ c.before.loop.invariant c.loop-test.false
+returns c = put_done (λ l. l) (λ x. x) refl (λ a. refl) (λ x y. refl) (λ x. refl) _ _ _ _ _ c.before.loop.invariant c.loop-test.false
 
-pub store-log-spec : {M : Type 1} → statement M
-store-log-spec =
+pub store_log_spec : {M : Type 1} → statement M
+store_log_spec =
     tie.close
     (tie.spec
     invariant-loop

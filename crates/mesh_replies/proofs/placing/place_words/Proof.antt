@@ -3,14 +3,14 @@ use Prim.Native.Nat.{◌+◌, ◌-◌, ◌*◌, ◌≤◌}
 use native.Mathlib.Omega.{arith}
 use lib.ListN.{length}
 use lib.Ieee.{nan}
-use Rattle.columns.proofs.Blocks.{BlockCopying, block-copy-start, block-copy-done}
-use Rattle.image.specs.Words.{wordsFrom}
-use Rattle.mesh_replies.proofs.Places.{words-lie, words_more}
+use Rattle.columns.proofs.Blocks.{BlockCopying, block_copy_start, block_copy_done}
+use Rattle.image.specs.Words.{words_from}
+use Rattle.mesh_replies.proofs.Places.{words_lie, words_more}
 use Rattle.mesh_replies.proofs.placing.place_words.Statement.{statement}
 use Rattle.mesh_replies.proofs.placing.place_words.Tie as tie
 
 abbrev invariant-loop : tie.invariant-loop
-invariant-loop bytes at n width stride block₀ c₀ o₀ a₀ block c o a = BlockCopying 0 n width stride (wordsFrom bytes at (width * n)) block₀ block c o a
+invariant-loop bytes at n width stride block₀ c₀ o₀ a₀ block c o a = BlockCopying 0 n width stride (words_from bytes at (width * n)) block₀ block c o a
 
 abbrev decreases-loop : tie.decreases-loop
 decreases-loop bytes at n width stride block₀ c₀ o₀ a₀ block c o a = width - c
@@ -19,10 +19,10 @@ decreases-loop bytes at n width stride block₀ c₀ o₀ a₀ block c o a = wid
 lie : (c : tie.In-loop invariant-loop decreases-loop)
     → (c.before.loop.o + c.before.before.before.before.args.stride ≤ length c.before.loop.block)
     × (c.before.loop.a + c.before.before.before.before.args.n ≤ c.before.before.before.before.args.width * c.before.before.before.before.args.n)
-lie c = let pre = c.before.before.before.before.requires in words-lie _ _ _ _ _ _ _ _ _ _ c.before.loop.invariant c.loop-test.true pre.1 pre.0
+lie c = let pre = c.before.before.before.before.requires in words_lie _ _ _ _ _ _ _ _ _ _ c.before.loop.invariant c.loop-test.true pre.1 pre.0
 
 loop-holds : tie.Need-loop-init invariant-loop decreases-loop
-loop-holds c = block-copy-start _ _ _ _ _ _
+loop-holds c = block_copy_start _ _ _ _ _ _
 
 add-e : tie.Need-overflow-add-e invariant-loop decreases-loop
 add-e c = omega (arith, (lie c).0)
@@ -64,10 +64,10 @@ same_length : tie.Need-same-length invariant-loop decreases-loop
 same_length c = c.before.loop.invariant.long
 
 returns : tie.Need-returns invariant-loop decreases-loop
-returns c = block-copy-done _ _ _ _ _ _ _ _ _ _ c.before.loop.invariant c.loop-test.false
+returns c = block_copy_done _ _ _ _ _ _ _ _ _ _ c.before.loop.invariant c.loop-test.false
 
-pub place-words-spec : {M : Type 1} → statement M
-place-words-spec =
+pub place_words_spec : {M : Type 1} → statement M
+place_words_spec =
     tie.close
     (tie.spec
     invariant-loop

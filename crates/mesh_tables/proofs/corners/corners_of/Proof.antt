@@ -1,7 +1,7 @@
 -- `mesh_tables::corners::corners_of` meets its contract. Assumes nothing.
 use borrow.Author.Rules.{rules}
 use native.Mathlib.Omega.{arith}
-use Rattle.mesh_tables.proofs.Cornering.{corner-room, mesh-cornered}
+use Rattle.mesh_tables.proofs.Cornering.{corner_room, mesh_cornered}
 use Rattle.mesh_tables.proofs.corners.corners_of.Statement.{statement}
 use Rattle.mesh_tables.proofs.corners.corners_of.Tie as tie
 
@@ -9,7 +9,7 @@ kind-of-requires : tie.Need-kind-of-requires
 kind-of-requires c κs = search rules
 
 kind-corners-requires : tie.Need-kind-corners-requires
-kind-corners-requires c κs = corner-room c.before.before.before.before.before.before.before.before.before.before.requires.0 c.before.before.before.before.before.before.before.before.before.before.requires.1
+kind-corners-requires c κs = corner_room c.before.before.before.before.before.before.before.before.before.before.requires.0 c.before.before.before.before.before.before.before.before.before.before.requires.1
 
 corners-per-requires : tie.Need-corners-per-requires
 corners-per-requires c κs = search rules
@@ -21,10 +21,10 @@ returns : tie.Need-returns
 returns c =
     let P = c.before.before.before.before.before.before.before.before.before.before.before.before.before.before.requires in
     let K = c.before.before.before.kind-corners in
-    mesh-cornered _ _ _ _ P.0 c.before.before.before.before.before.kind-of.ensures K.ensures c.corners-per.ensures
+    mesh_cornered _ _ _ _ P.0 c.before.before.before.before.before.kind-of.ensures K.ensures c.corners-per.ensures
 
-pub corners-of-spec : {M : Type 1} → statement M
-corners-of-spec =
+pub corners_of_spec : {M : Type 1} → statement M
+corners_of_spec =
     tie.close
     (tie.spec
     kind-of-requires

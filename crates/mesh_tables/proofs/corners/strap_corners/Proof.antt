@@ -6,7 +6,7 @@ use mathlib.Core.Logic.{⊎_elim}
 use Prim.Native.Nat.{ℕ, ◌*◌, ◌-◌, ◌<◌, ◌≤◌}
 use lib.ListN.{length, length-set}
 use Rattle.mesh_tables.specs.Cornering.{StrapCorners}
-use Rattle.mesh_tables.proofs.Cornering.{strap-corners-none, strap-corners-skip, strap-corners-take}
+use Rattle.mesh_tables.proofs.Cornering.{strap_corners_none, strap_corners_skip, strap_corners_take}
 use Rattle.mesh_tables.proofs.corners.strap_corners.Statement.{statement}
 use Rattle.mesh_tables.proofs.corners.strap_corners.Tie as tie
 
@@ -17,7 +17,7 @@ abbrev decreases-loop : tie.decreases-loop
 decreases-loop e ends verts₀ c i₀ n₀ o₀ verts i n o = e - i
 
 loop-holds : tie.Need-loop-init invariant-loop decreases-loop
-loop-holds c = (omega arith, omega arith, omega arith, refl, strap-corners-none c.args.ends.now c.args.verts.now)
+loop-holds c = (omega arith, omega arith, omega arith, refl, strap_corners_none c.args.ends.now c.args.verts.now)
 
 mul-if1 : tie.Need-overflow-mul-if1 invariant-loop decreases-loop
 mul-if1 c = omega (arith, c.before.loop.invariant.1, c.before.loop.invariant.2, c.before.loop.invariant.3, c.before.before.requires.0, c.before.before.requires.1)
@@ -81,8 +81,8 @@ loop-again c =
     let E = A.ends.now in
     let l : L.i < A.e = search rules in
     ⊎_elim
-    (λ w. rw (w.3, w.4, w.5) (omega arith, omega (arith, L.invariant.1), omega (arith, L.invariant.2), simp length-set L.invariant.3, strap-corners-take E L.verts L.i L.n L.o L.invariant.4 L.invariant.2 L.invariant.1 w.0.taken (omega (arith, L.invariant.1, L.invariant.2, L.invariant.3, P.1))))
-    (λ w. rw (w.1, w.2, w.3) (omega arith, omega (arith, L.invariant.1), L.invariant.2, L.invariant.3, strap-corners-skip E L.verts L.i L.n L.o L.invariant.4 L.invariant.2 L.invariant.1 w.0.left))
+    (λ w. rw (w.3, w.4, w.5) (omega arith, omega (arith, L.invariant.1), omega (arith, L.invariant.2), simp length-set L.invariant.3, strap_corners_take E L.verts L.i L.n L.o L.invariant.4 L.invariant.2 L.invariant.1 w.0.taken (omega (arith, L.invariant.1, L.invariant.2, L.invariant.3, P.1))))
+    (λ w. rw (w.1, w.2, w.3) (omega arith, omega (arith, L.invariant.1), L.invariant.2, L.invariant.3, strap_corners_skip E L.verts L.i L.n L.o L.invariant.4 L.invariant.2 L.invariant.1 w.0.left))
     c.if1.branch
 
 same_length : tie.Need-same-length invariant-loop decreases-loop
@@ -95,8 +95,8 @@ returns c =
     let e : L.i ≡ A.e = omega (arith, L.invariant.0) in
     subst (λ (m : ℕ). StrapCorners m A.ends.now L.n L.verts) e L.invariant.4
 
-pub strap-corners-spec : {M : Type 1} → statement M
-strap-corners-spec =
+pub strap_corners_spec : {M : Type 1} → statement M
+strap_corners_spec =
     tie.close
     (tie.spec
     invariant-loop

@@ -5,7 +5,7 @@ use mathlib.Core.Path.{◌≡◌, refl, ◌∙◌, subst}
 use Prim.Native.Nat.{ℕ, ◌*◌, ◌-◌, ◌≤◌}
 use lib.ListN.{length, length-set}
 use Rattle.mesh_tables.specs.Cornering.{TriangleCorners}
-use Rattle.mesh_tables.proofs.Cornering.{triangle-corners-none, triangle-corners-more}
+use Rattle.mesh_tables.proofs.Cornering.{triangle_corners_none, triangle_corners_more}
 use Rattle.mesh_tables.proofs.corners.triangle_corners.Statement.{statement}
 use Rattle.mesh_tables.proofs.corners.triangle_corners.Tie as tie
 
@@ -16,7 +16,7 @@ abbrev decreases-loop : tie.decreases-loop
 decreases-loop t corners verts₀ c i₀ o₀ verts i o = t - i
 
 loop-holds : tie.Need-loop-init invariant-loop decreases-loop
-loop-holds c = (omega arith, omega arith, refl, triangle-corners-none c.args.corners.now c.args.verts.now)
+loop-holds c = (omega arith, omega arith, refl, triangle_corners_none c.args.corners.now c.args.verts.now)
 
 mul-verts : tie.Need-overflow-mul-verts invariant-loop decreases-loop
 mul-verts c = omega (arith, c.before.loop.invariant.1, c.before.loop.invariant.2, c.before.before.requires.0, c.before.before.requires.1)
@@ -85,7 +85,7 @@ loop-again c =
       omega arith,
       omega (arith, L.invariant.1),
       simp length-set L.invariant.2,
-      triangle-corners-more A.corners.now L.verts L.i L.o L.invariant.3 L.invariant.1 (omega (arith, L.invariant.1, L.invariant.2, c.before.before.before.before.before.requires.1)),
+      triangle_corners_more A.corners.now L.verts L.i L.o L.invariant.3 L.invariant.1 (omega (arith, L.invariant.1, L.invariant.2, c.before.before.before.before.before.requires.1)),
     )
 
 same_length : tie.Need-same-length invariant-loop decreases-loop
@@ -98,8 +98,8 @@ returns c =
     let e : L.i ≡ A.t = omega (arith, L.invariant.0) in
     subst (λ (m : ℕ). TriangleCorners m A.corners.now L.verts) e L.invariant.3
 
-pub triangle-corners-spec : {M : Type 1} → statement M
-triangle-corners-spec =
+pub triangle_corners_spec : {M : Type 1} → statement M
+triangle_corners_spec =
     tie.close
     (tie.spec
     invariant-loop

@@ -1,7 +1,7 @@
 -- `mesh_tables::fans::put_three` meets its contract: three stores, or no room. Assumes nothing.
 use native.Mathlib.Omega.{arith}
 use lib.ListN.{length-set}
-use Rattle.mesh_tables.proofs.FanLaws.{three-put, no_room}
+use Rattle.mesh_tables.proofs.FanLaws.{three_put, no_room}
 use borrow.Author.Rules.{rules}
 use Rattle.mesh_tables.proofs.fans.put_three.Statement.{statement}
 use Rattle.mesh_tables.proofs.fans.put_three.Tie as tie
@@ -37,13 +37,13 @@ same_length : tie.Need-same-length
 same_length c = search rules
 
 returns : tie.Need-returns
-returns c = three-put _ _ _ _ _ c.if1.true
+returns c = three_put _ _ _ _ _ c.if1.true
 
 returns-2 : tie.Need-returns-2
 returns-2 c = no_room 3 _ _ _ (let h = c.if1.false in omega arith)
 
-pub put-three-spec : {M : Type 1} → statement M
-put-three-spec =
+pub put_three_spec : {M : Type 1} → statement M
+put_three_spec =
     tie.close
     (tie.spec
     mul-o

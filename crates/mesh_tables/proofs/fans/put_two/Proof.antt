@@ -1,7 +1,7 @@
 -- `mesh_tables::fans::put_two` meets its contract: two stores, or no room. Assumes nothing.
 use native.Mathlib.Omega.{arith}
 use lib.ListN.{length-set}
-use Rattle.mesh_tables.proofs.FanLaws.{two-put, no_room}
+use Rattle.mesh_tables.proofs.FanLaws.{two_put, no_room}
 use borrow.Author.Rules.{rules}
 use Rattle.mesh_tables.proofs.fans.put_two.Statement.{statement}
 use Rattle.mesh_tables.proofs.fans.put_two.Tie as tie
@@ -28,13 +28,13 @@ same_length : tie.Need-same-length
 same_length c = search rules
 
 returns : tie.Need-returns
-returns c = two-put _ _ _ _ c.if1.true
+returns c = two_put _ _ _ _ c.if1.true
 
 returns-2 : tie.Need-returns-2
 returns-2 c = no_room 2 _ _ _ (let h = c.if1.false in omega arith)
 
-pub put-two-spec : {M : Type 1} → statement M
-put-two-spec =
+pub put_two_spec : {M : Type 1} → statement M
+put_two_spec =
     tie.close
     (tie.spec
     mul-o

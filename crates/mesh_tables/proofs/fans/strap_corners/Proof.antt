@@ -7,19 +7,19 @@ use mathlib.Core.List.{List}
 use mathlib.Core.Logic.{⊎_elim}
 use lib.Ieee.{Float}
 use lib.ListN.{length}
-use Rattle.mesh_tables.specs.Fans.{CornersRead, strapsWith}
-use Rattle.mesh_tables.proofs.FanLaws.{corners-none, corners-skip, corners-take, straps-held, no-straps}
+use Rattle.mesh_tables.specs.Fans.{CornersRead, straps_with}
+use Rattle.mesh_tables.proofs.FanLaws.{corners_none, corners_skip, corners_take, straps_held, no_straps}
 use Rattle.mesh_tables.proofs.fans.strap_corners.Statement.{statement}
 use Rattle.mesh_tables.proofs.fans.strap_corners.Tie as tie
 
 abbrev invariant-loop : tie.invariant-loop
-invariant-loop v e ends verts₀ c r₀ i₀ verts r i = ((M : List Float) → CornersRead 2 (strapsWith v i ends M) r verts) × (length verts ≡ length verts₀) × (r ≤ i) × (i ≤ e)
+invariant-loop v e ends verts₀ c r₀ i₀ verts r i = ((M : List Float) → CornersRead 2 (straps_with v i ends M) r verts) × (length verts ≡ length verts₀) × (r ≤ i) × (i ≤ e)
 
 abbrev decreases-loop : tie.decreases-loop
 decreases-loop v e ends verts₀ c r₀ i₀ verts r i = e - i
 
 loop-holds : tie.Need-loop-init invariant-loop decreases-loop
-loop-holds c = let A = c.before.before.args in (λ M. rw (no-straps A.v A.ends.now M) (corners-none 2 _), refl, omega arith, omega arith)
+loop-holds c = let A = c.before.before.args in (λ M. rw (no_straps A.v A.ends.now M) (corners_none 2 _), refl, omega arith, omega arith)
 
 mul-x : tie.Need-overflow-mul-x invariant-loop decreases-loop
 mul-x c = omega arith
@@ -68,8 +68,8 @@ loop-again c = let A = c.before.before.before.before.before.before.before.before
     let inv = c.before.before.before.before.before.before.loop.invariant in
     let said = sym c.before.strap-holds.ensures in
     ⊎_elim
-    (λ w. rw (w.5, w.6) ((λ M. corners-take _ _ _ _ (straps-held A.v A.ends.now M _) 2 _ _ _ (inv.0 M) (said ∙ w.0.taken) refl w.2.ensures), w.2.ensures.long ∙ inv.1, omega arith, omega arith))
-    (λ w. rw (w.1, w.2) ((λ M. corners-skip _ _ _ _ (straps-held A.v A.ends.now M _) 2 _ _ (inv.0 M) (said ∙ w.0.left)), inv.1, omega arith, omega arith))
+    (λ w. rw (w.5, w.6) ((λ M. corners_take _ _ _ _ (straps_held A.v A.ends.now M _) 2 _ _ _ (inv.0 M) (said ∙ w.0.taken) refl w.2.ensures), w.2.ensures.long ∙ inv.1, omega arith, omega arith))
+    (λ w. rw (w.1, w.2) ((λ M. corners_skip _ _ _ _ (straps_held A.v A.ends.now M _) 2 _ _ (inv.0 M) (said ∙ w.0.left)), inv.1, omega arith, omega arith))
     c.if1.branch
 
 same_length : tie.Need-same-length invariant-loop decreases-loop
@@ -79,10 +79,10 @@ returns : tie.Need-returns invariant-loop decreases-loop
 returns c = let A = c.before.before.before.before.args in
     let L = c.before.loop in
     let q : L.i ≡ A.e = omega (arith, L.invariant.3) in
-    λ M. subst (λ (j : ℕ). CornersRead 2 (strapsWith A.v j A.ends.now M) L.r L.verts) q (L.invariant.0 M)
+    λ M. subst (λ (j : ℕ). CornersRead 2 (straps_with A.v j A.ends.now M) L.r L.verts) q (L.invariant.0 M)
 
-pub strap-corners-spec : {M : Type 1} → statement M
-strap-corners-spec =
+pub strap_corners_spec : {M : Type 1} → statement M
+strap_corners_spec =
     tie.close
     (tie.spec
     invariant-loop

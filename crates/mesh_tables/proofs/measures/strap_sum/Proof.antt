@@ -7,21 +7,21 @@ use lib.ListN.{length, get_or}
 use Rattle.float.specs.Numbers.{plus}
 use mathlib.Core.Path.{◌≡◌, sym, ◌∙◌, ap}
 use mathlib.Core.Logic.{⊎_elim}
-use Rattle.model.specs.Elements.{strapsFrom}
+use Rattle.model.specs.Elements.{straps_from}
 use Rattle.mesh.specs.At.{edges_at}
-use Rattle.mesh_tables.proofs.Summing.{summed, straps-none, straps-take, straps-skip}
+use Rattle.mesh_tables.proofs.Summing.{summed, straps_none, straps_take, straps_skip}
 use Rattle.mesh_tables.proofs.measures.strap_sum.Statement.{statement}
 use Rattle.mesh_tables.proofs.measures.strap_sum.Tie as tie
 
 abbrev invariant-loop : tie.invariant-loop
-invariant-loop e ends lengths c m s₀ i₀ s i = (i ≤ e) × (s ≡ summed (strapsFrom 0 (edges_at i ends lengths)))
+invariant-loop e ends lengths c m s₀ i₀ s i = (i ≤ e) × (s ≡ summed (straps_from 0 (edges_at i ends lengths)))
 
 abbrev decreases-loop : tie.decreases-loop
 decreases-loop e ends lengths c m s₀ i₀ s i = e - i
 
 loop-holds : tie.Need-loop-init invariant-loop decreases-loop
 unfolding of_bits
-loop-holds c = (omega arith, sym (straps-none c.args.ends.now c.args.lengths.now))
+loop-holds c = (omega arith, sym (straps_none c.args.ends.now c.args.lengths.now))
 
 mul-if1 : tie.Need-overflow-mul-if1 invariant-loop decreases-loop
 mul-if1 c = omega (arith, c.before.before.requires.0, c.before.before.requires.1)
@@ -57,8 +57,8 @@ loop-again c =
     let E = A.ends.now in
     let S = A.lengths.now in
     ⊎_elim
-    (λ w. (omega arith, w.2 ∙ ap (λ (x : Float). plus x (get_or S (length S / 4 + L.i) nan)) L.invariant.1 ∙ sym (straps-take E S L.i w.0.taken)))
-    (λ w. (omega arith, w.1 ∙ L.invariant.1 ∙ sym (straps-skip E S L.i w.0.left)))
+    (λ w. (omega arith, w.2 ∙ ap (λ (x : Float). plus x (get_or S (length S / 4 + L.i) nan)) L.invariant.1 ∙ sym (straps_take E S L.i w.0.taken)))
+    (λ w. (omega arith, w.1 ∙ L.invariant.1 ∙ sym (straps_skip E S L.i w.0.left)))
     c.if1.branch
 
 returns : tie.Need-returns invariant-loop decreases-loop
@@ -66,10 +66,10 @@ returns c =
     let A = c.before.before.args in
     let L = c.before.loop in
     let e : L.i ≡ A.e = omega (arith, L.invariant.0) in
-    L.invariant.1 ∙ ap (λ (j : ℕ). summed (strapsFrom 0 (edges_at j A.ends.now A.lengths.now))) e
+    L.invariant.1 ∙ ap (λ (j : ℕ). summed (straps_from 0 (edges_at j A.ends.now A.lengths.now))) e
 
-pub strap-sum-spec : {M : Type 1} → statement M
-strap-sum-spec =
+pub strap_sum_spec : {M : Type 1} → statement M
+strap_sum_spec =
     tie.close
     (tie.spec
     invariant-loop

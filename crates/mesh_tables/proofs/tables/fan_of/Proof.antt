@@ -1,5 +1,5 @@
 -- `mesh_tables::tables::fan_of` meets its contract: the table of all elements, and the rows that hold v. Assumes nothing.
-use Rattle.mesh_tables.proofs.Accepted.{fan-found}
+use Rattle.mesh_tables.proofs.Accepted.{fan_found}
 use native.Mathlib.Omega.{arith}
 use borrow.Author.Rules.{rules}
 use Rattle.mesh_tables.proofs.tables.fan_of.Statement.{statement}
@@ -37,10 +37,10 @@ same-length-2 c = search rules
 
 returns : tie.Need-returns
 returns c = let F = c.before.before.before.before.fan-table in
-    fan-found _ _ _ _ _ _ _ _ _ _ _ _ c.before.before.before.before.before.before.before.before.before.before.before.before.before.before.before.table.ensures F.ensures.0 F.ensures.1 (omega (arith, c.before.before.before.before.before.before.before.before.before.before.before.before.before.before.before.before.before.before.before.before.before.before.before.before.before.before.before.before.requires.1.fan-long, F.auto.1.1.1.1.1.1.1.0))
+    fan_found _ _ _ _ _ _ _ _ _ _ _ _ c.before.before.before.before.before.before.before.before.before.before.before.before.before.before.before.table.ensures F.ensures.0 F.ensures.1 (omega (arith, c.before.before.before.before.before.before.before.before.before.before.before.before.before.before.before.before.before.before.before.before.before.before.before.before.before.before.before.before.requires.1.fan_long, F.auto.1.1.1.1.1.1.1.0))
 
-pub fan-of-spec : {M : Type 1} → statement M
-fan-of-spec =
+pub fan_of_spec : {M : Type 1} → statement M
+fan_of_spec =
     tie.close
     (tie.spec
     slice-aggregate-table

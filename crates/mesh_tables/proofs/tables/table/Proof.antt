@@ -1,6 +1,6 @@
 -- `mesh_tables::tables::table` meets its contract: the kind of the mesh, and the table of its elements. Assumes nothing.
 use native.Mathlib.Omega.{arith}
-use Rattle.mesh_tables.proofs.Accepted.{table-room, mesh-tabled}
+use Rattle.mesh_tables.proofs.Accepted.{table_room, mesh_tabled}
 use borrow.Author.Rules.{rules}
 use Rattle.mesh_tables.proofs.tables.table.Statement.{statement}
 use Rattle.mesh_tables.proofs.tables.table.Tie as tie
@@ -9,7 +9,7 @@ kind-of-requires : tie.Need-kind-of-requires
 kind-of-requires c κs = search rules
 
 element-table-requires : tie.Need-element-table-requires
-element-table-requires c κs = table-room c.before.before.before.before.before.before.before.before.before.before.before.before.before.before.requires.0 c.before.before.before.before.before.before.before.before.before.before.before.before.before.before.requires.1
+element-table-requires c κs = table_room c.before.before.before.before.before.before.before.before.before.before.before.before.before.before.requires.0 c.before.before.before.before.before.before.before.before.before.before.before.before.before.before.requires.1
 
 corners-per-requires : tie.Need-corners-per-requires
 corners-per-requires c κs = search rules
@@ -29,10 +29,10 @@ same-length-3 c = search rules
 returns : tie.Need-returns
 returns c = let P = c.before.before.before.before.before.before.before.before.before.before.before.before.before.before.before.before.before.before.before.before.before.before.before.requires in
     let T = c.before.before.before.before.before.before.before.before.element-table in
-    mesh-tabled _ P.0 _ _ _ _ _ _ _ c.before.before.before.before.before.before.before.before.before.before.before.before.kind-of.ensures T.ensures c.before.corners-per.ensures c.facet-others.ensures
+    mesh_tabled _ P.0 _ _ _ _ _ _ _ c.before.before.before.before.before.before.before.before.before.before.before.before.kind-of.ensures T.ensures c.before.corners-per.ensures c.facet-others.ensures
 
-pub table-spec : {M : Type 1} → statement M
-table-spec =
+pub table_spec : {M : Type 1} → statement M
+table_spec =
     tie.close
     (tie.spec
     kind-of-requires

@@ -1,15 +1,15 @@
 -- `perform::calls::cut_marked` meets its contract: the cut comes behind its marks, unless they tell that there is none. Assumes nothing.
 use mathlib.Core.Path.{refl, sym, ◌∙◌, ap}
 use borrow.Author.Rules.{rules}
-use Rattle.elements.specs.Table.{kindIs}
-use Rattle.marks.specs.Marking.{bladeBy}
-use Rattle.mesh.specs.Log.{World, worldAt}
+use Rattle.elements.specs.Table.{kind_is}
+use Rattle.marks.specs.Marking.{blade_by}
+use Rattle.mesh.specs.Log.{World, world_at}
 use Rattle.call_frame.proofs.Calls.{unlogged}
-use Rattle.mesh.proofs.Agree.{lent-path}
-use Rattle.work.proofs.Runs.{works-known}
-use Rattle.crack.proofs.BodyLaws.{left-ready, left-entries, left-words}
-use Rattle.perform.proofs.PassedBy.{marks-passed}
-use Rattle.perform.proofs.Worked.{marked-indexed, marks-refused, marks-done}
+use Rattle.mesh.proofs.Agree.{lent_path}
+use Rattle.work.proofs.Runs.{works_known}
+use Rattle.crack.proofs.BodyLaws.{left_ready, left_entries, left_words}
+use Rattle.perform.proofs.PassedBy.{marks_passed}
+use Rattle.perform.proofs.Worked.{marked_indexed, marks_refused, marks_done}
 use Rattle.perform.proofs.calls.cut_marked.Statement.{statement}
 use Rattle.perform.proofs.calls.cut_marked.Tie as tie
 
@@ -46,7 +46,7 @@ same-length-7 c = c.before.before.before.before.note-crossings.auto.1.1.1.1.1.1.
 returns : tie.Need-returns
 returns c =
     let A = c.before.before.before.before.before.before.before.before.before.before.before.before.before.before.before.before.before.before.before.before.before.args in
-    marks-refused (kindIs A.kind) (bladeBy A.rule A.b0 A.b1) A.f c.before.before.before.before.note-crossings.ensures _ c.enum_told.given.1
+    marks_refused (kind_is A.kind) (blade_by A.rule A.b0 A.b1) A.f c.before.before.before.before.note-crossings.ensures _ c.enum_told.given.1
 
 passed-by-requires : tie.Need-passed-by-requires
 passed-by-requires c κs = search rules
@@ -75,17 +75,17 @@ same-length-14 c = c.before.before.before.before.before.before.before.note-cross
 returns-2 : tie.Need-returns-2
 returns-2 c =
     let A = c.before.before.before.before.before.before.before.before.before.before.before.before.before.before.before.before.before.before.before.before.before.before.before.before.args in
-    marks-passed A.rule A.kind A.b0 A.b1 A.f _ (sym c.before.passed-by.ensures ∙ c.if1.true) (λ z. ap (λ (x : World). x.log) (unlogged _ _ _ _ _ _ _ _ _ z)) (works-known _ _ c.before.before.before.ran.given.1 c.before.before.before.before.before.before.before.note-crossings.ensures)
+    marks_passed A.rule A.kind A.b0 A.b1 A.f _ (sym c.before.passed-by.ensures ∙ c.if1.true) (λ z. ap (λ (x : World). x.log) (unlogged _ _ _ _ _ _ _ _ _ z)) (works_known _ _ c.before.before.before.ran.given.1 c.before.before.before.before.before.before.before.note-crossings.ensures)
 
 run-requires : tie.Need-run-requires
-unfolding worldAt
+unfolding world_at
 run-requires c κs =
     let A = c.before.before.before.before.before.before.before.before.before.before.before.before.before.before.before.before.before.before.before.before.before.before.before.before.before.before.before.before.before.before.before.before.args in
     let P = c.before.before.before.before.before.before.before.before.before.before.before.before.before.before.before.before.before.before.before.before.before.before.before.before.before.before.before.before.before.before.before.before.requires in
     let S = c.before.before.before.before.before.before.before.before.before.before.before.before.before.before.before.note-crossings in
-    let F = works-known _ _ c.before.before.before.before.before.before.before.before.before.before.before.ran.given.1 S.ensures in (
-      left-ready F P.1.entries P.1.words (marked-indexed (kindIs A.kind) (bladeBy A.rule A.b0 A.b1)) A.k _ _ P.0 (lent-path _ _ refl refl refl refl refl refl refl S.auto.1.1.1.1.1.1.1.1.1.1.1.1.1.0),
-      record { entries = left-entries F P.1.entries P.1.words; words = left-words F P.1.entries P.1.words },
+    let F = works_known _ _ c.before.before.before.before.before.before.before.before.before.before.before.ran.given.1 S.ensures in (
+      left_ready F P.1.entries P.1.words (marked_indexed (kind_is A.kind) (blade_by A.rule A.b0 A.b1)) A.k _ _ P.0 (lent_path _ _ refl refl refl refl refl refl refl S.auto.1.1.1.1.1.1.1.1.1.1.1.1.1.0),
+      record { entries = left_entries F P.1.entries P.1.words; words = left_words F P.1.entries P.1.words },
       P.2,
     )
 
@@ -116,10 +116,10 @@ same-length-22 c = c.before.before.before.before.before.before.before.before.bef
 returns-3 : tie.Need-returns-3
 returns-3 c =
     let A = c.before.before.before.before.before.before.before.before.before.before.before.before.before.before.before.before.before.before.before.before.before.before.before.before.before.before.before.before.before.before.before.before.before.before.before.before.before.before.before.before.before.before.before.before.before.before.before.before.before.args in
-    marks-done (kindIs A.kind) (bladeBy A.rule A.b0 A.b1) A.f c.before.before.before.before.before.before.before.before.before.before.before.before.before.before.before.before.before.before.before.before.before.before.before.before.before.before.before.before.before.before.before.before.note-crossings.ensures _ c.before.before.before.before.before.before.before.before.before.before.before.before.before.before.before.before.before.before.before.before.before.before.before.before.before.before.before.before.ran.given.1 c.before.before.before.before.before.before.before.before.before.before.before.before.before.before.before.before.run.ensures
+    marks_done (kind_is A.kind) (blade_by A.rule A.b0 A.b1) A.f c.before.before.before.before.before.before.before.before.before.before.before.before.before.before.before.before.before.before.before.before.before.before.before.before.before.before.before.before.before.before.before.before.note-crossings.ensures _ c.before.before.before.before.before.before.before.before.before.before.before.before.before.before.before.before.before.before.before.before.before.before.before.before.before.before.before.before.ran.given.1 c.before.before.before.before.before.before.before.before.before.before.before.before.before.before.before.before.run.ensures
 
-pub cut-marked-spec : {M : Type 1} → statement M
-cut-marked-spec =
+pub cut_marked_spec : {M : Type 1} → statement M
+cut_marked_spec =
     tie.close
     (tie.spec
     note-crossings-requires

@@ -10,5 +10,5 @@ returns c = sym (rw (eq-eqb _ 2 c.if1.true) refl)
 returns-2 : tie.Need-returns-2
 returns-2 c = sym (rw (ne_eqb _ 2 c.if1.false) refl)
 
-pub rule-in-spec : {M : Type 1} → statement M
-rule-in-spec = tie.close (tie.spec returns returns-2)
+pub rule_in_spec : {M : Type 1} → statement M
+rule_in_spec = tie.close (tie.spec returns returns-2)

@@ -2,18 +2,18 @@
 use mathlib.Core.Path.{refl, ◌∙◌}
 use native.Mathlib.Omega.{arith}
 use Rattle.mesh.specs.Given.{given}
-use Rattle.work.proofs.Runs.{works-known}
-use Rattle.edge_drops.proofs.PartedLaws.{listing-done, works-closed}
-use Rattle.mesh.proofs.Agree.{lent-path}
-use Rattle.call_frame.proofs.Begun.{rooms-lent, roomed-still}
-use Rattle.perform.proofs.Worked.{works-any}
-use Rattle.perform.proofs.Performed.{job-refused, job-asked, job-came}
+use Rattle.work.proofs.Runs.{works_known}
+use Rattle.edge_drops.proofs.PartedLaws.{listing_done, works_closed}
+use Rattle.mesh.proofs.Agree.{lent_path}
+use Rattle.call_frame.proofs.Begun.{rooms_lent, roomed_still}
+use Rattle.perform.proofs.Worked.{works_any}
+use Rattle.perform.proofs.Performed.{job_refused, job_asked, job_came}
 use borrow.Author.Rules.{rules}
 use Rattle.perform.proofs.calls.run.Statement.{statement}
 use Rattle.perform.proofs.calls.run.Tie as tie
 
 begin-requires : tie.Need-begin-requires
-begin-requires c κs = let A = c.before.before.before.before.before.before.before.before.before.before.before.before.before.before.before.before.before.before.before.before.before.before.before.args in rooms-lent A.points.now A.roots.now A.corners.now A.volumes.now A.ends.now A.lengths.now A.outline.now A.log.now c.before.before.before.before.before.before.before.before.before.before.before.before.before.before.before.before.before.before.before.before.before.before.before.requires
+begin-requires c κs = let A = c.before.before.before.before.before.before.before.before.before.before.before.before.before.before.before.before.before.before.before.before.before.before.before.args in rooms_lent A.points.now A.roots.now A.corners.now A.volumes.now A.ends.now A.lengths.now A.outline.now A.log.now c.before.before.before.before.before.before.before.before.before.before.before.before.before.before.before.before.before.before.before.before.before.before.before.requires
 
 same_length : tie.Need-same-length
 same_length c = c.before.before.before.before.before.before.before.before.before.before.before.before.before.before.before.begin.auto.1.1.1.1.1.1.1.1.1.1.0
@@ -37,14 +37,14 @@ same-length-7 : tie.Need-same-length-7
 same-length-7 c = c.before.before.before.before.before.before.before.before.before.before.before.before.before.before.before.begin.auto.1.1.1.1.1.1.1.1.1.1.1.1.1.1.1.1.0
 
 returns : tie.Need-returns
-returns c = let A = c.before.before.before.before.before.before.before.before.before.before.before.before.before.before.before.before.before.before.before.before.before.before.before.before.before.before.before.before.before.before.before.before.before.before.before.before.before.before.before.args in job-refused A.job A.list.now (given A.in-points.now A.in-roots.now A.in-corners.now A.in-volumes.now A.in-ends.now A.in-lengths.now A.in-outline.now) c.before.before.before.before.before.before.before.before.before.before.before.before.before.before.before.begin.ensures c.if1.true _
+returns c = let A = c.before.before.before.before.before.before.before.before.before.before.before.before.before.before.before.before.before.before.before.before.before.before.before.before.before.before.before.before.before.before.before.before.before.before.before.before.before.before.before.args in job_refused A.job A.list.now (given A.in-points.now A.in-roots.now A.in_corners.now A.in-volumes.now A.in-ends.now A.in-lengths.now A.in-outline.now) c.before.before.before.before.before.before.before.before.before.before.before.before.before.before.before.begin.ensures c.if1.true _
 
 slice-aggregate-work : tie.Need-slice-aggregate-work
 slice-aggregate-work c = search rules
 
 work-requires : tie.Need-work-requires
 work-requires c κs = let A = c.before.before.before.before.before.before.before.before.before.before.before.before.before.before.before.before.before.before.before.before.before.before.before.before.before.before.before.before.before.before.before.before.before.before.before.before.before.before.before.before.before.before.before.before.before.before.before.before.args in let B = c.before.before.before.before.before.before.before.before.before.before.before.before.before.before.before.before.before.before.before.before.before.before.before.before.begin in
-    let J = job-asked A.job A.list.now (given A.in-points.now A.in-roots.now A.in-corners.now A.in-volumes.now A.in-ends.now A.in-lengths.now A.in-outline.now) _ _ _ _ _ _ _ A.log.now B.ensures c.before.before.before.before.before.before.before.before.before.if1.false (roomed-still c.before.before.before.before.before.before.before.before.before.before.before.before.before.before.before.before.before.before.before.before.before.before.before.before.before.before.before.before.before.before.before.before.before.before.before.before.before.before.before.before.before.before.before.before.before.before.before.before.requires (lent-path _ _ B.auto.1.1.1.1.1.1.1.1.1.1.0 B.auto.1.1.1.1.1.1.1.1.1.1.1.0 B.auto.1.1.1.1.1.1.1.1.1.1.1.1.0 B.auto.1.1.1.1.1.1.1.1.1.1.1.1.1.0 B.auto.1.1.1.1.1.1.1.1.1.1.1.1.1.1.0 B.auto.1.1.1.1.1.1.1.1.1.1.1.1.1.1.1.0 B.auto.1.1.1.1.1.1.1.1.1.1.1.1.1.1.1.1.0 refl)) in
+    let J = job_asked A.job A.list.now (given A.in-points.now A.in-roots.now A.in_corners.now A.in-volumes.now A.in-ends.now A.in-lengths.now A.in-outline.now) _ _ _ _ _ _ _ A.log.now B.ensures c.before.before.before.before.before.before.before.before.before.if1.false (roomed_still c.before.before.before.before.before.before.before.before.before.before.before.before.before.before.before.before.before.before.before.before.before.before.before.before.before.before.before.before.before.before.before.before.before.before.before.before.before.before.before.before.before.before.before.before.before.before.before.before.requires (lent_path _ _ B.auto.1.1.1.1.1.1.1.1.1.1.0 B.auto.1.1.1.1.1.1.1.1.1.1.1.0 B.auto.1.1.1.1.1.1.1.1.1.1.1.1.0 B.auto.1.1.1.1.1.1.1.1.1.1.1.1.1.0 B.auto.1.1.1.1.1.1.1.1.1.1.1.1.1.1.0 B.auto.1.1.1.1.1.1.1.1.1.1.1.1.1.1.1.0 B.auto.1.1.1.1.1.1.1.1.1.1.1.1.1.1.1.1.0 refl)) in
     (J.0, J.1, J.2, omega arith)
 
 enum-known-ran : tie.Need-enum-known-ran
@@ -79,13 +79,13 @@ same-length-15 c = c.before.before.before.before.before.before.before.before.bef
 
 returns-2 : tie.Need-returns-2
 returns-2 c = let A = c.before.before.before.before.before.before.before.before.before.before.before.before.before.before.before.before.before.before.before.before.before.before.before.before.before.before.before.before.before.before.before.before.before.before.before.before.before.before.before.before.before.before.before.before.before.before.before.before.before.before.before.before.before.before.before.before.before.before.before.before.before.before.before.before.before.before.args in
-    job-came A.job A.list.now (given A.in-points.now A.in-roots.now A.in-corners.now A.in-volumes.now A.in-ends.now A.in-lengths.now A.in-outline.now) _ _ _ _ _ _ _ _ _ _ _ _ _ _ _ _ _ c.before.before.before.before.before.before.before.before.before.before.before.before.before.before.before.before.before.before.before.before.before.before.before.before.before.before.before.before.before.before.before.before.before.before.before.before.before.before.before.before.before.before.begin.ensures c.before.before.before.before.before.before.before.before.before.before.before.before.before.before.before.before.before.before.before.before.before.before.before.before.before.before.before.if1.false (works-any _ _ c.enum_told.given.1 c.before.before.before.before.before.before.before.before.before.before.before.before.before.before.before.before.before.work.ensures.0)
+    job_came A.job A.list.now (given A.in-points.now A.in-roots.now A.in_corners.now A.in-volumes.now A.in-ends.now A.in-lengths.now A.in-outline.now) _ _ _ _ _ _ _ _ _ _ _ _ _ _ _ _ _ c.before.before.before.before.before.before.before.before.before.before.before.before.before.before.before.before.before.before.before.before.before.before.before.before.before.before.before.before.before.before.before.before.before.before.before.before.before.before.before.before.before.before.begin.ensures c.before.before.before.before.before.before.before.before.before.before.before.before.before.before.before.before.before.before.before.before.before.before.before.before.before.before.before.if1.false (works_any _ _ c.enum_told.given.1 c.before.before.before.before.before.before.before.before.before.before.before.before.before.before.before.before.before.work.ensures.0)
 
 slice-aggregate-close-rows : tie.Need-slice-aggregate-close-rows
 slice-aggregate-close-rows c = search rules
 
 close-rows-requires : tie.Need-close-rows-requires
-close-rows-requires c κs = listing-done _ _ _ _ _ c.before.before.before.before.ran.given.1 c.before.before.before.before.before.before.before.before.before.before.before.before.before.before.before.before.before.before.before.before.before.work.ensures.1
+close-rows-requires c κs = listing_done _ _ _ _ _ c.before.before.before.before.ran.given.1 c.before.before.before.before.before.before.before.before.before.before.before.before.before.before.before.before.before.before.before.before.before.work.ensures.1
 
 same-length-16 : tie.Need-same-length-16
 same-length-16 c = c.before.before.before.before.before.before.before.before.before.before.before.before.before.before.before.before.before.before.before.before.before.before.before.before.before.before.work.auto.1.1.1.1.0 ∙ c.before.before.before.before.before.before.before.before.before.before.before.before.before.before.before.before.before.before.before.before.before.before.before.before.before.before.before.before.before.before.before.before.before.before.before.before.before.before.before.before.before.before.before.before.before.before.before.before.before.before.before.begin.auto.1.1.1.1.1.1.1.1.1.1.0
@@ -113,7 +113,7 @@ same-length-23 c = c.before.before.before.before.before.before.before.before.bef
 
 returns-3 : tie.Need-returns-3
 returns-3 c = let A = c.before.before.before.before.before.before.before.before.before.before.before.before.before.before.before.before.before.before.before.before.before.before.before.before.before.before.before.before.before.before.before.before.before.before.before.before.before.before.before.before.before.before.before.before.before.before.before.before.before.before.before.before.before.before.before.before.before.before.before.before.before.before.before.before.before.before.before.before.before.before.before.before.before.before.before.args in
-    job-came A.job A.list.now (given A.in-points.now A.in-roots.now A.in-corners.now A.in-volumes.now A.in-ends.now A.in-lengths.now A.in-outline.now) _ _ _ _ _ _ _ _ _ _ _ _ _ _ _ _ _ c.before.before.before.before.before.before.before.before.before.before.before.before.before.before.before.before.before.before.before.before.before.before.before.before.before.before.before.before.before.before.before.before.before.before.before.before.before.before.before.before.before.before.before.before.before.before.before.before.before.before.before.begin.ensures c.before.before.before.before.before.before.before.before.before.before.before.before.before.before.before.before.before.before.before.before.before.before.before.before.before.before.before.before.before.before.before.before.before.before.before.before.if1.false (works-closed _ _ _ _ _ _ _ _ _ _ _ _ c.before.before.before.before.close-rows.ensures (works-known _ _ c.before.before.before.before.before.before.before.before.before.ran.given.1 c.before.before.before.before.before.before.before.before.before.before.before.before.before.before.before.before.before.before.before.before.before.before.before.before.before.before.work.ensures.0))
+    job_came A.job A.list.now (given A.in-points.now A.in-roots.now A.in_corners.now A.in-volumes.now A.in-ends.now A.in-lengths.now A.in-outline.now) _ _ _ _ _ _ _ _ _ _ _ _ _ _ _ _ _ c.before.before.before.before.before.before.before.before.before.before.before.before.before.before.before.before.before.before.before.before.before.before.before.before.before.before.before.before.before.before.before.before.before.before.before.before.before.before.before.before.before.before.before.before.before.before.before.before.before.before.before.begin.ensures c.before.before.before.before.before.before.before.before.before.before.before.before.before.before.before.before.before.before.before.before.before.before.before.before.before.before.before.before.before.before.before.before.before.before.before.before.if1.false (works_closed _ _ _ _ _ _ _ _ _ _ _ _ c.before.before.before.before.close-rows.ensures (works_known _ _ c.before.before.before.before.before.before.before.before.before.ran.given.1 c.before.before.before.before.before.before.before.before.before.before.before.before.before.before.before.before.before.before.before.before.before.before.before.before.before.before.work.ensures.0))
 
 pub run_spec : {M : Type 1} → statement M
 run_spec =

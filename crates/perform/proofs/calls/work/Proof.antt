@@ -4,7 +4,7 @@ use Prim.Native.Nat.{ℕ}
 use lib.ListN.{length-set}
 use native.Mathlib.Omega.{arith}
 use Rattle.mesh_calls.specs.declared.Job.TheVariants.{Straddlers, Split, Cut, Crack}
-use Rattle.perform.proofs.Worked.{straddlers-room, parts-unlisted, job-works, split-given, cut-ruled}
+use Rattle.perform.proofs.Worked.{straddlers_room, parts_unlisted, job_works, split_given, cut_ruled}
 use borrow.Author.Rules.{rules}
 use Rattle.perform.proofs.calls.work.Statement.{statement}
 use Rattle.perform.proofs.calls.work.Tie as tie
@@ -19,13 +19,13 @@ enum_told : tie.Need-enum-told
 enum_told c = search rules
 
 remove-straddlers-requires : tie.Need-remove-straddlers-requires
-remove-straddlers-requires c κs = let A = c.before.before.before.before.before.before.before.before.before.before.before.before.before.before.before.before.before.before.before.args in straddlers-room A.k A.room A.points.now A.roots.now A.corners.now A.volumes.now A.ends.now A.lengths.now A.outline.now A.log.now c.before.before.before.before.before.before.before.before.before.before.before.before.before.before.before.before.before.before.before.requires.0
+remove-straddlers-requires c κs = let A = c.before.before.before.before.before.before.before.before.before.before.before.before.before.before.before.before.before.before.before.args in straddlers_room A.k A.room A.points.now A.roots.now A.corners.now A.volumes.now A.ends.now A.lengths.now A.outline.now A.log.now c.before.before.before.before.before.before.before.before.before.before.before.before.before.before.before.before.before.before.before.requires.0
 
 enum-known-job : tie.Need-enum-known-job
 enum-known-job c = search rules
 
 split-by-sides-requires : tie.Need-split-by-sides-requires
-split-by-sides-requires c κs = let A = c.before.before.before.before.before.before.before.before.before.before.before.before.before.before.before.before.before.before.before.before.before.before.before.args in (c.before.before.before.before.before.before.before.before.before.before.before.before.before.before.before.before.before.before.before.before.before.before.before.requires.0, split-given A.k A.room A.points.now A.roots.now A.corners.now A.volumes.now A.ends.now A.lengths.now A.outline.now A.log.now A.job (Split _) c.before.before.before.before.before.before.before.before.before.job.given.1 A.list.now _ c.before.before.before.before.before.before.before.before.before.before.before.kind-of.ensures _ refl c.before.before.before.before.before.before.before.before.before.before.before.before.before.before.before.before.before.before.before.before.before.before.before.requires.2, omega (arith, length-set A.gone.now 2048 0, c.before.before.before.before.before.before.before.before.before.before.before.before.before.before.before.before.before.before.before.before.before.before.before.requires.3))
+split-by-sides-requires c κs = let A = c.before.before.before.before.before.before.before.before.before.before.before.before.before.before.before.before.before.before.before.before.before.before.before.args in (c.before.before.before.before.before.before.before.before.before.before.before.before.before.before.before.before.before.before.before.before.before.before.before.requires.0, split_given A.k A.room A.points.now A.roots.now A.corners.now A.volumes.now A.ends.now A.lengths.now A.outline.now A.log.now A.job (Split _) c.before.before.before.before.before.before.before.before.before.job.given.1 A.list.now _ c.before.before.before.before.before.before.before.before.before.before.before.kind-of.ensures _ refl c.before.before.before.before.before.before.before.before.before.before.before.before.before.before.before.before.before.before.before.before.before.before.before.requires.2, omega (arith, length-set A.gone.now 2048 0, c.before.before.before.before.before.before.before.before.before.before.before.before.before.before.before.before.before.before.before.before.before.before.before.requires.3))
 
 enum-known-job-2 : tie.Need-enum-known-job-2
 enum-known-job-2 c = search rules
@@ -64,8 +64,8 @@ same-length-6 : tie.Need-same-length-6
 same-length-6 c = length-set c.before.before.before.before.before.before.before.before.before.before.before.before.before.before.before.before.before.before.before.before.before.before.before.before.before.before.before.before.args.gone.now 2048 0
 
 returns : tie.Need-returns
-returns c = let A = c.before.before.before.before.before.before.before.before.before.before.before.before.before.before.before.before.before.before.before.before.before.before.before.before.before.before.before.before.args in let P = c.before.before.before.before.before.before.before.before.before.before.before.before.before.before.before.before.before.before.before.before.before.before.before.before.before.before.before.before.requires in parts-unlisted A.k A.room A.points.now A.roots.now A.corners.now A.volumes.now A.ends.now A.lengths.now A.outline.now A.log.now P.0 P.1 _ _ _ _ _ _ _ A.gone.now _ P.3 c.before.before.before.before.before.before.before.before.remove-straddlers.auto.1.1.1.1.1.0 c.before.before.before.before.before.before.before.before.remove-straddlers.auto.1.1.1.1.1.1.0
-    (job-works A.k A.room A.points.now A.roots.now A.corners.now A.volumes.now A.ends.now A.lengths.now A.outline.now A.log.now A.job Straddlers c.before.before.before.before.before.before.before.before.before.before.before.before.before.before.enum_told.given.1 A.list.now _ c.before.before.before.before.before.before.before.before.before.before.before.before.before.before.before.before.kind-of.ensures (c.before.before.before.before.before.before.before.before.remove-straddlers.ensures.works A.points.now A.roots.now))
+returns c = let A = c.before.before.before.before.before.before.before.before.before.before.before.before.before.before.before.before.before.before.before.before.before.before.before.before.before.before.before.before.args in let P = c.before.before.before.before.before.before.before.before.before.before.before.before.before.before.before.before.before.before.before.before.before.before.before.before.before.before.before.before.requires in parts_unlisted A.k A.room A.points.now A.roots.now A.corners.now A.volumes.now A.ends.now A.lengths.now A.outline.now A.log.now P.0 P.1 _ _ _ _ _ _ _ A.gone.now _ P.3 c.before.before.before.before.before.before.before.before.remove-straddlers.auto.1.1.1.1.1.0 c.before.before.before.before.before.before.before.before.remove-straddlers.auto.1.1.1.1.1.1.0
+    (job_works A.k A.room A.points.now A.roots.now A.corners.now A.volumes.now A.ends.now A.lengths.now A.outline.now A.log.now A.job Straddlers c.before.before.before.before.before.before.before.before.before.before.before.before.before.before.enum_told.given.1 A.list.now _ c.before.before.before.before.before.before.before.before.before.before.before.before.before.before.before.before.kind-of.ensures (c.before.before.before.before.before.before.before.before.remove-straddlers.ensures.works A.points.now A.roots.now))
 
 same-length-7 : tie.Need-same-length-7
 same-length-7 c = c.before.before.before.before.before.before.before.before.before.before.before.before.before.before.before.before.split-by-sides.auto.1.1.1.1.1.0
@@ -92,7 +92,7 @@ same-length-14 : tie.Need-same-length-14
 same-length-14 c = c.before.before.before.before.before.before.before.before.before.before.before.before.before.before.before.before.split-by-sides.auto.1.1.1.1.1.1.1.1.1.1.1.1.1.0 ∙ length-set c.before.before.before.before.before.before.before.before.before.before.before.before.before.before.before.before.before.before.before.before.before.before.before.before.before.before.before.before.before.before.before.before.before.before.before.before.before.before.before.before.args.gone.now 2048 0
 
 returns-2 : tie.Need-returns-2
-returns-2 c = let A = c.before.before.before.before.before.before.before.before.before.before.before.before.before.before.before.before.before.before.before.before.before.before.before.before.before.before.before.before.before.before.before.before.before.before.before.before.before.before.before.before.args in (job-works A.k A.room A.points.now A.roots.now A.corners.now A.volumes.now A.ends.now A.lengths.now A.outline.now A.log.now A.job (Split _) c.before.before.before.before.before.before.before.before.before.before.before.before.before.before.before.before.before.before.before.before.before.before.before.before.before.before.job.given.1 A.list.now _ c.before.before.before.before.before.before.before.before.before.before.before.before.before.before.before.before.before.before.before.before.before.before.before.before.before.before.before.before.kind-of.ensures c.before.before.before.before.before.before.before.before.before.before.before.before.before.before.before.before.split-by-sides.ensures.0, c.before.before.before.before.before.before.before.before.before.before.before.before.before.before.before.before.split-by-sides.ensures.1)
+returns-2 c = let A = c.before.before.before.before.before.before.before.before.before.before.before.before.before.before.before.before.before.before.before.before.before.before.before.before.before.before.before.before.before.before.before.before.before.before.before.before.before.before.before.before.args in (job_works A.k A.room A.points.now A.roots.now A.corners.now A.volumes.now A.ends.now A.lengths.now A.outline.now A.log.now A.job (Split _) c.before.before.before.before.before.before.before.before.before.before.before.before.before.before.before.before.before.before.before.before.before.before.before.before.before.before.job.given.1 A.list.now _ c.before.before.before.before.before.before.before.before.before.before.before.before.before.before.before.before.before.before.before.before.before.before.before.before.before.before.before.before.kind-of.ensures c.before.before.before.before.before.before.before.before.before.before.before.before.before.before.before.before.split-by-sides.ensures.0, c.before.before.before.before.before.before.before.before.before.before.before.before.before.before.before.before.split-by-sides.ensures.1)
 
 same-length-15 : tie.Need-same-length-15
 same-length-15 c = c.before.before.before.before.before.before.before.before.before.before.before.before.before.before.before.before.cut-marked.auto.1.1.1.1.1.1.1.0
@@ -119,8 +119,8 @@ same-length-22 : tie.Need-same-length-22
 same-length-22 c = let A = c.before.before.before.before.before.before.before.before.before.before.before.before.before.before.before.before.before.before.before.before.before.before.before.before.before.before.before.before.before.before.before.before.before.before.before.before.before.before.before.before.before.args in length-set {A = ℕ} c.before.before.before.before.before.before.before.before.before.before.before.before.before.before.before.before.cut-marked.new.1.1.1.1.1.1.1.1.1.1.1.1.1.1.1.0 2048 0 ∙ c.before.before.before.before.before.before.before.before.before.before.before.before.before.before.before.before.cut-marked.auto.1.1.1.1.1.1.1.1.1.1.1.1.1.1.1.0 ∙ length-set A.gone.now 2048 0
 
 returns-3 : tie.Need-returns-3
-returns-3 c = let A = c.before.before.before.before.before.before.before.before.before.before.before.before.before.before.before.before.before.before.before.before.before.before.before.before.before.before.before.before.before.before.before.before.before.before.before.before.before.before.before.before.before.args in let P = c.before.before.before.before.before.before.before.before.before.before.before.before.before.before.before.before.before.before.before.before.before.before.before.before.before.before.before.before.before.before.before.before.before.before.before.before.before.before.before.before.before.requires in let K = c.before.before.before.before.before.before.before.before.before.before.before.before.before.before.before.before.cut-marked.auto in parts-unlisted A.k A.room A.points.now A.roots.now A.corners.now A.volumes.now A.ends.now A.lengths.now A.outline.now A.log.now P.0 P.1 _ _ _ _ _ _ _ c.before.before.before.before.before.before.before.before.before.before.before.before.before.before.before.before.cut-marked.new.1.1.1.1.1.1.1.1.1.1.1.1.1.1.1.0 _ (omega (arith, length-set A.gone.now 2048 0, P.3, K.1.1.1.1.1.1.1.1.1.1.1.1.1.1.1.0)) c.before.before.before.before.before.before.before.before.before.before.before.before.before.before.before.before.cut-marked.auto.1.1.1.1.1.1.1.1.1.1.1.0 c.before.before.before.before.before.before.before.before.before.before.before.before.before.before.before.before.cut-marked.auto.1.1.1.1.1.1.1.1.1.1.1.1.0
-    (job-works A.k A.room A.points.now A.roots.now A.corners.now A.volumes.now A.ends.now A.lengths.now A.outline.now A.log.now A.job (Cut _ _ _ _) c.before.before.before.before.before.before.before.before.before.before.before.before.before.before.before.before.before.before.before.before.before.before.before.before.before.before.before.job2.given.1 A.list.now _ c.before.before.before.before.before.before.before.before.before.before.before.before.before.before.before.before.before.before.before.before.before.before.before.before.before.before.before.before.before.kind-of.ensures (cut-ruled _ _ c.before.before.before.before.before.before.before.before.before.before.before.before.before.before.before.before.before.before.before.before.before.before.before.before.before.before.before.job2.given.0.0 _ _ _ c.before.before.before.before.before.before.before.before.before.before.before.before.before.before.before.before.before.before.before.before.before.before.before.before.before.rule-in.ensures c.before.before.before.before.before.before.before.before.before.before.before.before.before.before.before.before.cut-marked.ensures))
+returns-3 c = let A = c.before.before.before.before.before.before.before.before.before.before.before.before.before.before.before.before.before.before.before.before.before.before.before.before.before.before.before.before.before.before.before.before.before.before.before.before.before.before.before.before.before.args in let P = c.before.before.before.before.before.before.before.before.before.before.before.before.before.before.before.before.before.before.before.before.before.before.before.before.before.before.before.before.before.before.before.before.before.before.before.before.before.before.before.before.before.requires in let K = c.before.before.before.before.before.before.before.before.before.before.before.before.before.before.before.before.cut-marked.auto in parts_unlisted A.k A.room A.points.now A.roots.now A.corners.now A.volumes.now A.ends.now A.lengths.now A.outline.now A.log.now P.0 P.1 _ _ _ _ _ _ _ c.before.before.before.before.before.before.before.before.before.before.before.before.before.before.before.before.cut-marked.new.1.1.1.1.1.1.1.1.1.1.1.1.1.1.1.0 _ (omega (arith, length-set A.gone.now 2048 0, P.3, K.1.1.1.1.1.1.1.1.1.1.1.1.1.1.1.0)) c.before.before.before.before.before.before.before.before.before.before.before.before.before.before.before.before.cut-marked.auto.1.1.1.1.1.1.1.1.1.1.1.0 c.before.before.before.before.before.before.before.before.before.before.before.before.before.before.before.before.cut-marked.auto.1.1.1.1.1.1.1.1.1.1.1.1.0
+    (job_works A.k A.room A.points.now A.roots.now A.corners.now A.volumes.now A.ends.now A.lengths.now A.outline.now A.log.now A.job (Cut _ _ _ _) c.before.before.before.before.before.before.before.before.before.before.before.before.before.before.before.before.before.before.before.before.before.before.before.before.before.before.before.job2.given.1 A.list.now _ c.before.before.before.before.before.before.before.before.before.before.before.before.before.before.before.before.before.before.before.before.before.before.before.before.before.before.before.before.before.kind-of.ensures (cut_ruled _ _ c.before.before.before.before.before.before.before.before.before.before.before.before.before.before.before.before.before.before.before.before.before.before.before.before.before.before.before.job2.given.0.0 _ _ _ c.before.before.before.before.before.before.before.before.before.before.before.before.before.before.before.before.before.before.before.before.before.before.before.before.before.rule-in.ensures c.before.before.before.before.before.before.before.before.before.before.before.before.before.before.before.before.cut-marked.ensures))
 
 same-length-23 : tie.Need-same-length-23
 same-length-23 c = c.before.before.before.before.before.before.before.before.before.before.before.before.before.before.crack-body.auto.1.1.1.1.1.0
@@ -147,11 +147,11 @@ same-length-30 : tie.Need-same-length-30
 same-length-30 c = length-set c.before.before.before.before.before.before.before.before.before.before.before.before.before.before.before.before.before.before.before.before.before.before.before.before.before.before.before.before.before.before.before.before.before.before.before.before.before.args.gone.now 2048 0
 
 returns-4 : tie.Need-returns-4
-returns-4 c = let A = c.before.before.before.before.before.before.before.before.before.before.before.before.before.before.before.before.before.before.before.before.before.before.before.before.before.before.before.before.before.before.before.before.before.before.before.before.before.args in let P = c.before.before.before.before.before.before.before.before.before.before.before.before.before.before.before.before.before.before.before.before.before.before.before.before.before.before.before.before.before.before.before.before.before.before.before.before.before.requires in parts-unlisted A.k A.room A.points.now A.roots.now A.corners.now A.volumes.now A.ends.now A.lengths.now A.outline.now A.log.now P.0 P.1 _ _ _ _ _ _ _ A.gone.now _ P.3 c.before.before.before.before.before.before.before.before.before.before.before.before.before.before.crack-body.auto.1.1.1.1.1.1.1.1.1.0 c.before.before.before.before.before.before.before.before.before.before.before.before.before.before.crack-body.auto.1.1.1.1.1.1.1.1.1.1.0
-    (job-works A.k A.room A.points.now A.roots.now A.corners.now A.volumes.now A.ends.now A.lengths.now A.outline.now A.log.now A.job (Crack _) c.before.before.before.before.before.before.before.before.before.before.before.before.before.before.before.before.before.before.before.before.before.before.before.job3.given.1 A.list.now _ c.before.before.before.before.before.before.before.before.before.before.before.before.before.before.before.before.before.before.before.before.before.before.before.before.before.kind-of.ensures c.before.before.before.before.before.before.before.before.before.before.before.before.before.before.crack-body.ensures)
+returns-4 c = let A = c.before.before.before.before.before.before.before.before.before.before.before.before.before.before.before.before.before.before.before.before.before.before.before.before.before.before.before.before.before.before.before.before.before.before.before.before.before.args in let P = c.before.before.before.before.before.before.before.before.before.before.before.before.before.before.before.before.before.before.before.before.before.before.before.before.before.before.before.before.before.before.before.before.before.before.before.before.before.requires in parts_unlisted A.k A.room A.points.now A.roots.now A.corners.now A.volumes.now A.ends.now A.lengths.now A.outline.now A.log.now P.0 P.1 _ _ _ _ _ _ _ A.gone.now _ P.3 c.before.before.before.before.before.before.before.before.before.before.before.before.before.before.crack-body.auto.1.1.1.1.1.1.1.1.1.0 c.before.before.before.before.before.before.before.before.before.before.before.before.before.before.crack-body.auto.1.1.1.1.1.1.1.1.1.1.0
+    (job_works A.k A.room A.points.now A.roots.now A.corners.now A.volumes.now A.ends.now A.lengths.now A.outline.now A.log.now A.job (Crack _) c.before.before.before.before.before.before.before.before.before.before.before.before.before.before.before.before.before.before.before.before.before.before.before.job3.given.1 A.list.now _ c.before.before.before.before.before.before.before.before.before.before.before.before.before.before.before.before.before.before.before.before.before.before.before.before.before.kind-of.ensures c.before.before.before.before.before.before.before.before.before.before.before.before.before.before.crack-body.ensures)
 
-pub work-spec : {M : Type 1} → statement M
-work-spec =
+pub work_spec : {M : Type 1} → statement M
+work_spec =
     tie.close
     (tie.spec
     slice-write-gone

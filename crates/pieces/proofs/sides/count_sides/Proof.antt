@@ -1,7 +1,7 @@
 -- `pieces::sides::count_sides` meets its contract. Assumes nothing.
 use borrow.Author.Rules.{rules}
 use mathlib.Core.Path.{◌∙◌}
-use Rattle.pieces.proofs.FacetChains.{side-number}
+use Rattle.pieces.proofs.FacetChains.{side_number}
 use Rattle.pieces.proofs.sides.count_sides.Statement.{statement}
 use Rattle.pieces.proofs.sides.count_sides.Tie as tie
 
@@ -27,10 +27,10 @@ returns : tie.Need-returns
 returns c =
     let P = c.before.before.before.before.before.before.before.before.before.before.before.before.before.before.before.before.before.before.before.before.requires in
     let J = c.before.before.before.before.before.before.before.before.before.before.join-sides in
-    side-number P.two P.corners.width.1 (J.auto.1.1.1.1.1.1.0 ∙ P.places-long) J.ensures c.count-tops.ensures
+    side_number P.two P.corners.width.1 (J.auto.1.1.1.1.1.1.0 ∙ P.places_long) J.ensures c.count-tops.ensures
 
-pub count-sides-spec : {M : Type 1} → statement M
-count-sides-spec =
+pub count_sides_spec : {M : Type 1} → statement M
+count_sides_spec =
     tie.close
     (tie.spec
     join-sides-requires

@@ -5,12 +5,12 @@ use mathlib.Core.Path.{◌≡◌, sym, ◌∙◌, ap}
 use mathlib.Core.Logic.{⊎_elim}
 use Prim.Native.Nat.{ℕ, ◌≤◌, ◌-◌}
 use lib.ListN.{length}
-use Rattle.pieces.proofs.Tops.{topsBelow, tops_start, tops-yes, tops-no, tops-all}
+use Rattle.pieces.proofs.Tops.{tops_below, tops_start, tops_yes, tops_no, tops_all}
 use Rattle.pieces.proofs.sides.count_tops.Statement.{statement}
 use Rattle.pieces.proofs.sides.count_tops.Tie as tie
 
 abbrev invariant-loop : tie.invariant-loop
-invariant-loop labels count₀ i₀ count i = (i ≤ length labels) × (count ≤ i) × (count ≡ topsBelow labels i)
+invariant-loop labels count₀ i₀ count i = (i ≤ length labels) × (count ≤ i) × (count ≡ tops_below labels i)
 
 abbrev decreases-loop : tie.decreases-loop
 decreases-loop labels count₀ i₀ count i = length labels - i
@@ -38,8 +38,8 @@ loop-again c =
     let A = c.before.before.before.before.args in
     let L = c.before.before.before.loop in
     ⊎_elim
-    (λ w. let s = tops-yes A.labels.now L.i w.0.taken in omega (arith, w.1))
-    (λ w. let s = tops-no A.labels.now L.i w.0.left in omega (arith, w.1))
+    (λ w. let s = tops_yes A.labels.now L.i w.0.taken in omega (arith, w.1))
+    (λ w. let s = tops_no A.labels.now L.i w.0.left in omega (arith, w.1))
     c.if1.branch
 
 returns : tie.Need-returns invariant-loop decreases-loop
@@ -47,10 +47,10 @@ returns c =
     let A = c.before.before.args in
     let L = c.before.loop in
     let e : L.i ≡ length A.labels.now = omega arith in
-    L.invariant.2 ∙ ap (λ (m : ℕ). topsBelow A.labels.now m) e ∙ tops-all A.labels.now
+    L.invariant.2 ∙ ap (λ (m : ℕ). tops_below A.labels.now m) e ∙ tops_all A.labels.now
 
-pub count-tops-spec : {M : Type 1} → statement M
-count-tops-spec =
+pub count_tops_spec : {M : Type 1} → statement M
+count_tops_spec =
     tie.close
     (tie.spec
     invariant-loop

@@ -15,5 +15,5 @@ div-result c = search rules
 returns-3 : tie.Need-returns-3
 returns-3 c = search rules
 
-pub element-of-spec : {M : Type 1} → statement M
-element-of-spec = tie.close (tie.spec returns returns-2 div-result returns-3)
+pub element_of_spec : {M : Type 1} → statement M
+element_of_spec = tie.close (tie.spec returns returns-2 div-result returns-3)

@@ -4,7 +4,7 @@ use native.Mathlib.Omega.{arith}
 use mathlib.Core.Path.{◌≡◌}
 use Prim.Native.Nat.{◌<◌}
 use lib.ListN.{length-set}
-use Rattle.pieces.proofs.FacetChains.{facet-with, sought, sided-pass, join-ready, sided-join}
+use Rattle.pieces.proofs.FacetChains.{facet_with, sought, sided_pass, join_ready, sided_join}
 use Rattle.pieces.proofs.sides.join_facet.Statement.{statement}
 use Rattle.pieces.proofs.sides.join_facet.Tie as tie
 
@@ -17,80 +17,80 @@ larger-of-requires c κs = search rules
 mul-h : tie.Need-overflow-mul-h
 mul-h c =
     let P = c.before.before.before.before.before.before.requires in
-    let F = facet-with c.before.smaller-of.ensures c.larger-of.ensures P.step in
-    omega (arith, F.chain, F.inside, P.room.few, P.room.heads-long, P.room.links-long, P.room.lows-long)
+    let F = facet_with c.before.smaller-of.ensures c.larger-of.ensures P.step in
+    omega (arith, F.chain, F.inside, P.room.few, P.room.heads_long, P.room.links_long, P.room.lows_long)
 
 add-h : tie.Need-overflow-add-h
 add-h c =
     let P = c.before.before.before.before.before.before.requires in
-    let F = facet-with c.before.smaller-of.ensures c.larger-of.ensures P.step in
-    omega (arith, F.chain, F.inside, P.room.few, P.room.heads-long, P.room.links-long, P.room.lows-long)
+    let F = facet_with c.before.smaller-of.ensures c.larger-of.ensures P.step in
+    omega (arith, F.chain, F.inside, P.room.few, P.room.heads_long, P.room.links_long, P.room.lows_long)
 
 mul-first : tie.Need-overflow-mul-first
 mul-first c =
     let P = c.before.before.before.before.before.before.requires in
-    let F = facet-with c.before.smaller-of.ensures c.larger-of.ensures P.step in
-    omega (arith, F.chain, F.inside, P.room.few, P.room.heads-long, P.room.links-long, P.room.lows-long)
+    let F = facet_with c.before.smaller-of.ensures c.larger-of.ensures P.step in
+    omega (arith, F.chain, F.inside, P.room.few, P.room.heads_long, P.room.links_long, P.room.lows_long)
 
 slice-read-first : tie.Need-slice-read-first
 slice-read-first c =
     let P = c.before.before.before.before.before.before.before.requires in
-    let F = facet-with c.before.before.smaller-of.ensures c.before.larger-of.ensures P.step in
-    omega (arith, F.chain, F.inside, P.room.few, P.room.heads-long, P.room.links-long, P.room.lows-long)
+    let F = facet_with c.before.before.smaller-of.ensures c.before.larger-of.ensures P.step in
+    omega (arith, F.chain, F.inside, P.room.few, P.room.heads_long, P.room.links_long, P.room.lows_long)
 
 add-heads : tie.Need-overflow-add-heads
 add-heads c =
     let P = c.before.before.before.before.before.before.before.requires in
-    let F = facet-with c.before.before.smaller-of.ensures c.before.larger-of.ensures P.step in
-    omega (arith, F.chain, F.inside, P.room.few, P.room.heads-long, P.room.links-long, P.room.lows-long)
+    let F = facet_with c.before.before.smaller-of.ensures c.before.larger-of.ensures P.step in
+    omega (arith, F.chain, F.inside, P.room.few, P.room.heads_long, P.room.links_long, P.room.lows_long)
 
 cast-heads : tie.Need-overflow-cast-heads
 cast-heads c =
     let P = c.before.before.before.before.before.before.before.requires in
-    let F = facet-with c.before.before.smaller-of.ensures c.before.larger-of.ensures P.step in
-    omega (arith, F.chain, F.inside, P.room.few, P.room.heads-long, P.room.links-long, P.room.lows-long)
+    let F = facet_with c.before.before.smaller-of.ensures c.before.larger-of.ensures P.step in
+    omega (arith, F.chain, F.inside, P.room.few, P.room.heads_long, P.room.links_long, P.room.lows_long)
 
 mul-heads : tie.Need-overflow-mul-heads
 mul-heads c =
     let P = c.before.before.before.before.before.before.before.requires in
-    let F = facet-with c.before.before.smaller-of.ensures c.before.larger-of.ensures P.step in
-    omega (arith, F.chain, F.inside, P.room.few, P.room.heads-long, P.room.links-long, P.room.lows-long)
+    let F = facet_with c.before.before.smaller-of.ensures c.before.larger-of.ensures P.step in
+    omega (arith, F.chain, F.inside, P.room.few, P.room.heads_long, P.room.links_long, P.room.lows_long)
 
 slice-write-heads : tie.Need-slice-write-heads
 slice-write-heads c =
     let P = c.before.before.before.before.before.before.before.requires in
-    let F = facet-with c.before.before.smaller-of.ensures c.before.larger-of.ensures P.step in
-    omega (arith, F.chain, F.inside, P.room.few, P.room.heads-long, P.room.links-long, P.room.lows-long)
+    let F = facet_with c.before.before.smaller-of.ensures c.before.larger-of.ensures P.step in
+    omega (arith, F.chain, F.inside, P.room.few, P.room.heads_long, P.room.links_long, P.room.lows_long)
 
 mul-links : tie.Need-overflow-mul-links
 mul-links c =
     let P = c.before.before.before.before.before.before.before.requires in
-    let F = facet-with c.before.before.smaller-of.ensures c.before.larger-of.ensures P.step in
-    omega (arith, F.chain, F.inside, P.room.few, P.room.heads-long, P.room.links-long, P.room.lows-long)
+    let F = facet_with c.before.before.smaller-of.ensures c.before.larger-of.ensures P.step in
+    omega (arith, F.chain, F.inside, P.room.few, P.room.heads_long, P.room.links_long, P.room.lows_long)
 
 slice-write-links : tie.Need-slice-write-links
 slice-write-links c =
     let P = c.before.before.before.before.before.before.before.requires in
-    let F = facet-with c.before.before.smaller-of.ensures c.before.larger-of.ensures P.step in
-    omega (arith, F.chain, F.inside, P.room.few, P.room.heads-long, P.room.links-long, P.room.lows-long)
+    let F = facet_with c.before.before.smaller-of.ensures c.before.larger-of.ensures P.step in
+    omega (arith, F.chain, F.inside, P.room.few, P.room.heads_long, P.room.links_long, P.room.lows_long)
 
 cast-lows : tie.Need-overflow-cast-lows
 cast-lows c =
     let P = c.before.before.before.before.before.before.before.requires in
-    let F = facet-with c.before.before.smaller-of.ensures c.before.larger-of.ensures P.step in
-    omega (arith, F.chain, F.inside, P.room.few, P.room.heads-long, P.room.links-long, P.room.lows-long)
+    let F = facet_with c.before.before.smaller-of.ensures c.before.larger-of.ensures P.step in
+    omega (arith, F.chain, F.inside, P.room.few, P.room.heads_long, P.room.links_long, P.room.lows_long)
 
 mul-lows : tie.Need-overflow-mul-lows
 mul-lows c =
     let P = c.before.before.before.before.before.before.before.requires in
-    let F = facet-with c.before.before.smaller-of.ensures c.before.larger-of.ensures P.step in
-    omega (arith, F.chain, F.inside, P.room.few, P.room.heads-long, P.room.links-long, P.room.lows-long)
+    let F = facet_with c.before.before.smaller-of.ensures c.before.larger-of.ensures P.step in
+    omega (arith, F.chain, F.inside, P.room.few, P.room.heads_long, P.room.links_long, P.room.lows_long)
 
 slice-write-lows : tie.Need-slice-write-lows
 slice-write-lows c =
     let P = c.before.before.before.before.before.before.before.requires in
-    let F = facet-with c.before.before.smaller-of.ensures c.before.larger-of.ensures P.step in
-    omega (arith, F.chain, F.inside, P.room.few, P.room.heads-long, P.room.links-long, P.room.lows-long)
+    let F = facet_with c.before.before.smaller-of.ensures c.before.larger-of.ensures P.step in
+    omega (arith, F.chain, F.inside, P.room.few, P.room.heads_long, P.room.links_long, P.room.lows_long)
 
 wide-requires : tie.Need-wide-requires
 wide-requires c κs = search rules
@@ -98,7 +98,7 @@ wide-requires c κs = search rules
 find-facet-requires : tie.Need-find-facet-requires
 find-facet-requires c κs =
     let P = c.before.before.before.before.before.before.before.before.before.before.requires in
-    let F = facet-with c.before.before.before.before.before.smaller-of.ensures c.before.before.before.before.larger-of.ensures P.step in
+    let F = facet_with c.before.before.before.before.before.smaller-of.ensures c.before.before.before.before.larger-of.ensures P.step in
     sought P.room F P.sided c.before.before.wide.result c.before.before.wide.ensures
 
 sub-element-of : tie.Need-overflow-sub-element-of
@@ -110,9 +110,9 @@ element-of-requires c κs = c.before.before.before.before.before.before.before.b
 join-requires : tie.Need-join-requires
 join-requires c κs =
     let P = c.before.before.before.before.before.before.before.before.before.before.before.before.before.before.requires in
-    let F = facet-with c.before.before.before.before.before.before.before.before.before.smaller-of.ensures c.before.before.before.before.before.before.before.before.larger-of.ensures P.step in
+    let F = facet_with c.before.before.before.before.before.before.before.before.before.smaller-of.ensures c.before.before.before.before.before.before.before.before.larger-of.ensures P.step in
     let l : 0 < c.before.before.before.find-facet.result = search rules in
-    join-ready P.room F P.sided (c.before.before.before.find-facet.ensures (sought P.room F P.sided c.before.before.before.before.before.before.wide.result c.before.before.before.before.before.before.wide.ensures)) l c.before.element-of.ensures
+    join_ready P.room F P.sided (c.before.before.before.find-facet.ensures (sought P.room F P.sided c.before.before.before.before.before.before.wide.result c.before.before.before.before.before.before.wide.ensures)) l c.before.element-of.ensures
 
 same_length : tie.Need-same-length
 same_length c = length-set c.before.before.before.before.before.before.before.before.before.before.before.before.before.before.before.before.before.args.heads.now _ _
@@ -128,9 +128,9 @@ same-length-4 c = c.before.before.join.ensures.long
 
 returns : tie.Need-returns
 returns c = λ n verts R step S.
-    let F = facet-with c.before.before.before.before.before.before.before.before.before.before.before.before.smaller-of.ensures c.before.before.before.before.before.before.before.before.before.before.before.larger-of.ensures step in
+    let F = facet_with c.before.before.before.before.before.before.before.before.before.before.before.before.smaller-of.ensures c.before.before.before.before.before.before.before.before.before.before.before.larger-of.ensures step in
     let l : 0 < c.before.before.before.before.before.before.find-facet.result = search rules in
-    sided-join R F S (c.before.before.before.before.before.before.find-facet.ensures (sought R F S c.before.before.before.before.before.before.before.before.before.wide.result c.before.before.before.before.before.before.before.before.before.wide.ensures)) l c.before.before.before.before.element-of.ensures c.before.before.join.ensures
+    sided_join R F S (c.before.before.before.before.before.before.find-facet.ensures (sought R F S c.before.before.before.before.before.before.before.before.before.wide.result c.before.before.before.before.before.before.before.before.before.wide.ensures)) l c.before.before.before.before.element-of.ensures c.before.before.join.ensures
 
 same-length-5 : tie.Need-same-length-5
 same-length-5 c = length-set c.before.before.before.before.before.before.before.before.before.before.before.before.args.heads.now _ _
@@ -143,12 +143,12 @@ same-length-7 c = length-set c.before.before.before.before.before.before.before.
 
 returns-2 : tie.Need-returns-2
 returns-2 c = λ n verts R step S.
-    let F = facet-with c.before.before.before.before.before.before.before.smaller-of.ensures c.before.before.before.before.before.before.larger-of.ensures step in
+    let F = facet_with c.before.before.before.before.before.before.before.smaller-of.ensures c.before.before.before.before.before.before.larger-of.ensures step in
     let z : c.before.find-facet.result ≡ 0 = omega (arith, c.if1.false) in
-    sided-pass R F S (c.before.find-facet.ensures (sought R F S c.before.before.before.before.wide.result c.before.before.before.before.wide.ensures)) z
+    sided_pass R F S (c.before.find-facet.ensures (sought R F S c.before.before.before.before.wide.result c.before.before.before.before.wide.ensures)) z
 
-pub join-facet-spec : {M : Type 1} → statement M
-join-facet-spec =
+pub join_facet_spec : {M : Type 1} → statement M
+join_facet_spec =
     tie.close
     (tie.spec
     smaller-of-requires

@@ -8,7 +8,7 @@ use Prim.Native.Nat.{ℕ, ◌+◌, ◌*◌, ◌≤◌, ◌-◌}
 use lib.ListN.{length}
 use Rattle.bodies.specs.Tables.{Tied}
 use Rattle.pieces.specs.Sides.{low_of, high_of, SameFacet, Sided, SideRoom}
-use Rattle.pieces.proofs.FacetChains.{room_of, room_for, room-own, sided-none, sided-same}
+use Rattle.pieces.proofs.FacetChains.{room_of, room_for, room_own, sided_none, sided_same}
 use Rattle.pieces.proofs.sides.join_sides.Statement.{statement}
 use Rattle.pieces.proofs.sides.join_sides.Tie as tie
 
@@ -26,7 +26,7 @@ loop-holds c =
     let A = c.before.before.before.before.before.before.before.before.before.args in
     let P = c.before.before.before.before.before.before.before.before.before.requires in
     let O = c.before.before.own-numbers in
-    (search rules, refl, refl, refl, refl, sided-none A.k A.verts.now A.heads.now A.links.now A.lows.now O.new.0 P.empty O.ensures)
+    (search rules, refl, refl, refl, refl, sided_none A.k A.verts.now A.heads.now A.links.now A.lows.now O.new.0 P.empty O.ensures)
 
 join-triangle-requires : tie.Need-join-triangle-requires invariant-loop decreases-loop
 join-triangle-requires c κs =
@@ -36,8 +36,8 @@ join-triangle-requires c κs =
     let O = c.before.before.before.before.before.before.before.before.before.own-numbers in
     let e : A.k ≡ 3 = omega (arith, P.two, P.corners.width.1, c.before.before.before.before.if1.true) in
     let b : SideRoom A.n A.k A.verts.now (length L.heads) (length L.links) (length L.lows) (length L.parent) = room_for L.invariant.1 L.invariant.2 L.invariant.3 (L.invariant.4 ∙ O.auto.0) (room_of P) in (
-      room-own (subst (λ (k : ℕ). SideRoom A.n k A.verts.now (length L.heads) (length L.links) (length L.lows) (length L.parent)) e b),
-      omega (arith, b.parents-long),
+      room_own (subst (λ (k : ℕ). SideRoom A.n k A.verts.now (length L.heads) (length L.links) (length L.lows) (length L.parent)) e b),
+      omega (arith, b.parents_long),
       subst (λ (k : ℕ). Sided k A.verts.now L.heads L.links L.lows (L.i * k) L.parent) e L.invariant.5,
     )
 
@@ -49,8 +49,8 @@ join-strap-requires c κs =
     let O = c.before.before.before.before.before.before.before.before.before.own-numbers in
     let e : A.k ≡ 2 = omega (arith, P.two, P.corners.width.1, c.before.before.before.before.if1.false) in
     let b : SideRoom A.n A.k A.verts.now (length L.heads) (length L.links) (length L.lows) (length L.parent) = room_for L.invariant.1 L.invariant.2 L.invariant.3 (L.invariant.4 ∙ O.auto.0) (room_of P) in (
-      room-own (subst (λ (k : ℕ). SideRoom A.n k A.verts.now (length L.heads) (length L.links) (length L.lows) (length L.parent)) e b),
-      omega (arith, b.parents-long),
+      room_own (subst (λ (k : ℕ). SideRoom A.n k A.verts.now (length L.heads) (length L.links) (length L.lows) (length L.parent)) e b),
+      omega (arith, b.parents_long),
       subst (λ (k : ℕ). Sided k A.verts.now L.heads L.links L.lows (L.i * k) L.parent) e L.invariant.5,
     )
 
@@ -73,7 +73,7 @@ loop-again c =
       ap (λ (p : List ℕ). length p) w.15 ∙ w.5.kept.1.1.1.0 ∙ L.invariant.2,
       ap (λ (p : List ℕ). length p) w.16 ∙ w.5.kept.1.1.1.1.0 ∙ L.invariant.3,
       ap (λ (p : List ℕ). length p) w.17 ∙ w.5.kept.1.1.1.1.1.0 ∙ L.invariant.4,
-      sided-same w.14 w.15 w.16 w.17 (subst (λ (k : ℕ). Sided k A.verts.now w.5.last.1.1.0 w.5.last.1.1.1.0 w.5.last.1.1.1.1.0 ((L.i + 1) * k) w.5.last.1.1.1.1.1.0) (sym e) w.5.ensures),
+      sided_same w.14 w.15 w.16 w.17 (subst (λ (k : ℕ). Sided k A.verts.now w.5.last.1.1.0 w.5.last.1.1.1.0 w.5.last.1.1.1.1.0 ((L.i + 1) * k) w.5.last.1.1.1.1.1.0) (sym e) w.5.ensures),
     ))
     (λ w.
     let e : A.k ≡ 2 = omega (arith, P.two, P.corners.width.1, w.0.left) in (
@@ -82,7 +82,7 @@ loop-again c =
       ap (λ (p : List ℕ). length p) w.15 ∙ w.5.kept.1.1.1.0 ∙ L.invariant.2,
       ap (λ (p : List ℕ). length p) w.16 ∙ w.5.kept.1.1.1.1.0 ∙ L.invariant.3,
       ap (λ (p : List ℕ). length p) w.17 ∙ w.5.kept.1.1.1.1.1.0 ∙ L.invariant.4,
-      sided-same w.14 w.15 w.16 w.17 (subst (λ (k : ℕ). Sided k A.verts.now w.5.last.1.1.0 w.5.last.1.1.1.0 w.5.last.1.1.1.1.0 ((L.i + 1) * k) w.5.last.1.1.1.1.1.0) (sym e) w.5.ensures),
+      sided_same w.14 w.15 w.16 w.17 (subst (λ (k : ℕ). Sided k A.verts.now w.5.last.1.1.0 w.5.last.1.1.1.0 w.5.last.1.1.1.1.0 ((L.i + 1) * k) w.5.last.1.1.1.1.1.0) (sym e) w.5.ensures),
     ))
     c.if1.branch
 
@@ -105,8 +105,8 @@ returns c =
     let d : L.i ≡ A.n = omega arith in
     subst (λ (m : ℕ). Tied (SameFacet A.k (low_of A.k A.verts.now) (high_of A.k A.verts.now) (m * A.k)) L.parent) d L.invariant.5.tied
 
-pub join-sides-spec : {M : Type 1} → statement M
-join-sides-spec =
+pub join_sides_spec : {M : Type 1} → statement M
+join_sides_spec =
     tie.close
     (tie.spec
     invariant-loop

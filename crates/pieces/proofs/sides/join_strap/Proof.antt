@@ -4,28 +4,28 @@ use native.Mathlib.Omega.{arith}
 use mathlib.Core.Path.{◌≡◌, ◌∙◌}
 use Prim.Native.Nat.{◌+◌, ◌*◌, ◌/◌, ◌<◌}
 use lib.ListN.{length}
-use Rattle.reach.proofs.Rowing.{row-end}
-use Rattle.pieces.proofs.FacetChains.{room_for, sided-to, facet-strap}
+use Rattle.reach.proofs.Rowing.{row_end}
+use Rattle.pieces.proofs.FacetChains.{room_for, sided_to, facet_strap}
 use Rattle.pieces.proofs.sides.join_strap.Statement.{statement}
 use Rattle.pieces.proofs.sides.join_strap.Tie as tie
 
 mul-t : tie.Need-overflow-mul-t
-mul-t c = let P = c.before.before.before.before.before.requires in omega (arith, row-end P.0.rows _ P.1)
+mul-t c = let P = c.before.before.before.before.before.requires in omega (arith, row_end P.0.rows _ P.1)
 
 mul-a : tie.Need-overflow-mul-a
-mul-a c = let P = c.before.before.before.before.before.requires in omega (arith, row-end P.0.rows _ P.1)
+mul-a c = let P = c.before.before.before.before.before.requires in omega (arith, row_end P.0.rows _ P.1)
 
 shared-slice-read-a : tie.Need-shared-slice-read-a
-shared-slice-read-a c = let P = c.before.before.before.before.before.before.requires in omega (arith, row-end P.0.rows _ P.1)
+shared-slice-read-a c = let P = c.before.before.before.before.before.before.requires in omega (arith, row_end P.0.rows _ P.1)
 
 add-b : tie.Need-overflow-add-b
-add-b c = let P = c.before.before.before.before.before.before.requires in omega (arith, row-end P.0.rows _ P.1)
+add-b c = let P = c.before.before.before.before.before.before.requires in omega (arith, row_end P.0.rows _ P.1)
 
 mul-b : tie.Need-overflow-mul-b
-mul-b c = let P = c.before.before.before.before.before.before.requires in omega (arith, row-end P.0.rows _ P.1)
+mul-b c = let P = c.before.before.before.before.before.before.requires in omega (arith, row_end P.0.rows _ P.1)
 
 shared-slice-read-b : tie.Need-shared-slice-read-b
-shared-slice-read-b c = let P = c.before.before.before.before.before.before.before.requires in omega (arith, row-end P.0.rows _ P.1)
+shared-slice-read-b c = let P = c.before.before.before.before.before.before.before.requires in omega (arith, row_end P.0.rows _ P.1)
 
 join-facet-requires : tie.Need-join-facet-requires
 join-facet-requires c κs =
@@ -33,10 +33,10 @@ join-facet-requires c κs =
     let P = c.before.before.before.before.before.before.before.before.before.before.before.requires in
     let l : A.i * 2 < length A.parent.now * 2 = omega (arith, P.1) in
     let q : A.i ≡ A.i * 2 / 2 = omega arith in
-    record { n = _; verts = A.verts.now; room = P.0; step = facet-strap A.verts.now A.i (A.i * 2) P.0.particles l q; sided = P.2 }
+    record { n = _; verts = A.verts.now; room = P.0; step = facet_strap A.verts.now A.i (A.i * 2) P.0.particles l q; sided = P.2 }
 
 add-join-facet : tie.Need-overflow-add-join-facet
-add-join-facet c = let P = c.before.before.before.before.before.before.before.before.before.before.before.before.before.before.before.before.before.before.before.before.requires in omega (arith, row-end P.0.rows _ P.1)
+add-join-facet c = let P = c.before.before.before.before.before.before.before.before.before.before.before.before.before.before.before.before.before.before.before.before.requires in omega (arith, row_end P.0.rows _ P.1)
 
 join-facet-requires-2 : tie.Need-join-facet-requires-2
 join-facet-requires-2 c κs =
@@ -51,8 +51,8 @@ join-facet-requires-2 c κs =
       n = _;
       verts = A.verts.now;
       room = room_for J.auto.1.1.1.1.1.0 J.auto.1.1.1.1.1.1.0 J.auto.1.1.1.1.1.1.1.0 J.auto.1.1.1.1.1.1.1.1.0 P.0;
-      step = facet-strap A.verts.now A.i (A.i * 2 + 1) P.0.particles m r;
-      sided = J.ensures _ _ P.0 (facet-strap A.verts.now A.i (A.i * 2) P.0.particles l q) P.2;
+      step = facet_strap A.verts.now A.i (A.i * 2 + 1) P.0.particles m r;
+      sided = J.ensures _ _ P.0 (facet_strap A.verts.now A.i (A.i * 2) P.0.particles l q) P.2;
     }
 
 same_length : tie.Need-same-length
@@ -78,10 +78,10 @@ returns c =
     let q : A.i ≡ A.i * 2 / 2 = omega arith in
     let r : A.i ≡ (A.i * 2 + 1) / 2 = omega arith in
     let e : A.i * 2 + 1 + 1 ≡ (A.i + 1) * 2 = omega arith in
-    sided-to e (J.ensures _ _ (room_for I.auto.1.1.1.1.1.0 I.auto.1.1.1.1.1.1.0 I.auto.1.1.1.1.1.1.1.0 I.auto.1.1.1.1.1.1.1.1.0 P.0) (facet-strap A.verts.now A.i (A.i * 2 + 1) P.0.particles m r) (I.ensures _ _ P.0 (facet-strap A.verts.now A.i (A.i * 2) P.0.particles l q) P.2))
+    sided_to e (J.ensures _ _ (room_for I.auto.1.1.1.1.1.0 I.auto.1.1.1.1.1.1.0 I.auto.1.1.1.1.1.1.1.0 I.auto.1.1.1.1.1.1.1.1.0 P.0) (facet_strap A.verts.now A.i (A.i * 2 + 1) P.0.particles m r) (I.ensures _ _ P.0 (facet_strap A.verts.now A.i (A.i * 2) P.0.particles l q) P.2))
 
-pub join-strap-spec : {M : Type 1} → statement M
-join-strap-spec =
+pub join_strap_spec : {M : Type 1} → statement M
+join_strap_spec =
     tie.close
     (tie.spec
     mul-t

@@ -3,46 +3,46 @@ use borrow.Author.Rules.{rules}
 use native.Mathlib.Omega.{arith}
 use mathlib.Core.Path.{◌≡◌, ◌∙◌}
 use Prim.Native.Nat.{◌+◌, ◌*◌}
-use Rattle.reach.proofs.Rowing.{row-end}
-use Rattle.pieces.proofs.FacetChains.{room_for, sided-to, facet-first, facet-second, facet-third}
+use Rattle.reach.proofs.Rowing.{row_end}
+use Rattle.pieces.proofs.FacetChains.{room_for, sided_to, facet_first, facet_second, facet_third}
 use Rattle.pieces.proofs.sides.join_triangle.Statement.{statement}
 use Rattle.pieces.proofs.sides.join_triangle.Tie as tie
 
 mul-t : tie.Need-overflow-mul-t
-mul-t c = let P = c.before.before.before.before.before.requires in omega (arith, row-end P.0.rows _ P.1)
+mul-t c = let P = c.before.before.before.before.before.requires in omega (arith, row_end P.0.rows _ P.1)
 
 mul-a : tie.Need-overflow-mul-a
-mul-a c = let P = c.before.before.before.before.before.requires in omega (arith, row-end P.0.rows _ P.1)
+mul-a c = let P = c.before.before.before.before.before.requires in omega (arith, row_end P.0.rows _ P.1)
 
 shared-slice-read-a : tie.Need-shared-slice-read-a
-shared-slice-read-a c = let P = c.before.before.before.before.before.before.requires in omega (arith, row-end P.0.rows _ P.1)
+shared-slice-read-a c = let P = c.before.before.before.before.before.before.requires in omega (arith, row_end P.0.rows _ P.1)
 
 add-b : tie.Need-overflow-add-b
-add-b c = let P = c.before.before.before.before.before.before.requires in omega (arith, row-end P.0.rows _ P.1)
+add-b c = let P = c.before.before.before.before.before.before.requires in omega (arith, row_end P.0.rows _ P.1)
 
 mul-b : tie.Need-overflow-mul-b
-mul-b c = let P = c.before.before.before.before.before.before.requires in omega (arith, row-end P.0.rows _ P.1)
+mul-b c = let P = c.before.before.before.before.before.before.requires in omega (arith, row_end P.0.rows _ P.1)
 
 shared-slice-read-b : tie.Need-shared-slice-read-b
-shared-slice-read-b c = let P = c.before.before.before.before.before.before.before.requires in omega (arith, row-end P.0.rows _ P.1)
+shared-slice-read-b c = let P = c.before.before.before.before.before.before.before.requires in omega (arith, row_end P.0.rows _ P.1)
 
 add-c : tie.Need-overflow-add-c
-add-c c = let P = c.before.before.before.before.before.before.before.requires in omega (arith, row-end P.0.rows _ P.1)
+add-c c = let P = c.before.before.before.before.before.before.before.requires in omega (arith, row_end P.0.rows _ P.1)
 
 mul-c : tie.Need-overflow-mul-c
-mul-c c = let P = c.before.before.before.before.before.before.before.requires in omega (arith, row-end P.0.rows _ P.1)
+mul-c c = let P = c.before.before.before.before.before.before.before.requires in omega (arith, row_end P.0.rows _ P.1)
 
 shared-slice-read-c : tie.Need-shared-slice-read-c
-shared-slice-read-c c = let P = c.before.before.before.before.before.before.before.before.requires in omega (arith, row-end P.0.rows _ P.1)
+shared-slice-read-c c = let P = c.before.before.before.before.before.before.before.before.requires in omega (arith, row_end P.0.rows _ P.1)
 
 join-facet-requires : tie.Need-join-facet-requires
 join-facet-requires c κs =
     let A = c.before.before.before.before.before.before.before.before.before.before.before.before.args in
     let P = c.before.before.before.before.before.before.before.before.before.before.before.before.requires in
-    record { n = _; verts = A.verts.now; room = P.0; step = facet-first A.verts.now A.i P.0.particles P.1; sided = P.2 }
+    record { n = _; verts = A.verts.now; room = P.0; step = facet_first A.verts.now A.i P.0.particles P.1; sided = P.2 }
 
 add-join-facet : tie.Need-overflow-add-join-facet
-add-join-facet c = let P = c.before.before.before.before.before.before.before.before.before.before.before.before.before.before.before.before.before.before.before.before.before.requires in omega (arith, row-end P.0.rows _ P.1)
+add-join-facet c = let P = c.before.before.before.before.before.before.before.before.before.before.before.before.before.before.before.before.before.before.before.before.before.requires in omega (arith, row_end P.0.rows _ P.1)
 
 join-facet-requires-2 : tie.Need-join-facet-requires-2
 join-facet-requires-2 c κs =
@@ -53,12 +53,12 @@ join-facet-requires-2 c κs =
       n = _;
       verts = A.verts.now;
       room = room_for J.auto.1.1.1.1.1.0 J.auto.1.1.1.1.1.1.0 J.auto.1.1.1.1.1.1.1.0 J.auto.1.1.1.1.1.1.1.1.0 P.0;
-      step = facet-second A.verts.now A.i P.0.particles P.1;
-      sided = J.ensures _ _ P.0 (facet-first A.verts.now A.i P.0.particles P.1) P.2;
+      step = facet_second A.verts.now A.i P.0.particles P.1;
+      sided = J.ensures _ _ P.0 (facet_first A.verts.now A.i P.0.particles P.1) P.2;
     }
 
 add-join-facet-2 : tie.Need-overflow-add-join-facet-2
-add-join-facet-2 c = let P = c.before.before.before.before.before.before.before.before.before.before.before.before.before.before.before.before.before.before.before.before.before.before.before.before.before.before.before.before.before.before.before.before.before.before.requires in omega (arith, row-end P.0.rows _ P.1)
+add-join-facet-2 c = let P = c.before.before.before.before.before.before.before.before.before.before.before.before.before.before.before.before.before.before.before.before.before.before.before.before.before.before.before.before.before.before.before.before.before.before.requires in omega (arith, row_end P.0.rows _ P.1)
 
 join-facet-requires-3 : tie.Need-join-facet-requires-3
 join-facet-requires-3 c κs =
@@ -71,8 +71,8 @@ join-facet-requires-3 c κs =
       n = _;
       verts = A.verts.now;
       room = room_for (J.auto.1.1.1.1.1.0 ∙ I.auto.1.1.1.1.1.0) (J.auto.1.1.1.1.1.1.0 ∙ I.auto.1.1.1.1.1.1.0) (J.auto.1.1.1.1.1.1.1.0 ∙ I.auto.1.1.1.1.1.1.1.0) (J.auto.1.1.1.1.1.1.1.1.0 ∙ I.auto.1.1.1.1.1.1.1.1.0) P.0;
-      step = facet-third A.verts.now A.i P.0.particles P.1;
-      sided = sided-to d (J.ensures _ _ (room_for I.auto.1.1.1.1.1.0 I.auto.1.1.1.1.1.1.0 I.auto.1.1.1.1.1.1.1.0 I.auto.1.1.1.1.1.1.1.1.0 P.0) (facet-second A.verts.now A.i P.0.particles P.1) (I.ensures _ _ P.0 (facet-first A.verts.now A.i P.0.particles P.1) P.2));
+      step = facet_third A.verts.now A.i P.0.particles P.1;
+      sided = sided_to d (J.ensures _ _ (room_for I.auto.1.1.1.1.1.0 I.auto.1.1.1.1.1.1.0 I.auto.1.1.1.1.1.1.1.0 I.auto.1.1.1.1.1.1.1.1.0 P.0) (facet_second A.verts.now A.i P.0.particles P.1) (I.ensures _ _ P.0 (facet_first A.verts.now A.i P.0.particles P.1) P.2));
     }
 
 same_length : tie.Need-same-length
@@ -96,11 +96,11 @@ returns c =
     let H = c.before.before.before.before.before.before.before.before.join-facet3 in
     let d : A.i * 3 + 1 + 1 ≡ A.i * 3 + 2 = omega arith in
     let e : A.i * 3 + 2 + 1 ≡ (A.i + 1) * 3 = omega arith in
-    let S = sided-to d (J.ensures _ _ (room_for I.auto.1.1.1.1.1.0 I.auto.1.1.1.1.1.1.0 I.auto.1.1.1.1.1.1.1.0 I.auto.1.1.1.1.1.1.1.1.0 P.0) (facet-second A.verts.now A.i P.0.particles P.1) (I.ensures _ _ P.0 (facet-first A.verts.now A.i P.0.particles P.1) P.2)) in
-    sided-to e (H.ensures _ _ (room_for (J.auto.1.1.1.1.1.0 ∙ I.auto.1.1.1.1.1.0) (J.auto.1.1.1.1.1.1.0 ∙ I.auto.1.1.1.1.1.1.0) (J.auto.1.1.1.1.1.1.1.0 ∙ I.auto.1.1.1.1.1.1.1.0) (J.auto.1.1.1.1.1.1.1.1.0 ∙ I.auto.1.1.1.1.1.1.1.1.0) P.0) (facet-third A.verts.now A.i P.0.particles P.1) S)
+    let S = sided_to d (J.ensures _ _ (room_for I.auto.1.1.1.1.1.0 I.auto.1.1.1.1.1.1.0 I.auto.1.1.1.1.1.1.1.0 I.auto.1.1.1.1.1.1.1.1.0 P.0) (facet_second A.verts.now A.i P.0.particles P.1) (I.ensures _ _ P.0 (facet_first A.verts.now A.i P.0.particles P.1) P.2)) in
+    sided_to e (H.ensures _ _ (room_for (J.auto.1.1.1.1.1.0 ∙ I.auto.1.1.1.1.1.0) (J.auto.1.1.1.1.1.1.0 ∙ I.auto.1.1.1.1.1.1.0) (J.auto.1.1.1.1.1.1.1.0 ∙ I.auto.1.1.1.1.1.1.1.0) (J.auto.1.1.1.1.1.1.1.1.0 ∙ I.auto.1.1.1.1.1.1.1.1.0) P.0) (facet_third A.verts.now A.i P.0.particles P.1) S)
 
-pub join-triangle-spec : {M : Type 1} → statement M
-join-triangle-spec =
+pub join_triangle_spec : {M : Type 1} → statement M
+join_triangle_spec =
     tie.close
     (tie.spec
     mul-t

@@ -13,5 +13,5 @@ returns-2 : tie.Need-returns-2
 unfolding larger
 returns-2 c = rw (le-ltb c.before.args.a c.before.args.b (omega (arith, c.if1.false)))
 
-pub larger-of-spec : {M : Type 1} → statement M
-larger-of-spec = tie.close (tie.spec returns returns-2)
+pub larger_of_spec : {M : Type 1} → statement M
+larger_of_spec = tie.close (tie.spec returns returns-2)

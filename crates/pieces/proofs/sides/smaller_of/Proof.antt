@@ -13,8 +13,8 @@ returns-2 : tie.Need-returns-2
 unfolding smaller
 returns-2 c = rw (le-ltb c.before.args.a c.before.args.b (omega (arith, c.if1.false)))
 
-pub smaller-of-spec : {M : Type 1} → statement M
-smaller-of-spec =
+pub smaller_of_spec : {M : Type 1} → statement M
+smaller_of_spec =
     tie.close
     (tie.spec
     returns

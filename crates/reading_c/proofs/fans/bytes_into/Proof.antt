@@ -42,8 +42,8 @@ same_length c = c.before.loop.invariant.long
 returns : tie.Need-returns invariant-loop decreases-loop
 returns c = copy_done _ _ _ _ _ c.before.loop.invariant c.loop-test.false
 
-pub bytes-into-spec : {M : Type 1} → statement M
-bytes-into-spec =
+pub bytes_into_spec : {M : Type 1} → statement M
+bytes_into_spec =
     tie.close
     (tie.spec
     invariant-loop

@@ -10,5 +10,5 @@ returns c = inl (refl, c.if1.true)
 returns-2 : tie.Need-returns-2
 returns-2 c = inr (refl, c.if1.false)
 
-pub capped-spec : {M : Type 1} → statement M
-capped-spec = tie.close (tie.spec returns returns-2)
+pub capped_spec : {M : Type 1} → statement M
+capped_spec = tie.close (tie.spec returns returns-2)

@@ -10,7 +10,7 @@ same_length : tie.Need-same-length
 same_length c = search rules
 
 returns : tie.Need-returns
-returns c = c.before.before.few-sides.ensures
+returns c = c.before.before.few_sides.ensures
 
 many-sides-requires : tie.Need-many-sides-requires
 many-sides-requires c κs = search rules
@@ -21,8 +21,8 @@ same-length-2 c = search rules
 returns-2 : tie.Need-returns-2
 returns-2 c = c.before.before.many-sides.ensures
 
-pub groups-spec : {M : Type 1} → statement M
-groups-spec =
+pub groups_spec : {M : Type 1} → statement M
+groups_spec =
     tie.close
     (tie.spec
     few-sides-requires

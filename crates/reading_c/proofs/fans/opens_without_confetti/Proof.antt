@@ -21,8 +21,8 @@ same-length-2 c = search rules
 returns-2 : tie.Need-returns-2
 returns-2 c = c.before.before.many-open.ensures
 
-pub opens-without-confetti-spec : {M : Type 1} → statement M
-opens-without-confetti-spec =
+pub opens_without_confetti_spec : {M : Type 1} → statement M
+opens_without_confetti_spec =
     tie.close
     (tie.spec
     few-open-requires

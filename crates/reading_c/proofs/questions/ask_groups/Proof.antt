@@ -21,8 +21,8 @@ same-length-2 c = search rules
 returns-2 : tie.Need-returns-2
 returns-2 c = c.before.before.many-groups.ensures
 
-pub ask-groups-spec : {M : Type 1} → statement M
-ask-groups-spec =
+pub ask_groups_spec : {M : Type 1} → statement M
+ask_groups_spec =
     tie.close
     (tie.spec
     few-groups-requires

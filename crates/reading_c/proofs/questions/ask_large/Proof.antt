@@ -1,5 +1,5 @@
 -- `reading_c::questions::ask_large` meets its contract: the large blocks have room. Assumes nothing.
-use Rattle.image.proofs.Loading.{sized-loadable}
+use Rattle.image.proofs.Loading.{sized_loadable}
 use borrow.Author.Rules.{rules}
 use Rattle.reading_c.proofs.questions.ask_large.Statement.{statement}
 use Rattle.reading_c.proofs.questions.ask_large.Tie as tie
@@ -26,7 +26,7 @@ slice-aggregate-ask-within-7 : tie.Need-slice-aggregate-ask-within-7
 slice-aggregate-ask-within-7 c = search rules
 
 ask-within-requires : tie.Need-ask-within-requires
-ask-within-requires c κs = let P = c.before.before.before.before.before.before.before.before.before.before.before.requires in (P.0, P.1, sized-loadable _ P.0)
+ask-within-requires c κs = let P = c.before.before.before.before.before.before.before.before.before.before.before.requires in (P.0, P.1, sized_loadable _ P.0)
 
 same_length : tie.Need-same-length
 same_length c = search rules
@@ -34,8 +34,8 @@ same_length c = search rules
 returns : tie.Need-returns
 returns c = search rules
 
-pub ask-large-spec : {M : Type 1} → statement M
-ask-large-spec =
+pub ask_large_spec : {M : Type 1} → statement M
+ask_large_spec =
     tie.close
     (tie.spec
     slice-aggregate-ask-within

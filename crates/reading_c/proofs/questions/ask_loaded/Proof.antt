@@ -1,12 +1,12 @@
 -- `reading_c::questions::ask_loaded` meets its contract: a small image is asked in small blocks, any other in larger ones. Assumes nothing.
 use mathlib.Core.Path.{sym, ◌∙◌}
-use Rattle.image.proofs.Loading.{sized-counts}
+use Rattle.image.proofs.Loading.{sized_counts}
 use borrow.Author.Rules.{rules}
 use Rattle.reading_c.proofs.questions.ask_loaded.Statement.{statement}
 use Rattle.reading_c.proofs.questions.ask_loaded.Tie as tie
 
 is-small-requires : tie.Need-is-small-requires
-is-small-requires c κs = sized-counts _ c.before.before.before.requires.0
+is-small-requires c κs = sized_counts _ c.before.before.before.requires.0
 
 ask-small-requires : tie.Need-ask-small-requires
 ask-small-requires c κs = let P = c.before.before.before.before.before.before.requires in (P.0, P.1, sym c.before.before.is-small.ensures ∙ c.before.if1.true)
@@ -26,8 +26,8 @@ same-length-2 c = search rules
 returns-2 : tie.Need-returns-2
 returns-2 c = search rules
 
-pub ask-loaded-spec : {M : Type 1} → statement M
-ask-loaded-spec =
+pub ask_loaded_spec : {M : Type 1} → statement M
+ask_loaded_spec =
     tie.close
     (tie.spec
     is-small-requires

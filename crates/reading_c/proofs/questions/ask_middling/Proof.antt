@@ -1,5 +1,5 @@
 -- `reading_c::questions::ask_middling` meets its contract: the blocks have room. Assumes nothing.
-use Rattle.image.proofs.Smallness.{middling-loadable}
+use Rattle.image.proofs.Smallness.{middling_loadable}
 use borrow.Author.Rules.{rules}
 use Rattle.reading_c.proofs.questions.ask_middling.Statement.{statement}
 use Rattle.reading_c.proofs.questions.ask_middling.Tie as tie
@@ -26,7 +26,7 @@ slice-aggregate-ask-within-7 : tie.Need-slice-aggregate-ask-within-7
 slice-aggregate-ask-within-7 c = search rules
 
 ask-within-requires : tie.Need-ask-within-requires
-ask-within-requires c κs = let P = c.before.before.before.before.before.before.before.before.before.before.before.requires in (P.0, P.1, middling-loadable _ P.0 P.2)
+ask-within-requires c κs = let P = c.before.before.before.before.before.before.before.before.before.before.before.requires in (P.0, P.1, middling_loadable _ P.0 P.2)
 
 same_length : tie.Need-same-length
 same_length c = search rules
@@ -34,8 +34,8 @@ same_length c = search rules
 returns : tie.Need-returns
 returns c = search rules
 
-pub ask-middling-spec : {M : Type 1} → statement M
-ask-middling-spec =
+pub ask_middling_spec : {M : Type 1} → statement M
+ask_middling_spec =
     tie.close
     (tie.spec
     slice-aggregate-ask-within

@@ -2,23 +2,23 @@
 use native.Mathlib.Omega.{arith}
 use mathlib.Core.Path.{sym}
 use lib.Seq.{length-take-le}
-use Rattle.image.proofs.Loading.{sized-counts, fronts-are}
-use Rattle.reading_c.proofs.Answering.{asked-on}
+use Rattle.image.proofs.Loading.{sized_counts, fronts_are}
+use Rattle.reading_c.proofs.Answering.{asked_on}
 use borrow.Author.Rules.{rules}
 use Rattle.reading_c.proofs.questions.ask_within.Statement.{statement}
 use Rattle.reading_c.proofs.questions.ask_within.Tie as tie
 
 word-at-requires : tie.Need-word-at-requires
-word-at-requires c κs = omega (arith, sized-counts _ c.before.before.before.before.before.before.before.before.before.before.requires.0)
+word-at-requires c κs = omega (arith, sized_counts _ c.before.before.before.before.before.before.before.before.before.before.requires.0)
 
 word-at-requires-2 : tie.Need-word-at-requires-2
-word-at-requires-2 c κs = omega (arith, sized-counts _ c.before.before.before.before.before.before.before.before.before.before.before.requires.0)
+word-at-requires-2 c κs = omega (arith, sized_counts _ c.before.before.before.before.before.before.before.before.before.before.before.requires.0)
 
 word-at-requires-3 : tie.Need-word-at-requires-3
-word-at-requires-3 c κs = omega (arith, sized-counts _ c.before.before.before.before.before.before.before.before.before.before.before.before.requires.0)
+word-at-requires-3 c κs = omega (arith, sized_counts _ c.before.before.before.before.before.before.before.before.before.before.before.before.requires.0)
 
 word-at-requires-4 : tie.Need-word-at-requires-4
-word-at-requires-4 c κs = omega (arith, sized-counts _ c.before.before.before.before.before.before.before.before.before.before.before.before.before.requires.0)
+word-at-requires-4 c κs = omega (arith, sized_counts _ c.before.before.before.before.before.before.before.before.before.before.before.before.before.requires.0)
 
 mul-p8 : tie.Need-overflow-mul-p8
 mul-p8 c = search rules
@@ -42,43 +42,43 @@ load-requires : tie.Need-load-requires
 load-requires c κs = c.before.before.before.before.before.before.before.before.before.before.before.before.before.before.before.before.before.before.before.before.before.requires.2
 
 slice-reshare-prefix-ask : tie.Need-slice-reshare-prefix-ask
-slice-reshare-prefix-ask c = omega (arith, c.before.before.before.before.before.before.before.before.before.before.before.before.before.before.before.before.before.before.before.before.before.before.before.before.before.word_at.ensures.0, c.before.before.before.before.before.before.before.before.before.before.before.before.before.before.before.before.before.before.before.before.before.before.before.before.before.before.before.before.before.before.before.before.before.before.before.before.requires.2.points-room, c.before.before.before.before.before.before.before.before.before.before.before.before.before.before.load.auto.1.0)
+slice-reshare-prefix-ask c = omega (arith, c.before.before.before.before.before.before.before.before.before.before.before.before.before.before.before.before.before.before.before.before.before.before.before.before.before.word_at.ensures.0, c.before.before.before.before.before.before.before.before.before.before.before.before.before.before.before.before.before.before.before.before.before.before.before.before.before.before.before.before.before.before.before.before.before.before.before.before.requires.2.points_room, c.before.before.before.before.before.before.before.before.before.before.before.before.before.before.load.auto.1.0)
 
 slice-aggregate-ask : tie.Need-slice-aggregate-ask
 slice-aggregate-ask c = sym (length-take-le _ _ (slice-reshare-prefix-ask c.before))
 
 slice-reshare-prefix-ask-2 : tie.Need-slice-reshare-prefix-ask-2
-slice-reshare-prefix-ask-2 c = omega (arith, c.before.before.before.before.before.before.before.before.before.before.before.before.before.before.before.before.before.before.before.before.before.before.before.before.before.before.word_at.ensures.0, c.before.before.before.before.before.before.before.before.before.before.before.before.before.before.before.before.before.before.before.before.before.before.before.before.before.before.before.before.before.before.before.before.before.before.before.before.before.requires.2.roots-room, c.before.before.before.before.before.before.before.before.before.before.before.before.before.before.before.load.auto.1.1.0)
+slice-reshare-prefix-ask-2 c = omega (arith, c.before.before.before.before.before.before.before.before.before.before.before.before.before.before.before.before.before.before.before.before.before.before.before.before.before.before.word_at.ensures.0, c.before.before.before.before.before.before.before.before.before.before.before.before.before.before.before.before.before.before.before.before.before.before.before.before.before.before.before.before.before.before.before.before.before.before.before.before.before.requires.2.roots_room, c.before.before.before.before.before.before.before.before.before.before.before.before.before.before.before.load.auto.1.1.0)
 
 slice-aggregate-ask-2 : tie.Need-slice-aggregate-ask-2
 slice-aggregate-ask-2 c = sym (length-take-le _ _ (slice-reshare-prefix-ask-2 c.before))
 
 slice-reshare-prefix-ask-3 : tie.Need-slice-reshare-prefix-ask-3
-slice-reshare-prefix-ask-3 c = omega (arith, c.before.before.before.before.before.before.before.before.before.before.before.before.before.before.before.before.before.before.before.before.before.before.before.before.before.before.word-at2.ensures.0, c.before.before.before.before.before.before.before.before.before.before.before.before.before.before.before.before.before.before.before.before.before.before.before.before.before.before.before.before.before.before.before.before.before.before.before.before.before.before.requires.2.corners-room, c.before.before.before.before.before.before.before.before.before.before.before.before.before.before.before.before.load.auto.1.1.1.0)
+slice-reshare-prefix-ask-3 c = omega (arith, c.before.before.before.before.before.before.before.before.before.before.before.before.before.before.before.before.before.before.before.before.before.before.before.before.before.before.word-at2.ensures.0, c.before.before.before.before.before.before.before.before.before.before.before.before.before.before.before.before.before.before.before.before.before.before.before.before.before.before.before.before.before.before.before.before.before.before.before.before.before.before.requires.2.corners_room, c.before.before.before.before.before.before.before.before.before.before.before.before.before.before.before.before.load.auto.1.1.1.0)
 
 slice-aggregate-ask-3 : tie.Need-slice-aggregate-ask-3
 slice-aggregate-ask-3 c = sym (length-take-le _ _ (slice-reshare-prefix-ask-3 c.before))
 
 slice-reshare-prefix-ask-4 : tie.Need-slice-reshare-prefix-ask-4
-slice-reshare-prefix-ask-4 c = omega (arith, c.before.before.before.before.before.before.before.before.before.before.before.before.before.before.before.before.before.before.before.before.before.before.before.before.before.before.before.word-at2.ensures.0, c.before.before.before.before.before.before.before.before.before.before.before.before.before.before.before.before.before.before.before.before.before.before.before.before.before.before.before.before.before.before.before.before.before.before.before.before.before.before.before.requires.2.volumes-room, c.before.before.before.before.before.before.before.before.before.before.before.before.before.before.before.before.before.load.auto.1.1.1.1.0)
+slice-reshare-prefix-ask-4 c = omega (arith, c.before.before.before.before.before.before.before.before.before.before.before.before.before.before.before.before.before.before.before.before.before.before.before.before.before.before.before.word-at2.ensures.0, c.before.before.before.before.before.before.before.before.before.before.before.before.before.before.before.before.before.before.before.before.before.before.before.before.before.before.before.before.before.before.before.before.before.before.before.before.before.before.before.requires.2.volumes_room, c.before.before.before.before.before.before.before.before.before.before.before.before.before.before.before.before.before.load.auto.1.1.1.1.0)
 
 slice-aggregate-ask-4 : tie.Need-slice-aggregate-ask-4
 slice-aggregate-ask-4 c = sym (length-take-le _ _ (slice-reshare-prefix-ask-4 c.before))
 
 slice-reshare-prefix-ask-5 : tie.Need-slice-reshare-prefix-ask-5
-slice-reshare-prefix-ask-5 c = omega (arith, c.before.before.before.before.before.before.before.before.before.before.before.before.before.before.before.before.before.before.before.before.before.before.before.before.before.before.before.word-at3.ensures.0, c.before.before.before.before.before.before.before.before.before.before.before.before.before.before.before.before.before.before.before.before.before.before.before.before.before.before.before.before.before.before.before.before.before.before.before.before.before.before.before.before.requires.2.ends-room, c.before.before.before.before.before.before.before.before.before.before.before.before.before.before.before.before.before.before.load.auto.1.1.1.1.1.0)
+slice-reshare-prefix-ask-5 c = omega (arith, c.before.before.before.before.before.before.before.before.before.before.before.before.before.before.before.before.before.before.before.before.before.before.before.before.before.before.before.word-at3.ensures.0, c.before.before.before.before.before.before.before.before.before.before.before.before.before.before.before.before.before.before.before.before.before.before.before.before.before.before.before.before.before.before.before.before.before.before.before.before.before.before.before.before.requires.2.ends_room, c.before.before.before.before.before.before.before.before.before.before.before.before.before.before.before.before.before.before.load.auto.1.1.1.1.1.0)
 
 slice-aggregate-ask-5 : tie.Need-slice-aggregate-ask-5
 slice-aggregate-ask-5 c = sym (length-take-le _ _ (slice-reshare-prefix-ask-5 c.before))
 
 slice-reshare-prefix-ask-6 : tie.Need-slice-reshare-prefix-ask-6
-slice-reshare-prefix-ask-6 c = omega (arith, c.before.before.before.before.before.before.before.before.before.before.before.before.before.before.before.before.before.before.before.before.before.before.before.before.before.before.before.before.word-at3.ensures.0, c.before.before.before.before.before.before.before.before.before.before.before.before.before.before.before.before.before.before.before.before.before.before.before.before.before.before.before.before.before.before.before.before.before.before.before.before.before.before.before.before.before.requires.2.lengths-room, c.before.before.before.before.before.before.before.before.before.before.before.before.before.before.before.before.before.before.before.load.auto.1.1.1.1.1.1.0)
+slice-reshare-prefix-ask-6 c = omega (arith, c.before.before.before.before.before.before.before.before.before.before.before.before.before.before.before.before.before.before.before.before.before.before.before.before.before.before.before.before.word-at3.ensures.0, c.before.before.before.before.before.before.before.before.before.before.before.before.before.before.before.before.before.before.before.before.before.before.before.before.before.before.before.before.before.before.before.before.before.before.before.before.before.before.before.before.before.requires.2.lengths_room, c.before.before.before.before.before.before.before.before.before.before.before.before.before.before.before.before.before.before.before.load.auto.1.1.1.1.1.1.0)
 
 slice-aggregate-ask-6 : tie.Need-slice-aggregate-ask-6
 slice-aggregate-ask-6 c = sym (length-take-le _ _ (slice-reshare-prefix-ask-6 c.before))
 
 slice-reshare-prefix-ask-7 : tie.Need-slice-reshare-prefix-ask-7
-slice-reshare-prefix-ask-7 c = omega (arith, c.before.before.before.before.before.before.before.before.before.before.before.before.before.before.before.before.before.before.before.before.before.before.before.before.before.before.before.before.word-at4.ensures.0, c.before.before.before.before.before.before.before.before.before.before.before.before.before.before.before.before.before.before.before.before.before.before.before.before.before.before.before.before.before.before.before.before.before.before.before.before.before.before.before.before.before.before.requires.2.outline-room, c.before.before.before.before.before.before.before.before.before.before.before.before.before.before.before.before.before.before.before.before.load.auto.1.1.1.1.1.1.1.0)
+slice-reshare-prefix-ask-7 c = omega (arith, c.before.before.before.before.before.before.before.before.before.before.before.before.before.before.before.before.before.before.before.before.before.before.before.before.before.before.before.before.word-at4.ensures.0, c.before.before.before.before.before.before.before.before.before.before.before.before.before.before.before.before.before.before.before.before.before.before.before.before.before.before.before.before.before.before.before.before.before.before.before.before.before.before.before.before.before.before.requires.2.outline_room, c.before.before.before.before.before.before.before.before.before.before.before.before.before.before.before.before.before.before.before.before.load.auto.1.1.1.1.1.1.1.0)
 
 slice-aggregate-ask-7 : tie.Need-slice-aggregate-ask-7
 slice-aggregate-ask-7 c = sym (length-take-le _ _ (slice-reshare-prefix-ask-7 c.before))
@@ -111,10 +111,10 @@ same-length-8 : tie.Need-same-length-8
 same-length-8 c = search rules
 
 returns : tie.Need-returns
-returns c = asked-on _ _ _ _ _ _ _ c.before.before.before.before.before.before.before.before.before.before.before.before.before.before.before.before.before.before.before.before.before.before.before.before.before.before.before.before.before.before.before.before.before.before.before.before.before.before.before.before.before.before.before.before.before.before.before.requires.0 (fronts-are _ _ _ _ _ _ _ _ _ _ _ _ c.before.before.before.before.before.before.before.before.before.before.before.before.before.before.before.before.before.before.before.before.before.before.before.before.before.before.before.before.before.before.before.before.before.before.before.before.word_at.ensures.0 c.before.before.before.before.before.before.before.before.before.before.before.before.before.before.before.before.before.before.before.before.before.before.before.before.before.before.before.before.before.before.before.before.before.before.before.word-at2.ensures.0 c.before.before.before.before.before.before.before.before.before.before.before.before.before.before.before.before.before.before.before.before.before.before.before.before.before.before.before.before.before.before.before.before.before.before.word-at3.ensures.0 c.before.before.before.before.before.before.before.before.before.before.before.before.before.before.before.before.before.before.before.before.before.before.before.before.before.before.before.before.before.before.before.before.before.word-at4.ensures.0 c.before.before.before.before.before.before.before.before.before.before.before.before.before.before.before.before.before.before.before.before.before.before.before.before.before.load.ensures) c.before.before.ask.ensures
+returns c = asked_on _ _ _ _ _ _ _ c.before.before.before.before.before.before.before.before.before.before.before.before.before.before.before.before.before.before.before.before.before.before.before.before.before.before.before.before.before.before.before.before.before.before.before.before.before.before.before.before.before.before.before.before.before.before.before.requires.0 (fronts_are _ _ _ _ _ _ _ _ _ _ _ _ c.before.before.before.before.before.before.before.before.before.before.before.before.before.before.before.before.before.before.before.before.before.before.before.before.before.before.before.before.before.before.before.before.before.before.before.before.word_at.ensures.0 c.before.before.before.before.before.before.before.before.before.before.before.before.before.before.before.before.before.before.before.before.before.before.before.before.before.before.before.before.before.before.before.before.before.before.before.word-at2.ensures.0 c.before.before.before.before.before.before.before.before.before.before.before.before.before.before.before.before.before.before.before.before.before.before.before.before.before.before.before.before.before.before.before.before.before.before.word-at3.ensures.0 c.before.before.before.before.before.before.before.before.before.before.before.before.before.before.before.before.before.before.before.before.before.before.before.before.before.before.before.before.before.before.before.before.before.word-at4.ensures.0 c.before.before.before.before.before.before.before.before.before.before.before.before.before.before.before.before.before.before.before.before.before.before.before.before.before.load.ensures) c.before.before.ask.ensures
 
-pub ask-within-spec : {M : Type 1} → statement M
-ask-within-spec =
+pub ask_within_spec : {M : Type 1} → statement M
+ask_within_spec =
     tie.close
     (tie.spec
     word-at-requires

@@ -16,8 +16,8 @@ same_length c = search rules
 returns : tie.Need-returns
 returns c = c.before.before.before.groups-within.ensures
 
-pub few-groups-spec : {M : Type 1} → statement M
-few-groups-spec =
+pub few_groups_spec : {M : Type 1} → statement M
+few_groups_spec =
     tie.close
     (tie.spec
     slice-aggregate-groups-within

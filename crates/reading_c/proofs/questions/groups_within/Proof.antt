@@ -2,7 +2,7 @@
 use native.Mathlib.Omega.{arith}
 use mathlib.Core.Path.{sym}
 use lib.Seq.{length-take-le}
-use Rattle.reading_c.proofs.Grouping.{front-placed, groups-small, groups-told}
+use Rattle.reading_c.proofs.Grouping.{front_placed, groups_small, groups_told_lem}
 use borrow.Author.Rules.{rules}
 use Rattle.reading_c.proofs.questions.groups_within.Statement.{statement}
 use Rattle.reading_c.proofs.questions.groups_within.Tie as tie
@@ -17,7 +17,7 @@ slice-aggregate-reply-groups : tie.Need-slice-aggregate-reply-groups
 slice-aggregate-reply-groups c = sym (length-take-le _ _ (slice-reshare-prefix-reply-groups c.before))
 
 reply-groups-requires : tie.Need-reply-groups-requires
-reply-groups-requires c κs = (groups-small _ _ _ _ _ _ _ _ c.before.before.before.before.groups.ensures, front-placed _ _ _ c.before.before.before.before.before.before.before.before.before.before.before.before.before.before.before.before.requires.0 c.before.before.before.before.before.before.before.before.before.before.before.before.before.before.before.before.requires.1)
+reply-groups-requires c κs = (groups_small _ _ _ _ _ _ _ _ c.before.before.before.before.groups.ensures, front_placed _ _ _ c.before.before.before.before.before.before.before.before.before.before.before.before.before.before.before.before.requires.0 c.before.before.before.before.before.before.before.before.before.before.before.before.before.before.before.before.requires.1)
 
 same_length : tie.Need-same-length
 same_length c = search rules
@@ -26,10 +26,10 @@ same-length-2 : tie.Need-same-length-2
 same-length-2 c = search rules
 
 returns : tie.Need-returns
-returns c = groups-told _ _ _ _ _ _ _ _ _ _ c.before.before.before.before.before.before.before.before.before.before.before.before.before.before.before.before.before.before.before.requires.0 c.before.before.before.before.before.before.before.groups.ensures c.before.before.reply-groups.ensures
+returns c = groups_told_lem _ _ _ _ _ _ _ _ _ _ c.before.before.before.before.before.before.before.before.before.before.before.before.before.before.before.before.before.before.before.requires.0 c.before.before.before.before.before.before.before.groups.ensures c.before.before.reply-groups.ensures
 
-pub groups-within-spec : {M : Type 1} → statement M
-groups-within-spec =
+pub groups_within_spec : {M : Type 1} → statement M
+groups_within_spec =
     tie.close
     (tie.spec
     groups-requires

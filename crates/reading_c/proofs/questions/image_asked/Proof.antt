@@ -1,6 +1,6 @@
 -- `reading_c::questions::image_asked` meets its contract: 1, or the answer to the question. Assumes nothing.
 use mathlib.Core.Path.{sym, ◌∙◌}
-use Rattle.reading_c.proofs.Answering.{asked-unsized}
+use Rattle.reading_c.proofs.Answering.{asked_unsized}
 use borrow.Author.Rules.{rules}
 use Rattle.reading_c.proofs.questions.image_asked.Statement.{statement}
 use Rattle.reading_c.proofs.questions.image_asked.Tie as tie
@@ -24,10 +24,10 @@ same-length-2 : tie.Need-same-length-2
 same-length-2 c = search rules
 
 returns-2 : tie.Need-returns-2
-returns-2 c = asked-unsized _ _ _ _ _ _ _ c.before.before.before.before.before.image-sized.ensures c.before.before.before.before.if1.false c.before.before.reply-refused.ensures
+returns-2 c = asked_unsized _ _ _ _ _ _ _ c.before.before.before.before.before.image-sized.ensures c.before.before.before.before.if1.false c.before.before.reply-refused.ensures
 
-pub image-asked-spec : {M : Type 1} → statement M
-image-asked-spec =
+pub image_asked_spec : {M : Type 1} → statement M
+image_asked_spec =
     tie.close
     (tie.spec
     image-sized-requires

@@ -16,8 +16,8 @@ same_length c = search rules
 returns : tie.Need-returns
 returns c = c.before.before.before.groups-within.ensures
 
-pub many-groups-spec : {M : Type 1} → statement M
-many-groups-spec =
+pub many_groups_spec : {M : Type 1} → statement M
+many_groups_spec =
     tie.close
     (tie.spec
     slice-aggregate-groups-within

@@ -1,6 +1,6 @@
 -- `reading_c::tabled::large_pieces` meets its contract: the tables have room. Assumes nothing.
 use native.Mathlib.Omega.{arith}
-use Rattle.reading_c.proofs.Tabling.{large-room}
+use Rattle.reading_c.proofs.Tabling.{large_room}
 use borrow.Author.Rules.{rules}
 use Rattle.reading_c.proofs.tabled.large_pieces.Statement.{statement}
 use Rattle.reading_c.proofs.tabled.large_pieces.Tie as tie
@@ -21,13 +21,13 @@ slice-aggregate-pieces-by-5 : tie.Need-slice-aggregate-pieces-by-5
 slice-aggregate-pieces-by-5 c = search rules
 
 pieces-by-requires : tie.Need-pieces-by-requires
-pieces-by-requires c κs = (large-room c.before.before.before.before.before.before.requires, omega arith, omega arith)
+pieces-by-requires c κs = (large_room c.before.before.before.before.before.before.requires, omega arith, omega arith)
 
 returns : tie.Need-returns
 returns c = search rules
 
-pub large-pieces-spec : {M : Type 1} → statement M
-large-pieces-spec =
+pub large_pieces_spec : {M : Type 1} → statement M
+large_pieces_spec =
     tie.close
     (tie.spec
     slice-aggregate-pieces-by

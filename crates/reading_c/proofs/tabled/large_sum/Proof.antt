@@ -1,5 +1,5 @@
 -- `reading_c::tabled::large_sum` meets its contract: the tables have room. Assumes nothing.
-use Rattle.reading_c.proofs.Tabling.{large-room}
+use Rattle.reading_c.proofs.Tabling.{large_room}
 use borrow.Author.Rules.{rules}
 use Rattle.reading_c.proofs.tabled.large_sum.Statement.{statement}
 use Rattle.reading_c.proofs.tabled.large_sum.Tie as tie
@@ -14,13 +14,13 @@ slice-aggregate-sum-by-3 : tie.Need-slice-aggregate-sum-by-3
 slice-aggregate-sum-by-3 c = search rules
 
 sum-by-requires : tie.Need-sum-by-requires
-sum-by-requires c κs = large-room c.before.before.before.before.requires
+sum-by-requires c κs = large_room c.before.before.before.before.requires
 
 returns : tie.Need-returns
 returns c = search rules
 
-pub large-sum-spec : {M : Type 1} → statement M
-large-sum-spec =
+pub large_sum_spec : {M : Type 1} → statement M
+large_sum_spec =
     tie.close
     (tie.spec
     slice-aggregate-sum-by

@@ -1,8 +1,8 @@
 -- `reading_c::tabled::pieces` meets its contract: the faults of the mesh, or its pieces. Assumes nothing.
 use mathlib.Core.Path.{sym, ◌∙◌}
-use Rattle.image.proofs.Loading.{sized-counts}
-use Rattle.readings.proofs.Refusing.{pieces-refuses, pieces-answers}
-use Rattle.reading_c.proofs.Tabling.{fault-is, no-fault}
+use Rattle.image.proofs.Loading.{sized_counts}
+use Rattle.readings.proofs.Refusing.{pieces_refuses, pieces_answers}
+use Rattle.reading_c.proofs.Tabling.{fault_is, no_fault}
 use borrow.Author.Rules.{rules}
 use Rattle.reading_c.proofs.tabled.pieces.Statement.{statement}
 use Rattle.reading_c.proofs.tabled.pieces.Tie as tie
@@ -11,25 +11,25 @@ image-fault-requires : tie.Need-image-fault-requires
 image-fault-requires c κs = search rules
 
 returns : tie.Need-returns
-returns c = pieces-refuses _ _ (fault-is _ c.before.before.before.requires _ c.before.image-fault.ensures) c.if1.true
+returns c = pieces_refuses _ _ (fault_is _ c.before.before.before.requires _ c.before.image-fault.ensures) c.if1.true
 
 is-small-requires : tie.Need-is-small-requires
-is-small-requires c κs = sized-counts _ c.before.before.before.requires
+is-small-requires c κs = sized_counts _ c.before.before.before.requires
 
 small-pieces-requires : tie.Need-small-pieces-requires
-small-pieces-requires c κs = (no-fault _ c.before.before.before.before.before.requires _ c.before.before.before.image-fault.ensures c.before.before.if1.false, sym c.before.is-small.ensures ∙ c.if2.true)
+small-pieces-requires c κs = (no_fault _ c.before.before.before.before.before.requires _ c.before.before.before.image-fault.ensures c.before.before.if1.false, sym c.before.is-small.ensures ∙ c.if2.true)
 
 returns-2 : tie.Need-returns-2
-returns-2 c = pieces-answers _ _ _ (fault-is _ c.before.before.before.before.before.before.requires _ c.before.before.before.before.image-fault.ensures) c.before.before.before.if1.false c.small-pieces.ensures
+returns-2 c = pieces_answers _ _ _ (fault_is _ c.before.before.before.before.before.before.requires _ c.before.before.before.before.image-fault.ensures) c.before.before.before.if1.false c.small-pieces.ensures
 
 large-pieces-requires : tie.Need-large-pieces-requires
-large-pieces-requires c κs = no-fault _ c.before.before.before.before.before.requires _ c.before.before.before.image-fault.ensures c.before.before.if1.false
+large-pieces-requires c κs = no_fault _ c.before.before.before.before.before.requires _ c.before.before.before.image-fault.ensures c.before.before.if1.false
 
 returns-3 : tie.Need-returns-3
-returns-3 c = pieces-answers _ _ _ (fault-is _ c.before.before.before.before.before.before.requires _ c.before.before.before.before.image-fault.ensures) c.before.before.before.if1.false c.large-pieces.ensures
+returns-3 c = pieces_answers _ _ _ (fault_is _ c.before.before.before.before.before.before.requires _ c.before.before.before.before.image-fault.ensures) c.before.before.before.if1.false c.large-pieces.ensures
 
-pub pieces-spec : {M : Type 1} → statement M
-pieces-spec =
+pub pieces_spec : {M : Type 1} → statement M
+pieces_spec =
     tie.close
     (tie.spec
     image-fault-requires

@@ -4,8 +4,8 @@ use Prim.Native.Nat.{ℕ}
 use mathlib.Core.Path.{sym}
 use lib.ListN.{length-replicate}
 use lib.Seq.{length-take-le}
-use Rattle.mesh_tables.proofs.Cornering.{blank, sides-lent, number-found}
-use Rattle.reading_c.proofs.Tabling.{accepted-image, numbers-few, only-corners}
+use Rattle.mesh_tables.proofs.Cornering.{blank, sides_lent, number_found}
+use Rattle.reading_c.proofs.Tabling.{accepted_image, numbers_few, only_corners}
 use borrow.Author.Rules.{rules}
 use Rattle.reading_c.proofs.tabled.pieces_by.Statement.{statement}
 use Rattle.reading_c.proofs.tabled.pieces_by.Tie as tie
@@ -17,16 +17,16 @@ slice-aggregate-count-sides : tie.Need-slice-aggregate-count-sides
 slice-aggregate-count-sides c = search rules
 
 slice-relend-prefix-count-sides : tie.Need-slice-relend-prefix-count-sides
-slice-relend-prefix-count-sides c = numbers-few c.before.before.before.before.before.before.before.before.before.before.image-table.ensures
+slice-relend-prefix-count-sides c = numbers_few c.before.before.before.before.before.before.before.before.before.before.image-table.ensures
 
 slice-aggregate-count-sides-2 : tie.Need-slice-aggregate-count-sides-2
-slice-aggregate-count-sides-2 c = sym (length-take-le _ _ (numbers-few c.before.before.before.before.before.before.before.before.before.before.before.image-table.ensures))
+slice-aggregate-count-sides-2 c = sym (length-take-le _ _ (numbers_few c.before.before.before.before.before.before.before.before.before.before.before.image-table.ensures))
 
 count-sides-requires : tie.Need-count-sides-requires
 count-sides-requires c κs = let T = c.before.before.before.before.before.before.before.before.before.before.before.image-table in
     let P = c.before.before.before.before.before.before.before.before.before.before.before.before.before.before.before.before.before.before.before.before.before.requires in
     let h = length-replicate {A = ℕ} 4096 0 in
-    sides-lent (only-corners T.ensures) h (λ k. blank 4096 k) (omega (arith, T.ensures.corners.room, T.auto.1.1.0, P.1)) (omega (arith, T.ensures.corners.room, T.auto.1.1.0, P.2)) (length-take-le _ _ (numbers-few T.ensures))
+    sides_lent (only_corners T.ensures) h (λ k. blank 4096 k) (omega (arith, T.ensures.corners.room, T.auto.1.1.0, P.1)) (omega (arith, T.ensures.corners.room, T.auto.1.1.0, P.2)) (length-take-le _ _ (numbers_few T.ensures))
 
 same_length : tie.Need-same-length
 same_length c = search rules
@@ -44,10 +44,10 @@ same-length-5 : tie.Need-same-length-5
 same-length-5 c = search rules
 
 returns : tie.Need-returns
-returns c = number-found (accepted-image c.before.before.before.before.before.before.before.before.before.before.before.before.before.before.before.before.before.before.before.before.before.before.before.before.before.before.before.before.before.requires.0.faultless) (only-corners c.before.before.before.before.before.before.before.before.before.before.before.before.before.before.before.before.before.before.before.image-table.ensures) c.before.before.before.before.before.before.before.count-sides.ensures
+returns c = number_found (accepted_image c.before.before.before.before.before.before.before.before.before.before.before.before.before.before.before.before.before.before.before.before.before.before.before.before.before.before.before.before.before.requires.0.faultless) (only_corners c.before.before.before.before.before.before.before.before.before.before.before.before.before.before.before.before.before.before.before.image-table.ensures) c.before.before.before.before.before.before.before.count-sides.ensures
 
-pub pieces-by-spec : {M : Type 1} → statement M
-pieces-by-spec =
+pub pieces_by_spec : {M : Type 1} → statement M
+pieces_by_spec =
     tie.close
     (tie.spec
     image-table-requires

@@ -1,5 +1,5 @@
 -- `reading_c::tabled::small_listed` meets its contract: the tables have room. Assumes nothing.
-use Rattle.reading_c.proofs.Tabling.{small-room, small-marks}
+use Rattle.reading_c.proofs.Tabling.{small_room, small_marks}
 use borrow.Author.Rules.{rules}
 use Rattle.reading_c.proofs.tabled.small_listed.Statement.{statement}
 use Rattle.reading_c.proofs.tabled.small_listed.Tie as tie
@@ -14,13 +14,13 @@ slice-aggregate-listed-by-3 : tie.Need-slice-aggregate-listed-by-3
 slice-aggregate-listed-by-3 c = search rules
 
 listed-by-requires : tie.Need-listed-by-requires
-listed-by-requires c κs = let P = c.before.before.before.before.before.requires in (small-room P.0 P.1, small-marks _ _ P.0 P.1 P.2 P.3)
+listed-by-requires c κs = let P = c.before.before.before.before.before.requires in (small_room P.0 P.1, small_marks _ _ P.0 P.1 P.2 P.3)
 
 returns : tie.Need-returns
 returns c = search rules
 
-pub small-listed-spec : {M : Type 1} → statement M
-small-listed-spec =
+pub small_listed_spec : {M : Type 1} → statement M
+small_listed_spec =
     tie.close
     (tie.spec
     slice-aggregate-listed-by

@@ -1,5 +1,5 @@
 -- `reading_c::tabled::sum_by` meets its contract: the table, and the sum of its measures. Assumes nothing.
-use Rattle.reading_c.proofs.Tabling.{measures-few, sum-found}
+use Rattle.reading_c.proofs.Tabling.{measures_few, sum_found}
 use borrow.Author.Rules.{rules}
 use Rattle.reading_c.proofs.tabled.sum_by.Statement.{statement}
 use Rattle.reading_c.proofs.tabled.sum_by.Tie as tie
@@ -8,7 +8,7 @@ image-table-requires : tie.Need-image-table-requires
 image-table-requires c κs = let P = c.before.before.before.before.before.before.before.requires in (P.faultless.sized, P.faultless.indices, P.room)
 
 sum-of-requires : tie.Need-sum-of-requires
-sum-of-requires c κs = measures-few c.before.before.before.before.before.before.before.image-table.ensures
+sum-of-requires c κs = measures_few c.before.before.before.before.before.before.before.image-table.ensures
 
 same_length : tie.Need-same-length
 same_length c = search rules
@@ -20,10 +20,10 @@ same-length-3 : tie.Need-same-length-3
 same-length-3 c = search rules
 
 returns : tie.Need-returns
-returns c = sum-found c.before.before.before.before.before.before.before.before.image-table.ensures c.sum_of.ensures
+returns c = sum_found c.before.before.before.before.before.before.before.before.image-table.ensures c.sum_of.ensures
 
-pub sum-by-spec : {M : Type 1} → statement M
-sum-by-spec =
+pub sum_by_spec : {M : Type 1} → statement M
+sum_by_spec =
     tie.close
     (tie.spec
     image-table-requires

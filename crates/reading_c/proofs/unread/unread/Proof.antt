@@ -1,5 +1,5 @@
 -- `reading_c::unread::unread` meets its contract: the question is asked, and the number of its refusal returned. Assumes nothing.
-use Rattle.reading_c.proofs.Answering.{unread-told}
+use Rattle.reading_c.proofs.Answering.{unread_told}
 use borrow.Author.Rules.{rules}
 use Rattle.reading_c.proofs.unread.unread.Statement.{statement}
 use Rattle.reading_c.proofs.unread.unread.Tie as tie
@@ -17,10 +17,10 @@ cast-result : tie.Need-overflow-cast-result
 cast-result c = search rules
 
 returns : tie.Need-returns
-returns c = unread-told _ _ _ _ _ c.before.image-asked.ensures
+returns c = unread_told _ _ _ _ _ c.before.image-asked.ensures
 
-pub unread-spec : {M : Type 1} → statement M
-unread-spec =
+pub unread_spec : {M : Type 1} → statement M
+unread_spec =
     tie.close
     (tie.spec
     slice-aggregate-image-asked

@@ -21,8 +21,8 @@ number-of-requires-2 c κs = search rules
 returns : tie.Need-returns
 returns c = cc
 
-pub point-at-spec : {M : Type 1} → statement M
-point-at-spec =
+pub point_at_spec : {M : Type 1} → statement M
+point_at_spec =
     tie.close
     (tie.spec
     word-at-requires

@@ -1,7 +1,7 @@
 -- `reading_c::reply::reply_count` meets its contract: a refusal or a count. Assumes nothing.
 use mathlib.Core.Path.{sym, subst, ap}
-use Rattle.reading_replies.specs.Given.{SmallCode, countReply}
-use Rattle.replies.proofs.Saying.{replied-as}
+use Rattle.reading_replies.specs.Given.{SmallCode, count_reply}
+use Rattle.replies.proofs.Saying.{replied_as}
 use borrow.Author.Rules.{rules}
 use Rattle.reading_replies.proofs.reply.reply_count.Statement.{statement}
 use Rattle.reading_replies.proofs.reply.reply_count.Tie as tie
@@ -10,13 +10,13 @@ enum-known-a : tie.Need-enum-known-a
 enum-known-a c = search rules
 
 reply-refused-requires : tie.Need-reply-refused-requires
-reply-refused-requires c κs = subst (λ o. SmallCode (countReply o)) c.before.before.a.given.1 c.before.before.before.before.before.requires
+reply-refused-requires c κs = subst (λ o. SmallCode (count_reply o)) c.before.before.a.given.1 c.before.before.before.before.before.requires
 
 same_length : tie.Need-same-length
 same_length c = search rules
 
 returns : tie.Need-returns
-returns c = replied-as _ _ _ _ _ (ap countReply (sym c.before.before.before.before.before.a.given.1)) c.before.before.reply-refused.ensures
+returns c = replied_as _ _ _ _ _ (ap count_reply (sym c.before.before.before.before.before.a.given.1)) c.before.before.reply-refused.ensures
 
 enum-known-a-2 : tie.Need-enum-known-a-2
 enum-known-a-2 c = search rules
@@ -28,10 +28,10 @@ same-length-2 : tie.Need-same-length-2
 same-length-2 c = search rules
 
 returns-2 : tie.Need-returns-2
-returns-2 c = replied-as _ _ _ _ _ (ap countReply (sym c.before.before.before.before.before.a2.given.1)) c.before.before.reply-one.ensures
+returns-2 c = replied_as _ _ _ _ _ (ap count_reply (sym c.before.before.before.before.before.a2.given.1)) c.before.before.reply-one.ensures
 
-pub reply-count-spec : {M : Type 1} → statement M
-reply-count-spec =
+pub reply_count_spec : {M : Type 1} → statement M
+reply_count_spec =
     tie.close
     (tie.spec
     enum-known-a

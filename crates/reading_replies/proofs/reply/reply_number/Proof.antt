@@ -3,8 +3,8 @@ use mathlib.Core.Path.{sym, subst, ◌∙◌, ap}
 use Prim.Native.Nat.{ℕ}
 use mathlib.Core.List.{[], ◌∷◌}
 use Rattle.model.specs.Reads.{value}
-use Rattle.reading_replies.specs.Given.{SmallCode, numberReply}
-use Rattle.replies.proofs.Saying.{replied-as}
+use Rattle.reading_replies.specs.Given.{SmallCode, number_reply}
+use Rattle.replies.proofs.Saying.{replied_as}
 use borrow.Author.Rules.{rules}
 use Rattle.reading_replies.proofs.reply.reply_number.Statement.{statement}
 use Rattle.reading_replies.proofs.reply.reply_number.Tie as tie
@@ -13,13 +13,13 @@ enum-known-a : tie.Need-enum-known-a
 enum-known-a c = search rules
 
 reply-refused-requires : tie.Need-reply-refused-requires
-reply-refused-requires c κs = subst (λ o. SmallCode (numberReply o)) c.before.before.a.given.1 c.before.before.before.before.before.requires
+reply-refused-requires c κs = subst (λ o. SmallCode (number_reply o)) c.before.before.a.given.1 c.before.before.before.before.before.requires
 
 same_length : tie.Need-same-length
 same_length c = search rules
 
 returns : tie.Need-returns
-returns c = replied-as _ _ _ _ _ (ap numberReply (sym c.before.before.before.before.before.a.given.1)) c.before.before.reply-refused.ensures
+returns c = replied_as _ _ _ _ _ (ap number_reply (sym c.before.before.before.before.before.a.given.1)) c.before.before.reply-refused.ensures
 
 enum-known-a-2 : tie.Need-enum-known-a-2
 enum-known-a-2 c = search rules
@@ -34,10 +34,10 @@ same-length-2 : tie.Need-same-length-2
 same-length-2 c = search rules
 
 returns-2 : tie.Need-returns-2
-returns-2 c = replied-as _ _ _ _ _ (ap (λ (w : ℕ). value (w ∷ [])) c.before.before.before.before.bits_of.ensures ∙ ap numberReply (sym c.before.before.before.before.before.before.a2.given.1)) c.before.before.reply-one.ensures
+returns-2 c = replied_as _ _ _ _ _ (ap (λ (w : ℕ). value (w ∷ [])) c.before.before.before.before.bits_of.ensures ∙ ap number_reply (sym c.before.before.before.before.before.before.a2.given.1)) c.before.before.reply-one.ensures
 
-pub reply-number-spec : {M : Type 1} → statement M
-reply-number-spec =
+pub reply_number_spec : {M : Type 1} → statement M
+reply_number_spec =
     tie.close
     (tie.spec
     enum-known-a

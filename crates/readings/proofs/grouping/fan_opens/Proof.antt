@@ -3,7 +3,7 @@ use lib.ListN.{length}
 use borrow.Author.Rules.{rules}
 use mathlib.Core.Path.{sym}
 use lib.Seq.{length-take-le}
-use Rattle.readings.proofs.Grouped.{fan-fits, front_long, walked}
+use Rattle.readings.proofs.Grouped.{fan_fits, front_long, walked}
 use Rattle.readings.proofs.grouping.fan_opens.Statement.{statement}
 use Rattle.readings.proofs.grouping.fan_opens.Tie as tie
 
@@ -14,7 +14,7 @@ slice-aggregate-groups-of : tie.Need-slice-aggregate-groups-of
 slice-aggregate-groups-of c = sym (length-take-le _ _ c.before.before.before.before.before.before.before.requires.1)
 
 groups-of-requires : tie.Need-groups-of-requires
-groups-of-requires c κs = let P = c.before.before.before.before.before.before.before.requires in fan-fits P.0 (length-take-le _ _ P.1)
+groups-of-requires c κs = let P = c.before.before.before.before.before.before.before.requires in fan_fits P.0 (length-take-le _ _ P.1)
 
 slice-reshare-prefix-opens-without-confetti : tie.Need-slice-reshare-prefix-opens-without-confetti
 slice-reshare-prefix-opens-without-confetti c = search rules
@@ -44,8 +44,8 @@ returns c = let G = c.before.before.before.before.before.before.before.before.be
     let A = c.before.before.before.before.before.before.before.before.before.before.before.before.before.before.before.before.before.before.args in
     walked G.new.1.1.1.1.1.0 A.groups.now (length A.sides.now) G.auto.1.1.1.1.1.0 c.before.before.before.before.before.before.before.before.before.before.before.before.before.before.before.before.before.before.requires.1 G.ensures c.before.before.before.before.opens-without-confetti.ensures
 
-pub fan-opens-spec : {M : Type 1} → statement M
-fan-opens-spec =
+pub fan_opens_spec : {M : Type 1} → statement M
+fan_opens_spec =
     tie.close
     (tie.spec
     slice-relend-prefix-groups-of

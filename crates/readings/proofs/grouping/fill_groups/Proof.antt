@@ -1,5 +1,5 @@
 -- `readings::grouping::fill_groups` meets its contract: groups at the front of the table, 0 behind them. Assumes nothing.
-use Rattle.readings.proofs.Grouped.{fan-fits, filled}
+use Rattle.readings.proofs.Grouped.{fan_fits, filled}
 use lib.Seq.{length-take-le}
 use mathlib.Core.Path.{sym}
 use borrow.Author.Rules.{rules}
@@ -14,7 +14,7 @@ slice-aggregate-groups-of c = sym (length-take-le _ _ c.before.before.before.bef
 
 groups-of-requires : tie.Need-groups-of-requires
 groups-of-requires c κs = let P = c.before.before.before.before.requires in
-    fan-fits P.0 (length-take-le _ _ P.1)
+    fan_fits P.0 (length-take-le _ _ P.1)
 
 clear-usize-requires : tie.Need-clear-usize-requires
 clear-usize-requires c κs = search rules
@@ -26,8 +26,8 @@ returns : tie.Need-returns
 returns c = let G = c.before.before.before.before.before.before.groups_of in
     filled _ _ _ _ G.auto.1.1.1.1.1.0 c.before.before.before.before.before.before.before.before.before.before.before.requires.1 G.ensures c.before.before.clear-usize.ensures
 
-pub fill-groups-spec : {M : Type 1} → statement M
-fill-groups-spec =
+pub fill_groups_spec : {M : Type 1} → statement M
+fill_groups_spec =
     tie.close
     (tie.spec
     slice-relend-prefix-groups-of

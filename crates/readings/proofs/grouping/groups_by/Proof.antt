@@ -3,13 +3,13 @@ use mathlib.Core.Path.{refl, sym, subst, ◌∙◌}
 use native.Mathlib.Omega.{arith}
 use borrow.Author.Tests.{leb-true}
 use lib.Seq.{length-take-le}
-use Rattle.lists.proofs.Sifts.{and-true}
-use Rattle.judge.proofs.Joined.{and-next}
+use Rattle.lists.proofs.Sifts.{and_true}
+use Rattle.judge.proofs.Joined.{and_next}
 use Rattle.mesh.specs.Given.{given}
 use Rattle.mesh_tables.proofs.Accepted.{Few}
-use Rattle.mesh_tables.proofs.FanRead.{corners-few, fan-read}
+use Rattle.mesh_tables.proofs.FanRead.{corners_few, fan_read}
 use Rattle.mesh_tables.proofs.Checked.{accepted}
-use Rattle.readings.proofs.Grouped.{grid-is, fan-asked, roomy-fan, sides-by, groups-answered, groups-refused, four-of}
+use Rattle.readings.proofs.Grouped.{grid_is, fan_asked, roomy_fan, sides_by, groups_answered, groups_refused, four_of}
 use borrow.Author.Rules.{rules}
 use Rattle.readings.proofs.grouping.groups_by.Statement.{statement}
 use Rattle.readings.proofs.grouping.groups_by.Tie as tie
@@ -34,15 +34,15 @@ facet-others-requires c κs = search rules
 
 mul-end : tie.Need-overflow-mul-end
 mul-end c = let P = c.before.before.before.before.before.before.before.before.before.before.before.before.before.before.before.requires in
-    let W = subst (Few _) (sym c.before.corners-per.ensures) (corners-few _ _ _ _ _ _ _ _ P.0 P.1 c.before.before.before.before.before.before.before.fan-corners.ensures) in
+    let W = subst (Few _) (sym c.before.corners-per.ensures) (corners_few _ _ _ _ _ _ _ _ P.0 P.1 c.before.before.before.before.before.before.before.fan-corners.ensures) in
     omega (arith, W.narrow)
 
 slice-reshare-prefix-fill-groups : tie.Need-slice-reshare-prefix-fill-groups
 slice-reshare-prefix-fill-groups c = let P = c.before.before.before.before.before.before.before.before.before.before.before.before.before.before.before.requires in
     let A = c.before.before.before.before.before.before.before.before.before.before.before.before.before.before.before.args in
-    let W = subst (Few _) (sym c.before.corners-per.ensures) (corners-few _ _ _ _ _ _ _ _ P.0 P.1 c.before.before.before.before.before.before.before.fan-corners.ensures) in
-    let w = and-true _ _ (sym c.before.before.before.both.ensures ∙ c.before.before.if1.true) in
-    let r = roomy-fan A.v A.p _ A.sides.now _ c.before.before.before.before.sides-fit.ensures w.0 _ _ P.2 W in
+    let W = subst (Few _) (sym c.before.corners-per.ensures) (corners_few _ _ _ _ _ _ _ _ P.0 P.1 c.before.before.before.before.before.before.before.fan-corners.ensures) in
+    let w = and_true _ _ (sym c.before.before.before.both.ensures ∙ c.before.before.if1.true) in
+    let r = roomy_fan A.v A.p _ A.sides.now _ c.before.before.before.before.sides-fit.ensures w.0 _ _ P.2 W in
     omega (arith, r, c.before.before.before.before.before.before.before.fan-corners.auto.1.1.1.1.1.1.0)
 
 slice-aggregate-fill-groups : tie.Need-slice-aggregate-fill-groups
@@ -51,9 +51,9 @@ slice-aggregate-fill-groups c = sym (length-take-le _ _ (slice-reshare-prefix-fi
 fill-groups-requires : tie.Need-fill-groups-requires
 fill-groups-requires c κs = let P = c.before.before.before.before.before.before.before.before.before.before.before.before.before.before.before.before.before.requires in
     let A = c.before.before.before.before.before.before.before.before.before.before.before.before.before.before.before.before.before.args in
-    let W = corners-few _ _ _ _ _ _ _ _ P.0 P.1 c.before.before.before.before.before.before.before.before.before.fan-corners.ensures in
-    let w = and-true _ _ (sym c.before.before.before.before.before.both.ensures ∙ c.before.before.before.before.if1.true) in
-    (fan-asked A.v A.p _ A.sides.now _ c.before.before.before.before.before.before.sides-fit.ensures w.0 _ _ W.few (slice-reshare-prefix-fill-groups c.before.before), leb-true _ _ w.1)
+    let W = corners_few _ _ _ _ _ _ _ _ P.0 P.1 c.before.before.before.before.before.before.before.before.before.fan-corners.ensures in
+    let w = and_true _ _ (sym c.before.before.before.before.before.both.ensures ∙ c.before.before.before.before.if1.true) in
+    (fan_asked A.v A.p _ A.sides.now _ c.before.before.before.before.before.before.sides-fit.ensures w.0 _ _ W.few (slice-reshare-prefix-fill-groups c.before.before), leb-true _ _ w.1)
 
 same_length : tie.Need-same-length
 same_length c = search rules
@@ -65,8 +65,8 @@ returns : tie.Need-returns
 returns c = let A = c.before.before.before.before.before.before.before.before.before.before.before.before.before.before.before.before.before.before.before.before.args in
     λ points roots volumes lengths outline pe fault.
     let G = given points roots A.corners.now volumes A.ends.now lengths outline in
-    let F = fan-read G (accepted G fault) A.v _ c.before.before.before.before.before.before.before.before.before.before.before.before.before.before.kind-of.ensures _ _ _ _ c.before.before.before.before.before.before.before.before.before.before.before.before.fan-corners.ensures c.before.before.before.before.before.before.corners-per.ensures c.before.before.before.before.before.facet-others.ensures in
-    groups-answered G A.v A.sides.now _ _ _ _ _ fault (and-next _ _ _ _ _ c.before.before.before.before.before.before.before.before.both.ensures (sides-by F _ _ _ pe c.before.before.before.before.before.before.before.before.before.sides-fit.ensures) refl) c.before.before.before.before.before.before.before.if1.true (grid-is F _ (slice-reshare-prefix-fill-groups c.before.before.before.before.before)) c.before.before.fill-groups.ensures
+    let F = fan_read G (accepted G fault) A.v _ c.before.before.before.before.before.before.before.before.before.before.before.before.before.before.kind-of.ensures _ _ _ _ c.before.before.before.before.before.before.before.before.before.before.before.before.fan-corners.ensures c.before.before.before.before.before.before.corners-per.ensures c.before.before.before.before.before.facet-others.ensures in
+    groups_answered G A.v A.sides.now _ _ _ _ _ fault (and_next _ _ _ _ _ c.before.before.before.before.before.before.before.before.both.ensures (sides_by F _ _ _ pe c.before.before.before.before.before.before.before.before.before.sides-fit.ensures) refl) c.before.before.before.before.before.before.before.if1.true (grid_is F _ (slice-reshare-prefix-fill-groups c.before.before.before.before.before)) c.before.before.fill-groups.ensures
 
 clear-usize-requires : tie.Need-clear-usize-requires
 clear-usize-requires c κs = search rules
@@ -81,11 +81,11 @@ returns-2 : tie.Need-returns-2
 returns-2 c = let A = c.before.before.before.before.before.before.before.before.before.before.before.before.before.before.before.before.before.args in
     λ points roots volumes lengths outline pe fault.
     let G = given points roots A.corners.now volumes A.ends.now lengths outline in
-    let F = fan-read G (accepted G fault) A.v _ c.before.before.before.before.before.before.before.before.before.before.before.kind-of.ensures _ _ _ _ c.before.before.before.before.before.before.before.before.before.fan-corners.ensures refl refl in
-    groups-refused G A.v A.sides.now _ 4 _ (four-of G _ _ fault (and-next _ _ _ _ _ c.before.before.before.before.before.both.ensures (sides-by F _ _ _ pe c.before.before.before.before.before.before.sides-fit.ensures) refl) c.before.before.before.before.if1.false) (λ e. omega arith) c.before.before.clear-usize.ensures
+    let F = fan_read G (accepted G fault) A.v _ c.before.before.before.before.before.before.before.before.before.before.before.kind-of.ensures _ _ _ _ c.before.before.before.before.before.before.before.before.before.fan-corners.ensures refl refl in
+    groups_refused G A.v A.sides.now _ 4 _ (four_of G _ _ fault (and_next _ _ _ _ _ c.before.before.before.before.before.both.ensures (sides_by F _ _ _ pe c.before.before.before.before.before.before.sides-fit.ensures) refl) c.before.before.before.before.if1.false) (λ e. omega arith) c.before.before.clear-usize.ensures
 
-pub groups-by-spec : {M : Type 1} → statement M
-groups-by-spec =
+pub groups_by_spec : {M : Type 1} → statement M
+groups_by_spec =
     tie.close
     (tie.spec
     kind-of-requires

@@ -15,6 +15,6 @@ same_length c = search rules
 returns : tie.Need-returns
 returns c = search rules
 
-pub many-groups-spec : {M : Type 1} → statement M
-many-groups-spec =
+pub many_groups_spec : {M : Type 1} → statement M
+many_groups_spec =
     tie.close (tie.spec slice-aggregate-groups-by groups-by-requires same_length returns)

@@ -18,5 +18,5 @@ many-opens-requires c κs = let P = c.before.before.before.before.requires in
 returns-2 : tie.Need-returns-2
 returns-2 c = c.many-opens.ensures
 
-pub walk-opens-spec : {M : Type 1} → statement M
-walk-opens-spec = tie.close (tie.spec few-opens-requires returns many-opens-requires returns-2)
+pub walk_opens_spec : {M : Type 1} → statement M
+walk_opens_spec = tie.close (tie.spec few-opens-requires returns many-opens-requires returns-2)

@@ -1,6 +1,6 @@
 -- `readings::reading::blade_hit` meets its contract: four points tested, then the blade test. Assumes nothing.
-use Rattle.readings.proofs.Refusing.{blade-refuses, blade-answers}
-use Rattle.judge.proofs.Joined.{and-next}
+use Rattle.readings.proofs.Refusing.{blade_refuses, blade_answers}
+use Rattle.judge.proofs.Joined.{and_next}
 use borrow.Author.Rules.{rules}
 use Rattle.readings.proofs.reading.blade_hit.Statement.{statement}
 use Rattle.readings.proofs.reading.blade_hit.Tie as tie
@@ -30,13 +30,13 @@ blade-hit-requires : tie.Need-blade-hit-requires
 blade-hit-requires c κs = search rules
 
 returns : tie.Need-returns
-returns c = blade-answers _ _ _ _ (and-next _ _ _ _ _ c.before.before.both3.ensures (and-next _ _ _ _ _ c.before.before.before.before.both2.ensures (and-next _ _ _ _ _ c.before.before.before.before.before.before.both.ensures c.before.before.before.before.before.before.before.before.point-fits.ensures c.before.before.before.before.before.before.before.point-fits2.ensures) c.before.before.before.before.before.point-fits3.ensures) c.before.before.before.point-fits4.ensures) _ c.before.if1.true c.blade-hit.ensures
+returns c = blade_answers _ _ _ _ (and_next _ _ _ _ _ c.before.before.both3.ensures (and_next _ _ _ _ _ c.before.before.before.before.both2.ensures (and_next _ _ _ _ _ c.before.before.before.before.before.before.both.ensures c.before.before.before.before.before.before.before.before.point-fits.ensures c.before.before.before.before.before.before.before.point-fits2.ensures) c.before.before.before.before.before.point-fits3.ensures) c.before.before.before.point-fits4.ensures) _ c.before.if1.true c.blade-hit.ensures
 
 returns-2 : tie.Need-returns-2
-returns-2 c = blade-refuses _ _ _ _ (and-next _ _ _ _ _ c.before.both3.ensures (and-next _ _ _ _ _ c.before.before.before.both2.ensures (and-next _ _ _ _ _ c.before.before.before.before.before.both.ensures c.before.before.before.before.before.before.before.point-fits.ensures c.before.before.before.before.before.before.point-fits2.ensures) c.before.before.before.before.point-fits3.ensures) c.before.before.point-fits4.ensures) c.if1.false
+returns-2 c = blade_refuses _ _ _ _ (and_next _ _ _ _ _ c.before.both3.ensures (and_next _ _ _ _ _ c.before.before.before.both2.ensures (and_next _ _ _ _ _ c.before.before.before.before.before.both.ensures c.before.before.before.before.before.before.before.point-fits.ensures c.before.before.before.before.before.before.point-fits2.ensures) c.before.before.before.before.point-fits3.ensures) c.before.before.point-fits4.ensures) c.if1.false
 
-pub blade-hit-spec : {M : Type 1} → statement M
-blade-hit-spec =
+pub blade_hit_spec : {M : Type 1} → statement M
+blade_hit_spec =
     tie.close
     (tie.spec
     point-fits-requires

@@ -5,7 +5,7 @@ use mathlib.Core.Path.{sym}
 use lib.ListN.{length-replicate}
 use lib.Seq.{length-take-le}
 use Prim.Native.Nat.{ℕ}
-use Rattle.mesh_tables.proofs.Cornering.{blank, sides-lent, number-found}
+use Rattle.mesh_tables.proofs.Cornering.{blank, sides_lent, number_found}
 use Rattle.readings.proofs.reading.count_pieces.Statement.{statement}
 use Rattle.readings.proofs.reading.count_pieces.Tie as tie
 
@@ -37,13 +37,13 @@ count-sides-requires : tie.Need-count-sides-requires
 count-sides-requires c κs =
     let T = c.before.before.before.before.before.before.corners-of.ensures in
     let h = length-replicate {A = ℕ} 4096 0 in
-    sides-lent T h (λ k. blank 4096 k) (omega (arith, T.narrow)) (omega (arith, T.narrow)) (length-take-le _ _ T.corners.few)
+    sides_lent T h (λ k. blank 4096 k) (omega (arith, T.narrow)) (omega (arith, T.narrow)) (length-take-le _ _ T.corners.few)
 
 returns : tie.Need-returns
-returns c = number-found c.before.before.before.before.before.before.before.before.before.before.before.before.before.before.before.before.before.before.before.before.requires c.before.before.before.before.before.before.before.before.before.before.before.corners-of.ensures c.before.before.before.before.count-sides.ensures
+returns c = number_found c.before.before.before.before.before.before.before.before.before.before.before.before.before.before.before.before.before.before.before.before.requires c.before.before.before.before.before.before.before.before.before.before.before.corners-of.ensures c.before.before.before.before.count-sides.ensures
 
-pub count-pieces-spec : {M : Type 1} → statement M
-count-pieces-spec =
+pub count_pieces_spec : {M : Type 1} → statement M
+count_pieces_spec =
     tie.close
     (tie.spec
     slice-aggregate-corners-of

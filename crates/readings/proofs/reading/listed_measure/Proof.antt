@@ -1,5 +1,5 @@
 -- `readings::reading::listed_measure` meets its contract: the table, and the measures within the list. Assumes nothing.
-use Rattle.mesh_tables.proofs.Accepted.{few-particles, mark-room, listed_found}
+use Rattle.mesh_tables.proofs.Accepted.{few_particles, mark_room, listed_found}
 use native.Mathlib.Omega.{arith}
 use borrow.Author.Rules.{rules}
 use Rattle.readings.proofs.reading.listed_measure.Statement.{statement}
@@ -29,13 +29,13 @@ slice-aggregate-measure-within-3 c = search rules
 measure-within-requires : tie.Need-measure-within-requires
 measure-within-requires c κs = let T = c.before.before.before.before.before.before.table in
     let P = c.before.before.before.before.before.before.before.before.before.before.before.before.before.before.before.before.before.before.requires in
-    mark-room _ _ _ P.0 P.1 T.ensures (omega (arith, T.ensures.corners.few, T.auto.1.1.1.1.1.1.1.1.1.0)) (few-particles P.0)
+    mark_room _ _ _ P.0 P.1 T.ensures (omega (arith, T.ensures.corners.few, T.auto.1.1.1.1.1.1.1.1.1.0)) (few_particles P.0)
 
 returns : tie.Need-returns
 returns c = listed_found c.before.before.before.before.before.before.before.before.table.ensures c.before.measure-within.ensures
 
-pub listed-measure-spec : {M : Type 1} → statement M
-listed-measure-spec =
+pub listed_measure_spec : {M : Type 1} → statement M
+listed_measure_spec =
     tie.close
     (tie.spec
     slice-aggregate-table

@@ -21,5 +21,5 @@ returns c = ap (λ z. number_of (rooted z)) (sym c.before.r.given.1 ∙ c.before
 returns-2 : tie.Need-returns-2
 returns-2 c = ap (λ z. number_of (rooted z)) (sym c.enum_told.given.1 ∙ c.before.before.root.ensures.0)
 
-pub root-spec : {M : Type 1} → statement M
-root-spec = tie.close (tie.spec root-requires enum-known-r enum_told returns returns-2)
+pub root_spec : {M : Type 1} → statement M
+root_spec = tie.close (tie.spec root-requires enum-known-r enum_told returns returns-2)

@@ -2,8 +2,8 @@
 use borrow.Author.Rules.{rules}
 use Rattle.links.specs.Linked.{EdgesLinked}
 use Rattle.rewire.specs.Edges.{EndsBelow}
-use Rattle.rewire.proofs.EdgeLaws.{Growing, growing-start, growing-step, growing-lacks, growing-done}
-use Rattle.rewire.proofs.LinkedLaws.{copy-below}
+use Rattle.rewire.proofs.EdgeLaws.{Growing, growing_start, growing_step, growing_lacks, growing_done}
+use Rattle.rewire.proofs.LinkedLaws.{copy_below}
 use Rattle.mesh.specs.Workers.{edge_of}
 use lib.ListN.{length}
 use mathlib.Core.Path.{◌≡◌, refl, ◌∙◌, sym, subst}
@@ -24,19 +24,19 @@ next-group-requires : tie.Need-next-group-requires invariant-loop decreases-loop
 next-group-requires c κs = c.before.before.before.before.before.requires.0.ring
 
 loop-holds : tie.Need-loop-init invariant-loop decreases-loop
-loop-holds c = (growing-start _ _ _ _ _ _ _ _ _ _ _ _ _ _ _ c.before.before.before.before.before.before.requires.0.rows c.next-group.ensures, c.before.before.before.before.before.before.requires.2.linked, refl)
+loop-holds c = (growing_start _ _ _ _ _ _ _ _ _ _ _ _ _ _ _ c.before.before.before.before.before.before.requires.0.rows c.next-group.ensures, c.before.before.before.before.before.before.requires.2.linked, refl)
 
 same_length : tie.Need-same-length invariant-loop decreases-loop
-same_length c = c.before.before.loop.invariant.0.ends-long
+same_length c = c.before.before.loop.invariant.0.ends_long
 
 same-length-2 : tie.Need-same-length-2 invariant-loop decreases-loop
-same-length-2 c = c.before.before.loop.invariant.0.lengths-long
+same-length-2 c = c.before.before.loop.invariant.0.lengths_long
 
 same-length-3 : tie.Need-same-length-3 invariant-loop decreases-loop
 same-length-3 c = c.before.before.loop.invariant.2
 
 returns : tie.Need-returns invariant-loop decreases-loop
-returns c = (growing-lacks c.before.before.loop.invariant.0 c.before.loop-test.true c.if1.true, tt)
+returns c = (growing_lacks c.before.before.loop.invariant.0 c.before.loop-test.true c.if1.true, tt)
 
 copy-number-requires : tie.Need-copy-number-requires invariant-loop decreases-loop
 copy-number-requires c κs = c.before.before.before.before.before.before.before.before.before.requires.0.small
@@ -52,8 +52,8 @@ push-edge-requires c κs = let A = c.before.before.before.before.before.before.b
     record {
       linked = c.before.before.before.before.before.before.before.loop.invariant.1;
       few = omega (arith, G.most, P.2.few, f);
-      columns = record { ends = omega (arith, P.0.columns.ends, G.most, G.ends-long, f); lengths = omega (arith, P.0.columns.lengths, G.most, G.lengths-long, f) };
-      row = subst (EndsBelow 1024) (sym c.before.before.before.copied.ensures) (copy-below A.count (edge_of A.row) P.3 P.2.most P.2.heads c.before.before.before.before.copy-number.ensures.among);
+      columns = record { ends = omega (arith, P.0.columns.ends, G.most, G.ends_long, f); lengths = omega (arith, P.0.columns.lengths, G.most, G.lengths_long, f) };
+      row = subst (EndsBelow 1024) (sym c.before.before.before.copied.ensures) (copy_below A.count (edge_of A.row) P.3 P.2.most P.2.heads c.before.before.before.before.copy-number.ensures.among);
     }
 
 add-rows : tie.Need-overflow-add-rows invariant-loop decreases-loop
@@ -69,22 +69,22 @@ loop-less : tie.Need-loop-smaller invariant-loop decreases-loop
 loop-less c = omega (arith, c.before.before.before.before.before.before.before.before.before.before.before.before.before.before.loop-test.true, c.next-group2.ensures.onward (omega (arith, c.before.before.before.before.before.before.before.before.before.before.before.before.before.before.loop-test.true)))
 
 loop-again : tie.Need-loop-preserved invariant-loop decreases-loop
-loop-again c = (growing-step c.before.before.before.before.before.before.before.before.before.before.before.before.before.before.before.loop.invariant.0 _ _ c.before.before.before.before.before.before.before.before.before.before.before.before.copy-number.result c.next-group2.result (edge_of c.before.before.before.before.before.before.before.before.before.before.before.copied.result) c.before.before.before.before.before.before.before.before.before.before.before.before.before.before.loop-test.true (omega (arith, c.before.before.before.before.before.before.before.before.before.before.before.before.before.before.before.loop.invariant.0.most, c.before.before.before.before.before.before.before.before.before.before.before.before.before.if1.false)) c.before.before.before.before.before.before.before.before.before.before.before.before.copy-number.ensures c.before.before.before.before.before.before.before.before.before.before.before.copied.ensures c.before.before.before.before.before.before.before.push-edge.ensures.0 c.before.before.before.before.before.before.before.push-edge.auto.1.1.0 c.before.before.before.before.before.before.before.push-edge.auto.1.1.1.0 c.next-group2.ensures, c.before.before.before.before.before.before.before.push-edge.ensures.1, c.before.before.before.before.before.before.before.push-edge.auto.1.1.1.1.0 ∙ c.before.before.before.before.before.before.before.before.before.before.before.before.before.before.before.loop.invariant.2)
+loop-again c = (growing_step c.before.before.before.before.before.before.before.before.before.before.before.before.before.before.before.loop.invariant.0 _ _ c.before.before.before.before.before.before.before.before.before.before.before.before.copy-number.result c.next-group2.result (edge_of c.before.before.before.before.before.before.before.before.before.before.before.copied.result) c.before.before.before.before.before.before.before.before.before.before.before.before.before.before.loop-test.true (omega (arith, c.before.before.before.before.before.before.before.before.before.before.before.before.before.before.before.loop.invariant.0.most, c.before.before.before.before.before.before.before.before.before.before.before.before.before.if1.false)) c.before.before.before.before.before.before.before.before.before.before.before.before.copy-number.ensures c.before.before.before.before.before.before.before.before.before.before.before.copied.ensures c.before.before.before.before.before.before.before.push-edge.ensures.0 c.before.before.before.before.before.before.before.push-edge.auto.1.1.0 c.before.before.before.before.before.before.before.push-edge.auto.1.1.1.0 c.next-group2.ensures, c.before.before.before.before.before.before.before.push-edge.ensures.1, c.before.before.before.before.before.before.before.push-edge.auto.1.1.1.1.0 ∙ c.before.before.before.before.before.before.before.before.before.before.before.before.before.before.before.loop.invariant.2)
 
 same-length-4 : tie.Need-same-length-4 invariant-loop decreases-loop
-same-length-4 c = c.before.loop.invariant.0.ends-long
+same-length-4 c = c.before.loop.invariant.0.ends_long
 
 same-length-5 : tie.Need-same-length-5 invariant-loop decreases-loop
-same-length-5 c = c.before.loop.invariant.0.lengths-long
+same-length-5 c = c.before.loop.invariant.0.lengths_long
 
 same-length-6 : tie.Need-same-length-6 invariant-loop decreases-loop
 same-length-6 c = c.before.loop.invariant.2
 
 returns-2 : tie.Need-returns-2 invariant-loop decreases-loop
-returns-2 c = (growing-done c.before.loop.invariant.0 c.loop-test.false, c.before.loop.invariant.1)
+returns-2 c = (growing_done c.before.loop.invariant.0 c.loop-test.false, c.before.loop.invariant.1)
 
-pub append-copies-spec : {M : Type 1} → statement M
-append-copies-spec =
+pub append_copies_spec : {M : Type 1} → statement M
+append_copies_spec =
     tie.close
     (tie.spec
     invariant-loop

@@ -1,8 +1,8 @@
 -- `rewire::linked::other_edges` meets its contract: the loop over the edges at v is `Passing` of proofs/EdgeLaws.antt, where the next edge of the list comes next (proofs/LinkedLaws.antt), with the table of the rows so far. Assumes nothing.
 use Rattle.links.specs.Linked.{EdgesLinked}
-use Rattle.rewire.proofs.EdgeLaws.{Passing, passing-lacks, passing-done}
-use Rattle.rewire.proofs.LinkedLaws.{stop_at, list-room, walk_start, walk_here, walk_inside, walk-room, walk-on, walk-done, linked-rows}
-use Rattle.elements.specs.Table.{kindIs}
+use Rattle.rewire.proofs.EdgeLaws.{Passing, passing_lacks, passing_done}
+use Rattle.rewire.proofs.LinkedLaws.{stop_at, list_room, walk_start, walk_here, walk_inside, walk_room, walk_on, walk_done, linked_rows}
+use Rattle.elements.specs.Table.{kind_is}
 use lib.ListN.{length}
 use mathlib.Core.Path.{◌≡◌, refl, sym, ◌∙◌}
 use native.Mathlib.Omega.{arith}
@@ -13,14 +13,14 @@ use Rattle.rewire.proofs.linked.other_edges.Tie as tie
 
 abbrev invariant-loop : tie.invariant-loop
 invariant-loop kind v before k n count p e room verts groups points ends₀ lengths₀ table₀ list span named rows₀ q₀ ends lengths table rows q =
-    Passing (kindIs kind) v before k n count p e room verts groups points ends₀ ends lengths₀ lengths rows (stop_at v e ends₀ q) × EdgesLinked rows ends table × (length table ≡ length table₀) × (q ≤ named)
+    Passing (kind_is kind) v before k n count p e room verts groups points ends₀ ends lengths₀ lengths rows (stop_at v e ends₀ q) × EdgesLinked rows ends table × (length table ≡ length table₀) × (q ≤ named)
 
 abbrev decreases-loop : tie.decreases-loop
 decreases-loop kind v before k n count p e room verts groups points ends₀ lengths₀ table₀ list span named rows₀ q₀ ends lengths table rows q =
     named - q
 
 cells-at-requires : tie.Need-cells-at-requires invariant-loop decreases-loop
-cells-at-requires c κs = list-room c.before.before.before.before.before.before.before.before.before.before.requires.0 c.before.before.before.before.before.before.before.before.before.before.requires.1 c.before.before.before.before.before.before.before.before.before.before.requires.2
+cells-at-requires c κs = list_room c.before.before.before.before.before.before.before.before.before.before.requires.0 c.before.before.before.before.before.before.before.before.before.before.requires.1 c.before.before.before.before.before.before.before.before.before.before.requires.2
 
 loop-holds : tie.Need-loop-init invariant-loop decreases-loop
 loop-holds c = (walk_start c.before.before.before.before.before.before.before.before.before.before.before.before.before.requires.0, c.before.before.before.before.before.before.before.before.before.before.before.before.before.requires.1.linked, refl, omega arith)
@@ -33,7 +33,7 @@ slice-read-settle-edge c = omega (arith, c.before.loop-test.true, c.before.befor
 
 settle-edge-requires : tie.Need-settle-edge-requires invariant-loop decreases-loop
 settle-edge-requires c κs = let T = c.before.before.before.before.before.before.before.before.before.before.before.before.before.before.before.before.before.before.before.requires.1 in (
-  walk-room c.before.before.before.before.before.before.before.before.before.before.before.before.before.before.before.before.before.before.before.requires.0 c.before.before.before.before.before.before.before.before.cells_at.ensures (omega (arith, c.before.before.before.before.before.before.before.before.cells_at.auto.1.1.1.1.1.1.1.1.0, c.before.before.before.before.before.before.before.before.before.before.before.before.before.before.before.before.before.before.before.requires.2)) c.before.before.before.before.before.loop.invariant.0 c.before.before.before.before.loop-test.true,
+  walk_room c.before.before.before.before.before.before.before.before.before.before.before.before.before.before.before.before.before.before.before.requires.0 c.before.before.before.before.before.before.before.before.cells_at.ensures (omega (arith, c.before.before.before.before.before.before.before.before.cells_at.auto.1.1.1.1.1.1.1.1.0, c.before.before.before.before.before.before.before.before.before.before.before.before.before.before.before.before.before.before.before.requires.2)) c.before.before.before.before.before.loop.invariant.0 c.before.before.before.before.loop-test.true,
   record { linked = c.before.before.before.before.before.loop.invariant.1; few = T.few; most = T.most; heads = T.heads; behind = T.behind },
 )
 
@@ -44,10 +44,10 @@ enum_told : tie.Need-enum-told invariant-loop decreases-loop
 enum_told c = search rules
 
 same_length : tie.Need-same-length invariant-loop decreases-loop
-same_length c = c.before.before.before.before.before.before.before.before.settle-edge.auto.1.1.1.1.1.1.1.1.1.1.1.1.1.0 ∙ c.before.before.before.before.before.before.before.before.before.before.before.before.before.before.loop.invariant.0.ends-long
+same_length c = c.before.before.before.before.before.before.before.before.settle-edge.auto.1.1.1.1.1.1.1.1.1.1.1.1.1.0 ∙ c.before.before.before.before.before.before.before.before.before.before.before.before.before.before.loop.invariant.0.ends_long
 
 same-length-2 : tie.Need-same-length-2 invariant-loop decreases-loop
-same-length-2 c = c.before.before.before.before.before.before.before.before.settle-edge.auto.1.1.1.1.1.1.1.1.1.1.1.1.1.1.0 ∙ c.before.before.before.before.before.before.before.before.before.before.before.before.before.before.loop.invariant.0.lengths-long
+same-length-2 c = c.before.before.before.before.before.before.before.before.settle-edge.auto.1.1.1.1.1.1.1.1.1.1.1.1.1.1.0 ∙ c.before.before.before.before.before.before.before.before.before.before.before.before.before.before.loop.invariant.0.lengths_long
 
 same-length-3 : tie.Need-same-length-3 invariant-loop decreases-loop
 same-length-3 c = c.before.before.before.before.before.before.before.before.settle-edge.auto.1.1.1.1.1.1.1.1.1.1.1.1.1.1.1.0 ∙ c.before.before.before.before.before.before.before.before.before.before.before.before.before.before.loop.invariant.2
@@ -60,7 +60,7 @@ returns c = let E = c.before.before.before.before.before.before.before.before.be
     let C = c.before.before.before.before.before.before.before.before.before.before.before.before.before.before.before.before.before.cells_at.ensures in
     let P = c.before.before.before.before.before.before.before.before.before.before.before.before.before.before.loop.invariant.0 in
     let h = c.before.before.before.before.before.before.before.before.before.before.before.before.before.loop-test.true in (
-      passing-lacks _ _ _ _ _ _ _ _ _ _ _ _ _ _ _ _ _ _ (walk_here E C (omega (arith, c.before.before.before.before.before.before.before.before.before.before.before.before.before.before.before.before.before.cells_at.auto.1.1.1.1.1.1.1.1.0, c.before.before.before.before.before.before.before.before.before.before.before.before.before.before.before.before.before.before.before.before.before.before.before.before.before.before.before.before.requires.2)) P h) (walk_inside E C (omega (arith, c.before.before.before.before.before.before.before.before.before.before.before.before.before.before.before.before.before.cells_at.auto.1.1.1.1.1.1.1.1.0, c.before.before.before.before.before.before.before.before.before.before.before.before.before.before.before.before.before.before.before.before.before.before.before.before.before.before.before.before.requires.2)) P h) c.before.before.before.before.before.before.before.before.settle-edge.result _ _ c.before.before.before.before.before.before.before.before.settle-edge.ensures.0 c.enum_told.given.1,
+      passing_lacks _ _ _ _ _ _ _ _ _ _ _ _ _ _ _ _ _ _ (walk_here E C (omega (arith, c.before.before.before.before.before.before.before.before.before.before.before.before.before.before.before.before.before.cells_at.auto.1.1.1.1.1.1.1.1.0, c.before.before.before.before.before.before.before.before.before.before.before.before.before.before.before.before.before.before.before.before.before.before.before.before.before.before.before.before.requires.2)) P h) (walk_inside E C (omega (arith, c.before.before.before.before.before.before.before.before.before.before.before.before.before.before.before.before.before.cells_at.auto.1.1.1.1.1.1.1.1.0, c.before.before.before.before.before.before.before.before.before.before.before.before.before.before.before.before.before.before.before.before.before.before.before.before.before.before.before.before.requires.2)) P h) c.before.before.before.before.before.before.before.before.settle-edge.result _ _ c.before.before.before.before.before.before.before.before.settle-edge.ensures.0 c.enum_told.given.1,
       tt,
     )
 
@@ -72,17 +72,17 @@ loop-less c = omega (arith, c.before.before.before.before.before.before.before.b
 
 loop-again : tie.Need-loop-preserved invariant-loop decreases-loop
 loop-again c = (
-  walk-on c.before.before.before.before.before.before.before.before.before.before.before.before.before.before.before.before.before.before.before.before.before.before.before.before.before.before.before.before.before.requires.0 c.before.before.before.before.before.before.before.before.before.before.before.before.before.before.before.before.before.before.cells_at.ensures (omega (arith, c.before.before.before.before.before.before.before.before.before.before.before.before.before.before.before.before.before.before.cells_at.auto.1.1.1.1.1.1.1.1.0, c.before.before.before.before.before.before.before.before.before.before.before.before.before.before.before.before.before.before.before.before.before.before.before.before.before.before.before.before.before.requires.2)) c.before.before.before.before.before.before.before.before.before.before.before.before.before.before.before.loop.invariant.0 c.before.before.before.before.before.before.before.before.before.before.before.before.before.before.loop-test.true c.before.before.before.before.before.before.before.before.before.settle-edge.ensures.0 _ c.before.grown.given.1 c.before.before.before.before.before.before.before.before.before.settle-edge.auto.1.1.1.1.1.1.1.1.1.1.1.1.1.0 c.before.before.before.before.before.before.before.before.before.settle-edge.auto.1.1.1.1.1.1.1.1.1.1.1.1.1.1.0,
-  linked-rows c.before.grown.given.1 c.before.before.before.before.before.before.before.before.before.settle-edge.ensures.1,
+  walk_on c.before.before.before.before.before.before.before.before.before.before.before.before.before.before.before.before.before.before.before.before.before.before.before.before.before.before.before.before.before.requires.0 c.before.before.before.before.before.before.before.before.before.before.before.before.before.before.before.before.before.before.cells_at.ensures (omega (arith, c.before.before.before.before.before.before.before.before.before.before.before.before.before.before.before.before.before.before.cells_at.auto.1.1.1.1.1.1.1.1.0, c.before.before.before.before.before.before.before.before.before.before.before.before.before.before.before.before.before.before.before.before.before.before.before.before.before.before.before.before.before.requires.2)) c.before.before.before.before.before.before.before.before.before.before.before.before.before.before.before.loop.invariant.0 c.before.before.before.before.before.before.before.before.before.before.before.before.before.before.loop-test.true c.before.before.before.before.before.before.before.before.before.settle-edge.ensures.0 _ c.before.grown.given.1 c.before.before.before.before.before.before.before.before.before.settle-edge.auto.1.1.1.1.1.1.1.1.1.1.1.1.1.0 c.before.before.before.before.before.before.before.before.before.settle-edge.auto.1.1.1.1.1.1.1.1.1.1.1.1.1.1.0,
+  linked_rows c.before.grown.given.1 c.before.before.before.before.before.before.before.before.before.settle-edge.ensures.1,
   c.before.before.before.before.before.before.before.before.before.settle-edge.auto.1.1.1.1.1.1.1.1.1.1.1.1.1.1.1.0 ∙ c.before.before.before.before.before.before.before.before.before.before.before.before.before.before.before.loop.invariant.2,
   omega (arith, c.before.before.before.before.before.before.before.before.before.before.before.before.before.before.loop-test.true),
 )
 
 same-length-5 : tie.Need-same-length-5 invariant-loop decreases-loop
-same-length-5 c = c.before.loop.invariant.0.ends-long
+same-length-5 c = c.before.loop.invariant.0.ends_long
 
 same-length-6 : tie.Need-same-length-6 invariant-loop decreases-loop
-same-length-6 c = c.before.loop.invariant.0.lengths-long
+same-length-6 c = c.before.loop.invariant.0.lengths_long
 
 same-length-7 : tie.Need-same-length-7 invariant-loop decreases-loop
 same-length-7 c = c.before.loop.invariant.2
@@ -92,12 +92,12 @@ same-length-8 c = c.before.before.before.before.cells_at.auto.1.1.1.1.1.1.1.1.0
 
 returns-2 : tie.Need-returns-2 invariant-loop decreases-loop
 returns-2 c = (
-  passing-done _ _ _ _ _ _ _ _ _ _ _ _ _ _ _ _ _ _ (walk-done c.before.before.before.before.before.before.before.before.before.before.before.before.before.before.before.requires.0 c.before.before.before.before.cells_at.ensures (omega (arith, c.before.before.before.before.cells_at.auto.1.1.1.1.1.1.1.1.0, c.before.before.before.before.before.before.before.before.before.before.before.before.before.before.before.requires.2)) c.before.loop.invariant.0 c.loop-test.false c.before.loop.invariant.3) (omega arith),
+  passing_done _ _ _ _ _ _ _ _ _ _ _ _ _ _ _ _ _ _ (walk_done c.before.before.before.before.before.before.before.before.before.before.before.before.before.before.before.requires.0 c.before.before.before.before.cells_at.ensures (omega (arith, c.before.before.before.before.cells_at.auto.1.1.1.1.1.1.1.1.0, c.before.before.before.before.before.before.before.before.before.before.before.before.before.before.before.requires.2)) c.before.loop.invariant.0 c.loop-test.false c.before.loop.invariant.3) (omega arith),
   c.before.loop.invariant.1,
 )
 
-pub other-edges-spec : {M : Type 1} → statement M
-other-edges-spec =
+pub other_edges_spec : {M : Type 1} → statement M
+other_edges_spec =
     tie.close
     (tie.spec
     invariant-loop

@@ -1,5 +1,5 @@
 -- `rewire::linked::push_edge` meets its contract: the block first, then the table (proofs/LinkedLaws.antt). Assumes nothing.
-use Rattle.rewire.proofs.LinkedLaws.{push-room, push-done}
+use Rattle.rewire.proofs.LinkedLaws.{push_room, push_done}
 use native.Mathlib.Omega.{arith}
 use borrow.Author.Rules.{rules}
 use Rattle.rewire.proofs.linked.push_edge.Statement.{statement}
@@ -9,7 +9,7 @@ append-edge-requires : tie.Need-append-edge-requires
 append-edge-requires c κs = c.before.before.before.before.before.requires.columns
 
 append-cell-requires : tie.Need-append-cell-requires
-append-cell-requires c κs = push-room c.before.before.before.before.before.before.before.before.before.before.before.before.requires _ _ _ c.before.before.before.before.before.before.append-edge.auto.1.1.0 c.before.before.before.before.before.before.append-edge.ensures
+append-cell-requires c κs = push_room c.before.before.before.before.before.before.before.before.before.before.before.before.requires _ _ _ c.before.before.before.before.before.before.append-edge.auto.1.1.0 c.before.before.before.before.before.before.append-edge.ensures
 
 same_length : tie.Need-same-length
 same_length c = c.before.before.before.before.before.before.before.before.before.append-edge.auto.1.1.0
@@ -21,10 +21,10 @@ same-length-3 : tie.Need-same-length-3
 same-length-3 c = c.before.before.append-cell.auto.1.1.1.1.1.1.0
 
 returns : tie.Need-returns
-returns c = (c.before.before.before.before.before.before.before.before.before.append-edge.ensures, push-done c.before.before.before.before.before.before.before.before.before.before.before.before.before.before.before.requires _ _ _ c.before.before.before.before.before.before.before.before.before.append-edge.auto.1.1.0 c.before.before.before.before.before.before.before.before.before.append-edge.ensures c.before.before.append-cell.auto.1.1.1.1.1.1.0 c.before.before.append-cell.ensures)
+returns c = (c.before.before.before.before.before.before.before.before.before.append-edge.ensures, push_done c.before.before.before.before.before.before.before.before.before.before.before.before.before.before.before.requires _ _ _ c.before.before.before.before.before.before.before.before.before.append-edge.auto.1.1.0 c.before.before.before.before.before.before.before.before.before.append-edge.ensures c.before.before.append-cell.auto.1.1.1.1.1.1.0 c.before.before.append-cell.ensures)
 
-pub push-edge-spec : {M : Type 1} → statement M
-push-edge-spec =
+pub push_edge_spec : {M : Type 1} → statement M
+push_edge_spec =
     tie.close
     (tie.spec
     append-edge-requires

@@ -1,11 +1,11 @@
 -- `sheet_c::writing::fields_fit` meets its contract: the counts against the bytes. Assumes nothing.
-use Rattle.sheet_c.proofs.Fielding.{fields-short, fields-as}
+use Rattle.sheet_c.proofs.Fielding.{fields_short, fields_as}
 use borrow.Author.Rules.{rules}
 use Rattle.sheet_c.proofs.writing.fields_fit.Statement.{statement}
 use Rattle.sheet_c.proofs.writing.fields_fit.Tie as tie
 
 returns : tie.Need-returns
-returns c = fields-short _ (c).if1.true
+returns c = fields_short _ (c).if1.true
 
 word-at-requires : tie.Need-word-at-requires
 word-at-requires c κs = search rules
@@ -38,10 +38,10 @@ mul-result-4 : tie.Need-overflow-mul-result-4
 mul-result-4 c = search rules
 
 returns-2 : tie.Need-returns-2
-returns-2 c = fields-as _ _ _ _ c.before.before.word_at.ensures.0 c.before.word-at2.ensures.0 (c).word-at3.ensures.0 c.before.before.before.if1.false
+returns-2 c = fields_as _ _ _ _ c.before.before.word_at.ensures.0 c.before.word-at2.ensures.0 (c).word-at3.ensures.0 c.before.before.before.if1.false
 
-pub fields-fit-spec : {M : Type 1} → statement M
-fields-fit-spec =
+pub fields_fit_spec : {M : Type 1} → statement M
+fields_fit_spec =
     tie.close
     (tie.spec
     returns

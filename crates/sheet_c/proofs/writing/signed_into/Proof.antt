@@ -5,15 +5,15 @@ use lib.ListN.{length}
 use mathlib.Core.Path.{◌∙◌, ap}
 use mir.Syntax.{w64}
 use mir.Val.{to_z, of_z}
-use Rattle.image.specs.Words.{wordAt}
+use Rattle.image.specs.Words.{word_at_of}
 use Rattle.image.proofs.Words.{Filling, fill_start, fill_more, fill_done}
-use Rattle.sheet_c.specs.Fields.{signed_of, signedFrom}
+use Rattle.sheet_c.specs.Fields.{signed_of, signed_from}
 use Rattle.sheet_c.proofs.Signs.{stored_same}
 use Rattle.sheet_c.proofs.writing.signed_into.Statement.{statement}
 use Rattle.sheet_c.proofs.writing.signed_into.Tie as tie
 
 abbrev invariant-loop : tie.invariant-loop
-invariant-loop bytes at n out₀ i₀ out i = Filling (λ k. signed_of (wordAt bytes (at + k))) n out₀ out i
+invariant-loop bytes at n out₀ i₀ out i = Filling (λ k. signed_of (word_at_of bytes (at + k))) n out₀ out i
 
 abbrev decreases-loop : tie.decreases-loop
 decreases-loop bytes at n out₀ i₀ out i = n - i
@@ -49,11 +49,11 @@ same_length : tie.Need-same-length invariant-loop decreases-loop
 same_length c = c.before.loop.invariant.long
 
 returns : tie.Need-returns invariant-loop decreases-loop
-unfolding signedFrom
+unfolding signed_from
 returns c = fill_done _ _ _ _ _ c.before.loop.invariant c.loop-test.false
 
-pub signed-into-spec : {M : Type 1} → statement M
-signed-into-spec =
+pub signed_into_spec : {M : Type 1} → statement M
+signed_into_spec =
     tie.close
     (tie.spec
     invariant-loop

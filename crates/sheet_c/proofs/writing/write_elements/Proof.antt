@@ -2,7 +2,7 @@
 use native.Mathlib.Omega.{arith}
 use mathlib.Core.Path.{sym}
 use lib.Seq.{length-take-le}
-use Rattle.sheet_c.proofs.Fielding.{elements-written}
+use Rattle.sheet_c.proofs.Fielding.{elements_written}
 use borrow.Author.Rules.{rules}
 use Rattle.sheet_c.proofs.writing.write_elements.Statement.{statement}
 use Rattle.sheet_c.proofs.writing.write_elements.Tie as tie
@@ -125,10 +125,10 @@ same_length : tie.Need-same-length
 same_length c = c.before.before.write.auto.0
 
 returns : tie.Need-returns
-returns c = let A = c.before.before.before.before.before.before.before.before.before.before.before.before.before.before.before.before.before.before.before.before.before.before.before.before.before.before.before.before.before.before.before.before.before.before.args in elements-written A.fields.now _ _ _ A.x.now A.y.now A.pinned.now A.blade.now _ _ _ _ _ _ _ _ _ c.before.before.before.before.before.before.before.before.before.before.before.before.before.before.before.before.before.before.before.before.before.before.before.before.before.before.before.before.word-at3.ensures.0 c.before.before.before.before.before.before.before.before.before.before.before.before.before.before.before.before.before.before.before.before.before.before.before.before.before.before.before.before.before.before.word_at.ensures.0 c.before.before.before.before.before.before.before.before.before.before.before.before.before.before.before.before.before.before.before.before.before.before.before.before.before.before.before.before.before.word-at2.ensures.0 (record { t0 = c.before.before.before.before.before.before.before.before.before.before.before.before.before.before.before.before.before.before.before.before.before.before.before.before.before.before.words-into.ensures; t1 = c.before.before.before.before.before.before.before.before.before.before.before.before.before.before.before.before.before.before.before.before.before.before.before.words-into2.ensures; t2 = c.before.before.before.before.before.before.before.before.before.before.before.before.before.before.before.before.before.before.before.before.words-into3.ensures; e0 = c.before.before.before.before.before.before.before.before.before.before.before.before.before.before.before.before.before.words-into4.ensures; e1 = c.before.before.before.before.before.before.before.before.before.before.before.before.before.before.words-into5.ensures; structural = c.before.before.before.before.before.before.before.before.before.before.before.words-into6.ensures }) c.before.before.write.ensures
+returns c = let A = c.before.before.before.before.before.before.before.before.before.before.before.before.before.before.before.before.before.before.before.before.before.before.before.before.before.before.before.before.before.before.before.before.before.before.args in elements_written A.fields.now _ _ _ A.x.now A.y.now A.pinned.now A.blade.now _ _ _ _ _ _ _ _ _ c.before.before.before.before.before.before.before.before.before.before.before.before.before.before.before.before.before.before.before.before.before.before.before.before.before.before.before.before.word-at3.ensures.0 c.before.before.before.before.before.before.before.before.before.before.before.before.before.before.before.before.before.before.before.before.before.before.before.before.before.before.before.before.before.before.word_at.ensures.0 c.before.before.before.before.before.before.before.before.before.before.before.before.before.before.before.before.before.before.before.before.before.before.before.before.before.before.before.before.before.word-at2.ensures.0 (record { t0 = c.before.before.before.before.before.before.before.before.before.before.before.before.before.before.before.before.before.before.before.before.before.before.before.before.before.before.words-into.ensures; t1 = c.before.before.before.before.before.before.before.before.before.before.before.before.before.before.before.before.before.before.before.before.before.before.before.words-into2.ensures; t2 = c.before.before.before.before.before.before.before.before.before.before.before.before.before.before.before.before.before.before.before.before.words-into3.ensures; e0 = c.before.before.before.before.before.before.before.before.before.before.before.before.before.before.before.before.before.words-into4.ensures; e1 = c.before.before.before.before.before.before.before.before.before.before.before.before.before.before.words-into5.ensures; structural = c.before.before.before.before.before.before.before.before.before.before.before.words-into6.ensures }) c.before.before.write.ensures
 
-pub write-elements-spec : {M : Type 1} → statement M
-write-elements-spec =
+pub write_elements_spec : {M : Type 1} → statement M
+write_elements_spec =
     tie.close
     (tie.spec
     word-at-requires

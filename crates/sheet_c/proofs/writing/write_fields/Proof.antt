@@ -2,7 +2,7 @@
 use native.Mathlib.Omega.{arith}
 use mathlib.Core.Path.{refl, sym}
 use lib.Seq.{length-take-le}
-use Rattle.sheet_c.proofs.Fielding.{fields-written, written-few}
+use Rattle.sheet_c.proofs.Fielding.{fields_written, written_few}
 use borrow.Author.Rules.{rules}
 use Rattle.sheet_c.proofs.writing.write_fields.Statement.{statement}
 use Rattle.sheet_c.proofs.writing.write_fields.Tie as tie
@@ -74,10 +74,10 @@ same_length : tie.Need-same-length
 same_length c = c.before.before.write-elements.auto.1.1.1.1.1.0
 
 returns : tie.Need-returns
-returns c = let S = fields-written c.before.before.before.before.before.before.before.before.before.before.before.before.before.before.before.before.before.before.before.before.before.before.before.args.fields.now c.before.before.before.before.before.before.before.before.before.before.before.before.before.before.before.before.before.before.before.before.before.before.before.requires _ c.before.before.before.before.before.before.before.before.before.before.before.before.before.before.before.before.before.before.signed-into.new.1.1.1.0 c.before.before.before.before.before.before.before.before.before.before.before.before.before.before.before.signed-into2.new.1.1.1.0 c.before.before.before.before.before.before.before.before.before.before.before.before.words-into.new.1.1.1.0 c.before.before.before.before.before.before.before.before.before.signed-into3.new.1.1.1.0 c.before.before.before.before.before.before.before.before.before.before.before.before.before.before.before.before.before.before.before.before.word_at.ensures.0 _ refl c.before.before.before.before.before.before.before.before.before.before.before.before.before.before.before.before.before.before.signed-into.ensures c.before.before.before.before.before.before.before.before.before.before.before.before.before.before.before.signed-into2.ensures c.before.before.before.before.before.before.before.before.before.before.before.before.words-into.ensures c.before.before.before.before.before.before.before.before.before.signed-into3.ensures c.before.before.before.before.before.before.before.before.before.signed-into3.auto.1.1.1.0 _ _ _ c.before.before.write-elements.ensures in (S, written-few _ _ _ _ S)
+returns c = let S = fields_written c.before.before.before.before.before.before.before.before.before.before.before.before.before.before.before.before.before.before.before.before.before.before.before.args.fields.now c.before.before.before.before.before.before.before.before.before.before.before.before.before.before.before.before.before.before.before.before.before.before.before.requires _ c.before.before.before.before.before.before.before.before.before.before.before.before.before.before.before.before.before.before.signed-into.new.1.1.1.0 c.before.before.before.before.before.before.before.before.before.before.before.before.before.before.before.signed-into2.new.1.1.1.0 c.before.before.before.before.before.before.before.before.before.before.before.before.words-into.new.1.1.1.0 c.before.before.before.before.before.before.before.before.before.signed-into3.new.1.1.1.0 c.before.before.before.before.before.before.before.before.before.before.before.before.before.before.before.before.before.before.before.before.word_at.ensures.0 _ refl c.before.before.before.before.before.before.before.before.before.before.before.before.before.before.before.before.before.before.signed-into.ensures c.before.before.before.before.before.before.before.before.before.before.before.before.before.before.before.signed-into2.ensures c.before.before.before.before.before.before.before.before.before.before.before.before.words-into.ensures c.before.before.before.before.before.before.before.before.before.signed-into3.ensures c.before.before.before.before.before.before.before.before.before.signed-into3.auto.1.1.1.0 _ _ _ c.before.before.write-elements.ensures in (S, written_few _ _ _ _ S)
 
-pub write-fields-spec : {M : Type 1} → statement M
-write-fields-spec =
+pub write_fields_spec : {M : Type 1} → statement M
+write_fields_spec =
     tie.close
     (tie.spec
     word-at-requires

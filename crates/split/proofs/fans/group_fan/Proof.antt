@@ -1,9 +1,9 @@
 -- `split::fans::group_fan` meets its contract: the groups of the front of the tables. Assumes nothing.
-use Rattle.split.proofs.Fitted.{rows-small, rows_long, sides-room, groups-found}
+use Rattle.split.proofs.Fitted.{rows_small, rows_long, sides_room, groups_found}
 use lib.Seq.{length-take-le}
 use mathlib.Core.Path.{sym, ◌∙◌}
 use native.Mathlib.Omega.{arith}
-use Rattle.elements.specs.Table.{kindIs}
+use Rattle.elements.specs.Table.{kind_is}
 use borrow.Author.Rules.{rules}
 use Rattle.split.proofs.fans.group_fan.Statement.{statement}
 use Rattle.split.proofs.fans.group_fan.Tie as tie
@@ -15,7 +15,7 @@ facet-others-requires : tie.Need-facet-others-requires
 facet-others-requires c κs = search rules
 
 mul-end : tie.Need-overflow-mul-end
-mul-end c = omega (arith, rows-small (kindIs c.before.before.before.before.before.args.kind) c.before.before.before.before.before.args.n c.before.corners-per.result c.before.corners-per.ensures c.before.before.before.before.before.requires.few)
+mul-end c = omega (arith, rows_small (kind_is c.before.before.before.before.before.args.kind) c.before.before.before.before.before.args.n c.before.corners-per.result c.before.corners-per.ensures c.before.before.before.before.before.requires.few)
 
 slice-aggregate-groups-of : tie.Need-slice-aggregate-groups-of
 slice-aggregate-groups-of c = sym (length-take-le _ _ (rows_long _ _ _ _ c.before.before.corners-per.ensures c.before.before.before.before.before.before.requires.verts))
@@ -30,17 +30,17 @@ slice-aggregate-groups-of-3 : tie.Need-slice-aggregate-groups-of-3
 slice-aggregate-groups-of-3 c = sym (length-take-le _ _ c.before.before.before.before.before.before.before.before.requires.groups)
 
 groups-of-requires : tie.Need-groups-of-requires
-groups-of-requires c κs = sides-room (kindIs c.before.before.before.before.before.before.before.before.args.kind) _ _ _ _ _ c.before.before.before.before.corners-per.ensures c.before.before.before.before.before.before.before.before.requires
+groups-of-requires c κs = sides_room (kind_is c.before.before.before.before.before.before.before.before.args.kind) _ _ _ _ _ c.before.before.before.before.corners-per.ensures c.before.before.before.before.before.before.before.before.requires
 
 same_length : tie.Need-same-length
 same_length c = search rules
 
 returns : tie.Need-returns
 returns c = let G = c.before.before.groups_of in
-    groups-found (kindIs c.before.before.before.before.before.before.before.before.before.before.before.args.kind) _ _ _ _ _ _ _ _ _ c.before.before.before.before.before.before.before.corners-per.ensures c.before.before.before.before.before.before.facet-others.ensures (G.auto.1.1.1.1.1.0 ∙ length-take-le _ _ c.before.before.before.before.before.before.before.before.before.before.before.requires.groups) c.before.before.before.before.before.before.before.before.before.before.before.requires.long G.ensures
+    groups_found (kind_is c.before.before.before.before.before.before.before.before.before.before.before.args.kind) _ _ _ _ _ _ _ _ _ c.before.before.before.before.before.before.before.corners-per.ensures c.before.before.before.before.before.before.facet-others.ensures (G.auto.1.1.1.1.1.0 ∙ length-take-le _ _ c.before.before.before.before.before.before.before.before.before.before.before.requires.groups) c.before.before.before.before.before.before.before.before.before.before.before.requires.long G.ensures
 
-pub group-fan-spec : {M : Type 1} → statement M
-group-fan-spec =
+pub group_fan_spec : {M : Type 1} → statement M
+group_fan_spec =
     tie.close
     (tie.spec
     corners-per-requires

@@ -1,8 +1,8 @@
 -- `split::grow::rewire_elements` meets its contract: by cases of the kind. Assumes nothing.
-use Rattle.split.proofs.LinkLaws.{split-room, linked-rewired, straps-linked}
-use Rattle.split.proofs.GrowLaws.{triangles-room, rewired-triangles, rewired-straps, rewired-none}
-use Rattle.links.proofs.Parts.{edges_lent, triangles-lent, edges-back, triangles-back}
-use Rattle.elements.specs.Table.{kindIs}
+use Rattle.split.proofs.LinkLaws.{split_room, linked_rewired, straps_linked}
+use Rattle.split.proofs.GrowLaws.{triangles_room, rewired_triangles_lem, rewired_straps_lem, rewired_none}
+use Rattle.links.proofs.Parts.{edges_lent, triangles_lent, edges_back, triangles_back}
+use Rattle.elements.specs.Table.{kind_is}
 use lib.Seq.{length-take-le}
 use mathlib.Core.Path.{refl, sym, ap, ◌∙◌}
 use native.Mathlib.Omega.{arith}
@@ -21,7 +21,7 @@ slice-aggregate-rewire-linked : tie.Need-slice-aggregate-rewire-linked
 slice-aggregate-rewire-linked c = sym (length-take-le 4096 c.before.before.before.before.before.before.before.before.before.args.links.now (omega (arith, c.before.before.before.before.before.before.before.before.before.requires.1.long)))
 
 rewire-linked-requires : tie.Need-rewire-linked-requires
-rewire-linked-requires c κs = let P = c.before.before.before.before.before.before.before.before.before.requires in let e = ap kindIs c.before.before.enum_told.given.1 in (triangles-room P.0 e, split-room (triangles-room P.0 e) (triangles-lent P.1) P.2 P.3 e)
+rewire-linked-requires c κs = let P = c.before.before.before.before.before.before.before.before.before.requires in let e = ap kind_is c.before.before.enum_told.given.1 in (triangles_room P.0 e, split_room (triangles_room P.0 e) (triangles_lent P.1) P.2 P.3 e)
 
 enum-told-2 : tie.Need-enum-told-2
 enum-told-2 c = search rules
@@ -36,7 +36,7 @@ part-rewire-straps-end : tie.Need-slice-bounds-rewire-straps-end
 part-rewire-straps-end c = search rules
 
 rewire-straps-requires : tie.Need-rewire-straps-requires
-rewire-straps-requires c κs = let P = c.before.before.before.before.before.before.before.before.before.requires in straps-linked P.0 P.4 P.5 P.3 (edges_lent P.1) (ap kindIs c.before.before.enum-told2.given.1)
+rewire-straps-requires c κs = let P = c.before.before.before.before.before.before.before.before.before.requires in straps_linked P.0 P.4 P.5 P.3 (edges_lent P.1) (ap kind_is c.before.before.enum-told2.given.1)
 
 enum-told-3 : tie.Need-enum-told-3
 enum-told-3 c = search rules
@@ -48,7 +48,7 @@ same-length-2 : tie.Need-same-length-2
 same-length-2 c = search rules
 
 returns : tie.Need-returns
-returns c = let P = c.before.before.before.before.before.before.before.before.before.before.before.before.before.before.requires in let R = c.before.before.before.before.rewire-linked in (rewired-triangles (ap kindIs c.before.before.before.before.before.before.before.enum_told.given.1) R.ensures.0, triangles-back P.1 (R.auto.1.1.1.1.1.1.1.0 ∙ length-take-le 4096 c.before.before.before.before.before.before.before.before.before.before.before.before.before.before.args.links.now (omega (arith, P.1.long))) (linked-rewired (triangles-lent P.1) R.auto.1.1.1.1.1.1.1.0 R.ensures.1))
+returns c = let P = c.before.before.before.before.before.before.before.before.before.before.before.before.before.before.requires in let R = c.before.before.before.before.rewire-linked in (rewired_triangles_lem (ap kind_is c.before.before.before.before.before.before.before.enum_told.given.1) R.ensures.0, triangles_back P.1 (R.auto.1.1.1.1.1.1.1.0 ∙ length-take-le 4096 c.before.before.before.before.before.before.before.before.before.before.before.before.before.before.args.links.now (omega (arith, P.1.long))) (linked_rewired (triangles_lent P.1) R.auto.1.1.1.1.1.1.1.0 R.ensures.1))
 
 same-length-3 : tie.Need-same-length-3
 same-length-3 c = search rules
@@ -57,13 +57,13 @@ same-length-4 : tie.Need-same-length-4
 same-length-4 c = search rules
 
 returns-2 : tie.Need-returns-2
-returns-2 c = let P = c.before.before.before.before.before.before.before.before.before.before.before.before.before.before.requires in let R = c.before.before.before.before.rewire-straps in (rewired-straps (ap kindIs c.before.before.before.before.before.before.before.enum-told2.given.1) R.ensures.0, edges-back P.1 R.auto.1.1.1.1.1.1.1.0 R.ensures.1)
+returns-2 c = let P = c.before.before.before.before.before.before.before.before.before.before.before.before.before.before.requires in let R = c.before.before.before.before.rewire-straps in (rewired_straps_lem (ap kind_is c.before.before.before.before.before.before.before.enum-told2.given.1) R.ensures.0, edges_back P.1 R.auto.1.1.1.1.1.1.1.0 R.ensures.1)
 
 returns-3 : tie.Need-returns-3
-returns-3 c = (rewired-none (ap kindIs c.enum-told3.given.1), (c.before.before.before.before.before.before.before.requires.1, refl))
+returns-3 c = (rewired_none (ap kind_is c.enum-told3.given.1), (c.before.before.before.before.before.before.before.requires.1, refl))
 
-pub rewire-elements-spec : {M : Type 1} → statement M
-rewire-elements-spec =
+pub rewire_elements_spec : {M : Type 1} → statement M
+rewire_elements_spec =
     tie.close
     (tie.spec
     enum_told

@@ -19,10 +19,10 @@ returns : tie.Need-returns
 returns c =
     let T = c.before.before.before.before.before.before.before.total-weight.ensures in
     let C = c.before.before.before.before.copy-particles.ensures in
-    record { particles = λ O at count-is G W. C.particles O (record { at = at; count-is = count-is; grouped = G; weighted = W; total-is = T.is O G W count-is }) }
+    record { particles = λ O at count_is G W. C.particles O (record { at = at; count_is = count_is; grouped = G; weighted = W; total_is = T.is O G W count_is }) }
 
-pub share-out-spec : {M : Type 1} → statement M
-share-out-spec =
+pub share_out_spec : {M : Type 1} → statement M
+share_out_spec =
     tie.close
     (tie.spec
     total-weight-requires

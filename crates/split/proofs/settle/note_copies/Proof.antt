@@ -1,5 +1,5 @@
 -- `split::settle::note_copies` meets its contract: the loop is `Copying` of proofs/NoteLaws.antt. Assumes nothing.
-use Rattle.split.proofs.NoteLaws.{Copying, copying-start, copying-step, copying-done}
+use Rattle.split.proofs.NoteLaws.{Copying, copying_start, copying_step, copying_done}
 use native.Mathlib.Omega.{arith}
 use Prim.Native.Nat.{◌-◌}
 use Rattle.split.proofs.settle.note_copies.Statement.{statement}
@@ -12,7 +12,7 @@ abbrev decreases-loop : tie.decreases-loop
 decreases-loop v before m at log₀ i₀ log i = m - i
 
 loop-holds : tie.Need-loop-init invariant-loop decreases-loop
-loop-holds c = copying-start _ _ _ _ _
+loop-holds c = copying_start _ _ _ _ _
 
 add-note : tie.Need-overflow-add-note invariant-loop decreases-loop
 add-note c = omega (arith, c.loop-test.true, c.before.before.before.requires.0, c.before.before.before.requires.1, c.before.before.before.ranges)
@@ -36,16 +36,16 @@ loop-less : tie.Need-loop-smaller invariant-loop decreases-loop
 loop-less c = omega (arith, c.before.before.before.before.loop-test.true)
 
 loop-again : tie.Need-loop-preserved invariant-loop decreases-loop
-loop-again c = copying-step _ _ _ _ _ c.before.before.before.before.before.loop.invariant _ c.before.before.before.before.loop-test.true c.before.before.note.auto.1.1.1.1.1.1.1.0 c.before.before.note.ensures
+loop-again c = copying_step _ _ _ _ _ c.before.before.before.before.before.loop.invariant _ c.before.before.before.before.loop-test.true c.before.before.note.auto.1.1.1.1.1.1.1.0 c.before.before.note.ensures
 
 same_length : tie.Need-same-length invariant-loop decreases-loop
 same_length c = c.before.loop.invariant.long
 
 returns : tie.Need-returns invariant-loop decreases-loop
-returns c = copying-done _ _ _ _ _ c.before.loop.invariant c.loop-test.false
+returns c = copying_done _ _ _ _ _ c.before.loop.invariant c.loop-test.false
 
-pub note-copies-spec : {M : Type 1} → statement M
-note-copies-spec =
+pub note_copies_spec : {M : Type 1} → statement M
+note_copies_spec =
     tie.close
     (tie.spec
     invariant-loop

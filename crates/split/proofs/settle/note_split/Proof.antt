@@ -1,5 +1,5 @@
 -- `split::settle::note_split` meets its contract: the copies, then the edges that went. Assumes nothing.
-use Rattle.split.proofs.NoteLaws.{split-noted}
+use Rattle.split.proofs.NoteLaws.{split_noted}
 use Prim.Native.Nat.{ℕ, ◌+◌}
 use mathlib.Core.Path.{sym, subst}
 use borrow.Author.Rules.{rules}
@@ -23,7 +23,7 @@ same_length : tie.Need-same-length
 same_length c = search rules
 
 returns : tie.Need-returns
-returns c = split-noted _ _ _ _ _ _ _ _ _ _ _ c.before.before.before.before.before.before.note-copies.ensures c.before.before.note-listed.ensures
+returns c = split_noted _ _ _ _ _ _ _ _ _ _ _ c.before.before.before.before.before.before.note-copies.ensures c.before.before.note-listed.ensures
 
-pub note-split-spec : {M : Type 1} → statement M
-note-split-spec = tie.close (tie.spec note-copies-requires add-note-listed note-listed-requires same_length returns)
+pub note_split_spec : {M : Type 1} → statement M
+note_split_spec = tie.close (tie.spec note-copies-requires add-note-listed note-listed-requires same_length returns)

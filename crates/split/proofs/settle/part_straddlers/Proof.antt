@@ -2,9 +2,9 @@
 use native.Mathlib.Omega.{arith}
 use mathlib.Core.Path.{◌∙◌, sym}
 use borrow.Author.Tests.{not-true, not-false}
-use Rattle.elements.specs.Table.{kindIs}
-use Rattle.links.proofs.Parts.{edges-read}
-use Rattle.split.proofs.PartLaws.{part-refused, split-asked, part-done}
+use Rattle.elements.specs.Table.{kind_is}
+use Rattle.links.proofs.Parts.{edges_read}
+use Rattle.split.proofs.PartLaws.{part_refused, split_asked, part_done}
 use borrow.Author.Rules.{rules}
 use Rattle.split.proofs.settle.part_straddlers.Statement.{statement}
 use Rattle.split.proofs.settle.part_straddlers.Tie as tie
@@ -19,25 +19,25 @@ part-list-straddlers-end : tie.Need-slice-bounds-list-straddlers-end
 part-list-straddlers-end c = search rules
 
 list-straddlers-requires : tie.Need-list-straddlers-requires
-list-straddlers-requires c κs = let P = c.before.before.before.before.before.before.before.before.before.requires in (P.0.straddle, omega (arith, P.0.few-edges, P.1), P.0.ends-in, P.2.triangles, edges-read P.2)
+list-straddlers-requires c κs = let P = c.before.before.before.before.before.before.before.before.before.requires in (P.0.straddle, omega (arith, P.0.few_edges, P.1), P.0.ends_in, P.2.triangles, edges_read P.2)
 
 sub-m : tie.Need-overflow-sub-m
 sub-m c = omega (arith, c.before.before.before.before.before.before.before.before.before.before.before.before.requires.0.some)
 
 sub-log-fits : tie.Need-overflow-sub-log-fits
-sub-log-fits c = omega (arith, c.before.before.before.before.before.before.before.before.before.before.before.before.before.before.requires.0.log-in)
+sub-log-fits c = omega (arith, c.before.before.before.before.before.before.before.before.before.before.before.before.before.before.requires.0.log_in)
 
 log-fits-requires : tie.Need-log-fits-requires
-log-fits-requires c κs = let P = c.before.before.before.before.before.before.before.before.before.before.before.before.before.before.requires.0 in omega (arith, P.some, P.small, P.one-extra)
+log-fits-requires c κs = let P = c.before.before.before.before.before.before.before.before.before.before.before.before.before.before.requires.0 in omega (arith, P.some, P.small, P.one_extra)
 
 same_length : tie.Need-same-length
 same_length c = c.before.before.before.before.before.before.list-straddlers.auto.1.1.1.1.1.1.1.1.1.1.1.1.1.0
 
 returns : tie.Need-returns
-returns c = let A = c.before.before.before.before.before.before.before.before.before.before.before.before.before.before.before.before.args in let P = c.before.before.before.before.before.before.before.before.before.before.before.before.before.before.before.before.requires in let D = c.before.before.before.before.before.before.list-straddlers in (part-refused (kindIs A.kind) A.room A.k A.v A.before A.n A.count A.extra A.rows A.verts.now A.groups.now A.corners.now A.ends.now A.log.now P.0 _ _ (omega (arith, D.auto.1.1.1.1.1.1.1.1.1.1.1.1.1.0, P.1)) D.ensures (sym c.before.log-fits.ensures ∙ not-true _ c.if1.true) _ _, tt)
+returns c = let A = c.before.before.before.before.before.before.before.before.before.before.before.before.before.before.before.before.args in let P = c.before.before.before.before.before.before.before.before.before.before.before.before.before.before.before.before.requires in let D = c.before.before.before.before.before.before.list-straddlers in (part_refused (kind_is A.kind) A.room A.k A.v A.before A.n A.count A.extra A.rows A.verts.now A.groups.now A.corners.now A.ends.now A.log.now P.0 _ _ (omega (arith, D.auto.1.1.1.1.1.1.1.1.1.1.1.1.1.0, P.1)) D.ensures (sym c.before.log-fits.ensures ∙ not-true _ c.if1.true) _ _, tt)
 
 note-split-requires : tie.Need-note-split-requires
-note-split-requires c κs = let A = c.before.before.before.before.before.before.before.before.before.before.before.before.before.before.before.before.before.before.args in let P = c.before.before.before.before.before.before.before.before.before.before.before.before.before.before.before.before.before.before.requires in let D = c.before.before.before.before.before.before.before.before.list-straddlers in split-asked (kindIs A.kind) A.room A.k A.v A.before A.n A.count A.extra A.rows A.verts.now A.groups.now A.corners.now A.ends.now A.log.now P.0 _ _ (omega (arith, D.auto.1.1.1.1.1.1.1.1.1.1.1.1.1.0, P.1)) D.ensures (sym c.before.before.before.log-fits.ensures ∙ not-false _ c.before.before.if1.false)
+note-split-requires c κs = let A = c.before.before.before.before.before.before.before.before.before.before.before.before.before.before.before.before.before.before.args in let P = c.before.before.before.before.before.before.before.before.before.before.before.before.before.before.before.before.before.before.requires in let D = c.before.before.before.before.before.before.before.before.list-straddlers in split_asked (kind_is A.kind) A.room A.k A.v A.before A.n A.count A.extra A.rows A.verts.now A.groups.now A.corners.now A.ends.now A.log.now P.0 _ _ (omega (arith, D.auto.1.1.1.1.1.1.1.1.1.1.1.1.1.0, P.1)) D.ensures (sym c.before.before.before.log-fits.ensures ∙ not-false _ c.before.before.if1.false)
 
 slice-write-list : tie.Need-slice-write-list
 slice-write-list c = omega (arith, c.before.before.before.before.before.before.before.before.before.before.before.list-straddlers.auto.1.1.1.1.1.1.1.1.1.1.1.1.1.0, c.before.before.before.before.before.before.before.before.before.before.before.before.before.before.before.before.before.before.before.before.before.requires.1)
@@ -52,10 +52,10 @@ same-length-3 : tie.Need-same-length-3
 same-length-3 c = search rules
 
 returns-2 : tie.Need-returns-2
-returns-2 c = let A = c.before.before.before.before.before.before.before.before.before.before.before.before.before.before.before.before.before.before.before.before.before.before.args in let P = c.before.before.before.before.before.before.before.before.before.before.before.before.before.before.before.before.before.before.before.before.before.before.requires in let D = c.before.before.before.before.before.before.before.before.before.before.before.before.list-straddlers in part-done (kindIs A.kind) A.room A.k A.v A.before A.n A.count A.extra A.rows A.verts.now A.groups.now A.corners.now A.ends.now A.log.now P.0 _ _ (omega (arith, D.auto.1.1.1.1.1.1.1.1.1.1.1.1.1.0, P.1)) D.ensures (sym c.before.before.before.before.before.before.before.log-fits.ensures ∙ not-false _ c.before.before.before.before.before.before.if1.false) _ _ c.before.before.before.note-split.ensures
+returns-2 c = let A = c.before.before.before.before.before.before.before.before.before.before.before.before.before.before.before.before.before.before.before.before.before.before.args in let P = c.before.before.before.before.before.before.before.before.before.before.before.before.before.before.before.before.before.before.before.before.before.before.requires in let D = c.before.before.before.before.before.before.before.before.before.before.before.before.list-straddlers in part_done (kind_is A.kind) A.room A.k A.v A.before A.n A.count A.extra A.rows A.verts.now A.groups.now A.corners.now A.ends.now A.log.now P.0 _ _ (omega (arith, D.auto.1.1.1.1.1.1.1.1.1.1.1.1.1.0, P.1)) D.ensures (sym c.before.before.before.before.before.before.before.log-fits.ensures ∙ not-false _ c.before.before.before.before.before.before.if1.false) _ _ c.before.before.before.note-split.ensures
 
-pub part-straddlers-spec : {M : Type 1} → statement M
-part-straddlers-spec =
+pub part_straddlers_spec : {M : Type 1} → statement M
+part_straddlers_spec =
     tie.close
     (tie.spec
     sub-list-straddlers

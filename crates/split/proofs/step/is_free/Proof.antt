@@ -19,8 +19,8 @@ returns : tie.Need-returns
 unfolding lib.Ieee.ne lib.Ieee.of_bits
 returns c = search rules
 
-pub is-free-spec : {M : Type 1} → statement M
-is-free-spec =
+pub is_free_spec : {M : Type 1} → statement M
+is_free_spec =
     tie.close
     (tie.spec
     mul-result

@@ -2,8 +2,8 @@
 use mathlib.Core.Path.{ap}
 use native.Mathlib.Omega.{arith}
 use lib.ListN.{length-set}
-use Rattle.elements.specs.Table.{kindIs}
-use Rattle.split.proofs.TabledLaws.{parts_none, nothing-works, sides-as, given-as}
+use Rattle.elements.specs.Table.{kind_is}
+use Rattle.split.proofs.TabledLaws.{parts_none, nothing_works, sides_as, given_as}
 use borrow.Author.Rules.{rules}
 use Rattle.split.proofs.step.split_by_sides.Statement.{statement}
 use Rattle.split.proofs.step.split_by_sides.Tie as tie
@@ -12,13 +12,13 @@ enum_told : tie.Need-enum-told
 enum_told c = search rules
 
 split-fan-requires : tie.Need-split-fan-requires
-split-fan-requires c κs = let P = c.before.before.before.before.before.before.before.before.before.before.before.before.before.before.before.before.before.before.before.before.requires in (P.0, given-as (kindIs c.before.before.before.before.before.before.before.before.before.before.before.before.before.before.before.before.before.before.before.before.args.kind) (ap kindIs c.before.before.before.before.before.before.before.before.enum_told.given.1) P.1, P.2)
+split-fan-requires c κs = let P = c.before.before.before.before.before.before.before.before.before.before.before.before.before.before.before.before.before.before.before.before.requires in (P.0, given_as (kind_is c.before.before.before.before.before.before.before.before.before.before.before.before.before.before.before.before.before.before.before.before.args.kind) (ap kind_is c.before.before.before.before.before.before.before.before.enum_told.given.1) P.1, P.2)
 
 enum-told-2 : tie.Need-enum-told-2
 enum-told-2 c = search rules
 
 split-fan-requires-2 : tie.Need-split-fan-requires-2
-split-fan-requires-2 c κs = let P = c.before.before.before.before.before.before.before.before.before.before.before.before.before.before.before.before.before.before.before.before.requires in (P.0, given-as (kindIs c.before.before.before.before.before.before.before.before.before.before.before.before.before.before.before.before.before.before.before.before.args.kind) (ap kindIs c.before.before.before.before.before.before.before.before.enum-told2.given.1) P.1, P.2)
+split-fan-requires-2 c κs = let P = c.before.before.before.before.before.before.before.before.before.before.before.before.before.before.before.before.before.before.before.before.requires in (P.0, given_as (kind_is c.before.before.before.before.before.before.before.before.before.before.before.before.before.before.before.before.before.before.before.before.args.kind) (ap kind_is c.before.before.before.before.before.before.before.before.enum-told2.given.1) P.1, P.2)
 
 enum-told-3 : tie.Need-enum-told-3
 enum-told-3 c = search rules
@@ -51,7 +51,7 @@ same-length-8 : tie.Need-same-length-8
 same-length-8 c = c.before.before.before.before.before.before.before.before.before.before.before.before.before.before.before.before.split-fan.auto.1.1.1.1.1.1.1.1.1.1.1.1.1.0
 
 returns : tie.Need-returns
-returns c = let A = c.before.before.before.before.before.before.before.before.before.before.before.before.before.before.before.before.before.before.before.before.before.before.before.before.before.before.before.before.before.before.before.before.before.before.before.before.before.args in (sides-as (kindIs A.kind) (ap kindIs c.before.before.before.before.before.before.before.before.before.before.before.before.before.before.before.before.before.before.before.before.before.before.before.before.before.enum_told.given.1) A.v A.sides.now c.before.before.before.before.before.before.before.before.before.before.before.before.before.before.before.before.split-fan.ensures.0, c.before.before.before.before.before.before.before.before.before.before.before.before.before.before.before.before.split-fan.ensures.1)
+returns c = let A = c.before.before.before.before.before.before.before.before.before.before.before.before.before.before.before.before.before.before.before.before.before.before.before.before.before.before.before.before.before.before.before.before.before.before.before.before.before.args in (sides_as (kind_is A.kind) (ap kind_is c.before.before.before.before.before.before.before.before.before.before.before.before.before.before.before.before.before.before.before.before.before.before.before.before.before.enum_told.given.1) A.v A.sides.now c.before.before.before.before.before.before.before.before.before.before.before.before.before.before.before.before.split-fan.ensures.0, c.before.before.before.before.before.before.before.before.before.before.before.before.before.before.before.before.split-fan.ensures.1)
 
 same-length-9 : tie.Need-same-length-9
 same-length-9 c = c.before.before.before.before.before.before.before.before.before.before.before.before.before.before.before.before.split-fan2.auto.1.1.1.1.1.0
@@ -78,16 +78,16 @@ same-length-16 : tie.Need-same-length-16
 same-length-16 c = c.before.before.before.before.before.before.before.before.before.before.before.before.before.before.before.before.split-fan2.auto.1.1.1.1.1.1.1.1.1.1.1.1.1.0
 
 returns-2 : tie.Need-returns-2
-returns-2 c = let A = c.before.before.before.before.before.before.before.before.before.before.before.before.before.before.before.before.before.before.before.before.before.before.before.before.before.before.before.before.before.before.before.before.before.before.before.before.before.args in (sides-as (kindIs A.kind) (ap kindIs c.before.before.before.before.before.before.before.before.before.before.before.before.before.before.before.before.before.before.before.before.before.before.before.before.before.enum-told2.given.1) A.v A.sides.now c.before.before.before.before.before.before.before.before.before.before.before.before.before.before.before.before.split-fan2.ensures.0, c.before.before.before.before.before.before.before.before.before.before.before.before.before.before.before.before.split-fan2.ensures.1)
+returns-2 c = let A = c.before.before.before.before.before.before.before.before.before.before.before.before.before.before.before.before.before.before.before.before.before.before.before.before.before.before.before.before.before.before.before.before.before.before.before.before.before.args in (sides_as (kind_is A.kind) (ap kind_is c.before.before.before.before.before.before.before.before.before.before.before.before.before.before.before.before.before.before.before.before.before.before.before.before.before.enum-told2.given.1) A.v A.sides.now c.before.before.before.before.before.before.before.before.before.before.before.before.before.before.before.before.split-fan2.ensures.0, c.before.before.before.before.before.before.before.before.before.before.before.before.before.before.before.before.split-fan2.ensures.1)
 
 same-length-17 : tie.Need-same-length-17
 same-length-17 c = length-set c.before.before.before.before.before.before.before.before.before.before.before.before.args.list.now 2048 0
 
 returns-3 : tie.Need-returns-3
-returns-3 c = let A = c.before.before.before.before.before.before.before.before.before.before.before.before.args in parts_none A.room A.k A.points.now A.roots.now A.corners.now A.volumes.now A.ends.now A.lengths.now A.outline.now A.log.now c.before.before.before.before.before.before.before.before.before.before.before.before.requires.0 _ A.list.now c.before.before.before.before.before.before.before.before.before.before.before.before.requires.2 (nothing-works A.room A.k A.points.now A.roots.now A.corners.now A.volumes.now A.ends.now A.lengths.now A.outline.now A.log.now c.before.before.before.before.before.before.before.before.before.before.before.before.requires.0 (kindIs A.kind) (ap kindIs c.enum-told3.given.1) A.v A.sides.now c.before.before.before.before.before.before.before.before.before.before.before.before.requires.1)
+returns-3 c = let A = c.before.before.before.before.before.before.before.before.before.before.before.before.args in parts_none A.room A.k A.points.now A.roots.now A.corners.now A.volumes.now A.ends.now A.lengths.now A.outline.now A.log.now c.before.before.before.before.before.before.before.before.before.before.before.before.requires.0 _ A.list.now c.before.before.before.before.before.before.before.before.before.before.before.before.requires.2 (nothing_works A.room A.k A.points.now A.roots.now A.corners.now A.volumes.now A.ends.now A.lengths.now A.outline.now A.log.now c.before.before.before.before.before.before.before.before.before.before.before.before.requires.0 (kind_is A.kind) (ap kind_is c.enum-told3.given.1) A.v A.sides.now c.before.before.before.before.before.before.before.before.before.before.before.before.requires.1)
 
-pub split-by-sides-spec : {M : Type 1} → statement M
-split-by-sides-spec =
+pub split_by_sides_spec : {M : Type 1} → statement M
+split_by_sides_spec =
     tie.close
     (tie.spec
     enum_told

@@ -1,9 +1,9 @@
 -- `split::step::split_few` meets its contract: the fan of v in small tables, split by the sides given for it; or a larger one. Assumes nothing.
 use native.Mathlib.Omega.{arith}
-use Rattle.elements.specs.Table.{kindIs}
-use Rattle.split.proofs.Fitted.{few-corners}
-use Rattle.split.proofs.TabledLaws.{given-in, given-sided, sides-taken, sides-works}
-use Rattle.split.proofs.LinkLaws.{fan-ready}
+use Rattle.elements.specs.Table.{kind_is}
+use Rattle.split.proofs.Fitted.{few_corners}
+use Rattle.split.proofs.TabledLaws.{given_in, given_sided, sides_taken, sides_works}
+use Rattle.split.proofs.LinkLaws.{fan_ready}
 use borrow.Author.Rules.{rules}
 use Rattle.split.proofs.step.split_few.Statement.{statement}
 use Rattle.split.proofs.step.split_few.Tie as tie
@@ -18,7 +18,7 @@ slice-aggregate-fan-tables-3 : tie.Need-slice-aggregate-fan-tables-3
 slice-aggregate-fan-tables-3 c = search rules
 
 fan-tables-requires : tie.Need-fan-tables-requires
-fan-tables-requires c κs = let P = c.before.before.before.before.before.before.before.before.before.before.before.before.before.before.before.before.before.before.requires in let A = c.before.before.before.before.before.before.before.before.before.before.before.before.before.before.before.before.before.before.args in fan-ready (kindIs A.kind) A.room A.k A.points.now A.roots.now A.corners.now A.volumes.now A.ends.now A.lengths.now A.outline.now A.log.now P.0 (given-in (kindIs A.kind) A.room A.k A.points.now A.roots.now A.corners.now A.volumes.now A.ends.now A.lengths.now A.outline.now A.log.now P.0 P.1) P.3
+fan-tables-requires c κs = let P = c.before.before.before.before.before.before.before.before.before.before.before.before.before.before.before.before.before.before.requires in let A = c.before.before.before.before.before.before.before.before.before.before.before.before.before.before.before.before.before.before.args in fan_ready (kind_is A.kind) A.room A.k A.points.now A.roots.now A.corners.now A.volumes.now A.ends.now A.lengths.now A.outline.now A.log.now P.0 (given_in (kind_is A.kind) A.room A.k A.points.now A.roots.now A.corners.now A.volumes.now A.ends.now A.lengths.now A.outline.now A.log.now P.0 P.1) P.3
 
 split-many-requires : tie.Need-split-many-requires
 split-many-requires c κs = let P = c.before.before.before.before.before.before.before.before.before.before.before.before.before.before.before.before.before.before.before.before.before.before.before.before.before.before.before.before.before.before.before.before.requires in (P.0, P.1, P.2, P.3)
@@ -67,7 +67,7 @@ slice-aggregate-split-tabled-4 c = search rules
 
 split-tabled-requires : tie.Need-split-tabled-requires
 split-tabled-requires c κs = let P = c.before.before.before.before.before.before.before.before.before.before.before.before.before.before.before.before.before.before.before.before.before.before.before.before.before.before.before.before.before.before.before.before.before.before.before.before.requires in let A = c.before.before.before.before.before.before.before.before.before.before.before.before.before.before.before.before.before.before.before.before.before.before.before.before.before.before.before.before.before.before.before.before.before.before.before.before.args in let F = c.before.before.before.before.before.before.before.before.before.before.before.before.before.before.before.before.before.fan-tables.ensures in
-    (P.0, given-sided (kindIs A.kind) A.room A.k A.points.now A.roots.now A.corners.now A.volumes.now A.ends.now A.lengths.now A.outline.now A.log.now P.0 F P.1 (omega (arith, c.before.before.before.before.before.before.before.before.before.before.before.before.before.if1.false, c.before.before.before.before.before.before.before.before.before.before.before.before.before.before.before.before.before.fan-tables.auto.1.1.1.1.1.1.1.1.0)) (omega (arith, few-corners F (omega (arith, c.before.before.before.before.before.before.before.before.before.before.before.before.before.if1.false)), c.before.before.before.before.before.before.before.before.before.before.before.before.before.before.before.before.before.fan-tables.auto.1.1.1.1.1.1.1.1.1.0)) (omega (arith, c.before.before.before.before.before.before.before.before.before.before.before.before.before.if1.false, c.before.before.before.before.before.before.before.before.before.before.before.before.before.before.before.before.before.fan-tables.auto.1.1.1.1.1.1.1.1.1.1.0)), omega (arith, c.before.before.before.before.before.before.before.before.before.before.before.before.before.if1.false), P.2, P.3)
+    (P.0, given_sided (kind_is A.kind) A.room A.k A.points.now A.roots.now A.corners.now A.volumes.now A.ends.now A.lengths.now A.outline.now A.log.now P.0 F P.1 (omega (arith, c.before.before.before.before.before.before.before.before.before.before.before.before.before.if1.false, c.before.before.before.before.before.before.before.before.before.before.before.before.before.before.before.before.before.fan-tables.auto.1.1.1.1.1.1.1.1.0)) (omega (arith, few_corners F (omega (arith, c.before.before.before.before.before.before.before.before.before.before.before.before.before.if1.false)), c.before.before.before.before.before.before.before.before.before.before.before.before.before.before.before.before.before.fan-tables.auto.1.1.1.1.1.1.1.1.1.0)) (omega (arith, c.before.before.before.before.before.before.before.before.before.before.before.before.before.if1.false, c.before.before.before.before.before.before.before.before.before.before.before.before.before.before.before.before.before.fan-tables.auto.1.1.1.1.1.1.1.1.1.1.0)), omega (arith, c.before.before.before.before.before.before.before.before.before.before.before.before.before.if1.false), P.2, P.3)
 
 same-length-10 : tie.Need-same-length-10
 same-length-10 c = c.before.before.before.before.before.before.before.before.before.before.before.before.before.before.before.before.before.before.before.split-tabled.auto.1.1.1.1.1.1.1.1.1.1.0
@@ -97,10 +97,10 @@ same-length-18 : tie.Need-same-length-18
 same-length-18 c = c.before.before.before.before.before.before.before.before.before.before.before.before.before.before.before.before.before.before.before.split-tabled.auto.1.1.1.1.1.1.1.1.1.1.1.1.1.1.1.1.1.1.1.0
 
 returns-2 : tie.Need-returns-2
-returns-2 c = let P = c.before.before.before.before.before.before.before.before.before.before.before.before.before.before.before.before.before.before.before.before.before.before.before.before.before.before.before.before.before.before.before.before.before.before.before.before.before.before.before.before.before.before.before.before.before.before.before.before.before.before.before.before.before.before.before.before.requires in let A = c.before.before.before.before.before.before.before.before.before.before.before.before.before.before.before.before.before.before.before.before.before.before.before.before.before.before.before.before.before.before.before.before.before.before.before.before.before.before.before.before.before.before.before.before.before.before.before.before.before.before.before.before.before.before.before.before.args in (sides-works (kindIs A.kind) A.v (sides-taken (kindIs A.kind) A.room A.k A.points.now A.roots.now A.corners.now A.volumes.now A.ends.now A.lengths.now A.outline.now A.log.now P.0 c.before.before.before.before.before.before.before.before.before.before.before.before.before.before.before.before.before.before.before.before.before.before.before.before.before.before.before.before.before.before.before.before.before.before.before.before.before.fan-tables.ensures P.1) c.before.before.before.before.before.before.before.before.before.before.before.before.before.before.before.before.before.before.before.split-tabled.ensures.0.0, c.before.before.before.before.before.before.before.before.before.before.before.before.before.before.before.before.before.before.before.split-tabled.ensures.0.1)
+returns-2 c = let P = c.before.before.before.before.before.before.before.before.before.before.before.before.before.before.before.before.before.before.before.before.before.before.before.before.before.before.before.before.before.before.before.before.before.before.before.before.before.before.before.before.before.before.before.before.before.before.before.before.before.before.before.before.before.before.before.before.requires in let A = c.before.before.before.before.before.before.before.before.before.before.before.before.before.before.before.before.before.before.before.before.before.before.before.before.before.before.before.before.before.before.before.before.before.before.before.before.before.before.before.before.before.before.before.before.before.before.before.before.before.before.before.before.before.before.before.before.args in (sides_works (kind_is A.kind) A.v (sides_taken (kind_is A.kind) A.room A.k A.points.now A.roots.now A.corners.now A.volumes.now A.ends.now A.lengths.now A.outline.now A.log.now P.0 c.before.before.before.before.before.before.before.before.before.before.before.before.before.before.before.before.before.before.before.before.before.before.before.before.before.before.before.before.before.before.before.before.before.before.before.before.before.fan-tables.ensures P.1) c.before.before.before.before.before.before.before.before.before.before.before.before.before.before.before.before.before.before.before.split-tabled.ensures.0.0, c.before.before.before.before.before.before.before.before.before.before.before.before.before.before.before.before.before.before.before.split-tabled.ensures.0.1)
 
-pub split-few-spec : {M : Type 1} → statement M
-split-few-spec =
+pub split_few_spec : {M : Type 1} → statement M
+split_few_spec =
     tie.close
     (tie.spec
     slice-aggregate-fan-tables

@@ -1,8 +1,8 @@
 -- `split::step::split_many` meets its contract: the fan of v in tables, split by the sides given for it. Assumes nothing.
 use native.Mathlib.Omega.{arith}
-use Rattle.elements.specs.Table.{kindIs}
-use Rattle.split.proofs.TabledLaws.{given-in, given-sided, sides-taken, sides-works}
-use Rattle.split.proofs.LinkLaws.{fan-ready}
+use Rattle.elements.specs.Table.{kind_is}
+use Rattle.split.proofs.TabledLaws.{given_in, given_sided, sides_taken, sides_works}
+use Rattle.split.proofs.LinkLaws.{fan_ready}
 use borrow.Author.Rules.{rules}
 use Rattle.split.proofs.step.split_many.Statement.{statement}
 use Rattle.split.proofs.step.split_many.Tie as tie
@@ -17,7 +17,7 @@ slice-aggregate-fan-tables-3 : tie.Need-slice-aggregate-fan-tables-3
 slice-aggregate-fan-tables-3 c = search rules
 
 fan-tables-requires : tie.Need-fan-tables-requires
-fan-tables-requires c κs = let P = c.before.before.before.before.before.before.before.before.before.before.before.before.before.before.before.before.before.before.requires in let A = c.before.before.before.before.before.before.before.before.before.before.before.before.before.before.before.before.before.before.args in fan-ready (kindIs A.kind) A.room A.k A.points.now A.roots.now A.corners.now A.volumes.now A.ends.now A.lengths.now A.outline.now A.log.now P.0 (given-in (kindIs A.kind) A.room A.k A.points.now A.roots.now A.corners.now A.volumes.now A.ends.now A.lengths.now A.outline.now A.log.now P.0 P.1) P.3
+fan-tables-requires c κs = let P = c.before.before.before.before.before.before.before.before.before.before.before.before.before.before.before.before.before.before.requires in let A = c.before.before.before.before.before.before.before.before.before.before.before.before.before.before.before.before.before.before.args in fan_ready (kind_is A.kind) A.room A.k A.points.now A.roots.now A.corners.now A.volumes.now A.ends.now A.lengths.now A.outline.now A.log.now P.0 (given_in (kind_is A.kind) A.room A.k A.points.now A.roots.now A.corners.now A.volumes.now A.ends.now A.lengths.now A.outline.now A.log.now P.0 P.1) P.3
 
 slice-aggregate-split-tabled : tie.Need-slice-aggregate-split-tabled
 slice-aggregate-split-tabled c = search rules
@@ -33,7 +33,7 @@ slice-aggregate-split-tabled-4 c = search rules
 
 split-tabled-requires : tie.Need-split-tabled-requires
 split-tabled-requires c κs = let P = c.before.before.before.before.before.before.before.before.before.before.before.before.before.before.before.before.before.before.before.before.before.before.before.before.before.before.before.before.before.before.before.before.before.before.before.requires in let A = c.before.before.before.before.before.before.before.before.before.before.before.before.before.before.before.before.before.before.before.before.before.before.before.before.before.before.before.before.before.before.before.before.before.before.before.args in let F = c.before.before.before.before.before.before.before.before.before.before.before.before.before.before.before.before.fan-tables.ensures in
-    (P.0, given-sided (kindIs A.kind) A.room A.k A.points.now A.roots.now A.corners.now A.volumes.now A.ends.now A.lengths.now A.outline.now A.log.now P.0 F P.1 (omega (arith, F.few, c.before.before.before.before.before.before.before.before.before.before.before.before.before.before.before.before.fan-tables.auto.1.1.1.1.1.1.1.1.0)) (omega (arith, F.narrow, c.before.before.before.before.before.before.before.before.before.before.before.before.before.before.before.before.fan-tables.auto.1.1.1.1.1.1.1.1.1.0)) (omega (arith, F.few, c.before.before.before.before.before.before.before.before.before.before.before.before.before.before.before.before.fan-tables.auto.1.1.1.1.1.1.1.1.1.1.0)), omega (arith, F.few), P.2, P.3)
+    (P.0, given_sided (kind_is A.kind) A.room A.k A.points.now A.roots.now A.corners.now A.volumes.now A.ends.now A.lengths.now A.outline.now A.log.now P.0 F P.1 (omega (arith, F.few, c.before.before.before.before.before.before.before.before.before.before.before.before.before.before.before.before.fan-tables.auto.1.1.1.1.1.1.1.1.0)) (omega (arith, F.narrow, c.before.before.before.before.before.before.before.before.before.before.before.before.before.before.before.before.fan-tables.auto.1.1.1.1.1.1.1.1.1.0)) (omega (arith, F.few, c.before.before.before.before.before.before.before.before.before.before.before.before.before.before.before.before.fan-tables.auto.1.1.1.1.1.1.1.1.1.1.0)), omega (arith, F.few), P.2, P.3)
 
 same_length : tie.Need-same-length
 same_length c = c.before.before.before.before.before.before.before.before.before.before.before.before.before.before.before.before.before.before.before.split-tabled.auto.1.1.1.1.1.1.1.1.1.1.0
@@ -63,10 +63,10 @@ same-length-9 : tie.Need-same-length-9
 same-length-9 c = c.before.before.before.before.before.before.before.before.before.before.before.before.before.before.before.before.before.before.before.split-tabled.auto.1.1.1.1.1.1.1.1.1.1.1.1.1.1.1.1.1.1.1.0
 
 returns : tie.Need-returns
-returns c = let P = c.before.before.before.before.before.before.before.before.before.before.before.before.before.before.before.before.before.before.before.before.before.before.before.before.before.before.before.before.before.before.before.before.before.before.before.before.before.before.before.before.before.before.before.before.before.before.before.before.before.before.before.before.before.before.before.requires in let A = c.before.before.before.before.before.before.before.before.before.before.before.before.before.before.before.before.before.before.before.before.before.before.before.before.before.before.before.before.before.before.before.before.before.before.before.before.before.before.before.before.before.before.before.before.before.before.before.before.before.before.before.before.before.before.before.args in (sides-works (kindIs A.kind) A.v (sides-taken (kindIs A.kind) A.room A.k A.points.now A.roots.now A.corners.now A.volumes.now A.ends.now A.lengths.now A.outline.now A.log.now P.0 c.before.before.before.before.before.before.before.before.before.before.before.before.before.before.before.before.before.before.before.before.before.before.before.before.before.before.before.before.before.before.before.before.before.before.before.before.fan-tables.ensures P.1) c.before.before.before.before.before.before.before.before.before.before.before.before.before.before.before.before.before.before.before.split-tabled.ensures.0.0, c.before.before.before.before.before.before.before.before.before.before.before.before.before.before.before.before.before.before.before.split-tabled.ensures.0.1)
+returns c = let P = c.before.before.before.before.before.before.before.before.before.before.before.before.before.before.before.before.before.before.before.before.before.before.before.before.before.before.before.before.before.before.before.before.before.before.before.before.before.before.before.before.before.before.before.before.before.before.before.before.before.before.before.before.before.before.before.requires in let A = c.before.before.before.before.before.before.before.before.before.before.before.before.before.before.before.before.before.before.before.before.before.before.before.before.before.before.before.before.before.before.before.before.before.before.before.before.before.before.before.before.before.before.before.before.before.before.before.before.before.before.before.before.before.before.before.args in (sides_works (kind_is A.kind) A.v (sides_taken (kind_is A.kind) A.room A.k A.points.now A.roots.now A.corners.now A.volumes.now A.ends.now A.lengths.now A.outline.now A.log.now P.0 c.before.before.before.before.before.before.before.before.before.before.before.before.before.before.before.before.before.before.before.before.before.before.before.before.before.before.before.before.before.before.before.before.before.before.before.before.fan-tables.ensures P.1) c.before.before.before.before.before.before.before.before.before.before.before.before.before.before.before.before.before.before.before.split-tabled.ensures.0.0, c.before.before.before.before.before.before.before.before.before.before.before.before.before.before.before.before.before.before.before.split-tabled.ensures.0.1)
 
-pub split-many-spec : {M : Type 1} → statement M
-split-many-spec =
+pub split_many_spec : {M : Type 1} → statement M
+split_many_spec =
     tie.close
     (tie.spec
     slice-aggregate-fan-tables

@@ -1,9 +1,9 @@
 -- `split::step::split_opened` meets its contract: the two halves make the step (proofs/StepLaws.antt), and the tables are what the second one leaves. Assumes nothing.
 use native.Mathlib.Omega.{arith}
 use mathlib.Core.Path.{◌∙◌}
-use Rattle.elements.specs.Table.{kindIs}
-use Rattle.split.proofs.StepLaws.{grow-room, tables-in, ends-here, named_here, settle-asked, room-made, ends-made, corners-made, all-lacking, all_settled}
-use Rattle.split.proofs.LinkLaws.{fan-named, grown-linked}
+use Rattle.elements.specs.Table.{kind_is}
+use Rattle.split.proofs.StepLaws.{grow_room, tables_in, ends_here, named_here, settle_asked, room_made, ends_made, corners_made, all_lacking, all_settled}
+use Rattle.split.proofs.LinkLaws.{fan_named, grown_linked}
 use Rattle.links.proofs.Parts.{front_of}
 use borrow.Author.Rules.{rules}
 use Rattle.split.proofs.step.split_opened.Statement.{statement}
@@ -11,7 +11,7 @@ use Rattle.split.proofs.step.split_opened.Tie as tie
 
 grow-requires : tie.Need-grow-requires
 grow-requires c κs = let P = c.before.before.before.before.before.before.before.before.before.before.before.before.before.before.before.before.before.before.before.before.before.requires in let A = c.before.before.before.before.before.before.before.before.before.before.before.before.before.before.before.before.before.before.before.before.before.args in
-    (grow-room (kindIs A.kind) A.room A.k A.points.now A.roots.now A.corners.now A.volumes.now A.ends.now A.lengths.now A.outline.now A.log.now P.0 P.1, tables-in (kindIs A.kind) A.room A.k A.points.now A.roots.now A.corners.now A.volumes.now A.ends.now A.lengths.now A.outline.now A.log.now P.0 P.1, ends-here (kindIs A.kind) A.room A.k A.points.now A.roots.now A.corners.now A.volumes.now A.ends.now A.lengths.now A.outline.now A.log.now P.0 P.1, named_here (kindIs A.kind) A.room A.k A.points.now A.roots.now A.corners.now A.volumes.now A.ends.now A.lengths.now A.outline.now A.log.now P.0 P.1, front_of P.4, fan-named (kindIs A.kind) A.room A.k A.points.now A.roots.now A.corners.now A.volumes.now A.ends.now A.lengths.now A.outline.now A.log.now P.0 P.1, P.3)
+    (grow_room (kind_is A.kind) A.room A.k A.points.now A.roots.now A.corners.now A.volumes.now A.ends.now A.lengths.now A.outline.now A.log.now P.0 P.1, tables_in (kind_is A.kind) A.room A.k A.points.now A.roots.now A.corners.now A.volumes.now A.ends.now A.lengths.now A.outline.now A.log.now P.0 P.1, ends_here (kind_is A.kind) A.room A.k A.points.now A.roots.now A.corners.now A.volumes.now A.ends.now A.lengths.now A.outline.now A.log.now P.0 P.1, named_here (kind_is A.kind) A.room A.k A.points.now A.roots.now A.corners.now A.volumes.now A.ends.now A.lengths.now A.outline.now A.log.now P.0 P.1, front_of P.4, fan_named (kind_is A.kind) A.room A.k A.points.now A.roots.now A.corners.now A.volumes.now A.ends.now A.lengths.now A.outline.now A.log.now P.0 P.1, P.3)
 
 enum-known-grew : tie.Need-enum-known-grew
 enum-known-grew c = search rules
@@ -21,14 +21,14 @@ enum-known-grew-2 c = search rules
 
 add-t45 : tie.Need-overflow-add-t45
 add-t45 c = let P = c.before.before.before.before.before.before.before.before.before.before.before.before.before.before.before.before.before.before.before.before.before.before.before.before.before.before.before.before.before.before.before.before.before.before.before.before.before.before.before.requires in let A = c.before.before.before.before.before.before.before.before.before.before.before.before.before.before.before.before.before.before.before.before.before.before.before.before.before.before.before.before.before.before.before.before.before.before.before.before.before.before.before.args in
-    omega (arith, (room-made (kindIs A.kind) A.room A.k A.points.now A.roots.now A.corners.now A.volumes.now A.ends.now A.lengths.now A.outline.now A.log.now P.0 P.1 _ _ _ _ _ _ _ c.before.before.before.before.before.before.before.before.before.before.before.before.before.before.before.before.before.grow.ensures.0 c.before.grew2.given.1).0, P.0.rooms.few-particles)
+    omega (arith, (room_made (kind_is A.kind) A.room A.k A.points.now A.roots.now A.corners.now A.volumes.now A.ends.now A.lengths.now A.outline.now A.log.now P.0 P.1 _ _ _ _ _ _ _ c.before.before.before.before.before.before.before.before.before.before.before.before.before.before.before.before.before.grow.ensures.0 c.before.grew2.given.1).0, P.0.rooms.few_particles)
 
 sub-t46 : tie.Need-overflow-sub-t46
 sub-t46 c = omega (arith, c.before.before.before.before.before.before.before.before.before.before.before.before.before.before.before.before.before.before.before.before.before.before.before.before.before.before.before.before.before.before.before.before.before.before.before.before.before.before.before.requires.1.two)
 
 settle-requires : tie.Need-settle-requires
-settle-requires c κs = let P = c.before.before.before.before.before.before.before.before.before.before.before.before.before.before.before.before.before.before.before.before.before.before.before.before.before.before.before.before.before.before.before.before.before.before.before.before.before.before.before.before.before.before.before.before.before.before.before.requires in let A = c.before.before.before.before.before.before.before.before.before.before.before.before.before.before.before.before.before.before.before.before.before.before.before.before.before.before.before.before.before.before.before.before.before.before.before.before.before.before.before.before.before.before.before.before.before.before.before.args in let G = c.before.before.before.before.before.before.before.before.before.before.before.before.before.before.before.before.before.before.before.before.before.before.before.before.before.grow in let q = c.before.before.before.before.before.before.before.before.before.grew2.given.1 in let R = room-made (kindIs A.kind) A.room A.k A.points.now A.roots.now A.corners.now A.volumes.now A.ends.now A.lengths.now A.outline.now A.log.now P.0 P.1 _ _ _ _ _ _ _ G.ensures.0 q in
-    (settle-asked (kindIs A.kind) A.room A.k A.points.now A.roots.now A.corners.now A.volumes.now A.ends.now A.lengths.now A.outline.now A.log.now P.0 P.1 _ _ _ _ _ _ P.2 R.0 R.1 G.auto.1.1.1.1.1.1.1.1.1.1.0 G.auto.1.1.1.1.1.1.1.1.1.1.1.1.0 G.auto.1.1.1.1.1.1.1.1.1.1.1.1.1.0 G.auto.1.1.1.1.1.1.1.1.1.1.1.1.1.1.0 (ends-made (kindIs A.kind) A.room A.k A.points.now A.roots.now A.corners.now A.volumes.now A.ends.now A.lengths.now A.outline.now A.log.now P.0 P.1 _ _ _ _ _ _ _ G.ensures.0 q), omega (arith, P.3, G.auto.1.1.1.1.1.1.1.1.1.1.1.1.1.1.1.0), grown-linked A.links.now G.new.1.1.1.1.1.1.1.1.1.1.1.1.1.1.1.1.0 G.ensures.1 q P.4.sides, corners-made (kindIs A.kind) A.room A.k A.points.now A.roots.now A.corners.now A.volumes.now A.ends.now A.lengths.now A.outline.now A.log.now P.0 P.1 _ _ _ _ _ _ _ G.ensures.0 q)
+settle-requires c κs = let P = c.before.before.before.before.before.before.before.before.before.before.before.before.before.before.before.before.before.before.before.before.before.before.before.before.before.before.before.before.before.before.before.before.before.before.before.before.before.before.before.before.before.before.before.before.before.before.before.requires in let A = c.before.before.before.before.before.before.before.before.before.before.before.before.before.before.before.before.before.before.before.before.before.before.before.before.before.before.before.before.before.before.before.before.before.before.before.before.before.before.before.before.before.before.before.before.before.before.before.args in let G = c.before.before.before.before.before.before.before.before.before.before.before.before.before.before.before.before.before.before.before.before.before.before.before.before.before.grow in let q = c.before.before.before.before.before.before.before.before.before.grew2.given.1 in let R = room_made (kind_is A.kind) A.room A.k A.points.now A.roots.now A.corners.now A.volumes.now A.ends.now A.lengths.now A.outline.now A.log.now P.0 P.1 _ _ _ _ _ _ _ G.ensures.0 q in
+    (settle_asked (kind_is A.kind) A.room A.k A.points.now A.roots.now A.corners.now A.volumes.now A.ends.now A.lengths.now A.outline.now A.log.now P.0 P.1 _ _ _ _ _ _ P.2 R.0 R.1 G.auto.1.1.1.1.1.1.1.1.1.1.0 G.auto.1.1.1.1.1.1.1.1.1.1.1.1.0 G.auto.1.1.1.1.1.1.1.1.1.1.1.1.1.0 G.auto.1.1.1.1.1.1.1.1.1.1.1.1.1.1.0 (ends_made (kind_is A.kind) A.room A.k A.points.now A.roots.now A.corners.now A.volumes.now A.ends.now A.lengths.now A.outline.now A.log.now P.0 P.1 _ _ _ _ _ _ _ G.ensures.0 q), omega (arith, P.3, G.auto.1.1.1.1.1.1.1.1.1.1.1.1.1.1.1.0), grown_linked A.links.now G.new.1.1.1.1.1.1.1.1.1.1.1.1.1.1.1.1.0 G.ensures.1 q P.4.sides, corners_made (kind_is A.kind) A.room A.k A.points.now A.roots.now A.corners.now A.volumes.now A.ends.now A.lengths.now A.outline.now A.log.now P.0 P.1 _ _ _ _ _ _ _ G.ensures.0 q)
 
 same_length : tie.Need-same-length
 same_length c = c.before.before.before.before.before.before.before.before.before.before.before.before.before.before.before.before.before.grow.auto.1.1.1.1.1.1.1.1.1.1.0
@@ -53,7 +53,7 @@ same-length-7 c = c.before.before.before.before.before.before.before.before.befo
 
 returns : tie.Need-returns
 returns c = let P = c.before.before.before.before.before.before.before.before.before.before.before.before.before.before.before.before.before.before.before.before.before.before.before.before.before.before.before.before.before.before.before.before.before.before.before.before.before.before.before.requires in let A = c.before.before.before.before.before.before.before.before.before.before.before.before.before.before.before.before.before.before.before.before.before.before.before.before.before.before.before.before.before.before.before.before.before.before.before.before.before.before.before.args in
-    (all-lacking (kindIs A.kind) A.room A.k A.points.now A.roots.now A.corners.now A.volumes.now A.ends.now A.lengths.now A.outline.now A.log.now P.0 P.1 _ _ _ _ _ _ _ _ c.before.before.before.before.before.before.before.before.before.before.before.before.before.before.before.before.before.grow.ensures.0 c.before.grew.given.1, (tt, tt))
+    (all_lacking (kind_is A.kind) A.room A.k A.points.now A.roots.now A.corners.now A.volumes.now A.ends.now A.lengths.now A.outline.now A.log.now P.0 P.1 _ _ _ _ _ _ _ _ c.before.before.before.before.before.before.before.before.before.before.before.before.before.before.before.before.before.grow.ensures.0 c.before.grew.given.1, (tt, tt))
 
 same-length-8 : tie.Need-same-length-8
 same-length-8 c = c.before.before.before.before.before.before.before.before.before.before.before.before.before.before.before.before.before.before.before.before.before.before.before.before.before.before.before.before.before.before.before.before.before.before.grow.auto.1.1.1.1.1.1.1.1.1.1.0
@@ -84,10 +84,10 @@ same-length-16 c = c.before.before.before.before.before.before.before.before.set
 
 returns-2 : tie.Need-returns-2
 returns-2 c = let P = c.before.before.before.before.before.before.before.before.before.before.before.before.before.before.before.before.before.before.before.before.before.before.before.before.before.before.before.before.before.before.before.before.before.before.before.before.before.before.before.before.before.before.before.before.before.before.before.before.before.before.before.before.before.before.before.before.requires in let A = c.before.before.before.before.before.before.before.before.before.before.before.before.before.before.before.before.before.before.before.before.before.before.before.before.before.before.before.before.before.before.before.before.before.before.before.before.before.before.before.before.before.before.before.before.before.before.before.before.before.before.before.before.before.before.before.before.args in let S = c.before.before.before.before.before.before.before.before.settle in
-    (all_settled (kindIs A.kind) A.room A.k A.points.now A.roots.now A.corners.now A.volumes.now A.ends.now A.lengths.now A.outline.now A.log.now P.0 P.1 _ _ _ _ _ _ _ _ _ _ _ _ c.before.before.before.before.before.before.before.before.before.before.before.before.before.before.before.before.before.before.before.before.before.before.before.before.before.before.before.before.before.before.before.before.before.before.grow.ensures.0 c.before.before.before.before.before.before.before.before.before.before.before.before.before.before.before.before.before.before.grew2.given.1 S.ensures.0, (S.ensures.1, S.ensures.2))
+    (all_settled (kind_is A.kind) A.room A.k A.points.now A.roots.now A.corners.now A.volumes.now A.ends.now A.lengths.now A.outline.now A.log.now P.0 P.1 _ _ _ _ _ _ _ _ _ _ _ _ c.before.before.before.before.before.before.before.before.before.before.before.before.before.before.before.before.before.before.before.before.before.before.before.before.before.before.before.before.before.before.before.before.before.before.grow.ensures.0 c.before.before.before.before.before.before.before.before.before.before.before.before.before.before.before.before.before.before.grew2.given.1 S.ensures.0, (S.ensures.1, S.ensures.2))
 
-pub split-opened-spec : {M : Type 1} → statement M
-split-opened-spec =
+pub split_opened_spec : {M : Type 1} → statement M
+split_opened_spec =
     tie.close
     (tie.spec
     grow-requires

@@ -1,5 +1,5 @@
 -- `straddlers::across::apart` meets its contract: one test behind the other. Assumes nothing.
-use Rattle.straddlers.proofs.PieceMasks.{spans-root, spans-first, spans-second}
+use Rattle.straddlers.proofs.PieceMasks.{spans_root, spans_first, spans_second}
 use borrow.Author.Rules.{rules}
 use Rattle.straddlers.proofs.across.apart.Statement.{statement}
 use Rattle.straddlers.proofs.across.apart.Tie as tie
@@ -17,7 +17,7 @@ shared-slice-read-if1-2 : tie.Need-shared-slice-read-if1-2
 shared-slice-read-if1-2 c = search rules
 
 returns : tie.Need-returns
-returns c = spans-root _ _ _ _ c.if1.true
+returns c = spans_root _ _ _ _ c.if1.true
 
 mul-if2 : tie.Need-overflow-mul-if2
 mul-if2 c = search rules
@@ -26,7 +26,7 @@ shared-slice-read-if2 : tie.Need-shared-slice-read-if2
 shared-slice-read-if2 c = search rules
 
 returns-2 : tie.Need-returns-2
-returns-2 c = spans-first _ _ _ _ c.if2.true
+returns-2 c = spans_first _ _ _ _ c.if2.true
 
 mul-result : tie.Need-overflow-mul-result
 mul-result c = search rules
@@ -35,10 +35,10 @@ shared-slice-read-result : tie.Need-shared-slice-read-result
 shared-slice-read-result c = search rules
 
 returns-3 : tie.Need-returns-3
-returns-3 c = spans-second _ _ _ _ c.before.before.before.if1.false c.before.if2.false
+returns-3 c = spans_second _ _ _ _ c.before.before.before.if1.false c.before.if2.false
 
-pub apart-spec : {M : Type 1} → statement M
-apart-spec =
+pub apart_spec : {M : Type 1} → statement M
+apart_spec =
     tie.close
     (tie.spec
     mul-if1

@@ -1,5 +1,5 @@
 -- `straddlers::across::edge_crosses` meets its contract: an element stays, and of another edge the ends tell. Assumes nothing.
-use Rattle.straddlers.proofs.PieceMasks.{told-element, told-other, ends_read}
+use Rattle.straddlers.proofs.PieceMasks.{told_element, told_other, ends_read}
 use borrow.Author.Rules.{rules}
 use Rattle.straddlers.proofs.across.edge_crosses.Statement.{statement}
 use Rattle.straddlers.proofs.across.edge_crosses.Tie as tie
@@ -35,16 +35,16 @@ is-element-requires : tie.Need-is-element-requires
 is-element-requires c κs = search rules
 
 returns : tie.Need-returns
-returns c = told-element _ _ _ _ _ c.before.is-element.result c.before.is-element.ensures c.if1.true
+returns c = told_element _ _ _ _ _ c.before.is-element.result c.before.is-element.ensures c.if1.true
 
 apart-requires : tie.Need-apart-requires
 apart-requires c κs = ends_read _ _ _ _ c.before.before.before.before.before.before.before.before.requires
 
 returns-2 : tie.Need-returns-2
-returns-2 c = told-other _ _ _ _ _ c.before.before.is-element.result c.before.before.is-element.ensures c.before.if1.false c.apart.result c.apart.ensures
+returns-2 c = told_other _ _ _ _ _ c.before.before.is-element.result c.before.before.is-element.ensures c.before.if1.false c.apart.result c.apart.ensures
 
-pub edge-crosses-spec : {M : Type 1} → statement M
-edge-crosses-spec =
+pub edge_crosses_spec : {M : Type 1} → statement M
+edge_crosses_spec =
     tie.close
     (tie.spec
     mul-a

@@ -1,6 +1,6 @@
 -- `straddlers::across::find_pieces` meets its contract: the table of all elements, and its pieces. Assumes nothing.
-use Rattle.elements.specs.Table.{kindIs}
-use Rattle.straddlers.proofs.PieceTables.{corners-more, table-corners, pieces-told}
+use Rattle.elements.specs.Table.{kind_is}
+use Rattle.straddlers.proofs.PieceTables.{corners_more, table_corners, pieces_told}
 use native.Mathlib.Omega.{arith}
 use borrow.Author.Rules.{rules}
 use Rattle.straddlers.proofs.across.find_pieces.Statement.{statement}
@@ -25,13 +25,13 @@ slice-aggregate-join-elements : tie.Need-slice-aggregate-join-elements
 slice-aggregate-join-elements c = search rules
 
 join-elements-requires : tie.Need-join-elements-requires
-join-elements-requires c κs = let T = c.before.before.before.before.before.before.element-table in let P = c.before.before.before.before.before.before.before.before.before.before.before.before.before.before.before.before.requires in table-corners _ _ _ _ _ _ _ _ _ _ _ _ _ P.few-triangles P.few-edges P.corners-in P.ends-in (omega (arith, T.auto.1.1.1.1.1.1.1.1.0)) c.before.before.corners-per.ensures T.ensures
+join-elements-requires c κs = let T = c.before.before.before.before.before.before.element-table in let P = c.before.before.before.before.before.before.before.before.before.before.before.before.before.before.before.before.requires in table_corners _ _ _ _ _ _ _ _ _ _ _ _ _ P.few_triangles P.few_edges P.corners_in P.ends_in (omega (arith, T.auto.1.1.1.1.1.1.1.1.0)) c.before.before.corners-per.ensures T.ensures
 
 slice-aggregate-mark-used : tie.Need-slice-aggregate-mark-used
 slice-aggregate-mark-used c = search rules
 
 mark-used-requires : tie.Need-mark-used-requires
-mark-used-requires c κs = let T = c.before.before.before.before.before.before.before.before.before.before.before.element-table in let P = c.before.before.before.before.before.before.before.before.before.before.before.before.before.before.before.before.before.before.before.before.before.requires in corners-more (table-corners _ _ _ _ _ _ _ _ _ _ _ _ _ P.few-triangles P.few-edges P.corners-in P.ends-in (omega (arith, T.auto.1.1.1.1.1.1.1.1.0)) c.before.before.before.before.before.before.before.corners-per.ensures T.ensures) P.used-long
+mark-used-requires c κs = let T = c.before.before.before.before.before.before.before.before.before.before.before.element-table in let P = c.before.before.before.before.before.before.before.before.before.before.before.before.before.before.before.before.before.before.before.before.before.requires in corners_more (table_corners _ _ _ _ _ _ _ _ _ _ _ _ _ P.few_triangles P.few_edges P.corners_in P.ends_in (omega (arith, T.auto.1.1.1.1.1.1.1.1.0)) c.before.before.before.before.before.before.before.corners-per.ensures T.ensures) P.used_long
 
 same_length : tie.Need-same-length
 same_length c = search rules
@@ -40,10 +40,10 @@ same-length-2 : tie.Need-same-length-2
 same-length-2 c = search rules
 
 returns : tie.Need-returns
-returns c = pieces-told (kindIs c.before.before.before.before.before.before.before.before.before.before.before.before.before.before.before.before.before.before.before.before.before.before.before.before.args.kind) _ _ _ _ _ _ _ _ c.before.before.before.before.before.before.before.before.before.before.corners-per.ensures c.before.before.before.before.before.before.before.before.before.before.before.before.before.before.element-table.ensures c.before.before.before.before.before.before.before.join-elements.ensures c.before.before.mark-used.ensures (omega (arith, c.before.before.before.before.before.before.before.before.before.before.before.before.before.before.before.before.before.before.before.before.before.before.before.before.requires.used-long, c.before.before.before.before.before.before.before.join-elements.auto.1.1.1.0, c.before.before.mark-used.auto.1.1.1.0))
+returns c = pieces_told (kind_is c.before.before.before.before.before.before.before.before.before.before.before.before.before.before.before.before.before.before.before.before.before.before.before.before.args.kind) _ _ _ _ _ _ _ _ c.before.before.before.before.before.before.before.before.before.before.corners-per.ensures c.before.before.before.before.before.before.before.before.before.before.before.before.before.before.element-table.ensures c.before.before.before.before.before.before.before.join-elements.ensures c.before.before.mark-used.ensures (omega (arith, c.before.before.before.before.before.before.before.before.before.before.before.before.before.before.before.before.before.before.before.before.before.before.before.before.requires.used_long, c.before.before.before.before.before.before.before.join-elements.auto.1.1.1.0, c.before.before.mark-used.auto.1.1.1.0))
 
-pub find-pieces-spec : {M : Type 1} → statement M
-find-pieces-spec =
+pub find_pieces_spec : {M : Type 1} → statement M
+find_pieces_spec =
     tie.close
     (tie.spec
     slice-aggregate-element-table

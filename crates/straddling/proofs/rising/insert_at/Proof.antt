@@ -2,7 +2,7 @@
 use native.Mathlib.Omega.{arith}
 use lib.ListN.{length-set}
 use mathlib.Core.Path.{◌∙◌}
-use Rattle.straddling.proofs.PutLaws.{Moving, moving-start, moving-more, moving-done}
+use Rattle.straddling.proofs.PutLaws.{Moving, moving_start, moving_more, moving_done}
 use Rattle.straddling.proofs.rising.insert_at.Statement.{statement}
 use Rattle.straddling.proofs.rising.insert_at.Tie as tie
 
@@ -13,7 +13,7 @@ abbrev decreases-loop : tie.decreases-loop
 decreases-loop i at r list₀ q₀ list q = q
 
 loop-holds : tie.Need-loop-init invariant-loop decreases-loop
-loop-holds c = moving-start _ _ _ c.requires.0
+loop-holds c = moving_start _ _ _ c.requires.0
 
 sub-list : tie.Need-overflow-sub-list invariant-loop decreases-loop
 sub-list c = omega (arith, c.loop-test.true)
@@ -37,7 +37,7 @@ loop-less : tie.Need-loop-smaller invariant-loop decreases-loop
 loop-less c = omega (arith, c.before.loop-test.true)
 
 loop-again : tie.Need-loop-preserved invariant-loop decreases-loop
-loop-again c = moving-more _ _ _ _ _ c.before.before.loop.invariant c.before.before.before.requires.1 c.before.loop-test.true
+loop-again c = moving_more _ _ _ _ _ c.before.before.loop.invariant c.before.before.before.requires.1 c.before.loop-test.true
 
 mul-list-3 : tie.Need-overflow-mul-list-3 invariant-loop decreases-loop
 mul-list-3 c = omega (arith, c.before.before.requires.0, c.before.before.requires.1, c.before.before.well-formed)
@@ -49,10 +49,10 @@ same_length : tie.Need-same-length invariant-loop decreases-loop
 same_length c = length-set c.before.loop.list c.before.before.args.at c.before.before.args.i ∙ c.before.loop.invariant.long
 
 returns : tie.Need-returns invariant-loop decreases-loop
-returns c = moving-done _ _ _ _ _ c.before.loop.invariant c.before.before.requires.1 _ c.loop-test.false
+returns c = moving_done _ _ _ _ _ c.before.loop.invariant c.before.before.requires.1 _ c.loop-test.false
 
-pub insert-at-spec : {M : Type 1} → statement M
-insert-at-spec =
+pub insert_at_spec : {M : Type 1} → statement M
+insert_at_spec =
     tie.close
     (tie.spec
     invariant-loop

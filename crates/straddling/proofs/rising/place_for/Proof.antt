@@ -39,8 +39,8 @@ loop-again c = (omega (arith, c.before.before.before.loop.invariant.0), above_mo
 returns-2 : tie.Need-returns-2 invariant-loop decreases-loop
 returns-2 c = record { within = c.before.loop.invariant.0; above = c.before.loop.invariant.1; least = λ h. absurd (omega (arith, c.loop-test.false)) }
 
-pub place-for-spec : {M : Type 1} → statement M
-place-for-spec =
+pub place_for_spec : {M : Type 1} → statement M
+place_for_spec =
     tie.close
     (tie.spec
     invariant-loop

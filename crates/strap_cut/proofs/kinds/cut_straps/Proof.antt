@@ -37,8 +37,8 @@ same-length-8 c = c.before.before.before.before.before.before.before.before.befo
 returns : tie.Need-returns
 returns c = c.before.before.before.before.before.before.before.before.before.before.before.before.before.before.before.before.before.cut-segments.ensures
 
-pub cut-straps-spec : {M : Type 1} → statement M
-cut-straps-spec =
+pub cut_straps_spec : {M : Type 1} → statement M
+cut_straps_spec =
     tie.close
     (tie.spec
     slice-aggregate-cut-segments

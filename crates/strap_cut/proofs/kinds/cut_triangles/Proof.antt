@@ -1,6 +1,6 @@
 -- `strap_cut::kinds::cut_triangles` meets its contract: the cut is done in the tables that are here, that of the links built. Assumes nothing.
-use Rattle.links.proofs.Parts.{cleared-fresh}
-use Rattle.split.proofs.LinkLaws.{linkable-ready}
+use Rattle.links.proofs.Parts.{cleared_fresh}
+use Rattle.split.proofs.LinkLaws.{linkable_ready}
 use Rattle.model.specs.Elements.{Triangles}
 use native.Mathlib.Omega.{arith}
 use borrow.Author.Rules.{rules}
@@ -13,8 +13,8 @@ slice-aggregate-link-mesh c = search rules
 link-mesh-requires : tie.Need-link-mesh-requires
 link-mesh-requires c κs = let P = c.before.before.before.before.before.before.before.before.before.before.before.before.requires in (
   let A = c.before.before.before.before.before.before.before.before.before.before.before.before.args in
-      linkable-ready Triangles A.room A.k A.points.now A.roots.now A.corners.now A.volumes.now A.ends.now A.lengths.now A.outline.now A.log.now P.0 _ (omega arith),
-  cleared-fresh 14336,
+      linkable_ready Triangles A.room A.k A.points.now A.roots.now A.corners.now A.volumes.now A.ends.now A.lengths.now A.outline.now A.log.now P.0 _ (omega arith),
+  cleared_fresh 14336,
 )
 
 slice-aggregate-cut-facets : tie.Need-slice-aggregate-cut-facets
@@ -53,8 +53,8 @@ same-length-7 c = c.before.before.before.before.before.before.before.before.befo
 returns : tie.Need-returns
 returns c = c.before.before.before.before.before.before.before.before.before.before.before.before.before.before.before.before.before.cut-facets.ensures.0
 
-pub cut-triangles-spec : {M : Type 1} → statement M
-cut-triangles-spec =
+pub cut_triangles_spec : {M : Type 1} → statement M
+cut_triangles_spec =
     tie.close
     (tie.spec
     slice-aggregate-link-mesh

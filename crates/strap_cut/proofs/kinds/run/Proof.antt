@@ -1,7 +1,7 @@
 -- `strap_cut::kinds::run` meets its contract: each kind is cut by its own worker, and nothing is done to neither. Assumes nothing.
-use Rattle.strap_cut.proofs.KindLaws.{cut-triangles, cut-straps, cut-nothing}
+use Rattle.strap_cut.proofs.KindLaws.{cut_triangles, cut_straps, cut_nothing}
 use borrow.Author.Rules.{rules}
-use Rattle.mesh.specs.Log.{worldAt}
+use Rattle.mesh.specs.Log.{world_at}
 use Rattle.strap_cut.proofs.kinds.run.Statement.{statement}
 use Rattle.strap_cut.proofs.kinds.run.Tie as tie
 
@@ -43,7 +43,7 @@ same-length-7 c = c.before.before.before.before.before.before.before.before.befo
 
 returns : tie.Need-returns
 returns c = let A = c.before.before.before.before.before.before.before.before.before.before.before.before.before.before.before.before.before.before.before.before.before.before.before.before.before.before.before.before.before.before.before.before.before.args in
-    cut-triangles A.room A.rule A.b0 A.b1 A.f A.kind c.before.before.before.before.before.before.before.before.before.before.before.before.before.before.before.before.before.before.before.before.before.before.enum_told.given.1 c.before.before.before.before.before.before.before.before.before.before.before.before.before.before.cut-triangles.ensures
+    cut_triangles A.room A.rule A.b0 A.b1 A.f A.kind c.before.before.before.before.before.before.before.before.before.before.before.before.before.before.before.before.before.before.before.before.before.before.enum_told.given.1 c.before.before.before.before.before.before.before.before.before.before.before.before.before.before.cut-triangles.ensures
 
 same-length-8 : tie.Need-same-length-8
 same-length-8 c = c.before.before.before.before.before.before.before.before.before.before.before.before.before.before.before.before.cut-straps.auto.1.1.1.1.1.0
@@ -71,11 +71,11 @@ same-length-15 c = c.before.before.before.before.before.before.before.before.bef
 
 returns-2 : tie.Need-returns-2
 returns-2 c = let A = c.before.before.before.before.before.before.before.before.before.before.before.before.before.before.before.before.before.before.before.before.before.before.before.before.before.before.before.before.before.before.before.before.before.before.before.before.args in
-    cut-straps A.room A.rule A.b0 A.b1 A.f A.kind c.before.before.before.before.before.before.before.before.before.before.before.before.before.before.before.before.before.before.before.before.before.before.before.before.before.enum-told2.given.1 c.before.before.before.before.before.before.before.before.before.before.before.before.before.before.before.before.cut-straps.ensures
+    cut_straps A.room A.rule A.b0 A.b1 A.f A.kind c.before.before.before.before.before.before.before.before.before.before.before.before.before.before.before.before.before.before.before.before.before.before.before.before.before.enum-told2.given.1 c.before.before.before.before.before.before.before.before.before.before.before.before.before.before.before.before.cut-straps.ensures
 
 returns-3 : tie.Need-returns-3
 returns-3 c = let A = c.before.before.before.before.before.before.before.before.before.before.before.args in
-    cut-nothing A.room A.rule A.b0 A.b1 A.f A.kind (λ q. worldAt q A.points.now A.roots.now A.corners.now A.volumes.now A.ends.now A.lengths.now A.outline.now A.log.now) A.k c.enum-told3.given.1 c.before.before.before.before.before.before.before.before.before.before.before.requires.0.counts
+    cut_nothing A.room A.rule A.b0 A.b1 A.f A.kind (λ q. world_at q A.points.now A.roots.now A.corners.now A.volumes.now A.ends.now A.lengths.now A.outline.now A.log.now) A.k c.enum-told3.given.1 c.before.before.before.before.before.before.before.before.before.before.before.requires.0.counts
 
 pub run_spec : {M : Type 1} → statement M
 run_spec =

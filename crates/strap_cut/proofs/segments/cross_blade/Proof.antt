@@ -1,7 +1,7 @@
 -- `strap_cut::segments::cross_blade` meets its contract: the table of the edges is built, and the crossings are found in two tables that are here, and done in turn. Assumes nothing.
-use Rattle.crossing.proofs.CrossedLaws.{crossings-room}
-use Rattle.strap_cut.proofs.CrossedStart.{found_inside, table-room}
-use Rattle.links.proofs.Parts.{cleared-fresh, pairs-room, pairs-built}
+use Rattle.crossing.proofs.CrossedLaws.{crossings_room}
+use Rattle.strap_cut.proofs.CrossedStart.{found_inside, table_room}
+use Rattle.links.proofs.Parts.{cleared_fresh, pairs_room, pairs_built}
 use mathlib.Core.Path.{refl}
 use borrow.Author.Rules.{rules}
 use native.Mathlib.Omega.{arith}
@@ -13,7 +13,7 @@ slice-aggregate-build-links c = search rules
 
 build-links-requires : tie.Need-build-links-requires
 build-links-requires c κs = let A = c.before.before.before.before.before.before.before.before.before.before.args in let P = c.before.before.before.before.before.before.before.before.before.before.requires in
-    (pairs-room {w = 4} (omega arith) (table-room A.room A.k A.points.now A.roots.now A.ends.now A.lengths.now A.outline.now A.log.now _ _ P.0 _ (omega arith)), cleared-fresh 5120)
+    (pairs_room {w = 4} (omega arith) (table_room A.room A.k A.points.now A.roots.now A.ends.now A.lengths.now A.outline.now A.log.now _ _ P.0 _ (omega arith)), cleared_fresh 5120)
 
 slice-aggregate-find-crossings : tie.Need-slice-aggregate-find-crossings
 slice-aggregate-find-crossings c = search rules
@@ -23,7 +23,7 @@ slice-aggregate-find-crossings-2 c = search rules
 
 find-crossings-requires : tie.Need-find-crossings-requires
 find-crossings-requires c κs = let A = c.before.before.before.before.before.before.before.before.before.before.before.before.before.before.before.before.args in let P = c.before.before.before.before.before.before.before.before.before.before.before.before.before.before.before.before.requires in
-    crossings-room A.room A.k A.points.now A.roots.now A.ends.now A.lengths.now A.outline.now A.log.now _ _ P.0 _ _ (omega arith) (omega arith)
+    crossings_room A.room A.k A.points.now A.roots.now A.ends.now A.lengths.now A.outline.now A.log.now _ _ P.0 _ _ (omega arith) (omega arith)
 
 slice-aggregate-cross-all : tie.Need-slice-aggregate-cross-all
 slice-aggregate-cross-all c = search rules
@@ -39,7 +39,7 @@ cross-all-requires c κs = let A = c.before.before.before.before.before.before.b
     let P = c.before.before.before.before.before.before.before.before.before.before.before.before.before.before.before.before.before.before.before.before.before.before.before.before.before.before.before.before.before.before.requires in
     let Y = P.0.ready in
     let F = c.before.before.before.before.before.before.before.before.before.before.before.before.before.find-crossings in
-    (P.0, found_inside A.b0 A.b1 A.room A.k _ A.points.now A.roots.now P.0.corners P.0.volumes A.ends.now A.lengths.now A.outline.now A.log.now Y refl _ _ _ F.ensures P.1 (omega (arith, Y.counts.edges, Y.rooms.few-edges, F.auto.1.1.1.1.1.0)) (omega (arith, Y.counts.edges, Y.rooms.few-edges, F.auto.1.1.1.1.1.1.0)), pairs-built {w = 4} (table-room A.room A.k A.points.now A.roots.now A.ends.now A.lengths.now A.outline.now A.log.now _ _ P.0 _ (omega arith)) c.before.before.before.before.before.before.before.before.before.before.before.before.before.before.before.before.before.before.before.build-links.auto.1.1.1.1.1.1.0 c.before.before.before.before.before.before.before.before.before.before.before.before.before.before.before.before.before.before.before.build-links.ensures)
+    (P.0, found_inside A.b0 A.b1 A.room A.k _ A.points.now A.roots.now P.0.corners P.0.volumes A.ends.now A.lengths.now A.outline.now A.log.now Y refl _ _ _ F.ensures P.1 (omega (arith, Y.counts.edges, Y.rooms.few_edges, F.auto.1.1.1.1.1.0)) (omega (arith, Y.counts.edges, Y.rooms.few_edges, F.auto.1.1.1.1.1.1.0)), pairs_built {w = 4} (table_room A.room A.k A.points.now A.roots.now A.ends.now A.lengths.now A.outline.now A.log.now _ _ P.0 _ (omega arith)) c.before.before.before.before.before.before.before.before.before.before.before.before.before.before.before.before.before.before.before.build-links.auto.1.1.1.1.1.1.0 c.before.before.before.before.before.before.before.before.before.before.before.before.before.before.before.before.before.before.before.build-links.ensures)
 
 same_length : tie.Need-same-length
 same_length c = c.before.before.before.before.before.before.before.before.before.before.before.before.before.before.before.before.before.cross-all.auto.1.1.1.1.1.1.0
@@ -68,8 +68,8 @@ same-length-8 c = c.before.before.before.before.before.before.before.before.befo
 returns : tie.Need-returns
 returns c = record { many = _; numbers = _; ts = _; found = c.before.before.before.before.before.before.before.before.before.before.before.before.before.before.before.before.before.before.before.before.before.before.before.before.before.before.before.before.before.before.before.find-crossings.ensures; told = c.before.before.before.before.before.before.before.before.before.before.before.before.before.before.before.before.before.cross-all.ensures.0 }
 
-pub cross-blade-spec : {M : Type 1} → statement M
-cross-blade-spec =
+pub cross_blade_spec : {M : Type 1} → statement M
+cross_blade_spec =
     tie.close
     (tie.spec
     slice-aggregate-build-links

@@ -1,8 +1,8 @@
 -- `tear::edge::pair_met` meets its contract: the table of all elements, then the pair that the log and it tell of. Assumes nothing.
 use native.Mathlib.Omega.{arith}
 use borrow.Author.Rules.{rules}
-use Rattle.elements.specs.Table.{kindIs}
-use Rattle.tear.proofs.PairLaws.{pair-room, met-told}
+use Rattle.elements.specs.Table.{kind_is}
+use Rattle.tear.proofs.PairLaws.{pair_room, met_told}
 use Rattle.tear.proofs.edge.pair_met.Statement.{statement}
 use Rattle.tear.proofs.edge.pair_met.Tie as tie
 
@@ -27,14 +27,14 @@ slice-aggregate-family-pair c = search rules
 
 family-pair-requires : tie.Need-family-pair-requires
 family-pair-requires c κs = let P = c.before.before.before.before.before.before.before.before.before.before.before.before.before.before.before.before.before.requires in let A = c.before.before.before.before.before.before.before.before.before.before.before.before.before.before.before.before.before.args in let T = c.before.before.before.before.before.element-table in
-    pair-room (kindIs A.kind) A.k A.points.now A.roots.now A.corners.now A.volumes.now A.ends.now A.lengths.now A.outline.now A.log.now P.0 _ _ _ _ _ T.ensures c.before.corners-per.ensures (omega (arith, T.auto.1.1.1.1.1.1.1.1.0))
+    pair_room (kind_is A.kind) A.k A.points.now A.roots.now A.corners.now A.volumes.now A.ends.now A.lengths.now A.outline.now A.log.now P.0 _ _ _ _ _ T.ensures c.before.corners-per.ensures (omega (arith, T.auto.1.1.1.1.1.1.1.1.0))
 
 returns : tie.Need-returns
 returns c = let P = c.before.before.before.before.before.before.before.before.before.before.before.before.before.before.before.before.before.before.requires in let A = c.before.before.before.before.before.before.before.before.before.before.before.before.before.before.before.before.before.before.args in let T = c.before.before.before.before.before.before.element-table in
-    met-told (kindIs A.kind) A.k A.points.now A.roots.now A.corners.now A.volumes.now A.ends.now A.lengths.now A.outline.now A.log.now P.0 _ _ _ _ _ T.ensures c.before.before.corners-per.ensures A.in-element A.a A.b _ c.family-pair.ensures
+    met_told (kind_is A.kind) A.k A.points.now A.roots.now A.corners.now A.volumes.now A.ends.now A.lengths.now A.outline.now A.log.now P.0 _ _ _ _ _ T.ensures c.before.before.corners-per.ensures A.in-element A.a A.b _ c.family-pair.ensures
 
-pub pair-met-spec : {M : Type 1} → statement M
-pair-met-spec =
+pub pair_met_spec : {M : Type 1} → statement M
+pair_met_spec =
     tie.close
     (tie.spec
     slice-aggregate-element-table

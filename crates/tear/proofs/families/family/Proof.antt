@@ -4,7 +4,7 @@ use lib.ListN.{length, length-set, set}
 use native.Mathlib.Omega.{arith}
 use mathlib.Core.Logic.{⊎_elim}
 use lib.Seq.{length-take-le}
-use Rattle.tear.proofs.FamilyLaws.{Gathering, gathering-again, gathering-in, gathering-out, gathering-done}
+use Rattle.tear.proofs.FamilyLaws.{Gathering, gathering_again, gathering_in, gathering_out, gathering_done}
 use borrow.Author.Rules.{rules}
 use Rattle.tear.proofs.families.family.Statement.{statement}
 use Rattle.tear.proofs.families.family.Tie as tie
@@ -19,7 +19,7 @@ slice-write-found : tie.Need-slice-write-found invariant-loop decreases-loop
 slice-write-found c = omega (arith, c.before.before.requires.room)
 
 loop-holds : tie.Need-loop-init invariant-loop decreases-loop
-loop-holds c = let A = c.before.before.args in gathering-again A.a A.l A.log.now A.found.now (omega (arith, c.before.before.requires.room))
+loop-holds c = let A = c.before.before.args in gathering_again A.a A.l A.log.now A.found.now (omega (arith, c.before.before.requires.room))
 
 slice-reshare-prefix-has-source : tie.Need-slice-reshare-prefix-has-source invariant-loop decreases-loop
 slice-reshare-prefix-has-source c = omega (arith, c.before.loop.invariant.few, c.before.loop.invariant.long, length-set c.before.before.before.before.args.found.now 0 c.before.before.before.before.args.a, c.before.before.before.before.requires.room, c.loop-test.true)
@@ -64,18 +64,18 @@ loop-again : tie.Need-loop-preserved invariant-loop decreases-loop
 loop-again c = let A = c.before.before.before.before.before.before.before.args in
     let room : A.l + 1 ≤ length (set A.found.now 0 A.a) = omega (arith, c.before.before.before.before.before.before.before.requires.room, length-set A.found.now 0 A.a) in
     ⊎_elim
-    (λ w. gathering-in _ _ _ _ _ _ _ c.before.before.before.before.loop.invariant c.before.before.before.loop-test.true room _ c.before.has-source.ensures w.0.taken _ _ w.2 w.3)
-    (λ w. gathering-out _ _ _ _ _ _ _ c.before.before.before.before.loop.invariant c.before.before.before.loop-test.true _ c.before.has-source.ensures w.0.left _ _ w.1 w.2)
+    (λ w. gathering_in _ _ _ _ _ _ _ c.before.before.before.before.loop.invariant c.before.before.before.loop-test.true room _ c.before.has-source.ensures w.0.taken _ _ w.2 w.3)
+    (λ w. gathering_out _ _ _ _ _ _ _ c.before.before.before.before.loop.invariant c.before.before.before.loop-test.true _ c.before.has-source.ensures w.0.left _ _ w.1 w.2)
     c.if1.branch
 
 same_length : tie.Need-same-length invariant-loop decreases-loop
 same_length c = c.before.loop.invariant.long ∙ length-set c.before.before.before.before.args.found.now 0 c.before.before.before.before.args.a
 
 returns : tie.Need-returns invariant-loop decreases-loop
-returns c = gathering-done _ _ _ _ _ _ _ c.before.loop.invariant (search rules)
+returns c = gathering_done _ _ _ _ _ _ _ c.before.loop.invariant (search rules)
 
-pub family-spec : {M : Type 1} → statement M
-family-spec =
+pub family_spec : {M : Type 1} → statement M
+family_spec =
     tie.close
     (tie.spec
     invariant-loop

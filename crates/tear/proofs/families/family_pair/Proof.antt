@@ -2,7 +2,7 @@
 use mathlib.Core.Path.{sym}
 use lib.Seq.{length-take-le}
 use native.Mathlib.Omega.{arith}
-use Rattle.tear.proofs.FamilyLaws.{families-met}
+use Rattle.tear.proofs.FamilyLaws.{families_met}
 use borrow.Author.Rules.{rules}
 use Rattle.tear.proofs.families.family_pair.Statement.{statement}
 use Rattle.tear.proofs.families.family_pair.Tie as tie
@@ -35,10 +35,10 @@ first-pair-requires : tie.Need-first-pair-requires
 first-pair-requires c κs = search rules
 
 returns : tie.Need-returns
-returns c = families-met _ _ _ _ _ _ _ _ _ _ _ _ _ c.before.before.before.before.before.before.before.family.ensures c.before.before.before.before.family2.ensures _ _ c.first-pair.ensures
+returns c = families_met _ _ _ _ _ _ _ _ _ _ _ _ _ c.before.before.before.before.before.before.before.family.ensures c.before.before.before.before.family2.ensures _ _ c.first-pair.ensures
 
-pub family-pair-spec : {M : Type 1} → statement M
-family-pair-spec =
+pub family_pair_spec : {M : Type 1} → statement M
+family_pair_spec =
     tie.close
     (tie.spec
     slice-aggregate-family

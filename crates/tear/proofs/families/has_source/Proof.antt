@@ -1,6 +1,6 @@
 use Prim.Native.Nat.{◌+◌, ◌*◌}
 use native.Mathlib.Omega.{arith}
-use Rattle.tear.proofs.FamilyLaws.{source_told, source-none}
+use Rattle.tear.proofs.FamilyLaws.{source_told, source_none}
 use borrow.Author.Rules.{rules}
 use Rattle.tear.proofs.families.has_source.Statement.{statement}
 use Rattle.tear.proofs.families.has_source.Tie as tie
@@ -33,10 +33,10 @@ returns : tie.Need-returns
 returns c = let A = c.before.before.before.before.before.before.args in source_told A.log.now A.i A.list.now _ c.before.before.if1.true c.stands-in.ensures
 
 returns-2 : tie.Need-returns-2
-returns-2 c = let A = c.before.before.before.before.args in source-none A.log.now A.i A.list.now c.if1.false
+returns-2 c = let A = c.before.before.before.before.args in source_none A.log.now A.i A.list.now c.if1.false
 
-pub has-source-spec : {M : Type 1} → statement M
-has-source-spec =
+pub has_source_spec : {M : Type 1} → statement M
+has_source_spec =
     tie.close
     (tie.spec
     mul-o

@@ -16,5 +16,5 @@ same-ends-requires-2 c κs = search rules
 returns-2 : tie.Need-returns-2
 returns-2 c = either_second _ _ _ _ c.before.before.same_ends.ensures c.before.if1.false c.same-ends2.ensures
 
-pub joins-spec : {M : Type 1} → statement M
-joins-spec = tie.close (tie.spec same-ends-requires returns same-ends-requires-2 returns-2)
+pub joins_spec : {M : Type 1} → statement M
+joins_spec = tie.close (tie.spec same-ends-requires returns same-ends-requires-2 returns-2)

@@ -9,5 +9,5 @@ returns c = let A = c.before.args in same_first A.x A.y A.a A.b c.if1.true
 returns-2 : tie.Need-returns-2
 returns-2 c = let A = c.before.args in same_none A.x A.y A.a A.b c.if1.false
 
-pub same-ends-spec : {M : Type 1} → statement M
-same-ends-spec = tie.close (tie.spec returns returns-2)
+pub same_ends_spec : {M : Type 1} → statement M
+same_ends_spec = tie.close (tie.spec returns returns-2)

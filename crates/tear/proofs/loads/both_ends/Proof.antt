@@ -17,5 +17,5 @@ returns c = both_true (sym c.before.before.is-end.ensures ∙ c.before.if1.true)
 returns-2 : tie.Need-returns-2
 returns-2 c = both_false _ (sym c.before.is-end.ensures ∙ c.if1.false)
 
-pub both-ends-spec : {M : Type 1} → statement M
-both-ends-spec = tie.close (tie.spec is-end-requires is-end-requires-2 returns returns-2)
+pub both_ends_spec : {M : Type 1} → statement M
+both_ends_spec = tie.close (tie.spec is-end-requires is-end-requires-2 returns returns-2)

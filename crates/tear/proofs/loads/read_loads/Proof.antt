@@ -10,7 +10,7 @@ linked-loads-requires : tie.Need-linked-loads-requires
 linked-loads-requires c κs = let P = c.before.before.before.before.before.before.before.before.before.before.before.before.before.before.before.before.before.requires in let K = c.before.before.before.before.before.before.before.link-sums.auto in (
   P.0,
   P.1,
-  record { heads-long = omega (arith, P.3.long, K.1.1.0); nexts-long = omega (arith, P.3.nexts, K.1.1.1.0); linked = c.before.before.before.before.before.before.before.link-sums.ensures },
+  record { heads_long = omega (arith, P.3.long, K.1.1.0); nexts_long = omega (arith, P.3.nexts, K.1.1.1.0); linked = c.before.before.before.before.before.before.before.link-sums.ensures },
   P.2,
 )
 
@@ -26,5 +26,5 @@ same-length-3 c = c.before.before.linked-loads.auto.1.1.1.1.1.1.1.1.0
 returns : tie.Need-returns
 returns c = c.before.before.linked-loads.ensures
 
-pub read-loads-spec : {M : Type 1} → statement M
-read-loads-spec = tie.close (tie.spec link-sums-requires linked-loads-requires same_length same-length-2 same-length-3 returns)
+pub read_loads_spec : {M : Type 1} → statement M
+read_loads_spec = tie.close (tie.spec link-sums-requires linked-loads-requires same_length same-length-2 same-length-3 returns)

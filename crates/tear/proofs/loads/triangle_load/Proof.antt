@@ -1,5 +1,5 @@
 -- `tear::loads::triangle_load` meets its contract: three pairs of corners, one behind the other. Assumes nothing.
-use Rattle.tear.proofs.LoadLaws.{apart-ab, apart-ac, apart-bc, triangle-loaded}
+use Rattle.tear.proofs.LoadLaws.{apart_ab, apart_ac, apart_bc, triangle_loaded}
 use borrow.Author.Rules.{rules}
 use Rattle.tear.proofs.loads.triangle_load.Statement.{statement}
 use Rattle.tear.proofs.loads.triangle_load.Tie as tie
@@ -41,19 +41,19 @@ shared-slice-read-own : tie.Need-shared-slice-read-own
 shared-slice-read-own c = search rules
 
 pair-load-requires : tie.Need-pair-load-requires
-pair-load-requires c κs = let P = c.before.before.before.before.before.before.before.before.before.before.requires in let A = c.before.before.before.before.before.before.before.before.before.before.args in (P.0.edges, P.1, apart-ab A.corners.now A.volumes.now A.i P.2)
+pair-load-requires c κs = let P = c.before.before.before.before.before.before.before.before.before.before.requires in let A = c.before.before.before.before.before.before.before.before.before.before.args in (P.0.edges, P.1, apart_ab A.corners.now A.volumes.now A.i P.2)
 
 pair-load-requires-2 : tie.Need-pair-load-requires-2
-pair-load-requires-2 c κs = let P = c.before.before.before.before.before.before.before.before.before.before.before.requires in let A = c.before.before.before.before.before.before.before.before.before.before.before.args in (P.0.edges, P.1, apart-ac A.corners.now A.volumes.now A.i P.2)
+pair-load-requires-2 c κs = let P = c.before.before.before.before.before.before.before.before.before.before.before.requires in let A = c.before.before.before.before.before.before.before.before.before.before.before.args in (P.0.edges, P.1, apart_ac A.corners.now A.volumes.now A.i P.2)
 
 pair-load-requires-3 : tie.Need-pair-load-requires-3
-pair-load-requires-3 c κs = let P = c.before.before.before.before.before.before.before.before.before.before.before.before.requires in let A = c.before.before.before.before.before.before.before.before.before.before.before.before.args in (P.0.edges, P.1, apart-bc A.corners.now A.volumes.now A.i P.2)
+pair-load-requires-3 c κs = let P = c.before.before.before.before.before.before.before.before.before.before.before.before.requires in let A = c.before.before.before.before.before.before.before.before.before.before.before.before.args in (P.0.edges, P.1, apart_bc A.corners.now A.volumes.now A.i P.2)
 
 returns : tie.Need-returns
-returns c = triangle-loaded _ _ _ _ _ _ _ _ _ c.before.before.pair-load.ensures c.before.pair-load2.ensures c.pair-load3.ensures
+returns c = triangle_loaded _ _ _ _ _ _ _ _ _ c.before.before.pair-load.ensures c.before.pair-load2.ensures c.pair-load3.ensures
 
-pub triangle-load-spec : {M : Type 1} → statement M
-triangle-load-spec =
+pub triangle_load_spec : {M : Type 1} → statement M
+triangle_load_spec =
     tie.close
     (tie.spec
     mul-x

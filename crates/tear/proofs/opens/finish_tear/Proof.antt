@@ -34,8 +34,8 @@ same-length-3 c = search rules
 returns : tie.Need-returns
 returns c = search rules
 
-pub finish-tear-spec : {M : Type 1} → statement M
-finish-tear-spec =
+pub finish_tear_spec : {M : Type 1} → statement M
+finish_tear_spec =
     tie.close
     (tie.spec
     cast-note

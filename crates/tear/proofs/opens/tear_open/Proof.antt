@@ -1,11 +1,11 @@
 -- `tear::opens::tear_open` meets its contract: the step, and what is done behind it. Assumes nothing.
 use native.Mathlib.Omega.{arith}
 use mathlib.Core.Path.{◌∙◌}
-use Rattle.elements.specs.Table.{kindIs}
+use Rattle.elements.specs.Table.{kind_is}
 use borrow.Rule.Slice.PartMut.{same_len_mid}
-use Rattle.edge_drops.proofs.PartedLaws.{listing-done}
-use Rattle.split.proofs.LinkLaws.{linked-refused, parted-done, close-lent, close-back}
-use Rattle.tear.proofs.TornLaws.{closed-step, tear-room, tear-told, tear-refused, linked-told}
+use Rattle.edge_drops.proofs.PartedLaws.{listing_done}
+use Rattle.split.proofs.LinkLaws.{linked_refused, parted_done, close_lent, close_back}
+use Rattle.tear.proofs.TornLaws.{closed_step, tear_room, tear_told, tear_refused, linked_told}
 use borrow.Author.Rules.{rules}
 use Rattle.tear.proofs.opens.tear_open.Statement.{statement}
 use Rattle.tear.proofs.opens.tear_open.Tie as tie
@@ -48,7 +48,7 @@ same-length-9 c = c.before.before.before.before.before.before.before.before.befo
 
 returns : tie.Need-returns
 returns c = let P = c.before.before.before.before.before.before.before.before.before.before.before.before.before.before.before.before.before.before.before.before.before.before.before.before.before.before.before.before.before.before.before.before.before.before.before.before.before.before.before.before.before.before.before.before.requires in let A = c.before.before.before.before.before.before.before.before.before.before.before.before.before.before.before.before.before.before.before.before.before.before.before.before.before.before.before.before.before.before.before.before.before.before.before.before.before.before.before.before.before.before.before.before.args in let S = c.before.before.before.before.before.before.before.before.before.before.before.before.before.before.before.before.before.before.before.before.split-opened in
-    (tear-refused (kindIs A.kind) A.room A.k A.points.now A.roots.now A.corners.now A.volumes.now A.ends.now A.lengths.now A.outline.now A.log.now P.0 P.1 A.w A.x A.y A.a A.b P.2 _ _ _ _ _ _ _ _ _ _ S.ensures.0 c.enum_told.given.1, linked-refused (kindIs A.kind) S.new.1.1.1.1.1.1.1.1.1.1.1.1.1.0 S.new.1.1.1.1.1.1.1.1.1.1.1.1.1.1.1.0 S.new.1.1.1.1.1.1.1.1.1.1.1.1.1.1.1.1.1.0 S.new.1.1.1.1.1.1.1.1.1.1.1.1.1.1.1.1.1.1.1.1.0 _ _ c.enum_told.given.1)
+    (tear_refused (kind_is A.kind) A.room A.k A.points.now A.roots.now A.corners.now A.volumes.now A.ends.now A.lengths.now A.outline.now A.log.now P.0 P.1 A.w A.x A.y A.a A.b P.2 _ _ _ _ _ _ _ _ _ _ S.ensures.0 c.enum_told.given.1, linked_refused (kind_is A.kind) S.new.1.1.1.1.1.1.1.1.1.1.1.1.1.0 S.new.1.1.1.1.1.1.1.1.1.1.1.1.1.1.1.0 S.new.1.1.1.1.1.1.1.1.1.1.1.1.1.1.1.1.1.0 S.new.1.1.1.1.1.1.1.1.1.1.1.1.1.1.1.1.1.1.1.1.0 _ _ c.enum_told.given.1)
 
 sub-close : tie.Need-overflow-sub-close
 sub-close c = omega (arith, c.before.before.before.before.before.before.before.before.before.before.before.before.before.before.before.before.before.before.before.before.before.before.before.before.before.before.before.before.before.before.before.before.before.before.before.before.before.before.before.before.before.before.before.before.before.before.before.before.requires.4.long, c.before.before.before.before.before.before.before.before.before.before.before.before.before.before.before.before.before.before.before.before.before.before.before.before.split-opened.auto.1.1.1.1.1.1.1.1.1.1.1.1.1.1.1.1.1.1.1.1.0)
@@ -60,11 +60,11 @@ part-close-end : tie.Need-slice-bounds-close-end
 part-close-end c = omega (arith, c.before.before.before.before.before.before.before.before.before.before.before.before.before.before.before.before.before.before.before.before.before.before.before.before.before.before.before.before.before.before.before.before.before.before.before.before.before.before.before.before.before.before.before.before.before.before.before.before.requires.4.long, c.before.before.before.before.before.before.before.before.before.before.before.before.before.before.before.before.before.before.before.before.before.before.before.before.split-opened.auto.1.1.1.1.1.1.1.1.1.1.1.1.1.1.1.1.1.1.1.1.0)
 
 close-requires : tie.Need-close-requires
-close-requires c κs = let S = c.before.before.before.before.before.before.before.before.before.before.before.before.before.before.before.before.before.before.before.before.before.before.before.before.before.split-opened in (listing-done _ _ _ _ _ c.before.before.before.before.before.ran.given.1 S.ensures.1.0, close-lent (parted-done S.new.1.1.1.1.1.1.1.1.1.1.1.1.1.1.1.1.1.1.1.0 _ _ c.before.before.before.before.before.ran.given.1 S.ensures.1.1))
+close-requires c κs = let S = c.before.before.before.before.before.before.before.before.before.before.before.before.before.before.before.before.before.before.before.before.before.before.before.before.before.split-opened in (listing_done _ _ _ _ _ c.before.before.before.before.before.ran.given.1 S.ensures.1.0, close_lent (parted_done S.new.1.1.1.1.1.1.1.1.1.1.1.1.1.1.1.1.1.1.1.0 _ _ c.before.before.before.before.before.ran.given.1 S.ensures.1.1))
 
 finish-tear-requires : tie.Need-finish-tear-requires
-finish-tear-requires c κs = let P = c.before.before.before.before.before.before.before.before.before.before.before.before.before.before.before.before.before.before.before.before.before.before.before.before.before.before.before.before.before.before.before.before.before.before.before.before.before.before.before.before.before.before.before.before.before.before.before.before.before.before.before.before.before.before.before.before.before.before.before.before.requires in let A = c.before.before.before.before.before.before.before.before.before.before.before.before.before.before.before.before.before.before.before.before.before.before.before.before.before.before.before.before.before.before.before.before.before.before.before.before.before.before.before.before.before.before.before.before.before.before.before.before.before.before.before.before.before.before.before.before.before.before.before.before.args in let S = c.before.before.before.before.before.before.before.before.before.before.before.before.before.before.before.before.before.before.before.before.before.before.before.before.before.before.before.before.before.before.before.before.before.before.before.before.split-opened in let C = c.before.before.before.before.before.before.before.before.before.before.close in let T = closed-step (kindIs A.kind) A.room A.k A.points.now A.roots.now A.corners.now A.volumes.now A.ends.now A.lengths.now A.outline.now A.log.now P.0 P.1 A.w A.x A.y A.a A.b P.2 _ _ _ _ _ _ _ _ _ _ _ _ c.before.before.before.before.before.before.before.before.before.before.before.before.before.before.before.before.ran.given.1 C.ensures.0 S.ensures.0 in
-    tear-room (kindIs A.kind) A.room A.k A.points.now A.roots.now A.corners.now A.volumes.now A.ends.now A.lengths.now A.outline.now A.log.now P.0 P.1 A.w A.x A.y A.a A.b P.2 _ _ _ _ _ _ _ _ T S.auto.1.1.1.1.1.1.1.1.1.1.1.1.0 (C.auto.1.1.0 ∙ S.auto.1.1.1.1.1.1.1.1.1.1.1.1.1.1.1.0) (C.auto.1.1.1.0 ∙ S.auto.1.1.1.1.1.1.1.1.1.1.1.1.1.1.1.1.0) S.auto.1.1.1.1.1.1.1.1.1.1.1.1.1.1.1.1.1.1.0
+finish-tear-requires c κs = let P = c.before.before.before.before.before.before.before.before.before.before.before.before.before.before.before.before.before.before.before.before.before.before.before.before.before.before.before.before.before.before.before.before.before.before.before.before.before.before.before.before.before.before.before.before.before.before.before.before.before.before.before.before.before.before.before.before.before.before.before.before.requires in let A = c.before.before.before.before.before.before.before.before.before.before.before.before.before.before.before.before.before.before.before.before.before.before.before.before.before.before.before.before.before.before.before.before.before.before.before.before.before.before.before.before.before.before.before.before.before.before.before.before.before.before.before.before.before.before.before.before.before.before.before.before.args in let S = c.before.before.before.before.before.before.before.before.before.before.before.before.before.before.before.before.before.before.before.before.before.before.before.before.before.before.before.before.before.before.before.before.before.before.before.before.split-opened in let C = c.before.before.before.before.before.before.before.before.before.before.close in let T = closed_step (kind_is A.kind) A.room A.k A.points.now A.roots.now A.corners.now A.volumes.now A.ends.now A.lengths.now A.outline.now A.log.now P.0 P.1 A.w A.x A.y A.a A.b P.2 _ _ _ _ _ _ _ _ _ _ _ _ c.before.before.before.before.before.before.before.before.before.before.before.before.before.before.before.before.ran.given.1 C.ensures.0 S.ensures.0 in
+    tear_room (kind_is A.kind) A.room A.k A.points.now A.roots.now A.corners.now A.volumes.now A.ends.now A.lengths.now A.outline.now A.log.now P.0 P.1 A.w A.x A.y A.a A.b P.2 _ _ _ _ _ _ _ _ T S.auto.1.1.1.1.1.1.1.1.1.1.1.1.0 (C.auto.1.1.0 ∙ S.auto.1.1.1.1.1.1.1.1.1.1.1.1.1.1.1.0) (C.auto.1.1.1.0 ∙ S.auto.1.1.1.1.1.1.1.1.1.1.1.1.1.1.1.1.0) S.auto.1.1.1.1.1.1.1.1.1.1.1.1.1.1.1.1.1.1.0
 
 same-length-10 : tie.Need-same-length-10
 same-length-10 c = c.before.before.before.before.before.before.before.before.before.before.before.before.before.before.before.before.before.before.before.before.before.before.before.before.before.before.before.before.before.before.before.before.before.before.before.before.before.before.before.before.before.before.before.split-opened.auto.1.1.1.1.1.1.1.1.1.1.1.0
@@ -94,11 +94,11 @@ same-length-18 : tie.Need-same-length-18
 same-length-18 c = same_len_mid 4096 5120 c.before.before.before.before.before.before.before.before.before.before.before.before.before.before.before.before.before.before.before.before.before.before.before.before.before.before.before.before.before.before.before.before.before.before.before.before.before.before.before.before.before.before.before.split-opened.new.1.1.1.1.1.1.1.1.1.1.1.1.1.1.1.1.1.1.1.1.0 c.before.before.before.before.before.before.before.before.before.before.before.before.before.before.before.before.before.close.new.1.1.1.1.0 c.before.before.before.before.before.before.before.before.before.before.before.before.before.before.before.before.before.close.auto.1.1.1.1.0 ∙ c.before.before.before.before.before.before.before.before.before.before.before.before.before.before.before.before.before.before.before.before.before.before.before.before.before.before.before.before.before.before.before.before.before.before.before.before.before.before.before.before.before.before.before.split-opened.auto.1.1.1.1.1.1.1.1.1.1.1.1.1.1.1.1.1.1.1.1.0
 
 returns-2 : tie.Need-returns-2
-returns-2 c = let P = c.before.before.before.before.before.before.before.before.before.before.before.before.before.before.before.before.before.before.before.before.before.before.before.before.before.before.before.before.before.before.before.before.before.before.before.before.before.before.before.before.before.before.before.before.before.before.before.before.before.before.before.before.before.before.before.before.before.before.before.before.before.before.before.before.before.before.before.requires in let A = c.before.before.before.before.before.before.before.before.before.before.before.before.before.before.before.before.before.before.before.before.before.before.before.before.before.before.before.before.before.before.before.before.before.before.before.before.before.before.before.before.before.before.before.before.before.before.before.before.before.before.before.before.before.before.before.before.before.before.before.before.before.before.before.before.before.before.before.args in let S = c.before.before.before.before.before.before.before.before.before.before.before.before.before.before.before.before.before.before.before.before.before.before.before.before.before.before.before.before.before.before.before.before.before.before.before.before.before.before.before.before.before.before.before.split-opened in let C = c.before.before.before.before.before.before.before.before.before.before.before.before.before.before.before.before.before.close in let T = closed-step (kindIs A.kind) A.room A.k A.points.now A.roots.now A.corners.now A.volumes.now A.ends.now A.lengths.now A.outline.now A.log.now P.0 P.1 A.w A.x A.y A.a A.b P.2 _ _ _ _ _ _ _ _ _ _ _ _ c.before.before.before.before.before.before.before.before.before.before.before.before.before.before.before.before.before.before.before.before.before.before.before.ran.given.1 C.ensures.0 S.ensures.0 in
-    (tear-told (kindIs A.kind) A.room A.k A.points.now A.roots.now A.corners.now A.volumes.now A.ends.now A.lengths.now A.outline.now A.log.now P.0 P.1 A.w A.x A.y A.a A.b P.2 _ _ _ _ _ _ _ _ T _ _ _ _ c.before.before.before.before.before.before.finish-tear.ensures S.auto.1.1.1.1.1.1.1.1.1.1.1.1.0, linked-told (kindIs A.kind) _ _ _ _ _ _ c.before.before.before.before.before.before.finish-tear.ensures.counts (close-back _ (parted-done S.new.1.1.1.1.1.1.1.1.1.1.1.1.1.1.1.1.1.1.1.0 _ _ c.before.before.before.before.before.before.before.before.before.before.before.before.before.before.before.before.before.before.before.before.before.before.before.ran.given.1 S.ensures.1.1) C.auto.1.1.1.1.0 C.ensures.1))
+returns-2 c = let P = c.before.before.before.before.before.before.before.before.before.before.before.before.before.before.before.before.before.before.before.before.before.before.before.before.before.before.before.before.before.before.before.before.before.before.before.before.before.before.before.before.before.before.before.before.before.before.before.before.before.before.before.before.before.before.before.before.before.before.before.before.before.before.before.before.before.before.before.requires in let A = c.before.before.before.before.before.before.before.before.before.before.before.before.before.before.before.before.before.before.before.before.before.before.before.before.before.before.before.before.before.before.before.before.before.before.before.before.before.before.before.before.before.before.before.before.before.before.before.before.before.before.before.before.before.before.before.before.before.before.before.before.before.before.before.before.before.before.before.args in let S = c.before.before.before.before.before.before.before.before.before.before.before.before.before.before.before.before.before.before.before.before.before.before.before.before.before.before.before.before.before.before.before.before.before.before.before.before.before.before.before.before.before.before.before.split-opened in let C = c.before.before.before.before.before.before.before.before.before.before.before.before.before.before.before.before.before.close in let T = closed_step (kind_is A.kind) A.room A.k A.points.now A.roots.now A.corners.now A.volumes.now A.ends.now A.lengths.now A.outline.now A.log.now P.0 P.1 A.w A.x A.y A.a A.b P.2 _ _ _ _ _ _ _ _ _ _ _ _ c.before.before.before.before.before.before.before.before.before.before.before.before.before.before.before.before.before.before.before.before.before.before.before.ran.given.1 C.ensures.0 S.ensures.0 in
+    (tear_told (kind_is A.kind) A.room A.k A.points.now A.roots.now A.corners.now A.volumes.now A.ends.now A.lengths.now A.outline.now A.log.now P.0 P.1 A.w A.x A.y A.a A.b P.2 _ _ _ _ _ _ _ _ T _ _ _ _ c.before.before.before.before.before.before.finish-tear.ensures S.auto.1.1.1.1.1.1.1.1.1.1.1.1.0, linked_told (kind_is A.kind) _ _ _ _ _ _ c.before.before.before.before.before.before.finish-tear.ensures.counts (close_back _ (parted_done S.new.1.1.1.1.1.1.1.1.1.1.1.1.1.1.1.1.1.1.1.0 _ _ c.before.before.before.before.before.before.before.before.before.before.before.before.before.before.before.before.before.before.before.before.before.before.before.ran.given.1 S.ensures.1.1) C.auto.1.1.1.1.0 C.ensures.1))
 
-pub tear-open-spec : {M : Type 1} → statement M
-tear-open-spec =
+pub tear_open_spec : {M : Type 1} → statement M
+tear_open_spec =
     tie.close
     (tie.spec
     split-opened-requires

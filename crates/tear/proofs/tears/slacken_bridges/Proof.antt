@@ -4,7 +4,7 @@ use native.Mathlib.Omega.{arith}
 use mathlib.Core.Logic.{⊎_elim}
 use lib.ListN.{length-set}
 use lib.Ieee.{of_bits}
-use Rattle.tear.proofs.TearLaws.{Slackening, slackening-start, slackening-in, slackening-out, slackening-done}
+use Rattle.tear.proofs.TearLaws.{Slackening, slackening_start, slackening_in, slackening_out, slackening_done}
 use borrow.Author.Rules.{rules}
 use Rattle.tear.proofs.tears.slacken_bridges.Statement.{statement}
 use Rattle.tear.proofs.tears.slacken_bridges.Tie as tie
@@ -16,7 +16,7 @@ abbrev decreases-loop : tie.decreases-loop
 decreases-loop v before count other e ends lengths₀ c m i₀ lengths i = e - i
 
 loop-holds : tie.Need-loop-init invariant-loop decreases-loop
-loop-holds c = slackening-start _ _ _ _ _ _ _
+loop-holds c = slackening_start _ _ _ _ _ _ _
 
 mul-bridges : tie.Need-overflow-mul-bridges invariant-loop decreases-loop
 mul-bridges c = search rules
@@ -69,18 +69,18 @@ loop-less c = search rules
 loop-again : tie.Need-loop-preserved invariant-loop decreases-loop
 unfolding of_bits
 loop-again c = ⊎_elim
-    (λ w. slackening-in _ _ _ _ _ _ _ _ _ c.before.before.before.before.before.loop.invariant c.before.before.before.before.loop-test.true c.before.before.before.before.before.before.before.before.requires.lengths _ c.before.bridges.ensures w.0.taken _ w.1)
-    (λ w. slackening-out _ _ _ _ _ _ _ _ _ c.before.before.before.before.before.loop.invariant c.before.before.before.before.loop-test.true c.before.before.before.before.before.before.before.before.requires.lengths _ c.before.bridges.ensures w.0.left _ w.1)
+    (λ w. slackening_in _ _ _ _ _ _ _ _ _ c.before.before.before.before.before.loop.invariant c.before.before.before.before.loop-test.true c.before.before.before.before.before.before.before.before.requires.lengths _ c.before.bridges.ensures w.0.taken _ w.1)
+    (λ w. slackening_out _ _ _ _ _ _ _ _ _ c.before.before.before.before.before.loop.invariant c.before.before.before.before.loop-test.true c.before.before.before.before.before.before.before.before.requires.lengths _ c.before.bridges.ensures w.0.left _ w.1)
     c.if1.branch
 
 same_length : tie.Need-same-length invariant-loop decreases-loop
 same_length c = c.before.loop.invariant.long
 
 returns : tie.Need-returns invariant-loop decreases-loop
-returns c = slackening-done _ _ _ _ _ _ _ _ _ c.before.loop.invariant (search rules)
+returns c = slackening_done _ _ _ _ _ _ _ _ _ c.before.loop.invariant (search rules)
 
-pub slacken-bridges-spec : {M : Type 1} → statement M
-slacken-bridges-spec =
+pub slacken_bridges_spec : {M : Type 1} → statement M
+slacken_bridges_spec =
     tie.close
     (tie.spec
     invariant-loop

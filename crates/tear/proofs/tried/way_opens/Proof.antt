@@ -3,8 +3,8 @@ use native.Mathlib.Omega.{arith}
 use mathlib.Core.Path.{sym}
 use lib.Seq.{length-take-le}
 use borrow.Author.Rules.{rules}
-use Rattle.elements.specs.Table.{kindIs}
-use Rattle.tear.proofs.TriedLaws.{opens-lent, opens-told}
+use Rattle.elements.specs.Table.{kind_is}
+use Rattle.tear.proofs.TriedLaws.{opens_lent, opens_told}
 use Rattle.tear.proofs.tried.way_opens.Statement.{statement}
 use Rattle.tear.proofs.tried.way_opens.Tie as tie
 
@@ -35,17 +35,17 @@ slice-aggregate-opens-without-confetti-3 c = search rules
 
 opens-without-confetti-requires : tie.Need-opens-without-confetti-requires
 opens-without-confetti-requires c κs = let P = c.before.before.before.before.before.before.before.before.before.before.before.before.before.before.before.before.before.before.before.before.before.requires in let A = c.before.before.before.before.before.before.before.before.before.before.before.before.before.before.before.before.before.before.before.before.before.args in let T = c.before.before.before.before.before.before.before.before.element-table in
-    opens-lent (kindIs A.kind) A.k A.points.now A.roots.now A.corners.now A.volumes.now A.ends.now A.lengths.now A.outline.now A.v A.n _ _ _ _ _ A.groups.now P.0 P.1 T.ensures c.before.before.before.before.corners-per.ensures (omega (arith, T.auto.1.1.1.1.1.1.1.1.0)) _ _ (omega arith) P.2
+    opens_lent (kind_is A.kind) A.k A.points.now A.roots.now A.corners.now A.volumes.now A.ends.now A.lengths.now A.outline.now A.v A.n _ _ _ _ _ A.groups.now P.0 P.1 T.ensures c.before.before.before.before.corners-per.ensures (omega (arith, T.auto.1.1.1.1.1.1.1.1.0)) _ _ (omega arith) P.2
 
 same_length : tie.Need-same-length
 same_length c = c.before.before.before.opens-without-confetti.auto.1.1.1.1.1.1.1.1.0
 
 returns : tie.Need-returns
 returns c = let P = c.before.before.before.before.before.before.before.before.before.before.before.before.before.before.before.before.before.before.before.before.before.before.before.before.before.requires in let A = c.before.before.before.before.before.before.before.before.before.before.before.before.before.before.before.before.before.before.before.before.before.before.before.before.before.args in
-    opens-told (kindIs A.kind) A.k A.points.now A.roots.now A.corners.now A.volumes.now A.ends.now A.lengths.now A.outline.now A.v A.n _ _ _ _ _ A.groups.now P.0 P.1 c.before.before.before.before.before.before.before.before.before.before.before.before.element-table.ensures c.before.before.before.before.before.before.before.before.corners-per.ensures _ _ _ c.before.before.before.opens-without-confetti.ensures
+    opens_told (kind_is A.kind) A.k A.points.now A.roots.now A.corners.now A.volumes.now A.ends.now A.lengths.now A.outline.now A.v A.n _ _ _ _ _ A.groups.now P.0 P.1 c.before.before.before.before.before.before.before.before.before.before.before.before.element-table.ensures c.before.before.before.before.before.before.before.before.corners-per.ensures _ _ _ c.before.before.before.opens-without-confetti.ensures
 
-pub way-opens-spec : {M : Type 1} → statement M
-way-opens-spec =
+pub way_opens_spec : {M : Type 1} → statement M
+way_opens_spec =
     tie.close
     (tie.spec
     slice-aggregate-element-table

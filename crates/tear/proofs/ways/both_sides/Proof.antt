@@ -17,5 +17,5 @@ returns c = both_true (sym c.before.before.stands-in.ensures ∙ c.before.if1.tr
 returns-2 : tie.Need-returns-2
 returns-2 c = both_false _ (sym c.before.stands-in.ensures ∙ c.if1.false)
 
-pub both-sides-spec : {M : Type 1} → statement M
-both-sides-spec = tie.close (tie.spec stands-in-requires stands-in-requires-2 returns returns-2)
+pub both_sides_spec : {M : Type 1} → statement M
+both_sides_spec = tie.close (tie.spec stands-in-requires stands-in-requires-2 returns returns-2)

@@ -1,6 +1,6 @@
 -- `tear::ways::goes_first` meets its contract: by the order of the loads. Assumes nothing.
 use mathlib.Core.Path.{refl}
-use Rattle.tear.proofs.WayLaws.{first-told}
+use Rattle.tear.proofs.WayLaws.{first_told}
 use borrow.Author.Rules.{rules}
 use Rattle.tear.proofs.ways.goes_first.Statement.{statement}
 use Rattle.tear.proofs.ways.goes_first.Tie as tie
@@ -21,19 +21,19 @@ enum-told-4 : tie.Need-enum-told-4
 enum-told-4 c = search rules
 
 returns : tie.Need-returns
-returns c = first-told _ _ _ _ _ _ c.before.before.total_cmp.ensures c.enum_told.given.1 refl
+returns c = first_told _ _ _ _ _ _ c.before.before.total_cmp.ensures c.enum_told.given.1 refl
 
 returns-2 : tie.Need-returns-2
-returns-2 c = first-told _ _ _ _ _ _ c.before.before.total_cmp.ensures c.enum-told2.given.1 refl
+returns-2 c = first_told _ _ _ _ _ _ c.before.before.total_cmp.ensures c.enum-told2.given.1 refl
 
 returns-3 : tie.Need-returns-3
-returns-3 c = first-told _ _ _ _ _ _ c.before.before.total_cmp.ensures c.enum-told3.given.1 refl
+returns-3 c = first_told _ _ _ _ _ _ c.before.before.total_cmp.ensures c.enum-told3.given.1 refl
 
 returns-4 : tie.Need-returns-4
-returns-4 c = first-told _ _ _ _ _ _ c.before.before.total_cmp.ensures c.enum-told4.given.1 refl
+returns-4 c = first_told _ _ _ _ _ _ c.before.before.total_cmp.ensures c.enum-told4.given.1 refl
 
-pub goes-first-spec : {M : Type 1} → statement M
-goes-first-spec =
+pub goes_first_spec : {M : Type 1} → statement M
+goes_first_spec =
     tie.close
     (tie.spec
     total-cmp-requires

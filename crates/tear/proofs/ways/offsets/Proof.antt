@@ -2,7 +2,7 @@
 use Prim.Native.Nat.{◌-◌}
 use lib.ListN.{length}
 use lib.Ieee.{of_bits}
-use Rattle.tear.proofs.WayLaws.{Adding, adding-start, adding-more, adding-done}
+use Rattle.tear.proofs.WayLaws.{Adding, adding_start, adding_more, adding_done}
 use borrow.Author.Rules.{rules}
 use Rattle.tear.proofs.ways.offsets.Statement.{statement}
 use Rattle.tear.proofs.ways.offsets.Tie as tie
@@ -15,7 +15,7 @@ decreases-loop home row points s₀ i₀ s i = length row - i
 
 loop-holds : tie.Need-loop-init invariant-loop decreases-loop
 unfolding of_bits
-loop-holds c = adding-start _ _ _
+loop-holds c = adding_start _ _ _
 
 mul-w : tie.Need-overflow-mul-w invariant-loop decreases-loop
 mul-w c = search rules
@@ -39,13 +39,13 @@ loop-less : tie.Need-loop-smaller invariant-loop decreases-loop
 loop-less c = search rules
 
 loop-again : tie.Need-loop-preserved invariant-loop decreases-loop
-loop-again c = adding-more _ _ _ _ _ c.before.before.before.before.before.loop.invariant c.before.before.before.before.loop-test.true _ _ _ c.before.before.rest-point.ensures c.before.minus.ensures c.plus.ensures
+loop-again c = adding_more _ _ _ _ _ c.before.before.before.before.before.loop.invariant c.before.before.before.before.loop-test.true _ _ _ c.before.before.rest-point.ensures c.before.minus.ensures c.plus.ensures
 
 returns : tie.Need-returns invariant-loop decreases-loop
-returns c = adding-done _ _ _ _ _ c.before.loop.invariant (search rules)
+returns c = adding_done _ _ _ _ _ c.before.loop.invariant (search rules)
 
-pub offsets-spec : {M : Type 1} → statement M
-offsets-spec =
+pub offsets_spec : {M : Type 1} → statement M
+offsets_spec =
     tie.close
     (tie.spec
     invariant-loop

@@ -2,7 +2,7 @@
 use mathlib.Core.Path.{sym}
 use lib.Seq.{length-take-le}
 use lib.Ieee.{of_bits}
-use Rattle.tear.proofs.WayLaws.{two-both, two-pinned}
+use Rattle.tear.proofs.WayLaws.{two_both, two_pinned}
 use borrow.Author.Rules.{rules}
 use Rattle.tear.proofs.ways.two_sided.Statement.{statement}
 use Rattle.tear.proofs.ways.two_sided.Tie as tie
@@ -27,14 +27,14 @@ both-sides-requires c κs = search rules
 
 returns : tie.Need-returns
 unfolding of_bits
-returns c = two-both _ _ _ _ c.before.before.if1.true c.both-sides.ensures
+returns c = two_both _ _ _ _ c.before.before.if1.true c.both-sides.ensures
 
 returns-2 : tie.Need-returns-2
 unfolding of_bits
-returns-2 c = two-pinned _ _ _ c.if1.false
+returns-2 c = two_pinned _ _ _ c.if1.false
 
-pub two-sided-spec : {M : Type 1} → statement M
-two-sided-spec =
+pub two_sided_spec : {M : Type 1} → statement M
+two_sided_spec =
     tie.close
     (tie.spec
     mul-if1

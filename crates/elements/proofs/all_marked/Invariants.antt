@@ -1,0 +1,17 @@
+-- `elements::all_marked` meets its contract. The invariant: whether all of the rest are marked is whether all of the row are. Assumes nothing.
+use Prim.Native.Nat.{◌≤◌, ◌-◌}
+use native.Mathlib.Omega.{arith}
+use mathlib.Core.Path.{◌≡◌, refl, sym, ◌∙◌}
+use lib.ListN.{length, drop}
+use borrow.Author.Tests.{eq-eqb, ne_eqb}
+use Rattle.lists.specs.Lists.{all}
+use Rattle.elements.specs.Workers.{marked}
+use Rattle.elements.proofs.Measures.{all_on, all_stop, all_end}
+use Rattle.elements.proofs.all_marked.Given as goal
+
+-- `elements::all_marked` meets its contract. The invariant: whether all of the rest are marked is whether all of the row are. Assumes nothing.
+abbrev pub invariant-loop-i : goal.invariant-loop-i
+invariant-loop-i l = (l.i ≤ length l.row) × (all (marked l.marks) (drop l.i l.row) ≡ all (marked l.marks) l.row)
+
+abbrev pub decreases-loop-i : goal.decreases-loop-i
+decreases-loop-i l = length l.row - l.i

@@ -1,0 +1,19 @@
+-- `fan_groups::groups_by_side` meets its contract. The invariant: the places passed have their numbers. Assumes nothing.
+use borrow.Author.Rules.{rules}
+use native.Mathlib.Omega.{arith}
+use native.Mathlib.Nat.{mul-le-mul, le_of_lt}
+use mathlib.Core.Path.{◌≡◌, sym, ◌∙◌, ap}
+use mathlib.Core.Logic.{⊎_elim}
+use Prim.Native.Nat.{ℕ, ◌*◌, ◌<◌, ◌≤◌, ◌-◌}
+use lib.ListN.{length, get_or, length-set}
+use Rattle.lists.proofs.Stores.{stored, at_eq}
+use Rattle.fan_groups.proofs.BySides.{groups_on_low}
+use Rattle.fan_groups.proofs.groups_by_side.Given as goal
+
+-- `fan_groups::groups_by_side` meets its contract. The invariant: the places passed have their numbers. Assumes nothing.
+abbrev pub invariant-loop-i : goal.invariant-loop-i
+invariant-loop-i l =
+    (l.i ≤ length l.sides) × (length l.groups ≡ length l.sides) × ((a : ℕ) → a < l.i → get_or l.groups a 0 ≡ get_or l.sides a 0 * l.low)
+
+abbrev pub decreases-loop-i : goal.decreases-loop-i
+decreases-loop-i l = length l.sides - l.i

@@ -1,0 +1,20 @@
+-- `fan_reach::reach_linked` meets its contract. The invariant: the elements that share a particle at a place of a before p have been looked at. Assumes nothing.
+use Rattle.fan_reach.proofs.Touching.{touching_at, corners_start, corners_other, corners_own, corners_end}
+use Rattle.fan.proofs.Shared.{rows_end}
+use Rattle.fan_reach.specs.Corners.{Meets}
+use Rattle.fan_reach.specs.Spread.{Touching}
+use Rattle.fan.specs.Fan.{fan}
+use lib.ListN.{length}
+use Prim.Native.Nat.{◌*◌, ◌-◌, ◌≤◌}
+use mathlib.Core.Logic.{⊎_elim}
+use mathlib.Core.Path.{sym, ◌∙◌}
+use native.Mathlib.Omega.{arith}
+use borrow.Author.Rules.{rules}
+use Rattle.fan_reach.proofs.reach_linked.Given as goal
+
+-- `fan_reach::reach_linked` meets its contract. The invariant: the elements that share a particle at a place of a before p have been looked at. Assumes nothing.
+abbrev pub invariant-loop-p : goal.invariant-loop-p
+invariant-loop-p l = (l.p ≤ l.end) × Touching (fan l.verts l.k l.v l.needed l.sides) l.label l.a l.initial.table l.table (Meets (fan l.verts l.k l.v l.needed l.sides) (l.a * l.k) l.p)
+
+abbrev pub decreases-loop-p : goal.decreases-loop-p
+decreases-loop-p l = l.end - l.p

@@ -1,0 +1,7 @@
+-- `judge::faults::three` meets its contract: two, another one, and that the last two differ. Assumes nothing.
+use Rattle.std.proofs.Common.{arith, rules}
+use Rattle.judge.proofs.Fine.{three_fine, differ_fine}
+use Rattle.judge.proofs.faults.three.Goals as goal
+
+pub returns : goal.returns
+returns c = three_fine _ _ _ _ _ _ _ (omega (arith, c.requires)) c.two.ensures c.other.ensures (differ_fine _ _ _ c.differ.ensures)

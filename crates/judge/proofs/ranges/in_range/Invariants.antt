@@ -1,0 +1,14 @@
+-- `judge::ranges::in_range` meets its contract: it asks each number, and stops nowhere. Assumes nothing.
+use Rattle.std.proofs.Common.{◌≡◌, ◌-◌, ◌≤◌, arith, rules}
+use Rattle.judge.specs.Told.{column_ok}
+use Rattle.judge.proofs.Wide.{none_told, more_told, end_told}
+use lib.Ieee.{nan}
+use Rattle.float.specs.Ranges.{number?}
+use Rattle.judge.proofs.ranges.in_range.Given as goal
+
+-- `judge::ranges::in_range` meets its contract: it asks each number, and stops nowhere. Assumes nothing.
+abbrev pub invariant-loop-i : goal.invariant-loop-i
+invariant-loop-i l = (l.ok ≡ column_ok number? nan l.s l.at l.i) × (l.i ≤ l.n)
+
+abbrev pub decreases-loop-i : goal.decreases-loop-i
+decreases-loop-i l = l.n - l.i

@@ -1,0 +1,31 @@
+-- `judge::ranges::volumes` meets its contract: it asks each volume, and stops nowhere. Assumes nothing.
+use Rattle.std.proofs.Common.{◌≡◌, ◌-◌, ◌≤◌, arith, rules}
+use Rattle.judge.specs.Told.{column_ok}
+use Rattle.judge.proofs.Wide.{none_told, more_told, end_told}
+use lib.Ieee.{nan}
+use Rattle.float.specs.Ranges.{volume?}
+use Rattle.judge.proofs.ranges.volumes.Goals as goal
+
+pub loop-i-init : goal.loop-i-init
+loop-i-init c = (none_told _, omega arith)
+
+pub overflow_add-at : goal.overflow_add-at
+overflow_add-at c = omega arith
+
+pub offset_bounds-s-at : goal.offset_bounds-s-at
+offset_bounds-s-at c = omega arith
+
+pub bounds-s-at : goal.bounds-s-at
+bounds-s-at c = omega arith
+
+pub overflow_add-i : goal.overflow_add-i
+overflow_add-i c = omega arith
+
+pub loop-i-smaller : goal.loop-i-smaller
+loop-i-smaller c = omega arith
+
+pub loop-i-preserved : goal.loop-i-preserved
+loop-i-preserved c = (more_told _ _ _ _ _ c.both-ok.ensures c.loop-i.invariant.0 c.volume_in_range.ensures, omega arith)
+
+pub returns : goal.returns
+returns c = end_told _ _ _ _ c.loop-i.invariant.0 c.loop-i.invariant.1 c.loop-i-test.false

@@ -1,0 +1,44 @@
+-- `link_changes::raise` meets its contract: it moves a place a turn, by the laws of crate columns. Assumes nothing.
+use Prim.Native.Nat.{◌+◌, ◌-◌, ◌≤◌}
+use native.Mathlib.Omega.{arith}
+use Rattle.columns.proofs.Blocks.{Shifting, shift_start, shift_more, shift_done}
+use Rattle.link_changes.proofs.raise.Goals as goal
+
+pub loop-i-init : goal.loop-i-init
+loop-i-init c = (shift_start _ _ _ _, omega arith)
+
+pub overflow_add-table : goal.overflow_add-table
+overflow_add-table c = omega arith
+
+pub overflow_add-table-in-loop-i : goal.overflow_add-table-in-loop-i
+overflow_add-table-in-loop-i c = omega arith
+
+pub offset_bounds-table-to : goal.offset_bounds-table-to
+offset_bounds-table-to c = omega arith
+
+pub bounds-table-to : goal.bounds-table-to
+bounds-table-to c = omega (arith, c.loop-i.invariant.0.long)
+
+pub overflow_add-table-in-loop-i-2 : goal.overflow_add-table-in-loop-i-2
+overflow_add-table-in-loop-i-2 c = omega arith
+
+pub offset_bounds-table-to-in-loop-i : goal.offset_bounds-table-to-in-loop-i
+offset_bounds-table-to-in-loop-i c = omega arith
+
+pub bounds-table-to-in-loop-i : goal.bounds-table-to-in-loop-i
+bounds-table-to-in-loop-i c = omega (arith, c.loop-i.invariant.0.long)
+
+pub overflow_add-i : goal.overflow_add-i
+overflow_add-i c = omega arith
+
+pub loop-i-smaller : goal.loop-i-smaller
+loop-i-smaller c = omega arith
+
+pub loop-i-preserved : goal.loop-i-preserved
+loop-i-preserved c = (shift_more _ _ _ _ _ _ c.loop-i.invariant.0 (omega arith) (omega arith), omega arith)
+
+pub shape_of-table : goal.shape_of-table
+shape_of-table c = c.loop-i.invariant.0.long
+
+pub returns : goal.returns
+returns c = shift_done _ _ _ _ _ _ _ c.loop-i.invariant.0 (omega arith)

@@ -1,0 +1,13 @@
+-- `listing::clear_from` meets its contract: from a place within the bytes on every byte is 0. Assumes nothing.
+use Rattle.listing.proofs.Appending.{ClearingFrom, clear_start_from, clear_more_from, clear_done_from}
+use native.Mathlib.Omega.{arith}
+use lib.ListN.{length}
+use Prim.Native.Nat.{◌-◌}
+use Rattle.listing.proofs.clear_from.Given as goal
+
+-- `listing::clear_from` meets its contract: from a place within the bytes on every byte is 0. Assumes nothing.
+abbrev pub invariant-loop-i : goal.invariant-loop-i
+invariant-loop-i l = ClearingFrom l.from l.initial.out l.out l.i
+
+abbrev pub decreases-loop-i : goal.decreases-loop-i
+decreases-loop-i l = length l.initial.out - l.i

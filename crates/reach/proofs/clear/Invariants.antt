@@ -1,0 +1,17 @@
+-- `reach::clear` meets its contract. The invariant: the places below i are 0. Assumes nothing.
+use borrow.Author.Rules.{rules}
+use native.Mathlib.Omega.{arith}
+use mathlib.Core.Path.{◌≡◌, ◌∙◌, refl}
+use mathlib.Core.Logic.{⊎_elim}
+use Prim.Native.Nat.{ℕ, ◌<◌, ◌≤◌, ◌-◌}
+use native.Mathlib.Nat.{not-suc-le-zero}
+use lib.ListN.{length, get_or, length-set}
+use Rattle.lists.proofs.Stores.{stored}
+use Rattle.reach.proofs.clear.Given as goal
+
+-- `reach::clear` meets its contract. The invariant: the places below i are 0. Assumes nothing.
+abbrev pub invariant-loop-i : goal.invariant-loop-i
+invariant-loop-i l = (l.i ≤ l.n) × (l.n ≤ length l.seen) × (length l.seen ≡ length l.initial.seen) × ((a : ℕ) → a < l.i → get_or l.seen a 0 ≡ 0)
+
+abbrev pub decreases-loop-i : goal.decreases-loop-i
+decreases-loop-i l = l.n - l.i

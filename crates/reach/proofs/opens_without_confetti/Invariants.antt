@@ -1,0 +1,23 @@
+-- `reach::opens_without_confetti` meets its contract. The invariant: each group below g reaches the minimum. Assumes nothing.
+use borrow.Author.Rules.{rules}
+use borrow.Author.Count.{below_none, below_more}
+use borrow.Author.Tests.{not-true, not-false}
+use native.Mathlib.Omega.{arith}
+use mathlib.Core.Path.{◌≡◌, refl, sym, ◌∙◌}
+use mathlib.Core.Bool.{true}
+use Prim.Native.Nat.{ℕ, ◌<◌, ◌≤◌, ◌-◌}
+use lib.Dec.{leb}
+use lib.ListN.{length}
+use Rattle.reach.specs.Walk.{table_reach}
+use Rattle.reach.proofs.Opening.{group_tested, lent_at, opens_yes, opens_no}
+use mathlib.Core.Path.{ap}
+use mathlib.Core.Bool.{not}
+use Rattle.reach.proofs.opens_without_confetti.Given as goal
+
+-- `reach::opens_without_confetti` meets its contract. The invariant: each group below g reaches the minimum. Assumes nothing.
+abbrev pub invariant-loop-g : goal.invariant-loop-g
+invariant-loop-g l =
+    (l.g ≤ l.count) × (length l.seen ≡ length l.initial.seen) × (length l.queue ≡ length l.initial.queue) × ((h : ℕ) → h < l.g → leb l.least (table_reach l.n l.k l.v l.verts l.groups h) ≡ true)
+
+abbrev pub decreases-loop-g : goal.decreases-loop-g
+decreases-loop-g l = l.count - l.g

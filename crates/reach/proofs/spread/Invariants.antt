@@ -1,0 +1,19 @@
+-- `reach::spread` meets its contract. The invariant: what the rows below j ask for is done. Assumes nothing.
+use borrow.Author.Rules.{rules}
+use native.Mathlib.Omega.{arith}
+use mathlib.Core.Path.{◌≡◌, refl, sym, ◌∙◌, ap}
+use mathlib.Core.Logic.{⊎_elim, inl, inr}
+use Prim.Native.Nat.{◌<◌, ◌≤◌, ◌-◌}
+use borrow.Author.Tests.{eq-eqb, ne_eqb}
+use lib.ListN.{length, length-set}
+use Rattle.reach.specs.Walk.{touching, Spread}
+use Rattle.reach.proofs.Queues.{upto, queue_end, spread_start, spread_skip, spread_mark, spread_done, spread_at}
+use Rattle.reach.proofs.spread.Given as goal
+
+-- `reach::spread` meets its contract. The invariant: what the rows below j ask for is done. Assumes nothing.
+abbrev pub invariant-loop-j : goal.invariant-loop-j
+invariant-loop-j l =
+    (l.j ≤ l.n) × (length l.seen ≡ length l.initial.seen) × (length l.queue ≡ length l.initial.queue) × Spread l.n (upto (touching l.k l.v l.verts l.i) l.j) l.initial.seen l.initial.queue l.tail l.seen l.queue l.end
+
+abbrev pub decreases-loop-j : goal.decreases-loop-j
+decreases-loop-j l = l.n - l.j

@@ -1,0 +1,17 @@
+-- `split_plan::in_ring` meets its contract. The invariant: no row so far holds x. Assumes nothing.
+use mathlib.Core.Bool.{true, false≢true}
+use mathlib.Core.Path.{◌≡◌, sym, ◌∙◌}
+use Prim.Native.Nat.{ℕ, ◌-◌, ◌≤◌, ◌<◌}
+use native.Mathlib.Omega.{arith}
+use borrow.Author.Count.{below_more}
+use borrow.Author.Rules.{rules}
+use Rattle.lists.specs.Lists.{stands}
+use Rattle.split_plan.proofs.Rings.{row_of, ring_some, ring_empty, row_fits}
+use Rattle.split_plan.proofs.in_ring.Given as goal
+
+-- `split_plan::in_ring` meets its contract. The invariant: no row so far holds x. Assumes nothing.
+abbrev pub invariant-loop-i : goal.invariant-loop-i
+invariant-loop-i l = (l.i ≤ l.n) × ((j : ℕ) → j < l.i → stands l.x (row_of l.k l.verts j) ≡ true → ⊥)
+
+abbrev pub decreases-loop-i : goal.decreases-loop-i
+decreases-loop-i l = l.n - l.i
