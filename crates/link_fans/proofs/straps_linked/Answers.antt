@@ -8,7 +8,7 @@ use Rattle.columns.specs.Block.{cell}
 use Rattle.links.proofs.Walked.{still_left}
 use Rattle.link_fans.proofs.Fanned.{Fanning, straps_of, rows_two, fanning_start, fanning_within, fanning_few, fanning_link, fanning_less, strap_put, strap_full, strap_skip, straps_put}
 use Rattle.link_fans.proofs.straps_linked.Goals as goal
-use Rattle.link_fans.proofs.straps_linked.Goals.{else-ends-c-eq1, then-ends-c-eq1}
+use Rattle.link_fans.proofs.straps_linked.Goals.{else-ends-c-eq1, else-r-rows, then-ends-c-eq1, then-r-rows}
 
 pub least-requires : goal.least-requires
 least-requires c = tt
@@ -106,10 +106,8 @@ loop-at-smaller c = fanning_less _ _ _ _ _ _ _ _ _ _ _ _ _ c.loop-at.invariant c
 pub loop-at-preserved : goal.loop-at-preserved
 loop-at-preserved c = let I = c.loop-at.invariant in let R = rows_two _ _ _ _ _ c.least.ensures c.least-rows.ensures in let e = c.next_at-at.ensures.is _ c.requires.0.are in let l = c.loop-at-test.true in
     elim c.if-ends-c-eq1.branch [ then-ends-c-eq1 w ↦ rw (w.numbers-is, w.verts-is, w.measures-is, w.r-is)
-    (⊎_elim
-    (λ u. rw (u.4, u.5, u.6) (strap_put _ _ c.args.ends.now c.args.lengths.now _ _ _ _ _ _ _ _ I l _ e w.if-ends-c-eq1.true _ R u.0.taken))
-    (λ u. rw (u.1, u.2, u.3) (strap_full _ _ c.args.ends.now c.args.lengths.now _ _ _ _ _ _ _ _ I l _ e w.if-ends-c-eq1.true _ R (omega (arith, u.0.left))))
-    w.if-r-rows.came)
+    (elim w.if-r-rows.branch [ then-r-rows u ↦ rw (u.numbers-is, u.verts-is, u.measures-is) (strap_put _ _ c.args.ends.now c.args.lengths.now _ _ _ _ _ _ _ _ I l _ e w.if-ends-c-eq1.true _ R u.if-r-rows.true)
+    | else-r-rows u ↦ rw (u.numbers-is, u.verts-is, u.measures-is) (strap_full _ _ c.args.ends.now c.args.lengths.now _ _ _ _ _ _ _ _ I l _ e w.if-ends-c-eq1.true _ R (omega (arith, u.if-r-rows.false))) ])
     | else-ends-c-eq1 w ↦ rw (w.numbers-is, w.verts-is, w.measures-is, w.r-is) (strap_skip _ _ c.args.ends.now c.args.lengths.now _ _ _ _ _ _ _ _ I l _ e w.if-ends-c-eq1.false) ]
 
 pub shape_of-numbers : goal.shape_of-numbers

@@ -1,0 +1,30 @@
+-- `bodies::clear` meets its contract. Assumes nothing.
+use borrow.Author.Rules.{rules}
+use native.Mathlib.Omega.{arith}
+use mathlib.Core.Path.{◌≡◌, ◌∙◌, refl}
+use mathlib.Core.Logic.{⊎_elim}
+use Prim.Native.Nat.{ℕ, ◌<◌, ◌≤◌, ◌-◌}
+use native.Mathlib.Nat.{not-suc-le-zero}
+use lib.ListN.{length, get_or, length-set}
+use Rattle.lists.proofs.Stores.{stored}
+use Rattle.bodies.proofs.clear.Goals as goal
+
+pub loop-i-init : goal.loop-i-init
+loop-i-init c =
+    (search rules, refl, λ a l. absurd (not-suc-le-zero l))
+
+pub loop-i-smaller : goal.loop-i-smaller
+loop-i-smaller c =
+    simp length-set (omega arith)
+
+pub loop-i-preserved : goal.loop-i-preserved
+loop-i-preserved c =
+    let L = c.loop-i in (
+      simp length-set (omega arith),
+      length-set L.marks L.i 0 ∙ L.invariant.1,
+      λ a l. ⊎_elim (λ y. y.1) (λ y. y.1 ∙ L.invariant.2 a (omega arith)) (stored L.marks L.i 0 a (search rules)),
+    )
+
+pub returns : goal.returns
+returns c =
+    λ a l. c.loop-i.invariant.2 a (omega arith)
