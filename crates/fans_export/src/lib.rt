@@ -146,8 +146,8 @@ pub extern "C" fn fans_part(
     links: &mut [u16],
     counts: &mut [usize],
 ) -> usize
-    requires lent { (let K = kind_is Kind.Triangles in let k = record { particles = particles; triangles = triangles; edges = edges; boundary = boundary; log = entries } in
-        ReadyIn (record { particles = 1024; triangles = 1024; edges = 2048; boundary = 2048; log = 4096 }) k points roots corners volumes ends lengths outline log
+    requires lent { (let K = kind_is Kind.Triangles in let k : Counts = record { particles = particles; triangles = triangles; edges = edges; boundary = boundary; log = entries } in
+        let room : Rooms = record { particles = 1024; triangles = 1024; edges = 2048; boundary = 2048; log = 4096 } in ReadyIn room k points roots corners volumes ends lengths outline log
         × SidedIn K (mesh_in k points roots corners volumes ends lengths outline) v n numbers verts measures sides
         × (n ≤ length groups.old) × ListIn list × LinkedIn K k corners ends outline links) }
     requires told { 5 ≤ length counts.old }
