@@ -3,4 +3,4 @@ use Rattle.std.proofs.Common.{rules}
 use Rattle.judge.proofs.faults.differ.Goals as goal
 
 pub returns : goal.returns
-returns c = c.wrapping_add_usize.ensures
+returns c = c.wrapping_add_usize.ensures.value

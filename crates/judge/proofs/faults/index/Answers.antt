@@ -4,4 +4,4 @@ use Rattle.std.proofs.Common.{rules}
 use Rattle.judge.proofs.faults.index.Goals as goal
 
 pub returns : goal.returns
-returns c = index_fine _ _ _ _ c.requires c.wrapping_add_usize.ensures
+returns c = index_fine _ _ _ _ c.requires c.wrapping_add_usize.ensures.value

@@ -1,0 +1,15 @@
+-- `arguments::tests::rising` meets its contract. The invariant: the rest rises exactly where the list does. Assumes nothing.
+use Prim.Native.Nat.{◌≤◌, ◌-◌}
+use native.Mathlib.Omega.{arith}
+use mathlib.Core.Path.{◌≡◌, refl, sym, ◌∙◌}
+use lib.ListN.{length, drop}
+use Rattle.model.specs.Calls.{strictly}
+use Rattle.arguments.proofs.Rising.{strictly_on, strictly_stop, strictly_end}
+use Rattle.arguments.proofs.tests.rising.Given as goal
+
+-- `arguments::tests::rising` meets its contract. The invariant: the rest rises exactly where the list does. Assumes nothing.
+abbrev pub invariant-loop-i : goal.invariant-loop-i
+invariant-loop-i l = (l.i ≤ length l.list - 1) × (strictly (drop l.i l.list) ≡ strictly l.list)
+
+abbrev pub decreases-loop-i : goal.decreases-loop-i
+decreases-loop-i l = length l.list - l.i

@@ -1,0 +1,40 @@
+-- `call_frame::logged::changed` meets its contract: it asks the kind of each entry, and stops at the first that tells of a change. Assumes nothing.
+use Prim.Native.Nat.{◌≤◌, ◌-◌}
+use native.Mathlib.Omega.{arith}
+use mathlib.Core.Path.{◌≡◌, sym, ◌∙◌}
+use mathlib.Core.Bool.{false}
+use borrow.Author.Rules.{rules}
+use Rattle.lists.specs.Lists.{any, tab}
+use Rattle.columns.proofs.Rows.{any_none, any_more, any_stops, any_end}
+use Rattle.mesh.specs.Log.{Words, entry_row, log_at}
+use Rattle.call_frame.specs.Framed.{kind_changes_of}
+use Rattle.call_frame.proofs.logged.changed.Goals as goal
+
+pub loop-i-init : goal.loop-i-init
+loop-i-init c = (any_none _ _, omega arith)
+
+pub overflow_mul-i : goal.overflow_mul-i
+overflow_mul-i c = omega arith
+
+pub offset_bounds-log-i : goal.offset_bounds-log-i
+offset_bounds-log-i c = omega arith
+
+pub bounds-log-i : goal.bounds-log-i
+bounds-log-i c = omega arith
+
+pub returns-then-kind_changes : goal.returns-then-kind_changes
+unfolding log_at
+returns-then-kind_changes c = sym (any_stops _ _ _ _ c.loop-i-test.true (sym c.kind_changes.ensures ∙ c.if-kind_changes.true))
+
+pub overflow_add-i : goal.overflow_add-i
+overflow_add-i c = omega arith
+
+pub loop-i-smaller : goal.loop-i-smaller
+loop-i-smaller c = omega arith
+
+pub loop-i-preserved : goal.loop-i-preserved
+loop-i-preserved c = (any_more _ _ _ c.loop-i.invariant.0 (sym c.kind_changes.ensures ∙ c.if-kind_changes.false), omega arith)
+
+pub returns : goal.returns
+unfolding log_at
+returns c = any_end _ _ _ _ c.loop-i.invariant.0 c.loop-i.invariant.1 c.loop-i-test.false

@@ -1,0 +1,30 @@
+-- `crossing::unbent::count_marked` meets its contract: the loop is `CountTo` of proofs/UnbentLaws.antt. Assumes nothing.
+use Rattle.crossing.proofs.UnbentLaws.{CountTo, count_start, count_few, count_took, count_skipped, count_done}
+use mathlib.Core.Logic.{⊎_elim}
+use Prim.Native.Nat.{◌-◌}
+use native.Mathlib.Omega.{arith}
+use Rattle.crossing.proofs.unbent.count_marked.Goals as goal
+
+pub loop-i-init : goal.loop-i-init
+loop-i-init c = count_start _ _
+
+pub offset_bounds-marks-i : goal.offset_bounds-marks-i
+offset_bounds-marks-i c = omega (arith, c.loop-i-test.true, c.requires)
+
+pub bounds-marks-i : goal.bounds-marks-i
+bounds-marks-i c = omega (arith, c.loop-i-test.true, c.requires)
+
+pub overflow_add-count : goal.overflow_add-count
+overflow_add-count c = omega (arith, count_few c.loop-i.invariant, c.loop-i-test.true)
+
+pub overflow_add-i : goal.overflow_add-i
+overflow_add-i c = omega (arith, c.loop-i-test.true)
+
+pub loop-i-smaller : goal.loop-i-smaller
+loop-i-smaller c = omega (arith, c.loop-i-test.true)
+
+pub loop-i-preserved : goal.loop-i-preserved
+loop-i-preserved c = ?
+
+pub returns : goal.returns
+returns c = count_done c.loop-i.invariant c.loop-i-test.false

@@ -1,0 +1,44 @@
+-- `split::step::split_many` meets its contract: the fan of v in tables, split by the sides given for it. Assumes nothing.
+use native.Mathlib.Omega.{arith}
+use Rattle.elements.specs.Table.{kind_is}
+use Rattle.split.proofs.TabledLaws.{given_in, given_sided, sides_taken, sides_works}
+use Rattle.split.proofs.LinkLaws.{fan_ready}
+use borrow.Author.Rules.{rules}
+use Rattle.split.proofs.step.split_many.Goals as goal
+
+pub fan_tables-n-requires : goal.fan_tables-n-requires
+fan_tables-n-requires c = let P = c.requires in let A = c.args in fan_ready (kind_is A.kind) A.room A.k A.points.now A.roots.now A.corners.now A.volumes.now A.ends.now A.lengths.now A.outline.now A.log.now P.0 (given_in (kind_is A.kind) A.room A.k A.points.now A.roots.now A.corners.now A.volumes.now A.ends.now A.lengths.now A.outline.now A.log.now P.0 P.1) P.3
+
+pub split_tabled-requires : goal.split_tabled-requires
+split_tabled-requires c = let P = c.requires in let A = c.args in let F = c.fan_tables-n.ensures in
+    (P.0, given_sided (kind_is A.kind) A.room A.k A.points.now A.roots.now A.corners.now A.volumes.now A.ends.now A.lengths.now A.outline.now A.log.now P.0 F P.1 (omega (arith, F.few, c.fan_tables-n.auto.numbers)) (omega (arith, F.narrow, c.fan_tables-n.auto.verts)) (omega (arith, F.few, c.fan_tables-n.auto.measures)), omega (arith, F.few), P.2, P.3)
+
+pub shape_of-points : goal.shape_of-points
+shape_of-points c = c.split_tabled.auto.points
+
+pub shape_of-roots : goal.shape_of-roots
+shape_of-roots c = c.split_tabled.auto.roots
+
+pub shape_of-corners : goal.shape_of-corners
+shape_of-corners c = c.split_tabled.auto.corners
+
+pub shape_of-ends : goal.shape_of-ends
+shape_of-ends c = c.split_tabled.auto.ends
+
+pub shape_of-lengths : goal.shape_of-lengths
+shape_of-lengths c = c.split_tabled.auto.lengths
+
+pub shape_of-outline : goal.shape_of-outline
+shape_of-outline c = c.split_tabled.auto.outline
+
+pub shape_of-log : goal.shape_of-log
+shape_of-log c = c.split_tabled.auto.log
+
+pub shape_of-list : goal.shape_of-list
+shape_of-list c = c.split_tabled.auto.list
+
+pub shape_of-links : goal.shape_of-links
+shape_of-links c = c.split_tabled.auto.links
+
+pub returns : goal.returns
+returns c = let P = c.requires in let A = c.args in (sides_works (kind_is A.kind) A.v (sides_taken (kind_is A.kind) A.room A.k A.points.now A.roots.now A.corners.now A.volumes.now A.ends.now A.lengths.now A.outline.now A.log.now P.0 c.fan_tables-n.ensures P.1) c.split_tabled.ensures.0.0, c.split_tabled.ensures.0.1)
