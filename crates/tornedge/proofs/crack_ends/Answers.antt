@@ -42,7 +42,7 @@ returns-in-Tore c = let P = c.requires in let A = c.args in
 pub try_way-second-requires : goal.try_way-second-requires
 unfolding world_at
 try_way-second-requires c = let P = c.requires in let A = c.args in
-    (still_ready (kind_is A.kind) A.minimum A.v A.w (A.a, A.b) (A.x, A.y) A.room (world_at A.k A.points.now A.roots.now A.corners.now A.volumes.now A.ends.now A.lengths.now A.outline.now A.log.now) A.k _ _ c.in_default.is c.try_way-first.ensures.0 _ _ P.0 (lent_path _ _ c.try_way-first.auto.points c.try_way-first.auto.roots c.try_way-first.auto.corners refl c.try_way-first.auto.ends c.try_way-first.auto.lengths c.try_way-first.auto.outline c.try_way-first.auto.log), P.2, linked_shut (kind_is A.kind) A.k.triangles A.k.edges A.k.boundary _ _ _ _ _ c.in_default.is c.try_way-first.ensures.1)
+    (still_ready (kind_is A.kind) A.minimum A.v A.w (A.a, A.b) (A.x, A.y) A.room (world_at A.k A.points.now A.roots.now A.corners.now A.volumes.now A.ends.now A.lengths.now A.outline.now A.log.now) A.k (λ q. world_at q c.try_way-first.new.points c.try_way-first.new.roots c.try_way-first.new.corners A.volumes.now c.try_way-first.new.ends c.try_way-first.new.lengths c.try_way-first.new.outline c.try_way-first.new.log) _ c.in_default.is c.try_way-first.ensures.0 _ _ P.0 (lent_path _ _ c.try_way-first.auto.points c.try_way-first.auto.roots c.try_way-first.auto.corners refl c.try_way-first.auto.ends c.try_way-first.auto.lengths c.try_way-first.auto.outline c.try_way-first.auto.log), P.2, linked_shut (kind_is A.kind) A.k.triangles A.k.edges A.k.boundary _ _ _ _ _ c.in_default.is c.try_way-first.ensures.1)
 
 pub shape_of-points-in-Tore-second : goal.shape_of-points-in-Tore-second
 shape_of-points-in-Tore-second c = c.try_way-second.auto.points ∙ c.try_way-first.auto.points
@@ -70,7 +70,7 @@ shape_of-links-in-Tore-second c = c.try_way-second.auto.links ∙ c.try_way-firs
 
 pub returns-in-Tore-second : goal.returns-in-Tore-second
 returns-in-Tore-second c = let P = c.requires in let A = c.args in
-    (second_taken (kind_is A.kind) A.minimum A.v A.w (A.a, A.b) (A.x, A.y) A.room (world_at A.k A.points.now A.roots.now A.corners.now A.volumes.now A.ends.now A.lengths.now A.outline.now A.log.now) A.k _ _ c.in_default.is c.try_way-first.ensures.0 _ _ _ c.in-Tore-second.is c.try_way-second.ensures.0, linked_torn (kind_is A.kind) A.k.triangles A.k.edges A.k.boundary _ _ _ _ _ _ c.in-Tore-second.is c.try_way-second.ensures.1)
+    (second_taken (kind_is A.kind) A.minimum A.v A.w (A.a, A.b) (A.x, A.y) A.room (world_at A.k A.points.now A.roots.now A.corners.now A.volumes.now A.ends.now A.lengths.now A.outline.now A.log.now) A.k (λ q. world_at q c.try_way-first.new.points c.try_way-first.new.roots c.try_way-first.new.corners A.volumes.now c.try_way-first.new.ends c.try_way-first.new.lengths c.try_way-first.new.outline c.try_way-first.new.log) _ c.in_default.is c.try_way-first.ensures.0 _ _ _ c.in-Tore-second.is c.try_way-second.ensures.0, linked_torn (kind_is A.kind) A.k.triangles A.k.edges A.k.boundary _ _ _ _ _ _ c.in-Tore-second.is c.try_way-second.ensures.1)
 
 pub shape_of-points-in-Not : goal.shape_of-points-in-Not
 shape_of-points-in-Not c = c.try_way-second.auto.points ∙ c.try_way-first.auto.points
@@ -98,4 +98,4 @@ shape_of-links-in-Not c = c.try_way-second.auto.links ∙ c.try_way-first.auto.l
 
 pub returns-in-Not : goal.returns-in-Not
 returns-in-Not c = let P = c.requires in let A = c.args in
-    (none_taken (kind_is A.kind) A.minimum A.v A.w (A.a, A.b) (A.x, A.y) A.room (world_at A.k A.points.now A.roots.now A.corners.now A.volumes.now A.ends.now A.lengths.now A.outline.now A.log.now) A.k _ _ c.in_default.is c.try_way-first.ensures.0 _ _ c.in-Not.is c.try_way-second.ensures.0 P.0.counts, linked_shut (kind_is A.kind) A.k.triangles A.k.edges A.k.boundary _ _ _ _ _ c.in-Not.is c.try_way-second.ensures.1)
+    (none_taken (kind_is A.kind) A.minimum A.v A.w (A.a, A.b) (A.x, A.y) A.room (world_at A.k A.points.now A.roots.now A.corners.now A.volumes.now A.ends.now A.lengths.now A.outline.now A.log.now) A.k (λ q. world_at q c.try_way-first.new.points c.try_way-first.new.roots c.try_way-first.new.corners A.volumes.now c.try_way-first.new.ends c.try_way-first.new.lengths c.try_way-first.new.outline c.try_way-first.new.log) _ c.in_default.is c.try_way-first.ensures.0 _ _ c.in-Not.is c.try_way-second.ensures.0 P.0.counts, linked_shut (kind_is A.kind) A.k.triangles A.k.edges A.k.boundary _ _ _ _ _ c.in-Not.is c.try_way-second.ensures.1)

@@ -8,6 +8,7 @@ use Rattle.links.proofs.Walked.{still_left}
 use Rattle.insert.proofs.Walks.{Walk, walk_head, walk_start, walk_within, walk_row, walk_link, walk_here, walk_more, walk_less, walk_done}
 use Rattle.crossing.proofs.BendLaws.{linked_below, AtSeen, at_start, at_skip, at_taken, at_left, at_done}
 use Rattle.crossing.proofs.bends.mark_at.Goals as goal
+use Rattle.crossing.proofs.bends.mark_at.Goals.{else-bend, then-bend}
 
 pub first_at-at-requires : goal.first_at-at-requires
 first_at-at-requires c = walk_head c.requires.linked c.requires.here
@@ -36,7 +37,13 @@ pub loop-at-smaller : goal.loop-at-smaller
 loop-at-smaller c = walk_less c.requires.linked c.loop-at.invariant c.loop-at-test.true c.next_at-at.ensures
 
 pub loop-at-preserved : goal.loop-at-preserved
-loop-at-preserved c = ?
+loop-at-preserved c = let A = c.args in
+    let i = c.loop-at.at - 1 in
+    let h = walk_within c.requires.linked c.loop-at.invariant c.loop-at-test.true in
+    let S = walk_here c.requires.linked c.loop-at.invariant c.loop-at-test.true (λ j l n s. at_skip _ _ _ _ _ _ _ j s n) in
+    walk_more c.requires.linked c.loop-at.invariant c.loop-at-test.true c.next_at-at.ensures
+    (elim c.if-bend.branch [ then-bend w ↦ subst (λ (l : List ℕ). AtSeen A.x A.e A.ends.now A.first.now A.second.now A.marks.now l (suc i)) (sym w.marks-is) (at_taken _ _ _ _ _ _ _ _ S _ h (omega (arith, c.requires.marks_long, S.long)) c.bend.ensures w.if-bend.true)
+    | else-bend w ↦ subst (λ (l : List ℕ). AtSeen A.x A.e A.ends.now A.first.now A.second.now A.marks.now l (suc i)) (sym w.marks-is) (at_left _ _ _ _ _ _ _ _ S _ c.bend.ensures w.if-bend.false) ])
 
 pub shape_of-marks : goal.shape_of-marks
 shape_of-marks c = c.loop-at.invariant.so_far.long

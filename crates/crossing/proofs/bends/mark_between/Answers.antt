@@ -1,4 +1,6 @@
 -- `crossing::bends::mark_between` meets its contract: the bend edges at v are marked, then those at its neighbours along the first edges, at each edge that the walk comes to, if they were not walked before. Assumes nothing.
+use mathlib.Core.Bool.{not}
+use mathlib.Core.Path.{ap}
 use native.Mathlib.Omega.{arith}
 use borrow.Author.Rules.{rules}
 use mathlib.Core.Path.{◌∙◌}
@@ -7,6 +9,7 @@ use Rattle.links.proofs.Walked.{still_left}
 use Rattle.insert.proofs.Walks.{Walk, walk_head, walk_start, walk_within, walk_row, walk_link, walk_here, walk_more, walk_less, walk_done}
 use Rattle.crossing.proofs.BendLaws.{linked_below, SideSeen, side_start, side_skip, side_passed, side_more, side_done}
 use Rattle.crossing.proofs.bends.mark_between.Goals as goal
+use Rattle.crossing.proofs.bends.mark_between.Goals.{else-not-is_walked, then-not-is_walked}
 
 pub bounds-walked-v : goal.bounds-walked-v
 bounds-walked-v c = c.requires.0.here
@@ -37,7 +40,15 @@ pub loop-at-smaller : goal.loop-at-smaller
 loop-at-smaller c = walk_less c.requires.0.linked c.loop-at.invariant c.loop-at-test.true c.next_at-at.ensures
 
 pub loop-at-preserved : goal.loop-at-preserved
-loop-at-preserved c = ?
+loop-at-preserved c = let P = c.requires.0 in
+    let T = c.is_walked in
+    let N = c.neighbour-x.ensures in
+    let E = linked_below c.requires.0.linked in
+    let h = walk_within c.requires.0.linked c.loop-at.invariant c.loop-at-test.true in
+    let S = walk_here c.requires.0.linked c.loop-at.invariant c.loop-at-test.true (λ j l n s. side_skip _ _ _ _ _ _ _ _ _ j s n) in
+    walk_more c.requires.0.linked c.loop-at.invariant c.loop-at-test.true c.next_at-at.ensures
+    (elim c.if-not-is_walked.branch [ then-not-is_walked w ↦ side_more _ _ _ _ _ _ _ _ _ _ S _ N _ T.result T.ensures _ (ap not w.if-not-is_walked.true) T.auto.walked _ w.mark_at-then-not-is_walked.auto.marks w.mark_at-then-not-is_walked.ensures w.marks-is
+    | else-not-is_walked w ↦ side_passed _ _ _ _ _ _ _ _ _ _ S _ N _ T.result T.ensures _ (N.below _ c.requires.0.here (E.first _ h) (E.second _ h)) (ap not w.if-not-is_walked.false) w.marks-is ])
 
 pub shape_of-marks : goal.shape_of-marks
 shape_of-marks c = c.loop-at.invariant.so_far.long ∙ c.mark_at.auto.marks

@@ -1,0 +1,5 @@
+-- The measure of `listing::put_number` is the number.
+use Rattle.listing.proofs.+put_number.Given as goal
+
+abbrev pub decreases-put_number : goal.decreases-put_number
+decreases-put_number l = l.n

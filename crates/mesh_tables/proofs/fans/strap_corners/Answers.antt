@@ -1,0 +1,71 @@
+-- `mesh_tables::fans::strap_corners` meets its contract: the invariant is the fan among the rows that were passed. The laws are in proofs/FanLaws.antt.
+use mathlib.Core.Path.{subst}
+use Prim.Native.Nat.{ℕ, ◌≤◌, ◌-◌}
+use native.Mathlib.Omega.{arith}
+use mathlib.Core.Path.{◌≡◌, refl, sym, ap, ◌∙◌}
+use mathlib.Core.List.{List}
+use mathlib.Core.Logic.{⊎_elim}
+use lib.Ieee.{Float}
+use lib.ListN.{length}
+use Rattle.mesh_tables.specs.Fans.{CornersRead, straps_with}
+use Rattle.mesh_tables.proofs.FanLaws.{corners_none, corners_skip, corners_take, straps_held, no_straps}
+use Rattle.mesh_tables.proofs.fans.strap_corners.Goals as goal
+use Rattle.mesh_tables.proofs.fans.strap_corners.Goals.{else-strap_holds, then-strap_holds}
+
+pub loop-i-init : goal.loop-i-init
+loop-i-init c = let A = c.args in (λ M. rw (no_straps A.v A.ends.now M) (corners_none 2 _), refl, omega arith, omega arith)
+
+pub offset_bounds-ends-i : goal.offset_bounds-ends-i
+offset_bounds-ends-i c = omega arith
+
+pub bounds-ends-i : goal.bounds-ends-i
+bounds-ends-i c = omega arith
+
+pub overflow_add-y : goal.overflow_add-y
+overflow_add-y c = omega arith
+
+pub offset_bounds-ends-c : goal.offset_bounds-ends-c
+offset_bounds-ends-c c = omega arith
+
+pub bounds-ends-c : goal.bounds-ends-c
+bounds-ends-c c = omega arith
+
+pub overflow_mul-c : goal.overflow_mul-c
+overflow_mul-c c = omega arith
+
+pub overflow_add-c : goal.overflow_add-c
+overflow_add-c c = omega arith
+
+pub offset_bounds-ends-c-in-loop-i : goal.offset_bounds-ends-c-in-loop-i
+offset_bounds-ends-c-in-loop-i c = omega arith
+
+pub strap_holds-requires : goal.strap_holds-requires
+strap_holds-requires c = omega arith
+
+pub put_two-requires : goal.put_two-requires
+put_two-requires c = omega arith
+
+pub overflow_add-r : goal.overflow_add-r
+overflow_add-r c = omega arith
+
+pub overflow_add-i : goal.overflow_add-i
+overflow_add-i c = omega arith
+
+pub loop-i-smaller : goal.loop-i-smaller
+loop-i-smaller c = omega arith
+
+pub loop-i-preserved : goal.loop-i-preserved
+loop-i-preserved c = let A = c.args in
+    let inv = c.loop-i.invariant in
+    let said = sym c.strap_holds.ensures in
+    elim c.if-strap_holds.branch [ then-strap_holds w ↦ rw (w.verts-is, w.r-is) ((λ M. corners_take _ _ _ _ (straps_held A.v A.ends.now M _) 2 _ _ _ (c.loop-i.invariant.0 M) (said ∙ w.if-strap_holds.true) refl w.put_two.ensures), w.put_two.ensures.long ∙ c.loop-i.invariant.1, omega arith, omega arith)
+    | else-strap_holds w ↦ rw (w.verts-is, w.r-is) ((λ M. corners_skip _ _ _ _ (straps_held A.v A.ends.now M _) 2 _ _ (c.loop-i.invariant.0 M) (said ∙ w.if-strap_holds.false)), c.loop-i.invariant.1, omega arith, omega arith) ]
+
+pub shape_of-verts : goal.shape_of-verts
+shape_of-verts c = c.loop-i.invariant.1
+
+pub returns : goal.returns
+returns c = let A = c.args in
+    let L = c.loop-i in
+    let q : L.i ≡ A.e = omega (arith, L.invariant.3) in
+    λ M. subst (λ (j : ℕ). CornersRead 2 (straps_with A.v j A.ends.now M) L.r L.verts) q (L.invariant.0 M)
