@@ -1,7 +1,6 @@
 // What the programs ask of the system beside std: bytes read until they are full, and a line on standard error that says what failed.
 #![tactic(auto)]
 
-ghost use Rattle.std.specs.Prelude.{◌≤◌, length};
 ghost use Rattle.std.specs.Io.{ReadsAtMost};
 
 use std::io;
