@@ -35,3 +35,28 @@ pub fn fail(rt: &(impl Eprint + AllocGlobal), what: &str, error: io::Error) -> i
     let words = words_of(text.as_str());
     eprintln!(rt; "{what}: {words}")
 }
+
+#[cfg(test)]
+mod tests {
+    use super::{fail, read_full, words_of};
+    use std::io;
+
+    #[test]
+    fn reads_to_the_end_or_until_full(rt: HostRuntime) -> io::Result<()> {
+        let mut bytes = [0u8; 4];
+        let mut three: &[u8] = b"abc";
+        let n = read_full(&mut three, &mut bytes)?;
+        assert_eq!(rt; n, 3);
+        let mut five: &[u8] = b"defgh";
+        let m = read_full(&mut five, &mut bytes)?;
+        assert_eq!(rt; m, 4);
+        Ok(())
+    }
+
+    #[test]
+    fn says_what_failed_without_its_number(rt: HostRuntime) -> io::Result<()> {
+        assert_eq!(rt; words_of("File exists (os error 17)"), "File exists");
+        assert_eq!(rt; words_of("invalid filename"), "invalid filename");
+        fail(&rt, "streams", io::Error::from_raw_os_error(17))
+    }
+}
