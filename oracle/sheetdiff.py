@@ -1,10 +1,10 @@
 #!/usr/bin/env python3
-"""The program sheetdiff, which `rt check sheetdiff` builds, beside a second writing of docs/RULES.md, R13 and R23.
+"""The program sheetdiff, as it is proved and built (host/built), beside a second writing of docs/RULES.md, R13 and R23.
   oracle/sheetdiff.py [COUNT [SEED [PROGRAM]]]    pairs of sheets that differ in little; then three faults that must be seen"""
 import os, random, subprocess, sys, tempfile
 
 ROOT = os.path.dirname(os.path.dirname(os.path.abspath(__file__)))
-PROGRAM = sys.argv[3] if len(sys.argv) > 3 else os.path.join(ROOT, "target", "bin", "sheetdiff")
+PROGRAM = sys.argv[3] if len(sys.argv) > 3 else ""
 NAMES = ("particle", "triangle", "edge", "boundary")
 PLURALS = ("particles", "triangles", "edges", "boundary")
 
@@ -151,8 +151,9 @@ def damaged(rng, data):
 
 def main():
     count, seed = int((sys.argv + ["50000"])[1]), int((sys.argv + ["", "1"])[2])
-    if not os.path.exists(PROGRAM):
-        sys.exit("sheetdiff.py: nothing was compared: no program %s (rt check sheetdiff builds it)" % PROGRAM)
+    program = PROGRAM or subprocess.run([os.path.join(ROOT, "host", "built"), "sheetdiff"], capture_output=True, text=True).stdout.strip()
+    if not os.path.exists(program):
+        sys.exit("sheetdiff.py: nothing was compared: no program %s" % program)
     rng = random.Random(seed)
     seen = {"to the shorter": 0, "readings exchanged": 0, "second first": 0}
     zeros = refused = wrong = 0
@@ -166,7 +167,7 @@ def main():
             for path, bytes_ in zip(paths, data):
                 with open(path, "wb") as f:
                     f.write(bytes_)
-            said = subprocess.run([PROGRAM] + paths, capture_output=True).stdout.decode()
+            said = subprocess.run([program] + paths, capture_output=True).stdout.decode()
             zeros += said == "0\n"
             refused += said.startswith("refused")
             if said != differ(*data):

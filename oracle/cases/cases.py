@@ -17,10 +17,35 @@ BESIDE = ['Groups', 'Splits', 'Cuts', 'Straps', 'Loads', 'Reads']
 OPENED = [('lists', ['Lists', 'Labels']), ('float', ['Numbers', 'Ranges', 'Root', 'Order']), ('blade', ['Points', 'Blade']), ('fan', ['Groups']),
           ('model', ['Valid', 'Elements', 'Split', 'Pieces', 'Cut', 'Crack', 'Run', 'Calls', 'Reads'])]
 # the names that no case unfolds: all are cuts of edition 1
-SKIPPED = ['wholeMesh']
+SKIPPED = ['whole_mesh']
 # the case whose meshes and answer other proofs speak of
 SHARED = 301
-IEEE = 'isNan neg add sub mul div lt le eq ne ofInt ofBits'.split()
+IEEE = 'is_nan neg add sub mul div lt le eq ne of_int of_bits'.split()
+
+
+def plain(name):
+    return re.sub('[-_]', '', name).lower()
+
+
+def declared():
+    """The names of the modules that the cases speak of, as they are spelled there, by their letters alone."""
+    names = {}
+    for crate, mods in OPENED:
+        for m in mods:
+            text = open(os.path.join(CRATES, crate, 'specs', m + '.antt')).read()
+            for n in re.findall(r'^(?:abbrev pub|unfoldable pub|pub) ([^\s:]+) :', text, re.M):
+                names.setdefault(plain(n), n)
+    return names
+
+
+DECLARED = {}
+
+
+def spelled(name):
+    """A definition's name as the sources spell it."""
+    if not DECLARED:
+        DECLARED.update(declared())
+    return DECLARED[plain(name)]
 
 
 def read(path):
@@ -85,7 +110,7 @@ def mesh_text(m):
 
 def least(word):
     """A minimum piece: - is the default."""
-    return 'defaultMinPiece' if word == '-' else word
+    return spelled('default_min_piece') if word == '-' else word
 
 
 def bits(x):
@@ -113,25 +138,25 @@ def asked(c, m):
     lent = '(rooms %d 1024 %d %d %d)' % tuple(r)
     k = w[0]
     if k == 'cut':
-        return 'meshes (cutCall true %s 1 %s %s %s)' % (m, blade(w[1:5]), bits(w[5]), lent)
+        return 'meshes (' + spelled('cut_call') + ' true %s 1 %s %s %s)' % (m, blade(w[1:5]), bits(w[5]), lent)
     if k == 'crack':
-        return 'meshes (crackCall true %s %s %s %s)' % (m, numbers(w[2:]), least(w[1]), lent)
+        return 'meshes (' + spelled('crack_call') + ' true %s %s %s %s)' % (m, numbers(w[2:]), least(w[1]), lent)
     if k == 'split_fan':
-        return 'meshes (splitCall true %s %s %s %s)' % (m, w[1], numbers(w[2:]), lent)
+        return 'meshes (' + spelled('split_call') + ' true %s %s %s %s)' % (m, w[1], numbers(w[2:]), lent)
     if k == 'straddlers':
-        return 'meshes (straddlersCall true %s %s)' % (m, lent)
+        return 'meshes (' + spelled('straddlers_call') + ' true %s %s)' % (m, lent)
     if k == 'groups':
-        return 'groups (groupsCall true %s %s %s)' % (m, w[1], numbers(w[2:]))
+        return 'groups (' + spelled('groups_call') + ' true %s %s %s)' % (m, w[1], numbers(w[2:]))
     if k == 'opens':
-        return 'flag (opensCall true %s %s %s %s)' % (m, w[2], numbers(w[3:]), least(w[1]))
+        return 'flag (' + spelled('opens_call') + ' true %s %s %s %s)' % (m, w[2], numbers(w[3:]), least(w[1]))
     if k == 'rest_measure':
-        return 'float (restMeasureCall true %s)' % m
+        return 'float (' + spelled('rest_measure_call') + ' true %s)' % m
     if k == 'rest_measure_of':
-        return 'float (restMeasureOfCall true %s %s)' % (m, numbers(w[1:]))
+        return 'float (' + spelled('rest_measure_of_call') + ' true %s %s)' % (m, numbers(w[1:]))
     if k == 'pieces':
-        return 'number (piecesCall true %s)' % m
+        return 'number (' + spelled('pieces_call') + ' true %s)' % m
     assert k == 'blade_hit'
-    return 'hit (bladeCall %s %s %s)' % (blade(w[1:5]), point(*w[5:7]), point(*w[7:9]))
+    return 'hit (' + spelled('blade_call') + ' %s %s %s)' % (blade(w[1:5]), point(*w[5:7]), point(*w[7:9]))
 
 
 def wanted(c):
@@ -161,28 +186,34 @@ def opened():
     for crate, mods in OPENED:
         for m in mods:
             text = open(os.path.join(CRATES, crate, 'specs', m + '.antt')).read()
-            names = [n for n in re.findall(r'^unfoldable pub (\S+)', text, re.M) if n not in SKIPPED]
-            own = 'Rattle·model·specs.specs' if crate == 'model' else 'Rattle·%s.specs' % crate
+            names = [n for n in re.findall(r'^unfoldable pub (\S+)', text, re.M) if plain(n) not in map(plain, SKIPPED)]
             if names:
-                out.append(('%s.%s' % (own, m), names))
+                out.append(('Rattle.%s.specs.%s' % (crate, m), names))
     return out
 
 
 HEAD = '''-- %s: the published Rust's answers, computed. Made by oracle/cases.py of oracle/cases.txt, which the oracle wrote from the published Rust.
 -- Assumes nothing.
-use mathlib.Core.Path.{_≡_, refl}
+use mathlib.Core.Path.{◌≡◌, refl}
 use mathlib.Core.Bool.{true, false}
-use mathlib.Core.List.{List, [], _∷_, map}
+use mathlib.Core.List.{List, [], ◌∷◌, map}
 use lib.Ieee.{%s}
-use Rattle·blade.specs.declared.Hit.the-variants.{Miss, Hit as HitAt}
-use Rattle·model·specs.specs.Mesh.{Mesh}
-use Rattle·model·specs.specs.Pieces.{defaultMinPiece}
-use Rattle·model·specs.specs.Run.{split, edge as removed, insert, opened, met}
-use Rattle·model·specs.specs.Calls.{%s}
-use Rattle·model·specs.specs.Reads.{refused as denied, value}
-use Rattle·model·specs.specs.Starred.{Case, meshes, groups, flag, number, float, hit}
-use Rattle·model·proofs.proofs.Asked.{bits, point, blade, rooms, mesh, particle, triangle, edge, side}
+use Rattle.blade.specs.declared.Hit.TheVariants.{Miss, Hit as HitAt}
+use Rattle.model.specs.Mesh.{Mesh}
+use Rattle.model.specs.Pieces.{%s}
+use Rattle.model.specs.Run.{split, edge as removed, insert, opened, met}
+use Rattle.model.specs.Calls.{%s}
+use Rattle.model.specs.Reads.{refused as denied, value}
+use Rattle.model.specs.Starred.{Case, meshes, groups, flag, number, float, hit}
+use Rattle.model.proofs.Asked.{bits, point, blade, rooms, mesh, particle, triangle, edge, side}
 '''
+
+
+def head(path, title, has_shared):
+    """The head of a file, as it stands there if it does: its comment and its imports, up to those of the names to unfold."""
+    if os.path.exists(path):
+        return open(path).read().split('use %s.{' % opened()[0][0])[0]
+    return HEAD % (title, ', '.join(IEEE), spelled('default_min_piece'), 'Outcome, refused, done' if has_shared else 'refused, done')
 
 
 def public(c):
@@ -193,7 +224,7 @@ def write(path, title, cases, names):
     mods = opened()
     clash = {'mesh', 'particle', 'triangle', 'edge', 'side', 'groups', 'flag', 'number', 'float', 'hit', 'split', 'insert', 'opened', 'met'}
     shared = [c for c in cases if c['no'] == SHARED]
-    text = HEAD % (title, ', '.join(IEEE), 'Outcome, refused, done' if shared else 'refused, done')
+    text = head(path, title, bool(shared))
     for mod, ns in mods:
         assert not clash & set(ns), clash & set(ns)
         text += 'use %s.{%s}\n' % (mod, ', '.join(ns))
@@ -213,7 +244,7 @@ def write(path, title, cases, names):
         text += '-- %s\nabbrev case%d : Case\ncase%d = record { asked = %s; wanted = %s }\n' % (
             names.get(c['no'], ' '.join(c['call'])[:90]), c['no'], c['no'], asked(c, seen[m]), answer)
     text += '\nabbrev pub cases : List Case\ncases = %s\n' % ' ∷ '.join(['case%d' % c['no'] for c in cases] + ['[]'])
-    text += '\npub agree : map (λ (c : Case). c .asked) cases ≡ map (λ (c : Case). c .wanted) cases\n'
+    text += '\npub agree : map (λ (c : Case). c.asked) cases ≡ map (λ (c : Case). c.wanted) cases\n'
     text += 'unfolding ' + ' '.join(sum([ns for _, ns in mods], []) + IEEE) + '\nagree = refl\n'
     open(path, 'w').write(text)
 
@@ -236,9 +267,6 @@ def main():
             part = [c for c in cases if c['no'] // 100 == n]
             path = os.path.join(CRATES, 'model' if title in BESIDE else 'model_cases', 'proofs', 'Case%s.antt' % title)
             write(path, title, part, names)
-            if title not in BESIDE:
-                text = open(path).read()
-                open(path, 'w').write(text.replace('model·specs.specs.', 'model.specs.').replace('model·proofs.proofs.', 'model.proofs.'))
             print('Case%s' % title, len(part))
         starred(os.path.join(CRATES, 'model', 'proofs', 'Starred.antt'))
     else:

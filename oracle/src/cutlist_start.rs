@@ -1,4 +1,4 @@
-//! The start of cutlist where `run` compiles it from its sources: the C runtime calls `main`, which is the program's own.
+//! The start of cutlist where it is compiled as a library: the C runtime calls `main`, which is the program's own. (Today's toolchain builds the program itself, so `run` does not compile this.)
 #![no_main]
 
 unsafe extern "C" {

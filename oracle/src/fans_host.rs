@@ -10,19 +10,25 @@ unsafe extern "C" {
         outline: *const usize, outline_len: usize, links: *mut u16, links_len: usize,
     );
     fn fans_walk(
-        v: usize, t: usize, corners: *const usize, corners_len: usize, volumes: *const f32, volumes_len: usize, links: *const u16, links_len: usize,
+        v: usize, t: usize, e: usize, corners: *const usize, corners_len: usize, volumes: *const f32, volumes_len: usize, ends: *const usize, ends_len: usize,
+        lengths: *const f32, lengths_len: usize, links: *const u16, links_len: usize,
         numbers: *mut usize, numbers_len: usize, verts: *mut usize, verts_len: usize, measures: *mut f32, measures_len: usize,
     ) -> usize;
     fn fans_scan(
         v: usize, t: usize, corners: *const usize, corners_len: usize, volumes: *const f32, volumes_len: usize,
         numbers: *mut usize, numbers_len: usize, verts: *mut usize, verts_len: usize, measures: *mut f32, measures_len: usize,
     ) -> usize;
-    fn fans_split(
-        v: usize, counts: *mut usize, counts_len: usize, points: *mut f32, points_len: usize, roots: *mut usize, roots_len: usize,
+    fn fans_part(
+        v: usize, n: usize, numbers: *const usize, numbers_len: usize, verts: *const usize, verts_len: usize, measures: *const f32, measures_len: usize,
+        sides: *const usize, sides_len: usize, groups: *mut usize, groups_len: usize,
+        particles: usize, triangles: usize, edges: usize, boundary: usize, entries: usize, points: *mut f32, points_len: usize, roots: *mut usize, roots_len: usize,
         corners: *mut usize, corners_len: usize, volumes: *const f32, volumes_len: usize, ends: *mut usize, ends_len: usize,
         lengths: *mut f32, lengths_len: usize, outline: *mut usize, outline_len: usize, log: *mut u32, log_len: usize,
-        sides: *mut usize, sides_len: usize, groups: *mut usize, groups_len: usize, links: *mut u16, links_len: usize,
+        list: *mut usize, list_len: usize, links: *mut u16, links_len: usize, counts: *mut usize, counts_len: usize,
     ) -> usize;
+    fn fans_close(
+        left: usize, list: *const usize, list_len: usize, ends: *mut usize, ends_len: usize, lengths: *mut f32, lengths_len: usize, table: *mut u16, table_len: usize,
+    );
 }
 
 /// Numbers by a shift register: the same for the same seed.
@@ -116,7 +122,8 @@ impl Blocks {
         let n = unsafe {
             match links {
                 Some(l) => fans_walk(
-                    v, t, self.corners.as_ptr(), self.corners.len(), self.volumes.as_ptr(), self.volumes.len(), l.as_ptr(), l.len(),
+                    v, t, self.counts[2], self.corners.as_ptr(), self.corners.len(), self.volumes.as_ptr(), self.volumes.len(),
+                    self.ends.as_ptr(), self.ends.len(), self.lengths.as_ptr(), self.lengths.len(), l.as_ptr(), l.len(),
                     numbers.as_mut_ptr(), numbers.len(), verts.as_mut_ptr(), verts.len(), measures.as_mut_ptr(), measures.len(),
                 ),
                 None => fans_scan(
@@ -130,16 +137,32 @@ impl Blocks {
         measures.truncate(n);
         (numbers, verts, measures)
     }
-    fn split(&mut self, v: usize, sides: &mut [usize], links: &mut [u16]) -> usize {
-        let mut groups = vec![0; 2048];
+    /// Splits v by sides, with the table beside the blocks: the fan is read from the table, parted, and the straddlers go. The number of the room that lacks, or 0.
+    fn split(&mut self, v: usize, sides: &[usize], links: &mut [u16]) -> usize {
+        let (mut numbers, mut verts, mut measures) = (vec![0; 2048], vec![0; 4096], vec![0.0; 2048]);
+        let (mut groups, mut list, k) = (vec![0; 2048], vec![0; 2048 + 1], self.counts);
         // SAFETY: runs apart from each other, each with its own length.
         unsafe {
-            fans_split(
-                v, self.counts.as_mut_ptr(), 5, self.points.as_mut_ptr(), self.points.len(), self.roots.as_mut_ptr(), self.roots.len(),
+            let n = fans_walk(
+                v, k[1], k[2], self.corners.as_ptr(), self.corners.len(), self.volumes.as_ptr(), self.volumes.len(), self.ends.as_ptr(), self.ends.len(),
+                self.lengths.as_ptr(), self.lengths.len(), links.as_ptr(), links.len(),
+                numbers.as_mut_ptr(), numbers.len(), verts.as_mut_ptr(), verts.len(), measures.as_mut_ptr(), measures.len(),
+            );
+            let lacking = fans_part(
+                v, n, numbers.as_ptr(), numbers.len(), verts.as_ptr(), verts.len(), measures.as_ptr(), measures.len(), sides.as_ptr(), sides.len(),
+                groups.as_mut_ptr(), groups.len(), k[0], k[1], k[2], k[3], k[4], self.points.as_mut_ptr(), self.points.len(), self.roots.as_mut_ptr(), self.roots.len(),
                 self.corners.as_mut_ptr(), self.corners.len(), self.volumes.as_ptr(), self.volumes.len(), self.ends.as_mut_ptr(), self.ends.len(),
                 self.lengths.as_mut_ptr(), self.lengths.len(), self.outline.as_mut_ptr(), self.outline.len(), self.log.as_mut_ptr(), self.log.len(),
-                sides.as_mut_ptr(), sides.len(), groups.as_mut_ptr(), groups.len(), links.as_mut_ptr(), links.len(),
-            )
+                list.as_mut_ptr(), list.len(), links.as_mut_ptr(), links.len(), self.counts.as_mut_ptr(), 5,
+            );
+            if lacking == 0 {
+                let table = &mut links[TRIANGLES..BOUNDARY];
+                fans_close(
+                    self.counts[2], list.as_ptr(), list.len(), self.ends.as_mut_ptr(), self.ends.len(), self.lengths.as_mut_ptr(), self.lengths.len(),
+                    table.as_mut_ptr(), table.len(),
+                );
+            }
+            lacking
         }
     }
 }
@@ -218,9 +241,9 @@ fn compare(count: usize, seed: u64) -> i32 {
                 return 1;
             }
             let v = r.below(b.counts[0]);
-            let mut sides: Vec<usize> = (0..2048).map(|_| r.below(2)).collect();
+            let sides: Vec<usize> = (0..2048).map(|_| r.below(2)).collect();
             let before = b.counts;
-            if b.split(v, &mut sides, &mut links) != 0 {
+            if b.split(v, &sides, &mut links) != 0 {
                 break;
             }
             splits += usize::from(b.counts[0] > before[0]);
@@ -260,8 +283,8 @@ fn faults(seed: u64) -> i32 {
             let mut links = b.built();
             let before = (links.clone(), b.counts[0]);
             let v = r.below(b.counts[0]);
-            let mut sides: Vec<usize> = (0..2048).map(|_| r.below(2)).collect();
-            if b.split(v, &mut sides, &mut links) != 0 || b.counts[0] == before.1 {
+            let sides: Vec<usize> = (0..2048).map(|_| r.below(2)).collect();
+            if b.split(v, &sides, &mut links) != 0 || b.counts[0] == before.1 {
                 return false;
             }
             match f {
@@ -327,7 +350,8 @@ fn time() -> i32 {
         let walk = nanoseconds(particles, |v| {
             held += unsafe {
                 fans_walk(
-                    v, rows.len(), b.corners.as_ptr(), b.corners.len(), b.volumes.as_ptr(), b.volumes.len(), links.as_ptr(), links.len(),
+                    v, rows.len(), 0, b.corners.as_ptr(), b.corners.len(), b.volumes.as_ptr(), b.volumes.len(), b.ends.as_ptr(), b.ends.len(),
+                    b.lengths.as_ptr(), b.lengths.len(), links.as_ptr(), links.len(),
                     numbers.as_mut_ptr(), 2048, verts.as_mut_ptr(), 4096, measures.as_mut_ptr(), 2048,
                 )
             }

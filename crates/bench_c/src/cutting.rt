@@ -6,8 +6,7 @@ ghost use Rattle.bench_c.specs.Torn.{cut_outcome, crack_outcome, words_few_of};
 use mesh_calls::Job;
 
 // A mesh image cut along a blade of four words, in an edition, 1 or 2, with the insertion fraction of a word. The job looks at no list.
-#[unsafe(no_mangle)]
-pub extern "C" fn bench_cut(
+pub fn bench_cut(
     bytes: &[u8],
     blade: &[u8],
     edition: u32,
@@ -35,8 +34,7 @@ fn words_few(n: usize) -> bool
 }
 
 // A mesh image cracked across torn edges, a word for each, with a minimum piece.
-#[unsafe(no_mangle)]
-pub extern "C" fn bench_crack(
+pub fn bench_crack(
     bytes: &[u8],
     torn: &[u8],
     minimum: u32,

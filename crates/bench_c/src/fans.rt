@@ -4,8 +4,7 @@ ghost use Rattle.reading_replies.specs.Replies.{Replied, opens_reply, groups_rep
 ghost use Rattle.fan_c.specs.Fans.{fan_reply};
 
 // Whether sides open a particle of a mesh image without confetti.
-#[unsafe(no_mangle)]
-pub extern "C" fn bench_opens_without_confetti(
+pub fn bench_opens_without_confetti(
     bytes: &[u8],
     v: u32,
     sides: &[u8],
@@ -19,16 +18,14 @@ pub extern "C" fn bench_opens_without_confetti(
 }
 
 // The groups that sides make at a particle of a mesh image.
-#[unsafe(no_mangle)]
-pub extern "C" fn bench_groups(bytes: &[u8], v: u32, sides: &[u8], out: &mut [u8]) -> u32
+pub fn bench_groups(bytes: &[u8], v: u32, sides: &[u8], out: &mut [u8]) -> u32
     ensures { Replied (groups_reply bytes.now v sides.now) (length out.old) result out.new }
 {
     reading_c::fans::groups(bytes, v as usize, sides, out)
 }
 
 // The numbers of the elements at a particle of a mesh image, in the order in which sides are given for them.
-#[unsafe(no_mangle)]
-pub extern "C" fn bench_fan(bytes: &[u8], v: u32, out: &mut [u8]) -> u32
+pub fn bench_fan(bytes: &[u8], v: u32, out: &mut [u8]) -> u32
     ensures { Replied (fan_reply bytes.now v) (length out.old) result out.new }
 {
     fan_c::fan(bytes, v as usize, out)

@@ -1,4 +1,4 @@
-// The C functions of the bench, on numbers and byte slices: each reads its bytes, asks or runs the job, and writes the answer. An archive has the exported functions of its own crate alone, so those that read stand here too, and their bodies in crate reading_c.
+// The C functions of the bench, as functions of Rattle, on numbers and byte slices: each reads its bytes, asks or runs the job, and writes the answer. Crate bench_export exports them to C.
 #![tactic(auto)]
 
 pub mod cutting;

@@ -3,8 +3,7 @@ ghost use Rattle.std.specs.Prelude.{length};
 ghost use Rattle.reading_replies.specs.Replies.{Replied, measure_of_reply};
 
 // The measure of a list of particles of a mesh image.
-#[unsafe(no_mangle)]
-pub extern "C" fn bench_rest_measure_of(bytes: &[u8], list: &[u8], out: &mut [u8]) -> u32
+pub fn bench_rest_measure_of(bytes: &[u8], list: &[u8], out: &mut [u8]) -> u32
     ensures { Replied (measure_of_reply bytes.now list.now) (length out.old) result out.new }
 {
     reading_c::listed::rest_measure_of(bytes, list, out)

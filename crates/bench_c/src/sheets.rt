@@ -11,53 +11,42 @@ ghost use Rattle.reading_replies.specs.Replies.{Replied};
 ghost use Rattle.text_c.specs.Texts.{TextReplied};
 
 // The blade and the mesh image of a sheet.
-#[unsafe(no_mangle)]
-pub extern "C" fn bench_sheet(sheet: &[u8], out: &mut [u8]) -> u32
+pub fn bench_sheet(sheet: &[u8], out: &mut [u8]) -> u32
     ensures { Replied (sheet_reply sheet.now) (length out.old) result out.new }
 {
     sheet_c::reading::read_sheet(sheet, out)
 }
 
 // Opens a reader that is fed a sheet in parts.
-#[unsafe(no_mangle)]
-pub extern "C" fn bench_sheet_open(reader: &mut [u8]) -> u32
+pub fn bench_sheet_open(reader: &mut [u8]) -> u32
     ensures { OpenDone reader.old result reader.new }
 {
     feeding::open_reader(reader)
 }
 
 // Feeds it a part.
-#[unsafe(no_mangle)]
-pub extern "C" fn bench_sheet_feed(reader: &mut [u8], part: &[u8]) -> u32
+pub fn bench_sheet_feed(reader: &mut [u8], part: &[u8]) -> u32
     ensures { FeedDone reader.old part.now result reader.new }
 {
     feeding::feed_bytes(reader, part)
 }
 
 // Closes it: the blade and the mesh image of the whole sheet.
-#[unsafe(no_mangle)]
-pub extern "C" fn bench_sheet_close(reader: &mut [u8], out: &mut [u8]) -> u32
+pub fn bench_sheet_close(reader: &mut [u8], out: &mut [u8]) -> u32
     ensures { Closed reader.old reader.new (length out.old) result out.new }
 {
     feed_c::close_sheet(reader, out)
 }
 
 // The bytes of the sheet whose fields are words.
-#[unsafe(no_mangle)]
-pub extern "C" fn bench_sheet_write(fields: &[u8], out: &mut [u8]) -> u32
+pub fn bench_sheet_write(fields: &[u8], out: &mut [u8]) -> u32
     ensures { SheetWritten fields.now out.old out.new result }
 {
     sheet_c::writing::write_sheet(fields, out)
 }
 
 // A broken sheet mended: the mended sheet, what is said, and how many bytes each has.
-#[unsafe(no_mangle)]
-pub extern "C" fn bench_mend(
-    broken: &[u8],
-    mended: &mut [u8],
-    text: &mut [u8],
-    counts: &mut [u8],
-) -> u32
+pub fn bench_mend(broken: &[u8], mended: &mut [u8], text: &mut [u8], counts: &mut [u8]) -> u32
     ensures { MendReplied broken.now (length mended.old) (length text.old) (length
         counts.old) result mended.new text.new counts.new }
 {
@@ -65,16 +54,14 @@ pub extern "C" fn bench_mend(
 }
 
 // The listing of the cut of a sheet, as the program prints it.
-#[unsafe(no_mangle)]
-pub extern "C" fn bench_list_cut(sheet: &[u8], out: &mut [u8]) -> u32
+pub fn bench_list_cut(sheet: &[u8], out: &mut [u8]) -> u32
     ensures { TextReplied (listed sheet.now) (length out.old) result out.new }
 {
     text_c::list_cut(sheet, out)
 }
 
 // The differences of two sheets, as the program prints them.
-#[unsafe(no_mangle)]
-pub extern "C" fn bench_difference(first: &[u8], second: &[u8], out: &mut [u8]) -> u32
+pub fn bench_difference(first: &[u8], second: &[u8], out: &mut [u8]) -> u32
     ensures { TextReplied (differed first.now second.now) (length out.old) result out.new }
 {
     text_c::difference(first, second, out)

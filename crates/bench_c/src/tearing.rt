@@ -30,13 +30,7 @@ pub fn reply_job(
 }
 
 // The straddlers across the pieces of a mesh image removed. The job looks at no list.
-#[unsafe(no_mangle)]
-pub extern "C" fn bench_straddlers(
-    bytes: &[u8],
-    rooms: &[u8],
-    out: &mut [u8],
-    log: &mut [u8],
-) -> u32
+pub fn bench_straddlers(bytes: &[u8], rooms: &[u8], out: &mut [u8], log: &mut [u8]) -> u32
     ensures { OutcomeReplied (straddlers_outcome bytes.now rooms.now (length log.old)) (length
         out.old) (length log.old) result out.new log.new }
 {
@@ -45,8 +39,7 @@ pub extern "C" fn bench_straddlers(
 }
 
 // Particle v of a mesh image split by the sides of its fan. More than 2,048 sides are too many for any fan, so 2,049 of them tell.
-#[unsafe(no_mangle)]
-pub extern "C" fn bench_split(
+pub fn bench_split(
     bytes: &[u8],
     v: u32,
     sides: &[u8],

@@ -48,7 +48,7 @@ pub fn join(parent: &mut [usize], i: usize, j: usize)
 pub fn flatten(parent: &mut [usize])
     requires { Down parent.old }
     ensures kept { Kept parent.old parent.new }
-    ensures by_index { (a : ℕ) → a < length parent.old → get_or parent.new (get_or parent.new a 0) 0
+    ensures flat { (a : ℕ) → a < length parent.old → get_or parent.new (get_or parent.new a 0) 0
         ≡ get_or parent.new a 0 }
 {
     let mut i = 0;

@@ -5,8 +5,9 @@ ghost use Rattle.std.specs.Prelude.{◌≡◌, ◌≤◌, length, take};
 ghost use Rattle.io.specs.Counts.{IsPrefixLen};
 ghost use Rattle.sheetcut.specs.SheetCut.{listed};
 
-use libc::{STDIN_FILENO, STDOUT_FILENO};
 use listing::Written;
+use std::io;
+use std::io::Write;
 
 // Puts the listing of a sheet at the front of the lent bytes, which always hold it, and returns how long it is.
 fn list_sheet(sheet: &[u8], out: &mut [u8]) -> usize
@@ -20,11 +21,11 @@ fn list_sheet(sheet: &[u8], out: &mut [u8]) -> usize
     }
 }
 
-fn main() {
+fn main(rt: HostRuntime) -> io::Result<()> {
     // One byte more than the longest sheet has: what follows these bytes changes nothing.
     let mut sheet = [0u8; 2173];
-    let n = io::read_full(STDIN_FILENO, &mut sheet);
-    let mut out = io::large_buffer();
+    let n = streams::read_full(&mut rt.stdin(), &mut sheet)?;
+    let mut out = [0u8; 65536];
     let m = list_sheet(&sheet[..n], &mut out);
-    io::write_all(STDOUT_FILENO, &out[..m]);
+    rt.stdout().write_all(&out[..m])
 }

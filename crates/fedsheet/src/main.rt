@@ -1,7 +1,7 @@
 // The worked sheet fed to a reader in parts: byte by byte, in growing parts, in the second edition, and cut short; then calls behind the close.
 #![tactic(auto)]
 
-use libc::STDOUT_FILENO;
+use std::io;
 
 // The worked sheet.
 const WORKED: [u8; 46] = [
@@ -15,18 +15,8 @@ const SECOND: [u8; 36] = [
     16, 13, 255, 255, 248, 5, 0, 160,
 ];
 
-fn say(text: &[u8]) {
-    io::write_all(STDOUT_FILENO, text);
-}
-
-fn say_number(n: u64) {
-    io::print_decimal(STDOUT_FILENO, n);
-}
-
-fn say_line(text: &[u8], n: u32) {
-    say(text);
-    say_number(n as u64);
-    say(b"\n");
+fn say_line(rt: &impl Print, text: &str, n: u32) -> io::Result<()> {
+    println!(rt; "{text}{n}")
 }
 
 // Where a part of `size` bytes from `at` on ends, among n bytes.
@@ -72,70 +62,81 @@ fn feed_all(reader: &mut [u8], sheet: &[u8], n: usize, first: usize, step: usize
     }
 }
 
-fn say_byte(x: u8) {
-    say_number(x as u64);
-}
-
 // Says the counts of a mesh image behind five words, all of them small.
-fn say_counts(out: &[u8]) {
+fn say_counts(rt: &impl Print, out: &[u8]) -> io::Result<()> {
     if out.len() < 36 {
-        return;
+        return Ok(());
     }
-    say(b"  particles, triangles, edges, boundary entries: ");
-    say_byte(out[20]);
-    say(b", ");
-    say_byte(out[24]);
-    say(b", ");
-    say_byte(out[28]);
-    say(b", ");
-    say_byte(out[32]);
-    say(b"\n");
+    let particles = out[20];
+    let triangles = out[24];
+    let edges = out[28];
+    let boundary = out[32];
+    print!(rt; "  particles, triangles, edges, boundary entries: ")?;
+    println!(rt; "{particles}, {triangles}, {edges}, {boundary}")
 }
 
 // Closes a reader and says what it answers, and the counts of the mesh that it gives.
-fn close(text: &[u8], reader: &mut [u8]) {
+fn close(rt: &impl Print, text: &str, reader: &mut [u8]) -> io::Result<()> {
     let mut out = [1u8; 332];
-    say(text);
-    say_line(b"answer ", feed_c::close_sheet(reader, &mut out));
-    say_counts(&out);
+    print!(rt; "{text}")?;
+    say_line(rt, "answer ", feed_c::close_sheet(reader, &mut out))?;
+    say_counts(rt, &out)
 }
 
 // Opens a reader, feeds it the first n bytes of a sheet, and closes it.
-fn fed(text: &[u8], reader: &mut [u8], sheet: &[u8], n: usize, first: usize, step: usize) {
+fn fed(
+    rt: &impl Print,
+    text: &str,
+    reader: &mut [u8],
+    sheet: &[u8],
+    n: usize,
+    first: usize,
+    step: usize,
+) -> io::Result<()> {
     feeding::open_reader(reader);
     feed_all(reader, sheet, n, first, step);
-    close(text, reader);
+    close(rt, text, reader)
 }
 
 // The worked sheet, in 46 parts of a byte and in growing parts, and its first 45 bytes; calls behind the close.
-fn first_edition() {
+fn first_edition(rt: &impl Print) -> io::Result<()> {
     let mut reader = [7u8; 17301];
-    fed(b"in parts of one byte: ", &mut reader, &WORKED, 46, 1, 0);
+    fed(rt, "in parts of one byte: ", &mut reader, &WORKED, 46, 1, 0)?;
     say_line(
-        b"a feed behind the close: ",
+        rt,
+        "a feed behind the close: ",
         feeding::feed_bytes(&mut reader, &WORKED),
-    );
-    close(b"a close behind the close: ", &mut reader);
+    )?;
+    close(rt, "a close behind the close: ", &mut reader)?;
     fed(
-        b"in parts of 0, 1, 2, .. bytes: ",
+        rt,
+        "in parts of 0, 1, 2, .. bytes: ",
         &mut reader,
         &WORKED,
         46,
         0,
         1,
-    );
-    fed(b"one byte short: ", &mut reader, &WORKED, 45, 1000, 0);
+    )?;
+    fed(rt, "one byte short: ", &mut reader, &WORKED, 45, 1000, 0)
 }
 
 // The sheet of the second edition, in 36 parts of a byte.
-fn second_edition() {
+fn second_edition(rt: &impl Print) -> io::Result<()> {
     let mut reader = [7u8; 17301];
-    fed(b"in the second edition: ", &mut reader, &SECOND, 36, 1, 0);
+    fed(
+        rt,
+        "in the second edition: ",
+        &mut reader,
+        &SECOND,
+        36,
+        1,
+        0,
+    )
 }
 
-fn main() {
-    first_edition();
-    second_edition();
+fn main(rt: HostRuntime) -> io::Result<()> {
+    first_edition(&rt)?;
+    second_edition(&rt)?;
     let mut short = [0u8; 17300];
-    say_line(b"no reader: ", feeding::feed_bytes(&mut short, b"a"));
+    say_line(&rt, "no reader: ", feeding::feed_bytes(&mut short, b"a"))
 }

@@ -5,9 +5,13 @@ ghost use Rattle.std.specs.Prelude.{◌≡◌, ◌≤◌, length};
 ghost use Rattle.io.specs.Counts.{IsPrefixLen};
 ghost use Rattle.mend.specs.Printing.{Printed};
 
-use libc::{STDIN_FILENO, STDOUT_FILENO};
 use listing::Written;
 use mender::Mended;
+use std::env::FillError;
+use std::fs::OpenOptions;
+use std::io;
+use std::io::Write;
+use std::rt::{Env, Files};
 
 // How many bytes the mended sheet and the text have, and whether there is a sheet: a refusal has none.
 #[derive(Drop)]
@@ -53,41 +57,50 @@ fn mend_all(broken: &[u8], mended: &mut [u8], text: &mut [u8]) -> Ends
     }
 }
 
-// Writes bytes into a new file with the name that the first argument has, where there is one: whether they stand there, or none was asked for.
-fn save(bytes: &[u8]) -> bool {
-    if os::arg_count() < 2 {
-        return true;
+// Writes bytes into a new file with the name that the first argument has, where there is one: whether they stand there, or none was asked for. What is wrong
+// is said on standard error. The name is UTF-8.
+fn save<R: Files + Env + Eprint + AllocGlobal>(rt: &R, bytes: &[u8]) -> io::Result<bool> {
+    let mut name = [0u8; 4096];
+    let n = match rt.arg(1, &mut name) {
+        Ok(n) => n,
+        Err(FillError::NotPresent) => return Ok(true),
+        Err(FillError::TooLong) => 0,
+    };
+    match write_new(rt, &name[..n], bytes) {
+        Ok(()) => Ok(true),
+        Err(why) => {
+            streams::fail(rt, "mend", why)?;
+            Ok(false)
+        }
     }
-    let mut name = io::buffer();
-    let n = os::arg(1, &mut name);
-    let file = os::create(&name[..n]);
-    if file < 0 {
-        os::fail(b"mend");
-        return false;
-    }
-    if io::write_all(file, bytes) {
-        libc::close(file);
-        return true;
-    }
-    os::fail(b"mend");
-    libc::close(file);
-    false
 }
 
-fn main() {
+// Writes bytes into a new file.
+fn write_new(rt: &impl Files, name: &[u8], bytes: &[u8]) -> io::Result<()> {
+    let Ok(name) = str::from_utf8(name) else {
+        return Err(io::Error::from(io::ErrorKind::InvalidFilename));
+    };
+    let mut file = OpenOptions::new()
+        .write(true)
+        .create_new(true)
+        .open(rt, name)?;
+    file.write_all(bytes)
+}
+
+fn main(rt: HostRuntime) -> io::Result<()> {
     // One byte more than the longest sheet has: what follows these bytes changes nothing.
     let mut broken = [0u8; 17293];
-    let n = io::read_full(STDIN_FILENO, &mut broken);
+    let n = streams::read_full(&mut rt.stdin(), &mut broken)?;
     let mut mended = [0u8; 17292];
     let mut text = [0u8; 131072];
     let ends = mend_all(&broken[..n], &mut mended, &mut text);
     let m = ends.sheet;
     let k = ends.text;
     if ends.whole {
-        if save(&mended[..m]) {
-            io::write_all(STDOUT_FILENO, &text[..k]);
+        if save(&rt, &mended[..m])? {
+            return rt.stdout().write_all(&text[..k]);
         }
-        return;
+        return Ok(());
     }
-    io::write_all(STDOUT_FILENO, &text[..k]);
+    rt.stdout().write_all(&text[..k])
 }

@@ -4,7 +4,8 @@
 
 ghost use Rattle.std.specs.Prelude.{◌≡◌, ◌<◌, ◌≤◌, length};
 
-use libc::{STDIN_FILENO, STDOUT_FILENO};
+use std::io;
+use std::io::Read;
 
 // One call of the list: where its parts begin (the image first, the arguments beside it, the rooms, the words of the result and
 // of the log that are expected), how many bytes are lent for result and log, and the refusal that is expected.
@@ -82,22 +83,22 @@ fn call_of(head: &[u8]) -> Call {
 }
 
 // Reads the next call of the list, its parts into the lent bytes. A list that ends within a call, or a call that they do not hold, is the end too.
-fn next_call(bytes: &mut [u8]) -> Step {
+fn next_call<R: Read>(list: &mut R, bytes: &mut [u8]) -> io::Result<Step> {
     let mut head = [0u8; 44];
-    let n = io::read_full(STDIN_FILENO, &mut head);
+    let n = streams::read_full(list, &mut head)?;
     if n < 44 {
-        return Step::End;
+        return Ok(Step::End);
     }
     let c = call_of(&head);
     let next = c.next;
     if bytes.len() < next {
-        return Step::End;
+        return Ok(Step::End);
     }
-    let m = io::read_full(STDIN_FILENO, &mut bytes[..next]);
+    let m = streams::read_full(list, &mut bytes[..next])?;
     if m < next {
-        return Step::End;
+        return Ok(Step::End);
     }
-    Step::Call(c)
+    Ok(Step::Call(c))
 }
 
 // Asks the C function of this kind, one that reads, and returns its refusal number.
@@ -339,37 +340,38 @@ fn tried(bytes: &[u8], c: Call, out: &mut [u8], log: &mut [u8]) -> bool {
 }
 
 // A line for a call that got another answer.
-fn differs(call: usize) {
-    io::write_all(STDOUT_FILENO, b"differs: call ");
-    io::print_decimal(STDOUT_FILENO, call as u64);
-    io::write_all(STDOUT_FILENO, b"\n");
+fn differs(rt: &impl Print, call: usize) -> io::Result<()> {
+    println!(rt; "differs: call {call}")
 }
 
 // All calls of the list, each read into the lent bytes, and how many passed.
-fn replay(bytes: &mut [u8], out: &mut [u8], log: &mut [u8]) {
+fn replay<R: Read>(
+    rt: &impl Print,
+    list: &mut R,
+    bytes: &mut [u8],
+    out: &mut [u8],
+    log: &mut [u8],
+) -> io::Result<()> {
     let mut calls: usize = 0;
     let mut passed: usize = 0;
     while calls < 100000 {
-        let s = next_call(bytes);
+        let s = next_call(list, bytes)?;
         let Step::Call(c) = s else {
             break;
         };
         if tried(bytes, c, out, log) {
             passed += 1;
         } else {
-            differs(calls);
+            differs(rt, calls)?;
         }
         calls += 1;
     }
-    io::print_decimal(STDOUT_FILENO, passed as u64);
-    io::write_all(STDOUT_FILENO, b" of ");
-    io::print_decimal(STDOUT_FILENO, calls as u64);
-    io::write_all(STDOUT_FILENO, b" calls answered as the Rust does\n");
+    println!(rt; "{passed} of {calls} calls answered as the Rust does")
 }
 
-fn main() {
+fn main(rt: HostRuntime) -> io::Result<()> {
     let mut space = room();
     let mut out = [0u8; 41080];
     let mut log = [0u8; 1200];
-    replay(&mut space, &mut out, &mut log);
+    replay(&rt, &mut rt.stdin(), &mut space, &mut out, &mut log)
 }

@@ -1,0 +1,9 @@
+-- The loop of `streams::read_full`: what was read stands in the lent bytes, whose number stays. Assumes nothing.
+use Rattle.std.specs.Prelude.{length, ◌-◌, ◌≤◌, ◌≡◌}
+use Rattle.streams.proofs.read_full.Given as goal
+
+abbrev pub invariant-loop-done : goal.invariant-loop-done
+invariant-loop-done g l = (l.done ≤ length l.bytes) × (length l.bytes ≡ length l.initial.bytes)
+
+abbrev pub decreases-loop-done : goal.decreases-loop-done
+decreases-loop-done g l = length l.initial.bytes - l.done
