@@ -1,12 +1,9 @@
 -- `elements::all_marked` meets its contract. The invariant: whether all of the rest are marked is whether all of the row are. Assumes nothing.
 use Prim.Native.Nat.{◌≤◌, ◌-◌}
-use native.Mathlib.Omega.{arith}
-use mathlib.Core.Path.{◌≡◌, refl, sym, ◌∙◌}
+use mathlib.Core.Path.{◌≡◌}
 use lib.ListN.{length, drop}
-use borrow.Author.Tests.{eq-eqb, ne_eqb}
 use Rattle.lists.specs.Lists.{all}
 use Rattle.elements.specs.Workers.{marked}
-use Rattle.elements.proofs.Measures.{all_on, all_stop, all_end}
 use Rattle.elements.proofs.all_marked.Given as goal
 
 -- `elements::all_marked` meets its contract. The invariant: whether all of the rest are marked is whether all of the row are. Assumes nothing.

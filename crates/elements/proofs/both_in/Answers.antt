@@ -1,5 +1,4 @@
 -- `elements::both_in` meets its contract: one test behind the other. Assumes nothing.
-use borrow.Author.Rules.{rules}
 use mathlib.Core.Path.{sym, ◌∙◌}
 use Rattle.elements.proofs.Held.{both_true, both_false}
 use Rattle.elements.proofs.both_in.Goals as goal

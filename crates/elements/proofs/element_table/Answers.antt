@@ -1,5 +1,4 @@
 -- `elements::element_table` meets its contract: the table of the triangles, or of the straps, or none. The laws are in proofs/Filling.antt.
-use borrow.Author.Rules.{rules}
 use mathlib.Core.Path.{refl}
 use Rattle.elements.proofs.Filling.{table_triangles, table_straps, table_nothing}
 use Rattle.elements.proofs.element_table.Goals as goal

@@ -1,10 +1,6 @@
 -- `elements::fan_table` meets its contract: the invariant is the table of the rows among those passed that hold v. The laws are in proofs/Fans.antt.
-use Prim.Native.Nat.{◌+◌, ◌-◌, ◌≤◌}
-use native.Mathlib.Omega.{arith}
-use mathlib.Core.Path.{sym, ◌∙◌}
-use mathlib.Core.Logic.{⊎_elim}
-use lib.ListN.{length}
-use Rattle.elements.proofs.Fans.{Fanning, fanning_start, fanning_reads, fanning_writes, fanning_skip, fanning_take, fanning_done}
+use Prim.Native.Nat.{◌-◌}
+use Rattle.elements.proofs.Fans.{Fanning}
 use Rattle.elements.proofs.fan_table.Given as goal
 
 -- `elements::fan_table` meets its contract: the invariant is the table of the rows among those passed that hold v. The laws are in proofs/Fans.antt.

@@ -1,5 +1,4 @@
 -- `elements::holds` meets its contract: the row is lent. Assumes nothing.
-use borrow.Author.Rules.{rules}
 use Prim.Native.Nat.{◌*◌}
 use mathlib.Core.Path.{◌∙◌}
 use Rattle.elements.proofs.Held.{row_lent}

@@ -1,9 +1,9 @@
 -- `elements::holds_both` meets its contract: the invariant is that some element holds both where one of the rest does. The laws are in proofs/Held.antt.
-use Prim.Native.Nat.{◌+◌, ◌-◌, ◌≤◌}
+use Prim.Native.Nat.{◌+◌, ◌≤◌}
 use native.Mathlib.Omega.{arith}
 use mathlib.Core.Path.{sym, ◌∙◌}
 use lib.ListN.{length}
-use Rattle.elements.proofs.Held.{Seeking, seeking_start, seeking_reads, seeking_more, seeking_found, seeking_done}
+use Rattle.elements.proofs.Held.{seeking_start, seeking_reads, seeking_more, seeking_found, seeking_done}
 use Rattle.elements.proofs.holds_both.Goals as goal
 
 pub loop-i-init : goal.loop-i-init
@@ -11,11 +11,11 @@ loop-i-init c = seeking_start _ _ _ _ _
 
 pub overflow_add-b : goal.overflow_add-b
 overflow_add-b c =
-    let reads_fit : c.loop-i.a + c.args.k ≤ length c.args.verts.now = seeking_reads _ _ _ _ _ _ _ c.loop-i.invariant c.loop-i-test.true c.requires in  omega (arith, reads_fit)
+    let reads_fit : c.loop-i.a + c.args.k ≤ length c.args.verts.now = seeking_reads _ _ _ _ _ _ _ c.loop-i.invariant c.loop-i-test.true c.requires in omega (arith, reads_fit)
 
 pub offset_bounds-verts-a : goal.offset_bounds-verts-a
 offset_bounds-verts-a c =
-    let reads_fit : c.loop-i.a + c.args.k ≤ length c.args.verts.now = seeking_reads _ _ _ _ _ _ _ c.loop-i.invariant c.loop-i-test.true c.requires in  omega (arith, reads_fit)
+    let reads_fit : c.loop-i.a + c.args.k ≤ length c.args.verts.now = seeking_reads _ _ _ _ _ _ _ c.loop-i.invariant c.loop-i-test.true c.requires in omega (arith, reads_fit)
 
 pub slice_bounds-both_in-count : goal.slice_bounds-both_in-count
 slice_bounds-both_in-count c = omega arith
@@ -25,7 +25,7 @@ slice_bounds-both_in-start c = omega arith
 
 pub slice_bounds-both_in-end : goal.slice_bounds-both_in-end
 slice_bounds-both_in-end c =
-    let reads_fit : c.loop-i.a + c.args.k ≤ length c.args.verts.now = seeking_reads _ _ _ _ _ _ _ c.loop-i.invariant c.loop-i-test.true c.requires in  reads_fit
+    let reads_fit : c.loop-i.a + c.args.k ≤ length c.args.verts.now = seeking_reads _ _ _ _ _ _ _ c.loop-i.invariant c.loop-i-test.true c.requires in reads_fit
 
 pub both_in-requires : goal.both_in-requires
 both_in-requires c = omega arith

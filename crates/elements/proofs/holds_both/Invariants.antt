@@ -1,9 +1,6 @@
 -- `elements::holds_both` meets its contract: the invariant is that some element holds both where one of the rest does. The laws are in proofs/Held.antt.
-use Prim.Native.Nat.{◌+◌, ◌-◌, ◌≤◌}
-use native.Mathlib.Omega.{arith}
-use mathlib.Core.Path.{sym, ◌∙◌}
-use lib.ListN.{length}
-use Rattle.elements.proofs.Held.{Seeking, seeking_start, seeking_reads, seeking_more, seeking_found, seeking_done}
+use Prim.Native.Nat.{◌-◌}
+use Rattle.elements.proofs.Held.{Seeking}
 use Rattle.elements.proofs.holds_both.Given as goal
 
 -- `elements::holds_both` meets its contract: the invariant is that some element holds both where one of the rest does. The laws are in proofs/Held.antt.

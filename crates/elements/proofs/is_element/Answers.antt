@@ -1,5 +1,4 @@
 -- `elements::is_element` meets its contract: by cases of the kind. Assumes nothing.
-use borrow.Author.Rules.{rules}
 use Rattle.elements.proofs.is_element.Goals as goal
 
 pub returns-in-Triangles : goal.returns-in-Triangles

@@ -1,10 +1,7 @@
 -- `elements::kind_of` meets its contract. The invariant: no edge that was passed is structural. Assumes nothing.
 use Prim.Native.Nat.{ℕ, ◌+◌, ◌*◌, ◌-◌, ◌≤◌, ◌<◌}
-use native.Mathlib.Omega.{arith}
 use mathlib.Core.Path.{◌≡◌}
 use lib.ListN.{get_or}
-use borrow.Author.Count.{below_more}
-use Rattle.elements.proofs.Found.{kind_triangles, kind_straps, kind_nothing}
 use Rattle.elements.proofs.kind_of.Given as goal
 
 -- `elements::kind_of` meets its contract. The invariant: no edge that was passed is structural. Assumes nothing.

@@ -1,9 +1,7 @@
 -- `elements::mark_listed` meets its contract. The invariant: exactly the listed that were passed are marked. Assumes nothing.
-use Prim.Native.Nat.{◌≤◌, ◌-◌}
 use native.Mathlib.Omega.{arith}
 use mathlib.Core.Path.{◌∙◌}
-use lib.ListN.{length}
-use Rattle.elements.proofs.Measures.{Marking, cleared_long, marking_start, marking_more, marking_done}
+use Rattle.elements.proofs.Measures.{cleared_long, marking_start, marking_more, marking_done}
 use Rattle.elements.proofs.mark_listed.Goals as goal
 
 pub clear_usize-requires : goal.clear_usize-requires

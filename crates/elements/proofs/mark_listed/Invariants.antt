@@ -1,9 +1,7 @@
 -- `elements::mark_listed` meets its contract. The invariant: exactly the listed that were passed are marked. Assumes nothing.
 use Prim.Native.Nat.{◌≤◌, ◌-◌}
-use native.Mathlib.Omega.{arith}
-use mathlib.Core.Path.{◌∙◌}
 use lib.ListN.{length}
-use Rattle.elements.proofs.Measures.{Marking, cleared_long, marking_start, marking_more, marking_done}
+use Rattle.elements.proofs.Measures.{Marking}
 use Rattle.elements.proofs.mark_listed.Given as goal
 
 -- `elements::mark_listed` meets its contract. The invariant: exactly the listed that were passed are marked. Assumes nothing.

@@ -1,11 +1,6 @@
 -- `elements::measure_marked` meets its contract: the invariant is the sum over the elements that were passed. The laws are in proofs/Measures.antt.
-use Prim.Native.Nat.{◌+◌, ◌-◌, ◌≤◌}
-use native.Mathlib.Omega.{arith}
-use mathlib.Core.Path.{refl, sym, ◌∙◌}
-use mathlib.Core.Logic.{⊎_elim}
-use lib.ListN.{length}
-use lib.Ieee.{of_bits}
-use Rattle.elements.proofs.Measures.{Passing, row_below, passing_start, passing_reads, passing_skip, passing_take, passing_done}
+use Prim.Native.Nat.{◌-◌}
+use Rattle.elements.proofs.Measures.{Passing}
 use Rattle.elements.proofs.measure_marked.Given as goal
 
 -- `elements::measure_marked` meets its contract: the invariant is the sum over the elements that were passed. The laws are in proofs/Measures.antt.

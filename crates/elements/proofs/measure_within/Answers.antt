@@ -1,5 +1,4 @@
 -- `elements::measure_within` meets its contract: the listed are marked, and the marks asked. The laws are in proofs/Measures.antt.
-use borrow.Author.Rules.{rules}
 use native.Mathlib.Omega.{arith}
 use Rattle.elements.proofs.Measures.{measured_within}
 use Rattle.elements.proofs.measure_within.Goals as goal

@@ -1,9 +1,7 @@
 -- `elements::strap_table` meets its contract: the invariant is the table of the straps among the edges that were passed. The laws are in proofs/Filling.antt.
-use Prim.Native.Nat.{◌-◌, ◌≤◌}
 use native.Mathlib.Omega.{arith}
 use lib.ListN.{length-set}
-use mathlib.Core.Logic.{⊎_elim}
-use Rattle.elements.proofs.Filling.{Strapping, strapping_start, strapping_skip, strapping_take, strapping_done}
+use Rattle.elements.proofs.Filling.{strapping_start, strapping_skip, strapping_take, strapping_done}
 use Rattle.elements.proofs.strap_table.Goals as goal
 use Rattle.elements.proofs.strap_table.Goals.{else-ends-c-eq1, then-ends-c-eq1}
 
@@ -87,8 +85,10 @@ loop-i-smaller c = omega arith
 
 pub loop-i-preserved : goal.loop-i-preserved
 loop-i-preserved c = let inv = c.loop-i.invariant in
-    elim c.if-ends-c-eq1.branch [ then-ends-c-eq1 w ↦ rw (w.numbers-is, w.verts-is, w.measures-is, w.n-is, w.o-is) (strapping_take _ _ _ _ _ _ _ _ _ _ _ c.loop-i.invariant.0 w.if-ends-c-eq1.true (omega arith) (omega arith) (omega arith), omega arith)
-    | else-ends-c-eq1 w ↦ rw (w.numbers-is, w.verts-is, w.measures-is, w.n-is, w.o-is) (strapping_skip _ _ _ _ _ _ _ _ _ _ _ c.loop-i.invariant.0 w.if-ends-c-eq1.false, omega arith) ]
+    elim c.if-ends-c-eq1.branch [
+      | then-ends-c-eq1 w ↦ rw (w.numbers-is, w.verts-is, w.measures-is, w.n-is, w.o-is) (strapping_take _ _ _ _ _ _ _ _ _ _ _ c.loop-i.invariant.0 w.if-ends-c-eq1.true (omega arith) (omega arith) (omega arith), omega arith)
+      | else-ends-c-eq1 w ↦ rw (w.numbers-is, w.verts-is, w.measures-is, w.n-is, w.o-is) (strapping_skip _ _ _ _ _ _ _ _ _ _ _ c.loop-i.invariant.0 w.if-ends-c-eq1.false, omega arith)
+    ]
 
 pub shape_of-numbers : goal.shape_of-numbers
 shape_of-numbers c = c.loop-i.invariant.0.filling.numbers_long

@@ -1,9 +1,6 @@
 -- `elements::strap_table` meets its contract: the invariant is the table of the straps among the edges that were passed. The laws are in proofs/Filling.antt.
 use Prim.Native.Nat.{◌-◌, ◌≤◌}
-use native.Mathlib.Omega.{arith}
-use lib.ListN.{length-set}
-use mathlib.Core.Logic.{⊎_elim}
-use Rattle.elements.proofs.Filling.{Strapping, strapping_start, strapping_skip, strapping_take, strapping_done}
+use Rattle.elements.proofs.Filling.{Strapping}
 use Rattle.elements.proofs.strap_table.Given as goal
 
 -- `elements::strap_table` meets its contract: the invariant is the table of the straps among the edges that were passed. The laws are in proofs/Filling.antt.

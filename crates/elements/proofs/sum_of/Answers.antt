@@ -1,5 +1,5 @@
 -- `elements::sum_of` meets its contract. The invariant: s is the sum of the numbers that were passed. Assumes nothing.
-use Prim.Native.Nat.{◌≤◌, ◌-◌, ℕ}
+use Prim.Native.Nat.{ℕ}
 use native.Mathlib.Omega.{arith}
 use mathlib.Core.Path.{◌≡◌, sym, ◌∙◌, ap}
 use lib.ListN.{take, get_or}

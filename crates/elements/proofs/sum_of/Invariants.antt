@@ -1,12 +1,8 @@
 -- `elements::sum_of` meets its contract. The invariant: s is the sum of the numbers that were passed. Assumes nothing.
-use Prim.Native.Nat.{◌≤◌, ◌-◌, ℕ}
-use native.Mathlib.Omega.{arith}
-use mathlib.Core.Path.{◌≡◌, sym, ◌∙◌, ap}
-use lib.ListN.{take, get_or}
-use lib.Ieee.{Float, of_bits, nan}
-use Rattle.float.specs.Numbers.{plus}
+use Prim.Native.Nat.{◌≤◌, ◌-◌}
+use mathlib.Core.Path.{◌≡◌}
+use lib.ListN.{take}
 use Rattle.model.specs.Elements.{sum}
-use Rattle.elements.proofs.Measures.{sum_none, sum_front}
 use Rattle.elements.proofs.sum_of.Given as goal
 
 -- `elements::sum_of` meets its contract. The invariant: s is the sum of the numbers that were passed. Assumes nothing.

@@ -1,8 +1,6 @@
 -- `elements::triangle_table` meets its contract: the invariant is the table of the triangles that were passed. The laws are in proofs/Filling.antt.
 use Prim.Native.Nat.{◌-◌, ◌≤◌}
-use native.Mathlib.Omega.{arith}
-use lib.ListN.{length-set}
-use Rattle.elements.proofs.Filling.{Triangling, triangling_start, triangling_more, triangling_done}
+use Rattle.elements.proofs.Filling.{Triangling}
 use Rattle.elements.proofs.triangle_table.Given as goal
 
 -- `elements::triangle_table` meets its contract: the invariant is the table of the triangles that were passed. The laws are in proofs/Filling.antt.
