@@ -8,7 +8,7 @@ use lib.Dec.{leb}
 use lib.ListN.{length, take}
 use lib.Ieee.{Float}
 use borrow.Author.Tests.{leb-true}
-use Rattle.mesh.specs.Given.{Given, given, sizes_fit_of}
+use Rattle.mesh.specs.Given.{given, sizes_fit_of}
 use Rattle.mesh.specs.Widths.{point_columns}
 use Rattle.image.specs.Words.{word_at_of}
 use Rattle.image.specs.Image.{image_fits_of, image_of, counts_within_of, image_sized_of}

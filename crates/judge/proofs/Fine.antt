@@ -1,7 +1,7 @@
 -- Words that tell of indices: which of them are below 2 ^ 63, and that the word of all bits of two is where both are.
-use Rattle.std.proofs.Common.{◌≡◌, ℕ, ◌+◌, ◌*◌, ◌%◌, ◌^◌, ◌<◌, ◌≤◌, Bool, true, false, not, ◌&&◌, eqb, ltb, [], ◌∷◌, sym, refl, ap, ◌∙◌, ap₂, arith, ltb-true, le-ltb, lt-ltb, eq-eqb, ne_eqb}
+use Rattle.std.proofs.Common.{◌≡◌, ℕ, ◌+◌, ◌%◌, ◌<◌, ◌≤◌, Bool, true, false, not, ◌&&◌, eqb, ltb, [], ◌∷◌, sym, refl, ap, ◌∙◌, arith, ltb-true, le-ltb, lt-ltb, eq-eqb, ne_eqb}
 use native.Mathlib.Decide.{dec_le, ℕ_discrete}
-use lib.Bits.{bit_or, bit_xor, bit_and, xor_lt, xor_self, xor_add_and, and_le_l, and_le_r}
+use lib.Bits.{bit_or, bit_xor, xor_lt, xor_self, xor_add_and, and_le_l, and_le_r}
 use Rattle.columns.proofs.Rows.{and_false}
 use Rattle.model.specs.Valid.{named}
 use Rattle.judge.specs.Told.{fine}

@@ -1,5 +1,5 @@
 -- What a worker over the lent blocks asks and promises, as its contract names them (Rattle.mesh.specs.Blocks). Definitions only.
-use Rattle.std.specs.Prelude.{ℕ, length}
+use Rattle.std.specs.Prelude.{length}
 use Rattle.model.specs.Mesh.{Mesh}
 use Rattle.model.specs.Run.{Run}
 use Rattle.mesh.specs.Log.{World, world_at}

@@ -7,4 +7,4 @@ pub returns : goal.returns
 returns c =
     let J = c.join_each.ensures in
     let E = c.flatten.ensures in
-    body_roots J E.kept E.by_index
+    body_roots J E.kept E.flat

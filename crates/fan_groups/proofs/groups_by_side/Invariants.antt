@@ -1,13 +1,7 @@
 -- `fan_groups::groups_by_side` meets its contract. The invariant: the places passed have their numbers. Assumes nothing.
-use borrow.Author.Rules.{rules}
-use native.Mathlib.Omega.{arith}
-use native.Mathlib.Nat.{mul-le-mul, le_of_lt}
-use mathlib.Core.Path.{◌≡◌, sym, ◌∙◌, ap}
-use mathlib.Core.Logic.{⊎_elim}
+use mathlib.Core.Path.{◌≡◌}
 use Prim.Native.Nat.{ℕ, ◌*◌, ◌<◌, ◌≤◌, ◌-◌}
-use lib.ListN.{length, get_or, length-set}
-use Rattle.lists.proofs.Stores.{stored, at_eq}
-use Rattle.fan_groups.proofs.BySides.{groups_on_low}
+use lib.ListN.{length, get_or}
 use Rattle.fan_groups.proofs.groups_by_side.Given as goal
 
 -- `fan_groups::groups_by_side` meets its contract. The invariant: the places passed have their numbers. Assumes nothing.

@@ -22,7 +22,6 @@ number_side-low-requires c =
     let S = c.spread_labels.ensures in
     record { turning = (labels_of F, (labels_tops F, turned_none S.long S.labels)); from_in_bounds = search rules }
 
-
 pub number_side-requires : goal.number_side-requires
 number_side-requires c =
     let A = c.args in
@@ -30,7 +29,6 @@ number_side-requires c =
     let S = c.spread_labels.ensures in
     let N = c.number_side-low.ensures in
     record { turning = (labels_of F, (labels_tops F, N.turns (labels_of F) (labels_tops F) (turned_none S.long S.labels))); from_in_bounds = omega arith }
-
 
 pub returns : goal.returns
 returns c =

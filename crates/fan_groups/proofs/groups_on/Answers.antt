@@ -1,5 +1,4 @@
 -- `fan_groups::groups_on` meets its contract. Assumes nothing.
-use borrow.Author.Rules.{rules}
 use mathlib.Core.Path.{sym, ◌∙◌}
 use Rattle.fan_groups.specs.Sides.{groups_on_of}
 use Rattle.fan_groups.proofs.groups_on.Goals as goal

@@ -2,10 +2,9 @@
 use borrow.Author.Rules.{rules}
 use native.Mathlib.Omega.{arith}
 use mathlib.Core.Path.{◌≡◌, sym, ◌∙◌, ap, subst}
-use mathlib.Core.Logic.{⊎_elim}
-use Prim.Native.Nat.{ℕ, ◌+◌, ◌<◌, ◌≤◌, ◌-◌}
+use Prim.Native.Nat.{ℕ, ◌<◌}
 use lib.ListN.{length, length-set}
-use Rattle.fan.specs.Parts.{Turned, Turns}
+use Rattle.fan.specs.Parts.{Turned}
 use Rattle.fan.proofs.Numbering.{turned_skip, turned_side, turned_label, turned_new, turned_old, turned_at}
 use Rattle.fan_groups.proofs.number_side.Goals as goal
 use Rattle.fan_groups.proofs.number_side.Goals.{else-sides-i, then-sides-i+else-label-i, then-sides-i+then-label-i}
@@ -41,9 +40,11 @@ pub loop-i-preserved : goal.loop-i-preserved
 loop-i-preserved c =
     let L = c.loop-i in
     let l : L.i < length c.args.sides.now = search rules in
-    elim c.if-sides-i.branch [ then-sides-i+then-label-i w ↦ (omega arith, ap length w.table-is ∙ simp length-set L.invariant.1, omega (arith, w.count-is), λ p T U. turned_at w.table-is w.count-is (turned_new T (L.invariant.3 p T U) l w.if-sides-i.true w.if-label-i.true))
-    | then-sides-i+else-label-i w ↦ (omega arith, ap length w.table-is ∙ simp length-set L.invariant.1, omega (arith, w.count-is), λ p T U. turned_at w.table-is w.count-is (turned_old T (L.invariant.3 p T U) l w.if-sides-i.true w.if-label-i.false))
-    | else-sides-i w ↦ (omega arith, ap length w.table-is ∙ L.invariant.1, omega (arith, w.count-is), λ p T U. turned_at w.table-is w.count-is (turned_skip w.if-sides-i.false (L.invariant.3 p T U))) ]
+    elim c.if-sides-i.branch [
+      | then-sides-i+then-label-i w ↦ (omega arith, ap length w.table-is ∙ simp length-set L.invariant.1, omega (arith, w.count-is), λ p T U. turned_at w.table-is w.count-is (turned_new T (L.invariant.3 p T U) l w.if-sides-i.true w.if-label-i.true))
+      | then-sides-i+else-label-i w ↦ (omega arith, ap length w.table-is ∙ simp length-set L.invariant.1, omega (arith, w.count-is), λ p T U. turned_at w.table-is w.count-is (turned_old T (L.invariant.3 p T U) l w.if-sides-i.true w.if-label-i.false))
+      | else-sides-i w ↦ (omega arith, ap length w.table-is ∙ L.invariant.1, omega (arith, w.count-is), λ p T U. turned_at w.table-is w.count-is (turned_skip w.if-sides-i.false (L.invariant.3 p T U)))
+    ]
 
 pub shape_of-table : goal.shape_of-table
 shape_of-table c = c.loop-i.invariant.1 ∙ sym c.requires.turning.1.1.part.long
@@ -54,4 +55,3 @@ returns c =
     let L = c.loop-i in
     let e : L.i ≡ length A.sides.now = omega arith in
     record { turns = (λ p T U. turned_side (subst (λ (m : ℕ). Turned A.sides.now p A.side m L.table L.count) e (L.invariant.3 p T U))); upper_bound = omega arith }
-

@@ -1,12 +1,8 @@
 -- `fan_groups::number_side` meets its contract. The invariant: the turns up to place i of this side. Assumes nothing.
-use borrow.Author.Rules.{rules}
-use native.Mathlib.Omega.{arith}
-use mathlib.Core.Path.{◌≡◌, sym, ◌∙◌, ap, subst}
-use mathlib.Core.Logic.{⊎_elim}
-use Prim.Native.Nat.{ℕ, ◌+◌, ◌<◌, ◌≤◌, ◌-◌}
-use lib.ListN.{length, length-set}
-use Rattle.fan.specs.Parts.{Turned, Turns}
-use Rattle.fan.proofs.Numbering.{turned_skip, turned_side, turned_label, turned_new, turned_old, turned_at}
+use mathlib.Core.Path.{◌≡◌}
+use Prim.Native.Nat.{◌+◌, ◌≤◌, ◌-◌}
+use lib.ListN.{length}
+use Rattle.fan.specs.Parts.{Turns}
 use Rattle.fan_groups.proofs.number_side.Given as goal
 
 -- `fan_groups::number_side` meets its contract. The invariant: the turns up to place i of this side. Assumes nothing.

@@ -1,11 +1,7 @@
 -- `fan_spread::next_reached` meets its contract. The invariant: none of those passed has the label. Assumes nothing.
-use borrow.Author.Rules.{rules}
-use native.Mathlib.Omega.{arith}
-use native.Mathlib.Decide.{ℕ_discrete}
-use mathlib.Core.Path.{◌≡◌, sym, ◌∙◌}
+use mathlib.Core.Path.{◌≡◌}
 use Prim.Native.Nat.{ℕ, ◌<◌, ◌≤◌, ◌-◌}
 use lib.ListN.{length, get_or}
-use Rattle.lists.proofs.Stores.{at_eq}
 use Rattle.fan_spread.proofs.next_reached.Given as goal
 
 -- `fan_spread::next_reached` meets its contract. The invariant: none of those passed has the label. Assumes nothing.

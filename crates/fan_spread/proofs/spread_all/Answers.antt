@@ -3,8 +3,7 @@ use Rattle.fan_reach.proofs.Spreading.{settled_none, settled_skip, settled_at, s
 use Rattle.fan_reach.specs.Spread.{Settled}
 use Rattle.fan.specs.Fan.{fan}
 use lib.ListN.{length}
-use Prim.Native.Nat.{ℕ, ◌≤◌, ◌-◌}
-use mathlib.Core.Logic.{⊎_elim}
+use Prim.Native.Nat.{ℕ}
 use mathlib.Core.Path.{◌≡◌, sym, ◌∙◌, subst}
 use native.Mathlib.Omega.{arith}
 use borrow.Author.Rules.{rules}
@@ -22,11 +21,12 @@ bounds-table-i c = let e = c.loop-i.invariant.1.spreading.long in
 pub spread_label-requires : goal.spread_label-requires
 spread_label-requires c = record { verts_len = (c.requires.verts_len.0, c.requires.lent); settled = c.loop-i.invariant.1; label_in_bounds = (search rules, c.if-table-i.true) }
 
-
 pub loop-i-preserved : goal.loop-i-preserved
 loop-i-preserved c = let L = c.loop-i in
-    elim c.if-table-i.branch [ then-table-i w ↦ (omega arith, settled_at w.table-is w.spread_label.ensures)
-    | else-table-i w ↦ (omega arith, settled_at w.table-is (settled_skip L.invariant.1 (search rules) w.if-table-i.false)) ]
+    elim c.if-table-i.branch [
+      | then-table-i w ↦ (omega arith, settled_at w.table-is w.spread_label.ensures)
+      | else-table-i w ↦ (omega arith, settled_at w.table-is (settled_skip L.invariant.1 (search rules) w.if-table-i.false))
+    ]
 
 pub shape_of-table : goal.shape_of-table
 shape_of-table c = c.loop-i.invariant.1.spreading.long ∙ sym c.requires.verts_len.1

@@ -1,13 +1,8 @@
 -- `fan_spread::spread_all` meets its contract. The invariant: the labels below i are spread. Assumes nothing.
-use Rattle.fan_reach.proofs.Spreading.{settled_none, settled_skip, settled_at, spread_all}
 use Rattle.fan_reach.specs.Spread.{Settled}
 use Rattle.fan.specs.Fan.{fan}
 use lib.ListN.{length}
-use Prim.Native.Nat.{ℕ, ◌≤◌, ◌-◌}
-use mathlib.Core.Logic.{⊎_elim}
-use mathlib.Core.Path.{◌≡◌, sym, ◌∙◌, subst}
-use native.Mathlib.Omega.{arith}
-use borrow.Author.Rules.{rules}
+use Prim.Native.Nat.{◌≤◌, ◌-◌}
 use Rattle.fan_spread.proofs.spread_all.Given as goal
 
 -- `fan_spread::spread_all` meets its contract. The invariant: the labels below i are spread. Assumes nothing.

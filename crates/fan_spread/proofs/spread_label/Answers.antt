@@ -1,8 +1,5 @@
 -- `fan_spread::spread_label` meets its contract. The invariant: a is next; the measure: how many elements are not yet spread. Assumes nothing.
 use Rattle.fan_reach.proofs.Spreading.{going_none, going_reached, going_on, going_all}
-use Rattle.fan_reach.specs.Spread.{Going, waiting}
-use Rattle.fan.specs.Fan.{fan}
-use lib.ListN.{length}
 use mathlib.Core.Path.{sym, ◌∙◌}
 use native.Mathlib.Omega.{arith}
 use borrow.Author.Rules.{rules}
@@ -15,7 +12,6 @@ loop-a-init c = let P = c.requires in
 pub spread_from-requires : goal.spread_from-requires
 spread_from-requires c = let P = c.requires in
     record { verts_len = P.verts_len; reached = going_reached c.loop-a.invariant P.label_in_bounds.0 (search rules) }
-
 
 pub next_reached-a-requires : goal.next_reached-a-requires
 next_reached-a-requires c = let l = c.requires.label_in_bounds.0 in

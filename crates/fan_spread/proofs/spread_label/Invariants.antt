@@ -1,11 +1,7 @@
 -- `fan_spread::spread_label` meets its contract. The invariant: a is next; the measure: how many elements are not yet spread. Assumes nothing.
-use Rattle.fan_reach.proofs.Spreading.{going_none, going_reached, going_on, going_all}
 use Rattle.fan_reach.specs.Spread.{Going, waiting}
 use Rattle.fan.specs.Fan.{fan}
 use lib.ListN.{length}
-use mathlib.Core.Path.{sym, ◌∙◌}
-use native.Mathlib.Omega.{arith}
-use borrow.Author.Rules.{rules}
 use Rattle.fan_spread.proofs.spread_label.Given as goal
 
 -- `fan_spread::spread_label` meets its contract. The invariant: a is next; the measure: how many elements are not yet spread. Assumes nothing.

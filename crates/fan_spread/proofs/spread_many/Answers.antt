@@ -1,6 +1,5 @@
 -- `fan_spread::spread_many` meets its contract. Assumes nothing.
 use Rattle.fan_reach.proofs.Corners.{linked_new}
-use borrow.Author.Rules.{rules}
 use Rattle.fan_spread.proofs.spread_many.Goals as goal
 
 pub link_corners-requires : goal.link_corners-requires

@@ -1,6 +1,5 @@
 -- `image::counts_within` meets its contract: the four counts. Assumes nothing.
 use Rattle.image.specs.Image.{counts_within_of}
-use borrow.Author.Rules.{rules}
 use Rattle.image.proofs.counts_within.Goals as goal
 
 pub returns : goal.returns

@@ -1,6 +1,5 @@
 -- `image::image_fits` meets its contract: the counts against the bytes. Assumes nothing.
 use Rattle.image.proofs.Sizes.{fits_short, fits_as}
-use borrow.Author.Rules.{rules}
 use Rattle.image.proofs.image_fits.Goals as goal
 
 -- `image::image_fits` meets its contract: the counts against the bytes. Assumes nothing.

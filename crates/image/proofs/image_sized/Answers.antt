@@ -1,6 +1,5 @@
 -- `image::image_sized` meets its contract: both tests. Assumes nothing.
 use Rattle.image.proofs.Sizes.{fits_counts, sized_as, sized_not}
-use borrow.Author.Rules.{rules}
 use Rattle.image.proofs.image_sized.Goals as goal
 
 pub counts_within-requires : goal.counts_within-requires

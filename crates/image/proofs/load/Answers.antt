@@ -1,7 +1,6 @@
 -- `image::load` meets its contract: seven blocks. Assumes nothing.
 use Rattle.image.proofs.Fronts.{loaded}
 use native.Mathlib.Omega.{arith}
-use borrow.Author.Rules.{rules}
 use Rattle.image.proofs.load.Goals as goal
 
 pub words_into-requires-3 : goal.words_into-requires-3

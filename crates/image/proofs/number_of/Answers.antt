@@ -3,7 +3,6 @@ use mathlib.Core.Path.{sym, subst}
 use mathlib.Core.Bool.{Bool, not}
 use lib.Dec.{T}
 use Rattle.image.proofs.Words.{kept_bits}
-use borrow.Author.Rules.{rules}
 use Rattle.image.proofs.number_of.Goals as goal
 
 pub float_from_bits-result : goal.float_from_bits-result

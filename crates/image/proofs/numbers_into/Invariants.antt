@@ -1,10 +1,7 @@
 -- `image::numbers_into` meets its contract: a block fills with numbers. Assumes nothing.
 use Prim.Native.Nat.{◌+◌, ◌-◌}
-use native.Mathlib.Omega.{arith}
-use lib.ListN.{length}
-use mathlib.Core.Path.{◌∙◌, ap}
-use Rattle.image.specs.Words.{word_at_of, number_of, numbers_from}
-use Rattle.image.proofs.Words.{Filling, fill_start, fill_more, fill_done}
+use Rattle.image.specs.Words.{word_at_of, number_of}
+use Rattle.image.proofs.Words.{Filling}
 use Rattle.image.proofs.numbers_into.Given as goal
 
 -- `image::numbers_into` meets its contract: a block fills with numbers. Assumes nothing.

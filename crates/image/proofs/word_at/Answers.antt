@@ -1,7 +1,6 @@
 -- `image::word_at` meets its contract: four bytes are one word. Assumes nothing.
 use native.Mathlib.Omega.{arith}
 use Rattle.image.specs.Words.{word_at_of}
-use borrow.Author.Rules.{rules}
 use Rattle.image.proofs.word_at.Goals as goal
 
 pub returns : goal.returns

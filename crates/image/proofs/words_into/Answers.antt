@@ -1,9 +1,7 @@
 -- `image::words_into` meets its contract: a block fills with words. Assumes nothing.
-use Prim.Native.Nat.{◌+◌, ◌-◌}
 use native.Mathlib.Omega.{arith}
-use lib.ListN.{length}
-use Rattle.image.specs.Words.{word_at_of, words_from}
-use Rattle.image.proofs.Words.{Filling, fill_start, fill_more, fill_done}
+use Rattle.image.specs.Words.{words_from}
+use Rattle.image.proofs.Words.{fill_start, fill_more, fill_done}
 use Rattle.image.proofs.words_into.Goals as goal
 
 pub loop-i-init : goal.loop-i-init

@@ -1,8 +1,6 @@
 -- `links::build_links` meets its contract: the invariant is the table of the cells passed (`Building` of proofs/Built.antt). Assumes nothing.
-use Rattle.links.proofs.Built.{Building, building_start, building_row, building_more, building_done}
-use Rattle.columns.specs.Block.{cell}
+use Rattle.links.proofs.Built.{building_start, building_row, building_more, building_done}
 use mathlib.Core.Path.{refl}
-use lib.ListN.{length}
 use native.Mathlib.Omega.{arith}
 use Rattle.links.proofs.build_links.Goals as goal
 

@@ -1,8 +1,5 @@
 -- `links::cells_at` meets its contract: the invariant is the cells found (`Walking` of proofs/Walked.antt). Assumes nothing.
-use Prim.Native.Nat.{◌-◌}
-use Rattle.links.proofs.Walked.{Walking, walking_start, walking_holds, walking_room, walking_within, walking_few, walking_more, walking_done}
-use Rattle.columns.specs.Block.{cell}
-use lib.ListN.{length}
+use Rattle.links.proofs.Walked.{walking_start, walking_holds, walking_room, walking_within, walking_few, walking_more, walking_done}
 use native.Mathlib.Omega.{arith}
 use Rattle.links.proofs.cells_at.Goals as goal
 

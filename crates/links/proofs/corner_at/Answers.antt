@@ -1,7 +1,6 @@
 -- `links::corner_at` meets its contract: the columns passed do not have v (`Looking` of proofs/Places.antt). Assumes nothing.
 use native.Mathlib.Omega.{arith}
-use Rattle.links.proofs.Places.{Looking, looking_start, looking_fits, looking_found, looking_more, looking_last}
-use Prim.Native.Nat.{◌-◌}
+use Rattle.links.proofs.Places.{looking_start, looking_fits, looking_found, looking_more, looking_last}
 use Rattle.links.proofs.corner_at.Goals as goal
 
 pub loop-c-init : goal.loop-c-init

@@ -1,6 +1,5 @@
 -- `links::first_at` meets its contract: what the table has at a head. Assumes nothing.
 use native.Mathlib.Omega.{arith}
-use borrow.Author.Rules.{rules}
 use Rattle.links.proofs.first_at.Goals as goal
 
 pub overflow_cast-result : goal.overflow_cast-result

@@ -1,9 +1,7 @@
 -- `links::link_cell` meets its contract: the invariant is the cell linked at the corners passed (`LinkingIn` of proofs/Built.antt). Assumes nothing.
 use native.Mathlib.Omega.{arith}
-use Rattle.columns.specs.Block.{cell}
-use Rattle.links.proofs.Built.{LinkingIn, link_start, linking_done, column_in, corner_in, links_in, link_in, head_in, cell_linking}
+use Rattle.links.proofs.Built.{link_start, linking_done, column_in, corner_in, links_in, link_in, head_in, cell_linking}
 use lib.ListN.{length-set}
-use Prim.Native.Nat.{◌-◌}
 use Rattle.links.proofs.link_cell.Goals as goal
 
 pub overflow_add-own : goal.overflow_add-own

@@ -1,8 +1,6 @@
 -- `links::link_cell` meets its contract: the invariant is the cell linked at the corners passed (`LinkingIn` of proofs/Built.antt). Assumes nothing.
-use native.Mathlib.Omega.{arith}
 use Rattle.columns.specs.Block.{cell}
-use Rattle.links.proofs.Built.{LinkingIn, link_start, linking_done, column_in, corner_in, links_in, link_in, head_in, cell_linking}
-use lib.ListN.{length-set}
+use Rattle.links.proofs.Built.{LinkingIn}
 use Prim.Native.Nat.{◌-◌}
 use Rattle.links.proofs.link_cell.Given as goal
 

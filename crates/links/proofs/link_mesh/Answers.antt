@@ -3,7 +3,6 @@ use Rattle.links.proofs.Parts.{cleared_take, cleared_second, cleared_third, room
 use lib.Seq.{length-take-le}
 use mathlib.Core.Path.{sym, ◌∙◌}
 use native.Mathlib.Omega.{arith}
-use borrow.Author.Rules.{rules}
 use Rattle.links.proofs.link_mesh.Goals as goal
 
 pub slice_bounds-link_triangles-end-2 : goal.slice_bounds-link_triangles-end-2

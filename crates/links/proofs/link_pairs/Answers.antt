@@ -1,7 +1,6 @@
 -- `links::link_pairs` meets its contract: the room of two columns of w, and the table that is built in it (proofs/Parts.antt). Assumes nothing.
 use Rattle.links.proofs.Parts.{pairs_room, pairs_built}
 use native.Mathlib.Omega.{arith}
-use borrow.Author.Rules.{rules}
 use Rattle.links.proofs.link_pairs.Goals as goal
 
 -- `links::link_pairs` meets its contract: the room of two columns of w, and the table that is built in it (proofs/Parts.antt). Assumes nothing.

@@ -2,7 +2,6 @@
 use Rattle.links.proofs.Accepted.{build_room, linked_built, linked_straps, linked_nothing}
 use Rattle.elements.specs.Table.{kind_is}
 use mathlib.Core.Path.{ap}
-use borrow.Author.Rules.{rules}
 use Rattle.links.proofs.link_triangles.Goals as goal
 
 pub build_links-requires : goal.build_links-requires

@@ -1,5 +1,4 @@
 -- `listing::put_number` meets its contract: the digits of the tenth, then the last. The measure is the number. Assumes nothing.
-use Rattle.std.proofs.Common.{arith}
 use Rattle.listing.proofs.Appending.{number_small, number_more}
 use Rattle.listing.proofs.+put_number.Goals as goal
 

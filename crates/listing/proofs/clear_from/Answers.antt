@@ -1,8 +1,6 @@
 -- `listing::clear_from` meets its contract: from a place within the bytes on every byte is 0. Assumes nothing.
-use Rattle.listing.proofs.Appending.{ClearingFrom, clear_start_from, clear_more_from, clear_done_from}
+use Rattle.listing.proofs.Appending.{clear_start_from, clear_more_from, clear_done_from}
 use native.Mathlib.Omega.{arith}
-use lib.ListN.{length}
-use Prim.Native.Nat.{◌-◌}
 use Rattle.listing.proofs.clear_from.Goals as goal
 
 pub loop-i-init : goal.loop-i-init

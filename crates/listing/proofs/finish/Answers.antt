@@ -1,6 +1,5 @@
 -- `listing::finish` meets its contract: what stands behind the text goes, and all of it where the text is too long. Assumes nothing.
 use Rattle.listing.proofs.Appending.{finish_short, finish_whole}
-use borrow.Author.Rules.{rules}
 use Rattle.listing.proofs.finish.Goals as goal
 
 pub returns-in_default : goal.returns-in_default

@@ -1,6 +1,5 @@
 -- `listing::put_byte` meets its contract: a byte goes behind the text, or the text becomes too long. Assumes nothing.
 use Rattle.listing.proofs.Appending.{byte_short, byte_full, byte_fits}
-use borrow.Author.Rules.{rules}
 use Rattle.listing.proofs.put_byte.Goals as goal
 
 pub returns-in_default : goal.returns-in_default

@@ -1,11 +1,10 @@
 -- `listing::put_entries` meets its contract: one entry more a turn. Assumes nothing.
 use Rattle.listing.proofs.Entries.{entries_more}
-use Rattle.listing.proofs.Appending.{Growing, grow_start, grow_more, grow_done}
+use Rattle.listing.proofs.Appending.{grow_start, grow_more, grow_done}
 use Rattle.listing.specs.Work.{entry_line}
 use Rattle.mesh.specs.Log.{log_at}
 use Rattle.lists.specs.Lists.{each, tab}
 use native.Mathlib.Omega.{arith}
-use Prim.Native.Nat.{◌-◌}
 use mathlib.Core.Path.{refl}
 use Rattle.listing.proofs.put_entries.Goals as goal
 

@@ -1,12 +1,9 @@
 -- `listing::put_entries` meets its contract: one entry more a turn. Assumes nothing.
-use Rattle.listing.proofs.Entries.{entries_more}
-use Rattle.listing.proofs.Appending.{Growing, grow_start, grow_more, grow_done}
+use Rattle.listing.proofs.Appending.{Growing}
 use Rattle.listing.specs.Work.{entry_line}
 use Rattle.mesh.specs.Log.{log_at}
-use Rattle.lists.specs.Lists.{each, tab}
-use native.Mathlib.Omega.{arith}
+use Rattle.lists.specs.Lists.{each}
 use Prim.Native.Nat.{◌-◌}
-use mathlib.Core.Path.{refl}
 use Rattle.listing.proofs.put_entries.Given as goal
 
 -- `listing::put_entries` meets its contract: one entry more a turn. Assumes nothing.

@@ -1,7 +1,6 @@
 -- `listing::put_entry` meets its contract: an entry of the kind has its line, another none. Assumes nothing.
 use Rattle.listing.proofs.Entries.{entry_listed, entry_other}
 use Rattle.listing.proofs.Appending.{appends_none, appends_as}
-use borrow.Author.Rules.{rules}
 use Rattle.listing.proofs.put_entry.Goals as goal
 
 pub returns-then-log-place : goal.returns-then-log-place

@@ -1,6 +1,5 @@
 -- `listing::put_replaced` meets its contract: the one line, or nothing. Assumes nothing.
 use Rattle.listing.proofs.Appending.{replaced_none, replaced_line_lem}
-use borrow.Author.Rules.{rules}
 use Rattle.listing.proofs.put_replaced.Goals as goal
 
 pub returns-then-replaced : goal.returns-then-replaced

@@ -1,10 +1,7 @@
 -- `listing::put_text` meets its contract: one byte more a turn. Assumes nothing.
-use Rattle.listing.proofs.Appending.{Growing, grow_start, grow_more, grow_done, front_more, appends_as}
-use native.Mathlib.Omega.{arith}
-use lib.Seq.{take-length}
+use Rattle.listing.proofs.Appending.{Growing}
 use lib.ListN.{length, take}
 use Prim.Native.Nat.{◌-◌}
-use mathlib.Core.Path.{refl}
 use Rattle.listing.proofs.put_text.Given as goal
 
 -- `listing::put_text` meets its contract: one byte more a turn. Assumes nothing.

@@ -1,11 +1,9 @@
 -- `listing::put_words` meets its contract: a word, one word of a log more a turn, and the end of the line. Assumes nothing.
-use Rattle.listing.proofs.Appending.{Growing, grow_start, grow_more, grow_done, appends_then, spaced_more, line_written}
+use Rattle.listing.proofs.Appending.{Growing}
 use Rattle.listing.specs.Listing.{spaced}
 use Rattle.lists.specs.Lists.{each}
-use native.Mathlib.Omega.{arith}
 use lib.ListN.{length, take}
 use Prim.Native.Nat.{◌-◌}
-use mathlib.Core.Path.{refl, ◌∙◌}
 use Rattle.listing.proofs.put_words.Given as goal
 
 -- `listing::put_words` meets its contract: a word, one word of a log more a turn, and the end of the line. Assumes nothing.

@@ -2,7 +2,6 @@
 use Rattle.listing.proofs.Appending.{listing_written, wrote}
 use Rattle.mesh.specs.Log.{log_at}
 use mathlib.Core.Path.{◌∙◌}
-use borrow.Author.Rules.{rules}
 use Rattle.listing.proofs.write_listing.Goals as goal
 
 pub shape_of-out : goal.shape_of-out

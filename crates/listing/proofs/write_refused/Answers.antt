@@ -1,7 +1,6 @@
 -- `listing::write_refused` meets its contract: one line from nothing on, then the end. Assumes nothing.
 use Rattle.listing.proofs.Appending.{wrote}
 use Rattle.listing.specs.Listing.{refused_bytes}
-use borrow.Author.Rules.{rules}
 use Rattle.listing.proofs.write_refused.Goals as goal
 
 pub returns : goal.returns

@@ -1,12 +1,7 @@
 -- `reach::clear` meets its contract. The invariant: the places below i are 0. Assumes nothing.
-use borrow.Author.Rules.{rules}
-use native.Mathlib.Omega.{arith}
-use mathlib.Core.Path.{◌≡◌, ◌∙◌, refl}
-use mathlib.Core.Logic.{⊎_elim}
+use mathlib.Core.Path.{◌≡◌}
 use Prim.Native.Nat.{ℕ, ◌<◌, ◌≤◌, ◌-◌}
-use native.Mathlib.Nat.{not-suc-le-zero}
-use lib.ListN.{length, get_or, length-set}
-use Rattle.lists.proofs.Stores.{stored}
+use lib.ListN.{length, get_or}
 use Rattle.reach.proofs.clear.Given as goal
 
 -- `reach::clear` meets its contract. The invariant: the places below i are 0. Assumes nothing.

@@ -3,12 +3,7 @@ use borrow.Author.Rules.{rules}
 use borrow.Author.Count.{below_none, below_more}
 use borrow.Author.Tests.{not-true, not-false}
 use native.Mathlib.Omega.{arith}
-use mathlib.Core.Path.{◌≡◌, refl, sym, ◌∙◌}
-use mathlib.Core.Bool.{true}
-use Prim.Native.Nat.{ℕ, ◌<◌, ◌≤◌, ◌-◌}
-use lib.Dec.{leb}
-use lib.ListN.{length}
-use Rattle.reach.specs.Walk.{table_reach}
+use mathlib.Core.Path.{refl, sym, ◌∙◌}
 use Rattle.reach.proofs.Opening.{group_tested, lent_at, opens_yes, opens_no}
 use mathlib.Core.Path.{ap}
 use mathlib.Core.Bool.{not}

@@ -1,17 +1,10 @@
 -- `reach::opens_without_confetti` meets its contract. The invariant: each group below g reaches the minimum. Assumes nothing.
-use borrow.Author.Rules.{rules}
-use borrow.Author.Count.{below_none, below_more}
-use borrow.Author.Tests.{not-true, not-false}
-use native.Mathlib.Omega.{arith}
-use mathlib.Core.Path.{◌≡◌, refl, sym, ◌∙◌}
+use mathlib.Core.Path.{◌≡◌}
 use mathlib.Core.Bool.{true}
 use Prim.Native.Nat.{ℕ, ◌<◌, ◌≤◌, ◌-◌}
 use lib.Dec.{leb}
 use lib.ListN.{length}
 use Rattle.reach.specs.Walk.{table_reach}
-use Rattle.reach.proofs.Opening.{group_tested, lent_at, opens_yes, opens_no}
-use mathlib.Core.Path.{ap}
-use mathlib.Core.Bool.{not}
 use Rattle.reach.proofs.opens_without_confetti.Given as goal
 
 -- `reach::opens_without_confetti` meets its contract. The invariant: each group below g reaches the minimum. Assumes nothing.

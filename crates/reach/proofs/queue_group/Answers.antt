@@ -3,13 +3,13 @@ use borrow.Author.Rules.{rules}
 use native.Mathlib.Omega.{arith}
 use mathlib.Core.Bool.{true, false}
 use mathlib.Core.Path.{◌≡◌, refl, sym, ◌∙◌, ap}
-use mathlib.Core.Logic.{⊎_elim, inr}
-use Prim.Native.Nat.{◌<◌, ◌≤◌, ◌-◌}
+use mathlib.Core.Logic.{inr}
+use Prim.Native.Nat.{◌<◌}
 use borrow.Author.Tests.{eq-eqb, ne_eqb}
 use lib.ListN.{length, length-set}
-use Rattle.reach.specs.Walk.{holds_row, tally, seeds, Spread}
+use Rattle.reach.specs.Walk.{holds_row, seeds}
 use Rattle.reach.proofs.Rowing.{tally_zero, tally_yes, tally_no, seed_in, seed_out, place_in}
-use Rattle.reach.proofs.Queues.{upto, queue_end, queued_none, spread_start, spread_fresh, spread_skip, spread_mark, spread_done, spread_at, seeded}
+use Rattle.reach.proofs.Queues.{queue_end, queued_none, spread_start, spread_fresh, spread_skip, spread_mark, spread_done, spread_at, seeded}
 use Rattle.reach.proofs.queue_group.Goals as goal
 use Rattle.reach.proofs.queue_group.Goals.{then-groups-f, else-groups-f, else-holds, then-holds}
 
@@ -84,29 +84,34 @@ loop-j-preserved c =
     let p = seeds A.k A.v A.verts.now A.groups.now A.g in
     let l : L.j < A.n = search rules in
     let t = c.holds.ensures in
-    elim c.if-holds.branch [ then-holds w ↦ let y : h L.j ≡ true = sym t ∙ w.if-holds.true in
-    let e = seed_in A.k A.v A.verts.now A.groups.now A.g L.j L.f L.invariant.1 y in
-    elim w.if-groups-f.branch [ then-groups-f u ↦ (
-      omega arith,
-      w.f-is ∙ tally_yes h L.j L.f L.invariant.1 y,
-      ap length (w.seen-is ∙ u.seen-is) ∙ length-set L.seen L.j 1 ∙ L.invariant.2,
-      ap length (w.queue-is ∙ u.queue-is) ∙ length-set L.queue L.end L.j ∙ L.invariant.3,
-      spread_at (w.seen-is ∙ u.seen-is) (w.queue-is ∙ u.queue-is) (w.end-is ∙ u.end-is)
-          (spread_mark p L.invariant.4 l (spread_fresh p L.invariant.4 l (c.requires.1 L.j l)) (e ∙ eq-eqb _ _ u.if-groups-f.true)),
-    ) | else-groups-f u ↦ (
-      omega arith,
-      w.f-is ∙ tally_yes h L.j L.f L.invariant.1 y,
-      ap length (w.seen-is ∙ u.seen-is) ∙ L.invariant.2,
-      ap length (w.queue-is ∙ u.queue-is) ∙ L.invariant.3,
-      spread_at (w.seen-is ∙ u.seen-is) (w.queue-is ∙ u.queue-is) (w.end-is ∙ u.end-is) (spread_skip p L.invariant.4 l (inr (e ∙ ne_eqb _ _ u.if-groups-f.false))),
-    ) ]
-    | else-holds w ↦ let y : h L.j ≡ false = sym t ∙ w.if-holds.false in (
-      omega arith,
-      w.f-is ∙ tally_no h L.j L.f L.invariant.1 y,
-      ap length w.seen-is ∙ L.invariant.2,
-      ap length w.queue-is ∙ L.invariant.3,
-      spread_at w.seen-is w.queue-is w.end-is (spread_skip p L.invariant.4 l (inr (seed_out A.k A.v A.verts.now A.groups.now A.g L.j L.f y))),
-    ) ]
+    elim c.if-holds.branch [
+      | then-holds w ↦ let y : h L.j ≡ true = sym t ∙ w.if-holds.true in
+          let e = seed_in A.k A.v A.verts.now A.groups.now A.g L.j L.f L.invariant.1 y in
+          elim w.if-groups-f.branch [
+            | then-groups-f u ↦ (
+              omega arith,
+              w.f-is ∙ tally_yes h L.j L.f L.invariant.1 y,
+              ap length (w.seen-is ∙ u.seen-is) ∙ length-set L.seen L.j 1 ∙ L.invariant.2,
+              ap length (w.queue-is ∙ u.queue-is) ∙ length-set L.queue L.end L.j ∙ L.invariant.3,
+              spread_at (w.seen-is ∙ u.seen-is) (w.queue-is ∙ u.queue-is) (w.end-is ∙ u.end-is)
+                  (spread_mark p L.invariant.4 l (spread_fresh p L.invariant.4 l (c.requires.1 L.j l)) (e ∙ eq-eqb _ _ u.if-groups-f.true)),
+            )
+            | else-groups-f u ↦ (
+              omega arith,
+              w.f-is ∙ tally_yes h L.j L.f L.invariant.1 y,
+              ap length (w.seen-is ∙ u.seen-is) ∙ L.invariant.2,
+              ap length (w.queue-is ∙ u.queue-is) ∙ L.invariant.3,
+              spread_at (w.seen-is ∙ u.seen-is) (w.queue-is ∙ u.queue-is) (w.end-is ∙ u.end-is) (spread_skip p L.invariant.4 l (inr (e ∙ ne_eqb _ _ u.if-groups-f.false))),
+            )
+          ]
+      | else-holds w ↦ let y : h L.j ≡ false = sym t ∙ w.if-holds.false in (
+        omega arith,
+        w.f-is ∙ tally_no h L.j L.f L.invariant.1 y,
+        ap length w.seen-is ∙ L.invariant.2,
+        ap length w.queue-is ∙ L.invariant.3,
+        spread_at w.seen-is w.queue-is w.end-is (spread_skip p L.invariant.4 l (inr (seed_out A.k A.v A.verts.now A.groups.now A.g L.j L.f y))),
+      )
+    ]
 
 pub returns : goal.returns
 returns c =

@@ -1,16 +1,8 @@
 -- `reach::reaches` meets its contract. The invariant: the walk has gone through the first head rows of the queue. Assumes nothing.
-use borrow.Author.Rules.{rules}
-use native.Mathlib.Omega.{arith}
-use mathlib.Core.Path.{◌≡◌, refl, sym, ◌∙◌, ap}
+use mathlib.Core.Path.{◌≡◌}
 use Prim.Native.Nat.{◌-◌}
-use native.Mathlib.Nat.{le_trans}
-use borrow.Author.Tests.{le-leb}
-use lib.Dec.{leb}
 use lib.ListN.{length}
 use Rattle.reach.specs.Walk.{touching, Walk}
-use Rattle.reach.proofs.Rowing.{touch_either}
-use Rattle.reach.proofs.Queues.{queued_le}
-use Rattle.reach.proofs.Walks.{walk_start, walk_step, walk_least, walk_done}
 use Rattle.reach.proofs.reaches.Given as goal
 
 -- `reach::reaches` meets its contract. The invariant: the walk has gone through the first head rows of the queue. Assumes nothing.

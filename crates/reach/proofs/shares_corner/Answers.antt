@@ -1,5 +1,4 @@
 -- `reach::shares_corner` meets its contract. Assumes nothing.
-use borrow.Author.Rules.{rules}
 use mathlib.Core.Path.{sym, ◌∙◌}
 use Rattle.reach.specs.Walk.{row}
 use Rattle.reach.proofs.Rowing.{not_counted, counted, uncounted}

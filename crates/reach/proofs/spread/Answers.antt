@@ -1,13 +1,13 @@
 -- `reach::spread` meets its contract. The invariant: what the rows below j ask for is done. Assumes nothing.
 use borrow.Author.Rules.{rules}
 use native.Mathlib.Omega.{arith}
-use mathlib.Core.Path.{◌≡◌, refl, sym, ◌∙◌, ap}
-use mathlib.Core.Logic.{⊎_elim, inl, inr}
-use Prim.Native.Nat.{◌<◌, ◌≤◌, ◌-◌}
+use mathlib.Core.Path.{refl, sym, ◌∙◌, ap}
+use mathlib.Core.Logic.{inl, inr}
+use Prim.Native.Nat.{◌<◌}
 use borrow.Author.Tests.{eq-eqb, ne_eqb}
 use lib.ListN.{length, length-set}
-use Rattle.reach.specs.Walk.{touching, Spread}
-use Rattle.reach.proofs.Queues.{upto, queue_end, spread_start, spread_skip, spread_mark, spread_done, spread_at}
+use Rattle.reach.specs.Walk.{touching}
+use Rattle.reach.proofs.Queues.{queue_end, spread_start, spread_skip, spread_mark, spread_done, spread_at}
 use Rattle.reach.proofs.spread.Goals as goal
 use Rattle.reach.proofs.spread.Goals.{else-seen-j-ne1, then-seen-j-ne1+else-touches, then-seen-j-ne1+then-touches}
 
@@ -58,24 +58,26 @@ loop-j-preserved c =
     let L = c.loop-j in
     let p = touching A.k A.v A.verts.now A.i in
     let l : L.j < A.n = search rules in
-    elim c.if-seen-j-ne1.branch [ then-seen-j-ne1+then-touches w ↦ (
-      omega arith,
-      ap length w.seen-is ∙ length-set L.seen L.j 1 ∙ L.invariant.1,
-      ap length w.queue-is ∙ length-set L.queue L.end L.j ∙ L.invariant.2,
-      spread_at w.seen-is w.queue-is w.end-is (spread_mark p L.invariant.3 l (ne_eqb _ _ w.if-seen-j-ne1.true) (sym w.touches.ensures ∙ w.if-touches.true)),
-    )
-    | then-seen-j-ne1+else-touches w ↦ (
-      omega arith,
-      ap length w.seen-is ∙ L.invariant.1,
-      ap length w.queue-is ∙ L.invariant.2,
-      spread_at w.seen-is w.queue-is w.end-is (spread_skip p L.invariant.3 l (inr (sym w.touches.ensures ∙ w.if-touches.false))),
-    )
-    | else-seen-j-ne1 w ↦ (
-      omega arith,
-      ap length w.seen-is ∙ L.invariant.1,
-      ap length w.queue-is ∙ L.invariant.2,
-      spread_at w.seen-is w.queue-is w.end-is (spread_skip p L.invariant.3 l (inl (eq-eqb _ _ w.if-seen-j-ne1.false))),
-    ) ]
+    elim c.if-seen-j-ne1.branch [
+      | then-seen-j-ne1+then-touches w ↦ (
+        omega arith,
+        ap length w.seen-is ∙ length-set L.seen L.j 1 ∙ L.invariant.1,
+        ap length w.queue-is ∙ length-set L.queue L.end L.j ∙ L.invariant.2,
+        spread_at w.seen-is w.queue-is w.end-is (spread_mark p L.invariant.3 l (ne_eqb _ _ w.if-seen-j-ne1.true) (sym w.touches.ensures ∙ w.if-touches.true)),
+      )
+      | then-seen-j-ne1+else-touches w ↦ (
+        omega arith,
+        ap length w.seen-is ∙ L.invariant.1,
+        ap length w.queue-is ∙ L.invariant.2,
+        spread_at w.seen-is w.queue-is w.end-is (spread_skip p L.invariant.3 l (inr (sym w.touches.ensures ∙ w.if-touches.false))),
+      )
+      | else-seen-j-ne1 w ↦ (
+        omega arith,
+        ap length w.seen-is ∙ L.invariant.1,
+        ap length w.queue-is ∙ L.invariant.2,
+        spread_at w.seen-is w.queue-is w.end-is (spread_skip p L.invariant.3 l (inl (eq-eqb _ _ w.if-seen-j-ne1.false))),
+      )
+    ]
 
 pub returns : goal.returns
 returns c =

@@ -1,13 +1,9 @@
 -- `reach::spread` meets its contract. The invariant: what the rows below j ask for is done. Assumes nothing.
-use borrow.Author.Rules.{rules}
-use native.Mathlib.Omega.{arith}
-use mathlib.Core.Path.{◌≡◌, refl, sym, ◌∙◌, ap}
-use mathlib.Core.Logic.{⊎_elim, inl, inr}
-use Prim.Native.Nat.{◌<◌, ◌≤◌, ◌-◌}
-use borrow.Author.Tests.{eq-eqb, ne_eqb}
-use lib.ListN.{length, length-set}
+use mathlib.Core.Path.{◌≡◌}
+use Prim.Native.Nat.{◌≤◌, ◌-◌}
+use lib.ListN.{length}
 use Rattle.reach.specs.Walk.{touching, Spread}
-use Rattle.reach.proofs.Queues.{upto, queue_end, spread_start, spread_skip, spread_mark, spread_done, spread_at}
+use Rattle.reach.proofs.Queues.{upto}
 use Rattle.reach.proofs.spread.Given as goal
 
 -- `reach::spread` meets its contract. The invariant: what the rows below j ask for is done. Assumes nothing.

@@ -1,5 +1,4 @@
 -- `reach::touches` meets its contract. Assumes nothing.
-use borrow.Author.Rules.{rules}
 use mathlib.Core.Path.{sym, ◌∙◌}
 use Rattle.reach.proofs.Rowing.{touch_low, touch_high}
 use Rattle.reach.proofs.touches.Goals as goal

@@ -1,5 +1,4 @@
 -- `reach::triangle_holds` meets its contract. Assumes nothing.
-use borrow.Author.Rules.{rules}
 use Rattle.reach.proofs.Rowing.{held_first, held_second, held_third}
 use Rattle.reach.proofs.triangle_holds.Goals as goal
 

@@ -1,6 +1,5 @@
 -- `sheet::counted` meets its contract. Assumes nothing.
 use native.Mathlib.Omega.{arith}
-use borrow.Author.Rules.{rules}
 use Rattle.sheet.proofs.counted.Goals as goal
 
 pub returns : goal.returns

@@ -1,11 +1,10 @@
 -- `sheet::look` meets its contract. Assumes nothing.
-use mathlib.Core.Path.{◌≡◌, ◌∙◌, sym, ap}
-use borrow.Author.Tests.{lt-ltb, le-ltb, eq-eqb, ne_eqb}
+use mathlib.Core.Path.{◌∙◌, sym}
+use borrow.Author.Tests.{lt-ltb, eq-eqb, ne_eqb}
 use native.Mathlib.Omega.{arith}
 use Rattle.sheet.specs.Sheet.{seen_of, seen_with}
 use Rattle.sheet.proofs.SeenLaws.{seen_with_lem, names_at_lem}
 use Rattle.bits.specs.Bits.{bits_of}
-use borrow.Author.Rules.{rules}
 use Rattle.sheet.proofs.look.Goals as goal
 
 -- `sheet::look` meets its contract. Assumes nothing.

@@ -1,6 +1,5 @@
 -- `sheet::names_ok` meets its contract. Assumes nothing.
-use mathlib.Core.Path.{◌≡◌, ◌∙◌, sym}
-use borrow.Author.Rules.{rules}
+use mathlib.Core.Path.{◌∙◌, sym}
 use Rattle.sheet.proofs.names_ok.Goals as goal
 
 pub returns-then-rows_ok-2 : goal.returns-then-rows_ok-2

@@ -1,6 +1,5 @@
 -- `sheet::refused_counts` meets its contract. Assumes nothing.
 use mathlib.Core.Path.{◌∙◌, sym}
-use borrow.Author.Rules.{rules}
 use Rattle.sheet.proofs.refused_counts.Goals as goal
 
 pub returns-then-too_many : goal.returns-then-too_many

@@ -1,8 +1,6 @@
 -- `sheet::row_ok` meets its contract. Assumes nothing.
-use mathlib.Core.Path.{◌≡◌, sym, ◌∙◌}
-use mathlib.Core.Bool.{Bool, true, false}
-use Rattle.sheet.specs.Sheet.{pair_ok_of, row_ok}
-use borrow.Author.Rules.{rules}
+use mathlib.Core.Path.{sym, ◌∙◌}
+use Rattle.sheet.specs.Sheet.{row_ok}
 use Rattle.sheet.proofs.row_ok.Goals as goal
 
 pub returns-then-pair_ok-2 : goal.returns-then-pair_ok-2

@@ -1,11 +1,8 @@
 -- `sheet::rows_ok` meets its contract. Assumes nothing.
-use borrow.Author.Rules.{rules}
 use native.Mathlib.Omega.{arith}
-use Prim.Native.Nat.{ℕ, ◌-◌, ◌+◌, ◌*◌, ◌^◌, ◌<◌, ◌≤◌}
-use mathlib.Core.Path.{◌≡◌, ◌∙◌, sym, refl, ap}
+use Prim.Native.Nat.{◌-◌}
+use mathlib.Core.Path.{◌≡◌, ◌∙◌, sym, refl}
 use Rattle.bits.specs.Bits.{bits_of}
-use lib.ListN.{length}
-use Rattle.sheet.specs.Work.{ok_at_of}
 use Rattle.bits.proofs.RowLaws.{fewer}
 use Rattle.sheet.proofs.SeenLaws.{ok_turn, ok_none}
 use Rattle.sheet.proofs.rows_ok.Goals as goal

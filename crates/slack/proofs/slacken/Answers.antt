@@ -3,7 +3,6 @@ use Rattle.slack.proofs.SlackLaws.{slack_put, slack_not}
 use lib.ListN.{length-set}
 use lib.Ieee.{of_bits}
 use native.Mathlib.Omega.{arith}
-use borrow.Author.Rules.{rules}
 use Rattle.slack.proofs.slacken.Goals as goal
 
 pub bounds-lengths-size-then-one_beyond : goal.bounds-lengths-size-then-one_beyond

@@ -1,6 +1,5 @@
 -- `slack::slacken_from` meets its contract. The invariant: the edges so far are seen to. Assumes nothing.
-use Rattle.slack.proofs.SlackLaws.{Slackening, slack_none, slack_more, slack_done}
-use Prim.Native.Nat.{◌≤◌, ◌-◌}
+use Rattle.slack.proofs.SlackLaws.{slack_none, slack_more, slack_done}
 use native.Mathlib.Omega.{arith}
 use Rattle.slack.proofs.slacken_from.Goals as goal
 

@@ -1,7 +1,6 @@
 -- `slack::slacken_from` meets its contract. The invariant: the edges so far are seen to. Assumes nothing.
-use Rattle.slack.proofs.SlackLaws.{Slackening, slack_none, slack_more, slack_done}
+use Rattle.slack.proofs.SlackLaws.{Slackening}
 use Prim.Native.Nat.{◌≤◌, ◌-◌}
-use native.Mathlib.Omega.{arith}
 use Rattle.slack.proofs.slacken_from.Given as goal
 
 -- `slack::slacken_from` meets its contract. The invariant: the edges so far are seen to. Assumes nothing.

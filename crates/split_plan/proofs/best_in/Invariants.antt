@@ -1,16 +1,13 @@
 -- `split_plan::best_in` meets its contract. The invariant: from the best so far the rest of the row leads to the same best as the whole row. Assumes nothing.
-use mathlib.Core.Logic.{⊎_elim}
-use mathlib.Core.Path.{◌≡◌, refl, sym, ◌∙◌, ap}
-use Prim.Native.Nat.{ℕ, ◌+◌, ◌-◌, ◌≤◌, ◌<◌}
-use borrow.Author.Rules.{rules}
+use mathlib.Core.Path.{◌≡◌}
+use Prim.Native.Nat.{ℕ, ◌-◌, ◌≤◌, ◌<◌}
 use lib.ListN.{length, get_or, drop}
-use Rattle.model.specs.Split.{Best}
 use Rattle.model.specs.Elements.{besides}
 use Rattle.model.specs.Mesh.{Mesh}
 use Rattle.lists.specs.Lists.{fold}
 use Rattle.split_plan.specs.Answers.{best_is}
 use Rattle.split_plan.specs.Opened.{RestsIn}
-use Rattle.split_plan.proofs.Towards.{scoring, score_in, best_step, besides_out, besides_end}
+use Rattle.split_plan.proofs.Towards.{scoring}
 use Rattle.split_plan.proofs.best_in.Given as goal
 
 -- `split_plan::best_in` meets its contract. The invariant: from the best so far the rest of the row leads to the same best as the whole row. Assumes nothing.

@@ -3,7 +3,6 @@ use borrow.Author.Tests.{eq-eqb, ne_eqb}
 use native.Mathlib.Omega.{arith}
 use mathlib.Core.Logic.{⊎_elim, inl, inr}
 use mathlib.Core.Path.{refl}
-use borrow.Author.Rules.{rules}
 use Rattle.split_plan.proofs.copy_number.Goals as goal
 
 -- `split_plan::copy_number` meets its contract: by cases of the group. Assumes nothing.

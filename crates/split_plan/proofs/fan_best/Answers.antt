@@ -1,13 +1,12 @@
 -- `split_plan::fan_best` meets its contract. The invariant: best is that of the parts so far, for every opening and mesh that the tables hold. Assumes nothing.
 use mathlib.Core.Path.{◌≡◌, ◌∙◌, ap}
-use Prim.Native.Nat.{ℕ, ◌+◌, ◌*◌, ◌-◌, ◌≤◌, ◌<◌}
+use Prim.Native.Nat.{ℕ, ◌+◌, ◌*◌, ◌-◌, ◌<◌}
 use native.Mathlib.Omega.{arith}
 use borrow.Author.Rules.{rules}
-use Rattle.model.specs.Split.{Opening, scored}
-use Rattle.model.specs.Mesh.{Mesh}
+use Rattle.model.specs.Split.{scored}
 use Rattle.lists.specs.Lists.{fold, tab}
 use Rattle.split_plan.specs.Answers.{best_is}
-use Rattle.split_plan.specs.Opened.{part_at, Ringed, RestsIn, CornersBelow}
+use Rattle.split_plan.specs.Opened.{part_at}
 use Rattle.split_plan.proofs.Towards.{fan_none, fan_step, fan_all, row_below}
 use Rattle.split_plan.proofs.Rings.{row_fits}
 use Rattle.split_plan.proofs.fan_best.Goals as goal

@@ -1,5 +1,4 @@
 -- `split_plan::group_toward` meets its contract. The best of all parts, from the lowest score. Assumes nothing.
-use borrow.Author.Rules.{rules}
 use lib.Ieee.{of_bits, neg}
 use Rattle.split_plan.specs.Answers.{best_is}
 use Rattle.split_plan.proofs.Towards.{toward_is}

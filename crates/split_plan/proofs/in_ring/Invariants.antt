@@ -1,12 +1,9 @@
 -- `split_plan::in_ring` meets its contract. The invariant: no row so far holds x. Assumes nothing.
-use mathlib.Core.Bool.{true, false≢true}
-use mathlib.Core.Path.{◌≡◌, sym, ◌∙◌}
+use mathlib.Core.Bool.{true}
+use mathlib.Core.Path.{◌≡◌}
 use Prim.Native.Nat.{ℕ, ◌-◌, ◌≤◌, ◌<◌}
-use native.Mathlib.Omega.{arith}
-use borrow.Author.Count.{below_more}
-use borrow.Author.Rules.{rules}
 use Rattle.lists.specs.Lists.{stands}
-use Rattle.split_plan.proofs.Rings.{row_of, ring_some, ring_empty, row_fits}
+use Rattle.split_plan.proofs.Rings.{row_of}
 use Rattle.split_plan.proofs.in_ring.Given as goal
 
 -- `split_plan::in_ring` meets its contract. The invariant: no row so far holds x. Assumes nothing.

@@ -1,15 +1,13 @@
 -- `split_plan::meets` meets its contract. The invariant: no row so far holds x and has a group that holds y. Assumes nothing.
-use mathlib.Core.Logic.{⊎_elim}
 use mathlib.Core.Bool.{true, false≢true}
 use mathlib.Core.Path.{◌≡◌, sym, ◌∙◌}
-use Prim.Native.Nat.{ℕ, ◌-◌, ◌≤◌, ◌<◌}
+use Prim.Native.Nat.{ℕ, ◌<◌}
 use native.Mathlib.Omega.{arith}
 use borrow.Author.Count.{below_more}
 use borrow.Author.Rules.{rules}
 use lib.ListN.{get_or}
-use Rattle.model.specs.Split.{Opening, ring}
+use Rattle.model.specs.Split.{ring}
 use Rattle.lists.specs.Lists.{stands}
-use Rattle.split_plan.specs.Opened.{Ringed}
 use Rattle.split_plan.proofs.Rings.{row_of, ring_any, ring_not_any, row_fits}
 use Rattle.split_plan.proofs.meets.Goals as goal
 use Rattle.split_plan.proofs.meets.Goals.{else-row_has, then-row_has+else-ring_has}
@@ -43,8 +41,10 @@ loop-i-preserved c = let A = c.args in
       λ O R.
           below_more (λ (j : ℕ). stands A.x (row_of A.k A.verts.now j) ≡ true → stands (get_or A.groups.now j 0) (ring O A.y) ≡ true → ⊥) L.i (L.invariant.1 O R)
           (λ h s.
-          elim c.if-row_has.branch [ then-row_has+else-ring_has w ↦ false≢true (sym w.if-ring_has.false ∙ w.ring_has.ensures.is O R (R.below L.i l) ∙ s)
-    | else-row_has w ↦ false≢true (sym w.if-row_has.false ∙ c.row_has.ensures ∙ h) ]),
+          elim c.if-row_has.branch [
+            | then-row_has+else-ring_has w ↦ false≢true (sym w.if-ring_has.false ∙ w.ring_has.ensures.is O R (R.below L.i l) ∙ s)
+            | else-row_has w ↦ false≢true (sym w.if-row_has.false ∙ c.row_has.ensures ∙ h)
+          ]),
     )
 
 pub returns : goal.returns

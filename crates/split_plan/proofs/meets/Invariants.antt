@@ -1,16 +1,12 @@
 -- `split_plan::meets` meets its contract. The invariant: no row so far holds x and has a group that holds y. Assumes nothing.
-use mathlib.Core.Logic.{⊎_elim}
-use mathlib.Core.Bool.{true, false≢true}
-use mathlib.Core.Path.{◌≡◌, sym, ◌∙◌}
+use mathlib.Core.Bool.{true}
+use mathlib.Core.Path.{◌≡◌}
 use Prim.Native.Nat.{ℕ, ◌-◌, ◌≤◌, ◌<◌}
-use native.Mathlib.Omega.{arith}
-use borrow.Author.Count.{below_more}
-use borrow.Author.Rules.{rules}
 use lib.ListN.{get_or}
 use Rattle.model.specs.Split.{Opening, ring}
 use Rattle.lists.specs.Lists.{stands}
 use Rattle.split_plan.specs.Opened.{Ringed}
-use Rattle.split_plan.proofs.Rings.{row_of, ring_any, ring_not_any, row_fits}
+use Rattle.split_plan.proofs.Rings.{row_of}
 use Rattle.split_plan.proofs.meets.Given as goal
 
 -- `split_plan::meets` meets its contract. The invariant: no row so far holds x and has a group that holds y. Assumes nothing.

@@ -1,8 +1,7 @@
 -- `split_plan::next_group` meets its contract. The invariant: best is the least group so far from `from` on that holds x, else count. Assumes nothing.
-use mathlib.Core.Logic.{⊎_elim}
 use mathlib.Core.Bool.{false≢true}
 use mathlib.Core.Path.{◌≡◌, refl, sym, ◌∙◌, subst}
-use Prim.Native.Nat.{ℕ, ◌+◌, ◌-◌, ◌≤◌}
+use Prim.Native.Nat.{ℕ, ◌+◌}
 use native.Mathlib.Omega.{arith}
 use borrow.Author.Rules.{rules}
 use Rattle.split_plan.proofs.Rings.{Least, least_start, least_take, least_keep, least_within, least_onward, least_count, row_fits}
@@ -27,10 +26,12 @@ loop-i-preserved c = let A = c.args in
     let P = L.invariant.1 in
     let here : ℕ → Type 0 = λ b. Least A.x A.from A.count A.k A.verts.now A.groups.now (L.i + 1) b in (
       search rules,
-      elim c.if-from-g.branch [ then-from-g+then-g-best+then-row_has w ↦ subst here (sym w.best-is) (least_take P _ refl (omega (arith, w.if-from-g.true)) w.if-g-best.true (least_within P) (sym w.row_has.ensures ∙ w.if-row_has.true))
-    | then-from-g+then-g-best+else-row_has w ↦ subst here (sym w.best-is) (least_keep P (λ a b. absurd (false≢true (sym w.if-row_has.false ∙ w.row_has.ensures ∙ b))))
-    | then-from-g+else-g-best w ↦ subst here (sym w.best-is) (least_keep P (λ a b. w.if-g-best.false))
-    | else-from-g w ↦ subst here (sym w.best-is) (least_keep P (λ a b. omega arith)) ],
+      elim c.if-from-g.branch [
+        | then-from-g+then-g-best+then-row_has w ↦ subst here (sym w.best-is) (least_take P _ refl (omega (arith, w.if-from-g.true)) w.if-g-best.true (least_within P) (sym w.row_has.ensures ∙ w.if-row_has.true))
+        | then-from-g+then-g-best+else-row_has w ↦ subst here (sym w.best-is) (least_keep P (λ a b. absurd (false≢true (sym w.if-row_has.false ∙ w.row_has.ensures ∙ b))))
+        | then-from-g+else-g-best w ↦ subst here (sym w.best-is) (least_keep P (λ a b. w.if-g-best.false))
+        | else-from-g w ↦ subst here (sym w.best-is) (least_keep P (λ a b. omega arith))
+      ],
     )
 
 pub returns : goal.returns

@@ -1,11 +1,6 @@
 -- `split_plan::next_group` meets its contract. The invariant: best is the least group so far from `from` on that holds x, else count. Assumes nothing.
-use mathlib.Core.Logic.{⊎_elim}
-use mathlib.Core.Bool.{false≢true}
-use mathlib.Core.Path.{◌≡◌, refl, sym, ◌∙◌, subst}
-use Prim.Native.Nat.{ℕ, ◌+◌, ◌-◌, ◌≤◌}
-use native.Mathlib.Omega.{arith}
-use borrow.Author.Rules.{rules}
-use Rattle.split_plan.proofs.Rings.{Least, least_start, least_take, least_keep, least_within, least_onward, least_count, row_fits}
+use Prim.Native.Nat.{◌-◌, ◌≤◌}
+use Rattle.split_plan.proofs.Rings.{Least}
 use Rattle.split_plan.proofs.next_group.Given as goal
 
 -- `split_plan::next_group` meets its contract. The invariant: best is the least group so far from `from` on that holds x, else count. Assumes nothing.

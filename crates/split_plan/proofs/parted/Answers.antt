@@ -1,6 +1,5 @@
 -- `split_plan::parted` meets its contract. By its three tests in turn. Assumes nothing.
 use borrow.Author.Tests.{not-true, not-false}
-use borrow.Author.Rules.{rules}
 use Rattle.split_plan.proofs.Rings.{parted_first, parted_second, parted_third}
 use mathlib.Core.Path.{ap}
 use mathlib.Core.Bool.{not}

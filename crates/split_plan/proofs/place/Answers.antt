@@ -3,7 +3,6 @@ use Prim.Native.Nat.{◌/◌}
 use lib.ListN.{length}
 use lib.Ieee.{nan}
 use mathlib.Core.Path.{sym}
-use borrow.Author.Rules.{rules}
 use Rattle.columns.proofs.Cells.{col_0, col_1}
 use Rattle.mesh.specs.Widths.{point_columns}
 use Rattle.split_plan.proofs.place.Goals as goal

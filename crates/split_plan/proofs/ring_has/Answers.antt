@@ -1,8 +1,7 @@
 -- `split_plan::ring_has` meets its contract. The invariant: no row so far has group g and holds x. Assumes nothing.
-use mathlib.Core.Logic.{⊎_elim}
 use mathlib.Core.Bool.{false≢true}
 use mathlib.Core.Path.{sym, ◌∙◌}
-use Prim.Native.Nat.{ℕ, ◌-◌, ◌≤◌, ◌<◌}
+use Prim.Native.Nat.{ℕ}
 use native.Mathlib.Omega.{arith}
 use borrow.Author.Count.{below_more}
 use borrow.Author.Rules.{rules}
@@ -32,8 +31,10 @@ loop-i-preserved c = let A = c.args in
     let L = c.loop-i in (
       search rules,
       below_more (λ (j : ℕ). Holds A.x A.g A.k A.verts.now A.groups.now j → ⊥) L.i L.invariant.1
-          (λ h. elim c.if-groups-i.branch [ then-groups-i+else-row_has w ↦ false≢true (sym w.if-row_has.false ∙ w.row_has.ensures ∙ h.holds)
-    | else-groups-i w ↦ w.if-groups-i.false h.of ]),
+          (λ h. elim c.if-groups-i.branch [
+            | then-groups-i+else-row_has w ↦ false≢true (sym w.if-row_has.false ∙ w.row_has.ensures ∙ h.holds)
+            | else-groups-i w ↦ w.if-groups-i.false h.of
+          ]),
     )
 
 pub returns : goal.returns

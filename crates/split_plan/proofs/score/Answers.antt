@@ -1,6 +1,5 @@
 -- `split_plan::score` meets its contract. Each call gives its part. Assumes nothing.
 use mathlib.Core.Path.{◌∙◌, ap, ap₂}
-use borrow.Author.Rules.{rules}
 use lib.Ieee.{Float, of_bits}
 use Rattle.float.specs.Numbers.{over, times, max_of, small}
 use Rattle.split_plan.specs.Answers.{score_by}

@@ -1,12 +1,9 @@
 -- `split_plan::total_weight` meets its contract. The invariant: total is the sum of the first g weights, for every opening that the tables hold. Assumes nothing.
 use mathlib.Core.Path.{◌≡◌, ◌∙◌, ap}
-use Prim.Native.Nat.{◌-◌, ◌≤◌}
 use native.Mathlib.Omega.{arith}
 use borrow.Author.Rules.{rules}
 use lib.Ieee.{of_bits}
-use Rattle.model.specs.Split.{Opening, weight_of}
-use Rattle.split_plan.specs.Answers.{Grouped}
-use Rattle.split_plan.specs.Opened.{Weighted}
+use Rattle.model.specs.Split.{weight_of}
 use Rattle.split_plan.proofs.Weights.{total_to, total_none, total_more, total_all}
 use Rattle.split_plan.proofs.total_weight.Goals as goal
 

@@ -1,13 +1,9 @@
 -- `split_plan::weight_of` meets its contract. The invariant: w is the weight of group g in the parts so far, for every opening that the tables hold. Assumes nothing.
-use mathlib.Core.Logic.{⊎_elim}
 use mathlib.Core.Path.{◌≡◌, ◌∙◌, ap}
-use Prim.Native.Nat.{◌-◌, ◌≤◌, ◌<◌}
+use Prim.Native.Nat.{◌<◌}
 use native.Mathlib.Omega.{arith}
 use borrow.Author.Rules.{rules}
 use lib.Ieee.{of_bits}
-use Rattle.model.specs.Split.{Opening}
-use Rattle.split_plan.specs.Answers.{Grouped}
-use Rattle.split_plan.specs.Opened.{Weighted}
 use Rattle.split_plan.proofs.Weights.{weight_to, weight_none, weight_in, weight_out, weight_all}
 use Rattle.split_plan.proofs.weight_of.Goals as goal
 use Rattle.split_plan.proofs.weight_of.Goals.{else-groups-i, then-groups-i}
@@ -22,8 +18,10 @@ loop-i-preserved c = let A = c.args in
     let l : L.i < A.n = search rules in (
       search rules,
       λ O G W.
-          elim c.if-groups-i.branch [ then-groups-i w ↦ w.w-is ∙ weight_in O G W A.g L.i l L.w (L.invariant.1 O G W) w.if-groups-i.true
-    | else-groups-i w ↦ w.w-is ∙ weight_out O G W A.g L.i l L.w (L.invariant.1 O G W) w.if-groups-i.false ],
+          elim c.if-groups-i.branch [
+            | then-groups-i w ↦ w.w-is ∙ weight_in O G W A.g L.i l L.w (L.invariant.1 O G W) w.if-groups-i.true
+            | else-groups-i w ↦ w.w-is ∙ weight_out O G W A.g L.i l L.w (L.invariant.1 O G W) w.if-groups-i.false
+          ],
     )
 
 pub returns : goal.returns

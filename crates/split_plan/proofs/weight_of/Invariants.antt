@@ -1,14 +1,10 @@
 -- `split_plan::weight_of` meets its contract. The invariant: w is the weight of group g in the parts so far, for every opening that the tables hold. Assumes nothing.
-use mathlib.Core.Logic.{⊎_elim}
-use mathlib.Core.Path.{◌≡◌, ◌∙◌, ap}
-use Prim.Native.Nat.{◌-◌, ◌≤◌, ◌<◌}
-use native.Mathlib.Omega.{arith}
-use borrow.Author.Rules.{rules}
-use lib.Ieee.{of_bits}
+use mathlib.Core.Path.{◌≡◌}
+use Prim.Native.Nat.{◌-◌, ◌≤◌}
 use Rattle.model.specs.Split.{Opening}
 use Rattle.split_plan.specs.Answers.{Grouped}
 use Rattle.split_plan.specs.Opened.{Weighted}
-use Rattle.split_plan.proofs.Weights.{weight_to, weight_none, weight_in, weight_out, weight_all}
+use Rattle.split_plan.proofs.Weights.{weight_to}
 use Rattle.split_plan.proofs.weight_of.Given as goal
 
 -- `split_plan::weight_of` meets its contract. The invariant: w is the weight of group g in the parts so far, for every opening that the tables hold. Assumes nothing.

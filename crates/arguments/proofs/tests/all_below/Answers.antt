@@ -1,11 +1,8 @@
 -- `arguments::tests::all_below` meets its contract. The invariant: whether all of the rest are below n is whether all of the list are. Assumes nothing.
-use Prim.Native.Nat.{◌≤◌, ◌-◌}
 use native.Mathlib.Omega.{arith}
-use mathlib.Core.Path.{◌≡◌, refl, sym, ◌∙◌}
+use mathlib.Core.Path.{refl, sym, ◌∙◌}
 use lib.Dec.{ltb}
-use lib.ListN.{length, drop}
 use borrow.Author.Tests.{lt-ltb, le-ltb}
-use Rattle.lists.specs.Lists.{all}
 use Rattle.elements.proofs.Measures.{all_on, all_stop, all_end}
 use Rattle.arguments.proofs.tests.all_below.Goals as goal
 

@@ -1,6 +1,5 @@
 -- `arguments::tests::fraction_fits` meets its contract. Assumes nothing.
 use lib.Ieee.{of_bits}
-use borrow.Author.Rules.{rules}
 use Rattle.arguments.proofs.tests.fraction_fits.Goals as goal
 
 pub returns : goal.returns

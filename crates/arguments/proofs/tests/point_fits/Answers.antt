@@ -1,6 +1,5 @@
 -- `arguments::tests::point_fits` meets its contract. Assumes nothing.
 use Rattle.judge.proofs.Joined.{and_next}
-use borrow.Author.Rules.{rules}
 use Rattle.arguments.proofs.tests.point_fits.Goals as goal
 
 pub returns : goal.returns

@@ -1,9 +1,6 @@
 -- `arguments::tests::rising` meets its contract. The invariant: the rest rises exactly where the list does. Assumes nothing.
-use Prim.Native.Nat.{◌≤◌, ◌-◌}
 use native.Mathlib.Omega.{arith}
-use mathlib.Core.Path.{◌≡◌, refl, sym, ◌∙◌}
-use lib.ListN.{length, drop}
-use Rattle.model.specs.Calls.{strictly}
+use mathlib.Core.Path.{refl, sym, ◌∙◌}
 use Rattle.arguments.proofs.Rising.{strictly_on, strictly_stop, strictly_end}
 use Rattle.arguments.proofs.tests.rising.Goals as goal
 

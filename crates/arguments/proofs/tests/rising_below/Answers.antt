@@ -1,6 +1,5 @@
 -- `arguments::tests::rising_below` meets its contract. Assumes nothing.
 use Rattle.judge.proofs.Joined.{and_next}
-use borrow.Author.Rules.{rules}
 use Rattle.arguments.proofs.tests.rising_below.Goals as goal
 
 pub returns : goal.returns

@@ -5,7 +5,6 @@ use lib.Dec.{eqb, ltb}
 use mathlib.Core.Bool.{◌&&◌}
 use Rattle.judge.proofs.Joined.{and_next}
 use mathlib.Core.Path.{refl}
-use borrow.Author.Rules.{rules}
 use Rattle.arguments.proofs.tests.sides_fit.Goals as goal
 
 pub returns : goal.returns

@@ -39,5 +39,5 @@ loop-i-preserved c =
 pub returns : goal.returns
 returns c =
     let L = c.loop-i in
-    record { kept = L.invariant.1; by_index = (λ a l. L.invariant.2 a (let e = L.invariant.1.long in omega arith)) }
+    record { kept = L.invariant.1; flat = (λ a l. L.invariant.2 a (let e = L.invariant.1.long in omega arith)) }
 

@@ -1,8 +1,6 @@
 -- `call_frame::closing::clear_words` meets its contract: it clears a log behind its front, as `columns` clears a column. Assumes nothing.
-use Prim.Native.Nat.{◌-◌}
 use native.Mathlib.Omega.{arith}
-use lib.ListN.{length}
-use Rattle.columns.proofs.Sweep.{Clearing, clear_start, clear_more, clear_done}
+use Rattle.columns.proofs.Sweep.{clear_start, clear_more, clear_done}
 use Rattle.call_frame.proofs.closing.clear_words.Goals as goal
 
 pub loop-i-init : goal.loop-i-init

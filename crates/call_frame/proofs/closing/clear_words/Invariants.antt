@@ -1,8 +1,7 @@
 -- `call_frame::closing::clear_words` meets its contract: it clears a log behind its front, as `columns` clears a column. Assumes nothing.
 use Prim.Native.Nat.{◌-◌}
-use native.Mathlib.Omega.{arith}
 use lib.ListN.{length}
-use Rattle.columns.proofs.Sweep.{Clearing, clear_start, clear_more, clear_done}
+use Rattle.columns.proofs.Sweep.{Clearing}
 use Rattle.call_frame.proofs.closing.clear_words.Given as goal
 
 -- `call_frame::closing::clear_words` meets its contract: it clears a log behind its front, as `columns` clears a column. Assumes nothing.

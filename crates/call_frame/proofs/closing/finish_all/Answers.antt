@@ -5,7 +5,6 @@ use Rattle.mesh.specs.At.{mesh_at}
 use Rattle.mesh.proofs.Blocks.{words_of_lem}
 use mathlib.Core.Path.{ap, ◌∙◌}
 use native.Mathlib.Omega.{arith}
-use borrow.Author.Rules.{rules}
 use Rattle.call_frame.proofs.closing.finish_all.Goals as goal
 
 pub finish_all-requires : goal.finish_all-requires

@@ -1,7 +1,6 @@
 -- `call_frame::frame::begin` meets its contract: a refusal that is there, the room that lacks, or the copy. Assumes nothing.
 use Rattle.mesh.specs.Given.{given, mesh_of}
 use Rattle.call_frame.proofs.Begun.{copy_asked, begun_refused, begun_lacking, begun_copied}
-use borrow.Author.Rules.{rules}
 use Rattle.call_frame.proofs.frame.begin.Goals as goal
 
 -- `call_frame::frame::begin` meets its contract: a refusal that is there, the room that lacks, or the copy. Assumes nothing.

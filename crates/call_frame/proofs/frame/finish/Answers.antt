@@ -1,7 +1,6 @@
 -- `call_frame::frame::finish` meets its contract: all 0 after a refusal, else 0 behind the rows. Assumes nothing.
 use Rattle.mesh.proofs.Agree.{none_fits}
 use Rattle.call_frame.proofs.Ended.{ended_fits, finished_refused, finished_done}
-use borrow.Author.Rules.{rules}
 use Rattle.call_frame.proofs.frame.finish.Goals as goal
 
 pub finish_all-requires : goal.finish_all-requires

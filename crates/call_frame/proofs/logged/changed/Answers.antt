@@ -1,13 +1,8 @@
 -- `call_frame::logged::changed` meets its contract: it asks the kind of each entry, and stops at the first that tells of a change. Assumes nothing.
-use Prim.Native.Nat.{◌≤◌, ◌-◌}
 use native.Mathlib.Omega.{arith}
-use mathlib.Core.Path.{◌≡◌, sym, ◌∙◌}
-use mathlib.Core.Bool.{false}
-use borrow.Author.Rules.{rules}
-use Rattle.lists.specs.Lists.{any, tab}
+use mathlib.Core.Path.{sym, ◌∙◌}
 use Rattle.columns.proofs.Rows.{any_none, any_more, any_stops, any_end}
-use Rattle.mesh.specs.Log.{Words, entry_row, log_at}
-use Rattle.call_frame.specs.Framed.{kind_changes_of}
+use Rattle.mesh.specs.Log.{log_at}
 use Rattle.call_frame.proofs.logged.changed.Goals as goal
 
 pub loop-i-init : goal.loop-i-init

@@ -4,7 +4,6 @@ use native.Mathlib.Omega.{arith}
 use mathlib.Core.Path.{sym, ap}
 use lib.ListN.{take}
 use lib.Seq.{length-take-le}
-use borrow.Author.Rules.{rules}
 use Rattle.call_frame.proofs.logged.log_front.Goals as goal
 
 pub slice_bounds-result-end : goal.slice_bounds-result-end

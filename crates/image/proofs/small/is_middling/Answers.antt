@@ -1,6 +1,5 @@
 -- `image::small::is_middling` meets its contract: the four counts. Assumes nothing.
 use Rattle.image.specs.Small.{middling_image}
-use borrow.Author.Rules.{rules}
 use Rattle.image.proofs.small.is_middling.Goals as goal
 
 pub returns : goal.returns

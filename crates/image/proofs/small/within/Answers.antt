@@ -1,6 +1,5 @@
 -- `image::small::within` meets its contract: the four counts. Assumes nothing.
 use Rattle.image.specs.Small.{counts_in}
-use borrow.Author.Rules.{rules}
 use Rattle.image.proofs.small.within.Goals as goal
 
 pub returns : goal.returns

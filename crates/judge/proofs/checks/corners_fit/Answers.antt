@@ -1,7 +1,5 @@
 -- `judge::checks::corners_fit` meets its contract: the word of the triangles so far tells of the corners of each. Assumes nothing.
-use Rattle.std.proofs.Common.{◌≡◌, ℕ, ◌-◌, ◌/◌, ◌≤◌, List, length, sym, ◌∙◌, arith}
-use lib.Ieee.{Float}
-use Rattle.lists.specs.Lists.{all, up_to}
+use Rattle.std.proofs.Common.{sym, ◌∙◌, arith}
 use Rattle.columns.proofs.Rows.{all_tab}
 use Rattle.model.specs.Valid.{corners_ok}
 use Rattle.mesh.specs.At.{triangle_row, triangles_at}

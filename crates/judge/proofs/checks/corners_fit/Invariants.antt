@@ -1,14 +1,10 @@
 -- `judge::checks::corners_fit` meets its contract: the word of the triangles so far tells of the corners of each. Assumes nothing.
-use Rattle.std.proofs.Common.{◌≡◌, ℕ, ◌-◌, ◌/◌, ◌≤◌, List, length, sym, ◌∙◌, arith}
+use Rattle.std.proofs.Common.{◌≡◌, ℕ, ◌-◌, ◌/◌, ◌≤◌, List, length}
 use lib.Ieee.{Float}
 use Rattle.lists.specs.Lists.{all, up_to}
-use Rattle.columns.proofs.Rows.{all_tab}
 use Rattle.model.specs.Valid.{corners_ok}
-use Rattle.mesh.specs.At.{triangle_row, triangles_at}
+use Rattle.mesh.specs.At.{triangle_row}
 use Rattle.judge.specs.Told.{fine}
-use Rattle.judge.proofs.Wide.{none_told, more_told, end_told}
-use Rattle.judge.proofs.Checked.{corners_tested}
-use Rattle.judge.proofs.Fine.{or_fine}
 use Rattle.judge.proofs.checks.corners_fit.Given as goal
 
 -- `judge::checks::corners_fit` meets its contract: the word of the triangles so far tells of the corners of each. Assumes nothing.

@@ -1,5 +1,5 @@
 -- `judge::checks::edges_fit` meets its contract: it asks the edges column by column. Assumes nothing.
-use Rattle.std.proofs.Common.{sym, ◌∙◌, arith, rules}
+use Rattle.std.proofs.Common.{sym, ◌∙◌, arith}
 use Rattle.columns.proofs.Rows.{all_tab}
 use Rattle.model.specs.Valid.{edge_ok}
 use Rattle.mesh.specs.At.{edge_row, edges_at}

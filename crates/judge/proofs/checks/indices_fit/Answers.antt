@@ -1,5 +1,5 @@
 -- `judge::checks::indices_fit` meets its contract: the roots, the corners and two lists of ends. Assumes nothing.
-use Rattle.std.proofs.Common.{refl, ◌∙◌, arith, rules}
+use Rattle.std.proofs.Common.{refl, ◌∙◌, arith}
 use Rattle.mesh.specs.Given.{given}
 use Rattle.judge.proofs.Joined.{and_next}
 use Rattle.judge.proofs.Checked.{indices_told}

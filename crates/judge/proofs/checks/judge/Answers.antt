@@ -1,5 +1,5 @@
 -- `judge::checks::judge` meets its contract: the sizes first, and then the other two refusals. Assumes nothing.
-use Rattle.std.proofs.Common.{sym, ◌∙◌, rules}
+use Rattle.std.proofs.Common.{sym, ◌∙◌}
 use borrow.Author.Tests.{not-false}
 use Rattle.mesh.specs.Given.{given, mesh_of}
 use Rattle.judge.proofs.Joined.{sizes_told}

@@ -1,5 +1,5 @@
 -- `judge::checks::judge_sized` meets its contract: the indices are asked behind the numbers. Assumes nothing.
-use Rattle.std.proofs.Common.{refl, rules}
+use Rattle.std.proofs.Common.{refl}
 use Rattle.judge.specs.Checks.{first_from, fault_in}
 use Rattle.judge.proofs.Joined.{then_next, then_stays}
 use Rattle.judge.proofs.checks.judge_sized.Goals as goal

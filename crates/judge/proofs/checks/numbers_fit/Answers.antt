@@ -1,5 +1,5 @@
 -- `judge::checks::numbers_fit` meets its contract: the numbers of three lists. Assumes nothing.
-use Rattle.std.proofs.Common.{refl, ◌∙◌, rules}
+use Rattle.std.proofs.Common.{refl, ◌∙◌}
 use Rattle.mesh.specs.Given.{given}
 use Rattle.judge.proofs.Joined.{and_next}
 use Rattle.judge.proofs.Checked.{numbers_told}

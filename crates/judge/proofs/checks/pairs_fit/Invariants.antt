@@ -1,10 +1,7 @@
 -- `judge::checks::pairs_fit` meets its contract: the word of the rows so far tells of the two ends of each. Assumes nothing.
-use Rattle.std.proofs.Common.{◌≡◌, ◌-◌, ◌≤◌, ◌∙◌, arith}
+use Rattle.std.proofs.Common.{◌≡◌, ◌-◌, ◌≤◌}
 use Rattle.lists.specs.Lists.{all, up_to}
 use Rattle.judge.specs.Told.{pair_ok, fine}
-use Rattle.judge.proofs.Wide.{none_told, more_told, end_told}
-use Rattle.judge.proofs.Checked.{pair_tested}
-use Rattle.judge.proofs.Fine.{or_fine}
 use Rattle.judge.proofs.checks.pairs_fit.Given as goal
 
 -- `judge::checks::pairs_fit` meets its contract: the word of the rows so far tells of the two ends of each. Assumes nothing.

@@ -1,5 +1,5 @@
 -- `judge::checks::particles_fit` meets its contract: it asks the particles column by column. Assumes nothing.
-use Rattle.std.proofs.Common.{sym, ◌∙◌, arith, rules}
+use Rattle.std.proofs.Common.{sym, ◌∙◌, arith}
 use Rattle.columns.proofs.Rows.{all_tab}
 use Rattle.model.specs.Valid.{particle_ok}
 use Rattle.mesh.specs.At.{particle_row, particles_at}

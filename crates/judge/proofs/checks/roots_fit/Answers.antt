@@ -1,5 +1,5 @@
 -- `judge::checks::roots_fit` meets its contract: it asks the column of the roots. Assumes nothing.
-use Rattle.std.proofs.Common.{sym, ◌∙◌, rules}
+use Rattle.std.proofs.Common.{sym, ◌∙◌}
 use Rattle.columns.proofs.Rows.{all_tab}
 use Rattle.model.specs.Valid.{root_ok}
 use Rattle.mesh.specs.At.{particle_row, particles_at}

@@ -1,5 +1,5 @@
 -- `judge::checks::triangles_fit` meets its contract: it asks the triangles column by column. Assumes nothing.
-use Rattle.std.proofs.Common.{sym, ◌∙◌, rules}
+use Rattle.std.proofs.Common.{sym, ◌∙◌}
 use Rattle.columns.proofs.Rows.{all_tab}
 use Rattle.model.specs.Valid.{triangle_ok}
 use Rattle.mesh.specs.At.{triangle_row, triangles_at}

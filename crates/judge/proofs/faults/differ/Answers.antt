@@ -1,5 +1,4 @@
 -- `judge::faults::differ` meets its contract: the sum as it wraps. Assumes nothing.
-use Rattle.std.proofs.Common.{rules}
 use Rattle.judge.proofs.faults.differ.Goals as goal
 
 pub returns : goal.returns

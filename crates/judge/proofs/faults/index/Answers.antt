@@ -1,6 +1,5 @@
 -- `judge::faults::index` meets its contract: its two words, by a law. Assumes nothing.
 use Rattle.judge.proofs.Fine.{index_fine}
-use Rattle.std.proofs.Common.{rules}
 use Rattle.judge.proofs.faults.index.Goals as goal
 
 pub returns : goal.returns

@@ -1,5 +1,5 @@
 -- `judge::faults::other` meets its contract: its two words, by a law. Assumes nothing.
-use Rattle.std.proofs.Common.{arith, rules}
+use Rattle.std.proofs.Common.{arith}
 use Rattle.judge.proofs.Fine.{other_fine}
 use Rattle.judge.proofs.faults.other.Goals as goal
 

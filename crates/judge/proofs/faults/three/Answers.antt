@@ -1,5 +1,5 @@
 -- `judge::faults::three` meets its contract: two, another one, and that the last two differ. Assumes nothing.
-use Rattle.std.proofs.Common.{arith, rules}
+use Rattle.std.proofs.Common.{arith}
 use Rattle.judge.proofs.Fine.{three_fine, differ_fine}
 use Rattle.judge.proofs.faults.three.Goals as goal
 

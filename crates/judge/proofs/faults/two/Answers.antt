@@ -1,6 +1,5 @@
 -- `judge::faults::two` meets its contract: an index, and another one. Assumes nothing.
 use Rattle.judge.proofs.Fine.{two_fine}
-use Rattle.std.proofs.Common.{rules}
 use Rattle.judge.proofs.faults.two.Goals as goal
 
 pub returns : goal.returns

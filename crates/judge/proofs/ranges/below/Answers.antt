@@ -1,6 +1,5 @@
 -- `judge::ranges::below` meets its contract: the word of the words so far tells of each of them. Assumes nothing.
-use Rattle.std.proofs.Common.{◌≡◌, ℕ, ◌-◌, ◌≤◌, ltb, get_or, refl, arith}
-use Rattle.lists.specs.Lists.{all, up_to}
+use Rattle.std.proofs.Common.{arith}
 use Rattle.judge.specs.Told.{fine}
 use Rattle.judge.proofs.Wide.{none_told, more_told, end_told}
 use Rattle.judge.proofs.Fine.{or_fine}

@@ -1,9 +1,7 @@
 -- `judge::ranges::below` meets its contract: the word of the words so far tells of each of them. Assumes nothing.
-use Rattle.std.proofs.Common.{◌≡◌, ℕ, ◌-◌, ◌≤◌, ltb, get_or, refl, arith}
+use Rattle.std.proofs.Common.{◌≡◌, ℕ, ◌-◌, ◌≤◌, ltb, get_or}
 use Rattle.lists.specs.Lists.{all, up_to}
 use Rattle.judge.specs.Told.{fine}
-use Rattle.judge.proofs.Wide.{none_told, more_told, end_told}
-use Rattle.judge.proofs.Fine.{or_fine}
 use Rattle.judge.proofs.ranges.below.Given as goal
 
 -- `judge::ranges::below` meets its contract: the word of the words so far tells of each of them. Assumes nothing.

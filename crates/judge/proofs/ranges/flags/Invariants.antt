@@ -1,8 +1,7 @@
 -- `judge::ranges::flags` meets its contract: the word of the bits of all words so far is a flag where each of them is. Assumes nothing.
-use Rattle.std.proofs.Common.{◌≡◌, ◌-◌, ◌≤◌, ltb, arith}
+use Rattle.std.proofs.Common.{◌≡◌, ◌-◌, ◌≤◌, ltb}
 use Rattle.judge.specs.Told.{column_ok}
 use Rattle.model.specs.Valid.{flag?}
-use Rattle.judge.proofs.Wide.{none_told, flag_told, end_told}
 use Rattle.judge.proofs.ranges.flags.Given as goal
 
 -- `judge::ranges::flags` meets its contract: the word of the bits of all words so far is a flag where each of them is. Assumes nothing.

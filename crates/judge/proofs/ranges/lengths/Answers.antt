@@ -1,8 +1,6 @@
 -- `judge::ranges::lengths` meets its contract: it asks each length, and stops nowhere. Assumes nothing.
-use Rattle.std.proofs.Common.{◌≡◌, ◌-◌, ◌≤◌, arith, rules}
-use Rattle.judge.specs.Told.{column_ok, length?}
+use Rattle.std.proofs.Common.{arith}
 use Rattle.judge.proofs.Wide.{none_told, more_told, end_told}
-use lib.Ieee.{nan}
 use Rattle.judge.proofs.ranges.lengths.Goals as goal
 
 pub loop-i-init : goal.loop-i-init

@@ -1,7 +1,6 @@
 -- `judge::ranges::lengths` meets its contract: it asks each length, and stops nowhere. Assumes nothing.
-use Rattle.std.proofs.Common.{◌≡◌, ◌-◌, ◌≤◌, arith, rules}
+use Rattle.std.proofs.Common.{◌≡◌, ◌-◌, ◌≤◌}
 use Rattle.judge.specs.Told.{column_ok, length?}
-use Rattle.judge.proofs.Wide.{none_told, more_told, end_told}
 use lib.Ieee.{nan}
 use Rattle.judge.proofs.ranges.lengths.Given as goal
 

@@ -1,9 +1,6 @@
 -- `judge::ranges::volumes` meets its contract: it asks each volume, and stops nowhere. Assumes nothing.
-use Rattle.std.proofs.Common.{◌≡◌, ◌-◌, ◌≤◌, arith, rules}
-use Rattle.judge.specs.Told.{column_ok}
+use Rattle.std.proofs.Common.{arith}
 use Rattle.judge.proofs.Wide.{none_told, more_told, end_told}
-use lib.Ieee.{nan}
-use Rattle.float.specs.Ranges.{volume?}
 use Rattle.judge.proofs.ranges.volumes.Goals as goal
 
 pub loop-i-init : goal.loop-i-init

@@ -1,6 +1,5 @@
 -- `judge::tests::length_ok` meets its contract: two tests. Assumes nothing.
 use Rattle.judge.proofs.Joined.{and_next}
-use Rattle.std.proofs.Common.{rules}
 use Rattle.judge.proofs.tests.length_ok.Goals as goal
 
 pub returns : goal.returns

@@ -1,5 +1,5 @@
 -- `judge::tests::list_fits` meets its contract: the tests are joined one by one. Assumes nothing.
-use Rattle.std.proofs.Common.{refl, rules}
+use Rattle.std.proofs.Common.{refl}
 use Rattle.mesh.specs.Given.{list_fits_of}
 use Rattle.judge.proofs.Joined.{and_next}
 use Rattle.judge.proofs.tests.list_fits.Goals as goal

@@ -1,7 +1,6 @@
 -- `judge::tests::sizes_fit` meets its contract: four lists. Assumes nothing.
 use Rattle.mesh.specs.Given.{lengths_fit}
 use Rattle.judge.proofs.Joined.{and_next}
-use Rattle.std.proofs.Common.{rules}
 use Rattle.judge.proofs.tests.sizes_fit.Goals as goal
 
 pub returns : goal.returns

@@ -1,6 +1,6 @@
 -- `judge::tests::three_named` meets its contract: two names, and a third that is neither. Assumes nothing.
-use Rattle.std.proofs.Common.{refl, ◌∙◌, rules}
-use Rattle.judge.proofs.Joined.{and_next, two_named, three_named}
+use Rattle.std.proofs.Common.{refl, ◌∙◌}
+use Rattle.judge.proofs.Joined.{and_next, three_named}
 use Rattle.judge.proofs.tests.three_named.Goals as goal
 
 pub returns : goal.returns

@@ -1,5 +1,5 @@
 -- `judge::tests::two_named` meets its contract: three tests, as the definition has them. Assumes nothing.
-use Rattle.std.proofs.Common.{refl, ◌∙◌, rules}
+use Rattle.std.proofs.Common.{refl, ◌∙◌}
 use Rattle.judge.proofs.Joined.{and_next, two_named}
 use Rattle.judge.proofs.tests.two_named.Goals as goal
 

@@ -1,7 +1,6 @@
 -- `work::notes::bits_of` meets its contract: a NaN has the pattern that the definition names. Assumes nothing.
 use Rattle.float.proofs.Patterns.{is_no_nan}
 use Rattle.work.proofs.Bits.{nan_bits_lem}
-use borrow.Author.Rules.{rules}
 use Rattle.work.proofs.notes.bits_of.Goals as goal
 
 -- `work::notes::bits_of` meets its contract: a NaN has the pattern that the definition names. Assumes nothing.

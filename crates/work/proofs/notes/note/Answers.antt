@@ -2,7 +2,6 @@
 use Rattle.mesh.proofs.Lists.{noted}
 use lib.ListN.{length-set}
 use native.Mathlib.Omega.{arith}
-use borrow.Author.Rules.{rules}
 use Rattle.work.proofs.notes.note.Goals as goal
 
 pub bounds-log-o-2 : goal.bounds-log-o-2

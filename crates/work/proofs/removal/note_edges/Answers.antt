@@ -1,7 +1,6 @@
 -- `work::removal::note_edges` meets its contract: the loop over the edges is `Noting` of proofs/PieceMasks.antt. Assumes nothing.
-use Rattle.work.proofs.Removals.{noting_took, noting_skipped, Noting, noting_start, noting_room, noting_done}
-use mathlib.Core.Logic.{⊎_elim}
-use Prim.Native.Nat.{◌-◌, ◌/◌}
+use Rattle.work.proofs.Removals.{noting_took, noting_skipped, noting_start, noting_room, noting_done}
+use Prim.Native.Nat.{◌/◌}
 use lib.ListN.{length}
 use Rattle.columns.proofs.Cells.{col_0, col_1}
 use native.Mathlib.Omega.{arith}
@@ -51,8 +50,10 @@ pub loop-i-smaller : goal.loop-i-smaller
 loop-i-smaller c = omega (arith, c.loop-i-test.true)
 
 pub loop-i-preserved : goal.loop-i-preserved
-loop-i-preserved c = elim c.if-mask-i-eq1.branch [ then-mask-i-eq1 w ↦ noting_took _ _ _ _ _ _ _ _ c.loop-i.invariant c.loop-i-test.true _ _ _ w.if-mask-i-eq1.true w.note.ensures w.note.auto.log w.log-is w.w-is
-    | else-mask-i-eq1 w ↦ noting_skipped _ _ _ _ _ _ _ _ c.loop-i.invariant c.loop-i-test.true _ _ w.if-mask-i-eq1.false w.log-is w.w-is ]
+loop-i-preserved c = elim c.if-mask-i-eq1.branch [
+  | then-mask-i-eq1 w ↦ noting_took _ _ _ _ _ _ _ _ c.loop-i.invariant c.loop-i-test.true _ _ _ w.if-mask-i-eq1.true w.note.ensures w.note.auto.log w.log-is w.w-is
+  | else-mask-i-eq1 w ↦ noting_skipped _ _ _ _ _ _ _ _ c.loop-i.invariant c.loop-i-test.true _ _ w.if-mask-i-eq1.false w.log-is w.w-is
+]
 
 pub shape_of-log : goal.shape_of-log
 shape_of-log c = c.loop-i.invariant.long

@@ -1,10 +1,6 @@
 -- `work::removal::note_edges` meets its contract: the loop over the edges is `Noting` of proofs/PieceMasks.antt. Assumes nothing.
-use Rattle.work.proofs.Removals.{noting_took, noting_skipped, Noting, noting_start, noting_room, noting_done}
-use mathlib.Core.Logic.{⊎_elim}
-use Prim.Native.Nat.{◌-◌, ◌/◌}
-use lib.ListN.{length}
-use Rattle.columns.proofs.Cells.{col_0, col_1}
-use native.Mathlib.Omega.{arith}
+use Rattle.work.proofs.Removals.{Noting}
+use Prim.Native.Nat.{◌-◌}
 use Rattle.work.proofs.removal.note_edges.Given as goal
 
 -- `work::removal::note_edges` meets its contract: the loop over the edges is `Noting` of proofs/PieceMasks.antt. Assumes nothing.

@@ -2,8 +2,8 @@
 use native.Mathlib.Omega.{arith}
 use Rattle.columns.proofs.Cells.{col_0, col_1}
 use lib.ListN.{length, get_or}
-use Prim.Native.Nat.{◌-◌, ◌/◌}
-use Rattle.work.proofs.Removals.{ListNoting, listing_start, listing_more, listing_done}
+use Prim.Native.Nat.{◌/◌}
+use Rattle.work.proofs.Removals.{listing_start, listing_more, listing_done}
 use Rattle.work.proofs.removal.note_listed.Goals as goal
 
 pub loop-i-init : goal.loop-i-init

@@ -1,9 +1,6 @@
 -- `work::removal::note_listed` meets its contract: the loop over the list is `ListNoting` of proofs/Removals.antt. Assumes nothing.
-use native.Mathlib.Omega.{arith}
-use Rattle.columns.proofs.Cells.{col_0, col_1}
-use lib.ListN.{length, get_or}
-use Prim.Native.Nat.{◌-◌, ◌/◌}
-use Rattle.work.proofs.Removals.{ListNoting, listing_start, listing_more, listing_done}
+use Prim.Native.Nat.{◌-◌}
+use Rattle.work.proofs.Removals.{ListNoting}
 use Rattle.work.proofs.removal.note_listed.Given as goal
 
 -- `work::removal::note_listed` meets its contract: the loop over the list is `ListNoting` of proofs/Removals.antt. Assumes nothing.

@@ -1,7 +1,6 @@
 -- `work::removal::remove_marked` meets its contract: the notes, then the edges, then the boundary. Assumes nothing.
 use Rattle.work.proofs.Removals.{blocks_gone}
 use native.Mathlib.Omega.{arith}
-use borrow.Author.Rules.{rules}
 use Rattle.work.proofs.removal.remove_marked.Goals as goal
 
 pub note_marked-g-requires : goal.note_marked-g-requires
