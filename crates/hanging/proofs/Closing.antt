@@ -11,10 +11,10 @@ use borrow.Author.Tests.{ne_eqb, leb-false}
 use lib.Dec.{leb}
 use lib.ListN.{length, get_or, drop, get_or-append, get_or-eq_default}
 use lib.Ieee.{Float, eq, ne}
-use Rattle.lists.specs.Lists.{pick, stands, any, sift, fold, each, map_at_of, empty, up_to}
+use Rattle.lists.specs.Lists.{pick, stands, any, fold, each, map_at_of, empty, up_to}
 use Rattle.lists.proofs.Sifts.{stands_append, or_true, true_and, up_to_stands, rising_stands}
 use Rattle.float.specs.Numbers.{zero32}
-use Rattle.model.specs.Mesh.{Particle, Triangle, Edge, Mesh, blank, blank_triangle}
+use Rattle.model.specs.Mesh.{Particle, Triangle, Edge, Mesh, blank}
 use Rattle.model.specs.Elements.{Kind, Triangles, Element, kind_of, particle, corners_of, triangle_element, triangles_from, elements_of, fan_of}
 use Rattle.model.specs.Run.{Entry, Rooms, Run, start, step_to, splits_of}
 use Rattle.model.specs.Split.{Opening, opening_of, splits?, portion, only_at, copied, rewired_triangles, at_longest, settled, straddles, split_entries, gone_entries, split_made, split_step, split_by_sides_of}
@@ -22,13 +22,13 @@ use Rattle.model.specs.Pieces.{body_labels, across?, without_straddlers, straddl
 use Rattle.model.specs.Cut.{Line, Blade, split_ends, near_corners, split_by_blade, candidates, pinched, split_free, split_pinched_of, cut_facets_of, marked_by, cut_along, cut}
 use Rattle.model.specs.Crack.{loads_of, torn_ends, crack_edge, crack}
 use Rattle.model.specs.Calls.{triangles_lent, blade_of, outcome, done, cut_call, crack_call}
-use Rattle.model.specs.Trace.{All, Sound}
+use Rattle.model.specs.Trace.{All}
 use Rattle.model_laws.proofs.Traced.{copies_from, step_splits, splits_here, copied_length, no_splits}
 use Rattle.model_laws.proofs.Indexed.{Indexed, sides_indexed, fold_indexed, straddlers_indexed, edge_indexed}
 use Rattle.model_laws.proofs.Accepted.{accepted_indexed}
 use Rattle.model_laws.proofs.Kept.{outcome_done, unless_done, no_refusal, cut_no_refusal}
-use Rattle.model_laws.proofs.Laws.{false_true, all_append, all_tab, all_in, length_map_at, get_d_map_at, each_append, stands_head, stands_tail, stands_case}
-use Rattle.hanging.specs.Hanging.{HeldBy, Joined, Pinned, Firm, Touching, copies_behind, SpokenOf, cut_begins, crack_begins}
+use Rattle.model_laws.proofs.Laws.{false_true, all_append, all_tab, length_map_at, get_d_map_at, stands_head, stands_tail, stands_case}
+use Rattle.hanging.specs.Hanging.{HeldBy, Pinned, Firm, Touching, SpokenOf, cut_begins, crack_begins}
 use Rattle.hanging.proofs.Opened.{held_low, three_corners, joined_few, joined_old, joined_new}
 
 -- ---- lists

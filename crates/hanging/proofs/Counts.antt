@@ -1,16 +1,16 @@
 -- Where no corner was pinched before an accepted cut and no particle of a triangle is pinned after it, pieces and bodies are equally many. Assumes nothing.
 use mathlib.Core.Path.{◌≡◌, refl, sym, ◌∙◌, ap, subst}
-use mathlib.Core.Bool.{Bool, true, false}
+use mathlib.Core.Bool.{Bool, true}
 use mathlib.Core.Logic.{⊎_elim}
 use mathlib.Core.List.{List, [], ◌∷◌}
-use Prim.Native.Nat.{ℕ, zero, suc, ◌<◌, ◌≤◌}
+use Prim.Native.Nat.{ℕ, zero, suc, ◌<◌}
 use native.Mathlib.Omega.{arith}
 use native.Mathlib.Nat.{not-suc-le-zero, le_of_suc-le-suc}
 use borrow.Author.Tests.{ne_eqb}
 use lib.ListN.{length, get_or}
 use lib.Ieee.{Float}
 use Rattle.lists.specs.Lists.{stands}
-use Rattle.lists.specs.Chain.{Chain, stay, ahead}
+use Rattle.lists.specs.Chain.{stay, ahead}
 use Rattle.lists.proofs.Chains.{chain_map}
 use Rattle.model.specs.Mesh.{Triangle, Mesh, blank_triangle}
 use Rattle.model.specs.Elements.{Kind, Triangles, Straps, Nothing, kind_of, corners_per_of, corners_of, triangles_from, elements_of}
@@ -20,9 +20,9 @@ use Rattle.model.specs.Calls.{done, cut_call}
 use Rattle.model.specs.Pieces.{corners_at, pieces, bodies}
 use Rattle.model_laws.proofs.Accepted.{cut_accepted}
 use Rattle.model_laws.proofs.Laws.{false_true, stands_head, stands_case}
-use Rattle.piece_classes.specs.Classes.{Holds, Share, ShareAt, NoHangingCorner}
+use Rattle.piece_classes.specs.Classes.{Holds, ShareAt, NoHangingCorner}
 use Rattle.piece_classes.proofs.Pieces.{no_hanging_corner}
-use Rattle.hanging.specs.Hanging.{HeldBy, Beside, Joined, Firm, Unpinched, Unpinned}
+use Rattle.hanging.specs.Hanging.{HeldBy, Beside, Firm, Unpinched, Unpinned}
 use Rattle.hanging.proofs.Farther.{cut_all_firm}
 
 -- ---- triangles as elements

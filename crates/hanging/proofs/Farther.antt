@@ -1,7 +1,7 @@
 -- Corners farther off: a split leaves whoever is not beside it joined as it was. So where no corner was pinched before an accepted cut, every particle is pinned or
 -- joined after it. Assumes nothing.
 use mathlib.Core.Path.{◌≡◌, refl, sym, ◌∙◌, ap, subst}
-use mathlib.Core.Bool.{Bool, true, false, ◌&&◌, ◌||◌}
+use mathlib.Core.Bool.{Bool, true, false, ◌||◌}
 use mathlib.Core.Logic.{◌⊎◌, inl, inr, ⊎_elim}
 use mathlib.Core.List.{List, [], ◌∷◌, ◌++◌, map}
 use Prim.Native.Nat.{ℕ, zero, suc, ◌+◌, ◌-◌, ◌<◌, ◌≤◌}
@@ -11,23 +11,23 @@ use borrow.Author.Tests.{eq-eqb, ne_eqb}
 use lib.ListN.{length, get_or}
 use lib.Ieee.{Float}
 use Rattle.lists.specs.Lists.{pick, stands, any, fold, each, empty, tab, up_to}
-use Rattle.lists.specs.Chain.{Chain, stay, ahead}
+use Rattle.lists.specs.Chain.{stay, ahead}
 use Rattle.lists.proofs.Chains.{chain_map}
 use Rattle.lists.proofs.Sifts.{and_true, stands_append, or_true, any_get, stands_made, rising_stands}
 use Rattle.model.specs.Mesh.{Triangle, Edge, Mesh}
-use Rattle.model.specs.Elements.{Kind, Triangles, Element, kind_of, corners_of, triangle_element, triangles_from, elements_of}
+use Rattle.model.specs.Elements.{Kind, Triangles, kind_of, corners_of, triangle_element, triangles_from, elements_of}
 use Rattle.model.specs.Run.{Entry, Rooms, Run, start, step_to, splits_of}
 use Rattle.model.specs.Split.{Opening, opening_of, splits?, copy_for_of, group_at_of, rewired_triangles, straddles, at_longest, settled, split_entries, gone_entries, split_made, split_step, split_by_sides_of}
-use Rattle.model.specs.Cut.{Line, Blade, split_ends, near_corners, split_by_blade, candidates, pinched, split_free, split_pinched_of, cut_facets_of, marked_by, cut_along, cut}
+use Rattle.model.specs.Cut.{Line, Blade, split_ends, near_corners, split_by_blade, candidates, pinched, split_pinched_of, cut_facets_of, marked_by, cut_along, cut}
 use Rattle.model.specs.Calls.{blade_of, outcome, done, cut_call}
 use Rattle.model_laws.proofs.Traced.{copies_from, step_splits, splits_here, at_below, opening_fits}
 use Rattle.model_laws.proofs.Indexed.{Indexed, sides_indexed}
 use Rattle.model_laws.proofs.Accepted.{accepted_indexed}
 use Rattle.model_laws.proofs.Kept.{outcome_done, unless_done, cut_no_refusal}
 use Rattle.model_laws.proofs.Laws.{false_true, each_append, stands_head, stands_tail, stands_case}
-use Rattle.hanging.specs.Hanging.{HeldBy, Beside, Joined, Firm, Unpinched, Touching, cut_begins}
+use Rattle.hanging.specs.Hanging.{HeldBy, Beside, Joined, Firm, Unpinched}
 use Rattle.hanging.proofs.Opened.{moved, kept_held, copy_held, back_held}
-use Rattle.hanging.proofs.Closing.{Under, Passed, pass, begun, or_first, touching_pinched}
+use Rattle.hanging.proofs.Closing.{Under, pass, begun, or_first, touching_pinched}
 
 -- ---- one split, by triangles and by the ends that are logged
 

@@ -7,14 +7,14 @@ use mathlib.Core.Bool.{Bool, ◌&&◌, and_assoc}
 use mathlib.Core.List.{List, [], ◌∷◌}
 use lib.ListN.{length, get_or}
 use lib.Dec.{ltb}
-use lib.Ieee.{Float, nan}
+use lib.Ieee.{Float}
 use Rattle.lists.specs.Lists.{all, up_to, tab}
 use Rattle.columns.proofs.Rows.{all_tab, tab_ext}
 use Rattle.float.specs.Ranges.{finite?, number?, volume?}
 use Rattle.model.specs.Valid.{flag?, named, particle_ok, triangle_ok, edge_ok, root_ok, corners_ok}
 use Rattle.mesh.specs.At.{particle_row, triangle_row, edge_row, particles_at, triangles_at, edges_at}
-use Rattle.mesh.specs.Widths.{point_columns, particle_words}
-use Rattle.judge.specs.Told.{column_ok, length?, pair_ok, RootsTold, CornersTold, VolumesTold}
+use Rattle.mesh.specs.Widths.{point_columns}
+use Rattle.judge.specs.Told.{length?, pair_ok, RootsTold, CornersTold, VolumesTold}
 use Rattle.judge.proofs.Wide.{and_told, all_alike}
 use Rattle.judge.proofs.Checked.{particle_tested, triangle_tested, edge_tested, root_tested, corners_tested, pair_tested}
 use Rattle.image.specs.Words.{word_at_of, number_of, words_from, numbers_from}

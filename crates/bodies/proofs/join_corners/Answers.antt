@@ -108,16 +108,18 @@ loop-j-preserved c =
     let y = get_or verts (A.i * A.k + L.j) 0 in
     let f : x < length L.parent = omega (arith, L.invariant.1, first_below P.corners A.i P.corner_step.inside) in
     let g : y < length L.parent = omega (arith, L.invariant.1, corner_below P.corners A.i L.j P.corner_step.inside l) in
-    elim c.if-parent-first.branch [ then-parent-first w ↦ (
-      omega arith,
-      ap (λ (p : List ℕ). length p) w.parent-is ∙ w.join.ensures.long ∙ L.invariant.1,
-      tied_at refl w.parent-is (tied_join x y L.invariant.2 w.join.ensures (link_more A.k verts A.i L.j l) (link_here A.k verts A.i L.j l) (link_split A.k verts A.i L.j l)),
-    )
-    | else-parent-first w ↦ let e : get_or L.parent x 0 ≡ get_or L.parent y 0 = omega (arith, w.if-parent-first.false) in (
-      omega arith,
-      ap (λ (p : List ℕ). length p) w.parent-is ∙ L.invariant.1,
-      tied_at refl w.parent-is (tied_one x y L.invariant.2 f g e (link_more A.k verts A.i L.j l) (link_split A.k verts A.i L.j l)),
-    ) ]
+    elim c.if-parent-first.branch [
+      | then-parent-first w ↦ (
+        omega arith,
+        ap (λ (p : List ℕ). length p) w.parent-is ∙ w.join.ensures.long ∙ L.invariant.1,
+        tied_at refl w.parent-is (tied_join x y L.invariant.2 w.join.ensures (link_more A.k verts A.i L.j l) (link_here A.k verts A.i L.j l) (link_split A.k verts A.i L.j l)),
+      )
+      | else-parent-first w ↦ let e : get_or L.parent x 0 ≡ get_or L.parent y 0 = omega (arith, w.if-parent-first.false) in (
+        omega arith,
+        ap (λ (p : List ℕ). length p) w.parent-is ∙ L.invariant.1,
+        tied_at refl w.parent-is (tied_one x y L.invariant.2 f g e (link_more A.k verts A.i L.j l) (link_split A.k verts A.i L.j l)),
+      )
+    ]
 
 pub shape_of-parent : goal.shape_of-parent
 shape_of-parent c = c.loop-j.invariant.1

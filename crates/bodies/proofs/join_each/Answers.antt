@@ -25,7 +25,6 @@ join_corners-requires c =
     let e = L.invariant.1 ∙ O.auto.table in
     record { corners = corners_for (sym e) P; corner_step = record { inside = search rules; tied = L.invariant.2 } }
 
-
 pub loop-i-preserved : goal.loop-i-preserved
 loop-i-preserved c =
     let L = c.loop-i in

@@ -22,9 +22,11 @@ note_straps-n-requires c =
     strap_room A.kind (blade_by A.rule A.b0 A.b1) A.room A.k A.points.now A.roots.now A.corners.now A.volumes.now A.ends.now A.lengths.now A.outline.now A.log.now Y A.offsets.now c.requires.1
 
 pub shape_of-log-then-room-n : goal.shape_of-log-then-room-n
-shape_of-log-then-room-n c = elim c.match-kind.branch [ in-Triangles w ↦ ap length w.log-is ∙ w.note_triangles-n.auto.log
-    | in-Straps w ↦ ap length w.log-is ∙ w.note_straps-n.auto.log
-    | in-Nothing w ↦ ap length w.log-is ]
+shape_of-log-then-room-n c = elim c.match-kind.branch [
+  | in-Triangles w ↦ ap length w.log-is ∙ w.note_triangles-n.auto.log
+  | in-Straps w ↦ ap length w.log-is ∙ w.note_straps-n.auto.log
+  | in-Nothing w ↦ ap length w.log-is
+]
 
 pub returns-then-room-n : goal.returns-then-room-n
 returns-then-room-n c =
@@ -32,14 +34,18 @@ returns-then-room-n c =
     let Y = c.requires.0 in
     let log = c.match-kind.log in
     let n = c.match-kind.n in
-    marked_refused A.kind (blade_by A.rule A.b0 A.b1) A.room A.k A.points.now A.roots.now A.corners.now A.volumes.now A.ends.now A.lengths.now A.outline.now A.log.now Y log n _ (elim c.match-kind.branch [ in-Triangles w ↦ marked_as A.kind (blade_by A.rule A.b0 A.b1) A.room A.k A.points.now A.roots.now A.corners.now A.volumes.now A.ends.now A.lengths.now A.outline.now A.log.now Y log _ n _ w.log-is w.n-is (of_triangles A.kind (blade_by A.rule A.b0 A.b1) A.room A.k A.points.now A.roots.now A.corners.now A.volumes.now A.ends.now A.lengths.now A.outline.now A.log.now Y _ _ w.in-Triangles.is w.note_triangles-n.ensures)
-    | in-Straps w ↦ marked_as A.kind (blade_by A.rule A.b0 A.b1) A.room A.k A.points.now A.roots.now A.corners.now A.volumes.now A.ends.now A.lengths.now A.outline.now A.log.now Y log _ n _ w.log-is w.n-is (of_straps A.kind (blade_by A.rule A.b0 A.b1) A.room A.k A.points.now A.roots.now A.corners.now A.volumes.now A.ends.now A.lengths.now A.outline.now A.log.now Y _ _ w.in-Straps.is w.note_straps-n.ensures)
-    | in-Nothing w ↦ marked_as A.kind (blade_by A.rule A.b0 A.b1) A.room A.k A.points.now A.roots.now A.corners.now A.volumes.now A.ends.now A.lengths.now A.outline.now A.log.now Y log _ n _ w.log-is w.n-is (of_nothing A.kind (blade_by A.rule A.b0 A.b1) A.room A.k A.points.now A.roots.now A.corners.now A.volumes.now A.ends.now A.lengths.now A.outline.now A.log.now Y w.in-Nothing.is) ]) (omega (arith, c.if-room-n.true))
+    marked_refused A.kind (blade_by A.rule A.b0 A.b1) A.room A.k A.points.now A.roots.now A.corners.now A.volumes.now A.ends.now A.lengths.now A.outline.now A.log.now Y log n _ (elim c.match-kind.branch [
+      | in-Triangles w ↦ marked_as A.kind (blade_by A.rule A.b0 A.b1) A.room A.k A.points.now A.roots.now A.corners.now A.volumes.now A.ends.now A.lengths.now A.outline.now A.log.now Y log _ n _ w.log-is w.n-is (of_triangles A.kind (blade_by A.rule A.b0 A.b1) A.room A.k A.points.now A.roots.now A.corners.now A.volumes.now A.ends.now A.lengths.now A.outline.now A.log.now Y _ _ w.in-Triangles.is w.note_triangles-n.ensures)
+      | in-Straps w ↦ marked_as A.kind (blade_by A.rule A.b0 A.b1) A.room A.k A.points.now A.roots.now A.corners.now A.volumes.now A.ends.now A.lengths.now A.outline.now A.log.now Y log _ n _ w.log-is w.n-is (of_straps A.kind (blade_by A.rule A.b0 A.b1) A.room A.k A.points.now A.roots.now A.corners.now A.volumes.now A.ends.now A.lengths.now A.outline.now A.log.now Y _ _ w.in-Straps.is w.note_straps-n.ensures)
+      | in-Nothing w ↦ marked_as A.kind (blade_by A.rule A.b0 A.b1) A.room A.k A.points.now A.roots.now A.corners.now A.volumes.now A.ends.now A.lengths.now A.outline.now A.log.now Y log _ n _ w.log-is w.n-is (of_nothing A.kind (blade_by A.rule A.b0 A.b1) A.room A.k A.points.now A.roots.now A.corners.now A.volumes.now A.ends.now A.lengths.now A.outline.now A.log.now Y w.in-Nothing.is)
+    ]) (omega (arith, c.if-room-n.true))
 
 pub shape_of-log : goal.shape_of-log
-shape_of-log c = elim c.match-kind.branch [ in-Triangles w ↦ ap length w.log-is ∙ w.note_triangles-n.auto.log
-    | in-Straps w ↦ ap length w.log-is ∙ w.note_straps-n.auto.log
-    | in-Nothing w ↦ ap length w.log-is ]
+shape_of-log c = elim c.match-kind.branch [
+  | in-Triangles w ↦ ap length w.log-is ∙ w.note_triangles-n.auto.log
+  | in-Straps w ↦ ap length w.log-is ∙ w.note_straps-n.auto.log
+  | in-Nothing w ↦ ap length w.log-is
+]
 
 pub returns : goal.returns
 returns c =
@@ -47,6 +53,8 @@ returns c =
     let Y = c.requires.0 in
     let log = c.match-kind.log in
     let n = c.match-kind.n in
-    marked_done A.kind (blade_by A.rule A.b0 A.b1) A.room A.k A.points.now A.roots.now A.corners.now A.volumes.now A.ends.now A.lengths.now A.outline.now A.log.now Y log n (elim c.match-kind.branch [ in-Triangles w ↦ marked_as A.kind (blade_by A.rule A.b0 A.b1) A.room A.k A.points.now A.roots.now A.corners.now A.volumes.now A.ends.now A.lengths.now A.outline.now A.log.now Y log _ n _ w.log-is w.n-is (of_triangles A.kind (blade_by A.rule A.b0 A.b1) A.room A.k A.points.now A.roots.now A.corners.now A.volumes.now A.ends.now A.lengths.now A.outline.now A.log.now Y _ _ w.in-Triangles.is w.note_triangles-n.ensures)
-    | in-Straps w ↦ marked_as A.kind (blade_by A.rule A.b0 A.b1) A.room A.k A.points.now A.roots.now A.corners.now A.volumes.now A.ends.now A.lengths.now A.outline.now A.log.now Y log _ n _ w.log-is w.n-is (of_straps A.kind (blade_by A.rule A.b0 A.b1) A.room A.k A.points.now A.roots.now A.corners.now A.volumes.now A.ends.now A.lengths.now A.outline.now A.log.now Y _ _ w.in-Straps.is w.note_straps-n.ensures)
-    | in-Nothing w ↦ marked_as A.kind (blade_by A.rule A.b0 A.b1) A.room A.k A.points.now A.roots.now A.corners.now A.volumes.now A.ends.now A.lengths.now A.outline.now A.log.now Y log _ n _ w.log-is w.n-is (of_nothing A.kind (blade_by A.rule A.b0 A.b1) A.room A.k A.points.now A.roots.now A.corners.now A.volumes.now A.ends.now A.lengths.now A.outline.now A.log.now Y w.in-Nothing.is) ]) (omega (arith, c.if-room-n.false))
+    marked_done A.kind (blade_by A.rule A.b0 A.b1) A.room A.k A.points.now A.roots.now A.corners.now A.volumes.now A.ends.now A.lengths.now A.outline.now A.log.now Y log n (elim c.match-kind.branch [
+      | in-Triangles w ↦ marked_as A.kind (blade_by A.rule A.b0 A.b1) A.room A.k A.points.now A.roots.now A.corners.now A.volumes.now A.ends.now A.lengths.now A.outline.now A.log.now Y log _ n _ w.log-is w.n-is (of_triangles A.kind (blade_by A.rule A.b0 A.b1) A.room A.k A.points.now A.roots.now A.corners.now A.volumes.now A.ends.now A.lengths.now A.outline.now A.log.now Y _ _ w.in-Triangles.is w.note_triangles-n.ensures)
+      | in-Straps w ↦ marked_as A.kind (blade_by A.rule A.b0 A.b1) A.room A.k A.points.now A.roots.now A.corners.now A.volumes.now A.ends.now A.lengths.now A.outline.now A.log.now Y log _ n _ w.log-is w.n-is (of_straps A.kind (blade_by A.rule A.b0 A.b1) A.room A.k A.points.now A.roots.now A.corners.now A.volumes.now A.ends.now A.lengths.now A.outline.now A.log.now Y _ _ w.in-Straps.is w.note_straps-n.ensures)
+      | in-Nothing w ↦ marked_as A.kind (blade_by A.rule A.b0 A.b1) A.room A.k A.points.now A.roots.now A.corners.now A.volumes.now A.ends.now A.lengths.now A.outline.now A.log.now Y log _ n _ w.log-is w.n-is (of_nothing A.kind (blade_by A.rule A.b0 A.b1) A.room A.k A.points.now A.roots.now A.corners.now A.volumes.now A.ends.now A.lengths.now A.outline.now A.log.now Y w.in-Nothing.is)
+    ]) (omega (arith, c.if-room-n.false))

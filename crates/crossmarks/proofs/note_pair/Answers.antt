@@ -15,8 +15,10 @@ returns-in_default c =
     pair_miss (blade_by A.rule A.b0 A.b1) A.points.now A.x A.y _ _ _ A.n _ c.place.ensures c.place-2.ensures c.tested-hit.ensures c.in_default.is
 
 pub shape_of-log : goal.shape_of-log
-shape_of-log c = elim c.if-n-log.branch [ then-n-log w ↦ ap length w.log-is ∙ w.note.auto.log
-    | else-n-log w ↦ ap length w.log-is ]
+shape_of-log c = elim c.if-n-log.branch [
+  | then-n-log w ↦ ap length w.log-is ∙ w.note.auto.log
+  | else-n-log w ↦ ap length w.log-is
+]
 
 pub returns : goal.returns
 returns c =
@@ -24,5 +26,7 @@ returns c =
     let P = c.place.ensures in
     let Q = c.place-2.ensures in
     let H = c.tested-hit.ensures in
-    elim c.if-n-log.branch [ then-n-log w ↦ pair_written (blade_by A.rule A.b0 A.b1) A.points.now A.x A.y _ _ _ _ _ A.n _ _ _ _ _ _ P Q H c.in-Hit.is w.bits_of-at_x.ensures w.bits_of-at_y.ensures w.bits_of.ensures w.note.ensures w.log-is
-    | else-n-log w ↦ pair_counted (blade_by A.rule A.b0 A.b1) A.points.now A.x A.y _ _ _ _ _ A.n _ _ P Q H c.in-Hit.is (omega (arith, w.if-n-log.false)) ]
+    elim c.if-n-log.branch [
+      | then-n-log w ↦ pair_written (blade_by A.rule A.b0 A.b1) A.points.now A.x A.y _ _ _ _ _ A.n _ _ _ _ _ _ P Q H c.in-Hit.is w.bits_of-at_x.ensures w.bits_of-at_y.ensures w.bits_of.ensures w.note.ensures w.log-is
+      | else-n-log w ↦ pair_counted (blade_by A.rule A.b0 A.b1) A.points.now A.x A.y _ _ _ _ _ A.n _ _ P Q H c.in-Hit.is (omega (arith, w.if-n-log.false))
+    ]

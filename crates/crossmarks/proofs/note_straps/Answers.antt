@@ -52,8 +52,10 @@ loop-i-smaller c = omega arith
 pub loop-i-preserved : goal.loop-i-preserved
 loop-i-preserved c =
     let L = c.loop-i in
-    elim c.if-ends-size-eq1.branch [ then-ends-size-eq1 w ↦ let T = straps_turn _ _ _ _ L.i _ _ _ _ _ _ _ L.invariant.1 w.note_across-m.auto.log L.invariant.2 L.invariant.3 (strap_noted _ _ _ L.i _ _ _ _ w.if-ends-size-eq1.true w.note_across-m.ensures) (few_of_pair _ _ _ _ _ _ _ _ w.note_across-m.ensures) w.log-is w.m-is in (omega arith, T.0, T.1, T.2)
-    | else-ends-size-eq1 w ↦ let T = straps_turn _ _ _ _ L.i _ _ _ _ _ _ _ L.invariant.1 refl L.invariant.2 L.invariant.3 (strap_passed _ _ _ L.i _ _ w.if-ends-size-eq1.false) (omega arith) w.log-is w.m-is in (omega arith, T.0, T.1, T.2) ]
+    elim c.if-ends-size-eq1.branch [
+      | then-ends-size-eq1 w ↦ let T = straps_turn _ _ _ _ L.i _ _ _ _ _ _ _ L.invariant.1 w.note_across-m.auto.log L.invariant.2 L.invariant.3 (strap_noted _ _ _ L.i _ _ _ _ w.if-ends-size-eq1.true w.note_across-m.ensures) (few_of_pair _ _ _ _ _ _ _ _ w.note_across-m.ensures) w.log-is w.m-is in (omega arith, T.0, T.1, T.2)
+      | else-ends-size-eq1 w ↦ let T = straps_turn _ _ _ _ L.i _ _ _ _ _ _ _ L.invariant.1 refl L.invariant.2 L.invariant.3 (strap_passed _ _ _ L.i _ _ w.if-ends-size-eq1.false) (omega arith) w.log-is w.m-is in (omega arith, T.0, T.1, T.2)
+    ]
 
 pub shape_of-log : goal.shape_of-log
 shape_of-log c = c.loop-i.invariant.1

@@ -92,8 +92,10 @@ loop-i-smaller c = omega arith
 pub loop-i-preserved : goal.loop-i-preserved
 loop-i-preserved c = let inv = c.loop-i.invariant in
     let test = c.loop-i-test.true in
-    elim c.if-word_at-eq1.branch [ then-word_at-eq1 w ↦ rw (w.numbers-is, w.verts-is, w.measures-is, w.n-is, w.o-is) (strap_row _ _ _ _ _ _ _ _ _ _ _ _ c.loop-i.invariant.0 test _ c.word_at.ensures.0 _ _ _ w.if-word_at-eq1.true (omega arith) (omega arith) (omega arith) w.word_at-then-word_at-eq1.ensures.0 w.word_at-then-word_at-eq1-2.ensures.0 w.number_at.ensures, omega arith)
-    | else-word_at-eq1 w ↦ rw (w.numbers-is, w.verts-is, w.measures-is, w.n-is, w.o-is) (strap_skipped _ _ _ _ _ _ _ _ _ _ _ _ c.loop-i.invariant.0 test _ c.word_at.ensures.0 w.if-word_at-eq1.false, omega arith) ]
+    elim c.if-word_at-eq1.branch [
+      | then-word_at-eq1 w ↦ rw (w.numbers-is, w.verts-is, w.measures-is, w.n-is, w.o-is) (strap_row _ _ _ _ _ _ _ _ _ _ _ _ c.loop-i.invariant.0 test _ c.word_at.ensures.0 _ _ _ w.if-word_at-eq1.true (omega arith) (omega arith) (omega arith) w.word_at-then-word_at-eq1.ensures.0 w.word_at-then-word_at-eq1-2.ensures.0 w.number_at.ensures, omega arith)
+      | else-word_at-eq1 w ↦ rw (w.numbers-is, w.verts-is, w.measures-is, w.n-is, w.o-is) (strap_skipped _ _ _ _ _ _ _ _ _ _ _ _ c.loop-i.invariant.0 test _ c.word_at.ensures.0 w.if-word_at-eq1.false, omega arith)
+    ]
 
 pub shape_of-numbers : goal.shape_of-numbers
 shape_of-numbers c = c.loop-i.invariant.0.filling.numbers_long

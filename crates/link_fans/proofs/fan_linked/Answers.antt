@@ -117,8 +117,10 @@ loop-at-smaller c = fanning_less _ _ _ _ _ _ _ _ _ _ _ _ _ c.loop-at.invariant c
 
 pub loop-at-preserved : goal.loop-at-preserved
 loop-at-preserved c = let I = c.loop-at.invariant in let R = rows_three _ _ _ _ _ c.least.ensures c.least-rows.ensures in let e = c.next_at-at.ensures.is _ c.requires.linked in
-    elim c.if-r-rows.branch [ then-r-rows w ↦ rw (w.numbers-is, w.verts-is, w.measures-is) (triangle_put _ _ c.args.corners.now c.args.volumes.now _ _ _ _ _ _ _ _ I c.loop-at-test.true _ R _ e _ w.abs.ensures w.if-r-rows.true)
-    | else-r-rows w ↦ rw (w.numbers-is, w.verts-is, w.measures-is) (triangle_full _ _ c.args.corners.now c.args.volumes.now _ _ _ _ _ _ _ _ I c.loop-at-test.true _ R _ e (omega (arith, w.if-r-rows.false))) ]
+    elim c.if-r-rows.branch [
+      | then-r-rows w ↦ rw (w.numbers-is, w.verts-is, w.measures-is) (triangle_put _ _ c.args.corners.now c.args.volumes.now _ _ _ _ _ _ _ _ I c.loop-at-test.true _ R _ e _ w.abs.ensures w.if-r-rows.true)
+      | else-r-rows w ↦ rw (w.numbers-is, w.verts-is, w.measures-is) (triangle_full _ _ c.args.corners.now c.args.volumes.now _ _ _ _ _ _ _ _ I c.loop-at-test.true _ R _ e (omega (arith, w.if-r-rows.false)))
+    ]
 
 pub shape_of-numbers : goal.shape_of-numbers
 shape_of-numbers c = c.loop-at.invariant.numbers_long

@@ -105,10 +105,14 @@ loop-at-smaller c = fanning_less _ _ _ _ _ _ _ _ _ _ _ _ _ c.loop-at.invariant c
 
 pub loop-at-preserved : goal.loop-at-preserved
 loop-at-preserved c = let I = c.loop-at.invariant in let R = rows_two _ _ _ _ _ c.least.ensures c.least-rows.ensures in let e = c.next_at-at.ensures.is _ c.requires.0.are in let l = c.loop-at-test.true in
-    elim c.if-ends-c-eq1.branch [ then-ends-c-eq1 w ↦ rw (w.numbers-is, w.verts-is, w.measures-is, w.r-is)
-    (elim w.if-r-rows.branch [ then-r-rows u ↦ rw (u.numbers-is, u.verts-is, u.measures-is) (strap_put _ _ c.args.ends.now c.args.lengths.now _ _ _ _ _ _ _ _ I l _ e w.if-ends-c-eq1.true _ R u.if-r-rows.true)
-    | else-r-rows u ↦ rw (u.numbers-is, u.verts-is, u.measures-is) (strap_full _ _ c.args.ends.now c.args.lengths.now _ _ _ _ _ _ _ _ I l _ e w.if-ends-c-eq1.true _ R (omega (arith, u.if-r-rows.false))) ])
-    | else-ends-c-eq1 w ↦ rw (w.numbers-is, w.verts-is, w.measures-is, w.r-is) (strap_skip _ _ c.args.ends.now c.args.lengths.now _ _ _ _ _ _ _ _ I l _ e w.if-ends-c-eq1.false) ]
+    elim c.if-ends-c-eq1.branch [
+      | then-ends-c-eq1 w ↦ rw (w.numbers-is, w.verts-is, w.measures-is, w.r-is)
+          (elim w.if-r-rows.branch [
+            | then-r-rows u ↦ rw (u.numbers-is, u.verts-is, u.measures-is) (strap_put _ _ c.args.ends.now c.args.lengths.now _ _ _ _ _ _ _ _ I l _ e w.if-ends-c-eq1.true _ R u.if-r-rows.true)
+            | else-r-rows u ↦ rw (u.numbers-is, u.verts-is, u.measures-is) (strap_full _ _ c.args.ends.now c.args.lengths.now _ _ _ _ _ _ _ _ I l _ e w.if-ends-c-eq1.true _ R (omega (arith, u.if-r-rows.false)))
+          ])
+      | else-ends-c-eq1 w ↦ rw (w.numbers-is, w.verts-is, w.measures-is, w.r-is) (strap_skip _ _ c.args.ends.now c.args.lengths.now _ _ _ _ _ _ _ _ I l _ e w.if-ends-c-eq1.false)
+    ]
 
 pub shape_of-numbers : goal.shape_of-numbers
 shape_of-numbers c = c.loop-at.invariant.numbers_long

@@ -25,8 +25,10 @@ pub loop-i-smaller : goal.loop-i-smaller
 loop-i-smaller c = omega (arith, c.loop-i-test.true)
 
 pub loop-i-preserved : goal.loop-i-preserved
-loop-i-preserved c = elim c.if-x-near.branch [ then-x-near w ↦ nearing_stored _ _ _ _ _ c.loop-i.invariant c.loop-i-test.true _ w.if-x-near.true w.near-is
-    | else-x-near w ↦ nearing_passed _ _ _ _ _ c.loop-i.invariant c.loop-i-test.true _ w.if-x-near.false w.near-is ]
+loop-i-preserved c = elim c.if-x-near.branch [
+  | then-x-near w ↦ nearing_stored _ _ _ _ _ c.loop-i.invariant c.loop-i-test.true _ w.if-x-near.true w.near-is
+  | else-x-near w ↦ nearing_passed _ _ _ _ _ c.loop-i.invariant c.loop-i-test.true _ w.if-x-near.false w.near-is
+]
 
 pub shape_of-near : goal.shape_of-near
 shape_of-near c = c.loop-i.invariant.long

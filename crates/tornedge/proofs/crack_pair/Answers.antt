@@ -12,9 +12,13 @@ turned-other-requires c = let P = c.requires in let A = c.args in (way_ready A.r
 
 pub crack_ends-requires : goal.crack_ends-requires
 crack_ends-requires c = let P = c.requires in let A = c.args in let T = c.turned-other in
-    let both = asked_turned T.result A.x A.y A.a A.b A.k.particles _ _ (elim c.if-other.branch [ then-other z ↦ chosen_first T.result _ _ _ z.if-other.true z.v-is
-    | else-other z ↦ chosen_second T.result _ _ _ z.if-other.false z.v-is ]) (elim c.if-other-2.branch [ then-other-2 z ↦ chosen_first T.result _ _ _ z.if-other-2.true z.w-is
-    | else-other-2 z ↦ chosen_second T.result _ _ _ z.if-other-2.false z.w-is ]) P.4 P.5 P.2 P.3 in
+    let both = asked_turned T.result A.x A.y A.a A.b A.k.particles _ _ (elim c.if-other.branch [
+      | then-other z ↦ chosen_first T.result _ _ _ z.if-other.true z.v-is
+      | else-other z ↦ chosen_second T.result _ _ _ z.if-other.false z.v-is
+    ]) (elim c.if-other-2.branch [
+      | then-other-2 z ↦ chosen_first T.result _ _ _ z.if-other-2.true z.w-is
+      | else-other-2 z ↦ chosen_second T.result _ _ _ z.if-other-2.false z.w-is
+    ]) P.4 P.5 P.2 P.3 in
     (P.0, both.0, both.1, P.6)
 
 pub shape_of-points : goal.shape_of-points
@@ -43,7 +47,13 @@ shape_of-links c = c.crack_ends.auto.links
 
 pub returns : goal.returns
 unfolding world_at
-returns c = let A = c.args in let T = c.turned-other in
-    (pair_turned (kind_is A.kind) A.minimum A.x A.y (A.a, A.b) A.loads.now A.k A.room (world_at A.k A.points.now A.roots.now A.corners.now A.volumes.now A.ends.now A.lengths.now A.outline.now A.log.now) T.result T.ensures _ _ _ _ (elim c.if-other.branch [ then-other z ↦ chosen_first T.result _ _ _ z.if-other.true z.v-is
-    | else-other z ↦ chosen_second T.result _ _ _ z.if-other.false z.v-is ]) (elim c.if-other-2.branch [ then-other-2 z ↦ chosen_first T.result _ _ _ z.if-other-2.true z.w-is
-    | else-other-2 z ↦ chosen_second T.result _ _ _ z.if-other-2.false z.w-is ]) c.crack_ends.ensures.0, c.crack_ends.ensures.1)
+returns c = let A = c.args in let T = c.turned-other in (
+  pair_turned (kind_is A.kind) A.minimum A.x A.y (A.a, A.b) A.loads.now A.k A.room (world_at A.k A.points.now A.roots.now A.corners.now A.volumes.now A.ends.now A.lengths.now A.outline.now A.log.now) T.result T.ensures _ _ _ _ (elim c.if-other.branch [
+    | then-other z ↦ chosen_first T.result _ _ _ z.if-other.true z.v-is
+    | else-other z ↦ chosen_second T.result _ _ _ z.if-other.false z.v-is
+  ]) (elim c.if-other-2.branch [
+    | then-other-2 z ↦ chosen_first T.result _ _ _ z.if-other-2.true z.w-is
+    | else-other-2 z ↦ chosen_second T.result _ _ _ z.if-other-2.false z.w-is
+  ]) c.crack_ends.ensures.0,
+  c.crack_ends.ensures.1,
+)

@@ -40,4 +40,3 @@ pub returns : goal.returns
 returns c =
     let L = c.loop-i in
     record { kept = L.invariant.1; flat = (λ a l. L.invariant.2 a (let e = L.invariant.1.long in omega arith)) }
-

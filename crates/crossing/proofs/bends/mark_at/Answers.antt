@@ -42,8 +42,10 @@ loop-at-preserved c = let A = c.args in
     let h = walk_within c.requires.linked c.loop-at.invariant c.loop-at-test.true in
     let S = walk_here c.requires.linked c.loop-at.invariant c.loop-at-test.true (λ j l n s. at_skip _ _ _ _ _ _ _ j s n) in
     walk_more c.requires.linked c.loop-at.invariant c.loop-at-test.true c.next_at-at.ensures
-    (elim c.if-bend.branch [ then-bend w ↦ subst (λ (l : List ℕ). AtSeen A.x A.e A.ends.now A.first.now A.second.now A.marks.now l (suc i)) (sym w.marks-is) (at_taken _ _ _ _ _ _ _ _ S _ h (omega (arith, c.requires.marks_long, S.long)) c.bend.ensures w.if-bend.true)
-    | else-bend w ↦ subst (λ (l : List ℕ). AtSeen A.x A.e A.ends.now A.first.now A.second.now A.marks.now l (suc i)) (sym w.marks-is) (at_left _ _ _ _ _ _ _ _ S _ c.bend.ensures w.if-bend.false) ])
+    (elim c.if-bend.branch [
+      | then-bend w ↦ subst (λ (l : List ℕ). AtSeen A.x A.e A.ends.now A.first.now A.second.now A.marks.now l (suc i)) (sym w.marks-is) (at_taken _ _ _ _ _ _ _ _ S _ h (omega (arith, c.requires.marks_long, S.long)) c.bend.ensures w.if-bend.true)
+      | else-bend w ↦ subst (λ (l : List ℕ). AtSeen A.x A.e A.ends.now A.first.now A.second.now A.marks.now l (suc i)) (sym w.marks-is) (at_left _ _ _ _ _ _ _ _ S _ c.bend.ensures w.if-bend.false)
+    ])
 
 pub shape_of-marks : goal.shape_of-marks
 shape_of-marks c = c.loop-at.invariant.so_far.long

@@ -47,8 +47,10 @@ loop-at-preserved c = let P = c.requires.0 in
     let h = walk_within c.requires.0.linked c.loop-at.invariant c.loop-at-test.true in
     let S = walk_here c.requires.0.linked c.loop-at.invariant c.loop-at-test.true (λ j l n s. side_skip _ _ _ _ _ _ _ _ _ j s n) in
     walk_more c.requires.0.linked c.loop-at.invariant c.loop-at-test.true c.next_at-at.ensures
-    (elim c.if-not-is_walked.branch [ then-not-is_walked w ↦ side_more _ _ _ _ _ _ _ _ _ _ S _ N _ T.result T.ensures _ (ap not w.if-not-is_walked.true) T.auto.walked _ w.mark_at-then-not-is_walked.auto.marks w.mark_at-then-not-is_walked.ensures w.marks-is
-    | else-not-is_walked w ↦ side_passed _ _ _ _ _ _ _ _ _ _ S _ N _ T.result T.ensures _ (N.below _ c.requires.0.here (E.first _ h) (E.second _ h)) (ap not w.if-not-is_walked.false) w.marks-is ])
+    (elim c.if-not-is_walked.branch [
+      | then-not-is_walked w ↦ side_more _ _ _ _ _ _ _ _ _ _ S _ N _ T.result T.ensures _ (ap not w.if-not-is_walked.true) T.auto.walked _ w.mark_at-then-not-is_walked.auto.marks w.mark_at-then-not-is_walked.ensures w.marks-is
+      | else-not-is_walked w ↦ side_passed _ _ _ _ _ _ _ _ _ _ S _ N _ T.result T.ensures _ (N.below _ c.requires.0.here (E.first _ h) (E.second _ h)) (ap not w.if-not-is_walked.false) w.marks-is
+    ])
 
 pub shape_of-marks : goal.shape_of-marks
 shape_of-marks c = c.loop-at.invariant.so_far.long ∙ c.mark_at.auto.marks

@@ -25,8 +25,10 @@ pub loop-i-smaller : goal.loop-i-smaller
 loop-i-smaller c = omega (arith, c.loop-i-test.true)
 
 pub loop-i-preserved : goal.loop-i-preserved
-loop-i-preserved c = elim c.if-marks-i-eq1.branch [ then-marks-i-eq1 w ↦ count_took c.loop-i.invariant c.loop-i-test.true w.if-marks-i-eq1.true w.count-is
-    | else-marks-i-eq1 w ↦ count_skipped c.loop-i.invariant c.loop-i-test.true w.if-marks-i-eq1.false w.count-is ]
+loop-i-preserved c = elim c.if-marks-i-eq1.branch [
+  | then-marks-i-eq1 w ↦ count_took c.loop-i.invariant c.loop-i-test.true w.if-marks-i-eq1.true w.count-is
+  | else-marks-i-eq1 w ↦ count_skipped c.loop-i.invariant c.loop-i-test.true w.if-marks-i-eq1.false w.count-is
+]
 
 pub returns : goal.returns
 returns c = count_done c.loop-i.invariant c.loop-i-test.false

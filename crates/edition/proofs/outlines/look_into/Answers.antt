@@ -8,7 +8,7 @@ use Rattle.edition.proofs.outlines.look_into.Goals as goal
 pub find_outline-found-requires : goal.find_outline-found-requires
 find_outline-found-requires c =
     let a = c.args in
-    record { typed = typed_in a.limits a.s.now c.type_inv.given.0.0 (sym c.look_typed-typed.ensures ∙ c.type_inv.given.1); places = c.requires }
+    record { typed = typed_in a.limits a.s.now c.in-Whole.c (sym c.look_typed-typed.ensures ∙ c.in-Whole.is); places = c.requires }
 
 pub shape_of-block-then-too_long : goal.shape_of-block-then-too_long
 shape_of-block-then-too_long c = c.find_outline-found.auto.block
@@ -16,8 +16,8 @@ shape_of-block-then-too_long c = c.find_outline-found.auto.block
 pub returns-then-too_long : goal.returns-then-too_long
 returns-then-too_long c =
     let a = c.args in
-    let k = c.type_inv.given.0.0 in
-    let w = sym c.look_typed-typed.ensures ∙ c.type_inv.given.1 in
+    let k = c.in-Whole.c in
+    let w = sym c.look_typed-typed.ensures ∙ c.in-Whole.is in
     record { answer = seen_long a.s.now k (typed_in a.limits a.s.now k w) a.limits w _ c.find_outline-found.result c.find_outline-found.ensures (sym c.too_long.ensures ∙ c.if-too_long.true); outlined = tt }
 
 pub shape_of-block : goal.shape_of-block
@@ -26,8 +26,8 @@ shape_of-block c = c.find_outline-found.auto.block
 pub returns-else-too_long : goal.returns-else-too_long
 returns-else-too_long c =
     let a = c.args in
-    let k = c.type_inv.given.0.0 in
-    let w = sym c.look_typed-typed.ensures ∙ c.type_inv.given.1 in
+    let k = c.in-Whole.c in
+    let w = sym c.look_typed-typed.ensures ∙ c.in-Whole.is in
     let t = typed_in a.limits a.s.now k w in
     record { answer = seen_whole a.s.now k t a.limits w _ c.find_outline-found.result c.find_outline-found.ensures (sym c.too_long.ensures ∙ c.if-too_long.false); outlined = sides_are a.s.now k t a.limits w _ c.find_outline-found.result c.find_outline-found.ensures }
 

@@ -10,12 +10,16 @@ use Rattle.insert.proofs.plan.clamp_to.Goals.{else-u-lo, then-u-lo}
 pub returns-then-hi-u : goal.returns-then-hi-u
 returns-then-hi-u c = let A = c.args in
     let U = c.if-u-lo in
-    yes_pick _ _ _ c.if-hi-u.true ∙ clamped A.lo A.hi A.t U.u (elim U.branch [ then-u-lo w ↦ w.u-is ∙ yes_pick (lt A.t A.lo) _ _ w.if-u-lo.true
-    | else-u-lo w ↦ w.u-is ∙ no_pick (lt A.t A.lo) _ _ w.if-u-lo.false ])
+    yes_pick _ _ _ c.if-hi-u.true ∙ clamped A.lo A.hi A.t U.u (elim U.branch [
+      | then-u-lo w ↦ w.u-is ∙ yes_pick (lt A.t A.lo) _ _ w.if-u-lo.true
+      | else-u-lo w ↦ w.u-is ∙ no_pick (lt A.t A.lo) _ _ w.if-u-lo.false
+    ])
 
 -- src/plan.rt:25:1
 pub returns-else-hi-u : goal.returns-else-hi-u
 returns-else-hi-u c = let A = c.args in
     let U = c.if-u-lo in
-    no_pick _ _ _ c.if-hi-u.false ∙ clamped A.lo A.hi A.t U.u (elim U.branch [ then-u-lo w ↦ w.u-is ∙ yes_pick (lt A.t A.lo) _ _ w.if-u-lo.true
-    | else-u-lo w ↦ w.u-is ∙ no_pick (lt A.t A.lo) _ _ w.if-u-lo.false ])
+    no_pick _ _ _ c.if-hi-u.false ∙ clamped A.lo A.hi A.t U.u (elim U.branch [
+      | then-u-lo w ↦ w.u-is ∙ yes_pick (lt A.t A.lo) _ _ w.if-u-lo.true
+      | else-u-lo w ↦ w.u-is ∙ no_pick (lt A.t A.lo) _ _ w.if-u-lo.false
+    ])

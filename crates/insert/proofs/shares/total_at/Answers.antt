@@ -52,8 +52,10 @@ pub loop-at-preserved : goal.loop-at-preserved
 loop-at-preserved c = let h = walk_holds c.requires.linked c.loop-at.invariant c.loop-at-test.true in
     let q = walk_here c.requires.linked c.loop-at.invariant c.loop-at-test.true (λ j l n s. total_skip _ _ _ j _ n s) in
     walk_more c.requires.linked c.loop-at.invariant c.loop-at-test.true c.next_at-at.ensures
-    (elim c.if-ends-rows-eq1.branch [ then-ends-rows-eq1 w ↦ w.s-is ∙ total_taken _ _ _ _ _ h q w.if-ends-rows-eq1.true
-    | else-ends-rows-eq1 w ↦ w.s-is ∙ total_left _ _ _ _ _ h q w.if-ends-rows-eq1.false ])
+    (elim c.if-ends-rows-eq1.branch [
+      | then-ends-rows-eq1 w ↦ w.s-is ∙ total_taken _ _ _ _ _ h q w.if-ends-rows-eq1.true
+      | else-ends-rows-eq1 w ↦ w.s-is ∙ total_left _ _ _ _ _ h q w.if-ends-rows-eq1.false
+    ])
 
 pub returns : goal.returns
 returns c = walk_done c.requires.linked c.loop-at.invariant (λ j l n s. total_skip _ _ _ j _ n s) (omega arith)

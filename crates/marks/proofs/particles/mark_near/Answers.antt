@@ -65,10 +65,12 @@ loop-i-smaller c = omega arith
 pub loop-i-preserved : goal.loop-i-preserved
 loop-i-preserved c = let L = c.loop-i in
     let log = c.args.log.now in
-    elim c.if-log-at-eq1.branch [ then-log-at-eq1 w ↦ let k = w.mark.auto.marks in
-    let k' = w.mark-then-log-at-eq1.auto.marks in
-    rw w.near-is (omega arith, k' ∙ k ∙ L.invariant.1, rows_more ends_in_of (entry_row log) L.i _ _ (k' ∙ k) L.invariant.2 (entry_split log L.i _ _ _ w.if-log-at-eq1.true k w.mark.ensures w.mark-then-log-at-eq1.ensures))
-    | else-log-at-eq1 w ↦ rw w.near-is (omega arith, L.invariant.1, rows_more ends_in_of (entry_row log) L.i _ _ refl L.invariant.2 (entry_other log L.i _ w.if-log-at-eq1.false)) ]
+    elim c.if-log-at-eq1.branch [
+      | then-log-at-eq1 w ↦ let k = w.mark.auto.marks in
+          let k' = w.mark-then-log-at-eq1.auto.marks in
+          rw w.near-is (omega arith, k' ∙ k ∙ L.invariant.1, rows_more ends_in_of (entry_row log) L.i _ _ (k' ∙ k) L.invariant.2 (entry_split log L.i _ _ _ w.if-log-at-eq1.true k w.mark.ensures w.mark-then-log-at-eq1.ensures))
+      | else-log-at-eq1 w ↦ rw w.near-is (omega arith, L.invariant.1, rows_more ends_in_of (entry_row log) L.i _ _ refl L.invariant.2 (entry_other log L.i _ w.if-log-at-eq1.false))
+    ]
 
 pub shape_of-near : goal.shape_of-near
 shape_of-near c = c.loop-i.invariant.1 ∙ cleared_length _ _ c.clear_usize.ensures

@@ -30,8 +30,10 @@ pub returns-in-Split : goal.returns-in-Split
 returns-in-Split c = let A = c.args in job_fits (mesh_at A.k A.in_points.now A.in_roots.now A.in_corners.now A.in_volumes.now A.in_ends.now A.in_lengths.now A.in_outline.now) A.room A.job (Split _) A.list.now c.in-Split.is (and_next _ _ _ _ _ c.both.ensures c.sides_given-fit.ensures (room_test A.k A.in_points.now A.in_roots.now A.in_corners.now A.in_volumes.now A.in_ends.now A.in_lengths.now A.in_outline.now A.room refl))
 
 pub returns-after-edition-eq1 : goal.returns-after-edition-eq1
-returns-after-edition-eq1 c = let A = c.args in job_fits (mesh_at A.k A.in_points.now A.in_roots.now A.in_corners.now A.in_volumes.now A.in_ends.now A.in_lengths.now A.in_outline.now) A.room A.job (Cut _ _ _ _) A.list.now c.in-Cut.is (and_next _ _ _ _ _ c.both-in-Cut-2.ensures (and_next _ _ _ _ _ c.both-in-Cut.ensures (elim c.if-edition-eq1.branch [ then-edition-eq1 w ↦ known_first _ _ w.if-edition-eq1.true w.known-is
-    | else-edition-eq1 w ↦ known_second _ _ w.if-edition-eq1.false w.known-is ]) c.fraction_fits.ensures) (room_test A.k A.in_points.now A.in_roots.now A.in_corners.now A.in_volumes.now A.in_ends.now A.in_lengths.now A.in_outline.now A.room refl))
+returns-after-edition-eq1 c = let A = c.args in job_fits (mesh_at A.k A.in_points.now A.in_roots.now A.in_corners.now A.in_volumes.now A.in_ends.now A.in_lengths.now A.in_outline.now) A.room A.job (Cut _ _ _ _) A.list.now c.in-Cut.is (and_next _ _ _ _ _ c.both-in-Cut-2.ensures (and_next _ _ _ _ _ c.both-in-Cut.ensures (elim c.if-edition-eq1.branch [
+  | then-edition-eq1 w ↦ known_first _ _ w.if-edition-eq1.true w.known-is
+  | else-edition-eq1 w ↦ known_second _ _ w.if-edition-eq1.false w.known-is
+]) c.fraction_fits.ensures) (room_test A.k A.in_points.now A.in_roots.now A.in_corners.now A.in_volumes.now A.in_ends.now A.in_lengths.now A.in_outline.now A.room refl))
 
 pub returns-in-Crack : goal.returns-in-Crack
 returns-in-Crack c = let A = c.args in job_fits (mesh_at A.k A.in_points.now A.in_roots.now A.in_corners.now A.in_volumes.now A.in_ends.now A.in_lengths.now A.in_outline.now) A.room A.job (Crack _) A.list.now c.in-Crack.is (room_test A.k A.in_points.now A.in_roots.now A.in_corners.now A.in_volumes.now A.in_ends.now A.in_lengths.now A.in_outline.now A.room refl)

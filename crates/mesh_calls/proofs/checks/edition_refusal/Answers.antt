@@ -40,9 +40,11 @@ pub returns-then-edition-ne2 : goal.returns-then-edition-ne2
 returns-then-edition-ne2 c = edition_other c.args.job _ _ _ _ _ c.in-Cut.is c.if-edition-ne2.true
 
 pub returns-then-not-whole_places : goal.returns-then-not-whole_places
-returns-then-not-whole_places c = let A = c.args in let arm = c.in-Cut.is in let second = c.if-edition-ne2.false in let told = (c.whole_places.ensures ∙ places_whole A.k A.in_points.now A.in_roots.now A.in_corners.now A.in_volumes.now A.in_ends.now A.in_lengths.now A.in_outline.now) in elim c.then-not-whole_places.branch [ then-not-whole_places-via-then-not-whole_places w ↦ places_not (mesh_at A.k A.in_points.now A.in_roots.now A.in_corners.now A.in_volumes.now A.in_ends.now A.in_lengths.now A.in_outline.now) A.job _ _ _ _ arm second _ told (ap not w.if-not-whole_places.true)
-    | then-not-whole_places-via-else-not-whole_places+then-not-whole_point w ↦ from_not (mesh_at A.k A.in_points.now A.in_roots.now A.in_corners.now A.in_volumes.now A.in_ends.now A.in_lengths.now A.in_outline.now) A.job _ _ _ _ arm second _ told _ w.whole_point.ensures (ap not w.if-not-whole_point.true)
-    | then-not-whole_places-via-else-not-whole_places+else-not-whole_point+then-not-whole_point-2 w ↦ to_not (mesh_at A.k A.in_points.now A.in_roots.now A.in_corners.now A.in_volumes.now A.in_ends.now A.in_lengths.now A.in_outline.now) A.job _ _ _ _ arm second _ told _ w.whole_point-else-not-whole_point.ensures (ap not w.if-not-whole_point-2.true) ]
+returns-then-not-whole_places c = let A = c.args in let arm = c.in-Cut.is in let second = c.if-edition-ne2.false in let told = (c.whole_places.ensures ∙ places_whole A.k A.in_points.now A.in_roots.now A.in_corners.now A.in_volumes.now A.in_ends.now A.in_lengths.now A.in_outline.now) in elim c.then-not-whole_places.branch [
+  | then-not-whole_places-via-then-not-whole_places w ↦ places_not (mesh_at A.k A.in_points.now A.in_roots.now A.in_corners.now A.in_volumes.now A.in_ends.now A.in_lengths.now A.in_outline.now) A.job _ _ _ _ arm second _ told (ap not w.if-not-whole_places.true)
+  | then-not-whole_places-via-else-not-whole_places+then-not-whole_point w ↦ from_not (mesh_at A.k A.in_points.now A.in_roots.now A.in_corners.now A.in_volumes.now A.in_ends.now A.in_lengths.now A.in_outline.now) A.job _ _ _ _ arm second _ told _ w.whole_point.ensures (ap not w.if-not-whole_point.true)
+  | then-not-whole_places-via-else-not-whole_places+else-not-whole_point+then-not-whole_point-2 w ↦ to_not (mesh_at A.k A.in_points.now A.in_roots.now A.in_corners.now A.in_volumes.now A.in_ends.now A.in_lengths.now A.in_outline.now) A.job _ _ _ _ arm second _ told _ w.whole_point-else-not-whole_point.ensures (ap not w.if-not-whole_point-2.true)
+]
 
 pub enum_told-1 : goal.enum_told-1
 enum_told-1 c = omega arith

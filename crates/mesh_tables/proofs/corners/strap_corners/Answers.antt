@@ -74,8 +74,10 @@ loop-i-preserved c =
     let L = c.loop-i in
     let E = A.ends.now in
     let l : L.i < A.e = search rules in
-    elim c.if-ends-c-eq1.branch [ then-ends-c-eq1 w ↦ rw (w.verts-is, w.n-is, w.o-is) (omega arith, omega (arith, L.invariant.1), omega (arith, L.invariant.2), simp length-set L.invariant.3, strap_corners_take E L.verts L.i L.n L.o L.invariant.4 L.invariant.2 L.invariant.1 w.if-ends-c-eq1.true (omega (arith, L.invariant.1, L.invariant.2, L.invariant.3, P.1)))
-    | else-ends-c-eq1 w ↦ rw (w.verts-is, w.n-is, w.o-is) (omega arith, omega (arith, L.invariant.1), L.invariant.2, L.invariant.3, strap_corners_skip E L.verts L.i L.n L.o L.invariant.4 L.invariant.2 L.invariant.1 w.if-ends-c-eq1.false) ]
+    elim c.if-ends-c-eq1.branch [
+      | then-ends-c-eq1 w ↦ rw (w.verts-is, w.n-is, w.o-is) (omega arith, omega (arith, L.invariant.1), omega (arith, L.invariant.2), simp length-set L.invariant.3, strap_corners_take E L.verts L.i L.n L.o L.invariant.4 L.invariant.2 L.invariant.1 w.if-ends-c-eq1.true (omega (arith, L.invariant.1, L.invariant.2, L.invariant.3, P.1)))
+      | else-ends-c-eq1 w ↦ rw (w.verts-is, w.n-is, w.o-is) (omega arith, omega (arith, L.invariant.1), L.invariant.2, L.invariant.3, strap_corners_skip E L.verts L.i L.n L.o L.invariant.4 L.invariant.2 L.invariant.1 w.if-ends-c-eq1.false)
+    ]
 
 pub shape_of-verts : goal.shape_of-verts
 shape_of-verts c = c.loop-i.invariant.3

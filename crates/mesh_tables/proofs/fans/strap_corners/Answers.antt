@@ -58,8 +58,10 @@ pub loop-i-preserved : goal.loop-i-preserved
 loop-i-preserved c = let A = c.args in
     let inv = c.loop-i.invariant in
     let said = sym c.strap_holds.ensures in
-    elim c.if-strap_holds.branch [ then-strap_holds w ↦ rw (w.verts-is, w.r-is) ((λ M. corners_take _ _ _ _ (straps_held A.v A.ends.now M _) 2 _ _ _ (c.loop-i.invariant.0 M) (said ∙ w.if-strap_holds.true) refl w.put_two.ensures), w.put_two.ensures.long ∙ c.loop-i.invariant.1, omega arith, omega arith)
-    | else-strap_holds w ↦ rw (w.verts-is, w.r-is) ((λ M. corners_skip _ _ _ _ (straps_held A.v A.ends.now M _) 2 _ _ (c.loop-i.invariant.0 M) (said ∙ w.if-strap_holds.false)), c.loop-i.invariant.1, omega arith, omega arith) ]
+    elim c.if-strap_holds.branch [
+      | then-strap_holds w ↦ rw (w.verts-is, w.r-is) ((λ M. corners_take _ _ _ _ (straps_held A.v A.ends.now M _) 2 _ _ _ (c.loop-i.invariant.0 M) (said ∙ w.if-strap_holds.true) refl w.put_two.ensures), w.put_two.ensures.long ∙ c.loop-i.invariant.1, omega arith, omega arith)
+      | else-strap_holds w ↦ rw (w.verts-is, w.r-is) ((λ M. corners_skip _ _ _ _ (straps_held A.v A.ends.now M _) 2 _ _ (c.loop-i.invariant.0 M) (said ∙ w.if-strap_holds.false)), c.loop-i.invariant.1, omega arith, omega arith)
+    ]
 
 pub shape_of-verts : goal.shape_of-verts
 shape_of-verts c = c.loop-i.invariant.1

@@ -61,8 +61,10 @@ pub loop-i-preserved : goal.loop-i-preserved
 loop-i-preserved c = let A = c.args in
     let inv = c.loop-i.invariant in
     let said = sym c.triangle_holds.ensures in
-    elim c.if-triangle_holds.branch [ then-triangle_holds w ↦ rw (w.verts-is, w.r-is) ((λ M. corners_take _ _ _ _ (triangles_held A.v A.corners.now M _) 3 _ _ _ (c.loop-i.invariant.0 M) (said ∙ w.if-triangle_holds.true) refl w.put_three.ensures), w.put_three.ensures.long ∙ c.loop-i.invariant.1, omega arith, omega arith)
-    | else-triangle_holds w ↦ rw (w.verts-is, w.r-is) ((λ M. corners_skip _ _ _ _ (triangles_held A.v A.corners.now M _) 3 _ _ (c.loop-i.invariant.0 M) (said ∙ w.if-triangle_holds.false)), c.loop-i.invariant.1, omega arith, omega arith) ]
+    elim c.if-triangle_holds.branch [
+      | then-triangle_holds w ↦ rw (w.verts-is, w.r-is) ((λ M. corners_take _ _ _ _ (triangles_held A.v A.corners.now M _) 3 _ _ _ (c.loop-i.invariant.0 M) (said ∙ w.if-triangle_holds.true) refl w.put_three.ensures), w.put_three.ensures.long ∙ c.loop-i.invariant.1, omega arith, omega arith)
+      | else-triangle_holds w ↦ rw (w.verts-is, w.r-is) ((λ M. corners_skip _ _ _ _ (triangles_held A.v A.corners.now M _) 3 _ _ (c.loop-i.invariant.0 M) (said ∙ w.if-triangle_holds.false)), c.loop-i.invariant.1, omega arith, omega arith)
+    ]
 
 pub shape_of-verts : goal.shape_of-verts
 shape_of-verts c = c.loop-i.invariant.1

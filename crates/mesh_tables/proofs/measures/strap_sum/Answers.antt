@@ -50,8 +50,10 @@ loop-i-preserved c =
     let L = c.loop-i in
     let E = A.ends.now in
     let S = A.lengths.now in
-    elim c.if-ends-c-eq1.branch [ then-ends-c-eq1 w ↦ (omega arith, w.s-is ∙ ap (λ (x : Float). plus x (get_or S (length S / 4 + L.i) nan)) L.invariant.1 ∙ sym (straps_take E S L.i w.if-ends-c-eq1.true))
-    | else-ends-c-eq1 w ↦ (omega arith, w.s-is ∙ L.invariant.1 ∙ sym (straps_skip E S L.i w.if-ends-c-eq1.false)) ]
+    elim c.if-ends-c-eq1.branch [
+      | then-ends-c-eq1 w ↦ (omega arith, w.s-is ∙ ap (λ (x : Float). plus x (get_or S (length S / 4 + L.i) nan)) L.invariant.1 ∙ sym (straps_take E S L.i w.if-ends-c-eq1.true))
+      | else-ends-c-eq1 w ↦ (omega arith, w.s-is ∙ L.invariant.1 ∙ sym (straps_skip E S L.i w.if-ends-c-eq1.false))
+    ]
 
 pub returns : goal.returns
 returns c =

@@ -16,8 +16,10 @@ pub loop-i-preserved : goal.loop-i-preserved
 loop-i-preserved c =
     let A = c.args in
     let L = c.loop-i in
-    elim c.if-labels-i.branch [ then-labels-i w ↦ let s = tops_yes A.labels.now L.i w.if-labels-i.true in omega (arith, w.count-is)
-    | else-labels-i w ↦ let s = tops_no A.labels.now L.i w.if-labels-i.false in omega (arith, w.count-is) ]
+    elim c.if-labels-i.branch [
+      | then-labels-i w ↦ let s = tops_yes A.labels.now L.i w.if-labels-i.true in omega (arith, w.count-is)
+      | else-labels-i w ↦ let s = tops_no A.labels.now L.i w.if-labels-i.false in omega (arith, w.count-is)
+    ]
 
 pub returns : goal.returns
 returns c =

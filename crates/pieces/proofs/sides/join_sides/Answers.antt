@@ -50,22 +50,24 @@ loop-i-preserved c =
     let A = c.args in
     let P = c.requires in
     let L = c.loop-i in
-    elim c.if-k-eq3.branch [ then-k-eq3 w ↦ let e : A.k ≡ 3 = omega (arith, P.two, P.corners.width.1, w.if-k-eq3.true) in (
-      omega arith,
-      ap (λ (p : List ℕ). length p) w.heads-is ∙ w.join_triangle.auto.heads ∙ L.invariant.1,
-      ap (λ (p : List ℕ). length p) w.links-is ∙ w.join_triangle.auto.links ∙ L.invariant.2,
-      ap (λ (p : List ℕ). length p) w.lows-is ∙ w.join_triangle.auto.lows ∙ L.invariant.3,
-      ap (λ (p : List ℕ). length p) w.parent-is ∙ w.join_triangle.auto.parent ∙ L.invariant.4,
-      sided_same w.heads-is w.links-is w.lows-is w.parent-is (subst (λ (k : ℕ). Sided k A.verts.now w.join_triangle.new.heads w.join_triangle.new.links w.join_triangle.new.lows ((L.i + 1) * k) w.join_triangle.new.parent) (sym e) w.join_triangle.ensures),
-    )
-    | else-k-eq3 w ↦ let e : A.k ≡ 2 = omega (arith, P.two, P.corners.width.1, w.if-k-eq3.false) in (
-      omega arith,
-      ap (λ (p : List ℕ). length p) w.heads-is ∙ w.join_strap.auto.heads ∙ L.invariant.1,
-      ap (λ (p : List ℕ). length p) w.links-is ∙ w.join_strap.auto.links ∙ L.invariant.2,
-      ap (λ (p : List ℕ). length p) w.lows-is ∙ w.join_strap.auto.lows ∙ L.invariant.3,
-      ap (λ (p : List ℕ). length p) w.parent-is ∙ w.join_strap.auto.parent ∙ L.invariant.4,
-      sided_same w.heads-is w.links-is w.lows-is w.parent-is (subst (λ (k : ℕ). Sided k A.verts.now w.join_strap.new.heads w.join_strap.new.links w.join_strap.new.lows ((L.i + 1) * k) w.join_strap.new.parent) (sym e) w.join_strap.ensures),
-    ) ]
+    elim c.if-k-eq3.branch [
+      | then-k-eq3 w ↦ let e : A.k ≡ 3 = omega (arith, P.two, P.corners.width.1, w.if-k-eq3.true) in (
+        omega arith,
+        ap (λ (p : List ℕ). length p) w.heads-is ∙ w.join_triangle.auto.heads ∙ L.invariant.1,
+        ap (λ (p : List ℕ). length p) w.links-is ∙ w.join_triangle.auto.links ∙ L.invariant.2,
+        ap (λ (p : List ℕ). length p) w.lows-is ∙ w.join_triangle.auto.lows ∙ L.invariant.3,
+        ap (λ (p : List ℕ). length p) w.parent-is ∙ w.join_triangle.auto.parent ∙ L.invariant.4,
+        sided_same w.heads-is w.links-is w.lows-is w.parent-is (subst (λ (k : ℕ). Sided k A.verts.now w.join_triangle.new.heads w.join_triangle.new.links w.join_triangle.new.lows ((L.i + 1) * k) w.join_triangle.new.parent) (sym e) w.join_triangle.ensures),
+      )
+      | else-k-eq3 w ↦ let e : A.k ≡ 2 = omega (arith, P.two, P.corners.width.1, w.if-k-eq3.false) in (
+        omega arith,
+        ap (λ (p : List ℕ). length p) w.heads-is ∙ w.join_strap.auto.heads ∙ L.invariant.1,
+        ap (λ (p : List ℕ). length p) w.links-is ∙ w.join_strap.auto.links ∙ L.invariant.2,
+        ap (λ (p : List ℕ). length p) w.lows-is ∙ w.join_strap.auto.lows ∙ L.invariant.3,
+        ap (λ (p : List ℕ). length p) w.parent-is ∙ w.join_strap.auto.parent ∙ L.invariant.4,
+        sided_same w.heads-is w.links-is w.lows-is w.parent-is (subst (λ (k : ℕ). Sided k A.verts.now w.join_strap.new.heads w.join_strap.new.links w.join_strap.new.lows ((L.i + 1) * k) w.join_strap.new.parent) (sym e) w.join_strap.ensures),
+      )
+    ]
 
 pub shape_of-heads : goal.shape_of-heads
 shape_of-heads c = c.loop-i.invariant.1

@@ -21,13 +21,26 @@ pub returns-then-list-at : goal.returns-then-list-at
 returns-then-list-at c = put_there c.args.i c.args.r c.args.list.now _ c.place_for-at.ensures c.if-at-gt0.true c.if-list-at.true
 
 pub insert_at-requires : goal.insert_at-requires
-insert_at-requires c = (c.place_for-at.ensures.within, put_room c.args.i c.args.r c.args.list.now _ c.place_for-at.ensures (elim c.if-at-gt0.branch [ then-at-gt0+else-list-at w ↦ λ h. w.if-list-at.false
-    | else-at-gt0 w ↦ λ h q. absurd (omega (arith, w.if-at-gt0.false)) ]) c.requires)
+insert_at-requires c = (
+  c.place_for-at.ensures.within,
+  put_room c.args.i c.args.r c.args.list.now _ c.place_for-at.ensures (elim c.if-at-gt0.branch [
+    | then-at-gt0+else-list-at w ↦ λ h. w.if-list-at.false
+    | else-at-gt0 w ↦ λ h q. absurd (omega (arith, w.if-at-gt0.false))
+  ]) c.requires,
+)
 
 pub overflow_add-result : goal.overflow_add-result
-overflow_add-result c = omega (arith, put_room c.args.i c.args.r c.args.list.now _ c.place_for-at.ensures (elim c.if-at-gt0.branch [ then-at-gt0+else-list-at w ↦ λ h. w.if-list-at.false
-    | else-at-gt0 w ↦ λ h q. absurd (omega (arith, w.if-at-gt0.false)) ]) c.requires, c.well_formed)
+overflow_add-result c = omega (
+  arith,
+  put_room c.args.i c.args.r c.args.list.now _ c.place_for-at.ensures (elim c.if-at-gt0.branch [
+    | then-at-gt0+else-list-at w ↦ λ h. w.if-list-at.false
+    | else-at-gt0 w ↦ λ h q. absurd (omega (arith, w.if-at-gt0.false))
+  ]) c.requires,
+  c.well_formed,
+)
 
 pub returns : goal.returns
-returns c = put_new c.args.i c.args.r c.args.list.now _ c.place_for-at.ensures (elim c.if-at-gt0.branch [ then-at-gt0+else-list-at w ↦ λ h. w.if-list-at.false
-    | else-at-gt0 w ↦ λ h q. absurd (omega (arith, w.if-at-gt0.false)) ]) _ c.insert_at.ensures
+returns c = put_new c.args.i c.args.r c.args.list.now _ c.place_for-at.ensures (elim c.if-at-gt0.branch [
+  | then-at-gt0+else-list-at w ↦ λ h. w.if-list-at.false
+  | else-at-gt0 w ↦ λ h q. absurd (omega (arith, w.if-at-gt0.false))
+]) _ c.insert_at.ensures

@@ -42,8 +42,10 @@ loop-i-smaller c = omega (arith, c.loop-i-test.true)
 pub loop-i-preserved : goal.loop-i-preserved
 loop-i-preserved c = let A = c.args in
     let room : A.l + 1 ≤ length (set A.found.now 0 A.a) = omega (arith, c.requires.room, length-set A.found.now 0 A.a) in
-    elim c.if-has_source.branch [ then-has_source w ↦ gathering_in _ _ _ _ _ _ _ c.loop-i.invariant c.loop-i-test.true room _ c.has_source.ensures w.if-has_source.true _ _ w.found-is w.r-is
-    | else-has_source w ↦ gathering_out _ _ _ _ _ _ _ c.loop-i.invariant c.loop-i-test.true _ c.has_source.ensures w.if-has_source.false _ _ w.found-is w.r-is ]
+    elim c.if-has_source.branch [
+      | then-has_source w ↦ gathering_in _ _ _ _ _ _ _ c.loop-i.invariant c.loop-i-test.true room _ c.has_source.ensures w.if-has_source.true _ _ w.found-is w.r-is
+      | else-has_source w ↦ gathering_out _ _ _ _ _ _ _ c.loop-i.invariant c.loop-i-test.true _ c.has_source.ensures w.if-has_source.false _ _ w.found-is w.r-is
+    ]
 
 pub shape_of-found : goal.shape_of-found
 shape_of-found c = c.loop-i.invariant.long ∙ length-set c.args.found.now 0 c.args.a

@@ -64,8 +64,10 @@ loop-i-smaller c = omega (arith, (c.requires.1.linked.next _ (omega arith) c.loo
 
 pub loop-i-preserved : goal.loop-i-preserved
 loop-i-preserved c = let P = c.requires in let W = c.loop-i.invariant in let h = c.loop-i-test.true in
-    elim c.if-both_ends.branch [ then-both_ends w ↦ walking_on _ _ _ _ _ _ _ _ _ _ P.2.differ (finding_in _ _ _ _ _ _ _ _ c.loop-i.invariant.finding h _ c.both_ends.ensures w.if-both_ends.true _ _ _ w.larger-most.ensures w.most-is w.found-is) (c.loop-i.invariant.sums h) (P.1.linked.next _ (omega arith) h)
-    | else-both_ends w ↦ walking_on _ _ _ _ _ _ _ _ _ _ P.2.differ (finding_out _ _ _ _ _ _ _ _ c.loop-i.invariant.finding h _ c.both_ends.ensures w.if-both_ends.false _ _ w.most-is w.found-is) (c.loop-i.invariant.sums h) (P.1.linked.next _ (omega arith) h) ]
+    elim c.if-both_ends.branch [
+      | then-both_ends w ↦ walking_on _ _ _ _ _ _ _ _ _ _ P.2.differ (finding_in _ _ _ _ _ _ _ _ c.loop-i.invariant.finding h _ c.both_ends.ensures w.if-both_ends.true _ _ _ w.larger-most.ensures w.most-is w.found-is) (c.loop-i.invariant.sums h) (P.1.linked.next _ (omega arith) h)
+      | else-both_ends w ↦ walking_on _ _ _ _ _ _ _ _ _ _ P.2.differ (finding_out _ _ _ _ _ _ _ _ c.loop-i.invariant.finding h _ c.both_ends.ensures w.if-both_ends.false _ _ w.most-is w.found-is) (c.loop-i.invariant.sums h) (P.1.linked.next _ (omega arith) h)
+    ]
 
 pub returns-then-found : goal.returns-then-found
 returns-then-found c = finding_some _ _ _ _ _ _ _ _ _ c.loop-i.invariant.finding (search rules) c.if-found.true _ c.larger.ensures

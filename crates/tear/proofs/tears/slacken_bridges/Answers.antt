@@ -20,8 +20,10 @@ bounds-lengths-m-then-bridges c = simp length-set (omega (arith, c.loop-i.invari
 
 pub loop-i-preserved : goal.loop-i-preserved
 unfolding of_bits
-loop-i-preserved c = elim c.if-bridges.branch [ then-bridges w ↦ slackening_in _ _ _ _ _ _ _ _ _ c.loop-i.invariant c.loop-i-test.true c.requires.lengths _ c.bridges.ensures w.if-bridges.true _ w.lengths-is
-    | else-bridges w ↦ slackening_out _ _ _ _ _ _ _ _ _ c.loop-i.invariant c.loop-i-test.true c.requires.lengths _ c.bridges.ensures w.if-bridges.false _ w.lengths-is ]
+loop-i-preserved c = elim c.if-bridges.branch [
+  | then-bridges w ↦ slackening_in _ _ _ _ _ _ _ _ _ c.loop-i.invariant c.loop-i-test.true c.requires.lengths _ c.bridges.ensures w.if-bridges.true _ w.lengths-is
+  | else-bridges w ↦ slackening_out _ _ _ _ _ _ _ _ _ c.loop-i.invariant c.loop-i-test.true c.requires.lengths _ c.bridges.ensures w.if-bridges.false _ w.lengths-is
+]
 
 pub shape_of-lengths : goal.shape_of-lengths
 shape_of-lengths c = c.loop-i.invariant.long

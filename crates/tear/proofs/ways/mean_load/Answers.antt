@@ -40,8 +40,10 @@ pub loop-i-smaller : goal.loop-i-smaller
 loop-i-smaller c = omega (arith, c.loop-i-test.true)
 
 pub loop-i-preserved : goal.loop-i-preserved
-loop-i-preserved c = elim c.if-sides-i-eq1.branch [ then-sides-i-eq1 w ↦ weighing_in _ _ _ _ _ _ _ _ _ c.loop-i.invariant c.loop-i-test.true w.if-sides-i-eq1.true _ _ _ w.load_of-s.ensures w.s-is w.far-is
-    | else-sides-i-eq1 w ↦ weighing_out _ _ _ _ _ _ _ _ _ c.loop-i.invariant c.loop-i-test.true w.if-sides-i-eq1.false _ _ w.s-is w.far-is ]
+loop-i-preserved c = elim c.if-sides-i-eq1.branch [
+  | then-sides-i-eq1 w ↦ weighing_in _ _ _ _ _ _ _ _ _ c.loop-i.invariant c.loop-i-test.true w.if-sides-i-eq1.true _ _ _ w.load_of-s.ensures w.s-is w.far-is
+  | else-sides-i-eq1 w ↦ weighing_out _ _ _ _ _ _ _ _ _ c.loop-i.invariant c.loop-i-test.true w.if-sides-i-eq1.false _ _ w.s-is w.far-is
+]
 
 pub int_to_float-result : goal.int_to_float-result
 unfolding in_float

@@ -1,0 +1,44 @@
+-- `mending::put_causes` meets its contract: one mark more a turn. Assumes nothing.
+use Prim.Native.Nat.{ℕ}
+use native.Mathlib.Omega.{arith}
+use mathlib.Core.Path.{ap}
+use mathlib.Core.List.{List}
+use lib.ListN.{take}
+use lib.Seq.{take-length}
+use Rattle.lists.specs.Lists.{each}
+use Rattle.listing.proofs.Appending.{grow_start, grow_more, grow_done, appends_as}
+use Rattle.mending.specs.Sheets.{drop_line}
+use Rattle.mending.specs.Work.{cause_by}
+use Rattle.mending.proofs.Lines.{causes_more, causes_start}
+use Rattle.mending.proofs.put_causes.Goals as goal
+
+pub loop-i-init : goal.loop-i-init
+loop-i-init c = let a = c.args in grow_start (λ k. each (drop_line a.word.now) (cause_by 0 (take k a.mask.now))) _ _ _ (causes_start a.word.now)
+
+pub offset_bounds-mask-i : goal.offset_bounds-mask-i
+offset_bounds-mask-i c = omega arith
+
+pub bounds-mask-i : goal.bounds-mask-i
+bounds-mask-i c = omega arith
+
+pub put_cause-at-requires : goal.put_cause-at-requires
+put_cause-at-requires c = tt
+
+pub overflow_add-i : goal.overflow_add-i
+overflow_add-i c = omega arith
+
+pub loop-i-smaller : goal.loop-i-smaller
+loop-i-smaller c = omega arith
+
+pub loop-i-preserved : goal.loop-i-preserved
+loop-i-preserved c =
+    let a = c.args in
+    grow_more c.loop-i.invariant c.loop-i-test.true c.put_cause-at.ensures (causes_more a.word.now a.mask.now c.loop-i.i c.loop-i-test.true) c.put_cause-at.auto.out
+
+pub shape_of-out : goal.shape_of-out
+shape_of-out c = c.loop-i.invariant.long
+
+pub returns : goal.returns
+returns c =
+    let a = c.args in
+    appends_as (grow_done c.loop-i.invariant c.loop-i-test.false) (ap (λ (m : List ℕ). each (drop_line a.word.now) (cause_by 0 m)) (take-length a.mask.now))
