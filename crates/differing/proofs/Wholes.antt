@@ -14,7 +14,7 @@ use Rattle.outline_tables.specs.Rows.{sides_at}
 use Rattle.sheet.specs.Sheet.{Sheet, limits, counts_at, counts_of, sheet_with, particle_w, triangle_w, edge_w, blade_w, at_triangles, at_edges, at_blade}
 use Rattle.sheet.specs.Work.{RowsIn}
 use Rattle.sheet.specs.declared.Counts.{Counts}
-use Rattle.edition.specs.Edition.{second, bits_in_of, typed_of, sheet_of, seen_of}
+use Rattle.edition.specs.Edition.{bits_in_of, typed_of, sheet_of, seen_of}
 use Rattle.edition.specs.Work.{BladeAt, start_of}
 use Rattle.edition.specs.declared.Seen.{Seen}
 use Rattle.edition.specs.declared.Seen.TheVariants.{Whole, Refused}

@@ -16,7 +16,7 @@ use Rattle.edition.specs.declared.Seen.{Seen}
 use Rattle.edition.proofs.Agree.{read_agree}
 use Rattle.image.specs.Words.{word_at_of, put_word_of}
 use Rattle.feeding.specs.Parts.{Reader, fed, closed, feed_to, feed_all, joined}
-use Rattle.feeding.specs.Feeding.{most, size, kept_in, standing, open_answer, opened, OpenDone, fed_with, FeedDone, ShutDone, Keeps, Shut, Is, Feeds, none, more}
+use Rattle.feeding.specs.Feeding.{most, size, kept_in, open_answer, opened, OpenDone, fed_with, FeedDone, ShutDone, Keeps, Shut, Is, Feeds, none, more}
 use Rattle.feeding.proofs.Bytes.{opened_keeps, feed_keeps, stands_open, stands_shut, stands_none, fed_not, shut_open, shut_not, kept_long, held_few, shut_word, shut_long, feed_twice}
 use Rattle.feeding.proofs.Long.{alike_front, alike_back, alike_read, long_read}
 

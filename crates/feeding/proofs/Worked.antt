@@ -1,16 +1,15 @@
 -- Document 01's worked sheet fed in parts, in both editions, and sheets that are too long. Computed examples. Assumes nothing.
 use Prim.Native.Nat.{ℕ, zero, suc, ◌≤◌}
-use mathlib.Core.Bool.{true, false, cond, ◌||◌}
+use mathlib.Core.Bool.{false, cond, ◌||◌}
 use native.Mathlib.Omega.{arith}
 use mathlib.Core.Path.{◌≡◌, refl, ap, ◌∙◌}
 use mathlib.Core.List.{List, [], ◌∷◌, ◌++◌, map}
-use lib.ListN.{length, take, drop, replicate}
+use lib.ListN.{length, take, drop}
 use Rattle.bits.specs.Bits.{bits, bits_of, num}
 use Rattle.sheet.specs.Sheet.{above, most, too_many_of, counts_at}
 use Rattle.sheet.specs.declared.Counts.{Counts}
 use Rattle.sheet.proofs.Cases.{worked, worked_counts}
 use Rattle.edition.specs.Edition.{as_first_of, bits_in_of, typed_with, typed_seen, seen_in, seen_of}
-use Rattle.edition.specs.declared.Seen.{Seen}
 use Rattle.edition.specs.declared.Seen.TheVariants.{Whole, Refused}
 use Rattle.edition.proofs.Cases.{worked2, worked_seen, worked2_seen}
 use Rattle.feeding.specs.Parts.{joined}

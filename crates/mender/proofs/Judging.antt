@@ -1,17 +1,16 @@
 -- Which bytes are mended: what the tests of their header and their length say. Assumes nothing.
 use Prim.Native.Nat.{ℕ, ◌<◌, ◌≤◌}
-use mathlib.Core.Path.{◌≡◌, refl, sym, ap, ap₂, ◌∙◌, subst}
+use mathlib.Core.Path.{◌≡◌, refl, sym, ap, ap₂, ◌∙◌}
 use mathlib.Core.Bool.{Bool, true, false, ◌||◌}
 use mathlib.Core.List.{List}
 use native.Mathlib.Omega.{arith}
-use borrow.Author.Tests.{lt-ltb, le-ltb, eq-eqb, ne_eqb}
+use borrow.Author.Tests.{lt-ltb, le-ltb, ne_eqb}
 use lib.ListN.{length}
 use Rattle.bits.specs.Bits.{bits_of}
-use Rattle.sheet.specs.Sheet.{counts_at, too_many_of, above, most}
+use Rattle.sheet.specs.Sheet.{counts_at, too_many_of}
 use Rattle.sheet.specs.declared.Counts.{Counts}
 use Rattle.edition.specs.Edition.{second, bits_in_of, bytes_in}
-use Rattle.mending.specs.Sheets.{mend_with, mend_of, refused}
-use Rattle.mending.specs.Work.{Mendable}
+use Rattle.mending.specs.Sheets.{mend_with, mend_of}
 use Rattle.mender.specs.Work.{Judged}
 
 nine : ◌≡◌ {A = ℕ} 9 0 → ⊥

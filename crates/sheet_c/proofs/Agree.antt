@@ -4,7 +4,6 @@ use mathlib.Core.Path.{◌≡◌, sym, ap, ◌∙◌}
 use mathlib.Core.List.{List}
 use lib.ListN.{length, get_or}
 use Rattle.lists.specs.Lists.{padded}
-use Rattle.bits.specs.Bits.{bits_of}
 use Rattle.sheet.specs.Sheet.{sheet_from}
 use Rattle.sheet.proofs.Back.{bits_of_inj}
 use Rattle.sheet_writing.specs.Writing.{columns_from, put_of}

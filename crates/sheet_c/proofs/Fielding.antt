@@ -1,26 +1,26 @@
 -- Laws of fields that are read from words and written: their sizes, the columns that they are, and the answer. Assumes nothing.
-use Prim.Native.Nat.{ℕ, zero, suc, ◌+◌, ◌-◌, ◌*◌, ◌/◌, ◌≤◌, ◌<◌}
+use Prim.Native.Nat.{ℕ, ◌+◌, ◌-◌, ◌*◌, ◌/◌, ◌≤◌, ◌<◌}
 use native.Mathlib.Omega.{arith}
 use mathlib.Core.Path.{◌≡◌, refl, sym, ap, ap₂, subst, ◌∙◌}
 use mathlib.Core.Bool.{Bool, true, false, cond, not, ◌&&◌, ◌||◌}
-use mathlib.Core.List.{List, []}
+use mathlib.Core.List.{List}
 use lib.Dec.{eqb, leb, ltb}
 use lib.IntN.{ℤ}
 use lib.ListN.{length, take, replicate, length-map}
 use lib.Seq.{take-length}
 use borrow.Author.Tests.{leb-true, leb-false, eqb-true, le-leb, lt-leb, le-ltb, lt-ltb, eq-eqb}
-use Rattle.lists.specs.Lists.{pick, padded}
+use Rattle.lists.specs.Lists.{pick}
 use Rattle.lists.proofs.Stores.{tab_length}
 use Rattle.lists.proofs.Sifts.{and_true}
 use Rattle.bits.specs.Bits.{bits_of}
 use Rattle.sheet.specs.Sheet.{Columns, the_field_of, counts_in, even_of, fit_of, names_ok, too_many_of, above, sheet_from}
 use Rattle.sheet.specs.declared.Counts.{Counts}
 use Rattle.edition.specs.Edition.{own_of, bytes_in}
-use Rattle.sheet_writing.specs.Writing.{Handed, columns_from, answer_of, put_of, WriteDone}
+use Rattle.sheet_writing.specs.Writing.{Handed, columns_from, answer_of, WriteDone}
 use Rattle.sheet_writing.proofs.Putting.{put_none}
 use Rattle.image.specs.Words.{word_at_of, words_from}
 use Rattle.replies.proofs.Saying.{pick_small}
-use Rattle.sheet_c.specs.Fields.{signed_from, field_words, fields_fit_of, besides, handed_with, handed_in, write_answer, SheetWritten}
+use Rattle.sheet_c.specs.Fields.{signed_from, field_words, fields_fit_of, besides, handed_in, write_answer, SheetWritten}
 use Rattle.sheet_c.specs.Work.{fields_few_of, FieldsRoom}
 
 -- ---- sizes

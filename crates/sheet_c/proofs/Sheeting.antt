@@ -14,7 +14,6 @@ use Rattle.model.specs.Reads.{refused, value}
 use Rattle.mesh.specs.At.{mesh_at}
 use Rattle.mesh.specs.Given.{Lent}
 use Rattle.mesh.specs.Filled.{lent}
-use Rattle.mesh.specs.declared.Counts as M
 use Rattle.mesh.specs.Widths.{point_columns, particle_words}
 use Rattle.bits.specs.Bits.{bits_of}
 use Rattle.bits.specs.Rows.{unpack}

@@ -1,16 +1,15 @@
 -- What was written is read: not replaced, with the blade and the mesh of the fields, and the outline of that mesh. Assumes nothing.
 use Prim.Native.Nat.{ℕ}
 use native.Mathlib.Omega.{arith}
-use mathlib.Core.Path.{◌≡◌, refl, sym, ap, ◌∙◌}
+use mathlib.Core.Path.{◌≡◌, sym, ap, ◌∙◌}
 use mathlib.Core.Bool.{Bool, true, false}
 use mathlib.Core.List.{List}
 use lib.ListN.{length, take}
 use borrow.Author.Tests.{ltb-false}
 use Rattle.lists.specs.Lists.{pick}
 use Rattle.model.specs.Reads.{value}
-use Rattle.bits.specs.Bits.{bits_of}
 use Rattle.sheet.specs.Sheet.{Sheet, sheet_from, counts_in, most}
-use Rattle.edition.specs.Edition.{SheetRead, bounded, own_of, bytes_in, seen_of}
+use Rattle.edition.specs.Edition.{SheetRead, bounded, own_of, bytes_in}
 use Rattle.sheet_writing.specs.Writing.{columns_from, answer_of, WriteDone}
 use Rattle.edition.specs.declared.Seen.{Seen}
 use Rattle.sheet_writing.proofs.Putting.{Good, good}

@@ -9,7 +9,7 @@ use lib.Dec.{ltb, leb}
 use lib.ListN.{length, take, drop, get_or, replicate, length-drop, length-replicate, take-append-drop}
 use lib.Seq.{take-append-add, drop_at, take_all, length-take-le}
 use Rattle.lists.specs.Lists.{padded}
-use Rattle.bits.specs.Bits.{bits, bits_of, num, field_at}
+use Rattle.bits.specs.Bits.{bits_of, num, field_at}
 use Rattle.bits.specs.Rows.{Fit, FitAll, rows_of, col}
 use Rattle.bits.proofs.Laws.{length_bits_of}
 use Rattle.bits.proofs.RowLaws.{zeros_of, take_zeros, bits_bits_of, bits_drop}

@@ -20,7 +20,6 @@ use Rattle.mesh.specs.Filled.{corner_of}
 use Rattle.mesh.specs.At.{mesh_at}
 use Rattle.mesh.specs.Given.{Lent}
 use Rattle.mesh.specs.Filled.{lent}
-use Rattle.mesh.specs.declared.Counts as M
 use Rattle.lists.proofs.Sifts.{and_true}
 use Rattle.bits.specs.Bits.{bits_of}
 use Rattle.bits.specs.Rows.{Fit, FitAll, read_rows, rows_of, col}

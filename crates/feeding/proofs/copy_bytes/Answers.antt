@@ -1,0 +1,29 @@
+-- `feeding::copy_bytes` meets its contract. Assumes nothing.
+use native.Mathlib.Omega.{arith}
+use Rattle.columns.proofs.Sweep.{copy_start, copy_more, copy_done}
+use Rattle.feeding.proofs.Bytes.{copied_all}
+use Rattle.feeding.proofs.copy_bytes.Goals as goal
+
+pub loop-i-init : goal.loop-i-init
+loop-i-init c = copy_start _ _
+
+pub bounds-src-i : goal.bounds-src-i
+bounds-src-i c = omega arith
+
+pub bounds-dst-i : goal.bounds-dst-i
+bounds-dst-i c = omega arith
+
+pub overflow_add-i : goal.overflow_add-i
+overflow_add-i c = omega arith
+
+pub loop-i-smaller : goal.loop-i-smaller
+loop-i-smaller c = omega arith
+
+pub loop-i-preserved : goal.loop-i-preserved
+loop-i-preserved c = copy_more _ _ _ _ 0 c.loop-i.invariant c.loop-i-test.true (omega arith)
+
+pub shape_of-dst : goal.shape_of-dst
+shape_of-dst c = c.loop-i.invariant.long
+
+pub returns : goal.returns
+returns c = copied_all _ c.args.dst.now c.loop-i.invariant.long c.requires (copy_done _ _ _ _ c.loop-i.invariant c.loop-i-test.false)

@@ -1,0 +1,12 @@
+-- `feeding::copy_bytes` meets its contract. Assumes nothing.
+use Prim.Native.Nat.{◌-◌}
+use lib.ListN.{length}
+use Rattle.columns.proofs.Sweep.{Copying}
+use Rattle.feeding.proofs.copy_bytes.Given as goal
+
+-- `feeding::copy_bytes` meets its contract. Assumes nothing.
+abbrev pub invariant-loop-i : goal.invariant-loop-i
+invariant-loop-i l = Copying l.src l.initial.dst l.dst l.i
+
+abbrev pub decreases-loop-i : goal.decreases-loop-i
+decreases-loop-i l = length l.src - l.i
