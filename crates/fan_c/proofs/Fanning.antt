@@ -4,7 +4,7 @@ use native.Mathlib.Omega.{arith}
 use mathlib.Core.Path.{◌≡◌, refl, sym, ap, ap₂, subst, ◌∙◌}
 use mathlib.Core.Bool.{Bool, true, false, ◌&&◌}
 use mathlib.Core.List.{List, [], ◌∷◌, map}
-use lib.Dec.{ltb, eqb}
+use lib.Dec.{eqb}
 use lib.Ieee.{Float}
 use lib.ListN.{length, get_or, take, length-map, length-take}
 use borrow.Author.Tests.{lt-ltb, le-ltb}
@@ -31,10 +31,10 @@ use Rattle.image.proofs.Loading.{sized_input}
 use Rattle.image.proofs.InBlocks.{words_long, numbers_long, word_in}
 use Rattle.image_checks.proofs.Lists.{two_path, three_path}
 use Rattle.image_checks.proofs.Whole.{counted}
-use Rattle.replies.specs.Reply.{Replied, shown_of}
+use Rattle.replies.specs.Reply.{Replied}
 use Rattle.replies.proofs.Saying.{replied_as, refusal_small}
 use Rattle.fan_c.specs.Fans.{fan_numbers, fan_call, fan_words, fan_reply}
-use Rattle.fan_c.specs.Work.{Listed, found_of, Answered, Tellable, found_words}
+use Rattle.fan_c.specs.Work.{Listed, Answered, Tellable, found_words}
 use Rattle.fan_c.specs.declared.Found.{Found}
 use Rattle.fan_c.specs.declared.Found.TheVariants.{Refused, Elements}
 

@@ -1,9 +1,9 @@
 -- Laws of an image whose elements stand in one table: the room that the table asks for, what it answers, and what is refused before it is made. Assumes nothing.
-use Prim.Native.Nat.{ℕ, ◌+◌, ◌*◌, ◌/◌, ◌≤◌}
+use Prim.Native.Nat.{ℕ, ◌+◌, ◌*◌, ◌≤◌}
 use native.Mathlib.Omega.{arith}
 use mathlib.Core.Path.{◌≡◌, refl, sym, ap, ◌∙◌}
-use mathlib.Core.Bool.{Bool, true, false, ◌&&◌}
-use mathlib.Core.List.{List, map}
+use mathlib.Core.Bool.{Bool, true, ◌&&◌}
+use mathlib.Core.List.{List}
 use lib.ListN.{length, take, length-take, length-map}
 use lib.Dec.{ltb}
 use lib.Ieee.{Float}
@@ -23,7 +23,6 @@ use Rattle.image.specs.Image.{image_of, blocks_in, image_sized_of}
 use Rattle.image.specs.Small.{small_image}
 use Rattle.image.proofs.Loading.{sized_input, particles_few, triangles_few, edges_few}
 use Rattle.image.proofs.Smallness.{small_loadable}
-use Rattle.image_elements.specs.Room.{ElementsRoom}
 use Rattle.reading_c.specs.Elements.{Faultless, TableRoom, MarksRoom}
 
 -- ---- room

@@ -1,0 +1,64 @@
+-- `mesh_replies::placing::place_words` meets its contract: it reads each column to its place. Assumes nothing.
+use Prim.Native.Nat.{◌+◌, ◌*◌, ◌≤◌}
+use native.Mathlib.Omega.{arith}
+use lib.ListN.{length}
+use Rattle.columns.proofs.Blocks.{block_copy_start, block_copy_done}
+use Rattle.mesh_replies.proofs.Places.{words_lie, words_more}
+use Rattle.mesh_replies.proofs.placing.place_words.Goals as goal
+
+pub loop-c-init : goal.loop-c-init
+loop-c-init c = block_copy_start _ _ _ _ _ _
+
+pub overflow_add-e : goal.overflow_add-e
+overflow_add-e c =
+    let lie : (c.loop-c.o + c.args.stride ≤ length c.loop-c.block)
+    × (c.loop-c.a + c.args.n ≤ c.args.width * c.args.n) = let pre = c.requires in words_lie _ _ _ _ _ _ _ _ _ _ c.loop-c.invariant c.loop-c-test.true pre.1 pre.0 in omega (arith, (lie).0)
+
+pub overflow_add-at : goal.overflow_add-at
+overflow_add-at c =
+    let lie : (c.loop-c.o + c.args.stride ≤ length c.loop-c.block)
+    × (c.loop-c.a + c.args.n ≤ c.args.width * c.args.n) = let pre = c.requires in words_lie _ _ _ _ _ _ _ _ _ _ c.loop-c.invariant c.loop-c-test.true pre.1 pre.0 in omega (arith, (lie).1)
+
+pub offset_bounds-block-o : goal.offset_bounds-block-o
+offset_bounds-block-o c =
+    let lie : (c.loop-c.o + c.args.stride ≤ length c.loop-c.block)
+    × (c.loop-c.a + c.args.n ≤ c.args.width * c.args.n) = let pre = c.requires in words_lie _ _ _ _ _ _ _ _ _ _ c.loop-c.invariant c.loop-c-test.true pre.1 pre.0 in omega (arith, (lie).0)
+
+pub slice_bounds-words_into-count : goal.slice_bounds-words_into-count
+slice_bounds-words_into-count c = omega arith
+
+pub slice_bounds-words_into-start : goal.slice_bounds-words_into-start
+slice_bounds-words_into-start c = omega arith
+
+pub slice_bounds-words_into-end : goal.slice_bounds-words_into-end
+slice_bounds-words_into-end c =
+    let lie : (c.loop-c.o + c.args.stride ≤ length c.loop-c.block)
+    × (c.loop-c.a + c.args.n ≤ c.args.width * c.args.n) = let pre = c.requires in words_lie _ _ _ _ _ _ _ _ _ _ c.loop-c.invariant c.loop-c-test.true pre.1 pre.0 in (lie).0
+
+pub words_into-requires : goal.words_into-requires
+words_into-requires c =
+    let lie : (c.loop-c.o + c.args.stride ≤ length c.loop-c.block)
+    × (c.loop-c.a + c.args.n ≤ c.args.width * c.args.n) = let pre = c.requires in words_lie _ _ _ _ _ _ _ _ _ _ c.loop-c.invariant c.loop-c-test.true pre.1 pre.0 in (omega (arith, (lie).1), omega (arith, c.words_into-arg-1.given.1))
+
+pub overflow_add-a : goal.overflow_add-a
+overflow_add-a c =
+    let lie : (c.loop-c.o + c.args.stride ≤ length c.loop-c.block)
+    × (c.loop-c.a + c.args.n ≤ c.args.width * c.args.n) = let pre = c.requires in words_lie _ _ _ _ _ _ _ _ _ _ c.loop-c.invariant c.loop-c-test.true pre.1 pre.0 in omega (arith, (lie).1)
+
+pub overflow_add-c : goal.overflow_add-c
+overflow_add-c c = omega arith
+
+pub loop-c-smaller : goal.loop-c-smaller
+loop-c-smaller c = omega arith
+
+pub loop-c-preserved : goal.loop-c-preserved
+loop-c-preserved c =
+    let pre = c.requires in
+    let call = c.words_into in
+    words_more _ _ _ _ _ _ _ _ _ _ c.loop-c.invariant c.loop-c-test.true pre.1 pre.0 _ call.ensures call.auto.out
+
+pub shape_of-block : goal.shape_of-block
+shape_of-block c = c.loop-c.invariant.long
+
+pub returns : goal.returns
+returns c = block_copy_done _ _ _ _ _ _ _ _ _ _ c.loop-c.invariant c.loop-c-test.false
