@@ -4,10 +4,9 @@ use native.Mathlib.Omega.{arith}
 use mathlib.Core.Path.{◌≡◌, sym, ap, ◌∙◌}
 use mathlib.Core.Bool.{Bool, cond}
 use mathlib.Core.List.{List}
-use lib.Dec.{eqb}
 use lib.ListN.{length, take, drop}
 use borrow.Author.Tests.{eq-eqb, ne_eqb}
-use Rattle.model.specs.Reads.{Read, refused}
+use Rattle.model.specs.Reads.{refused}
 use Rattle.replies.specs.Reply.{Replied}
 use Rattle.replies.proofs.Saying.{replied_as}
 use Rattle.sheet_c.specs.Sheets.{sheet_reply}

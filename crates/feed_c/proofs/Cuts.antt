@@ -5,7 +5,7 @@ use mathlib.Core.Path.{◌≡◌, sym, ap, subst, ◌∙◌}
 use mathlib.Core.Bool.{false}
 use mathlib.Core.List.{List, []}
 use lib.ListN.{length, take}
-use Rattle.model.specs.Reads.{Read, refused, value}
+use Rattle.model.specs.Reads.{refused, value}
 use Rattle.bits.specs.Bits.{bits_of}
 use Rattle.image.specs.Words.{written}
 use Rattle.sheet.specs.Sheet.{most}
@@ -24,7 +24,7 @@ use Rattle.feeding.proofs.Bytes.{stands_open, stands_shut, stands_none, shut_not
 use Rattle.feeding.proofs.Long.{Alike, same, both, alike_front}
 use Rattle.feeding.proofs.Cuts.{fed_keeps, late_feed, shut_shuts}
 use Rattle.feeding.proofs.Worked.{short_seen, nothing_seen}
-use Rattle.feed_c.specs.Closing.{close_reply, Closed, reply_of}
+use Rattle.feed_c.specs.Closing.{Closed, reply_of}
 use Rattle.feed_c.proofs.Closes.{reply_open, reply_late}
 
 -- ---- bytes that are read alike get one reply

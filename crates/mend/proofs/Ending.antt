@@ -1,27 +1,24 @@
 -- Each end of the program: the sheet mended, or refused; the lent bytes are never too few. Assumes nothing.
-use Prim.Native.Nat.{ℕ, ◌+◌, ◌-◌, ◌*◌, ◌<◌, ◌≤◌}
+use Prim.Native.Nat.{ℕ, ◌*◌, ◌<◌, ◌≤◌}
 use mathlib.Core.Path.{◌≡◌, refl, sym, ap, ◌∙◌, subst}
-use mathlib.Core.Bool.{Bool, true, false, cond, ◌&&◌}
-use mathlib.Core.List.{List, [], ◌∷◌, ◌++◌, append-nil}
+use mathlib.Core.Bool.{Bool, true, false}
+use mathlib.Core.List.{List, [], ◌∷◌, ◌++◌}
 use native.Mathlib.Omega.{arith}
 use borrow.Author.Tests.{leb-true, leb-false}
-use lib.Dec.{leb, ltb, eqb}
-use lib.ListN.{length, take, replicate, length-append}
-use lib.Seq.{take_at, length-take-le}
+use lib.ListN.{length, take, length-append}
+use lib.Seq.{length-take-le}
 use Rattle.io.specs.Counts.{IsPrefixLen}
 use Rattle.lists.specs.Lists.{pick, padded, each}
 use Rattle.bits.specs.Bits.{bits_of}
 use Rattle.bits.proofs.Laws.{length_bits_of}
-use Rattle.sheet.specs.Sheet.{counts_at, too_many_of}
 use Rattle.sheet.proofs.There.{bits_of_take}
-use Rattle.edition.specs.Edition.{second, bits_in_of, bytes_in, typed_of}
-use Rattle.listing.specs.Listing.{decimal, digit, line, refused_bytes, refused_word}
+use Rattle.listing.specs.Listing.{decimal, line, refused_bytes, refused_word}
 use Rattle.listing.specs.Answers.{Wrote}
 use Rattle.listing.specs.declared.Written.{Written}
 use Rattle.listing.specs.declared.Written.TheVariants.{Short as Cut, Bytes as Told}
 use Rattle.listing.proofs.Decimal.{decimal_small}
-use Rattle.mending.specs.Sheets.{Mending, mended, refused, mended_sheet, sheet_bytes, said_of, mend_with, mend_of}
-use Rattle.mender.specs.Answers.{fits, answer_for, bytes_of, text_of, MendDone}
+use Rattle.mending.specs.Sheets.{Mending, mended, refused, mend_of}
+use Rattle.mender.specs.Answers.{bytes_of, text_of, MendDone}
 use Rattle.mender.specs.declared.Mended.{Mended}
 use Rattle.mender.specs.declared.Mended.TheVariants.{Bytes, Short, Refused}
 use Rattle.mender.proofs.Done.{wrote_told, wrote_cut}

@@ -7,7 +7,7 @@ use mathlib.Core.List.{List, ◌++◌}
 use lib.ListN.{length}
 use Rattle.model.specs.Mesh.{Mesh}
 use Rattle.model.specs.Elements.{kind_of}
-use Rattle.model.specs.Run.{Entry, Rooms, Run, start, changed}
+use Rattle.model.specs.Run.{Entry, Rooms, Run, start}
 use Rattle.model.specs.Cut.{Line, rounded, Blade, marks_of, cut_along, cut}
 use Rattle.model.specs.Calls.{blade_ok, fraction_ok, triangles_lent, refusal, first_fault, Outcome, refused, done, fitted, outcome, unless, cut_call}
 use Rattle.model_laws.proofs.Whole.{edition_first}
