@@ -2,43 +2,23 @@
 use Prim.Native.Nat.{ℕ, ◌+◌, ◌<◌, ◌≤◌}
 use native.Mathlib.Omega.{arith}
 use mathlib.Core.Path.{◌≡◌, refl, sym, ◌∙◌, subst}
-use mathlib.Core.Bool.{Bool}
-use mathlib.Core.List.{List, [], ◌∷◌, map}
-use borrow.Author.Tests.{le-ltb, lt-ltb}
+use mathlib.Core.List.{List, [], ◌∷◌}
 use lib.ListN.{length, get_or, take, drop}
 use lib.Seq.{take_all}
 use lib.Ieee.{Float}
-use Rattle.lists.specs.Lists.{pick, sift, fold}
+use Rattle.lists.specs.Lists.{sift}
 use Rattle.model.specs.Elements.{Kind}
 use Rattle.mesh.specs.At.{mesh_at}
 use Rattle.mesh.specs.Log.{World, world_at}
 use Rattle.mesh.specs.Filled.{lent}
 use Rattle.mesh.specs.declared.Counts.{Counts}
 use Rattle.mesh.specs.declared.Rooms.{Rooms}
-use Rattle.work.specs.Working.{Within, Ready}
+use Rattle.work.specs.Working.{Ready}
 use Rattle.work.specs.declared.Ran.{Ran}
 use Rattle.work.specs.declared.Ran.TheVariants.{Refused, Done}
 use Rattle.work.proofs.Placed.{triangles_count}
-use Rattle.tornedge.specs.Cracks.{CrackTold}
 use Rattle.crack.specs.Bodies.{ends_listed, CracksRoom, CracksTold}
 use Rattle.crack.proofs.BodyLaws.{cracks_none, cracks_then, cracks_refused, cracks_ready, cracks_entries, cracks_words, cracks_triangles, ends_step, ends_rest}
-
--- ---- one number
-
--- a number that is skipped
-number_skipped : (K : Kind) (min t : ℕ) (loads : List Float) (L : Rooms) (e : ℕ) (from to : List ℕ) (n : ℕ) {at : Counts → World} (k : Counts) → e ≤ n → Within k L → CracksTold K min t (ends_listed e from to (n ∷ [])) loads L (at k) at (Done k)
-unfolding ends_listed sift
-number_skipped K min t loads L e from to n {at} k h b =
-    subst (λ (s : Bool). CracksTold K min t (map (λ i. (get_or from i 0, get_or to i 0)) (pick s (n ∷ []) [])) loads L (at k) at (Done k)) (sym (le-ltb n e h)) (cracks_none K min t loads L k b)
-
--- one that is cracked
-number_cracked : {K : Kind} {min t : ℕ} {loads : List Float} {L : Rooms} {W : World} {at : Counts → World} {r : Ran} (e : ℕ) (from to : List ℕ) (n : ℕ) → n < e → CrackTold K min (get_or from n 0) (get_or to n 0) t loads L W at r
-    → CracksTold K min t (ends_listed e from to (n ∷ [])) loads L W at r
-unfolding ends_listed sift fold
-number_cracked {K} {min} {t} {loads} {L} {W} {at} {r} e from to n h F =
-    subst (λ (s : Bool). CracksTold K min t (map (λ i. (get_or from i 0, get_or to i 0)) (pick s (n ∷ []) [])) loads L W at r) (sym (lt-ltb n e h)) (record { works = F.works })
-
--- ---- the loop
 
 -- at the head of the loop: the first i numbers of the list are dealt with, and no room lacked
 pub record ListedTo (K : Kind) (min : ℕ) (is : List ℕ) (e : ℕ) (from to : List ℕ) (loads : List Float) (L : Rooms) (k₀ : Counts) (points₀ : List Float) (roots₀ corners₀ : List ℕ) (volumes : List Float) (ends₀ : List ℕ) (lengths₀ : List Float) (outline₀ log₀ : List ℕ)
@@ -107,9 +87,9 @@ module _ (K : Kind) (min : ℕ) (is : List ℕ) (e : ℕ) (from to : List ℕ) (
           (cracks_then K min k₀.triangles loads L (ends_listed e from to (take i is)) (ends_listed e from to (get_or is i 0 ∷ [])) O.told
           (subst (λ (t : ℕ). CracksTold K min t (ends_listed e from to (get_or is i 0 ∷ [])) loads L (at k) at' r) to_triangles G))
 
-      one_more : (k' : Counts) → r ≡ Done k' → lent points' roots' corners' volumes ends' lengths' outline' log' ≡ lent points roots corners volumes ends lengths outline log
+      pub to_step : (k' : Counts) → r ≡ Done k' → lent points' roots' corners' volumes ends' lengths' outline' log' ≡ lent points roots corners volumes ends lengths outline log
           → ListedTo K min is e from to loads L k₀ points₀ roots₀ corners₀ volumes ends₀ lengths₀ outline₀ log₀ points' roots' corners' ends' lengths' outline' log' k' (i + 1)
-      one_more k' known same =
+      to_step k' known same =
           record {
             inside = omega arith;
             same = same ∙ O.same;
@@ -117,28 +97,12 @@ module _ (K : Kind) (min : ℕ) (is : List ℕ) (e : ℕ) (from to : List ℕ) (
           }
 
       -- a room lacks
-      none_more : (c : ℕ) → r ≡ Refused c → CracksTold K min k₀.triangles (ends_listed e from to is) loads L world₀ at' r
-      none_more c known =
+      pub to_stop : (c : ℕ) → r ≡ Refused c → CracksTold K min k₀.triangles (ends_listed e from to is) loads L world₀ at' r
+      to_stop c known =
           subst (λ (x : Ran). CracksTold K min k₀.triangles (ends_listed e from to is) loads L world₀ at' x) (sym known)
           (subst (λ (abs : List (ℕ × ℕ)). CracksTold K min k₀.triangles abs loads L world₀ at' (Refused c)) (ends_rest e from to is (i + 1))
           (cracks_refused K min k₀.triangles loads L {at = at'} (ends_listed e from to (take (i + 1) is)) (ends_listed e from to (drop (i + 1) is))
           (subst (λ (x : Ran). CracksTold K min k₀.triangles (ends_listed e from to (take (i + 1) is)) loads L world₀ at' x) known more)))
-
-    -- it is skipped
-    pub to_skip : e ≤ get_or is i 0 → i < length is
-        → ListedTo K min is e from to loads L k₀ points₀ roots₀ corners₀ volumes ends₀ lengths₀ outline₀ log₀ points roots corners ends lengths outline log k (i + 1)
-    to_skip n h =
-        one_more points roots corners ends lengths outline log (Done k) (number_skipped K min k.triangles loads L e from to (get_or is i 0) {at = at} k n to_ready.counts) h k refl refl
-
-    -- it is cracked
-    module _ (points' : List Float) (roots' corners' ends' : List ℕ) (lengths' : List Float) (outline' log' : List ℕ) (r : Ran) (n : get_or is i 0 < e)
-        (F : CrackTold K min (get_or from (get_or is i 0) 0) (get_or to (get_or is i 0) 0) k.triangles loads L (world_at k points roots corners volumes ends lengths outline log) (λ q. world_at q points' roots' corners' volumes ends' lengths' outline' log') r) (h : i < length is) where
-      pub to_step : (k' : Counts) → r ≡ Done k' → lent points' roots' corners' volumes ends' lengths' outline' log' ≡ lent points roots corners volumes ends lengths outline log
-          → ListedTo K min is e from to loads L k₀ points₀ roots₀ corners₀ volumes ends₀ lengths₀ outline₀ log₀ points' roots' corners' ends' lengths' outline' log' k' (i + 1)
-      to_step = one_more points' roots' corners' ends' lengths' outline' log' r (number_cracked e from to (get_or is i 0) n F) h
-
-      pub to_stop : (c : ℕ) → r ≡ Refused c → CracksTold K min k₀.triangles (ends_listed e from to is) loads L world₀ (λ q. world_at q points' roots' corners' volumes ends' lengths' outline' log') r
-      to_stop = none_more points' roots' corners' ends' lengths' outline' log' r (number_cracked e from to (get_or is i 0) n F) h
 
     -- all of them
     pub to_done : length is ≤ i → CracksTold K min k₀.triangles (ends_listed e from to is) loads L world₀ (λ q. world_at q points roots corners volumes ends lengths outline log) (Done k)

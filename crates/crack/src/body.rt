@@ -1,5 +1,5 @@
 // The crack of a whole body: the torn edges of the input in turn, and what comes behind them.
-ghost use Rattle.std.specs.Prelude.{◌≡◌, length, take};
+ghost use Rattle.std.specs.Prelude.{◌≡◌, [], ◌∷◌, length, take};
 ghost use Rattle.elements.specs.Table.{kind_is};
 ghost use Rattle.links.specs.Linked.{LinkedIn};
 ghost use Rattle.model.specs.Cut.{split_pinched_of};
@@ -37,7 +37,57 @@ fn keep_ends(e: usize, ends: &[usize], from: &mut [u16], to: &mut [u16])
     narrow(&ends[size..last], to);
 }
 
-// Cracks the torn edges of a list in turn by their ends in the input, until one lacks room; a number not below e is skipped.
+// Cracks torn edge number `number` of the input by its ends there; a number not below e is skipped.
+fn crack_numbered(
+    kind: Kind,
+    minimum: usize,
+    number: usize,
+    e: usize,
+    from: &[u16],
+    to: &[u16],
+    loads: &[f32],
+    k: Counts,
+    room: Rooms,
+    points: &mut [f32],
+    roots: &mut [usize],
+    corners: &mut [usize],
+    volumes: &[f32],
+    ends: &mut [usize],
+    lengths: &mut [f32],
+    outline: &mut [usize],
+    log: &mut [u32],
+    links: &mut [u16],
+) -> Ran
+    requires { let K = kind_is kind in ReadyIn room k points roots corners volumes ends lengths outline log
+        × CracksRoom K e from.now to.now k (length loads.now) log.old × LinkedIn K k corners ends outline links }
+    ensures { let K = kind_is kind in CracksTold K minimum k.triangles (ends_listed e from.now to.now (number
+        ∷ [])) loads.now room (world_before k points roots corners volumes ends lengths outline log)
+        (λ q. world_behind q points roots corners volumes ends lengths outline log) result × LinkedBehind K corners ends outline links result }
+{
+    if number >= e {
+        return Ran::Done(k);
+    }
+    tornedge::crack_edge(
+        kind,
+        minimum,
+        from[number] as usize,
+        to[number] as usize,
+        loads,
+        k,
+        room,
+        points,
+        roots,
+        corners,
+        volumes,
+        ends,
+        lengths,
+        outline,
+        log,
+        links,
+    )
+}
+
+// Cracks the torn edges of a list in turn, until one lacks room.
 fn crack_listed(
     kind: Kind,
     minimum: usize,
@@ -67,28 +117,9 @@ fn crack_listed(
     let mut counts = k;
     let mut i: usize = 0;
     while i < torn.len() {
-        let number = torn[i];
-        if number >= e {
-            i += 1;
-            continue;
-        }
-        let ran = tornedge::crack_edge(
-            kind,
-            minimum,
-            from[number] as usize,
-            to[number] as usize,
-            loads,
-            counts,
-            room,
-            points,
-            roots,
-            corners,
-            volumes,
-            ends,
-            lengths,
-            outline,
-            log,
-            links,
+        let ran = crack_numbered(
+            kind, minimum, torn[i], e, from, to, loads, counts, room, points, roots, corners,
+            volumes, ends, lengths, outline, log, links,
         );
         let Ran::Done(next) = ran else {
             return ran;

@@ -1,6 +1,6 @@
 -- How an accepted reading begins: what the answer to a sheet tells, and the room that was found. Assumes nothing.
 use Prim.Native.Nat.{ℕ, ◌/◌, ◌≤◌}
-use mathlib.Core.Path.{◌≡◌, refl, sym, ap, ◌∙◌}
+use mathlib.Core.Path.{◌≡◌, refl, sym, ap, ◌∙◌, subst}
 use mathlib.Core.Bool.{Bool, true, false, cond, ◌&&◌}
 use mathlib.Core.List.{List}
 use native.Mathlib.Omega.{arith}
@@ -19,11 +19,10 @@ use Rattle.sheet.specs.declared.Seen.TheVariants.{Whole as TypedWhole, Refused a
 use Rattle.sheet.proofs.PutLaws.{neither}
 use Rattle.edition.specs.Edition.{bits_in_of, sheet_of, overlong, typed_seen, seen_in, seen_of}
 use Rattle.edition.specs.Reading.{room_for, lent_of}
-use Rattle.edition.specs.Work.{Held, LookedAt}
+use Rattle.edition.specs.Work.{Held}
 use Rattle.edition.specs.declared.Seen.{Seen}
 use Rattle.edition.specs.declared.Seen.TheVariants.{Whole, Refused}
 use Rattle.edition.proofs.Starts.{typed_in}
-use Rattle.edition.proofs.Meshes.{outlined_sides}
 
 pub never : (n : ℕ) (c : Counts) (f : Bool) → Refused n ≡ Whole c f → ⊥
 never n c f e = let z : ◌≡◌ {A = ℕ} 0 1 = cc in omega arith
@@ -76,13 +75,13 @@ roomy true true true true c d f g h = (refl, refl, refl, refl, cc, cc)
 fits : (n a b : ℕ) → (leb n a && leb n b) ≡ true → (n ≤ a) × (n ≤ b)
 fits n a b e = let w = and_true (leb n a) (leb n b) e in (leb-true n a w.0, leb-true n b w.1)
 
-module _ (limits : Counts) (s o : List ℕ) (L : Lent) (nb : ℕ) (c : Counts) (f : Bool) (e : seen_of limits s ≡ Whole c f) (h : room_for c f L nb ≡ Whole c f)
+module _ (limits : Counts) (s o : List ℕ) (L : Lent) (nb : ℕ) (c d : Counts) (f g : Bool) (e : seen_of limits s ≡ Whole c f) (h : room_for c f L nb ≡ Whole d g)
     (places : 6144 ≤ length o) (sides : sides_at c.boundary o ≡ (sheet_of (bits_of s)).sheet.boundary) where
   held_here : Held s c o L nb
   unfolding room_for
   held_here =
       let w = roomy ((leb c.triangles (L.corners / 3) && leb c.triangles (L.volumes / 2)) && leb 4 nb) (leb c.particles (L.points / point_columns) && leb c.particles (L.roots / 2))
-      (leb c.edges (L.ends / 4) && leb c.edges (L.lengths / 4)) (leb c.boundary (L.outline / 2)) c c f f h in
+      (leb c.edges (L.ends / 4) && leb c.edges (L.lengths / 4)) (leb c.boundary (L.outline / 2)) c d f g h in
       let v = and_true (leb c.triangles (L.corners / 3) && leb c.triangles (L.volumes / 2)) (leb 4 nb) w.0 in
       let t = fits c.triangles (L.corners / 3) (L.volumes / 2) v.0 in
       let p = fits c.particles (L.points / point_columns) (L.roots / 2) w.1 in
@@ -105,6 +104,32 @@ module _ (limits : Counts) (s o : List ℕ) (L : Lent) (nb : ℕ) (c : Counts) (
         blade = leb-true 4 nb v.1;
       }
 
+  counts_same : c ≡ d
+  unfolding room_for
+  counts_same = (roomy ((leb c.triangles (L.corners / 3) && leb c.triangles (L.volumes / 2)) && leb 4 nb) (leb c.particles (L.points / point_columns) && leb c.particles (L.roots / 2))
+      (leb c.edges (L.ends / 4) && leb c.edges (L.lengths / 4)) (leb c.boundary (L.outline / 2)) c d f g h).4
+
+  -- the counts that room was found for hold
+  pub held : Held s d o L nb
+  held = subst (λ (x : Counts). Held s x o L nb) counts_same held_here
+
+-- the answer where the sheet is whole
+pub lent_room : (limits : Counts) (s : List ℕ) (L : Lent) (nb : ℕ) (c : Counts) (f : Bool) (r : Seen) → seen_of limits s ≡ Whole c f → r ≡ room_for c f L nb → r ≡ lent_of (seen_of limits s) L nb
+unfolding lent_of
+lent_room limits s L nb c f r e h = h ∙ sym (ap (λ (x : Seen). lent_of x L nb) e)
+
+-- the answer where it is not
+pub lent_refused : (limits : Counts) (s : List ℕ) (L : Lent) (nb n : ℕ) → seen_of limits s ≡ Refused n → Refused n ≡ lent_of (seen_of limits s) L nb
+unfolding lent_of
+lent_refused limits s L nb n e = sym (ap (λ (x : Seen). lent_of x L nb) e)
+
+-- room does not hang on the log
+pub room_log :
+    (c : Counts) (f : Bool) (L : Lent) (nb : ℕ)
+    → room_for c f (record { points = L.points; roots = L.roots; corners = L.corners; volumes = L.volumes; ends = L.ends; lengths = L.lengths; outline = L.outline; log = 0 }) nb ≡ room_for c f L nb
+unfolding room_for
+room_log c f L nb = refl
+
 -- what a reader left whole was a whole sheet
 pub lent_whole : (x : Seen) (L : Lent) (nb : ℕ) (c : Counts) (f : Bool) → lent_of x L nb ≡ Whole c f → x ≡ Whole c f
 unfolding lent_of room_for
@@ -113,21 +138,3 @@ lent_whole (Whole d g) L nb c f e =
     let w = roomy ((leb d.triangles (L.corners / 3) && leb d.triangles (L.volumes / 2)) && leb 4 nb) (leb d.particles (L.points / point_columns) && leb d.particles (L.roots / 2))
     (leb d.edges (L.ends / 4) && leb d.edges (L.lengths / 4)) (leb d.boundary (L.outline / 2)) d c g f e in
     λ i. Whole (w.4 i) (w.5 i)
-
--- and its counts hold
-pub held : (limits : Counts) (s o : List ℕ) (L : Lent) (nb : ℕ) (c : Counts) (f : Bool) (x : Seen) → LookedAt limits s o x → lent_of x L nb ≡ Whole c f → 6144 ≤ length o → Held s c o L nb
-unfolding lent_of
-held limits s o L nb c f x k h places =
-    let w = lent_whole x L nb c f h in
-    held_here limits s o L nb c f (sym k.answer ∙ w) (sym (ap (λ (y : Seen). lent_of y L nb) w) ∙ h) places (outlined_sides x s o c f w k.outlined)
-
--- room does not hang on the log
-pub lent_log :
-    (limits : Counts) (s : List ℕ) (x : Seen) (L : Lent) (nb : ℕ) → x ≡ seen_of limits s
-    → lent_of x (record { points = L.points; roots = L.roots; corners = L.corners; volumes = L.volumes; ends = L.ends; lengths = L.lengths; outline = L.outline; log = 0 }) nb ≡ lent_of (seen_of limits s) L nb
-unfolding lent_of room_for
-lent_log limits s x L nb e = by x ∙ ap (λ (y : Seen). lent_of y L nb) e
-  where
-    by : (y : Seen) → lent_of y (record { points = L.points; roots = L.roots; corners = L.corners; volumes = L.volumes; ends = L.ends; lengths = L.lengths; outline = L.outline; log = 0 }) nb ≡ lent_of y L nb
-    by (Whole c f) = refl
-    by (Refused n) = refl

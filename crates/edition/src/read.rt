@@ -1,12 +1,12 @@
 // A sheet of either edition read into lent blocks: the mesh that it is, and its blade.
-ghost use Rattle.std.specs.Prelude.{◌≡◌, [], ◌≤◌, length};
+ghost use Rattle.std.specs.Prelude.{◌≡◌, [], ℕ, ◌/◌, ◌≤◌, length};
 ghost use Rattle.lists.specs.Lists.{padded};
 ghost use Rattle.float.specs.Numbers.{zero32};
-ghost use Rattle.mesh.specs.Filled.{Filled};
+ghost use Rattle.mesh.specs.Filled.{lent, Filled};
 ghost use Rattle.bits.specs.Bits.{bits_of};
 ghost use Rattle.sheet.specs.Read.{mesh_of_sheet, blade_of_sheet, counts_for};
 ghost use Rattle.edition.specs.Edition.{sheet_of};
-ghost use Rattle.edition.specs.Reading.{room_for, lent_of, ReadDone};
+ghost use Rattle.edition.specs.Reading.{room_for, ReadDone};
 ghost use Rattle.edition.specs.Work.{MeshIn, BladeAt, Held};
 ghost use Rattle.mesh.specs.Blocks.{mesh_behind, lent_before, blocks_in};
 
@@ -45,27 +45,6 @@ fn room(
         return Seen::Refused(mesh::refusals::ARGUMENT);
     }
     Seen::Refused(mesh::refusals::ARGUMENT)
-}
-
-// The same of what a look at a sheet found.
-fn lent(
-    seen: Seen,
-    lp: usize,
-    lr: usize,
-    lc: usize,
-    lv: usize,
-    le: usize,
-    ll: usize,
-    lo: usize,
-    lb: usize,
-) -> Seen
-    ensures { result ≡ lent_of seen
-        (record { points = lp; roots = lr; corners = lc; volumes = lv; ends = le; lengths = ll; outline = lo; log = 0 }) lb }
-{
-    match seen {
-        Seen::Whole(c, replaced) => room(c, replaced, lp, lr, lc, lv, le, ll, lo, lb),
-        Seen::Refused(n) => Seen::Refused(n),
-    }
 }
 
 // Reads the lists of a whole sheet to the fronts of the blocks, and copies its outline from where it was found.
@@ -161,24 +140,42 @@ pub fn read(
         outline.new log.new blade.old blade.new }
 {
     let mut found = [0usize; 6144];
-    let seen = lent(
-        crate::outlines::look_into(s, limits, &mut found),
-        points.len(),
-        roots.len(),
-        corners.len(),
-        volumes.len(),
-        ends.len(),
-        lengths.len(),
-        outline.len(),
-        blade.len(),
-    );
+    let seen = crate::outlines::look_into(s, limits, &mut found);
     match seen {
-        Seen::Whole(c, _) => accept(
-            s, c, &found, points, roots, corners, volumes, ends, lengths, outline, log, blade,
-        ),
-        Seen::Refused(_) => sheet_rows::refuse(
-            points, roots, corners, volumes, ends, lengths, outline, log, blade,
-        ),
+        Seen::Whole(c, replaced) => {
+            let lent = room(
+                c,
+                replaced,
+                points.len(),
+                roots.len(),
+                corners.len(),
+                volumes.len(),
+                ends.len(),
+                lengths.len(),
+                outline.len(),
+                blade.len(),
+            );
+            match lent {
+                Seen::Whole(d, told) => {
+                    accept(
+                        s, d, &found, points, roots, corners, volumes, ends, lengths, outline, log,
+                        blade,
+                    );
+                    Seen::Whole(d, told)
+                }
+                Seen::Refused(n) => {
+                    sheet_rows::refuse(
+                        points, roots, corners, volumes, ends, lengths, outline, log, blade,
+                    );
+                    Seen::Refused(n)
+                }
+            }
+        }
+        Seen::Refused(n) => {
+            sheet_rows::refuse(
+                points, roots, corners, volumes, ends, lengths, outline, log, blade,
+            );
+            Seen::Refused(n)
+        }
     }
-    seen
 }

@@ -1,7 +1,6 @@
 -- `edition::look` meets its contract. Assumes nothing.
 use Prim.Native.Nat.{◌≤◌}
 use native.Mathlib.Omega.{arith}
-use borrow.Author.Rules.{rules}
 use Rattle.edition.proofs.look.Goals as goal
 
 pub look_into-requires : goal.look_into-requires

@@ -8,7 +8,6 @@ use Rattle.mesh.specs.Log.{world_at}
 use Rattle.split.proofs.LinkLaws.{linkable_ready}
 use Rattle.cut.proofs.CutLaws.{near_room}
 use Rattle.crack.proofs.BodyLaws.{crack_none}
-use borrow.Author.Rules.{rules}
 use mathlib.Core.Path.{ap}
 use mathlib.Core.Bool.{not}
 use Rattle.crack.proofs.body.crack_body.Goals as goal

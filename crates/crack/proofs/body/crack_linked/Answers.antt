@@ -6,7 +6,6 @@ use Rattle.mesh.specs.Log.{world_at}
 use Rattle.mesh.proofs.Agree.{lent_path}
 use Rattle.split.proofs.LinkLaws.{linked_done}
 use Rattle.crack.proofs.BodyLaws.{left_ready, left_entries, left_words, turns_indexed, body_refused, body_done}
-use borrow.Author.Rules.{rules}
 use Rattle.crack.proofs.body.crack_linked.Goals as goal
 
 -- `crack::body::crack_linked` meets its contract: the end comes behind the torn edges, on the tables that they left. Assumes nothing.

@@ -1,15 +1,10 @@
 -- `crack::body::crack_listed` meets its contract: the loop over the list is `ListedTo` of proofs/ListedLaws.antt, and the tables are those of the blocks. Assumes nothing.
 use Prim.Native.Nat.{◌-◌}
-use native.Mathlib.Omega.{arith}
-use mathlib.Core.Path.{◌≡◌, refl, ◌∙◌, ap}
-use lib.ListN.{length, get_or}
+use mathlib.Core.Path.{◌≡◌}
+use lib.ListN.{length}
 use Rattle.elements.specs.Table.{kind_is}
 use Rattle.links.specs.Linked.{MeshLinked}
-use Rattle.mesh.specs.Given.{Lent}
-use Rattle.mesh.proofs.Agree.{lent_path}
-use Rattle.split.proofs.LinkLaws.{linked_done}
-use Rattle.crack.proofs.ListedLaws.{ListedTo, to_start, to_ready, to_room, to_skip, to_step, to_stop, to_done}
-use borrow.Author.Rules.{rules}
+use Rattle.crack.proofs.ListedLaws.{ListedTo}
 use Rattle.crack.proofs.body.crack_listed.Given as goal
 
 -- `crack::body::crack_listed` meets its contract: the loop over the list is `ListedTo` of proofs/ListedLaws.antt, and the tables are those of the blocks. Assumes nothing.

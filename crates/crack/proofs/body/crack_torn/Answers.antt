@@ -4,7 +4,6 @@ use lib.ListN.{get_or-replicate}
 use Rattle.elements.specs.Table.{kind_is}
 use Rattle.tear.proofs.LinkLaws.{numbered}
 use Rattle.crack.proofs.BodyLaws.{turns_work}
-use borrow.Author.Rules.{rules}
 use Rattle.crack.proofs.body.crack_torn.Goals as goal
 
 -- `crack::body::crack_torn` meets its contract: the tables hold the ends and the loads of the input, and the edges are cracked by them. Assumes nothing.

@@ -8,7 +8,6 @@ use Rattle.mesh.proofs.Agree.{lent_path}
 use Rattle.work.proofs.Runs.{beside, works_stay, works_known}
 use Rattle.cut.proofs.CutLaws.{near_room}
 use Rattle.crack.proofs.BodyLaws.{left_ready, straddlers_room, end_refused, end_done, end_unsplit}
-use borrow.Author.Rules.{rules}
 use mathlib.Core.Path.{ap}
 use mathlib.Core.Bool.{not}
 use Rattle.crack.proofs.body.finish.Goals as goal

@@ -5,7 +5,6 @@ use lib.ListN.{length}
 use native.Mathlib.Omega.{arith}
 use lib.Seq.{length-take-le}
 use Rattle.crack.proofs.BodyLaws.{first_narrow, second_narrow, columns_kept}
-use borrow.Author.Rules.{rules}
 use Rattle.crack.proofs.body.keep_ends.Goals as goal
 
 pub slice_bounds-narrow-end : goal.slice_bounds-narrow-end

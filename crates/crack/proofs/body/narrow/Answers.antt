@@ -1,8 +1,6 @@
 -- `crack::body::narrow` meets its contract: the loop is `Copying` of columns' proofs/Sweep.antt. Assumes nothing.
-use Prim.Native.Nat.{◌-◌}
 use native.Mathlib.Omega.{arith}
-use lib.ListN.{length}
-use Rattle.columns.proofs.Sweep.{Copying, copy_start, copy_more, copy_done}
+use Rattle.columns.proofs.Sweep.{copy_start, copy_more, copy_done}
 use Rattle.crack.proofs.body.narrow.Goals as goal
 
 pub loop-i-init : goal.loop-i-init

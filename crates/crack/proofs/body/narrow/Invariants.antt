@@ -1,8 +1,7 @@
 -- `crack::body::narrow` meets its contract: the loop is `Copying` of columns' proofs/Sweep.antt. Assumes nothing.
 use Prim.Native.Nat.{◌-◌}
-use native.Mathlib.Omega.{arith}
 use lib.ListN.{length}
-use Rattle.columns.proofs.Sweep.{Copying, copy_start, copy_more, copy_done}
+use Rattle.columns.proofs.Sweep.{Copying}
 use Rattle.crack.proofs.body.narrow.Given as goal
 
 -- `crack::body::narrow` meets its contract: the loop is `Copying` of columns' proofs/Sweep.antt. Assumes nothing.

@@ -2,7 +2,6 @@
 use native.Mathlib.Omega.{arith}
 use Rattle.mesh.specs.Log.{world_at}
 use Rattle.crack.proofs.BodyLaws.{pinched_linked, pinched_split, pinched_straps, pinched_nothing}
-use borrow.Author.Rules.{rules}
 use Rattle.crack.proofs.body.split_pinched.Goals as goal
 
 pub split_pinched-requires : goal.split_pinched-requires

@@ -4,7 +4,6 @@ use mathlib.Core.Path.{sym, ◌∙◌}
 use native.Mathlib.Omega.{arith}
 use Rattle.bits.specs.Bits.{bits_of}
 use Rattle.edition.proofs.Found.{start_second, own_bound, found_second}
-use borrow.Author.Rules.{rules}
 use Rattle.edition.proofs.outlines.find_outline.Goals as goal
 
 -- `edition::outlines::find_outline` meets its contract. Assumes nothing.

@@ -2,7 +2,6 @@
 use mathlib.Core.Path.{sym, ◌∙◌}
 use Rattle.edition.proofs.Starts.{typed_in}
 use Rattle.edition.proofs.Found.{sides_are, seen_long, seen_whole, seen_refused}
-use borrow.Author.Rules.{rules}
 use Rattle.edition.proofs.outlines.look_into.Goals as goal
 
 pub find_outline-found-requires : goal.find_outline-found-requires

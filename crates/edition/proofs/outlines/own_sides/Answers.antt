@@ -5,7 +5,6 @@ use Rattle.bits.specs.Bits.{bits_of}
 use Rattle.sheet.proofs.There.{limits}
 use Rattle.edition.proofs.Starts.{reach, start_most}
 use Rattle.edition.proofs.Found.{listed_same, own_straps, own_triangles}
-use borrow.Author.Rules.{rules}
 use Rattle.edition.proofs.outlines.own_sides.Goals as goal
 
 -- `edition::outlines::own_sides` meets its contract. Assumes nothing.

@@ -2,7 +2,6 @@
 use Rattle.edition.specs.Reading.{room_for}
 use mathlib.Core.Path.{◌∙◌, sym}
 use borrow.Author.Tests.{le-leb, lt-leb}
-use borrow.Author.Rules.{rules}
 use Rattle.edition.proofs.read.room.Goals as goal
 
 pub returns-then-c-lo : goal.returns-then-c-lo

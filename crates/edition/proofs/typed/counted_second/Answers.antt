@@ -4,7 +4,6 @@ use Rattle.bits.proofs.Laws.{length_bits_of}
 use Rattle.bits.specs.Bits.{bits_of}
 use native.Mathlib.Omega.{arith}
 use mathlib.Core.Path.{sym}
-use borrow.Author.Rules.{rules}
 use Rattle.edition.proofs.typed.counted_second.Goals as goal
 
 pub returns : goal.returns

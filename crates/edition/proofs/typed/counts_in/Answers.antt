@@ -5,7 +5,6 @@ use Prim.Native.Nat.{ℕ}
 use Rattle.bits.specs.Bits.{bits_of}
 use Rattle.sheet.specs.Work.{CountsRead}
 use Rattle.edition.proofs.Starts.{in_second, in_first}
-use borrow.Author.Rules.{rules}
 use Rattle.edition.proofs.typed.counts_in.Goals as goal
 
 pub returns-then-is_second : goal.returns-then-is_second

@@ -1,5 +1,4 @@
 -- `edition::typed::is_second` meets its contract. Assumes nothing.
-use borrow.Author.Rules.{rules}
 use Rattle.edition.proofs.typed.is_second.Goals as goal
 
 pub returns : goal.returns

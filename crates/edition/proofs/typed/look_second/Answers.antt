@@ -6,7 +6,6 @@ use Rattle.bits.specs.Bits.{bits_of}
 use native.Mathlib.Omega.{arith}
 use mathlib.Core.Path.{sym, ◌∙◌, ap}
 use borrow.Author.Tests.{eq-eqb, ne_eqb}
-use borrow.Author.Rules.{rules}
 use Rattle.edition.proofs.typed.look_second.Goals as goal
 
 pub returns-then-refused_counts : goal.returns-then-refused_counts

@@ -4,7 +4,6 @@ use borrow.Author.Tests.{lt-ltb}
 use Rattle.edition.proofs.Editions.{first_seen}
 use native.Mathlib.Omega.{arith}
 use mathlib.Core.Path.{sym, ◌∙◌}
-use borrow.Author.Rules.{rules}
 use Rattle.edition.proofs.typed.look_typed.Goals as goal
 
 -- `edition::typed::look_typed` meets its contract. Assumes nothing.

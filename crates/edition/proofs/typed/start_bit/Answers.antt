@@ -1,6 +1,5 @@
 -- `edition::typed::start_bit` meets its contract. Assumes nothing.
 use mathlib.Core.Path.{sym, ◌∙◌}
-use borrow.Author.Rules.{rules}
 use Rattle.edition.proofs.typed.start_bit.Goals as goal
 
 pub returns-then-is_second : goal.returns-then-is_second
