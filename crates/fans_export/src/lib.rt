@@ -2,7 +2,7 @@
 // triangles. The scan is what it was before the table, and stays here to be compared.
 #![tactic(auto)]
 
-ghost use Rattle.std.specs.Prelude.{◌≡◌, ◌+◌, ◌*◌, ◌/◌, ◌<◌, ◌≤◌, length};
+ghost use Rattle.std.specs.Prelude.{◌≡◌, ◌+◌, ◌*◌, ◌/◌, ◌<◌, ◌≤◌, length, take};
 ghost use Rattle.elements.specs.Table.{kind_is};
 ghost use Rattle.mesh.specs.At.{edges_at};
 ghost use Rattle.mesh.specs.Limits.{particle_limit};
@@ -10,9 +10,11 @@ ghost use Rattle.mesh.specs.Blocks.{mesh_in};
 ghost use Rattle.links.specs.Rooms.{Cleared};
 ghost use Rattle.links.specs.Linked.{MeshLinked, MeshLinkable, FrontLinked, LinkedIn, EdgesLinked};
 ghost use Rattle.work.specs.Blocks.{ReadyIn};
-ghost use Rattle.edge_drops.specs.Parted.{Listing, listed, edges_parted};
+ghost use Rattle.edge_drops.specs.Parted.{Listing, listed, edges_parted, PartsIn};
 ghost use Rattle.split.specs.Tables.{FanLent, FanTables};
-ghost use Rattle.split.specs.Blocks.{SidedIn, ListIn};
+ghost use Rattle.split.specs.Blocks.{SidedIn, ListIn, LinkedParted};
+ghost use Rattle.model.specs.Split.{split_by_sides_of};
+ghost use Rattle.fans_export.specs.Parts.{Tells};
 
 use elements::Kind;
 use mesh::{Counts, Rooms};
@@ -118,6 +120,15 @@ pub extern "C" fn fans_scan(
     r
 }
 
+// The rooms of the largest blocks.
+const ROOMS: Rooms = Rooms {
+    particles: 1024,
+    triangles: 1024,
+    edges: 2048,
+    boundary: 2048,
+    log: 4096,
+};
+
 // Splits v by the sides of its fan, which stands in the tables, with the table of links beside the blocks; the straddlers stay and are listed. Returns the number of the room that lacks, or
 // 0, and then the new counts of particles, triangles, edges, boundary entries and log entries are written.
 #[unsafe(no_mangle)]
@@ -151,6 +162,10 @@ pub extern "C" fn fans_part(
         × SidedIn K (mesh_in k points roots corners volumes ends lengths outline) v n numbers verts measures sides
         × (n ≤ length groups.old) × ListIn list × LinkedIn K k corners ends outline links) }
     requires told { 5 ≤ length counts.old }
+    ensures { let K = kind_is Kind.Triangles in let k : Counts = record { particles = particles; triangles = triangles; edges = edges; boundary = boundary; log = entries } in
+        let room : Rooms = record { particles = 1024; triangles = 1024; edges = 2048; boundary = 2048; log = 4096 } in
+        (ran : Ran) × PartsIn (split_by_sides_of K v (take n sides.now)) room k points roots corners volumes ends lengths outline log list ran
+        × LinkedParted K corners ends outline links list ran × Tells ran result counts.new }
 {
     let k = Counts {
         particles,
@@ -158,13 +173,6 @@ pub extern "C" fn fans_part(
         edges,
         boundary,
         log: entries,
-    };
-    let room = Rooms {
-        particles: 1024,
-        triangles: 1024,
-        edges: 2048,
-        boundary: 2048,
-        log: 4096,
     };
     let ran = split::step::split_tabled(
         Kind::Triangles,
@@ -176,7 +184,7 @@ pub extern "C" fn fans_part(
         sides,
         groups,
         k,
-        room,
+        ROOMS,
         points,
         roots,
         corners,

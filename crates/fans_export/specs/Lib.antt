@@ -1,0 +1,2 @@
+-- What the functions that are compared promise.
+pub mod Parts
