@@ -1,8 +1,17 @@
 -- How `fans_part` tells what a split came to. Definitions only.
 use Rattle.std.specs.Prelude.{ℕ, ◌≡◌, List, get_or}
 use Rattle.mesh.specs.declared.Counts.{Counts}
+use Rattle.mesh.specs.declared.Rooms.{Rooms}
 use Rattle.work.specs.declared.Ran.{Ran}
 use Rattle.work.specs.declared.Ran.TheVariants.{Refused, Done}
+
+-- five numbers as counts, in their order
+abbrev pub five : ℕ → ℕ → ℕ → ℕ → ℕ → Counts
+five particles triangles edges boundary log = record { particles = particles; triangles = triangles; edges = edges; boundary = boundary; log = log }
+
+-- the rooms of the largest blocks
+abbrev pub largest : Rooms
+largest = record { particles = 1024; triangles = 1024; edges = 2048; boundary = 2048; log = 4096 }
 
 -- the new counts stand at the front, in their order
 pub record CountsAre (q : Counts) (counts : List ℕ) : Type 0 where

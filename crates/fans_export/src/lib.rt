@@ -4,6 +4,7 @@
 
 ghost use Rattle.std.specs.Prelude.{◌≡◌, ◌+◌, ◌*◌, ◌/◌, ◌<◌, ◌≤◌, length, take};
 ghost use Rattle.elements.specs.Table.{kind_is};
+ghost use Rattle.model.specs.Elements.{Triangles};
 ghost use Rattle.mesh.specs.At.{edges_at};
 ghost use Rattle.mesh.specs.Limits.{particle_limit};
 ghost use Rattle.mesh.specs.Blocks.{mesh_in};
@@ -14,7 +15,7 @@ ghost use Rattle.edge_drops.specs.Parted.{Listing, listed, edges_parted, PartsIn
 ghost use Rattle.split.specs.Tables.{FanLent, FanTables};
 ghost use Rattle.split.specs.Blocks.{SidedIn, ListIn, LinkedParted};
 ghost use Rattle.model.specs.Split.{split_by_sides_of};
-ghost use Rattle.fans_export.specs.Parts.{Tells};
+ghost use Rattle.fans_export.specs.Parts.{five, largest, Tells};
 
 use elements::Kind;
 use mesh::{Counts, Rooms};
@@ -157,15 +158,14 @@ pub extern "C" fn fans_part(
     links: &mut [u16],
     counts: &mut [usize],
 ) -> usize
-    requires lent { (let K = kind_is Kind.Triangles in let k : Counts = record { particles = particles; triangles = triangles; edges = edges; boundary = boundary; log = entries } in
-        let room : Rooms = record { particles = 1024; triangles = 1024; edges = 2048; boundary = 2048; log = 4096 } in ReadyIn room k points roots corners volumes ends lengths outline log
-        × SidedIn K (mesh_in k points roots corners volumes ends lengths outline) v n numbers verts measures sides
-        × (n ≤ length groups.old) × ListIn list × LinkedIn K k corners ends outline links) }
+    requires lent { let k = five particles triangles edges boundary entries in
+        ReadyIn largest k points roots corners volumes ends lengths outline log
+        × SidedIn Triangles (mesh_in k points roots corners volumes ends lengths outline) v n numbers verts measures sides
+        × (n ≤ length groups.old) × ListIn list × LinkedIn Triangles k corners ends outline links }
     requires told { 5 ≤ length counts.old }
-    ensures { let K = kind_is Kind.Triangles in let k : Counts = record { particles = particles; triangles = triangles; edges = edges; boundary = boundary; log = entries } in
-        let room : Rooms = record { particles = 1024; triangles = 1024; edges = 2048; boundary = 2048; log = 4096 } in
-        (ran : Ran) × PartsIn (split_by_sides_of K v (take n sides.now)) room k points roots corners volumes ends lengths outline log list ran
-        × LinkedParted K corners ends outline links list ran × Tells ran result counts.new }
+    ensures { (ran : Ran) × Tells ran result counts.new × LinkedParted Triangles corners ends outline links list ran
+        × PartsIn (split_by_sides_of Triangles v (take n sides.now)) largest (five particles triangles edges boundary entries)
+        points roots corners volumes ends lengths outline log list ran }
 {
     let k = Counts {
         particles,

@@ -25,9 +25,9 @@ pub returns-in-Refused : goal.returns-in-Refused
 unfolding Tells
 returns-in-Refused c =
     let S = c.split_tabled-ran in
-    (S.result, S.ensures.0, S.ensures.1, subst (λ (x : Ran). Tells x c.in-Refused.lacking c.args.counts.now) (sym c.in-Refused.is) refl)
+    (S.result, subst (λ (x : Ran). Tells x c.in-Refused.lacking c.args.counts.now) (sym c.in-Refused.is) refl, S.ensures.1, S.ensures.0)
 
 pub returns-in-Done : goal.returns-in-Done
 returns-in-Done c =
     let S = c.split_tabled-ran in
-    (S.result, S.ensures.0, S.ensures.1, told S.result c.in-Done.q c.args.counts.now c.in-Done.is c.requires.told)
+    (S.result, told S.result c.in-Done.q c.args.counts.now c.in-Done.is c.requires.told, S.ensures.1, S.ensures.0)
